@@ -1,0 +1,213 @@
+-- Document 01, "Bench cases": the sentences marked *, as one computed list of (call, what must come out). `further` is a list of our own in
+-- the same form, for slips that no marked sentence meets.
+use Prim.Native.Nat.{ℕ}
+use mathlib.Core.Path.{_≡_, refl}
+use mathlib.Core.List.{List, [], _∷_, _++_}
+use mathlib.Core.Bool.{Bool, true, _&&_, _||_}
+use lib.Dec.{eqb}
+use lib.ListN.{getD, replicate}
+use Rattle.model.specs.Choice.{if_then_else_}
+use Rattle.model.specs.Log.{Made}
+use Rattle.model.specs.Arena.{headOf, leaseOf, bitAt, ownerAt, waitersAt, setCell, setWaiters, isFree, isHeld, stateOf, stateAt, isLive, leasesOf, wordsOf, sameLease, isIn, headFits, shapeFits, healthFits, registryFits, lastSerial}
+use Rattle.model.specs.Refusals.{first}
+use Rattle.model.specs.Answers.{refusalIn, kindOf, valuesOf}
+use Rattle.model.specs.Foreign.{stepTakeOf, stepReleaseOf, stepWaitersOf, stepHealthOf, stepOf, stepsOf, boundaryOf}
+use Rattle.model.specs.Lock.{takeOf, lateOf, secondOf, lockOf, findOf, attemptOf, spinOf, pauseOf, retryOf, giveBackOf, rollbackOf, locksOf}
+use Rattle.model.specs.Checks.{notLive, badBindings, notReleasable, prepareRules, cellRules, leaseRules, heldCellRules, heldLeaseRules, scriptRules, lockRules, bucketRules, releaseRules, locksRules}
+use Rattle.model.specs.Calls.{prepareOf, acquireOf, tryAcquireOf, dropLeaseOf, readPermissionOf, competingAcquireOf, releaseThenHandoffOf, foreignReleaseOf, acquirePreservingOf, dropPreservingOf, environmentOf, tryLockOf, transactionalOf, acquireBucketOf, releaseAllOf, acquireLocksOf}
+use Rattle.model.specs.Crew.{total, startOf, allWithin, risesFrom, badLists, badTurns, crewRules, tryTurnOf, releaseTurnOf, turnOf, turnsOf, takenOf, releasedOf, crewOf}
+use Rattle.model.specs.declared.Answer.{Answer}
+use Rattle.model.specs.declared.Counts.{Counts}
+use Rattle.model.specs.declared.CrewReply.{CrewReply}
+use Rattle.model.specs.declared.Head.{Head}
+use Rattle.model.specs.declared.Played.{Played}
+use Rattle.model.specs.declared.Reply.{Reply}
+
+-- ---- what came out of a call
+
+pub record Out : Type 0 where
+  pub answer : Answer
+  pub head : Head
+  pub at : ℕ
+  pub counts : Counts
+  pub turns : ℕ × ℕ
+  pub table : List ℕ
+  -- a lease: of the answer, or the first of the grant buffer
+  pub lease : List ℕ
+
+abbrev noCounts : Counts
+noCounts = record { attempts = 0; boundaries = 0; yields = 0; dropped = 0 }
+
+abbrev fromReply : Made (Reply × List ℕ) → Out
+fromReply m =
+    let r = m .seen .0 in
+    record { answer = r .answer; head = r .head; at = 0; counts = r .counts; turns = (0, 0); table = m .seen .1; lease = valuesOf (r .answer) }
+
+abbrev fromPlayed : Made (Played × (List ℕ × List ℕ)) → Out
+fromPlayed m =
+    let r = m .seen .0 in
+    record { answer = r .answer; head = r .head; at = r .place; counts = r .counts; turns = (0, 0); table = m .seen .1 .0; lease = valuesOf (r .answer) }
+
+abbrev fromLocks : Made (Played × (List ℕ × (List ℕ × List ℕ))) → Out
+fromLocks m =
+    let r = m .seen .0 in
+    record { answer = r .answer; head = r .head; at = r .place; counts = r .counts; turns = (0, 0); table = m .seen .1 .0; lease = m .seen .1 .1 .1 }
+
+abbrev fromCrew : Made (CrewReply × List ℕ) → Out
+fromCrew m =
+    let r = m .seen .0 in
+    record { answer = r .answer; head = r .head; at = 0; counts = noCounts; turns = (r .moving, r .idle); table = m .seen .1; lease = [] }
+
+-- ---- the figures that a sentence gives
+
+abbrev pub Figure : Type 0
+Figure = (Out → ℕ) × ℕ
+
+infix 70 _is_
+abbrev _is_ : (Out → ℕ) → ℕ → Figure
+x is n = (x, n)
+
+abbrev granted : Out → ℕ
+granted o = if eqb (kindOf (o .answer)) 2 || eqb (kindOf (o .answer)) 3 then 1 else 0
+
+abbrev done : Out → ℕ
+done o = if eqb (kindOf (o .answer)) 0 then 1 else 0
+
+abbrev busy : Out → ℕ
+busy o = if eqb (kindOf (o .answer)) 4 then 1 else 0
+
+abbrev cell : Out → ℕ
+cell o = getD (o .lease) 0 0
+
+abbrev serial : Out → ℕ
+serial o = getD (o .lease) 1 0
+
+abbrev refusal : Out → ℕ
+refusal o = refusalIn (o .answer)
+
+abbrev carries : Out → ℕ
+carries o = getD (valuesOf (o .answer)) 0 0
+
+abbrev position : Out → ℕ
+position o = getD (valuesOf (o .answer)) 1 0
+
+abbrev next : Out → ℕ
+next o = o .head .next
+
+abbrev place : Out → ℕ
+place o = o .at
+
+abbrev attempts : Out → ℕ
+attempts o = o .counts .attempts
+
+abbrev boundaries : Out → ℕ
+boundaries o = o .counts .boundaries
+
+abbrev yields : Out → ℕ
+yields o = o .counts .yields
+
+abbrev dropped : Out → ℕ
+dropped o = o .counts .dropped
+
+abbrev moving : Out → ℕ
+moving o = o .turns .0
+
+abbrev idle : Out → ℕ
+idle o = o .turns .1
+
+abbrev bit : ℕ → Out → ℕ
+bit c o = bitAt (o .table) c
+
+abbrev owner : ℕ → Out → ℕ
+owner c o = ownerAt (o .table) c
+
+-- ---- one statement for a list of cases: every figure of every call of it comes out
+
+pub record Case : Type 0 where
+  pub calls : List Out
+  pub figures : List Figure
+
+infix 60 _give_
+abbrev _give_ : List Out → List Figure → Case
+os give fs = record { calls = os; figures = fs }
+
+abbrev agrees : List Figure → Out → Bool
+agrees [] o = true
+agrees (f ∷ fs) o = eqb (f .0 o) (f .1) && agrees fs o
+
+abbrev allAgree : List Figure → List Out → Bool
+allAgree fs [] = true
+allAgree fs (o ∷ os) = agrees fs o && allAgree fs os
+
+abbrev pub every : List Case → Bool
+every [] = true
+every (k ∷ ks) = allAgree (k .figures) (k .calls) && every ks
+
+-- ---- "Arena: H 2, B 4, registry 0, 1, 1, first serial 1, empty script unless said."
+
+abbrev bench : ℕ → Head
+bench next = headOf 2 4 next
+
+-- prepared, from a table of rubbish
+abbrev prepared : List ℕ
+prepared = prepareOf 2 4 1 (replicate 24 7) (replicate 2 7) .seen .1 .0
+
+abbrev healthy : List ℕ
+healthy = prepareOf 2 4 1 (replicate 24 7) (replicate 2 7) .seen .1 .1
+
+abbrev registry : List ℕ
+registry = 0 ∷ 1 ∷ 1 ∷ []
+
+-- a key by the calls that take one: multi-lock and `acquire_index_bucket`, with this next serial, table, health, script and held list
+abbrev byKeyAgain : ℕ → List ℕ → List ℕ → List ℕ → List ℕ → ℕ → ℕ → List Out
+byKeyAgain n t g script held binding bucket =
+    fromPlayed (acquireBucketOf (bench n) t g registry script 0 held binding bucket)
+    ∷ fromLocks (acquireLocksOf (bench n) t g registry script 0 held (binding ∷ bucket ∷ []) (9 ∷ 9 ∷ []))
+    ∷ []
+
+-- and, where one attempt decides, `transactional_try_lock_bucket`
+abbrev byKey : ℕ → List ℕ → List ℕ → ℕ → ℕ → List Out
+byKey n t g binding bucket =
+    fromPlayed (transactionalOf (bench n) t g registry [] 0 [] binding bucket) ∷ byKeyAgain n t g [] [] binding bucket
+
+abbrev byKeys : List ℕ → List ℕ → List ℕ → List Out
+byKeys t keys grants = fromLocks (acquireLocksOf (bench 1) t healthy registry [] 0 [] keys grants) ∷ []
+
+abbrev tryLock : List ℕ → ℕ → List Out
+tryLock script c = fromPlayed (tryLockOf (bench 1) prepared healthy script 0 [] c) ∷ []
+
+abbrev crew : List ℕ → List ℕ → List ℕ → List Out
+crew counts cells turns = fromCrew (crewOf (bench 1) prepared healthy counts cells turns) ∷ []
+
+-- ---- the marked sentences, in their order
+
+abbrev pub cases : List Case
+cases =
+    -- "Key (0,2): cell 2, serial 1, next 2, attempts 1, boundaries 3."
+    (byKey 1 prepared healthy 0 2 give (granted is 1 ∷ cell is 2 ∷ serial is 1 ∷ next is 2 ∷ attempts is 1 ∷ boundaries is 3 ∷ []))
+    -- "`try_lock` of cell 2, script 5; 5; set waiters of 2 to 1; 5: Busy, boundaries 3, place 4, next 2, cell free."
+    ∷ (tryLock (5 ∷ 0 ∷ 0 ∷ 5 ∷ 0 ∷ 0 ∷ 3 ∷ 2 ∷ 1 ∷ 5 ∷ 0 ∷ 0 ∷ []) 2 give (busy is 1 ∷ boundaries is 3 ∷ place is 4 ∷ next is 2 ∷ bit 2 is 0 ∷ owner 2 is 0 ∷ []))
+    -- "Bucket 4: refusal 8 carrying 4, boundaries 0."
+    ∷ (byKey 1 prepared healthy 0 4 give (refusal is 8 ∷ carries is 4 ∷ boundaries is 0 ∷ []))
+    -- "Bucket 3: cell 3."
+    ∷ (byKey 1 prepared healthy 0 3 give (granted is 1 ∷ cell is 3 ∷ []))
+    -- "Header 0 poisoned, bucket 4: refusal 7."
+    ∷ (byKey 1 prepared (1 ∷ 0 ∷ []) 0 4 give (refusal is 7 ∷ []))
+    -- "Next 4,294,967,295, cell free: refusal 10, boundaries 2."
+    ∷ (byKey 4_294_967_295 prepared healthy 0 2 give (refusal is 10 ∷ boundaries is 2 ∷ []))
+    -- "Next 4,294,967,294: granted."
+    ∷ (byKey 4_294_967_294 prepared healthy 0 2 give (granted is 1 ∷ []))
+    -- "Cell 2 held by foreign 1, script 5; 5; release (2,1); 5: serial 2, attempts 2, boundaries 6."
+    ∷ (byKeyAgain 2 (setCell prepared 2 1 1) healthy (5 ∷ 0 ∷ 0 ∷ 5 ∷ 0 ∷ 0 ∷ 2 ∷ 2 ∷ 1 ∷ 5 ∷ 0 ∷ 0 ∷ []) [] 0 2 give (granted is 1 ∷ serial is 2 ∷ attempts is 2 ∷ boundaries is 6 ∷ []))
+    -- "No keys: granted, all counts 0."
+    ∷ (byKeys prepared [] [] give (granted is 1 ∷ attempts is 0 ∷ boundaries is 0 ∷ yields is 0 ∷ dropped is 0 ∷ []))
+    -- "Crew {2,5},{2,5}, turns 0,1 seven times: done, 8 moving, 6 idle, next 5."
+    ∷ (crew (2 ∷ 2 ∷ []) (2 ∷ 5 ∷ 2 ∷ 5 ∷ []) (0 ∷ 1 ∷ 0 ∷ 1 ∷ 0 ∷ 1 ∷ 0 ∷ 1 ∷ 0 ∷ 1 ∷ 0 ∷ 1 ∷ 0 ∷ 1 ∷ []) give (done is 1 ∷ moving is 8 ∷ idle is 6 ∷ next is 5 ∷ []))
+    -- "Crew {2,5},{5,2}: refusal 15, member 1."
+    ∷ (crew (2 ∷ 2 ∷ []) (2 ∷ 5 ∷ 5 ∷ 2 ∷ []) [] give (refusal is 15 ∷ carries is 1 ∷ []))
+    ∷ []
+
+-- every marked sentence holds of the definitions
+pub cases-hold : every cases ≡ true
+unfolding bitAt ownerAt waitersAt setCell setWaiters isFree isHeld stateOf stateAt isLive leasesOf wordsOf sameLease isIn headFits shapeFits healthFits registryFits first stepTakeOf stepReleaseOf stepWaitersOf stepHealthOf stepOf stepsOf boundaryOf takeOf lateOf secondOf lockOf findOf attemptOf spinOf pauseOf retryOf giveBackOf rollbackOf locksOf notLive badBindings notReleasable prepareRules cellRules leaseRules heldCellRules heldLeaseRules scriptRules lockRules bucketRules releaseRules locksRules prepareOf acquireOf tryAcquireOf dropLeaseOf readPermissionOf competingAcquireOf releaseThenHandoffOf foreignReleaseOf acquirePreservingOf dropPreservingOf environmentOf tryLockOf transactionalOf acquireBucketOf releaseAllOf acquireLocksOf total startOf allWithin risesFrom badLists badTurns crewRules tryTurnOf releaseTurnOf turnOf turnsOf takenOf releasedOf crewOf
+cases-hold = refl

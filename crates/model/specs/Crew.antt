@@ -1,0 +1,154 @@
+-- Document 01, "The crew". The members' lists are lent as two runs: `counts`, how many cells each member wants, and `cells`, their
+-- lists one behind the other.
+use Prim.Native.Nat.{ℕ, zero, suc, _+_, _*_, _-_, _/_, min}
+use mathlib.Core.List.{List, [], _∷_, _++_}
+use mathlib.Core.Bool.{Bool, true, false, not, _&&_, _||_}
+use lib.Dec.{ltb, leb, eqb}
+use lib.ListN.{length, getD, set, take, drop, replicate}
+use Rattle.model.specs.Choice.{if_then_else_}
+use Rattle.model.specs.Log.{Made, Event, by-caller, attempt-begun, released, gives, note, _>>=_, _>>_}
+use Rattle.model.specs.Arena.{within, cellsOf, spentTo, setCell}
+use Rattle.model.specs.Refusals.{Rule, refuse_carrying_when_, first, judge}
+use Rattle.model.specs.Checks.{badShape, badHealth}
+use Rattle.model.specs.Foreign.{Setting, setting, flowOf}
+use Rattle.model.specs.Lock.{lockOf}
+use Rattle.model.specs.declared.Answer.{Answer}
+use Rattle.model.specs.declared.Answer.the-variants.{Done, Refused}
+use Rattle.model.specs.declared.CrewReply.{CrewReply}
+use Rattle.model.specs.declared.Head.{Head}
+use Rattle.model.specs.declared.Take.{Take}
+use Rattle.model.specs.declared.Take.the-variants as taking
+
+-- ---- the lists
+
+-- "K in all"
+unfoldable pub total : List ℕ → ℕ
+total [] = 0
+total (n ∷ ns) = n + total ns
+
+-- where a member's list begins
+unfoldable pub startOf : List ℕ → ℕ → ℕ
+startOf counts m = total (take m counts)
+
+abbrev pub countOf : List ℕ → ℕ → ℕ
+countOf counts m = getD counts m 0
+
+abbrev pub listOf : List ℕ → List ℕ → ℕ → List ℕ
+listOf counts cells m = take (countOf counts m) (drop (startOf counts m) cells)
+
+-- ---- 15 BadCrew: "first fault, lists before turns: crew limits; a cell out of range or not above the one before; a turn naming no member"
+
+-- "1 to 16 members, each with 0 to 64 cells, K at most 256, and up to 65,536 turns naming members"; the counts are those of the run
+unfoldable pub allWithin : ℕ → List ℕ → Bool
+allWithin most [] = true
+allWithin most (n ∷ ns) = leb n most && allWithin most ns
+
+abbrev pub badLimits : List ℕ → List ℕ → List ℕ → Rule
+badLimits counts cells turns =
+    refuse 15 carrying 0 when
+    (not (within 1 16 (length counts)) || not (allWithin 64 counts) || ltb 256 (total counts) || not (eqb (length cells) (total counts)) || ltb 65536 (length turns))
+
+-- a strictly rising list of cells in range; `low` is what the next one must reach
+unfoldable pub risesFrom : ℕ → ℕ → List ℕ → Bool
+risesFrom inside low [] = true
+risesFrom inside low (c ∷ cs) = leb low c && ltb c inside && risesFrom inside (c + 1) cs
+
+-- `left` members from m on
+unfoldable pub badLists : ℕ → ℕ → ℕ → List ℕ → List ℕ → List Rule
+badLists zero m inside counts cells = []
+badLists (suc left) m inside counts cells = (refuse 15 carrying m when not (risesFrom inside 0 (listOf counts cells m))) ∷ badLists left (m + 1) inside counts cells
+
+unfoldable pub badTurns : ℕ → ℕ → List ℕ → List Rule
+badTurns members i [] = []
+badTurns members i (m ∷ ms) = (refuse 15 carrying i when leb members m) ∷ badTurns members (i + 1) ms
+
+unfoldable pub crewRules : Head → List ℕ → List ℕ → List ℕ → List ℕ → List ℕ → List Rule
+crewRules h t g counts cells turns =
+    badShape h t ∷ badHealth h g ∷ badLimits counts cells turns ∷ (badLists (length counts) 0 (cellsOf h) counts cells ++ badTurns (length counts) 0 turns)
+
+-- ---- a turn
+
+-- what turns change: the next serial, the table, how many moves each member has made, the serial noted at each place of the lists, and
+-- how many turns moved and were idle. A member's moves are its takes, one for each cell in the order of its list, and then its releases,
+-- last first.
+pub record Crew : Type 0 where
+  pub next : ℕ
+  pub table : List ℕ
+  pub made : List ℕ
+  pub serials : List ℕ
+  pub moving : ℕ
+  pub idle : ℕ
+
+abbrev pub crewAt : ℕ → List ℕ → List ℕ → List ℕ → ℕ → ℕ → Crew
+crewAt next t made serials moving idle = record { next = next; table = t; made = made; serials = serials; moving = moving; idle = idle }
+
+-- an idle turn that left this next serial and this table
+abbrev pub idled : ℕ → List ℕ → Crew → Crew
+idled next t w = crewAt next t (w .made) (w .serials) (w .moving) (w .idle + 1)
+
+-- a member's moves after one more
+abbrev pub moved : List ℕ → ℕ → List ℕ
+moved made m = set made m (getD made m 0 + 1)
+
+-- "Anything but a grant or release is an idle turn"
+abbrev pub afterTry : Take → ℕ → List ℕ → Crew → ℕ → ℕ → Crew
+afterTry (taking.Granted s) next t w m k = crewAt next t (moved (w .made) m) (set (w .serials) k s) (w .moving + 1) (w .idle)
+afterTry taking.Busy next t w m k = idled next t w
+afterTry taking.Damaged next t w m k = idled next t w
+afterTry taking.Spent next t w m k = idled next t w
+
+-- "a member that has not yet held all its cells does one try_lock with no script on its next cell, after a health reading of that cell's header"
+unfoldable pub tryTurnOf : ℕ → ℕ → List ℕ → Crew → ℕ → ℕ → ℕ → Made Crew
+tryTurnOf headers buckets g w m k c =
+    if not (eqb (getD g (c / buckets) 0) 0) then gives (idled (w .next) (w .table) w)
+    else do
+      note attempt-begun
+      (l, (u, x)) ← lockOf (setting headers (headers * buckets) [] []) (flowOf (w .next) 0 0) (w .table) g c
+      gives (afterTry (l .answer) (l .flow .next) u w m k)
+
+-- "one that has held all releases the last it still holds and takes no more"
+unfoldable pub releaseTurnOf : Crew → ℕ → ℕ → ℕ → Made Crew
+releaseTurnOf w m k c = do
+  note (released by-caller c (getD (w .serials) k 0))
+  gives (crewAt (w .next) (setCell (w .table) c 0 0) (moved (w .made) m) (w .serials) (w .moving + 1) (w .idle))
+
+-- "one holding none after that, or with no cells, is finished and idles"; k is a place in the run of cells
+unfoldable pub turnOf : ℕ → ℕ → List ℕ → List ℕ → List ℕ → Crew → ℕ → Made Crew
+turnOf headers buckets g counts cells w m =
+    let n = getD (w .made) m 0 in
+    let count = countOf counts m in
+    let k = startOf counts m in
+    if leb (2 * count) n then gives (idled (w .next) (w .table) w)
+    else if ltb n count then tryTurnOf headers buckets g w m (k + n) (getD cells (k + n) 0)
+    else releaseTurnOf w m (k + (2 * count - 1 - n)) (getD cells (k + (2 * count - 1 - n)) 0)
+
+unfoldable pub turnsOf : ℕ → ℕ → List ℕ → List ℕ → List ℕ → Crew → List ℕ → Made Crew
+turnsOf headers buckets g counts cells w [] = gives w
+turnsOf headers buckets g counts cells w (m ∷ ms) = do
+  v ← turnOf headers buckets g counts cells w m
+  turnsOf headers buckets g counts cells v ms
+
+-- ---- the call
+
+-- "its answer gives, for each member, cells taken and cells released": sixteen places, 0 where there is no member
+unfoldable pub takenOf : ℕ → ℕ → List ℕ → List ℕ → List ℕ
+takenOf zero m counts made = []
+takenOf (suc left) m counts made = min (getD made m 0) (countOf counts m) ∷ takenOf left (m + 1) counts made
+
+unfoldable pub releasedOf : ℕ → ℕ → List ℕ → List ℕ → List ℕ
+releasedOf zero m counts made = []
+releasedOf (suc left) m counts made = (getD made m 0 - countOf counts m) ∷ releasedOf left (m + 1) counts made
+
+unfoldable pub crewOf : Head → List ℕ → List ℕ → List ℕ → List ℕ → List ℕ → Made (CrewReply × List ℕ)
+crewOf h t g counts cells turns =
+    judge (first (crewRules h t g counts cells turns))
+    (λ r. gives (record { head = h; moving = 0; idle = 0; taken = replicate 16 0; released = replicate 16 0; answer = Refused r }, t)) do
+      w ← turnsOf (h .headers) (h .buckets) g counts cells (crewAt (h .next) t (replicate 16 0) (replicate 256 0) 0 0) turns
+      gives (record {
+        head = spentTo h (w .next);
+        moving = w .moving;
+        idle = w .idle;
+        taken = takenOf 16 0 counts (w .made);
+        released = releasedOf 16 0 counts (w .made);
+        answer = Done;
+      }, w .table)

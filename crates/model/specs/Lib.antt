@@ -1,0 +1,11 @@
+pub mod Choice
+pub mod Log
+pub mod Arena
+pub mod Refusals
+pub mod Answers
+pub mod Foreign
+pub mod Lock
+pub mod Checks
+pub mod Calls
+pub mod Crew
+pub mod Cases

@@ -1,0 +1,84 @@
+-- Document 01, "Numbers of the refusals": the table, and how a list of checks comes to a refusal. The checks themselves are in `Checks`.
+use Prim.Native.Nat.{ℕ}
+use mathlib.Core.List.{List, [], _∷_}
+use mathlib.Core.Bool.{Bool}
+use lib.Dec.{eqb}
+use Rattle.model.specs.Choice.{if_then_else_}
+use Rattle.model.specs.declared.Check.{Check}
+use Rattle.model.specs.declared.Check.the-variants.{Fine, Fault}
+use Rattle.model.specs.declared.Refusal.{Refusal}
+use Rattle.model.specs.declared.Refusal.the-variants.{BadShape, BadScript, BadHeld, TooMany, BadBinding, BadHeader, Poisoned, InvalidBucket, Damaged, SerialsSpent, SerializationFailure, NotHeld, Protected, Repeated, BadCrew}
+
+-- the columns "no." and "carries": the refusal of a number, carrying k
+abbrev pub refusalOf : ℕ → ℕ → Refusal
+refusalOf number k =
+    if eqb number 1 then BadShape
+    else if eqb number 2 then BadScript
+    else if eqb number 3 then BadHeld k
+    else if eqb number 4 then TooMany
+    else if eqb number 5 then BadBinding k
+    else if eqb number 6 then BadHeader k
+    else if eqb number 7 then Poisoned k
+    else if eqb number 8 then InvalidBucket k
+    else if eqb number 9 then Damaged k
+    else if eqb number 10 then SerialsSpent k
+    else if eqb number 11 then SerializationFailure
+    else if eqb number 12 then NotHeld k
+    else if eqb number 13 then Protected
+    else if eqb number 14 then Repeated k
+    else BadCrew k
+
+-- the same columns, read the other way
+abbrev pub numberOf : Refusal → ℕ
+numberOf BadShape = 1
+numberOf BadScript = 2
+numberOf (BadHeld k) = 3
+numberOf TooMany = 4
+numberOf (BadBinding k) = 5
+numberOf (BadHeader k) = 6
+numberOf (Poisoned k) = 7
+numberOf (InvalidBucket k) = 8
+numberOf (Damaged k) = 9
+numberOf (SerialsSpent k) = 10
+numberOf SerializationFailure = 11
+numberOf (NotHeld k) = 12
+numberOf Protected = 13
+numberOf (Repeated k) = 14
+numberOf (BadCrew k) = 15
+
+abbrev pub carriedOf : Refusal → ℕ
+carriedOf BadShape = 0
+carriedOf BadScript = 0
+carriedOf (BadHeld k) = k
+carriedOf TooMany = 0
+carriedOf (BadBinding k) = k
+carriedOf (BadHeader k) = k
+carriedOf (Poisoned k) = k
+carriedOf (InvalidBucket k) = k
+carriedOf (Damaged k) = k
+carriedOf (SerialsSpent k) = k
+carriedOf SerializationFailure = 4096
+carriedOf (NotHeld k) = k
+carriedOf Protected = 0
+carriedOf (Repeated k) = k
+carriedOf (BadCrew k) = k
+
+-- the column "when": a check is a number, what it carries, and the test that makes it apply
+pub record Rule : Type 0 where
+  pub number : ℕ
+  pub carries : ℕ
+  pub applies : Bool
+
+infix 6 refuse_carrying_when_
+abbrev pub refuse_carrying_when_ : ℕ → ℕ → Bool → Rule
+refuse n carrying k when b = record { number = n; carries = k; applies = b }
+
+-- "Checks in this order; the first that applies is given, and only then."
+unfoldable pub first : List Rule → Check
+first [] = Fine
+first (r ∷ rs) = if r .applies then Fault (refusalOf (r .number) (r .carries)) else first rs
+
+-- a call: refused, or its steps
+abbrev pub judge : {A : Type 0} → Check → (Refusal → A) → A → A
+judge Fine refused steps = steps
+judge (Fault r) refused steps = refused r
