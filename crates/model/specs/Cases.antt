@@ -207,7 +207,64 @@ cases =
     ∷ (crew (2 ∷ 2 ∷ []) (2 ∷ 5 ∷ 5 ∷ 2 ∷ []) [] give (refusal is 15 ∷ carries is 1 ∷ []))
     ∷ []
 
--- every marked sentence holds of the definitions
-pub cases-hold : every cases ≡ true
+-- ---- further cases, for slips that no marked sentence meets
+
+-- cells 0 and 2 held by serials 1 and 2, cell 5 waited for
+abbrev used : List ℕ
+used = setWaiters (setCell (setCell prepared 0 1 1) 2 1 2) 5 1
+
+abbrev dropLease : List ℕ → ℕ → ℕ → List Out
+dropLease t c s = fromReply (dropLeaseOf (bench 3) t (leaseOf c s)) ∷ []
+
+abbrev tryAcquire : List ℕ → ℕ → List Out
+tryAcquire t c = fromReply (tryAcquireOf (bench 3) t c) ∷ []
+
+abbrev play : List ℕ → List ℕ → List Out
+play script held = fromPlayed (environmentOf (bench 3) used healthy script 0 held) ∷ []
+
+abbrev releaseAll : List ℕ → List Out
+releaseAll leases = fromPlayed (releaseAllOf (bench 3) used healthy [] 0 leases) ∷ []
+
+abbrev pub further : List Case
+further =
+    -- a rollback releases every lease taken, the last too, and leaves the buffer as it was
+    (byKeys prepared (0 ∷ 0 ∷ 1 ∷ 1 ∷ 0 ∷ 9 ∷ []) (9 ∷ 8 ∷ 9 ∷ 9 ∷ 9 ∷ 9 ∷ []) give (refusal is 8 ∷ carries is 9 ∷ position is 2 ∷ attempts is 3 ∷ boundaries is 8 ∷ next is 3 ∷ bit 0 is 0 ∷ bit 5 is 0 ∷ cell is 9 ∷ serial is 8 ∷ []))
+    -- a release compares the serial, and clears bit and owner
+    ∷ (dropLease used 2 1 give (refusal is 12 ∷ carries is 0 ∷ bit 2 is 1 ∷ owner 2 is 2 ∷ []))
+    ∷ (dropLease used 2 2 give (done is 1 ∷ bit 2 is 0 ∷ owner 2 is 0 ∷ bit 0 is 1 ∷ next is 3 ∷ []))
+    -- a lease whose cell is out of range is not live, and a serial of 0 never
+    ∷ (dropLease used 8 1 ++ dropLease used 0 0 ++ dropLease prepared 2 0 give (refusal is 12 ∷ []))
+    -- damaged in each way: owner next, owner without a bit, a bit without an owner, a bit of 2
+    ∷ (tryAcquire (setCell used 3 1 3) 3 ++ tryAcquire (setCell used 3 0 1) 3 ++ tryAcquire (setCell used 3 1 0) 3 ++ tryAcquire (setCell used 3 2 1) 3 give (refusal is 9 ∷ carries is 3 ∷ attempts is 1 ∷ next is 3 ∷ []))
+    -- held, not by the newest serial only; free although waited for; out of range
+    ∷ (tryAcquire used 0 give (busy is 1 ∷ attempts is 1 ∷ next is 3 ∷ owner 0 is 1 ∷ []))
+    ∷ (tryAcquire used 5 give (granted is 1 ∷ cell is 5 ∷ serial is 3 ∷ next is 4 ∷ bit 5 is 1 ∷ owner 5 is 3 ∷ []))
+    ∷ (tryAcquire used 8 give (refusal is 8 ∷ carries is 8 ∷ attempts is 0 ∷ []))
+    -- waiters are read before the cell
+    ∷ (fromPlayed (tryLockOf (bench 3) used healthy [] 0 [] 5) ∷ [] give (busy is 1 ∷ boundaries is 1 ∷ next is 3 ∷ []))
+    -- steps: a take, a release by another serial, a protected release, a release, health 2, kind 6, a place out of range; nothing behind the 5
+    ∷ (play (1 ∷ 3 ∷ 7 ∷ 2 ∷ 2 ∷ 1 ∷ 2 ∷ 0 ∷ 1 ∷ 2 ∷ 2 ∷ 2 ∷ 4 ∷ 0 ∷ 2 ∷ 6 ∷ 0 ∷ 0 ∷ 3 ∷ 8 ∷ 1 ∷ 0 ∷ 9 ∷ 9 ∷ 5 ∷ 9 ∷ 9 ∷ 1 ∷ 4 ∷ 0 ∷ []) (0 ∷ 1 ∷ []) give (done is 1 ∷ dropped is 5 ∷ place is 9 ∷ boundaries is 1 ∷ next is 4 ∷ owner 3 is 3 ∷ bit 2 is 0 ∷ bit 0 is 1 ∷ bit 4 is 0 ∷ []))
+    -- a list to release: in order of position, 12 before 14 at one place
+    ∷ (releaseAll (0 ∷ 1 ∷ 0 ∷ 1 ∷ 7 ∷ 7 ∷ []) give (refusal is 14 ∷ carries is 1 ∷ bit 0 is 1 ∷ []))
+    ∷ (releaseAll (0 ∷ 1 ∷ 7 ∷ 7 ∷ 0 ∷ 1 ∷ []) give (refusal is 12 ∷ carries is 1 ∷ bit 0 is 1 ∷ []))
+    ∷ (releaseAll (0 ∷ 1 ∷ 2 ∷ 2 ∷ []) give (done is 1 ∷ boundaries is 2 ∷ attempts is 0 ∷ bit 0 is 0 ∷ bit 2 is 0 ∷ next is 3 ∷ []))
+    -- a held list: odd carries its count, else the first lease not live
+    ∷ (play [] (0 ∷ 1 ∷ 7 ∷ []) give (refusal is 3 ∷ carries is 1 ∷ boundaries is 0 ∷ []))
+    ∷ (play [] (0 ∷ 1 ∷ 2 ∷ 1 ∷ 7 ∷ 7 ∷ []) give (refusal is 3 ∷ carries is 1 ∷ []))
+    -- the small calls
+    ∷ (fromReply (competingAcquireOf (bench 3) used (leaseOf 2 2)) ∷ [] give (busy is 1 ∷ attempts is 1 ∷ owner 2 is 2 ∷ next is 3 ∷ []))
+    ∷ (fromReply (releaseThenHandoffOf (bench 3) used (leaseOf 2 2)) ∷ [] give (granted is 1 ∷ cell is 2 ∷ serial is 3 ∷ attempts is 1 ∷ next is 4 ∷ owner 2 is 3 ∷ []))
+    ∷ (fromReply (foreignReleaseOf (bench 3) used (0 ∷ 1 ∷ []) (leaseOf 2 2)) ∷ [] give (granted is 1 ∷ serial is 3 ∷ attempts is 2 ∷ next is 4 ∷ []))
+    ∷ (fromReply (foreignReleaseOf (bench 3) used (2 ∷ 2 ∷ []) (leaseOf 2 2)) ∷ fromReply (dropPreservingOf (bench 3) used (2 ∷ 2 ∷ []) (leaseOf 2 2)) ∷ [] give (refusal is 13 ∷ carries is 0 ∷ attempts is 0 ∷ owner 2 is 2 ∷ []))
+    ∷ (fromReply (releaseThenHandoffOf (bench 4_294_967_295) used (leaseOf 2 2)) ∷ [] give (refusal is 10 ∷ carries is 2 ∷ attempts is 1 ∷ bit 2 is 0 ∷ []))
+    -- a crew: releases last first, so the second member gets cell 5 only when the first gave it back
+    ∷ (crew (2 ∷ 1 ∷ []) (2 ∷ 5 ∷ 5 ∷ []) (0 ∷ 0 ∷ 1 ∷ 0 ∷ 1 ∷ []) give (moving is 4 ∷ idle is 1 ∷ owner 2 is 1 ∷ owner 5 is 3 ∷ next is 4 ∷ []))
+    -- limits before lists, lists before turns
+    ∷ (crew (2 ∷ 2 ∷ []) (2 ∷ 5 ∷ 5 ∷ []) (7 ∷ []) give (refusal is 15 ∷ carries is 0 ∷ []))
+    ∷ (crew (1 ∷ 1 ∷ []) (2 ∷ 5 ∷ []) (1 ∷ 0 ∷ 2 ∷ []) give (refusal is 15 ∷ carries is 2 ∷ bit 2 is 0 ∷ []))
+    ∷ []
+
+-- every figure of every case holds of the definitions
+pub cases-hold : (every cases ≡ true) × (every further ≡ true)
 unfolding bitAt ownerAt waitersAt setCell setWaiters isFree isHeld stateOf stateAt isLive leasesOf wordsOf sameLease isIn headFits shapeFits healthFits registryFits first stepTakeOf stepReleaseOf stepWaitersOf stepHealthOf stepOf stepsOf boundaryOf takeOf lateOf secondOf lockOf findOf attemptOf spinOf pauseOf retryOf giveBackOf rollbackOf locksOf notLive badBindings notReleasable prepareRules cellRules leaseRules heldCellRules heldLeaseRules scriptRules lockRules bucketRules releaseRules locksRules prepareOf acquireOf tryAcquireOf dropLeaseOf readPermissionOf competingAcquireOf releaseThenHandoffOf foreignReleaseOf acquirePreservingOf dropPreservingOf environmentOf tryLockOf transactionalOf acquireBucketOf releaseAllOf acquireLocksOf total startOf allWithin risesFrom badLists badTurns crewRules tryTurnOf releaseTurnOf turnOf turnsOf takenOf releasedOf crewOf
-cases-hold = refl
+cases-hold = (refl, refl)

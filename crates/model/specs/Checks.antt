@@ -1,12 +1,13 @@
 -- Document 01, "Numbers of the refusals", the column "when": the checks on what a call takes, and, below, each call's checks in the
 -- order of the table. "Calls check only what they take."
-use Prim.Native.Nat.{ℕ, _+_, _*_, _/_, _%_}
+use Prim.Native.Nat.{ℕ, zero, suc, _+_, _*_, _/_, _%_}
 use mathlib.Core.List.{List, [], _∷_, _++_}
 use mathlib.Core.Bool.{Bool, not, _||_}
 use lib.Dec.{ltb, leb, eqb}
 use lib.ListN.{length}
 use Rattle.model.specs.Arena.{cellsOf, shapeFits, healthFits, registryFits, isLive, isIn, leasesOf}
 use Rattle.model.specs.Foreign.{stepsIn}
+use Rattle.model.specs.Lock.{bindingAt}
 use Rattle.model.specs.Refusals.{Rule, refuse_carrying_when_}
 use Rattle.model.specs.declared.Head.{Head}
 use Rattle.model.specs.declared.Lease.{Lease}
@@ -63,10 +64,10 @@ tooManyLeases leases = refuse 4 carrying 0 when (isOdd leases || ltb 64 (countIn
 abbrev pub badBinding : List ℕ → ℕ → ℕ → Rule
 badBinding registry i binding = refuse 5 carrying i when leb (length registry) binding
 
-unfoldable pub badBindings : List ℕ → ℕ → List ℕ → List Rule
-badBindings registry i [] = []
-badBindings registry i (binding ∷ []) = []
-badBindings registry i (binding ∷ bucket ∷ keys) = badBinding registry i binding ∷ badBindings registry (i + 1) keys
+-- `left` keys from position i on
+unfoldable pub badBindings : ℕ → ℕ → List ℕ → List ℕ → List Rule
+badBindings zero i registry keys = []
+badBindings (suc left) i registry keys = badBinding registry i (bindingAt keys i) ∷ badBindings left (i + 1) registry keys
 
 -- ---- 8 InvalidBucket: "a cell number at least H x B in a call by cell"
 
@@ -134,4 +135,4 @@ releaseRules h t g script place leases =
 -- `acquire_index_locks`
 unfoldable pub locksRules : Head → List ℕ → List ℕ → List ℕ → List ℕ → ℕ → List ℕ → List ℕ → List ℕ → List Rule
 locksRules h t g registry script place held keys grants =
-    badShape h t ∷ badHealth h g ∷ badRegistry registry ∷ badScript script place ∷ (badHeld h t held ++ (tooManyKeys held keys grants ∷ badBindings registry 0 keys))
+    badShape h t ∷ badHealth h g ∷ badRegistry registry ∷ badScript script place ∷ (badHeld h t held ++ (tooManyKeys held keys grants ∷ badBindings (countIn keys) 0 registry keys))

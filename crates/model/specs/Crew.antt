@@ -144,11 +144,14 @@ crewOf h t g counts cells turns =
     judge (first (crewRules h t g counts cells turns))
     (λ r. gives (record { head = h; moving = 0; idle = 0; taken = replicate 16 0; released = replicate 16 0; answer = Refused r }, t)) do
       w ← turnsOf (h .headers) (h .buckets) g counts cells (crewAt (h .next) t (replicate 16 0) (replicate 256 0) 0 0) turns
-      gives (record {
-        head = spentTo h (w .next);
-        moving = w .moving;
-        idle = w .idle;
-        taken = takenOf 16 0 counts (w .made);
-        released = releasedOf 16 0 counts (w .made);
-        answer = Done;
-      }, w .table)
+      gives (
+        record {
+          head = spentTo h (w .next);
+          moving = w .moving;
+          idle = w .idle;
+          taken = takenOf 16 0 counts (w .made);
+          released = releasedOf 16 0 counts (w .made);
+          answer = Done;
+        },
+        w .table,
+      )

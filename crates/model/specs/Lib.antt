@@ -8,4 +8,5 @@ pub mod Lock
 pub mod Checks
 pub mod Calls
 pub mod Crew
+pub mod Order
 pub mod Cases
