@@ -1,11 +1,11 @@
 -- Document 01's calls: the checks on what a call takes, then its steps. Each gives its result and, behind it, the lent runs it may
 -- change, in the order in which it takes them; beside that, the log.
-use Prim.Native.Nat.{ℕ, _+_, _/_}
-use mathlib.Core.List.{List, [], _∷_}
+use Prim.Native.Nat.{ℕ}
+use mathlib.Core.List.{List, []}
 use lib.ListN.{length, replicate}
-use Rattle.model.specs.Log.{Made, Event, by-caller, attempt-begun, released, gives, note, _>>=_, _>>_}
+use Rattle.model.specs.Log.{Made, by-caller, attempt-begun, released, gives, note, _>>=_, _>>_}
 use Rattle.model.specs.Arena.{cellsOf, headOf, spentTo, setCell, leasesOf}
-use Rattle.model.specs.Refusals.{Rule, first, judge}
+use Rattle.model.specs.Refusals.{first, judge}
 use Rattle.model.specs.Checks.{countIn, prepareRules, cellRules, leaseRules, heldCellRules, heldLeaseRules, scriptRules, lockRules, bucketRules, releaseRules, locksRules}
 use Rattle.model.specs.Foreign.{Setting, setting, flowOf, boundaryOf}
 use Rattle.model.specs.Lock.{takeOf, lockOf, outcomeOf, answerOf, runOf, attemptOf, attemptLimit, retryOf, settled, giveBackOf, locksOf}

@@ -8,7 +8,7 @@ use lib.Dec.{eqb}
 use lib.ListN.{getD, replicate}
 use Rattle.model.specs.Choice.{if_then_else_}
 use Rattle.model.specs.Log.{Made}
-use Rattle.model.specs.Arena.{headOf, leaseOf, bitAt, ownerAt, waitersAt, setCell, setWaiters, isFree, isHeld, stateOf, stateAt, isLive, leasesOf, wordsOf, sameLease, isIn, headFits, shapeFits, healthFits, registryFits, lastSerial}
+use Rattle.model.specs.Arena.{headOf, leaseOf, bitAt, ownerAt, waitersAt, setCell, setWaiters, isFree, isHeld, stateOf, stateAt, isLive, leasesOf, wordsOf, sameLease, isIn, headFits, shapeFits, healthFits, registryFits}
 use Rattle.model.specs.Refusals.{first}
 use Rattle.model.specs.Answers.{refusalIn, kindOf, valuesOf}
 use Rattle.model.specs.Foreign.{stepTakeOf, stepReleaseOf, stepWaitersOf, stepHealthOf, stepOf, stepsOf, boundaryOf}

@@ -2,17 +2,16 @@
 -- lists one behind the other.
 use Prim.Native.Nat.{ℕ, zero, suc, _+_, _*_, _-_, _/_, min}
 use mathlib.Core.List.{List, [], _∷_, _++_}
-use mathlib.Core.Bool.{Bool, true, false, not, _&&_, _||_}
+use mathlib.Core.Bool.{Bool, true, not, _&&_, _||_}
 use lib.Dec.{ltb, leb, eqb}
 use lib.ListN.{length, getD, set, take, drop, replicate}
 use Rattle.model.specs.Choice.{if_then_else_}
-use Rattle.model.specs.Log.{Made, Event, by-caller, attempt-begun, released, gives, note, _>>=_, _>>_}
+use Rattle.model.specs.Log.{Made, by-caller, attempt-begun, released, gives, note, _>>=_, _>>_}
 use Rattle.model.specs.Arena.{within, cellsOf, spentTo, setCell}
 use Rattle.model.specs.Refusals.{Rule, refuse_carrying_when_, first, judge}
 use Rattle.model.specs.Checks.{badShape, badHealth}
-use Rattle.model.specs.Foreign.{Setting, setting, flowOf}
+use Rattle.model.specs.Foreign.{setting, flowOf}
 use Rattle.model.specs.Lock.{lockOf}
-use Rattle.model.specs.declared.Answer.{Answer}
 use Rattle.model.specs.declared.Answer.the-variants.{Done, Refused}
 use Rattle.model.specs.declared.CrewReply.{CrewReply}
 use Rattle.model.specs.declared.Head.{Head}

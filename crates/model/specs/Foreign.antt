@@ -1,11 +1,11 @@
 -- Document 01, "Foreign steps".
 use Prim.Native.Nat.{ℕ, zero, suc, _+_, _*_, _-_, _/_}
-use mathlib.Core.List.{List, [], _∷_, _++_}
-use mathlib.Core.Bool.{Bool, not, _&&_}
+use mathlib.Core.List.{List, _++_}
+use mathlib.Core.Bool.{not, _&&_}
 use lib.Dec.{ltb, leb, eqb}
 use lib.ListN.{length, getD, set}
 use Rattle.model.specs.Choice.{if_then_else_}
-use Rattle.model.specs.Log.{Made, Event, by-script, boundary-run, step-dropped, took, released, waiters-set, health-set, gives, note, _>>=_, _>>_}
+use Rattle.model.specs.Log.{Made, by-script, boundary-run, step-dropped, took, released, waiters-set, health-set, gives, note, _>>=_, _>>_}
 use Rattle.model.specs.Arena.{serialRemains, bitAt, ownerAt, setCell, setWaiters, isFree, isLive, isIn, leaseOf}
 use Rattle.model.specs.declared.Flow.{Flow}
 use Rattle.model.specs.declared.Lease.{Lease}

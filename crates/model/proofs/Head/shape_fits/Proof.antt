@@ -1,60 +1,48 @@
-use borrow.Author.Needs.{needs}
-use borrow.Author.Tests.{le-leb, lt-leb}
+-- `model::Head::shape_fits` meets its contract.
 use native.Mathlib.Nat.{mul-le-mul}
 use native.Mathlib.Omega.{arith}
-use Rattle.model.specs.Arena.{headFits, shapeFits}
+use borrow.Author.Needs.{needs}
+use borrow.Author.Tests.{le-leb, lt-leb}
 use Rattle.model.proofs.Head.shape_fits.Statement.{statement}
+use Rattle.model.specs.Arena.{headFits, shapeFits}
 use Rattle.model.proofs.Head.shape_fits.Tie as tie
-use Rattle.model.proofs.Head.shape_fits.Reads as reads
-use Rattle.model.proofs.Head.shape_fits.Lts as lts
 
--- src/lib.rt:178:13
 returns : tie.Need-returns
 unfolding headFits shapeFits
 returns c = rw (lt-leb 1 _ (c .if1 .taken))
 
--- src/lib.rt:181:13
 returns-2 : tie.Need-returns-2
 unfolding headFits shapeFits
 returns-2 c = rw (le-leb 1 _ (c .before .if1 .left), lt-leb _ 64 (c .if2 .taken))
 
--- src/lib.rt:184:13
 returns-3 : tie.Need-returns-3
 unfolding headFits shapeFits
 returns-3 c = rw (le-leb 1 _ (c .before .before .if1 .left), le-leb _ 64 (c .before .if2 .left), lt-leb 1 _ (c .if3 .taken))
 
--- src/lib.rt:187:13
 returns-4 : tie.Need-returns-4
 unfolding headFits shapeFits
 returns-4 c = rw (le-leb 1 _ (c .before .before .before .if1 .left), le-leb _ 64 (c .before .before .if2 .left), le-leb 1 _ (c .before .if3 .left), lt-leb _ 1024 (c .if4 .taken))
 
--- src/lib.rt:189:19
 mul-if5 : tie.Need-mul-if5
 mul-if5 c = omega (arith, mul-le-mul (c .before .before .if2 .left) (c .if4 .left))
 
--- src/lib.rt:190:13
 returns-5 : tie.Need-returns-5
 unfolding headFits shapeFits
 returns-5 c = rw (le-leb 1 _ (c .before .before .before .before .if1 .left), le-leb _ 64 (c .before .before .before .if2 .left), le-leb 1 _ (c .before .before .if3 .left), le-leb _ 1024 (c .before .if4 .left), lt-leb _ 4096 (c .if5 .taken))
 
--- src/lib.rt:193:13
 returns-6 : tie.Need-returns-6
 unfolding headFits shapeFits
 returns-6 c = rw (le-leb 1 _ (c .before .before .before .before .before .before .if1 .left), le-leb _ 64 (c .before .before .before .before .before .if2 .left), le-leb 1 _ (c .before .before .before .before .if3 .left), le-leb _ 1024 (c .before .before .before .if4 .left), le-leb _ 4096 (c .before .before .if5 .left), lt-leb 1 _ (c .if6 .taken))
 
--- src/lib.rt:195:24
 mul-result : tie.Need-mul-result
 mul-result c = search needs
 
--- src/lib.rt:195:19
 mul-result-2 : tie.Need-mul-result-2
 mul-result-2 c = search needs
 
--- src/lib.rt:195:18
 cast-result : tie.Need-cast-result
 cast-result c = search needs
 
--- src/lib.rt:172:5
 returns-7 : tie.Need-returns-7
 unfolding headFits shapeFits
 returns-7 c =

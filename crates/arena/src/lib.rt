@@ -1,0 +1,187 @@
+// The arena of document 01: a cell's three words, what they say, and preparing.
+// Functions with a `requires` are steps: calls have tested the shape, and a step tests nothing twice.
+use model::Answer;
+use model::Counts;
+use model::Head;
+use model::Refusal;
+use model::Reply;
+use model::State;
+ghost use mathlib.Core.Path.{_≡_};
+ghost use Prim.Native.Nat.{_+_, _*_, _<_, _≤_};
+ghost use lib.ListN.{length, replicate};
+ghost use Rattle.model.specs.Arena.{leaseOf, bitAt, ownerAt, waitersAt, setCell, setWaiters, isFree, stateOf, stateAt, isLive};
+ghost use Rattle.model.specs.Calls.{prepareOf, refused, replied};
+
+// Bit, owner and waiters of a cell.
+pub fn bit(table: &[u32], cell: u32) -> u32
+    requires { ⌜ 3 * cell + 2 < length (now table) ⌝ }
+    ensures { λ r. ⌜ r ≡ bitAt (now (table .entry)) cell ⌝ }
+{
+    table[3 * (cell as usize)]
+}
+
+pub fn owner(table: &[u32], cell: u32) -> u32
+    requires { ⌜ 3 * cell + 2 < length (now table) ⌝ }
+    ensures { λ r. ⌜ r ≡ ownerAt (now (table .entry)) cell ⌝ }
+{
+    table[3 * (cell as usize) + 1]
+}
+
+pub fn waiters(table: &[u32], cell: u32) -> u32
+    requires { ⌜ 3 * cell + 2 < length (now table) ⌝ }
+    ensures { λ r. ⌜ r ≡ waitersAt (now (table .entry)) cell ⌝ }
+{
+    table[3 * (cell as usize) + 2]
+}
+
+// Another bit and owner for a cell; other waiters for a cell.
+pub fn set_cell(table: &mut [u32], cell: u32, bit: u32, owner: u32)
+    requires { ⌜ 3 * cell + 2 < length (now table) ⌝ }
+    ensures { λ _. ⌜ now (table .exit) ≡ setCell (now (table .entry)) cell bit owner ⌝ }
+{
+    let at = 3 * (cell as usize);
+    table[at] = bit;
+    table[at + 1] = owner;
+}
+
+pub fn set_waiters(table: &mut [u32], cell: u32, number: u32)
+    requires { ⌜ 3 * cell + 2 < length (now table) ⌝ }
+    ensures { λ _. ⌜ now (table .exit) ≡ setWaiters (now (table .entry)) cell number ⌝ }
+{
+    let at = 3 * (cell as usize) + 2;
+    table[at] = number;
+}
+
+// Whether a cell is free.
+pub fn free(table: &[u32], cell: u32) -> bool
+    requires { ⌜ 3 * cell + 2 < length (now table) ⌝ }
+    ensures { λ r. ⌜ r ≡ isFree (bitAt (now (table .entry)) cell) (ownerAt (now (table .entry)) cell) ⌝ }
+{
+    let b = bit(table, cell);
+    let o = owner(table, cell);
+    if b == 0 {
+        return o == 0;
+    }
+    false
+}
+
+// What a bit and an owner say.
+pub fn said(next: u32, bit: u32, owner: u32) -> State
+    ensures { λ r. ⌜ r ≡ stateOf next bit owner ⌝ }
+{
+    if bit == 0 {
+        if owner == 0 {
+            return State::Free;
+        }
+        return State::Damaged;
+    }
+    if bit == 1 {
+        if owner < 1 {
+            return State::Damaged;
+        }
+        if owner < next {
+            return State::Held(owner);
+        }
+        return State::Damaged;
+    }
+    State::Damaged
+}
+
+// A cell's state.
+pub fn state(next: u32, table: &[u32], cell: u32) -> State
+    requires { ⌜ 3 * cell + 2 < length (now table) ⌝ }
+    ensures { λ r. ⌜ r ≡ stateAt next (now (table .entry)) cell ⌝ }
+{
+    let b = bit(table, cell);
+    let o = owner(table, cell);
+    said(next, b, o)
+}
+
+// Whether a lease is live.
+pub fn live(next: u32, cells: u32, table: &[u32], cell: u32, serial: u32) -> bool
+    requires { ⌜ 3 * cells ≤ length (now table) ⌝ }
+    ensures { λ r. ⌜ r ≡ isLive next cells (now (table .entry)) (leaseOf cell serial) ⌝ }
+{
+    if cell < cells {
+        let s = state(next, table, cell);
+        return match s {
+            State::Free => false,
+            State::Held(owner) => owner == serial,
+            State::Damaged => false,
+        };
+    }
+    false
+}
+
+// The results of calls without a script: only attempts can be other than 0.
+pub fn reply(head: Head, attempts: usize, answer: Answer) -> Reply
+    ensures { λ r. ⌜ r ≡ replied head attempts answer ⌝ }
+{
+    Reply {
+        head,
+        counts: Counts {
+            attempts,
+            boundaries: 0,
+            yields: 0,
+            dropped: 0,
+        },
+        answer,
+    }
+}
+
+pub fn refuse(head: Head, refusal: Refusal) -> Reply
+    ensures { λ r. ⌜ r ≡ refused head refusal ⌝ }
+{
+    reply(head, 0, Answer::Refused(refusal))
+}
+
+fn zero_words(run: &mut [u32])
+    ensures { λ _. ⌜ now (run .exit) ≡ replicate (length (now (run .entry))) 0 ⌝ }
+{
+    let mut i = 0;
+    while i < run.len() {
+        run[i] = 0;
+        i += 1;
+    }
+}
+
+fn zero_bytes(run: &mut [u8])
+    ensures { λ _. ⌜ now (run .exit) ≡ replicate (length (now (run .entry))) 0 ⌝ }
+{
+    let mut i = 0;
+    while i < run.len() {
+        run[i] = 0;
+        i += 1;
+    }
+}
+
+// Sets every table word and health byte to 0, or refuses and changes nothing.
+pub fn prepare(
+    headers: u32,
+    buckets: u32,
+    serial: u32,
+    table: &mut [u32],
+    health: &mut [u8],
+) -> Reply
+    ensures { λ r. ⌜ (r, (now (table .exit), now (health .exit))) ≡ prepareOf headers buckets serial (now (table .entry)) (now (health .entry)) .seen ⌝ }
+{
+    let head = Head {
+        headers,
+        buckets,
+        next: serial,
+    };
+    let none = Head {
+        headers: 0,
+        buckets: 0,
+        next: 0,
+    };
+    if head.shape_fits(table.len()) {
+        if head.health_fits(health.len()) {
+            zero_words(table);
+            zero_bytes(health);
+            return reply(head, 0, Answer::Done);
+        }
+        return refuse(none, Refusal::BadShape);
+    }
+    refuse(none, Refusal::BadShape)
+}

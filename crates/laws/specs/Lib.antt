@@ -1,0 +1,5 @@
+pub mod Pick
+pub mod Shape
+pub mod Words
+pub mod Fill
+pub mod Prepared
