@@ -135,22 +135,22 @@ pub fn refuse(head: Head, refusal: Refusal) -> Reply
     reply(head, 0, Answer::Refused(refusal))
 }
 
-fn zero_words(run: &mut [u32])
-    ensures { λ _. ⌜ now (run .exit) ≡ replicate (length (now (run .entry))) 0 ⌝ }
+fn zero_words(words: &mut [u32])
+    ensures { λ _. ⌜ now (words .exit) ≡ replicate (length (now (words .entry))) 0 ⌝ }
 {
     let mut i = 0;
-    while i < run.len() {
-        run[i] = 0;
+    while i < words.len() {
+        words[i] = 0;
         i += 1;
     }
 }
 
-fn zero_bytes(run: &mut [u8])
-    ensures { λ _. ⌜ now (run .exit) ≡ replicate (length (now (run .entry))) 0 ⌝ }
+fn zero_bytes(bytes: &mut [u8])
+    ensures { λ _. ⌜ now (bytes .exit) ≡ replicate (length (now (bytes .entry))) 0 ⌝ }
 {
     let mut i = 0;
-    while i < run.len() {
-        run[i] = 0;
+    while i < bytes.len() {
+        bytes[i] = 0;
         i += 1;
     }
 }

@@ -10,16 +10,16 @@ use Rattle.arena.proofs.zero_bytes.Statement.{statement}
 use Rattle.arena.proofs.zero_bytes.Tie as tie
 
 abbrev Inv-loop : tie.InvT-loop
-Inv-loop run₀ i₀ run i = (i ≤ length run₀) × ((run ≡ replicate i 0 ++ drop i run₀) × (length run ≡ length run₀))
+Inv-loop bytes₀ i₀ bytes i = (i ≤ length bytes₀) × ((bytes ≡ replicate i 0 ++ drop i bytes₀) × (length bytes ≡ length bytes₀))
 
 abbrev μ-loop : tie.MeasureT-loop
-μ-loop run₀ i₀ run i = length run₀ - i
+μ-loop bytes₀ i₀ bytes i = length bytes₀ - i
 
 loop-holds : tie.Need-loop-holds Inv-loop μ-loop
 loop-holds c = search needs
 
-slice-write-run : tie.Need-slice-write-run Inv-loop μ-loop
-slice-write-run c = search needs
+slice-write-bytes : tie.Need-slice-write-bytes Inv-loop μ-loop
+slice-write-bytes c = search needs
 
 add-i : tie.Need-add-i Inv-loop μ-loop
 add-i c = search needs
@@ -38,7 +38,7 @@ same-length c = search needs
 returns : tie.Need-returns Inv-loop μ-loop
 returns c =
     let l = c .before .loop in
-    filled (l .run) (c .before .before .args .run .now) (l .i) 0 (l .inv .1 .0) (search needs) (search needs)
+    filled (l .bytes) (c .before .before .args .bytes .now) (l .i) 0 (l .inv .1 .0) (search needs) (search needs)
 
 pub zero-bytes-spec : {M : Type 1} → statement M
 zero-bytes-spec =
@@ -47,7 +47,7 @@ zero-bytes-spec =
     Inv-loop
     μ-loop
     loop-holds
-    slice-write-run
+    slice-write-bytes
     add-i
     loop-less
     loop-again

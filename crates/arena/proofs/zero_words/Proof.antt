@@ -10,19 +10,19 @@ use Rattle.arena.proofs.zero_words.Statement.{statement}
 use Rattle.arena.proofs.zero_words.Tie as tie
 
 abbrev Inv-loop : tie.InvT-loop
-Inv-loop run₀ i₀ run i = (i ≤ length run₀) × ((run ≡ replicate i 0 ++ drop i run₀) × (length run ≡ length run₀))
+Inv-loop words₀ i₀ words i = (i ≤ length words₀) × ((words ≡ replicate i 0 ++ drop i words₀) × (length words ≡ length words₀))
 
 abbrev μ-loop : tie.MeasureT-loop
-μ-loop run₀ i₀ run i = length run₀ - i
+μ-loop words₀ i₀ words i = length words₀ - i
 
 loop-holds : tie.Need-loop-holds Inv-loop μ-loop
 loop-holds c = search needs
 
-mul-run : tie.Need-mul-run Inv-loop μ-loop
-mul-run c = search needs
+mul-words : tie.Need-mul-words Inv-loop μ-loop
+mul-words c = search needs
 
-slice-write-run : tie.Need-slice-write-run Inv-loop μ-loop
-slice-write-run c = search needs
+slice-write-words : tie.Need-slice-write-words Inv-loop μ-loop
+slice-write-words c = search needs
 
 add-i : tie.Need-add-i Inv-loop μ-loop
 add-i c = search needs
@@ -41,7 +41,7 @@ same-length c = search needs
 returns : tie.Need-returns Inv-loop μ-loop
 returns c =
     let l = c .before .loop in
-    filled (l .run) (c .before .before .args .run .now) (l .i) 0 (l .inv .1 .0) (search needs) (search needs)
+    filled (l .words) (c .before .before .args .words .now) (l .i) 0 (l .inv .1 .0) (search needs) (search needs)
 
 pub zero-words-spec : {M : Type 1} → statement M
 zero-words-spec =
@@ -50,8 +50,8 @@ zero-words-spec =
     Inv-loop
     μ-loop
     loop-holds
-    mul-run
-    slice-write-run
+    mul-words
+    slice-write-words
     add-i
     loop-less
     loop-again
