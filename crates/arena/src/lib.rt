@@ -44,6 +44,14 @@ pub fn set_cell(table: &mut [u32], cell: u32, bit: u32, owner: u32)
     table[at + 1] = owner;
 }
 
+// A release: nobody owns the cell.
+pub fn release(table: &mut [u32], cell: u32)
+    requires { ⌜ 3 * cell + 2 < length (now table) ⌝ }
+    ensures { λ _. ⌜ now (table .exit) ≡ setCell (now (table .entry)) cell 0 0 ⌝ }
+{
+    set_cell(table, cell, 0, 0)
+}
+
 pub fn set_waiters(table: &mut [u32], cell: u32, number: u32)
     requires { ⌜ 3 * cell + 2 < length (now table) ⌝ }
     ensures { λ _. ⌜ now (table .exit) ≡ setWaiters (now (table .entry)) cell number ⌝ }

@@ -7,7 +7,8 @@ use native.Mathlib.Omega.{arith}
 use native.Mathlib.Decide.{ℕ-discrete}
 use lib.ListN.{length, set, length-set}
 use lib.Seq.{getD-set-same, getD-set-other}
-use Rattle.model.specs.Arena.{bitAt, ownerAt, waitersAt, setCell, setWaiters}
+use Rattle.model.specs.Arena.{bitAt, ownerAt, waitersAt, setCell, setWaiters, isFree, stateOf, stateAt}
+use Rattle.model.specs.declared.State.the-variants.{Free}
 
 pub length-set-cell : (t : List ℕ) (c b o : ℕ) → length (setCell t c b o) ≡ length t
 unfolding setCell
@@ -71,3 +72,8 @@ see t c b o d h = go (ℕ-discrete d c)
     go : Dec (d ≡ c) → Seen t c b o d
     go (yes e) = here e (rw e (bit-set t c b o (omega arith))) (rw e (owner-set t c b o h))
     go (no e) = there e (bit-set-other t c b o d e) (owner-set-other t c b o d e)
+
+-- a cell that was released is free
+pub state-freed : (next : ℕ) (t : List ℕ) (c : ℕ) → 3 * c + 1 < length t → stateAt next (setCell t c 0 0) c ≡ Free
+unfolding stateAt stateOf isFree
+state-freed next t c h = let a = bit-set t c 0 0 (omega arith) in let b = owner-set t c 0 0 h in rw (a, b)

@@ -1,0 +1,174 @@
+-- Lists of rules: how `first` goes on, what it means that all is fine, and one position of a list of leases at a time.
+use Prim.Native.Nat.{ℕ, suc, _+_, _*_, _-_, _≤_, _<_}
+use mathlib.Core.Path.{_≡_, refl, sym, ap, _∙_}
+use mathlib.Core.List.{List, [], _∷_, _++_}
+use mathlib.Core.Bool.{Bool, true, false, not}
+use native.Mathlib.Omega.{arith}
+use native.Mathlib.Numerals.{add-one}
+use lib.Dec.{ltb}
+use lib.ListN.{length, getD, drop, length-drop}
+use lib.Seq.{drop-cons}
+use borrow.Author.Tests.{leb-false, ltb-true, not-false}
+use Rattle.model.specs.Choice.{if_then_else_}
+use Rattle.model.specs.Arena.{cellsOf, leaseOf, shapeFits, healthFits, isLive, leasesOf, sameLease, isIn, heldBy, stateAt}
+use Rattle.model.specs.Refusals.{Rule, refusalOf, first}
+use Rattle.model.specs.Checks.{badShape, badHealth, notLive, cellRules, leaseRules, heldCellRules, heldLeaseRules, badHeld}
+use Rattle.model.specs.declared.Check.{Check}
+use Rattle.model.specs.declared.Check.the-variants.{Fine, Fault}
+use Rattle.model.specs.declared.Head.{Head}
+use Rattle.model.specs.declared.Lease.{Lease}
+use Rattle.model.specs.declared.Refusal.the-variants as refusal
+use Rattle.laws.specs.Pick.{both}
+use Rattle.laws.specs.Shape.{Shaped, shaped}
+
+-- ---- one rule behind the other
+
+abbrev pub or-else : Check → Check → Check
+or-else Fine d = d
+or-else (Fault r) d = Fault r
+
+pub first-append : (xs ys : List Rule) → first (xs ++ ys) ≡ or-else (first xs) (first ys)
+unfolding first
+first-append [] ys = refl
+first-append (x ∷ xs) ys = go (x .applies) (first-append xs ys)
+  where
+    go : (b : Bool) → first (xs ++ ys) ≡ or-else (first xs) (first ys)
+        → (if b then Fault (refusalOf (x .number) (x .carries)) else first (xs ++ ys))
+        ≡ or-else (if b then Fault (refusalOf (x .number) (x .carries)) else first xs) (first ys)
+    go true e = refl
+    go false e = e
+
+pub first-two : (x : Rule) (xs : List Rule) → first (x ∷ xs) ≡ or-else (first (x ∷ [])) (first xs)
+first-two x xs = first-append (x ∷ []) xs
+
+pub first-skip : (x : Rule) (xs : List Rule) → x .applies ≡ false → first (x ∷ xs) ≡ first xs
+unfolding first
+first-skip x xs e = rw e
+
+pub first-hit : (x : Rule) (xs : List Rule) → x .applies ≡ true → first (x ∷ xs) ≡ Fault (refusalOf (x .number) (x .carries))
+unfolding first
+first-hit x xs e = rw e
+
+-- where all is fine, this rule does not apply, and the rest is fine
+pub fine-rest : (x : Rule) (xs : List Rule) → first (x ∷ xs) ≡ Fine → (x .applies ≡ false) × (first xs ≡ Fine)
+unfolding first
+fine-rest x xs e = go (x .applies) refl e
+  where
+    go : (b : Bool) → x .applies ≡ b → (if b then Fault (refusalOf (x .number) (x .carries)) else first xs) ≡ Fine → (x .applies ≡ false) × (first xs ≡ Fine)
+    go true p q = let z : false ≡ true = cc in (cc, cc)
+    go false p q = (p, q)
+
+pub fine-append : (xs ys : List Rule) → first (xs ++ ys) ≡ Fine → (first xs ≡ Fine) × (first ys ≡ Fine)
+fine-append xs ys e = go (first xs) refl (sym (first-append xs ys) ∙ e)
+  where
+    go : (c : Check) → first xs ≡ c → or-else c (first ys) ≡ Fine → (first xs ≡ Fine) × (first ys ≡ Fine)
+    go Fine p q = (p, q)
+    go (Fault r) p q = let z : false ≡ true = cc in (cc, cc)
+
+-- ---- the rules on the shape, and what comes behind them
+
+pub shape-ok : (h : Head) (t : List ℕ) (xs : List Rule) → shapeFits h (length t) ≡ true → first (badShape h t ∷ xs) ≡ first xs
+shape-ok h t xs e = first-skip (badShape h t) xs (ap not e)
+
+pub shape-bad : (h : Head) (t : List ℕ) (xs : List Rule) → shapeFits h (length t) ≡ false → first (badShape h t ∷ xs) ≡ Fault refusal.BadShape
+shape-bad h t xs e = first-hit (badShape h t) xs (ap not e)
+
+pub health-ok : (h : Head) (g : List ℕ) (xs : List Rule) → healthFits h (length g) ≡ true → first (badHealth h g ∷ xs) ≡ first xs
+health-ok h g xs e = first-skip (badHealth h g) xs (ap not e)
+
+pub health-bad : (h : Head) (g : List ℕ) (xs : List Rule) → healthFits h (length g) ≡ false → first (badHealth h g ∷ xs) ≡ Fault refusal.BadShape
+health-bad h g xs e = first-hit (badHealth h g) xs (ap not e)
+
+-- a held list's rules and those behind them
+pub held-then : (h : Head) (t held : List ℕ) (ys : List Rule) → first (badHeld h t held ++ ys) ≡ or-else (first (badHeld h t held)) (first ys)
+held-then h t held ys = first-append (badHeld h t held) ys
+
+-- ---- lists of leases, a position at a time
+
+pub drop-two : (l : List ℕ) (n : ℕ) → n + 1 < length l → drop n l ≡ getD l n 0 ∷ getD l (n + 1) 0 ∷ drop (n + 2) l
+drop-two l n b =
+    drop-cons l n 0 (omega arith)
+    ∙ ap (λ (r : List ℕ). getD l n 0 ∷ r) (rw (← add-one n) (drop-cons l (n + 1) 0 b ∙ ap (λ (k : ℕ). getD l (n + 1) 0 ∷ drop k l) (let e : suc (n + 1) ≡ n + 2 = omega arith in e)))
+
+pub leases-at : (l : List ℕ) (i : ℕ) → 2 * i + 1 < length l
+    → leasesOf (drop (2 * i) l) ≡ leaseOf (getD l (2 * i) 0) (getD l (2 * i + 1) 0) ∷ leasesOf (drop (2 * (i + 1)) l)
+unfolding leasesOf
+leases-at l i b = let e : 2 * i + 2 ≡ 2 * (i + 1) = omega arith in rw (drop-two l (2 * i) b, e)
+
+pub leases-end : (l : List ℕ) (i : ℕ) → length l ≤ 2 * i + 1 → leasesOf (drop (2 * i) l) ≡ []
+leases-end l i b = short (drop (2 * i) l) (simp length-drop (omega arith))
+  where
+    short : (r : List ℕ) → length r < 2 → leasesOf r ≡ []
+    short [] h = unfold leasesOf in refl
+    short (a ∷ []) h = unfold leasesOf in refl
+    short (a ∷ b ∷ r) h = absurd (omega arith)
+
+-- 3 at position i, and from there on
+pub not-live-at : (h : Head) (t held : List ℕ) (i : ℕ) → 2 * i + 1 < length held
+    → first (notLive h t i (leasesOf (drop (2 * i) held)))
+    ≡ (if not (isLive (h .next) (cellsOf h) t (leaseOf (getD held (2 * i) 0) (getD held (2 * i + 1) 0))) then Fault (refusal.BadHeld i)
+    else first (notLive h t (i + 1) (leasesOf (drop (2 * (i + 1)) held))))
+unfolding first notLive
+not-live-at h t held i b = rw (leases-at held i b)
+
+pub not-live-end : (h : Head) (t held : List ℕ) (i : ℕ) → length held ≤ 2 * i + 1 → first (notLive h t i (leasesOf (drop (2 * i) held))) ≡ Fine
+unfolding first notLive
+not-live-end h t held i b = rw (leases-end held i b)
+
+-- whether a lease stands at position i or later
+pub is-in-at : (l : Lease) (list : List ℕ) (i : ℕ) → 2 * i + 1 < length list
+    → isIn l (leasesOf (drop (2 * i) list))
+    ≡ (if sameLease (leaseOf (getD list (2 * i) 0) (getD list (2 * i + 1) 0)) l then true else isIn l (leasesOf (drop (2 * (i + 1)) list)))
+unfolding isIn
+is-in-at l list i b = rw (leases-at list i b)
+
+pub is-in-end : (l : Lease) (list : List ℕ) (i : ℕ) → length list ≤ 2 * i + 1 → isIn l (leasesOf (drop (2 * i) list)) ≡ false
+unfolding isIn
+is-in-end l list i b = rw (leases-end list i b)
+
+-- ---- what a call knows once its checks are fine
+
+pub live-inside : (next cells : ℕ) (t : List ℕ) (l : Lease) → isLive next cells t l ≡ true → l .cell < cells
+unfolding isLive
+live-inside next cells t l e = ltb-true _ _ (both (ltb (l .cell) cells) (heldBy (stateAt next t (l .cell)) (l .serial)) e .0)
+
+pub record CellFine (h : Head) (t : List ℕ) (c : ℕ) : Type 0 where
+  pub shape : Shaped h (length t)
+  pub inside : c < cellsOf h
+
+pub cell-fine : (h : Head) (t : List ℕ) (c : ℕ) → first (cellRules h t c) ≡ Fine → CellFine h t c
+unfolding cellRules
+cell-fine h t c e =
+    let a = fine-rest _ _ e in
+    let b = fine-rest _ _ (a .1) in
+    record { shape = shaped h (length t) (not-false _ (a .0)); inside = leb-false _ _ (b .0) }
+
+pub record LeaseFine (h : Head) (t : List ℕ) (l : Lease) : Type 0 where
+  pub shape : Shaped h (length t)
+  pub live : isLive (h .next) (cellsOf h) t l ≡ true
+  pub inside : l .cell < cellsOf h
+
+pub lease-fine : (h : Head) (t : List ℕ) (l : Lease) → first (leaseRules h t l) ≡ Fine → LeaseFine h t l
+unfolding leaseRules
+lease-fine h t l e =
+    let a = fine-rest _ _ e in
+    let b = fine-rest _ _ (a .1) in
+    let v = not-false _ (b .0) in
+    record { shape = shaped h (length t) (not-false _ (a .0)); live = v; inside = live-inside _ _ _ _ v }
+
+pub held-cell-fine : (h : Head) (t held : List ℕ) (c : ℕ) → first (heldCellRules h t held c) ≡ Fine → CellFine h t c
+unfolding heldCellRules
+held-cell-fine h t held c e =
+    let a = fine-rest _ _ e in
+    let b = fine-append (badHeld h t held) _ (a .1) in
+    let d = fine-rest _ _ (b .1) in
+    record { shape = shaped h (length t) (not-false _ (a .0)); inside = leb-false _ _ (d .0) }
+
+pub held-lease-fine : (h : Head) (t held : List ℕ) (l : Lease) → first (heldLeaseRules h t held l) ≡ Fine → LeaseFine h t l
+unfolding heldLeaseRules
+held-lease-fine h t held l e =
+    let a = fine-rest _ _ e in
+    let b = fine-append (badHeld h t held) _ (a .1) in
+    let d = fine-rest _ _ (b .1) in
+    let v = not-false _ (d .0) in
+    record { shape = shaped h (length t) (not-false _ (a .0)); live = v; inside = live-inside _ _ _ _ v }

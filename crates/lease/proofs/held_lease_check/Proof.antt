@@ -1,0 +1,47 @@
+-- `lease::held_lease_check` meets its contract.
+use mathlib.Core.Path.{sym, _∙_}
+use borrow.Author.Needs.{needs}
+use Rattle.model.specs.Checks.{heldLeaseRules}
+use Rattle.laws.specs.Checks.{shape-ok, shape-bad, held-then}
+use Rattle.lease.proofs.held_lease_check.Statement.{statement}
+use Rattle.lease.proofs.held_lease_check.Tie as tie
+
+shape-fits-requires : tie.Need-shape-fits-requires
+shape-fits-requires c κs = search needs
+
+held-check-requires : tie.Need-held-check-requires
+held-check-requires c κs = sym (c .before .shape-fits .ensures) ∙ c .if1 .taken
+
+enum-known-list : tie.Need-enum-known-list
+enum-known-list c = search needs
+
+enum-told : tie.Need-enum-told
+enum-told c = search needs
+
+lease-or-loose-requires : tie.Need-lease-or-loose-requires
+lease-or-loose-requires c κs = sym (c .before .before .before .before .shape-fits .ensures) ∙ c .before .before .before .if1 .taken
+
+returns : tie.Need-returns
+unfolding heldLeaseRules
+returns c = rw (shape-ok _ _ _ (sym (c .before .before .before .before .before .shape-fits .ensures) ∙ c .before .before .before .before .if1 .taken), held-then _ _ _ _, ← c .before .before .before .held-check .ensures, c .before .list .given .1)
+
+returns-2 : tie.Need-returns-2
+unfolding heldLeaseRules
+returns-2 c = rw (shape-ok _ _ _ (sym (c .before .before .before .before .before .shape-fits .ensures) ∙ c .before .before .before .before .if1 .taken), held-then _ _ _ _, ← c .before .before .before .held-check .ensures, c .before .enum-told .given .1, ← c .lease-or-loose .ensures)
+
+returns-3 : tie.Need-returns-3
+unfolding heldLeaseRules
+returns-3 c = rw (shape-bad _ _ _ (sym (c .before .shape-fits .ensures) ∙ c .if1 .left))
+
+pub held-lease-check-spec : {M : Type 1} → statement M
+held-lease-check-spec =
+    tie.close
+    (tie.spec
+    shape-fits-requires
+    held-check-requires
+    enum-known-list
+    enum-told
+    lease-or-loose-requires
+    returns
+    returns-2
+    returns-3)

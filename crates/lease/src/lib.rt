@@ -1,0 +1,381 @@
+// The calls of document 01 that take no script: by cell, and by lease.
+// Functions with a `requires` are steps: calls have tested the shape, and a step tests nothing twice.
+use model::Answer;
+use model::Check;
+use model::Head;
+use model::Lease;
+use model::Outcome;
+use model::Refusal;
+use model::Reply;
+use model::Serial;
+use model::State;
+use model::Take;
+ghost use mathlib.Core.Path.{_≡_};
+ghost use mathlib.Core.Bool.{true};
+ghost use mathlib.Core.List.{[], _∷_};
+ghost use Prim.Native.Nat.{_+_, _*_, _<_, _≤_};
+ghost use lib.ListN.{length};
+ghost use Rattle.model.specs.Arena.{cellsOf, leaseOf, leasesOf, setCell, shapeFits, isLive, sameLease, isIn};
+ghost use Rattle.model.specs.Refusals.{first};
+ghost use Rattle.model.specs.Lock.{outcomeOf, answerOf};
+ghost use Rattle.model.specs.Checks.{cellRules, leaseRules, heldCellRules, heldLeaseRules, badHeld, notLive, badCell, notHeld, isProtected};
+ghost use Rattle.model.specs.Calls.{acquireOf, tryAcquireOf, dropLeaseOf, readPermissionOf, competingAcquireOf, releaseThenHandoffOf, foreignReleaseOf, acquirePreservingOf, dropPreservingOf};
+ghost use Rattle.lease.specs.Model.{claimOf, claimFreeOf, repliedWith};
+
+// What a compare-and-set hands back: the changed head, and its answer.
+pub struct Claim {
+    pub head: Head,
+    pub answer: Take,
+}
+
+// ---- one compare-and-set
+
+// Of a cell that is free: the head issues the next serial, if one remains.
+pub fn claim_free(head: Head, table: &mut [u32], cell: u32) -> Claim
+    requires { ⌜ 3 * cell + 2 < length (now table) ⌝ }
+    ensures { λ r. ⌜ (r, now (table .exit)) ≡ claimFreeOf head (now (table .entry)) cell ⌝ }
+{
+    let issue = head.issue();
+    let after = issue.head;
+    let serial = issue.serial;
+    match serial {
+        Serial::Issued(next) => {
+            arena::set_cell(table, cell, 1, next);
+            Claim {
+                head: after,
+                answer: Take::Granted(next),
+            }
+        }
+        Serial::Spent => Claim {
+            head: after,
+            answer: Take::Spent,
+        },
+    }
+}
+
+// Of any cell in range.
+pub fn claim_at(head: Head, table: &mut [u32], cell: u32) -> Claim
+    requires { ⌜ 3 * cell + 2 < length (now table) ⌝ }
+    ensures { λ r. ⌜ (r, now (table .exit)) ≡ claimOf head (now (table .entry)) cell ⌝ }
+{
+    let state = arena::state(head.next, table, cell);
+    match state {
+        State::Damaged => Claim {
+            head,
+            answer: Take::Damaged,
+        },
+        State::Held(_) => Claim {
+            head,
+            answer: Take::Busy,
+        },
+        State::Free => claim_free(head, table, cell),
+    }
+}
+
+// What an attempt on a cell comes to, and how a call answers it.
+pub fn outcome(cell: u32, answer: Take) -> Outcome
+    ensures { λ r. ⌜ r ≡ outcomeOf cell answer ⌝ }
+{
+    match answer {
+        Take::Granted(serial) => Outcome::Granted(Lease { cell, serial }),
+        Take::Busy => Outcome::Busy,
+        Take::Damaged => Outcome::Refused(Refusal::Damaged(cell)),
+        Take::Spent => Outcome::Refused(Refusal::SerialsSpent(cell)),
+    }
+}
+
+pub fn answered(outcome: Outcome) -> Answer
+    ensures { λ r. ⌜ r ≡ answerOf outcome ⌝ }
+{
+    match outcome {
+        Outcome::Granted(lease) => Answer::Granted(lease),
+        Outcome::Busy => Answer::Busy,
+        Outcome::Refused(refusal) => Answer::Refused(refusal),
+    }
+}
+
+// The result of attempt number n of a call, on its cell.
+fn claimed(n: usize, claim: Claim, cell: u32) -> Reply
+    ensures { λ r. ⌜ r ≡ repliedWith n claim cell ⌝ }
+{
+    let head = claim.head;
+    let answer = claim.answer;
+    let said = outcome(cell, answer);
+    arena::reply(head, n, answered(said))
+}
+
+// Attempt number n of a call: one compare-and-set.
+fn acquire(n: usize, head: Head, table: &mut [u32], cell: u32) -> Reply
+    requires { ⌜ 3 * cell + 2 < length (now table) ⌝ }
+    ensures { λ r. ⌜ (r, now (table .exit)) ≡ acquireOf n head (now (table .entry)) cell .seen ⌝ }
+{
+    let claim = claim_at(head, table, cell);
+    claimed(n, claim, cell)
+}
+
+// Attempt number n of a call, on a cell that is released just before: it is free, so nothing is tested again.
+fn hand_on(n: usize, head: Head, table: &mut [u32], cell: u32) -> Reply
+    requires { ⌜ 3 * cell + 2 < length (now table) ⌝ }
+    ensures { λ r. ⌜ (r, now (table .exit)) ≡ acquireOf n head (setCell (now (table .entry)) cell 0 0) cell .seen ⌝ }
+{
+    arena::release(table, cell);
+    let claim = claim_free(head, table, cell);
+    claimed(n, claim, cell)
+}
+
+// ---- the checks of these calls, in the order of document 01's table
+
+// Whether these are the lease's words.
+pub fn same(cell: u32, serial: u32, lease: Lease) -> bool
+    ensures { λ r. ⌜ r ≡ sameLease (leaseOf cell serial) lease ⌝ }
+{
+    if cell == lease.cell {
+        return serial == lease.serial;
+    }
+    false
+}
+
+// Whether a lease stands in a list; the scan ends at the first match.
+pub fn in_list(list: &[u32], lease: Lease) -> bool
+    ensures { λ r. ⌜ r ≡ isIn lease (leasesOf (now (list .entry))) ⌝ }
+{
+    let mut i = 0;
+    while i < list.len() / 2 {
+        if same(list[2 * i], list[2 * i + 1], lease) {
+            return true;
+        }
+        i += 1;
+    }
+    false
+}
+
+// Whether a lease is live.
+pub fn is_live(head: Head, table: &[u32], cell: u32, serial: u32) -> bool
+    requires { ⌜ shapeFits head (length (now table)) ≡ true ⌝ }
+    ensures { λ r. ⌜ r ≡ isLive (head .next) (cellsOf head) (now (table .entry)) (leaseOf cell serial) ⌝ }
+{
+    arena::live(head.next, head.headers * head.buckets, table, cell, serial)
+}
+
+// The first lease of a held list that is not live.
+fn dead(head: Head, table: &[u32], held: &[u32]) -> Check
+    requires { ⌜ shapeFits head (length (now table)) ≡ true ⌝ }
+    ensures { λ r. ⌜ r ≡ first (notLive head (now (table .entry)) 0 (leasesOf (now (held .entry)))) ⌝ }
+{
+    let mut i = 0;
+    while i < held.len() / 2 {
+        if is_live(head, table, held[2 * i], held[2 * i + 1]) {
+            i += 1;
+        } else {
+            return Check::Fault(Refusal::BadHeld(i));
+        }
+    }
+    Check::Fine
+}
+
+// A held list: its length, and then each lease by position.
+pub fn held_check(head: Head, table: &[u32], held: &[u32]) -> Check
+    requires { ⌜ shapeFits head (length (now table)) ≡ true ⌝ }
+    ensures { λ r. ⌜ r ≡ first (badHeld head (now (table .entry)) (now (held .entry))) ⌝ }
+{
+    let n = held.len() / 2;
+    if held.len() % 2 != 0 {
+        return Check::Fault(Refusal::BadHeld(n));
+    }
+    if 64 < n {
+        return Check::Fault(Refusal::BadHeld(n));
+    }
+    dead(head, table, held)
+}
+
+// A cell number of a call by cell.
+pub fn cell_fault(head: Head, cell: u32) -> Check
+    requires { ⌜ cellsOf head ≤ 4096 ⌝ }
+    ensures { λ r. ⌜ r ≡ first (badCell head cell ∷ []) ⌝ }
+{
+    if head.headers * head.buckets <= cell {
+        return Check::Fault(Refusal::InvalidBucket(cell));
+    }
+    Check::Fine
+}
+
+// A lease to release or read.
+pub fn lease_fault(head: Head, table: &[u32], lease: Lease) -> Check
+    requires { ⌜ shapeFits head (length (now table)) ≡ true ⌝ }
+    ensures { λ r. ⌜ r ≡ first (notHeld head (now (table .entry)) 0 lease ∷ []) ⌝ }
+{
+    if is_live(head, table, lease.cell, lease.serial) {
+        return Check::Fine;
+    }
+    Check::Fault(Refusal::NotHeld(0))
+}
+
+fn cell_check(head: Head, table: &[u32], cell: u32) -> Check
+    ensures { λ r. ⌜ r ≡ first (cellRules head (now (table .entry)) cell) ⌝ }
+{
+    if head.shape_fits(table.len()) {
+        return cell_fault(head, cell);
+    }
+    Check::Fault(Refusal::BadShape)
+}
+
+fn lease_check(head: Head, table: &[u32], lease: Lease) -> Check
+    ensures { λ r. ⌜ r ≡ first (leaseRules head (now (table .entry)) lease) ⌝ }
+{
+    if head.shape_fits(table.len()) {
+        return lease_fault(head, table, lease);
+    }
+    Check::Fault(Refusal::BadShape)
+}
+
+fn held_cell_check(head: Head, table: &[u32], held: &[u32], cell: u32) -> Check
+    ensures { λ r. ⌜ r ≡ first (heldCellRules head (now (table .entry)) (now (held .entry)) cell) ⌝ }
+{
+    if head.shape_fits(table.len()) {
+        let list = held_check(head, table, held);
+        return match list {
+            Check::Fault(refusal) => Check::Fault(refusal),
+            Check::Fine => cell_fault(head, cell),
+        };
+    }
+    Check::Fault(Refusal::BadShape)
+}
+
+// Of a live lease that may not be in the held list.
+fn loose(held: &[u32], lease: Lease) -> Check
+    ensures { λ r. ⌜ r ≡ first (isProtected (now (held .entry)) lease ∷ []) ⌝ }
+{
+    if in_list(held, lease) {
+        return Check::Fault(Refusal::Protected);
+    }
+    Check::Fine
+}
+
+fn held_lease_check(head: Head, table: &[u32], held: &[u32], lease: Lease) -> Check
+    ensures { λ r. ⌜ r ≡ first (heldLeaseRules head (now (table .entry)) (now (held .entry)) lease) ⌝ }
+{
+    if head.shape_fits(table.len()) {
+        let list = held_check(head, table, held);
+        return match list {
+            Check::Fault(refusal) => Check::Fault(refusal),
+            Check::Fine => lease_or_loose(head, table, held, lease),
+        };
+    }
+    Check::Fault(Refusal::BadShape)
+}
+
+// 12, and then 13.
+fn lease_or_loose(head: Head, table: &[u32], held: &[u32], lease: Lease) -> Check
+    requires { ⌜ shapeFits head (length (now table)) ≡ true ⌝ }
+    ensures { λ r. ⌜ r ≡ first (notHeld head (now (table .entry)) 0 lease ∷ isProtected (now (held .entry)) lease ∷ []) ⌝ }
+{
+    let one = lease_fault(head, table, lease);
+    match one {
+        Check::Fault(refusal) => Check::Fault(refusal),
+        Check::Fine => loose(held, lease),
+    }
+}
+
+// ---- the calls
+
+pub fn try_acquire(head: Head, table: &mut [u32], cell: u32) -> Reply
+    ensures { λ r. ⌜ (r, now (table .exit)) ≡ tryAcquireOf head (now (table .entry)) cell .seen ⌝ }
+{
+    let check = cell_check(head, table, cell);
+    match check {
+        Check::Fault(refusal) => arena::refuse(head, refusal),
+        Check::Fine => acquire(1, head, table, cell),
+    }
+}
+
+// One release, and no boundary.
+pub fn drop_lease(head: Head, table: &mut [u32], lease: Lease) -> Reply
+    ensures { λ r. ⌜ (r, now (table .exit)) ≡ dropLeaseOf head (now (table .entry)) lease .seen ⌝ }
+{
+    let check = lease_check(head, table, lease);
+    match check {
+        Check::Fault(refusal) => arena::refuse(head, refusal),
+        Check::Fine => {
+            arena::release(table, lease.cell);
+            arena::reply(head, 0, Answer::Done)
+        }
+    }
+}
+
+// The lease's cell.
+pub fn read_permission(head: Head, table: &[u32], lease: Lease) -> Reply
+    ensures { λ r. ⌜ r ≡ readPermissionOf head (now (table .entry)) lease .seen ⌝ }
+{
+    let check = lease_check(head, table, lease);
+    match check {
+        Check::Fault(refusal) => arena::refuse(head, refusal),
+        Check::Fine => arena::reply(head, 0, Answer::Cell(lease.cell)),
+    }
+}
+
+// One compare-and-set of a live lease's cell: it is Busy and changes nothing.
+pub fn competing_acquire_is_excluded(head: Head, table: &mut [u32], lease: Lease) -> Reply
+    ensures { λ r. ⌜ (r, now (table .exit)) ≡ competingAcquireOf head (now (table .entry)) lease .seen ⌝ }
+{
+    let check = lease_check(head, table, lease);
+    match check {
+        Check::Fault(refusal) => arena::refuse(head, refusal),
+        Check::Fine => acquire(1, head, table, lease.cell),
+    }
+}
+
+// The lease released, and its cell taken anew; without a serial the release stands.
+pub fn release_then_handoff(head: Head, table: &mut [u32], lease: Lease) -> Reply
+    ensures { λ r. ⌜ (r, now (table .exit)) ≡ releaseThenHandoffOf head (now (table .entry)) lease .seen ⌝ }
+{
+    let check = lease_check(head, table, lease);
+    match check {
+        Check::Fault(refusal) => arena::refuse(head, refusal),
+        Check::Fine => hand_on(1, head, table, lease.cell),
+    }
+}
+
+// A try_acquire that is Busy, a release, a try_acquire.
+pub fn foreign_release_between_attempts(
+    head: Head,
+    table: &mut [u32],
+    held: &[u32],
+    lease: Lease,
+) -> Reply
+    ensures { λ r. ⌜ (r, now (table .exit)) ≡ foreignReleaseOf head (now (table .entry)) (now (held .entry)) lease .seen ⌝ }
+{
+    let check = held_lease_check(head, table, held, lease);
+    match check {
+        Check::Fault(refusal) => arena::refuse(head, refusal),
+        Check::Fine => {
+            let busy = acquire(1, head, table, lease.cell);
+            let after = busy.head;
+            hand_on(2, after, table, lease.cell)
+        }
+    }
+}
+
+// try_acquire after the held list's check.
+pub fn acquire_preserving_borrows(head: Head, table: &mut [u32], held: &[u32], cell: u32) -> Reply
+    ensures { λ r. ⌜ (r, now (table .exit)) ≡ acquirePreservingOf head (now (table .entry)) (now (held .entry)) cell .seen ⌝ }
+{
+    let check = held_cell_check(head, table, held, cell);
+    match check {
+        Check::Fault(refusal) => arena::refuse(head, refusal),
+        Check::Fine => acquire(1, head, table, cell),
+    }
+}
+
+// drop_lease, but not of a lease in the held list.
+pub fn drop_preserving_borrows(head: Head, table: &mut [u32], held: &[u32], lease: Lease) -> Reply
+    ensures { λ r. ⌜ (r, now (table .exit)) ≡ dropPreservingOf head (now (table .entry)) (now (held .entry)) lease .seen ⌝ }
+{
+    let check = held_lease_check(head, table, held, lease);
+    match check {
+        Check::Fault(refusal) => arena::refuse(head, refusal),
+        Check::Fine => {
+            arena::release(table, lease.cell);
+            arena::reply(head, 0, Answer::Done)
+        }
+    }
+}
