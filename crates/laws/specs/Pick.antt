@@ -2,11 +2,17 @@
 use mathlib.Core.Path.{_≡_, refl, sym, _∙_}
 use mathlib.Core.Bool.{Bool, true, false, _&&_}
 use Rattle.model.specs.Choice.{if_then_else_}
+use Rattle.model.specs.Log.{Made}
 
 -- what holds of both holds of the choice
 pub if-both : {A : Type 0} (P : A → Type 0) (b : Bool) {x y : A} → P x → P y → P (if b then x else y)
 if-both P true p q = p
 if-both P false p q = q
+
+-- what is seen of a choice
+pub seen-if : {A : Type 0} (b : Bool) (x y : Made A) → (if b then x else y) .seen ≡ (if b then x .seen else y .seen)
+seen-if true x y = refl
+seen-if false x y = refl
 
 -- the two halves of a test that holds
 pub both : (a b : Bool) → (a && b) ≡ true → (a ≡ true) × (b ≡ true)

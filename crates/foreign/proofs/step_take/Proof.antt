@@ -1,0 +1,55 @@
+-- `foreign::step_take` meets its contract.
+use borrow.Author.Needs.{needs}
+use borrow.Author.Tests.{le-ltb, lt-ltb}
+use Rattle.model.specs.Foreign.{stepTakeOf}
+use Rattle.foreign.proofs.step_take.Statement.{statement}
+use Rattle.foreign.proofs.step_take.Tie as tie
+
+free-requires : tie.Need-free-requires
+free-requires c κs = search needs
+
+set-cell-requires : tie.Need-set-cell-requires
+set-cell-requires c κs = search needs
+
+add-t13 : tie.Need-add-t13
+add-t13 c = search needs
+
+same-length : tie.Need-same-length
+same-length c = search needs
+
+returns : tie.Need-returns
+unfolding stepTakeOf
+returns c = rw (lt-ltb _ _ (c .before .before .before .before .before .before .before .before .if1 .taken), ← c .before .before .before .before .before .before .free .ensures, c .before .before .before .before .before .if2 .taken, lt-ltb _ _ (c .before .before .before .before .if3 .taken), ← c .before .before .set-cell .ensures)
+
+same-length-2 : tie.Need-same-length-2
+same-length-2 c = search needs
+
+returns-2 : tie.Need-returns-2
+unfolding stepTakeOf
+returns-2 c = rw (lt-ltb _ _ (c .before .before .before .before .if1 .taken), ← c .before .before .free .ensures, c .before .if2 .taken, le-ltb _ _ (c .if3 .left))
+
+same-length-3 : tie.Need-same-length-3
+same-length-3 c = search needs
+
+returns-3 : tie.Need-returns-3
+unfolding stepTakeOf
+returns-3 c = rw (lt-ltb _ _ (c .before .before .before .if1 .taken), ← c .before .free .ensures, c .if2 .left)
+
+returns-4 : tie.Need-returns-4
+unfolding stepTakeOf
+returns-4 c = rw (le-ltb _ _ (c .if1 .left))
+
+pub step-take-spec : {M : Type 1} → statement M
+step-take-spec =
+    tie.close
+    (tie.spec
+    free-requires
+    set-cell-requires
+    add-t13
+    same-length
+    returns
+    same-length-2
+    returns-2
+    same-length-3
+    returns-3
+    returns-4)

@@ -1,0 +1,23 @@
+-- How the code lends the protected leases: a held list, an array of pairs with a count, and a lease of the call's own.
+use Prim.Native.Nat.{ℕ, zero, suc, _+_, _*_, _/_, _≤_}
+use mathlib.Core.Path.{_≡_}
+use mathlib.Core.List.{List, [], _∷_, _++_}
+use lib.ListN.{getD}
+use Rattle.model.specs.Arena.{leaseOf, leasesOf}
+use Rattle.model.specs.declared.Lease.{Lease}
+
+-- `left` pairs of an array from place i on, as leases
+unfoldable pub pairsOf : ℕ → ℕ → List (List ℕ) → List Lease
+pairsOf zero i ps = []
+pairsOf (suc left) i ps = leaseOf (getD (getD ps i []) 0 0) (getD (getD ps i []) 1 0) ∷ pairsOf left (i + 1) ps
+
+-- the held list, and the leases taken so far
+unfoldable pub guardsOf : List ℕ → List (List ℕ) → ℕ → List Lease
+guardsOf held taken n = leasesOf held ++ pairsOf n 0 taken
+
+-- what calls have tested before their steps
+pub record Room (headers cells words bytes n steps script : ℕ) : Type 0 where
+  pub words-fit : 3 * cells ≤ words
+  pub bytes-fit : headers ≤ bytes
+  pub few-taken : n ≤ 64
+  pub steps-are : steps ≡ script / 3

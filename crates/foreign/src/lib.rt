@@ -1,0 +1,301 @@
+// Foreign steps: a script's steps, a boundary, and the two calls that are one boundary.
+// Functions with a `requires` are steps: calls have tested the shape, and a step tests nothing twice.
+use model::Answer;
+use model::Check;
+use model::Counts;
+use model::Flow;
+use model::Head;
+use model::Lease;
+use model::Played;
+use model::Refusal;
+use model::Run;
+use model::Stepped;
+ghost use mathlib.Core.Path.{_≡_};
+ghost use mathlib.Core.Bool.{true};
+ghost use mathlib.Core.List.{[], _∷_, _++_};
+ghost use Prim.Native.Nat.{_+_, _*_, _-_, _/_, _<_, _≤_};
+ghost use lib.ListN.{length};
+ghost use Rattle.model.specs.Arena.{shapeFits, isIn};
+ghost use Rattle.model.specs.Refusals.{first};
+ghost use Rattle.model.specs.Checks.{badScript, scriptRules};
+ghost use Rattle.model.specs.Foreign.{setting, protecting, flowOf, stepsIn, stepTakeOf, stepReleaseOf, stepWaitersOf, stepHealthOf, stepOf, stepsOf, boundaryOf};
+ghost use Rattle.model.specs.Calls.{played, unplayed, environmentOf};
+ghost use Rattle.foreign.specs.Model.{pairsOf, guardsOf, Room};
+ghost use Rattle.foreign.specs.Laws.{Paid};
+
+// ---- one step
+
+// Whether a lease is among the first n pairs.
+fn in_pairs(taken: &[[u32; 2]; 64], n: usize, lease: Lease) -> bool
+    requires { ⌜ n ≤ 64 ⌝ }
+    ensures { λ r. ⌜ r ≡ isIn lease (pairsOf n 0 (now (taken .entry))) ⌝ }
+{
+    let mut i = 0;
+    while i < n {
+        if lease::same(taken[i][0], taken[i][1], lease) {
+            return true;
+        }
+        i += 1;
+    }
+    false
+}
+
+// Whether a lease is protected: held, taken by this call, or the call's own new one.
+fn guarded_by(held: &[u32], taken: &[[u32; 2]; 64], n: usize, own: Lease, lease: Lease) -> bool
+    requires { ⌜ n ≤ 64 ⌝ }
+    ensures { λ r. ⌜ r ≡ isIn lease (guardsOf (now (held .entry)) (now (taken .entry)) n ++ (own ∷ [])) ⌝ }
+{
+    if lease::in_list(held, lease) {
+        return true;
+    }
+    if in_pairs(taken, n, lease) {
+        return true;
+    }
+    lease::same(own.cell, own.serial, lease)
+}
+
+// 1: take a cell, if it is in range and free and a serial remains.
+fn step_take(cells: u32, next: u32, table: &mut [u32], cell: u32) -> Stepped
+    requires { ⌜ 3 * cells ≤ length (now table) ⌝ }
+    ensures { λ r. ⌜ (r, now (table .exit)) ≡ stepTakeOf cells next (now (table .entry)) cell .seen ⌝ }
+{
+    if cell < cells {
+        if arena::free(table, cell) {
+            if next < 4294967295 {
+                arena::set_cell(table, cell, 1, next);
+                return Stepped {
+                    next: next + 1,
+                    dropped: 0,
+                };
+            }
+            return Stepped { next, dropped: 1 };
+        }
+        return Stepped { next, dropped: 1 };
+    }
+    Stepped { next, dropped: 1 }
+}
+
+// 2: release a lease, if it is live and not protected.
+fn step_release(
+    cells: u32,
+    next: u32,
+    table: &mut [u32],
+    lease: Lease,
+    held: &[u32],
+    taken: &[[u32; 2]; 64],
+    n: usize,
+    own: Lease,
+) -> Stepped
+    requires { ⌜ (3 * cells ≤ length (now table)) × (n ≤ 64) ⌝ }
+    ensures { λ r. ⌜ (r, now (table .exit)) ≡ stepReleaseOf cells (guardsOf (now (held .entry)) (now (taken .entry)) n ++ (own ∷ [])) next (now (table .entry)) (lease .cell) (lease .serial) .seen ⌝ }
+{
+    if arena::live(next, cells, table, lease.cell, lease.serial) {
+        if guarded_by(held, taken, n, own, lease) {
+            return Stepped { next, dropped: 1 };
+        }
+        arena::release(table, lease.cell);
+        return Stepped { next, dropped: 0 };
+    }
+    Stepped { next, dropped: 1 }
+}
+
+// 3: set a cell's waiters.
+fn step_waiters(cells: u32, next: u32, table: &mut [u32], cell: u32, number: u32) -> Stepped
+    requires { ⌜ 3 * cells ≤ length (now table) ⌝ }
+    ensures { λ r. ⌜ (r, now (table .exit)) ≡ stepWaitersOf cells next (now (table .entry)) cell number .seen ⌝ }
+{
+    if cell < cells {
+        arena::set_waiters(table, cell, number);
+        return Stepped { next, dropped: 0 };
+    }
+    Stepped { next, dropped: 1 }
+}
+
+// 4: set a header's health to 0 or 1.
+fn step_health(headers: u32, next: u32, health: &mut [u8], header: u32, number: u32) -> Stepped
+    requires { ⌜ headers ≤ length (now health) ⌝ }
+    ensures { λ r. ⌜ (r, now (health .exit)) ≡ stepHealthOf headers next (now (health .entry)) header number .seen ⌝ }
+{
+    if header < headers {
+        if number <= 1 {
+            let at = header as usize;
+            health[at] = number as u8;
+            return Stepped { next, dropped: 0 };
+        }
+        return Stepped { next, dropped: 1 };
+    }
+    Stepped { next, dropped: 1 }
+}
+
+// One step that does not end the boundary.
+fn step(
+    headers: u32,
+    cells: u32,
+    next: u32,
+    table: &mut [u32],
+    health: &mut [u8],
+    kind: u32,
+    place: u32,
+    number: u32,
+    held: &[u32],
+    taken: &[[u32; 2]; 64],
+    n: usize,
+    own: Lease,
+) -> Stepped
+    requires { ⌜ (3 * cells ≤ length (now table)) × ((headers ≤ length (now health)) × ((n ≤ 64) × (kind ≡ 5 → ⊥))) ⌝ }
+    ensures { λ r. ⌜ (r, (now (table .exit), now (health .exit))) ≡ stepOf (setting headers cells [] (guardsOf (now (held .entry)) (now (taken .entry)) n ++ (own ∷ []))) next (now (table .entry)) (now (health .entry)) kind place number .seen ⌝ }
+{
+    if kind == 0 {
+        return Stepped { next, dropped: 0 };
+    }
+    if kind == 1 {
+        return step_take(cells, next, table, place);
+    }
+    if kind == 2 {
+        let lease = Lease {
+            cell: place,
+            serial: number,
+        };
+        return step_release(cells, next, table, lease, held, taken, n, own);
+    }
+    if kind == 3 {
+        return step_waiters(cells, next, table, place, number);
+    }
+    if kind == 4 {
+        return step_health(headers, next, health, place, number);
+    }
+    Stepped { next, dropped: 1 }
+}
+
+// ---- a boundary
+
+// The steps from a place on, up to and including the next 5, or to the script's end.
+fn run_steps(
+    headers: u32,
+    cells: u32,
+    start: u32,
+    place: usize,
+    before: usize,
+    table: &mut [u32],
+    health: &mut [u8],
+    script: &[u32],
+    steps: usize,
+    held: &[u32],
+    taken: &[[u32; 2]; 64],
+    n: usize,
+    own: Lease,
+) -> Flow
+    requires { ⌜ Room headers cells (length (now table)) (length (now health)) n steps (length (now script)) × Paid steps (flowOf start place before) ⌝ }
+    ensures { λ r. ⌜ (r, (now (table .exit), now (health .exit))) ≡ stepsOf (steps - place) (setting headers cells (now (script .entry)) (guardsOf (now (held .entry)) (now (taken .entry)) n ++ (own ∷ []))) (flowOf start place before) (now (table .entry)) (now (health .entry)) .seen ⌝ }
+{
+    let mut next = start;
+    let mut p = place;
+    let mut dropped = before;
+    while p < steps {
+        let at = 3 * p;
+        let kind = script[at];
+        if kind == 5 {
+            return Flow {
+                next,
+                place: p + 1,
+                dropped,
+            };
+        }
+        let s = step(
+            headers,
+            cells,
+            next,
+            table,
+            health,
+            kind,
+            script[at + 1],
+            script[at + 2],
+            held,
+            taken,
+            n,
+            own,
+        );
+        next = s.next;
+        dropped += s.dropped;
+        p += 1;
+    }
+    Flow {
+        next,
+        place: p,
+        dropped,
+    }
+}
+
+// A boundary that protects the held list and the leases taken. Past the script's end it is quiet, and costs one test.
+pub fn boundary(
+    headers: u32,
+    cells: u32,
+    flow: Flow,
+    table: &mut [u32],
+    health: &mut [u8],
+    script: &[u32],
+    steps: usize,
+    held: &[u32],
+    taken: &[[u32; 2]; 64],
+    n: usize,
+) -> Flow
+    requires { ⌜ Room headers cells (length (now table)) (length (now health)) n steps (length (now script)) × Paid steps flow ⌝ }
+    ensures { λ r. ⌜ (r, (now (table .exit), now (health .exit))) ≡ boundaryOf (setting headers cells (now (script .entry)) (guardsOf (now (held .entry)) (now (taken .entry)) n)) flow (now (table .entry)) (now (health .entry)) .seen ⌝ }
+{
+    if flow.place < steps {
+        let none = Lease { cell: 0, serial: 0 };
+        return run_steps(
+            headers,
+            cells,
+            flow.next,
+            flow.place,
+            flow.dropped,
+            table,
+            health,
+            script,
+            steps,
+            held,
+            taken,
+            n,
+            none,
+        );
+    }
+    flow
+}
+
+// The same, with a lease of the call's own protected too.
+pub fn guarded(
+    headers: u32,
+    cells: u32,
+    flow: Flow,
+    table: &mut [u32],
+    health: &mut [u8],
+    script: &[u32],
+    steps: usize,
+    held: &[u32],
+    taken: &[[u32; 2]; 64],
+    n: usize,
+    own: Lease,
+) -> Flow
+    requires { ⌜ Room headers cells (length (now table)) (length (now health)) n steps (length (now script)) × Paid steps flow ⌝ }
+    ensures { λ r. ⌜ (r, (now (table .exit), now (health .exit))) ≡ boundaryOf (protecting (setting headers cells (now (script .entry)) (guardsOf (now (held .entry)) (now (taken .entry)) n)) (own ∷ [])) flow (now (table .entry)) (now (health .entry)) .seen ⌝ }
+{
+    if flow.place < steps {
+        return run_steps(
+            headers,
+            cells,
+            flow.next,
+            flow.place,
+            flow.dropped,
+            table,
+            health,
+            script,
+            steps,
+            held,
+            taken,
+            n,
+            own,
+        );
+    }
+    flow
+}
