@@ -4,7 +4,13 @@ use mathlib.Core.Path.{_≡_}
 use mathlib.Core.List.{List, [], _∷_, _++_}
 use lib.ListN.{getD}
 use Rattle.model.specs.Arena.{leaseOf, leasesOf}
+use Rattle.model.specs.Foreign.{flowOf, boundaryOf}
+use Rattle.model.specs.Lock.{runOf}
+use Rattle.model.specs.Calls.{played, given}
+use Rattle.model.specs.declared.Answer.the-variants.{Done}
+use Rattle.model.specs.declared.Head.{Head}
 use Rattle.model.specs.declared.Lease.{Lease}
+use Rattle.model.specs.declared.Played.{Played}
 
 -- `left` pairs of an array from place i on, as leases
 unfoldable pub pairsOf : ℕ → ℕ → List (List ℕ) → List Lease
@@ -21,3 +27,9 @@ pub record Room (headers cells words bytes n steps script : ℕ) : Type 0 where
   pub bytes-fit : headers ≤ bytes
   pub few-taken : n ≤ 64
   pub steps-are : steps ≡ script / 3
+
+-- the boundary of `environment`, once its checks are fine
+unfoldable pub onceOf : Head → List ℕ → List ℕ → List ℕ → ℕ → List ℕ → Played × (List ℕ × List ℕ)
+onceOf h t g script place held =
+    let o = boundaryOf (given h script (leasesOf held)) (flowOf (h .next) place 0) t g .seen in
+    (played h (runOf (o .0) 0 1 0) Done, o .1)

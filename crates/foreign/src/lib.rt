@@ -17,11 +17,12 @@ ghost use Prim.Native.Nat.{_+_, _*_, _-_, _/_, _<_, _≤_};
 ghost use lib.ListN.{length};
 ghost use Rattle.model.specs.Arena.{shapeFits, isIn};
 ghost use Rattle.model.specs.Refusals.{first};
-ghost use Rattle.model.specs.Checks.{badScript, scriptRules};
+ghost use Rattle.model.specs.Checks.{badShape, badHealth, badScript, badHeld, scriptRules};
 ghost use Rattle.model.specs.Foreign.{setting, protecting, flowOf, stepsIn, stepTakeOf, stepReleaseOf, stepWaitersOf, stepHealthOf, stepOf, stepsOf, boundaryOf};
 ghost use Rattle.model.specs.Calls.{played, unplayed, environmentOf};
-ghost use Rattle.foreign.specs.Model.{pairsOf, guardsOf, Room};
+ghost use Rattle.foreign.specs.Model.{pairsOf, guardsOf, Room, onceOf};
 ghost use Rattle.foreign.specs.Laws.{Paid};
+ghost use Rattle.foreign.specs.Fine.{ScriptFine};
 
 // ---- one step
 
@@ -298,4 +299,174 @@ pub fn guarded(
         );
     }
     flow
+}
+
+// ---- the checks of calls with a script, in the order of document 01's table
+
+// 1, of head, table and health.
+pub fn arena_check(head: Head, table: &[u32], health: &[u8]) -> Check
+    ensures { λ r. ⌜ r ≡ first (badShape head (now (table .entry)) ∷ badHealth head (now (health .entry)) ∷ []) ⌝ }
+{
+    if head.shape_fits(table.len()) {
+        if head.health_fits(health.len()) {
+            return Check::Fine;
+        }
+        return Check::Fault(Refusal::BadShape);
+    }
+    Check::Fault(Refusal::BadShape)
+}
+
+// 2.
+pub fn script_fault(script: &[u32], place: usize) -> Check
+    ensures { λ r. ⌜ r ≡ first (badScript (now (script .entry)) place ∷ []) ⌝ }
+{
+    let steps = script.len() / 3;
+    if script.len() % 3 != 0 {
+        return Check::Fault(Refusal::BadScript);
+    }
+    if 32768 < steps {
+        return Check::Fault(Refusal::BadScript);
+    }
+    if steps < place {
+        return Check::Fault(Refusal::BadScript);
+    }
+    Check::Fine
+}
+
+// 2, and then 3.
+pub fn lists_check(head: Head, table: &[u32], script: &[u32], place: usize, held: &[u32]) -> Check
+    requires { ⌜ shapeFits head (length (now table)) ≡ true ⌝ }
+    ensures { λ r. ⌜ r ≡ first (badScript (now (script .entry)) place ∷ badHeld head (now (table .entry)) (now (held .entry))) ⌝ }
+{
+    let fault = script_fault(script, place);
+    match fault {
+        Check::Fault(refusal) => Check::Fault(refusal),
+        Check::Fine => lease::held_check(head, table, held),
+    }
+}
+
+pub fn script_check(
+    head: Head,
+    table: &[u32],
+    health: &[u8],
+    script: &[u32],
+    place: usize,
+    held: &[u32],
+) -> Check
+    ensures { λ r. ⌜ r ≡ first (scriptRules head (now (table .entry)) (now (health .entry)) (now (script .entry)) place (now (held .entry))) ⌝ }
+{
+    let shape = arena_check(head, table, health);
+    match shape {
+        Check::Fault(refusal) => Check::Fault(refusal),
+        Check::Fine => lists_check(head, table, script, place, held),
+    }
+}
+
+// ---- results of calls with a script
+
+pub fn play(head: Head, run: Run, answer: Answer) -> Played
+    ensures { λ r. ⌜ r ≡ played head run answer ⌝ }
+{
+    let flow = run.flow;
+    Played {
+        head: head.spent_to(flow.next),
+        place: flow.place,
+        counts: Counts {
+            attempts: run.attempts,
+            boundaries: run.boundaries,
+            yields: run.yields,
+            dropped: flow.dropped,
+        },
+        answer,
+    }
+}
+
+// A refusal that changes nothing.
+pub fn unplay(head: Head, place: usize, refusal: Refusal) -> Played
+    ensures { λ r. ⌜ r ≡ unplayed head place refusal ⌝ }
+{
+    Played {
+        head,
+        place,
+        counts: Counts {
+            attempts: 0,
+            boundaries: 0,
+            yields: 0,
+            dropped: 0,
+        },
+        answer: Answer::Refused(refusal),
+    }
+}
+
+// ---- the calls
+
+// One boundary.
+pub fn environment(
+    head: Head,
+    table: &mut [u32],
+    health: &mut [u8],
+    script: &[u32],
+    place: usize,
+    held: &[u32],
+) -> Played
+    ensures { λ r. ⌜ (r, (now (table .exit), now (health .exit))) ≡ environmentOf head (now (table .entry)) (now (health .entry)) (now (script .entry)) place (now (held .entry)) .seen ⌝ }
+{
+    let check = script_check(head, table, health, script, place, held);
+    match check {
+        Check::Fault(refusal) => unplay(head, place, refusal),
+        Check::Fine => run_once(head, table, health, script, place, held),
+    }
+}
+
+// The same: its held list is what it protects.
+pub fn environment_for_borrows(
+    head: Head,
+    table: &mut [u32],
+    health: &mut [u8],
+    script: &[u32],
+    place: usize,
+    held: &[u32],
+) -> Played
+    ensures { λ r. ⌜ (r, (now (table .exit), now (health .exit))) ≡ environmentOf head (now (table .entry)) (now (health .entry)) (now (script .entry)) place (now (held .entry)) .seen ⌝ }
+{
+    environment(head, table, health, script, place, held)
+}
+
+// The boundary of a call whose checks are fine.
+fn run_once(
+    head: Head,
+    table: &mut [u32],
+    health: &mut [u8],
+    script: &[u32],
+    place: usize,
+    held: &[u32],
+) -> Played
+    requires { ⌜ ScriptFine head (length (now table)) (length (now health)) (length (now script)) place ⌝ }
+    ensures { λ r. ⌜ (r, (now (table .exit), now (health .exit))) ≡ onceOf head (now (table .entry)) (now (health .entry)) (now (script .entry)) place (now (held .entry)) ⌝ }
+{
+    let taken = [[0; 2]; 64];
+    let flow = Flow {
+        next: head.next,
+        place,
+        dropped: 0,
+    };
+    let after = boundary(
+        head.headers,
+        head.headers * head.buckets,
+        flow,
+        table,
+        health,
+        script,
+        script.len() / 3,
+        held,
+        &taken,
+        0,
+    );
+    let run = Run {
+        flow: after,
+        attempts: 0,
+        boundaries: 1,
+        yields: 0,
+    };
+    play(head, run, Answer::Done)
 }
