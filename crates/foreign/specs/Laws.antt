@@ -1,5 +1,5 @@
 -- Laws for the code of foreign steps: the pairs one at a time, the protected leases, one turn of a boundary, and the counts.
-use Prim.Native.Nat.{ℕ, zero, suc, _+_, _-_, _≤_, _<_}
+use Prim.Native.Nat.{ℕ, zero, suc, _+_, _-_, _/_, _≤_, _<_}
 use mathlib.Core.Path.{_≡_, refl, sym, ap, subst, _∙_}
 use mathlib.Core.List.{List, [], _∷_, _++_, append-assoc}
 use mathlib.Core.Bool.{Bool, true, false, not, _&&_}
@@ -222,3 +222,8 @@ pub record Walk (e : Setting) (steps : ℕ) (f₀ : Flow) (t₀ g₀ : List ℕ)
   pub words : length t ≡ length t₀
   pub bytes : length g ≡ length g₀
   pub rest : stepsOf (steps - f .place) e f t g .seen ≡ stepsOf (steps - f₀ .place) e f₀ t₀ g₀ .seen
+
+-- the same, as the code lends a script and its number of steps
+pub boundary-goes : (o : Flow × (List ℕ × List ℕ)) (headers cells steps : ℕ) (script : List ℕ) (ps : List Lease) (f : Flow) (t g : List ℕ)
+    → steps ≡ length script / 3 → o ≡ boundaryOf (setting headers cells script ps) f t g .seen → Paid steps f → Paid steps (o .0)
+boundary-goes o headers cells steps script ps f t g n q b = rw n (boundary-paid o (setting headers cells script ps) f t g q (rw (← n) b))

@@ -1,0 +1,45 @@
+-- `lock::lock_once` meets its contract.
+use lib.ListN.{replicate}
+use borrow.Author.Needs.{needs}
+use Rattle.foreign.specs.Fine.{guards-none}
+use Rattle.lock.proofs.lock_once.Statement.{statement}
+use Rattle.lock.specs.Model.{lockOnceOf}
+use Rattle.lock.proofs.lock_once.Tie as tie
+
+mul-cells : tie.Need-mul-cells
+mul-cells c = search needs
+
+lock-requires : tie.Need-lock-requires
+lock-requires c κs = search needs
+
+outcome-requires : tie.Need-outcome-requires
+outcome-requires c κs = search needs
+
+answered-requires : tie.Need-answered-requires
+answered-requires c κs = search needs
+
+play-requires : tie.Need-play-requires
+play-requires c κs = search needs
+
+same-length : tie.Need-same-length
+same-length c = search needs
+
+same-length-2 : tie.Need-same-length-2
+same-length-2 c = search needs
+
+returns : tie.Need-returns
+unfolding lockOnceOf
+returns c = rw (← guards-none (c .before .before .before .before .before .before .before .before .before .before .before .before .before .before .before .before .before .args .held .now) (replicate 64 (replicate 2 0)), ← c .before .before .before .before .before .before .before .before .lock .ensures, ← c .before .before .outcome .ensures, ← c .before .answered .ensures, ← c .play .ensures)
+
+pub lock-once-spec : {M : Type 1} → statement M
+lock-once-spec =
+    tie.close
+    (tie.spec
+    mul-cells
+    lock-requires
+    outcome-requires
+    answered-requires
+    play-requires
+    same-length
+    same-length-2
+    returns)

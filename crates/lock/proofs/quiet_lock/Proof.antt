@@ -1,0 +1,46 @@
+-- `lock::quiet_lock` meets its contract.
+use borrow.Author.Needs.{needs}
+use borrow.Author.Tests.{eq-eqb, ne-eqb}
+use Rattle.lock.proofs.quiet_lock.Statement.{statement}
+use Rattle.lock.specs.Laws.{take-claim}
+use Rattle.lock.specs.Model.{quietOf}
+use Rattle.lock.proofs.quiet_lock.Tie as tie
+
+waiters-requires : tie.Need-waiters-requires
+waiters-requires c κs = search needs
+
+spent-to-requires : tie.Need-spent-to-requires
+spent-to-requires c κs = search needs
+
+claim-at-requires : tie.Need-claim-at-requires
+claim-at-requires c κs = search needs
+
+boundaries-for-requires : tie.Need-boundaries-for-requires
+boundaries-for-requires c κs = search needs
+
+same-length : tie.Need-same-length
+same-length c = search needs
+
+returns : tie.Need-returns
+unfolding quietOf
+returns c = rw (← c .before .before .before .before .before .before .before .before .waiters .ensures, eq-eqb _ _ (c .before .before .before .before .before .before .before .if1 .taken), take-claim (c .before .before .before .before .before .before .before .before .before .before .before .args .head) _ _ _, ← c .before .before .before .before .before .before .spent-to .ensures, ← c .before .before .before .before .claim-at .ensures, ← c .boundaries-for .ensures)
+
+same-length-2 : tie.Need-same-length-2
+same-length-2 c = search needs
+
+returns-2 : tie.Need-returns-2
+unfolding quietOf
+returns-2 c = rw (← c .before .waiters .ensures, ne-eqb _ _ (c .if1 .left))
+
+pub quiet-lock-spec : {M : Type 1} → statement M
+quiet-lock-spec =
+    tie.close
+    (tie.spec
+    waiters-requires
+    spent-to-requires
+    claim-at-requires
+    boundaries-for-requires
+    same-length
+    returns
+    same-length-2
+    returns-2)

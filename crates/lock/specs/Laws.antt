@@ -1,0 +1,125 @@
+-- Laws of one try_lock: past the script's end it is the quiet one; what its flow and its boundaries keep.
+use Prim.Native.Nat.{ℕ, _≤_}
+use mathlib.Core.Path.{_≡_, refl, _∙_}
+use mathlib.Core.List.{List, [], _∷_}
+use mathlib.Core.Bool.{Bool, true, false}
+use native.Mathlib.Omega.{arith}
+use lib.Dec.{eqb}
+use borrow.Author.Tests.{eq-eqb, eqb-true}
+use Rattle.model.specs.Choice.{if_then_else_}
+use Rattle.model.specs.Log.{Made}
+use Rattle.model.specs.Arena.{leaseOf, waitersAt, spentTo, stateAt, serialRemains}
+use Rattle.model.specs.Foreign.{Setting, protecting, flowOf, stepsIn, boundaryOf}
+use Rattle.model.specs.Lock.{takeIn, takeOf, tookOf, lateOf, afterTake, secondOf, lockOf, lockedOf}
+use Rattle.model.specs.declared.Flow.{Flow}
+use Rattle.model.specs.declared.Head.{Head}
+use Rattle.model.specs.declared.Locked.{Locked}
+use Rattle.model.specs.declared.State.{State}
+use Rattle.model.specs.declared.State.the-variants as state
+use Rattle.model.specs.declared.Take.{Take}
+use Rattle.model.specs.declared.Take.the-variants as taking
+use Rattle.model.specs.declared.Took.{Took}
+use Rattle.laws.specs.Pick.{if-both}
+use Rattle.laws.specs.Words.{waiters-set-cell}
+use Rattle.lease.specs.Model.{claimOf}
+use Rattle.foreign.specs.Laws.{Paid, boundary-quiet, boundary-paid}
+use Rattle.lock.specs.Model.{boundariesFor, quietTake, quietOf}
+
+-- ---- past the script's end
+
+-- a compare-and-set leaves all waiters alone
+module _ (next : ℕ) (t : List ℕ) (c d : ℕ) where
+  abbrev Alone : Made (Took × List ℕ) → Type 0
+  Alone m = waitersAt (m .seen .1) d ≡ waitersAt t d
+
+  take-in : (s : State) → Alone (takeIn s next t c)
+  take-in state.Damaged = refl
+  take-in (state.Held o) = refl
+  take-in state.Free = if-both Alone (serialRemains next) (waiters-set-cell t c 1 next d) refl
+
+  take-waiters : waitersAt (takeOf next t c .seen .1) d ≡ waitersAt t d
+  unfolding takeOf
+  take-waiters = take-in (stateAt next t c)
+
+module _ (e : Setting) (g : List ℕ) (c : ℕ) where
+  late-quiet : (f : Flow) (t : List ℕ) (s : ℕ) → stepsIn (e .script) ≤ f .place → waitersAt t c ≡ 0
+      → lateOf e f t g c s .seen ≡ (lockedOf f 3 (taking.Granted s), (t, g))
+  unfolding lateOf
+  late-quiet f t s l w = rw (boundary-quiet (protecting e (leaseOf c s ∷ [])) f t g l, eq-eqb _ _ w)
+
+  after-quiet : (a : Take) (f : Flow) (t : List ℕ) → stepsIn (e .script) ≤ f .place → waitersAt t c ≡ 0
+      → afterTake a e f t g c .seen ≡ (lockedOf f (boundariesFor a) a, (t, g))
+  after-quiet (taking.Granted s) f t l w = late-quiet f t s l w
+  after-quiet taking.Busy f t l w = refl
+  after-quiet taking.Damaged f t l w = refl
+  after-quiet taking.Spent f t l w = refl
+
+  abbrev beside : Locked × List ℕ → Locked × (List ℕ × List ℕ)
+  beside k = (k .0, (k .1, g))
+
+  second-quiet : (f : Flow) (t : List ℕ) → stepsIn (e .script) ≤ f .place → waitersAt t c ≡ 0
+      → secondOf e f t g c .seen ≡ beside (quietTake f (takeOf (f .next) t c .seen))
+  unfolding secondOf
+  second-quiet f t l w =
+      let k = takeOf (f .next) t c .seen in
+      rw (boundary-quiet e f t g l) (after-quiet (k .0 .answer) (flowOf (k .0 .next) (f .place) (f .dropped)) (k .1) l (take-waiters (f .next) t c c ∙ w))
+
+  -- it is the quiet one
+  pub lock-quiet : (f : Flow) (t : List ℕ) → stepsIn (e .script) ≤ f .place → lockOf e f t g c .seen ≡ beside (quietOf f t c)
+  unfolding lockOf quietOf
+  lock-quiet f t l = rw (boundary-quiet e f t g l) (go (eqb (waitersAt t c) 0) refl)
+    where
+      go : (b : Bool) → eqb (waitersAt t c) 0 ≡ b
+          → (if b then secondOf e f t g c else record { seen = (lockedOf f 1 taking.Busy, (t, g)); log = [] }) .seen
+          ≡ beside (if b then quietTake f (takeOf (f .next) t c .seen) else (lockedOf f 1 taking.Busy, t))
+      go true w = second-quiet f t l (eqb-true _ _ w)
+      go false w = refl
+
+-- ---- what a try_lock keeps: drops stay paid by steps, and it has at most three boundaries
+
+pub record Sober (steps : ℕ) (k : Locked) : Type 0 where
+  pub paid : Paid steps (k .flow)
+  pub few : k .boundaries ≤ 3
+
+module _ (e : Setting) (g : List ℕ) (c : ℕ) where
+  abbrev Kept : Made (Locked × (List ℕ × List ℕ)) → Type 0
+  Kept m = Sober (stepsIn (e .script)) (m .seen .0)
+
+  late-kept : (f : Flow) (t g : List ℕ) (s : ℕ) → Paid (stepsIn (e .script)) f → Kept (lateOf e f t g c s)
+  unfolding lateOf
+  late-kept f t g s b =
+      let q = protecting e (leaseOf c s ∷ []) in
+      let p = boundary-paid _ q f t g refl b in
+      if-both Kept (eqb (waitersAt (boundaryOf q f t g .seen .1 .0) c) 0) (record { paid = p; few = omega arith }) (record { paid = p; few = omega arith })
+
+  after-kept : (a : Take) (f : Flow) (t g : List ℕ) → Paid (stepsIn (e .script)) f → Kept (afterTake a e f t g c)
+  after-kept (taking.Granted s) f t g b = late-kept f t g s b
+  after-kept taking.Busy f t g b = record { paid = b; few = omega arith }
+  after-kept taking.Damaged f t g b = record { paid = b; few = omega arith }
+  after-kept taking.Spent f t g b = record { paid = b; few = omega arith }
+
+  second-kept : (f : Flow) (t g : List ℕ) → Paid (stepsIn (e .script)) f → Kept (secondOf e f t g c)
+  unfolding secondOf
+  second-kept f t g b =
+      let o = boundaryOf e f t g .seen in
+      let p = boundary-paid o e f t g refl b in
+      let k = takeOf (o .0 .next) (o .1 .0) c .seen in
+      after-kept (k .0 .answer) (flowOf (k .0 .next) (o .0 .place) (o .0 .dropped)) (k .1) (o .1 .1) (record { few = p .few; in-script = p .in-script })
+
+  lock-kept : (f : Flow) (t g : List ℕ) → Paid (stepsIn (e .script)) f → Kept (lockOf e f t g c)
+  unfolding lockOf
+  lock-kept f t g b =
+      let o = boundaryOf e f t g .seen in
+      let p = boundary-paid o e f t g refl b in
+      if-both Kept (eqb (waitersAt (o .1 .0) c) 0) (second-kept (o .0) (o .1 .0) (o .1 .1) p) (record { paid = p; few = omega arith })
+
+-- as a caller has it
+pub lock-sober : (o : Locked × (List ℕ × List ℕ)) (e : Setting) (f : Flow) (t g : List ℕ) (c : ℕ)
+    → o ≡ lockOf e f t g c .seen → Paid (stepsIn (e .script)) f → Sober (stepsIn (e .script)) (o .0)
+lock-sober o e f t g c q b = rw q (lock-kept e g c f t g b)
+
+-- the compare-and-set as the code makes it, on a whole head
+pub take-claim : (h : Head) (next : ℕ) (t : List ℕ) (c : ℕ)
+    → takeOf next t c .seen ≡ (tookOf (claimOf (spentTo h next) t c .0 .head .next) (claimOf (spentTo h next) t c .0 .answer), claimOf (spentTo h next) t c .1)
+unfolding claimOf
+take-claim h next t c = refl
