@@ -1,0 +1,197 @@
+-- Laws of attempts by key: the cell a key names, one turn of the retry loop, and what a run's counts keep.
+use Prim.Native.Nat.{ℕ, zero, suc, _+_, _*_, _-_, _/_, _%_, _≤_, _<_}
+use mathlib.Core.Path.{_≡_, refl, sym, ap, subst, _∙_}
+use mathlib.Core.List.{List, [], _∷_, _++_}
+use mathlib.Core.Bool.{Bool, true, false, not}
+use native.Mathlib.Omega.{arith}
+use native.Mathlib.Nat.{mul-le-mul, mul-le-mul-right, suc-mul}
+use lib.Dec.{ltb, leb, eqb}
+use lib.ListN.{length, getD}
+use borrow.Author.Tests.{leb-false, eqb-true, not-false}
+use Rattle.model.specs.Choice.{if_then_else_}
+use Rattle.model.specs.Log.{Made}
+use Rattle.model.specs.Arena.{cellNumber, waitersAt}
+use Rattle.model.specs.Foreign.{Setting, setting, stepsIn, boundaryOf}
+use Rattle.model.specs.Lock.{takeOf, lockOf, outcomeOf, runOf, triedOf, findOf, attemptAt, attemptOf, spinOf, pauseOf, isBusy, retryOf}
+use Rattle.model.specs.declared.Flow.{Flow}
+use Rattle.model.specs.declared.Found.{Found}
+use Rattle.model.specs.declared.Found.the-variants as found
+use Rattle.model.specs.declared.Lease.{Lease}
+use Rattle.model.specs.declared.Locked.{Locked}
+use Rattle.model.specs.declared.Outcome.{Outcome}
+use Rattle.model.specs.declared.Outcome.the-variants as outcome
+use Rattle.model.specs.declared.Refusal.the-variants as refusal
+use Rattle.model.specs.declared.Run.{Run}
+use Rattle.model.specs.declared.Take.{Take}
+use Rattle.model.specs.declared.Take.the-variants as taking
+use Rattle.model.specs.declared.Tried.{Tried}
+use Rattle.laws.specs.Pick.{if-both, seen-if}
+use Rattle.foreign.specs.Laws.{Paid, boundary-paid}
+use Rattle.bucket.specs.Model.{againOf}
+use Rattle.lock.specs.Model.{boundariesFor, quietOf}
+use Rattle.lock.specs.Laws.{Sober, lock-sober}
+
+-- ---- a key's cell is in range
+
+abbrev one : Bool → ℕ
+one true = 1
+one false = 0
+
+module _ (headers buckets : ℕ) (g registry : List ℕ) (binding bucket : ℕ) where
+  abbrev header : ℕ
+  header = getD registry binding 0
+
+  abbrev Inside : Found → Type 0
+  Inside k = (c : ℕ) → k ≡ found.At c → c < headers * buckets
+
+  cell-inside : header < headers → bucket < buckets → cellNumber buckets header bucket < headers * buckets
+  cell-inside h b = omega (arith, mul-le-mul-right buckets h, suc-mul header buckets)
+
+  pub find-inside : Inside (findOf headers buckets g registry binding bucket)
+  unfolding findOf
+  find-inside = go (leb headers header) (not (eqb (getD g header 0) 0)) (leb buckets bucket) refl refl
+    where
+      go : (x y z : Bool) → leb headers header ≡ x → leb buckets bucket ≡ z
+          → Inside (if x then found.Fault (refusal.BadHeader header) else if y then found.Fault (refusal.Poisoned header) else if z then found.Fault (refusal.InvalidBucket bucket) else found.At (cellNumber buckets header bucket))
+      go true y z p q c e = let w : true ≡ false = cc in absurd (omega (arith, ap one w))
+      go false true z p q c e = let w : true ≡ false = cc in absurd (omega (arith, ap one w))
+      go false false true p q c e = let w : true ≡ false = cc in absurd (omega (arith, ap one w))
+      go false false false p q c e =
+          let w : cellNumber buckets header bucket ≡ c = cc in
+          omega (arith, cell-inside (leb-false _ _ p) (leb-false _ _ q))
+
+-- ---- counts: few enough that no sum wraps
+
+pub record Calm (steps most : ℕ) (r : Run) : Type 0 where
+  pub paid : Paid steps (r .flow)
+  pub few-attempts : r .attempts ≤ most
+  pub few-boundaries : r .boundaries ≤ most
+  pub few-yields : r .yields ≤ most
+
+pub more-calm : (steps most more : ℕ) (r : Run) → most ≤ more → Calm steps most r → Calm steps more r
+more-calm steps most more r l b =
+    record { paid = b .paid; few-attempts = omega (arith, b .few-attempts); few-boundaries = omega (arith, b .few-boundaries); few-yields = omega (arith, b .few-yields) }
+
+module _ (e : Setting) where
+  abbrev CalmRun : ℕ → Made (Run × (List ℕ × List ℕ)) → Type 0
+  CalmRun most m = Calm (stepsIn (e .script)) most (m .seen .0)
+
+  abbrev CalmTry : ℕ → Made (Tried × (List ℕ × List ℕ)) → Type 0
+  CalmTry most m = Calm (stepsIn (e .script)) most (m .seen .0 .run)
+
+  -- an attempt is one attempt and at most three boundaries
+  attempt-at : (k : Found) (most : ℕ) (r : Run) (t g : List ℕ) → Calm (stepsIn (e .script)) most r → CalmTry (most + 3) (attemptAt k e r t g)
+  attempt-at (found.Fault x) most r t g b =
+      record { paid = b .paid; few-attempts = omega (arith, b .few-attempts); few-boundaries = omega (arith, b .few-boundaries); few-yields = omega (arith, b .few-yields) }
+  attempt-at (found.At c) most r t g b =
+      let k = lock-sober _ e (r .flow) t g c refl (b .paid) in
+      record { paid = k .paid; few-attempts = omega (arith, b .few-attempts); few-boundaries = omega (arith, b .few-boundaries, k .few); few-yields = omega (arith, b .few-yields) }
+
+  attempt-calm : (buckets : ℕ) (registry : List ℕ) (binding bucket most : ℕ) (r : Run) (t g : List ℕ) → Calm (stepsIn (e .script)) most r
+      → CalmTry (most + 3) (attemptOf e buckets registry binding bucket r t g)
+  unfolding attemptOf
+  attempt-calm buckets registry binding bucket most r t g b = attempt-at (findOf (e .headers) buckets g registry binding bucket) most r t g b
+
+  -- a pause is at most two boundaries and a yield
+  spin-calm : (most : ℕ) (r : Run) (t g : List ℕ) → Calm (stepsIn (e .script)) most r → CalmRun (most + 1) (spinOf e r t g)
+  unfolding spinOf
+  spin-calm most r t g b =
+      record { paid = boundary-paid _ e (r .flow) t g refl (b .paid); few-attempts = omega (arith, b .few-attempts); few-boundaries = omega (arith, b .few-boundaries); few-yields = omega (arith, b .few-yields) }
+
+  pause-calm : (i most : ℕ) (r : Run) (t g : List ℕ) → Calm (stepsIn (e .script)) most r → CalmRun (most + 2) (pauseOf e i r t g)
+  unfolding pauseOf
+  pause-calm i most r t g b =
+      let o = boundaryOf e (r .flow) t g .seen in
+      let p = boundary-paid o e (r .flow) t g refl (b .paid) in
+      let y : Calm (stepsIn (e .script)) (most + 1) (runOf (o .0) (r .attempts) (r .boundaries + 1) (r .yields + 1)) = record { paid = p; few-attempts = omega (arith, b .few-attempts); few-boundaries = omega (arith, b .few-boundaries); few-yields = omega (arith, b .few-yields) } in
+      if-both (CalmRun (most + 2)) (eqb (i % 64) 63)
+      (more-calm _ (most + 1 + 1) (most + 2) _ (omega arith) (spin-calm (most + 1) (runOf (o .0) (r .attempts) (r .boundaries + 1) (r .yields + 1)) (o .1 .0) (o .1 .1) y))
+      (more-calm _ (most + 1) (most + 2) _ (omega arith) (spin-calm most r t g b))
+
+-- as a caller has it: steps, and a promise
+module _ (headers cells steps : ℕ) (script : List ℕ) (ps : List Lease) (n : steps ≡ length script / 3) where
+  pub attempt-goes : (o : Tried × (List ℕ × List ℕ)) (buckets : ℕ) (registry : List ℕ) (binding bucket most : ℕ) (r : Run) (t g : List ℕ)
+      → o ≡ attemptOf (setting headers cells script ps) buckets registry binding bucket r t g .seen → Calm steps most r → Calm steps (most + 3) (o .0 .run)
+  attempt-goes o buckets registry binding bucket most r t g q b =
+      rw (q, n) (attempt-calm (setting headers cells script ps) buckets registry binding bucket most r t g (rw (← n) b))
+
+  pub pause-goes : (o : Run × (List ℕ × List ℕ)) (i most : ℕ) (r : Run) (t g : List ℕ)
+      → o ≡ pauseOf (setting headers cells script ps) i r t g .seen → Calm steps most r → Calm steps (most + 2) (o .0)
+  pause-goes o i most r t g q b = rw (q, n) (pause-calm (setting headers cells script ps) i most r t g (rw (← n) b))
+
+  pub sober-of : (o : Locked × (List ℕ × List ℕ)) (f : Flow) (t g : List ℕ) (c : ℕ)
+      → o ≡ lockOf (setting headers cells script ps) f t g c .seen → Paid steps f → Sober steps (o .0)
+  sober-of o f t g c q b = rw n (lock-sober o (setting headers cells script ps) f t g c q (rw (← n) b))
+
+-- a quiet try_lock has at most three boundaries
+few-for : (a : Take) → boundariesFor a ≤ 3
+few-for (taking.Granted s) = omega arith
+few-for taking.Busy = omega arith
+few-for taking.Damaged = omega arith
+few-for taking.Spent = omega arith
+
+pub quiet-few : (o : Locked × List ℕ) (f : Flow) (t : List ℕ) (c : ℕ) → o ≡ quietOf f t c → o .0 .boundaries ≤ 3
+unfolding quietOf
+quiet-few o f t c q =
+    rw q (if-both (λ (k : Locked × List ℕ). k .0 .boundaries ≤ 3) (eqb (waitersAt t c) 0) (few-for (takeOf (f .next) t c .seen .0 .answer)) (omega arith))
+
+-- ---- one turn of the retry loop, and its end
+
+module _ (n i : ℕ) (e : Setting) (buckets : ℕ) (registry : List ℕ) (binding bucket : ℕ) (r : Run) (t g : List ℕ) where
+  abbrev tried : Tried × (List ℕ × List ℕ)
+  tried = attemptOf e buckets registry binding bucket r t g .seen
+
+  abbrev paused : Run × (List ℕ × List ℕ)
+  paused = pauseOf e i (tried .0 .run) (tried .1 .0) (tried .1 .1) .seen
+
+  abbrev more : Run × (List ℕ × List ℕ) → Tried × (List ℕ × List ℕ)
+  more o = retryOf (n - (i + 1)) (i + 1) e buckets registry binding bucket (o .0) (o .1 .0) (o .1 .1) .seen
+
+  retry-once : i < n → retryOf (n - i) i e buckets registry binding bucket r t g .seen ≡ (if isBusy (tried .0 .outcome) then more paused else tried)
+  unfolding retryOf
+  retry-once l = let k : n - i ≡ suc (n - (i + 1)) = omega arith in rw k (seen-if (isBusy (tried .0 .outcome)) _ _)
+
+  pub retry-at : (o : Tried × (List ℕ × List ℕ)) → o ≡ againOf i e buckets registry binding bucket r t g → i < n
+      → retryOf (n - i) i e buckets registry binding bucket r t g .seen ≡ (if isBusy (o .0 .outcome) then more (o .0 .run, o .1) else o)
+  unfolding againOf
+  retry-at o q l = retry-once l ∙ rw q (go (isBusy (tried .0 .outcome)) refl)
+    where
+      go : (b : Bool) → isBusy (tried .0 .outcome) ≡ b
+          → (if b then more paused else tried)
+          ≡ (if isBusy ((if b then (triedOf (paused .0) outcome.Busy, paused .1) else tried) .0 .outcome)
+          then more ((if b then (triedOf (paused .0) outcome.Busy, paused .1) else tried) .0 .run, (if b then (triedOf (paused .0) outcome.Busy, paused .1) else tried) .1)
+          else (if b then (triedOf (paused .0) outcome.Busy, paused .1) else tried))
+      go true w = refl
+      go false w = rw w
+
+  pub retry-end : n ≤ i → retryOf (n - i) i e buckets registry binding bucket r t g .seen ≡ (triedOf r outcome.Busy, (t, g))
+  unfolding retryOf
+  retry-end l = let k : n - i ≡ 0 = omega arith in rw k
+
+-- a turn is one attempt and at most five boundaries
+turn-calm : (e : Setting) (i buckets : ℕ) (registry : List ℕ) (binding bucket most : ℕ) (r : Run) (t g : List ℕ) → Calm (stepsIn (e .script)) most r
+    → Calm (stepsIn (e .script)) (most + 5) (againOf i e buckets registry binding bucket r t g .0 .run)
+unfolding againOf
+turn-calm e i buckets registry binding bucket most r t g b =
+    let o = attemptOf e buckets registry binding bucket r t g .seen in
+    let c = attempt-calm e buckets registry binding bucket most r t g b in
+    if-both (λ (k : Tried × (List ℕ × List ℕ)). Calm (stepsIn (e .script)) (most + 5) (k .0 .run)) (isBusy (o .0 .outcome))
+    (more-calm _ (most + 3 + 2) (most + 5) _ (omega arith) (pause-calm e i (most + 3) (o .0 .run) (o .1 .0) (o .1 .1) c))
+    (more-calm _ (most + 3) (most + 5) _ (omega arith) c)
+
+pub turn-goes : (headers cells steps : ℕ) (script : List ℕ) (ps : List Lease) → steps ≡ length script / 3
+    → (o : Tried × (List ℕ × List ℕ)) (i buckets : ℕ) (registry : List ℕ) (binding bucket most : ℕ) (r : Run) (t g : List ℕ)
+    → o ≡ againOf i (setting headers cells script ps) buckets registry binding bucket r t g → Calm steps most r → Calm steps (most + 5) (o .0 .run)
+turn-goes headers cells steps script ps n o i buckets registry binding bucket most r t g q b =
+    rw (q, n) (turn-calm (setting headers cells script ps) i buckets registry binding bucket most r t g (rw (← n) b))
+
+-- where the retry loop stands, before attempt number i: what remains from here is what the whole comes to
+pub record Retrying (e : Setting) (steps buckets : ℕ) (registry : List ℕ) (binding bucket : ℕ) (r₀ : Run) (t₀ g₀ : List ℕ) (i : ℕ) (r : Run) (t g : List ℕ) : Type 0 where
+  pub calm : Calm steps (2000000 + 5 * i) r
+  pub few : i ≤ 4096
+  pub words : length t ≡ length t₀
+  pub bytes : length g ≡ length g₀
+  pub rest : retryOf (4096 - i) i e buckets registry binding bucket r t g .seen ≡ retryOf 4096 0 e buckets registry binding bucket r₀ t₀ g₀ .seen
+
+pub small-product : (a m b : ℕ) → a < m → m ≤ 64 → b ≤ 1024 → a * b ≤ 65536
+small-product a m b l h k = let s : a ≤ 64 = omega arith in omega (arith, mul-le-mul s k)

@@ -1,0 +1,407 @@
+// Bucket resolution, one attempt by key, and the retry of 4,096 attempts.
+// Functions with a `requires` are steps: calls have tested the shape, and a step tests nothing twice.
+use model::Found;
+use model::Head;
+use model::Locked;
+use model::Outcome;
+use model::Refusal;
+use model::Run;
+use model::Tried;
+ghost use mathlib.Core.Path.{_≡_};
+ghost use Prim.Native.Nat.{_+_, _*_, _<_, _≤_};
+ghost use lib.ListN.{length};
+ghost use Rattle.model.specs.Arena.{cellsOf};
+ghost use Rattle.model.specs.Foreign.{setting};
+ghost use Rattle.model.specs.Lock.{outcomeOf, runOf, triedOf, findOf, attemptOf, spinOf, pauseOf, isBusy, retryOf};
+ghost use Rattle.model.specs.declared.Outcome.the-variants as outcome;
+ghost use Rattle.foreign.specs.Model.{guardsOf, Room};
+ghost use Rattle.bucket.specs.Laws.{Calm};
+ghost use Rattle.bucket.specs.Model.{Fit, Key, againOf};
+
+// ---- one attempt
+
+// A key's cell: header from the registry, then health, then bucket.
+fn find(
+    headers: u32,
+    buckets: u32,
+    health: &[u8],
+    registry: &[u32],
+    binding: u32,
+    bucket: u32,
+) -> Found
+    requires { ⌜ Fit headers buckets (length (now health)) × (binding < length (now registry)) ⌝ }
+    ensures { λ r. ⌜ r ≡ findOf headers buckets (now (health .entry)) (now (registry .entry)) binding bucket ⌝ }
+{
+    let header = registry[binding as usize];
+    if headers <= header {
+        return Found::Fault(Refusal::BadHeader(header));
+    }
+    if health[header as usize] != 0 {
+        return Found::Fault(Refusal::Poisoned(header));
+    }
+    if buckets <= bucket {
+        return Found::Fault(Refusal::InvalidBucket(bucket));
+    }
+    Found::At(header * buckets + bucket)
+}
+
+// The run after an attempt that found no cell, and after one that tried it.
+fn missed(run: Run, refusal: Refusal) -> Tried
+    requires { ⌜ run .attempts ≤ 4000000 ⌝ }
+    ensures { λ r. ⌜ r ≡ triedOf (runOf (run .flow) (run .attempts + 1) (run .boundaries) (run .yields)) (outcome.Refused refusal) ⌝ }
+{
+    let flow = run.flow;
+    Tried {
+        run: Run {
+            flow,
+            attempts: run.attempts + 1,
+            boundaries: run.boundaries,
+            yields: run.yields,
+        },
+        outcome: Outcome::Refused(refusal),
+    }
+}
+
+fn counted(run: Run, locked: Locked, cell: u32) -> Tried
+    requires { ⌜ (run .attempts ≤ 4000000) × ((run .boundaries ≤ 4000000) × (locked .boundaries ≤ 3)) ⌝ }
+    ensures { λ r. ⌜ r ≡ triedOf (runOf (locked .flow) (run .attempts + 1) (run .boundaries + locked .boundaries) (run .yields)) (outcomeOf cell (locked .answer)) ⌝ }
+{
+    let flow = locked.flow;
+    let answer = locked.answer;
+    let outcome = lease::outcome(cell, answer);
+    Tried {
+        run: Run {
+            flow,
+            attempts: run.attempts + 1,
+            boundaries: run.boundaries + locked.boundaries,
+            yields: run.yields,
+        },
+        outcome,
+    }
+}
+
+// One attempt of a call that makes no other.
+fn attempt_once(
+    head: Head,
+    cells: u32,
+    run: Run,
+    table: &mut [u32],
+    health: &mut [u8],
+    script: &[u32],
+    steps: usize,
+    held: &[u32],
+    taken: &[[u32; 2]; 64],
+    n: usize,
+    registry: &[u32],
+    binding: u32,
+    bucket: u32,
+) -> Tried
+    requires { ⌜ Key head cells (length (now table)) (length (now health)) n steps (length (now script)) (length (now registry)) binding × Calm steps 4000000 run ⌝ }
+    ensures { λ r. ⌜ (r, (now (table .exit), now (health .exit))) ≡ attemptOf (setting (head .headers) cells (now (script .entry)) (guardsOf (now (held .entry)) (now (taken .entry)) n)) (head .buckets) (now (registry .entry)) binding bucket run (now (table .entry)) (now (health .entry)) .seen ⌝ }
+{
+    let found = find(
+        head.headers,
+        head.buckets,
+        health,
+        registry,
+        binding,
+        bucket,
+    );
+    match found {
+        Found::Fault(refusal) => missed(run, refusal),
+        Found::At(cell) => {
+            let flow = run.flow;
+            let locked = lock::lock(
+                head,
+                cells,
+                flow,
+                table,
+                health,
+                script,
+                steps,
+                held,
+                taken,
+                n,
+                cell,
+            );
+            counted(run, locked, cell)
+        }
+    }
+}
+
+// The same for the retry loop, which it is private to: past the script's end an attempt is a quiet one.
+fn attempt(
+    head: Head,
+    cells: u32,
+    run: Run,
+    table: &mut [u32],
+    health: &mut [u8],
+    script: &[u32],
+    steps: usize,
+    held: &[u32],
+    taken: &[[u32; 2]; 64],
+    n: usize,
+    registry: &[u32],
+    binding: u32,
+    bucket: u32,
+) -> Tried
+    requires { ⌜ Key head cells (length (now table)) (length (now health)) n steps (length (now script)) (length (now registry)) binding × Calm steps 4000000 run ⌝ }
+    ensures { λ r. ⌜ (r, (now (table .exit), now (health .exit))) ≡ attemptOf (setting (head .headers) cells (now (script .entry)) (guardsOf (now (held .entry)) (now (taken .entry)) n)) (head .buckets) (now (registry .entry)) binding bucket run (now (table .entry)) (now (health .entry)) .seen ⌝ }
+{
+    let found = find(
+        head.headers,
+        head.buckets,
+        health,
+        registry,
+        binding,
+        bucket,
+    );
+    match found {
+        Found::Fault(refusal) => missed(run, refusal),
+        Found::At(cell) => {
+            let flow = run.flow;
+            if flow.place < steps {
+                let locked = lock::lock(
+                    head,
+                    cells,
+                    flow,
+                    table,
+                    health,
+                    script,
+                    steps,
+                    held,
+                    taken,
+                    n,
+                    cell,
+                );
+                return counted(run, locked, cell);
+            }
+            let locked = lock::quiet_lock(head, flow, table, cell);
+            counted(run, locked, cell)
+        }
+    }
+}
+
+// ---- the retry
+
+// After each Busy attempt: a boundary and a spin.
+fn spin(
+    headers: u32,
+    cells: u32,
+    run: Run,
+    table: &mut [u32],
+    health: &mut [u8],
+    script: &[u32],
+    steps: usize,
+    held: &[u32],
+    taken: &[[u32; 2]; 64],
+    n: usize,
+) -> Run
+    requires { ⌜ Room headers cells (length (now table)) (length (now health)) n steps (length (now script)) × Calm steps 4000001 run ⌝ }
+    ensures { λ r. ⌜ (r, (now (table .exit), now (health .exit))) ≡ spinOf (setting headers cells (now (script .entry)) (guardsOf (now (held .entry)) (now (taken .entry)) n)) run (now (table .entry)) (now (health .entry)) .seen ⌝ }
+{
+    let flow = run.flow;
+    let after = foreign::boundary(
+        headers,
+        cells,
+        flow,
+        table,
+        health,
+        script,
+        steps,
+        held,
+        taken,
+        n,
+    );
+    Run {
+        flow: after,
+        attempts: run.attempts,
+        boundaries: run.boundaries + 1,
+        yields: run.yields,
+    }
+}
+
+// After a Busy attempt whose number has remainder 63 by 64, a boundary and a yield come before that.
+fn pause(
+    i: usize,
+    headers: u32,
+    cells: u32,
+    run: Run,
+    table: &mut [u32],
+    health: &mut [u8],
+    script: &[u32],
+    steps: usize,
+    held: &[u32],
+    taken: &[[u32; 2]; 64],
+    n: usize,
+) -> Run
+    requires { ⌜ Room headers cells (length (now table)) (length (now health)) n steps (length (now script)) × Calm steps 4000000 run ⌝ }
+    ensures { λ r. ⌜ (r, (now (table .exit), now (health .exit))) ≡ pauseOf (setting headers cells (now (script .entry)) (guardsOf (now (held .entry)) (now (taken .entry)) n)) i run (now (table .entry)) (now (health .entry)) .seen ⌝ }
+{
+    if i % 64 == 63 {
+        let flow = run.flow;
+        let after = foreign::boundary(
+            headers,
+            cells,
+            flow,
+            table,
+            health,
+            script,
+            steps,
+            held,
+            taken,
+            n,
+        );
+        let yielded = Run {
+            flow: after,
+            attempts: run.attempts,
+            boundaries: run.boundaries + 1,
+            yields: run.yields + 1,
+        };
+        return spin(
+            headers,
+            cells,
+            yielded,
+            table,
+            health,
+            script,
+            steps,
+            held,
+            taken,
+            n,
+        );
+    }
+    spin(
+        headers,
+        cells,
+        run,
+        table,
+        health,
+        script,
+        steps,
+        held,
+        taken,
+        n,
+    )
+}
+
+fn busy(outcome: Outcome) -> bool
+    ensures { λ r. ⌜ r ≡ isBusy outcome ⌝ }
+{
+    match outcome {
+        Outcome::Granted(_) => false,
+        Outcome::Busy => true,
+        Outcome::Refused(_) => false,
+    }
+}
+
+// Attempt number i, and, if it was Busy, the pause after it.
+fn turn(
+    i: usize,
+    head: Head,
+    cells: u32,
+    run: Run,
+    table: &mut [u32],
+    health: &mut [u8],
+    script: &[u32],
+    steps: usize,
+    held: &[u32],
+    taken: &[[u32; 2]; 64],
+    n: usize,
+    registry: &[u32],
+    binding: u32,
+    bucket: u32,
+) -> Tried
+    requires { ⌜ Key head cells (length (now table)) (length (now health)) n steps (length (now script)) (length (now registry)) binding × Calm steps 3000000 run ⌝ }
+    ensures { λ r. ⌜ (r, (now (table .exit), now (health .exit))) ≡ againOf i (setting (head .headers) cells (now (script .entry)) (guardsOf (now (held .entry)) (now (taken .entry)) n)) (head .buckets) (now (registry .entry)) binding bucket run (now (table .entry)) (now (health .entry)) ⌝ }
+{
+    let tried = attempt(
+        head,
+        cells,
+        run,
+        table,
+        health,
+        script,
+        steps,
+        held,
+        taken,
+        n,
+        registry,
+        binding,
+        bucket,
+    );
+    let after = tried.run;
+    let outcome = tried.outcome;
+    if busy(outcome) {
+        let paused = pause(
+            i,
+            head.headers,
+            cells,
+            after,
+            table,
+            health,
+            script,
+            steps,
+            held,
+            taken,
+            n,
+        );
+        return Tried {
+            run: paused,
+            outcome: Outcome::Busy,
+        };
+    }
+    tried
+}
+
+// Attempts 0 to 4,095; a grant or a refusal ends it at once.
+pub fn retry(
+    head: Head,
+    cells: u32,
+    start: Run,
+    table: &mut [u32],
+    health: &mut [u8],
+    script: &[u32],
+    steps: usize,
+    held: &[u32],
+    taken: &[[u32; 2]; 64],
+    n: usize,
+    registry: &[u32],
+    binding: u32,
+    bucket: u32,
+) -> Tried
+    requires { ⌜ Key head cells (length (now table)) (length (now health)) n steps (length (now script)) (length (now registry)) binding × Calm steps 2000000 start ⌝ }
+    ensures { λ r. ⌜ (r, (now (table .exit), now (health .exit))) ≡ retryOf 4096 0 (setting (head .headers) cells (now (script .entry)) (guardsOf (now (held .entry)) (now (taken .entry)) n)) (head .buckets) (now (registry .entry)) binding bucket start (now (table .entry)) (now (health .entry)) .seen ⌝ }
+{
+    let mut run = start;
+    let mut i = 0;
+    while i < 4096 {
+        let tried = turn(
+            i,
+            head,
+            cells,
+            run,
+            table,
+            health,
+            script,
+            steps,
+            held,
+            taken,
+            n,
+            registry,
+            binding,
+            bucket,
+        );
+        let outcome = tried.outcome;
+        if busy(outcome) {
+            run = tried.run;
+        } else {
+            return tried;
+        }
+        i += 1;
+    }
+    Tried {
+        run,
+        outcome: Outcome::Busy,
+    }
+}
