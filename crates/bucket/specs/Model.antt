@@ -1,5 +1,5 @@
 -- What the steps by key are given: an arena whose cells can be numbered, and a binding inside the registry.
-use Prim.Native.Nat.{ℕ, _*_, _≤_, _<_}
+use Prim.Native.Nat.{ℕ, _≤_, _<_}
 use mathlib.Core.Path.{_≡_}
 use Rattle.model.specs.Arena.{cellsOf}
 use mathlib.Core.List.{List}

@@ -1,18 +1,27 @@
 // Bucket resolution, one attempt by key, and the retry of 4,096 attempts.
 // Functions with a `requires` are steps: calls have tested the shape, and a step tests nothing twice.
+use model::Check;
+use model::Flow;
 use model::Found;
 use model::Head;
 use model::Locked;
 use model::Outcome;
+use model::Played;
 use model::Refusal;
 use model::Run;
 use model::Tried;
 ghost use mathlib.Core.Path.{_≡_};
+ghost use mathlib.Core.Bool.{true};
+ghost use mathlib.Core.List.{[], _∷_};
 ghost use Prim.Native.Nat.{_+_, _*_, _<_, _≤_};
 ghost use lib.ListN.{length};
-ghost use Rattle.model.specs.Arena.{cellsOf};
+ghost use Rattle.model.specs.Arena.{shapeFits};
 ghost use Rattle.model.specs.Foreign.{setting};
-ghost use Rattle.model.specs.Lock.{outcomeOf, runOf, triedOf, findOf, attemptOf, spinOf, pauseOf, isBusy, retryOf};
+ghost use Rattle.model.specs.Lock.{outcomeOf, runOf, triedOf, findOf, attemptOf, spinOf, pauseOf, isBusy, retryOf, settled};
+ghost use Rattle.model.specs.Refusals.{first};
+ghost use Rattle.model.specs.Checks.{badRegistry, badBinding, bucketRules};
+ghost use Rattle.model.specs.Calls.{starting, transactionalOf, acquireBucketOf};
+ghost use Rattle.bucket.specs.Fine.{keyRules, listRules, BucketFine, onceByKeyOf, retryByKeyOf};
 ghost use Rattle.model.specs.declared.Outcome.the-variants as outcome;
 ghost use Rattle.foreign.specs.Model.{guardsOf, Room};
 ghost use Rattle.bucket.specs.Laws.{Calm};
@@ -403,5 +412,248 @@ pub fn retry(
     Tried {
         run,
         outcome: Outcome::Busy,
+    }
+}
+
+// ---- the calls
+
+// A run that has made no step.
+pub fn begin(head: Head, place: usize) -> Run
+    ensures { λ r. ⌜ r ≡ starting head place ⌝ }
+{
+    Run {
+        flow: Flow {
+            next: head.next,
+            place,
+            dropped: 0,
+        },
+        attempts: 0,
+        boundaries: 0,
+        yields: 0,
+    }
+}
+
+// After 4,096 Busy attempts: SerializationFailure.
+pub fn settle(outcome: Outcome) -> Outcome
+    ensures { λ r. ⌜ r ≡ settled outcome ⌝ }
+{
+    match outcome {
+        Outcome::Granted(lease) => Outcome::Granted(lease),
+        Outcome::Busy => Outcome::Refused(Refusal::SerializationFailure),
+        Outcome::Refused(refusal) => Outcome::Refused(refusal),
+    }
+}
+
+fn registry_fault(registry: &[u32]) -> Check
+    ensures { λ r. ⌜ r ≡ first (badRegistry (now (registry .entry)) ∷ []) ⌝ }
+{
+    if registry.len() <= 64 {
+        return Check::Fine;
+    }
+    Check::Fault(Refusal::BadShape)
+}
+
+fn lists_check(
+    head: Head,
+    table: &[u32],
+    registry: &[u32],
+    script: &[u32],
+    place: usize,
+    held: &[u32],
+) -> Check
+    requires { ⌜ shapeFits head (length (now table)) ≡ true ⌝ }
+    ensures { λ r. ⌜ r ≡ first (listRules head (now (table .entry)) (now (registry .entry)) (now (script .entry)) place (now (held .entry))) ⌝ }
+{
+    let names = registry_fault(registry);
+    match names {
+        Check::Fault(refusal) => Check::Fault(refusal),
+        Check::Fine => foreign::lists_check(head, table, script, place, held),
+    }
+}
+
+// The checks that every call by key makes first.
+pub fn key_check(
+    head: Head,
+    table: &[u32],
+    health: &[u8],
+    registry: &[u32],
+    script: &[u32],
+    place: usize,
+    held: &[u32],
+) -> Check
+    ensures { λ r. ⌜ r ≡ first (keyRules head (now (table .entry)) (now (health .entry)) (now (registry .entry)) (now (script .entry)) place (now (held .entry))) ⌝ }
+{
+    let shape = foreign::arena_check(head, table, health);
+    match shape {
+        Check::Fault(refusal) => Check::Fault(refusal),
+        Check::Fine => lists_check(head, table, registry, script, place, held),
+    }
+}
+
+// 5, of the key at a position.
+pub fn binding_fault(registry: &[u32], position: usize, binding: u32) -> Check
+    ensures { λ r. ⌜ r ≡ first (badBinding (now (registry .entry)) position binding ∷ []) ⌝ }
+{
+    if registry.len() <= binding as usize {
+        return Check::Fault(Refusal::BadBinding(position));
+    }
+    Check::Fine
+}
+
+fn bucket_check(
+    head: Head,
+    table: &[u32],
+    health: &[u8],
+    registry: &[u32],
+    script: &[u32],
+    place: usize,
+    held: &[u32],
+    binding: u32,
+) -> Check
+    ensures { λ r. ⌜ r ≡ first (bucketRules head (now (table .entry)) (now (health .entry)) (now (registry .entry)) (now (script .entry)) place (now (held .entry)) binding) ⌝ }
+{
+    let key = key_check(head, table, health, registry, script, place, held);
+    match key {
+        Check::Fault(refusal) => Check::Fault(refusal),
+        Check::Fine => binding_fault(registry, 0, binding),
+    }
+}
+
+// One attempt of a call whose checks are fine.
+fn once_by_key(
+    head: Head,
+    table: &mut [u32],
+    health: &mut [u8],
+    registry: &[u32],
+    script: &[u32],
+    place: usize,
+    held: &[u32],
+    binding: u32,
+    bucket: u32,
+) -> Played
+    requires { ⌜ BucketFine head (length (now table)) (length (now health)) (length (now registry)) (length (now script)) place binding ⌝ }
+    ensures { λ r. ⌜ (r, (now (table .exit), now (health .exit))) ≡ onceByKeyOf head (now (table .entry)) (now (health .entry)) (now (registry .entry)) (now (script .entry)) place (now (held .entry)) binding bucket ⌝ }
+{
+    let taken = [[0; 2]; 64];
+    let cells = head.headers * head.buckets;
+    let steps = script.len() / 3;
+    let start = begin(head, place);
+    let tried = attempt_once(
+        head,
+        cells,
+        start,
+        table,
+        health,
+        script,
+        steps,
+        held,
+        &taken,
+        0,
+        registry,
+        binding,
+        bucket,
+    );
+    let run = tried.run;
+    let outcome = tried.outcome;
+    foreign::play(head, run, lease::answered(outcome))
+}
+
+// All attempts of a call whose checks are fine.
+fn retry_by_key(
+    head: Head,
+    table: &mut [u32],
+    health: &mut [u8],
+    registry: &[u32],
+    script: &[u32],
+    place: usize,
+    held: &[u32],
+    binding: u32,
+    bucket: u32,
+) -> Played
+    requires { ⌜ BucketFine head (length (now table)) (length (now health)) (length (now registry)) (length (now script)) place binding ⌝ }
+    ensures { λ r. ⌜ (r, (now (table .exit), now (health .exit))) ≡ retryByKeyOf head (now (table .entry)) (now (health .entry)) (now (registry .entry)) (now (script .entry)) place (now (held .entry)) binding bucket ⌝ }
+{
+    let taken = [[0; 2]; 64];
+    let cells = head.headers * head.buckets;
+    let steps = script.len() / 3;
+    let start = begin(head, place);
+    let tried = retry(
+        head,
+        cells,
+        start,
+        table,
+        health,
+        script,
+        steps,
+        held,
+        &taken,
+        0,
+        registry,
+        binding,
+        bucket,
+    );
+    let run = tried.run;
+    let outcome = tried.outcome;
+    let last = settle(outcome);
+    foreign::play(head, run, lease::answered(last))
+}
+
+pub fn transactional_try_lock_bucket(
+    head: Head,
+    table: &mut [u32],
+    health: &mut [u8],
+    registry: &[u32],
+    script: &[u32],
+    place: usize,
+    held: &[u32],
+    binding: u32,
+    bucket: u32,
+) -> Played
+    ensures { λ r. ⌜ (r, (now (table .exit), now (health .exit))) ≡ transactionalOf head (now (table .entry)) (now (health .entry)) (now (registry .entry)) (now (script .entry)) place (now (held .entry)) binding bucket .seen ⌝ }
+{
+    let check = bucket_check(head, table, health, registry, script, place, held, binding);
+    match check {
+        Check::Fault(refusal) => foreign::unplay(head, place, refusal),
+        Check::Fine => once_by_key(
+            head,
+            table,
+            health,
+            registry,
+            script,
+            place,
+            held,
+            binding,
+            bucket,
+        ),
+    }
+}
+
+pub fn acquire_index_bucket(
+    head: Head,
+    table: &mut [u32],
+    health: &mut [u8],
+    registry: &[u32],
+    script: &[u32],
+    place: usize,
+    held: &[u32],
+    binding: u32,
+    bucket: u32,
+) -> Played
+    ensures { λ r. ⌜ (r, (now (table .exit), now (health .exit))) ≡ acquireBucketOf head (now (table .entry)) (now (health .entry)) (now (registry .entry)) (now (script .entry)) place (now (held .entry)) binding bucket .seen ⌝ }
+{
+    let check = bucket_check(head, table, health, registry, script, place, held, binding);
+    match check {
+        Check::Fault(refusal) => foreign::unplay(head, place, refusal),
+        Check::Fine => retry_by_key(
+            head,
+            table,
+            health,
+            registry,
+            script,
+            place,
+            held,
+            binding,
+            bucket,
+        ),
     }
 }

@@ -1,64 +1,47 @@
+-- `bucket::attempt_once` meets its contract.
 use mathlib.Core.Path.{sym, _∙_}
-use Rattle.bucket.specs.Laws.{find-inside, sober-of}
-use Rattle.model.specs.Lock.{attemptOf}
-use borrow.Author.Tests.{le-ltb, lt-ltb, le-leb, lt-leb, eq-eqb, ne-eqb}
 use borrow.Author.Needs.{needs}
+use Rattle.model.specs.Lock.{attemptOf}
 use Rattle.bucket.proofs.attempt_once.Statement.{statement}
+use Rattle.bucket.specs.Laws.{find-inside, sober-of}
 use Rattle.bucket.proofs.attempt_once.Tie as tie
-use Rattle.bucket.proofs.attempt_once.Reads as reads
-use Rattle.bucket.proofs.attempt_once.Lts as lts
-use Rattle.bucket.proofs.counted.Reads as counted-reads
-use Rattle.bucket.proofs.find.Reads as find-reads
-use Rattle.bucket.proofs.missed.Reads as missed-reads
-use Rattle.lock.proofs.lock.Reads as lock-reads
 
--- src/lib.rt:102:9
 find-requires : tie.Need-find-requires
 find-requires c κs = search needs
 
--- src/lib.rt:111:22
 enum-known-found : tie.Need-enum-known-found
 enum-known-found c = search needs
 
--- src/lib.rt:111:34
 missed-requires : tie.Need-missed-requires
 missed-requires c κs = search needs
 
--- src/lib.rt:112:19
 enum-known-found-2 : tie.Need-enum-known-found-2
 enum-known-found-2 c = search needs
 
--- src/lib.rt:114:17
 lock-requires : tie.Need-lock-requires
 lock-requires c κs =
     let key = c .before .before .before .before .before .before .before .before .before .before .before .before .before .pre .0 in
     (key .room, (c .before .before .before .before .before .before .before .before .before .before .before .before .before .pre .1 .paid, rw (key .cells-are) (find-inside _ _ _ _ _ _ _ (sym (c .before .before .before .before .before .before .find .ensures) ∙ c .before .before .before .before .found2 .given .1))))
 
--- src/lib.rt:127:13
 counted-requires : tie.Need-counted-requires
 counted-requires c κs =
     let calm = c .before .before .before .before .before .before .before .before .before .before .before .before .before .before .before .before .before .before .pre .1 in
     let k = sober-of _ _ _ _ _ (c .before .before .before .before .before .before .before .before .before .before .before .before .before .before .before .before .before .before .pre .0 .room .steps-are) _ _ _ _ _ (c .before .before .before .before .lock .ensures) (calm .paid) in
     (calm .few-attempts, (calm .few-boundaries, k .few))
 
--- src/lib.rt:84:1
 same-length : tie.Need-same-length
 same-length c = search needs
 
--- src/lib.rt:84:1
 returns : tie.Need-returns
 unfolding attemptOf
 returns c = rw (← c .before .before .before .before .find .ensures, c .before .before .found .given .1, ← c .missed .ensures)
 
--- src/lib.rt:84:1
 same-length-2 : tie.Need-same-length-2
 same-length-2 c = search needs
 
--- src/lib.rt:84:1
 same-length-3 : tie.Need-same-length-3
 same-length-3 c = search needs
 
--- src/lib.rt:84:1
 returns-2 : tie.Need-returns-2
 unfolding attemptOf
 returns-2 c = rw (← c .before .before .before .before .before .before .before .before .before .before .before .before .find .ensures, c .before .before .before .before .before .before .before .before .before .before .found2 .given .1, ← c .before .before .before .before .before .lock .ensures, ← c .counted .ensures)

@@ -1,60 +1,46 @@
+-- `bucket::pause` meets its contract.
 use native.Mathlib.Omega.{arith}
-use Rattle.foreign.specs.Laws.{boundary-goes}
-use Rattle.model.specs.Lock.{pauseOf}
-use borrow.Author.Tests.{le-ltb, lt-ltb, le-leb, lt-leb, eq-eqb, ne-eqb}
 use borrow.Author.Needs.{needs}
+use borrow.Author.Tests.{eq-eqb, ne-eqb}
+use Rattle.model.specs.Lock.{pauseOf}
 use Rattle.bucket.proofs.pause.Statement.{statement}
+use Rattle.foreign.specs.Laws.{boundary-goes}
 use Rattle.bucket.proofs.pause.Tie as tie
-use Rattle.bucket.proofs.pause.Reads as reads
-use Rattle.bucket.proofs.pause.Lts as lts
-use Rattle.bucket.proofs.spin.Reads as spin-reads
-use Rattle.foreign.proofs.boundary.Reads as boundary-reads
 
--- src/lib.rt:243:13
 boundary-requires : tie.Need-boundary-requires
 boundary-requires c κs = search needs
 
--- src/lib.rt:258:25
 add-t21 : tie.Need-add-t21
 add-t21 c = search needs
 
--- src/lib.rt:259:21
 add-t22 : tie.Need-add-t22
 add-t22 c = search needs
 
--- src/lib.rt:261:9
 spin-requires : tie.Need-spin-requires
 spin-requires c κs =
     let room = c .before .before .before .before .before .before .before .before .before .before .before .before .before .before .before .before .before .pre .0 in
     let calm = c .before .before .before .before .before .before .before .before .before .before .before .before .before .before .before .before .before .pre .1 in
     (record { words-fit = search needs; bytes-fit = search needs; few-taken = room .few-taken; steps-are = room .steps-are }, record { paid = boundary-goes _ _ _ _ _ _ _ _ _ (room .steps-are) (c .before .before .before .before .before .before .before .before .boundary .ensures) (calm .paid); few-attempts = omega (arith, calm .few-attempts); few-boundaries = omega (arith, calm .few-boundaries); few-yields = omega (arith, calm .few-yields) })
 
--- src/lib.rt:261:9
 same-length : tie.Need-same-length
 same-length c = search needs
 
--- src/lib.rt:261:9
 same-length-2 : tie.Need-same-length-2
 same-length-2 c = search needs
 
--- src/lib.rt:261:9
 returns : tie.Need-returns
 unfolding pauseOf
 returns c = rw (eq-eqb _ _ (c .before .before .before .before .before .before .before .before .before .before .before .before .before .before .before .before .before .if1 .taken), ← c .before .before .before .before .before .before .before .before .before .before .before .before .before .boundary .ensures, ← c .before .before .before .before .spin .ensures)
 
--- src/lib.rt:274:5
 spin-requires-2 : tie.Need-spin-requires-2
 spin-requires-2 c κs = search needs
 
--- src/lib.rt:225:1
 same-length-3 : tie.Need-same-length-3
 same-length-3 c = search needs
 
--- src/lib.rt:225:1
 same-length-4 : tie.Need-same-length-4
 same-length-4 c = search needs
 
--- src/lib.rt:225:1
 returns-2 : tie.Need-returns-2
 unfolding pauseOf
 returns-2 c = rw (ne-eqb _ _ (c .before .before .before .before .before .before .before .if1 .left), ← c .before .before .before .before .spin2 .ensures)

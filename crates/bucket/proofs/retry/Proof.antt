@@ -1,17 +1,14 @@
-use mathlib.Core.Path.{refl}
+-- `bucket::retry` meets its contract.
 use Prim.Native.Nat.{_-_}
+use mathlib.Core.Path.{refl}
 use native.Mathlib.Omega.{arith}
 use borrow.Author.Needs.{needs}
 use Rattle.model.specs.Foreign.{setting}
-use Rattle.foreign.specs.Model.{guardsOf}
-use Rattle.bucket.specs.Model.{key-for}
-use Rattle.bucket.specs.Laws.{Retrying, more-calm, turn-goes, retry-at, retry-end}
 use Rattle.bucket.proofs.retry.Statement.{statement}
+use Rattle.bucket.specs.Laws.{Retrying, more-calm, turn-goes, retry-at, retry-end}
+use Rattle.bucket.specs.Model.{key-for}
+use Rattle.foreign.specs.Model.{guardsOf}
 use Rattle.bucket.proofs.retry.Tie as tie
-use Rattle.bucket.proofs.retry.Reads as reads
-use Rattle.bucket.proofs.retry.Lts as lts
-use Rattle.bucket.proofs.busy.Reads as busy-reads
-use Rattle.bucket.proofs.turn.Reads as turn-reads
 
 abbrev Inv-loop : tie.InvT-loop
 Inv-loop head cells table₀ health₀ script steps held taken n registry binding bucket run₀ i₀ table health run i =
@@ -21,45 +18,36 @@ abbrev μ-loop : tie.MeasureT-loop
 μ-loop head cells table₀ health₀ script steps held taken n registry binding bucket run₀ i₀ table health run i =
     4096 - i
 
--- src/lib.rt:378:5
 loop-holds : tie.Need-loop-holds Inv-loop μ-loop
 loop-holds c = record { calm = c .before .before .before .before .before .pre .1; few = search needs; words = refl; bytes = refl; rest = refl }
 
--- src/lib.rt:379:13
 turn-requires : tie.Need-turn-requires Inv-loop μ-loop
 turn-requires c κs = let l = c .before .before .before .loop in (key-for (l .inv .words) (l .inv .bytes) (c .before .before .before .before .before .before .before .before .before .pre .0), more-calm _ _ _ _ (omega (arith, l .inv .few)) (l .inv .calm))
 
--- src/lib.rt:396:12
 busy-requires : tie.Need-busy-requires Inv-loop μ-loop
 busy-requires c κs = search needs
 
--- src/lib.rt:399:13
 same-length : tie.Need-same-length Inv-loop μ-loop
 same-length c = search needs
 
--- src/lib.rt:399:13
 same-length-2 : tie.Need-same-length-2 Inv-loop μ-loop
 same-length-2 c = search needs
 
--- src/lib.rt:399:13
 returns : tie.Need-returns Inv-loop μ-loop
-returns c = 
+returns c =
     let l = c .before .before .before .before .before .before .before .before .before .before .loop in
     let a = c .before .before .before .before .before .before .before .before .before .before .before .before .before .before .before .before .args in
     let e = setting (a .head .headers) (a .cells) (a .script .now) (guardsOf (a .held .now) (a .taken .now) (a .n)) in
     rw (← l .inv .rest, retry-at 4096 (l .i) e (a .head .buckets) (a .registry .now) (a .binding) (a .bucket) (l .run) (l .table) (l .health) _ (c .before .before .before .before .before .before .turn .ensures) (search needs), ← c .before .busy .ensures, c .if1 .left)
 
--- src/lib.rt:401:9
 add-i : tie.Need-add-i Inv-loop μ-loop
 add-i c = search needs
 
--- src/lib.rt:378:5
 loop-less : tie.Need-loop-less Inv-loop μ-loop
 loop-less c = search needs
 
--- src/lib.rt:378:5
 loop-again : tie.Need-loop-again Inv-loop μ-loop
-loop-again c = 
+loop-again c =
     let l = c .before .before .before .before .before .before .before .before .before .before .before .loop in
     let a = c .before .before .before .before .before .before .before .before .before .before .before .before .before .before .before .before .before .args in
     let e = setting (a .head .headers) (a .cells) (a .script .now) (guardsOf (a .held .now) (a .taken .now) (a .n)) in
@@ -71,17 +59,14 @@ loop-again c =
       rest = rw (← l .inv .rest, retry-at 4096 (l .i) e (a .head .buckets) (a .registry .now) (a .binding) (a .bucket) (l .run) (l .table) (l .health) _ (c .before .before .before .before .before .before .before .turn .ensures) (search needs), ← c .before .before .busy .ensures, c .before .if1 .taken);
     }
 
--- src/lib.rt:358:1
 same-length-3 : tie.Need-same-length-3 Inv-loop μ-loop
 same-length-3 c = search needs
 
--- src/lib.rt:358:1
 same-length-4 : tie.Need-same-length-4 Inv-loop μ-loop
 same-length-4 c = search needs
 
--- src/lib.rt:358:1
 returns-2 : tie.Need-returns-2 Inv-loop μ-loop
-returns-2 c = 
+returns-2 c =
     let l = c .before .loop in
     let a = c .before .before .before .before .before .before .before .args in
     let e = setting (a .head .headers) (a .cells) (a .script .now) (guardsOf (a .held .now) (a .taken .now) (a .n)) in

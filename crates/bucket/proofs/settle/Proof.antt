@@ -1,0 +1,27 @@
+-- `bucket::settle` meets its contract.
+use borrow.Author.Needs.{needs}
+use Rattle.bucket.proofs.settle.Statement.{statement}
+use Rattle.bucket.proofs.settle.Tie as tie
+
+enum-known-outcome : tie.Need-enum-known-outcome
+enum-known-outcome c = search needs
+
+enum-told : tie.Need-enum-told
+enum-told c = search needs
+
+enum-known-outcome-2 : tie.Need-enum-known-outcome-2
+enum-known-outcome-2 c = search needs
+
+returns : tie.Need-returns
+returns c = ?
+
+returns-2 : tie.Need-returns-2
+returns-2 c = ?
+
+returns-3 : tie.Need-returns-3
+returns-3 c = ?
+
+pub settle-spec : {M : Type 1} → statement M
+settle-spec =
+    tie.close
+    (tie.spec enum-known-outcome enum-told enum-known-outcome-2 returns returns-2 returns-3)
