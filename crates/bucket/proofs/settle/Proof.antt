@@ -13,13 +13,13 @@ enum-known-outcome-2 : tie.Need-enum-known-outcome-2
 enum-known-outcome-2 c = search needs
 
 returns : tie.Need-returns
-returns c = ?
+returns c = rw (c .before .outcome .given .1)
 
 returns-2 : tie.Need-returns-2
-returns-2 c = ?
+returns-2 c = rw (c .enum-told .given .1)
 
 returns-3 : tie.Need-returns-3
-returns-3 c = ?
+returns-3 c = rw (c .before .outcome2 .given .1)
 
 pub settle-spec : {M : Type 1} → statement M
 settle-spec =
