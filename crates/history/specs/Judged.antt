@@ -1,0 +1,148 @@
+-- How a call goes: if a check applies it is refused and nothing changes, else its steps are made. What holds of both holds of the call.
+use Prim.Native.Nat.{ℕ}
+use mathlib.Core.Path.{_≡_, refl}
+use mathlib.Core.Bool.{Bool, true, false}
+use mathlib.Core.List.{List, [], append-nil}
+use lib.ListN.{replicate}
+use Rattle.model.specs.Choice.{if_then_else_}
+use Rattle.model.specs.Log.{Made, by-caller, attempt-begun, released, gives, note, _>>=_, _>>_}
+use Rattle.model.specs.Arena.{spentTo, setCell, leasesOf}
+use Rattle.model.specs.Refusals.{first, judge}
+use Rattle.model.specs.Checks.{countIn, cellRules, leaseRules, heldCellRules, heldLeaseRules, scriptRules, lockRules, bucketRules, releaseRules, locksRules}
+use Rattle.model.specs.Foreign.{Setting, flowOf, boundaryOf}
+use Rattle.model.specs.Lock.{lockOf, outcomeOf, answerOf, runOf, attemptOf, attemptLimit, retryOf, settled, giveBackOf, locksOf}
+use Rattle.model.specs.Calls.{countsOf, given, starting, replied, played, refused, acquireOf, tryAcquireOf, dropLeaseOf, readPermissionOf, competingAcquireOf, releaseThenHandoffOf, foreignReleaseOf, acquirePreservingOf, dropPreservingOf, environmentOf, tryLockOf, transactionalOf, acquireBucketOf, releaseAllOf, acquireLocksOf}
+use Rattle.model.specs.Crew.{crewRules, crewAt, turnsOf, crewOf}
+use Rattle.model.specs.declared.Answer.the-variants as answer
+use Rattle.model.specs.declared.Check.{Check}
+use Rattle.model.specs.declared.Check.the-variants.{Fine, Fault}
+use Rattle.model.specs.declared.CrewReply.{CrewReply}
+use Rattle.model.specs.declared.Played.{Played}
+use Rattle.model.specs.declared.Refusal.{Refusal}
+use Rattle.model.specs.declared.Reply.{Reply}
+use Rattle.history.specs.World.{World, worldOf}
+use Rattle.history.specs.Items.{Call, Says, says, try-acquire, drop-lease, read-permission, competing-acquire, release-then-handoff, foreign-release, drop-preserving, acquire-preserving, environment, try-lock, transactional, acquire-bucket, release-all, acquire-locks, crew, perform}
+use Rattle.history.specs.Statements.{buffer, script-of, held-of}
+
+-- a call makes its steps only if no check applies
+judged : {A : Type 0} (P : A → Type 0) (c : Check) {no : Refusal → A} {steps : A}
+    → ((r : Refusal) → P (no r)) → (c ≡ Fine → P steps) → P (judge c no steps)
+judged P Fine p q = q refl
+judged P (Fault r) p q = p r
+
+-- ---- the parts of a call
+
+-- what the checks of a call come to
+abbrev pub checks : World → Call → Check
+checks w (try-acquire c) = first (cellRules (w .head) (w .table) c)
+checks w (drop-lease l) = first (leaseRules (w .head) (w .table) l)
+checks w (read-permission l) = first (leaseRules (w .head) (w .table) l)
+checks w (competing-acquire l) = first (leaseRules (w .head) (w .table) l)
+checks w (release-then-handoff l) = first (leaseRules (w .head) (w .table) l)
+checks w (foreign-release held l) = first (heldLeaseRules (w .head) (w .table) held l)
+checks w (drop-preserving held l) = first (heldLeaseRules (w .head) (w .table) held l)
+checks w (acquire-preserving held c) = first (heldCellRules (w .head) (w .table) held c)
+checks w (environment script place held) = first (scriptRules (w .head) (w .table) (w .health) script place held)
+checks w (try-lock script place held c) = first (lockRules (w .head) (w .table) (w .health) script place held c)
+checks w (transactional registry script place held binding bucket) = first (bucketRules (w .head) (w .table) (w .health) registry script place held binding)
+checks w (acquire-bucket registry script place held binding bucket) = first (bucketRules (w .head) (w .table) (w .health) registry script place held binding)
+checks w (release-all script place leases) = first (releaseRules (w .head) (w .table) (w .health) script place leases)
+checks w (acquire-locks registry script place held keys grants) = first (locksRules (w .head) (w .table) (w .health) registry script place held keys grants)
+checks w (crew counts cells turns) = first (crewRules (w .head) (w .table) (w .health) counts cells turns)
+
+-- what its steps are given
+abbrev pub acting : World → Call → Setting
+acting w k = given (w .head) (script-of k) (held-of k)
+
+-- all as it was, and no count
+abbrev pub unchanged : World → Call → Refusal → Made (World × Says)
+unchanged w k r = record { seen = (w, says (answer.Refused r) (countsOf 0 0 0 0) (buffer k)); log = [] }
+
+-- what a call says, by what it hands over: a reply, with the table; a reply with a script, with table and health
+abbrev reply : World → Reply × List ℕ → World × Says
+reply w m = (worldOf (m .0 .head) (m .1) (w .health), says (m .0 .answer) (m .0 .counts) [])
+
+abbrev read : World → Reply → World × Says
+read w m = (worldOf (m .head) (w .table) (w .health), says (m .answer) (m .counts) [])
+
+abbrev play : Played × (List ℕ × List ℕ) → World × Says
+play m = (worldOf (m .0 .head) (m .1 .0) (m .1 .1), says (m .0 .answer) (m .0 .counts) [])
+
+abbrev grant : Played × (List ℕ × (List ℕ × List ℕ)) → World × Says
+grant m = (worldOf (m .0 .head) (m .1 .0) (m .1 .1 .0), says (m .0 .answer) (m .0 .counts) (m .1 .1 .1))
+
+abbrev crewed : World → CrewReply × List ℕ → World × Says
+crewed w m = (worldOf (m .0 .head) (m .1) (w .health), says (m .0 .answer) (countsOf 0 0 0 0) [])
+
+-- the same log, seen otherwise
+abbrev pub seen-as : {A B : Type 0} → (A → B) → Made A → Made B
+seen-as f m = record { seen = f (m .seen); log = m .log }
+
+-- the steps of each call
+abbrev pub steps : World → Call → Made (World × Says)
+steps w (try-acquire c) = seen-as (reply w) (acquireOf 1 (w .head) (w .table) c)
+steps w (drop-lease l) = do
+  note (released by-caller (l .cell) (l .serial))
+  gives (reply w (replied (w .head) 0 answer.Done, setCell (w .table) (l .cell) 0 0))
+steps w (read-permission l) = gives (read w (replied (w .head) 0 (answer.Cell (l .cell))))
+steps w (competing-acquire l) = seen-as (reply w) (acquireOf 1 (w .head) (w .table) (l .cell))
+steps w (release-then-handoff l) = do
+  note (released by-caller (l .cell) (l .serial))
+  seen-as (reply w) (acquireOf 1 (w .head) (setCell (w .table) (l .cell) 0 0) (l .cell))
+steps w (foreign-release held l) = do
+  (k, u) ← acquireOf 1 (w .head) (w .table) (l .cell)
+  note (released by-caller (l .cell) (l .serial))
+  seen-as (reply w) (acquireOf 2 (k .head) (setCell u (l .cell) 0 0) (l .cell))
+steps w (drop-preserving held l) = do
+  note (released by-caller (l .cell) (l .serial))
+  gives (reply w (replied (w .head) 0 answer.Done, setCell (w .table) (l .cell) 0 0))
+steps w (acquire-preserving held c) = seen-as (reply w) (acquireOf 1 (w .head) (w .table) c)
+steps w (environment script place held) =
+    seen-as (λ m. play (played (w .head) (runOf (m .0) 0 1 0) answer.Done, m .1))
+    (boundaryOf (acting w (environment script place held)) (flowOf (w .head .next) place 0) (w .table) (w .health))
+steps w (try-lock script place held c) = do
+  note attempt-begun
+  seen-as (λ m. play (played (w .head) (runOf (m .0 .flow) 1 (m .0 .boundaries) 0) (answerOf (outcomeOf c (m .0 .answer))), m .1))
+      (lockOf (acting w (try-lock script place held c)) (flowOf (w .head .next) place 0) (w .table) (w .health) c)
+steps w (transactional registry script place held binding bucket) =
+    seen-as (λ m. play (played (w .head) (m .0 .run) (answerOf (m .0 .outcome)), m .1))
+    (attemptOf (acting w (transactional registry script place held binding bucket)) (w .head .buckets) registry binding bucket (starting (w .head) place) (w .table) (w .health))
+steps w (acquire-bucket registry script place held binding bucket) =
+    seen-as (λ m. play (played (w .head) (m .0 .run) (answerOf (settled (m .0 .outcome))), m .1))
+    (retryOf attemptLimit 0 (acting w (acquire-bucket registry script place held binding bucket)) (w .head .buckets) registry binding bucket (starting (w .head) place) (w .table) (w .health))
+steps w (release-all script place leases) =
+    seen-as (λ m. play (played (w .head) (m .0) answer.Done, m .1))
+    (giveBackOf (countIn leases) (acting w (release-all script place leases)) (leasesOf leases) (starting (w .head) place) (w .table) (w .health))
+steps w (acquire-locks registry script place held keys grants) =
+    seen-as (λ m. grant (played (w .head) (m .0 .run) (m .0 .answer), m .1))
+    (locksOf (countIn keys) 0 (acting w (acquire-locks registry script place held keys grants)) (w .head .buckets) registry keys [] (starting (w .head) place) (w .table) (w .health) grants)
+steps w (crew counts cells turns) =
+    seen-as (λ v. (worldOf (spentTo (w .head) (v .next)) (v .table) (w .health), says answer.Done (countsOf 0 0 0 0) []))
+    (turnsOf (w .head .headers) (w .head .buckets) (w .health) counts cells (crewAt (w .head .next) (w .table) (replicate 16 0) (replicate 256 0) 0 0) turns)
+
+-- what holds of the call as it was and of its steps
+module _ (P : Made (World × Says) → Type 0) (w : World) where
+  abbrev By : {A : Type 0} → (A → World × Says) → Made A → Type 0
+  By f m = P (m >>= λ a. gives (f a))
+
+  pub performed : (k : Call) → ((r : Refusal) → P (unchanged w k r)) → (checks w k ≡ Fine → P (steps w k)) → P (perform w k)
+  unfolding perform tryAcquireOf dropLeaseOf readPermissionOf competingAcquireOf releaseThenHandoffOf foreignReleaseOf acquirePreservingOf dropPreservingOf
+      environmentOf tryLockOf transactionalOf acquireBucketOf releaseAllOf acquireLocksOf crewOf
+  performed (try-acquire c) x y = judged (By (reply w)) (checks w (try-acquire c)) x (λ fine. rw append-nil (y fine))
+  performed (drop-lease l) x y = judged (By (reply w)) (checks w (drop-lease l)) x y
+  performed (read-permission l) x y = judged (By (read w)) (checks w (read-permission l)) x y
+  performed (competing-acquire l) x y = judged (By (reply w)) (checks w (competing-acquire l)) x (λ fine. rw append-nil (y fine))
+  performed (release-then-handoff l) x y = judged (By (reply w)) (checks w (release-then-handoff l)) x (λ fine. rw append-nil (y fine))
+  performed (foreign-release held l) x y = judged (By (reply w)) (checks w (foreign-release held l)) x (λ fine. rw append-nil (y fine))
+  performed (drop-preserving held l) x y = judged (By (reply w)) (checks w (drop-preserving held l)) x y
+  performed (acquire-preserving held c) x y = judged (By (reply w)) (checks w (acquire-preserving held c)) x (λ fine. rw append-nil (y fine))
+  performed (environment script place held) x y = judged (By play) (checks w (environment script place held)) x (λ fine. simp append-nil (y fine))
+  performed (try-lock script place held c) x y = judged (By play) (checks w (try-lock script place held c)) x (λ fine. rw (append-nil, append-nil) (y fine))
+  performed (transactional registry script place held binding bucket) x y =
+      judged (By play) (checks w (transactional registry script place held binding bucket)) x (λ fine. simp append-nil (y fine))
+  performed (acquire-bucket registry script place held binding bucket) x y =
+      judged (By play) (checks w (acquire-bucket registry script place held binding bucket)) x (λ fine. simp append-nil (y fine))
+  performed (release-all script place leases) x y = judged (By play) (checks w (release-all script place leases)) x (λ fine. simp append-nil (y fine))
+  performed (acquire-locks registry script place held keys grants) x y =
+      judged (By grant) (checks w (acquire-locks registry script place held keys grants)) x (λ fine. simp append-nil (y fine))
+  performed (crew counts cells turns) x y = judged (By (crewed w)) (checks w (crew counts cells turns)) x (λ fine. simp append-nil (y fine))
