@@ -32,39 +32,8 @@ use Rattle.history.specs.Tests.{differ, In, in-take}
 use Rattle.history.specs.Events.{Good, lives}
 use Rattle.history.specs.Logs.{Kept, nothing, event, kept-good, kept-live, weaken, chain, ended}
 use Rattle.history.specs.Steps.{Gains, followed, With, Gained, gained, was-busy, was-damaged, was-spent, Won, won, none-yet, no-more, boundary-kept, take-kept, lock-kept, attempt-kept, retry-kept}
+use Rattle.history.specs.Judged.{Clear, clear-back, judged}
 use Rattle.history.specs.Many.{Held, give-back-kept, locks-kept}
-
--- ---- checks that found nothing
-
-abbrev pub Clear : List Rule → Type 0
-Clear [] = Unit {0}
-Clear (r ∷ rs) = (r .applies ≡ false) × Clear rs
-
-pub clear : (rs : List Rule) → first rs ≡ Fine → Clear rs
-unfolding first
-clear [] e = tt
-clear (r ∷ rs) e = go (r .applies) refl e (clear rs)
-  where
-    go : (b : Bool) → r .applies ≡ b → (if b then Fault (refusalOf (r .number) (r .carries)) else first rs) ≡ Fine → (first rs ≡ Fine → Clear rs) → Clear (r ∷ rs)
-    go true a e k = let z : _≡_ {A = ℕ} 0 1 = cc in absurd (omega arith)
-    go false a e k = (a, k e)
-
-pub clear-front : (xs ys : List Rule) → Clear (xs ++ ys) → Clear xs
-clear-front [] ys c = tt
-clear-front (x ∷ xs) ys c = (c .0, clear-front xs ys (c .1))
-
-pub clear-back : (xs ys : List Rule) → Clear (xs ++ ys) → Clear ys
-clear-back [] ys c = c
-clear-back (x ∷ xs) ys c = clear-back xs ys (c .1)
-
--- a call that is refused, or whose checks found nothing
-pub judged : {A : Type 0} (P : A → Type 0) (rules : List Rule) {refused : Refusal → A} {steps : A}
-    → ((r : Refusal) → P (refused r)) → (Clear rules → P steps) → P (judge (first rules) refused steps)
-judged P rules {refused} {steps} r s = go (first rules) refl
-  where
-    go : (k : Check) → first rules ≡ k → P (judge k refused steps)
-    go Fine e = s (clear rules e)
-    go (Fault x) e = r x
 
 -- ---- the leases that `release_all` is given
 

@@ -27,7 +27,7 @@ use Rattle.history.specs.Tests.{differ, In, in-first, if-cases}
 use Rattle.history.specs.Events.{Good, lives}
 use Rattle.history.specs.Logs.{Kept, nothing, event, kept-good, kept-live, weaken, ended}
 use Rattle.history.specs.Steps.{worldAt, Leads, Gains, followed, With, Gained, gained, was-busy, was-damaged, was-spent, lock-kept}
-use Rattle.history.specs.Calls.{Clear, clear-front, judged}
+use Rattle.history.specs.Judged.{Clear, clear-front, judged}
 
 -- ---- the places of the lists
 
@@ -84,7 +84,7 @@ pub record Limits (h : Head) (counts cells : List ℕ) : Type 0 where
   pub small : total counts ≤ 256
   pub inside : (m j : ℕ) → j < countOf counts m → getD cells (startOf counts m + j) 0 < cellsOf h
 
-limits : (h : Head) (t g counts cells turns : List ℕ) → Clear (crewRules h t g counts cells turns) → Limits h counts cells
+pub limits : (h : Head) (t g counts cells turns : List ℕ) → Clear (crewRules h t g counts cells turns) → Limits h counts cells
 unfolding crewRules
 limits h t g counts cells turns c =
     let a = neither (not (within 1 16 (length counts)) || not (allWithin 64 counts) || ltb 256 (total counts) || not (eqb (length cells) (total counts))) (ltb 65536 (length turns)) (c .1 .1 .0) in

@@ -2,12 +2,13 @@
 use Prim.Native.Nat.{ℕ}
 use mathlib.Core.Path.{_≡_, refl}
 use mathlib.Core.Bool.{Bool, true, false}
-use mathlib.Core.List.{List, [], append-nil}
+use mathlib.Core.List.{List, [], _∷_, _++_, append-nil}
+use native.Mathlib.Omega.{arith}
 use lib.ListN.{replicate}
 use Rattle.model.specs.Choice.{if_then_else_}
 use Rattle.model.specs.Log.{Made, by-caller, attempt-begun, released, gives, note, _>>=_, _>>_}
 use Rattle.model.specs.Arena.{spentTo, setCell, leasesOf}
-use Rattle.model.specs.Refusals.{first, judge}
+use Rattle.model.specs.Refusals.{Rule, refusalOf, first, judge}
 use Rattle.model.specs.Checks.{countIn, cellRules, leaseRules, heldCellRules, heldLeaseRules, scriptRules, lockRules, bucketRules, releaseRules, locksRules}
 use Rattle.model.specs.Foreign.{Setting, flowOf, boundaryOf}
 use Rattle.model.specs.Lock.{lockOf, outcomeOf, answerOf, runOf, attemptOf, attemptLimit, retryOf, settled, giveBackOf, locksOf}
@@ -24,11 +25,39 @@ use Rattle.history.specs.World.{World, worldOf}
 use Rattle.history.specs.Items.{Call, Says, says, try-acquire, drop-lease, read-permission, competing-acquire, release-then-handoff, foreign-release, drop-preserving, acquire-preserving, environment, try-lock, transactional, acquire-bucket, release-all, acquire-locks, crew, perform}
 use Rattle.history.specs.Statements.{buffer, script-of, held-of}
 
--- a call makes its steps only if no check applies
-judged : {A : Type 0} (P : A → Type 0) (c : Check) {no : Refusal → A} {steps : A}
+-- ---- checks that found nothing
+
+abbrev pub Clear : List Rule → Type 0
+Clear [] = Unit {0}
+Clear (r ∷ rs) = (r .applies ≡ false) × Clear rs
+
+pub clear : (rs : List Rule) → first rs ≡ Fine → Clear rs
+unfolding first
+clear [] e = tt
+clear (r ∷ rs) e = go (r .applies) refl e (clear rs)
+  where
+    go : (b : Bool) → r .applies ≡ b → (if b then Fault (refusalOf (r .number) (r .carries)) else first rs) ≡ Fine → (first rs ≡ Fine → Clear rs) → Clear (r ∷ rs)
+    go true a e k = let z : _≡_ {A = ℕ} 0 1 = cc in absurd (omega arith)
+    go false a e k = (a, k e)
+
+pub clear-front : (xs ys : List Rule) → Clear (xs ++ ys) → Clear xs
+clear-front [] ys c = tt
+clear-front (x ∷ xs) ys c = (c .0, clear-front xs ys (c .1))
+
+pub clear-back : (xs ys : List Rule) → Clear (xs ++ ys) → Clear ys
+clear-back [] ys c = c
+clear-back (x ∷ xs) ys c = clear-back xs ys (c .1)
+
+-- a call that is refused, or that makes its steps
+either : {A : Type 0} (P : A → Type 0) (c : Check) {no : Refusal → A} {steps : A}
     → ((r : Refusal) → P (no r)) → (c ≡ Fine → P steps) → P (judge c no steps)
-judged P Fine p q = q refl
-judged P (Fault r) p q = p r
+either P Fine p q = q refl
+either P (Fault r) p q = p r
+
+-- and then its checks found nothing
+pub judged : {A : Type 0} (P : A → Type 0) (rules : List Rule) {refused : Refusal → A} {steps : A}
+    → ((r : Refusal) → P (refused r)) → (Clear rules → P steps) → P (judge (first rules) refused steps)
+judged P rules r s = either P (first rules) r (λ e. s (clear rules e))
 
 -- ---- the parts of a call
 
@@ -128,21 +157,21 @@ module _ (P : Made (World × Says) → Type 0) (w : World) where
   pub performed : (k : Call) → ((r : Refusal) → P (unchanged w k r)) → (checks w k ≡ Fine → P (steps w k)) → P (perform w k)
   unfolding perform tryAcquireOf dropLeaseOf readPermissionOf competingAcquireOf releaseThenHandoffOf foreignReleaseOf acquirePreservingOf dropPreservingOf
       environmentOf tryLockOf transactionalOf acquireBucketOf releaseAllOf acquireLocksOf crewOf
-  performed (try-acquire c) x y = judged (By (reply w)) (checks w (try-acquire c)) x (λ fine. rw append-nil (y fine))
-  performed (drop-lease l) x y = judged (By (reply w)) (checks w (drop-lease l)) x y
-  performed (read-permission l) x y = judged (By (read w)) (checks w (read-permission l)) x y
-  performed (competing-acquire l) x y = judged (By (reply w)) (checks w (competing-acquire l)) x (λ fine. rw append-nil (y fine))
-  performed (release-then-handoff l) x y = judged (By (reply w)) (checks w (release-then-handoff l)) x (λ fine. rw append-nil (y fine))
-  performed (foreign-release held l) x y = judged (By (reply w)) (checks w (foreign-release held l)) x (λ fine. rw append-nil (y fine))
-  performed (drop-preserving held l) x y = judged (By (reply w)) (checks w (drop-preserving held l)) x y
-  performed (acquire-preserving held c) x y = judged (By (reply w)) (checks w (acquire-preserving held c)) x (λ fine. rw append-nil (y fine))
-  performed (environment script place held) x y = judged (By play) (checks w (environment script place held)) x (λ fine. simp append-nil (y fine))
-  performed (try-lock script place held c) x y = judged (By play) (checks w (try-lock script place held c)) x (λ fine. rw (append-nil, append-nil) (y fine))
+  performed (try-acquire c) x y = either (By (reply w)) (checks w (try-acquire c)) x (λ fine. rw append-nil (y fine))
+  performed (drop-lease l) x y = either (By (reply w)) (checks w (drop-lease l)) x y
+  performed (read-permission l) x y = either (By (read w)) (checks w (read-permission l)) x y
+  performed (competing-acquire l) x y = either (By (reply w)) (checks w (competing-acquire l)) x (λ fine. rw append-nil (y fine))
+  performed (release-then-handoff l) x y = either (By (reply w)) (checks w (release-then-handoff l)) x (λ fine. rw append-nil (y fine))
+  performed (foreign-release held l) x y = either (By (reply w)) (checks w (foreign-release held l)) x (λ fine. rw append-nil (y fine))
+  performed (drop-preserving held l) x y = either (By (reply w)) (checks w (drop-preserving held l)) x y
+  performed (acquire-preserving held c) x y = either (By (reply w)) (checks w (acquire-preserving held c)) x (λ fine. rw append-nil (y fine))
+  performed (environment script place held) x y = either (By play) (checks w (environment script place held)) x (λ fine. simp append-nil (y fine))
+  performed (try-lock script place held c) x y = either (By play) (checks w (try-lock script place held c)) x (λ fine. rw (append-nil, append-nil) (y fine))
   performed (transactional registry script place held binding bucket) x y =
-      judged (By play) (checks w (transactional registry script place held binding bucket)) x (λ fine. simp append-nil (y fine))
+      either (By play) (checks w (transactional registry script place held binding bucket)) x (λ fine. simp append-nil (y fine))
   performed (acquire-bucket registry script place held binding bucket) x y =
-      judged (By play) (checks w (acquire-bucket registry script place held binding bucket)) x (λ fine. simp append-nil (y fine))
-  performed (release-all script place leases) x y = judged (By play) (checks w (release-all script place leases)) x (λ fine. simp append-nil (y fine))
+      either (By play) (checks w (acquire-bucket registry script place held binding bucket)) x (λ fine. simp append-nil (y fine))
+  performed (release-all script place leases) x y = either (By play) (checks w (release-all script place leases)) x (λ fine. simp append-nil (y fine))
   performed (acquire-locks registry script place held keys grants) x y =
-      judged (By grant) (checks w (acquire-locks registry script place held keys grants)) x (λ fine. simp append-nil (y fine))
-  performed (crew counts cells turns) x y = judged (By (crewed w)) (checks w (crew counts cells turns)) x (λ fine. simp append-nil (y fine))
+      either (By grant) (checks w (acquire-locks registry script place held keys grants)) x (λ fine. simp append-nil (y fine))
+  performed (crew counts cells turns) x y = either (By (crewed w)) (checks w (crew counts cells turns)) x (λ fine. simp append-nil (y fine))

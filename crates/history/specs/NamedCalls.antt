@@ -5,13 +5,14 @@ use mathlib.Core.List.{List, [], _∷_}
 use mathlib.Core.Bool.{true}
 use native.Mathlib.Omega.{arith}
 use lib.ListN.{length}
+use lib.Seq.{take-length}
 use borrow.Author.Tests.{eq-eqb}
 use Rattle.laws.specs.Pick.{if-both}
 use Rattle.model.specs.Log.{attempt-begun}
 use Rattle.model.specs.Arena.{leaseOf, leasesOf, sameLease, isIn, setCell}
 use Rattle.model.specs.Checks.{countIn}
 use Rattle.model.specs.Foreign.{flowOf}
-use Rattle.model.specs.Lock.{leaseAt, attemptLimit}
+use Rattle.model.specs.Lock.{noLease, leaseAt, attemptLimit}
 use Rattle.model.specs.Calls.{starting, acquireOf}
 use Rattle.model.specs.declared.Check.the-variants.{Fine}
 use Rattle.model.specs.declared.Head.{Head}
@@ -19,28 +20,16 @@ use Rattle.model.specs.declared.Lease.{Lease}
 use Rattle.history.specs.World.{World}
 use Rattle.history.specs.Items.{Call, try-acquire, drop-lease, read-permission, competing-acquire, release-then-handoff, foreign-release, drop-preserving, acquire-preserving, environment, try-lock, transactional, acquire-bucket, release-all, acquire-locks, crew}
 use Rattle.history.specs.Statements.{log-of, script-of, given-up, Named}
+use Rattle.history.specs.Tests.{in-take}
+use Rattle.history.specs.Calls.{words-leases}
 use Rattle.history.specs.Judged.{checks, acting, steps, performed}
 use Rattle.history.specs.Naming.{Leases, Told, any, none, more, andthen, told, handed, and-took, at-script, at-caller, boundary-told, take-told, lock-told, attempt-told, retry-told, back-told, locks-told}
 use Rattle.history.specs.NamingCrew.{crew-told}
 
 -- ---- leases in a list
 
-same-self : (l : Lease) → sameLease l l ≡ true
-unfolding sameLease
-same-self l = rw (eq-eqb (l .cell) (l .cell) refl, eq-eqb (l .serial) (l .serial) refl)
-
 in-at : (ls : List Lease) (i : ℕ) → i < length ls → isIn (leaseAt ls i) ls ≡ true
-unfolding isIn
-in-at [] i h = absurd (omega arith)
-in-at (l ∷ ls) zero h = rw (same-self l)
-in-at (l ∷ ls) (suc i) h = if-both (λ b. b ≡ true) (sameLease l (leaseAt ls i)) refl (in-at ls i (omega arith))
-
--- as many as there are pairs of words
-leases-are : (ws : List ℕ) → length (leasesOf ws) ≡ length ws / 2
-unfolding leasesOf
-leases-are [] = refl
-leases-are (c ∷ []) = refl
-leases-are (c ∷ s ∷ ws) = omega (arith, leases-are ws)
+in-at ls i h = rw (take-length ls) at (in-take ls (length ls) i noLease h h)
 
 -- ---- the calls
 
@@ -76,7 +65,7 @@ steps-told w (acquire-bucket registry script place held binding bucket) _ =
     told (retry-told (acting w k) (w .head .buckets) registry binding bucket attemptLimit 0 (starting (w .head) place) (w .table) (w .health) (Mine k))
 steps-told w (release-all script place leases) _ =
     back-told (countIn leases) (acting w (release-all script place leases)) (leasesOf leases) (starting (w .head) place) (w .table) (w .health) _
-    (λ i h. in-at (leasesOf leases) i (omega (arith, leases-are leases)))
+    (λ i h. in-at (leasesOf leases) i (omega (arith, words-leases leases)))
 steps-told w (acquire-locks registry script place held keys grants) _ =
     let k = acquire-locks registry script place held keys grants in
     locks-told (acting w k) (w .head .buckets) registry keys grants (countIn keys) 0 [] (starting (w .head) place) (w .table) (w .health) (Mine k)

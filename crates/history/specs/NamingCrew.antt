@@ -28,16 +28,9 @@ use Rattle.model.specs.declared.Take.the-variants as taking
 use Rattle.history.specs.World.{World}
 use Rattle.history.specs.Items.{crew}
 use Rattle.history.specs.Tests.{if-cases}
-use Rattle.history.specs.Judged.{checks, steps}
+use Rattle.history.specs.Judged.{clear, checks, steps}
+use Rattle.history.specs.Crew.{start-fits, limits, zeros}
 use Rattle.history.specs.Naming.{Leases, Sub, Told, any, none, more, andthen, told, Taken, lock-told}
-
--- a member's list lies in the run of cells
-list-inside : (counts : List ℕ) (m : ℕ) → startOf counts m + countOf counts m ≤ total counts
-unfolding startOf total
-list-inside [] zero = omega arith
-list-inside [] (suc m) = omega arith
-list-inside (n ∷ ns) zero = omega arith
-list-inside (n ∷ ns) (suc m) = omega (arith, list-inside ns m)
 
 -- a list after one place was written, perhaps past its end
 set-at : (l : List ℕ) (i j v : ℕ) → (getD (set l i v) j 0 ≡ getD l j 0) ⊎ ((j ≡ i) × (getD (set l i v) j 0 ≡ v))
@@ -88,7 +81,7 @@ module _ (counts cells : List ℕ) where
     where
       go : (q j : ℕ) → Holds (set made m (n + 1)) q j → Dec (startOf counts q + j ≡ startOf counts m + n)
           → A (getD cells (startOf counts q + j) 0) (getD (set serials (startOf counts m + n) s) (startOf counts q + j) 0)
-      go q j h (yes e) = rw (e, getD-set-same serials (startOf counts m + n) s 0 (omega (arith, list-inside counts m, k .room))) a
+      go q j h (yes e) = rw (e, getD-set-same serials (startOf counts m + n) s 0 (omega (arith, start-fits counts m, k .room))) a
       go q j h (no e) = rw (getD-set-other serials (startOf counts m + n) (startOf counts q + j) s 0 e) (k .names q j (held-before made m n q j is h (inl e)))
 
   -- a release: one place less
@@ -139,34 +132,9 @@ module _ (counts cells : List ℕ) where
     turns-told [] w A k = none k
     turns-told (m ∷ ms) w A k = andthen (turn-told w m A k) (λ B i h. turns-told ms (turnOf headers buckets g counts cells w m .seen) B h)
 
--- ---- the checks let no more than 256 cells through
-
-passed : (b : Bool) (x : Refusal) (c : Check) → (if b then Fault x else c) ≡ Fine → (b ≡ false) × (c ≡ Fine)
-passed true x c e = (let z : Fault x ≡ Fine = e in cc, let z : Fault x ≡ Fine = e in cc)
-passed false x c e = (refl, e)
-
-neither : (a b : Bool) → (a || b) ≡ false → (a ≡ false) × (b ≡ false)
-neither true b e = (e, let z : true ≡ false = e in cc)
-neither false b e = (refl, e)
-
-few-cells : (h : Head) (t g counts cells turns : List ℕ) → first (crewRules h t g counts cells turns) ≡ Fine → total counts ≤ 256
-unfolding first crewRules
-few-cells h t g counts cells turns e =
-    let a = passed (badShape h t .applies) _ _ e .1 in
-    let b = passed (badHealth h g .applies) _ _ a .1 in
-    let limits = not (within 1 16 (length counts)) || not (allWithin 64 counts) in
-    let c = neither (limits || ltb 256 (total counts) || not (eqb (length cells) (total counts))) _ (passed (badLimits counts cells turns .applies) _ _ b .0) .0 in
-    let d = neither (limits || ltb 256 (total counts)) _ c .0 in
-    ltb-false 256 (total counts) (neither limits (ltb 256 (total counts)) d .1)
-
-none-made : (n m : ℕ) → _≡_ {A = ℕ} (getD (replicate n 0) m 0) 0
-none-made zero m = refl
-none-made (suc n) zero = refl
-none-made (suc n) (suc m) = none-made n m
-
 -- from nothing noted
 pub crew-told : (w : World) (counts cells turns : List ℕ) (A : Leases) → checks w (crew counts cells turns) ≡ Fine → Told [] A (steps w (crew counts cells turns) .log) any
 crew-told w counts cells turns A fine =
-    told (turns-told counts cells (w .head .headers) (w .head .buckets) (w .health) (few-cells (w .head) (w .table) (w .health) counts cells turns fine)
+    told (turns-told counts cells (w .head .headers) (w .head .buckets) (w .health) (limits (w .head) (w .table) (w .health) counts cells turns (clear (crewRules (w .head) (w .table) (w .health) counts cells turns) fine) .small)
     turns (crewAt (w .head .next) (w .table) (replicate 16 0) (replicate 256 0) 0 0) A
-    (record { room = refl; names = λ q j h. absurd (omega (arith, none-made 16 q)) }))
+    (record { room = refl; names = λ q j h. absurd (omega (arith, zeros 16 q)) }))

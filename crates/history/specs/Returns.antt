@@ -28,7 +28,8 @@ use Rattle.history.specs.Tests.{In, alive, state-held}
 use Rattle.history.specs.Events.{Good, good-step, released-spent}
 use Rattle.history.specs.Logs.{spent-now}
 use Rattle.history.specs.Steps.{With}
-use Rattle.history.specs.Calls.{clear-back, judged, words-leases, try-acquire-kept, acquire-preserving-kept, drop-kept, read-kept, competing-kept, handoff-kept, drop-preserving-kept, foreign-release-kept, environment-kept, try-lock-kept, transactional-kept, acquire-bucket-kept, release-all-kept, acquire-locks-kept}
+use Rattle.history.specs.Judged.{clear-back, judged}
+use Rattle.history.specs.Calls.{words-leases, try-acquire-kept, acquire-preserving-kept, drop-kept, read-kept, competing-kept, handoff-kept, drop-preserving-kept, foreign-release-kept, environment-kept, try-lock-kept, transactional-kept, acquire-bucket-kept, release-all-kept, acquire-locks-kept}
 use Rattle.history.specs.Owing.{Frees, freed-here, freed-later, Settles, none, more, join, Nobody, Given, boundary-silent, take-hands, lock-hands, attempt-hands, retry-hands, give-back-hands, locks-hands}
 
 -- ---- what is released is gone
