@@ -1,8 +1,8 @@
 -- Each call of document 01: refused, it changes nothing; else its log is lawful, leads to the world it leaves, and spares its held list.
 use Prim.Native.Nat.{ℕ, zero, suc, _+_, _*_, _≤_, _<_}
-use mathlib.Core.Path.{_≡_, refl, sym, _∙_, subst}
+use mathlib.Core.Path.{_≡_, sym, _∙_, subst}
 use mathlib.Core.List.{List, [], _∷_, _++_, append-nil}
-use mathlib.Core.Bool.{Bool, true, false, not}
+use mathlib.Core.Bool.{false, not}
 use native.Mathlib.Omega.{arith}
 use native.Mathlib.Decide.{decLt}
 use lib.ListN.{length, take}
@@ -11,29 +11,24 @@ use borrow.Author.Tests.{leb-false, not-false}
 use Rattle.model.specs.Choice.{if_then_else_}
 use Rattle.model.specs.Log.{Made, by-caller, attempt-begun, released}
 use Rattle.model.specs.Arena.{cellsOf, setCell, isLive, isIn, leasesOf}
-use Rattle.model.specs.Refusals.{Rule, refusalOf, first, judge}
-use Rattle.model.specs.Checks.{countIn, badShape, badHeld, badCell, notReleasable, cellRules, leaseRules, heldCellRules, heldLeaseRules, scriptRules, lockRules, bucketRules, releaseRules, locksRules}
+use Rattle.model.specs.Checks.{countIn, badShape, badHeld, badCell, notReleasable, cellRules, leaseRules, heldCellRules, heldLeaseRules, scriptRules, lockRules, releaseRules}
 use Rattle.model.specs.Foreign.{flowOf}
 use Rattle.model.specs.Lock.{leaseAt, noLease, outcomeOf, answerOf, settled, attemptLimit}
-use Rattle.model.specs.Calls.{starting, acquireOf, tryAcquireOf, dropLeaseOf, readPermissionOf, competingAcquireOf, releaseThenHandoffOf, foreignReleaseOf, acquirePreservingOf, dropPreservingOf, environmentOf, tryLockOf, transactionalOf, acquireBucketOf, releaseAllOf, acquireLocksOf}
-use Rattle.model.specs.declared.Answer.{Answer}
-use Rattle.model.specs.declared.Check.{Check}
-use Rattle.model.specs.declared.Check.the-variants.{Fine, Fault}
+use Rattle.model.specs.Calls.{starting, acquireOf}
 use Rattle.model.specs.declared.Head.{Head}
 use Rattle.model.specs.declared.Lease.{Lease}
 use Rattle.model.specs.declared.Outcome.{Outcome}
-use Rattle.model.specs.declared.Played.{Played}
-use Rattle.model.specs.declared.Refusal.{Refusal}
-use Rattle.model.specs.declared.Reply.{Reply}
 use Rattle.model.specs.declared.Take.{Take}
-use Rattle.history.specs.World.{World, worldOf, Live}
-use Rattle.history.specs.Statements.{Hands-over}
+use Rattle.history.specs.World.{World, worldOf, cells, Live}
+use Rattle.history.specs.Items.{Call, Says, try-acquire, drop-lease, read-permission, competing-acquire, release-then-handoff, foreign-release, drop-preserving, acquire-preserving, environment, try-lock, transactional, acquire-bucket, release-all, acquire-locks, crew, perform}
+use Rattle.history.specs.Statements.{Hands-over, held-of}
 use Rattle.history.specs.Tests.{differ, In, in-take}
 use Rattle.history.specs.Events.{Good, lives}
 use Rattle.history.specs.Logs.{Kept, nothing, event, kept-good, kept-live, weaken, chain, ended}
-use Rattle.history.specs.Steps.{Gains, followed, With, Gained, gained, was-busy, was-damaged, was-spent, Won, won, none-yet, no-more, boundary-kept, take-kept, lock-kept, attempt-kept, retry-kept}
-use Rattle.history.specs.Judged.{Clear, clear-back, judged}
+use Rattle.history.specs.Steps.{Gains, followed, Gained, gained, was-busy, was-damaged, was-spent, Won, won, none-yet, no-more, boundary-kept, take-kept, lock-kept, attempt-kept, retry-kept}
+use Rattle.history.specs.Judged.{Clear, clear-back, rules, reply, seen-as, steps, performed}
 use Rattle.history.specs.Many.{Held, give-back-kept, locks-kept}
+use Rattle.history.specs.Crew.{crew-kept}
 
 -- ---- the leases that `release_all` is given
 
@@ -92,173 +87,82 @@ live-settled {v = v} (won k x i) l e = subst (Live v) e x
 live-settled none-yet l e = absurd e
 live-settled (no-more r) l e = absurd e
 
--- ---- each call: `Gains`, where what is gained is that every lease handed over is live
+-- ---- each call
 
-abbrev pub of-reply : List ℕ → Reply × List ℕ → World
-of-reply g a = worldOf (a .0 .head) (a .1) g
+-- its log is lawful, leads to the world it leaves and spares what is P, and every lease that it hands over is live then
+abbrev pub Said : World → (Lease → Type 0) → Made (World × Says) → Type 0
+Said = Gains (λ a. a .0) (λ a. (l : Lease) → Hands-over (a .1 .answer) (a .1 .grants) l → Live (a .0) l)
 
-abbrev pub of-played : With Played → World
-of-played a = worldOf (a .0 .head) (a .1 .0) (a .1 .1)
-
-abbrev pub of-granted : Played × (List ℕ × (List ℕ × List ℕ)) → World
-of-granted a = worldOf (a .0 .head) (a .1 .0) (a .1 .1 .0)
-
-abbrev pub LiveAt : World → Answer → List ℕ → Type 0
-LiveAt v a grants = (l : Lease) → Hands-over a grants l → Live v l
-
-abbrev pub Replies : List ℕ → World → (Lease → Type 0) → Made (Reply × List ℕ) → Type 0
-Replies g = Gains (of-reply g) (λ a. LiveAt (of-reply g a) (a .0 .answer) [])
-
-abbrev pub Plays : World → (Lease → Type 0) → Made (With Played) → Type 0
-Plays = Gains of-played (λ a. LiveAt (of-played a) (a .0 .answer) [])
-
-abbrev pub Grants : World → (Lease → Type 0) → Made (Played × (List ℕ × (List ℕ × List ℕ))) → Type 0
-Grants = Gains of-granted (λ a. LiveAt (of-granted a) (a .0 .answer) (a .1 .1 .1))
-
-module _ (h : Head) (t g : List ℕ) (good : Good (worldOf h t g)) where
-  abbrev world : World
-  world = worldOf h t g
-
-  cell-inside : (c : ℕ) → Clear (badCell h c ∷ []) → c < cellsOf h
-  cell-inside c k = leb-false (cellsOf h) c (k .0)
-
-  acquire-kept : (P : Lease → Type 0) (n c : ℕ) → c < cellsOf h → Replies g world P (acquireOf n h t c)
+module _ (w : World) (good : Good w) where
+  acquire-kept : (P : Lease → Type 0) (n c : ℕ) → c < cells w → Said w P (seen-as (reply w) (acquireOf n (w .head) (w .table) c))
   unfolding acquireOf
   acquire-kept P n c l =
-      let k = take-kept h [] P (h .next) t g c good l in
+      let k = take-kept (w .head) [] P (w .head .next) (w .table) (w .health) c good l in
       record { kept = chain good (event attempt-begun tt (λ l i v x. x)) (ended (k .kept)); gain = live-gained (k .gain) }
 
-  pub try-acquire-kept : (P : Lease → Type 0) (c : ℕ) → Replies g world P (tryAcquireOf h t c)
-  unfolding tryAcquireOf cellRules
-  try-acquire-kept P c = judged (Replies g world P) (cellRules h t c) (λ r. record { kept = nothing; gain = λ l x. absurd x }) (λ k. acquire-kept P 1 c (cell-inside c (k .1)))
-
-  pub acquire-preserving-kept : (P : Lease → Type 0) (held : List ℕ) (c : ℕ) → Replies g world P (acquirePreservingOf h t held c)
-  unfolding acquirePreservingOf heldCellRules
-  acquire-preserving-kept P held c =
-      judged (Replies g world P) (heldCellRules h t held c) (λ r. record { kept = nothing; gain = λ l x. absurd x })
-      (λ k. acquire-kept P 1 c (cell-inside c (clear-back (badShape h t ∷ badHeld h t held) _ k)))
-
-  is-live : (l : Lease) → not (isLive (h .next) (cellsOf h) t l) ≡ false → Live world l
-  is-live l e = not-false (isLive (h .next) (cellsOf h) t l) e
-
   -- a release that spares what is not the lease
-  release-kept : (P : Lease → Type 0) (l : Lease) → Live world l → ((k : Lease) → P k → k ≡ l → ⊥)
-      → Kept world P (worldOf h (setCell t (l .cell) 0 0) g) (released by-caller (l .cell) (l .serial) ∷ [])
+  release-kept : (P : Lease → Type 0) (l : Lease) → Live w l → ((k : Lease) → P k → k ≡ l → ⊥)
+      → Kept w P (worldOf (w .head) (setCell (w .table) (l .cell) 0 0) (w .health)) (released by-caller (l .cell) (l .serial) ∷ [])
   release-kept P l v n = event (released by-caller (l .cell) (l .serial)) v (λ k p _ x. n k p x)
 
-  pub drop-kept : (l : Lease) → Replies g world (In []) (dropLeaseOf h t l)
-  unfolding dropLeaseOf leaseRules isIn
-  drop-kept l =
-      judged (Replies g world (In [])) (leaseRules h t l) (λ r. record { kept = nothing; gain = λ l x. absurd x })
-      (λ k. record { kept = release-kept (In []) l (is-live l (k .1 .0)) (λ _ i _. differ i); gain = λ l x. absurd x })
+  is-live : (l : Lease) → not (isLive (w .head .next) (cells w) (w .table) l) ≡ false → Live w l
+  is-live l e = not-false (isLive (w .head .next) (cells w) (w .table) l) e
 
-  pub read-kept : (P : Lease → Type 0) (l : Lease)
-      → Gains (λ r. worldOf (r .head) t g) (λ r. LiveAt (worldOf (r .head) t g) (r .answer) []) world P (readPermissionOf h t l)
-  unfolding readPermissionOf
-  read-kept P l =
-      judged (Gains (λ r. worldOf (r .head) t g) (λ r. LiveAt (worldOf (r .head) t g) (r .answer) []) world P) (leaseRules h t l)
-      (λ r. record { kept = nothing; gain = λ l x. absurd x }) (λ k. record { kept = nothing; gain = λ l x. absurd x })
+  inside : (l : Lease) → not (isLive (w .head .next) (cells w) (w .table) l) ≡ false → l .cell < cells w
+  inside l e = lives w l (is-live l e) .in-range
 
-  pub competing-kept : (P : Lease → Type 0) (l : Lease) → Replies g world P (competingAcquireOf h t l)
-  unfolding competingAcquireOf leaseRules
-  competing-kept P l =
-      judged (Replies g world P) (leaseRules h t l) (λ r. record { kept = nothing; gain = λ l x. absurd x })
-      (λ k. acquire-kept P 1 (l .cell) (lives world l (is-live l (k .1 .0)) .in-range))
+-- a lease that may be released beside a held list
+apart-from : (held : List ℕ) (l : Lease) → isIn l (leasesOf held) ≡ false → (k : Lease) → In (leasesOf held) k → k ≡ l → ⊥
+apart-from held l n k i e = differ (sym n ∙ subst (In (leasesOf held)) e i)
 
--- calls that release and then acquire
-module _ (h : Head) (t g : List ℕ) (good : Good (worldOf h t g)) where
-  pub handoff-kept : (l : Lease) → Replies g (worldOf h t g) (In []) (releaseThenHandoffOf h t l)
-  unfolding releaseThenHandoffOf leaseRules isIn
-  handoff-kept l =
-      judged (Replies g (worldOf h t g) (In [])) (leaseRules h t l) (λ r. record { kept = nothing; gain = λ l x. absurd x })
-      (λ k.
-      let v = is-live h t g good l (k .1 .0) in
-      let a = release-kept h t g good (In []) l v (λ _ i _. differ i) in
-      followed good a (acquire-kept h (setCell t (l .cell) 0 0) g (kept-good good a) (In []) 1 (l .cell) (lives (worldOf h t g) l v .in-range)))
+steps-kept : (w : World) (k : Call) → Good w → Clear (rules w k) → Said w (In (held-of k)) (steps w k)
+unfolding cellRules leaseRules heldCellRules heldLeaseRules lockRules releaseRules isIn acquireOf
+steps-kept w (try-acquire c) g k = acquire-kept w g (In []) 1 c (leb-false (cells w) c (k .1 .0))
+steps-kept w (drop-lease l) g k = record { kept = release-kept w g (In []) l (is-live w g l (k .1 .0)) (λ _ i _. differ i); gain = λ l x. absurd x }
+steps-kept w (read-permission l) g k = record { kept = nothing; gain = λ l x. absurd x }
+steps-kept w (competing-acquire l) g k = acquire-kept w g (In []) 1 (l .cell) (inside w g l (k .1 .0))
+steps-kept w (release-then-handoff l) g k =
+    let a = release-kept w g (In []) l (is-live w g l (k .1 .0)) (λ _ i _. differ i) in
+    followed g a (acquire-kept (worldOf (w .head) (setCell (w .table) (l .cell) 0 0) (w .health)) (kept-good g a) (In []) 1 (l .cell) (inside w g l (k .1 .0)))
+steps-kept w (foreign-release held l) g k =
+    let c = clear-back (badShape (w .head) (w .table) ∷ badHeld (w .head) (w .table) held) _ k in
+    let m = acquireOf 1 (w .head) (w .table) (l .cell) .seen in
+    let v = worldOf (m .0 .head) (m .1) (w .health) in
+    let a = acquire-kept w g (λ _. Unit {0}) 1 (l .cell) (inside w g l (c .0)) .kept in
+    let g₁ = kept-good g a in
+    let b = release-kept v g₁ (In (leasesOf held)) l (kept-live g a l tt (is-live w g l (c .0))) (apart-from held l (c .1 .0)) in
+    followed g (weaken (λ _ _ _. tt) a)
+    (followed g₁ b (acquire-kept (worldOf (m .0 .head) (setCell (m .1) (l .cell) 0 0) (w .health)) (kept-good g₁ b) (In (leasesOf held)) 2 (l .cell) (inside w g l (c .0))))
+steps-kept w (drop-preserving held l) g k =
+    let c = clear-back (badShape (w .head) (w .table) ∷ badHeld (w .head) (w .table) held) _ k in
+    record { kept = release-kept w g (In (leasesOf held)) l (is-live w g l (c .0)) (apart-from held l (c .1 .0)); gain = λ l x. absurd x }
+steps-kept w (acquire-preserving held c) g k =
+    acquire-kept w g (In (leasesOf held)) 1 c (leb-false (cells w) c (clear-back (badShape (w .head) (w .table) ∷ badHeld (w .head) (w .table) held) _ k .0))
+steps-kept w (environment script place held) g k =
+    record { kept = boundary-kept (w .head) script (leasesOf held) (flowOf (w .head .next) place 0) (w .table) (w .health) g .kept; gain = λ l x. absurd x }
+steps-kept w (try-lock script place held c) g k =
+    let inside = clear-back (scriptRules (w .head) (w .table) (w .health) script place held) (badCell (w .head) c ∷ []) k .0 in
+    let m = lock-kept (w .head) script (leasesOf held) (flowOf (w .head .next) place 0) (w .table) (w .health) c g (leb-false (cells w) c inside) in
+    record { kept = chain g (event attempt-begun tt (λ l i v x. x)) (m .kept); gain = live-gained (m .gain) }
+steps-kept w (transactional registry script place held binding bucket) g k =
+    let m = attempt-kept (w .head) script (leasesOf held) registry binding bucket (starting (w .head) place) (w .table) (w .health) g in
+    record { kept = m .kept; gain = live-won (m .gain) }
+steps-kept w (acquire-bucket registry script place held binding bucket) g k =
+    let m = retry-kept (w .head) script attemptLimit 0 (leasesOf held) registry binding bucket (starting (w .head) place) (w .table) (w .health) g in
+    record { kept = m .kept; gain = live-settled (m .gain) }
+steps-kept w (release-all script place leases) g k =
+    let held = releasable (w .head) (w .table) (w .health) (countIn leases) (leasesOf leases) (omega (arith, words-leases leases)) (k .1 .1 .1 .1) in
+    let m = give-back-kept (w .head) script (countIn leases) [] (leasesOf leases) (starting (w .head) place) (w .table) (w .health) g held in
+    record { kept = weaken (λ l i v. absurd (differ i)) (m .kept); gain = λ l x. absurd x }
+steps-kept w (acquire-locks registry script place held keys grants) g k =
+    let m = locks-kept (w .head) script (countIn keys) 0 (leasesOf held) [] registry keys (starting (w .head) place) (w .table) (w .health) grants (w .head .next) g (omega arith)
+    (record {
+      are-held = record { enough = omega arith; all-live = λ i x. absurd (omega arith); distinct = λ i j x. absurd (omega arith) };
+      young = λ i x. absurd (omega arith);
+    }) in
+    record { kept = weaken (λ l i v. (i, lives w l v .high)) (m .kept); gain = m .gain }
+steps-kept w (crew counts lists turns) g k =
+    record { kept = crew-kept (w .head) (w .table) (w .health) counts lists turns g k; gain = λ l x. absurd x }
 
-  -- a lease that may be released beside a held list
-  apart-from : (held : List ℕ) (l : Lease) → isIn l (leasesOf held) ≡ false → (k : Lease) → In (leasesOf held) k → k ≡ l → ⊥
-  apart-from held l n k i e = differ (sym n ∙ subst (In (leasesOf held)) e i)
-
-  pub drop-preserving-kept : (held : List ℕ) (l : Lease) → Replies g (worldOf h t g) (In (leasesOf held)) (dropPreservingOf h t held l)
-  unfolding dropPreservingOf heldLeaseRules
-  drop-preserving-kept held l =
-      judged (Replies g (worldOf h t g) (In (leasesOf held))) (heldLeaseRules h t held l) (λ r. record { kept = nothing; gain = λ l x. absurd x })
-      (λ k.
-      let c = clear-back (badShape h t ∷ badHeld h t held) _ k in
-      record { kept = release-kept h t g good (In (leasesOf held)) l (is-live h t g good l (c .0)) (apart-from held l (c .1 .0)); gain = λ l x. absurd x })
-
-  pub foreign-release-kept : (held : List ℕ) (l : Lease) → Replies g (worldOf h t g) (In (leasesOf held)) (foreignReleaseOf h t held l)
-  unfolding foreignReleaseOf heldLeaseRules acquireOf
-  foreign-release-kept held l =
-      judged (Replies g (worldOf h t g) (In (leasesOf held))) (heldLeaseRules h t held l) (λ r. record { kept = nothing; gain = λ l x. absurd x })
-      (λ k.
-      let c = clear-back (badShape h t ∷ badHeld h t held) _ k in
-      let v = is-live h t g good l (c .0) in
-      let i = lives (worldOf h t g) l v .in-range in
-      let m = acquireOf 1 h t (l .cell) .seen in
-      let a = acquire-kept h t g good (λ _. Unit {0}) 1 (l .cell) i .kept in
-      let good₁ = kept-good good a in
-      let b = release-kept (m .0 .head) (m .1) g good₁ (In (leasesOf held)) l (kept-live good a l tt v) (apart-from held l (c .1 .0)) in
-      let good₂ = kept-good good₁ b in
-      followed good (weaken (λ _ _ _. tt) a)
-      (followed good₁ b (acquire-kept (m .0 .head) (setCell (m .1) (l .cell) 0 0) g good₂ (In (leasesOf held)) 2 (l .cell) i)))
-
--- calls with a script
-module _ (h : Head) (t g script : List ℕ) (place : ℕ) (good : Good (worldOf h t g)) where
-  abbrev Holding : List ℕ → Made (With Played) → Type 0
-  Holding held = Plays (worldOf h t g) (In (leasesOf held))
-
-  pub environment-kept : (held : List ℕ) → Holding held (environmentOf h t g script place held)
-  unfolding environmentOf
-  environment-kept held =
-      judged (Holding held) (scriptRules h t g script place held) (λ r. record { kept = nothing; gain = λ l x. absurd x })
-      (λ k. record { kept = ended (boundary-kept h script (leasesOf held) (flowOf (h .next) place 0) t g good .kept); gain = λ l x. absurd x })
-
-  pub try-lock-kept : (held : List ℕ) (c : ℕ) → Holding held (tryLockOf h t g script place held c)
-  unfolding tryLockOf lockRules
-  try-lock-kept held c =
-      judged (Holding held) (lockRules h t g script place held c) (λ r. record { kept = nothing; gain = λ l x. absurd x })
-      (λ k.
-      let m = lock-kept h script (leasesOf held) (flowOf (h .next) place 0) t g c good (leb-false (cellsOf h) c (clear-back (scriptRules h t g script place held) (badCell h c ∷ []) k .0)) in
-      record { kept = chain good (event attempt-begun tt (λ l i v x. x)) (ended (m .kept)); gain = live-gained (m .gain) })
-
-  pub transactional-kept : (registry held : List ℕ) (binding bucket : ℕ) → Holding held (transactionalOf h t g registry script place held binding bucket)
-  unfolding transactionalOf
-  transactional-kept registry held binding bucket =
-      judged (Holding held) (bucketRules h t g registry script place held binding) (λ r. record { kept = nothing; gain = λ l x. absurd x })
-      (λ k.
-      let m = attempt-kept h script (leasesOf held) registry binding bucket (starting h place) t g good in
-      record { kept = ended (m .kept); gain = live-won (m .gain) })
-
-  pub acquire-bucket-kept : (registry held : List ℕ) (binding bucket : ℕ) → Holding held (acquireBucketOf h t g registry script place held binding bucket)
-  unfolding acquireBucketOf
-  acquire-bucket-kept registry held binding bucket =
-      judged (Holding held) (bucketRules h t g registry script place held binding) (λ r. record { kept = nothing; gain = λ l x. absurd x })
-      (λ k.
-      let m = retry-kept h script attemptLimit 0 (leasesOf held) registry binding bucket (starting h place) t g good in
-      record { kept = ended (m .kept); gain = live-settled (m .gain) })
-
-  pub release-all-kept : (leases : List ℕ) → Plays (worldOf h t g) (In []) (releaseAllOf h t g script place leases)
-  unfolding releaseAllOf releaseRules isIn
-  release-all-kept leases =
-      judged (Plays (worldOf h t g) (In [])) (releaseRules h t g script place leases) (λ r. record { kept = nothing; gain = λ l x. absurd x })
-      (λ k.
-      let held = releasable h t g (countIn leases) (leasesOf leases) (omega (arith, words-leases leases)) (k .1 .1 .1 .1) in
-      record {
-        kept = ended (weaken (λ l i v. absurd (differ i)) (give-back-kept h script (countIn leases) [] (leasesOf leases) (starting h place) t g good held .kept));
-        gain = λ l x. absurd x;
-      })
-
-  pub acquire-locks-kept : (registry held keys grants : List ℕ)
-      → Grants (worldOf h t g) (In (leasesOf held)) (acquireLocksOf h t g registry script place held keys grants)
-  unfolding acquireLocksOf
-  acquire-locks-kept registry held keys grants =
-      judged (Grants (worldOf h t g) (In (leasesOf held))) (locksRules h t g registry script place held keys grants) (λ r. record { kept = nothing; gain = λ l x. absurd x })
-      (λ k.
-      let m = locks-kept h script (countIn keys) 0 (leasesOf held) [] registry keys (starting h place) t g grants (h .next) good (omega arith)
-      (record {
-        are-held = record { enough = omega arith; all-live = λ i x. absurd (omega arith); distinct = λ i j x. absurd (omega arith) };
-        young = λ i x. absurd (omega arith);
-      }) in
-      record { kept = ended (weaken (λ l i v. (i, lives (worldOf h t g) l v .high)) (m .kept)); gain = m .gain })
+pub call-kept : (w : World) (k : Call) → Good w → Said w (In (held-of k)) (perform w k)
+call-kept w k g = performed (Said w (In (held-of k))) w k (λ r. record { kept = nothing; gain = λ l x. absurd x }) (steps-kept w k g)

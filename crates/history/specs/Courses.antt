@@ -14,37 +14,16 @@ use Rattle.laws.specs.Pick.{both}
 use Rattle.laws.specs.Shape.{Shaped, shaped}
 use Rattle.laws.specs.Prepared.{Outcome, Came, was-done, was-refused, came}
 use Rattle.history.specs.World.{World, worldOf, cells, now, Lawful, one, bits, takes, number-of}
-use Rattle.history.specs.Items.{Call, try-acquire, drop-lease, read-permission, competing-acquire, release-then-handoff, foreign-release, drop-preserving, acquire-preserving, environment, try-lock, transactional, acquire-bucket, release-all, acquire-locks, crew, perform, foreign, Item, call, foreign-step, preparation, Course, courseOf, prepared-by, preparing, next-item, run}
-use Rattle.history.specs.Statements.{Ledger, log-of, leaves, held-of}
+use Rattle.history.specs.Items.{foreign, Item, call, foreign-step, preparation, Course, courseOf, prepared-by, preparing, next-item, run}
+use Rattle.history.specs.Statements.{Ledger}
 use Rattle.history.specs.Tests.{free, In}
 use Rattle.history.specs.Events.{Good, sound, lives, counts}
 use Rattle.history.specs.Logs.{now-append, lawful-append, lawful-split, good-now, arena-now, next-now, bits-now, keep-now, spent-now, Kept, ended}
 use Rattle.history.specs.Steps.{step-kept}
-use Rattle.history.specs.Calls.{try-acquire-kept, acquire-preserving-kept, drop-kept, read-kept, competing-kept, handoff-kept, drop-preserving-kept, foreign-release-kept, environment-kept, try-lock-kept, transactional-kept, acquire-bucket-kept, release-all-kept, acquire-locks-kept}
-use Rattle.history.specs.Crew.{zeros, crew-kept}
+use Rattle.history.specs.Calls.{call-kept}
+use Rattle.history.specs.Crew.{zeros}
 
--- ---- a call, a lone foreign step
-
-pub perform-kept : (w : World) (k : Call) → Good w → Kept w (In (held-of k)) (leaves w k) (log-of w k)
-unfolding perform
-perform-kept w (try-acquire c) g = ended (try-acquire-kept (w .head) (w .table) (w .health) g (In []) c .kept)
-perform-kept w (drop-lease l) g = ended (drop-kept (w .head) (w .table) (w .health) g l .kept)
-perform-kept w (read-permission l) g = ended (read-kept (w .head) (w .table) (w .health) g (In []) l .kept)
-perform-kept w (competing-acquire l) g = ended (competing-kept (w .head) (w .table) (w .health) g (In []) l .kept)
-perform-kept w (release-then-handoff l) g = ended (handoff-kept (w .head) (w .table) (w .health) g l .kept)
-perform-kept w (foreign-release held l) g = ended (foreign-release-kept (w .head) (w .table) (w .health) g held l .kept)
-perform-kept w (drop-preserving held l) g = ended (drop-preserving-kept (w .head) (w .table) (w .health) g held l .kept)
-perform-kept w (acquire-preserving held c) g = ended (acquire-preserving-kept (w .head) (w .table) (w .health) g (In _) held c .kept)
-perform-kept w (environment script place held) g = ended (environment-kept (w .head) (w .table) (w .health) script place g held .kept)
-perform-kept w (try-lock script place held c) g = ended (try-lock-kept (w .head) (w .table) (w .health) script place g held c .kept)
-perform-kept w (transactional registry script place held binding bucket) g =
-    ended (transactional-kept (w .head) (w .table) (w .health) script place g registry held binding bucket .kept)
-perform-kept w (acquire-bucket registry script place held binding bucket) g =
-    ended (acquire-bucket-kept (w .head) (w .table) (w .health) script place g registry held binding bucket .kept)
-perform-kept w (release-all script place leases) g = ended (release-all-kept (w .head) (w .table) (w .health) script place g leases .kept)
-perform-kept w (acquire-locks registry script place held keys grants) g =
-    ended (acquire-locks-kept (w .head) (w .table) (w .health) script place g registry held keys grants .kept)
-perform-kept w (crew counts cells turns) g = ended (crew-kept (w .head) (w .table) (w .health) counts cells turns g .kept)
+-- ---- a lone foreign step
 
 foreign-kept : (w : World) (kind place number : ℕ) → Kept w (In []) (foreign w kind place number .seen) (foreign w kind place number .log)
 unfolding foreign
@@ -133,7 +112,7 @@ good-stretch k s = subst Good (sym (s .leads)) (good-now (k .origin) (k .log) (s
 
 item-stretch : (k : Course) (i : Item) → Stretch k → Stretch (next-item k i)
 unfolding next-item
-item-stretch k (call c) s = goes-on k s (perform-kept (k .world) c (good-stretch k s))
+item-stretch k (call c) s = goes-on k s (call-kept (k .world) c (good-stretch k s) .kept)
 item-stretch k (foreign-step kind place number) s = goes-on k s (foreign-kept (k .world) kind place number)
 item-stretch k (preparation headers buckets serial t g) s = preparation-stretch headers buckets serial t g k (λ _. s)
 

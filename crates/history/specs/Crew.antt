@@ -14,8 +14,7 @@ use Rattle.model.specs.Arena.{within, cellsOf, leaseOf, setCell, waitersAt, isI
 use Rattle.model.specs.Foreign.{flowOf, stepsOf, boundaryOf}
 use Rattle.model.specs.Lock.{takeOf, lateOf, afterTake, secondOf, lockOf}
 use Rattle.model.specs.Calls.{given}
-use Rattle.model.specs.Crew.{total, startOf, countOf, listOf, allWithin, risesFrom, badLists, badTurns, crewRules, Crew, crewAt, moved, afterTry, tryTurnOf, releaseTurnOf, turnOf, turnsOf, crewOf}
-use Rattle.model.specs.declared.CrewReply.{CrewReply}
+use Rattle.model.specs.Crew.{total, startOf, countOf, listOf, allWithin, risesFrom, badLists, badTurns, crewRules, Crew, crewAt, moved, afterTry, tryTurnOf, releaseTurnOf, turnOf, turnsOf}
 use Rattle.model.specs.declared.Head.{Head}
 use Rattle.model.specs.declared.Lease.{Lease}
 use Rattle.model.specs.declared.Locked.{Locked}
@@ -26,8 +25,8 @@ use Rattle.history.specs.World.{World, worldOf, Live, Unreleased}
 use Rattle.history.specs.Tests.{differ, In, in-first, if-cases}
 use Rattle.history.specs.Events.{Good, lives}
 use Rattle.history.specs.Logs.{Kept, nothing, event, kept-good, kept-live, weaken, ended}
-use Rattle.history.specs.Steps.{worldAt, Leads, Gains, followed, With, Gained, gained, was-busy, was-damaged, was-spent, lock-kept}
-use Rattle.history.specs.Judged.{Clear, clear-front, judged}
+use Rattle.history.specs.Steps.{worldAt, Gains, followed, With, Gained, gained, was-busy, was-damaged, was-spent, lock-kept}
+use Rattle.history.specs.Judged.{Clear, clear-front}
 
 -- ---- the places of the lists
 
@@ -363,12 +362,11 @@ zeros zero i = refl
 zeros (suc n) zero = refl
 zeros (suc n) (suc i) = zeros n i
 
-pub crew-kept : (h : Head) (t g counts cells turns : List ℕ) → Good (worldOf h t g)
-    → Leads (λ (a : CrewReply × List ℕ). worldOf (a .0 .head) (a .1) g) (worldOf h t g) (In []) (crewOf h t g counts cells turns)
-unfolding crewOf
-crew-kept h t g counts cells turns good =
-    judged (Leads (λ (a : CrewReply × List ℕ). worldOf (a .0 .head) (a .1) g) (worldOf h t g) (In [])) (crewRules h t g counts cells turns) (λ r. record { kept = nothing })
-    (λ k. record { kept = ended (turns-kept h counts cells (limits h t g counts cells turns k) g (crewAt (h .next) t (replicate 16 0) (replicate 256 0) 0 0) turns start .kept) })
+pub crew-kept : (h : Head) (t g counts cells turns : List ℕ) → Good (worldOf h t g) → Clear (crewRules h t g counts cells turns)
+    → let m = turnsOf (h .headers) (h .buckets) g counts cells (crewAt (h .next) t (replicate 16 0) (replicate 256 0) 0 0) turns in
+    Kept (worldOf h t g) (In []) (worldAt h (m .seen .next) (m .seen .table) g) (m .log)
+crew-kept h t g counts cells turns good k =
+    turns-kept h counts cells (limits h t g counts cells turns k) g (crewAt (h .next) t (replicate 16 0) (replicate 256 0) 0 0) turns start .kept
   where
     none : (m j : ℕ) → Holds counts (replicate 16 0) m j → ⊥
     none m j a = omega (arith, zeros 16 m)

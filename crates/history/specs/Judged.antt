@@ -48,36 +48,34 @@ pub clear-back : (xs ys : List Rule) → Clear (xs ++ ys) → Clear ys
 clear-back [] ys c = c
 clear-back (x ∷ xs) ys c = clear-back xs ys (c .1)
 
--- a call that is refused, or that makes its steps
-either : {A : Type 0} (P : A → Type 0) (c : Check) {no : Refusal → A} {steps : A}
-    → ((r : Refusal) → P (no r)) → (c ≡ Fine → P steps) → P (judge c no steps)
-either P Fine p q = q refl
-either P (Fault r) p q = p r
-
--- and then its checks found nothing
+-- a call that is refused, or whose checks found nothing
 pub judged : {A : Type 0} (P : A → Type 0) (rules : List Rule) {refused : Refusal → A} {steps : A}
     → ((r : Refusal) → P (refused r)) → (Clear rules → P steps) → P (judge (first rules) refused steps)
-judged P rules r s = either P (first rules) r (λ e. s (clear rules e))
+judged P rules {refused} {steps} r s = go (first rules) refl
+  where
+    go : (k : Check) → first rules ≡ k → P (judge k refused steps)
+    go Fine e = s (clear rules e)
+    go (Fault x) e = r x
 
 -- ---- the parts of a call
 
--- what the checks of a call come to
-abbrev pub checks : World → Call → Check
-checks w (try-acquire c) = first (cellRules (w .head) (w .table) c)
-checks w (drop-lease l) = first (leaseRules (w .head) (w .table) l)
-checks w (read-permission l) = first (leaseRules (w .head) (w .table) l)
-checks w (competing-acquire l) = first (leaseRules (w .head) (w .table) l)
-checks w (release-then-handoff l) = first (leaseRules (w .head) (w .table) l)
-checks w (foreign-release held l) = first (heldLeaseRules (w .head) (w .table) held l)
-checks w (drop-preserving held l) = first (heldLeaseRules (w .head) (w .table) held l)
-checks w (acquire-preserving held c) = first (heldCellRules (w .head) (w .table) held c)
-checks w (environment script place held) = first (scriptRules (w .head) (w .table) (w .health) script place held)
-checks w (try-lock script place held c) = first (lockRules (w .head) (w .table) (w .health) script place held c)
-checks w (transactional registry script place held binding bucket) = first (bucketRules (w .head) (w .table) (w .health) registry script place held binding)
-checks w (acquire-bucket registry script place held binding bucket) = first (bucketRules (w .head) (w .table) (w .health) registry script place held binding)
-checks w (release-all script place leases) = first (releaseRules (w .head) (w .table) (w .health) script place leases)
-checks w (acquire-locks registry script place held keys grants) = first (locksRules (w .head) (w .table) (w .health) registry script place held keys grants)
-checks w (crew counts cells turns) = first (crewRules (w .head) (w .table) (w .health) counts cells turns)
+-- the checks of a call
+abbrev pub rules : World → Call → List Rule
+rules w (try-acquire c) = cellRules (w .head) (w .table) c
+rules w (drop-lease l) = leaseRules (w .head) (w .table) l
+rules w (read-permission l) = leaseRules (w .head) (w .table) l
+rules w (competing-acquire l) = leaseRules (w .head) (w .table) l
+rules w (release-then-handoff l) = leaseRules (w .head) (w .table) l
+rules w (foreign-release held l) = heldLeaseRules (w .head) (w .table) held l
+rules w (drop-preserving held l) = heldLeaseRules (w .head) (w .table) held l
+rules w (acquire-preserving held c) = heldCellRules (w .head) (w .table) held c
+rules w (environment script place held) = scriptRules (w .head) (w .table) (w .health) script place held
+rules w (try-lock script place held c) = lockRules (w .head) (w .table) (w .health) script place held c
+rules w (transactional registry script place held binding bucket) = bucketRules (w .head) (w .table) (w .health) registry script place held binding
+rules w (acquire-bucket registry script place held binding bucket) = bucketRules (w .head) (w .table) (w .health) registry script place held binding
+rules w (release-all script place leases) = releaseRules (w .head) (w .table) (w .health) script place leases
+rules w (acquire-locks registry script place held keys grants) = locksRules (w .head) (w .table) (w .health) registry script place held keys grants
+rules w (crew counts cells turns) = crewRules (w .head) (w .table) (w .health) counts cells turns
 
 -- what its steps are given
 abbrev pub acting : World → Call → Setting
@@ -88,7 +86,7 @@ abbrev pub unchanged : World → Call → Refusal → Made (World × Says)
 unchanged w k r = record { seen = (w, says (answer.Refused r) (countsOf 0 0 0 0) (buffer k)); log = [] }
 
 -- what a call says, by what it hands over: a reply, with the table; a reply with a script, with table and health
-abbrev reply : World → Reply × List ℕ → World × Says
+abbrev pub reply : World → Reply × List ℕ → World × Says
 reply w m = (worldOf (m .0 .head) (m .1) (w .health), says (m .0 .answer) (m .0 .counts) [])
 
 abbrev read : World → Reply → World × Says
@@ -154,24 +152,24 @@ module _ (P : Made (World × Says) → Type 0) (w : World) where
   abbrev By : {A : Type 0} → (A → World × Says) → Made A → Type 0
   By f m = P (m >>= λ a. gives (f a))
 
-  pub performed : (k : Call) → ((r : Refusal) → P (unchanged w k r)) → (checks w k ≡ Fine → P (steps w k)) → P (perform w k)
+  pub performed : (k : Call) → ((r : Refusal) → P (unchanged w k r)) → (Clear (rules w k) → P (steps w k)) → P (perform w k)
   unfolding perform tryAcquireOf dropLeaseOf readPermissionOf competingAcquireOf releaseThenHandoffOf foreignReleaseOf acquirePreservingOf dropPreservingOf
       environmentOf tryLockOf transactionalOf acquireBucketOf releaseAllOf acquireLocksOf crewOf
-  performed (try-acquire c) x y = either (By (reply w)) (checks w (try-acquire c)) x (λ fine. rw append-nil (y fine))
-  performed (drop-lease l) x y = either (By (reply w)) (checks w (drop-lease l)) x y
-  performed (read-permission l) x y = either (By (read w)) (checks w (read-permission l)) x y
-  performed (competing-acquire l) x y = either (By (reply w)) (checks w (competing-acquire l)) x (λ fine. rw append-nil (y fine))
-  performed (release-then-handoff l) x y = either (By (reply w)) (checks w (release-then-handoff l)) x (λ fine. rw append-nil (y fine))
-  performed (foreign-release held l) x y = either (By (reply w)) (checks w (foreign-release held l)) x (λ fine. rw append-nil (y fine))
-  performed (drop-preserving held l) x y = either (By (reply w)) (checks w (drop-preserving held l)) x y
-  performed (acquire-preserving held c) x y = either (By (reply w)) (checks w (acquire-preserving held c)) x (λ fine. rw append-nil (y fine))
-  performed (environment script place held) x y = either (By play) (checks w (environment script place held)) x (λ fine. simp append-nil (y fine))
-  performed (try-lock script place held c) x y = either (By play) (checks w (try-lock script place held c)) x (λ fine. rw (append-nil, append-nil) (y fine))
+  performed (try-acquire c) x y = judged (By (reply w)) (rules w (try-acquire c)) x (λ fine. rw append-nil (y fine))
+  performed (drop-lease l) x y = judged (By (reply w)) (rules w (drop-lease l)) x y
+  performed (read-permission l) x y = judged (By (read w)) (rules w (read-permission l)) x y
+  performed (competing-acquire l) x y = judged (By (reply w)) (rules w (competing-acquire l)) x (λ fine. rw append-nil (y fine))
+  performed (release-then-handoff l) x y = judged (By (reply w)) (rules w (release-then-handoff l)) x (λ fine. rw append-nil (y fine))
+  performed (foreign-release held l) x y = judged (By (reply w)) (rules w (foreign-release held l)) x (λ fine. rw append-nil (y fine))
+  performed (drop-preserving held l) x y = judged (By (reply w)) (rules w (drop-preserving held l)) x y
+  performed (acquire-preserving held c) x y = judged (By (reply w)) (rules w (acquire-preserving held c)) x (λ fine. rw append-nil (y fine))
+  performed (environment script place held) x y = judged (By play) (rules w (environment script place held)) x (λ fine. simp append-nil (y fine))
+  performed (try-lock script place held c) x y = judged (By play) (rules w (try-lock script place held c)) x (λ fine. rw (append-nil, append-nil) (y fine))
   performed (transactional registry script place held binding bucket) x y =
-      either (By play) (checks w (transactional registry script place held binding bucket)) x (λ fine. simp append-nil (y fine))
+      judged (By play) (rules w (transactional registry script place held binding bucket)) x (λ fine. simp append-nil (y fine))
   performed (acquire-bucket registry script place held binding bucket) x y =
-      either (By play) (checks w (acquire-bucket registry script place held binding bucket)) x (λ fine. simp append-nil (y fine))
-  performed (release-all script place leases) x y = either (By play) (checks w (release-all script place leases)) x (λ fine. simp append-nil (y fine))
+      judged (By play) (rules w (acquire-bucket registry script place held binding bucket)) x (λ fine. simp append-nil (y fine))
+  performed (release-all script place leases) x y = judged (By play) (rules w (release-all script place leases)) x (λ fine. simp append-nil (y fine))
   performed (acquire-locks registry script place held keys grants) x y =
-      either (By grant) (checks w (acquire-locks registry script place held keys grants)) x (λ fine. simp append-nil (y fine))
-  performed (crew counts cells turns) x y = either (By (crewed w)) (checks w (crew counts cells turns)) x (λ fine. simp append-nil (y fine))
+      judged (By grant) (rules w (acquire-locks registry script place held keys grants)) x (λ fine. simp append-nil (y fine))
+  performed (crew counts cells turns) x y = judged (By (crewed w)) (rules w (crew counts cells turns)) x (λ fine. simp append-nil (y fine))

@@ -8,8 +8,8 @@ pub mod Logs
 pub mod Judged
 pub mod Steps
 pub mod Many
-pub mod Calls
 pub mod Crew
+pub mod Calls
 pub mod Courses
 pub mod Owing
 pub mod Returns

@@ -6,7 +6,7 @@ use native.Mathlib.Omega.{arith}
 use Rattle.model.specs.Log.{Event}
 use Rattle.model.specs.Arena.{spentTo}
 use Rattle.model.specs.declared.Lease.{Lease}
-use Rattle.history.specs.World.{World, cells, Live, Legal, step, now, Lawful, bits, Kind, takes, releases, number-of, Releases, Unreleased, Spent}
+use Rattle.history.specs.World.{World, cells, Live, Legal, step, now, Lawful, bits, takes, releases, number-of, Releases, Unreleased, Spent}
 use Rattle.history.specs.Events.{Good, good-step, same-arena, keep-step, next-step, spent-step, bits-step}
 
 -- ---- logs one behind the other

@@ -1,20 +1,17 @@
 -- Every release in a call's log is one that the call or a step of its script named.
-use Prim.Native.Nat.{ℕ, zero, suc, _/_, _<_}
-use mathlib.Core.Path.{_≡_, refl}
+use Prim.Native.Nat.{ℕ, _<_}
+use mathlib.Core.Path.{_≡_}
 use mathlib.Core.List.{List, [], _∷_}
 use mathlib.Core.Bool.{true}
 use native.Mathlib.Omega.{arith}
 use lib.ListN.{length}
 use lib.Seq.{take-length}
-use borrow.Author.Tests.{eq-eqb}
-use Rattle.laws.specs.Pick.{if-both}
 use Rattle.model.specs.Log.{attempt-begun}
-use Rattle.model.specs.Arena.{leaseOf, leasesOf, sameLease, isIn, setCell}
+use Rattle.model.specs.Arena.{leaseOf, leasesOf, isIn, setCell}
 use Rattle.model.specs.Checks.{countIn}
 use Rattle.model.specs.Foreign.{flowOf}
 use Rattle.model.specs.Lock.{noLease, leaseAt, attemptLimit}
 use Rattle.model.specs.Calls.{starting, acquireOf}
-use Rattle.model.specs.declared.Check.the-variants.{Fine}
 use Rattle.model.specs.declared.Head.{Head}
 use Rattle.model.specs.declared.Lease.{Lease}
 use Rattle.history.specs.World.{World}
@@ -22,7 +19,7 @@ use Rattle.history.specs.Items.{Call, try-acquire, drop-lease, read-perm
 use Rattle.history.specs.Statements.{log-of, script-of, given-up, Named}
 use Rattle.history.specs.Tests.{in-take}
 use Rattle.history.specs.Calls.{words-leases}
-use Rattle.history.specs.Judged.{checks, acting, steps, performed}
+use Rattle.history.specs.Judged.{Clear, rules, acting, steps, performed}
 use Rattle.history.specs.Naming.{Leases, Told, any, none, more, andthen, told, handed, and-took, at-script, at-caller, boundary-told, take-told, lock-told, attempt-told, retry-told, back-told, locks-told}
 use Rattle.history.specs.NamingCrew.{crew-told}
 
@@ -41,7 +38,7 @@ acquire-told : (n : ℕ) (h : Head) (t : List ℕ) (c : ℕ) (A : Leases) → To
 unfolding acquireOf
 acquire-told n h t c A = more tt (handed (take-told [] (and-took A attempt-begun) (h .next) t c))
 
-steps-told : (w : World) (k : Call) → checks w k ≡ Fine → Told (script-of k) (Mine k) (steps w k .log) any
+steps-told : (w : World) (k : Call) → Clear (rules w k) → Told (script-of k) (Mine k) (steps w k .log) any
 steps-told w (try-acquire c) _ = acquire-told 1 (w .head) (w .table) c _
 steps-told w (drop-lease l) _ = more (in-at (l ∷ []) 0 (omega arith)) (none tt)
 steps-told w (read-permission l) _ = none tt

@@ -3,7 +3,7 @@ use Prim.Native.Nat.{ℕ, zero, suc, _+_, _*_, _-_, _/_, _≤_, _<_}
 use mathlib.Core.Path.{_≡_, refl, ap, _∙_}
 use mathlib.Core.List.{List, [], _∷_}
 use mathlib.Core.Logic.{_≢_, _⊎_, inl, inr}
-use mathlib.Core.Bool.{Bool, true, false, not, _||_}
+use mathlib.Core.Bool.{not}
 use native.Mathlib.Omega.{arith}
 use native.Mathlib.Decide.{ℕ-discrete}
 use lib.Dec.{ltb, leb, eqb}
@@ -12,23 +12,15 @@ use lib.Seq.{getD-set-same, getD-set-other}
 use borrow.Author.Tests.{ltb-true, ltb-false, leb-false}
 use Rattle.laws.specs.Pick.{if-both}
 use Rattle.model.specs.Log.{Made}
-use Rattle.model.specs.Arena.{within}
 use Rattle.model.specs.Foreign.{setting, flowOf}
 use Rattle.model.specs.Lock.{lockOf}
-use Rattle.model.specs.Choice.{if_then_else_}
-use Rattle.model.specs.Refusals.{first}
-use Rattle.model.specs.Checks.{badShape, badHealth}
-use Rattle.model.specs.Crew.{total, badLimits, allWithin, crewRules, startOf, countOf, Crew, crewAt, afterTry, tryTurnOf, releaseTurnOf, turnOf, turnsOf}
-use Rattle.model.specs.declared.Check.{Check}
-use Rattle.model.specs.declared.Check.the-variants.{Fine, Fault}
-use Rattle.model.specs.declared.Head.{Head}
-use Rattle.model.specs.declared.Refusal.{Refusal}
+use Rattle.model.specs.Crew.{total, crewRules, startOf, countOf, Crew, crewAt, afterTry, tryTurnOf, releaseTurnOf, turnOf, turnsOf}
 use Rattle.model.specs.declared.Take.{Take}
 use Rattle.model.specs.declared.Take.the-variants as taking
 use Rattle.history.specs.World.{World}
 use Rattle.history.specs.Items.{crew}
 use Rattle.history.specs.Tests.{if-cases}
-use Rattle.history.specs.Judged.{clear, checks, steps}
+use Rattle.history.specs.Judged.{Clear, steps}
 use Rattle.history.specs.Crew.{start-fits, limits, zeros}
 use Rattle.history.specs.Naming.{Leases, Sub, Told, any, none, more, andthen, told, Taken, lock-told}
 
@@ -133,8 +125,8 @@ module _ (counts cells : List ℕ) where
     turns-told (m ∷ ms) w A k = andthen (turn-told w m A k) (λ B i h. turns-told ms (turnOf headers buckets g counts cells w m .seen) B h)
 
 -- from nothing noted
-pub crew-told : (w : World) (counts cells turns : List ℕ) (A : Leases) → checks w (crew counts cells turns) ≡ Fine → Told [] A (steps w (crew counts cells turns) .log) any
+pub crew-told : (w : World) (counts cells turns : List ℕ) (A : Leases) → Clear (crewRules (w .head) (w .table) (w .health) counts cells turns) → Told [] A (steps w (crew counts cells turns) .log) any
 crew-told w counts cells turns A fine =
-    told (turns-told counts cells (w .head .headers) (w .head .buckets) (w .health) (limits (w .head) (w .table) (w .health) counts cells turns (clear (crewRules (w .head) (w .table) (w .health) counts cells turns) fine) .small)
+    told (turns-told counts cells (w .head .headers) (w .head .buckets) (w .health) (limits (w .head) (w .table) (w .health) counts cells turns fine .small)
     turns (crewAt (w .head .next) (w .table) (replicate 16 0) (replicate 256 0) 0 0) A
     (record { room = refl; names = λ q j h. absurd (omega (arith, zeros 16 q)) }))

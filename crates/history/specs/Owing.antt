@@ -111,7 +111,7 @@ hand {L = L} {before = before} {xs = xs} {m = m} a f b =
     on (inl y) = inl y
     on (inr y) = inr (frees-right xs y)
 
-loosen : {L M : Lease → Type 0} {es : List Event} → ((l : Lease) → L l → M l) → Settles L es → Settles M es
+pub loosen : {L M : Lease → Type 0} {es : List Event} → ((l : Lease) → L l → M l) → Settles L es → Settles M es
 loosen {es = es} f a = subst (Settles _) (append-nil es) (join a none (λ l x. inl (f l x)))
 
 -- a part in which the caller takes nothing

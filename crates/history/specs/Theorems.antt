@@ -30,11 +30,12 @@ use Rattle.history.specs.Tests.{if-cases}
 use Rattle.history.specs.Events.{good}
 use Rattle.history.specs.Logs.{lawful-split, unreleased-front, keep-now}
 use Rattle.history.specs.Owing.{Frees, freed-later, frees-right, freed-at, Settles, settled-at}
-use Rattle.history.specs.Returns.{gone, Handed, perform-settles, perform-live, failed-buffer}
+use Rattle.history.specs.Returns.{gone, Handed, call-settles, failed-buffer}
+use Rattle.history.specs.Calls.{call-kept}
 use Rattle.history.specs.CountedCalls.{calls-counted}
 use Rattle.history.specs.Refused.{refusals-early}
 use Rattle.history.specs.NamedCalls.{calls-named}
-use Rattle.history.specs.Courses.{perform-kept, preparation-stretch, run-stretch, ledger}
+use Rattle.history.specs.Courses.{preparation-stretch, run-stretch, ledger}
 
 pub demand-2 : Demand-2
 unfolding run
@@ -45,7 +46,7 @@ demand-2 rubbish headers buckets serial t g items d =
 pub held-live : Held-live
 held-live w k l before after s i v e =
     let g = good w s in
-    let p = perform-kept w k g in
+    let p = call-kept w k g .kept in
     keep-now w before l g (lawful-split w before after (subst (Lawful w) e (p .lawful)) .0) v (unreleased-front l before after (subst (Unreleased l) e (p .spares l i v)))
 
 -- ---- one compare-and-set
@@ -104,15 +105,15 @@ compare-and-set w c s =
 -- ---- what a call takes and does not hand over, it gives back
 
 pub nothing-kept : Nothing-kept
-nothing-kept w k c s before after snd n e = go (settled-at c s before after (subst (Settles (Handed w k)) e (perform-settles w k n)))
+nothing-kept w k c s before after snd n e = go (settled-at c s before after (subst (Settles (Handed w k)) e (call-settles w k n)))
   where
     go : Handed w k (leaseOf c s) ⊎ Frees (leaseOf c s) after
         → (Handed w k (leaseOf c s) × Live (leaves w k) (leaseOf c s))
         ⊎ ((m n : List Event) × (after ≡ m ++ (released by-caller c s ∷ n)) × (Live (leaves w k) (leaseOf c s) → ⊥))
-    go (inl x) = inl (x, perform-live w k (good w snd) n (leaseOf c s) x)
+    go (inl x) = inl (x, call-kept w k (good w snd) .gain (leaseOf c s) x)
     go (inr f) =
         let r = freed-at f in
-        let p = perform-kept w k (good w snd) in
+        let p = call-kept w k (good w snd) .kept in
         let all = subst (Frees (leaseOf c s)) (sym e) (frees-right before (freed-later (took by-caller c s) f)) in
         inr (r .0, r .1, r .2, λ v. gone w (log-of w k) (good w snd) (p .lawful) all (subst (λ u. Live u (leaseOf c s)) (p .leads) v))
 
