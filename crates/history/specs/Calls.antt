@@ -20,8 +20,8 @@ use Rattle.model.specs.declared.Lease.{Lease}
 use Rattle.model.specs.declared.Outcome.{Outcome}
 use Rattle.model.specs.declared.Take.{Take}
 use Rattle.history.specs.World.{World, worldOf, cells, Live}
-use Rattle.history.specs.Items.{Call, Says, try-acquire, drop-lease, read-permission, competing-acquire, release-then-handoff, foreign-release, drop-preserving, acquire-preserving, environment, try-lock, transactional, acquire-bucket, release-all, acquire-locks, crew, perform}
-use Rattle.history.specs.Statements.{Hands-over, held-of}
+use Rattle.history.specs.Items.{Call, Says, try-acquire, drop-lease, read-permission, competing-acquire, release-then-handoff, foreign-release, drop-preserving, acquire-preserving, environment, try-lock, transactional, acquire-bucket, release-all, acquire-locks, crew, perform, held-of}
+use Rattle.history.specs.Statements.{Hands-over}
 use Rattle.history.specs.Tests.{differ, In, in-take}
 use Rattle.history.specs.Events.{Good, lives}
 use Rattle.history.specs.Logs.{Kept, nothing, event, kept-good, kept-live, weaken, chain, ended}

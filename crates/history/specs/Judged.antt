@@ -22,8 +22,7 @@ use Rattle.model.specs.declared.Played.{Played}
 use Rattle.model.specs.declared.Refusal.{Refusal}
 use Rattle.model.specs.declared.Reply.{Reply}
 use Rattle.history.specs.World.{World, worldOf}
-use Rattle.history.specs.Items.{Call, Says, says, try-acquire, drop-lease, read-permission, competing-acquire, release-then-handoff, foreign-release, drop-preserving, acquire-preserving, environment, try-lock, transactional, acquire-bucket, release-all, acquire-locks, crew, perform}
-use Rattle.history.specs.Statements.{buffer, script-of, held-of}
+use Rattle.history.specs.Items.{Call, Says, says, try-acquire, drop-lease, read-permission, competing-acquire, release-then-handoff, foreign-release, drop-preserving, acquire-preserving, environment, try-lock, transactional, acquire-bucket, release-all, acquire-locks, crew, perform, buffer, script-of, held-of, place-of}
 
 -- ---- checks that found nothing
 
@@ -83,23 +82,23 @@ acting w k = given (w .head) (script-of k) (held-of k)
 
 -- all as it was, and no count
 abbrev pub unchanged : World → Call → Refusal → Made (World × Says)
-unchanged w k r = record { seen = (w, says (answer.Refused r) (countsOf 0 0 0 0) (buffer k)); log = [] }
+unchanged w k r = record { seen = (w, says (answer.Refused r) (countsOf 0 0 0 0) (place-of k) (buffer k)); log = [] }
 
 -- what a call says, by what it hands over: a reply, with the table; a reply with a script, with table and health
 abbrev pub reply : World → Reply × List ℕ → World × Says
-reply w m = (worldOf (m .0 .head) (m .1) (w .health), says (m .0 .answer) (m .0 .counts) [])
+reply w m = (worldOf (m .0 .head) (m .1) (w .health), says (m .0 .answer) (m .0 .counts) 0 [])
 
 abbrev read : World → Reply → World × Says
-read w m = (worldOf (m .head) (w .table) (w .health), says (m .answer) (m .counts) [])
+read w m = (worldOf (m .head) (w .table) (w .health), says (m .answer) (m .counts) 0 [])
 
 abbrev play : Played × (List ℕ × List ℕ) → World × Says
-play m = (worldOf (m .0 .head) (m .1 .0) (m .1 .1), says (m .0 .answer) (m .0 .counts) [])
+play m = (worldOf (m .0 .head) (m .1 .0) (m .1 .1), says (m .0 .answer) (m .0 .counts) (m .0 .place) [])
 
 abbrev grant : Played × (List ℕ × (List ℕ × List ℕ)) → World × Says
-grant m = (worldOf (m .0 .head) (m .1 .0) (m .1 .1 .0), says (m .0 .answer) (m .0 .counts) (m .1 .1 .1))
+grant m = (worldOf (m .0 .head) (m .1 .0) (m .1 .1 .0), says (m .0 .answer) (m .0 .counts) (m .0 .place) (m .1 .1 .1))
 
 abbrev crewed : World → CrewReply × List ℕ → World × Says
-crewed w m = (worldOf (m .0 .head) (m .1) (w .health), says (m .0 .answer) (countsOf 0 0 0 0) [])
+crewed w m = (worldOf (m .0 .head) (m .1) (w .health), says (m .0 .answer) (countsOf 0 0 0 0) 0 [])
 
 -- the same log, seen otherwise
 abbrev pub seen-as : {A B : Type 0} → (A → B) → Made A → Made B
@@ -144,7 +143,7 @@ steps w (acquire-locks registry script place held keys grants) =
     seen-as (λ m. grant (played (w .head) (m .0 .run) (m .0 .answer), m .1))
     (locksOf (countIn keys) 0 (acting w (acquire-locks registry script place held keys grants)) (w .head .buckets) registry keys [] (starting (w .head) place) (w .table) (w .health) grants)
 steps w (crew counts cells turns) =
-    seen-as (λ v. (worldOf (spentTo (w .head) (v .next)) (v .table) (w .health), says answer.Done (countsOf 0 0 0 0) []))
+    seen-as (λ v. (worldOf (spentTo (w .head) (v .next)) (v .table) (w .health), says answer.Done (countsOf 0 0 0 0) 0 []))
     (turnsOf (w .head .headers) (w .head .buckets) (w .health) counts cells (crewAt (w .head .next) (w .table) (replicate 16 0) (replicate 256 0) 0 0) turns)
 
 -- what holds of the call as it was and of its steps

@@ -83,7 +83,7 @@ module _ (counts cells : List ℕ) where
   -- ---- turns
 
   abbrev Turned : Leases → Made Crew → Type 0
-  Turned A m = Told [] A (m .log) (Keeps (m .seen))
+  Turned A m = Told [] 0 A (m .log) (Keeps (m .seen))
 
   module _ (headers buckets : ℕ) (g : List ℕ) (few : total counts ≤ 256) where
     try-told : (w : Crew) (m n : ℕ) (A : Leases) → n ≡ getD (w .made) m 0 → n < countOf counts m → Keeps w A
@@ -94,8 +94,8 @@ module _ (counts cells : List ℕ) where
         let e = setting headers (headers * buckets) [] [] in
         let l = lockOf e (flowOf (w .next) 0 0) (w .table) g c .seen in
         if-both (Turned A) (not (eqb (getD g (c / buckets) 0) 0)) (none k)
-        (more tt (andthen (lock-told e (flowOf (w .next) 0 0) (w .table) g c _)
-        (λ B i h. none (go (l .0 .flow .next) (l .1 .0) B (wider (λ c s a. i c s (inl a)) k) (l .0 .answer) h))))
+        (more tt (andthen (lock-told e 0 (flowOf (w .next) 0 0) (w .table) g c _ (omega arith))
+        (λ B i h. none (go (l .0 .flow .next) (l .1 .0) B (wider (λ c s a. i c s (inl a)) k) (l .0 .answer) (h .0)))))
       where
         go : (next : ℕ) (t : List ℕ) (B : Leases) → Keeps w B → (x : Take) → Taken x (getD cells (startOf counts m + n) 0) B → Keeps (afterTry x next t w m (startOf counts m + n)) B
         go next t B h (taking.Granted s) a = rw (← is) (took-noted (w .made) (w .serials) m n s B few is less h a)
@@ -125,7 +125,7 @@ module _ (counts cells : List ℕ) where
     turns-told (m ∷ ms) w A k = andthen (turn-told w m A k) (λ B i h. turns-told ms (turnOf headers buckets g counts cells w m .seen) B h)
 
 -- from nothing noted
-pub crew-told : (w : World) (counts cells turns : List ℕ) (A : Leases) → Clear (crewRules (w .head) (w .table) (w .health) counts cells turns) → Told [] A (steps w (crew counts cells turns) .log) any
+pub crew-told : (w : World) (counts cells turns : List ℕ) (A : Leases) → Clear (crewRules (w .head) (w .table) (w .health) counts cells turns) → Told [] 0 A (steps w (crew counts cells turns) .log) any
 crew-told w counts cells turns A fine =
     told (turns-told counts cells (w .head .headers) (w .head .buckets) (w .health) (limits (w .head) (w .table) (w .health) counts cells turns fine .small)
     turns (crewAt (w .head .next) (w .table) (replicate 16 0) (replicate 256 0) 0 0) A

@@ -1,12 +1,12 @@
 -- Refusals 1 to 5, 8 by cell, 12 to 15 come from a call's checks alone, and these change nothing: its steps refuse with 9 or 10, by key with 6 to 11.
 use Prim.Native.Nat.{ℕ, zero, suc, _+_, _≤_}
-use mathlib.Core.Path.{_≡_}
+use mathlib.Core.Path.{_≡_, ap}
 use mathlib.Core.List.{List, [], _∷_, _++_}
 use mathlib.Core.Bool.{not}
 use mathlib.Core.Logic.{_⊎_, inl, inr}
 use native.Mathlib.Omega.{arith}
 use lib.Dec.{leb, eqb}
-use lib.ListN.{getD}
+use lib.ListN.{getD, replicate}
 use Rattle.laws.specs.Pick.{if-both}
 use Rattle.model.specs.Log.{Made}
 use Rattle.model.specs.Arena.{setCell}
@@ -15,8 +15,10 @@ use Rattle.model.specs.Checks.{countIn}
 use Rattle.model.specs.Foreign.{Setting, protecting, flowOf}
 use Rattle.model.specs.Lock.{takeOf, lockOf, outcomeOf, answerOf, findOf, attemptAt, attemptOf, pauseOf, isBusy, retryOf, settled, attemptLimit, rollbackOf, afterKey, bindingAt, bucketAt, Locks, locksOf}
 use Rattle.model.specs.Calls.{starting, acquireOf}
+use Rattle.model.specs.Crew.{crewRules, crewOf}
 use Rattle.model.specs.declared.Answer.{Answer}
 use Rattle.model.specs.declared.Answer.the-variants as answer
+use Rattle.model.specs.declared.CrewReply.{CrewReply}
 use Rattle.model.specs.declared.Found.{Found}
 use Rattle.model.specs.declared.Found.the-variants as found
 use Rattle.model.specs.declared.Head.{Head}
@@ -29,9 +31,9 @@ use Rattle.model.specs.declared.Take.{Take}
 use Rattle.model.specs.declared.Take.the-variants as taking
 use Rattle.model.specs.declared.Tried.{Tried}
 use Rattle.history.specs.World.{World}
-use Rattle.history.specs.Items.{Call, try-acquire, drop-lease, read-permission, competing-acquire, release-then-handoff, foreign-release, drop-preserving, acquire-preserving, environment, try-lock, transactional, acquire-bucket, release-all, acquire-locks, crew}
-use Rattle.history.specs.Statements.{ByCell, Changes-nothing}
-use Rattle.history.specs.Judged.{acting, unchanged, steps, performed}
+use Rattle.history.specs.Items.{Call, try-acquire, drop-lease, read-permission, competing-acquire, release-then-handoff, foreign-release, drop-preserving, acquire-preserving, environment, try-lock, transactional, acquire-bucket, release-all, acquire-locks, crew, ByCell}
+use Rattle.history.specs.Statements.{Changes-nothing, Crew-refused}
+use Rattle.history.specs.Judged.{judged, acting, unchanged, steps, performed}
 
 -- ---- which refusals steps answer
 
@@ -171,3 +173,14 @@ pub refusals-early : Changes-nothing
 refusals-early w k r =
     performed (λ m. m .seen .1 .answer ≡ answer.Refused r → Early k r → m ≡ unchanged w k r) w k
     (λ x q h. let z : x ≡ r = cc in rw z) (λ _ q h. absurd (never k (steps w k .seen .1 .answer) r (steps-late w k) q h))
+
+-- and a crew's reply, with its own counts
+pub crew-unmoved : Crew-refused
+unfolding crewOf
+crew-unmoved w counts cells turns r =
+    judged (λ (m : Made (CrewReply × List ℕ)). m .seen .0 .answer ≡ answer.Refused r → m ≡ refused r) (crewRules (w .head) (w .table) (w .health) counts cells turns)
+    (λ x q. let z : x ≡ r = cc in ap refused z) (λ _ q. let z : _≡_ {A = ℕ} 0 1 = cc in absurd (omega arith))
+  where
+    refused : Refusal → Made (CrewReply × List ℕ)
+    refused x =
+        record { seen = (record { head = w .head; moving = 0; idle = 0; taken = replicate 16 0; released = replicate 16 0; answer = answer.Refused x }, w .table); log = [] }

@@ -22,8 +22,8 @@ use Rattle.model.specs.declared.Refusal.{Refusal}
 use Rattle.model.specs.declared.Reply.{Reply}
 use Rattle.model.specs.declared.Run.{Run}
 use Rattle.history.specs.World.{World, cells, Live, step, now, Lawful}
-use Rattle.history.specs.Items.{Call, try-acquire, drop-lease, read-permission, competing-acquire, release-then-handoff, foreign-release, drop-preserving, acquire-preserving, environment, try-lock, transactional, acquire-bucket, release-all, acquire-locks, crew, perform}
-use Rattle.history.specs.Statements.{IsCrew, Hands-over, answers, log-of}
+use Rattle.history.specs.Items.{Call, try-acquire, drop-lease, read-permission, competing-acquire, release-then-handoff, foreign-release, drop-preserving, acquire-preserving, environment, try-lock, transactional, acquire-bucket, release-all, acquire-locks, crew, perform, IsCrew}
+use Rattle.history.specs.Statements.{Hands-over, answers, log-of}
 use Rattle.history.specs.Tests.{alive, state-held}
 use Rattle.history.specs.Events.{Good, good-step, released-spent}
 use Rattle.history.specs.Logs.{spent-now}

@@ -25,7 +25,7 @@ use Rattle.model.specs.declared.State.the-variants as state
 use Rattle.model.specs.declared.Took.{Took}
 use Rattle.history.specs.World.{World, worldOf, cells, Free, Live, step, Lawful, Sound, Unreleased}
 use Rattle.history.specs.Items.{Call, try-acquire, acquire-locks, perform, preparation, cold, next-item, run}
-use Rattle.history.specs.Statements.{Demand-2, Compare-and-set, Counts-are, Changes-nothing, Nothing-kept, Failed-locks, Named, Held-live, Hands-over, answers, leaves, log-of}
+use Rattle.history.specs.Statements.{Demand-2, Compare-and-set, Counts-are, Changes-nothing, Crew-refused, Nothing-kept, Failed-locks, Named, Named-alone, Held-live, Hands-over, answers, leaves, log-of}
 use Rattle.history.specs.Tests.{if-cases}
 use Rattle.history.specs.Events.{good}
 use Rattle.history.specs.Logs.{lawful-split, unreleased-front, keep-now}
@@ -33,8 +33,8 @@ use Rattle.history.specs.Owing.{Frees, freed-later, frees-right, freed-a
 use Rattle.history.specs.Returns.{gone, Handed, call-settles, failed-buffer}
 use Rattle.history.specs.Calls.{call-kept}
 use Rattle.history.specs.CountedCalls.{calls-counted}
-use Rattle.history.specs.Refused.{refusals-early}
-use Rattle.history.specs.NamedCalls.{calls-named}
+use Rattle.history.specs.Refused.{refusals-early, crew-unmoved}
+use Rattle.history.specs.NamedCalls.{calls-named, steps-named}
 use Rattle.history.specs.Courses.{preparation-stretch, run-stretch, ledger}
 
 pub demand-2 : Demand-2
@@ -85,14 +85,11 @@ tries w c s = subst After (sym checked) (go (leb (cells w) c) refl)
 
 pub compare-and-set : Compare-and-set
 compare-and-set w c s =
-    record { granted = λ x. granted x (tries w c s); taken = taken (tries w c s); not-taken = not-taken (tries w c s) }
+    record { granted = λ k. granted k (tries w c s); taken = taken (tries w c s); not-taken = not-taken (tries w c s) }
   where
-    granted : {a : Answer} {v : World} (x : ℕ) → Tries w c a v → (a ≡ Granted (leaseOf c x)) ↔ (Free w c × ((w .head .next < lastSerial) × (x ≡ w .head .next)))
-    granted x (takes f l) = (there, λ p. ap (λ (y : ℕ). Granted (leaseOf c y)) (sym (p .1 .1)))
-      where
-        there : Granted (leaseOf c (w .head .next)) ≡ Granted (leaseOf c x) → Free w c × ((w .head .next < lastSerial) × (x ≡ w .head .next))
-        there e = let q : leaseOf c (w .head .next) ≡ leaseOf c x = cc in (f, (l, sym (ap (λ (k : Lease). k .serial) q)))
-    granted x (not a n m) = (λ e. absurd (m _ e), λ p. absurd (n (p .0) (p .1 .0)))
+    granted : {a : Answer} {v : World} (k : Lease) → Tries w c a v → (a ≡ Granted k) ↔ (Free w c × ((w .head .next < lastSerial) × (k ≡ leaseOf c (w .head .next))))
+    granted k (takes f l) = (λ e. (f, (l, cc)), λ p. ap (λ (y : Lease). Granted y) (sym (p .1 .1)))
+    granted k (not a n m) = (λ e. absurd (m _ e), λ p. absurd (n (p .0) (p .1 .0)))
 
     taken : {a : Answer} {v : World} → Tries w c a v → a ≡ Granted (leaseOf c (w .head .next)) → v ≡ step w (took by-caller c (w .head .next))
     taken (takes f l) e = refl
@@ -142,5 +139,11 @@ counts-are = calls-counted
 pub changes-nothing : Changes-nothing
 changes-nothing = refusals-early
 
+pub crew-refused : Crew-refused
+crew-refused = crew-unmoved
+
 pub named : Named
 named = calls-named
+
+pub named-alone : Named-alone
+named-alone = steps-named
