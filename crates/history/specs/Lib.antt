@@ -2,6 +2,7 @@ pub mod World
 pub mod Items
 pub mod Statements
 pub mod Theorems
+pub mod Examples
 pub mod Tests
 pub mod Events
 pub mod Logs
