@@ -1,7 +1,7 @@
 -- Examples that meet the premises of each theorem, so that none speaks of nothing. By computation, on document 01's bench arena: H 2, B 4,
 -- registry 0, 1, 1, first serial 1.
 use Prim.Native.Nat.{ℕ, suc, zero, _≤_, _<_}
-use mathlib.Core.Path.{_≡_, refl, sym, ap, subst}
+use mathlib.Core.Path.{_≡_, refl, sym, ap, _∙_, subst}
 use mathlib.Core.List.{List, [], _∷_, _++_}
 use mathlib.Core.Bool.{true}
 use mathlib.Core.Logic.{inl, inr}
@@ -22,7 +22,7 @@ use Rattle.model.specs.declared.Refusal.the-variants.{InvalidBucket, NotHeld, B
 use Rattle.history.specs.World.{World, worldOf, Live, now, Sound, Spent, Unreleased}
 use Rattle.history.specs.Items.{Call, Says, acquire-bucket, try-lock, drop-lease, release-all, acquire-locks, environment, try-acquire, perform, foreign, Item, call, foreign-step, preparation, Course, courseOf, cold, next-item, run, preparing, held-of}
 use Rattle.history.specs.Statements.{Ledger, answers, leaves, log-of, Hands-over}
-use Rattle.history.specs.Theorems.{demand-2, compare-and-set, nothing-kept, failed-locks, held-live, changes-nothing, crew-refused, named}
+use Rattle.history.specs.Theorems.{demand-2, forgets, compare-and-set, nothing-kept, failed-locks, held-live, changes-nothing, crew-refused, named}
 use Rattle.history.specs.Tests.{differ}
 use Rattle.history.specs.Events.{lives}
 
@@ -98,6 +98,14 @@ boot-done = refl
 
 pub day-kept : Ledger the-day
 day-kept = subst Ledger day-is (demand-2 rubbish 2 4 1 (replicate 24 7) (replicate 2 7) day boot-done)
+
+-- `forgets`: the same day over other RAM
+pub other-boot-done : preparing 2 4 1 (replicate 24 4_294_967_295) (replicate 2 255) .0 ≡ Done
+unfolding preparing prepareOf prepareRules first headFits shapeFits healthFits
+other-boot-done = refl
+
+pub same-day : run (cold prepared) (preparation 2 4 1 (replicate 24 4_294_967_295) (replicate 2 255) ∷ day) ≡ the-day
+same-day = forgets prepared rubbish 2 4 1 (replicate 24 4_294_967_295) (replicate 2 255) (replicate 24 7) (replicate 2 7) day other-boot-done boot-done ∙ day-is
 
 -- `keeps`: the lease (2,2) is live when it was granted; a Busy try_lock, a refused call and a foreign step later nothing has released it, and
 -- it is live; `release_all` releases it, and it is not

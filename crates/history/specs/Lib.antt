@@ -12,6 +12,7 @@ pub mod Many
 pub mod Crew
 pub mod Calls
 pub mod Courses
+pub mod Exact
 pub mod Owing
 pub mod Returns
 pub mod Counted
