@@ -126,7 +126,7 @@ lease-lives = (live, unreleased, day-kept .keeps lease granting (late-busy ++ gi
     unreleased : Unreleased lease (late-busy ++ given-back)
     unreleased = (λ z. z, (λ z. z, (λ z. z, (λ z. z, (λ z. z, (λ z. z, (other 3 3 (λ e. omega arith), (other 5 1 (λ e. omega arith), tt))))))))
 
--- `never`: serial 3 was issued and, since the try_lock was late Busy, owns nothing; so it does at the end of the day
+-- `never`: serial 3 was issued and, since the try_lock was late Busy, owns nothing; so it is at the end of the day
 pub serial-dies : Spent (now prepared (granting ++ late-busy)) 3 × Spent (now prepared (granting ++ late-busy ++ given-back ++ ending)) 3
 unfolding bitAt ownerAt setCell setWaiters isFree isHeld stateOf stateAt isLive
 serial-dies = (dead, day-kept .never 3 (granting ++ late-busy) (given-back ++ ending) [] refl dead)
