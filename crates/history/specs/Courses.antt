@@ -1,0 +1,199 @@
+-- Every item of a history keeps the ledger: calls, lone foreign steps, further preparations.
+use Prim.Native.Nat.{ℕ, zero, suc, _+_, _*_}
+use mathlib.Core.Path.{_≡_, refl, sym, ap, _∙_, subst}
+use mathlib.Core.List.{List, [], _∷_, _++_}
+use native.Mathlib.Omega.{arith}
+use lib.Dec.{eqb}
+use lib.ListN.{length, replicate, length-replicate}
+use Rattle.model.specs.Log.{Actor, Event, took}
+use Rattle.model.specs.Arena.{headOf, leaseOf, bitAt, ownerAt, shapeFits, healthFits}
+use Rattle.model.specs.Calls.{prepareOf}
+use Rattle.model.specs.declared.Answer.the-variants.{Done}
+use Rattle.model.specs.declared.Lease.{Lease}
+use Rattle.laws.specs.Pick.{both}
+use Rattle.laws.specs.Shape.{Shaped, shaped}
+use Rattle.laws.specs.Prepared.{Outcome, Came, was-done, was-refused, came, prepare-done}
+use Rattle.history.specs.World.{World, worldOf, cells, now, Lawful, one, bits, takes, number-of}
+use Rattle.history.specs.Items.{foreign, Item, call, foreign-step, preparation, Course, courseOf, prepared-by, preparing, next-item, run, cold}
+use Rattle.history.specs.Statements.{Ledger, Demand-2, Forgets}
+use Rattle.history.specs.Tests.{free, In}
+use Rattle.history.specs.Events.{Good, sound, lives, counts}
+use Rattle.history.specs.Logs.{now-append, lawful-append, lawful-split, good-now, arena-now, next-now, bits-now, keep-now, spent-now, Kept, ended}
+use Rattle.history.specs.Steps.{step-kept}
+use Rattle.history.specs.Calls.{call-kept}
+use Rattle.history.specs.Crew.{zeros}
+
+-- ---- a lone foreign step
+
+foreign-kept : (w : World) (kind place number : ℕ) → Kept w (In []) (foreign w kind place number .seen) (foreign w kind place number .log)
+unfolding foreign
+foreign-kept w kind place number = ended (step-kept (w .head) [] [] (w .head .next) (w .table) (w .health) kind place number .kept)
+
+-- ---- a preparation
+
+abbrev pub Fresh : World → Type 0
+Fresh w = w ≡ worldOf (w .head) (replicate (3 * cells w) 0) (replicate (w .head .headers) 0)
+
+-- a stretch of a history since a preparation
+pub record Stretch (k : Course) : Type 0 where
+  pub fresh : Fresh (k .origin)
+  pub good : Good (k .origin)
+  pub lawful : Lawful (k .origin) (k .log)
+  pub leads : k .world ≡ now (k .origin) (k .log)
+
+zero-bit : (n c : ℕ) → bitAt (replicate n 0) c ≡ 0
+unfolding bitAt
+zero-bit n c = zeros n (3 * c)
+
+zero-owner : (n c : ℕ) → ownerAt (replicate n 0) c ≡ 0
+unfolding ownerAt
+zero-owner n c = zeros n (3 * c + 1)
+
+zero-bits : (n m : ℕ) → bits n (replicate m 0) ≡ 0
+unfolding bits
+zero-bits zero m = refl
+zero-bits (suc n) m = omega (arith, ap (λ (b : ℕ). one (eqb b 1)) (zero-bit m n), zero-bits n m)
+
+module _ (headers buckets serial : ℕ) where
+  abbrev prepared : World
+  prepared = worldOf (headOf headers buckets serial) (replicate (3 * (headers * buckets)) 0) (replicate headers 0)
+
+  prepared-good : {words : ℕ} → Shaped (headOf headers buckets serial) words → Good prepared
+  prepared-good s =
+      record {
+        shape = record {
+          some-headers = s .some-headers;
+          few-headers = s .few-headers;
+          some-buckets = s .some-buckets;
+          few-buckets = s .few-buckets;
+          few-cells = s .few-cells;
+          low = s .low;
+          high = s .high;
+          words-are = length-replicate {A = ℕ} (3 * (headers * buckets)) 0;
+        };
+        health-is = length-replicate {A = ℕ} headers 0;
+        status = λ c _. free (zero-bit (3 * (headers * buckets)) c) (zero-owner (3 * (headers * buckets)) c);
+        apart = λ c d _ _ p _ _. absurd (omega (arith, zero-bit (3 * (headers * buckets)) c));
+      }
+
+  -- done, it begins a stretch; refused, the one before goes on
+  pub preparation-stretch : (t g : List ℕ) (k : Course) → ((preparing headers buckets serial t g .0 ≡ Done → ⊥) → Stretch k)
+      → Stretch (next-item k (preparation headers buckets serial t g))
+  unfolding next-item preparing
+  preparation-stretch t g k s = go (came headers buckets serial t g)
+    where
+      after : Outcome → Course
+      after o = prepared-by (o .0 .answer) (worldOf (o .0 .head) (o .1 .0) (o .1 .1)) k
+
+      begins : Shaped (headOf headers buckets serial) (length t) → Stretch (courseOf prepared [] prepared)
+      begins d = record { fresh = refl; good = prepared-good d; lawful = tt; leads = refl }
+
+      go : Came headers buckets serial t g → Stretch (after (prepareOf headers buckets serial t g .seen))
+      go (was-done e p) =
+          let h = headOf headers buckets serial in
+          rw p (begins (shaped h (length t) (both (shapeFits h (length t)) (healthFits h (length g)) e .0)))
+      go (was-refused e p) =
+          rw p (s (λ d. let q = sym (ap (λ (o : Outcome). o .0 .answer) p) ∙ d in let z : _≡_ {A = ℕ} 0 1 = cc in omega arith))
+
+-- ---- a history
+
+-- the events of a call, behind those before
+goes-on : (k : Course) {P : Lease → Type 0} {v : World} {es : List Event} → Stretch k → Kept (k .world) P v es → Stretch (courseOf (k .origin) (k .log ++ es) v)
+goes-on k {P} {v} {es} s m =
+    record {
+      fresh = s .fresh;
+      good = s .good;
+      lawful = lawful-append (k .origin) (k .log) es (s .lawful) (subst (λ w. Lawful w es) (s .leads) (m .lawful));
+      leads = m .leads ∙ ap (λ w. now w es) (s .leads) ∙ sym (now-append (k .origin) (k .log) es);
+    }
+
+good-stretch : (k : Course) → Stretch k → Good (k .world)
+good-stretch k s = subst Good (sym (s .leads)) (good-now (k .origin) (k .log) (s .good) (s .lawful))
+
+item-stretch : (k : Course) (i : Item) → Stretch k → Stretch (next-item k i)
+unfolding next-item
+item-stretch k (call c) s = goes-on k s (call-kept (k .world) c (good-stretch k s) .kept)
+item-stretch k (foreign-step kind place number) s = goes-on k s (foreign-kept (k .world) kind place number)
+item-stretch k (preparation headers buckets serial t g) s = preparation-stretch headers buckets serial t g k (λ _. s)
+
+pub run-stretch : (k : Course) (is : List Item) → Stretch k → Stretch (run k is)
+unfolding run
+run-stretch k [] s = s
+run-stretch k (i ∷ is) s = run-stretch (next-item k i) is (item-stretch k i s)
+
+-- ---- the ledger of a stretch
+
+-- one log parted in two ways before an event of the same serial: the parts have as many takes, so they are the same
+same-front : (a b : Actor) (c d s : ℕ) (x x′ y y′ : List Event) → x ++ (took a c s ∷ x′) ≡ y ++ (took b d s ∷ y′) → number-of takes x ≡ number-of takes y
+    → (x ≡ y) × (c ≡ d)
+unfolding number-of
+same-front a b c d s [] x′ [] y′ e n = (refl, cc)
+same-front a b c d s [] x′ (f ∷ y) y′ e n =
+    let p : took a c s ≡ f = cc in
+    absurd (omega (arith, ap (counts takes) p))
+same-front a b c d s (f ∷ x) x′ [] y′ e n =
+    let p : f ≡ took b d s = cc in
+    absurd (omega (arith, ap (counts takes) p))
+same-front a b c d s (f ∷ x) x′ (f′ ∷ y) y′ e n =
+    let p : f ≡ f′ = cc in
+    let q : x ++ (took a c s ∷ x′) ≡ y ++ (took b d s ∷ y′) = cc in
+    let r = same-front a b c d s x x′ y y′ q (omega (arith, ap (counts takes) p)) in
+    (cc (r .0), r .1)
+
+pub ledger : (k : Course) → Stretch k → Ledger k
+ledger k s =
+    record {
+      fresh = s .fresh;
+      lawful = s .lawful;
+      leads = s .leads;
+      sound = λ before after e. sound (now o before) (mid before after e .0);
+      exclusive = λ c x y before after e p q.
+          sym (lives (now o before) (leaseOf c x) p .owner-is) ∙ lives (now o before) (leaseOf c y) q .owner-is;
+      keeps = λ l before middle after e v u.
+          let m = mid before (middle ++ after) e in
+          rw (now-append o before middle) (keep-now (now o before) middle l (m .0) (lawful-split (now o before) middle after (m .1) .0) v u);
+      never = λ x before middle after e v.
+          let m = mid before (middle ++ after) e in
+          rw (now-append o before middle) (spent-now (now o before) middle x (m .0) (lawful-split (now o before) middle after (m .1) .0) v);
+      once = λ a b c d x p p′ q q′ e f.
+          let m = mid p (took a c x ∷ p′) e .1 .0 .1 .0 in
+          let n = mid q (took b d x ∷ q′) f .1 .0 .1 .0 in
+          same-front a b c d x p p′ q q′ (sym e ∙ f) (omega (arith, next-now o p, next-now o q));
+      issued = omega (arith, ap (λ w. w .head .next) (s .leads), next-now o (k .log));
+      counted =
+          let size : cells (k .world) ≡ cells o = ap cells (s .leads) ∙ ap (λ h. h .headers * h .buckets) (arena-now o (k .log)) in
+          let table : k .world .table ≡ now o (k .log) .table = ap (λ w. w .table) (s .leads) in
+          let none : bits (cells o) (o .table) ≡ 0 = ap (λ w. bits (cells o) (w .table)) (s .fresh) ∙ zero-bits (cells o) (3 * cells o) in
+          rw (size, table) (omega (arith, bits-now o (k .log) (s .good) (s .lawful)));
+    }
+  where
+    o : World
+    o = k .origin
+
+    mid : (before after : List Event) → k .log ≡ before ++ after → Good (now o before) × Lawful (now o before) after
+    mid before after e =
+        let t = lawful-split o before after (subst (Lawful o) e (s .lawful)) in
+        (good-now o before (s .good) (t .0), t .1)
+
+-- ---- every history from a preparation
+
+pub histories-kept : Demand-2
+unfolding run
+histories-kept rubbish headers buckets serial t g items d =
+    let begun = preparation-stretch headers buckets serial t g (cold rubbish) (λ n. absurd (n d)) in
+    ledger _ (run-stretch (next-item (cold rubbish) (preparation headers buckets serial t g)) items begun)
+
+pub histories-forget : Forgets
+unfolding run next-item preparing
+histories-forget rubbish rubbish′ headers buckets serial t g t′ g′ items d d′ =
+    ap (λ k. run k items) (begins rubbish t g d ∙ sym (begins rubbish′ t′ g′ d′))
+  where
+    prepared : World
+    prepared = worldOf (headOf headers buckets serial) (replicate (3 * (headers * buckets)) 0) (replicate headers 0)
+
+    after : World → Outcome → Course
+    after w o = prepared-by (o .0 .answer) (worldOf (o .0 .head) (o .1 .0) (o .1 .1)) (cold w)
+
+    begins : (w : World) (t g : List ℕ) → preparing headers buckets serial t g .0 ≡ Done
+        → next-item (cold w) (preparation headers buckets serial t g) ≡ courseOf prepared [] prepared
+    begins w t g d = ap (after w) (prepare-done headers buckets serial t g d)

@@ -1,0 +1,311 @@
+-- Laws of one event that is legal: what it keeps of a sound arena, of a live lease, of a spent serial, and what it does to the counts.
+use Prim.Native.Nat.{ℕ, zero, suc, _+_, _*_, _≤_, _<_}
+use mathlib.Core.Path.{_≡_, refl, sym, ap, _∙_}
+use mathlib.Core.List.{List}
+use mathlib.Core.Bool.{true}
+use mathlib.Core.Logic.{_≢_}
+use native.Mathlib.Omega.{arith}
+use native.Mathlib.Decide.{ℕ-discrete}
+use lib.Dec.{eqb}
+use lib.ListN.{length, length-set}
+use borrow.Author.Tests.{le-leb, eq-eqb}
+use Rattle.model.specs.Log.{Actor, Event, attempt-begun, boundary-run, yielded, spun, step-dropped, took, released, waiters-set, health-set}
+use Rattle.model.specs.Arena.{lastSerial, cellsOf, headFits, shapeFits, healthFits, spentTo, leaseOf, bitAt, ownerAt, setCell, setWaiters, stateAt, isLive}
+use Rattle.model.specs.declared.Head.{Head}
+use Rattle.model.specs.declared.Lease.{Lease}
+use Rattle.laws.specs.Shape.{Shaped, shaped, healthy}
+use Rattle.laws.specs.Words.{length-set-cell, length-set-waiters, bit-set, bit-set-other, bit-set-waiters, owner-set-waiters, Seen, here, there, see}
+use Rattle.history.specs.World.{World, cells, Live, Legal, step, Sound, one, bits, Kind, kind-of, code, takes, releases, Releases, Spent}
+use Rattle.history.specs.Tests.{Status, free, held, undamaged, not-damaged, free-words, Alive, alive, live, same-lease}
+
+-- ---- a sound arena, as facts about its words
+
+abbrev pub Apart : List ℕ → ℕ → Type 0
+Apart t n = (c d : ℕ) → c < n → d < n → bitAt t c ≡ 1 → bitAt t d ≡ 1 → ownerAt t c ≡ ownerAt t d → c ≡ d
+
+pub record Good (w : World) : Type 0 where
+  pub shape : Shaped (w .head) (length (w .table))
+  pub health-is : length (w .health) ≡ w .head .headers
+  pub status : (c : ℕ) → c < cells w → Status (bitAt (w .table) c) (ownerAt (w .table) c) (w .head .next)
+  pub apart : Apart (w .table) (cells w)
+
+pub fits : (h : Head) (words : ℕ) → Shaped h words → shapeFits h words ≡ true
+unfolding headFits shapeFits
+fits h words s =
+    rw (
+      le-leb 1 (h .headers) (s .some-headers),
+      le-leb (h .headers) 64 (s .few-headers),
+      le-leb 1 (h .buckets) (s .some-buckets),
+      le-leb (h .buckets) 1024 (s .few-buckets),
+      le-leb (cellsOf h) 4096 (s .few-cells),
+      le-leb 1 (h .next) (s .low),
+      le-leb (h .next) lastSerial (s .high),
+      eq-eqb words (3 * cellsOf h) (s .words-are),
+    )
+
+-- an owner in the table was issued before
+pub issued : {b o n : ℕ} → Status b o n → b ≡ 1 → (1 ≤ o) × (o < n)
+issued (free b o) h = absurd (omega arith)
+issued (held b o p) h = (o, p)
+
+pub good : (w : World) → Sound w → Good w
+unfolding stateAt
+good w s =
+    record {
+      shape = shaped (w .head) (length (w .table)) (s .fits);
+      health-is = healthy (w .head) (length (w .health)) (s .healthy);
+      status = status;
+      apart = λ c d p q x y e.
+          s .apart c d (ownerAt (w .table) c) (is-live c (ownerAt (w .table) c) p x refl) (is-live d (ownerAt (w .table) c) q y (sym e));
+    }
+  where
+    status : (c : ℕ) → c < cells w → Status (bitAt (w .table) c) (ownerAt (w .table) c) (w .head .next)
+    status c l = undamaged (w .head .next) (bitAt (w .table) c) (ownerAt (w .table) c) (s .whole c l)
+
+    is-live : (c s : ℕ) → c < cells w → bitAt (w .table) c ≡ 1 → ownerAt (w .table) c ≡ s → Live w (leaseOf c s)
+    is-live c s l b o =
+        let i = issued (status c l) b in
+        live (w .head .next) (cells w) (w .table) (leaseOf c s) (record { in-range = l; bit-is = b; owner-is = o; low = omega arith; high = omega arith })
+
+pub sound : (w : World) → Good w → Sound w
+unfolding stateAt healthFits
+sound w g =
+    record {
+      fits = fits (w .head) (length (w .table)) (g .shape);
+      healthy = eq-eqb (length (w .health)) (w .head .headers) (g .health-is);
+      whole = λ c l. not-damaged (w .head .next) (bitAt (w .table) c) (ownerAt (w .table) c) (g .status c l);
+      apart = λ c d s x y.
+          let p = alive (w .head .next) (cells w) (w .table) (leaseOf c s) x in
+          let q = alive (w .head .next) (cells w) (w .table) (leaseOf d s) y in
+          g .apart c d (p .in-range) (q .in-range) (p .bit-is) (q .bit-is) (p .owner-is ∙ sym (q .owner-is));
+    }
+
+-- the facts of a live lease
+pub lives : (w : World) (l : Lease) → Live w l → Alive (w .head .next) (cells w) (w .table) l
+lives w l v = alive (w .head .next) (cells w) (w .table) l v
+
+older : {b o n : ℕ} → Status b o n → Status b o (n + 1)
+older (free b o) = free b o
+older (held b o p) = held b o (omega arith)
+
+module _ (w : World) (g : Good w) (c : ℕ) (l : c < cells w) where
+  pub at : 3 * c + 2 < length (w .table)
+  at = omega (arith, g .shape .words-are)
+
+  status-put : (b o n : ℕ) → Status b o n → ((d : ℕ) → d < cells w → Status (bitAt (w .table) d) (ownerAt (w .table) d) n)
+      → (d : ℕ) → d < cells w → Status (bitAt (setCell (w .table) c b o) d) (ownerAt (setCell (w .table) c b o) d) n
+  status-put b o n new old d k = go (see (w .table) c b o d (omega (arith, at)))
+    where
+      go : Seen (w .table) c b o d → Status (bitAt (setCell (w .table) c b o) d) (ownerAt (setCell (w .table) c b o) d) n
+      go (here e p q) = rw (p, q) new
+      go (there e p q) = rw (p, q) (old d k)
+
+  -- what is written is free, or held by a serial that owns nothing
+  apart-put : (b o : ℕ) → (b ≡ 1 → (d : ℕ) → d < cells w → bitAt (w .table) d ≡ 1 → ownerAt (w .table) d ≢ o) → Apart (setCell (w .table) c b o) (cells w)
+  apart-put b o new d e k m x y z = go (see (w .table) c b o d (omega (arith, at))) (see (w .table) c b o e (omega (arith, at)))
+    where
+      go : Seen (w .table) c b o d → Seen (w .table) c b o e → d ≡ e
+      go (here p _ _) (here q _ _) = omega arith
+      go (here p p₁ p₂) (there q q₁ q₂) = absurd (new (omega arith) e m (omega arith) (omega arith))
+      go (there p p₁ p₂) (here q q₁ q₂) = absurd (new (omega arith) d k (omega arith) (omega arith))
+      go (there p p₁ p₂) (there q q₁ q₂) = g .apart d e k m (omega arith) (omega arith) (omega arith)
+
+-- another table, and perhaps another next serial
+reshaped : (h : Head) (n m words : ℕ) → Shaped h m → 1 ≤ n → n ≤ lastSerial → words ≡ m → Shaped (spentTo h n) words
+reshaped h n m words s a b e =
+    record {
+      some-headers = s .some-headers;
+      few-headers = s .few-headers;
+      some-buckets = s .some-buckets;
+      few-buckets = s .few-buckets;
+      few-cells = s .few-cells;
+      low = a;
+      high = b;
+      words-are = e ∙ s .words-are;
+    }
+
+pub good-step : (w : World) (e : Event) → Good w → Legal w e → Good (step w e)
+good-step w attempt-begun g l = g
+good-step w boundary-run g l = g
+good-step w yielded g l = g
+good-step w spun g l = g
+good-step w step-dropped g l = g
+good-step w (took a c s) g l =
+    record {
+      shape = reshaped (w .head) (w .head .next + 1) (length (w .table)) (length (setCell (w .table) c 1 s)) (g .shape) (omega arith) (omega arith) (length-set-cell (w .table) c 1 s);
+      health-is = g .health-is;
+      status = status-put w g c (l .0 .0) 1 s (w .head .next + 1) (held refl (omega (arith, g .shape .low)) (omega arith)) (λ d k. older (g .status d k));
+      apart = apart-put w g c (l .0 .0) 1 s (λ _ d k b. omega (arith, issued (g .status d k) b .1));
+    }
+good-step w (released a c s) g l =
+    let i = lives w (leaseOf c s) l .in-range in
+    record {
+      shape = reshaped (w .head) (w .head .next) (length (w .table)) (length (setCell (w .table) c 0 0)) (g .shape) (g .shape .low) (g .shape .high) (length-set-cell (w .table) c 0 0);
+      health-is = g .health-is;
+      status = status-put w g c i 0 0 (w .head .next) (free refl refl) (g .status);
+      apart = apart-put w g c i 0 0 (omega arith);
+    }
+good-step w (waiters-set c n) g l =
+    record {
+      shape = reshaped (w .head) (w .head .next) (length (w .table)) (length (setWaiters (w .table) c n)) (g .shape) (g .shape .low) (g .shape .high) (length-set-waiters (w .table) c n);
+      health-is = g .health-is;
+      status = λ d k. simp (bit-set-waiters, owner-set-waiters) (g .status d k);
+      apart = simp (bit-set-waiters, owner-set-waiters) (g .apart);
+    }
+good-step w (health-set i n) g l = record { shape = g .shape; health-is = length-set (w .health) i n ∙ g .health-is; status = g .status; apart = g .apart }
+
+-- the head but for the next serial stays
+pub same-arena : (w : World) (e : Event) → step w e .head ≡ spentTo (w .head) (step w e .head .next)
+same-arena w attempt-begun = refl
+same-arena w boundary-run = refl
+same-arena w yielded = refl
+same-arena w spun = refl
+same-arena w step-dropped = refl
+same-arena w (took a c s) = refl
+same-arena w (released a c s) = refl
+same-arena w (waiters-set c n) = refl
+same-arena w (health-set i n) = refl
+
+-- ---- leases
+
+-- live words in another table, with the next serial no lower
+pub moved-live : (next cells next′ : ℕ) (t u : List ℕ) (l : Lease) → Alive next cells t l → next ≤ next′
+    → bitAt u (l .cell) ≡ bitAt t (l .cell) → ownerAt u (l .cell) ≡ ownerAt t (l .cell) → isLive next′ cells u l ≡ true
+moved-live next cells next′ t u l a n p q =
+    live next′ cells u l (record { in-range = a .in-range; bit-is = p ∙ a .bit-is; owner-is = q ∙ a .owner-is; low = a .low; high = omega (arith, a .high) })
+
+pub keep-step : (w : World) (e : Event) (l : Lease) → Good w → Legal w e → Live w l → (Releases l e → ⊥) → Live (step w e) l
+keep-step w attempt-begun l g k v n = v
+keep-step w boundary-run l g k v n = v
+keep-step w yielded l g k v n = v
+keep-step w spun l g k v n = v
+keep-step w step-dropped l g k v n = v
+keep-step w (took a c s) l g k v n = go (see (w .table) c 1 s (l .cell) (omega (arith, at w g c (k .0 .0)))) (lives w l v)
+  where
+    go : Seen (w .table) c 1 s (l .cell) → Alive (w .head .next) (cells w) (w .table) l → Live (step w (took a c s)) l
+    go (here e p q) x =
+        let z : bitAt (w .table) (l .cell) ≡ 0 = rw e (free-words (w .head .next) (w .table) c (k .0 .1) .0) in
+        absurd (omega (arith, x .bit-is))
+    go (there e p q) x = moved-live (w .head .next) (cells w) (w .head .next + 1) (w .table) (setCell (w .table) c 1 s) l x (omega arith) p q
+keep-step w (released a c s) l g k v n =
+    go (see (w .table) c 0 0 (l .cell) (omega (arith, at w g c (lives w (leaseOf c s) k .in-range)))) (lives w l v) (lives w (leaseOf c s) k)
+  where
+    go : Seen (w .table) c 0 0 (l .cell) → Alive (w .head .next) (cells w) (w .table) l → Alive (w .head .next) (cells w) (w .table) (leaseOf c s)
+        → Live (step w (released a c s)) l
+    go (here e p q) x y = absurd (n (same-lease l (leaseOf c s) e (sym (x .owner-is) ∙ ap (ownerAt (w .table)) e ∙ y .owner-is)))
+    go (there e p q) x y = moved-live (w .head .next) (cells w) (w .head .next) (w .table) (setCell (w .table) c 0 0) l x (omega arith) p q
+keep-step w (waiters-set c n) l g k v u =
+    moved-live (w .head .next) (cells w) (w .head .next) (w .table) (setWaiters (w .table) c n) l (lives w l v) (omega arith)
+    (bit-set-waiters (w .table) c n (l .cell)) (owner-set-waiters (w .table) c n (l .cell))
+keep-step w (health-set i n) l g k v u = v
+
+-- a live lease after an event was live before it, or its serial is the one just issued
+pub live-before : (w : World) (e : Event) (l : Lease) → Good w → Legal w e → Live (step w e) l → l .serial < w .head .next → Live w l
+live-before w attempt-begun l g k v o = v
+live-before w boundary-run l g k v o = v
+live-before w yielded l g k v o = v
+live-before w spun l g k v o = v
+live-before w step-dropped l g k v o = v
+live-before w (took a c s) l g k v o = go (see (w .table) c 1 s (l .cell) (omega (arith, at w g c (k .0 .0)))) (lives (step w (took a c s)) l v)
+  where
+    go : Seen (w .table) c 1 s (l .cell) → Alive (w .head .next + 1) (cells w) (setCell (w .table) c 1 s) l → Live w l
+    go (here e p q) x = absurd (omega (arith, x .owner-is, k .1 .0))
+    go (there e p q) x =
+        live (w .head .next) (cells w) (w .table) l (record { in-range = x .in-range; bit-is = sym p ∙ x .bit-is; owner-is = sym q ∙ x .owner-is; low = x .low; high = o })
+live-before w (released a c s) l g k v o =
+    go (see (w .table) c 0 0 (l .cell) (omega (arith, at w g c (lives w (leaseOf c s) k .in-range)))) (lives (step w (released a c s)) l v)
+  where
+    go : Seen (w .table) c 0 0 (l .cell) → Alive (w .head .next) (cells w) (setCell (w .table) c 0 0) l → Live w l
+    go (here e p q) x = absurd (omega (arith, x .bit-is))
+    go (there e p q) x = moved-live (w .head .next) (cells w) (w .head .next) (setCell (w .table) c 0 0) (w .table) l x (omega arith) (sym p) (sym q)
+live-before w (waiters-set c n) l g k v o =
+    moved-live (w .head .next) (cells w) (w .head .next) (setWaiters (w .table) c n) (w .table) l (lives (step w (waiters-set c n)) l v) (omega arith)
+    (sym (bit-set-waiters (w .table) c n (l .cell))) (sym (owner-set-waiters (w .table) c n (l .cell)))
+live-before w (health-set i n) l g k v o = v
+
+-- ---- counts
+
+-- 1 if the event is of the kind
+abbrev pub counts : Kind → Event → ℕ
+counts k e = one (eqb (code (kind-of e)) (code k))
+
+pub next-step : (w : World) (e : Event) → step w e .head .next ≡ w .head .next + counts takes e
+next-step w attempt-begun = omega arith
+next-step w boundary-run = omega arith
+next-step w yielded = omega arith
+next-step w spun = omega arith
+next-step w step-dropped = omega arith
+next-step w (took a c s) = refl
+next-step w (released a c s) = omega arith
+next-step w (waiters-set c n) = omega arith
+next-step w (health-set i n) = omega arith
+
+pub spent-step : (w : World) (e : Event) (s : ℕ) → Good w → Legal w e → Spent w s → Spent (step w e) s
+spent-step w e s g k p =
+    record {
+      was-issued = omega (arith, p .was-issued, next-step w e);
+      owns-none = λ c v. p .owns-none c (live-before w e (leaseOf c s) g k v (p .was-issued));
+    }
+
+pub bits-same : (n : ℕ) (t u : List ℕ) → ((d : ℕ) → d < n → bitAt t d ≡ bitAt u d) → bits n t ≡ bits n u
+unfolding bits
+bits-same zero t u h = refl
+bits-same (suc n) t u h = cc (h n (omega arith), bits-same n t u (λ d l. h d (omega arith)))
+
+bits-change : (n : ℕ) (t u : List ℕ) (c : ℕ) → c < n → ((d : ℕ) → d ≢ c → bitAt t d ≡ bitAt u d)
+    → bits n t + one (eqb (bitAt u c) 1) ≡ bits n u + one (eqb (bitAt t c) 1)
+unfolding bits
+bits-change zero t u c l h = absurd (omega arith)
+bits-change (suc n) t u c l h = go (ℕ-discrete n c) (λ k. bits-change n t u c k h)
+  where
+    is : List ℕ → ℕ → ℕ
+    is v d = one (eqb (bitAt v d) 1)
+
+    go : Dec (n ≡ c) → (c < n → bits n t + is u c ≡ bits n u + is t c) → is t n + bits n t + is u c ≡ is u n + bits n u + is t c
+    go (yes e) r = omega (arith, ap (is t) e, ap (is u) e, bits-same n t u (λ d m. h d (omega arith)))
+    go (no e) r = omega (arith, ap (λ (b : ℕ). one (eqb b 1)) (h n e), r (omega arith))
+
+bits-put : (n : ℕ) (t : List ℕ) (c b o : ℕ) → c < n → 3 * c + 2 < length t → bits n (setCell t c b o) + one (eqb (bitAt t c) 1) ≡ bits n t + one (eqb b 1)
+bits-put n t c b o l h =
+    bits-change n (setCell t c b o) t c l (λ d e. bit-set-other t c b o d e) ∙ ap (λ (x : ℕ). bits n t + one (eqb x 1)) (bit-set t c b o (omega arith))
+
+pub bits-step : (w : World) (e : Event) → Good w → Legal w e
+    → bits (cells w) (step w e .table) + counts releases e ≡ bits (cells w) (w .table) + counts takes e
+bits-step w attempt-begun g k = refl
+bits-step w boundary-run g k = refl
+bits-step w yielded g k = refl
+bits-step w spun g k = refl
+bits-step w step-dropped g k = refl
+bits-step w (took a c s) g k =
+    omega (arith, bits-put (cells w) (w .table) c 1 s (k .0 .0) (at w g c (k .0 .0)), ap (λ (x : ℕ). one (eqb x 1)) (free-words (w .head .next) (w .table) c (k .0 .1) .0))
+bits-step w (released a c s) g k =
+    let i = lives w (leaseOf c s) k in
+    omega (arith, bits-put (cells w) (w .table) c 0 0 (i .in-range) (at w g c (i .in-range)), ap (λ (x : ℕ). one (eqb x 1)) (i .bit-is))
+bits-step w (waiters-set c n) g k = ap (λ (x : ℕ). x + 0) (bits-same (cells w) (setWaiters (w .table) c n) (w .table) (λ d l. bit-set-waiters (w .table) c n d))
+bits-step w (health-set i n) g k = refl
+
+-- the lease that a take makes
+pub taken-live : (w : World) (a : Actor) (c : ℕ) → Good w → c < cells w → Live (step w (took a c (w .head .next))) (leaseOf c (w .head .next))
+taken-live w a c g l = go (see (w .table) c 1 (w .head .next) c (omega (arith, at w g c l)))
+  where
+    go : Seen (w .table) c 1 (w .head .next) c → Live (step w (took a c (w .head .next))) (leaseOf c (w .head .next))
+    go (here e p q) =
+        live (w .head .next + 1) (cells w) (setCell (w .table) c 1 (w .head .next)) (leaseOf c (w .head .next))
+        (record { in-range = l; bit-is = p; owner-is = q; low = g .shape .low; high = omega arith })
+    go (there e p q) = absurd (e refl)
+
+-- a lease that is released is gone: its serial owns nothing
+pub released-spent : (w : World) (a : Actor) (c s : ℕ) → Good w → Live w (leaseOf c s) → Spent (step w (released a c s)) s
+released-spent w a c s g v =
+    let x = lives w (leaseOf c s) v in
+    record {
+      was-issued = x .high;
+      owns-none = λ d u.
+          let y = lives w (leaseOf d s) (live-before w (released a c s) (leaseOf d s) g v u (x .high)) in
+          go d (g .apart d c (y .in-range) (x .in-range) (y .bit-is) (x .bit-is) (y .owner-is ∙ sym (x .owner-is))) (lives (step w (released a c s)) (leaseOf d s) u)
+          (see (w .table) c 0 0 d (omega (arith, at w g c (x .in-range))));
+    }
+  where
+    go : (d : ℕ) → d ≡ c → Alive (w .head .next) (cells w) (setCell (w .table) c 0 0) (leaseOf d s) → Seen (w .table) c 0 0 d → ⊥
+    go d e u (here p q r) = omega (arith, u .bit-is)
+    go d e u (there p q r) = p e

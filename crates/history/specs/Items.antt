@@ -1,0 +1,268 @@
+-- What a history is made of: calls of document 01 with any arguments, lone foreign steps, preparations.
+use Prim.Native.Nat.{ℕ, _+_}
+use mathlib.Core.List.{List, [], _∷_, _++_}
+use Rattle.model.specs.Log.{Made, Event, gives, _>>=_, _>>_}
+use Rattle.model.specs.Arena.{spentTo, leasesOf}
+use Rattle.model.specs.Foreign.{stepOf}
+use Rattle.model.specs.Calls.{countsOf, given, prepareOf, tryAcquireOf, dropLeaseOf, readPermissionOf, competingAcquireOf, releaseThenHandoffOf, foreignReleaseOf, acquirePreservingOf, dropPreservingOf, environmentOf, tryLockOf, transactionalOf, acquireBucketOf, releaseAllOf, acquireLocksOf}
+use Rattle.model.specs.Crew.{crewOf}
+use Rattle.model.specs.declared.Answer.{Answer}
+use Rattle.model.specs.declared.Answer.the-variants.{Done, Cell, Granted, AllGranted, Busy, Refused, RefusedAt}
+use Rattle.model.specs.declared.Counts.{Counts}
+use Rattle.model.specs.declared.Lease.{Lease}
+use Rattle.history.specs.World.{World, worldOf}
+
+-- a call without its head, table and health: these are what the last item left
+pub data Call : Type 0 where
+  try-acquire : (cell : ℕ) → Call
+  drop-lease read-permission competing-acquire release-then-handoff : Lease → Call
+  foreign-release drop-preserving : (held : List ℕ) → Lease → Call
+  acquire-preserving : (held : List ℕ) (cell : ℕ) → Call
+  environment : (script : List ℕ) (place : ℕ) (held : List ℕ) → Call
+  try-lock : (script : List ℕ) (place : ℕ) (held : List ℕ) (cell : ℕ) → Call
+  transactional acquire-bucket : (registry script : List ℕ) (place : ℕ) (held : List ℕ) (binding bucket : ℕ) → Call
+  release-all : (script : List ℕ) (place : ℕ) (leases : List ℕ) → Call
+  acquire-locks : (registry script : List ℕ) (place : ℕ) (held keys grants : List ℕ) → Call
+  crew : (counts cells turns : List ℕ) → Call
+
+-- ---- what a call is given, by kind of call: no script, no list or no buffer is an empty one
+
+-- the script of a call
+abbrev pub script-of : Call → List ℕ
+script-of (try-acquire c) = []
+script-of (drop-lease l) = []
+script-of (read-permission l) = []
+script-of (competing-acquire l) = []
+script-of (release-then-handoff l) = []
+script-of (foreign-release held l) = []
+script-of (drop-preserving held l) = []
+script-of (acquire-preserving held c) = []
+script-of (environment script place held) = script
+script-of (try-lock script place held c) = script
+script-of (transactional registry script place held binding bucket) = script
+script-of (acquire-bucket registry script place held binding bucket) = script
+script-of (release-all script place leases) = script
+script-of (acquire-locks registry script place held keys grants) = script
+script-of (crew counts cells turns) = []
+
+-- the place in its script at which a call begins
+abbrev pub place-of : Call → ℕ
+place-of (try-acquire c) = 0
+place-of (drop-lease l) = 0
+place-of (read-permission l) = 0
+place-of (competing-acquire l) = 0
+place-of (release-then-handoff l) = 0
+place-of (foreign-release held l) = 0
+place-of (drop-preserving held l) = 0
+place-of (acquire-preserving held c) = 0
+place-of (environment script place held) = place
+place-of (try-lock script place held c) = place
+place-of (transactional registry script place held binding bucket) = place
+place-of (acquire-bucket registry script place held binding bucket) = place
+place-of (release-all script place leases) = place
+place-of (acquire-locks registry script place held keys grants) = place
+place-of (crew counts cells turns) = 0
+
+-- the held list of a call
+abbrev pub held-of : Call → List Lease
+held-of (try-acquire c) = []
+held-of (drop-lease l) = []
+held-of (read-permission l) = []
+held-of (competing-acquire l) = []
+held-of (release-then-handoff l) = []
+held-of (foreign-release held l) = leasesOf held
+held-of (drop-preserving held l) = leasesOf held
+held-of (acquire-preserving held c) = leasesOf held
+held-of (environment script place held) = leasesOf held
+held-of (try-lock script place held c) = leasesOf held
+held-of (transactional registry script place held binding bucket) = leasesOf held
+held-of (acquire-bucket registry script place held binding bucket) = leasesOf held
+held-of (release-all script place leases) = []
+held-of (acquire-locks registry script place held keys grants) = leasesOf held
+held-of (crew counts cells turns) = []
+
+-- the leases that a call is given to give up
+abbrev pub given-up : Call → List Lease
+given-up (try-acquire c) = []
+given-up (drop-lease l) = l ∷ []
+given-up (read-permission l) = []
+given-up (competing-acquire l) = []
+given-up (release-then-handoff l) = l ∷ []
+given-up (foreign-release held l) = l ∷ []
+given-up (drop-preserving held l) = l ∷ []
+given-up (acquire-preserving held c) = []
+given-up (environment script place held) = []
+given-up (try-lock script place held c) = []
+given-up (transactional registry script place held binding bucket) = []
+given-up (acquire-bucket registry script place held binding bucket) = []
+given-up (release-all script place leases) = leasesOf leases
+given-up (acquire-locks registry script place held keys grants) = []
+given-up (crew counts cells turns) = []
+
+-- the buffer that a call was given
+abbrev pub buffer : Call → List ℕ
+buffer (try-acquire c) = []
+buffer (drop-lease l) = []
+buffer (read-permission l) = []
+buffer (competing-acquire l) = []
+buffer (release-then-handoff l) = []
+buffer (foreign-release held l) = []
+buffer (drop-preserving held l) = []
+buffer (acquire-preserving held c) = []
+buffer (environment script place held) = []
+buffer (try-lock script place held c) = []
+buffer (transactional registry script place held binding bucket) = []
+buffer (acquire-bucket registry script place held binding bucket) = []
+buffer (release-all script place leases) = []
+buffer (acquire-locks registry script place held keys grants) = grants
+buffer (crew counts cells turns) = []
+
+-- the calls that are given a cell number
+abbrev pub ByCell : Call → Type 0
+ByCell (try-acquire c) = Unit {0}
+ByCell (drop-lease l) = ⊥
+ByCell (read-permission l) = ⊥
+ByCell (competing-acquire l) = ⊥
+ByCell (release-then-handoff l) = ⊥
+ByCell (foreign-release held l) = ⊥
+ByCell (drop-preserving held l) = ⊥
+ByCell (acquire-preserving held c) = Unit {0}
+ByCell (environment script place held) = ⊥
+ByCell (try-lock script place held c) = Unit {0}
+ByCell (transactional registry script place held binding bucket) = ⊥
+ByCell (acquire-bucket registry script place held binding bucket) = ⊥
+ByCell (release-all script place leases) = ⊥
+ByCell (acquire-locks registry script place held keys grants) = ⊥
+ByCell (crew counts cells turns) = ⊥
+
+-- the crew
+abbrev pub IsCrew : Call → Type 0
+IsCrew (try-acquire c) = ⊥
+IsCrew (drop-lease l) = ⊥
+IsCrew (read-permission l) = ⊥
+IsCrew (competing-acquire l) = ⊥
+IsCrew (release-then-handoff l) = ⊥
+IsCrew (foreign-release held l) = ⊥
+IsCrew (drop-preserving held l) = ⊥
+IsCrew (acquire-preserving held c) = ⊥
+IsCrew (environment script place held) = ⊥
+IsCrew (try-lock script place held c) = ⊥
+IsCrew (transactional registry script place held binding bucket) = ⊥
+IsCrew (acquire-bucket registry script place held binding bucket) = ⊥
+IsCrew (release-all script place leases) = ⊥
+IsCrew (acquire-locks registry script place held keys grants) = ⊥
+IsCrew (crew counts cells turns) = Unit {0}
+
+-- ---- what a call says, and what it leaves
+
+-- the crew gives no such counts; the place is the script's afterwards, and only multi-lock has a grant buffer
+pub record Says : Type 0 where
+  pub answer : Answer
+  pub counts : Counts
+  pub place : ℕ
+  pub grants : List ℕ
+
+abbrev pub says : Answer → Counts → ℕ → List ℕ → Says
+says a k p b = record { answer = a; counts = k; place = p; grants = b }
+
+-- the definition of each call, given the world that the last item left
+unfoldable pub perform : World → Call → Made (World × Says)
+perform w (try-acquire c) = do
+  (r, t) ← tryAcquireOf (w .head) (w .table) c
+  gives (worldOf (r .head) t (w .health), says (r .answer) (r .counts) 0 [])
+perform w (drop-lease l) = do
+  (r, t) ← dropLeaseOf (w .head) (w .table) l
+  gives (worldOf (r .head) t (w .health), says (r .answer) (r .counts) 0 [])
+perform w (read-permission l) = do
+  r ← readPermissionOf (w .head) (w .table) l
+  gives (worldOf (r .head) (w .table) (w .health), says (r .answer) (r .counts) 0 [])
+perform w (competing-acquire l) = do
+  (r, t) ← competingAcquireOf (w .head) (w .table) l
+  gives (worldOf (r .head) t (w .health), says (r .answer) (r .counts) 0 [])
+perform w (release-then-handoff l) = do
+  (r, t) ← releaseThenHandoffOf (w .head) (w .table) l
+  gives (worldOf (r .head) t (w .health), says (r .answer) (r .counts) 0 [])
+perform w (foreign-release held l) = do
+  (r, t) ← foreignReleaseOf (w .head) (w .table) held l
+  gives (worldOf (r .head) t (w .health), says (r .answer) (r .counts) 0 [])
+perform w (drop-preserving held l) = do
+  (r, t) ← dropPreservingOf (w .head) (w .table) held l
+  gives (worldOf (r .head) t (w .health), says (r .answer) (r .counts) 0 [])
+perform w (acquire-preserving held c) = do
+  (r, t) ← acquirePreservingOf (w .head) (w .table) held c
+  gives (worldOf (r .head) t (w .health), says (r .answer) (r .counts) 0 [])
+perform w (environment script place held) = do
+  (r, (t, g)) ← environmentOf (w .head) (w .table) (w .health) script place held
+  gives (worldOf (r .head) t g, says (r .answer) (r .counts) (r .place) [])
+perform w (try-lock script place held c) = do
+  (r, (t, g)) ← tryLockOf (w .head) (w .table) (w .health) script place held c
+  gives (worldOf (r .head) t g, says (r .answer) (r .counts) (r .place) [])
+perform w (transactional registry script place held binding bucket) = do
+  (r, (t, g)) ← transactionalOf (w .head) (w .table) (w .health) registry script place held binding bucket
+  gives (worldOf (r .head) t g, says (r .answer) (r .counts) (r .place) [])
+perform w (acquire-bucket registry script place held binding bucket) = do
+  (r, (t, g)) ← acquireBucketOf (w .head) (w .table) (w .health) registry script place held binding bucket
+  gives (worldOf (r .head) t g, says (r .answer) (r .counts) (r .place) [])
+perform w (release-all script place leases) = do
+  (r, (t, g)) ← releaseAllOf (w .head) (w .table) (w .health) script place leases
+  gives (worldOf (r .head) t g, says (r .answer) (r .counts) (r .place) [])
+perform w (acquire-locks registry script place held keys grants) = do
+  (r, (t, (g, b))) ← acquireLocksOf (w .head) (w .table) (w .health) registry script place held keys grants
+  gives (worldOf (r .head) t g, says (r .answer) (r .counts) (r .place) b)
+perform w (crew counts cells turns) = do
+  (r, t) ← crewOf (w .head) (w .table) (w .health) counts cells turns
+  gives (worldOf (r .head) t (w .health), says (r .answer) (countsOf 0 0 0 0) 0 [])
+
+-- a lone foreign step, between two calls: nobody's lease is protected then
+unfoldable pub foreign : World → ℕ → ℕ → ℕ → Made World
+foreign w kind place number = do
+  (s, (t, g)) ← stepOf (given (w .head) [] []) (w .head .next) (w .table) (w .health) kind place number
+  gives (worldOf (spentTo (w .head) (s .next)) t g)
+
+pub data Item : Type 0 where
+  call : Call → Item
+  foreign-step : (kind place number : ℕ) → Item
+  -- a preparation, over whatever runs it is lent
+  preparation : (headers buckets serial : ℕ) (table health : List ℕ) → Item
+
+-- ---- a history, seen since its last preparation
+
+pub record Course : Type 0 where
+  -- the world that the last preparation left, the events since, and the world now
+  pub origin : World
+  pub log : List Event
+  pub world : World
+
+abbrev pub courseOf : World → List Event → World → Course
+courseOf o es w = record { origin = o; log = es; world = w }
+
+-- done: a new stretch begins; refused: "the head before it stays the one in force"
+abbrev pub prepared-by : Answer → World → Course → Course
+prepared-by Done w k = courseOf w [] w
+prepared-by (Cell c) w k = k
+prepared-by (Granted l) w k = k
+prepared-by AllGranted w k = k
+prepared-by Busy w k = k
+prepared-by (Refused r) w k = k
+prepared-by (RefusedAt r p) w k = k
+
+-- the world that a preparation leaves
+unfoldable pub preparing : ℕ → ℕ → ℕ → List ℕ → List ℕ → Answer × World
+preparing headers buckets serial t g =
+    let o = prepareOf headers buckets serial t g .seen in
+    (o .0 .answer, worldOf (o .0 .head) (o .1 .0) (o .1 .1))
+
+unfoldable pub next-item : Course → Item → Course
+next-item k (call c) = let m = perform (k .world) c in courseOf (k .origin) (k .log ++ m .log) (m .seen .0)
+next-item k (foreign-step kind place number) = let m = foreign (k .world) kind place number in courseOf (k .origin) (k .log ++ m .log) (m .seen)
+next-item k (preparation headers buckets serial t g) =
+    let p = preparing headers buckets serial t g in
+    prepared-by (p .0) (p .1) k
+
+unfoldable pub run : Course → List Item → Course
+run k [] = k
+run k (i ∷ is) = run (next-item k i) is
+
+-- before the first preparation: cold RAM, whatever it holds
+abbrev pub cold : World → Course
+cold w = courseOf w [] w

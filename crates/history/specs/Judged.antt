@@ -1,0 +1,174 @@
+-- How a call goes: if a check applies it is refused and nothing changes, else its steps are made. What holds of both holds of the call.
+use Prim.Native.Nat.{ℕ}
+use mathlib.Core.Path.{_≡_, refl}
+use mathlib.Core.Bool.{Bool, true, false}
+use mathlib.Core.List.{List, [], _∷_, _++_, append-nil}
+use native.Mathlib.Omega.{arith}
+use lib.ListN.{replicate}
+use Rattle.model.specs.Choice.{if_then_else_}
+use Rattle.model.specs.Log.{Made, by-caller, attempt-begun, released, gives, note, _>>=_, _>>_}
+use Rattle.model.specs.Arena.{spentTo, setCell, leasesOf}
+use Rattle.model.specs.Refusals.{Rule, refusalOf, first, judge}
+use Rattle.model.specs.Checks.{countIn, cellRules, leaseRules, heldCellRules, heldLeaseRules, scriptRules, lockRules, bucketRules, releaseRules, locksRules}
+use Rattle.model.specs.Foreign.{Setting, flowOf, boundaryOf}
+use Rattle.model.specs.Lock.{lockOf, outcomeOf, answerOf, runOf, attemptOf, attemptLimit, retryOf, settled, giveBackOf, locksOf}
+use Rattle.model.specs.Calls.{countsOf, given, starting, replied, played, refused, acquireOf, tryAcquireOf, dropLeaseOf, readPermissionOf, competingAcquireOf, releaseThenHandoffOf, foreignReleaseOf, acquirePreservingOf, dropPreservingOf, environmentOf, tryLockOf, transactionalOf, acquireBucketOf, releaseAllOf, acquireLocksOf}
+use Rattle.model.specs.Crew.{crewRules, crewAt, turnsOf, crewOf}
+use Rattle.model.specs.declared.Answer.the-variants as answer
+use Rattle.model.specs.declared.Check.{Check}
+use Rattle.model.specs.declared.Check.the-variants.{Fine, Fault}
+use Rattle.model.specs.declared.CrewReply.{CrewReply}
+use Rattle.model.specs.declared.Played.{Played}
+use Rattle.model.specs.declared.Refusal.{Refusal}
+use Rattle.model.specs.declared.Reply.{Reply}
+use Rattle.history.specs.World.{World, worldOf}
+use Rattle.history.specs.Items.{Call, Says, says, try-acquire, drop-lease, read-permission, competing-acquire, release-then-handoff, foreign-release, drop-preserving, acquire-preserving, environment, try-lock, transactional, acquire-bucket, release-all, acquire-locks, crew, perform, buffer, script-of, held-of, place-of}
+
+-- ---- checks that found nothing
+
+abbrev pub Clear : List Rule → Type 0
+Clear [] = Unit {0}
+Clear (r ∷ rs) = (r .applies ≡ false) × Clear rs
+
+pub clear : (rs : List Rule) → first rs ≡ Fine → Clear rs
+unfolding first
+clear [] e = tt
+clear (r ∷ rs) e = go (r .applies) refl e (clear rs)
+  where
+    go : (b : Bool) → r .applies ≡ b → (if b then Fault (refusalOf (r .number) (r .carries)) else first rs) ≡ Fine → (first rs ≡ Fine → Clear rs) → Clear (r ∷ rs)
+    go true a e k = let z : _≡_ {A = ℕ} 0 1 = cc in absurd (omega arith)
+    go false a e k = (a, k e)
+
+pub clear-front : (xs ys : List Rule) → Clear (xs ++ ys) → Clear xs
+clear-front [] ys c = tt
+clear-front (x ∷ xs) ys c = (c .0, clear-front xs ys (c .1))
+
+pub clear-back : (xs ys : List Rule) → Clear (xs ++ ys) → Clear ys
+clear-back [] ys c = c
+clear-back (x ∷ xs) ys c = clear-back xs ys (c .1)
+
+-- a call that is refused, or whose checks found nothing
+pub judged : {A : Type 0} (P : A → Type 0) (rules : List Rule) {refused : Refusal → A} {steps : A}
+    → ((r : Refusal) → P (refused r)) → (Clear rules → P steps) → P (judge (first rules) refused steps)
+judged P rules {refused} {steps} r s = go (first rules) refl
+  where
+    go : (k : Check) → first rules ≡ k → P (judge k refused steps)
+    go Fine e = s (clear rules e)
+    go (Fault x) e = r x
+
+-- ---- the parts of a call
+
+-- the checks of a call
+abbrev pub rules : World → Call → List Rule
+rules w (try-acquire c) = cellRules (w .head) (w .table) c
+rules w (drop-lease l) = leaseRules (w .head) (w .table) l
+rules w (read-permission l) = leaseRules (w .head) (w .table) l
+rules w (competing-acquire l) = leaseRules (w .head) (w .table) l
+rules w (release-then-handoff l) = leaseRules (w .head) (w .table) l
+rules w (foreign-release held l) = heldLeaseRules (w .head) (w .table) held l
+rules w (drop-preserving held l) = heldLeaseRules (w .head) (w .table) held l
+rules w (acquire-preserving held c) = heldCellRules (w .head) (w .table) held c
+rules w (environment script place held) = scriptRules (w .head) (w .table) (w .health) script place held
+rules w (try-lock script place held c) = lockRules (w .head) (w .table) (w .health) script place held c
+rules w (transactional registry script place held binding bucket) = bucketRules (w .head) (w .table) (w .health) registry script place held binding
+rules w (acquire-bucket registry script place held binding bucket) = bucketRules (w .head) (w .table) (w .health) registry script place held binding
+rules w (release-all script place leases) = releaseRules (w .head) (w .table) (w .health) script place leases
+rules w (acquire-locks registry script place held keys grants) = locksRules (w .head) (w .table) (w .health) registry script place held keys grants
+rules w (crew counts cells turns) = crewRules (w .head) (w .table) (w .health) counts cells turns
+
+-- what its steps are given
+abbrev pub acting : World → Call → Setting
+acting w k = given (w .head) (script-of k) (held-of k)
+
+-- all as it was, and no count
+abbrev pub unchanged : World → Call → Refusal → Made (World × Says)
+unchanged w k r = record { seen = (w, says (answer.Refused r) (countsOf 0 0 0 0) (place-of k) (buffer k)); log = [] }
+
+-- what a call says, by what it hands over: a reply, with the table; a reply with a script, with table and health
+abbrev pub reply : World → Reply × List ℕ → World × Says
+reply w m = (worldOf (m .0 .head) (m .1) (w .health), says (m .0 .answer) (m .0 .counts) 0 [])
+
+abbrev read : World → Reply → World × Says
+read w m = (worldOf (m .head) (w .table) (w .health), says (m .answer) (m .counts) 0 [])
+
+abbrev play : Played × (List ℕ × List ℕ) → World × Says
+play m = (worldOf (m .0 .head) (m .1 .0) (m .1 .1), says (m .0 .answer) (m .0 .counts) (m .0 .place) [])
+
+abbrev grant : Played × (List ℕ × (List ℕ × List ℕ)) → World × Says
+grant m = (worldOf (m .0 .head) (m .1 .0) (m .1 .1 .0), says (m .0 .answer) (m .0 .counts) (m .0 .place) (m .1 .1 .1))
+
+abbrev crewed : World → CrewReply × List ℕ → World × Says
+crewed w m = (worldOf (m .0 .head) (m .1) (w .health), says (m .0 .answer) (countsOf 0 0 0 0) 0 [])
+
+-- the same log, seen otherwise
+abbrev pub seen-as : {A B : Type 0} → (A → B) → Made A → Made B
+seen-as f m = record { seen = f (m .seen); log = m .log }
+
+-- the steps of each call
+abbrev pub steps : World → Call → Made (World × Says)
+steps w (try-acquire c) = seen-as (reply w) (acquireOf 1 (w .head) (w .table) c)
+steps w (drop-lease l) = do
+  note (released by-caller (l .cell) (l .serial))
+  gives (reply w (replied (w .head) 0 answer.Done, setCell (w .table) (l .cell) 0 0))
+steps w (read-permission l) = gives (read w (replied (w .head) 0 (answer.Cell (l .cell))))
+steps w (competing-acquire l) = seen-as (reply w) (acquireOf 1 (w .head) (w .table) (l .cell))
+steps w (release-then-handoff l) = do
+  note (released by-caller (l .cell) (l .serial))
+  seen-as (reply w) (acquireOf 1 (w .head) (setCell (w .table) (l .cell) 0 0) (l .cell))
+steps w (foreign-release held l) = do
+  (k, u) ← acquireOf 1 (w .head) (w .table) (l .cell)
+  note (released by-caller (l .cell) (l .serial))
+  seen-as (reply w) (acquireOf 2 (k .head) (setCell u (l .cell) 0 0) (l .cell))
+steps w (drop-preserving held l) = do
+  note (released by-caller (l .cell) (l .serial))
+  gives (reply w (replied (w .head) 0 answer.Done, setCell (w .table) (l .cell) 0 0))
+steps w (acquire-preserving held c) = seen-as (reply w) (acquireOf 1 (w .head) (w .table) c)
+steps w (environment script place held) =
+    seen-as (λ m. play (played (w .head) (runOf (m .0) 0 1 0) answer.Done, m .1))
+    (boundaryOf (acting w (environment script place held)) (flowOf (w .head .next) place 0) (w .table) (w .health))
+steps w (try-lock script place held c) = do
+  note attempt-begun
+  seen-as (λ m. play (played (w .head) (runOf (m .0 .flow) 1 (m .0 .boundaries) 0) (answerOf (outcomeOf c (m .0 .answer))), m .1))
+      (lockOf (acting w (try-lock script place held c)) (flowOf (w .head .next) place 0) (w .table) (w .health) c)
+steps w (transactional registry script place held binding bucket) =
+    seen-as (λ m. play (played (w .head) (m .0 .run) (answerOf (m .0 .outcome)), m .1))
+    (attemptOf (acting w (transactional registry script place held binding bucket)) (w .head .buckets) registry binding bucket (starting (w .head) place) (w .table) (w .health))
+steps w (acquire-bucket registry script place held binding bucket) =
+    seen-as (λ m. play (played (w .head) (m .0 .run) (answerOf (settled (m .0 .outcome))), m .1))
+    (retryOf attemptLimit 0 (acting w (acquire-bucket registry script place held binding bucket)) (w .head .buckets) registry binding bucket (starting (w .head) place) (w .table) (w .health))
+steps w (release-all script place leases) =
+    seen-as (λ m. play (played (w .head) (m .0) answer.Done, m .1))
+    (giveBackOf (countIn leases) (acting w (release-all script place leases)) (leasesOf leases) (starting (w .head) place) (w .table) (w .health))
+steps w (acquire-locks registry script place held keys grants) =
+    seen-as (λ m. grant (played (w .head) (m .0 .run) (m .0 .answer), m .1))
+    (locksOf (countIn keys) 0 (acting w (acquire-locks registry script place held keys grants)) (w .head .buckets) registry keys [] (starting (w .head) place) (w .table) (w .health) grants)
+steps w (crew counts cells turns) =
+    seen-as (λ v. (worldOf (spentTo (w .head) (v .next)) (v .table) (w .health), says answer.Done (countsOf 0 0 0 0) 0 []))
+    (turnsOf (w .head .headers) (w .head .buckets) (w .health) counts cells (crewAt (w .head .next) (w .table) (replicate 16 0) (replicate 256 0) 0 0) turns)
+
+-- what holds of the call as it was and of its steps
+module _ (P : Made (World × Says) → Type 0) (w : World) where
+  abbrev By : {A : Type 0} → (A → World × Says) → Made A → Type 0
+  By f m = P (m >>= λ a. gives (f a))
+
+  pub performed : (k : Call) → ((r : Refusal) → P (unchanged w k r)) → (Clear (rules w k) → P (steps w k)) → P (perform w k)
+  unfolding perform tryAcquireOf dropLeaseOf readPermissionOf competingAcquireOf releaseThenHandoffOf foreignReleaseOf acquirePreservingOf dropPreservingOf
+      environmentOf tryLockOf transactionalOf acquireBucketOf releaseAllOf acquireLocksOf crewOf
+  performed (try-acquire c) x y = judged (By (reply w)) (rules w (try-acquire c)) x (λ fine. rw append-nil (y fine))
+  performed (drop-lease l) x y = judged (By (reply w)) (rules w (drop-lease l)) x y
+  performed (read-permission l) x y = judged (By (read w)) (rules w (read-permission l)) x y
+  performed (competing-acquire l) x y = judged (By (reply w)) (rules w (competing-acquire l)) x (λ fine. rw append-nil (y fine))
+  performed (release-then-handoff l) x y = judged (By (reply w)) (rules w (release-then-handoff l)) x (λ fine. rw append-nil (y fine))
+  performed (foreign-release held l) x y = judged (By (reply w)) (rules w (foreign-release held l)) x (λ fine. rw append-nil (y fine))
+  performed (drop-preserving held l) x y = judged (By (reply w)) (rules w (drop-preserving held l)) x y
+  performed (acquire-preserving held c) x y = judged (By (reply w)) (rules w (acquire-preserving held c)) x (λ fine. rw append-nil (y fine))
+  performed (environment script place held) x y = judged (By play) (rules w (environment script place held)) x (λ fine. simp append-nil (y fine))
+  performed (try-lock script place held c) x y = judged (By play) (rules w (try-lock script place held c)) x (λ fine. rw (append-nil, append-nil) (y fine))
+  performed (transactional registry script place held binding bucket) x y =
+      judged (By play) (rules w (transactional registry script place held binding bucket)) x (λ fine. simp append-nil (y fine))
+  performed (acquire-bucket registry script place held binding bucket) x y =
+      judged (By play) (rules w (acquire-bucket registry script place held binding bucket)) x (λ fine. simp append-nil (y fine))
+  performed (release-all script place leases) x y = judged (By play) (rules w (release-all script place leases)) x (λ fine. simp append-nil (y fine))
+  performed (acquire-locks registry script place held keys grants) x y =
+      judged (By grant) (rules w (acquire-locks registry script place held keys grants)) x (λ fine. simp append-nil (y fine))
+  performed (crew counts cells turns) x y = judged (By (crewed w)) (rules w (crew counts cells turns)) x (λ fine. simp append-nil (y fine))

@@ -1,0 +1,124 @@
+-- Every release in a call's log is one that the call or a step of its script named.
+use Prim.Native.Nat.{ℕ, _<_}
+use mathlib.Core.Path.{_≡_, refl, subst}
+use mathlib.Core.List.{List, [], _∷_, _++_}
+use mathlib.Core.Bool.{true, not, _&&_}
+use native.Mathlib.Omega.{arith}
+use lib.Dec.{ltb, leb, eqb}
+use lib.ListN.{length}
+use lib.Seq.{take-length}
+use borrow.Author.Tests.{eqb-true}
+use Rattle.laws.specs.Pick.{if-both}
+use Rattle.model.specs.Log.{Made, Actor, Event, by-script, attempt-begun, boundary-run, yielded, spun, step-dropped, took, released, waiters-set, health-set}
+use Rattle.model.specs.Arena.{leaseOf, leasesOf, isIn, setCell, serialRemains, bitAt, ownerAt, isFree, isLive}
+use Rattle.model.specs.Checks.{countIn}
+use Rattle.model.specs.Foreign.{Setting, flowOf, stepTakeOf, stepReleaseOf, stepWaitersOf, stepHealthOf, stepOf}
+use Rattle.model.specs.Lock.{noLease, leaseAt, attemptLimit}
+use Rattle.model.specs.Calls.{given, starting, acquireOf}
+use Rattle.model.specs.declared.Head.{Head}
+use Rattle.model.specs.declared.Lease.{Lease}
+use Rattle.model.specs.declared.Stepped.{Stepped}
+use Rattle.history.specs.World.{World}
+use Rattle.history.specs.Items.{Call, try-acquire, drop-lease, read-permission, competing-acquire, release-then-handoff, foreign-release, drop-preserving, acquire-preserving, environment, try-lock, transactional, acquire-bucket, release-all, acquire-locks, crew, script-of, place-of, given-up, foreign}
+use Rattle.history.specs.Statements.{log-of, Named, Named-alone}
+use Rattle.history.specs.Tests.{in-take, if-cases}
+use Rattle.history.specs.Calls.{words-leases}
+use Rattle.history.specs.Judged.{Clear, rules, acting, steps, performed}
+use Rattle.history.specs.Naming.{Leases, Told, any, none, more, andthen, told, handed, and-took, at-script, at-caller, boundary-told, take-told, lock-told, attempt-told, retry-told, back-told, locks-told}
+use Rattle.history.specs.NamingCrew.{crew-told}
+
+-- ---- leases in a list
+
+in-at : (ls : List Lease) (i : ℕ) → i < length ls → isIn (leaseAt ls i) ls ≡ true
+in-at ls i h = rw (take-length ls) at (in-take ls (length ls) i noLease h h)
+
+-- ---- the calls
+
+-- the leases that a call was given to give up
+abbrev Mine : Call → Leases
+Mine k c s = isIn (leaseOf c s) (given-up k) ≡ true
+
+acquire-told : (n : ℕ) (h : Head) (t : List ℕ) (c : ℕ) (A : Leases) → Told [] 0 A (acquireOf n h t c .log) any
+unfolding acquireOf
+acquire-told n h t c A = more tt (handed (take-told [] 0 (and-took A attempt-begun) (h .next) t c))
+
+steps-told : (w : World) (k : Call) → Clear (rules w k) → Told (script-of k) (place-of k) (Mine k) (steps w k .log) any
+steps-told w (try-acquire c) _ = acquire-told 1 (w .head) (w .table) c _
+steps-told w (drop-lease l) _ = more (in-at (l ∷ []) 0 (omega arith)) (none tt)
+steps-told w (read-permission l) _ = none tt
+steps-told w (competing-acquire l) _ = acquire-told 1 (w .head) (w .table) (l .cell) _
+steps-told w (release-then-handoff l) _ = more (in-at (l ∷ []) 0 (omega arith)) (acquire-told 1 (w .head) (setCell (w .table) (l .cell) 0 0) (l .cell) _)
+steps-told w (foreign-release held l) _ =
+    let m = acquireOf 1 (w .head) (w .table) (l .cell) .seen in
+    andthen (acquire-told 1 (w .head) (w .table) (l .cell) _)
+    (λ B i _. more (i _ _ (in-at (l ∷ []) 0 (omega arith))) (acquire-told 2 (m .0 .head) (setCell (m .1) (l .cell) 0 0) (l .cell) _))
+steps-told w (drop-preserving held l) _ = more (in-at (l ∷ []) 0 (omega arith)) (none tt)
+steps-told w (acquire-preserving held c) _ = acquire-told 1 (w .head) (w .table) c _
+steps-told w (environment script place held) _ =
+    told (boundary-told (acting w (environment script place held)) place (flowOf (w .head .next) place 0) (w .table) (w .health) _ (omega arith))
+steps-told w (try-lock script place held c) _ =
+    more tt (told (lock-told (acting w (try-lock script place held c)) place (flowOf (w .head .next) place 0) (w .table) (w .health) c _ (omega arith)))
+steps-told w (transactional registry script place held binding bucket) _ =
+    let k = transactional registry script place held binding bucket in
+    told (attempt-told (acting w k) place (w .head .buckets) registry binding bucket (starting (w .head) place) (w .table) (w .health) (Mine k) (omega arith))
+steps-told w (acquire-bucket registry script place held binding bucket) _ =
+    let k = acquire-bucket registry script place held binding bucket in
+    told (retry-told (acting w k) place (w .head .buckets) registry binding bucket attemptLimit 0 (starting (w .head) place) (w .table) (w .health) (Mine k) (omega arith))
+steps-told w (release-all script place leases) _ =
+    back-told (countIn leases) (acting w (release-all script place leases)) place (leasesOf leases) (starting (w .head) place) (w .table) (w .health) _ (omega arith)
+    (λ i h. in-at (leasesOf leases) i (omega (arith, words-leases leases)))
+steps-told w (acquire-locks registry script place held keys grants) _ =
+    let k = acquire-locks registry script place held keys grants in
+    locks-told (acting w k) place (w .head .buckets) registry keys grants (countIn keys) 0 [] (starting (w .head) place) (w .table) (w .health) (Mine k) (omega arith)
+    (λ i h. absurd (omega arith))
+steps-told w (crew counts cells turns) fine = crew-told w counts cells turns (Mine (crew counts cells turns)) fine
+
+call-told : (w : World) (k : Call) → Told (script-of k) (place-of k) (Mine k) (log-of w k) any
+call-told w k = performed (λ m. Told (script-of k) (place-of k) (Mine k) (m .log) any) w k (λ r. none tt) (steps-told w k)
+
+pub calls-named : Named
+calls-named w k c s before after = (λ e. at-script c s (call-told w k) before after e, λ e. at-caller c s (call-told w k) before after e)
+
+-- ---- a lone foreign step
+
+abbrev Right : ℕ → ℕ → ℕ → Event → Type 0
+Right kind place number attempt-begun = Unit {0}
+Right kind place number boundary-run = Unit {0}
+Right kind place number yielded = Unit {0}
+Right kind place number spun = Unit {0}
+Right kind place number step-dropped = Unit {0}
+Right kind place number (took a c s) = Unit {0}
+Right kind place number (released a c s) = (a ≡ by-script) × (kind ≡ 2) × (place ≡ c) × (number ≡ s)
+Right kind place number (waiters-set c n) = Unit {0}
+Right kind place number (health-set i n) = Unit {0}
+
+module _ (kind place number : ℕ) where
+  -- every release of the log is right
+  abbrev Alone : List Event → Type 0
+  Alone es = (c s : ℕ) (a : Actor) (before after : List Event) → es ≡ before ++ (released a c s ∷ after) → Right kind place number (released a c s)
+
+  empty : Alone []
+  empty c s a [] after q = let z : _≡_ {A = ℕ} 0 1 = cc in absurd (omega arith)
+  empty c s a (x ∷ xs) after q = let z : _≡_ {A = ℕ} 0 1 = cc in absurd (omega arith)
+
+  lone : (e : Event) → Right kind place number e → Alone (e ∷ [])
+  lone e r c s a [] after q = let p : e ≡ released a c s = cc in subst (Right kind place number) p r
+  lone e r c s a (x ∷ xs) after q = let p : [] ≡ xs ++ (released a c s ∷ after) = cc in empty c s a xs after p
+
+  step-alone : (e : Setting) (n : ℕ) (t g : List ℕ) → Alone (stepOf e n t g kind place number .log ++ [])
+  unfolding stepOf stepTakeOf stepReleaseOf stepWaitersOf stepHealthOf
+  step-alone e n t g =
+      let Step : Made (Stepped × (List ℕ × List ℕ)) → Type 0 = λ m. Alone (m .log ++ []) in
+      let Lone : Made (Stepped × List ℕ) → Type 0 = λ m. Alone ((m .log ++ []) ++ []) in
+      if-both Step (eqb kind 0) empty (
+      if-both Step (eqb kind 1) (if-both Lone (ltb place (e .cells) && isFree (bitAt t place) (ownerAt t place) && serialRemains n) (lone _ tt) (lone _ tt)) (
+      if-cases Step (eqb kind 2)
+      (λ two. if-both Lone (isLive n (e .cells) t (leaseOf place number) && not (isIn (leaseOf place number) (e .protected))) (lone _ (refl, eqb-true kind 2 two, refl, refl)) (lone _ tt)) (λ _.
+      if-both Step (eqb kind 3) (if-both Lone (ltb place (e .cells)) (lone _ tt) (lone _ tt)) (
+      if-both Step (eqb kind 4) (if-both Lone (ltb place (e .headers) && leb number 1) (lone _ tt) (lone _ tt)) (
+      if-both Step (eqb kind 5) empty (lone _ tt))))))
+
+pub steps-named : Named-alone
+unfolding foreign
+steps-named w kind place number c s a before after e =
+    step-alone kind place number (given (w .head) [] []) (w .head .next) (w .table) (w .health) c s a before after e

@@ -1,0 +1,308 @@
+-- Every release is named: a script's by one of its steps, a caller's by a lease that the call was given, or that it took before in the same log.
+use Prim.Native.Nat.{ℕ, zero, suc, _+_, _-_, _%_, _≤_, _<_}
+use mathlib.Core.Path.{_≡_, refl}
+use mathlib.Core.List.{List, [], _∷_, _++_, append-nil}
+use mathlib.Core.Logic.{_⊎_, inl, inr}
+use mathlib.Core.Bool.{not, _&&_}
+use native.Mathlib.Omega.{arith}
+use lib.Dec.{ltb, leb, eqb}
+use lib.ListN.{length, take}
+use borrow.Author.Tests.{eqb-true}
+use Rattle.laws.specs.Pick.{if-both}
+use Rattle.model.specs.Log.{Made, Event, by-caller, by-script, attempt-begun, boundary-run, yielded, spun, step-dropped, took, released, waiters-set, health-set}
+use Rattle.model.specs.Arena.{serialRemains, bitAt, ownerAt, waitersAt, setCell, stateAt, isFree, isLive, isIn, leaseOf}
+use Rattle.model.specs.Foreign.{Setting, protecting, stepsIn, kindAt, placeAt, numberAt, flowOf, stepTakeOf, stepReleaseOf, stepWaitersOf, stepHealthOf, stepOf, stepsOf, boundaryOf}
+use Rattle.model.specs.Lock.{takeIn, takeOf, afterTake, lateOf, secondOf, lockOf, outcomeOf, runOf, findOf, attemptAt, attemptOf, spinOf, pauseOf, isBusy, retryOf, leaseAt, giveBackOf, rollbackOf, afterKey, bindingAt, bucketAt, attemptLimit, Locks, locksOf}
+use Rattle.model.specs.declared.Flow.{Flow}
+use Rattle.model.specs.declared.Found.{Found}
+use Rattle.model.specs.declared.Found.the-variants as found
+use Rattle.model.specs.declared.Lease.{Lease}
+use Rattle.model.specs.declared.Locked.{Locked}
+use Rattle.model.specs.declared.Outcome.{Outcome}
+use Rattle.model.specs.declared.Outcome.the-variants as outcome
+use Rattle.model.specs.declared.Run.{Run}
+use Rattle.model.specs.declared.State.{State}
+use Rattle.model.specs.declared.State.the-variants as state
+use Rattle.model.specs.declared.Stepped.{Stepped}
+use Rattle.model.specs.declared.Take.{Take}
+use Rattle.model.specs.declared.Take.the-variants as taking
+use Rattle.model.specs.declared.Took.{Took}
+use Rattle.model.specs.declared.Tried.{Tried}
+use Rattle.history.specs.Statements.{By-step}
+use Rattle.history.specs.Tests.{if-cases}
+
+-- ---- a log whose releases are all named
+
+-- leases that a caller may release, by cell and serial; and what is known of them after a log
+abbrev pub Leases : Type 1
+Leases = ℕ → ℕ → Type 0
+
+abbrev pub Post : Type 1
+Post = Leases → Type 0
+
+abbrev pub any : Post
+any A = Unit {0}
+
+abbrev pub Names : List ℕ → ℕ → Leases → Event → Type 0
+Names script low A attempt-begun = Unit {0}
+Names script low A boundary-run = Unit {0}
+Names script low A yielded = Unit {0}
+Names script low A spun = Unit {0}
+Names script low A step-dropped = Unit {0}
+Names script low A (took a c s) = Unit {0}
+Names script low A (released by-caller c s) = A c s
+Names script low A (released by-script c s) = By-step script low c s
+Names script low A (waiters-set c n) = Unit {0}
+Names script low A (health-set i n) = Unit {0}
+
+-- what a caller took it may release
+abbrev pub and-took : Leases → Event → Leases
+and-took A e c s = A c s ⊎ (e ≡ took by-caller c s)
+
+abbrev Walk : List ℕ → ℕ → Leases → List Event → Post → Type 0
+Walk script low A [] X = X A
+Walk script low A (e ∷ es) X = Names script low A e × Walk script low (and-took A e) es X
+
+-- from leases A on, every release of the log is named, a script's not before the place `low`; and X holds after it
+pub record Told (script : List ℕ) (low : ℕ) (A : Leases) (es : List Event) (X : Post) : Type 0 where
+  pub walk : Walk script low A es X
+
+abbrev pub Sub : Leases → Leases → Type 0
+Sub A B = (c s : ℕ) → A c s → B c s
+
+pub none : {script : List ℕ} {low : ℕ} {A : Leases} {X : Post} → X A → Told script low A [] X
+none x = record { walk = x }
+
+pub more : {script : List ℕ} {low : ℕ} {A : Leases} {e : Event} {es : List Event} {X : Post} → Names script low A e → Told script low (and-took A e) es X → Told script low A (e ∷ es) X
+more n k = record { walk = (n, k .walk) }
+
+pub andthen : {script : List ℕ} {low : ℕ} {A : Leases} {xs ys : List Event} {X Y : Post}
+    → Told script low A xs X → ((B : Leases) → Sub A B → X B → Told script low B ys Y) → Told script low A (xs ++ ys) Y
+andthen {script} {low} {A} {xs} {ys} {X} {Y} k f = record { walk = go A xs (k .walk) f }
+  where
+    go : (A : Leases) (xs : List Event) → Walk script low A xs X → ((B : Leases) → Sub A B → X B → Told script low B ys Y) → Walk script low A (xs ++ ys) Y
+    go A [] h f = f A (λ c s a. a) h .walk
+    go A (x ∷ xs) h f = (h .0, go (and-took A x) xs (h .1) (λ B i. f B (λ c s a. i c s (inl a))))
+
+-- and nothing more
+pub handed : {script : List ℕ} {low : ℕ} {A : Leases} {xs : List Event} {X : Post} → Told script low A xs X → Told script low A (xs ++ []) any
+handed k = andthen k (λ B i x. none tt)
+
+-- whatever holds after it
+pub told : {script : List ℕ} {low : ℕ} {A : Leases} {xs : List Event} {X : Post} → Told script low A xs X → Told script low A xs any
+told {xs = xs} k = rw (append-nil xs) at (handed k)
+
+abbrev pub Was-took : ℕ → ℕ → List Event → Type 0
+Was-took c s es = (m n : List Event) × (es ≡ m ++ (took by-caller c s ∷ n))
+
+-- what it says of a release, wherever it stands in the log
+module _ {script : List ℕ} {low : ℕ} {X : Post} (c s : ℕ) where
+  pub at-script : {A : Leases} {log : List Event} → Told script low A log X → (before after : List Event) → log ≡ before ++ (released by-script c s ∷ after) → By-step script low c s
+  at-script {A} {log} k before after e = go A before (rw e at (k .walk))
+    where
+      go : (A : Leases) (before : List Event) → Walk script low A (before ++ (released by-script c s ∷ after)) X → By-step script low c s
+      go A [] h = h .0
+      go A (x ∷ xs) h = go (and-took A x) xs (h .1)
+
+  pub at-caller : {A : Leases} {log : List Event} → Told script low A log X → (before after : List Event) → log ≡ before ++ (released by-caller c s ∷ after) → A c s ⊎ Was-took c s before
+  at-caller {A} {log} k before after e = go A before (rw e at (k .walk))
+    where
+      longer : (A : Leases) (x : Event) (xs : List Event) → and-took A x c s ⊎ Was-took c s xs → A c s ⊎ Was-took c s (x ∷ xs)
+      longer A x xs (inl (inl a)) = inl a
+      longer A x xs (inl (inr e)) = inr ([], xs, rw e)
+      longer A x xs (inr z) = inr (x ∷ z .0, z .1, rw (z .2))
+
+      go : (A : Leases) (before : List Event) → Walk script low A (before ++ (released by-caller c s ∷ after)) X → A c s ⊎ Was-took c s before
+      go A [] h = inl (h .0)
+      go A (x ∷ xs) h = longer A x xs (go (and-took A x) xs (h .1))
+
+-- ---- foreign steps and boundaries
+
+-- the step at place p
+step-told : (e : Setting) (low n : ℕ) (t g : List ℕ) (p : ℕ) (A : Leases) → low ≤ p → p < stepsIn (e .script)
+    → Told (e .script) low A (stepOf e n t g (kindAt (e .script) p) (placeAt (e .script) p) (numberAt (e .script) p) .log) any
+unfolding stepOf stepTakeOf stepReleaseOf stepWaitersOf stepHealthOf
+step-told e low n t g p A b l =
+    let kind = kindAt (e .script) p in
+    let c = placeAt (e .script) p in
+    let s = numberAt (e .script) p in
+    let Step : Made (Stepped × (List ℕ × List ℕ)) → Type 0 = λ m. Told (e .script) low A (m .log) any in
+    let Lone : Made (Stepped × List ℕ) → Type 0 = λ m. Told (e .script) low A (m .log ++ []) any in
+    if-both Step (eqb kind 0) (none tt) (
+    if-both Step (eqb kind 1) (if-both Lone (ltb c (e .cells) && isFree (bitAt t c) (ownerAt t c) && serialRemains n) (more tt (none tt)) (more tt (none tt))) (
+    if-cases Step (eqb kind 2)
+    (λ two. if-both Lone (isLive n (e .cells) t (leaseOf c s) && not (isIn (leaseOf c s) (e .protected))) (more (p, b, l, eqb-true kind 2 two, refl, refl) (none tt)) (more tt (none tt))) (λ _.
+    if-both Step (eqb kind 3) (if-both Lone (ltb c (e .cells)) (more tt (none tt)) (more tt (none tt))) (
+    if-both Step (eqb kind 4) (if-both Lone (ltb c (e .headers) && leb s 1) (more tt (none tt)) (more tt (none tt))) (
+    if-both Step (eqb kind 5) (none tt) (more tt (none tt)))))))
+
+-- from a place not before `low` to another
+abbrev Flows : List ℕ → ℕ → Leases → Made (Flow × (List ℕ × List ℕ)) → Type 0
+Flows script low A m = Told script low A (m .log) (λ _. low ≤ m .seen .0 .place)
+
+steps-told : (left : ℕ) (e : Setting) (low : ℕ) (f : Flow) (t g : List ℕ) (A : Leases) → low ≤ f .place → left ≤ stepsIn (e .script) - f .place
+    → Flows (e .script) low A (stepsOf left e f t g)
+unfolding stepsOf
+steps-told zero e low f t g A b l = none b
+steps-told (suc left) e low f t g A b l =
+    let kind = kindAt (e .script) (f .place) in
+    let s = stepOf e (f .next) t g kind (placeAt (e .script) (f .place)) (numberAt (e .script) (f .place)) .seen in
+    if-both (Flows (e .script) low A) (eqb kind 5) (none (omega arith))
+    (andthen (step-told e low (f .next) t g (f .place) A b (omega arith))
+    (λ B i _. steps-told left e low (flowOf (s .0 .next) (f .place + 1) (f .dropped + s .0 .dropped)) (s .1 .0) (s .1 .1) B (omega arith) (omega arith)))
+
+pub boundary-told : (e : Setting) (low : ℕ) (f : Flow) (t g : List ℕ) (A : Leases) → low ≤ f .place → Flows (e .script) low A (boundaryOf e f t g)
+unfolding boundaryOf
+boundary-told e low f t g A b = more tt (steps-told (stepsIn (e .script) - f .place) e low f t g (and-took A boundary-run) b (omega arith))
+
+-- ---- a lock
+
+-- a grant was taken
+abbrev pub Taken : Take → ℕ → Post
+Taken (taking.Granted s) c A = A c s
+Taken taking.Busy c A = Unit {0}
+Taken taking.Damaged c A = Unit {0}
+Taken taking.Spent c A = Unit {0}
+
+pub take-told : (script : List ℕ) (low : ℕ) (A : Leases) (next : ℕ) (t : List ℕ) (c : ℕ)
+    → Told script low A (takeOf next t c .log) (Taken (takeOf next t c .seen .0 .answer) c)
+unfolding takeOf
+take-told script low A next t c = go (stateAt next t c)
+  where
+    go : (x : State) → Told script low A (takeIn x next t c .log) (Taken (takeIn x next t c .seen .0 .answer) c)
+    go state.Damaged = none tt
+    go (state.Held owner) = none tt
+    go state.Free = if-both (λ (m : Made (Took × List ℕ)). Told script low A (m .log) (Taken (m .seen .0 .answer) c)) (serialRemains next) (more tt (none (inr refl))) (none tt)
+
+-- what is known after a lock: of its grant, and of the place
+abbrev pub After : ℕ → ℕ → Locked → Post
+After low c l A = Taken (l .answer) c A × (low ≤ l .flow .place)
+
+abbrev pub Locking : List ℕ → ℕ → ℕ → Leases → Made (Locked × (List ℕ × List ℕ)) → Type 0
+Locking script low c A m = Told script low A (m .log) (After low c (m .seen .0))
+
+module _ (e : Setting) (low : ℕ) where
+  late-told : (f : Flow) (t g : List ℕ) (c s : ℕ) (A : Leases) → low ≤ f .place → A c s → Locking (e .script) low c A (lateOf e f t g c s)
+  unfolding lateOf
+  late-told f t g c s A b h =
+      let m = boundaryOf (protecting e (leaseOf c s ∷ [])) f t g .seen in
+      andthen (boundary-told (protecting e (leaseOf c s ∷ [])) low f t g A b)
+      (λ B i k. if-both (Locking (e .script) low c B) (eqb (waitersAt (m .1 .0) c) 0) (none (i c s h, k)) (more (i c s h) (none (tt, k))))
+
+  second-told : (f : Flow) (t g : List ℕ) (c : ℕ) (A : Leases) → low ≤ f .place → Locking (e .script) low c A (secondOf e f t g c)
+  unfolding secondOf
+  second-told f t g c A b =
+      let m = boundaryOf e f t g .seen in
+      let k = takeOf (m .0 .next) (m .1 .0) c .seen in
+      andthen (boundary-told e low f t g A b)
+      (λ B i d. andthen (take-told (e .script) low B (m .0 .next) (m .1 .0) c)
+      (λ C j h. go (flowOf (k .0 .next) (m .0 .place) (m .0 .dropped)) (k .1) (m .1 .1) (k .0 .answer) C d h))
+    where
+      go : (v : Flow) (t g : List ℕ) (x : Take) (C : Leases) → low ≤ v .place → Taken x c C → Locking (e .script) low c C (afterTake x e v t g c)
+      go v t g (taking.Granted s) C d h = late-told v t g c s C d h
+      go v t g taking.Busy C d h = none (tt, d)
+      go v t g taking.Damaged C d h = none (tt, d)
+      go v t g taking.Spent C d h = none (tt, d)
+
+  pub lock-told : (f : Flow) (t g : List ℕ) (c : ℕ) (A : Leases) → low ≤ f .place → Locking (e .script) low c A (lockOf e f t g c)
+  unfolding lockOf
+  lock-told f t g c A b =
+      let m = boundaryOf e f t g .seen in
+      andthen (boundary-told e low f t g A b)
+      (λ B i k. if-both (Locking (e .script) low c B) (eqb (waitersAt (m .1 .0) c) 0) (second-told (m .0) (m .1 .0) (m .1 .1) c B k) (none (tt, k)))
+
+-- ---- attempts by key
+
+abbrev pub Given : Outcome → Post
+Given (outcome.Granted l) A = A (l .cell) (l .serial)
+Given outcome.Busy A = Unit {0}
+Given (outcome.Refused r) A = Unit {0}
+
+given-of : (c : ℕ) (x : Take) (A : Leases) → Taken x c A → Given (outcomeOf c x) A
+given-of c (taking.Granted s) A h = h
+given-of c taking.Busy A h = tt
+given-of c taking.Damaged A h = tt
+given-of c taking.Spent A h = tt
+
+abbrev Trying : List ℕ → ℕ → Leases → Made (Tried × (List ℕ × List ℕ)) → Type 0
+Trying script low A m = Told script low A (m .log) (λ B. Given (m .seen .0 .outcome) B × (low ≤ m .seen .0 .run .flow .place))
+
+abbrev Running : List ℕ → ℕ → Leases → Made (Run × (List ℕ × List ℕ)) → Type 0
+Running script low A m = Told script low A (m .log) (λ _. low ≤ m .seen .0 .flow .place)
+
+module _ (e : Setting) (low : ℕ) where
+  pub attempt-told : (buckets : ℕ) (registry : List ℕ) (binding bucket : ℕ) (r : Run) (t g : List ℕ) (A : Leases) → low ≤ r .flow .place
+      → Trying (e .script) low A (attemptOf e buckets registry binding bucket r t g)
+  unfolding attemptOf
+  attempt-told buckets registry binding bucket r t g A b = more tt (go (findOf (e .headers) buckets g registry binding bucket) (and-took A attempt-begun))
+    where
+      go : (x : Found) (B : Leases) → Trying (e .script) low B (attemptAt x e r t g)
+      go (found.Fault x) B = none (tt, b)
+      go (found.At c) B = andthen (lock-told e low (r .flow) t g c B b) (λ C i h. none (given-of c (lockOf e (r .flow) t g c .seen .0 .answer) C (h .0), h .1))
+
+  spin-told : (r : Run) (t g : List ℕ) (A : Leases) → low ≤ r .flow .place → Running (e .script) low A (spinOf e r t g)
+  unfolding spinOf
+  spin-told r t g A b = andthen (boundary-told e low (r .flow) t g A b) (λ B i k. more tt (none k))
+
+  pause-told : (i : ℕ) (r : Run) (t g : List ℕ) (A : Leases) → low ≤ r .flow .place → Running (e .script) low A (pauseOf e i r t g)
+  unfolding pauseOf
+  pause-told i r t g A b =
+      let m = boundaryOf e (r .flow) t g .seen in
+      let k = runOf (m .0) (r .attempts) (r .boundaries + 1) (r .yields + 1) in
+      if-both (Running (e .script) low A) (eqb (i % 64) 63)
+      (andthen (boundary-told e low (r .flow) t g A b) (λ B i d. more tt (spin-told k (m .1 .0) (m .1 .1) (and-took B yielded) d)))
+      (spin-told r t g A b)
+
+  pub retry-told : (buckets : ℕ) (registry : List ℕ) (binding bucket left i : ℕ) (r : Run) (t g : List ℕ) (A : Leases) → low ≤ r .flow .place
+      → Trying (e .script) low A (retryOf left i e buckets registry binding bucket r t g)
+  unfolding retryOf
+  retry-told buckets registry binding bucket zero i r t g A b = none (tt, b)
+  retry-told buckets registry binding bucket (suc left) i r t g A b =
+      let m = attemptOf e buckets registry binding bucket r t g .seen in
+      let p = pauseOf e i (m .0 .run) (m .1 .0) (m .1 .1) .seen in
+      andthen (attempt-told buckets registry binding bucket r t g A b)
+      (λ B _ h. if-both (Trying (e .script) low B) (isBusy (m .0 .outcome))
+      (andthen (pause-told i (m .0 .run) (m .1 .0) (m .1 .1) B (h .1)) (λ C j d. retry-told buckets registry binding bucket left (i + 1) (p .0) (p .1 .0) (p .1 .1) C d))
+      (none h))
+
+-- ---- giving back, and multi-lock
+
+-- the first n leases of a list may be released
+abbrev pub First : ℕ → List Lease → Post
+First n ls A = (i : ℕ) → i < n → A (leaseAt ls i .cell) (leaseAt ls i .serial)
+
+one-more : (A : Leases) (ls : List Lease) (l : Lease) → First (length ls) ls A → A (l .cell) (l .serial) → First (length (ls ++ (l ∷ []))) (ls ++ (l ∷ [])) A
+one-more A [] l h a zero k = a
+one-more A [] l h a (suc i) k = absurd (omega arith)
+one-more A (x ∷ xs) l h a zero k = h zero (omega arith)
+one-more A (x ∷ xs) l h a (suc i) k = one-more A xs l (λ j q. h (suc j) (omega arith)) a i (omega arith)
+
+pub back-told : (n : ℕ) (e : Setting) (low : ℕ) (ls : List Lease) (r : Run) (t g : List ℕ) (A : Leases) → low ≤ r .flow .place → First n ls A
+    → Told (e .script) low A (giveBackOf n e ls r t g .log) any
+unfolding giveBackOf
+back-told zero e low ls r t g A b h = none tt
+back-told (suc n) e low ls r t g A b h =
+    let u = setCell t (leaseAt ls n .cell) 0 0 in
+    let m = boundaryOf (protecting e (take n ls)) (r .flow) u g .seen in
+    let k = runOf (m .0) (r .attempts) (r .boundaries + 1) (r .yields) in
+    more (h n (omega arith))
+    (andthen (boundary-told (protecting e (take n ls)) low (r .flow) u g _ b) (λ B i d. back-told n e low ls k (m .1 .0) (m .1 .1) B d (λ j q. i _ _ (inl (h j (omega arith))))))
+
+module _ (e : Setting) (low buckets : ℕ) (registry keys grants : List ℕ) where
+  pub locks-told : (left p : ℕ) (taken : List Lease) (r : Run) (t g : List ℕ) (A : Leases) → low ≤ r .flow .place → First (length taken) taken A
+      → Told (e .script) low A (locksOf left p e buckets registry keys taken r t g grants .log) any
+  unfolding locksOf rollbackOf
+  locks-told zero p taken r t g A b h = none tt
+  locks-told (suc left) p taken r t g A b h =
+      let m = retryOf attemptLimit 0 (protecting e taken) buckets registry (bindingAt keys p) (bucketAt keys p) r t g .seen in
+      andthen (retry-told (protecting e taken) low buckets registry (bindingAt keys p) (bucketAt keys p) attemptLimit 0 r t g A b)
+      (λ B i k. go (m .0 .run) (m .1 .0) (m .1 .1) B (λ j q. i _ _ (h j q)) (m .0 .outcome)
+      (λ l. locksOf left (p + 1) e buckets registry keys (taken ++ (l ∷ [])) (m .0 .run) (m .1 .0) (m .1 .1) grants)
+      (λ l x. locks-told left (p + 1) (taken ++ (l ∷ [])) (m .0 .run) (m .1 .0) (m .1 .1) B (k .1) x) (k .0) (k .1))
+    where
+      go : (k : Run) (u w : List ℕ) (B : Leases) → First (length taken) taken B → (x : Outcome) (more : Lease → Made Locks)
+          → ((l : Lease) → First (length (taken ++ (l ∷ []))) (taken ++ (l ∷ [])) B → Told (e .script) low B (more l .log) any)
+          → Given x B → low ≤ k .flow .place → Told (e .script) low B (afterKey x e taken p k u w grants more .log) any
+      go k u w B h (outcome.Granted l) next f a d = f l (one-more B taken l h a)
+      go k u w B h outcome.Busy next f a d = handed (back-told (length taken) e low taken k u w B d h)
+      go k u w B h (outcome.Refused x) next f a d = handed (back-told (length taken) e low taken k u w B d h)

@@ -1,0 +1,132 @@
+-- The crew's releases: each names the serial that was noted at that place of the lists when it was taken.
+use Prim.Native.Nat.{ℕ, zero, suc, _+_, _*_, _-_, _/_, _≤_, _<_}
+use mathlib.Core.Path.{_≡_, refl, ap, _∙_}
+use mathlib.Core.List.{List, [], _∷_}
+use mathlib.Core.Logic.{_≢_, _⊎_, inl, inr}
+use mathlib.Core.Bool.{not}
+use native.Mathlib.Omega.{arith}
+use native.Mathlib.Decide.{ℕ-discrete}
+use lib.Dec.{ltb, leb, eqb}
+use lib.ListN.{length, getD, set, replicate, length-set}
+use lib.Seq.{getD-set-same, getD-set-other}
+use borrow.Author.Tests.{ltb-true, ltb-false, leb-false}
+use Rattle.laws.specs.Pick.{if-both}
+use Rattle.model.specs.Log.{Made}
+use Rattle.model.specs.Foreign.{setting, flowOf}
+use Rattle.model.specs.Lock.{lockOf}
+use Rattle.model.specs.Crew.{total, crewRules, startOf, countOf, Crew, crewAt, afterTry, tryTurnOf, releaseTurnOf, turnOf, turnsOf}
+use Rattle.model.specs.declared.Take.{Take}
+use Rattle.model.specs.declared.Take.the-variants as taking
+use Rattle.history.specs.World.{World}
+use Rattle.history.specs.Items.{crew}
+use Rattle.history.specs.Tests.{if-cases}
+use Rattle.history.specs.Judged.{Clear, steps}
+use Rattle.history.specs.Crew.{start-fits, limits, Holds, zeros}
+use Rattle.history.specs.Naming.{Leases, Sub, Told, any, none, more, andthen, told, Taken, lock-told}
+
+-- a list after one place was written, perhaps past its end
+set-at : (l : List ℕ) (i j v : ℕ) → (getD (set l i v) j 0 ≡ getD l j 0) ⊎ ((j ≡ i) × (getD (set l i v) j 0 ≡ v))
+set-at [] i j v = inl refl
+set-at (x ∷ xs) zero zero v = inr (refl, refl)
+set-at (x ∷ xs) zero (suc j) v = inl refl
+set-at (x ∷ xs) (suc i) zero v = inl refl
+set-at (x ∷ xs) (suc i) (suc j) v = go (set-at xs i j v)
+  where
+    go : (getD (set xs i v) j 0 ≡ getD xs j 0) ⊎ ((j ≡ i) × (getD (set xs i v) j 0 ≡ v)) → (getD (set xs i v) j 0 ≡ getD xs j 0) ⊎ ((suc j ≡ suc i) × (getD (set xs i v) j 0 ≡ v))
+    go (inl e) = inl e
+    go (inr e) = inr (ap suc (e .0), e .1)
+
+module _ (counts cells : List ℕ) where
+  -- what is held after move n of member m was held before it, unless that move took it
+  held-before : (made : List ℕ) (m n q j : ℕ) → n ≡ getD made m 0 → Holds counts (set made m (n + 1)) q j
+      → (startOf counts q + j ≢ startOf counts m + n) ⊎ (countOf counts m ≤ n) → Holds counts made q j
+  held-before made m n q j is h other = go (set-at made m q (n + 1)) other
+    where
+      go : (getD (set made m (n + 1)) q 0 ≡ getD made q 0) ⊎ ((q ≡ m) × (getD (set made m (n + 1)) q 0 ≡ n + 1))
+          → (startOf counts q + j ≢ startOf counts m + n) ⊎ (countOf counts m ≤ n) → Holds counts made q j
+      go (inl x) y = (omega arith, omega arith)
+      go (inr x) (inl y) =
+          let a = ap (λ z. getD made z 0) (x .0) in
+          let b = ap (startOf counts) (x .0) in
+          (omega arith, omega arith)
+      go (inr x) (inr y) =
+          let a = ap (λ z. getD made z 0) (x .0) in
+          let b = ap (countOf counts) (x .0) in
+          (omega arith, omega arith)
+
+  -- what members hold was taken with the serials noted at these places
+  pub record Noted (made serials : List ℕ) (A : Leases) : Type 0 where
+    pub room : length serials ≡ 256
+    pub names : (q j : ℕ) → Holds counts made q j → A (getD cells (startOf counts q + j) 0) (getD serials (startOf counts q + j) 0)
+
+  abbrev Keeps : Crew → Leases → Type 0
+  Keeps w A = Noted (w .made) (w .serials) A
+
+  wider : {made serials : List ℕ} {A B : Leases} → Sub A B → Noted made serials A → Noted made serials B
+  wider i k = record { room = k .room; names = λ q j h. i _ _ (k .names q j h) }
+
+  -- a take, move n of member m: its serial is noted at its place
+  took-noted : (made serials : List ℕ) (m n s : ℕ) (A : Leases) → total counts ≤ 256 → n ≡ getD made m 0 → n < countOf counts m → Noted made serials A
+      → A (getD cells (startOf counts m + n) 0) s → Noted (set made m (n + 1)) (set serials (startOf counts m + n) s) A
+  took-noted made serials m n s A few is l k a =
+      record { room = length-set serials _ s ∙ k .room; names = λ q j h. go q j h (ℕ-discrete (startOf counts q + j) (startOf counts m + n)) }
+    where
+      go : (q j : ℕ) → Holds counts (set made m (n + 1)) q j → Dec (startOf counts q + j ≡ startOf counts m + n)
+          → A (getD cells (startOf counts q + j) 0) (getD (set serials (startOf counts m + n) s) (startOf counts q + j) 0)
+      go q j h (yes e) = rw (e, getD-set-same serials (startOf counts m + n) s 0 (omega (arith, start-fits counts m, k .room))) a
+      go q j h (no e) = rw (getD-set-other serials (startOf counts m + n) (startOf counts q + j) s 0 e) (k .names q j (held-before made m n q j is h (inl e)))
+
+  -- a release: one place less
+  gave-noted : (made serials : List ℕ) (m n : ℕ) (A : Leases) → n ≡ getD made m 0 → countOf counts m ≤ n → Noted made serials A → Noted (set made m (n + 1)) serials A
+  gave-noted made serials m n A is l k = record { room = k .room; names = λ q j h. k .names q j (held-before made m n q j is h (inr l)) }
+
+  -- ---- turns
+
+  abbrev Turned : Leases → Made Crew → Type 0
+  Turned A m = Told [] 0 A (m .log) (Keeps (m .seen))
+
+  module _ (headers buckets : ℕ) (g : List ℕ) (few : total counts ≤ 256) where
+    try-told : (w : Crew) (m n : ℕ) (A : Leases) → n ≡ getD (w .made) m 0 → n < countOf counts m → Keeps w A
+        → Turned A (tryTurnOf headers buckets g w m (startOf counts m + n) (getD cells (startOf counts m + n) 0))
+    unfolding tryTurnOf
+    try-told w m n A is less k =
+        let c = getD cells (startOf counts m + n) 0 in
+        let e = setting headers (headers * buckets) [] [] in
+        let l = lockOf e (flowOf (w .next) 0 0) (w .table) g c .seen in
+        if-both (Turned A) (not (eqb (getD g (c / buckets) 0) 0)) (none k)
+        (more tt (andthen (lock-told e 0 (flowOf (w .next) 0 0) (w .table) g c _ (omega arith))
+        (λ B i h. none (go (l .0 .flow .next) (l .1 .0) B (wider (λ c s a. i c s (inl a)) k) (l .0 .answer) (h .0)))))
+      where
+        go : (next : ℕ) (t : List ℕ) (B : Leases) → Keeps w B → (x : Take) → Taken x (getD cells (startOf counts m + n) 0) B → Keeps (afterTry x next t w m (startOf counts m + n)) B
+        go next t B h (taking.Granted s) a = rw (← is) (took-noted (w .made) (w .serials) m n s B few is less h a)
+        go next t B h taking.Busy a = h
+        go next t B h taking.Damaged a = h
+        go next t B h taking.Spent a = h
+
+    release-told : (w : Crew) (m n : ℕ) (A : Leases) → n ≡ getD (w .made) m 0 → countOf counts m ≤ n → n < 2 * countOf counts m → Keeps w A
+        → let j = startOf counts m + (2 * countOf counts m - 1 - n) in Turned A (releaseTurnOf w m j (getD cells j 0))
+    unfolding releaseTurnOf
+    release-told w m n A is all some k =
+        more (k .names m (2 * countOf counts m - 1 - n) (omega arith, omega arith))
+        (none (wider (λ c s a. inl a) (rw (← is) (gave-noted (w .made) (w .serials) m n A is all k))))
+
+    turn-told : (w : Crew) (m : ℕ) (A : Leases) → Keeps w A → Turned A (turnOf headers buckets g counts cells w m)
+    unfolding turnOf
+    turn-told w m A k =
+        let n = getD (w .made) m 0 in
+        let count = countOf counts m in
+        if-cases (Turned A) (leb (2 * count) n) (λ _. none k)
+        (λ some. if-cases (Turned A) (ltb n count) (λ less. try-told w m n A refl (ltb-true n count less) k)
+        (λ all. release-told w m n A refl (ltb-false n count all) (leb-false (2 * count) n some) k))
+
+    pub turns-told : (turns : List ℕ) (w : Crew) (A : Leases) → Keeps w A → Turned A (turnsOf headers buckets g counts cells w turns)
+    unfolding turnsOf
+    turns-told [] w A k = none k
+    turns-told (m ∷ ms) w A k = andthen (turn-told w m A k) (λ B i h. turns-told ms (turnOf headers buckets g counts cells w m .seen) B h)
+
+-- from nothing noted
+pub crew-told : (w : World) (counts cells turns : List ℕ) (A : Leases) → Clear (crewRules (w .head) (w .table) (w .health) counts cells turns) → Told [] 0 A (steps w (crew counts cells turns) .log) any
+crew-told w counts cells turns A fine =
+    told (turns-told counts cells (w .head .headers) (w .head .buckets) (w .health) (limits (w .head) (w .table) (w .health) counts cells turns fine .small)
+    turns (crewAt (w .head .next) (w .table) (replicate 16 0) (replicate 256 0) 0 0) A
+    (record { room = refl; names = λ q j h. absurd (omega (arith, zeros 16 q)) }))

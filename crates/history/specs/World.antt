@@ -1,0 +1,135 @@
+-- The arena between two events: when an event is legal, and what it makes of the arena.
+use Prim.Native.Nat.{ℕ, zero, suc, _+_, _≤_, _<_}
+use mathlib.Core.Path.{_≡_}
+use mathlib.Core.List.{List, [], _∷_}
+use mathlib.Core.Bool.{Bool, true, false}
+use lib.Dec.{eqb}
+use lib.ListN.{length, set}
+use Rattle.model.specs.Log.{Event, attempt-begun, boundary-run, yielded, spun, step-dropped, took, released, waiters-set, health-set}
+use Rattle.model.specs.Arena.{lastSerial, cellsOf, spentTo, leaseOf, bitAt, setCell, setWaiters, stateAt, isLive, shapeFits, healthFits}
+use Rattle.model.specs.declared.Head.{Head}
+use Rattle.model.specs.declared.Lease.{Lease}
+use Rattle.model.specs.declared.State.the-variants as state
+
+pub record World : Type 0 where
+  pub head : Head
+  pub table : List ℕ
+  pub health : List ℕ
+
+abbrev pub worldOf : Head → List ℕ → List ℕ → World
+worldOf h t g = record { head = h; table = t; health = g }
+
+abbrev pub cells : World → ℕ
+cells w = cellsOf (w .head)
+
+-- document 01's words, of a world
+abbrev pub Free : World → ℕ → Type 0
+Free w c = (c < cells w) × (stateAt (w .head .next) (w .table) c ≡ state.Free)
+
+abbrev pub Live : World → Lease → Type 0
+Live w l = isLive (w .head .next) (cells w) (w .table) l ≡ true
+
+-- ---- events
+
+abbrev pub Legal : World → Event → Type 0
+Legal w attempt-begun = Unit {0}
+Legal w boundary-run = Unit {0}
+Legal w yielded = Unit {0}
+Legal w spun = Unit {0}
+Legal w step-dropped = Unit {0}
+Legal w (took a c s) = Free w c × ((s ≡ w .head .next) × (s < lastSerial))
+Legal w (released a c s) = Live w (leaseOf c s)
+Legal w (waiters-set c n) = c < cells w
+Legal w (health-set i n) = (i < w .head .headers) × (n ≤ 1)
+
+abbrev pub step : World → Event → World
+step w attempt-begun = w
+step w boundary-run = w
+step w yielded = w
+step w spun = w
+step w step-dropped = w
+step w (took a c s) = worldOf (spentTo (w .head) (w .head .next + 1)) (setCell (w .table) c 1 s) (w .health)
+step w (released a c s) = worldOf (w .head) (setCell (w .table) c 0 0) (w .health)
+step w (waiters-set c n) = worldOf (w .head) (setWaiters (w .table) c n) (w .health)
+step w (health-set i n) = worldOf (w .head) (w .table) (set (w .health) i n)
+
+-- a log is oldest first: the world after it, and that each event was legal when it happened
+abbrev pub now : World → List Event → World
+now w [] = w
+now w (e ∷ es) = now (step w e) es
+
+abbrev pub Lawful : World → List Event → Type 0
+Lawful w [] = Unit {0}
+Lawful w (e ∷ es) = Legal w e × Lawful (step w e) es
+
+-- ---- a sound arena: "no cell is damaged, owners are below next and no two cells have one owner"
+
+pub record Sound (w : World) : Type 0 where
+  pub fits : shapeFits (w .head) (length (w .table)) ≡ true
+  pub healthy : healthFits (w .head) (length (w .health)) ≡ true
+  -- free, or held: then the owner is from 1 to next - 1 (`stateOf`)
+  pub whole : (c : ℕ) → c < cells w → stateAt (w .head .next) (w .table) c ≡ state.Damaged → ⊥
+  pub apart : (c d s : ℕ) → Live w (leaseOf c s) → Live w (leaseOf d s) → c ≡ d
+
+-- ---- counting
+
+abbrev pub one : Bool → ℕ
+one true = 1
+one false = 0
+
+-- cells with bit 1 among the first n
+unfoldable pub bits : ℕ → List ℕ → ℕ
+bits zero t = 0
+bits (suc n) t = one (eqb (bitAt t n) 1) + bits n t
+
+-- what is counted of an event
+pub data Kind : Type 0 where
+  attempts boundaries yields drops takes releases others : Kind
+
+abbrev pub kind-of : Event → Kind
+kind-of attempt-begun = attempts
+kind-of boundary-run = boundaries
+kind-of yielded = yields
+kind-of spun = others
+kind-of step-dropped = drops
+kind-of (took a c s) = takes
+kind-of (released a c s) = releases
+kind-of (waiters-set c n) = others
+kind-of (health-set i n) = others
+
+abbrev pub code : Kind → ℕ
+code attempts = 0
+code boundaries = 1
+code yields = 2
+code drops = 3
+code takes = 4
+code releases = 5
+code others = 6
+
+-- how many events of a kind a log has
+unfoldable pub number-of : Kind → List Event → ℕ
+number-of k [] = 0
+number-of k (e ∷ es) = one (eqb (code (kind-of e)) (code k)) + number-of k es
+
+-- ---- what a log does with a lease
+
+abbrev pub Releases : Lease → Event → Type 0
+Releases l attempt-begun = ⊥
+Releases l boundary-run = ⊥
+Releases l yielded = ⊥
+Releases l spun = ⊥
+Releases l step-dropped = ⊥
+Releases l (took a c s) = ⊥
+Releases l (released a c s) = l ≡ leaseOf c s
+Releases l (waiters-set c n) = ⊥
+Releases l (health-set i n) = ⊥
+
+-- no event of it releases this cell with this serial
+abbrev pub Unreleased : Lease → List Event → Type 0
+Unreleased l [] = Unit {0}
+Unreleased l (e ∷ es) = (Releases l e → ⊥) × Unreleased l es
+
+-- "a serial that was issued and owns nothing"
+pub record Spent (w : World) (s : ℕ) : Type 0 where
+  pub was-issued : s < w .head .next
+  pub owns-none : (c : ℕ) → Live w (leaseOf c s) → ⊥
