@@ -86,7 +86,7 @@ module _ (e : Setting) where
       let k = lock-sober _ e (r .flow) t g c refl (b .paid) in
       record { paid = k .paid; few-attempts = omega (arith, b .few-attempts); few-boundaries = omega (arith, b .few-boundaries, k .few); few-yields = omega (arith, b .few-yields) }
 
-  attempt-calm : (buckets : ℕ) (registry : List ℕ) (binding bucket most : ℕ) (r : Run) (t g : List ℕ) → Calm (stepsIn (e .script)) most r
+  pub attempt-calm : (buckets : ℕ) (registry : List ℕ) (binding bucket most : ℕ) (r : Run) (t g : List ℕ) → Calm (stepsIn (e .script)) most r
       → CalmTry (most + 3) (attemptOf e buckets registry binding bucket r t g)
   unfolding attemptOf
   attempt-calm buckets registry binding bucket most r t g b = attempt-at (findOf (e .headers) buckets g registry binding bucket) most r t g b
@@ -97,7 +97,7 @@ module _ (e : Setting) where
   spin-calm most r t g b =
       record { paid = boundary-paid _ e (r .flow) t g refl (b .paid); few-attempts = omega (arith, b .few-attempts); few-boundaries = omega (arith, b .few-boundaries); few-yields = omega (arith, b .few-yields) }
 
-  pause-calm : (i most : ℕ) (r : Run) (t g : List ℕ) → Calm (stepsIn (e .script)) most r → CalmRun (most + 2) (pauseOf e i r t g)
+  pub pause-calm : (i most : ℕ) (r : Run) (t g : List ℕ) → Calm (stepsIn (e .script)) most r → CalmRun (most + 2) (pauseOf e i r t g)
   unfolding pauseOf
   pause-calm i most r t g b =
       let o = boundaryOf e (r .flow) t g .seen in

@@ -1,0 +1,287 @@
+-- Laws of multi-lock: the array of pairs as a list of leases, one key, one lease given back, the grant buffer, and what the counts keep.
+use Prim.Native.Nat.{ℕ, zero, suc, _+_, _*_, _-_, _/_, _≤_, _<_}
+use mathlib.Core.Path.{_≡_, refl, sym, ap, subst, _∙_}
+use mathlib.Core.List.{List, [], _∷_, _++_, append-assoc, append-nil}
+use mathlib.Core.Bool.{Bool, true, false}
+use mathlib.Core.Logic.{_≢_}
+use native.Mathlib.Omega.{arith}
+use native.Mathlib.Decide.{ℕ-discrete}
+use native.Mathlib.Numerals.{add-one}
+use lib.ListN.{length, getD, set, take, drop, length-append, length-set}
+use lib.Seq.{getD-set-same, getD-set-other, set-at}
+use Rattle.model.specs.Choice.{if_then_else_}
+use Rattle.model.specs.Log.{Made}
+use Rattle.model.specs.Arena.{leaseOf, leasesOf, wordsOf, setCell}
+use Rattle.model.specs.Foreign.{Setting, setting, protecting, stepsIn, boundaryOf}
+use Rattle.model.specs.Lock.{runOf, triedOf, outcomeOf, findOf, attemptAt, attemptOf, pauseOf, isBusy, retryOf, leaseAt, giveBackOf, endedOf, rollbackOf, afterKey, locksOf, bindingAt, bucketAt, Locks, lockOf}
+use Rattle.model.specs.declared.Answer.{Answer}
+use Rattle.model.specs.declared.Answer.the-variants as answer
+use Rattle.model.specs.declared.Ended.{Ended}
+use Rattle.model.specs.declared.Found.{Found}
+use Rattle.model.specs.declared.Found.the-variants as found
+use Rattle.model.specs.declared.Head.{Head}
+use Rattle.model.specs.declared.Lease.{Lease}
+use Rattle.model.specs.declared.Outcome.{Outcome}
+use Rattle.model.specs.declared.Outcome.the-variants as outcome
+use Rattle.model.specs.declared.Refusal.{Refusal}
+use Rattle.model.specs.declared.Refusal.the-variants as refusal
+use Rattle.model.specs.declared.Run.{Run}
+use Rattle.model.specs.declared.Take.{Take}
+use Rattle.model.specs.declared.Take.the-variants as taking
+use Rattle.model.specs.declared.Tried.{Tried}
+use Rattle.foreign.specs.Model.{pairsOf, guardsOf}
+use Rattle.foreign.specs.Laws.{boundary-paid}
+use Rattle.laws.specs.Pick.{if-both}
+use Rattle.laws.specs.Checks.{drop-two}
+use Rattle.bucket.specs.Model.{Key}
+use Rattle.bucket.specs.Laws.{Calm, more-calm, find-inside, attempt-calm, pause-calm}
+
+-- ---- the array of pairs
+
+abbrev pub pair : List (List ℕ) → ℕ → Lease
+pair a i = leaseOf (getD (getD a i []) 0 0) (getD (getD a i []) 1 0)
+
+pub length-pairs : (n i : ℕ) (a : List (List ℕ)) → length (pairsOf n i a) ≡ n
+unfolding pairsOf
+length-pairs zero i a = refl
+length-pairs (suc n) i a = ap suc (length-pairs n (i + 1) a)
+
+-- the first k of them
+pub take-pairs : (k n i : ℕ) (a : List (List ℕ)) → k ≤ n → take k (pairsOf n i a) ≡ pairsOf k i a
+unfolding pairsOf
+take-pairs zero n i a l = refl
+take-pairs (suc k) zero i a l = absurd (omega arith)
+take-pairs (suc k) (suc n) i a l = ap {B = List Lease} (λ r. pair a i ∷ r) (take-pairs k n (i + 1) a (omega arith))
+
+-- the one at a position
+pub pair-at : (k n i : ℕ) (a : List (List ℕ)) → k < n → leaseAt (pairsOf n i a) k ≡ pair a (i + k)
+unfolding pairsOf
+pair-at zero (suc n) i a l = let e : i + 0 ≡ i = omega arith in rw e
+pair-at (suc k) (suc n) i a l = let e : i + 1 + k ≡ i + suc k = omega arith in pair-at k n (i + 1) a (omega arith) ∙ ap (λ j. pair a j) e
+pair-at k zero i a l = absurd (omega arith)
+
+-- one more at the end
+pub pairs-more : (n i : ℕ) (a : List (List ℕ)) → pairsOf (n + 1) i a ≡ pairsOf n i a ++ (pair a (i + n) ∷ [])
+unfolding pairsOf
+pairs-more zero i a = let e : i + 0 ≡ i = omega arith in rw e
+pairs-more (suc n) i a =
+    let k : suc n + 1 ≡ suc (n + 1) = omega arith in
+    let e : i + 1 + n ≡ i + suc n = omega arith in
+    rw k (ap {B = List Lease} (λ r. pair a i ∷ r) (pairs-more n (i + 1) a ∙ ap (λ j. pairsOf n (i + 1) a ++ (pair a j ∷ [])) e))
+
+-- pairs before a place do not see a store to it
+pub pairs-set : (n i p : ℕ) (a : List (List ℕ)) (v : List ℕ) → i + n ≤ p → pairsOf n i (set a p v) ≡ pairsOf n i a
+unfolding pairsOf
+pairs-set zero i p a v l = refl
+pairs-set (suc n) i p a v l =
+    let d : i ≢ p = omega arith in
+    rw (getD-set-other a p i v [] d) (ap {B = List Lease} (λ r. pair a i ∷ r) (pairs-set n (i + 1) p a v (omega arith)))
+
+-- a lease noted behind them
+pub pairs-push : (p : ℕ) (a : List (List ℕ)) (c s : ℕ) → p < length a → pairsOf (p + 1) 0 (set a p (c ∷ s ∷ [])) ≡ pairsOf p 0 a ++ (leaseOf c s ∷ [])
+pairs-push p a c s l =
+    let z : 0 + p ≡ p = omega arith in
+    pairs-more p 0 (set a p (c ∷ s ∷ [])) ∙ rw (z, getD-set-same a p (c ∷ s ∷ []) [] l, pairs-set p 0 p a (c ∷ s ∷ []) (omega arith))
+
+-- ---- giving back
+
+-- one lease, with its boundary; the first k are still protected
+unfoldable pub giveOneOf : Setting → List Lease → ℕ → Run → List ℕ → List ℕ → Run × (List ℕ × List ℕ)
+giveOneOf e ls k r t g =
+    let o = boundaryOf (protecting e (take k ls)) (r .flow) (setCell t (leaseAt ls k .cell) 0 0) g .seen in
+    (runOf (o .0) (r .attempts) (r .boundaries + 1) (r .yields), o .1)
+
+-- the same, with the protected leases as the code lends them
+unfoldable pub giveAsLent : ℕ → ℕ → List ℕ → List ℕ → List (List ℕ) → ℕ → Run → List ℕ → List ℕ → Run × (List ℕ × List ℕ)
+giveAsLent headers cells script held a k r t g =
+    let o = boundaryOf (setting headers cells script (guardsOf held a k)) (r .flow) (setCell t (getD (getD a k []) 0 0) 0 0) g .seen in
+    (runOf (o .0) (r .attempts) (r .boundaries + 1) (r .yields), o .1)
+
+pub give-lent : (headers cells : ℕ) (script held : List ℕ) (a : List (List ℕ)) (n k : ℕ) (r : Run) (t g : List ℕ) → k < n
+    → giveOneOf (setting headers cells script (leasesOf held)) (pairsOf n 0 a) k r t g ≡ giveAsLent headers cells script held a k r t g
+unfolding giveOneOf giveAsLent guardsOf
+give-lent headers cells script held a n k r t g l =
+    let z : 0 + k ≡ k = omega arith in
+    rw (take-pairs k n 0 a (omega arith), pair-at k n 0 a l, z)
+
+pub give-at : (k : ℕ) (e : Setting) (ls : List Lease) (r : Run) (t g : List ℕ) → 0 < k
+    → giveBackOf k e ls r t g .seen
+    ≡ giveBackOf (k - 1) e ls (giveOneOf e ls (k - 1) r t g .0) (giveOneOf e ls (k - 1) r t g .1 .0) (giveOneOf e ls (k - 1) r t g .1 .1) .seen
+unfolding giveBackOf giveOneOf
+give-at zero e ls r t g l = absurd (omega arith)
+give-at (suc k) e ls r t g l = let q : suc k - 1 ≡ k = omega arith in rw q
+
+pub give-end : (e : Setting) (ls : List Lease) (r : Run) (t g : List ℕ) → giveBackOf 0 e ls r t g .seen ≡ (r, (t, g))
+unfolding giveBackOf
+give-end e ls r t g = refl
+
+-- as the code has it: counts stay few
+pub give-goes : (o : Run × (List ℕ × List ℕ)) (headers cells steps : ℕ) (script : List ℕ) (ps ls : List Lease) (k most : ℕ) (r : Run) (t g : List ℕ)
+    → steps ≡ length script / 3 → o ≡ giveOneOf (setting headers cells script ps) ls k r t g → Calm steps most r → Calm steps (most + 1) (o .0)
+unfolding giveOneOf
+give-goes o headers cells steps script ps ls k most r t g n q b =
+    let e = protecting (setting headers cells script ps) (take k ls) in
+    let p = boundary-paid _ e (r .flow) (setCell t (leaseAt ls k .cell) 0 0) g refl (rw n at (b .paid)) in
+    rw (q, n) (record { paid = p; few-attempts = omega (arith, b .few-attempts); few-boundaries = omega (arith, b .few-boundaries); few-yields = omega (arith, b .few-yields) })
+
+-- ---- what a retry keeps, and where its grant lies
+
+module _ (e : Setting) (buckets : ℕ) (registry : List ℕ) (binding bucket : ℕ) where
+  retry-calm : (left i most : ℕ) (r : Run) (t g : List ℕ) → Calm (stepsIn (e .script)) most r
+      → Calm (stepsIn (e .script)) (most + 5 * left) (retryOf left i e buckets registry binding bucket r t g .seen .0 .run)
+  unfolding retryOf
+  retry-calm zero i most r t g b = more-calm _ most (most + 5 * 0) _ (omega arith) b
+  retry-calm (suc left) i most r t g b =
+      let o = attemptOf e buckets registry binding bucket r t g .seen in
+      let c = attempt-calm e buckets registry binding bucket most r t g b in
+      let p = pauseOf e i (o .0 .run) (o .1 .0) (o .1 .1) .seen in
+      let d = pause-calm e i (most + 3) (o .0 .run) (o .1 .0) (o .1 .1) c in
+      if-both (λ (m : Made (Tried × (List ℕ × List ℕ))). Calm (stepsIn (e .script)) (most + 5 * suc left) (m .seen .0 .run)) (isBusy (o .0 .outcome))
+      (more-calm _ (most + 3 + 2 + 5 * left) (most + 5 * suc left) _ (omega arith) (retry-calm left (i + 1) (most + 3 + 2) (p .0) (p .1 .0) (p .1 .1) d))
+      (more-calm _ (most + 3) (most + 5 * suc left) _ (omega arith) c)
+
+  -- a granted lease's cell is in range
+  abbrev Within : Outcome → Type 0
+  Within k = (l : Lease) → k ≡ outcome.Granted l → l .cell < e .headers * buckets
+
+  within-at : (c : ℕ) (a : Take) → c < e .headers * buckets → Within (outcomeOf c a)
+  within-at c (taking.Granted s) h l q = let z : leaseOf c s ≡ l = cc in omega (arith, ap (λ (k : Lease). k .cell) z)
+  within-at c taking.Busy h l q = let z : outcome.Busy ≡ outcome.Granted l = q in absurd (no-way z)
+    where
+      no-way : outcome.Busy ≡ outcome.Granted l → ⊥
+      no-way z = let y : _≡_ {A = ℕ} 0 1 = cc in omega arith
+  within-at c taking.Damaged h l q = let y : _≡_ {A = ℕ} 0 1 = cc in absurd (omega arith)
+  within-at c taking.Spent h l q = let y : _≡_ {A = ℕ} 0 1 = cc in absurd (omega arith)
+
+  within-attempt : (k : Found) (r : Run) (t g : List ℕ) → ((c : ℕ) → k ≡ found.At c → c < e .headers * buckets) → Within (attemptAt k e r t g .seen .0 .outcome)
+  within-attempt (found.Fault x) r t g h l q = let y : _≡_ {A = ℕ} 0 1 = cc in absurd (omega arith)
+  within-attempt (found.At c) r t g h l q = within-at c (lockOf e (r .flow) t g c .seen .0 .answer) (h c refl) l q
+
+  retry-within : (left i : ℕ) (r : Run) (t g : List ℕ) → Within (retryOf left i e buckets registry binding bucket r t g .seen .0 .outcome)
+  unfolding retryOf attemptOf
+  retry-within zero i r t g = λ l q. let y : _≡_ {A = ℕ} 0 1 = cc in absurd (omega arith)
+  retry-within (suc left) i r t g =
+      let o = attemptOf e buckets registry binding bucket r t g .seen in
+      let p = pauseOf e i (o .0 .run) (o .1 .0) (o .1 .1) .seen in
+      if-both (λ (m : Made (Tried × (List ℕ × List ℕ))). Within (m .seen .0 .outcome)) (isBusy (o .0 .outcome))
+      (retry-within left (i + 1) (p .0) (p .1 .0) (p .1 .1))
+      (within-attempt (findOf (e .headers) buckets g registry binding bucket) r t g (find-inside (e .headers) buckets g registry binding bucket))
+
+-- as the code has them
+pub retry-goes : (o : Tried × (List ℕ × List ℕ)) (headers cells steps : ℕ) (script : List ℕ) (ps : List Lease) (buckets : ℕ) (registry : List ℕ) (binding bucket most : ℕ) (r : Run) (t g : List ℕ)
+    → steps ≡ length script / 3 → o ≡ retryOf 4096 0 (setting headers cells script ps) buckets registry binding bucket r t g .seen → Calm steps most r → Calm steps (most + 20480) (o .0 .run)
+retry-goes o headers cells steps script ps buckets registry binding bucket most r t g n q b =
+    rw (q, n) (retry-calm (setting headers cells script ps) buckets registry binding bucket 4096 0 most r t g (rw n at b))
+
+pub grant-inside : (o : Tried × (List ℕ × List ℕ)) (headers cells : ℕ) (script : List ℕ) (ps : List Lease) (buckets : ℕ) (registry : List ℕ) (binding bucket : ℕ) (r : Run) (t g : List ℕ) (l : Lease)
+    → o ≡ retryOf 4096 0 (setting headers cells script ps) buckets registry binding bucket r t g .seen → o .0 .outcome ≡ outcome.Granted l → l .cell < headers * buckets
+grant-inside o headers cells script ps buckets registry binding bucket r t g l q h =
+    retry-within (setting headers cells script ps) buckets registry binding bucket 4096 0 r t g l (sym (ap (λ (k : Tried × (List ℕ × List ℕ)). k .0 .outcome) q) ∙ h)
+
+-- ---- one key
+
+module _ (n p : ℕ) (e : Setting) (buckets : ℕ) (registry keys : List ℕ) (taken : List Lease) (r : Run) (t g grants : List ℕ) where
+  abbrev tried : Tried × (List ℕ × List ℕ)
+  tried = retryOf 4096 0 (protecting e taken) buckets registry (bindingAt keys p) (bucketAt keys p) r t g .seen
+
+  -- what comes of the key, by what its retry came to
+  abbrev next-key : Outcome → Tried × (List ℕ × List ℕ) → Made Locks
+  next-key k o =
+      afterKey k e taken p (o .0 .run) (o .1 .0) (o .1 .1) grants λ l. locksOf (n - (p + 1)) (p + 1) e buckets registry keys (taken ++ (l ∷ [])) (o .0 .run) (o .1 .0) (o .1 .1) grants
+
+  pub locks-at : (o : Tried × (List ℕ × List ℕ)) (k : Outcome) → o ≡ tried → o .0 .outcome ≡ k → p < n
+      → locksOf (n - p) p e buckets registry keys taken r t g grants .seen ≡ next-key k o .seen
+  unfolding locksOf
+  locks-at o k q w l = let d : n - p ≡ suc (n - (p + 1)) = omega arith in rw (d, ← q, w)
+
+  pub locks-end : n ≤ p → locksOf (n - p) p e buckets registry keys taken r t g grants .seen ≡ (endedOf r answer.AllGranted, (t, (g, wordsOf taken)))
+  unfolding locksOf
+  locks-end l = let d : n - p ≡ 0 = omega arith in rw d
+
+-- a rollback, as the code has it: without the grant buffer, which it does not touch
+unfoldable pub rolledOf : Setting → List Lease → Refusal → ℕ → Run → List ℕ → List ℕ → Ended × (List ℕ × List ℕ)
+rolledOf e ls x p r t g = let k = giveBackOf (length ls) e ls r t g .seen in (endedOf (k .0) (answer.RefusedAt x p), k .1)
+
+abbrev pub with-grants : Ended × (List ℕ × List ℕ) → List ℕ → Ended × (List ℕ × (List ℕ × List ℕ))
+with-grants o grants = (o .0, (o .1 .0, (o .1 .1, grants)))
+
+pub rolled : (e : Setting) (ls : List Lease) (x : Refusal) (p : ℕ) (r : Run) (t g grants : List ℕ) → rollbackOf e ls x p r t g grants .seen ≡ with-grants (rolledOf e ls x p r t g) grants
+unfolding rollbackOf rolledOf
+rolled e ls x p r t g grants = refl
+
+-- ---- the grant buffer
+
+words-append : (xs ys : List Lease) → wordsOf (xs ++ ys) ≡ wordsOf xs ++ wordsOf ys
+unfolding wordsOf
+words-append [] ys = refl
+words-append (x ∷ xs) ys = ap {B = List ℕ} (λ r. x .cell ∷ x .serial ∷ r) (words-append xs ys)
+
+pub length-words : (ls : List Lease) → length (wordsOf ls) ≡ 2 * length ls
+unfolding wordsOf
+length-words [] = refl
+length-words (l ∷ ls) = omega (arith, length-words ls)
+
+-- one pair more is written
+pub words-more : (i : ℕ) (a : List (List ℕ)) (b : List ℕ) → 2 * i + 1 < length b
+    → set (set (wordsOf (pairsOf i 0 a) ++ drop (2 * i) b) (2 * i) (pair a i .cell)) (2 * i + 1) (pair a i .serial)
+    ≡ wordsOf (pairsOf (i + 1) 0 a) ++ drop (2 * (i + 1)) b
+unfolding wordsOf
+words-more i a b l =
+    let w = wordsOf (pairsOf i 0 a) in
+    let n : length w ≡ 2 * i = length-words (pairsOf i 0 a) ∙ ap (λ k. 2 * k) (length-pairs i 0 a) in
+    let m : length (w ++ (pair a i .cell ∷ [])) ≡ 2 * i + 1 = length-append w (pair a i .cell ∷ []) ∙ omega arith in
+    let z : 0 + i ≡ i = omega arith in
+    let d : 2 * i + 2 ≡ 2 * (i + 1) = omega arith in
+    rw (drop-two b (2 * i) l, set-at w (getD b (2 * i) 0) (getD b (2 * i + 1) 0 ∷ drop (2 * i + 2) b) (pair a i .cell) (2 * i) n)
+    (ap (λ (q : List ℕ). set q (2 * i + 1) (pair a i .serial)) (sym (append-assoc w (pair a i .cell ∷ []) (getD b (2 * i + 1) 0 ∷ drop (2 * i + 2) b)))
+    ∙ set-at (w ++ (pair a i .cell ∷ [])) (getD b (2 * i + 1) 0) (drop (2 * i + 2) b) (pair a i .serial) (2 * i + 1) m
+    ∙ append-assoc w (pair a i .cell ∷ []) (pair a i .serial ∷ drop (2 * i + 2) b)
+    ∙ sym (rw (pairs-more i 0 a, z, words-append (pairsOf i 0 a) (pair a i ∷ []), append-assoc w (pair a i .cell ∷ pair a i .serial ∷ []) (drop (2 * (i + 1)) b), ← d)))
+
+-- where the rollback stands: the first k are still to be given back
+pub record Giving (e : Setting) (ls : List Lease) (steps n : ℕ) (r₀ : Run) (t₀ g₀ : List ℕ) (k : ℕ) (r : Run) (t g : List ℕ) : Type 0 where
+  pub calm : Calm steps (1900000 + n - k) r
+  pub few : k ≤ n
+  pub words : length t ≡ length t₀
+  pub bytes : length g ≡ length g₀
+  pub rest : giveBackOf k e ls r t g .seen ≡ giveBackOf n e ls r₀ t₀ g₀ .seen
+
+-- what the keys are given: an arena whose cells can be numbered, and bindings inside the registry
+pub record Bound (h : Head) (cells words bytes steps script : ℕ) (registry keys : List ℕ) : Type 0 where
+  pub key : Key h cells words bytes 64 steps script 1 0
+  pub bound : (i : ℕ) → 2 * i + 1 < length keys → bindingAt keys i < length registry
+
+-- the key at a position
+pub bound-key : (h : Head) (cells words bytes steps script : ℕ) (registry keys : List ℕ) (p : ℕ) → p < 64 → 2 * p + 1 < length keys
+    → Bound h cells words bytes steps script registry keys → Key h cells words bytes p steps script (length registry) (bindingAt keys p)
+bound-key h cells words bytes steps script registry keys p l k b =
+    record {
+      room = record { words-fit = b .key .room .words-fit; bytes-fit = b .key .room .bytes-fit; few-taken = omega arith; steps-are = b .key .room .steps-are };
+      fit = b .key .fit;
+      cells-are = b .key .cells-are;
+      bound = b .bound p k;
+    }
+
+-- lengths do not change
+pub bound-for : {h : Head} {cells words words₀ bytes bytes₀ steps script : ℕ} {registry keys : List ℕ} → words ≡ words₀ → bytes ≡ bytes₀
+    → Bound h cells words₀ bytes₀ steps script registry keys → Bound h cells words bytes steps script registry keys
+bound-for p q b = rw (p, q) b
+
+-- a noted lease's cell is in range, with those before it
+pub inside-push : (a : List (List ℕ)) (p c s cells : ℕ) → p < length a → c < cells → ((i : ℕ) → i < p → getD (getD a i []) 0 0 < cells)
+    → (i : ℕ) → i < p + 1 → getD (getD (set a p (c ∷ s ∷ [])) i []) 0 0 < cells
+inside-push a p c s cells l h b i k = go (ℕ-discrete i p)
+  where
+    go : Dec (i ≡ p) → getD (getD (set a p (c ∷ s ∷ [])) i []) 0 0 < cells
+    go (yes e) = rw (e, getD-set-same a p (c ∷ s ∷ []) [] l) h
+    go (no e) = rw (getD-set-other a p i (c ∷ s ∷ []) [] e) (b i (omega arith))
+
+-- where multi-lock stands, before the key at position p
+pub record Keying (e : Setting) (steps cells n buckets : ℕ) (registry keys : List ℕ) (grants : List ℕ) (r₀ : Run) (t₀ g₀ : List ℕ) (p : ℕ) (a : List (List ℕ)) (r : Run) (t g : List ℕ) : Type 0 where
+  pub calm : Calm steps (20480 * p) r
+  pub few : p ≤ n
+  pub words : length t ≡ length t₀
+  pub bytes : length g ≡ length g₀
+  pub size : length a ≡ 64
+  pub inside : (i : ℕ) → i < p → getD (getD a i []) 0 0 < cells
+  pub rest : locksOf (n - p) p e buckets registry keys (pairsOf p 0 a) r t g grants .seen ≡ locksOf n 0 e buckets registry keys [] r₀ t₀ g₀ grants .seen
