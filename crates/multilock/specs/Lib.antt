@@ -1,1 +1,3 @@
+pub mod Release
 pub mod Locks
+pub mod Fine

@@ -1,20 +1,16 @@
 -- Laws of multi-lock: the array of pairs as a list of leases, one key, one lease given back, the grant buffer, and what the counts keep.
 use Prim.Native.Nat.{ℕ, zero, suc, _+_, _*_, _-_, _/_, _≤_, _<_}
-use mathlib.Core.Path.{_≡_, refl, sym, ap, subst, _∙_}
-use mathlib.Core.List.{List, [], _∷_, _++_, append-assoc, append-nil}
-use mathlib.Core.Bool.{Bool, true, false}
+use mathlib.Core.Path.{_≡_, refl, sym, ap, _∙_}
+use mathlib.Core.List.{List, [], _∷_, _++_, append-assoc}
 use mathlib.Core.Logic.{_≢_}
 use native.Mathlib.Omega.{arith}
 use native.Mathlib.Decide.{ℕ-discrete}
-use native.Mathlib.Numerals.{add-one}
-use lib.ListN.{length, getD, set, take, drop, length-append, length-set}
+use lib.ListN.{length, getD, set, drop, length-append}
 use lib.Seq.{getD-set-same, getD-set-other, set-at}
-use Rattle.model.specs.Choice.{if_then_else_}
 use Rattle.model.specs.Log.{Made}
-use Rattle.model.specs.Arena.{leaseOf, leasesOf, wordsOf, setCell}
-use Rattle.model.specs.Foreign.{Setting, setting, protecting, stepsIn, boundaryOf}
-use Rattle.model.specs.Lock.{runOf, triedOf, outcomeOf, findOf, attemptAt, attemptOf, pauseOf, isBusy, retryOf, leaseAt, giveBackOf, endedOf, rollbackOf, afterKey, locksOf, bindingAt, bucketAt, Locks, lockOf}
-use Rattle.model.specs.declared.Answer.{Answer}
+use Rattle.model.specs.Arena.{leaseOf, wordsOf}
+use Rattle.model.specs.Foreign.{Setting, setting, protecting, stepsIn}
+use Rattle.model.specs.Lock.{outcomeOf, findOf, attemptAt, attemptOf, pauseOf, isBusy, retryOf, giveBackOf, endedOf, rollbackOf, afterKey, locksOf, bindingAt, bucketAt, Locks, lockOf}
 use Rattle.model.specs.declared.Answer.the-variants as answer
 use Rattle.model.specs.declared.Ended.{Ended}
 use Rattle.model.specs.declared.Found.{Found}
@@ -24,13 +20,11 @@ use Rattle.model.specs.declared.Lease.{Lease}
 use Rattle.model.specs.declared.Outcome.{Outcome}
 use Rattle.model.specs.declared.Outcome.the-variants as outcome
 use Rattle.model.specs.declared.Refusal.{Refusal}
-use Rattle.model.specs.declared.Refusal.the-variants as refusal
 use Rattle.model.specs.declared.Run.{Run}
 use Rattle.model.specs.declared.Take.{Take}
 use Rattle.model.specs.declared.Take.the-variants as taking
 use Rattle.model.specs.declared.Tried.{Tried}
-use Rattle.foreign.specs.Model.{pairsOf, guardsOf}
-use Rattle.foreign.specs.Laws.{boundary-paid}
+use Rattle.foreign.specs.Model.{pairsOf}
 use Rattle.laws.specs.Pick.{if-both}
 use Rattle.laws.specs.Checks.{drop-two}
 use Rattle.bucket.specs.Model.{Key}
@@ -45,20 +39,6 @@ pub length-pairs : (n i : ℕ) (a : List (List ℕ)) → length (pairsOf n i a) 
 unfolding pairsOf
 length-pairs zero i a = refl
 length-pairs (suc n) i a = ap suc (length-pairs n (i + 1) a)
-
--- the first k of them
-pub take-pairs : (k n i : ℕ) (a : List (List ℕ)) → k ≤ n → take k (pairsOf n i a) ≡ pairsOf k i a
-unfolding pairsOf
-take-pairs zero n i a l = refl
-take-pairs (suc k) zero i a l = absurd (omega arith)
-take-pairs (suc k) (suc n) i a l = ap {B = List Lease} (λ r. pair a i ∷ r) (take-pairs k n (i + 1) a (omega arith))
-
--- the one at a position
-pub pair-at : (k n i : ℕ) (a : List (List ℕ)) → k < n → leaseAt (pairsOf n i a) k ≡ pair a (i + k)
-unfolding pairsOf
-pair-at zero (suc n) i a l = let e : i + 0 ≡ i = omega arith in rw e
-pair-at (suc k) (suc n) i a l = let e : i + 1 + k ≡ i + suc k = omega arith in pair-at k n (i + 1) a (omega arith) ∙ ap (λ j. pair a j) e
-pair-at k zero i a l = absurd (omega arith)
 
 -- one more at the end
 pub pairs-more : (n i : ℕ) (a : List (List ℕ)) → pairsOf (n + 1) i a ≡ pairsOf n i a ++ (pair a (i + n) ∷ [])
@@ -82,47 +62,6 @@ pub pairs-push : (p : ℕ) (a : List (List ℕ)) (c s : ℕ) → p < length a �
 pairs-push p a c s l =
     let z : 0 + p ≡ p = omega arith in
     pairs-more p 0 (set a p (c ∷ s ∷ [])) ∙ rw (z, getD-set-same a p (c ∷ s ∷ []) [] l, pairs-set p 0 p a (c ∷ s ∷ []) (omega arith))
-
--- ---- giving back
-
--- one lease, with its boundary; the first k are still protected
-unfoldable pub giveOneOf : Setting → List Lease → ℕ → Run → List ℕ → List ℕ → Run × (List ℕ × List ℕ)
-giveOneOf e ls k r t g =
-    let o = boundaryOf (protecting e (take k ls)) (r .flow) (setCell t (leaseAt ls k .cell) 0 0) g .seen in
-    (runOf (o .0) (r .attempts) (r .boundaries + 1) (r .yields), o .1)
-
--- the same, with the protected leases as the code lends them
-unfoldable pub giveAsLent : ℕ → ℕ → List ℕ → List ℕ → List (List ℕ) → ℕ → Run → List ℕ → List ℕ → Run × (List ℕ × List ℕ)
-giveAsLent headers cells script held a k r t g =
-    let o = boundaryOf (setting headers cells script (guardsOf held a k)) (r .flow) (setCell t (getD (getD a k []) 0 0) 0 0) g .seen in
-    (runOf (o .0) (r .attempts) (r .boundaries + 1) (r .yields), o .1)
-
-pub give-lent : (headers cells : ℕ) (script held : List ℕ) (a : List (List ℕ)) (n k : ℕ) (r : Run) (t g : List ℕ) → k < n
-    → giveOneOf (setting headers cells script (leasesOf held)) (pairsOf n 0 a) k r t g ≡ giveAsLent headers cells script held a k r t g
-unfolding giveOneOf giveAsLent guardsOf
-give-lent headers cells script held a n k r t g l =
-    let z : 0 + k ≡ k = omega arith in
-    rw (take-pairs k n 0 a (omega arith), pair-at k n 0 a l, z)
-
-pub give-at : (k : ℕ) (e : Setting) (ls : List Lease) (r : Run) (t g : List ℕ) → 0 < k
-    → giveBackOf k e ls r t g .seen
-    ≡ giveBackOf (k - 1) e ls (giveOneOf e ls (k - 1) r t g .0) (giveOneOf e ls (k - 1) r t g .1 .0) (giveOneOf e ls (k - 1) r t g .1 .1) .seen
-unfolding giveBackOf giveOneOf
-give-at zero e ls r t g l = absurd (omega arith)
-give-at (suc k) e ls r t g l = let q : suc k - 1 ≡ k = omega arith in rw q
-
-pub give-end : (e : Setting) (ls : List Lease) (r : Run) (t g : List ℕ) → giveBackOf 0 e ls r t g .seen ≡ (r, (t, g))
-unfolding giveBackOf
-give-end e ls r t g = refl
-
--- as the code has it: counts stay few
-pub give-goes : (o : Run × (List ℕ × List ℕ)) (headers cells steps : ℕ) (script : List ℕ) (ps ls : List Lease) (k most : ℕ) (r : Run) (t g : List ℕ)
-    → steps ≡ length script / 3 → o ≡ giveOneOf (setting headers cells script ps) ls k r t g → Calm steps most r → Calm steps (most + 1) (o .0)
-unfolding giveOneOf
-give-goes o headers cells steps script ps ls k most r t g n q b =
-    let e = protecting (setting headers cells script ps) (take k ls) in
-    let p = boundary-paid _ e (r .flow) (setCell t (leaseAt ls k .cell) 0 0) g refl (rw n at (b .paid)) in
-    rw (q, n) (record { paid = p; few-attempts = omega (arith, b .few-attempts); few-boundaries = omega (arith, b .few-boundaries); few-yields = omega (arith, b .few-yields) })
 
 -- ---- what a retry keeps, and where its grant lies
 
@@ -237,14 +176,6 @@ words-more i a b l =
     ∙ set-at (w ++ (pair a i .cell ∷ [])) (getD b (2 * i + 1) 0) (drop (2 * i + 2) b) (pair a i .serial) (2 * i + 1) m
     ∙ append-assoc w (pair a i .cell ∷ []) (pair a i .serial ∷ drop (2 * i + 2) b)
     ∙ sym (rw (pairs-more i 0 a, z, words-append (pairsOf i 0 a) (pair a i ∷ []), append-assoc w (pair a i .cell ∷ pair a i .serial ∷ []) (drop (2 * (i + 1)) b), ← d)))
-
--- where the rollback stands: the first k are still to be given back
-pub record Giving (e : Setting) (ls : List Lease) (steps n : ℕ) (r₀ : Run) (t₀ g₀ : List ℕ) (k : ℕ) (r : Run) (t g : List ℕ) : Type 0 where
-  pub calm : Calm steps (1900000 + n - k) r
-  pub few : k ≤ n
-  pub words : length t ≡ length t₀
-  pub bytes : length g ≡ length g₀
-  pub rest : giveBackOf k e ls r t g .seen ≡ giveBackOf n e ls r₀ t₀ g₀ .seen
 
 -- what the keys are given: an arena whose cells can be numbered, and bindings inside the registry
 pub record Bound (h : Head) (cells words bytes steps script : ℕ) (registry keys : List ℕ) : Type 0 where

@@ -1,22 +1,17 @@
+-- `multilock::lock_keys` meets its contract.
+use Prim.Native.Nat.{_-_}
 use mathlib.Core.Path.{_≡_, refl}
-use Prim.Native.Nat.{ℕ, _-_}
 use native.Mathlib.Omega.{arith}
 use lib.ListN.{length-set}
 use borrow.Author.Needs.{needs}
 use Rattle.model.specs.Arena.{leasesOf}
 use Rattle.model.specs.Foreign.{setting}
-use Rattle.model.specs.declared.Outcome.the-variants as outcome
-use Rattle.foreign.specs.Model.{pairsOf}
 use Rattle.bucket.specs.Laws.{more-calm}
-use Rattle.multilock.specs.Locks.{Keying, bound-for, retry-goes, locks-at, locks-end, rolled, pairs-push, inside-push, grant-inside}
-use borrow.Author.Tests.{le-ltb, lt-ltb, le-leb, lt-leb, eq-eqb, ne-eqb}
+use Rattle.foreign.specs.Model.{pairsOf}
 use Rattle.multilock.proofs.lock_keys.Statement.{statement}
+use Rattle.multilock.specs.Locks.{Keying, bound-for, retry-goes, locks-at, locks-end, rolled, pairs-push, inside-push, grant-inside}
+use Rattle.model.specs.declared.Outcome.the-variants as outcome
 use Rattle.multilock.proofs.lock_keys.Tie as tie
-use Rattle.multilock.proofs.lock_keys.Reads as reads
-use Rattle.multilock.proofs.lock_keys.Lts as lts
-use Rattle.multilock.proofs.grant.Reads as grant-reads
-use Rattle.multilock.proofs.roll_back.Reads as roll-back-reads
-use Rattle.multilock.proofs.try_key.Reads as try-key-reads
 
 abbrev Inv-loop : tie.InvT-loop
 Inv-loop head cells table₀ health₀ script steps held registry keys n grants headers taken₀ run₀ p₀ table health taken run p =
@@ -25,40 +20,33 @@ Inv-loop head cells table₀ health₀ script steps held registry keys n grants 
 abbrev μ-loop : tie.MeasureT-loop
 μ-loop head cells table₀ health₀ script steps held registry keys n grants headers taken₀ run₀ p₀ table health taken run p = n - p
 
--- src/lib.rt:211:5
 loop-holds : tie.Need-loop-holds Inv-loop μ-loop
 unfolding pairsOf
 loop-holds c = let z : c .before .before .before .before .before .before .before .args .n - 0 ≡ c .before .before .before .before .before .before .before .args .n = omega arith in
     record { calm = c .before .before .before .before .before .before .before .pre .1 .0; few = search needs; words = refl; bytes = refl; size = refl; inside = λ i h. absurd (omega arith); rest = rw z }
 
--- src/lib.rt:212:13
 try-key-requires : tie.Need-try-key-requires Inv-loop μ-loop
-try-key-requires c κs = 
+try-key-requires c κs =
     let l = c .before .before .before .before .loop in
     let a = c .before .before .before .before .before .before .before .before .before .before .before .before .args in
     let q = c .before .before .before .before .before .before .before .before .before .before .before .before .pre in
     let e = setting (a .head .headers) (a .cells) (a .script .now) (leasesOf (a .held .now)) in
     (bound-for (l .inv .words) (l .inv .bytes) (q .0), (more-calm _ _ _ _ (omega (arith, l .inv .few, q .1 .1 .0)) (l .inv .calm), (omega (arith, l .inv .few, q .1 .1 .0), omega (arith, q .1 .1 .1 .0))))
 
--- src/lib.rt:229:30
 enum-known-outcome : tie.Need-enum-known-outcome Inv-loop μ-loop
 enum-known-outcome c = search needs
 
--- src/lib.rt:230:17
 mul-taken : tie.Need-mul-taken Inv-loop μ-loop
 mul-taken c = omega (arith, c .before .before .before .before .before .before .before .before .before .before .before .before .loop-test .taken, c .before .before .before .before .before .before .before .before .before .before .before .before .before .before .before .before .before .before .before .before .before .pre .1 .1 .0)
 
--- src/lib.rt:230:17
 array-set-from-taken : tie.Need-array-set-from-taken Inv-loop μ-loop
 array-set-from-taken c = omega (arith, c .before .before .before .before .before .before .before .before .before .before .before .before .loop-test .taken, c .before .before .before .before .before .before .before .before .before .before .before .before .before .before .before .before .before .before .before .before .before .pre .1 .1 .0)
 
--- src/lib.rt:238:21
 enum-told : tie.Need-enum-told Inv-loop μ-loop
 enum-told c = search needs
 
--- src/lib.rt:234:17
 roll-back-requires : tie.Need-roll-back-requires Inv-loop μ-loop
-roll-back-requires c κs = 
+roll-back-requires c κs =
     let l = c .before .before .before .before .before .before .before .before .before .before .before .before .before .before .loop in
     let a = c .before .before .before .before .before .before .before .before .before .before .before .before .before .before .before .before .before .before .before .before .before .before .args in
     let q = c .before .before .before .before .before .before .before .before .before .before .before .before .before .before .before .before .before .before .before .before .before .before .pre in
@@ -66,30 +54,25 @@ roll-back-requires c κs =
     let room = q .0 .key .room in
     (record { words-fit = search needs; bytes-fit = search needs; few-taken = omega (arith, l .inv .few, q .1 .1 .0); steps-are = room .steps-are }, (more-calm _ _ _ _ (omega (arith, l .inv .few, q .1 .1 .0)) (retry-goes _ _ _ _ _ _ _ _ _ _ _ _ _ _ (room .steps-are) (c .before .before .before .before .before .before .before .before .before .try-key .ensures) (l .inv .calm)), l .inv .inside))
 
--- src/lib.rt:234:17
 same-length : tie.Need-same-length Inv-loop μ-loop
 same-length c = omega (arith, c .before .before .before .before .before .before .before .before .before .before .before .before .before .before .before .before .before .before .before .loop .inv .words, c .before .before .before .before .before .before .before .before .before .before .before .before .before .before .try-key .kept, c .before .before .before .before .roll-back .kept)
 
--- src/lib.rt:234:17
 same-length-2 : tie.Need-same-length-2 Inv-loop μ-loop
 same-length-2 c = omega (arith, c .before .before .before .before .before .before .before .before .before .before .before .before .before .before .before .before .before .before .before .loop .inv .bytes, c .before .before .before .before .before .before .before .before .before .before .before .before .before .before .try-key .kept, c .before .before .before .before .roll-back .kept)
 
--- src/lib.rt:234:17
 returns : tie.Need-returns Inv-loop μ-loop
-returns c = 
+returns c =
     let l = c .before .before .before .before .before .before .before .before .before .before .before .before .before .before .before .before .before .before .before .loop in
     let a = c .before .before .before .before .before .before .before .before .before .before .before .before .before .before .before .before .before .before .before .before .before .before .before .before .before .before .before .args in
     let q = c .before .before .before .before .before .before .before .before .before .before .before .before .before .before .before .before .before .before .before .before .before .before .before .before .before .before .before .pre in
     let e = setting (a .head .headers) (a .cells) (a .script .now) (leasesOf (a .held .now)) in
     rw (← l .inv .rest, locks-at (a .n) (l .p) e (a .head .buckets) (a .registry .now) (a .keys .now) (pairsOf (l .p) 0 (l .taken)) (l .run) (l .table) (l .health) (a .grants .now) _ (outcome.Busy) (c .before .before .before .before .before .before .before .before .before .before .before .before .before .before .try-key .ensures) (c .before .before .before .before .before .before .before .enum-told .given .1) (omega (arith, c .before .before .before .before .before .before .before .before .before .before .before .before .before .before .before .before .before .before .loop-test .taken)), rolled _ _ _ _ _ _ _ _, ← c .before .before .before .before .roll-back .ensures)
 
--- src/lib.rt:248:30
 enum-known-outcome-2 : tie.Need-enum-known-outcome-2 Inv-loop μ-loop
 enum-known-outcome-2 c = search needs
 
--- src/lib.rt:249:17
 roll-back-requires-2 : tie.Need-roll-back-requires-2 Inv-loop μ-loop
-roll-back-requires-2 c κs = 
+roll-back-requires-2 c κs =
     let l = c .before .before .before .before .before .before .before .before .before .before .before .before .before .before .before .loop in
     let a = c .before .before .before .before .before .before .before .before .before .before .before .before .before .before .before .before .before .before .before .before .before .before .before .args in
     let q = c .before .before .before .before .before .before .before .before .before .before .before .before .before .before .before .before .before .before .before .before .before .before .before .pre in
@@ -97,34 +80,28 @@ roll-back-requires-2 c κs =
     let room = q .0 .key .room in
     (record { words-fit = search needs; bytes-fit = search needs; few-taken = omega (arith, l .inv .few, q .1 .1 .0); steps-are = room .steps-are }, (more-calm _ _ _ _ (omega (arith, l .inv .few, q .1 .1 .0)) (retry-goes _ _ _ _ _ _ _ _ _ _ _ _ _ _ (room .steps-are) (c .before .before .before .before .before .before .before .before .before .before .try-key .ensures) (l .inv .calm)), l .inv .inside))
 
--- src/lib.rt:249:17
 same-length-3 : tie.Need-same-length-3 Inv-loop μ-loop
 same-length-3 c = omega (arith, c .before .before .before .before .before .before .before .before .before .before .before .before .before .before .before .before .before .before .before .before .loop .inv .words, c .before .before .before .before .before .before .before .before .before .before .before .before .before .before .before .try-key .kept, c .before .before .before .before .roll-back2 .kept)
 
--- src/lib.rt:249:17
 same-length-4 : tie.Need-same-length-4 Inv-loop μ-loop
 same-length-4 c = omega (arith, c .before .before .before .before .before .before .before .before .before .before .before .before .before .before .before .before .before .before .before .before .loop .inv .bytes, c .before .before .before .before .before .before .before .before .before .before .before .before .before .before .before .try-key .kept, c .before .before .before .before .roll-back2 .kept)
 
--- src/lib.rt:249:17
 returns-2 : tie.Need-returns-2 Inv-loop μ-loop
-returns-2 c = 
+returns-2 c =
     let l = c .before .before .before .before .before .before .before .before .before .before .before .before .before .before .before .before .before .before .before .before .loop in
     let a = c .before .before .before .before .before .before .before .before .before .before .before .before .before .before .before .before .before .before .before .before .before .before .before .before .before .before .before .before .args in
     let q = c .before .before .before .before .before .before .before .before .before .before .before .before .before .before .before .before .before .before .before .before .before .before .before .before .before .before .before .before .pre in
     let e = setting (a .head .headers) (a .cells) (a .script .now) (leasesOf (a .held .now)) in
     rw (← l .inv .rest, locks-at (a .n) (l .p) e (a .head .buckets) (a .registry .now) (a .keys .now) (pairsOf (l .p) 0 (l .taken)) (l .run) (l .table) (l .health) (a .grants .now) _ (_) (c .before .before .before .before .before .before .before .before .before .before .before .before .before .before .before .try-key .ensures) (c .before .before .before .before .before .before .before .before .outcome2 .given .1) (omega (arith, c .before .before .before .before .before .before .before .before .before .before .before .before .before .before .before .before .before .before .before .loop-test .taken)), rolled _ _ _ _ _ _ _ _, ← c .before .before .before .before .roll-back2 .ensures)
 
--- src/lib.rt:264:9
 add-p : tie.Need-add-p Inv-loop μ-loop
 add-p c = omega (arith, c .before .before .before .before .before .before .before .before .before .before .before .before .loop-test .taken, c .before .before .before .before .before .before .before .before .before .before .before .before .before .before .before .before .before .before .before .before .before .pre .1 .1 .0)
 
--- src/lib.rt:211:5
 loop-less : tie.Need-loop-less Inv-loop μ-loop
 loop-less c = search needs
 
--- src/lib.rt:211:5
 loop-again : tie.Need-loop-again Inv-loop μ-loop
-loop-again c = 
+loop-again c =
     let l = c .before .before .before .before .before .before .before .before .before .before .before .before .before .loop in
     let a = c .before .before .before .before .before .before .before .before .before .before .before .before .before .before .before .before .before .before .before .before .before .args in
     let q = c .before .before .before .before .before .before .before .before .before .before .before .before .before .before .before .before .before .before .before .before .before .pre in
@@ -141,25 +118,20 @@ loop-again c =
       rest = rw (pairs-push (l .p) (l .taken) _ _ (omega (arith, l .inv .size, c .before .before .before .before .before .before .before .before .before .before .before .before .loop-test .taken, q .1 .1 .0))) (rw (← l .inv .rest, locks-at (a .n) (l .p) e (a .head .buckets) (a .registry .now) (a .keys .now) (pairsOf (l .p) 0 (l .taken)) (l .run) (l .table) (l .health) (a .grants .now) _ (_) (c .before .before .before .before .before .before .before .before .try-key .ensures) (g .1) (omega (arith, c .before .before .before .before .before .before .before .before .before .before .before .before .loop-test .taken))));
     }
 
--- src/lib.rt:266:5
 grant-requires : tie.Need-grant-requires Inv-loop μ-loop
 grant-requires c κs = (omega (arith, c .before .before .before .before .before .before .before .before .before .before .pre .1 .1 .0), omega (arith, c .before .before .before .before .before .before .before .before .before .before .pre .1 .1 .1 .1))
 
--- src/lib.rt:190:1
 same-length-5 : tie.Need-same-length-5 Inv-loop μ-loop
 same-length-5 c = search needs
 
--- src/lib.rt:190:1
 same-length-6 : tie.Need-same-length-6 Inv-loop μ-loop
 same-length-6 c = search needs
 
--- src/lib.rt:190:1
 same-length-7 : tie.Need-same-length-7 Inv-loop μ-loop
 same-length-7 c = search needs
 
--- src/lib.rt:190:1
 returns-3 : tie.Need-returns-3 Inv-loop μ-loop
-returns-3 c = 
+returns-3 c =
     let l = c .before .before .before .before .before .loop in
     let a = c .before .before .before .before .before .before .before .before .before .before .before .before .before .args in
     let q = c .before .before .before .before .before .before .before .before .before .before .before .before .before .pre in
