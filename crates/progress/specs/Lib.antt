@@ -1,0 +1,9 @@
+pub mod Statements
+pub mod Sum
+pub mod Lists
+pub mod Turns
+pub mod Steady
+pub mod Rounds
+pub mod Ended
+pub mod Examples
+pub mod Theorems

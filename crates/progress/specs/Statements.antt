@@ -1,0 +1,133 @@
+-- What demand 3 says, as statements over document 01's crew run. Their proofs are in the other files; `Theorems` gives them by name.
+use Prim.Native.Nat.{ℕ, _+_, _*_, _/_, _≤_, _<_}
+use mathlib.Core.Path.{_≡_}
+use mathlib.Core.List.{List, [], _∷_, _++_}
+use mathlib.Core.Logic.{_⊎_}
+use lib.ListN.{length, getD, replicate}
+use Rattle.model.specs.Log.{Made, Event}
+use Rattle.model.specs.Arena.{lastSerial, spentTo, waitersAt, stateAt}
+use Rattle.model.specs.Refusals.{first}
+use Rattle.model.specs.Crew.{total, countOf, crewRules, Crew, crewAt, turnOf, turnsOf, crewOf}
+use Rattle.model.specs.declared.Answer.the-variants.{Done}
+use Rattle.model.specs.declared.Check.the-variants.{Fine}
+use Rattle.model.specs.declared.CrewReply.{CrewReply}
+use Rattle.model.specs.declared.Head.{Head}
+use Rattle.model.specs.declared.State.the-variants as state
+use Rattle.history.specs.World.{number-of, takes, releases}
+
+-- ---- rounds
+
+abbrev pub In : ℕ → List ℕ → Type 0
+In m [] = ⊥
+In m (x ∷ xs) = (m ≡ x) ⊎ In m xs
+
+abbrev pub flat : List (List ℕ) → List ℕ
+flat [] = []
+flat (r ∷ rs) = r ++ flat rs
+
+-- the crew before its first turn
+abbrev pub start : Head → List ℕ → Crew
+start h t = crewAt (h .next) t (replicate 16 0) (replicate 256 0) 0 0
+
+module _ (h : Head) (g counts cells : List ℕ) where
+  abbrev pub after : Crew → List ℕ → Crew
+  after w ms = turnsOf (h .headers) (h .buckets) g counts cells w ms .seen
+
+  -- a member's moves are two for each of its cells: it takes it, and it releases it
+  abbrev pub Unfinished : Crew → ℕ → Type 0
+  Unfinished w m = (m < length counts) × (getD (w .made) m 0 < 2 * countOf counts m)
+
+  -- "A round is a stretch of turns naming each member unfinished at its start at least once."
+  abbrev pub IsRound : Crew → List ℕ → Type 0
+  IsRound w r = (m : ℕ) → Unfinished w m → In m r
+
+  abbrev pub Rounds : Crew → List (List ℕ) → Type 0
+  Rounds w [] = Unit {0}
+  Rounds w (r ∷ rs) = IsRound w r × Rounds (after w r) rs
+
+-- ---- the premises: "Named cells start free and unwaited, headers healthy, K serials remain, nobody else steps."
+
+-- the cell at place k of the run of cells
+abbrev pub named : List ℕ → ℕ → ℕ
+named cells k = getD cells k 0
+
+pub record Open (h : Head) (t g counts cells turns : List ℕ) : Type 0 where
+  -- the call is not refused: the arena's shape, the crew's limits, strictly rising lists in range, turns that name members
+  pub fine : first (crewRules h t g counts cells turns) ≡ Fine
+  pub free : (k : ℕ) → k < total counts → stateAt (h .next) t (named cells k) ≡ state.Free
+  pub unwaited : (k : ℕ) → k < total counts → waitersAt t (named cells k) ≡ 0
+  pub healthy : (k : ℕ) → k < total counts → getD g (named cells k / h .buckets) 0 ≡ 0
+  pub serials : h .next + total counts ≤ lastSerial
+
+-- ---- the conclusion, of the call's own result
+
+pub record Complete (h : Head) (t counts turns : List ℕ) (o : Made (CrewReply × List ℕ)) : Type 0 where
+  pub done : o .seen .0 .answer ≡ Done
+  -- "all have held their whole lists and released them"
+  pub taken : (m : ℕ) → m < length counts → getD (o .seen .0 .taken) m 0 ≡ countOf counts m
+  pub released : (m : ℕ) → m < length counts → getD (o .seen .0 .released) m 0 ≡ countOf counts m
+  -- "exactly K serials are spent"
+  pub spent : o .seen .0 .head ≡ spentTo h (h .next + total counts)
+  pub moving : o .seen .0 .moving ≡ 2 * total counts
+  pub turns-are : o .seen .0 .moving + o .seen .0 .idle ≡ length turns
+  -- every named cell is free again, and no other word of the table changed
+  pub table-is : o .seen .1 ≡ t
+  -- stated over demand 2's takes and releases
+  pub takes-are : number-of takes (o .log) ≡ total counts
+  pub releases-are : number-of releases (o .log) ≡ total counts
+
+-- demand 3: "whatever the order of turns, after 2K rounds"
+abbrev pub Demand-3 : Type 0
+Demand-3 =
+    (h : Head) (t g counts cells : List ℕ) (rounds : List (List ℕ))
+    → Open h t g counts cells (flat rounds)
+    → Rounds h g counts cells (start h t) rounds
+    → 2 * total counts ≤ length rounds
+    → Complete h t counts (flat rounds) (crewOf h t g counts cells (flat rounds))
+
+-- ---- on the way, each of use by itself
+
+-- a turn is idle, and then changes nothing; or it moves, and is then exactly one take or one release, by the member named
+pub data Turn (w : Crew) (m : ℕ) : Crew → List Event → Type 0 where
+  idled : (v : Crew) (log : List Event) → v ≡ crewAt (w .next) (w .table) (w .made) (w .serials) (w .moving) (w .idle + 1)
+      → number-of takes log ≡ 0 → number-of releases log ≡ 0 → Turn w m v log
+  moved : (v : Crew) (log : List Event) → v .moving ≡ w .moving + 1 → v .idle ≡ w .idle → getD (v .made) m 0 ≡ getD (w .made) m 0 + 1
+      → number-of takes log + number-of releases log ≡ 1 → Turn w m v log
+
+abbrev pub Turns-are : Type 0
+Turns-are =
+    (h : Head) (t g counts cells turns : List ℕ) (w : Crew) (m : ℕ) → first (crewRules h t g counts cells turns) ≡ Fine
+    → length (w .made) ≡ 16 → length (w .table) ≡ length t → m < length counts
+    → let o = turnOf (h .headers) (h .buckets) g counts cells w m in Turn w m (o .seen) (o .log)
+
+-- after a finish a member stays finished, whatever the turns
+abbrev pub Stays-finished : Type 0
+Stays-finished =
+    (h : Head) (g counts cells : List ℕ) (w : Crew) (turns : List ℕ) (m : ℕ)
+    → 2 * countOf counts m ≤ getD (w .made) m 0 → getD (after h g counts cells w turns .made) m 0 ≡ getD (w .made) m 0
+
+-- a round with an unfinished member has a moving turn: from the premises, after any turns
+abbrev pub Round-moves : Type 0
+Round-moves =
+    (h : Head) (t g counts cells before r later : List ℕ) (m : ℕ) → Open h t g counts cells (before ++ (r ++ later))
+    → let w = after h g counts cells (start h t) before in
+    IsRound h g counts cells w r → Unfinished h g counts cells w m
+    → w .moving < after h g counts cells w r .moving
+
+-- ---- the bound is tight: a crew and rounds, one move in each, so that 2K - 1 rounds are not enough
+
+abbrev pub Tight : Type 0
+Tight =
+    (h : Head) × (t : List ℕ) × (g : List ℕ) × (counts : List ℕ) × (cells : List ℕ) × (rounds : List (List ℕ))
+    × Open h t g counts cells (flat rounds)
+    × Rounds h g counts cells (start h t) rounds
+    × (length rounds + 1 ≡ 2 * total counts)
+    × (crewOf h t g counts cells (flat rounds) .seen .0 .moving + 1 ≡ 2 * total counts)
+
+-- the premises can be met by members that contend: two want the same cells
+abbrev pub Met : Type 0
+Met =
+    (h : Head) × (t : List ℕ) × (g : List ℕ) × (rounds : List (List ℕ))
+    × Open h t g (2 ∷ 2 ∷ []) (2 ∷ 5 ∷ 2 ∷ 5 ∷ []) (flat rounds)
+    × Rounds h g (2 ∷ 2 ∷ []) (2 ∷ 5 ∷ 2 ∷ 5 ∷ []) (start h t) rounds
+    × (8 ≤ length rounds)
