@@ -8,13 +8,13 @@ use native.Mathlib.Decide.{decLt}
 use lib.ListN.{length, getD}
 use Rattle.model.specs.Log.{Event}
 use Rattle.model.specs.Arena.{cellsOf, isFree, stateOf, stateAt}
-use Rattle.model.specs.Crew.{total, startOf, countOf, Crew, idled, turnOf, turnsOf}
+use Rattle.model.specs.Crew.{total, startOf, countOf, Crew, crewAt, turnOf, turnsOf}
 use Rattle.model.specs.declared.Head.{Head}
 use Rattle.history.specs.Crew.{start-fits, Holds}
-use Rattle.progress.specs.Statements.{In, flat, after, Unfinished, IsRound, Rounds, Open}
+use Rattle.progress.specs.Statements.{In, flat, after, Unfinished, IsRound, Rounds, Open, Ready, Idle, finished, blocked, wish, Turn, idled, grabbed, gave}
 use Rattle.progress.specs.Sum.{sum-at, sum-some}
 use Rattle.progress.specs.Lists.{member}
-use Rattle.progress.specs.Turns.{wish, Ready, Idle, finished, blocked, Outcome, idles, grabs, drops, turn-is}
+use Rattle.progress.specs.Turns.{turn-is}
 use Rattle.progress.specs.Steady.{left, Status, same, held, Steady, Goes, fit, was-free, turns-steady}
 
 -- what a member has left to do is at most what all have
@@ -94,18 +94,18 @@ module _ (h : Head) (t g counts cells turns : List ℕ) (o : Open h t g counts c
   grown (moves l) = omega arith
   grown (rests e i) = omega arith
 
-  then-ran : {w x v : Crew} {m : ℕ} {ms : List ℕ} {log : List Event} → Outcome (h .buckets) g counts cells w m x log → Ran x ms v → Ran w (m ∷ ms) v
-  then-ran {w} {x} {v} {m} {ms} (idles i e a b) r = go (rw e at r)
+  then-ran : {w x v : Crew} {m : ℕ} {ms : List ℕ} {log : List Event} → Turn (h .buckets) g counts cells w m x log → Ran x ms v → Ran w (m ∷ ms) v
+  then-ran {w} {x} {v} {m} {ms} (idled i e q) r = go (rw e at r)
     where
       all-idle : (n : ℕ) → (n ≡ m) ⊎ In n ms → ((n : ℕ) → In n ms → Idles w n) → Idles w n
       all-idle n (inl p) j = rw p i
       all-idle n (inr p) j = j n p
 
-      go : Ran (idled (w .next) (w .table) w) ms v → Ran w (m ∷ ms) v
+      go : Ran (crewAt (w .next) (w .table) (w .made) (w .serials) (w .moving) (w .idle + 1)) ms v → Ran w (m ∷ ms) v
       go (moves l) = moves l
       go (rests l j) = rests l (λ n p. all-idle n p j)
-  then-ran (grabs l y e a b) r = moves (omega (arith, grown r, ap (λ (c : Crew). c .moving) e))
-  then-ran (drops l y e a b) r = moves (omega (arith, grown r, ap (λ (c : Crew). c .moving) e))
+  then-ran (grabbed l y e one) r = moves (omega (arith, grown r, ap (λ (c : Crew). c .moving) e))
+  then-ran (gave l y e one) r = moves (omega (arith, grown r, ap (λ (c : Crew). c .moving) e))
 
   ran : (w : Crew) (ms : List ℕ) → Ran w ms (after h g counts cells w ms)
   unfolding turnsOf

@@ -1,13 +1,13 @@
 -- What demand 3 says, as statements over document 01's crew run. Their proofs are in the other files; `Theorems` gives them by name.
-use Prim.Native.Nat.{ℕ, _+_, _*_, _/_, _≤_, _<_}
+use Prim.Native.Nat.{ℕ, _+_, _*_, _-_, _/_, _≤_, _<_}
 use mathlib.Core.Path.{_≡_}
 use mathlib.Core.List.{List, [], _∷_, _++_}
 use mathlib.Core.Logic.{_⊎_}
-use lib.ListN.{length, getD, replicate}
-use Rattle.model.specs.Log.{Made, Event}
-use Rattle.model.specs.Arena.{lastSerial, spentTo, waitersAt, stateAt}
+use lib.ListN.{length, getD, set, replicate}
+use Rattle.model.specs.Log.{Made, Event, by-caller, took, released}
+use Rattle.model.specs.Arena.{lastSerial, spentTo, waitersAt, setCell, stateAt}
 use Rattle.model.specs.Refusals.{first}
-use Rattle.model.specs.Crew.{total, countOf, crewRules, Crew, crewAt, turnOf, turnsOf, crewOf}
+use Rattle.model.specs.Crew.{total, startOf, countOf, crewRules, Crew, crewAt, turnOf, turnsOf, crewOf}
 use Rattle.model.specs.declared.Answer.the-variants.{Done}
 use Rattle.model.specs.declared.Check.the-variants.{Fine}
 use Rattle.model.specs.declared.CrewReply.{CrewReply}
@@ -87,18 +87,65 @@ Demand-3 =
 
 -- ---- on the way, each of use by itself
 
--- a turn is idle, and then changes nothing; or it moves, and is then exactly one take or one release, by the member named
-pub data Turn (w : Crew) (m : ℕ) : Crew → List Event → Type 0 where
-  idled : (v : Crew) (log : List Event) → v ≡ crewAt (w .next) (w .table) (w .made) (w .serials) (w .moving) (w .idle + 1)
-      → number-of takes log ≡ 0 → number-of releases log ≡ 0 → Turn w m v log
-  moved : (v : Crew) (log : List Event) → v .moving ≡ w .moving + 1 → v .idle ≡ w .idle → getD (v .made) m 0 ≡ getD (w .made) m 0 + 1
-      → number-of takes log + number-of releases log ≡ 1 → Turn w m v log
+-- a try_lock of the cell, after a health reading, would be granted
+pub record Ready (buckets : ℕ) (g : List ℕ) (next : ℕ) (t : List ℕ) (c : ℕ) : Type 0 where
+  pub healthy : getD g (c / buckets) 0 ≡ 0
+  pub unwaited : waitersAt t c ≡ 0
+  pub is-free : stateAt next t c ≡ state.Free
+  pub serial : next < lastSerial
 
+-- no take and no release; and one, with no other
+abbrev pub Quiet : List Event → Type 0
+Quiet log = (number-of takes log ≡ 0) × (number-of releases log ≡ 0)
+
+abbrev pub Only : Event → List Event → Type 0
+Only e log = (before : List Event) × (later : List Event) × (log ≡ before ++ (e ∷ later)) × Quiet before × Quiet later
+
+-- the places of the cell that a member takes next, and of the last one that it still holds
+abbrev pub to-take : List ℕ → List ℕ → ℕ → ℕ
+to-take counts made m = startOf counts m + getD made m 0
+
+abbrev pub to-give : List ℕ → List ℕ → ℕ → ℕ
+to-give counts made m = startOf counts m + (2 * countOf counts m - 1 - getD made m 0)
+
+-- the crew after member m took the cell c at place k, and after it released the cell c
+abbrev pub with-take : Crew → ℕ → ℕ → ℕ → Crew
+with-take w m k c =
+    crewAt (w .next + 1) (setCell (w .table) c 1 (w .next)) (set (w .made) m (getD (w .made) m 0 + 1)) (set (w .serials) k (w .next)) (w .moving + 1) (w .idle)
+
+abbrev pub with-release : Crew → ℕ → ℕ → Crew
+with-release w m c = crewAt (w .next) (setCell (w .table) c 0 0) (set (w .made) m (getD (w .made) m 0 + 1)) (w .serials) (w .moving + 1) (w .idle)
+
+module _ (counts cells : List ℕ) where
+  abbrev pub wish : List ℕ → ℕ → ℕ
+  wish made m = named cells (to-take counts made m)
+
+  abbrev pub last : List ℕ → ℕ → ℕ
+  last made m = named cells (to-give counts made m)
+
+module _ (buckets : ℕ) (g counts cells : List ℕ) where
+  -- why a turn is idle
+  pub data Idle (next : ℕ) (t made : List ℕ) (m : ℕ) : Type 0 where
+    finished : 2 * countOf counts m ≤ getD made m 0 → Idle next t made m
+    blocked : getD made m 0 < countOf counts m → (Ready buckets g next t (wish counts cells made m) → ⊥) → Idle next t made m
+
+  -- a turn of member m in crew w, with the crew v and the log after it. An idle one changes nothing. A moving one is exactly one take, of
+  -- the member's next cell with the next serial; or exactly one release, of the last cell it still holds with the serial noted there.
+  pub data Turn (w : Crew) (m : ℕ) (v : Crew) (log : List Event) : Type 0 where
+    idled : Idle (w .next) (w .table) (w .made) m
+        → v ≡ crewAt (w .next) (w .table) (w .made) (w .serials) (w .moving) (w .idle + 1) → Quiet log → Turn w m v log
+    grabbed : getD (w .made) m 0 < countOf counts m → Ready buckets g (w .next) (w .table) (wish counts cells (w .made) m)
+        → v ≡ with-take w m (to-take counts (w .made) m) (wish counts cells (w .made) m)
+        → Only (took by-caller (wish counts cells (w .made) m) (w .next)) log → Turn w m v log
+    gave : countOf counts m ≤ getD (w .made) m 0 → getD (w .made) m 0 < 2 * countOf counts m
+        → v ≡ with-release w m (last counts cells (w .made) m)
+        → Only (released by-caller (last counts cells (w .made) m) (getD (w .serials) (to-give counts (w .made) m) 0)) log → Turn w m v log
+
+-- every turn of every crew, whatever its state
 abbrev pub Turns-are : Type 0
 Turns-are =
-    (h : Head) (t g counts cells turns : List ℕ) (w : Crew) (m : ℕ) → first (crewRules h t g counts cells turns) ≡ Fine
-    → length (w .made) ≡ 16 → length (w .table) ≡ length t → m < length counts
-    → let o = turnOf (h .headers) (h .buckets) g counts cells w m in Turn w m (o .seen) (o .log)
+    (headers buckets : ℕ) (g counts cells : List ℕ) (w : Crew) (m : ℕ)
+    → let o = turnOf headers buckets g counts cells w m in Turn buckets g counts cells w m (o .seen) (o .log)
 
 -- after a finish a member stays finished, whatever the turns
 abbrev pub Stays-finished : Type 0

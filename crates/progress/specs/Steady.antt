@@ -17,10 +17,10 @@ use Rattle.model.specs.Crew.{total, startOf, countOf, Crew, moved, turnOf, turn
 use Rattle.model.specs.declared.Head.{Head}
 use Rattle.history.specs.Tests.{free-words}
 use Rattle.history.specs.Crew.{start-fits, Holds, zeros}
-use Rattle.progress.specs.Statements.{Open, start, after}
+use Rattle.progress.specs.Statements.{Open, start, after, wish, last, Turn, idled, grabbed, gave}
 use Rattle.progress.specs.Sum.{sum, sum-same, sum-front, sum-change}
 use Rattle.progress.specs.Lists.{member, Fits, fits}
-use Rattle.progress.specs.Turns.{wish, last, Outcome, idles, grabs, drops, turn-is}
+use Rattle.progress.specs.Turns.{turn-is}
 
 -- ---- what is left to do
 
@@ -128,15 +128,15 @@ module _ (h : Head) (t g counts cells turns : List ℕ) (o : Open h t g counts c
   pub was-free : (m j : ℕ) → j < countOf counts m → (bitAt t (getD cells (startOf counts m + j) 0) ≡ 0) × (ownerAt t (getD cells (startOf counts m + j) 0) ≡ 0)
   was-free m j l = free-words (h .next) t _ (o .free (startOf counts m + j) (omega (arith, start-fits counts m)))
 
-  turn-steady : {w v : Crew} {m : ℕ} {log : List Event} → Goes w → Outcome (h .buckets) g counts cells w m v log → Goes v
-  turn-steady s (idles i e a b) = rw e s
-  turn-steady {w} {m = m} s (grabs l r e a b) =
+  turn-steady : {w v : Crew} {m : ℕ} {log : List Event} → Goes w → Turn (h .buckets) g counts cells w m v log → Goes v
+  turn-steady s (idled i e q) = rw e s
+  turn-steady {w} {m = m} s (grabbed l r e one) =
       let made = w .made in
       let n = getD made m 0 in
       let one-more = getD-set-same made m (n + 1) 0 (omega (arith, member counts m (omega arith), fit .few, s .size)) in
       rw e (move h t counts cells fit (w .next) (w .table) made (w .moving) s m (omega arith) (wish counts cells made m) 1 (w .next) (w .next + 1)
       (fit .range m n l) (omega arith) (held m n (omega arith) refl) (λ j k x. omega arith))
-  turn-steady {w} {m = m} s (drops l r e a b) =
+  turn-steady {w} {m = m} s (gave l r e one) =
       let made = w .made in
       let n = getD made m 0 in
       let c = last counts cells made m in

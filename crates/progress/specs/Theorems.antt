@@ -1,30 +1,16 @@
 -- The theorems of this crate by the names of their statements.
-use Prim.Native.Nat.{_+_, _<_}
-use mathlib.Core.Path.{refl}
-use mathlib.Core.List.{List, _++_}
+use Prim.Native.Nat.{_+_}
+use mathlib.Core.List.{_++_}
 use native.Mathlib.Omega.{arith}
-use lib.ListN.{length}
-use lib.Seq.{getD-set-same}
-use Rattle.model.specs.Log.{Event}
-use Rattle.model.specs.Crew.{Crew}
-use Rattle.progress.specs.Statements.{flat, start, after, Turn, idled, moved, Turns-are, Stays-finished, Round-moves, Demand-3, Tight, Met}
-use Rattle.progress.specs.Lists.{fits}
-use Rattle.progress.specs.Turns.{Outcome, idles, grabs, drops, turn-is, turns-stay}
+use Rattle.progress.specs.Statements.{flat, start, after, Turns-are, Stays-finished, Round-moves, Demand-3, Tight, Met}
+use Rattle.progress.specs.Turns.{turn-is, turns-stay}
 use Rattle.progress.specs.Steady.{start-steady, turns-steady}
 use Rattle.progress.specs.Rounds.{round-moves-on, rounds-move}
 use Rattle.progress.specs.Ended.{completes}
 use Rattle.progress.specs.Examples.{one-move-each, contending}
 
 pub turns-are : Turns-are
-turns-are h t g counts cells turns w m fine size words l = go (turn-is (h .buckets) g counts cells (h .headers) w m)
-  where
-    in-made : m < length (w .made)
-    in-made = omega (arith, fits h t g counts cells turns fine .few)
-
-    go : {v : Crew} {log : List Event} → Outcome (h .buckets) g counts cells w m v log → Turn w m v log
-    go (idles i e a b) = idled _ _ e a b
-    go {log = log} (grabs i r e a b) = rw e (moved _ log refl refl (getD-set-same (w .made) m _ 0 in-made) (omega arith))
-    go {log = log} (drops i r e a b) = rw e (moved _ log refl refl (getD-set-same (w .made) m _ 0 in-made) (omega arith))
+turns-are headers buckets g counts cells w m = turn-is buckets g counts cells headers w m
 
 pub stays-finished : Stays-finished
 stays-finished h g counts cells w turns m f = turns-stay (h .buckets) g counts cells (h .headers) w turns m f
