@@ -1,16 +1,19 @@
 -- The end: where nothing is left to move, every member has held and released its whole list, the serials are spent, and the table is as it was.
 use Prim.Native.Nat.{ℕ, zero, suc, _+_, _*_, _-_, _/_, min, _≤_, _<_}
-use mathlib.Core.Path.{_≡_, refl, ap}
-use mathlib.Core.List.{List, _∷_, append-nil}
+use mathlib.Core.Path.{_≡_, refl, sym, ap, _∙_}
+use mathlib.Core.List.{List, _∷_, _++_, append-nil}
 use native.Mathlib.Omega.{arith}
 use native.Mathlib.Decide.{ℕ-discrete, decLt}
-use lib.ListN.{length, getD}
+use lib.ListN.{length, getD, drop, drop-of-length-le}
 use lib.Seq.{ext-getD}
 use Rattle.model.specs.Log.{Made}
 use Rattle.model.specs.Arena.{bitAt, ownerAt, waitersAt, spentTo}
-use Rattle.model.specs.Crew.{total, countOf, takenOf, releasedOf, Crew, turnsOf, crewOf}
+use Rattle.model.specs.Crew.{total, countOf, listOf, takenOf, releasedOf, Crew, turnsOf, crewOf}
 use Rattle.model.specs.declared.Head.{Head}
-use Rattle.progress.specs.Statements.{Open, Complete, start}
+use Rattle.history.specs.World.{takes, releases}
+use Rattle.history.specs.Crew.{zeros}
+use Rattle.progress.specs.Statements.{Open, Complete, start, cells-in, falling, own-log}
+use Rattle.progress.specs.Deeds.{turns-did}
 use Rattle.progress.specs.Turns.{turns-count}
 use Rattle.progress.specs.Steady.{left, Status, same, held, Steady, fit, start-steady, turns-steady}
 use Rattle.progress.specs.Rounds.{left-at, some-left}
@@ -90,3 +93,22 @@ module _ (h : Head) (t g counts cells turns : List ℕ) (o : Open h t g counts c
         takes-are = omega (arith, counted .serials-are);
         releases-are = omega (arith, counted .serials-are, counted .moves-are, s .moves);
       })
+
+  -- each member has taken its list, and released it from the last to the first
+  pub deeds : 2 * total counts ≤ w .moving → (m : ℕ)
+      → let log = own-log h g counts cells m (start h t) turns in
+      (cells-in takes log ≡ listOf counts cells m) × (cells-in releases log ≡ falling (countOf counts m) (listOf counts cells m))
+  deeds all m =
+      let first-steady = start-steady h t g counts cells turns o in
+      let s = turns-steady h t g counts cells turns o (start h t) turns first-steady in
+      let end = ended h t counts cells (w .next) (w .table) (w .made) (w .moving) s (omega (arith, s .moves)) m in
+      let d = turns-did h t g counts cells turns o m (start h t) turns first-steady in
+      go (listOf counts cells m) (countOf counts m) (cells-in takes (own-log h g counts cells m (start h t) turns)) (cells-in releases (own-log h g counts cells m (start h t) turns)) (fit h t g counts cells turns o .long m) (zeros 16 m) end (d .took-so) (d .gave-so)
+    where
+      go : {n k : ℕ} (L : List ℕ) (count : ℕ) (xs ys : List ℕ) → length L ≡ count → n ≡ 0 → k ≡ 2 * count → xs ++ drop k L ≡ drop n L → ys ++ falling (min count (2 * count - k)) L ≡ falling (min count (2 * count - n)) L
+          → (xs ≡ L) × (ys ≡ falling count L)
+      go {n} {k} L count xs ys long a b x y =
+          let p : min count (2 * count - k) ≡ 0 = omega arith in
+          let q : min count (2 * count - n) ≡ count = omega arith in
+          let none = drop-of-length-le L {i = k} (omega arith) in
+          (sym (append-nil xs) ∙ (rw (none, a) at x), sym (append-nil ys) ∙ (rw (p, q) at y))

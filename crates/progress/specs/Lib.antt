@@ -4,6 +4,7 @@ pub mod Lists
 pub mod Turns
 pub mod Steady
 pub mod Rounds
+pub mod Deeds
 pub mod Ended
 pub mod Examples
 pub mod Theorems

@@ -65,9 +65,14 @@ lists-rise (suc left) m inside counts cells e q a b = go (ℕ-discrete q m) (lis
     go (yes p) r = rw p (not-false _ (fine-rest _ _ e .0))
     go (no p) r = r (omega arith) (omega arith)
 
+-- the j-th of a member's list
+pub listed : (counts cells : List ℕ) (m j : ℕ) → j < countOf counts m → getD (listOf counts cells m) j 0 ≡ getD cells (startOf counts m + j) 0
+listed counts cells m j l = getD-take (countOf counts m) (drop (startOf counts m) cells) j 0 l ∙ getD-drop (startOf counts m) cells j 0
+
 pub record Fits (h : Head) (words : ℕ) (counts cells : List ℕ) : Type 0 where
   pub shape : Shaped h words
   pub few : length counts ≤ 16
+  pub long : (m : ℕ) → length (listOf counts cells m) ≡ countOf counts m
   pub range : (m j : ℕ) → j < countOf counts m → getD cells (startOf counts m + j) 0 < cellsOf h
   pub rising : (m i j : ℕ) → i < j → j < countOf counts m → getD cells (startOf counts m + i) 0 < getD cells (startOf counts m + j) 0
 
@@ -84,13 +89,11 @@ fits h t g counts cells turns e =
     record {
       shape = shaped h (length t) (not-false _ (a .0));
       few = within-limits .members;
+      long = long size;
       range = within-limits .inside;
       rising = λ m x j k l.
-          rw (at m x (omega arith), at m j l) at (rises-on (cellsOf h) 0 (listOf counts cells m) (rise m (omega arith) (omega (arith, member counts m (omega arith)))) x j k (long size m j l));
+          rw (listed counts cells m x (omega arith), listed counts cells m j l) at (rises-on (cellsOf h) 0 (listOf counts cells m) (rise m (omega arith) (omega (arith, member counts m (omega arith)))) x j k (omega (arith, long size m)));
     }
   where
-    at : (m j : ℕ) → j < countOf counts m → getD (listOf counts cells m) j 0 ≡ getD cells (startOf counts m + j) 0
-    at m j l = getD-take (countOf counts m) (drop (startOf counts m) cells) j 0 l ∙ getD-drop (startOf counts m) cells j 0
-
-    long : length cells ≡ total counts → (m j : ℕ) → j < countOf counts m → j < length (listOf counts cells m)
-    long size m j l = simp (length-take, length-drop) (omega (arith, start-fits counts m))
+    long : length cells ≡ total counts → (m : ℕ) → length (listOf counts cells m) ≡ countOf counts m
+    long size m = simp (length-take, length-drop) (omega (arith, start-fits counts m))

@@ -1,19 +1,21 @@
 -- What demand 3 says, as statements over document 01's crew run. Their proofs are in the other files; `Theorems` gives them by name.
-use Prim.Native.Nat.{ℕ, _+_, _*_, _-_, _/_, _≤_, _<_}
+use Prim.Native.Nat.{ℕ, zero, suc, _+_, _*_, _-_, _/_, _≤_, _<_}
 use mathlib.Core.Path.{_≡_}
 use mathlib.Core.List.{List, [], _∷_, _++_}
 use mathlib.Core.Logic.{_⊎_}
+use lib.Dec.{eqb}
 use lib.ListN.{length, getD, set, replicate}
-use Rattle.model.specs.Log.{Made, Event, by-caller, took, released}
+use Rattle.model.specs.Choice.{if_then_else_}
+use Rattle.model.specs.Log.{Made, Event, by-caller, attempt-begun, boundary-run, yielded, spun, step-dropped, took, released, waiters-set, health-set}
 use Rattle.model.specs.Arena.{lastSerial, spentTo, waitersAt, setCell, stateAt}
 use Rattle.model.specs.Refusals.{first}
-use Rattle.model.specs.Crew.{total, startOf, countOf, crewRules, Crew, crewAt, turnOf, turnsOf, crewOf}
+use Rattle.model.specs.Crew.{total, startOf, countOf, listOf, crewRules, Crew, crewAt, turnOf, turnsOf, crewOf}
 use Rattle.model.specs.declared.Answer.the-variants.{Done}
 use Rattle.model.specs.declared.Check.the-variants.{Fine}
 use Rattle.model.specs.declared.CrewReply.{CrewReply}
 use Rattle.model.specs.declared.Head.{Head}
 use Rattle.model.specs.declared.State.the-variants as state
-use Rattle.history.specs.World.{number-of, takes, releases}
+use Rattle.history.specs.World.{Kind, takes, releases, kind-of, code, number-of}
 
 -- ---- rounds
 
@@ -76,13 +78,17 @@ pub record Complete (h : Head) (t counts turns : List ℕ) (o : Made (CrewReply 
   pub takes-are : number-of takes (o .log) ≡ total counts
   pub releases-are : number-of releases (o .log) ≡ total counts
 
--- demand 3: "whatever the order of turns, after 2K rounds"
+-- "after 2K rounds"
+abbrev pub Enough : List ℕ → List (List ℕ) → Type 0
+Enough counts rounds = 2 * total counts ≤ length rounds
+
+-- demand 3, "whatever the order of turns"
 abbrev pub Demand-3 : Type 0
 Demand-3 =
     (h : Head) (t g counts cells : List ℕ) (rounds : List (List ℕ))
     → Open h t g counts cells (flat rounds)
     → Rounds h g counts cells (start h t) rounds
-    → 2 * total counts ≤ length rounds
+    → Enough counts rounds
     → Complete h t counts (flat rounds) (crewOf h t g counts cells (flat rounds))
 
 -- ---- on the way, each of use by itself
@@ -160,6 +166,46 @@ Round-moves =
     → let w = after h g counts cells (start h t) before in
     IsRound h g counts cells w r → Unfinished h g counts cells w m
     → w .moving < after h g counts cells w r .moving
+
+-- ---- what a member did, by its own turns
+
+-- the cell of a take or a release
+abbrev pub cell-of : Event → ℕ
+cell-of attempt-begun = 0
+cell-of boundary-run = 0
+cell-of yielded = 0
+cell-of spun = 0
+cell-of step-dropped = 0
+cell-of (took a c s) = c
+cell-of (released a c s) = c
+cell-of (waiters-set c n) = 0
+cell-of (health-set i n) = 0
+
+-- the cells of a log's takes, or of its releases, in their order
+unfoldable pub cells-in : Kind → List Event → List ℕ
+cells-in k [] = []
+cells-in k (e ∷ es) = if eqb (code (kind-of e)) (code k) then cell-of e ∷ cells-in k es else cells-in k es
+
+-- the first n of a list, from the last of them to the first
+abbrev pub falling : ℕ → List ℕ → List ℕ
+falling zero l = []
+falling (suc n) l = getD l n 0 ∷ falling n l
+
+-- the log of member m's own turns
+unfoldable pub own-log : Head → List ℕ → List ℕ → List ℕ → ℕ → Crew → List ℕ → List Event
+own-log h g counts cells m w [] = []
+own-log h g counts cells m w (n ∷ ns) =
+    let o = turnOf (h .headers) (h .buckets) g counts cells w n in (if eqb n m then o .log else []) ++ own-log h g counts cells m (o .seen) ns
+
+-- in demand 3's run each member takes its list in its order, which rises, and releases it from the last to the first
+abbrev pub Crew-deeds : Type 0
+Crew-deeds =
+    (h : Head) (t g counts cells : List ℕ) (rounds : List (List ℕ)) (m : ℕ)
+    → Open h t g counts cells (flat rounds)
+    → Rounds h g counts cells (start h t) rounds
+    → Enough counts rounds
+    → let log = own-log h g counts cells m (start h t) (flat rounds) in
+    (cells-in takes log ≡ listOf counts cells m) × (cells-in releases log ≡ falling (countOf counts m) (listOf counts cells m))
 
 -- ---- the bound is tight: a crew and rounds, one move in each, so that 2K - 1 rounds are not enough
 

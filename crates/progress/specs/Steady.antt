@@ -128,7 +128,7 @@ module _ (h : Head) (t g counts cells turns : List ℕ) (o : Open h t g counts c
   pub was-free : (m j : ℕ) → j < countOf counts m → (bitAt t (getD cells (startOf counts m + j) 0) ≡ 0) × (ownerAt t (getD cells (startOf counts m + j) 0) ≡ 0)
   was-free m j l = free-words (h .next) t _ (o .free (startOf counts m + j) (omega (arith, start-fits counts m)))
 
-  turn-steady : {w v : Crew} {m : ℕ} {log : List Event} → Goes w → Turn (h .buckets) g counts cells w m v log → Goes v
+  pub turn-steady : {w v : Crew} {m : ℕ} {log : List Event} → Goes w → Turn (h .buckets) g counts cells w m v log → Goes v
   turn-steady s (idled i e q) = rw e s
   turn-steady {w} {m = m} s (grabbed l r e one) =
       let made = w .made in

@@ -2,11 +2,11 @@
 use Prim.Native.Nat.{_+_}
 use mathlib.Core.List.{_++_}
 use native.Mathlib.Omega.{arith}
-use Rattle.progress.specs.Statements.{flat, start, after, Turns-are, Stays-finished, Round-moves, Demand-3, Tight, Met}
+use Rattle.progress.specs.Statements.{flat, start, after, Turns-are, Stays-finished, Round-moves, Demand-3, Crew-deeds, Tight, Met}
 use Rattle.progress.specs.Turns.{turn-is, turns-stay}
 use Rattle.progress.specs.Steady.{start-steady, turns-steady}
 use Rattle.progress.specs.Rounds.{round-moves-on, rounds-move}
-use Rattle.progress.specs.Ended.{completes}
+use Rattle.progress.specs.Ended.{completes, deeds}
 use Rattle.progress.specs.Examples.{one-move-each, contending}
 
 pub turns-are : Turns-are
@@ -25,6 +25,11 @@ pub demand-3 : Demand-3
 demand-3 h t g counts cells rounds o rs n =
     completes h t g counts cells (flat rounds) o
     (omega (arith, rounds-move h t g counts cells (flat rounds) o (start h t) rounds (start-steady h t g counts cells (flat rounds) o) rs))
+
+pub crew-deeds : Crew-deeds
+crew-deeds h t g counts cells rounds m o rs n =
+    deeds h t g counts cells (flat rounds) o
+    (omega (arith, rounds-move h t g counts cells (flat rounds) o (start h t) rounds (start-steady h t g counts cells (flat rounds) o) rs)) m
 
 pub tight : Tight
 tight = one-move-each
