@@ -259,6 +259,8 @@ further =
     ∷ (fromReply (releaseThenHandoffOf (bench 4_294_967_295) used (leaseOf 2 2)) ∷ [] give (refusal is 10 ∷ carries is 2 ∷ attempts is 1 ∷ bit 2 is 0 ∷ []))
     -- a crew: releases last first, so the second member gets cell 5 only when the first gave it back
     ∷ (crew (2 ∷ 1 ∷ []) (2 ∷ 5 ∷ 5 ∷ []) (0 ∷ 0 ∷ 1 ∷ 0 ∷ 1 ∷ []) give (moving is 4 ∷ idle is 1 ∷ owner 2 is 1 ∷ owner 5 is 3 ∷ next is 4 ∷ []))
+    -- a list that names a cell twice does not rise
+    ∷ (crew (1 ∷ 2 ∷ []) (5 ∷ 2 ∷ 2 ∷ []) [] give (refusal is 15 ∷ carries is 1 ∷ []))
     -- limits before lists, lists before turns
     ∷ (crew (2 ∷ 2 ∷ []) (2 ∷ 5 ∷ 5 ∷ []) (7 ∷ []) give (refusal is 15 ∷ carries is 0 ∷ []))
     ∷ (crew (1 ∷ 1 ∷ []) (2 ∷ 5 ∷ []) (1 ∷ 0 ∷ 2 ∷ []) give (refusal is 15 ∷ carries is 2 ∷ bit 2 is 0 ∷ []))

@@ -1,0 +1,10 @@
+pub mod Statements
+pub mod Sum
+pub mod Lists
+pub mod Turns
+pub mod Steady
+pub mod Rounds
+pub mod Deeds
+pub mod Ended
+pub mod Examples
+pub mod Theorems
