@@ -3,6 +3,7 @@ pub mod Items
 pub mod Statements
 pub mod Theorems
 pub mod Examples
+pub mod Determined
 pub mod Tests
 pub mod Events
 pub mod Logs
