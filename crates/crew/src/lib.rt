@@ -252,6 +252,7 @@ fn starts_of(counts: &[u32]) -> [usize; 16]
 }
 
 // The turns in order, from a crew that holds nothing. Its arrays stay here and a turn gets numbers: an idle turn stores nothing.
+// With its cell, a serial noted is a member's lease. A release compares it with nothing: only its holder ever names it.
 fn work(
     head: Head,
     table: &mut [u32],
@@ -278,29 +279,28 @@ fn work(
             continue;
         }
         let k = place(starts[m], n, count);
-        let taking = n < count;
-        match turn(head, next, table, health, taking, cells[k]) {
-            Move::Idle => {
-                continue;
-            }
+        let once_more = n + 1;
+        match turn(head, next, table, health, n < count, cells[k]) {
+            Move::Idle => continue,
             Move::Took(after, serial) => {
                 next = after;
                 serials[k] = serial;
-                made[m] = n + 1;
+                made[m] = once_more;
                 moving += 1;
                 continue;
             }
             Move::Gave => {
-                made[m] = n + 1;
+                made[m] = once_more;
                 moving += 1;
                 continue;
             }
         }
     }
+    let idle = turns.len() - moving;
     Worked {
         next,
         moving,
-        idle: turns.len() - moving,
+        idle,
         made,
     }
 }

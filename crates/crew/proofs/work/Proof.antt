@@ -91,6 +91,9 @@ element-copy-out-place c = omega (arith, named (c .before .before .before), c .b
 place-requires : tie.Need-place-requires Inv-loop μ-loop
 place-requires c κs = (omega (arith, begins (c .before .before .before .before), start-in (c .before .before .before .before .before .before .before .before .before .before .before .args .counts .now) (getD (c .before .before .before .before .before .before .before .before .before .before .before .args .turns .now) (c .before .before .before .before .before .loop .i) 0) (named (c .before .before .before .before)), c .before .before .before .before .before .before .before .before .before .before .before .pre .0 .limits .few-cells), c .before .if1 .left)
 
+add-once-more : tie.Need-add-once-more Inv-loop μ-loop
+add-once-more c = omega (arith, wants-few (c .before .before .before .before .before), c .before .before .if1 .left)
+
 mul-turn : tie.Need-mul-turn Inv-loop μ-loop
 mul-turn c = omega (arith, spot-of (c .before) .in-run)
 
@@ -118,9 +121,6 @@ mul-serials c = omega (arith, spot-of (c .before .before .before .before .before
 array-write-serials : tie.Need-array-write-serials Inv-loop μ-loop
 array-write-serials c = omega (arith, spot-of (c .before .before .before .before .before .before .before .before) .in-array, c .before .before .before .before .before .before .before .before .before .before .before .before .before .before .loop .inv .serials-length)
 
-add-made : tie.Need-add-made Inv-loop μ-loop
-add-made c = omega (arith, wants-few (c .before .before .before .before .before .before .before .before .before .before .before .before .before), c .before .before .before .before .before .before .before .before .before .before .if1 .left)
-
 mul-made : tie.Need-mul-made Inv-loop μ-loop
 mul-made c = omega (arith, named (c .before .before .before .before .before .before .before .before .before .before .before .before .before), c .before .before .before .before .before .before .before .before .before .before .before .before .before .before .before .before .before .before .before .before .pre .0 .limits .few-members)
 
@@ -139,9 +139,6 @@ loop-again-3 c = work-took _ _ _ _ _ _ _ _ _ _ _ _ _ (c .before .before .before 
 enum-told-2 : tie.Need-enum-told-2 Inv-loop μ-loop
 enum-told-2 c = search needs
 
-add-made-2 : tie.Need-add-made-2 Inv-loop μ-loop
-add-made-2 c = omega (arith, wants-few (c .before .before .before .before .before .before .before .before .before .before .before .before), c .before .before .before .before .before .before .before .before .before .if1 .left)
-
 mul-made-2 : tie.Need-mul-made-2 Inv-loop μ-loop
 mul-made-2 c = omega (arith, named (c .before .before .before .before .before .before .before .before .before .before .before .before), c .before .before .before .before .before .before .before .before .before .before .before .before .before .before .before .before .before .before .before .pre .0 .limits .few-members)
 
@@ -157,8 +154,8 @@ loop-less-4 c = search needs
 loop-again-4 : tie.Need-loop-again-4 Inv-loop μ-loop
 loop-again-4 c = work-gave _ _ _ _ _ _ _ _ _ _ _ _ _ (c .before .before .before .before .before .before .before .before .before .before .before .before .before .loop .inv) (c .before .before .before .before .before .before .before .before .before .before .before .before .loop-test .taken) _ _ (unfinished (c .before .before .before .before .before .before .before)) _ _ (c .before .before .before .before .turn .ensures) (search needs) (c .enum-told2 .given .1)
 
-sub-t45 : tie.Need-sub-t45 Inv-loop μ-loop
-sub-t45 c = search needs
+sub-idle : tie.Need-sub-idle Inv-loop μ-loop
+sub-idle c = search needs
 
 same-length : tie.Need-same-length Inv-loop μ-loop
 same-length c = search needs
@@ -189,6 +186,7 @@ work-spec =
     mul-place
     element-copy-out-place
     place-requires
+    add-once-more
     mul-turn
     shared-slice-read-turn
     turn-requires
@@ -198,19 +196,17 @@ work-spec =
     enum-known-after
     mul-serials
     array-write-serials
-    add-made
     mul-made
     array-write-made
     add-moving
     loop-less-3
     loop-again-3
     enum-told-2
-    add-made-2
     mul-made-2
     array-write-made-2
     add-moving-2
     loop-less-4
     loop-again-4
-    sub-t45
+    sub-idle
     same-length
     returns)
