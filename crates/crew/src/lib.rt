@@ -11,21 +11,20 @@ ghost use mathlib.Core.Path.{_≡_};
 ghost use mathlib.Core.List.{[], _∷_, _++_};
 ghost use Prim.Native.Nat.{_+_, _*_, _-_, _/_, _<_, _≤_, min};
 ghost use lib.ListN.{length, getD, take, drop};
-ghost use Rattle.model.specs.Arena.{cellsOf};
 ghost use Rattle.model.specs.Refusals.{first};
-ghost use Rattle.model.specs.Crew.{total, startOf, allWithin, badLimits, risesFrom, badLists, badTurns, crewRules, crewOf};
+ghost use Rattle.model.specs.Crew.{total, allWithin, badLimits, risesFrom, badLists, badTurns, crewRules, crewOf};
 ghost use Rattle.crew.specs.Model.{placeOf, tryOf, moveOf, workOf, finishOf, runOf, refusedOf};
-ghost use Rattle.crew.specs.Fine.{Limited, CrewFine, Begun};
+ghost use Rattle.crew.specs.Fine.{CrewFine, Begun};
 
 // What a turn comes to; a take hands on the next serial and the one it took.
-pub enum Move {
+enum Move {
     Idle,
     Took(u32, u32),
     Gave,
 }
 
 // What all turns come to, besides the table.
-pub struct Worked {
+struct Worked {
     pub next: u32,
     pub moving: usize,
     pub idle: usize,
