@@ -1,0 +1,4 @@
+pub mod Model
+pub mod Lists
+pub mod Fine
+pub mod Turns

@@ -1,0 +1,78 @@
+-- The crew's steps as the code makes them: a turn by numbers, what the loop over turns hands back, and the reply made of that.
+use Prim.Native.Nat.{ℕ, _+_, _*_, _-_, _/_}
+use mathlib.Core.List.{List}
+use mathlib.Core.Bool.{Bool}
+use lib.Dec.{ltb, eqb}
+use lib.ListN.{getD, set, replicate}
+use Rattle.model.specs.Choice.{if_then_else_}
+use Rattle.model.specs.Arena.{spentTo, setCell}
+use Rattle.model.specs.Foreign.{flowOf}
+use Rattle.model.specs.Crew.{Crew, crewAt, idled, moved, turnsOf, takenOf, releasedOf}
+use Rattle.model.specs.declared.Answer.the-variants.{Done, Refused}
+use Rattle.model.specs.declared.CrewReply.{CrewReply}
+use Rattle.model.specs.declared.Head.{Head}
+use Rattle.model.specs.declared.Locked.{Locked}
+use Rattle.model.specs.declared.Refusal.{Refusal}
+use Rattle.model.specs.declared.Take.{Take}
+use Rattle.model.specs.declared.Take.the-variants as taking
+use Rattle.lock.specs.Model.{quietOf}
+use Rattle.crew.specs.declared.Move.{Move}
+use Rattle.crew.specs.declared.Move.the-variants as move
+use Rattle.crew.specs.declared.Worked.{Worked}
+
+-- where in the run of cells a member's move number n is: takes in order, then releases, last first
+unfoldable pub placeOf : ℕ → ℕ → ℕ → ℕ
+placeOf start n count = if ltb n count then start + n else start + (2 * count - 1 - n)
+
+-- a grant moves; anything else is idle
+abbrev pub moveFor : Take → ℕ → Move
+moveFor (taking.Granted s) next = move.Took next s
+moveFor taking.Busy next = move.Idle
+moveFor taking.Damaged next = move.Idle
+moveFor taking.Spent next = move.Idle
+
+abbrev pub moveBy : Locked × List ℕ → Move × List ℕ
+moveBy o = (moveFor (o .0 .answer) (o .0 .flow .next), o .1)
+
+unfoldable pub tryOf : ℕ → List ℕ → ℕ → Move × List ℕ
+tryOf next t c = moveBy (quietOf (flowOf next 0 0) t c)
+
+-- one turn of an unfinished member, on a cell
+unfoldable pub moveOf : ℕ → ℕ → List ℕ → List ℕ → Bool → ℕ → Move × List ℕ
+moveOf next buckets t g taking c =
+    if taking then (if eqb (getD g (c / buckets) 0) 0 then tryOf next t c else (move.Idle, t))
+    else (move.Gave, setCell t c 0 0)
+
+-- the crew after a move of member m at place k that left this table
+abbrev pub after : Move → List ℕ → Crew → ℕ → ℕ → Crew
+after move.Idle t w m k = idled (w .next) t w
+after (move.Took next s) t w m k = crewAt next t (moved (w .made) m) (set (w .serials) k s) (w .moving + 1) (w .idle)
+after move.Gave t w m k = crewAt (w .next) t (moved (w .made) m) (w .serials) (w .moving + 1) (w .idle)
+
+-- ---- all turns, and the reply
+
+abbrev pub begin : Head → List ℕ → Crew
+begin h t = crewAt (h .next) t (replicate 16 0) (replicate 256 0) 0 0
+
+abbrev pub handed : Crew → Worked × List ℕ
+handed w = (record { next = w .next; moving = w .moving; idle = w .idle; made = w .made }, w .table)
+
+unfoldable pub workOf : Head → List ℕ → List ℕ → List ℕ → List ℕ → List ℕ → Worked × List ℕ
+workOf h t g counts cells turns = handed (turnsOf (h .headers) (h .buckets) g counts cells (begin h t) turns .seen)
+
+unfoldable pub finishOf : Head → List ℕ → Worked → CrewReply
+finishOf h counts k =
+    record {
+      head = spentTo h (k .next);
+      moving = k .moving;
+      idle = k .idle;
+      taken = takenOf 16 0 counts (k .made);
+      released = releasedOf 16 0 counts (k .made);
+      answer = Done;
+    }
+
+unfoldable pub runOf : Head → List ℕ → List ℕ → List ℕ → List ℕ → List ℕ → CrewReply × List ℕ
+runOf h t g counts cells turns = let o = workOf h t g counts cells turns in (finishOf h counts (o .0), o .1)
+
+abbrev pub refusedOf : Head → Refusal → CrewReply
+refusedOf h r = record { head = h; moving = 0; idle = 0; taken = replicate 16 0; released = replicate 16 0; answer = Refused r }

@@ -1,0 +1,412 @@
+// The crew: up to sixteen members take turns, each taking the cells of its list in order and then releasing them, last first.
+// Functions with a `requires` are steps: the call has tested shape, limits, lists and turns, and a step tests nothing twice.
+use model::Answer;
+use model::Check;
+use model::CrewReply;
+use model::Flow;
+use model::Head;
+use model::Refusal;
+use model::Take;
+ghost use mathlib.Core.Path.{_≡_};
+ghost use mathlib.Core.List.{[], _∷_, _++_};
+ghost use Prim.Native.Nat.{_+_, _*_, _-_, _/_, _<_, _≤_, min};
+ghost use lib.ListN.{length, getD, take, drop};
+ghost use Rattle.model.specs.Refusals.{first};
+ghost use Rattle.model.specs.Crew.{total, allWithin, badLimits, risesFrom, badLists, badTurns, crewRules, crewOf};
+ghost use Rattle.crew.specs.Model.{placeOf, tryOf, moveOf, workOf, finishOf, runOf, refusedOf};
+ghost use Rattle.crew.specs.Fine.{CrewFine, Begun};
+
+// What a turn comes to; a take hands on the next serial and the one it took.
+enum Move {
+    Idle,
+    Took(u32, u32),
+    Gave,
+}
+
+// What all turns come to, besides the table.
+struct Worked {
+    pub next: u32,
+    pub moving: usize,
+    pub idle: usize,
+    pub made: [usize; 16],
+}
+
+// ---- the checks: limits, then lists by member, then turns by position
+
+// Whether each count keeps its limit; the scan ends at the first that does not.
+fn counts_fit(counts: &[u32]) -> bool
+    ensures { λ r. ⌜ r ≡ allWithin 64 (now (counts .entry)) ⌝ }
+{
+    let mut i = 0;
+    while i < counts.len() {
+        if 64 < counts[i] {
+            return false;
+        }
+        i += 1;
+    }
+    true
+}
+
+// How many cells the lists have in all. So few counts of 32 bits cannot wrap.
+fn total_of(counts: &[u32]) -> usize
+    requires { ⌜ length (now counts) ≤ 16 ⌝ }
+    ensures { λ r. ⌜ r ≡ total (now (counts .entry)) ⌝ }
+{
+    let mut sum: usize = 0;
+    let mut i = 0;
+    while i < counts.len() {
+        sum += counts[i] as usize;
+        i += 1;
+    }
+    sum
+}
+
+fn limits_fault(counts: &[u32], cells: &[u32], turns: &[u32]) -> Check
+    ensures { λ r. ⌜ r ≡ first (badLimits (now (counts .entry)) (now (cells .entry)) (now (turns .entry)) ∷ []) ⌝ }
+{
+    let bad = Check::Fault(Refusal::BadCrew(0));
+    if counts.len() < 1 {
+        return bad;
+    }
+    if 16 < counts.len() {
+        return bad;
+    }
+    if counts_fit(counts) {
+        let all = total_of(counts);
+        if 256 < all {
+            return bad;
+        }
+        if cells.len() != all {
+            return bad;
+        }
+        if 65536 < turns.len() {
+            return bad;
+        }
+        return Check::Fine;
+    }
+    bad
+}
+
+// Whether one member's list rises, cell by cell, within the arena.
+fn rises(cells: &[u32], start: usize, count: usize, inside: u32) -> bool
+    requires { ⌜ start + count ≤ length (now cells) ⌝ }
+    ensures { λ r. ⌜ r ≡ risesFrom inside 0 (take count (drop start (now (cells .entry)))) ⌝ }
+{
+    let mut low: u32 = 0;
+    let mut i = 0;
+    while i < count {
+        let cell = cells[start + i];
+        if cell < low {
+            return false;
+        }
+        if inside <= cell {
+            return false;
+        }
+        low = cell + 1;
+        i += 1;
+    }
+    true
+}
+
+// The first member whose list does not.
+fn lists_fault(inside: u32, counts: &[u32], cells: &[u32]) -> Check
+    requires { ⌜ (length (now counts) ≤ 16) × (length (now cells) ≡ total (now counts)) ⌝ }
+    ensures { λ r. ⌜ r ≡ first (badLists (length (now (counts .entry))) 0 inside (now (counts .entry)) (now (cells .entry))) ⌝ }
+{
+    let mut start: usize = 0;
+    let mut m = 0;
+    while m < counts.len() {
+        let count = counts[m] as usize;
+        if rises(cells, start, count, inside) {
+            start += count;
+            m += 1;
+        } else {
+            return Check::Fault(Refusal::BadCrew(m));
+        }
+    }
+    Check::Fine
+}
+
+// The first turn that names no member.
+fn turns_fault(members: usize, turns: &[u32]) -> Check
+    ensures { λ r. ⌜ r ≡ first (badTurns members 0 (now (turns .entry))) ⌝ }
+{
+    let mut i = 0;
+    while i < turns.len() {
+        if members <= turns[i] as usize {
+            return Check::Fault(Refusal::BadCrew(i));
+        }
+        i += 1;
+    }
+    Check::Fine
+}
+
+// Lists, and then turns.
+fn names_fault(inside: u32, counts: &[u32], cells: &[u32], turns: &[u32]) -> Check
+    requires { ⌜ (length (now counts) ≤ 16) × (length (now cells) ≡ total (now counts)) ⌝ }
+    ensures { λ r. ⌜ r ≡ first (badLists (length (now (counts .entry))) 0 inside (now (counts .entry)) (now (cells .entry)) ++ badTurns (length (now (counts .entry))) 0 (now (turns .entry))) ⌝ }
+{
+    let lists = lists_fault(inside, counts, cells);
+    match lists {
+        Check::Fault(refusal) => Check::Fault(refusal),
+        Check::Fine => turns_fault(counts.len(), turns),
+    }
+}
+
+// 15.
+fn plan_fault(inside: u32, counts: &[u32], cells: &[u32], turns: &[u32]) -> Check
+    ensures { λ r. ⌜ r ≡ first (badLimits (now (counts .entry)) (now (cells .entry)) (now (turns .entry)) ∷ (badLists (length (now (counts .entry))) 0 inside (now (counts .entry)) (now (cells .entry)) ++ badTurns (length (now (counts .entry))) 0 (now (turns .entry)))) ⌝ }
+{
+    let limits = limits_fault(counts, cells, turns);
+    match limits {
+        Check::Fault(refusal) => Check::Fault(refusal),
+        Check::Fine => names_fault(inside, counts, cells, turns),
+    }
+}
+
+// 1, and then 15.
+fn crew_check(
+    head: Head,
+    table: &[u32],
+    health: &[u8],
+    counts: &[u32],
+    cells: &[u32],
+    turns: &[u32],
+) -> Check
+    ensures { λ r. ⌜ r ≡ first (crewRules head (now (table .entry)) (now (health .entry)) (now (counts .entry)) (now (cells .entry)) (now (turns .entry))) ⌝ }
+{
+    let shape = foreign::arena_check(head, table, health);
+    match shape {
+        Check::Fault(refusal) => Check::Fault(refusal),
+        Check::Fine => plan_fault(head.headers * head.buckets, counts, cells, turns),
+    }
+}
+
+// ---- one turn
+
+// Where in the run of cells a member's next move is: the next cell it has not taken, or the last it still holds.
+fn place(start: usize, n: usize, count: usize) -> usize
+    requires { ⌜ (start + count ≤ 256) × (n < 2 * count) ⌝ }
+    ensures { λ r. ⌜ r ≡ placeOf start n count ⌝ }
+{
+    if n < count {
+        return start + n;
+    }
+    start + (2 * count - 1 - n)
+}
+
+// One try_lock with no script: it is the quiet one.
+fn try_turn(head: Head, next: u32, table: &mut [u32], cell: u32) -> Move
+    requires { ⌜ 3 * cell + 2 < length (now table) ⌝ }
+    ensures { λ r. ⌜ (r, now (table .exit)) ≡ tryOf next (now (table .entry)) cell ⌝ }
+{
+    let flow = Flow {
+        next,
+        place: 0,
+        dropped: 0,
+    };
+    let locked = lock::quiet_lock(head, flow, table, cell);
+    let after = locked.flow;
+    let answer = locked.answer;
+    match answer {
+        Take::Granted(serial) => Move::Took(after.next, serial),
+        Take::Busy => Move::Idle,
+        Take::Damaged => Move::Idle,
+        Take::Spent => Move::Idle,
+    }
+}
+
+// One turn of a member that is not finished: a health reading and a try_lock, or a release of a cell that it holds.
+fn turn(head: Head, next: u32, table: &mut [u32], health: &[u8], taking: bool, cell: u32) -> Move
+    requires { ⌜ (3 * cell + 2 < length (now table)) × ((1 ≤ head .buckets) × (cell / head .buckets < length (now health))) ⌝ }
+    ensures { λ r. ⌜ (r, now (table .exit)) ≡ moveOf next (head .buckets) (now (table .entry)) (now (health .entry)) taking cell ⌝ }
+{
+    if taking {
+        let header = (cell / head.buckets) as usize;
+        if health[header] == 0 {
+            return try_turn(head, next, table, cell);
+        }
+        return Move::Idle;
+    }
+    arena::release(table, cell);
+    Move::Gave
+}
+
+// ---- all turns
+
+// Where each member's list begins in the run of cells.
+fn starts_of(counts: &[u32]) -> [usize; 16]
+    requires { ⌜ length (now counts) ≤ 16 ⌝ }
+    ensures { λ r. ⌜ Begun (now (counts .entry)) r ⌝ }
+{
+    let mut starts = [0usize; 16];
+    let mut start: usize = 0;
+    let mut m = 0;
+    while m < counts.len() {
+        starts[m] = start;
+        start += counts[m] as usize;
+        m += 1;
+    }
+    starts
+}
+
+// The turns in order, from a crew that holds nothing. Its arrays stay here and a turn gets numbers: an idle turn stores nothing.
+// With its cell, a serial noted is a member's lease. A release compares it with nothing: only its holder ever names it.
+fn work(
+    head: Head,
+    table: &mut [u32],
+    health: &[u8],
+    counts: &[u32],
+    cells: &[u32],
+    starts: &[usize; 16],
+    turns: &[u32],
+) -> Worked
+    requires { ⌜ CrewFine head (length (now table)) (length (now health)) (now counts) (now cells) (now turns) × Begun (now counts) (now starts) ⌝ }
+    ensures { λ r. ⌜ (r, now (table .exit)) ≡ workOf head (now (table .entry)) (now (health .entry)) (now (counts .entry)) (now (cells .entry)) (now (turns .entry)) ⌝ }
+{
+    let mut made = [0usize; 16];
+    let mut serials = [0u32; 256];
+    let mut next = head.next;
+    let mut moving: usize = 0;
+    let mut i: usize = 0;
+    while i < turns.len() {
+        let m = turns[i] as usize;
+        i += 1;
+        let n = made[m];
+        let count = counts[m] as usize;
+        if 2 * count <= n {
+            continue;
+        }
+        let k = place(starts[m], n, count);
+        let once_more = n + 1;
+        match turn(head, next, table, health, n < count, cells[k]) {
+            Move::Idle => continue,
+            Move::Took(after, serial) => {
+                next = after;
+                serials[k] = serial;
+                made[m] = once_more;
+                moving += 1;
+                continue;
+            }
+            Move::Gave => {
+                made[m] = once_more;
+                moving += 1;
+                continue;
+            }
+        }
+    }
+    let idle = turns.len() - moving;
+    Worked {
+        next,
+        moving,
+        idle,
+        made,
+    }
+}
+
+// ---- the reply
+
+// A member's count; past the last member it is 0.
+fn count_of(counts: &[u32], m: usize) -> usize
+    ensures { λ r. ⌜ r ≡ getD (now (counts .entry)) m 0 ⌝ }
+{
+    if m < counts.len() {
+        return counts[m] as usize;
+    }
+    0
+}
+
+fn lesser(a: usize, b: usize) -> usize
+    ensures { λ r. ⌜ r ≡ min a b ⌝ }
+{
+    if a < b {
+        return a;
+    }
+    b
+}
+
+// How much a is beyond b.
+fn beyond(a: usize, b: usize) -> usize
+    ensures { λ r. ⌜ r ≡ a - b ⌝ }
+{
+    if a < b {
+        return 0;
+    }
+    a - b
+}
+
+// A member's first moves are its takes, and those beyond its count are its releases.
+fn finish(head: Head, counts: &[u32], worked: Worked) -> CrewReply
+    ensures { λ r. ⌜ r ≡ finishOf head (now (counts .entry)) worked ⌝ }
+{
+    let made = worked.made;
+    let mut taken = [0usize; 16];
+    let mut released = [0usize; 16];
+    let mut m = 0;
+    while m < 16 {
+        let count = count_of(counts, m);
+        taken[m] = lesser(made[m], count);
+        released[m] = beyond(made[m], count);
+        m += 1;
+    }
+    CrewReply {
+        head: head.spent_to(worked.next),
+        moving: worked.moving,
+        idle: worked.idle,
+        taken,
+        released,
+        answer: Answer::Done,
+    }
+}
+
+// A refusal that changes nothing.
+fn refuse(head: Head, refusal: Refusal) -> CrewReply
+    ensures { λ r. ⌜ r ≡ refusedOf head refusal ⌝ }
+{
+    let none = [0usize; 16];
+    CrewReply {
+        head,
+        moving: 0,
+        idle: 0,
+        taken: none,
+        released: none,
+        answer: Answer::Refused(refusal),
+    }
+}
+
+// The turns of a call whose checks are fine.
+fn run(
+    head: Head,
+    table: &mut [u32],
+    health: &[u8],
+    counts: &[u32],
+    cells: &[u32],
+    turns: &[u32],
+) -> CrewReply
+    requires { ⌜ CrewFine head (length (now table)) (length (now health)) (now counts) (now cells) (now turns) ⌝ }
+    ensures { λ r. ⌜ (r, now (table .exit)) ≡ runOf head (now (table .entry)) (now (health .entry)) (now (counts .entry)) (now (cells .entry)) (now (turns .entry)) ⌝ }
+{
+    let starts = starts_of(counts);
+    let worked = work(head, table, health, counts, cells, &starts, turns);
+    finish(head, counts, worked)
+}
+
+// ---- the call
+
+// `counts` says how many cells each member wants, `cells` has their lists one behind the other, `turns` names members.
+pub fn crew(
+    head: Head,
+    table: &mut [u32],
+    health: &[u8],
+    counts: &[u32],
+    cells: &[u32],
+    turns: &[u32],
+) -> CrewReply
+    ensures { λ r. ⌜ (r, now (table .exit)) ≡ crewOf head (now (table .entry)) (now (health .entry)) (now (counts .entry)) (now (cells .entry)) (now (turns .entry)) .seen ⌝ }
+{
+    let check = crew_check(head, table, health, counts, cells, turns);
+    match check {
+        Check::Fault(refusal) => refuse(head, refusal),
+        Check::Fine => run(head, table, health, counts, cells, turns),
+    }
+}
