@@ -1,2 +1,3 @@
 pub mod Vocabulary
 pub mod Protocol
+pub mod Bridge
