@@ -1,3 +1,4 @@
 pub mod Vocabulary
 pub mod Protocol
 pub mod Bridge
+pub mod TryAcquire
