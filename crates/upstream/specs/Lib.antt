@@ -4,3 +4,5 @@ pub mod Bridge
 pub mod Refusing
 pub mod TryAcquire
 pub mod DropLease
+pub mod OneLease
+pub mod Borrows

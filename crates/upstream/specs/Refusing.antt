@@ -88,5 +88,7 @@ cell-refused xs w c k n = first-after xs (badCell (w .head) c) [] k (le-leb (cel
 
 -- ---- 13: a lease of the held list
 
-pub protected-refused : (xs : List Rule) (list : List ℕ) (l : Lease) → Clear xs → isIn l (leasesOf list) ≡ true → first (xs ++ (isProtected list l ∷ [])) ≡ Fault Protected
-protected-refused xs list l c i = first-after xs (isProtected list l) [] c i
+pub protected-refused : (xs : List Rule) (w : Authority) (list : List ℕ) (l : Lease) → Clear xs → Live w l → isIn l (leasesOf list) ≡ true
+    → first (xs ++ (notHeld (w .head) (w .table) 0 l ∷ isProtected list l ∷ [])) ≡ Fault Protected
+protected-refused [] w list l c v i = first-skip (notHeld (w .head) (w .table) 0 l) _ (ap not v) ∙ first-hit (isProtected list l) [] i
+protected-refused (x ∷ xs) w list l c v i = first-skip x _ (c .0) ∙ protected-refused xs w list l (c .1) v i

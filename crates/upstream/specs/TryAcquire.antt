@@ -129,6 +129,14 @@ module _ {F : Type 0} {w : Authority} {c : Key} where
   tries-damaged (spent i p q r) f n = absurd (n (status-valid _ (cells w c) (free p q)))
   tries-damaged (barred r m) f n = absurd (m f)
 
+  -- a held cell is Busy, and nothing changes
+  pub tries-held : {a : Answer} {v : Authority} → Tries F w c a v → F → Valid-cell (next-serial w) (cells w c) → cells w c .bit ≡ 1 → (a ≡ Busy) × (v ≡ w)
+  tries-held (takes x k) f v b = absurd (omega (arith, x .unlocked))
+  tries-held (busy i p q r) f v b = (refl, refl)
+  tries-held (damaged i p) f v b = absurd (p v)
+  tries-held (spent i p q r) f v b = absurd (omega arith)
+  tries-held (barred r n) f v b = absurd (n f)
+
   pub tries-busy : {a : Answer} {v : Authority} → Tries F w c a v → a ≡ Busy → cells w c .bit ≡ 1
   tries-busy (takes x k) e = absurd (omega (arith, ap kindOf e))
   tries-busy (busy i p q r) e = p
