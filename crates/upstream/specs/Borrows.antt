@@ -86,7 +86,7 @@ module _ (w : Authority) (held : List ℕ) (c : Key) where
   acquire-preserving-borrows-e4 = go tried
     where
       go : {a : Answer} {v : Authority} → Tries Checked₁ w c a v → dom v ≡ dom w
-      go (takes x k) = x .written .same-keys
+      go (takes x k z) = x .written .same-keys
       go (busy i p q r) = refl
       go (damaged i p) = refl
       go (spent i p q r) = refl

@@ -3,6 +3,7 @@ pub mod Protocol
 pub mod Bridge
 pub mod Refusing
 pub mod TryAcquire
+pub mod Scripts
 pub mod DropLease
 pub mod OneLease
 pub mod Borrows

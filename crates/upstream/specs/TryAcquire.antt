@@ -22,6 +22,7 @@ use Rattle.model.specs.declared.Refusal.{Refusal}
 use Rattle.model.specs.declared.Refusal.the-variants.{InvalidBucket, Damaged, SerialsSpent}
 use Rattle.model.specs.declared.State.{State}
 use Rattle.model.specs.declared.Took.{Took}
+use Rattle.laws.specs.Words.{length-set-cell}
 use Rattle.history.specs.World.{worldOf}
 use Rattle.history.specs.Items.{try-acquire, perform}
 use Rattle.history.specs.Statements.{answers, leaves}
@@ -34,7 +35,7 @@ use Rattle.upstream.specs.Bridge.{status-valid, valid-status, Sized, fit
 -- ---- what one `try_acquire` comes to, whatever the table holds; F says that no check of the call applies
 
 pub data Tries (F : Type 0) (w : Authority) (c : Key) : Answer → Authority → Type 0 where
-  takes : {v : Authority} → Acquires w v c (next-serial w) → next-serial w < lastSerial → Tries F w c (Granted (leaseOf c (next-serial w))) v
+  takes : {v : Authority} → Acquires w v c (next-serial w) → next-serial w < lastSerial → Sized v → Tries F w c (Granted (leaseOf c (next-serial w))) v
   busy : contains-key w c → cells w c .bit ≡ 1 → is-some (cells w c .owner) → cells w c .owner < next-serial w → Tries F w c Busy w
   damaged : contains-key w c → (Valid-cell (next-serial w) (cells w c) → ⊥) → Tries F w c (Refused (Damaged c)) w
   spent : contains-key w c → cells w c .bit ≡ 0 → is-none (cells w c .owner) → lastSerial ≤ next-serial w → Tries F w c (Refused (SerialsSpent c)) w
@@ -63,7 +64,7 @@ acquired F n w c z i = go (stands (next-serial w) (bitAt (w .table) c) (ownerAt 
           somebody = z .1;
           rises = refl;
           written = put-cells w (next-serial w + 1) c 1 (next-serial w) z i;
-        }) (ltb-true _ _ r))
+        }) (ltb-true _ _ r) (length-set-cell (w .table) c 1 (next-serial w) ∙ z .0, omega arith))
         (λ r. spent i p q (ltb-false _ _ r))
     go (is-held p q r) = busy i p q r
     go (is-damaged p q) = damaged i (λ v. broken _ _ p q (valid-status (next-serial w) (cells w c) v))
@@ -72,7 +73,7 @@ acquired F n w c z i = go (stands (next-serial w) (bitAt (w .table) c) (ownerAt 
 
 module _ {F : Type 0} {w : Authority} {c : Key} where
   pub tries-valid : {a : Answer} {v : Authority} → Tries F w c a v → valid w → valid v
-  tries-valid (takes x l) k = step-valid w _ (Acquire c (next-serial w)) k x
+  tries-valid (takes x l z) k = step-valid w _ (Acquire c (next-serial w)) k x
   tries-valid (busy i p q r) k = k
   tries-valid (damaged i p) k = k
   tries-valid (spent i p q r) k = k
@@ -81,7 +82,7 @@ module _ {F : Type 0} {w : Authority} {c : Key} where
   -- granted: everything that upstream says of a grant
   pub tries-some : {a : Answer} {v : Authority} → Tries F w c a v → (l : Lease) → a ≡ Granted l
       → (l ≡ leaseOf c (next-serial w)) × Acquires w v c (next-serial w) × (next-serial w < lastSerial)
-  tries-some (takes x k) l e = (cc, x, k)
+  tries-some (takes x k z) l e = (cc, x, k)
   tries-some (busy i p q r) l e = absurd (omega (arith, ap kindOf e))
   tries-some (damaged i p) l e = absurd (omega (arith, ap kindOf e))
   tries-some (spent i p q r) l e = absurd (omega (arith, ap kindOf e))
@@ -89,15 +90,22 @@ module _ {F : Type 0} {w : Authority} {c : Key} where
 
   -- else nothing changed
   pub tries-none : {a : Answer} {v : Authority} → Tries F w c a v → answers-none a → v ≡ w
-  tries-none (takes x k) n = absurd (n _ refl)
+  tries-none (takes x k z) n = absurd (n _ refl)
   tries-none (busy i p q r) n = refl
   tries-none (damaged i p) n = refl
   tries-none (spent i p q r) n = refl
   tries-none (barred r f) n = refl
 
+  pub tries-sized : {a : Answer} {v : Authority} → Tries F w c a v → Sized w → Sized v
+  tries-sized (takes x k z) k₀ = z
+  tries-sized (busy i p q r) k = k
+  tries-sized (damaged i p) k = k
+  tries-sized (spent i p q r) k = k
+  tries-sized (barred r f) k = k
+
   -- a lease that was authorized stays so
   pub tries-keeps : {a : Answer} {v : Authority} → Tries F w c a v → (l : Lease) → authorized w l → authorized v l
-  tries-keeps (takes x k) l p = step-keeps w _ (Acquire c (next-serial w)) l x (λ r. r) p
+  tries-keeps (takes x k z) l p = step-keeps w _ (Acquire c (next-serial w)) l x (λ r. r) p
   tries-keeps (busy i p q r) l x = x
   tries-keeps (damaged i p) l x = x
   tries-keeps (spent i p q r) l x = x
@@ -106,7 +114,7 @@ module _ {F : Type 0} {w : Authority} {c : Key} where
   -- "bit 0 implies granted" gains "and a serial remains"
   pub tries-free : {a : Answer} {v : Authority} → Tries F w c a v → F → Valid-cell (next-serial w) (cells w c) → cells w c .bit ≡ 0 → next-serial w < lastSerial
       → a ≡ Granted (leaseOf c (next-serial w))
-  tries-free (takes x k) f v b n = refl
+  tries-free (takes x k z) f v b n = refl
   tries-free (busy i p q r) f v b n = absurd (omega arith)
   tries-free (damaged i p) f v b n = absurd (p v)
   tries-free (spent i p q r) f v b n = absurd (omega arith)
@@ -115,7 +123,7 @@ module _ {F : Type 0} {w : Authority} {c : Key} where
   -- else 10
   pub tries-spent : {a : Answer} {v : Authority} → Tries F w c a v → F → Valid-cell (next-serial w) (cells w c) → cells w c .bit ≡ 0 → lastSerial ≤ next-serial w
       → a ≡ Refused (SerialsSpent c)
-  tries-spent (takes x k) f v b n = absurd (omega arith)
+  tries-spent (takes x k z) f v b n = absurd (omega arith)
   tries-spent (busy i p q r) f v b n = absurd (omega arith)
   tries-spent (damaged i p) f v b n = absurd (p v)
   tries-spent (spent i p q r) f v b n = refl
@@ -123,7 +131,7 @@ module _ {F : Type 0} {w : Authority} {c : Key} where
 
   -- a cell that is not valid: 9
   pub tries-damaged : {a : Answer} {v : Authority} → Tries F w c a v → F → (Valid-cell (next-serial w) (cells w c) → ⊥) → (a ≡ Refused (Damaged c)) × (v ≡ w)
-  tries-damaged (takes x k) f n = absurd (n (status-valid _ (cells w c) (free (x .unlocked) (x .nobody))))
+  tries-damaged (takes x k z) f n = absurd (n (status-valid _ (cells w c) (free (x .unlocked) (x .nobody))))
   tries-damaged (busy i p q r) f n = absurd (n (status-valid _ (cells w c) (held p q r)))
   tries-damaged (damaged i p) f n = (refl, refl)
   tries-damaged (spent i p q r) f n = absurd (n (status-valid _ (cells w c) (free p q)))
@@ -131,14 +139,14 @@ module _ {F : Type 0} {w : Authority} {c : Key} where
 
   -- a held cell is Busy, and nothing changes
   pub tries-held : {a : Answer} {v : Authority} → Tries F w c a v → F → Valid-cell (next-serial w) (cells w c) → cells w c .bit ≡ 1 → (a ≡ Busy) × (v ≡ w)
-  tries-held (takes x k) f v b = absurd (omega (arith, x .unlocked))
+  tries-held (takes x k z) f v b = absurd (omega (arith, x .unlocked))
   tries-held (busy i p q r) f v b = (refl, refl)
   tries-held (damaged i p) f v b = absurd (p v)
   tries-held (spent i p q r) f v b = absurd (omega arith)
   tries-held (barred r n) f v b = absurd (n f)
 
   pub tries-busy : {a : Answer} {v : Authority} → Tries F w c a v → a ≡ Busy → cells w c .bit ≡ 1
-  tries-busy (takes x k) e = absurd (omega (arith, ap kindOf e))
+  tries-busy (takes x k z) e = absurd (omega (arith, ap kindOf e))
   tries-busy (busy i p q r) e = p
   tries-busy (damaged i p) e = absurd (omega (arith, ap kindOf e))
   tries-busy (spent i p q r) e = absurd (omega (arith, ap kindOf e))
@@ -187,7 +195,7 @@ module _ (w : Authority) (c : Key) where
   try-acquire-e2 = go tried
     where
       go : {a : Answer} {v : Authority} → Tries Checked w c a v → framed w v c
-      go (takes {v = v} x k) other = acquire-framed w v c (next-serial w) x other
+      go (takes {v = v} x k z) other = acquire-framed w v c (next-serial w) x other
       go (busy i p q r) other = ((λ i. i, λ i. i), λ _ _. refl)
       go (damaged i p) other = ((λ i. i, λ i. i), λ _ _. refl)
       go (spent i p q r) other = ((λ i. i, λ i. i), λ _ _. refl)
@@ -223,7 +231,7 @@ module _ (w : Authority) (c : Key) where
   try-acquire-e11 = go tried
     where
       go : {a : Answer} {v : Authority} → Tries Checked w c a v → next-serial w ≤ next-serial v
-      go (takes x k) = omega (arith, x .rises)
+      go (takes x k z) = omega (arith, x .rises)
       go (busy i p q r) = omega arith
       go (damaged i p) = omega arith
       go (spent i p q r) = omega arith
