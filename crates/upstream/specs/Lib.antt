@@ -3,7 +3,9 @@ pub mod Protocol
 pub mod Bridge
 pub mod Refusing
 pub mod TryAcquire
-pub mod Scripts
 pub mod DropLease
 pub mod OneLease
 pub mod Borrows
+pub mod Scripts
+pub mod Environment
+pub mod TryLock
