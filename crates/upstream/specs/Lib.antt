@@ -9,3 +9,5 @@ pub mod Borrows
 pub mod Scripts
 pub mod Environment
 pub mod TryLock
+pub mod Buckets
+pub mod ReleaseAll
