@@ -6,6 +6,7 @@ pub mod TryAcquire
 pub mod DropLease
 pub mod OneLease
 pub mod Borrows
+pub mod Keys
 pub mod Scripts
 pub mod Environment
 pub mod TryLock

@@ -37,6 +37,7 @@ use Rattle.history.specs.Steps.{worldAt, With, of-step, of-flow, of-locked, of-
 use Rattle.upstream.specs.Vocabulary.{Key, Authority, Acquires, Leases, next-serial, dom, contains-key, cells, valid, authorized, Step, Acquire, Release, step, releases, protected-valid}
 use Rattle.upstream.specs.Protocol.{Trace, ended, first, join, trace-valid, trace-keeps, trace-next, loosen, step-grants}
 use Rattle.upstream.specs.Bridge.{authorized-live, Sized, sized-now, lawful-trace, event-step}
+use Rattle.upstream.specs.Keys.{Finds, bad-header, poisoned, bad-bucket, at, finds, place-inside, granted-lease}
 use Rattle.upstream.specs.TryAcquire.{Tries, acquired, tries-valid, tries-some, tries-none, tries-keeps, tries-sized}
 
 -- ---- a way from one state to another
@@ -74,32 +75,6 @@ pub record Ready (P : Leases) (w : Authority) : Type 0 where
 
 pub ready : {P : Leases} {w v : Authority} → Ready P w → Goes P w v → Ready P v
 ready r g = record { sized = g .sized; valid-now = trace-valid (g .trace) (r .valid-now); safe = trace-keeps (g .trace) (r .safe) }
-
--- ---- a key's cell
-
-pub data Finds (headers buckets : ℕ) (g registry : List ℕ) (binding bucket : ℕ) : Found → Type 0 where
-  bad-header : headers ≤ getD registry binding 0 → Finds headers buckets g registry binding bucket (found.Fault (BadHeader (getD registry binding 0)))
-  poisoned : getD registry binding 0 < headers → (getD g (getD registry binding 0) 0 ≡ 0 → ⊥) → Finds headers buckets g registry binding bucket (found.Fault (Poisoned (getD registry binding 0)))
-  bad-bucket : getD registry binding 0 < headers → getD g (getD registry binding 0) 0 ≡ 0 → buckets ≤ bucket → Finds headers buckets g registry binding bucket (found.Fault (InvalidBucket bucket))
-  at : getD registry binding 0 < headers → getD g (getD registry binding 0) 0 ≡ 0 → bucket < buckets
-      → Finds headers buckets g registry binding bucket (found.At (cellNumber buckets (getD registry binding 0) bucket))
-
-pub finds : (headers buckets : ℕ) (g registry : List ℕ) (binding bucket : ℕ) → Finds headers buckets g registry binding bucket (findOf headers buckets g registry binding bucket)
-unfolding findOf
-finds headers buckets g registry binding bucket =
-    if-cases P (leb headers header) (λ e. bad-header (leb-true headers header e))
-    (λ e. if-cases P (not (eqb (getD g header 0) 0)) (λ x. poisoned (leb-false headers header e) (λ z. differ (sym (not-true _ x) ∙ eq-eqb (getD g header 0) 0 z)))
-    (λ x. if-cases P (leb buckets bucket) (λ y. bad-bucket (leb-false headers header e) (eqb-true (getD g header 0) 0 (not-false _ x)) (leb-true buckets bucket y))
-    (λ y. at (leb-false headers header e) (eqb-true (getD g header 0) 0 (not-false _ x)) (leb-false buckets bucket y))))
-  where
-    header : ℕ
-    header = getD registry binding 0
-
-    P : Found → Type 0
-    P f = Finds headers buckets g registry binding bucket f
-
-pub place-inside : (headers buckets header bucket : ℕ) → header < headers → bucket < buckets → cellNumber buckets header bucket < headers * buckets
-place-inside headers buckets header bucket p q = omega (arith, mul-le-mul-right buckets p, suc-mul header buckets)
 
 -- ---- boundaries
 
@@ -219,33 +194,22 @@ module _ (h : Head) (script : List ℕ) where
       (let l = second-goes ps (m .0) (m .1 .0) (m .1 .1) c (f .next) (ready r b) i (trace-next (b .trace)) in record { goes = then b (l .goes); gain = l .gain })
       (record { goes = b; gain = λ s e. let q : _≡_ {A = ℕ} 0 1 = cc in absurd (omega arith) })
 
-  -- ---- attempts by key: what is granted is authorized, and its cell is the key's
+  -- ---- attempts by key: what is granted is authorized
 
-  pub record Granted-at (registry : List ℕ) (binding bucket : ℕ) (l : Lease) : Type 0 where
-    pub header-inside : getD registry binding 0 < h .headers
-    pub bucket-inside : bucket < h .buckets
-    pub cell-is : l .cell ≡ cellNumber (h .buckets) (getD registry binding 0) bucket
-
-  pub record Attempts (P : Leases) (registry : List ℕ) (binding bucket : ℕ) (w : Authority) (a : With Tried) : Type 0 where
+  pub record Attempts (P : Leases) (w : Authority) (a : With Tried) : Type 0 where
     pub goes : Goes P w (of-tried h a)
-    pub gain : (l : Lease) → a .0 .outcome ≡ outcome.Granted l → authorized (of-tried h a) l × Granted-at registry binding bucket l
+    pub gain : (l : Lease) → a .0 .outcome ≡ outcome.Granted l → authorized (of-tried h a) l
 
   pub attempt-goes : (ps : List Lease) (registry : List ℕ) (binding bucket : ℕ) (r : Run) (t g : List ℕ) → Ready (In ps) (worldAt h (r .flow .next) t g)
-      → Attempts (In ps) registry binding bucket (worldAt h (r .flow .next) t g) (attemptOf (given h script ps) (h .buckets) registry binding bucket r t g .seen)
+      → Attempts (In ps) (worldAt h (r .flow .next) t g) (attemptOf (given h script ps) (h .buckets) registry binding bucket r t g .seen)
   unfolding attemptOf
   attempt-goes ps registry binding bucket r t g k = go (finds (h .headers) (h .buckets) g registry binding bucket)
     where
-      none : {x : _} → Attempts (In ps) registry binding bucket (worldAt h (r .flow .next) t g) (attemptAt (found.Fault x) (given h script ps) r t g .seen)
+      none : {x : _} → Attempts (In ps) (worldAt h (r .flow .next) t g) (attemptAt (found.Fault x) (given h script ps) r t g .seen)
       none = record { goes = stays (k .sized); gain = λ l e. let q : _≡_ {A = ℕ} 0 1 = cc in absurd (omega arith) }
 
-      granted : (c : ℕ) (a : Take) (l : Lease) → outcomeOf c a ≡ outcome.Granted l → (a ≡ taking.Granted (l .serial)) × (l ≡ leaseOf c (l .serial))
-      granted c (taking.Granted s) l e = let q : leaseOf c s ≡ l = cc in (ap {B = Take} (λ (k : Lease). taking.Granted (k .serial)) q, sym q ∙ ap (λ (k : Lease). leaseOf c (k .serial)) q)
-      granted c taking.Busy l e = let q : _≡_ {A = ℕ} 0 1 = cc in absurd (omega arith)
-      granted c taking.Damaged l e = let q : _≡_ {A = ℕ} 0 1 = cc in absurd (omega arith)
-      granted c taking.Spent l e = let q : _≡_ {A = ℕ} 0 1 = cc in absurd (omega arith)
-
       go : {x : Found} → Finds (h .headers) (h .buckets) g registry binding bucket x
-          → Attempts (In ps) registry binding bucket (worldAt h (r .flow .next) t g) (attemptAt x (given h script ps) r t g .seen)
+          → Attempts (In ps) (worldAt h (r .flow .next) t g) (attemptAt x (given h script ps) r t g .seen)
       go (bad-header p) = none
       go (poisoned p q) = none
       go (bad-bucket p q s) = none
@@ -255,8 +219,8 @@ module _ (h : Head) (script : List ℕ) where
           record {
             goes = m .goes;
             gain = λ l e.
-                let x = granted c (lockOf (given h script ps) (r .flow) t g c .seen .0 .answer) l e in
-                (subst (authorized _) (sym (x .1)) (m .gain (l .serial) (x .0) .0), record { header-inside = p; bucket-inside = s; cell-is = ap (λ (k : Lease). k .cell) (x .1) });
+                let x = granted-lease c (lockOf (given h script ps) (r .flow) t g c .seen .0 .answer) l e in
+                subst (authorized _) (sym (x .1)) (m .gain (l .serial) (x .0) .0);
           }
 
   spin-goes : (ps : List Lease) (r : Run) (t g : List ℕ) → Ready (In ps) (worldAt h (r .flow .next) t g)
@@ -275,7 +239,7 @@ module _ (h : Head) (script : List ℕ) where
       (spin-goes ps r t g k)
 
   pub retry-goes : (left i : ℕ) (ps : List Lease) (registry : List ℕ) (binding bucket : ℕ) (r : Run) (t g : List ℕ) → Ready (In ps) (worldAt h (r .flow .next) t g)
-      → Attempts (In ps) registry binding bucket (worldAt h (r .flow .next) t g) (retryOf left i (given h script ps) (h .buckets) registry binding bucket r t g .seen)
+      → Attempts (In ps) (worldAt h (r .flow .next) t g) (retryOf left i (given h script ps) (h .buckets) registry binding bucket r t g .seen)
   unfolding retryOf
   retry-goes zero i ps registry binding bucket r t g k = record { goes = stays (k .sized); gain = λ l e. let q : _≡_ {A = ℕ} 0 1 = cc in absurd (omega arith) }
   retry-goes (suc left) i ps registry binding bucket r t g k =
@@ -284,6 +248,6 @@ module _ (h : Head) (script : List ℕ) where
       let p = pauseOf (given h script ps) i (m .0 .run) (m .1 .0) (m .1 .1) .seen in
       let b = pause-goes ps i (m .0 .run) (m .1 .0) (m .1 .1) (ready k (a .goes)) in
       let again = retry-goes left (i + 1) ps registry binding bucket (p .0) (p .1 .0) (p .1 .1) (ready (ready k (a .goes)) b) in
-      if-both (λ (x : Made (With Tried)). Attempts (In ps) registry binding bucket (worldAt h (r .flow .next) t g) (x .seen)) (isBusy (m .0 .outcome))
+      if-both (λ (x : Made (With Tried)). Attempts (In ps) (worldAt h (r .flow .next) t g) (x .seen)) (isBusy (m .0 .outcome))
       (record { goes = then (a .goes) (then b (again .goes)); gain = again .gain })
       (record { goes = a .goes; gain = a .gain })
