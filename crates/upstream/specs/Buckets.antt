@@ -165,22 +165,19 @@ module _ (w : Authority) (registry script : List ℕ) (place : ℕ) (held : List
   begins v k = record { sized = fits-sized w (not-false _ (k .0)); valid-now = v; safe = held-live w held _ (k .1 .1 .1 .1) }
 
   -- what is granted is authorized
-  abbrev Any : Lease → Type 0
-  Any l = Unit {0}
-
-  one-went : valid w → Went w (leasesOf held) Any (answers w one) (leaves w one)
+  one-went : valid w → Went w (leasesOf held) (answers w one) (leaves w one)
   one-went v =
-      by-checks (λ m. Went w (leasesOf held) Any (m .seen .1 .answer) (m .seen .0)) w one (λ r e. unmoved r)
+      by-checks (λ m. Went w (leasesOf held) (m .seen .1 .answer) (m .seen .0)) w one (λ r e. unmoved r)
       (λ e k.
       let m = attempt-goes (w .head) script (leasesOf held) registry binding bucket begun (w .table) (w .health) (begins v k) in
-      record { trace = m .goes .trace; gain = λ l e. (m .gain l (granted _ l e), tt) })
+      record { trace = m .goes .trace; gain = λ l e. m .gain l (granted _ l e) })
 
-  many-went : valid w → Went w (leasesOf held) Any (answers w many) (leaves w many)
+  many-went : valid w → Went w (leasesOf held) (answers w many) (leaves w many)
   many-went v =
-      by-checks (λ m. Went w (leasesOf held) Any (m .seen .1 .answer) (m .seen .0)) w many (λ r e. unmoved r)
+      by-checks (λ m. Went w (leasesOf held) (m .seen .1 .answer) (m .seen .0)) w many (λ r e. unmoved r)
       (λ e k.
       let m = retry-goes (w .head) script attemptLimit 0 (leasesOf held) registry binding bucket begun (w .table) (w .health) (begins v k) in
-      record { trace = m .goes .trace; gain = λ l e. (m .gain l (unsettled _ l e), tt) })
+      record { trace = m .goes .trace; gain = λ l e. m .gain l (unsettled _ l e) })
 
   -- and is on the key's cell, whatever the table holds
   abbrev OfKey : Lease → Type 0
@@ -274,7 +271,7 @@ module _ (w : Authority) (registry script : List ℕ) (place : ℕ) (held : List
   transactional-try-lock-bucket-e3 v = trace-buries (one-went v .trace) .same-keys
 
   pub transactional-try-lock-bucket-e4 : valid w → (l : Lease) → answers w one ≡ Granted l → authorized (leaves w one) l
-  transactional-try-lock-bucket-e4 v l e = one-went v .gain l e .0
+  transactional-try-lock-bucket-e4 v l e = one-went v .gain l e
 
   pub transactional-try-lock-bucket-e5 : (l : Lease) → answers w one ≡ Granted l → lease-key l ≡ key-of w header₁ bucket
   transactional-try-lock-bucket-e5 l e = one-key l e .cell-is
@@ -303,7 +300,7 @@ module _ (w : Authority) (registry script : List ℕ) (place : ℕ) (held : List
   acquire-index-bucket-e3 v = trace-buries (many-went v .trace) .same-keys
 
   pub acquire-index-bucket-e4 : valid w → (l : Lease) → answers w many ≡ Granted l → authorized (leaves w many) l
-  acquire-index-bucket-e4 v l e = many-went v .gain l e .0
+  acquire-index-bucket-e4 v l e = many-went v .gain l e
 
   pub acquire-index-bucket-e5 : (l : Lease) → answers w many ≡ Granted l → lease-key l ≡ key-of w header₁ bucket
   acquire-index-bucket-e5 l e = many-key l e .cell-is

@@ -33,13 +33,13 @@ use Rattle.upstream.specs.Bridge.{status-valid, live-authorized, by-name
 use Rattle.upstream.specs.Refusing.{on-damaged, First-bad, held-refused}
 use Rattle.upstream.specs.Scripts.{Goes, Ready, boundary-goes}
 
--- ---- what a call with a script comes to: a trace that releases no held lease; what it grants is authorized and has Q
+-- ---- what a call with a script comes to: a trace that releases no held lease; what it grants is authorized
 
-pub record Went (w : Authority) (ps : List Lease) (Q : Lease → Type 0) (a : Answer) (v : Authority) : Type 0 where
+pub record Went (w : Authority) (ps : List Lease) (a : Answer) (v : Authority) : Type 0 where
   pub trace : Trace (held-ids ps) w v
-  pub gain : (l : Lease) → a ≡ Granted l → authorized v l × Q l
+  pub gain : (l : Lease) → a ≡ Granted l → authorized v l
 
-pub unmoved : {w : Authority} {ps : List Lease} {Q : Lease → Type 0} (r : Refusal) → Went w ps Q (Refused r) w
+pub unmoved : {w : Authority} {ps : List Lease} (r : Refusal) → Went w ps (Refused r) w
 unmoved {w} r = record { trace = ended w; gain = λ l e. absurd (omega (arith, ap kindOf e)) }
 
 -- no check on the held list applies: its leases are authorized

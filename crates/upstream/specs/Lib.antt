@@ -12,3 +12,4 @@ pub mod Environment
 pub mod TryLock
 pub mod Buckets
 pub mod ReleaseAll
+pub mod Guards

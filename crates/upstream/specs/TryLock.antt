@@ -82,10 +82,18 @@ module _ (w : Authority) (script : List ℕ) (place : ℕ) (held : List ℕ) (c 
   granted taking.Damaged l e = absurd (omega (arith, ap kindOf e))
   granted taking.Spent l e = absurd (omega (arith, ap kindOf e))
 
-  pub try-lock-went : valid w → Went w (leasesOf held) (λ l. lease-key l ≡ c) result final
+  -- what is granted is the cell that was asked for, and it is in the arena, whatever the table holds
+  pub granted-key : (l : Lease) → result ≡ Granted l → (lease-key l ≡ c) × contains-key w c
+  unfolding lockRules scriptRules
+  granted-key l =
+      by-checks (λ m. m .seen .1 .answer ≡ Granted l → (lease-key l ≡ c) × contains-key w c) w (try-lock script place held c) (λ r e q. absurd (omega (arith, ap kindOf q)))
+      (λ e k q. (ap lease-key (granted (lockOf (given (w .head) script (leasesOf held)) (flowOf (next-serial w) place 0) (w .table) (w .health) c .seen .0 .answer) l q .1),
+      leb-false _ _ (clear-back Before _ k .0)))
+
+  pub try-lock-went : valid w → Went w (leasesOf held) result final
   unfolding lockRules scriptRules
   try-lock-went v =
-      by-checks (λ m. Went w (leasesOf held) (λ l. lease-key l ≡ c) (m .seen .1 .answer) (m .seen .0)) w (try-lock script place held c) (λ r e. unmoved r)
+      by-checks (λ m. Went w (leasesOf held) (m .seen .1 .answer) (m .seen .0)) w (try-lock script place held c) (λ r e. unmoved r)
       (λ e k.
       let m = lock-goes (w .head) script (leasesOf held) (flowOf (next-serial w) place 0) (w .table) (w .health) c
       (record { sized = fits-sized w (not-false _ (k .0)); valid-now = v; safe = held-live w held _ (k .1 .1 .1) }) (leb-false _ _ (clear-back Before _ k .0)) in
@@ -93,7 +101,7 @@ module _ (w : Authority) (script : List ℕ) (place : ℕ) (held : List ℕ) (c 
         trace = m .goes .trace;
         gain = λ l e.
             let x = granted (lockOf (given (w .head) script (leasesOf held)) (flowOf (next-serial w) place 0) (w .table) (w .health) c .seen .0 .answer) l e in
-            (subst (authorized _) (sym (x .1)) (m .gain (l .serial) (x .0) .0), ap lease-key (x .1));
+            subst (authorized _) (sym (x .1)) (m .gain (l .serial) (x .0) .0);
       })
 
   -- valid(old(authority)): 9, where the cell is damaged when it comes to the compare-and-set
@@ -134,8 +142,8 @@ module _ (w : Authority) (script : List ℕ) (place : ℕ) (held : List ℕ) (c 
   pub try-lock-e3 : valid w → dom final ≡ dom w
   try-lock-e3 v = trace-buries (try-lock-went v .trace) .same-keys
 
-  pub try-lock-e4 : valid w → (l : Lease) → result ≡ Granted l → lease-key l ≡ c
-  try-lock-e4 v l e = try-lock-went v .gain l e .1
+  pub try-lock-e4 : (l : Lease) → result ≡ Granted l → lease-key l ≡ c
+  try-lock-e4 l e = granted-key l e .0
 
   pub try-lock-e5 : valid w → (l : Lease) → result ≡ Granted l → authorized final l
-  try-lock-e5 v l e = try-lock-went v .gain l e .0
+  try-lock-e5 v l e = try-lock-went v .gain l e
