@@ -30,7 +30,7 @@ use Rattle.upstream.specs.Vocabulary.{Key, cell, Authority, lease-key, l
 use Rattle.upstream.specs.Protocol.{step-grants, step-frees, step-keys, bit-of}
 use Rattle.upstream.specs.Bridge.{status-valid, authorized-live, by-name, by-place, Sized, fits-sized, sized-now, refused, by-checks}
 use Rattle.upstream.specs.Refusing.{unauthorized, on-damaged, Fits, not-held, First-bad, held-refused, cell-refused, protected-refused}
-use Rattle.upstream.specs.TryAcquire.{Tries, barred, takes, busy, damaged, spent, acquired, tries-valid, tries-some, tries-none, tries-held, tries-free, tries-spent, tries-damaged, tries-keeps, fine-fault}
+use Rattle.upstream.specs.TryAcquire.{Tries, barred, acquired, tries-keys, tries-valid, tries-some, tries-none, tries-held, tries-free, tries-spent, tries-damaged, tries-keeps, fine-fault}
 use Rattle.upstream.specs.DropLease.{Drops, drops, dropped, drops-valid, drops-framed, drops-stays, drops-keeps, drops-done}
 use Rattle.upstream.specs.DropLease as drop
 use Rattle.upstream.specs.OneLease.{Hands, hands, unheld, hands-valid, hands-keeps, hands-some, hands-granted, hands-spent}
@@ -83,14 +83,7 @@ module _ (w : Authority) (held : List ℕ) (c : Key) where
   acquire-preserving-borrows-e3 p = by-name final₁ (leasesOf held) (acquire-preserving-borrows-e2 p)
 
   pub acquire-preserving-borrows-e4 : dom final₁ ≡ dom w
-  acquire-preserving-borrows-e4 = go tried
-    where
-      go : {a : Answer} {v : Authority} → Tries Checked₁ w c a v → dom v ≡ dom w
-      go (takes x k z) = x .written .same-keys
-      go (busy i p q r) = refl
-      go (damaged i p) = refl
-      go (spent i p q r) = refl
-      go (barred r f) = refl
+  acquire-preserving-borrows-e4 = tries-keys tried
 
   -- "gain 'and a serial remains', else SerialsSpent"
   pub acquire-preserving-borrows-e5 : Checked₁ → valid w → contains-key w c → cells w c .bit ≡ 0

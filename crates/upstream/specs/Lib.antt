@@ -13,3 +13,4 @@ pub mod TryLock
 pub mod Buckets
 pub mod ReleaseAll
 pub mod Guards
+pub mod Open

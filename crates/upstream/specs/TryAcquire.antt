@@ -28,7 +28,7 @@ use Rattle.history.specs.Items.{try-acquire, perform}
 use Rattle.history.specs.Statements.{answers, leaves}
 use Rattle.history.specs.Tests.{Status, free, held, Stands, is-free, is-held, is-damaged, stands, if-cases}
 use Rattle.history.specs.Judged.{rules, unchanged}
-use Rattle.upstream.specs.Vocabulary.{Key, Cell, cell, is-some, is-none, Authority, lease-key, lease-serial, next-serial, contains-key, cells, insert, Cells-are, answers-none, Valid-cell, valid, authorized, framed, Acquire, Observe, Acquires, step, no-resurrection}
+use Rattle.upstream.specs.Vocabulary.{Key, Cell, cell, is-some, is-none, Authority, lease-key, lease-serial, next-serial, dom, contains-key, cells, insert, Cells-are, answers-none, Valid-cell, valid, authorized, framed, Acquire, Observe, Acquires, step, no-resurrection}
 use Rattle.upstream.specs.Protocol.{acquire-framed, step-valid, step-keeps, step-grants, step-buries}
 use Rattle.upstream.specs.Bridge.{status-valid, valid-status, Sized, fits-sized, put-cells, refused, first-after, by-checks}
 
@@ -95,6 +95,13 @@ module _ {F : Type 0} {w : Authority} {c : Key} where
   tries-none (damaged i p) n = refl
   tries-none (spent i p q r) n = refl
   tries-none (barred r f) n = refl
+
+  pub tries-keys : {a : Answer} {v : Authority} → Tries F w c a v → dom v ≡ dom w
+  tries-keys (takes x k z) = x .written .same-keys
+  tries-keys (busy i p q r) = refl
+  tries-keys (damaged i p) = refl
+  tries-keys (spent i p q r) = refl
+  tries-keys (barred r f) = refl
 
   pub tries-sized : {a : Answer} {v : Authority} → Tries F w c a v → Sized w → Sized v
   tries-sized (takes x k z) k₀ = z
