@@ -1,37 +1,33 @@
 -- 000: `acquire_preserving_borrows`, `drop_preserving_borrows` and `foreign_release_between_attempts`: the calls with a held list and no script.
-use Prim.Native.Nat.{ℕ, _+_, _≤_, _<_}
-use mathlib.Core.Path.{_≡_, refl, sym, ap, _∙_, subst}
-use mathlib.Core.List.{List, [], _∷_, _++_}
-use mathlib.Core.Bool.{Bool, true, false, not}
+use Prim.Native.Nat.{ℕ, _≤_, _<_}
+use mathlib.Core.Path.{_≡_, refl, sym, ap, subst}
+use mathlib.Core.List.{List, [], _∷_}
+use mathlib.Core.Bool.{false, not}
 use native.Mathlib.Omega.{arith}
 use borrow.Author.Tests.{not-false, leb-false}
-use lib.ListN.{length}
-use Rattle.model.specs.Log.{Made, by-caller, released}
-use Rattle.model.specs.Arena.{lastSerial, leaseOf, leasesOf, isIn, setCell}
-use Rattle.model.specs.Answers.{kindOf}
+use Rattle.model.specs.Log.{by-caller, released}
+use Rattle.model.specs.Arena.{lastSerial, leaseOf, leasesOf, setCell}
 use Rattle.model.specs.Refusals.{Rule, first}
-use Rattle.model.specs.Checks.{badShape, badHeld, badHeldLength, notHeld, isProtected, heldCellRules, heldLeaseRules}
-use Rattle.model.specs.Lock.{leaseAt}
+use Rattle.model.specs.Checks.{badShape, badHeld, badHeldLength, heldCellRules, heldLeaseRules}
 use Rattle.model.specs.Calls.{acquireOf}
 use Rattle.model.specs.declared.Answer.{Answer}
 use Rattle.model.specs.declared.Answer.the-variants.{Granted, Refused}
 use Rattle.model.specs.declared.Check.the-variants.{Fine}
 use Rattle.model.specs.declared.Lease.{Lease}
-use Rattle.model.specs.declared.Refusal.{Refusal}
 use Rattle.model.specs.declared.Refusal.the-variants.{BadHeld, InvalidBucket, Damaged, SerialsSpent, NotHeld, Protected}
 use Rattle.history.specs.World as world
-use Rattle.history.specs.World.{Live, World, worldOf}
+use Rattle.history.specs.World.{Live, worldOf}
 use Rattle.history.specs.Items.{acquire-preserving, drop-preserving, foreign-release, perform}
 use Rattle.history.specs.Statements.{answers, leaves}
 use Rattle.history.specs.Judged.{Clear, clear-back, rules, unchanged}
 use Rattle.history.specs.Tests.{In, held as is-held}
 use Rattle.history.specs.Events.{lives}
-use Rattle.upstream.specs.Vocabulary.{Key, cell, Authority, lease-key, lease-serial, next-serial, dom, contains-key, cells, Valid-cell, valid, authorized, Gives-up, protected-valid, held-ids, leases-authorized}
-use Rattle.upstream.specs.Protocol.{step-grants, step-frees, step-keys, bit-of}
-use Rattle.upstream.specs.Bridge.{status-valid, authorized-live, by-name, by-place, Sized, fits-sized, sized-now, refused, by-checks}
+use Rattle.upstream.specs.Vocabulary.{Key, cell, Authority, lease-key, lease-serial, next-serial, dom, contains-key, cells, Valid-cell, valid, authorized, protected-valid, held-ids, leases-authorized}
+use Rattle.upstream.specs.Protocol.{step-grants, step-frees, bit-of}
+use Rattle.upstream.specs.Bridge.{status-valid, authorized-live, by-name, by-place, fits-sized, sized-now, refused, by-checks}
 use Rattle.upstream.specs.Refusing.{unauthorized, on-damaged, Fits, not-held, First-bad, held-refused, cell-refused, protected-refused}
-use Rattle.upstream.specs.TryAcquire.{Tries, barred, acquired, tries-keys, tries-valid, tries-some, tries-none, tries-held, tries-free, tries-spent, tries-damaged, tries-keeps, fine-fault}
-use Rattle.upstream.specs.DropLease.{Drops, drops, dropped, drops-valid, drops-framed, drops-stays, drops-keeps, drops-done}
+use Rattle.upstream.specs.TryAcquire.{Tries, barred, acquired, tries-keys, tries-valid, tries-some, tries-held, tries-free, tries-spent, tries-damaged, tries-keeps, fine-fault}
+use Rattle.upstream.specs.DropLease.{Drops, drops, dropped, drops-valid, drops-stays, drops-keeps, drops-done}
 use Rattle.upstream.specs.DropLease as drop
 use Rattle.upstream.specs.OneLease.{Hands, hands, unheld, hands-valid, hands-keeps, hands-some, hands-granted, hands-spent}
 

@@ -2,38 +2,33 @@
 use Prim.Native.Nat.{ℕ, zero, suc, _+_, _*_, _≤_, _<_}
 use mathlib.Core.Path.{_≡_, refl, sym, ap, _∙_, subst}
 use mathlib.Core.List.{List, [], _∷_, _++_, append-nil}
-use mathlib.Core.Bool.{Bool, true, false, not}
-use mathlib.Core.Logic.{_↔_, _⊎_, inl, inr}
+use mathlib.Core.Bool.{true}
+use mathlib.Core.Logic.{_⊎_, inl, inr}
 use native.Mathlib.Omega.{arith}
-use lib.ListN.{length, getD}
-use lib.Dec.{eqb}
+use lib.ListN.{length}
 use lib.Seq.{take-length}
 use borrow.Author.Tests.{eq-eqb, ne-eqb}
-use Rattle.model.specs.Choice.{if_then_else_}
 use Rattle.model.specs.Log.{Made, Event, attempt-begun, boundary-run, yielded, spun, step-dropped, took, released, waiters-set, health-set}
-use Rattle.model.specs.Arena.{cellsOf, leaseOf, bitAt, ownerAt, setCell, setWaiters, stateAt, isLive, isIn, shapeFits}
+use Rattle.model.specs.Arena.{cellsOf, leaseOf, bitAt, ownerAt, setCell, shapeFits}
 use Rattle.model.specs.Refusals.{Rule, refusalOf, first}
 use Rattle.model.specs.Lock.{leaseAt, noLease}
 use Rattle.model.specs.Calls.{tryAcquireOf, dropLeaseOf, readPermissionOf, competingAcquireOf, releaseThenHandoffOf, foreignReleaseOf, acquirePreservingOf, dropPreservingOf, environmentOf, tryLockOf, transactionalOf, acquireBucketOf, releaseAllOf, acquireLocksOf}
 use Rattle.model.specs.Crew.{crewOf}
-use Rattle.model.specs.declared.Answer.{Answer}
-use Rattle.model.specs.declared.Answer.the-variants as answer
 use Rattle.model.specs.declared.Check.{Check}
 use Rattle.model.specs.declared.Check.the-variants.{Fine, Fault}
 use Rattle.model.specs.declared.Lease.{Lease}
 use Rattle.model.specs.declared.Refusal.{Refusal}
-use Rattle.model.specs.declared.State.the-variants as state
-use Rattle.laws.specs.Shape.{Shaped, shaped}
+use Rattle.laws.specs.Shape.{shaped}
 use Rattle.laws.specs.Words.{length-set-cell, length-set-waiters, bit-set-waiters, owner-set-waiters, Seen, here, there, see}
 use Rattle.laws.specs.Checks.{first-hit, first-skip}
 use Rattle.history.specs.World as world
 use Rattle.history.specs.World.{World, worldOf, Live, Legal, Lawful, now, Sound, Unreleased}
 use Rattle.history.specs.Items.{Call, Says, perform, try-acquire, drop-lease, read-permission, competing-acquire, release-then-handoff, foreign-release, drop-preserving, acquire-preserving, environment, try-lock, transactional, acquire-bucket, release-all, acquire-locks, crew}
 use Rattle.history.specs.Tests.{Status, free as is-free, held as is-held, live, free-words, In, in-index, in-take, same-lease}
-use Rattle.history.specs.Events.{Good, good, lives}
+use Rattle.history.specs.Events.{good, lives}
 use Rattle.history.specs.Judged.{Clear, clear, rules, steps, unchanged}
-use Rattle.upstream.specs.Vocabulary.{Key, Cell, cell, is-some, is-Some, Authority, Leases, next-serial, dom, contains-key, cells, insert, Cells-are, Valid-cell, valid, authorized, Step, Acquire, Release, Observe, step, releases, protected-valid, held-ids, leases-authorized}
-use Rattle.upstream.specs.Protocol.{Trace, ended, first as one, join}
+use Rattle.upstream.specs.Vocabulary.{Key, Cell, cell, Authority, Leases, next-serial, dom, contains-key, cells, insert, Cells-are, Valid-cell, valid, authorized, Step, Acquire, Release, Observe, step, releases, protected-valid, held-ids, leases-authorized}
+use Rattle.upstream.specs.Protocol.{Trace, ended, first as one}
 
 -- ---- valid: no cell is damaged
 

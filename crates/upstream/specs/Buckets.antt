@@ -1,22 +1,20 @@
 -- 000 and 001: resolving a key (`publication_header`, `poisoned`, `bucket`, `yield_now`), `transactional_try_lock_bucket` and `acquire_index_bucket`.
-use Prim.Native.Nat.{ℕ, zero, suc, _+_, _≤_, _<_}
-use mathlib.Core.Path.{_≡_, refl, sym, ap, _∙_, subst}
-use mathlib.Core.List.{List, [], _∷_, _++_}
-use mathlib.Core.Bool.{Bool, true, false, not}
-use mathlib.Core.Logic.{_↔_, _⊎_, inl, inr}
+use Prim.Native.Nat.{ℕ, suc, _≤_, _<_}
+use mathlib.Core.Path.{_≡_, refl, ap, _∙_}
+use mathlib.Core.List.{List, [], _∷_}
+use mathlib.Core.Bool.{false}
+use mathlib.Core.Logic.{inl, inr}
 use native.Mathlib.Omega.{arith}
 use native.Mathlib.Decide.{decLt}
 use borrow.Author.Tests.{not-false, le-leb}
 use lib.ListN.{length, getD}
-use Rattle.model.specs.Log.{Made}
-use Rattle.model.specs.Arena.{cellNumber, leasesOf, waitersAt}
+use Rattle.model.specs.Arena.{leasesOf, waitersAt}
 use Rattle.model.specs.Answers.{kindOf}
 use Rattle.model.specs.Refusals.{Rule, first}
 use Rattle.model.specs.Checks.{badShape, badHealth, badRegistry, badScript, badHeld, badHeldLength, badBinding, bucketRules}
 use Rattle.model.specs.Foreign.{Setting, boundaryOf}
-use Rattle.model.specs.Lock.{findOf, outcomeOf, answerOf, settled, attemptAt, attemptOf, attemptLimit, isBusy, retryOf, runOf, lockOf}
+use Rattle.model.specs.Lock.{findOf, outcomeOf, answerOf, settled, attemptAt, attemptOf, attemptLimit, retryOf}
 use Rattle.model.specs.Calls.{given, starting}
-use Rattle.model.specs.declared.Answer.{Answer}
 use Rattle.model.specs.declared.Answer.the-variants.{Granted, Refused}
 use Rattle.model.specs.declared.Check.the-variants.{Fine, Fault}
 use Rattle.model.specs.declared.Counts.{Counts}
@@ -28,20 +26,18 @@ use Rattle.model.specs.declared.Outcome.the-variants as outcome
 use Rattle.model.specs.declared.Refusal.{Refusal}
 use Rattle.model.specs.declared.Refusal.the-variants.{BadHeld, BadBinding, BadHeader, Poisoned, InvalidBucket, Damaged}
 use Rattle.model.specs.declared.Run.{Run}
-use Rattle.model.specs.declared.Take.{Take}
-use Rattle.model.specs.declared.Take.the-variants as taking
-use Rattle.history.specs.World.{worldOf, yields, number-of}
+use Rattle.history.specs.World.{yields, number-of}
 use Rattle.history.specs.Items.{Call, transactional, acquire-bucket, perform}
 use Rattle.history.specs.Statements.{answers, leaves, log-of}
 use Rattle.history.specs.Theorems.{counts-are}
-use Rattle.history.specs.Judged.{Clear, clear-back, rules, unchanged}
+use Rattle.history.specs.Judged.{Clear, rules, unchanged}
 use Rattle.history.specs.Steps.{of-flow}
-use Rattle.upstream.specs.Vocabulary.{Key, cell, Authority, Leases, lease-key, next-serial, dom, contains-key, cells, Valid-cell, valid, authorized, held-ids, leases-authorized, contains-place, key-of, physical-domain, bucket-request-valid, bucket-reply, physical, guards-place}
+use Rattle.upstream.specs.Vocabulary.{Key, Authority, lease-key, dom, contains-key, cells, Valid-cell, valid, authorized, held-ids, leases-authorized, contains-place, key-of, bucket-request-valid, bucket-reply, physical, guards-place}
 use Rattle.upstream.specs.Protocol.{trace-valid, trace-keeps, trace-buries}
 use Rattle.upstream.specs.Bridge.{by-name, by-place, fits-sized, refused, first-after, by-checks}
 use Rattle.upstream.specs.Refusing.{First-bad, held-refused}
 use Rattle.upstream.specs.TryAcquire.{fine-fault}
-use Rattle.upstream.specs.Keys.{Finds, bad-header, poisoned, bad-bucket, at, finds, place-inside, Granted-at, attempt-key, retry-key}
+use Rattle.upstream.specs.Keys.{Finds, bad-header, poisoned, bad-bucket, at, finds, place-inside, answer-granted, Granted-at, attempt-key, retry-key}
 use Rattle.upstream.specs.Scripts.{Ready, attempt-goes, retry-goes}
 use Rattle.upstream.specs.Environment.{Went, unmoved, held-live}
 use Rattle.upstream.specs.TryLock.{lock-damaged}
@@ -100,11 +96,12 @@ module _ (w : Authority) (registry : List ℕ) (binding bucket : ℕ) where
 
   -- bucket_reply, once header and health are found good; else 8 with the caller's number
   pub bucket-e1 : header < w .head .headers → getD (w .health) header 0 ≡ 0 → bucket-reply (w .head .buckets) header bucket w (λ k. find ≡ found.At k)
-  bucket-e1 l g =
-      ((λ x. found-at found-find (x .0) (x .1) .1 .1, λ b. inside found-find b),
-      λ k e.
-      let x = found-at found-find k e in
-      (x .0, rw (x .0) (place-inside (w .head .headers) (w .head .buckets) header bucket l (x .1 .1))))
+  bucket-e1 l g = (
+    (λ x. found-at found-find (x .0) (x .1) .1 .1, λ b. inside found-find b),
+    λ k e.
+        let x = found-at found-find k e in
+        (x .0, rw (x .0) (place-inside (w .head .headers) (w .head .buckets) header bucket l (x .1 .1))),
+  )
     where
       inside : {x : Found} → Find x → bucket < w .head .buckets → (k : Key) × (x ≡ found.At k)
       inside (bad-header p) b = absurd (omega arith)
@@ -150,15 +147,11 @@ module _ (w : Authority) (registry script : List ℕ) (place : ℕ) (held : List
   abbrev find₁ : Found
   find₁ = findOf (w .head .headers) (w .head .buckets) (w .health) registry binding bucket
 
-  granted : (o : Outcome) (l : Lease) → answerOf o ≡ Granted l → o ≡ outcome.Granted l
-  granted (outcome.Granted k) l e = let q : k ≡ l = cc in ap (λ (k : Lease). outcome.Granted k) q
-  granted outcome.Busy l e = absurd (omega (arith, ap kindOf e))
-  granted (outcome.Refused r) l e = absurd (omega (arith, ap kindOf e))
-
+  -- a settled outcome that is granted
   unsettled : (o : Outcome) (l : Lease) → answerOf (settled o) ≡ Granted l → o ≡ outcome.Granted l
-  unsettled (outcome.Granted k) l e = let q : k ≡ l = cc in ap (λ (k : Lease). outcome.Granted k) q
+  unsettled (outcome.Granted k) l e = answer-granted (outcome.Granted k) l e
   unsettled outcome.Busy l e = absurd (omega (arith, ap kindOf e))
-  unsettled (outcome.Refused r) l e = absurd (omega (arith, ap kindOf e))
+  unsettled (outcome.Refused r) l e = answer-granted (outcome.Refused r) l e
 
   begins : valid w → Clear (rules w one) → Ready (held-ids (leasesOf held)) w
   unfolding bucketRules
@@ -170,7 +163,7 @@ module _ (w : Authority) (registry script : List ℕ) (place : ℕ) (held : List
       by-checks (λ m. Went w (leasesOf held) (m .seen .1 .answer) (m .seen .0)) w one (λ r e. unmoved r)
       (λ e k.
       let m = attempt-goes (w .head) script (leasesOf held) registry binding bucket begun (w .table) (w .health) (begins v k) in
-      record { trace = m .goes .trace; gain = λ l e. m .gain l (granted _ l e) })
+      record { trace = m .goes .trace; gain = λ l e. m .gain l (answer-granted _ l e) })
 
   many-went : valid w → Went w (leasesOf held) (answers w many) (leaves w many)
   many-went v =
@@ -186,7 +179,7 @@ module _ (w : Authority) (registry script : List ℕ) (place : ℕ) (held : List
   one-key : (l : Lease) → answers w one ≡ Granted l → OfKey l
   one-key l =
       by-checks (λ m. m .seen .1 .answer ≡ Granted l → OfKey l) w one (λ r e q. absurd (omega (arith, ap kindOf q)))
-      (λ e k q. attempt-key setting (w .head .buckets) registry binding bucket begun (w .table) (w .health) l (granted _ l q))
+      (λ e k q. attempt-key setting (w .head .buckets) registry binding bucket begun (w .table) (w .health) l (answer-granted _ l q))
 
   many-key : (l : Lease) → answers w many ≡ Granted l → OfKey l
   many-key l =

@@ -1,13 +1,8 @@
 -- 000: `drop_lease`, and the store inside it (`Atomics::store`).
-use Prim.Native.Nat.{ℕ, _+_, _≤_, _<_}
-use mathlib.Core.Path.{_≡_, refl, sym, ap, _∙_}
-use mathlib.Core.List.{List, [], _∷_}
-use mathlib.Core.Bool.{Bool, true, false, not}
+use mathlib.Core.Path.{_≡_, refl, sym}
 use mathlib.Core.Logic.{_≢_}
-use native.Mathlib.Omega.{arith}
 use borrow.Author.Tests.{not-false}
-use Rattle.model.specs.Log.{Made, by-caller, released}
-use Rattle.model.specs.Answers.{kindOf}
+use Rattle.model.specs.Log.{by-caller, released}
 use Rattle.model.specs.Refusals.{first}
 use Rattle.model.specs.Checks.{leaseRules}
 use Rattle.model.specs.declared.Answer.{Answer}
@@ -22,8 +17,8 @@ use Rattle.history.specs.Items.{drop-lease, perform}
 use Rattle.history.specs.Statements.{answers, leaves}
 use Rattle.history.specs.Judged.{rules, unchanged}
 use Rattle.history.specs.Tests.{same-lease}
-use Rattle.upstream.specs.Vocabulary.{Key, Cell, cell, Authority, lease-key, lease-serial, next-serial, contains-key, cells, insert, Cells-are, Valid-cell, valid, authorized, framed, Release, Gives-up, step}
-use Rattle.upstream.specs.Protocol.{release-framed, step-valid, step-keeps, step-frees}
+use Rattle.upstream.specs.Vocabulary.{cell, Authority, lease-key, lease-serial, next-serial, contains-key, cells, insert, Cells-are, Valid-cell, valid, authorized, framed, Release, Gives-up, step}
+use Rattle.upstream.specs.Protocol.{insert-framed, step-valid, step-keeps, step-frees}
 use Rattle.upstream.specs.Bridge.{authorized-live, Sized, fits-sized, event-step, refused, by-checks}
 use Rattle.upstream.specs.Refusing.{unauthorized, on-damaged, Fits, lease-refused, lease-fine}
 use Rattle.upstream.specs.TryAcquire.{fine-fault}
@@ -43,7 +38,7 @@ module _ {F : Type 0} {w : Authority} {l : Lease} where
   drops-valid (barred r f) k = k
 
   pub drops-framed : {a : Answer} {v : Authority} → Drops F w l a v → framed w v (l .cell)
-  drops-framed (drops {v = v} x) other = release-framed w v (l .cell) (l .serial) x other
+  drops-framed (drops {v = v} x) other = insert-framed w v (l .cell) (cell 0 0) (x .written) other
   drops-framed (barred r f) other = ((λ i. i, λ i. i), λ _ _. refl)
 
   pub drops-stays : {a : Answer} {v : Authority} → Drops F w l a v → next-serial v ≡ next-serial w

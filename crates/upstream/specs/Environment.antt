@@ -1,8 +1,8 @@
 -- 000: `Scheduler::interfere`, `environment` and `environment_for_borrows`: one boundary of the script, a trace of upstream's steps.
-use Prim.Native.Nat.{ℕ, zero, suc, _+_, _≤_, _<_}
-use mathlib.Core.Path.{_≡_, refl, sym, ap, _∙_, subst}
+use Prim.Native.Nat.{ℕ, zero, suc, _+_, _<_}
+use mathlib.Core.Path.{_≡_, refl, sym, ap, subst}
 use mathlib.Core.List.{List, [], _∷_, _++_, append-nil}
-use mathlib.Core.Bool.{Bool, true, false, not, _&&_}
+use mathlib.Core.Bool.{false, not, _&&_}
 use native.Mathlib.Omega.{arith}
 use borrow.Author.Tests.{not-false}
 use lib.Dec.{ltb}
@@ -22,16 +22,15 @@ use Rattle.model.specs.declared.Refusal.{Refusal}
 use Rattle.model.specs.declared.Refusal.the-variants.{BadHeld}
 use Rattle.model.specs.declared.Stepped.{Stepped}
 use Rattle.laws.specs.Pick.{both}
-use Rattle.history.specs.World.{Live, worldOf}
 use Rattle.history.specs.Items.{environment, perform}
 use Rattle.history.specs.Statements.{leaves}
-use Rattle.history.specs.Judged.{Clear, clear-front, rules, unchanged}
-use Rattle.history.specs.Tests.{In, if-cases, free as is-free, free-words, is-free-state}
-use Rattle.upstream.specs.Vocabulary.{Key, Cell, cell, Authority, Leases, next-serial, dom, contains-key, cells, Valid-cell, valid, authorized, protected-valid, held-ids, leases-authorized, legal-environment, no-resurrection}
+use Rattle.history.specs.Judged.{Clear, clear-front, unchanged}
+use Rattle.history.specs.Tests.{if-cases, free as is-free, free-words, is-free-state}
+use Rattle.upstream.specs.Vocabulary.{Key, Authority, Leases, next-serial, dom, cells, Valid-cell, valid, authorized, protected-valid, held-ids, leases-authorized, legal-environment, no-resurrection}
 use Rattle.upstream.specs.Protocol.{Trace, ended, trace-valid, trace-keeps, trace-buries, trace-legal}
 use Rattle.upstream.specs.Bridge.{status-valid, live-authorized, by-name, by-place, fits-sized, refused, by-checks}
 use Rattle.upstream.specs.Refusing.{on-damaged, First-bad, held-refused}
-use Rattle.upstream.specs.Scripts.{Goes, Ready, boundary-goes}
+use Rattle.upstream.specs.Scripts.{boundary-goes}
 
 -- ---- what a call with a script comes to: a trace that releases no held lease; what it grants is authorized
 

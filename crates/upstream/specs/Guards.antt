@@ -2,15 +2,13 @@
 use Prim.Native.Nat.{ℕ, zero, suc, _+_, _*_, _≤_, _<_}
 use mathlib.Core.Path.{_≡_, refl, sym, ap, _∙_, subst}
 use mathlib.Core.List.{List, [], _∷_, _++_}
-use mathlib.Core.Bool.{Bool, true, false, not}
-use mathlib.Core.Logic.{_↔_}
+use mathlib.Core.Bool.{false}
 use native.Mathlib.Omega.{arith}
 use native.Mathlib.Decide.{ℕ-discrete, decLt}
 use native.Mathlib.Nat.{mul-le-mul-right, suc-mul}
 use borrow.Author.Tests.{le-leb, lt-leb}
 use lib.ListN.{length, getD, length-append, List·getD-append}
 use lib.Seq.{getD-append-seam}
-use Rattle.model.specs.Log.{Made}
 use Rattle.model.specs.Arena.{cellNumber, leasesOf, wordsOf}
 use Rattle.model.specs.Answers.{kindOf}
 use Rattle.model.specs.Refusals.{Rule, first}
@@ -18,7 +16,6 @@ use Rattle.model.specs.Checks.{countIn, badShape, badHealth, badRegistry, badSc
 use Rattle.model.specs.Foreign.{Setting, protecting}
 use Rattle.model.specs.Lock.{noLease, leaseAt, bindingAt, bucketAt, attemptLimit, retryOf, rollbackOf, afterKey, locksOf, Locks}
 use Rattle.model.specs.Calls.{given, starting}
-use Rattle.model.specs.declared.Answer.{Answer}
 use Rattle.model.specs.declared.Answer.the-variants.{Granted, AllGranted}
 use Rattle.model.specs.declared.Check.{Check}
 use Rattle.model.specs.declared.Check.the-variants.{Fault}
@@ -30,9 +27,9 @@ use Rattle.model.specs.declared.Run.{Run}
 use Rattle.laws.specs.Checks.{first-hit, first-skip}
 use Rattle.history.specs.Items.{Call, try-lock, acquire-locks, perform}
 use Rattle.history.specs.Statements.{answers}
-use Rattle.history.specs.Judged.{Clear, rules, unchanged}
+use Rattle.history.specs.Judged.{Clear, unchanged}
 use Rattle.history.specs.Tests.{leases-words}
-use Rattle.upstream.specs.Vocabulary.{Key, Authority, Pair, Guard, lease-key, contains-key, key-at, physical, guards-place, keys-valid, guards-match, all-guards-in, physical-members, guard-members}
+use Rattle.upstream.specs.Vocabulary.{Key, Authority, Pair, Guard, lease-key, contains-key, key-at, guards-place, guards-match, all-guards-in, physical-members, guard-members}
 use Rattle.upstream.specs.Bridge.{refused, by-checks}
 use Rattle.upstream.specs.Keys.{place-inside, Granted-at, retry-key}
 use Rattle.upstream.specs.TryLock.{granted-key, try-lock-e4}

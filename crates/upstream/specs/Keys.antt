@@ -1,7 +1,7 @@
 -- A key's cell: what its header, health and bucket come to, and that a lease which attempts on the key grant is on that cell. No table is
 -- asked to be valid here: document 001 asks nothing of it.
 use Prim.Native.Nat.{ℕ, zero, suc, _+_, _*_, _≤_, _<_}
-use mathlib.Core.Path.{_≡_, refl, sym, ap, _∙_}
+use mathlib.Core.Path.{_≡_, sym, ap, _∙_}
 use mathlib.Core.List.{List}
 use mathlib.Core.Bool.{not}
 use native.Mathlib.Omega.{arith}
@@ -12,10 +12,12 @@ use borrow.Author.Tests.{leb-true, leb-false, eqb-true, eq-eqb, not-true, not-fa
 use Rattle.model.specs.Log.{Made}
 use Rattle.model.specs.Arena.{cellNumber, leaseOf}
 use Rattle.model.specs.Foreign.{Setting}
-use Rattle.model.specs.Lock.{lockOf, outcomeOf, findOf, attemptAt, attemptOf, pauseOf, isBusy, retryOf}
+use Rattle.model.specs.Answers.{kindOf}
+use Rattle.model.specs.Lock.{lockOf, outcomeOf, answerOf, findOf, attemptAt, attemptOf, pauseOf, isBusy, retryOf}
 use Rattle.model.specs.declared.Found.{Found}
 use Rattle.model.specs.declared.Found.the-variants as found
 use Rattle.model.specs.declared.Lease.{Lease}
+use Rattle.model.specs.declared.Answer.the-variants.{Granted}
 use Rattle.model.specs.declared.Outcome.{Outcome}
 use Rattle.model.specs.declared.Outcome.the-variants as outcome
 use Rattle.model.specs.declared.Refusal.the-variants.{BadHeader, Poisoned, InvalidBucket}
@@ -28,9 +30,12 @@ use Rattle.history.specs.Tests.{differ, if-cases}
 use Rattle.history.specs.Steps.{With}
 
 pub data Finds (headers buckets : ℕ) (g registry : List ℕ) (binding bucket : ℕ) : Found → Type 0 where
-  bad-header : headers ≤ getD registry binding 0 → Finds headers buckets g registry binding bucket (found.Fault (BadHeader (getD registry binding 0)))
-  poisoned : getD registry binding 0 < headers → (getD g (getD registry binding 0) 0 ≡ 0 → ⊥) → Finds headers buckets g registry binding bucket (found.Fault (Poisoned (getD registry binding 0)))
-  bad-bucket : getD registry binding 0 < headers → getD g (getD registry binding 0) 0 ≡ 0 → buckets ≤ bucket → Finds headers buckets g registry binding bucket (found.Fault (InvalidBucket bucket))
+  bad-header : headers ≤ getD registry binding 0
+      → Finds headers buckets g registry binding bucket (found.Fault (BadHeader (getD registry binding 0)))
+  poisoned : getD registry binding 0 < headers → (getD g (getD registry binding 0) 0 ≡ 0 → ⊥)
+      → Finds headers buckets g registry binding bucket (found.Fault (Poisoned (getD registry binding 0)))
+  bad-bucket : getD registry binding 0 < headers → getD g (getD registry binding 0) 0 ≡ 0 → buckets ≤ bucket
+      → Finds headers buckets g registry binding bucket (found.Fault (InvalidBucket bucket))
   at : getD registry binding 0 < headers → getD g (getD registry binding 0) 0 ≡ 0 → bucket < buckets
       → Finds headers buckets g registry binding bucket (found.At (cellNumber buckets (getD registry binding 0) bucket))
 
@@ -51,7 +56,6 @@ finds headers buckets g registry binding bucket =
 pub place-inside : (headers buckets header bucket : ℕ) → header < headers → bucket < buckets → cellNumber buckets header bucket < headers * buckets
 place-inside headers buckets header bucket p q = omega (arith, mul-le-mul-right buckets p, suc-mul header buckets)
 
-
 -- a take that granted this lease
 pub granted-lease : (c : ℕ) (a : Take) (l : Lease) → outcomeOf c a ≡ outcome.Granted l → (a ≡ taking.Granted (l .serial)) × (l ≡ leaseOf c (l .serial))
 granted-lease c (taking.Granted s) l e =
@@ -60,6 +64,12 @@ granted-lease c (taking.Granted s) l e =
 granted-lease c taking.Busy l e = let q : _≡_ {A = ℕ} 0 1 = cc in absurd (omega arith)
 granted-lease c taking.Damaged l e = let q : _≡_ {A = ℕ} 0 1 = cc in absurd (omega arith)
 granted-lease c taking.Spent l e = let q : _≡_ {A = ℕ} 0 1 = cc in absurd (omega arith)
+
+-- an answer that grants this lease
+pub answer-granted : (o : Outcome) (l : Lease) → answerOf o ≡ Granted l → o ≡ outcome.Granted l
+answer-granted (outcome.Granted k) l e = let q : k ≡ l = cc in ap (λ (k : Lease). outcome.Granted k) q
+answer-granted outcome.Busy l e = absurd (omega (arith, ap kindOf e))
+answer-granted (outcome.Refused r) l e = absurd (omega (arith, ap kindOf e))
 
 -- ---- a lease on the key's cell
 

@@ -1,12 +1,11 @@
 -- 000: `read_permission`, `competing_acquire_is_excluded` and `release_then_handoff`: the calls on one lease.
-use Prim.Native.Nat.{ℕ, _+_, _≤_, _<_}
+use Prim.Native.Nat.{_≤_, _<_}
 use mathlib.Core.Path.{_≡_, refl, sym, ap, _∙_, subst}
-use mathlib.Core.List.{List, [], _∷_}
-use mathlib.Core.Bool.{Bool, true, false, not}
+use mathlib.Core.List.{[], _∷_}
 use mathlib.Core.Logic.{inl}
 use native.Mathlib.Omega.{arith}
 use borrow.Author.Tests.{not-false}
-use Rattle.model.specs.Log.{Made, by-caller, released}
+use Rattle.model.specs.Log.{by-caller, released}
 use Rattle.model.specs.Arena.{lastSerial, leaseOf}
 use Rattle.model.specs.Answers.{kindOf}
 use Rattle.model.specs.Refusals.{first}
@@ -18,14 +17,14 @@ use Rattle.model.specs.declared.Lease.{Lease}
 use Rattle.model.specs.declared.Refusal.{Refusal}
 use Rattle.model.specs.declared.Refusal.the-variants.{NotHeld, SerialsSpent}
 use Rattle.history.specs.World as world
-use Rattle.history.specs.World.{Live, World}
-use Rattle.history.specs.Items.{Says, read-permission, competing-acquire, release-then-handoff, perform}
+use Rattle.history.specs.World.{Live}
+use Rattle.history.specs.Items.{read-permission, competing-acquire, release-then-handoff, perform}
 use Rattle.history.specs.Statements.{answers, leaves}
 use Rattle.history.specs.Judged.{rules, unchanged}
 use Rattle.history.specs.Events.{lives}
-use Rattle.upstream.specs.Vocabulary.{Key, cell, Authority, lease-key, lease-serial, next-serial, contains-key, cells, Cells-are, Valid-cell, valid, authorized, Release, Gives-up}
-use Rattle.upstream.specs.Protocol.{step-valid, step-frees, step-grants, bit-of, owner-of}
-use Rattle.upstream.specs.Bridge.{authorized-live, Sized, fits-sized, sized-now, refused, by-checks}
+use Rattle.upstream.specs.Vocabulary.{Key, cell, Authority, lease-key, lease-serial, next-serial, cells, Cells-are, Valid-cell, valid, authorized, Release, Gives-up}
+use Rattle.upstream.specs.Protocol.{step-valid, step-frees, step-grants, bit-of}
+use Rattle.upstream.specs.Bridge.{authorized-live, fits-sized, sized-now, refused, by-checks}
 use Rattle.upstream.specs.Refusing.{unauthorized, on-damaged, Fits, lease-refused, lease-fine}
 use Rattle.upstream.specs.TryAcquire.{Tries, barred, acquired, tries-valid, tries-keeps, tries-some, tries-none, tries-held, tries-free, tries-spent, observed, fine-fault}
 use Rattle.upstream.specs.DropLease.{Drops, drops, dropped, drops-keeps}

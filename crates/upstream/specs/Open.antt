@@ -1,20 +1,20 @@
 -- "What upstream leaves open" (document 01), as mathematics. For each sentence: upstream's contract of the function, restated on what was
 -- before, the result and what is after; a wrong build; that the contract accepts it (`accepted-..`); and that our promise, the equation
 -- with document 01's definition, rejects it (`rejected-..`). The arena of the work order's fears fits in one or two cells.
-use Prim.Native.Nat.{ℕ, zero, suc, _+_, _*_, _≤_, _<_}
+use Prim.Native.Nat.{ℕ, _+_, _*_, _<_}
 use mathlib.Core.Path.{_≡_, refl, sym, ap, _∙_, subst}
 use mathlib.Core.List.{List, [], _∷_}
-use mathlib.Core.Bool.{Bool, true, false}
-use mathlib.Core.Logic.{_⊎_, inl, inr, _≢_}
+use mathlib.Core.Bool.{false}
+use mathlib.Core.Logic.{inl, inr}
 use native.Mathlib.Omega.{arith}
 use lib.Dec.{eqb}
 use lib.ListN.{length, getD, replicate}
 use Rattle.model.specs.Choice.{if_then_else_}
 use Rattle.model.specs.Log.{by-caller, released}
-use Rattle.model.specs.Arena.{headOf, spentTo, leaseOf, leasesOf, bitAt, ownerAt, waitersAt, setCell, isIn, isFree, isHeld, stateOf, stateAt, isLive, sameLease, headFits, shapeFits, healthFits, registryFits}
+use Rattle.model.specs.Arena.{headOf, spentTo, leaseOf, leasesOf, bitAt, ownerAt, waitersAt, setCell, isIn, isFree, isHeld, stateOf, stateAt, isLive, headFits, shapeFits, healthFits, registryFits}
 use Rattle.model.specs.Answers.{kindOf}
 use Rattle.model.specs.Refusals.{first}
-use Rattle.model.specs.Checks.{countIn, notLive, cellRules, notReleasable, heldCellRules, heldLeaseRules, scriptRules, lockRules, bucketRules, releaseRules}
+use Rattle.model.specs.Checks.{notLive, cellRules, notReleasable, heldCellRules, heldLeaseRules, scriptRules, lockRules, bucketRules, releaseRules}
 use Rattle.model.specs.Foreign.{stepsOf, boundaryOf}
 use Rattle.model.specs.Lock.{leaseAt, takeOf, lateOf, secondOf, lockOf, findOf, attemptOf, retryOf, giveBackOf}
 use Rattle.model.specs.Calls.{acquireOf, tryAcquireOf, acquirePreservingOf, dropPreservingOf, tryLockOf, acquireBucketOf, releaseAllOf}
@@ -23,13 +23,13 @@ use Rattle.model.specs.declared.Answer.the-variants.{Done, Granted, Busy, Refus
 use Rattle.model.specs.declared.Lease.{Lease}
 use Rattle.model.specs.declared.Refusal.the-variants.{SerializationFailure}
 use Rattle.history.specs.World as world
-use Rattle.history.specs.World.{World, worldOf}
+use Rattle.history.specs.World.{worldOf}
 use Rattle.history.specs.Items.{try-acquire, acquire-preserving, drop-preserving, try-lock, acquire-bucket, release-all, perform}
 use Rattle.history.specs.Statements.{answers, leaves}
 use Rattle.history.specs.Tests.{In, if-cases, differ, same-lease}
 use Rattle.history.specs.Events.{lives}
 use Rattle.history.specs.Crew.{zeros}
-use Rattle.upstream.specs.Vocabulary.{Key, Cell, cell, is-some, Authority, Leases, lease-key, lease-serial, next-serial, dom, contains-key, cells, insert, Cells-are, Valid-cell, valid, authorized, Release, Gives-up, protected-valid, held-ids, leases-authorized, key-of, physical-domain}
+use Rattle.upstream.specs.Vocabulary.{Key, cell, Authority, lease-key, lease-serial, next-serial, dom, contains-key, cells, insert, Cells-are, Valid-cell, valid, authorized, Release, Gives-up, protected-valid, held-ids, leases-authorized, key-of}
 use Rattle.upstream.specs.Protocol.{Put, here, there, put, bit-of, owner-of, step-valid, step-keeps, step-frees}
 use Rattle.upstream.specs.Bridge.{authorized-live, by-name, by-place, Sized, put-cells, sized-now, event-step}
 use Rattle.laws.specs.Pick.{if-both}

@@ -3,13 +3,13 @@
 use Prim.Native.Nat.{ℕ, zero, suc, _+_, _≤_, _<_}
 use mathlib.Core.Path.{_≡_, refl, sym, ap, _∙_, subst}
 use mathlib.Core.List.{List, [], _∷_}
-use mathlib.Core.Logic.{_↔_, _⊎_, inl, inr, _≢_}
+use mathlib.Core.Logic.{inl, inr, _≢_}
 use native.Mathlib.Omega.{arith}
 use native.Mathlib.Decide.{ℕ-discrete}
 use lib.ListN.{length, getD}
 use borrow.Author.Tests.{eq-eqb, ne-eqb}
 use Rattle.model.specs.declared.Lease.{Lease}
-use Rattle.upstream.specs.Vocabulary.{Key, Cell, cell, is-some, is-Some, Authority, LeaseId, Leases, next-serial, dom, contains-key, cells, insert, Cells-are, Valid-cell, valid, authorized, framed, Step, Acquire, Release, Observe, Acquires, Gives-up, Observes, step, releases, protected-valid, environment-trace, legal-environment, no-resurrection}
+use Rattle.upstream.specs.Vocabulary.{Key, Cell, cell, is-Some, Authority, LeaseId, Leases, next-serial, dom, contains-key, cells, insert, Cells-are, Valid-cell, valid, authorized, framed, Step, Acquire, Release, Observe, Acquires, Gives-up, step, releases, protected-valid, environment-trace, legal-environment, no-resurrection}
 
 -- ---- a map with one cell written
 
@@ -42,22 +42,13 @@ step-next b a (Acquire k s) x = omega (arith, x .rises)
 step-next b a (Release k s) x = omega (arith, x .stays)
 step-next b a Observe x = omega (arith, x .stays)
 
--- the cell that a step writes, and no other
-pub acquire-framed : (before after : Authority) (key : Key) (serial : ℕ) → Acquires before after key serial → framed before after key
-acquire-framed b a key serial x other =
-    let d = x .written .same-keys in
-    ((λ i. omega arith, λ i. omega arith), λ n i. go n (put b a key (cell 1 serial) other (x .written) i))
+-- where one cell is written, no other is
+pub insert-framed : (before after : Authority) (key : Key) (c : Cell) → Cells-are before after (insert (cells before) key c) → framed before after key
+insert-framed b a key c x other =
+    let d = x .same-keys in
+    ((λ i. omega arith, λ i. omega arith), λ n i. go n (put b a key c other x i))
   where
-    go : other ≢ key → Put b a key (cell 1 serial) other → cells b other ≡ cells a other
-    go n (here e q) = absurd (n e)
-    go n (there e q) = sym q
-
-pub release-framed : (before after : Authority) (key : Key) (serial : ℕ) → Gives-up before after key serial → framed before after key
-release-framed b a key serial x other =
-    let d = x .written .same-keys in
-    ((λ i. omega arith, λ i. omega arith), λ n i. go n (put b a key (cell 0 0) other (x .written) i))
-  where
-    go : other ≢ key → Put b a key (cell 0 0) other → cells b other ≡ cells a other
+    go : other ≢ key → Put b a key c other → cells b other ≡ cells a other
     go n (here e q) = absurd (n e)
     go n (there e q) = sym q
 

@@ -1,6 +1,6 @@
 -- Where upstream requires, a call here tests: which check answers when a premise fails and no earlier check applies.
-use Prim.Native.Nat.{ℕ, zero, suc, _+_, _≤_, _<_}
-use mathlib.Core.Path.{_≡_, refl, sym, ap, _∙_, subst}
+use Prim.Native.Nat.{ℕ, zero, suc, _+_, _<_}
+use mathlib.Core.Path.{_≡_, refl, ap, _∙_}
 use mathlib.Core.List.{List, [], _∷_, _++_}
 use mathlib.Core.Bool.{Bool, true, false, not}
 use native.Mathlib.Omega.{arith}
@@ -8,14 +8,13 @@ use borrow.Author.Tests.{le-leb}
 use lib.ListN.{length}
 use Rattle.model.specs.Arena.{cellsOf, isLive, isIn, leasesOf, shapeFits}
 use Rattle.model.specs.Refusals.{Rule, first}
-use Rattle.model.specs.Checks.{badShape, badHeld, badHeldLength, notLive, badCell, notHeld, isProtected, leaseRules, heldCellRules, heldLeaseRules}
+use Rattle.model.specs.Checks.{badShape, badHeld, badHeldLength, notLive, badCell, notHeld, isProtected, leaseRules}
 use Rattle.model.specs.Lock.{leaseAt}
 use Rattle.model.specs.declared.Check.the-variants.{Fine, Fault}
-use Rattle.model.specs.declared.Head.{Head}
 use Rattle.model.specs.declared.Lease.{Lease}
 use Rattle.model.specs.declared.Refusal.the-variants.{BadHeld, InvalidBucket, NotHeld, Protected}
-use Rattle.laws.specs.Checks.{first-hit, first-skip, shape-ok}
-use Rattle.history.specs.World.{World, Live}
+use Rattle.laws.specs.Checks.{first-hit, first-skip}
+use Rattle.history.specs.World.{Live}
 use Rattle.history.specs.Judged.{Clear}
 use Rattle.upstream.specs.Vocabulary.{Authority, next-serial, dom, cells, contains-key, Valid-cell, authorized}
 use Rattle.upstream.specs.Bridge.{live-authorized, first-after, status-valid}

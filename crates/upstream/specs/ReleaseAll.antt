@@ -1,23 +1,22 @@
 -- 000: `release_all`.
-use Prim.Native.Nat.{ℕ, zero, suc, _+_, _*_, _/_, _≤_, _<_}
-use mathlib.Core.Path.{_≡_, refl, sym, ap, _∙_, subst}
+use Prim.Native.Nat.{ℕ, zero, suc, _+_, _*_, _≤_, _<_}
+use mathlib.Core.Path.{_≡_, sym, ap, _∙_, subst}
 use mathlib.Core.List.{List, [], _∷_, _++_, append-nil}
-use mathlib.Core.Bool.{Bool, true, false, not}
+use mathlib.Core.Bool.{true, not}
 use mathlib.Core.Logic.{_⊎_, inl, inr, _≢_}
 use native.Mathlib.Omega.{arith}
 use native.Mathlib.Decide.{ℕ-discrete}
 use borrow.Author.Tests.{not-false}
 use lib.ListN.{length, take}
 use lib.Seq.{append-snoc}
-use Rattle.model.specs.Log.{Made, Event, by-caller, released}
+use Rattle.model.specs.Log.{Event, by-caller, released}
 use Rattle.model.specs.Arena.{leasesOf, isIn, setCell}
 use Rattle.model.specs.Answers.{kindOf}
-use Rattle.model.specs.Refusals.{Rule, first}
+use Rattle.model.specs.Refusals.{first}
 use Rattle.model.specs.Checks.{countIn, badShape, badHealth, badScript, tooManyLeases, notHeld, repeated, notReleasable, releaseRules}
 use Rattle.model.specs.Foreign.{boundaryOf}
-use Rattle.model.specs.Lock.{leaseAt, noLease, giveBackOf, runOf}
+use Rattle.model.specs.Lock.{leaseAt, noLease, giveBackOf}
 use Rattle.model.specs.Calls.{given, starting}
-use Rattle.model.specs.declared.Answer.{Answer}
 use Rattle.model.specs.declared.Answer.the-variants.{Done}
 use Rattle.model.specs.declared.Check.{Check}
 use Rattle.model.specs.declared.Check.the-variants.{Fault}
@@ -32,15 +31,15 @@ use Rattle.history.specs.World as world
 use Rattle.history.specs.World.{Live}
 use Rattle.history.specs.Items.{release-all, perform}
 use Rattle.history.specs.Statements.{answers, leaves}
-use Rattle.history.specs.Judged.{Clear, rules, unchanged}
+use Rattle.history.specs.Judged.{Clear, unchanged}
 use Rattle.history.specs.Tests.{In, in-cases, in-take, same-lease, differ}
 use Rattle.history.specs.Steps.{worldAt, With, of-flow, of-run}
 use Rattle.history.specs.Events.{lives}
 use Rattle.history.specs.Calls.{words-leases}
-use Rattle.upstream.specs.Vocabulary.{Key, Authority, Leases, is-Some, lease-key, next-serial, dom, contains-key, cells, Valid-cell, valid, authorized, Release, Gives-up, leases-authorized}
-use Rattle.upstream.specs.Protocol.{Trace, ended, trace-valid, trace-buries, step-keeps, step-frees, step-valid, owner-of}
-use Rattle.upstream.specs.Bridge.{authorized-live, Sized, fits-sized, sized-now, event-step, refused, by-checks}
-use Rattle.upstream.specs.Refusing.{unauthorized, on-damaged, is-dead, Fits}
+use Rattle.upstream.specs.Vocabulary.{Key, Authority, Leases, is-Some, lease-key, next-serial, dom, cells, Valid-cell, valid, authorized, Release, Gives-up, leases-authorized}
+use Rattle.upstream.specs.Protocol.{Trace, ended, trace-valid, trace-buries, step-keeps, step-frees, owner-of}
+use Rattle.upstream.specs.Bridge.{authorized-live, Sized, fits-sized, sized-now, refused, by-checks}
+use Rattle.upstream.specs.Refusing.{unauthorized, on-damaged, is-dead}
 use Rattle.upstream.specs.DropLease.{dropped}
 use Rattle.upstream.specs.Scripts.{Goes, stays, then, moved, fewer, Ready, ready, boundary-goes}
 

@@ -1,20 +1,17 @@
 -- Foreign steps, and the steps of a lock between them, as traces of upstream's steps. From any table that is `valid`, as upstream asks, and
 -- of the right length, which every call tests; no more is asked of it.
-use Prim.Native.Nat.{ℕ, zero, suc, _+_, _*_, _-_, _%_, _≤_, _<_}
-use mathlib.Core.Path.{_≡_, refl, sym, ap, _∙_, subst}
+use Prim.Native.Nat.{ℕ, zero, suc, _+_, _-_, _%_, _≤_, _<_}
+use mathlib.Core.Path.{_≡_, refl, sym, ap, subst}
 use mathlib.Core.List.{List, [], _∷_, _++_}
-use mathlib.Core.Bool.{Bool, true, false, not, _&&_}
 use mathlib.Core.Logic.{_⊎_, inl, inr}
 use native.Mathlib.Omega.{arith}
-use native.Mathlib.Nat.{mul-le-mul-right, suc-mul}
-use lib.Dec.{leb, eqb}
-use lib.ListN.{length, getD, take}
-use borrow.Author.Tests.{leb-true, leb-false, eqb-true, eq-eqb, not-true, not-false}
+use lib.Dec.{eqb}
+use lib.ListN.{getD}
 use Rattle.model.specs.Log.{Made, Event, by-caller, released}
-use Rattle.model.specs.Arena.{lastSerial, cellsOf, cellNumber, leaseOf, waitersAt, isIn, spentTo, setCell}
+use Rattle.model.specs.Arena.{lastSerial, cellsOf, cellNumber, leaseOf, waitersAt, isIn}
 use Rattle.model.specs.Answers.{kindOf}
-use Rattle.model.specs.Foreign.{stepsIn, kindAt, placeAt, numberAt, stepOf, stepsOf, boundaryOf, flowOf}
-use Rattle.model.specs.Lock.{takeOf, lateOf, afterTake, secondOf, lockOf, outcomeOf, answerOf, findOf, attemptAt, attemptOf, spinOf, pauseOf, isBusy, retryOf, runOf, leaseAt, noLease, giveBackOf}
+use Rattle.model.specs.Foreign.{stepsIn, kindAt, placeAt, numberAt, stepsOf, boundaryOf, flowOf}
+use Rattle.model.specs.Lock.{takeOf, lateOf, afterTake, secondOf, lockOf, outcomeOf, answerOf, attemptAt, attemptOf, spinOf, pauseOf, isBusy, retryOf, runOf}
 use Rattle.model.specs.Calls.{given, acquireOf}
 use Rattle.model.specs.declared.Flow.{Flow}
 use Rattle.model.specs.declared.Found.{Found}
@@ -22,23 +19,21 @@ use Rattle.model.specs.declared.Found.the-variants as found
 use Rattle.model.specs.declared.Head.{Head}
 use Rattle.model.specs.declared.Lease.{Lease}
 use Rattle.model.specs.declared.Locked.{Locked}
-use Rattle.model.specs.declared.Outcome.{Outcome}
 use Rattle.model.specs.declared.Outcome.the-variants as outcome
-use Rattle.model.specs.declared.Refusal.the-variants.{BadHeader, Poisoned, InvalidBucket}
 use Rattle.model.specs.declared.Run.{Run}
 use Rattle.model.specs.declared.Take.{Take}
 use Rattle.model.specs.declared.Take.the-variants as taking
 use Rattle.model.specs.declared.Tried.{Tried}
 use Rattle.laws.specs.Pick.{if-both}
 use Rattle.history.specs.World as world
-use Rattle.history.specs.Tests.{differ, same-lease, In, in-first, in-cases, in-left, in-right, in-either, if-cases}
+use Rattle.history.specs.Tests.{differ, same-lease, In, in-first, in-cases, in-left, in-right, in-either}
 use Rattle.history.specs.Logs.{Kept}
-use Rattle.history.specs.Steps.{worldAt, With, of-step, of-flow, of-locked, of-run, of-tried, step-kept}
-use Rattle.upstream.specs.Vocabulary.{Key, Authority, Acquires, Leases, next-serial, dom, contains-key, cells, valid, authorized, Step, Acquire, Release, step, releases, protected-valid}
+use Rattle.history.specs.Steps.{worldAt, With, of-flow, of-locked, of-run, of-tried, step-kept}
+use Rattle.upstream.specs.Vocabulary.{Key, Authority, Acquires, Leases, next-serial, cells, valid, authorized, Step, Acquire, Release, step, releases, protected-valid}
 use Rattle.upstream.specs.Protocol.{Trace, ended, first, join, trace-valid, trace-keeps, trace-next, loosen, step-grants}
 use Rattle.upstream.specs.Bridge.{authorized-live, Sized, sized-now, lawful-trace, event-step}
 use Rattle.upstream.specs.Keys.{Finds, bad-header, poisoned, bad-bucket, at, finds, place-inside, granted-lease}
-use Rattle.upstream.specs.TryAcquire.{Tries, acquired, tries-valid, tries-some, tries-none, tries-keeps, tries-sized}
+use Rattle.upstream.specs.TryAcquire.{Tries, acquired, tries-some, tries-none, tries-sized}
 
 -- ---- a way from one state to another
 

@@ -1,9 +1,9 @@
 -- 000: `try_acquire`, and the compare-and-set inside it (`Atomics::compare_exchange`).
 use Prim.Native.Nat.{ℕ, _+_, _≤_, _<_}
-use mathlib.Core.Path.{_≡_, refl, sym, ap, _∙_}
+use mathlib.Core.Path.{_≡_, refl, ap, _∙_}
 use mathlib.Core.List.{List, [], _∷_}
-use mathlib.Core.Bool.{Bool, true, false, not}
-use mathlib.Core.Logic.{_↔_, _⊎_, inl, inr, _≢_}
+use mathlib.Core.Bool.{true, not}
+use mathlib.Core.Logic.{_↔_}
 use native.Mathlib.Omega.{arith}
 use borrow.Author.Tests.{ltb-true, ltb-false, leb-false, le-leb, not-false}
 use lib.ListN.{length}
@@ -28,8 +28,8 @@ use Rattle.history.specs.Items.{try-acquire, perform}
 use Rattle.history.specs.Statements.{answers, leaves}
 use Rattle.history.specs.Tests.{Status, free, held, Stands, is-free, is-held, is-damaged, stands, if-cases}
 use Rattle.history.specs.Judged.{rules, unchanged}
-use Rattle.upstream.specs.Vocabulary.{Key, Cell, cell, is-some, is-none, Authority, lease-key, lease-serial, next-serial, dom, contains-key, cells, insert, Cells-are, answers-none, Valid-cell, valid, authorized, framed, Acquire, Observe, Acquires, step, no-resurrection}
-use Rattle.upstream.specs.Protocol.{acquire-framed, step-valid, step-keeps, step-grants, step-buries}
+use Rattle.upstream.specs.Vocabulary.{Key, cell, is-some, is-none, Authority, lease-key, lease-serial, next-serial, dom, contains-key, cells, insert, Cells-are, answers-none, Valid-cell, valid, authorized, framed, Acquire, Observe, Acquires, step}
+use Rattle.upstream.specs.Protocol.{insert-framed, step-valid, step-keeps, step-grants}
 use Rattle.upstream.specs.Bridge.{status-valid, valid-status, Sized, fits-sized, put-cells, refused, first-after, by-checks}
 
 -- ---- what one `try_acquire` comes to, whatever the table holds; F says that no check of the call applies
@@ -202,7 +202,7 @@ module _ (w : Authority) (c : Key) where
   try-acquire-e2 = go tried
     where
       go : {a : Answer} {v : Authority} → Tries Checked w c a v → framed w v c
-      go (takes {v = v} x k z) other = acquire-framed w v c (next-serial w) x other
+      go (takes {v = v} x k z) other = insert-framed w v c (cell 1 (next-serial w)) (x .written) other
       go (busy i p q r) other = ((λ i. i, λ i. i), λ _ _. refl)
       go (damaged i p) other = ((λ i. i, λ i. i), λ _ _. refl)
       go (spent i p q r) other = ((λ i. i, λ i. i), λ _ _. refl)

@@ -1,17 +1,14 @@
 -- 000: `try_lock` and `other_mutex_preserves_leases`, which are one definition here.
-use Prim.Native.Nat.{ℕ, zero, suc, _+_, _≤_, _<_}
-use mathlib.Core.Path.{_≡_, refl, sym, ap, _∙_, subst}
-use mathlib.Core.List.{List, [], _∷_, _++_}
-use mathlib.Core.Bool.{Bool, true, false, not}
+use Prim.Native.Nat.{ℕ}
+use mathlib.Core.Path.{_≡_, refl, sym, ap, subst}
+use mathlib.Core.List.{List, [], _∷_}
+use mathlib.Core.Bool.{false}
 use native.Mathlib.Omega.{arith}
 use borrow.Author.Tests.{not-false, leb-false, eq-eqb}
-use lib.Dec.{eqb}
-use lib.ListN.{length}
-use Rattle.model.specs.Log.{Made}
 use Rattle.model.specs.Arena.{leaseOf, leasesOf, bitAt, ownerAt, waitersAt, stateOf, stateAt}
 use Rattle.model.specs.Answers.{kindOf}
 use Rattle.model.specs.Refusals.{Rule, first}
-use Rattle.model.specs.Checks.{badShape, badHealth, badScript, badHeld, badHeldLength, badCell, scriptRules, lockRules}
+use Rattle.model.specs.Checks.{badShape, badHealth, badScript, badHeld, badHeldLength, scriptRules, lockRules}
 use Rattle.model.specs.Foreign.{Setting, flowOf, boundaryOf}
 use Rattle.model.specs.Lock.{lockOf, secondOf, takeOf, outcomeOf, answerOf}
 use Rattle.model.specs.Calls.{given}
@@ -25,17 +22,17 @@ use Rattle.model.specs.declared.State.{State}
 use Rattle.model.specs.declared.State.the-variants as state
 use Rattle.model.specs.declared.Take.{Take}
 use Rattle.model.specs.declared.Take.the-variants as taking
-use Rattle.history.specs.World.{worldOf}
 use Rattle.history.specs.Items.{try-lock, perform}
 use Rattle.history.specs.Statements.{answers, leaves}
 use Rattle.history.specs.Judged.{Clear, clear-back, rules, unchanged}
 use Rattle.history.specs.Tests.{Stands, is-free, is-held, is-damaged, stands, free, held}
-use Rattle.history.specs.Steps.{With, of-flow}
-use Rattle.upstream.specs.Vocabulary.{Key, cell, Authority, Leases, lease-key, next-serial, dom, contains-key, cells, Valid-cell, valid, authorized, held-ids, leases-authorized}
+use Rattle.history.specs.Steps.{of-flow}
+use Rattle.upstream.specs.Vocabulary.{Key, cell, Authority, lease-key, next-serial, dom, contains-key, cells, Valid-cell, valid, authorized, leases-authorized}
 use Rattle.upstream.specs.Protocol.{trace-valid, trace-keeps, trace-buries}
 use Rattle.upstream.specs.Bridge.{status-valid, by-name, by-place, fits-sized, refused, by-checks}
 use Rattle.upstream.specs.Refusing.{First-bad, held-refused, cell-refused}
 use Rattle.upstream.specs.TryAcquire.{fine-fault}
+use Rattle.upstream.specs.Keys.{granted-lease, answer-granted}
 use Rattle.upstream.specs.Scripts.{lock-goes}
 use Rattle.upstream.specs.Environment.{Went, unmoved, held-live}
 
@@ -75,20 +72,17 @@ module _ (w : Authority) (script : List ℕ) (place : ℕ) (held : List ℕ) (c 
   Before = badShape (w .head) (w .table) ∷ badHealth (w .head) (w .health) ∷ badScript script place ∷ badHeld (w .head) (w .table) held
 
   granted : (a : Take) (l : Lease) → answerOf (outcomeOf c a) ≡ Granted l → (a ≡ taking.Granted (l .serial)) × (l ≡ leaseOf c (l .serial))
-  granted (taking.Granted s) l e =
-      let q : leaseOf c s ≡ l = cc in
-      (ap {B = Take} (λ (k : Lease). taking.Granted (k .serial)) q, sym q ∙ ap (λ (k : Lease). leaseOf c (k .serial)) q)
-  granted taking.Busy l e = absurd (omega (arith, ap kindOf e))
-  granted taking.Damaged l e = absurd (omega (arith, ap kindOf e))
-  granted taking.Spent l e = absurd (omega (arith, ap kindOf e))
+  granted a l e = granted-lease c a l (answer-granted (outcomeOf c a) l e)
 
   -- what is granted is the cell that was asked for, and it is in the arena, whatever the table holds
   pub granted-key : (l : Lease) → result ≡ Granted l → (lease-key l ≡ c) × contains-key w c
   unfolding lockRules scriptRules
   granted-key l =
       by-checks (λ m. m .seen .1 .answer ≡ Granted l → (lease-key l ≡ c) × contains-key w c) w (try-lock script place held c) (λ r e q. absurd (omega (arith, ap kindOf q)))
-      (λ e k q. (ap lease-key (granted (lockOf (given (w .head) script (leasesOf held)) (flowOf (next-serial w) place 0) (w .table) (w .health) c .seen .0 .answer) l q .1),
-      leb-false _ _ (clear-back Before _ k .0)))
+      (λ e k q. (
+        ap lease-key (granted (lockOf (given (w .head) script (leasesOf held)) (flowOf (next-serial w) place 0) (w .table) (w .health) c .seen .0 .answer) l q .1),
+        leb-false _ _ (clear-back Before _ k .0),
+      ))
 
   pub try-lock-went : valid w → Went w (leasesOf held) result final
   unfolding lockRules scriptRules

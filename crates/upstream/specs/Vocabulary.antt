@@ -1,6 +1,6 @@
 -- Upstream's definitions (source documents 000 and 001), under upstream's names, over the words of crate `model`. Above each stands
 -- upstream's text, so that the two can be held side by side. A hyphen stands for upstream's underscore.
-use Prim.Native.Nat.{ℕ, _+_, _*_, _≤_, _<_}
+use Prim.Native.Nat.{ℕ, _+_, _≤_, _<_}
 use mathlib.Core.Path.{_≡_}
 use mathlib.Core.List.{List}
 use mathlib.Core.Bool.{true}
