@@ -20,11 +20,11 @@ use Rattle.history.specs.World.{Live, worldOf}
 use Rattle.history.specs.Items.{acquire-preserving, drop-preserving, foreign-release, perform}
 use Rattle.history.specs.Statements.{answers, leaves}
 use Rattle.history.specs.Judged.{Clear, clear-back, rules, unchanged}
-use Rattle.history.specs.Tests.{In, held as is-held}
+use Rattle.history.specs.Tests.{In}
 use Rattle.history.specs.Events.{lives}
 use Rattle.upstream.specs.Vocabulary.{Key, cell, Authority, lease-key, lease-serial, next-serial, dom, contains-key, cells, Valid-cell, valid, authorized, protected-valid, held-ids, leases-authorized}
 use Rattle.upstream.specs.Protocol.{step-grants, step-frees, bit-of}
-use Rattle.upstream.specs.Bridge.{status-valid, authorized-live, by-name, by-place, fits-sized, sized-now, refused, by-checks}
+use Rattle.upstream.specs.Bridge.{live-cell, authorized-live, by-name, by-place, fits-sized, sized-now, refused, by-checks}
 use Rattle.upstream.specs.Refusing.{unauthorized, on-damaged, Fits, not-held, First-bad, held-refused, cell-refused, protected-refused}
 use Rattle.upstream.specs.TryAcquire.{Tries, barred, acquired, tries-keys, tries-valid, tries-some, tries-held, tries-free, tries-spent, tries-damaged, tries-keeps, fine-fault}
 use Rattle.upstream.specs.DropLease.{Drops, drops, dropped, drops-valid, drops-stays, drops-keeps, drops-done}
@@ -191,7 +191,7 @@ module _ (w : Authority) (held : List ℕ) (l : Lease) where
       let v : Live w l = not-false _ (clear-back (Before w held) _ k .0) in
       let x = lives w l v in
       let event = released by-caller (l .cell) (l .serial) in
-      let one = tries-held (acquired Checked₃ 1 w (l .cell) z (x .in-range)) e (status-valid _ (cells w (l .cell)) (is-held (x .bit-is) (omega (arith, x .owner-is, x .low)) (omega (arith, x .owner-is, x .high)))) (x .bit-is) in
+      let one = tries-held (acquired Checked₃ 1 w (l .cell) z (x .in-range)) e (live-cell w l v) (x .bit-is) in
       subst Then (sym (one .1)) (hands (world.step w event) (dropped w l z v) (acquired Checked₃ 2 (world.step w event) (l .cell) (sized-now w (event ∷ []) z) (x .in-range))))
 
   pub foreign-release-between-attempts-r1 : Clear (Before w held) → (Valid-cell (next-serial w) (cells w (lease-key l)) → ⊥)

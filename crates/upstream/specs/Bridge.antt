@@ -57,6 +57,12 @@ authorized-live w l v a =
 pub live-authorized : (w : Authority) (l : Lease) → Live w l → authorized w l
 live-authorized w l x = let a = lives w l x in record { inside = a .in-range; locked = a .bit-is; mine = (a .low, a .owner-is) }
 
+-- its cell is valid
+pub live-cell : (w : Authority) (l : Lease) → Live w l → Valid-cell (next-serial w) (cells w (l .cell))
+live-cell w l x =
+    let a = lives w l x in
+    status-valid (next-serial w) (cells w (l .cell)) (is-held (a .bit-is) (omega (arith, a .owner-is, a .low)) (omega (arith, a .owner-is, a .high)))
+
 -- a list of authorized leases protects each of them, by place or by name
 pub by-name : (w : Authority) (ls : List Lease) → leases-authorized w ls → protected-valid w (held-ids ls)
 by-name w ls p l i = let x = in-index ls l noLease i in subst (authorized w) (sym (x .2)) (p (x .0) (x .1))

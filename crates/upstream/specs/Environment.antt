@@ -107,7 +107,8 @@ module _ (w : Authority) (script : List ℕ) (place : ℕ) (held : List ℕ) whe
   unfolding scriptRules
   environment-r2 i c b f =
       refused w (environment script place held) (BadHeld i)
-      (subst (λ (xs : List Rule). first (badShape (w .head) (w .table) ∷ badHealth (w .head) (w .health) ∷ badScript script place ∷ xs) ≡ Fault (BadHeld i)) (append-nil (badHeld (w .head) (w .table) held))
+      (subst (λ (xs : List Rule). first (badShape (w .head) (w .table) ∷ badHealth (w .head) (w .health) ∷ badScript script place ∷ xs) ≡ Fault (BadHeld i))
+      (append-nil (badHeld (w .head) (w .table) held))
       (held-refused (badShape (w .head) (w .table) ∷ badHealth (w .head) (w .health) ∷ badScript script place ∷ []) w held i [] c b f))
 
   pub environment-e1 : valid w → valid final

@@ -77,11 +77,13 @@ one-held = worldOf (headOf 1 1 2) (1 ∷ 1 ∷ 0 ∷ []) (0 ∷ [])
 
 -- what ours answers there
 granted-there : answers one-free (try-lock [] 0 [] 0) ≡ Granted (leaseOf 0 1)
-unfolding perform tryLockOf lockRules scriptRules notLive first shapeFits headFits healthFits leasesOf boundaryOf stepsOf lockOf secondOf takeOf lateOf waitersAt bitAt ownerAt setCell stateAt stateOf isFree isHeld
+unfolding perform tryLockOf lockRules scriptRules notLive first shapeFits headFits healthFits leasesOf boundaryOf stepsOf lockOf secondOf takeOf lateOf
+    waitersAt bitAt ownerAt setCell stateAt stateOf isFree isHeld
 granted-there = refl
 
 busy-there : answers one-held (try-lock [] 0 [] 0) ≡ Busy
-unfolding perform tryLockOf lockRules scriptRules notLive first shapeFits headFits healthFits leasesOf boundaryOf stepsOf lockOf secondOf takeOf lateOf waitersAt bitAt ownerAt setCell stateAt stateOf isFree isHeld
+unfolding perform tryLockOf lockRules scriptRules notLive first shapeFits headFits healthFits leasesOf boundaryOf stepsOf lockOf secondOf takeOf lateOf
+    waitersAt bitAt ownerAt setCell stateAt stateOf isFree isHeld
 busy-there = refl
 
 -- ---- "`try_lock` may always be None"
@@ -412,8 +414,8 @@ accepted-gives-up w registry held binding bucket v p =
 
 pub rejected-gives-up : ((w : Authority) (registry held : List ℕ) (binding bucket : ℕ)
     → gives-up w registry held binding bucket ≡ (answers w (acquire-bucket registry [] 0 held binding bucket), leaves w (acquire-bucket registry [] 0 held binding bucket))) → ⊥
-unfolding perform acquireBucketOf bucketRules notLive first shapeFits headFits healthFits registryFits leasesOf retryOf attemptOf findOf boundaryOf stepsOf lockOf secondOf takeOf lateOf waitersAt bitAt ownerAt
-    setCell stateAt stateOf isFree isHeld
+unfolding perform acquireBucketOf bucketRules notLive first shapeFits headFits healthFits registryFits leasesOf retryOf attemptOf findOf boundaryOf stepsOf
+    lockOf secondOf takeOf lateOf waitersAt bitAt ownerAt setCell stateAt stateOf isFree isHeld
 rejected-gives-up p = omega (arith, ap (λ (x : Answer × Authority). kindOf (x .0)) (p one-free (0 ∷ []) [] 0 0))
 
 -- ---- "`Guard` in 001 is a plain value: no exclusion, no release": a guard is handed out and nothing is taken

@@ -174,10 +174,6 @@ module _ {protected : Leases} where
   loosen f (ended a) = ended a
   loosen f (first a b c e x n t) = first a b c e x (λ id i. n id (f id i)) (loosen f t)
 
-  pub trace-next : {a b : Authority} → Trace protected a b → next-serial a ≤ next-serial b
-  trace-next (ended a) = omega arith
-  trace-next (first a b c e x n t) = omega (arith, step-next a b e x, trace-next t)
-
   pub trace-valid : {a b : Authority} → Trace protected a b → valid a → valid b
   trace-valid (ended a) v = v
   trace-valid (first a b c e x n t) v = trace-valid t (step-valid a b e v x)

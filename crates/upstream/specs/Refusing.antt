@@ -17,8 +17,7 @@ use Rattle.laws.specs.Checks.{first-hit, first-skip}
 use Rattle.history.specs.World.{Live}
 use Rattle.history.specs.Judged.{Clear}
 use Rattle.upstream.specs.Vocabulary.{Authority, next-serial, dom, cells, contains-key, Valid-cell, authorized}
-use Rattle.upstream.specs.Bridge.{live-authorized, first-after, status-valid}
-use Rattle.history.specs.Tests.{held, alive}
+use Rattle.upstream.specs.Bridge.{live-authorized, live-cell, first-after}
 
 -- ---- a lease that is not live
 
@@ -34,9 +33,7 @@ unauthorized w l n v = n (live-authorized w l v)
 
 -- a lease on a cell that is not valid
 pub on-damaged : (w : Authority) (l : Lease) → (Valid-cell (next-serial w) (cells w (l .cell)) → ⊥) → Live w l → ⊥
-on-damaged w l n v =
-    let a = alive (next-serial w) (dom w) (w .table) l v in
-    n (status-valid (next-serial w) (cells w (l .cell)) (held (a .bit-is) (omega (arith, a .owner-is, a .low)) (omega (arith, a .owner-is, a .high))))
+on-damaged w l n v = n (live-cell w l v)
 
 -- 12, behind any checks
 pub not-held : (xs : List Rule) (w : Authority) (i : ℕ) (l : Lease) (ys : List Rule) → Clear xs → (Live w l → ⊥)

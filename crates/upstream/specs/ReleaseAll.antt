@@ -139,7 +139,8 @@ module _ (h : Head) (script : List ℕ) where
 
 -- ---- the checks: 12 and 14 by position
 
-not-releasable-dead : (w : Authority) (n : ℕ) (earlier ls : List Lease) (i : ℕ) → i < length ls → Clear (notReleasable (w .head) (w .table) n earlier (take i ls)) → (Live w (leaseAt ls i) → ⊥)
+not-releasable-dead : (w : Authority) (n : ℕ) (earlier ls : List Lease) (i : ℕ) → i < length ls
+    → Clear (notReleasable (w .head) (w .table) n earlier (take i ls)) → (Live w (leaseAt ls i) → ⊥)
     → first (notReleasable (w .head) (w .table) n earlier ls) ≡ Fault (NotHeld (n + i))
 unfolding notReleasable
 not-releasable-dead w n earlier [] i l c d = absurd (omega arith)
@@ -149,7 +150,8 @@ not-releasable-dead w n earlier (k ∷ ls) (suc i) l c d =
     first-skip (notHeld (w .head) (w .table) n k) _ (c .0) ∙ first-skip (repeated n earlier k) _ (c .1 .0)
     ∙ not-releasable-dead w (n + 1) (earlier ++ (k ∷ [])) ls i (omega arith) (c .1 .1) d ∙ rw e
 
-not-releasable-again : (w : Authority) (n : ℕ) (earlier ls : List Lease) (i : ℕ) → i < length ls → Clear (notReleasable (w .head) (w .table) n earlier (take i ls)) → Live w (leaseAt ls i)
+not-releasable-again : (w : Authority) (n : ℕ) (earlier ls : List Lease) (i : ℕ) → i < length ls
+    → Clear (notReleasable (w .head) (w .table) n earlier (take i ls)) → Live w (leaseAt ls i)
     → isIn (leaseAt ls i) (earlier ++ take i ls) ≡ true → first (notReleasable (w .head) (w .table) n earlier ls) ≡ Fault (Repeated (n + i))
 unfolding notReleasable
 not-releasable-again w n earlier [] i l c v d = absurd (omega arith)
@@ -199,7 +201,8 @@ module _ (w : Authority) (script : List ℕ) (place : ℕ) (leases : List ℕ) w
   abbrev Asked : Type 0
   Asked = leases-authorized w ls × ((i j : ℕ) → i < j → j < length ls → lease-key (leaseAt ls i) ≢ lease-key (leaseAt ls j))
 
-  gone-all : Sized w → valid w → Asked → Gone w (of-run (w .head) (giveBackOf (countIn leases) (given (w .head) script []) ls (starting (w .head) place) (w .table) (w .health) .seen)) (countIn leases) ls
+  gone-all : Sized w → valid w → Asked
+      → Gone w (of-run (w .head) (giveBackOf (countIn leases) (given (w .head) script []) ls (starting (w .head) place) (w .table) (w .health) .seen)) (countIn leases) ls
   gone-all z v a =
       give-back-goes (w .head) script (countIn leases) ls (starting (w .head) place) (w .table) (w .health) z v
       (record { enough = omega (arith, words-leases leases); all = λ i p. a .0 i (omega (arith, words-leases leases)); distinct = λ i j p q. a .1 i j p (omega (arith, words-leases leases)) })
@@ -225,7 +228,8 @@ module _ (w : Authority) (script : List ℕ) (place : ℕ) (leases : List ℕ) w
   release-all-r3 i j p q b u v x y e =
       let same : leaseAt ls i ≡ leaseAt ls j = same-lease (leaseAt ls i) (leaseAt ls j) e (sym (x .mine .1) ∙ ap (λ (k : Key). cells w k .owner) e ∙ y .mine .1) in
       behind (Repeated j) b
-      (not-releasable-again w 0 [] ls j q u (authorized-live w (leaseAt ls j) v y) (subst (In (take j ls)) same (in-take ls j i noLease p (omega arith))) ∙ ap {B = Check} (λ n. Fault (Repeated n)) (plus-zero j))
+      (not-releasable-again w 0 [] ls j q u (authorized-live w (leaseAt ls j) v y) (subst (In (take j ls)) same (in-take ls j i noLease p (omega arith)))
+      ∙ ap {B = Check} (λ n. Fault (Repeated n)) (plus-zero j))
 
   pub release-all-e1 : valid w → Asked → valid final
   release-all-e1 v a = trace-valid (went v a) v

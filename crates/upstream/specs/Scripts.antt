@@ -1,6 +1,6 @@
 -- Foreign steps, and the steps of a lock between them, as traces of upstream's steps. From any table that is `valid`, as upstream asks, and
 -- of the right length, which every call tests; no more is asked of it.
-use Prim.Native.Nat.{ℕ, zero, suc, _+_, _-_, _%_, _≤_, _<_}
+use Prim.Native.Nat.{ℕ, zero, suc, _+_, _-_, _%_, _<_}
 use mathlib.Core.Path.{_≡_, refl, sym, ap, subst}
 use mathlib.Core.List.{List, [], _∷_, _++_}
 use mathlib.Core.Logic.{_⊎_, inl, inr}
@@ -30,7 +30,7 @@ use Rattle.history.specs.Tests.{differ, same-lease, In, in-first, in-cases, in-
 use Rattle.history.specs.Logs.{Kept}
 use Rattle.history.specs.Steps.{worldAt, With, of-flow, of-locked, of-run, of-tried, step-kept}
 use Rattle.upstream.specs.Vocabulary.{Key, Authority, Acquires, Leases, next-serial, cells, valid, authorized, Step, Acquire, Release, step, releases, protected-valid}
-use Rattle.upstream.specs.Protocol.{Trace, ended, first, join, trace-valid, trace-keeps, trace-next, loosen, step-grants}
+use Rattle.upstream.specs.Protocol.{Trace, ended, first, join, trace-valid, trace-keeps, loosen, step-grants}
 use Rattle.upstream.specs.Bridge.{authorized-live, Sized, sized-now, lawful-trace, event-step}
 use Rattle.upstream.specs.Keys.{Finds, bad-header, poisoned, bad-bucket, at, finds, place-inside, granted-lease}
 use Rattle.upstream.specs.TryAcquire.{Tries, acquired, tries-some, tries-none, tries-sized}
@@ -89,22 +89,22 @@ module _ (h : Head) (script : List ℕ) where
   unfolding boundaryOf
   boundary-goes ps f t g r = steps-go (stepsIn script - f .place) ps f t g r
 
-  -- ---- a lock: where it goes, and that what it grants is authorized and has a serial not yet issued when n was the next
+  -- ---- a lock: where it goes, and that what it grants is authorized
 
-  pub record Locks (P : Leases) (n : ℕ) (c : Key) (w : Authority) (a : With Locked) : Type 0 where
+  pub record Locks (P : Leases) (c : Key) (w : Authority) (a : With Locked) : Type 0 where
     pub goes : Goes P w (of-locked h a)
-    pub gain : (s : ℕ) → a .0 .answer ≡ taking.Granted s → authorized (of-locked h a) (leaseOf c s) × (n ≤ s)
+    pub gain : (s : ℕ) → a .0 .answer ≡ taking.Granted s → authorized (of-locked h a) (leaseOf c s)
 
   -- the same of a definition of the model
-  abbrev Locking : Leases → ℕ → Key → Authority → Made (With Locked) → Type 0
-  Locking P n c w m = Locks P n c w (m .seen)
+  abbrev Locking : Leases → Key → Authority → Made (With Locked) → Type 0
+  Locking P c w m = Locks P c w (m .seen)
 
-  late-goes : (ps : List Lease) (f : Flow) (t g : List ℕ) (c s n : ℕ) → Ready (In ps) (worldAt h (f .next) t g) → authorized (worldAt h (f .next) t g) (leaseOf c s)
-      → ((l : Lease) → In ps l → l ≡ leaseOf c s → ⊥) → n ≤ s → Locks (In ps) n c (worldAt h (f .next) t g) (lateOf (given h script ps) f t g c s .seen)
+  late-goes : (ps : List Lease) (f : Flow) (t g : List ℕ) (c s : ℕ) → Ready (In ps) (worldAt h (f .next) t g) → authorized (worldAt h (f .next) t g) (leaseOf c s)
+      → ((l : Lease) → In ps l → l ≡ leaseOf c s → ⊥) → Locks (In ps) c (worldAt h (f .next) t g) (lateOf (given h script ps) f t g c s .seen)
   unfolding lateOf isIn
-  late-goes ps f t g c s n r a apart low =
-      if-both (Locking (In ps) n c w) (eqb (waitersAt (m .1 .0) c) 0)
-      (record { goes = fewer (λ l i. in-left l ps (new ∷ []) i) b; gain = λ x e. let q : s ≡ x = cc in (rw (← q) still, omega arith) })
+  late-goes ps f t g c s r a apart =
+      if-both (Locking (In ps) c w) (eqb (waitersAt (m .1 .0) c) 0)
+      (record { goes = fewer (λ l i. in-left l ps (new ∷ []) i) b; gain = λ x e. let q : s ≡ x = cc in rw (← q) still })
       (record {
         goes = then (fewer (λ l i. in-left l ps (new ∷ []) i) b)
             (moved (of-flow h m) (world.step (of-flow h m) event) (Release c s) (event-step (of-flow h m) event (b .sized) (authorized-live (of-flow h m) new (r′ .valid-now) still))
@@ -141,10 +141,10 @@ module _ (h : Head) (script : List ℕ) where
       still = r′ .safe new (in-right new ps (new ∷ []) (in-first new []))
 
   -- after the compare-and-set: `u` is the state before it
-  after-goes : (ps : List Lease) (u : Authority) (a : Take) (f : Flow) (t g : List ℕ) (c n : ℕ) → Ready (In ps) u
-      → Tries (Unit {0}) u c (answerOf (outcomeOf c a)) (worldAt h (f .next) t g) → n ≤ next-serial u
-      → Locks (In ps) n c u (afterTake a (given h script ps) f t g c .seen)
-  after-goes ps u (taking.Granted s) f t g c n r x low =
+  after-goes : (ps : List Lease) (u : Authority) (a : Take) (f : Flow) (t g : List ℕ) (c : ℕ) → Ready (In ps) u
+      → Tries (Unit {0}) u c (answerOf (outcomeOf c a)) (worldAt h (f .next) t g)
+      → Locks (In ps) c u (afterTake a (given h script ps) f t g c .seen)
+  after-goes ps u (taking.Granted s) f t g c r x =
       record { goes = then one (late .goes); gain = late .gain }
     where
       w : Authority
@@ -156,37 +156,37 @@ module _ (h : Head) (script : List ℕ) where
       one : Goes (In ps) u w
       one = moved u w (Acquire c (next-serial u)) (grant .1) (λ l i x. x) (tries-sized x (r .sized))
 
-      late : Locks (In ps) n c w (lateOf (given h script ps) f t g c s .seen)
+      late : Locks (In ps) c w (lateOf (given h script ps) f t g c s .seen)
       late =
-          late-goes ps f t g c s n (ready r one) (subst (authorized w) (sym (grant .0)) (step-grants u w c (next-serial u) (grant .1)))
-          (λ l i e. omega (arith, r .safe l i .locked, ap (λ (k : Lease). cells u (k .cell) .bit) e, grant .1 .unlocked)) (omega (arith, ap (λ (k : Lease). k .serial) (grant .0)))
-  after-goes ps u taking.Busy f t g c n r x low =
+          late-goes ps f t g c s (ready r one) (subst (authorized w) (sym (grant .0)) (step-grants u w c (next-serial u) (grant .1)))
+          (λ l i e. omega (arith, r .safe l i .locked, ap (λ (k : Lease). cells u (k .cell) .bit) e, grant .1 .unlocked))
+  after-goes ps u taking.Busy f t g c r x =
       record { goes = subst (Goes (In ps) u) (sym (tries-none x (λ l e. omega (arith, ap kindOf e)))) (stays (r .sized)); gain = λ s e. let q : _≡_ {A = ℕ} 0 1 = cc in absurd (omega arith) }
-  after-goes ps u taking.Damaged f t g c n r x low =
+  after-goes ps u taking.Damaged f t g c r x =
       record { goes = subst (Goes (In ps) u) (sym (tries-none x (λ l e. omega (arith, ap kindOf e)))) (stays (r .sized)); gain = λ s e. let q : _≡_ {A = ℕ} 0 1 = cc in absurd (omega arith) }
-  after-goes ps u taking.Spent f t g c n r x low =
+  after-goes ps u taking.Spent f t g c r x =
       record { goes = subst (Goes (In ps) u) (sym (tries-none x (λ l e. omega (arith, ap kindOf e)))) (stays (r .sized)); gain = λ s e. let q : _≡_ {A = ℕ} 0 1 = cc in absurd (omega arith) }
 
-  second-goes : (ps : List Lease) (f : Flow) (t g : List ℕ) (c n : ℕ) → Ready (In ps) (worldAt h (f .next) t g) → c < cellsOf h → n ≤ f .next
-      → Locks (In ps) n c (worldAt h (f .next) t g) (secondOf (given h script ps) f t g c .seen)
+  second-goes : (ps : List Lease) (f : Flow) (t g : List ℕ) (c : ℕ) → Ready (In ps) (worldAt h (f .next) t g) → c < cellsOf h
+      → Locks (In ps) c (worldAt h (f .next) t g) (secondOf (given h script ps) f t g c .seen)
   unfolding secondOf acquireOf
-  second-goes ps f t g c n r i low =
+  second-goes ps f t g c r i =
       let m = boundaryOf (given h script ps) f t g .seen in
       let b = boundary-goes ps f t g r in
       let r′ = ready r b in
       let k = takeOf (m .0 .next) (m .1 .0) c .seen in
       let x = acquired (Unit {0}) 1 (of-flow h m) c (b .sized) i in
-      let l = after-goes ps (of-flow h m) (k .0 .answer) (flowOf (k .0 .next) (m .0 .place) (m .0 .dropped)) (k .1) (m .1 .1) c n r′ x (omega (arith, trace-next (b .trace))) in
+      let l = after-goes ps (of-flow h m) (k .0 .answer) (flowOf (k .0 .next) (m .0 .place) (m .0 .dropped)) (k .1) (m .1 .1) c r′ x in
       record { goes = then b (l .goes); gain = l .gain }
 
   pub lock-goes : (ps : List Lease) (f : Flow) (t g : List ℕ) (c : ℕ) → Ready (In ps) (worldAt h (f .next) t g) → c < cellsOf h
-      → Locks (In ps) (f .next) c (worldAt h (f .next) t g) (lockOf (given h script ps) f t g c .seen)
+      → Locks (In ps) c (worldAt h (f .next) t g) (lockOf (given h script ps) f t g c .seen)
   unfolding lockOf
   lock-goes ps f t g c r i =
       let m = boundaryOf (given h script ps) f t g .seen in
       let b = boundary-goes ps f t g r in
-      if-both (Locking (In ps) (f .next) c (worldAt h (f .next) t g)) (eqb (waitersAt (m .1 .0) c) 0)
-      (let l = second-goes ps (m .0) (m .1 .0) (m .1 .1) c (f .next) (ready r b) i (trace-next (b .trace)) in record { goes = then b (l .goes); gain = l .gain })
+      if-both (Locking (In ps) c (worldAt h (f .next) t g)) (eqb (waitersAt (m .1 .0) c) 0)
+      (let l = second-goes ps (m .0) (m .1 .0) (m .1 .1) c (ready r b) i in record { goes = then b (l .goes); gain = l .gain })
       (record { goes = b; gain = λ s e. let q : _≡_ {A = ℕ} 0 1 = cc in absurd (omega arith) })
 
   -- ---- attempts by key: what is granted is authorized
@@ -215,7 +215,7 @@ module _ (h : Head) (script : List ℕ) where
             goes = m .goes;
             gain = λ l e.
                 let x = granted-lease c (lockOf (given h script ps) (r .flow) t g c .seen .0 .answer) l e in
-                subst (authorized _) (sym (x .1)) (m .gain (l .serial) (x .0) .0);
+                subst (authorized _) (sym (x .1)) (m .gain (l .serial) (x .0));
           }
 
   spin-goes : (ps : List Lease) (r : Run) (t g : List ℕ) → Ready (In ps) (worldAt h (r .flow .next) t g)

@@ -95,7 +95,7 @@ module _ (w : Authority) (script : List ℕ) (place : ℕ) (held : List ℕ) (c 
         trace = m .goes .trace;
         gain = λ l e.
             let x = granted (lockOf (given (w .head) script (leasesOf held)) (flowOf (next-serial w) place 0) (w .table) (w .health) c .seen .0 .answer) l e in
-            subst (authorized _) (sym (x .1)) (m .gain (l .serial) (x .0) .0);
+            subst (authorized _) (sym (x .1)) (m .gain (l .serial) (x .0));
       })
 
   -- valid(old(authority)): 9, where the cell is damaged when it comes to the compare-and-set
