@@ -27,7 +27,10 @@ wrong=$(
         esac
     done <<< "$rows"
 )
-echo "$rows" | awk -F'\t' '{ k = ($1 ~ /^`/) ? "definitions" : "clauses"; v = $2; sub(/[ ,]*\(.*|,.*/, "", v); n[k ": " v]++ } END { for (i in n) print i, n[i] }' | sort
+echo "$rows" | awk -F'\t' '
+    { k = ($1 ~ /^`/) ? "definitions" : "clauses"; v = $2; sub(/[ ,]*\(.*|,.*/, "", v); n[k, v]++ }
+    END { m = split("same;stronger;refused instead of required;different;left out;open", w, ";")
+          for (i = 1; i <= m; i++) print w[i] ": " n["clauses", w[i]] + 0 " clauses, " n["definitions", w[i]] + 0 " definitions" }'
 if [ -n "$wrong" ]; then
     echo "$wrong"
     exit 1

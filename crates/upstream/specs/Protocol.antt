@@ -198,3 +198,28 @@ module _ {protected : Leases} where
   trace-legal (ended a) =
       (a ∷ [], [], record { lengths = refl; begins = refl; ends = refl; moves = λ i l. absurd (omega arith); spares = λ i id l. absurd (omega arith) })
   trace-legal (first a b c e x n t) = let r = trace-legal t in (a ∷ r .0, e ∷ r .1, longer a b c e x n (r .0) (r .1) (r .2))
+
+  -- and back: upstream's form is a trace
+  legal-trace : (events : List Step) (states : List Authority) (a b : Authority) → environment-trace a b protected states events → Trace protected a b
+  legal-trace [] [] a b r = absurd (omega (arith, r .lengths))
+  legal-trace [] (s ∷ states) a b r = subst (Trace protected a) (sym (r .begins) ∙ r .ends) (ended a)
+  legal-trace (e ∷ events) [] a b r = absurd (omega (arith, r .lengths))
+  legal-trace (e ∷ events) (s ∷ []) a b r = absurd (omega (arith, r .lengths))
+  legal-trace (e ∷ events) (s ∷ t ∷ states) a b r =
+      first a t b e (subst (λ z. step z t e) (r .begins) (r .moves 0 (omega arith))) (λ id p. r .spares 0 id (omega arith) p)
+      (legal-trace events (t ∷ states) t b
+      (record {
+        lengths = omega (arith, r .lengths);
+        begins = refl;
+        ends = in-list t a (t ∷ states) (length events) (omega (arith, r .lengths)) ∙ r .ends;
+        moves = λ i l.
+            let one : suc i + 1 ≡ suc (i + 1) = omega arith in
+            subst (λ z. step z (getD (t ∷ states) (i + 1) t) (getD events i Observe)) (in-list a t (t ∷ states) i (omega (arith, r .lengths)))
+            (subst (λ z. step (getD (t ∷ states) i a) z (getD events i Observe)) (in-list a t (t ∷ states) (i + 1) (omega (arith, r .lengths))) (rw one at (r .moves (suc i) (omega arith))));
+        spares = λ i id l. r .spares (suc i) id (omega arith);
+      }))
+
+  -- so whatever a legal environment does, `valid` and the protected leases stay, and no serial comes back: upstream's `environment` follows from
+  -- the contract of its `interfere`, of any scheduler
+  pub legal-keeps : (a b : Authority) → legal-environment a b protected → valid a → protected-valid a protected → valid b × protected-valid b protected × no-resurrection a b
+  legal-keeps a b x v p = let t = legal-trace (x .1) (x .0) a b (x .2) in (trace-valid t v, trace-keeps t p, trace-buries t)
