@@ -19,12 +19,12 @@ use Rattle.model.specs.declared.Head.{Head}
 use Rattle.model.specs.declared.Lease.{Lease}
 use Rattle.model.specs.declared.Outcome.{Outcome}
 use Rattle.model.specs.declared.Take.{Take}
-use Rattle.history.specs.World.{World, worldOf, cells, Live}
+use Rattle.history.specs.World.{World, worldOf, cells, Live, Lawful, Unreleased}
 use Rattle.history.specs.Items.{Call, Says, try-acquire, drop-lease, read-permission, competing-acquire, release-then-handoff, foreign-release, drop-preserving, acquire-preserving, environment, try-lock, transactional, acquire-bucket, release-all, acquire-locks, crew, perform, held-of}
-use Rattle.history.specs.Statements.{Hands-over}
+use Rattle.history.specs.Statements.{Hands-over, Held-live}
 use Rattle.history.specs.Tests.{differ, In, in-take}
-use Rattle.history.specs.Events.{Good, lives}
-use Rattle.history.specs.Logs.{Kept, nothing, event, kept-good, kept-live, weaken, chain, ended}
+use Rattle.history.specs.Events.{Good, lives, good}
+use Rattle.history.specs.Logs.{Kept, nothing, event, kept-good, kept-live, weaken, chain, ended, lawful-split, unreleased-front, keep-now}
 use Rattle.history.specs.Steps.{Gains, followed, Gained, gained, was-busy, was-damaged, was-spent, Won, won, none-yet, no-more, boundary-kept, take-kept, lock-kept, attempt-kept, retry-kept}
 use Rattle.history.specs.Judged.{Clear, clear-back, rules, reply, seen-as, steps, performed}
 use Rattle.history.specs.Many.{Held, give-back-kept, locks-kept}
@@ -166,3 +166,10 @@ steps-kept w (crew counts lists turns) g k =
 
 pub call-kept : (w : World) (k : Call) → Good w → Said w (In (held-of k)) (perform w k)
 call-kept w k g = performed (Said w (In (held-of k))) w k (λ r. record { kept = nothing; gain = λ l x. absurd x }) (steps-kept w k g)
+
+-- what is held is spared at every point
+pub calls-spare-held : Held-live
+calls-spare-held w k l before after s i v e =
+    let g = good w s in
+    let p = call-kept w k g .kept in
+    keep-now w before l g (lawful-split w before after (subst (Lawful w) e (p .lawful)) .0) v (unreleased-front l before after (subst (Unreleased l) e (p .spares l i v)))

@@ -12,10 +12,10 @@ use Rattle.model.specs.declared.Answer.the-variants.{Done}
 use Rattle.model.specs.declared.Lease.{Lease}
 use Rattle.laws.specs.Pick.{both}
 use Rattle.laws.specs.Shape.{Shaped, shaped}
-use Rattle.laws.specs.Prepared.{Outcome, Came, was-done, was-refused, came}
+use Rattle.laws.specs.Prepared.{Outcome, Came, was-done, was-refused, came, prepare-done}
 use Rattle.history.specs.World.{World, worldOf, cells, now, Lawful, one, bits, takes, number-of}
-use Rattle.history.specs.Items.{foreign, Item, call, foreign-step, preparation, Course, courseOf, prepared-by, preparing, next-item, run}
-use Rattle.history.specs.Statements.{Ledger}
+use Rattle.history.specs.Items.{foreign, Item, call, foreign-step, preparation, Course, courseOf, prepared-by, preparing, next-item, run, cold}
+use Rattle.history.specs.Statements.{Ledger, Demand-2, Forgets}
 use Rattle.history.specs.Tests.{free, In}
 use Rattle.history.specs.Events.{Good, sound, lives, counts}
 use Rattle.history.specs.Logs.{now-append, lawful-append, lawful-split, good-now, arena-now, next-now, bits-now, keep-now, spent-now, Kept, ended}
@@ -159,7 +159,7 @@ ledger k s =
           let m = mid p (took a c x ∷ p′) e .1 .0 .1 .0 in
           let n = mid q (took b d x ∷ q′) f .1 .0 .1 .0 in
           same-front a b c d x p p′ q q′ (sym e ∙ f) (omega (arith, next-now o p, next-now o q));
-      issued = ap (λ w. w .head .next) (s .leads) ∙ next-now o (k .log);
+      issued = omega (arith, ap (λ w. w .head .next) (s .leads), next-now o (k .log));
       counted =
           let size : cells (k .world) ≡ cells o = ap cells (s .leads) ∙ ap (λ h. h .headers * h .buckets) (arena-now o (k .log)) in
           let table : k .world .table ≡ now o (k .log) .table = ap (λ w. w .table) (s .leads) in
@@ -174,3 +174,26 @@ ledger k s =
     mid before after e =
         let t = lawful-split o before after (subst (Lawful o) e (s .lawful)) in
         (good-now o before (s .good) (t .0), t .1)
+
+-- ---- every history from a preparation
+
+pub histories-kept : Demand-2
+unfolding run
+histories-kept rubbish headers buckets serial t g items d =
+    let begun = preparation-stretch headers buckets serial t g (cold rubbish) (λ n. absurd (n d)) in
+    ledger _ (run-stretch (next-item (cold rubbish) (preparation headers buckets serial t g)) items begun)
+
+pub histories-forget : Forgets
+unfolding run next-item preparing
+histories-forget rubbish rubbish′ headers buckets serial t g t′ g′ items d d′ =
+    ap (λ k. run k items) (begins rubbish t g d ∙ sym (begins rubbish′ t′ g′ d′))
+  where
+    prepared : World
+    prepared = worldOf (headOf headers buckets serial) (replicate (3 * (headers * buckets)) 0) (replicate headers 0)
+
+    after : World → Outcome → Course
+    after w o = prepared-by (o .0 .answer) (worldOf (o .0 .head) (o .1 .0) (o .1 .1)) (cold w)
+
+    begins : (w : World) (t g : List ℕ) → preparing headers buckets serial t g .0 ≡ Done
+        → next-item (cold w) (preparation headers buckets serial t g) ≡ courseOf prepared [] prepared
+    begins w t g d = ap (after w) (prepare-done headers buckets serial t g d)

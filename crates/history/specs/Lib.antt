@@ -2,6 +2,7 @@ pub mod World
 pub mod Items
 pub mod Statements
 pub mod Theorems
+pub mod Examples
 pub mod Tests
 pub mod Events
 pub mod Logs
@@ -11,6 +12,7 @@ pub mod Many
 pub mod Crew
 pub mod Calls
 pub mod Courses
+pub mod Exact
 pub mod Owing
 pub mod Returns
 pub mod Counted

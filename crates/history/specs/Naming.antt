@@ -28,6 +28,7 @@ use Rattle.model.specs.declared.Take.{Take}
 use Rattle.model.specs.declared.Take.the-variants as taking
 use Rattle.model.specs.declared.Took.{Took}
 use Rattle.model.specs.declared.Tried.{Tried}
+use Rattle.history.specs.Statements.{By-step}
 use Rattle.history.specs.Tests.{if-cases}
 
 -- ---- a log whose releases are all named
@@ -41,10 +42,6 @@ Post = Leases → Type 0
 
 abbrev pub any : Post
 any A = Unit {0}
-
--- a step of the script, not before the place `low`, names this cell and serial
-abbrev pub By-step : List ℕ → ℕ → ℕ → ℕ → Type 0
-By-step script low c s = (p : ℕ) × (low ≤ p) × (p < stepsIn script) × (kindAt script p ≡ 2) × (placeAt script p ≡ c) × (numberAt script p ≡ s)
 
 abbrev pub Names : List ℕ → ℕ → Leases → Event → Type 0
 Names script low A attempt-begun = Unit {0}

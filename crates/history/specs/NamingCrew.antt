@@ -21,7 +21,7 @@ use Rattle.history.specs.World.{World}
 use Rattle.history.specs.Items.{crew}
 use Rattle.history.specs.Tests.{if-cases}
 use Rattle.history.specs.Judged.{Clear, steps}
-use Rattle.history.specs.Crew.{start-fits, limits, zeros}
+use Rattle.history.specs.Crew.{start-fits, limits, Holds, zeros}
 use Rattle.history.specs.Naming.{Leases, Sub, Told, any, none, more, andthen, told, Taken, lock-told}
 
 -- a list after one place was written, perhaps past its end
@@ -37,27 +37,27 @@ set-at (x ∷ xs) (suc i) (suc j) v = go (set-at xs i j v)
     go (inr e) = inr (ap suc (e .0), e .1)
 
 module _ (counts cells : List ℕ) where
-  -- after so many moves member q holds place j of its list
-  pub record Holds (made : List ℕ) (q j : ℕ) : Type 0 where
-    pub listed : j < countOf counts q
-    pub taken : j < getD made q 0
-    pub kept : j + getD made q 0 < 2 * countOf counts q
-
-  -- and did so before move n of member m, unless that move took it
-  held-before : (made : List ℕ) (m n q j : ℕ) → n ≡ getD made m 0 → Holds (set made m (n + 1)) q j
-      → (startOf counts q + j ≢ startOf counts m + n) ⊎ (countOf counts m ≤ n) → Holds made q j
+  -- what is held after move n of member m was held before it, unless that move took it
+  held-before : (made : List ℕ) (m n q j : ℕ) → n ≡ getD made m 0 → Holds counts (set made m (n + 1)) q j
+      → (startOf counts q + j ≢ startOf counts m + n) ⊎ (countOf counts m ≤ n) → Holds counts made q j
   held-before made m n q j is h other = go (set-at made m q (n + 1)) other
     where
       go : (getD (set made m (n + 1)) q 0 ≡ getD made q 0) ⊎ ((q ≡ m) × (getD (set made m (n + 1)) q 0 ≡ n + 1))
-          → (startOf counts q + j ≢ startOf counts m + n) ⊎ (countOf counts m ≤ n) → Holds made q j
-      go (inl x) y = omega arith
-      go (inr x) (inl y) = omega (arith, ap (λ z. getD made z 0) (x .0), ap (startOf counts) (x .0))
-      go (inr x) (inr y) = omega (arith, ap (λ z. getD made z 0) (x .0), ap (countOf counts) (x .0))
+          → (startOf counts q + j ≢ startOf counts m + n) ⊎ (countOf counts m ≤ n) → Holds counts made q j
+      go (inl x) y = (omega arith, omega arith)
+      go (inr x) (inl y) =
+          let a = ap (λ z. getD made z 0) (x .0) in
+          let b = ap (startOf counts) (x .0) in
+          (omega arith, omega arith)
+      go (inr x) (inr y) =
+          let a = ap (λ z. getD made z 0) (x .0) in
+          let b = ap (countOf counts) (x .0) in
+          (omega arith, omega arith)
 
   -- what members hold was taken with the serials noted at these places
   pub record Noted (made serials : List ℕ) (A : Leases) : Type 0 where
     pub room : length serials ≡ 256
-    pub names : (q j : ℕ) → Holds made q j → A (getD cells (startOf counts q + j) 0) (getD serials (startOf counts q + j) 0)
+    pub names : (q j : ℕ) → Holds counts made q j → A (getD cells (startOf counts q + j) 0) (getD serials (startOf counts q + j) 0)
 
   abbrev Keeps : Crew → Leases → Type 0
   Keeps w A = Noted (w .made) (w .serials) A
@@ -71,7 +71,7 @@ module _ (counts cells : List ℕ) where
   took-noted made serials m n s A few is l k a =
       record { room = length-set serials _ s ∙ k .room; names = λ q j h. go q j h (ℕ-discrete (startOf counts q + j) (startOf counts m + n)) }
     where
-      go : (q j : ℕ) → Holds (set made m (n + 1)) q j → Dec (startOf counts q + j ≡ startOf counts m + n)
+      go : (q j : ℕ) → Holds counts (set made m (n + 1)) q j → Dec (startOf counts q + j ≡ startOf counts m + n)
           → A (getD cells (startOf counts q + j) 0) (getD (set serials (startOf counts m + n) s) (startOf counts q + j) 0)
       go q j h (yes e) = rw (e, getD-set-same serials (startOf counts m + n) s 0 (omega (arith, start-fits counts m, k .room))) a
       go q j h (no e) = rw (getD-set-other serials (startOf counts m + n) (startOf counts q + j) s 0 e) (k .names q j (held-before made m n q j is h (inl e)))
@@ -107,7 +107,7 @@ module _ (counts cells : List ℕ) where
         → let j = startOf counts m + (2 * countOf counts m - 1 - n) in Turned A (releaseTurnOf w m j (getD cells j 0))
     unfolding releaseTurnOf
     release-told w m n A is all some k =
-        more (k .names m (2 * countOf counts m - 1 - n) (omega arith))
+        more (k .names m (2 * countOf counts m - 1 - n) (omega arith, omega arith))
         (none (wider (λ c s a. inl a) (rw (← is) (gave-noted (w .made) (w .serials) m n A is all k))))
 
     turn-told : (w : Crew) (m : ℕ) (A : Leases) → Keeps w A → Turned A (turnOf headers buckets g counts cells w m)

@@ -32,7 +32,7 @@ use Rattle.model.specs.declared.Take.the-variants as taking
 use Rattle.model.specs.declared.Tried.{Tried}
 use Rattle.history.specs.World.{World}
 use Rattle.history.specs.Items.{Call, try-acquire, drop-lease, read-permission, competing-acquire, release-then-handoff, foreign-release, drop-preserving, acquire-preserving, environment, try-lock, transactional, acquire-bucket, release-all, acquire-locks, crew, ByCell}
-use Rattle.history.specs.Statements.{Changes-nothing, Crew-refused}
+use Rattle.history.specs.Statements.{Early, Changes-nothing, Crew-refused}
 use Rattle.history.specs.Judged.{judged, acting, unchanged, steps, performed}
 
 -- ---- which refusals steps answer
@@ -119,9 +119,6 @@ locks-late low (suc left) p e buckets registry keys taken r t g grants =
     go k u w (outcome.Refused x) more h = tt
 
 -- ---- the calls
-
-abbrev Early : Call → Refusal → Type 0
-Early k r = (numberOf r ≤ 5) ⊎ (((numberOf r ≡ 8) × ByCell k) ⊎ (12 ≤ numberOf r))
 
 -- 9 to 11; where no cell is given, 6 to 11
 abbrev Bounded : Call → Answer → Type 0

@@ -1,13 +1,13 @@
 -- Each call hands over what it took and did not release: its log settles, and a lease that was released never is live again.
 use Prim.Native.Nat.{ℕ, zero, suc, _+_}
-use mathlib.Core.Path.{_≡_, refl}
+use mathlib.Core.Path.{_≡_, refl, sym, subst}
 use mathlib.Core.List.{List, [], _∷_, _++_}
 use mathlib.Core.Bool.{true, not}
-use mathlib.Core.Logic.{inl}
+use mathlib.Core.Logic.{inl, _⊎_, inr}
 use native.Mathlib.Omega.{arith}
 use borrow.Author.Tests.{not-false}
 use Rattle.model.specs.Log.{Made, Event, by-caller, attempt-begun, took, released}
-use Rattle.model.specs.Arena.{cellsOf, bitAt, ownerAt, isLive, stateAt, setCell, leasesOf}
+use Rattle.model.specs.Arena.{cellsOf, bitAt, ownerAt, isLive, stateAt, setCell, leasesOf, leaseOf}
 use Rattle.model.specs.Checks.{countIn, badShape, badHeld, heldLeaseRules, locksRules}
 use Rattle.model.specs.Foreign.{Setting, protecting, flowOf}
 use Rattle.model.specs.Lock.{takeOf, outcomeOf, answerOf, settled, attemptLimit, retryOf, bindingAt, bucketAt, rollbackOf, afterKey, locksOf}
@@ -23,13 +23,13 @@ use Rattle.model.specs.declared.Reply.{Reply}
 use Rattle.model.specs.declared.Run.{Run}
 use Rattle.history.specs.World.{World, cells, Live, step, now, Lawful}
 use Rattle.history.specs.Items.{Call, try-acquire, drop-lease, read-permission, competing-acquire, release-then-handoff, foreign-release, drop-preserving, acquire-preserving, environment, try-lock, transactional, acquire-bucket, release-all, acquire-locks, crew, perform, IsCrew}
-use Rattle.history.specs.Statements.{Hands-over, answers, log-of}
+use Rattle.history.specs.Statements.{Hands-over, answers, log-of, Nothing-kept, Failed-locks, leaves}
 use Rattle.history.specs.Tests.{alive, state-held}
-use Rattle.history.specs.Events.{Good, good-step, released-spent}
+use Rattle.history.specs.Events.{Good, good-step, released-spent, good}
 use Rattle.history.specs.Logs.{spent-now}
 use Rattle.history.specs.Judged.{Clear, clear-back, judged, rules, acting, steps, performed}
-use Rattle.history.specs.Calls.{words-leases}
-use Rattle.history.specs.Owing.{Frees, freed-here, freed-later, Settles, none, more, join, loosen, quiet, Nobody, Given, boundary-silent, take-hands, lock-hands, attempt-hands, retry-hands, give-back-hands, locks-hands}
+use Rattle.history.specs.Calls.{words-leases, call-kept}
+use Rattle.history.specs.Owing.{Frees, freed-here, freed-later, Settles, none, more, join, loosen, quiet, Nobody, Given, boundary-silent, take-hands, lock-hands, attempt-hands, retry-hands, give-back-hands, locks-hands, frees-right, freed-at, settled-at}
 
 -- ---- what is released is gone
 
@@ -136,3 +136,35 @@ failed-buffer h t g registry script place held keys grants x q =
   where
     P : Made (Played × (List ℕ × (List ℕ × List ℕ))) → Type 0
     P m = m .seen .0 .answer ≡ RefusedAt x q → m .seen .1 .1 .1 ≡ grants
+
+-- ---- what a call takes and does not hand over, it gives back
+
+pub calls-keep-nothing : Nothing-kept
+calls-keep-nothing w k c s before after snd n e = go (settled-at c s before after (subst (Settles (Handed w k)) e (call-settles w k n)))
+  where
+    go : Handed w k (leaseOf c s) ⊎ Frees (leaseOf c s) after
+        → (Handed w k (leaseOf c s) × Live (leaves w k) (leaseOf c s))
+        ⊎ ((m n : List Event) × (after ≡ m ++ (released by-caller c s ∷ n)) × (Live (leaves w k) (leaseOf c s) → ⊥))
+    go (inl x) = inl (x, call-kept w k (good w snd) .gain (leaseOf c s) x)
+    go (inr f) =
+        let r = freed-at f in
+        let p = call-kept w k (good w snd) .kept in
+        let all = subst (Frees (leaseOf c s)) (sym e) (frees-right before (freed-later (took by-caller c s) f)) in
+        inr (r .0, r .1, r .2, λ v. gone w (log-of w k) (good w snd) (p .lawful) all (subst (λ u. Live u (leaseOf c s)) (p .leads) v))
+
+pub failed-locks-give-back : Failed-locks
+unfolding perform
+failed-locks-give-back w registry script place held keys grants x q snd a = (
+  failed-buffer (w .head) (w .table) (w .health) registry script place held keys grants x q a,
+  λ c s before after e. go c s after (calls-keep-nothing w k c s before after snd (λ z. z) e),
+)
+  where
+    k : Call
+    k = acquire-locks registry script place held keys grants
+
+    go : (c s : ℕ) (after : List Event)
+        → (Handed w k (leaseOf c s) × Live (leaves w k) (leaseOf c s))
+        ⊎ ((m n : List Event) × (after ≡ m ++ (released by-caller c s ∷ n)) × (Live (leaves w k) (leaseOf c s) → ⊥))
+        → (m n : List Event) × (after ≡ m ++ (released by-caller c s ∷ n)) × (Live (leaves w k) (leaseOf c s) → ⊥)
+    go c s after (inl y) = absurd (subst (λ z. Hands-over z (perform w k .seen .1 .grants) (leaseOf c s)) a (y .0))
+    go c s after (inr y) = y

@@ -53,6 +53,13 @@ Demand-2 =
     → preparing headers buckets serial t g .0 ≡ Done
     → Ledger (run (cold rubbish) (preparation headers buckets serial t g ∷ items))
 
+-- "nothing afterwards depends on what stood there before": not on RAM, not on the runs that the preparation was lent
+abbrev pub Forgets : Type 0
+Forgets =
+    (rubbish rubbish′ : World) (headers buckets serial : ℕ) (t g t′ g′ : List ℕ) (items : List Item)
+    → preparing headers buckets serial t g .0 ≡ Done → preparing headers buckets serial t′ g′ .0 ≡ Done
+    → run (cold rubbish) (preparation headers buckets serial t g ∷ items) ≡ run (cold rubbish′) (preparation headers buckets serial t′ g′ ∷ items)
+
 -- ---- "one compare-and-set takes a cell exactly if it is free and a serial remains"
 
 abbrev pub answers : World → Call → Answer
@@ -64,8 +71,11 @@ leaves w k = perform w k .seen .0
 abbrev pub log-of : World → Call → List Event
 log-of w k = perform w k .log
 
+abbrev pub Takable : World → ℕ → Type 0
+Takable w c = Free w c × (w .head .next < lastSerial)
+
 pub record Exactly (w : World) (c : ℕ) : Type 0 where
-  pub granted : (l : Lease) → (answers w (try-acquire c) ≡ Granted l) ↔ (Free w c × ((w .head .next < lastSerial) × (l ≡ leaseOf c (w .head .next))))
+  pub granted : (l : Lease) → (answers w (try-acquire c) ≡ Granted l) ↔ (Takable w c × (l ≡ leaseOf c (w .head .next)))
   -- and then the cell is that serial's
   pub taken : answers w (try-acquire c) ≡ Granted (leaseOf c (w .head .next)) → leaves w (try-acquire c) ≡ step w (took by-caller c (w .head .next))
   -- else nothing changed
@@ -85,10 +95,12 @@ Counts-are =
 
 -- ---- "Refusals 1 to 5, 8 (by cell), 12 to 15 change nothing, all counts 0." The script's place and the grant buffer are as they were given.
 
+abbrev pub Early : Call → Refusal → Type 0
+Early k r = (numberOf r ≤ 5) ⊎ (((numberOf r ≡ 8) × ByCell k) ⊎ (12 ≤ numberOf r))
+
 abbrev pub Changes-nothing : Type 0
 Changes-nothing =
-    (w : World) (k : Call) (r : Refusal) → answers w k ≡ Refused r
-    → (numberOf r ≤ 5) ⊎ (((numberOf r ≡ 8) × ByCell k) ⊎ (12 ≤ numberOf r))
+    (w : World) (k : Call) (r : Refusal) → answers w k ≡ Refused r → Early k r
     → perform w k ≡ record { seen = (w, record { answer = Refused r; counts = countsOf 0 0 0 0; place = place-of k; grants = buffer k }); log = [] }
 
 -- the same of a crew: "for each member, cells taken and cells released, and the counts of moving and idle turns" are 0
@@ -130,11 +142,14 @@ Failed-locks =
 
 -- ---- "up to a release naming its cell and serial": every release is one that the call, or a step of its script from its place on, named
 
+-- a step of the script, not before the place `low`, releases this cell with this serial
+abbrev pub By-step : List ℕ → ℕ → ℕ → ℕ → Type 0
+By-step script low c s = (p : ℕ) × (low ≤ p) × (p < stepsIn script) × (kindAt script p ≡ 2) × (placeAt script p ≡ c) × (numberAt script p ≡ s)
+
 abbrev pub Named : Type 0
 Named =
     (w : World) (k : Call) (c s : ℕ) (before after : List Event)
-    → (log-of w k ≡ before ++ (released by-script c s ∷ after)
-    → (p : ℕ) × (place-of k ≤ p) × (p < stepsIn (script-of k)) × (kindAt (script-of k) p ≡ 2) × (placeAt (script-of k) p ≡ c) × (numberAt (script-of k) p ≡ s))
+    → (log-of w k ≡ before ++ (released by-script c s ∷ after) → By-step (script-of k) (place-of k) c s)
     × (log-of w k ≡ before ++ (released by-caller c s ∷ after)
     → (isIn (leaseOf c s) (given-up k) ≡ true) ⊎ ((m n : List Event) × (before ≡ m ++ (took by-caller c s ∷ n))))
 
