@@ -13,4 +13,5 @@ pub mod TryLock
 pub mod Buckets
 pub mod ReleaseAll
 pub mod Guards
+pub mod Met
 pub mod Open

@@ -33,6 +33,7 @@ use Rattle.upstream.specs.Vocabulary.{Key, cell, Authority, lease-key, l
 use Rattle.upstream.specs.Protocol.{Put, here, there, put, bit-of, owner-of, step-valid, step-keeps, step-frees}
 use Rattle.upstream.specs.Bridge.{authorized-live, by-name, by-place, Sized, put-cells, sized-now, event-step}
 use Rattle.laws.specs.Pick.{if-both}
+use Rattle.upstream.specs.Met.{two-held}
 use Rattle.upstream.specs.TryLock.{try-lock-e1, try-lock-e2, try-lock-e3, try-lock-e4, try-lock-e5}
 use Rattle.upstream.specs.TryAcquire.{tried, tries-keeps, tries-keys, try-acquire-e1}
 
@@ -271,10 +272,6 @@ unfolding perform acquirePreservingOf heldCellRules notLive first shapeFits head
 rejected-steals-acquire p = omega (arith, ap (λ (x : Answer × Authority). kindOf (x .0)) (p one-held [] 0))
 
 -- ---- "`drop_preserving_borrows` and `release_all` may free other cells"
-
--- an arena of two cells, held by serials 1 and 2
-abbrev two-held : Authority
-two-held = worldOf (headOf 1 2 3) (1 ∷ 1 ∷ 0 ∷ 1 ∷ 2 ∷ 0 ∷ []) (0 ∷ [])
 
 pub record Ensured-drop (w : Authority) (held : List Lease) (l : Lease) (v : Authority) : Type 0 where
   pub e1 : valid v
