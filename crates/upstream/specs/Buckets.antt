@@ -1,0 +1,326 @@
+-- 000 and 001: resolving a key (`publication_header`, `poisoned`, `bucket`, `yield_now`), `transactional_try_lock_bucket` and `acquire_index_bucket`.
+use Prim.Native.Nat.{ℕ, suc, _≤_, _<_}
+use mathlib.Core.Path.{_≡_, refl, ap, _∙_}
+use mathlib.Core.List.{List, [], _∷_}
+use mathlib.Core.Bool.{false}
+use mathlib.Core.Logic.{inl, inr}
+use native.Mathlib.Omega.{arith}
+use native.Mathlib.Decide.{decLt}
+use borrow.Author.Tests.{not-false, le-leb}
+use lib.ListN.{length, getD}
+use Rattle.model.specs.Arena.{leasesOf, waitersAt}
+use Rattle.model.specs.Answers.{kindOf}
+use Rattle.model.specs.Refusals.{Rule, first}
+use Rattle.model.specs.Checks.{badShape, badHealth, badRegistry, badScript, badHeld, badHeldLength, badBinding, bucketRules}
+use Rattle.model.specs.Foreign.{Setting, boundaryOf}
+use Rattle.model.specs.Lock.{findOf, outcomeOf, answerOf, settled, attemptAt, attemptOf, attemptLimit, retryOf}
+use Rattle.model.specs.Calls.{given, starting}
+use Rattle.model.specs.declared.Answer.the-variants.{Granted, Refused}
+use Rattle.model.specs.declared.Check.the-variants.{Fine, Fault}
+use Rattle.model.specs.declared.Counts.{Counts}
+use Rattle.model.specs.declared.Found.{Found}
+use Rattle.model.specs.declared.Found.the-variants as found
+use Rattle.model.specs.declared.Lease.{Lease}
+use Rattle.model.specs.declared.Outcome.{Outcome}
+use Rattle.model.specs.declared.Outcome.the-variants as outcome
+use Rattle.model.specs.declared.Refusal.{Refusal}
+use Rattle.model.specs.declared.Refusal.the-variants.{BadHeld, BadBinding, BadHeader, Poisoned, InvalidBucket, Damaged}
+use Rattle.model.specs.declared.Run.{Run}
+use Rattle.history.specs.World.{yields, number-of}
+use Rattle.history.specs.Items.{Call, transactional, acquire-bucket, perform}
+use Rattle.history.specs.Statements.{answers, leaves, log-of}
+use Rattle.history.specs.Theorems.{counts-are}
+use Rattle.history.specs.Judged.{Clear, rules, unchanged}
+use Rattle.history.specs.Steps.{of-flow}
+use Rattle.upstream.specs.Vocabulary.{Key, Authority, lease-key, dom, contains-key, cells, Valid-cell, valid, authorized, held-ids, leases-authorized, contains-place, key-of, bucket-request-valid, bucket-reply, physical, guards-place}
+use Rattle.upstream.specs.Protocol.{trace-valid, trace-keeps, trace-buries}
+use Rattle.upstream.specs.Bridge.{by-name, by-place, fits-sized, refused, first-after, by-checks}
+use Rattle.upstream.specs.Refusing.{First-bad, held-refused}
+use Rattle.upstream.specs.TryAcquire.{fine-fault}
+use Rattle.upstream.specs.Keys.{Finds, bad-header, poisoned, bad-bucket, at, finds, place-inside, answer-granted, Granted-at, attempt-key, retry-key}
+use Rattle.upstream.specs.Scripts.{Ready, attempt-goes, retry-goes}
+use Rattle.upstream.specs.Environment.{Went, unmoved, held-live}
+use Rattle.upstream.specs.TryLock.{lock-damaged}
+
+-- ---- resolving a key: `w` is the arena, whose health is read
+
+module _ (w : Authority) (registry : List ℕ) (binding bucket : ℕ) where
+  abbrev header : ℕ
+  header = getD registry binding 0
+
+  abbrev find : Found
+  find = findOf (w .head .headers) (w .head .buckets) (w .health) registry binding bucket
+
+  abbrev Find : Found → Type 0
+  Find = Finds (w .head .headers) (w .head .buckets) (w .health) registry binding bucket
+
+  found-find : Find find
+  found-find = finds (w .head .headers) (w .head .buckets) (w .health) registry binding bucket
+
+  -- the cell that is found
+  found-at : {x : Found} → Find x → (k : Key) → x ≡ found.At k → (k ≡ key-of w header bucket) × contains-place w header bucket
+  found-at (bad-header p) k e = let q : _≡_ {A = ℕ} 0 1 = cc in absurd (omega arith)
+  found-at (poisoned p q) k e = let z : _≡_ {A = ℕ} 0 1 = cc in absurd (omega arith)
+  found-at (bad-bucket p q s) k e = let z : _≡_ {A = ℕ} 0 1 = cc in absurd (omega arith)
+  found-at (at p q s) k e = (cc, (p, s))
+
+  -- result.unwrap() == self.registry()[binding as int]: the header that counts is the registry's
+  pub publication-header-e1 : (k : Key) → find ≡ found.At k → k ≡ key-of w (getD registry binding 0) bucket
+  publication-header-e1 k e = found-at found-find k e .0
+
+  -- a header that is not in the arena: 6, with the header
+  outside : {x : Found} → Find x → w .head .headers ≤ header → x ≡ found.Fault (BadHeader header)
+  outside (bad-header p) l = refl
+  outside (poisoned p q) l = absurd (omega arith)
+  outside (bad-bucket p q s) l = absurd (omega arith)
+  outside (at p q s) l = absurd (omega arith)
+
+  -- bucket_request_valid: the bucket is too large, or its cell is in the map; else the header is too large, 6
+  pub bucket-r1 : (bucket-request-valid (w .head .buckets) header bucket w → ⊥) → find ≡ found.Fault (BadHeader header)
+  bucket-r1 n = go (decLt header (w .head .headers)) (decLt bucket (w .head .buckets))
+    where
+      go : Dec (header < w .head .headers) → Dec (bucket < w .head .buckets) → find ≡ found.Fault (BadHeader header)
+      go (yes p) (yes q) = absurd (n (inr (p, q)))
+      go (yes p) (no q) = absurd (n (inl (omega arith)))
+      go (no p) q = outside found-find (omega arith)
+
+  -- self.poisoned(header): the health byte decides, 7 with the header
+  pub poisoned-n1 : header < w .head .headers → (getD (w .health) header 0 ≡ 0 → ⊥) → find ≡ found.Fault (Poisoned header)
+  poisoned-n1 l n = go found-find
+    where
+      go : {x : Found} → Find x → x ≡ found.Fault (Poisoned header)
+      go (bad-header p) = absurd (omega arith)
+      go (poisoned p q) = refl
+      go (bad-bucket p q s) = absurd (n q)
+      go (at p q s) = absurd (n q)
+
+  -- bucket_reply, once header and health are found good; else 8 with the caller's number
+  pub bucket-e1 : header < w .head .headers → getD (w .health) header 0 ≡ 0 → bucket-reply (w .head .buckets) header bucket w (λ k. find ≡ found.At k)
+  bucket-e1 l g = (
+    (λ x. found-at found-find (x .0) (x .1) .1 .1, λ b. inside found-find b),
+    λ k e.
+        let x = found-at found-find k e in
+        (x .0, rw (x .0) (place-inside (w .head .headers) (w .head .buckets) header bucket l (x .1 .1))),
+  )
+    where
+      inside : {x : Found} → Find x → bucket < w .head .buckets → (k : Key) × (x ≡ found.At k)
+      inside (bad-header p) b = absurd (omega arith)
+      inside (poisoned p q) b = absurd (q g)
+      inside (bad-bucket p q s) b = absurd (omega arith)
+      inside (at p q s) b = (_, refl)
+
+  pub bucket-refused : header < w .head .headers → getD (w .health) header 0 ≡ 0 → w .head .buckets ≤ bucket → find ≡ found.Fault (InvalidBucket bucket)
+  bucket-refused l g b = go found-find
+    where
+      go : {x : Found} → Find x → x ≡ found.Fault (InvalidBucket bucket)
+      go (bad-header p) = absurd (omega arith)
+      go (poisoned p q) = absurd (q g)
+      go (bad-bucket p q s) = refl
+      go (at p q s) = absurd (omega arith)
+
+-- ---- the calls
+
+module _ (w : Authority) (registry script : List ℕ) (place : ℕ) (held : List ℕ) (binding bucket : ℕ) where
+  abbrev one : Call
+  one = transactional registry script place held binding bucket
+
+  abbrev many : Call
+  many = acquire-bucket registry script place held binding bucket
+
+  -- the checks before the one on the binding
+  abbrev Before : List Rule
+  Before = badShape (w .head) (w .table) ∷ badHealth (w .head) (w .health) ∷ badRegistry registry ∷ badScript script place ∷ badHeld (w .head) (w .table) held
+
+  abbrev Checked : Type 0
+  Checked = first (rules w one) ≡ Fine
+
+  abbrev setting : Setting
+  setting = given (w .head) script (leasesOf held)
+
+  abbrev begun : Run
+  begun = starting (w .head) place
+
+  -- the header in the registry, and what the key comes to
+  abbrev header₁ : ℕ
+  header₁ = getD registry binding 0
+
+  abbrev find₁ : Found
+  find₁ = findOf (w .head .headers) (w .head .buckets) (w .health) registry binding bucket
+
+  -- a settled outcome that is granted
+  unsettled : (o : Outcome) (l : Lease) → answerOf (settled o) ≡ Granted l → o ≡ outcome.Granted l
+  unsettled (outcome.Granted k) l e = answer-granted (outcome.Granted k) l e
+  unsettled outcome.Busy l e = absurd (omega (arith, ap kindOf e))
+  unsettled (outcome.Refused r) l e = answer-granted (outcome.Refused r) l e
+
+  begins : valid w → Clear (rules w one) → Ready (held-ids (leasesOf held)) w
+  unfolding bucketRules
+  begins v k = record { sized = fits-sized w (not-false _ (k .0)); valid-now = v; safe = held-live w held _ (k .1 .1 .1 .1) }
+
+  -- what is granted is authorized
+  one-went : valid w → Went w (leasesOf held) (answers w one) (leaves w one)
+  one-went v =
+      by-checks (λ m. Went w (leasesOf held) (m .seen .1 .answer) (m .seen .0)) w one (λ r e. unmoved r)
+      (λ e k.
+      let m = attempt-goes (w .head) script (leasesOf held) registry binding bucket begun (w .table) (w .health) (begins v k) in
+      record { trace = m .goes .trace; gain = λ l e. m .gain l (answer-granted _ l e) })
+
+  many-went : valid w → Went w (leasesOf held) (answers w many) (leaves w many)
+  many-went v =
+      by-checks (λ m. Went w (leasesOf held) (m .seen .1 .answer) (m .seen .0)) w many (λ r e. unmoved r)
+      (λ e k.
+      let m = retry-goes (w .head) script attemptLimit 0 (leasesOf held) registry binding bucket begun (w .table) (w .health) (begins v k) in
+      record { trace = m .goes .trace; gain = λ l e. m .gain l (unsettled _ l e) })
+
+  -- and is on the key's cell, whatever the table holds
+  abbrev OfKey : Lease → Type 0
+  OfKey = Granted-at (w .head .headers) (w .head .buckets) registry binding bucket
+
+  one-key : (l : Lease) → answers w one ≡ Granted l → OfKey l
+  one-key l =
+      by-checks (λ m. m .seen .1 .answer ≡ Granted l → OfKey l) w one (λ r e q. absurd (omega (arith, ap kindOf q)))
+      (λ e k q. attempt-key setting (w .head .buckets) registry binding bucket begun (w .table) (w .health) l (answer-granted _ l q))
+
+  many-key : (l : Lease) → answers w many ≡ Granted l → OfKey l
+  many-key l =
+      by-checks (λ m. m .seen .1 .answer ≡ Granted l → OfKey l) w many (λ r e q. absurd (omega (arith, ap kindOf q)))
+      (λ e k q. retry-key setting (w .head .buckets) registry binding bucket attemptLimit 0 begun (w .table) (w .health) l (unsettled _ l q))
+
+  inside-arena : (l : Lease) → OfKey l → contains-key w (lease-key l)
+  inside-arena l k = rw (k .cell-is) (place-inside (w .head .headers) (w .head .buckets) header₁ bucket (k .header-inside) (k .bucket-inside))
+
+  -- ---- an attempt that comes to a refusal; "A refusal ends it at once"
+
+  abbrev attempted : Outcome
+  attempted = attemptOf setting (w .head .buckets) registry binding bucket begun (w .table) (w .health) .seen .0 .outcome
+
+  at-once : (left : ℕ) (x : Refusal) → attempted ≡ outcome.Refused x
+      → retryOf (suc left) 0 setting (w .head .buckets) registry binding bucket begun (w .table) (w .health) .seen .0 .outcome ≡ outcome.Refused x
+  unfolding retryOf
+  at-once left x e = rw e e
+
+  one-refused : Checked → (x : Refusal) → attempted ≡ outcome.Refused x → answers w one ≡ Refused x
+  one-refused f x a =
+      by-checks (λ m. m .seen .1 .answer ≡ Refused x) w one (λ r e. absurd (fine-fault f e)) (λ e k. ap answerOf a)
+
+  many-refused : Checked → (x : Refusal) → attempted ≡ outcome.Refused x → answers w many ≡ Refused x
+  many-refused f x a =
+      by-checks (λ m. m .seen .1 .answer ≡ Refused x) w many (λ r e. absurd (fine-fault f e)) (λ e k. ap (λ (o : Outcome). answerOf (settled o)) (at-once 4095 x a))
+
+  bad-key : (x : Refusal) → find₁ ≡ found.Fault x → attempted ≡ outcome.Refused x
+  unfolding attemptOf
+  bad-key x e = ap (λ (f : Found). attemptAt f setting begun (w .table) (w .health) .seen .0 .outcome) e
+
+  -- the cell is damaged when it comes to the compare-and-set of the first attempt
+  abbrev Damaged-at : Key → Type 0
+  Damaged-at c =
+      let first-one = boundaryOf setting (begun .flow) (w .table) (w .health) .seen in
+      let two = boundaryOf setting (first-one .0) (first-one .1 .0) (first-one .1 .1) .seen in
+      (waitersAt (first-one .1 .0) c ≡ 0) × (Valid-cell (two .0 .next) (cells (of-flow (w .head) two) c) → ⊥)
+
+  damaged-key : (c : Key) → find₁ ≡ found.At c → Damaged-at c → attempted ≡ outcome.Refused (Damaged c)
+  unfolding attemptOf
+  damaged-key c e d =
+      ap (λ (f : Found). attemptAt f setting begun (w .table) (w .health) .seen .0 .outcome) e
+      ∙ ap (outcomeOf c) (lock-damaged setting (begun .flow) (w .table) (w .health) c (d .0) (d .1) .0)
+
+  -- ---- `transactional_try_lock_bucket`
+
+  -- valid(old(authority)): 9
+  pub transactional-try-lock-bucket-r1 : (c : Key) → Checked → find₁ ≡ found.At c → Damaged-at c → answers w one ≡ Refused (Damaged c)
+  transactional-try-lock-bucket-r1 c f e d = one-refused f (Damaged c) (damaged-key c e d)
+
+  past : length registry ≤ binding → Clear Before → first (rules w one) ≡ Fault (BadBinding 0)
+  unfolding bucketRules
+  past l k = first-after Before (badBinding registry 0 binding) [] k (le-leb (length registry) binding l)
+
+  -- binding < driver.registry().len(): 5, position 0
+  pub transactional-try-lock-bucket-r2 : Clear Before → length registry ≤ binding → perform w one ≡ unchanged w one (BadBinding 0)
+  transactional-try-lock-bucket-r2 k l = refused w one (BadBinding 0) (past l k)
+
+  -- the checks before those on the held list
+  abbrev Before-held : List Rule
+  Before-held = badShape (w .head) (w .table) ∷ badHealth (w .head) (w .health) ∷ badRegistry registry ∷ badScript script place ∷ []
+
+  unheld : (i : ℕ) → Clear Before-held → badHeldLength held .applies ≡ false → First-bad w (leasesOf held) i → first (rules w one) ≡ Fault (BadHeld i)
+  unfolding bucketRules
+  unheld i k b f = held-refused Before-held w held i _ k b f
+
+  -- leases_authorized(old(authority), held@): 3, with the first position
+  pub transactional-try-lock-bucket-r3 : (i : ℕ) → Clear Before-held → badHeldLength held .applies ≡ false → First-bad w (leasesOf held) i → perform w one ≡ unchanged w one (BadHeld i)
+  transactional-try-lock-bucket-r3 i k b f = refused w one (BadHeld i) (unheld i k b f)
+
+  -- physical_domain(driver, old(authority)): 6 with the header, where the key's header is not in the arena
+  pub transactional-try-lock-bucket-r4 : Checked → w .head .headers ≤ header₁ → answers w one ≡ Refused (BadHeader header₁)
+  transactional-try-lock-bucket-r4 f l = one-refused f (BadHeader header₁) (bad-key (BadHeader header₁) (outside w registry binding bucket (found-find w registry binding bucket) l))
+
+  pub transactional-try-lock-bucket-e1 : valid w → valid (leaves w one)
+  transactional-try-lock-bucket-e1 v = trace-valid (one-went v .trace) v
+
+  pub transactional-try-lock-bucket-e2 : valid w → leases-authorized w (leasesOf held) → leases-authorized (leaves w one) (leasesOf held)
+  transactional-try-lock-bucket-e2 v p = by-place (leaves w one) (leasesOf held) (trace-keeps (one-went v .trace) (by-name w (leasesOf held) p))
+
+  pub transactional-try-lock-bucket-e3 : valid w → dom (leaves w one) ≡ dom w
+  transactional-try-lock-bucket-e3 v = trace-buries (one-went v .trace) .same-keys
+
+  pub transactional-try-lock-bucket-e4 : valid w → (l : Lease) → answers w one ≡ Granted l → authorized (leaves w one) l
+  transactional-try-lock-bucket-e4 v l e = one-went v .gain l e
+
+  pub transactional-try-lock-bucket-e5 : (l : Lease) → answers w one ≡ Granted l → lease-key l ≡ key-of w header₁ bucket
+  transactional-try-lock-bucket-e5 l e = one-key l e .cell-is
+
+  -- ---- `acquire_index_bucket`
+
+  pub acquire-index-bucket-r1 : (c : Key) → Checked → find₁ ≡ found.At c → Damaged-at c → answers w many ≡ Refused (Damaged c)
+  acquire-index-bucket-r1 c f e d = many-refused f (Damaged c) (damaged-key c e d)
+
+  pub acquire-index-bucket-r2 : Clear Before → length registry ≤ binding → perform w many ≡ unchanged w many (BadBinding 0)
+  acquire-index-bucket-r2 k l = refused w many (BadBinding 0) (past l k)
+
+  pub acquire-index-bucket-r3 : (i : ℕ) → Clear Before-held → badHeldLength held .applies ≡ false → First-bad w (leasesOf held) i → perform w many ≡ unchanged w many (BadHeld i)
+  acquire-index-bucket-r3 i k b f = refused w many (BadHeld i) (unheld i k b f)
+
+  pub acquire-index-bucket-r4 : Checked → w .head .headers ≤ header₁ → answers w many ≡ Refused (BadHeader header₁)
+  acquire-index-bucket-r4 f l = many-refused f (BadHeader header₁) (bad-key (BadHeader header₁) (outside w registry binding bucket (found-find w registry binding bucket) l))
+
+  pub acquire-index-bucket-e1 : valid w → valid (leaves w many)
+  acquire-index-bucket-e1 v = trace-valid (many-went v .trace) v
+
+  pub acquire-index-bucket-e2 : valid w → leases-authorized w (leasesOf held) → leases-authorized (leaves w many) (leasesOf held)
+  acquire-index-bucket-e2 v p = by-place (leaves w many) (leasesOf held) (trace-keeps (many-went v .trace) (by-name w (leasesOf held) p))
+
+  pub acquire-index-bucket-e3 : valid w → dom (leaves w many) ≡ dom w
+  acquire-index-bucket-e3 v = trace-buries (many-went v .trace) .same-keys
+
+  pub acquire-index-bucket-e4 : valid w → (l : Lease) → answers w many ≡ Granted l → authorized (leaves w many) l
+  acquire-index-bucket-e4 v l e = many-went v .gain l e
+
+  pub acquire-index-bucket-e5 : (l : Lease) → answers w many ≡ Granted l → lease-key l ≡ key-of w header₁ bucket
+  acquire-index-bucket-e5 l e = many-key l e .cell-is
+
+  -- driver.yield_now(): a yield is an event of the log, and the reply counts them
+  pub yield-now-n1 : perform w many .seen .1 .counts .yields ≡ number-of yields (log-of w many)
+  yield-now-n1 = ap (λ (k : Counts). k .yields) (counts-are w many (λ z. z))
+
+  -- ---- the same calls in 001, which asks nothing of the table
+
+  -- physical == physical(driver.registry(), (binding, bucket))
+  pub guards-transactional-e1 : (l : Lease) → answers w one ≡ Granted l → guards-place (w .head .buckets) l (physical registry (binding, bucket))
+  guards-transactional-e1 l e = let k = one-key l e in (k .cell-is, k .bucket-inside)
+
+  -- arena == driver.arena(): the cell is in the arena
+  pub guards-transactional-e2 : (l : Lease) → answers w one ≡ Granted l → contains-key w (lease-key l)
+  guards-transactional-e2 l e = inside-arena l (one-key l e)
+
+  -- bucket < driver.bucket_count()
+  pub guards-transactional-e3 : (l : Lease) → answers w one ≡ Granted l → bucket < w .head .buckets
+  guards-transactional-e3 l e = one-key l e .bucket-inside
+
+  pub guards-acquire-bucket-e1 : (l : Lease) → answers w many ≡ Granted l → guards-place (w .head .buckets) l (physical registry (binding, bucket))
+  guards-acquire-bucket-e1 l e = let k = many-key l e in (k .cell-is, k .bucket-inside)
+
+  pub guards-acquire-bucket-e2 : (l : Lease) → answers w many ≡ Granted l → contains-key w (lease-key l)
+  guards-acquire-bucket-e2 l e = inside-arena l (many-key l e)
+
+  pub guards-acquire-bucket-e3 : (l : Lease) → answers w many ≡ Granted l → bucket < w .head .buckets
+  guards-acquire-bucket-e3 l e = many-key l e .bucket-inside

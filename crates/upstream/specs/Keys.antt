@@ -1,0 +1,104 @@
+-- A key's cell: what its header, health and bucket come to, and that a lease which attempts on the key grant is on that cell. No table is
+-- asked to be valid here: document 001 asks nothing of it.
+use Prim.Native.Nat.{ℕ, zero, suc, _+_, _*_, _≤_, _<_}
+use mathlib.Core.Path.{_≡_, sym, ap, _∙_}
+use mathlib.Core.List.{List}
+use mathlib.Core.Bool.{not}
+use native.Mathlib.Omega.{arith}
+use native.Mathlib.Nat.{mul-le-mul-right, suc-mul}
+use lib.Dec.{leb, eqb}
+use lib.ListN.{getD}
+use borrow.Author.Tests.{leb-true, leb-false, eqb-true, eq-eqb, not-true, not-false}
+use Rattle.model.specs.Log.{Made}
+use Rattle.model.specs.Arena.{cellNumber, leaseOf}
+use Rattle.model.specs.Foreign.{Setting}
+use Rattle.model.specs.Answers.{kindOf}
+use Rattle.model.specs.Lock.{lockOf, outcomeOf, answerOf, findOf, attemptAt, attemptOf, pauseOf, isBusy, retryOf}
+use Rattle.model.specs.declared.Found.{Found}
+use Rattle.model.specs.declared.Found.the-variants as found
+use Rattle.model.specs.declared.Lease.{Lease}
+use Rattle.model.specs.declared.Answer.the-variants.{Granted}
+use Rattle.model.specs.declared.Outcome.{Outcome}
+use Rattle.model.specs.declared.Outcome.the-variants as outcome
+use Rattle.model.specs.declared.Refusal.the-variants.{BadHeader, Poisoned, InvalidBucket}
+use Rattle.model.specs.declared.Run.{Run}
+use Rattle.model.specs.declared.Take.{Take}
+use Rattle.model.specs.declared.Take.the-variants as taking
+use Rattle.model.specs.declared.Tried.{Tried}
+use Rattle.laws.specs.Pick.{if-both}
+use Rattle.history.specs.Tests.{differ, if-cases}
+use Rattle.history.specs.Steps.{With}
+
+pub data Finds (headers buckets : ℕ) (g registry : List ℕ) (binding bucket : ℕ) : Found → Type 0 where
+  bad-header : headers ≤ getD registry binding 0
+      → Finds headers buckets g registry binding bucket (found.Fault (BadHeader (getD registry binding 0)))
+  poisoned : getD registry binding 0 < headers → (getD g (getD registry binding 0) 0 ≡ 0 → ⊥)
+      → Finds headers buckets g registry binding bucket (found.Fault (Poisoned (getD registry binding 0)))
+  bad-bucket : getD registry binding 0 < headers → getD g (getD registry binding 0) 0 ≡ 0 → buckets ≤ bucket
+      → Finds headers buckets g registry binding bucket (found.Fault (InvalidBucket bucket))
+  at : getD registry binding 0 < headers → getD g (getD registry binding 0) 0 ≡ 0 → bucket < buckets
+      → Finds headers buckets g registry binding bucket (found.At (cellNumber buckets (getD registry binding 0) bucket))
+
+pub finds : (headers buckets : ℕ) (g registry : List ℕ) (binding bucket : ℕ) → Finds headers buckets g registry binding bucket (findOf headers buckets g registry binding bucket)
+unfolding findOf
+finds headers buckets g registry binding bucket =
+    if-cases P (leb headers header) (λ e. bad-header (leb-true headers header e))
+    (λ e. if-cases P (not (eqb (getD g header 0) 0)) (λ x. poisoned (leb-false headers header e) (λ z. differ (sym (not-true _ x) ∙ eq-eqb (getD g header 0) 0 z)))
+    (λ x. if-cases P (leb buckets bucket) (λ y. bad-bucket (leb-false headers header e) (eqb-true (getD g header 0) 0 (not-false _ x)) (leb-true buckets bucket y))
+    (λ y. at (leb-false headers header e) (eqb-true (getD g header 0) 0 (not-false _ x)) (leb-false buckets bucket y))))
+  where
+    header : ℕ
+    header = getD registry binding 0
+
+    P : Found → Type 0
+    P f = Finds headers buckets g registry binding bucket f
+
+pub place-inside : (headers buckets header bucket : ℕ) → header < headers → bucket < buckets → cellNumber buckets header bucket < headers * buckets
+place-inside headers buckets header bucket p q = omega (arith, mul-le-mul-right buckets p, suc-mul header buckets)
+
+-- a take that granted this lease
+pub granted-lease : (c : ℕ) (a : Take) (l : Lease) → outcomeOf c a ≡ outcome.Granted l → (a ≡ taking.Granted (l .serial)) × (l ≡ leaseOf c (l .serial))
+granted-lease c (taking.Granted s) l e =
+    let q : leaseOf c s ≡ l = cc in
+    (ap {B = Take} (λ (k : Lease). taking.Granted (k .serial)) q, sym q ∙ ap (λ (k : Lease). leaseOf c (k .serial)) q)
+granted-lease c taking.Busy l e = let q : _≡_ {A = ℕ} 0 1 = cc in absurd (omega arith)
+granted-lease c taking.Damaged l e = let q : _≡_ {A = ℕ} 0 1 = cc in absurd (omega arith)
+granted-lease c taking.Spent l e = let q : _≡_ {A = ℕ} 0 1 = cc in absurd (omega arith)
+
+-- an answer that grants this lease
+pub answer-granted : (o : Outcome) (l : Lease) → answerOf o ≡ Granted l → o ≡ outcome.Granted l
+answer-granted (outcome.Granted k) l e = let q : k ≡ l = cc in ap (λ (k : Lease). outcome.Granted k) q
+answer-granted outcome.Busy l e = absurd (omega (arith, ap kindOf e))
+answer-granted (outcome.Refused r) l e = absurd (omega (arith, ap kindOf e))
+
+-- ---- a lease on the key's cell
+
+pub record Granted-at (headers buckets : ℕ) (registry : List ℕ) (binding bucket : ℕ) (l : Lease) : Type 0 where
+  pub header-inside : getD registry binding 0 < headers
+  pub bucket-inside : bucket < buckets
+  pub cell-is : l .cell ≡ cellNumber buckets (getD registry binding 0) bucket
+
+module _ (e : Setting) (buckets : ℕ) (registry : List ℕ) (binding bucket : ℕ) where
+  abbrev Keyed : With Tried → Type 0
+  Keyed a = (l : Lease) → a .0 .outcome ≡ outcome.Granted l → Granted-at (e .headers) buckets registry binding bucket l
+
+  pub attempt-key : (r : Run) (t g : List ℕ) → Keyed (attemptOf e buckets registry binding bucket r t g .seen)
+  unfolding attemptOf
+  attempt-key r t g = go (finds (e .headers) buckets g registry binding bucket)
+    where
+      go : {x : Found} → Finds (e .headers) buckets g registry binding bucket x → Keyed (attemptAt x e r t g .seen)
+      go (bad-header p) l q = let z : _≡_ {A = ℕ} 0 1 = cc in absurd (omega arith)
+      go (poisoned p s) l q = let z : _≡_ {A = ℕ} 0 1 = cc in absurd (omega arith)
+      go (bad-bucket p s k) l q = let z : _≡_ {A = ℕ} 0 1 = cc in absurd (omega arith)
+      go (at p s k) l q =
+          let c = cellNumber buckets (getD registry binding 0) bucket in
+          let x = granted-lease c (lockOf e (r .flow) t g c .seen .0 .answer) l q in
+          record { header-inside = p; bucket-inside = k; cell-is = ap (λ (k : Lease). k .cell) (x .1) }
+
+  pub retry-key : (left i : ℕ) (r : Run) (t g : List ℕ) → Keyed (retryOf left i e buckets registry binding bucket r t g .seen)
+  unfolding retryOf
+  retry-key zero i r t g = λ l q. let z : _≡_ {A = ℕ} 0 1 = cc in absurd (omega arith)
+  retry-key (suc left) i r t g =
+      let m = attemptOf e buckets registry binding bucket r t g .seen in
+      let p = pauseOf e i (m .0 .run) (m .1 .0) (m .1 .1) .seen in
+      if-both (λ (x : Made (With Tried)). Keyed (x .seen)) (isBusy (m .0 .outcome)) (retry-key left (i + 1) (p .0) (p .1 .0) (p .1 .1)) (attempt-key r t g)

@@ -1,0 +1,17 @@
+pub mod Vocabulary
+pub mod Protocol
+pub mod Bridge
+pub mod Refusing
+pub mod TryAcquire
+pub mod DropLease
+pub mod OneLease
+pub mod Borrows
+pub mod Keys
+pub mod Scripts
+pub mod Environment
+pub mod TryLock
+pub mod Buckets
+pub mod ReleaseAll
+pub mod Guards
+pub mod Met
+pub mod Open

@@ -1,0 +1,143 @@
+-- 000: `try_lock` and `other_mutex_preserves_leases`, which are one definition here.
+use Prim.Native.Nat.{ℕ}
+use mathlib.Core.Path.{_≡_, refl, sym, ap, subst}
+use mathlib.Core.List.{List, [], _∷_}
+use mathlib.Core.Bool.{false}
+use native.Mathlib.Omega.{arith}
+use borrow.Author.Tests.{not-false, leb-false, eq-eqb}
+use Rattle.model.specs.Arena.{leaseOf, leasesOf, bitAt, ownerAt, waitersAt, stateOf, stateAt}
+use Rattle.model.specs.Answers.{kindOf}
+use Rattle.model.specs.Refusals.{Rule, first}
+use Rattle.model.specs.Checks.{badShape, badHealth, badScript, badHeld, badHeldLength, scriptRules, lockRules}
+use Rattle.model.specs.Foreign.{Setting, flowOf, boundaryOf}
+use Rattle.model.specs.Lock.{lockOf, secondOf, takeOf, outcomeOf, answerOf}
+use Rattle.model.specs.Calls.{given}
+use Rattle.model.specs.declared.Answer.{Answer}
+use Rattle.model.specs.declared.Answer.the-variants.{Granted, Refused}
+use Rattle.model.specs.declared.Check.the-variants.{Fine}
+use Rattle.model.specs.declared.Flow.{Flow}
+use Rattle.model.specs.declared.Lease.{Lease}
+use Rattle.model.specs.declared.Refusal.the-variants.{BadHeld, InvalidBucket, Damaged}
+use Rattle.model.specs.declared.State.{State}
+use Rattle.model.specs.declared.State.the-variants as state
+use Rattle.model.specs.declared.Take.{Take}
+use Rattle.model.specs.declared.Take.the-variants as taking
+use Rattle.history.specs.Items.{try-lock, perform}
+use Rattle.history.specs.Statements.{answers, leaves}
+use Rattle.history.specs.Judged.{Clear, clear-back, rules, unchanged}
+use Rattle.history.specs.Tests.{Stands, is-free, is-held, is-damaged, stands, free, held}
+use Rattle.history.specs.Steps.{of-flow}
+use Rattle.upstream.specs.Vocabulary.{Key, cell, Authority, lease-key, next-serial, dom, contains-key, cells, Valid-cell, valid, authorized, leases-authorized}
+use Rattle.upstream.specs.Protocol.{trace-valid, trace-keeps, trace-buries}
+use Rattle.upstream.specs.Bridge.{status-valid, by-name, by-place, fits-sized, refused, by-checks}
+use Rattle.upstream.specs.Refusing.{First-bad, held-refused, cell-refused}
+use Rattle.upstream.specs.TryAcquire.{fine-fault}
+use Rattle.upstream.specs.Keys.{granted-lease, answer-granted}
+use Rattle.upstream.specs.Scripts.{lock-goes}
+use Rattle.upstream.specs.Environment.{Went, unmoved, held-live}
+
+-- a cell that is not valid is damaged
+pub not-valid : (next b o : ℕ) → (Valid-cell next (cell b o) → ⊥) → stateOf next b o ≡ state.Damaged
+not-valid next b o n = go (stands next b o)
+  where
+    go : {s : State} → Stands next b o s → s ≡ state.Damaged
+    go (is-free p q) = absurd (n (status-valid next (cell b o) (free p q)))
+    go (is-held p q r) = absurd (n (status-valid next (cell b o) (held p q r)))
+    go (is-damaged p q) = refl
+
+-- a lock whose cell is damaged when it comes to the compare-and-set: 9, and all as the boundaries left it
+pub lock-damaged : (e : Setting) (f : Flow) (t g : List ℕ) (c : Key)
+    → let one = boundaryOf e f t g .seen in
+    let two = boundaryOf e (one .0) (one .1 .0) (one .1 .1) .seen in
+    waitersAt (one .1 .0) c ≡ 0 → (Valid-cell (two .0 .next) (cell (bitAt (two .1 .0) c) (ownerAt (two .1 .0) c)) → ⊥)
+    → (lockOf e f t g c .seen .0 .answer ≡ taking.Damaged) × (lockOf e f t g c .seen .1 ≡ two .1) × (lockOf e f t g c .seen .0 .flow ≡ two .0)
+unfolding lockOf secondOf takeOf stateAt
+lock-damaged e f t g c q n =
+    let one = boundaryOf e f t g .seen in
+    let two = boundaryOf e (one .0) (one .1 .0) (one .1 .1) .seen in
+    let s = not-valid (two .0 .next) (bitAt (two .1 .0) c) (ownerAt (two .1 .0) c) n in
+    rw (eq-eqb (waitersAt (one .1 .0) c) 0 q, s) (refl, refl, refl)
+
+-- ---- the call
+
+module _ (w : Authority) (script : List ℕ) (place : ℕ) (held : List ℕ) (c : Key) where
+  abbrev result : Answer
+  result = answers w (try-lock script place held c)
+
+  abbrev final : Authority
+  final = leaves w (try-lock script place held c)
+
+  -- the checks before the one on the cell
+  abbrev Before : List Rule
+  Before = badShape (w .head) (w .table) ∷ badHealth (w .head) (w .health) ∷ badScript script place ∷ badHeld (w .head) (w .table) held
+
+  granted : (a : Take) (l : Lease) → answerOf (outcomeOf c a) ≡ Granted l → (a ≡ taking.Granted (l .serial)) × (l ≡ leaseOf c (l .serial))
+  granted a l e = granted-lease c a l (answer-granted (outcomeOf c a) l e)
+
+  -- what is granted is the cell that was asked for, and it is in the arena, whatever the table holds
+  pub granted-key : (l : Lease) → result ≡ Granted l → (lease-key l ≡ c) × contains-key w c
+  unfolding lockRules scriptRules
+  granted-key l =
+      by-checks (λ m. m .seen .1 .answer ≡ Granted l → (lease-key l ≡ c) × contains-key w c) w (try-lock script place held c) (λ r e q. absurd (omega (arith, ap kindOf q)))
+      (λ e k q. (
+        ap lease-key (granted (lockOf (given (w .head) script (leasesOf held)) (flowOf (next-serial w) place 0) (w .table) (w .health) c .seen .0 .answer) l q .1),
+        leb-false _ _ (clear-back Before _ k .0),
+      ))
+
+  pub try-lock-went : valid w → Went w (leasesOf held) result final
+  unfolding lockRules scriptRules
+  try-lock-went v =
+      by-checks (λ m. Went w (leasesOf held) (m .seen .1 .answer) (m .seen .0)) w (try-lock script place held c) (λ r e. unmoved r)
+      (λ e k.
+      let m = lock-goes (w .head) script (leasesOf held) (flowOf (next-serial w) place 0) (w .table) (w .health) c
+      (record { sized = fits-sized w (not-false _ (k .0)); valid-now = v; safe = held-live w held _ (k .1 .1 .1) }) (leb-false _ _ (clear-back Before _ k .0)) in
+      record {
+        trace = m .goes .trace;
+        gain = λ l e.
+            let x = granted (lockOf (given (w .head) script (leasesOf held)) (flowOf (next-serial w) place 0) (w .table) (w .health) c .seen .0 .answer) l e in
+            subst (authorized _) (sym (x .1)) (m .gain (l .serial) (x .0));
+      })
+
+  -- valid(old(authority)): 9, where the cell is damaged when it comes to the compare-and-set
+  pub try-lock-r1 : first (rules w (try-lock script place held c)) ≡ Fine
+      → let e = given (w .head) script (leasesOf held) in
+      let one = boundaryOf e (flowOf (next-serial w) place 0) (w .table) (w .health) .seen in
+      let two = boundaryOf e (one .0) (one .1 .0) (one .1 .1) .seen in
+      waitersAt (one .1 .0) c ≡ 0 → (Valid-cell (two .0 .next) (cells (of-flow (w .head) two) c) → ⊥)
+      → (result ≡ Refused (Damaged c)) × (final ≡ of-flow (w .head) two)
+  try-lock-r1 f q n =
+      let given-all = given (w .head) script (leasesOf held) in
+      let one = boundaryOf given-all (flowOf (next-serial w) place 0) (w .table) (w .health) .seen in
+      let two = boundaryOf given-all (one .0) (one .1 .0) (one .1 .1) .seen in
+      by-checks (λ m. (m .seen .1 .answer ≡ Refused (Damaged c)) × (m .seen .0 ≡ of-flow (w .head) two)) w (try-lock script place held c) (λ r e. absurd (fine-fault f e))
+      (λ e k.
+      let x = lock-damaged given-all (flowOf (next-serial w) place 0) (w .table) (w .health) c q n in
+      (ap (λ (a : Take). answerOf (outcomeOf c a)) (x .0), cc))
+
+  -- cells(old(authority)).contains_key(key): 8
+  pub try-lock-r2 : Clear Before → (contains-key w c → ⊥) → perform w (try-lock script place held c) ≡ unchanged w (try-lock script place held c) (InvalidBucket c)
+  unfolding lockRules scriptRules
+  try-lock-r2 k n = refused w (try-lock script place held c) (InvalidBucket c) (cell-refused Before w c k n)
+
+  -- leases_authorized(old(authority), held@): 3, with the first position
+  pub try-lock-r3 : (i : ℕ) → Clear (badShape (w .head) (w .table) ∷ badHealth (w .head) (w .health) ∷ badScript script place ∷ []) → badHeldLength held .applies ≡ false
+      → First-bad w (leasesOf held) i → perform w (try-lock script place held c) ≡ unchanged w (try-lock script place held c) (BadHeld i)
+  unfolding lockRules scriptRules
+  try-lock-r3 i k b f =
+      refused w (try-lock script place held c) (BadHeld i)
+      (held-refused (badShape (w .head) (w .table) ∷ badHealth (w .head) (w .health) ∷ badScript script place ∷ []) w held i _ k b f)
+
+  pub try-lock-e1 : valid w → valid final
+  try-lock-e1 v = trace-valid (try-lock-went v .trace) v
+
+  pub try-lock-e2 : valid w → leases-authorized w (leasesOf held) → leases-authorized final (leasesOf held)
+  try-lock-e2 v p = by-place final (leasesOf held) (trace-keeps (try-lock-went v .trace) (by-name w (leasesOf held) p))
+
+  pub try-lock-e3 : valid w → dom final ≡ dom w
+  try-lock-e3 v = trace-buries (try-lock-went v .trace) .same-keys
+
+  pub try-lock-e4 : (l : Lease) → result ≡ Granted l → lease-key l ≡ c
+  try-lock-e4 l e = granted-key l e .0
+
+  pub try-lock-e5 : valid w → (l : Lease) → result ≡ Granted l → authorized final l
+  try-lock-e5 v l e = try-lock-went v .gain l e
