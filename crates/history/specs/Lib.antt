@@ -4,6 +4,7 @@ pub mod Statements
 pub mod Theorems
 pub mod Examples
 pub mod Determined
+pub mod ByKey
 pub mod Tests
 pub mod Events
 pub mod Logs
