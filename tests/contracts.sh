@@ -1,6 +1,7 @@
 #!/bin/bash
 # docs/CONTRACTS.md against crate upstream: every row has one of the five verdicts and none says `open`; every name in a column `lemma`,
-# File.name, stands in crates/upstream/specs/File.antt as a `pub` declaration; a row without a lemma is `left out` or `different`.
+# File.name, stands in crates/upstream/specs/File.antt as a `pub` declaration; a row without a lemma is `left out` or `different`;
+# every `NAME/LABEL` is a must-fail edit that is there.
 # Prints what is wrong, and the rows by verdict; ends with 1 if anything is wrong.
 cd "$(dirname "$0")/.." || exit 1
 table=docs/CONTRACTS.md
@@ -26,6 +27,9 @@ wrong=$(
             *) echo "$name: no lemma of the form File.name: $lemma" ;;
         esac
     done <<< "$rows"
+    grep -oE '`[a-z]+/[a-z0-9_]+`' "$table" | tr -d '`' | sort -u | while IFS=/ read -r crate label; do
+        [ -f "crates/$crate/must-fail/$label.edit" ] || echo "$crate/$label: no such must-fail edit"
+    done
 )
 echo "$rows" | awk -F'\t' '
     { k = ($1 ~ /^`/) ? "definitions" : "clauses"; v = $2; sub(/[ ,]*\(.*|,.*/, "", v); n[k, v]++ }
