@@ -13,6 +13,7 @@ ghost use Rattle.model.specs.Arena.{leaseOf, bitAt, ownerAt, waitersAt, setCell
 ghost use Rattle.model.specs.Calls.{prepareOf, refused, replied};
 
 // Bit, owner and waiters of a cell.
+// A step, no call of document 01: only the layers here call it, and each proves its `requires`.
 pub fn bit(table: &[u32], cell: u32) -> u32
     requires { ⌜ 3 * cell + 2 < length (now table) ⌝ }
     ensures { λ r. ⌜ r ≡ bitAt (now (table .entry)) cell ⌝ }
@@ -20,6 +21,7 @@ pub fn bit(table: &[u32], cell: u32) -> u32
     table[3 * (cell as usize)]
 }
 
+// A step, no call of document 01: only the layers here call it, and each proves its `requires`.
 pub fn owner(table: &[u32], cell: u32) -> u32
     requires { ⌜ 3 * cell + 2 < length (now table) ⌝ }
     ensures { λ r. ⌜ r ≡ ownerAt (now (table .entry)) cell ⌝ }
@@ -27,6 +29,7 @@ pub fn owner(table: &[u32], cell: u32) -> u32
     table[3 * (cell as usize) + 1]
 }
 
+// A step, no call of document 01: only the layers here call it, and each proves its `requires`.
 pub fn waiters(table: &[u32], cell: u32) -> u32
     requires { ⌜ 3 * cell + 2 < length (now table) ⌝ }
     ensures { λ r. ⌜ r ≡ waitersAt (now (table .entry)) cell ⌝ }
@@ -35,6 +38,7 @@ pub fn waiters(table: &[u32], cell: u32) -> u32
 }
 
 // Another bit and owner for a cell; other waiters for a cell.
+// A step, no call of document 01: only the layers here call it, and each proves its `requires`.
 pub fn set_cell(table: &mut [u32], cell: u32, bit: u32, owner: u32)
     requires { ⌜ 3 * cell + 2 < length (now table) ⌝ }
     ensures { λ _. ⌜ now (table .exit) ≡ setCell (now (table .entry)) cell bit owner ⌝ }
@@ -45,6 +49,7 @@ pub fn set_cell(table: &mut [u32], cell: u32, bit: u32, owner: u32)
 }
 
 // A release: nobody owns the cell.
+// A step, no call of document 01: only the layers here call it, and each proves its `requires`.
 pub fn release(table: &mut [u32], cell: u32)
     requires { ⌜ 3 * cell + 2 < length (now table) ⌝ }
     ensures { λ _. ⌜ now (table .exit) ≡ setCell (now (table .entry)) cell 0 0 ⌝ }
@@ -52,6 +57,7 @@ pub fn release(table: &mut [u32], cell: u32)
     set_cell(table, cell, 0, 0)
 }
 
+// A step, no call of document 01: only the layers here call it, and each proves its `requires`.
 pub fn set_waiters(table: &mut [u32], cell: u32, number: u32)
     requires { ⌜ 3 * cell + 2 < length (now table) ⌝ }
     ensures { λ _. ⌜ now (table .exit) ≡ setWaiters (now (table .entry)) cell number ⌝ }
@@ -61,6 +67,7 @@ pub fn set_waiters(table: &mut [u32], cell: u32, number: u32)
 }
 
 // Whether a cell is free.
+// A step, no call of document 01: only the layers here call it, and each proves its `requires`.
 pub fn free(table: &[u32], cell: u32) -> bool
     requires { ⌜ 3 * cell + 2 < length (now table) ⌝ }
     ensures { λ r. ⌜ r ≡ isFree (bitAt (now (table .entry)) cell) (ownerAt (now (table .entry)) cell) ⌝ }
@@ -96,6 +103,7 @@ pub fn said(next: u32, bit: u32, owner: u32) -> State
 }
 
 // A cell's state.
+// A step, no call of document 01: only the layers here call it, and each proves its `requires`.
 pub fn state(next: u32, table: &[u32], cell: u32) -> State
     requires { ⌜ 3 * cell + 2 < length (now table) ⌝ }
     ensures { λ r. ⌜ r ≡ stateAt next (now (table .entry)) cell ⌝ }
@@ -106,6 +114,7 @@ pub fn state(next: u32, table: &[u32], cell: u32) -> State
 }
 
 // Whether a lease is live.
+// A step, no call of document 01: only the layers here call it, and each proves its `requires`.
 pub fn live(next: u32, cells: u32, table: &[u32], cell: u32, serial: u32) -> bool
     requires { ⌜ 3 * cells ≤ length (now table) ⌝ }
     ensures { λ r. ⌜ r ≡ isLive next cells (now (table .entry)) (leaseOf cell serial) ⌝ }

@@ -364,6 +364,7 @@ fn turn(
 }
 
 // Attempts 0 to 4,095; a grant or a refusal ends it at once.
+// A step, no call of document 01: only the layers here call it, and each proves its `requires`.
 pub fn retry(
     head: Head,
     cells: u32,

@@ -228,6 +228,7 @@ fn run_steps(
 }
 
 // A boundary that protects the held list and the leases taken. Past the script's end it is quiet, and costs one test.
+// A step, no call of document 01: only the layers here call it, and each proves its `requires`.
 pub fn boundary(
     headers: u32,
     cells: u32,
@@ -265,6 +266,7 @@ pub fn boundary(
 }
 
 // The same, with a lease of the call's own protected too.
+// A step, no call of document 01: only the layers here call it, and each proves its `requires`.
 pub fn guarded(
     headers: u32,
     cells: u32,
@@ -334,6 +336,7 @@ pub fn script_fault(script: &[u32], place: usize) -> Check
 }
 
 // 2, and then 3.
+// A step, no call of document 01: only the layers here call it, and each proves its `requires`.
 pub fn lists_check(head: Head, table: &[u32], script: &[u32], place: usize, held: &[u32]) -> Check
     requires { ⌜ shapeFits head (length (now table)) ≡ true ⌝ }
     ensures { λ r. ⌜ r ≡ first (badScript (now (script .entry)) place ∷ badHeld head (now (table .entry)) (now (held .entry))) ⌝ }

@@ -31,6 +31,7 @@ pub struct Claim {
 // ---- one compare-and-set
 
 // Of a cell that is free: the head issues the next serial, if one remains.
+// A step, no call of document 01: only the layers here call it, and each proves its `requires`.
 pub fn claim_free(head: Head, table: &mut [u32], cell: u32) -> Claim
     requires { ⌜ 3 * cell + 2 < length (now table) ⌝ }
     ensures { λ r. ⌜ (r, now (table .exit)) ≡ claimFreeOf head (now (table .entry)) cell ⌝ }
@@ -54,6 +55,7 @@ pub fn claim_free(head: Head, table: &mut [u32], cell: u32) -> Claim
 }
 
 // Of any cell in range.
+// A step, no call of document 01: only the layers here call it, and each proves its `requires`.
 pub fn claim_at(head: Head, table: &mut [u32], cell: u32) -> Claim
     requires { ⌜ 3 * cell + 2 < length (now table) ⌝ }
     ensures { λ r. ⌜ (r, now (table .exit)) ≡ claimOf head (now (table .entry)) cell ⌝ }
@@ -150,6 +152,7 @@ pub fn in_list(list: &[u32], lease: Lease) -> bool
 }
 
 // Whether a lease is live.
+// A step, no call of document 01: only the layers here call it, and each proves its `requires`.
 pub fn is_live(head: Head, table: &[u32], cell: u32, serial: u32) -> bool
     requires { ⌜ shapeFits head (length (now table)) ≡ true ⌝ }
     ensures { λ r. ⌜ r ≡ isLive (head .next) (cellsOf head) (now (table .entry)) (leaseOf cell serial) ⌝ }
@@ -174,6 +177,7 @@ fn dead(head: Head, table: &[u32], held: &[u32]) -> Check
 }
 
 // A held list: its length, and then each lease by position.
+// A step, no call of document 01: only the layers here call it, and each proves its `requires`.
 pub fn held_check(head: Head, table: &[u32], held: &[u32]) -> Check
     requires { ⌜ shapeFits head (length (now table)) ≡ true ⌝ }
     ensures { λ r. ⌜ r ≡ first (badHeld head (now (table .entry)) (now (held .entry))) ⌝ }
@@ -189,6 +193,7 @@ pub fn held_check(head: Head, table: &[u32], held: &[u32]) -> Check
 }
 
 // A cell number of a call by cell.
+// A step, no call of document 01: only the layers here call it, and each proves its `requires`.
 pub fn cell_fault(head: Head, cell: u32) -> Check
     requires { ⌜ cellsOf head ≤ 4096 ⌝ }
     ensures { λ r. ⌜ r ≡ first (badCell head cell ∷ []) ⌝ }
@@ -200,6 +205,7 @@ pub fn cell_fault(head: Head, cell: u32) -> Check
 }
 
 // A lease to release or read.
+// A step, no call of document 01: only the layers here call it, and each proves its `requires`.
 pub fn lease_fault(head: Head, table: &[u32], lease: Lease) -> Check
     requires { ⌜ shapeFits head (length (now table)) ≡ true ⌝ }
     ensures { λ r. ⌜ r ≡ first (notHeld head (now (table .entry)) 0 lease ∷ []) ⌝ }

@@ -140,6 +140,7 @@ fn second(
 }
 
 // One try_lock: the first boundary, and the first look at the waiters.
+// A step, no call of document 01: only the layers here call it, and each proves its `requires`.
 pub fn lock(
     head: Head,
     cells: u32,
@@ -203,6 +204,7 @@ fn boundaries_for(answer: Take) -> usize
 }
 
 // One try_lock past the script's end, where every boundary is quiet.
+// A step, no call of document 01: only the layers here call it, and each proves its `requires`.
 pub fn quiet_lock(head: Head, flow: Flow, table: &mut [u32], cell: u32) -> Locked
     requires { ⌜ 3 * cell + 2 < length (now table) ⌝ }
     ensures { λ r. ⌜ (r, now (table .exit)) ≡ quietOf flow (now (table .entry)) cell ⌝ }
