@@ -31,8 +31,7 @@ pub struct Claim {
 // ---- one compare-and-set
 
 // Of a cell that is free: the head issues the next serial, if one remains.
-// A step, no call of document 01: only the layers here call it, and each proves its `requires`.
-pub fn claim_free(head: Head, table: &mut [u32], cell: u32) -> Claim
+fn claim_free(head: Head, table: &mut [u32], cell: u32) -> Claim
     requires { ⌜ 3 * cell + 2 < length (now table) ⌝ }
     ensures { λ r. ⌜ (r, now (table .exit)) ≡ claimFreeOf head (now (table .entry)) cell ⌝ }
 {
@@ -205,8 +204,7 @@ pub fn cell_fault(head: Head, cell: u32) -> Check
 }
 
 // A lease to release or read.
-// A step, no call of document 01: only the layers here call it, and each proves its `requires`.
-pub fn lease_fault(head: Head, table: &[u32], lease: Lease) -> Check
+fn lease_fault(head: Head, table: &[u32], lease: Lease) -> Check
     requires { ⌜ shapeFits head (length (now table)) ≡ true ⌝ }
     ensures { λ r. ⌜ r ≡ first (notHeld head (now (table .entry)) 0 lease ∷ []) ⌝ }
 {
