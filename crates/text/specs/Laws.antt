@@ -1,0 +1,139 @@
+-- Laws of what the console's lines are made of: one turn and the end of each recursion, and what is read lies within the line.
+use Prim.Native.Nat.{ℕ, zero, suc, _+_, _*_, _-_, _≤_, _<_}
+use mathlib.Core.Path.{_≡_, refl, sym, ap, _∙_}
+use mathlib.Core.List.{List, [], _∷_}
+use mathlib.Core.Bool.{Bool, true, false, _&&_}
+use native.Mathlib.Omega.{arith}
+use native.Mathlib.Numerals.{add-one}
+use native.Mathlib.Nat.{add-zero}
+use lib.Dec.{eqb, ltb}
+use lib.ListN.{length, getD, drop, drop-of-length-le, length-drop}
+use lib.Seq.{drop-cons, drop-drop, getD-drop}
+use borrow.Author.Tests.{ne-eqb, lt-ltb, le-ltb, ltb-true, ltb-false}
+use Rattle.model.specs.Choice.{if_then_else_}
+use Rattle.laws.specs.Pick.{if-both}
+use Rattle.text.specs.declared.Number.{Number}
+use Rattle.text.specs.declared.Numbers.{Numbers}
+use Rattle.text.specs.Text.{before, isDigit, digitsIn, valueFrom, noNumber, endedOf, numberOf, spacedOf, counted, withOf, numbersFrom}
+
+drop-one : (l : List ℕ) (i : ℕ) → i < length l → drop i l ≡ getD l i 0 ∷ drop (i + 1) l
+drop-one l i b = rw (add-one i) (drop-cons l i 0 b)
+
+-- ---- up to a stop
+
+pub before-at : (stop : ℕ) (l : List ℕ) (i : ℕ) → i < length l → before stop (drop i l) ≡ (if eqb (getD l i 0) stop then 0 else 1 + before stop (drop (i + 1) l))
+unfolding before
+before-at stop l i b = rw (drop-one l i b)
+
+pub before-end : (stop : ℕ) (l : List ℕ) (i : ℕ) → length l ≤ i → before stop (drop i l) ≡ 0
+unfolding before
+before-end stop l i b = rw (drop-of-length-le l b)
+
+-- ---- digits
+
+pub digit-is : (b : ℕ) → isDigit b ≡ true → (48 ≤ b) × (b < 58)
+unfolding isDigit
+digit-is b e = go (ltb b 48) refl e
+  where
+    go : (t : Bool) → ltb b 48 ≡ t → (if t then false else ltb b 58) ≡ true → (48 ≤ b) × (b < 58)
+    go true p q = let z : false ≡ true = q in let w : _≡_ {A = ℕ} 0 1 = cc in (omega arith, omega arith)
+    go false p q = (omega (arith, ltb-false b 48 p), omega (arith, ltb-true b 58 q))
+
+pub digits-at : (l : List ℕ) (i : ℕ) → i < length l → digitsIn (drop i l) ≡ (if isDigit (getD l i 0) then 1 + digitsIn (drop (i + 1) l) else 0)
+unfolding digitsIn
+digits-at l i b = rw (drop-one l i b)
+
+pub digits-end : (l : List ℕ) (i : ℕ) → length l ≤ i → digitsIn (drop i l) ≡ 0
+unfolding digitsIn
+digits-end l i b = rw (drop-of-length-le l b)
+
+pub value-at : (v : ℕ) (l : List ℕ) (i : ℕ) → i < length l → valueFrom v (drop i l) ≡ (if isDigit (getD l i 0) then valueFrom (10 * v + (getD l i 0 - 48)) (drop (i + 1) l) else v)
+unfolding valueFrom
+value-at v l i b = rw (drop-one l i b)
+
+pub value-end : (v : ℕ) (l : List ℕ) (i : ℕ) → length l ≤ i → valueFrom v (drop i l) ≡ v
+unfolding valueFrom
+value-end v l i b = rw (drop-of-length-le l b)
+
+-- more digits make no less
+pub value-grows : (v : ℕ) (l : List ℕ) → v ≤ valueFrom v l
+unfolding valueFrom
+value-grows v [] = omega arith
+value-grows v (b ∷ l) = go (isDigit b) (value-grows (10 * v + (b - 48)) l)
+  where
+    go : (t : Bool) → 10 * v + (b - 48) ≤ valueFrom (10 * v + (b - 48)) l → v ≤ (if t then valueFrom (10 * v + (b - 48)) l else v)
+    go true h = omega arith
+    go false h = omega arith
+
+digits-within : (l : List ℕ) → digitsIn l ≤ length l
+unfolding digitsIn
+digits-within [] = omega arith
+digits-within (b ∷ l) = go (isDigit b) (digits-within l)
+  where
+    go : (t : Bool) → digitsIn l ≤ length l → (if t then 1 + digitsIn l else 0) ≤ length (b ∷ l)
+    go true h = omega arith
+    go false h = omega arith
+
+ended-within : (b digits value : ℕ) → endedOf b digits value .digits ≤ digits
+unfolding endedOf
+ended-within b digits value = go (eqb digits 0) (eqb b 48 && ltb 1 digits)
+  where
+    go : (s t : Bool) → (if s then noNumber else if t then noNumber else record { fine = true; value = value; digits = digits }) .digits ≤ digits
+    go true t = omega arith
+    go false true = omega arith
+    go false false = omega arith
+
+pub number-within : (l : List ℕ) → numberOf l .digits ≤ length l
+unfolding numberOf
+number-within l = go (ltb 4294967295 (valueFrom 0 l)) (ended-within (getD l 0 0) (digitsIn l) (valueFrom 0 l)) (digits-within l)
+  where
+    go : (t : Bool) → endedOf (getD l 0 0) (digitsIn l) (valueFrom 0 l) .digits ≤ digitsIn l → digitsIn l ≤ length l → (if t then noNumber else endedOf (getD l 0 0) (digitsIn l) (valueFrom 0 l)) .digits ≤ length l
+    go true h k = omega arith
+    go false h k = omega arith
+
+-- behind one space: the byte itself is one more
+pub spaced-within : (l : List ℕ) (i : ℕ) → i < length l → spacedOf (drop i l) .digits + i + 1 ≤ length l
+unfolding spacedOf
+spaced-within l i b = go (eqb (getD (drop i l) 0 0) 32) (number-within (drop 1 (drop i l)))
+  where
+    shorter : length (drop 1 (drop i l)) + i + 1 ≡ length l
+    shorter = rw (length-drop 1 (drop i l), length-drop i l) (omega arith)
+
+    go : (t : Bool) → numberOf (drop 1 (drop i l)) .digits ≤ length (drop 1 (drop i l)) → (if t then numberOf (drop 1 (drop i l)) else noNumber) .digits + i + 1 ≤ length l
+    go true h = omega (arith, shorter)
+    go false h = omega arith
+
+-- ---- numbers
+
+-- digits up to i, where no more follow, with the value so far: the number is what they come to
+pub number-ends : (l : List ℕ) (at i v : ℕ) → at ≤ i → v ≤ 4294967295 → valueFrom 0 (drop at l) ≡ v → digitsIn (drop at l) ≡ i - at → endedOf (getD l at 0) (i - at) v ≡ numberOf (drop at l)
+unfolding numberOf
+number-ends l at i v h small e d =
+    let first : getD (drop at l) 0 0 ≡ getD l at 0 = getD-drop at l 0 0 ∙ ap (λ (k : ℕ). getD l k 0) (add-zero at) in
+    rw (e, d, le-ltb _ _ small, first)
+
+-- what is too large stays so
+pub number-large : (l : List ℕ) (at v : ℕ) (rest : List ℕ) → 4294967295 < v → valueFrom v rest ≡ valueFrom 0 (drop at l) → noNumber ≡ numberOf (drop at l)
+unfolding numberOf
+number-large l at v rest big e = let over : 4294967295 < valueFrom 0 (drop at l) = omega (arith, value-grows v rest, e) in rw (lt-ltb _ _ over)
+
+pub with-count : (got : Numbers) (v : ℕ) → withOf got v .count ≡ got .count + 1
+unfolding withOf
+with-count got v =
+    if-both (λ (o : Numbers). o .count ≡ got .count + 1) (eqb (got .count) 0) refl
+    (if-both (λ (o : Numbers). o .count ≡ got .count + 1) (eqb (got .count) 1) refl
+    (if-both (λ (o : Numbers). o .count ≡ got .count + 1) (eqb (got .count) 2) refl refl))
+
+pub numbers-end : (n : ℕ) (got : Numbers) (l : List ℕ) (i : ℕ) → length l ≤ i → numbersFrom n got (drop i l) ≡ got
+unfolding numbersFrom
+numbers-end zero got l i b = rw (drop-of-length-le l b)
+numbers-end (suc n) got l i b = rw (drop-of-length-le l b)
+
+pub numbers-at : (n : ℕ) (got : Numbers) (l : List ℕ) (i : ℕ) → i < length l → got .count < n
+    → numbersFrom (n - got .count) got (drop i l)
+    ≡ (if spacedOf (drop i l) .fine then numbersFrom (n - (got .count + 1)) (withOf got (spacedOf (drop i l) .value)) (drop (i + (spacedOf (drop i l) .digits + 1)) l) else counted false)
+unfolding numbersFrom
+numbers-at n got l i b m =
+    let e : n - got .count ≡ suc (n - (got .count + 1)) = omega arith in
+    let some : length (drop i l) ≡ 0 → ⊥ = rw (length-drop i l) (omega arith) in
+    rw (e, ne-eqb _ _ some, drop-drop (spacedOf (drop i l) .digits + 1) i l)

@@ -1,0 +1,271 @@
+// What the console's lines are made of: bytes up to a stop, words, decimal numbers; and text put behind text.
+// Every function takes any bytes. docs/CONSOLE.md has the language.
+ghost use mathlib.Core.Path.{_≡_};
+ghost use Prim.Native.Nat.{_+_, _-_, _^_, _≤_, _<_};
+ghost use mathlib.Core.Bool.{true, _&&_};
+ghost use lib.Dec.{eqb, ltb, leb};
+ghost use lib.ListN.{length, getD, drop};
+ghost use Rattle.io.specs.Counts.{Counts};
+ghost use Rattle.text.specs.Text.{before, isDigit, noNumber, endedOf, numberOf, spacedOf, withOf, counted, numbersFrom};
+
+// A number that was read: whether one stands there, its value, and how many digits it has.
+pub struct Number {
+    pub fine: bool,
+    pub value: u32,
+    pub digits: usize,
+}
+
+// The numbers of a line: whether the line has nothing else, how many there are, and the first three.
+pub struct Numbers {
+    pub fine: bool,
+    pub count: usize,
+    pub a: u32,
+    pub b: u32,
+    pub c: u32,
+}
+
+// ---- splitting
+
+// Where the first `stop` from `at` on stands, or the end. A line ends at a line feed, a word at a space.
+pub fn end_of(bytes: &[u8], at: usize, stop: u8) -> usize
+    requires { ⌜ at ≤ length (now bytes) ⌝ }
+    ensures { λ r. ⌜ r ≡ at + before stop (drop at (now (bytes .entry))) ⌝ }
+    ensures { λ r. ⌜ (at ≤ r) × Counts r (now (bytes .entry)) ⌝ }
+{
+    let mut i = at;
+    while i < bytes.len() {
+        if bytes[i] == stop {
+            return i;
+        }
+        i += 1;
+    }
+    i
+}
+
+// Whether a word is this name.
+pub fn same(word: &[u8], name: &[u8]) -> bool {
+    if word.len() != name.len() {
+        return false;
+    }
+    let mut i = 0;
+    while i < word.len() {
+        if word[i] != name[i] {
+            return false;
+        }
+        i += 1;
+    }
+    true
+}
+
+// ---- numbers
+
+fn is_digit(b: u8) -> bool
+    ensures { λ r. ⌜ r ≡ isDigit b ⌝ }
+{
+    if b < 48 {
+        return false;
+    }
+    b < 58
+}
+
+fn wide(b: u8) -> u64
+    ensures { λ r. ⌜ r ≡ b ⌝ }
+{
+    b as u64
+}
+
+fn none() -> Number
+    ensures { λ r. ⌜ r ≡ noNumber ⌝ }
+{
+    Number {
+        fine: false,
+        value: 0,
+        digits: 0,
+    }
+}
+
+// A zero that more digits follow.
+fn padded(b: u8, digits: usize) -> bool
+    ensures { λ r. ⌜ r ≡ (eqb b 48 && ltb 1 digits) ⌝ }
+{
+    if b == 48 {
+        return 1 < digits;
+    }
+    false
+}
+
+// What these digits come to, from `at` up to `i`, none of them too large.
+fn ended(line: &[u8], at: usize, i: usize, value: u64) -> Number
+    requires { ⌜ (value ≤ 4294967295) × (at < i → i ≤ length (now line)) ⌝ }
+    ensures { λ r. ⌜ r ≡ endedOf (getD (now (line .entry)) at 0) (i - at) value ⌝ }
+{
+    if i <= at {
+        return none();
+    }
+    let digits = i - at;
+    if padded(line[at], digits) {
+        return none();
+    }
+    Number {
+        fine: true,
+        value: value as u32,
+        digits,
+    }
+}
+
+// The number that stands at `at`: the digits there, up to the first byte that is none.
+pub fn read_number(line: &[u8], at: usize) -> Number
+    ensures { λ r. ⌜ r ≡ numberOf (drop at (now (line .entry))) ⌝ }
+{
+    let mut value: u64 = 0;
+    let mut i = at;
+    while i < line.len() {
+        let b = line[i];
+        if is_digit(b) {
+            value = 10 * value + (wide(b) - 48);
+            if 4294967295 < value {
+                return none();
+            }
+            i += 1;
+        } else {
+            return ended(line, at, i, value);
+        }
+    }
+    ended(line, at, i, value)
+}
+
+fn no_numbers(fine: bool) -> Numbers
+    ensures { λ r. ⌜ r ≡ counted fine ⌝ }
+{
+    Numbers {
+        fine,
+        count: 0,
+        a: 0,
+        b: 0,
+        c: 0,
+    }
+}
+
+// One number more.
+fn with(got: Numbers, value: u32) -> Numbers
+    requires { ⌜ got .count + 1 < 2 ^ 64 ⌝ }
+    ensures { λ r. ⌜ r ≡ withOf got value ⌝ }
+{
+    let count = got.count + 1;
+    if got.count == 0 {
+        return Numbers {
+            fine: true,
+            count,
+            a: value,
+            b: 0,
+            c: 0,
+        };
+    }
+    if got.count == 1 {
+        return Numbers {
+            fine: true,
+            count,
+            a: got.a,
+            b: value,
+            c: 0,
+        };
+    }
+    if got.count == 2 {
+        return Numbers {
+            fine: true,
+            count,
+            a: got.a,
+            b: got.b,
+            c: value,
+        };
+    }
+    Numbers {
+        fine: true,
+        count,
+        a: got.a,
+        b: got.b,
+        c: got.c,
+    }
+}
+
+// The number behind one space, at `at`.
+fn spaced(line: &[u8], at: usize) -> Number
+    requires { ⌜ at < length (now line) ⌝ }
+    ensures { λ r. ⌜ r ≡ spacedOf (drop at (now (line .entry))) ⌝ }
+{
+    if line[at] == 32 {
+        return read_number(line, at + 1);
+    }
+    none()
+}
+
+// The numbers from `at` to the end of the line, each behind one space; anything else there is not fine.
+pub fn read_numbers(line: &[u8], at: usize) -> Numbers
+    ensures { λ r. ⌜ r ≡ numbersFrom (length (now (line .entry)) - at) (counted true) (drop at (now (line .entry))) ⌝ }
+{
+    let mut got = no_numbers(true);
+    let mut i = at;
+    while i < line.len() {
+        let next = spaced(line, i);
+        if next.fine {
+            got = with(got, next.value);
+            i += next.digits + 1;
+        } else {
+            return no_numbers(false);
+        }
+    }
+    got
+}
+
+// Stores these numbers into a list from `start` on, as far as it reaches.
+pub fn store(line: &[u8], at: usize, list: &mut [u32], start: usize) {
+    let mut i = at;
+    let mut k = start;
+    while i < line.len() {
+        let next = spaced(line, i);
+        if k < list.len() {
+            list[k] = next.value;
+            k += 1;
+        } else {
+            return;
+        }
+        i += next.digits + 1;
+    }
+}
+
+// ---- putting text behind text
+
+// Puts text behind the first `used` bytes, as far as the room reaches, and says how many are used then.
+pub fn put(out: &mut [u8], used: usize, text: &[u8]) -> usize
+    ensures { λ r. ⌜ r ≤ length (now (out .exit)) ⌝ }
+{
+    let mut i = 0;
+    let mut n = used;
+    while n < out.len() {
+        if i < text.len() {
+            out[n] = text[i];
+            n += 1;
+            i += 1;
+        } else {
+            return n;
+        }
+    }
+    out.len()
+}
+
+// Puts a number in decimal.
+pub fn put_number(out: &mut [u8], used: usize, n: usize) -> usize {
+    let mut digits = [0u8; 20];
+    let k = io::decimal(n as u64, &mut digits);
+    put(out, used, &digits[..k])
+}
+
+// Puts a word and a number.
+pub fn put_named(out: &mut [u8], used: usize, name: &[u8], n: usize) -> usize {
+    let behind = put(out, used, name);
+    put_number(out, behind, n)
+}
+
+pub fn put_word(out: &mut [u8], used: usize, name: &[u8], n: u32) -> usize {
+    put_named(out, used, name, n as usize)
+}
