@@ -343,7 +343,7 @@ for bytes in $((most + 2)) $((most + 4096)) $((2 * most)) $((5 * most + 1)); do
 done
 
 [ "$wrong" -eq 0 ] || {
-    echo "bad-input: $wrong of $inputs inputs and $texts texts WRONG"
+    echo "bad-input: $wrong WRONG, of $inputs inputs and $texts texts"
     exit 1
 }
 echo "bad-input: $inputs inputs, $lines lines compared, equal; $texts texts as expected"

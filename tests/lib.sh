@@ -1,3 +1,4 @@
+# shellcheck shell=bash
 # For the test scripts that play input through the console. They source it from the top folder of the repository.
 
 # build_plain: builds the plain program and the writer of histories.

@@ -580,6 +580,78 @@ impl Writer {
         self.write("lend", &[]);
     }
 
+    /// Several faults at once, for the order of the checks; then all is good again.
+    fn faults(&mut self) {
+        let head = self.console.head;
+        if self.dice.once_in(6) {
+            let (headers, buckets) = (self.headers(), self.buckets());
+            self.lend(headers.min(64), buckets.min(1024));
+        }
+        if self.dice.once_in(8) {
+            self.write("head", &[head.headers, head.buckets, 0]);
+        }
+        if self.dice.once_in(8) {
+            self.write("registry", &[0; 65]);
+        }
+        match self.dice.below(6) {
+            0 => self.write("script", &[5, 0, 0, 5]),
+            1 => self.place(),
+            _ => {}
+        }
+        match self.dice.below(6) {
+            0 => self.write("held", &[0]),
+            1 => {
+                let leases = [self.lease(), self.lease(), self.lease()].concat();
+                self.write("held", &leases);
+            }
+            _ => {}
+        }
+        if self.dice.once_in(2) {
+            let mut keys = [self.key(), self.key(), self.key()].concat();
+            keys.truncate(self.dice.pick(&[2, 3, 4, 6]));
+            self.write("keys", &keys);
+            let words = self.dice.pick(&[2, 3, 4, 6]);
+            self.write("grants", &[words]);
+        }
+        if self.dice.once_in(2) {
+            self.leases();
+        }
+        if self.dice.once_in(3) {
+            self.members();
+            self.turns();
+        }
+        for _ in 0..self.dice.below(6) + 3 {
+            let (cell, [binding, bucket]) = (self.cell(), self.key());
+            match self.dice.pick(&CALLS) {
+                ("prepare", _) => {}
+                ("acquire_index_bucket", _) => self.acquire(binding, bucket),
+                ("transactional_try_lock_bucket", _) => {
+                    self.write("transactional_try_lock_bucket", &[binding, bucket]);
+                }
+                ("acquire_index_locks", _) => {
+                    self.write_retrying("acquire_index_locks", &[]);
+                }
+                (name, 0) => self.write(name, &[]),
+                (name, 1) => self.write(name, &[cell]),
+                (name, _) => {
+                    let lease = self.lease();
+                    self.write(name, &lease);
+                }
+            }
+        }
+        if self.console.lent.is_some() {
+            self.write("lend", &[]);
+        }
+        if self.next() == 0 {
+            self.write("head", &[head.headers, head.buckets, head.next]);
+        }
+        if self.console.registry.len() > 64 {
+            self.registry();
+        }
+        self.script();
+        self.held();
+    }
+
     // ---- Lists
 
     fn registry(&mut self) {
@@ -625,6 +697,36 @@ impl Writer {
         script.extend([2, lease[0], lease[1], 5, 0, 0]);
         let steps = self.dice.below(6);
         script.extend(self.steps(steps));
+        self.write("script", &script);
+    }
+
+    /// A script that reaches for the leases that multi-lock is going to take, and poisons headers or lets others
+    /// wait meanwhile, so that leases are protected, given up late, and given back.
+    fn hostile_script(&mut self) {
+        let mut script = Vec::new();
+        for _ in 0..self.dice.below(6) + 2 {
+            for _ in 0..self.dice.below(4) {
+                script.extend([5, 0, 0]);
+            }
+            let keys = self.console.keys.chunks_exact(2);
+            let cells: Vec<u32> = keys
+                .filter_map(|key| {
+                    let header = self.console.registry.get(key[0] as usize)?;
+                    header.checked_mul(self.buckets())?.checked_add(key[1])
+                })
+                .collect();
+            let cell = match cells.is_empty() {
+                true => self.cell(),
+                false => self.dice.pick(&cells),
+            };
+            let serial = self.next().wrapping_add(self.dice.number(4));
+            script.extend(match self.dice.below(6) {
+                0..=2 => [2, cell, serial],
+                3 => [1, cell, 0],
+                4 => [3, cell, self.dice.number(2)],
+                _ => [4, cell / self.buckets(), 1],
+            });
+        }
         self.write("script", &script);
     }
 
@@ -685,6 +787,18 @@ impl Writer {
             }
             5 if self.dice.once_in(3) => list = self.many(&[64, 65, 66, 100, 150]),
             6 => list.clear(),
+            // repeats and leases that are not live, in any order
+            7..=8 if list.len() >= 2 => {
+                for _ in 0..3 {
+                    let again = 2 * self.dice.below(list.len() / 2);
+                    let lease = match self.dice.once_in(2) {
+                        true => [list[again], list[again + 1]],
+                        false => [self.cell(), self.dice.odd_number()],
+                    };
+                    let at = 2 * self.dice.below(list.len() / 2 + 1);
+                    list.splice(at..at, lease);
+                }
+            }
             _ => {}
         }
         self.write("leases", &list);
@@ -762,36 +876,56 @@ impl Writer {
 
     fn members(&mut self) {
         self.write("crewless", &[]);
-        let cells = self.cells();
-        let members = match self.dice.below(30) {
-            0 => 0,
-            1 => self.dice.pick(&[15, 16, 17, 20, 21]),
-            _ => self.dice.below(4) + 1,
-        };
-        let long = self.dice.once_in(40);
-        for _ in 0..members {
-            let mut list: Vec<u32> = if long {
-                let count = self.dice.pick(&[64, 64, 64, 65, 70, 71]);
-                (0..count).collect()
-            } else {
-                let few = cells.min(8);
-                (0..few).filter(|_| self.dice.once_in(3)).collect()
-            };
-            match self.dice.below(50) {
-                0 => list.push(cells),
-                1 => list.push(self.dice.odd_number()),
-                2 => list.reverse(),
-                3 => list.extend_from_within(..list.len().min(1)),
-                4 => list = (0..cells.min(64)).collect(),
-                _ => {}
+        // past the limits the first member's list is good, so that the limits are what is refused
+        match self.dice.below(40) {
+            0..=1 => return,
+            2 => {
+                let most = self.dice.pick(&[15, 16, 17, 20, 21]);
+                for _ in 0..most {
+                    self.member();
+                }
+                return;
             }
-            self.write("member", &list);
+            3 => {
+                let cells = self.dice.pick(&[64, 65, 65, 70, 71]);
+                self.member();
+                self.write("member", &counting(cells));
+                return;
+            }
+            4 => {
+                let cells = self.dice.number(3);
+                self.write("member", &counting(cells));
+                for _ in 0..4 {
+                    self.write("member", &counting(64));
+                }
+                return;
+            }
+            _ => {}
         }
+        for _ in 0..self.dice.below(4) + 1 {
+            self.member();
+        }
+    }
+
+    fn member(&mut self) {
+        let cells = self.cells();
+        let mut list = counting(cells.min(8));
+        list.retain(|_| self.dice.once_in(3));
+        match self.dice.below(50) {
+            0 => list.push(cells),
+            1 => list.push(self.dice.odd_number()),
+            2 => list.reverse(),
+            3 => list.extend_from_within(..list.len().min(1)),
+            4 => list = counting(cells.min(64)),
+            _ => {}
+        }
+        self.write("member", &list);
     }
 
     fn turns(&mut self) {
         let members = self.console.members.len() as u32;
         let count = match self.dice.below(12) {
+            _ if members == 0 && self.dice.once_in(2) => 0,
             0 => self.dice.below(3),
             1 => 60 + self.dice.below(60),
             _ => 8 + self.dice.below(30),
@@ -831,6 +965,7 @@ impl Writer {
             14 => self.registry(),
             15..=17 => self.bad_line(),
             18 => self.comment(),
+            19..=20 => self.faults(),
             _ => {}
         }
         self.call();
@@ -889,7 +1024,6 @@ impl Writer {
             54..=60 => self.acquire_all(),
             61..=62 => self.crew(),
             _ => {
-                self.write("crewless", &[]);
                 self.members();
                 self.crew();
             }
@@ -926,6 +1060,9 @@ impl Writer {
         if !self.dice.once_in(6) {
             self.keys();
         }
+        if self.dice.once_in(4) {
+            self.hostile_script();
+        }
         if !self.write_retrying("acquire_index_locks", &[]) {
             self.leases();
             self.write("release_all", &[]);
@@ -936,7 +1073,7 @@ impl Writer {
         if self.console.members.is_empty() || self.dice.once_in(3) {
             self.members();
         }
-        if self.dice.once_in(2) {
+        if self.console.members.is_empty() || self.dice.once_in(2) {
             self.turns();
         }
         self.write("crew", &[]);
@@ -1069,6 +1206,11 @@ impl Writer {
             }
         }
     }
+}
+
+/// The numbers below `bound`, rising.
+fn counting(bound: u32) -> Vec<u32> {
+    (0..bound).collect()
 }
 
 fn line_of(word: &str, numbers: &[u32]) -> Vec<u8> {
