@@ -1,0 +1,1223 @@
+//! `histories SEED CALLS` prints a random history in the bench console's language, with at least CALLS lines that
+//! make a call. The same two numbers give the same history.
+//!
+//! The writer plays each line as it writes it, so it knows the arena: it can name live leases, damage a cell that
+//! is in use, and keep the calls with 4,096 attempts few.
+
+use plain::console::{self, Console, Line};
+use plain::rules;
+use std::io::{self, Write};
+
+fn main() -> io::Result<()> {
+    let numbers: Vec<u64> = std::env::args()
+        .skip(1)
+        .map_while(|word| word.parse().ok())
+        .collect();
+    let &[seed, calls] = numbers.as_slice() else {
+        eprintln!("usage: histories SEED CALLS");
+        std::process::exit(2);
+    };
+    let mut writer = Writer::new(seed);
+    writer.history(calls as usize);
+    let mut out = io::stdout().lock();
+    writeln!(out, "# seed {seed} calls {}", writer.calls)?;
+    out.write_all(&writer.text)
+}
+
+/// Every call, with the count of its numbers.
+const CALLS: [(&str, usize); 18] = [
+    ("prepare", 3),
+    ("try_acquire", 1),
+    ("drop_lease", 2),
+    ("read_permission", 2),
+    ("competing_acquire_is_excluded", 2),
+    ("release_then_handoff", 2),
+    ("foreign_release_between_attempts", 2),
+    ("acquire_preserving_borrows", 1),
+    ("drop_preserving_borrows", 2),
+    ("environment", 0),
+    ("environment_for_borrows", 0),
+    ("try_lock", 1),
+    ("other_mutex_preserves_leases", 1),
+    ("transactional_try_lock_bucket", 2),
+    ("acquire_index_bucket", 2),
+    ("release_all", 0),
+    ("acquire_index_locks", 0),
+    ("crew", 0),
+];
+
+/// Lines that are not understood.
+const BAD_LINES: [&str; 64] = [
+    " ",
+    "\t",
+    "\r",
+    " show",
+    "show ",
+    "show\r",
+    "show\t",
+    "show 1",
+    "Show",
+    "SHOW",
+    "shows",
+    " # no comment",
+    "ram",
+    "ram 1 2",
+    "ram 4294967296",
+    "lend 5",
+    "lend 5 ",
+    "lend 12601 1",
+    "lend 1 71",
+    "lend 1 2 3",
+    "head 1 2",
+    "head 1 2 3 4",
+    "head 1 2 4294967296",
+    "word 12600 0",
+    "word 4294967295 0",
+    "word 0",
+    "word 0 1 2",
+    "byte 70 0",
+    "byte 0 256",
+    "byte 0",
+    "registry 1  2",
+    "registry 1 x",
+    "registry\t1",
+    "held 1,2",
+    "held 1 2 ",
+    "keys 0 -1",
+    "leases +1 1",
+    "leases 1 1\r",
+    "script 5 0 0 ",
+    "script 5\t0 0",
+    "script 05 0 0",
+    "turns 0 1 00",
+    "place",
+    "place 1 2",
+    "place 01",
+    "place 00",
+    "place -0",
+    "place 0x1",
+    "place 42949672950",
+    "place 99999999999999999999999",
+    "place 1.0",
+    "grants",
+    "grants 301",
+    "grants 1 1",
+    "crewless 1",
+    "member 1 a",
+    "prepare 2 4",
+    "prepare 2 4 1 1",
+    "prepare 2 4 1\r",
+    "try_lock",
+    "try-lock 1",
+    "environment 0",
+    "release_all 0",
+    "crew 0",
+];
+
+/// splitmix64.
+struct Dice(u64);
+
+impl Dice {
+    fn roll(&mut self) -> u64 {
+        self.0 = self.0.wrapping_add(0x9e37_79b9_7f4a_7c15);
+        let mut z = self.0;
+        z = (z ^ (z >> 30)).wrapping_mul(0xbf58_476d_1ce4_e5b9);
+        z = (z ^ (z >> 27)).wrapping_mul(0x94d0_49bb_1331_11eb);
+        z ^ (z >> 31)
+    }
+
+    /// From 0 to `bound` - 1; 0 where the bound is 0.
+    fn below(&mut self, bound: usize) -> usize {
+        (self.roll() % bound.max(1) as u64) as usize
+    }
+
+    fn number(&mut self, bound: u32) -> u32 {
+        self.below(bound as usize) as u32
+    }
+
+    /// True once in `turns`.
+    fn once_in(&mut self, turns: usize) -> bool {
+        self.below(turns) == 0
+    }
+
+    fn pick<T: Copy>(&mut self, list: &[T]) -> T {
+        list[self.below(list.len())]
+    }
+
+    /// A number at an edge, or any.
+    fn odd_number(&mut self) -> u32 {
+        let any = self.roll() as u32;
+        self.pick(&[0, 1, 2, 63, 64, 65, 1024, 4096, u32::MAX - 1, u32::MAX, any])
+    }
+}
+
+struct Writer {
+    dice: Dice,
+    console: Console,
+    text: Vec<u8>,
+    calls: usize,
+    /// Calls with 4,096 attempts or more.
+    failures: usize,
+    /// The last line written, for bad copies of it.
+    last: Vec<u8>,
+}
+
+impl Writer {
+    fn new(seed: u64) -> Self {
+        Writer {
+            dice: Dice(seed),
+            console: Console::new(),
+            text: Vec::new(),
+            calls: 0,
+            failures: 0,
+            last: Vec::new(),
+        }
+    }
+
+    fn history(&mut self, calls: usize) {
+        // every call once before any preparation
+        for (name, numbers) in CALLS {
+            let list: Vec<u32> = (0..numbers).map(|_| self.dice.number(3)).collect();
+            if name != "prepare" {
+                self.write(name, &list);
+            }
+        }
+        // long lines are dear: one for each 3,000 calls
+        let mut long = 3_000;
+        while self.calls < calls {
+            self.arena();
+            for _ in 0..self.dice.below(60) + 5 {
+                self.turn();
+            }
+            if self.calls >= long {
+                long += 3_000;
+                self.long();
+            }
+            if self.dice.once_in(6) {
+                self.show();
+            }
+        }
+    }
+
+    // ---- Lines
+
+    fn line(&mut self, line: &[u8]) {
+        let mut answer = Vec::new();
+        let kind = self
+            .console
+            .line(line, &mut answer)
+            .expect("a vector takes every byte");
+        self.text.extend_from_slice(line);
+        self.text.push(b'\n');
+        if kind == Line::Call {
+            self.calls += 1;
+            self.failures += usize::from(answer.starts_with(b"refused 11 "));
+        }
+        self.last = line.to_vec();
+    }
+
+    fn write(&mut self, word: &str, numbers: &[u32]) {
+        let line = line_of(word, numbers);
+        self.line(&line);
+    }
+
+    /// Writes a call unless it would have 4,096 attempts and such calls are many already. True: it was written.
+    fn write_retrying(&mut self, word: &str, numbers: &[u32]) -> bool {
+        let line = line_of(word, numbers);
+        if self.failures * 50 >= self.calls {
+            let mut trial = self.console.clone();
+            let mut answer = Vec::new();
+            let played = trial.line(&line, &mut answer);
+            if played.is_err() || answer.starts_with(b"refused 11 ") {
+                return false;
+            }
+        }
+        self.line(&line);
+        true
+    }
+
+    /// `show`, of big arenas now and then.
+    fn show(&mut self) {
+        let (words, _) = self.console.lent(self.console.head);
+        if words <= 600 || self.dice.once_in(8) {
+            self.write("show", &[]);
+        }
+    }
+
+    // ---- What the arena has
+
+    fn headers(&self) -> u32 {
+        self.console.head.headers.clamp(1, 70)
+    }
+
+    fn buckets(&self) -> u32 {
+        self.console.head.buckets.clamp(1, 1030)
+    }
+
+    fn cells(&self) -> u32 {
+        (self.headers() * self.buckets()).min(4200)
+    }
+
+    fn next(&self) -> u32 {
+        self.console.head.next
+    }
+
+    /// The three words of a cell of the table.
+    fn words(&self, cell: u32) -> [u32; 3] {
+        let at = 3 * (cell as usize).min(console::TABLE / 3 - 1);
+        let table = &self.console.table;
+        [table[at], table[at + 1], table[at + 2]]
+    }
+
+    fn is_live(&self, cell: u32, serial: u32) -> bool {
+        cell < self.cells()
+            && self.words(cell)[..2] == [1, serial]
+            && serial != 0
+            && serial < self.next()
+    }
+
+    /// Every live lease, the first 80 of them.
+    fn live(&self) -> Vec<[u32; 2]> {
+        (0..self.cells())
+            .map(|cell| [cell, self.words(cell)[1]])
+            .filter(|lease| self.is_live(lease[0], lease[1]))
+            .take(80)
+            .collect()
+    }
+
+    // ---- Numbers to name
+
+    /// A cell: mostly one of a few, so that calls meet.
+    fn cell(&mut self) -> u32 {
+        let cells = self.cells();
+        match self.dice.below(40) {
+            0 => cells,
+            1 => self.dice.odd_number(),
+            2..=5 => self.dice.number(cells),
+            6 => cells - 1,
+            _ => self.dice.number(cells.min(12)),
+        }
+    }
+
+    fn lease(&mut self) -> [u32; 2] {
+        let live = self.live();
+        let cell = self.cell();
+        match self.dice.below(16) {
+            0 => [cell, self.dice.odd_number()],
+            1 => [cell, self.next().wrapping_add(self.dice.number(3))],
+            2 => [cell, self.words(cell)[1]],
+            3 => [cell, 0],
+            4 if !live.is_empty() => {
+                let [cell, serial] = self.dice.pick(&live);
+                [cell, serial.wrapping_add(self.dice.pick(&[1, u32::MAX]))]
+            }
+            5 if !live.is_empty() => {
+                let [cell, serial] = self.dice.pick(&live);
+                [self.cells() + cell, serial]
+            }
+            6 if self.console.held.len() >= 2 => [self.console.held[0], self.console.held[1]],
+            _ if !live.is_empty() => self.dice.pick(&live),
+            _ => [cell, self.next().wrapping_sub(1)],
+        }
+    }
+
+    /// Some live leases, each at most once.
+    fn some_live(&mut self, most: usize) -> Vec<u32> {
+        let mut live = self.live();
+        let count = self.dice.below(live.len() + 1).min(most);
+        let mut list = Vec::new();
+        for _ in 0..count {
+            let lease = live.swap_remove(self.dice.below(live.len()));
+            list.extend(lease);
+        }
+        list
+    }
+
+    fn step(&mut self) -> [u32; 3] {
+        let next = self.next();
+        match self.dice.below(20) {
+            0..=5 => [5, 0, 0],
+            6 => [5, self.dice.odd_number(), self.dice.odd_number()],
+            7..=9 => [1, self.cell(), 0],
+            10..=11 => {
+                let [cell, serial] = self.lease();
+                [2, cell, serial]
+            }
+            // a lease that will be live only when its turn comes
+            12 => [2, self.cell(), next.wrapping_add(self.dice.number(4))],
+            13..=14 => [3, self.cell(), 0],
+            15 => [3, self.cell(), self.dice.pick(&[1, 2, u32::MAX])],
+            16 => [4, self.dice.number(self.console.head.headers), 0],
+            17 => {
+                let headers = self.headers();
+                let header = self.dice.number(headers + 1);
+                [4, header, self.dice.pick(&[0, 1, 1, 2, u32::MAX])]
+            }
+            18 => [0, self.dice.number(9), self.dice.number(9)],
+            _ => {
+                let kind = self.dice.pick(&[6, 7, 255, 256, u32::MAX]);
+                [kind, self.cell(), self.dice.number(2)]
+            }
+        }
+    }
+
+    fn steps(&mut self, count: usize) -> Vec<u32> {
+        (0..count).flat_map(|_| self.step()).collect()
+    }
+
+    // ---- Arenas
+
+    fn arena(&mut self) {
+        if self.dice.once_in(8) {
+            let seed = self.dice.odd_number();
+            self.write("ram", &[seed]);
+            if self.dice.once_in(2) {
+                self.rubbish();
+            }
+        }
+        if self.console.lent.is_some() {
+            self.write("lend", &[]);
+        }
+        let [headers, buckets] = match self.dice.below(40) {
+            0 => self
+                .dice
+                .pick(&[[64, 64], [4, 1024], [1, 1024], [63, 65], [64, 1], [16, 256]]),
+            1..=4 => [self.dice.number(64) + 1, self.dice.number(20) + 1],
+            _ => [self.dice.number(4) + 1, self.dice.number(6) + 1],
+        };
+        let first = match self.dice.below(24) {
+            0 => u32::MAX,
+            1..=3 => u32::MAX - self.dice.number(8),
+            4..=5 => self.dice.number(1000) + 1,
+            _ => 1,
+        };
+        if self.dice.once_in(6) {
+            self.bad_prepare(headers, buckets, first);
+        }
+        self.write("prepare", &[headers, buckets, first]);
+        self.registry();
+        if self.dice.once_in(3) {
+            self.write("held", &[]);
+        }
+        self.script();
+    }
+
+    /// A head over rubbish, and a few cells in it made whole.
+    fn rubbish(&mut self) {
+        let headers = self.dice.number(3) + 1;
+        let buckets = self.dice.number(4) + 1;
+        let next = self.dice.odd_number();
+        self.write("head", &[headers, buckets, next]);
+        for _ in 0..self.dice.below(4) {
+            self.damage();
+        }
+        for _ in 0..self.dice.below(4) {
+            self.call();
+        }
+        self.show();
+    }
+
+    fn bad_prepare(&mut self, headers: u32, buckets: u32, first: u32) {
+        let odd = self.dice.odd_number();
+        let numbers = match self.dice.below(8) {
+            0 => [0, buckets, first],
+            1 => [headers, 0, first],
+            2 => [headers, buckets, 0],
+            3 => [65, buckets, first],
+            4 => [headers, 1025, first],
+            5 => [64, 65, first],
+            6 => [odd, odd, first],
+            _ => [headers, buckets, first],
+        };
+        if numbers == [headers, buckets, first] || self.dice.once_in(3) {
+            self.lend(numbers[0].min(64), numbers[1].min(1024));
+        }
+        self.write("prepare", &numbers);
+        if self.console.lent.is_some() {
+            self.write("lend", &[]);
+        }
+    }
+
+    /// Another lending than these numbers ask for, or the same said out loud.
+    fn lend(&mut self, headers: u32, buckets: u32) {
+        let words = (3 * headers * buckets).min(console::TABLE as u32);
+        let words = match self.dice.below(8) {
+            0 => words.saturating_sub(1),
+            1 => words + 1,
+            2 => words + 3,
+            3 => self.dice.number(console::TABLE as u32 + 1),
+            _ => words,
+        };
+        let bytes = match self.dice.below(5) {
+            0 => headers.saturating_sub(1),
+            1 => headers + 1,
+            2 => self.dice.number(console::HEALTH as u32 + 1),
+            _ => headers,
+        };
+        let words = words.min(console::TABLE as u32);
+        self.write("lend", &[words, bytes.min(console::HEALTH as u32)]);
+    }
+
+    fn damage(&mut self) {
+        let cell = self.cell().min(self.cells());
+        let next = self.next();
+        let [bit, owner, _] = self.words(cell);
+        match self.dice.below(12) {
+            // a whole cell again: free, or held
+            0..=1 => {
+                self.write("word", &[3 * cell, 0]);
+                self.write("word", &[3 * cell + 1, 0]);
+            }
+            2 => {
+                self.write("word", &[3 * cell, 1]);
+                let serial = self.dice.number(next.saturating_sub(1)) + 1;
+                self.write("word", &[3 * cell + 1, serial]);
+            }
+            // waiters
+            3..=4 => {
+                let waiters = self.dice.pick(&[0, 0, 1, u32::MAX]);
+                self.write("word", &[3 * cell + 2, waiters]);
+            }
+            // damage, or what looks like it
+            5 => self.write("word", &[3 * cell, bit ^ 1]),
+            6 => {
+                let bit = self.dice.pick(&[0, 1, 2, u32::MAX]);
+                self.write("word", &[3 * cell, bit]);
+            }
+            7 => {
+                let owner = self.dice.pick(&[
+                    0,
+                    1,
+                    next,
+                    next.wrapping_sub(1),
+                    owner.wrapping_add(1),
+                    u32::MAX,
+                ]);
+                self.write("word", &[3 * cell + 1, owner]);
+            }
+            8..=9 => {
+                let headers = self.headers();
+                let header = self.dice.number(headers);
+                let byte = self.dice.pick(&[1, 2, 128, 255]);
+                self.write("byte", &[header, byte]);
+            }
+            _ => {
+                let header = self.dice.number(console::HEALTH as u32);
+                self.write("byte", &[header, 0]);
+            }
+        }
+    }
+
+    /// Cells that are no longer whole, waited for, or under a poisoned header are mended, so that calls go on
+    /// meeting all kinds of cells.
+    fn mend(&mut self) {
+        for header in 0..self.headers() {
+            if self.console.health[header as usize] != 0 && self.dice.once_in(2) {
+                self.write("byte", &[header, 0]);
+            }
+        }
+        for cell in 0..self.cells().min(12) {
+            let [bit, owner, waiters] = self.words(cell);
+            if waiters != 0 && self.dice.once_in(2) {
+                self.write("word", &[3 * cell + 2, 0]);
+            }
+            let whole = [bit, owner] == [0, 0] || self.is_live(cell, owner);
+            if !whole && self.dice.once_in(3) {
+                self.write("word", &[3 * cell, 0]);
+                self.write("word", &[3 * cell + 1, 0]);
+            }
+        }
+    }
+
+    /// Another head for some calls.
+    fn other_head(&mut self) {
+        let rules::Head {
+            headers,
+            buckets,
+            next,
+        } = self.console.head;
+        let back = self.dice.number(4);
+        let odd = self.dice.odd_number();
+        let numbers = match self.dice.below(14) {
+            0 => [0, buckets, next],
+            1 => [65, buckets, next],
+            2 => [headers, 0, next],
+            3 => [headers, 1025, next],
+            4 => [headers, buckets, 0],
+            5 => [64, 65, next],
+            6 => [odd, buckets, next],
+            7 => [headers, odd, next],
+            8 => [u32::MAX, u32::MAX, next],
+            9 => [buckets, headers, next],
+            // owners at or above next: damaged
+            10 => [headers, buckets, next.saturating_sub(back)],
+            11 => [headers, buckets, u32::MAX],
+            12 => [headers, buckets, u32::MAX - 1 - back],
+            _ => [headers, buckets, next],
+        };
+        self.write("head", &numbers);
+        for _ in 0..self.dice.below(3) + 1 {
+            self.call();
+        }
+        if self.dice.once_in(3) {
+            self.show();
+        }
+        // the serials spent meanwhile are spent, where the head was a good one
+        let now = self.console.head.next;
+        let kept = numbers[..2] == [headers, buckets] && now != 0 && self.dice.once_in(2);
+        self.write("head", &[headers, buckets, if kept { now } else { next }]);
+    }
+
+    fn other_lending(&mut self) {
+        let (headers, buckets) = (self.headers(), self.buckets());
+        self.lend(headers.min(64), buckets.min(1024));
+        for _ in 0..self.dice.below(3) + 1 {
+            self.call();
+        }
+        if self.dice.once_in(4) {
+            self.show();
+        }
+        self.write("lend", &[]);
+    }
+
+    /// Several faults at once, for the order of the checks; then all is good again.
+    fn faults(&mut self) {
+        let head = self.console.head;
+        if self.dice.once_in(6) {
+            let (headers, buckets) = (self.headers(), self.buckets());
+            self.lend(headers.min(64), buckets.min(1024));
+        }
+        if self.dice.once_in(8) {
+            self.write("head", &[head.headers, head.buckets, 0]);
+        }
+        if self.dice.once_in(8) {
+            self.write("registry", &[0; 65]);
+        }
+        match self.dice.below(6) {
+            0 => self.write("script", &[5, 0, 0, 5]),
+            1 => self.place(),
+            _ => {}
+        }
+        match self.dice.below(6) {
+            0 => self.write("held", &[0]),
+            1 => {
+                let leases = [self.lease(), self.lease(), self.lease()].concat();
+                self.write("held", &leases);
+            }
+            _ => {}
+        }
+        if self.dice.once_in(2) {
+            let mut keys = [self.key(), self.key(), self.key()].concat();
+            keys.truncate(self.dice.pick(&[2, 3, 4, 6]));
+            self.write("keys", &keys);
+            let words = self.dice.pick(&[2, 3, 4, 6]);
+            self.write("grants", &[words]);
+        }
+        if self.dice.once_in(2) {
+            self.leases();
+        }
+        if self.dice.once_in(3) {
+            self.members();
+            self.turns();
+        }
+        for _ in 0..self.dice.below(6) + 3 {
+            let (cell, [binding, bucket]) = (self.cell(), self.key());
+            match self.dice.pick(&CALLS) {
+                ("prepare", _) => {}
+                ("acquire_index_bucket", _) => self.acquire(binding, bucket),
+                ("transactional_try_lock_bucket", _) => {
+                    self.write("transactional_try_lock_bucket", &[binding, bucket]);
+                }
+                ("acquire_index_locks", _) => {
+                    self.write_retrying("acquire_index_locks", &[]);
+                }
+                (name, 0) => self.write(name, &[]),
+                (name, 1) => self.write(name, &[cell]),
+                (name, _) => {
+                    let lease = self.lease();
+                    self.write(name, &lease);
+                }
+            }
+        }
+        if self.console.lent.is_some() {
+            self.write("lend", &[]);
+        }
+        if self.next() == 0 {
+            self.write("head", &[head.headers, head.buckets, head.next]);
+        }
+        if self.console.registry.len() > 64 {
+            self.registry();
+        }
+        self.script();
+        self.held();
+    }
+
+    // ---- Lists
+
+    fn registry(&mut self) {
+        let headers = self.headers();
+        let length = match self.dice.below(60) {
+            0 => self.dice.pick(&[64, 65, 80]),
+            1 => 0,
+            _ => self.dice.below(5) + 1,
+        };
+        let list: Vec<u32> = (0..length)
+            .map(|_| match self.dice.below(14) {
+                0 => headers,
+                1 => self.dice.odd_number(),
+                _ => self.dice.number(headers),
+            })
+            .collect();
+        self.write("registry", &list);
+    }
+
+    fn script(&mut self) {
+        let steps = match self.dice.below(40) {
+            0 => 100 + self.dice.below(100),
+            1..=3 => 20 + self.dice.below(20),
+            4..=9 => 0,
+            _ => self.dice.below(10),
+        };
+        let mut script = self.steps(steps);
+        if self.dice.once_in(30) {
+            script.push(5);
+            if self.dice.once_in(2) {
+                script.push(0);
+            }
+        }
+        self.write("script", &script);
+    }
+
+    /// A script under which a cell that a foreign holder has is let go after some boundaries.
+    fn patient_script(&mut self, lease: [u32; 2]) {
+        let mut script = Vec::new();
+        for _ in 0..self.dice.below(40) {
+            script.extend([5, 0, 0]);
+        }
+        script.extend([2, lease[0], lease[1], 5, 0, 0]);
+        let steps = self.dice.below(6);
+        script.extend(self.steps(steps));
+        self.write("script", &script);
+    }
+
+    /// A script that reaches for the leases that multi-lock is going to take, and poisons headers or lets others
+    /// wait meanwhile, so that leases are protected, given up late, and given back.
+    fn hostile_script(&mut self) {
+        let mut script = Vec::new();
+        for _ in 0..self.dice.below(6) + 2 {
+            for _ in 0..self.dice.below(4) {
+                script.extend([5, 0, 0]);
+            }
+            let keys = self.console.keys.chunks_exact(2);
+            let cells: Vec<u32> = keys
+                .filter_map(|key| {
+                    let header = self.console.registry.get(key[0] as usize)?;
+                    header.checked_mul(self.buckets())?.checked_add(key[1])
+                })
+                .collect();
+            let cell = match cells.is_empty() {
+                true => self.cell(),
+                false => self.dice.pick(&cells),
+            };
+            let serial = self.next().wrapping_add(self.dice.number(4));
+            script.extend(match self.dice.below(6) {
+                0..=2 => [2, cell, serial],
+                3 => [1, cell, 0],
+                4 => [3, cell, self.dice.number(2)],
+                _ => [4, cell / self.buckets(), 1],
+            });
+        }
+        self.write("script", &script);
+    }
+
+    fn place(&mut self) {
+        let steps = (self.console.script.len() / 3) as u32;
+        let place = match self.dice.below(6) {
+            0 => steps + 1,
+            1 => self.dice.odd_number(),
+            2 => steps,
+            _ => self.dice.number(steps + 1),
+        };
+        self.write("place", &[place]);
+    }
+
+    fn held(&mut self) {
+        let mut list = self.some_live(8);
+        match self.dice.below(24) {
+            0 => list.push(0),
+            1 => {
+                let lease = self.lease();
+                list.extend(lease);
+                list.extend(self.some_live(2));
+            }
+            2 => {
+                list.extend_from_within(..);
+            }
+            3 if self.dice.once_in(3) => list = self.many(&[64, 65, 66, 100, 150]),
+            4..=10 => list.clear(),
+            _ => {}
+        }
+        self.write("held", &list);
+    }
+
+    /// A long list that has one live lease again and again, sometimes with an odd word behind.
+    fn many(&mut self, lengths: &[usize]) -> Vec<u32> {
+        let count = self.dice.pick(lengths);
+        let lease = self.lease();
+        let mut list = lease.repeat(count);
+        if self.dice.once_in(4) {
+            list.pop();
+        }
+        list
+    }
+
+    fn leases(&mut self) {
+        let mut list = self.some_live(70);
+        match self.dice.below(24) {
+            0 => list.push(1),
+            1..=2 => {
+                let lease = self.lease();
+                let at = 2 * self.dice.below(list.len() / 2 + 1);
+                list.splice(at..at, lease);
+            }
+            3..=4 if list.len() >= 2 => {
+                let at = 2 * self.dice.below(list.len() / 2);
+                list.extend_from_within(at..at + 2);
+                list.extend(self.some_live(3));
+            }
+            5 if self.dice.once_in(3) => list = self.many(&[64, 65, 66, 100, 150]),
+            6 => list.clear(),
+            // repeats and leases that are not live, in any order
+            7..=8 if list.len() >= 2 => {
+                for _ in 0..3 {
+                    let again = 2 * self.dice.below(list.len() / 2);
+                    let lease = match self.dice.once_in(2) {
+                        true => [list[again], list[again + 1]],
+                        false => [self.cell(), self.dice.odd_number()],
+                    };
+                    let at = 2 * self.dice.below(list.len() / 2 + 1);
+                    list.splice(at..at, lease);
+                }
+            }
+            _ => {}
+        }
+        self.write("leases", &list);
+    }
+
+    fn key(&mut self) -> [u32; 2] {
+        let bindings = self.console.registry.len() as u32;
+        let buckets = self.buckets();
+        let binding = match self.dice.below(30) {
+            0 => bindings,
+            1 => self.dice.odd_number(),
+            _ => self.dice.number(bindings),
+        };
+        let bucket = match self.dice.below(24) {
+            0 => buckets,
+            1 => self.dice.odd_number(),
+            _ => self.dice.number(buckets.min(8)),
+        };
+        [binding, bucket]
+    }
+
+    /// A key of a free cell, if one is found in a few throws.
+    fn free_key(&mut self) -> [u32; 2] {
+        for _ in 0..6 {
+            let [binding, bucket] = self.key();
+            let header = self.console.registry.get(binding as usize).copied();
+            let free = header.is_some_and(|header| {
+                header < self.headers()
+                    && bucket < self.buckets()
+                    && self.words(header * self.buckets() + bucket) == [0, 0, 0]
+            });
+            if free {
+                return [binding, bucket];
+            }
+        }
+        self.key()
+    }
+
+    fn keys(&mut self) {
+        let mut list = Vec::new();
+        match self.dice.below(60) {
+            0 => {
+                // many keys, of as many cells as the arena has
+                let count = self.dice.pick(&[63, 64, 65, 100]);
+                let buckets = self.buckets();
+                list.extend((0..count).flat_map(|key| [key / buckets, key % buckets]));
+            }
+            1 => {}
+            _ => {
+                for _ in 0..self.dice.below(4) + 1 {
+                    let key = self.free_key();
+                    let twice = list.chunks(2).any(|other| other == key);
+                    if !twice || self.dice.once_in(8) {
+                        list.extend(key);
+                    }
+                }
+            }
+        }
+        if self.dice.once_in(30) {
+            list.push(0);
+        }
+        self.write("keys", &list);
+        let words = list.len() as u32;
+        let words = match self.dice.below(30) {
+            0 => words + 1,
+            1 => words.saturating_sub(1),
+            2 => words + 2,
+            3 => self.dice.pick(&[0, 2, 300]),
+            _ => words,
+        };
+        if words as usize != self.console.grants.len() || self.dice.once_in(3) {
+            self.write("grants", &[words]);
+        }
+    }
+
+    fn members(&mut self) {
+        self.write("crewless", &[]);
+        // past the limits the first member's list is good, so that the limits are what is refused
+        match self.dice.below(40) {
+            0..=1 => return,
+            2 => {
+                let most = self.dice.pick(&[15, 16, 17, 20, 21]);
+                for _ in 0..most {
+                    self.member();
+                }
+                return;
+            }
+            3 => {
+                let cells = self.dice.pick(&[64, 65, 65, 70, 71]);
+                self.member();
+                self.write("member", &counting(cells));
+                return;
+            }
+            4 => {
+                let cells = self.dice.number(3);
+                self.write("member", &counting(cells));
+                for _ in 0..4 {
+                    self.write("member", &counting(64));
+                }
+                return;
+            }
+            _ => {}
+        }
+        for _ in 0..self.dice.below(4) + 1 {
+            self.member();
+        }
+    }
+
+    fn member(&mut self) {
+        let cells = self.cells();
+        let mut list = counting(cells.min(8));
+        list.retain(|_| self.dice.once_in(3));
+        match self.dice.below(50) {
+            0 => list.push(cells),
+            1 => list.push(self.dice.odd_number()),
+            2 => list.reverse(),
+            3 => list.extend_from_within(..list.len().min(1)),
+            4 => list = counting(cells.min(64)),
+            _ => {}
+        }
+        self.write("member", &list);
+    }
+
+    fn turns(&mut self) {
+        let members = self.console.members.len() as u32;
+        let count = match self.dice.below(12) {
+            _ if members == 0 && self.dice.once_in(2) => 0,
+            0 => self.dice.below(3),
+            1 => 60 + self.dice.below(60),
+            _ => 8 + self.dice.below(30),
+        };
+        let in_order = self.dice.once_in(2);
+        let mut turns: Vec<u32> = (0..count as u32)
+            .map(|turn| match in_order {
+                true => turn % members.max(1),
+                false => self.dice.number(members),
+            })
+            .collect();
+        if self.dice.once_in(20) {
+            let wrong = self.dice.pick(&[members, members + 1, u32::MAX]);
+            let at = self.dice.below(turns.len() + 1);
+            turns.insert(at, wrong);
+        }
+        self.write("turns", &turns);
+    }
+
+    // ---- Calls
+
+    /// One call, with its lists and what surrounds it.
+    fn turn(&mut self) {
+        match self.dice.below(60) {
+            0..=2 => self.other_head(),
+            3..=4 => self.other_lending(),
+            5..=8 => self.damage(),
+            9..=12 => self.mend(),
+            13 => {
+                self.place();
+                self.call();
+                self.call();
+                if self.console.place > self.console.script.len() / 3 {
+                    self.script();
+                }
+            }
+            14 => self.registry(),
+            15..=17 => self.bad_line(),
+            18 => self.comment(),
+            19..=20 => self.faults(),
+            _ => {}
+        }
+        self.call();
+        let small = self.cells() <= 30;
+        if self.dice.once_in(if small { 4 } else { 60 }) {
+            self.show();
+        }
+    }
+
+    fn call(&mut self) {
+        let stale = self
+            .console
+            .held
+            .chunks(2)
+            .any(|lease| lease.len() == 1 || !self.is_live(lease[0], lease[1]));
+        if self.dice.once_in(if stale { 2 } else { 12 }) {
+            self.held();
+        }
+        let over = 3 * self.console.place >= self.console.script.len();
+        let broken = self.console.script.len() % 3 != 0;
+        if self.dice.once_in(if broken {
+            2
+        } else if over {
+            4
+        } else {
+            15
+        }) {
+            self.script();
+        }
+        let [cell, serial] = self.lease();
+        let [binding, bucket] = self.key();
+        match self.dice.below(64) {
+            0..=3 => self.call_by_cell("try_acquire"),
+            4..=7 => self.write("drop_lease", &[cell, serial]),
+            8..=9 => self.write("read_permission", &[cell, serial]),
+            10..=11 => self.write("competing_acquire_is_excluded", &[cell, serial]),
+            12..=13 => self.write("release_then_handoff", &[cell, serial]),
+            14..=16 => self.write("foreign_release_between_attempts", &[cell, serial]),
+            17..=20 => self.call_by_cell("acquire_preserving_borrows"),
+            21..=24 => self.write("drop_preserving_borrows", &[cell, serial]),
+            25..=26 => self.write("environment", &[]),
+            27..=28 => self.write("environment_for_borrows", &[]),
+            29..=33 => self.call_by_cell("try_lock"),
+            34..=37 => self.call_by_cell("other_mutex_preserves_leases"),
+            38..=42 => self.write("transactional_try_lock_bucket", &[binding, bucket]),
+            43..=45 => self.acquire(binding, bucket),
+            46..=47 => {
+                let [binding, bucket] = self.free_key();
+                self.acquire(binding, bucket);
+            }
+            48 => self.acquire_patiently(),
+            49..=53 => {
+                self.leases();
+                self.write("release_all", &[]);
+            }
+            54..=60 => self.acquire_all(),
+            61..=62 => self.crew(),
+            _ => {
+                self.members();
+                self.crew();
+            }
+        }
+    }
+
+    fn call_by_cell(&mut self, call: &str) {
+        let cell = self.cell();
+        self.write(call, &[cell]);
+    }
+
+    fn acquire(&mut self, binding: u32, bucket: u32) {
+        if !self.write_retrying("acquire_index_bucket", &[binding, bucket]) {
+            self.write("transactional_try_lock_bucket", &[binding, bucket]);
+        }
+    }
+
+    /// `acquire_index_bucket` of a held cell that is let go meanwhile.
+    fn acquire_patiently(&mut self) {
+        let live = self.live();
+        if live.is_empty() {
+            return;
+        }
+        let [cell, serial] = self.dice.pick(&live);
+        let (header, bucket) = (cell / self.buckets(), cell % self.buckets());
+        let Some(binding) = self.console.registry.iter().position(|&one| one == header) else {
+            return;
+        };
+        self.patient_script([cell, serial]);
+        self.acquire(binding as u32, bucket);
+    }
+
+    fn acquire_all(&mut self) {
+        if !self.dice.once_in(6) {
+            self.keys();
+        }
+        if self.dice.once_in(4) {
+            self.hostile_script();
+        }
+        if !self.write_retrying("acquire_index_locks", &[]) {
+            self.leases();
+            self.write("release_all", &[]);
+        }
+    }
+
+    fn crew(&mut self) {
+        if self.console.members.is_empty() || self.dice.once_in(3) {
+            self.members();
+        }
+        if self.console.members.is_empty() || self.dice.once_in(2) {
+            self.turns();
+        }
+        self.write("crew", &[]);
+    }
+
+    // ---- Lines that are no good, and lines that are long
+
+    fn comment(&mut self) {
+        let mut line = Vec::new();
+        if self.dice.once_in(2) {
+            line.push(b'#');
+            line.extend(self.bytes());
+        }
+        self.line(&line);
+    }
+
+    /// Any bytes but a line feed.
+    fn bytes(&mut self) -> Vec<u8> {
+        let count = self.dice.below(24);
+        let byte = |byte: u64| match byte as u8 {
+            b'\n' => 0,
+            byte => byte,
+        };
+        (0..count).map(|_| byte(self.dice.roll())).collect()
+    }
+
+    fn bad_line(&mut self) {
+        match self.dice.below(12) {
+            0 => {
+                let line = self.bytes();
+                self.line(&line);
+            }
+            // a call with any count of numbers
+            1..=2 => {
+                let (name, _) = self.dice.pick(&CALLS);
+                let count = self.dice.below(5);
+                let numbers: Vec<u32> = (0..count).map(|_| self.dice.number(4)).collect();
+                self.write(name, &numbers);
+            }
+            3..=5 => self.bad_copy(),
+            6 if self.dice.once_in(4) => {
+                let (word, room) = self.dice.pick(&[
+                    ("registry", console::REGISTRY),
+                    ("held", console::HELD),
+                    ("keys", console::KEYS),
+                    ("leases", console::LEASES),
+                    ("member", console::MEMBER_CELLS),
+                ]);
+                let more = self.dice.below(2);
+                self.write(word, &vec![1; room + more]);
+            }
+            _ => {
+                let line = self.dice.pick(&BAD_LINES);
+                self.line(line.as_bytes());
+            }
+        }
+    }
+
+    /// The last line with one byte more, less, or another.
+    fn bad_copy(&mut self) {
+        let mut line = self.last.clone();
+        if line.len() > 200 {
+            return;
+        }
+        let at = self.dice.below(line.len() + 1);
+        let byte = self.dice.pick(b"  \t\r0159-+#x\0\xff");
+        match self.dice.below(3) {
+            0 if at < line.len() => {
+                line.remove(at);
+            }
+            1 if at < line.len() => line[at] = byte,
+            _ => line.insert(at, byte),
+        }
+        self.line(&line);
+    }
+
+    /// A line near the greatest lengths, and calls that meet it.
+    fn long(&mut self) {
+        let steps = rules::MOST_STEPS;
+        match self.dice.below(7) {
+            0..=1 => {
+                let mut script: Vec<u32> = (0..steps)
+                    .flat_map(|_| [self.dice.pick(&[0, 5, 5, 5, 5, 3, 6]), 0, 0])
+                    .collect();
+                // held until some thousand boundaries have passed
+                if let Some(&[cell, serial]) = self.live().first() {
+                    let at = 3 * (1000 + self.dice.below(8000));
+                    script.splice(at..at + 3, [2, cell, serial]);
+                }
+                self.write("script", &script);
+                self.write("held", &[]);
+                self.acquire(0, 0);
+                self.call_by_cell("try_lock");
+                self.write("place", &[steps as u32 - 1]);
+                self.write("environment", &[]);
+                self.write("environment", &[]);
+                self.write("place", &[steps as u32 + 1]);
+                self.write("environment", &[]);
+                self.script();
+            }
+            2 => {
+                self.write("script", &vec![0; 3 * (steps + 1)]);
+                self.write("environment", &[]);
+                self.write("release_all", &[]);
+                self.script();
+            }
+            3 => {
+                let more = self.dice.below(2);
+                self.write("script", &vec![5; console::SCRIPT + more]);
+                self.write("environment", &[]);
+                self.script();
+            }
+            4..=5 => {
+                self.members();
+                let members = self.console.members.len().clamp(1, 9) as u32;
+                let more = self.dice.below(2);
+                let turns: Vec<u32> = (0..rules::MOST_TURNS + more)
+                    .map(|_| self.dice.number(members))
+                    .collect();
+                self.write("turns", &turns);
+                self.write("crew", &[]);
+                self.show();
+                self.turns();
+            }
+            _ => {
+                let more = self.dice.below(2);
+                self.write("turns", &vec![0; console::TURNS + more]);
+                self.write("crew", &[]);
+                self.turns();
+            }
+        }
+    }
+}
+
+/// The numbers below `bound`, rising.
+fn counting(bound: u32) -> Vec<u32> {
+    (0..bound).collect()
+}
+
+fn line_of(word: &str, numbers: &[u32]) -> Vec<u8> {
+    let mut line = word.to_string();
+    for number in numbers {
+        line.push(' ');
+        line.push_str(&number.to_string());
+    }
+    line.into_bytes()
+}

@@ -1,0 +1,988 @@
+//! Document 01: the arena, foreign steps, the steps of a lock, the crew, the refusals.
+//!
+//! One public function for each call, over lent slices. A call checks what it takes in the order of the table
+//! of refusals, and then runs its steps; no argument makes it panic.
+
+/// Header slots, buckets per header, cells: the greatest numbers that the arena's rules allow.
+pub const MOST_HEADERS: u32 = 64;
+pub const MOST_BUCKETS: u32 = 1024;
+pub const MOST_CELLS: u32 = 4096;
+/// Header numbers in a registry.
+pub const MOST_BINDINGS: usize = 64;
+/// Steps of a script.
+pub const MOST_STEPS: usize = 32_768;
+/// Leases in a held list or to release; held leases and keys together in multi-lock.
+pub const MOST_LEASES: usize = 64;
+/// Attempts of `acquire_index_bucket`.
+pub const ATTEMPTS: u32 = 4096;
+/// Every how many attempts there is a yield.
+pub const YIELD_EVERY: u32 = 64;
+/// The next serial where none remains.
+pub const NO_SERIAL: u32 = u32::MAX;
+/// The crew: members, cells a member, cells in all (K), turns.
+pub const MOST_MEMBERS: usize = 16;
+pub const MOST_MEMBER_CELLS: u32 = 64;
+pub const MOST_CREW_CELLS: usize = 256;
+pub const MOST_TURNS: usize = 65_536;
+
+/// H, B and the next serial, handed over and given back by value.
+#[derive(Clone, Copy, Debug, Default, PartialEq, Eq)]
+pub struct Head {
+    pub headers: u32,
+    pub buckets: u32,
+    pub next: u32,
+}
+
+#[derive(Clone, Copy, Debug, PartialEq, Eq)]
+pub struct Lease {
+    pub cell: u32,
+    pub serial: u32,
+}
+
+/// The fifteen refusals, each with what it carries where that is not fixed.
+#[derive(Clone, Copy, Debug, PartialEq, Eq)]
+pub enum Refusal {
+    BadShape,
+    BadScript,
+    BadHeld(u32),
+    TooMany,
+    BadBinding(u32),
+    BadHeader(u32),
+    Poisoned(u32),
+    InvalidBucket(u32),
+    Damaged(u32),
+    SerialsSpent(u32),
+    SerializationFailure,
+    NotHeld(u32),
+    Protected,
+    Repeated(u32),
+    BadCrew(u32),
+}
+
+impl Refusal {
+    pub fn number(self) -> u32 {
+        match self {
+            Refusal::BadShape => 1,
+            Refusal::BadScript => 2,
+            Refusal::BadHeld(_) => 3,
+            Refusal::TooMany => 4,
+            Refusal::BadBinding(_) => 5,
+            Refusal::BadHeader(_) => 6,
+            Refusal::Poisoned(_) => 7,
+            Refusal::InvalidBucket(_) => 8,
+            Refusal::Damaged(_) => 9,
+            Refusal::SerialsSpent(_) => 10,
+            Refusal::SerializationFailure => 11,
+            Refusal::NotHeld(_) => 12,
+            Refusal::Protected => 13,
+            Refusal::Repeated(_) => 14,
+            Refusal::BadCrew(_) => 15,
+        }
+    }
+
+    pub fn name(self) -> &'static str {
+        match self {
+            Refusal::BadShape => "BadShape",
+            Refusal::BadScript => "BadScript",
+            Refusal::BadHeld(_) => "BadHeld",
+            Refusal::TooMany => "TooMany",
+            Refusal::BadBinding(_) => "BadBinding",
+            Refusal::BadHeader(_) => "BadHeader",
+            Refusal::Poisoned(_) => "Poisoned",
+            Refusal::InvalidBucket(_) => "InvalidBucket",
+            Refusal::Damaged(_) => "Damaged",
+            Refusal::SerialsSpent(_) => "SerialsSpent",
+            Refusal::SerializationFailure => "SerializationFailure",
+            Refusal::NotHeld(_) => "NotHeld",
+            Refusal::Protected => "Protected",
+            Refusal::Repeated(_) => "Repeated",
+            Refusal::BadCrew(_) => "BadCrew",
+        }
+    }
+
+    pub fn carries(self) -> u32 {
+        match self {
+            Refusal::BadShape | Refusal::BadScript | Refusal::TooMany | Refusal::Protected => 0,
+            Refusal::SerializationFailure => ATTEMPTS,
+            Refusal::BadHeld(n)
+            | Refusal::BadBinding(n)
+            | Refusal::BadHeader(n)
+            | Refusal::Poisoned(n)
+            | Refusal::InvalidBucket(n)
+            | Refusal::Damaged(n)
+            | Refusal::SerialsSpent(n)
+            | Refusal::NotHeld(n)
+            | Refusal::Repeated(n)
+            | Refusal::BadCrew(n) => n,
+        }
+    }
+}
+
+#[derive(Clone, Copy, Debug, PartialEq, Eq)]
+pub enum Answer {
+    Granted(Lease),
+    /// Multi-lock's grant; its leases stand in the grant buffer.
+    AllGranted,
+    Done,
+    Cell(u32),
+    Busy,
+    Refused(Refusal),
+    /// Multi-lock's refusals 6 to 11, with the key's position.
+    RefusedAt(Refusal, u32),
+}
+
+/// The numbers of such events in the steps of a call.
+#[derive(Clone, Copy, Debug, Default, PartialEq, Eq)]
+pub struct Counts {
+    pub attempts: u32,
+    pub boundaries: u32,
+    pub yields: u32,
+    pub dropped: u32,
+}
+
+/// What a call without a script gives back.
+#[derive(Clone, Copy, Debug, PartialEq, Eq)]
+pub struct Reply {
+    pub head: Head,
+    pub answer: Answer,
+    pub counts: Counts,
+}
+
+/// What a call with a script gives back.
+#[derive(Clone, Copy, Debug, PartialEq, Eq)]
+pub struct ScriptReply {
+    pub head: Head,
+    pub place: usize,
+    pub answer: Answer,
+    pub counts: Counts,
+}
+
+/// What the crew's run gives back: how it went, or refusal 1 or 15.
+#[derive(Clone, Copy, Debug, PartialEq, Eq)]
+pub struct CrewReply {
+    pub head: Head,
+    pub answer: Result<CrewRun, Refusal>,
+}
+
+/// Cells taken and cells released by each member, and the counts of moving and idle turns.
+#[derive(Clone, Copy, Debug, Default, PartialEq, Eq)]
+pub struct CrewRun {
+    pub taken: [u32; MOST_MEMBERS],
+    pub released: [u32; MOST_MEMBERS],
+    pub moving: u32,
+    pub idle: u32,
+}
+
+/// How an attempt ends: granted, Busy (`None`), or refused.
+type Attempt = Result<Option<Lease>, Refusal>;
+
+fn answer_of(attempt: Attempt) -> Answer {
+    match attempt {
+        Ok(Some(lease)) => Answer::Granted(lease),
+        Ok(None) => Answer::Busy,
+        Err(refusal) => Answer::Refused(refusal),
+    }
+}
+
+// ---- The arena
+
+/// A table whose length fits its head.
+struct Arena<'a> {
+    head: Head,
+    cells: u32,
+    table: &'a mut [u32],
+}
+
+/// Refusal 1, as far as head and table go; else the number of cells.
+fn shape(head: Head, table: &[u32]) -> Result<u32, Refusal> {
+    if !(1..=MOST_HEADERS).contains(&head.headers)
+        || !(1..=MOST_BUCKETS).contains(&head.buckets)
+        || head.next == 0
+    {
+        return Err(Refusal::BadShape);
+    }
+    let cells = head.headers * head.buckets;
+    if cells > MOST_CELLS || table.len() != 3 * cells as usize {
+        return Err(Refusal::BadShape);
+    }
+    Ok(cells)
+}
+
+/// Where a cell's three words stand: bit, owner, waiters.
+fn bit(cell: u32) -> usize {
+    3 * cell as usize
+}
+
+fn owner(cell: u32) -> usize {
+    3 * cell as usize + 1
+}
+
+fn waiters(cell: u32) -> usize {
+    3 * cell as usize + 2
+}
+
+impl<'a> Arena<'a> {
+    fn new(head: Head, table: &'a mut [u32]) -> Result<Self, Refusal> {
+        let cells = shape(head, table)?;
+        Ok(Arena { head, cells, table })
+    }
+
+    /// A cell is free: bit 0, owner 0.
+    fn is_free(&self, cell: u32) -> bool {
+        self.table[bit(cell)] == 0 && self.table[owner(cell)] == 0
+    }
+
+    /// Held: bit 1, owner from 1 to next - 1.
+    fn is_held(&self, cell: u32) -> bool {
+        let owner = self.table[owner(cell)];
+        self.table[bit(cell)] == 1 && owner != 0 && owner < self.head.next
+    }
+
+    /// A lease is live if the cell is held by that serial; one whose cell is out of range is not.
+    fn is_live(&self, lease: Lease) -> bool {
+        lease.cell < self.cells
+            && self.is_held(lease.cell)
+            && self.table[owner(lease.cell)] == lease.serial
+    }
+
+    /// Bit 1 and the next serial, which rises by 1. The cell is free, and a serial remains.
+    fn take(&mut self, cell: u32) -> Lease {
+        let serial = self.head.next;
+        self.table[bit(cell)] = 1;
+        self.table[owner(cell)] = serial;
+        self.head.next += 1;
+        Lease { cell, serial }
+    }
+
+    /// The cell is in range and held.
+    fn release(&mut self, cell: u32) {
+        self.table[bit(cell)] = 0;
+        self.table[owner(cell)] = 0;
+    }
+
+    /// In order, damaged: Damaged; held: Busy; no serial: SerialsSpent; else it is taken.
+    fn try_acquire(&mut self, cell: u32) -> Attempt {
+        if self.is_held(cell) {
+            Ok(None)
+        } else if !self.is_free(cell) {
+            Err(Refusal::Damaged(cell))
+        } else if self.head.next == NO_SERIAL {
+            Err(Refusal::SerialsSpent(cell))
+        } else {
+            Ok(Some(self.take(cell)))
+        }
+    }
+
+    /// Refusal 3: odd or over 64 leases, else the first lease not live.
+    fn check_held(&self, held: &[u32]) -> Result<(), Refusal> {
+        if held.len() % 2 != 0 || held.len() / 2 > MOST_LEASES {
+            return Err(Refusal::BadHeld((held.len() / 2) as u32));
+        }
+        match leases_of(held).position(|lease| !self.is_live(lease)) {
+            Some(position) => Err(Refusal::BadHeld(position as u32)),
+            None => Ok(()),
+        }
+    }
+
+    /// Refusal 12 for one lease.
+    fn check_live(&self, lease: Lease) -> Result<(), Refusal> {
+        if self.is_live(lease) {
+            Ok(())
+        } else {
+            Err(Refusal::NotHeld(0))
+        }
+    }
+
+    /// Refusal 8 in a call by cell.
+    fn check_cell(&self, cell: u32) -> Result<(), Refusal> {
+        if cell < self.cells {
+            Ok(())
+        } else {
+            Err(Refusal::InvalidBucket(cell))
+        }
+    }
+}
+
+/// Refusal 13: the lease is in the held list.
+fn check_unprotected(held: &[u32], lease: Lease) -> Result<(), Refusal> {
+    if leases_of(held).any(|one| one == lease) {
+        Err(Refusal::Protected)
+    } else {
+        Ok(())
+    }
+}
+
+/// The leases of a list: cell and serial, cell and serial.
+fn leases_of(words: &[u32]) -> impl Iterator<Item = Lease> + '_ {
+    words.chunks_exact(2).map(|pair| Lease {
+        cell: pair[0],
+        serial: pair[1],
+    })
+}
+
+// ---- Foreign steps
+
+/// A call with a script, past its checks: what its steps read and change.
+struct Run<'a> {
+    arena: Arena<'a>,
+    health: &'a mut [u8],
+    registry: &'a [u32],
+    script: &'a [u32],
+    /// In steps.
+    place: usize,
+    /// Protected in every boundary: the held list; in `release_all` what it was given and has not given up.
+    held: &'a [u32],
+    /// Protected too: the first `count` are the leases that this call has taken and not given up.
+    taken: &'a mut [[u32; 2]],
+    count: usize,
+    counts: Counts,
+}
+
+impl<'a> Run<'a> {
+    /// Refusals 1, 2 and 3. A call without a registry gives an empty one. `taken` has room for each lease that
+    /// the call may take.
+    #[allow(clippy::too_many_arguments)]
+    fn new(
+        head: Head,
+        table: &'a mut [u32],
+        health: &'a mut [u8],
+        registry: &'a [u32],
+        script: &'a [u32],
+        place: usize,
+        held: &'a [u32],
+        taken: &'a mut [[u32; 2]],
+    ) -> Result<Self, Refusal> {
+        let arena = Arena::new(head, table)?;
+        if health.len() != head.headers as usize || registry.len() > MOST_BINDINGS {
+            return Err(Refusal::BadShape);
+        }
+        let steps = script.len() / 3;
+        if script.len() % 3 != 0 || steps > MOST_STEPS || place > steps {
+            return Err(Refusal::BadScript);
+        }
+        arena.check_held(held)?;
+        Ok(Run {
+            arena,
+            health,
+            registry,
+            script,
+            place,
+            held,
+            taken,
+            count: 0,
+            counts: Counts::default(),
+        })
+    }
+
+    fn reply(self, answer: Answer) -> ScriptReply {
+        ScriptReply {
+            head: self.arena.head,
+            place: self.place,
+            answer,
+            counts: self.counts,
+        }
+    }
+
+    fn is_protected(&self, lease: Lease) -> bool {
+        self.taken[..self.count].contains(&[lease.cell, lease.serial])
+            || leases_of(self.held).any(|one| one == lease)
+    }
+
+    /// Steps up to and including the next 5, or to the script's end; past the end it is quiet.
+    fn boundary(&mut self) {
+        self.counts.boundaries += 1;
+        for step in self.script[3 * self.place..].chunks_exact(3) {
+            self.place += 1;
+            match step[0] {
+                0 => {}
+                5 => return,
+                kind => {
+                    if !self.foreign_step(kind, step[1], step[2]) {
+                        self.counts.dropped += 1;
+                    }
+                }
+            }
+        }
+    }
+
+    /// False: the step is to be dropped, and nothing has changed.
+    fn foreign_step(&mut self, kind: u32, place: u32, number: u32) -> bool {
+        let arena = &mut self.arena;
+        match kind {
+            // take: in range and free, and a serial remains
+            1 => {
+                let legal =
+                    place < arena.cells && arena.is_free(place) && arena.head.next != NO_SERIAL;
+                if legal {
+                    arena.take(place);
+                }
+                legal
+            }
+            // release: that lease is live and not protected
+            2 => {
+                let lease = Lease {
+                    cell: place,
+                    serial: number,
+                };
+                let legal = arena.is_live(lease) && !self.is_protected(lease);
+                if legal {
+                    self.arena.release(place);
+                }
+                legal
+            }
+            3 => {
+                let legal = place < arena.cells;
+                if legal {
+                    arena.table[waiters(place)] = number;
+                }
+                legal
+            }
+            4 => {
+                let legal = place < arena.head.headers && number <= 1;
+                if legal {
+                    self.health[place as usize] = number as u8;
+                }
+                legal
+            }
+            _ => false,
+        }
+    }
+
+    // ---- The steps of a lock
+
+    /// Boundary, look at the waiters, boundary, try_acquire, boundary (protecting the new lease), look again.
+    /// The cell is in range.
+    fn try_lock(&mut self, cell: u32) -> Attempt {
+        self.boundary();
+        if self.arena.table[waiters(cell)] != 0 {
+            return Ok(None);
+        }
+        self.boundary();
+        let Some(lease) = self.arena.try_acquire(cell)? else {
+            return Ok(None);
+        };
+        self.taken[self.count] = [lease.cell, lease.serial];
+        self.count += 1;
+        self.boundary();
+        if self.arena.table[waiters(cell)] != 0 {
+            self.release_last();
+            return Ok(None);
+        }
+        Ok(Some(lease))
+    }
+
+    /// Gives up the last lease that this call has taken. It was protected, so it is live.
+    fn release_last(&mut self) {
+        self.count -= 1;
+        self.arena.release(self.taken[self.count][0]);
+    }
+
+    /// Header from the registry, then its health, then the bucket, then `try_lock`. The binding is in the
+    /// registry.
+    fn try_bucket(&mut self, binding: u32, bucket: u32) -> Attempt {
+        self.counts.attempts += 1;
+        let Head {
+            headers, buckets, ..
+        } = self.arena.head;
+        let header = self.registry[binding as usize];
+        if header >= headers {
+            return Err(Refusal::BadHeader(header));
+        }
+        if self.health[header as usize] != 0 {
+            return Err(Refusal::Poisoned(header));
+        }
+        if bucket >= buckets {
+            return Err(Refusal::InvalidBucket(bucket));
+        }
+        self.try_lock(header * buckets + bucket)
+    }
+
+    /// Up to 4,096 attempts. After a Busy one whose number has remainder 63 by 64, a boundary and a yield; then,
+    /// after each Busy one, a boundary and a spin. A spin is not counted.
+    fn acquire_bucket(&mut self, binding: u32, bucket: u32) -> Result<Lease, Refusal> {
+        for attempt in 0..ATTEMPTS {
+            if let Some(lease) = self.try_bucket(binding, bucket)? {
+                return Ok(lease);
+            }
+            if attempt % YIELD_EVERY == YIELD_EVERY - 1 {
+                self.boundary();
+                self.counts.yields += 1;
+            }
+            self.boundary();
+        }
+        Err(Refusal::SerializationFailure)
+    }
+
+    /// Keys in the order given. On a refusal all taken leases are released, last first, a boundary after each.
+    fn acquire_all(&mut self, keys: &[u32]) -> Answer {
+        for (position, key) in keys.chunks_exact(2).enumerate() {
+            if let Err(refusal) = self.acquire_bucket(key[0], key[1]) {
+                while self.count > 0 {
+                    self.release_last();
+                    self.boundary();
+                }
+                return Answer::RefusedAt(refusal, position as u32);
+            }
+        }
+        Answer::AllGranted
+    }
+
+    /// Refusal 5: the first key whose binding is past the registry.
+    fn check_bindings(&self, keys: &[u32]) -> Result<(), Refusal> {
+        let past = |key: &[u32]| key[0] as usize >= self.registry.len();
+        match keys.chunks_exact(2).position(past) {
+            Some(position) => Err(Refusal::BadBinding(position as u32)),
+            None => Ok(()),
+        }
+    }
+
+    /// Refusals 4, 12 and 14 of `release_all`; the last two together, by position.
+    fn check_leases(&self, leases: &[u32]) -> Result<(), Refusal> {
+        if leases.len() % 2 != 0 || leases.len() / 2 > MOST_LEASES {
+            return Err(Refusal::TooMany);
+        }
+        for (position, lease) in leases_of(leases).enumerate() {
+            if !self.arena.is_live(lease) {
+                return Err(Refusal::NotHeld(position as u32));
+            }
+            if leases_of(leases).take(position).any(|one| one == lease) {
+                return Err(Refusal::Repeated(position as u32));
+            }
+        }
+        Ok(())
+    }
+}
+
+impl Reply {
+    /// A refusal that changes nothing, all counts 0.
+    fn refused(head: Head, refusal: Refusal) -> Self {
+        Reply {
+            head,
+            answer: Answer::Refused(refusal),
+            counts: Counts::default(),
+        }
+    }
+
+    /// What the checks and steps of a call without a script came to.
+    fn of(head: Head, steps: impl FnOnce() -> Result<Reply, Refusal>) -> Self {
+        steps().unwrap_or_else(|refusal| Reply::refused(head, refusal))
+    }
+
+    fn done(head: Head) -> Self {
+        Reply {
+            head,
+            answer: Answer::Done,
+            counts: Counts::default(),
+        }
+    }
+
+    fn attempted(head: Head, attempts: u32, attempt: Attempt) -> Self {
+        Reply {
+            head,
+            answer: answer_of(attempt),
+            counts: Counts {
+                attempts,
+                ..Counts::default()
+            },
+        }
+    }
+}
+
+impl ScriptReply {
+    /// What the checks and steps of a call with a script came to; a refusal here changes nothing, all counts 0.
+    fn of(head: Head, place: usize, steps: impl FnOnce() -> Result<ScriptReply, Refusal>) -> Self {
+        steps().unwrap_or_else(|refusal| ScriptReply {
+            head,
+            place,
+            answer: Answer::Refused(refusal),
+            counts: Counts::default(),
+        })
+    }
+}
+
+// ---- The calls without a script
+
+/// Sets every table word and health byte to 0. Refused, it changes no lent word and hands back a head of three
+/// zeros.
+pub fn prepare(
+    headers: u32,
+    buckets: u32,
+    first: u32,
+    table: &mut [u32],
+    health: &mut [u8],
+) -> Reply {
+    let head = Head {
+        headers,
+        buckets,
+        next: first,
+    };
+    if shape(head, table).is_err() || health.len() != headers as usize {
+        return Reply::refused(Head::default(), Refusal::BadShape);
+    }
+    table.fill(0);
+    health.fill(0);
+    Reply::done(head)
+}
+
+pub fn try_acquire(head: Head, table: &mut [u32], cell: u32) -> Reply {
+    Reply::of(head, || {
+        let mut arena = Arena::new(head, table)?;
+        arena.check_cell(cell)?;
+        let attempt = arena.try_acquire(cell);
+        Ok(Reply::attempted(arena.head, 1, attempt))
+    })
+}
+
+/// One release and no boundary.
+pub fn drop_lease(head: Head, table: &mut [u32], lease: Lease) -> Reply {
+    Reply::of(head, || {
+        let mut arena = Arena::new(head, table)?;
+        arena.check_live(lease)?;
+        arena.release(lease.cell);
+        Ok(Reply::done(head))
+    })
+}
+
+/// The lease's cell.
+pub fn read_permission(head: Head, table: &mut [u32], lease: Lease) -> Reply {
+    Reply::of(head, || {
+        Arena::new(head, table)?.check_live(lease)?;
+        Ok(Reply {
+            answer: Answer::Cell(lease.cell),
+            ..Reply::done(head)
+        })
+    })
+}
+
+/// One `try_acquire` of a live lease's cell, which is Busy and changes nothing.
+pub fn competing_acquire_is_excluded(head: Head, table: &mut [u32], lease: Lease) -> Reply {
+    Reply::of(head, || {
+        let mut arena = Arena::new(head, table)?;
+        arena.check_live(lease)?;
+        let attempt = arena.try_acquire(lease.cell);
+        Ok(Reply::attempted(arena.head, 1, attempt))
+    })
+}
+
+/// Release and `try_acquire`. Where no serial remains, the release stands and the cell is free.
+pub fn release_then_handoff(head: Head, table: &mut [u32], lease: Lease) -> Reply {
+    Reply::of(head, || {
+        let mut arena = Arena::new(head, table)?;
+        arena.check_live(lease)?;
+        arena.release(lease.cell);
+        let attempt = arena.try_acquire(lease.cell);
+        Ok(Reply::attempted(arena.head, 1, attempt))
+    })
+}
+
+/// A `try_acquire` that is Busy, a release, a `try_acquire`.
+pub fn foreign_release_between_attempts(
+    head: Head,
+    table: &mut [u32],
+    held: &[u32],
+    lease: Lease,
+) -> Reply {
+    Reply::of(head, || {
+        let mut arena = Arena::new(head, table)?;
+        arena.check_held(held)?;
+        arena.check_live(lease)?;
+        check_unprotected(held, lease)?;
+        // the lease is live, so this one is Busy
+        let _busy = arena.try_acquire(lease.cell);
+        arena.release(lease.cell);
+        let attempt = arena.try_acquire(lease.cell);
+        Ok(Reply::attempted(arena.head, 2, attempt))
+    })
+}
+
+/// `try_acquire` after the held list's check.
+pub fn acquire_preserving_borrows(head: Head, table: &mut [u32], held: &[u32], cell: u32) -> Reply {
+    Reply::of(head, || {
+        let mut arena = Arena::new(head, table)?;
+        arena.check_held(held)?;
+        arena.check_cell(cell)?;
+        let attempt = arena.try_acquire(cell);
+        Ok(Reply::attempted(arena.head, 1, attempt))
+    })
+}
+
+/// `drop_lease` that refuses a lease in its held list.
+pub fn drop_preserving_borrows(head: Head, table: &mut [u32], held: &[u32], lease: Lease) -> Reply {
+    Reply::of(head, || {
+        let mut arena = Arena::new(head, table)?;
+        arena.check_held(held)?;
+        arena.check_live(lease)?;
+        check_unprotected(held, lease)?;
+        arena.release(lease.cell);
+        Ok(Reply::done(head))
+    })
+}
+
+// ---- The calls with a script
+
+/// One boundary.
+pub fn environment(
+    head: Head,
+    table: &mut [u32],
+    health: &mut [u8],
+    script: &[u32],
+    place: usize,
+    held: &[u32],
+) -> ScriptReply {
+    ScriptReply::of(head, place, || {
+        let mut run = Run::new(head, table, health, &[], script, place, held, &mut [])?;
+        run.boundary();
+        Ok(run.reply(Answer::Done))
+    })
+}
+
+/// One boundary.
+pub fn environment_for_borrows(
+    head: Head,
+    table: &mut [u32],
+    health: &mut [u8],
+    script: &[u32],
+    place: usize,
+    held: &[u32],
+) -> ScriptReply {
+    environment(head, table, health, script, place, held)
+}
+
+pub fn try_lock(
+    head: Head,
+    table: &mut [u32],
+    health: &mut [u8],
+    script: &[u32],
+    place: usize,
+    held: &[u32],
+    cell: u32,
+) -> ScriptReply {
+    let mut taken = [[0; 2]; 1];
+    ScriptReply::of(head, place, || {
+        let mut run = Run::new(head, table, health, &[], script, place, held, &mut taken)?;
+        run.arena.check_cell(cell)?;
+        run.counts.attempts = 1;
+        let answer = answer_of(run.try_lock(cell));
+        Ok(run.reply(answer))
+    })
+}
+
+/// `try_lock`.
+pub fn other_mutex_preserves_leases(
+    head: Head,
+    table: &mut [u32],
+    health: &mut [u8],
+    script: &[u32],
+    place: usize,
+    held: &[u32],
+    cell: u32,
+) -> ScriptReply {
+    try_lock(head, table, health, script, place, held, cell)
+}
+
+#[allow(clippy::too_many_arguments)]
+pub fn transactional_try_lock_bucket(
+    head: Head,
+    table: &mut [u32],
+    health: &mut [u8],
+    registry: &[u32],
+    script: &[u32],
+    place: usize,
+    held: &[u32],
+    binding: u32,
+    bucket: u32,
+) -> ScriptReply {
+    let mut taken = [[0; 2]; 1];
+    ScriptReply::of(head, place, || {
+        let mut run = Run::new(
+            head, table, health, registry, script, place, held, &mut taken,
+        )?;
+        run.check_bindings(&[binding, bucket])?;
+        let answer = answer_of(run.try_bucket(binding, bucket));
+        Ok(run.reply(answer))
+    })
+}
+
+#[allow(clippy::too_many_arguments)]
+pub fn acquire_index_bucket(
+    head: Head,
+    table: &mut [u32],
+    health: &mut [u8],
+    registry: &[u32],
+    script: &[u32],
+    place: usize,
+    held: &[u32],
+    binding: u32,
+    bucket: u32,
+) -> ScriptReply {
+    let mut taken = [[0; 2]; 1];
+    ScriptReply::of(head, place, || {
+        let mut run = Run::new(
+            head, table, health, registry, script, place, held, &mut taken,
+        )?;
+        run.check_bindings(&[binding, bucket])?;
+        let answer = answer_of(run.acquire_bucket(binding, bucket).map(Some));
+        Ok(run.reply(answer))
+    })
+}
+
+/// Last first, a boundary after each release.
+pub fn release_all(
+    head: Head,
+    table: &mut [u32],
+    health: &mut [u8],
+    script: &[u32],
+    place: usize,
+    leases: &[u32],
+) -> ScriptReply {
+    ScriptReply::of(head, place, || {
+        let mut run = Run::new(head, table, health, &[], script, place, &[], &mut [])?;
+        run.check_leases(leases)?;
+        for position in (0..leases.len() / 2).rev() {
+            run.held = &leases[..2 * position];
+            run.arena.release(leases[2 * position]);
+            run.boundary();
+        }
+        Ok(run.reply(Answer::Done))
+    })
+}
+
+/// Multi-lock. On a grant the buffer holds cell and serial for each key, in key order.
+#[allow(clippy::too_many_arguments)]
+pub fn acquire_index_locks(
+    head: Head,
+    table: &mut [u32],
+    health: &mut [u8],
+    registry: &[u32],
+    script: &[u32],
+    place: usize,
+    held: &[u32],
+    keys: &[u32],
+    grants: &mut [u32],
+) -> ScriptReply {
+    let mut taken = [[0; 2]; MOST_LEASES];
+    ScriptReply::of(head, place, || {
+        let mut run = Run::new(
+            head, table, health, registry, script, place, held, &mut taken,
+        )?;
+        if keys.len() % 2 != 0
+            || held.len() / 2 + keys.len() / 2 > MOST_LEASES
+            || grants.len() != keys.len()
+        {
+            return Err(Refusal::TooMany);
+        }
+        run.check_bindings(keys)?;
+        let answer = run.acquire_all(keys);
+        if answer == Answer::AllGranted {
+            for (grant, lease) in grants.chunks_exact_mut(2).zip(run.taken.iter()) {
+                grant.copy_from_slice(lease);
+            }
+        }
+        Ok(run.reply(answer))
+    })
+}
+
+// ---- The crew
+
+/// The crew's run: `counts` has the number of cells of each member, `cells` their lists one behind the other.
+pub fn crew(
+    head: Head,
+    table: &mut [u32],
+    health: &mut [u8],
+    counts: &[u32],
+    cells: &[u32],
+    turns: &[u32],
+) -> CrewReply {
+    let refused = |refusal| CrewReply {
+        head,
+        answer: Err(refusal),
+    };
+    let mut arena = match Arena::new(head, table) {
+        Ok(arena) if health.len() == head.headers as usize => arena,
+        _ => return refused(Refusal::BadShape),
+    };
+    let starts = match check_crew(&arena, counts, cells, turns) {
+        Ok(starts) => starts,
+        Err(refusal) => return refused(refusal),
+    };
+    let mut run = CrewRun::default();
+    for &turn in turns {
+        let member = turn as usize;
+        let list = &cells[starts[member]..starts[member + 1]];
+        if crew_turn(&mut arena, health, list, member, &mut run) {
+            run.moving += 1;
+        } else {
+            run.idle += 1;
+        }
+    }
+    CrewReply {
+        head: arena.head,
+        answer: Ok(run),
+    }
+}
+
+/// Refusal 15: crew limits; then the lists, by member; then the turns. Else where each member's list starts, and
+/// behind the last one where it ends.
+fn check_crew(
+    arena: &Arena,
+    counts: &[u32],
+    cells: &[u32],
+    turns: &[u32],
+) -> Result<[usize; MOST_MEMBERS + 1], Refusal> {
+    let members = counts.len();
+    if !(1..=MOST_MEMBERS).contains(&members)
+        || counts.iter().any(|&count| count > MOST_MEMBER_CELLS)
+        || cells.len() > MOST_CREW_CELLS
+        || turns.len() > MOST_TURNS
+    {
+        return Err(Refusal::BadCrew(0));
+    }
+    let mut starts = [0; MOST_MEMBERS + 1];
+    for (member, &count) in counts.iter().enumerate() {
+        starts[member + 1] = starts[member] + count as usize;
+    }
+    if starts[members] != cells.len() {
+        return Err(Refusal::BadCrew(0));
+    }
+    for member in 0..members {
+        let list = &cells[starts[member]..starts[member + 1]];
+        if list.iter().any(|&cell| cell >= arena.cells)
+            || list.windows(2).any(|pair| pair[0] >= pair[1])
+        {
+            return Err(Refusal::BadCrew(member as u32));
+        }
+    }
+    match turns.iter().position(|&turn| turn as usize >= members) {
+        Some(turn) => Err(Refusal::BadCrew(turn as u32)),
+        None => Ok(starts),
+    }
+}
+
+/// One turn of a member: true if it moved, by a grant or a release.
+fn crew_turn(
+    arena: &mut Arena,
+    health: &[u8],
+    list: &[u32],
+    member: usize,
+    run: &mut CrewRun,
+) -> bool {
+    let taken = run.taken[member] as usize;
+    let released = run.released[member] as usize;
+    if taken < list.len() {
+        // one try_lock with no script, after a health reading: nothing can change between its two looks
+        let cell = list[taken];
+        let healthy = health[(cell / arena.head.buckets) as usize] == 0;
+        let granted = healthy
+            && arena.table[waiters(cell)] == 0
+            && matches!(arena.try_acquire(cell), Ok(Some(_)));
+        run.taken[member] += u32::from(granted);
+        granted
+    } else if released < taken {
+        // the last it still holds; nobody else can have released it
+        arena.release(list[taken - 1 - released]);
+        run.released[member] += 1;
+        true
+    } else {
+        false
+    }
+}

@@ -1,0 +1,100 @@
+//! The random histories reach every call, and with every call each answer that it can give.
+
+use plain::console::{self, Console, Line};
+use std::collections::{BTreeMap, BTreeSet};
+use std::process::Command;
+
+const CALLS: usize = 10_000;
+
+/// What each call can answer: the refusals by number, in the order of document 01's table.
+const ANSWERS: [(&str, &str); 18] = [
+    ("prepare", "done 1"),
+    ("try_acquire", "granted busy 1 8 9 10"),
+    ("drop_lease", "done 1 12"),
+    ("read_permission", "cell 1 12"),
+    ("competing_acquire_is_excluded", "busy 1 12"),
+    ("release_then_handoff", "granted 1 10 12"),
+    ("foreign_release_between_attempts", "granted 1 3 10 12 13"),
+    ("acquire_preserving_borrows", "granted busy 1 3 8 9 10"),
+    ("drop_preserving_borrows", "done 1 3 12 13"),
+    ("environment", "done 1 2 3"),
+    ("environment_for_borrows", "done 1 2 3"),
+    ("try_lock", "granted busy 1 2 3 8 9 10"),
+    ("other_mutex_preserves_leases", "granted busy 1 2 3 8 9 10"),
+    (
+        "transactional_try_lock_bucket",
+        "granted busy 1 2 3 5 6 7 8 9 10",
+    ),
+    ("acquire_index_bucket", "granted 1 2 3 5 6 7 8 9 10 11"),
+    ("release_all", "done 1 2 4 12 14"),
+    ("acquire_index_locks", "granted 1 2 3 4 5 6 7 8 9 10 11"),
+    ("crew", "crew 1 15"),
+];
+
+fn history(seed: u64) -> Vec<u8> {
+    let output = Command::new(env!("CARGO_BIN_EXE_histories"))
+        .args([seed.to_string(), CALLS.to_string()])
+        .output()
+        .expect("histories runs");
+    assert!(output.status.success());
+    output.stdout
+}
+
+#[test]
+fn every_answer_of_every_call() {
+    let mut seen: BTreeMap<String, BTreeSet<String>> = BTreeMap::new();
+    let mut calls = 0;
+    let mut failures = 0;
+    let mut not_understood = 0;
+    for seed in [1, 2] {
+        let text = history(seed);
+        assert!(text.len() <= console::INPUT, "{} bytes", text.len());
+        let mut console = Console::new();
+        let mut own_calls = 0;
+        for line in text.split(|&byte| byte == b'\n') {
+            let mut out = Vec::new();
+            match console
+                .line(line, &mut out)
+                .expect("a vector takes every byte")
+            {
+                Line::NotUnderstood => not_understood += 1,
+                Line::Call => {
+                    let line = String::from_utf8_lossy(line).into_owned();
+                    let out = String::from_utf8_lossy(&out).into_owned();
+                    let word = |text: &str, at| text.split(' ').nth(at).unwrap_or("").to_string();
+                    let mut answer = word(&out, 0);
+                    if answer == "refused" {
+                        answer = word(&out, 1);
+                    }
+                    own_calls += 1;
+                    failures += usize::from(answer == "11");
+                    seen.entry(word(&line, 0)).or_default().insert(answer);
+                }
+                Line::Command | Line::Skipped => {}
+            }
+        }
+        assert!(text.starts_with(format!("# seed {seed} calls {own_calls}\n").as_bytes()));
+        assert!(own_calls >= CALLS);
+        calls += own_calls;
+    }
+    for (call, answers) in ANSWERS {
+        let expected: BTreeSet<String> = answers.split(' ').map(String::from).collect();
+        assert_eq!(seen.get(call), Some(&expected), "{call}");
+    }
+    assert_eq!(seen.len(), ANSWERS.len());
+    assert!(not_understood > CALLS / 100);
+    // calls with 4,096 attempts are dear: at most one in forty
+    assert!(failures * 40 <= calls, "{failures} of {calls}");
+}
+
+#[test]
+fn the_seed_decides() {
+    let one = history(5);
+    assert!(one == history(5));
+    let other = history(6);
+    let behind_the_first_line = |text: &[u8]| {
+        let end = text.iter().position(|&byte| byte == b'\n').unwrap_or(0);
+        text[end..].to_vec()
+    };
+    assert!(behind_the_first_line(&one) != behind_the_first_line(&other));
+}

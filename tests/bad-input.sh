@@ -1,0 +1,349 @@
+#!/usr/bin/env bash
+# Bad input, and input at the limits, through the player and through the plain program: what they print must be the
+# same, byte by byte, and where a text stands here it must be that text. PLAYER names another program instead of the
+# player. Ends with 1 if anything is wrong.
+set -euo pipefail
+cd "$(dirname "$0")/.."
+. tests/lib.sh
+
+build_plain
+need_player
+room=$(mktemp -d)
+trap 'rm -rf "$room"' EXIT
+input=$room/input
+most=2097152
+
+inputs=0 lines=0 texts=0 wrong=0
+
+# compare NAME: the file $input through both
+compare() {
+    inputs=$((inputs + 1))
+    plain "$input" >"$room/plain"
+    if ! play "$input" >"$room/player"; then
+        echo "$1: the player did not end with 0"
+        wrong=$((wrong + 1))
+    elif cmp -s "$room/plain" "$room/player"; then
+        lines=$((lines + $(wc -l <"$room/player")))
+    else
+        echo "$1: DIFFERENT"
+        show_difference "$room/plain" "$room/player"
+        wrong=$((wrong + 1))
+    fi
+}
+
+# prints NAME: compare, and what the player printed must be the file $room/wanted
+prints() {
+    compare "$1"
+    texts=$((texts + 1))
+    if ! cmp -s "$room/wanted" "$room/player"; then
+        echo "$1: NOT THE TEXT WANTED"
+        echo "first difference in line $(first_difference "$room/wanted" "$room/player")"
+        wrong=$((wrong + 1))
+    fi
+}
+
+# says NAME LINE..: prints, with these lines; none: nothing is printed
+says() {
+    local name=$1
+    shift
+    : >"$room/wanted"
+    if [ $# -gt 0 ]; then printf '%s\n' "$@" >"$room/wanted"; fi
+    prints "$name"
+}
+
+# all_bad NAME: no line of the input is understood
+all_bad() {
+    awk '{ print "line " NR ": not understood" }' "$input" >"$room/wanted"
+    prints "$1"
+}
+
+# numbers COUNT [NUMBER]: so many words, each behind a space; without NUMBER they count up from 0
+numbers() {
+    awk -v n="$1" -v v="${2-}" 'BEGIN { for (i = 0; i < n; i++) printf " %s", (v == "" ? i : v) }'
+}
+
+# of_length COUNT BYTE: that byte so many times
+of_length() {
+    head -c "$1" /dev/zero | tr '\0' "$2"
+}
+
+counts='attempts 0 boundaries 0 yields 0 dropped 0'
+
+# ---- Nothing, and lines that say nothing
+
+: >"$input"
+says 'empty input'
+printf '\n\n\n' >"$input"
+says 'empty lines'
+printf '#\n# a comment\n#\t\r\0\377\n#' >"$input"
+says 'comments'
+printf 'show' >"$input"
+says 'last line without line feed' 'head 0 0 0'
+printf '\n#\nshow\nshow x' >"$input"
+says 'every line counts' 'head 0 0 0' 'line 4: not understood'
+
+# ---- Spaces, tabs, carriage returns
+
+printf '%s\n' ' ' '  ' ' show' 'show ' 'show  ' $'\tshow' $'show\t' $'show\r' $'\r' $'\t' ' # no comment' $'\t#' \
+    'place  1' 'place 1 ' ' place 1' $'place\t1' $'place 1\t' $'place\r1' $'place 1\r' 'script 5  0 0' 'script 5 0 0 ' 'script ' \
+    'held ' 'member ' 'lend ' $'lend\r' 'lend 3  1' $'show\vx' $'show\f' $'show\240' >"$input"
+all_bad 'spaces that are none'
+printf 'prepare 2 4 1\r\nplace 0\r\n\r\n#\r\nshow\r\n' >"$input"
+says 'carriage returns before line feeds' 'line 1: not understood' 'line 2: not understood' 'line 3: not understood' 'line 5: not understood'
+printf 'show\rshow' >"$input"
+says 'a carriage return ends no line' 'line 1: not understood'
+printf 'show\0\n\0\nsh\0ow\n' >"$input"
+says 'zero bytes' 'line 1: not understood' 'line 2: not understood' 'line 3: not understood'
+
+# ---- Bytes of all kinds
+
+for number in 4294967296 4294967297 4294967300 9999999999 42949672950 18446744073709551615 18446744073709551616 99999999999999999999999 \
+    00 01 007 000000000000 04294967295 -1 -0 +1 +0 1. 1.0 1e3 0x1 1_000 1,000 a 1a '' ''\''1' '１'; do
+    printf 'place %s\nram %s\nhead 1 1 %s\nheld 1 %s\nheld %s 1\ntry_acquire %s\nprepare %s 1 1\nmember %s\n' \
+        "$number" "$number" "$number" "$number" "$number" "$number" "$number" "$number"
+done >"$input"
+all_bad 'numbers that are none'
+printf 'head 4294967295 4294967295 4294967295\nplace 4294967295\nshow\nlend 3 1\nenvironment\nhead 0 0 0\nplace 0\nenvironment\n' >"$room/part"
+{
+    cat "$room/part"
+    printf 'word 0 4294967295\nword 1 0\nword 2 10\nbyte 0 255\nshow\n'
+} >"$input"
+compare 'the greatest number'
+sed '/^show/d' "$room/part" >"$input"
+says 'the greatest number, refused' "refused 1 BadShape 0 next 4294967295 place 4294967295 $counts" "refused 1 BadShape 0 next 0 place 0 $counts"
+
+bytes=''
+for byte in {0..255}; do
+    printf -v one '\\%03o' "$byte"
+    bytes+=$one
+done
+printf "$bytes" >"$input"
+says 'all bytes' 'line 1: not understood' 'line 2: not understood'
+for byte in {0..255}; do
+    printf -v one '\\%03o' "$byte"
+    printf "$one\nshow$one\n${one}show\nplace ${one}1\nplace 1$one\nsho${one}w\n"
+done >"$input"
+compare 'each byte at each place'
+x=20261115
+for shape in 1 2 3 4 5 6 7 8; do
+    for _ in {1..3000}; do
+        x=$(((x * 1664525 + 1013904223) & 0xffffffff))
+        byte=$((x >> 16 & 255))
+        # the later shapes are closer to text: digits, spaces, line feeds, letters of the commands
+        if [ "$shape" -gt 3 ] && [ $((x >> 24 & 3)) -ne 0 ]; then
+            set -- ' ' '\n' 0 1 2 9 show place held lend script try_lock prepare 5
+            shift $((byte % 14))
+            printf '%b' "$1"
+        else
+            printf -v one '\\%03o' "$byte"
+            printf "$one"
+        fi
+    done >"$input"
+    compare "rubbish $shape"
+done
+
+# ---- Words too many and too few, of every command and call
+
+while read -r word least most_numbers; do
+    for count in 0 1 2 3 4 5; do
+        if [ "$count" -lt "$least" ] || [ "$count" -gt "$most_numbers" ]; then echo "$word$(numbers "$count" 1)"; fi
+    done
+done >"$input" <<'TABLE'
+ram 1 1
+head 3 3
+word 2 2
+byte 2 2
+place 1 1
+grants 1 1
+crewless 0 0
+show 0 0
+prepare 3 3
+try_acquire 1 1
+drop_lease 2 2
+read_permission 2 2
+competing_acquire_is_excluded 2 2
+release_then_handoff 2 2
+foreign_release_between_attempts 2 2
+acquire_preserving_borrows 1 1
+drop_preserving_borrows 2 2
+environment 0 0
+environment_for_borrows 0 0
+try_lock 1 1
+other_mutex_preserves_leases 1 1
+transactional_try_lock_bucket 2 2
+acquire_index_bucket 2 2
+release_all 0 0
+acquire_index_locks 0 0
+crew 0 0
+TABLE
+printf 'lend 1\nlend 0\nlend 1 2 3\nlend x\nlend 1 x\n' >>"$input"
+all_bad 'too many and too few words'
+for word in ram lend head word byte registry held keys leases turns script place grants member crewless show prepare try_acquire drop_lease read_permission \
+    competing_acquire_is_excluded release_then_handoff foreign_release_between_attempts acquire_preserving_borrows drop_preserving_borrows environment \
+    environment_for_borrows try_lock other_mutex_preserves_leases transactional_try_lock_bucket acquire_index_bucket release_all acquire_index_locks crew; do
+    # the right count of numbers, the word wrong: longer, shorter, of capitals
+    for rest in '' ' 1' ' 1 1' ' 1 1 1'; do
+        printf '%s\n' "${word}x$rest" "${word%?}$rest" "x$word$rest" "${word#?}$rest" "${word^}$rest" "${word^^}$rest" "$word.$rest"
+    done
+done >"$input"
+# a word made shorter is none of the others
+all_bad 'words nearly right'
+
+# ---- The rooms: as long as fits, and one more. Each list is asked for by a call.
+
+# room_of NAME WORD ROOM BEFORE AFTER WANTED: the list of ROOM numbers is understood, and the last line that BEFORE, it and AFTER print is
+# WANTED; with one number more it is not understood
+room_of() {
+    local before
+    before=$(printf '%s\n' "$4" | wc -l)
+    { printf '%s\n' "$4"; echo "$2$(numbers "$3" 0)"; printf '%s\n' "$5"; } >"$input"
+    compare "$1, as long as fits"
+    texts=$((texts + 1))
+    if [ "$(tail -n 1 "$room/player")" != "$6" ] || grep -q 'not understood' "$room/player"; then
+        echo "$1, as long as fits: NOT THE TEXT WANTED"
+        cat "$room/player"
+        wrong=$((wrong + 1))
+    fi
+    { printf '%s\n' "$4"; echo "$2$(numbers "$(($3 + 1))" 0)"; printf '%s\n' "$5"; } >"$input"
+    compare "$1, one more"
+    texts=$((texts + 1))
+    if ! grep -qx "line $((before + 1)): not understood" "$room/player"; then
+        echo "$1, one more: UNDERSTOOD"
+        wrong=$((wrong + 1))
+    fi
+}
+
+arena=$'prepare 2 4 1\nregistry 0 1 1'
+room_of registry registry 80 'prepare 2 4 1' 'transactional_try_lock_bucket 0 0' "refused 1 BadShape 0 next 1 place 0 $counts"
+room_of script script 98400 "$arena" environment "refused 2 BadScript 0 next 1 place 0 $counts"
+room_of held held 300 "$arena" environment "refused 3 BadHeld 150 next 1 place 0 $counts"
+room_of keys keys 200 "$arena" acquire_index_locks 'grants'
+room_of leases leases 300 "$arena" release_all "refused 4 TooMany 0 next 1 place 0 $counts"
+room_of turns turns 70000 "$arena"$'\nmember 1' crew 'refused 15 BadCrew 0 next 1'
+room_of member member 70 "$arena" crew 'refused 15 BadCrew 0 next 1'
+
+# what document 01 allows at most, and one more
+{
+    printf 'prepare 64 64 1\n'
+    echo "registry$(numbers 64)"
+    printf 'transactional_try_lock_bucket 63 63\ntransactional_try_lock_bucket 64 0\n'
+    echo "registry$(numbers 65)"
+    printf 'transactional_try_lock_bucket 63 62\n'
+    echo "script$(numbers 98304 0)"
+    printf 'environment\nplace 32768\nenvironment\nplace 32769\nenvironment\n'
+    echo "script$(numbers 98307 0)"
+    printf 'environment\nscript\n'
+    echo "held$(numbers 128 1)"
+    printf 'environment\n'
+    echo "held$(numbers 130 1)"
+    printf 'environment\n'
+    echo "held$(numbers 131 1)"
+    printf 'environment\nheld\n'
+    echo "registry$(numbers 64)"
+    echo "keys$(numbers 128 1)"
+    printf 'grants 128\nacquire_index_locks\n'
+    echo "keys$(numbers 130 1)"
+    printf 'grants 130\nacquire_index_locks\ngrants 300\nacquire_index_locks\n'
+    echo "leases$(numbers 128 1)"
+    printf 'release_all\n'
+    echo "leases$(numbers 130 1)"
+    printf 'release_all\n'
+    echo "member$(numbers 64)"
+    printf 'turns 0\ncrew\ncrewless\n'
+    echo "member$(numbers 65)"
+    printf 'crew\ncrewless\n'
+    for _ in {1..16}; do echo "member$(numbers 16)"; done
+    printf 'crew\nmember\ncrew\ncrewless\nmember 1\n'
+    echo "turns$(numbers 65536 0)"
+    printf 'crew\n'
+    echo "turns$(numbers 65537 0)"
+    printf 'crew\nshow\n'
+} >"$input"
+compare 'limits of document 01'
+
+# grants, members
+printf 'prepare 2 4 1\ngrants 300\nacquire_index_locks\ngrants 301\ngrants 4294967295\nacquire_index_locks\n' >"$input"
+nines=grants$(numbers 300 9)
+says 'grant buffer' "done next 1 place 0 $counts" "refused 4 TooMany 0 next 1 place 0 $counts" "$nines" 'line 4: not understood' 'line 5: not understood' \
+    "refused 4 TooMany 0 next 1 place 0 $counts" "$nines"
+{
+    for _ in {1..20}; do echo 'member 1'; done
+    printf 'member\nmember 1\ncrewless\nmember\n'
+} >"$input"
+says 'a member too many' 'line 21: not understood' 'line 22: not understood'
+
+# words, bytes, lending
+printf 'lend 12600 70\nword 12599 7\nword 12600 7\nword 4294967295 7\nbyte 69 255\nbyte 69 256\nbyte 70 0\nbyte 70 255\nbyte 4294967295 0\nshow\n' >"$input"
+compare 'ends of table and health'
+texts=$((texts + 1))
+if ! diff <(grep 'not understood' "$room/player") <(printf 'line %s: not understood\n' 3 4 6 7 8 9) ||
+    ! grep -q '^cell 4199 [0-9]* [0-9]* 7$' "$room/player" || [ "$(tail -n 1 "$room/player")" != 'health 69 255' ]; then
+    echo 'ends of table and health: NOT THE TEXT WANTED'
+    wrong=$((wrong + 1))
+fi
+printf 'lend 12601 70\nlend 12600 71\nlend 4294967295 0\nlend 0 4294967295\nlend 1\nlend 1 1 1\n' >"$input"
+all_bad 'lending too much'
+printf 'lend 12600 70\nprepare 2 4 1\nlend 24 2\nprepare 2 4 1\nlend 23 2\nprepare 2 4 1\nlend 24 1\nprepare 2 4 1\ntry_acquire 0\nenvironment\nlend 0 0\nshow\nlend 2 0\nshow\nlend 3 0\nshow\nlend 7 1\nshow\nlend\nshow\n' >"$input"
+says 'lending' "refused 1 BadShape 0 next 0 place 0 $counts" "done next 1 place 0 $counts" "refused 1 BadShape 0 next 1 place 0 $counts" \
+    "refused 1 BadShape 0 next 1 place 0 $counts" 'granted 0 1 next 2 place 0 attempts 1 boundaries 0 yields 0 dropped 0' \
+    "refused 1 BadShape 0 next 2 place 0 $counts" 'head 2 4 2' 'head 2 4 2' 'head 2 4 2' 'cell 0 1 1 0' 'head 2 4 2' 'cell 0 1 1 0' 'head 2 4 2' 'cell 0 1 1 0'
+# 3 H B modulo 2^32 is 0, 3 and 6 here; the true product is more than there is
+for head in '65536 65536 1' '1431655766 1 1' '4294967295 4294967295 1' '2147483648 2 1' '64 65 1' '70 60 1' '71 60 1' '4200 1 1' '1 4200 1' '1 4201 1' '0 5 1' '5 0 1'; do
+    printf 'head %s\nshow\nenvironment\nprepare %s\nshow\n' "$head" "$head"
+done >"$input"
+compare 'lending by heads out of range'
+printf 'ram 0\nlend 12600 70\nshow\nram 4294967295\nshow\nram 1\nshow\nram 4294967296\n' >"$input"
+compare 'rubbish in RAM'
+
+# ---- Long input
+
+of_length $most x >"$input"
+says 'one line of 2 MiB' 'line 1: not understood'
+of_length $((most - 1)) x >"$input"
+echo >>"$input"
+says 'one line of 2 MiB with its line feed' 'line 1: not understood'
+of_length $most '#' >"$input"
+says 'a comment of 2 MiB'
+of_length $most ' ' >"$input"
+says '2 MiB of spaces' 'line 1: not understood'
+of_length $most '\0' >"$input"
+says '2 MiB of zero bytes' 'line 1: not understood'
+of_length $most '\377' >"$input"
+says '2 MiB of bytes 255' 'line 1: not understood'
+of_length $most '\n' >"$input"
+says '2 MiB of line feeds'
+of_length $most 1 >"$input"
+says '2 MiB of digits' 'line 1: not understood'
+{ printf 'place '; of_length $((most - 6)) 1; } >"$input"
+says 'a number of nearly 2 MiB' 'line 1: not understood'
+{ printf 'place '; of_length $((most - 6)) 0; } >"$input"
+says 'a zero of nearly 2 MiB' 'line 1: not understood'
+for word in script turns held registry keys leases member lend place ram try_lock crew; do
+    { printf '%s' "$word"; numbers $(((most - ${#word}) / 2)) 1; } >"$input"
+    says "$word as long as fits" 'line 1: not understood'
+done
+{ printf 'prepare 2 4 1\n'; of_length $((most - 18)) '#'; printf 'show'; } >"$input"
+says 'exactly 2 MiB, a comment at the end' "done next 1 place 0 $counts"
+{ printf 'prepare 2 4 1\n'; of_length $((most - 19)) '#'; printf '\nshow'; } >"$input"
+says 'exactly 2 MiB, the last word whole' "done next 1 place 0 $counts" 'head 2 4 1'
+of_length $((most / 2)) x | sed 's/x/x\n/g' >"$input"
+all_bad '2 MiB of lines of one letter'
+of_length $((most / 5)) x | sed 's/x/show\n/g' >"$input"
+compare '2 MiB of show'
+
+for byte in x '#' '\n' '\0' ' ' 1; do
+    of_length $((most + 1)) "$byte" >"$input"
+    says "2 MiB and one byte, $byte" 'input too long'
+done
+{ printf 'prepare 2 4 1\nshow\n'; of_length $((most - 18)) '\n'; } >"$input"
+says '2 MiB and one byte, good lines first' 'input too long'
+for bytes in $((most + 2)) $((most + 4096)) $((2 * most)) $((5 * most + 1)); do
+    of_length "$bytes" '\n' >"$input"
+    says "$bytes bytes" 'input too long'
+done
+
+[ "$wrong" -eq 0 ] || {
+    echo "bad-input: $wrong WRONG, of $inputs inputs and $texts texts"
+    exit 1
+}
+echo "bad-input: $inputs inputs, $lines lines compared, equal; $texts texts as expected"

@@ -1,0 +1,69 @@
+# shellcheck shell=bash
+# For the test scripts that play input through the console. They source it from the top folder of the repository.
+
+# build_plain: builds the plain program and the writer of histories.
+build_plain() {
+    cargo build --release --offline --quiet --manifest-path rust/plain/Cargo.toml --target-dir target/rust
+}
+
+# plain FILE: the plain program on FILE's bytes as standard input.
+plain() {
+    target/rust/release/plain <"$1"
+}
+
+# kit: the folder of the Rattle kit that `rt` belongs to.
+kit() {
+    if [ -n "${RATTLE_HOME:-}" ]; then
+        echo "$RATTLE_HOME"
+    else
+        dirname "$(dirname "$(readlink -f "$(command -v rt)")")"
+    fi
+}
+
+# play FILE: the player on FILE's bytes as standard input. It is an x86-64 program; on another machine it runs as the
+# kit runs programs there, under its emulator and its own loader and C library. PLAYER names another program
+# instead, by a path from the top folder of the repository or from /.
+play() {
+    local tools word
+    if [ -n "${PLAYER:-}" ]; then
+        "$PLAYER" <"$1"
+    elif [ "$(uname -m)" = x86_64 ]; then
+        target/bin/player <"$1"
+    else
+        (
+            for word in $(env | sed -n 's/^\(QEMU_[A-Za-z0-9_]*\)=.*/\1/p'); do unset "$word"; done
+            tools=$(kit)/on/$(uname -m)/toolchain
+            exec "$tools/bin/qemu-x86_64" "$tools/lib/ld-linux-x86-64.so.2" --library-path "$tools/lib" target/bin/player <"$1"
+        )
+    fi
+}
+
+# need_player: ends the script if there is no player to run.
+need_player() {
+    local player=${PLAYER:-target/bin/player}
+    command -v "$player" >/dev/null || {
+        echo "no player at $player: build it first, or let PLAYER name another program"
+        exit 1
+    }
+}
+
+# first_difference A B: the number of the first line in which two files differ; nothing if they are equal.
+first_difference() {
+    local said
+    said=$(LC_ALL=C cmp "$1" "$2" 2>&1) && return
+    case $said in
+        *'which is empty'*) echo 1 ;;
+        *', in line '*) echo "${said##*, in line }" ;;
+        *'EOF on '*', line '*) echo $((${said##*, line } + 1)) ;;
+        *', line '*) echo "${said##*, line }" ;;
+    esac
+}
+
+# show_difference PLAIN PLAYER: the first line in which the two outputs differ, of both.
+show_difference() {
+    local line
+    line=$(first_difference "$1" "$2")
+    echo "first difference in line $line of what was printed"
+    echo "  plain:  $(sed -n "${line}p" "$1" | cat -v | cut -c 1-300)"
+    echo "  player: $(sed -n "${line}p" "$2" | cat -v | cut -c 1-300)"
+}
