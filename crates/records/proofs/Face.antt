@@ -47,7 +47,7 @@ use denote.Triple.Clauses.{Clauses, Ended, closing, ensured, lasts}
 use denote.Triple.Entry.{onEntry}
 use denote.Triple.Spec.{Meets, tripleOf}
 use denote.Triple.Statement.{Contract, Triple}
-use denote.Triple.Walked.{says, Stays, stay-slice, stay-none, walkOf, AllGo, Silent, goes-slice, goes-none, Walks, ends-at, walked, walk-meets}
+use denote.Triple.Walked.{says, Stays, stay-slice, stay-none, walkOf, Silent, goes-slice, goes-none, Walks, ends-at, walked, walk-meets}
 use denote.Exit.{Last, yes}
 use Rattle.model.specs.declared.Head.{Head}
 use Rattle.model.specs.declared.Reply.{Reply}

@@ -8,7 +8,6 @@ use borrow.Author.Tests.{le-leb, lt-leb, le-ltb, lt-ltb, leb-true, leb-false}
 use lib.Dec.{leb}
 use lib.ListN.{length, getD, set}
 use lib.Seq.{set-getD}
-use Rattle.model.specs.Choice.{if_then_else_}
 use Rattle.model.specs.Arena.{serialRemains, cellsOf, headOf, spentTo, headFits, shapeFits, bitAt, ownerAt, waitersAt, setCell, isFree, isHeld, stateOf, stateAt, leaseOf, heldBy, isLive, issueOf}
 use Rattle.model.specs.Refusals.{first}
 use Rattle.model.specs.Lock.{takeIn, takeOf, outcomeOf, answerOf}
@@ -114,10 +113,11 @@ too-many h n b = go (shapeFits h (3 * n)) refl
 pub records-are : (h : Head) (n : ℕ) → shapeFits h (3 * n) ≡ true → cellsOf h ≡ n
 records-are h n p = let s = shaped h (3 * n) p in omega (arith, s .words-are)
 
--- the first of the rules, by the shape
+-- the shape of the spelled table
 fits-spelled : (h : Head) (l : List Cell) (b : Bool) → shapeFits h (3 * length l) ≡ b → shapeFits h (length (spelled l)) ≡ b
 fits-spelled h l b p = ap (shapeFits h) (length-spelled l) ∙ p
 
+-- where no rule applies
 no-rule : first [] ≡ Fine
 unfolding first
 no-rule = refl

@@ -36,7 +36,7 @@ struct Changed {
 
 // ---- where the record stands
 
-// Whether the head and the number of records keep the arena's rules; so few that three words each can be counted.
+// Whether the head and the number of records keep the arena's rules. More than 4,096 never do, so three words each can be counted.
 fn fits(head: Head, n: usize) -> bool
     ensures { λ r. ⌜ r ≡ shapeFits head (3 * n) ⌝ }
 {
@@ -46,7 +46,8 @@ fn fits(head: Head, n: usize) -> bool
     head.shape_fits(3 * n)
 }
 
-// Of a head and a number of records that do not keep them: past the end.
+// Where the record of a cell stands. The refusal is for a cell out of range; where the arena's rules are broken the place is
+// past the end, so that no record is read.
 fn find(head: Head, n: usize, cell: u32, refusal: Refusal) -> Spot
     ensures { λ r. ⌜ r ≡ spotOf head n cell refusal ⌝ }
 {
@@ -61,12 +62,14 @@ fn find(head: Head, n: usize, cell: u32, refusal: Refusal) -> Spot
     Spot { at: n, refused }
 }
 
+// 8 for a cell out of range.
 fn take_spot(head: Head, n: usize, cell: u32) -> Spot
     ensures { λ r. ⌜ r ≡ takeSpotOf head n cell ⌝ }
 {
     find(head, n, cell, Refusal::InvalidBucket(cell))
 }
 
+// 12 for a lease whose cell is out of range.
 fn drop_spot(head: Head, n: usize, lease: Lease) -> Spot
     ensures { λ r. ⌜ r ≡ dropSpotOf head n lease ⌝ }
 {
@@ -107,7 +110,7 @@ fn take_free(head: Head, c: Cell, cell: u32) -> Changed
     }
 }
 
-// One compare-and-set.
+// Of any record.
 fn take_rule(head: Head, c: Cell, cell: u32) -> Changed
     ensures { λ r. ⌜ r ≡ takeRuleOf head c cell ⌝ }
 {
@@ -137,7 +140,7 @@ fn held(next: u32, c: Cell, serial: u32) -> bool
     }
 }
 
-// One release.
+// Of a record that is held by the lease's serial: nobody owns it after. Of another: 12.
 fn drop_rule(head: Head, c: Cell, lease: Lease) -> Changed
     ensures { λ r. ⌜ r ≡ dropRuleOf head c lease ⌝ }
 {
@@ -156,6 +159,7 @@ fn drop_rule(head: Head, c: Cell, lease: Lease) -> Changed
 
 // ---- the calls
 
+// One compare-and-set.
 pub fn try_acquire(head: Head, cells: &mut [Cell], cell: u32) -> Reply
     ensures { λ r. ⌜ (r, spelled (now (cells .exit))) ≡ tryAcquireOf head (spelled (now (cells .entry))) cell .seen ⌝ }
 {
