@@ -7,7 +7,7 @@
  * 128 bytes below the stack pointer; a kernel that calls it where it saves neither must see to both.
  *
  * Each function is a call of document 01 and is proved to give what document 01 says, refusals included: the reply's
- * words and every word of every lent run are fixed, whatever the arguments are.
+ * words and every word of every lent run are fixed, whatever the numbers and the lent words are.
  *
  * How a call is made
  * ------------------
@@ -21,12 +21,13 @@
  * What a call needs, and changes
  * ------------------------------
  * - Of what is lent, a call changes only the runs that are declared without `const`, and the reply.
- * - A call keeps no pointer. When it has returned, what was lent is the caller's again.
+ * - A call keeps no pointer. When it has returned, what was lent is the caller's again, and until then nobody else
+ *   writes it, or reads what the call may change.
  * - Runs that are lent to one call must not overlap, and none may overlap the reply. Two runs that are both `const`
  *   may.
  * - A pointer must be aligned for its type, and point to as many elements as the length says. It may be null only if
  *   the length is 0; then nothing is read or written through it. The reply is never null.
- * - No length is trusted: a run of a length that breaks document 01's rules is answered by a refusal.
+ * - A length that breaks document 01's rules is answered by a refusal, and so is any number that does.
  *
  * What the caller must see to
  * ---------------------------
@@ -133,7 +134,7 @@ enum skid_kind {
 enum skid_refusal {
     SKID_BAD_SHAPE = 1,              /* 0: the head or a length breaks the arena's rules */
     SKID_BAD_SCRIPT = 2,             /* 0: no multiple of 3, too many steps, or a place past the end */
-    SKID_BAD_HELD = 3,               /* held list odd or too long: its leases; else the first position not live */
+    SKID_BAD_HELD = 3,               /* held list odd or too long: its leases, rounded down; else the first not live */
     SKID_TOO_MANY = 4,               /* 0: a list of keys or leases odd or too long, or grants of a wrong length */
     SKID_BAD_BINDING = 5,            /* the first position of a key whose binding is past the registry */
     SKID_BAD_HEADER = 6,             /* the header that the registry names, at least H */

@@ -24,7 +24,7 @@ use Rattle.model.specs.declared.Refusal.{Refusal}
 use Rattle.model.specs.declared.Refusal.the-variants.{BadShape, BadScript, BadHeld, TooMany, BadBinding, BadHeader, Poisoned, InvalidBucket, Damaged, SerialsSpent, SerializationFailure, NotHeld, Protected, Repeated, BadCrew}
 use Rattle.model.specs.declared.Reply.{Reply}
 use Rattle.words.specs.Laws.{four}
-use Rattle.words.specs.Words.{answerWords, replyWords, playedWords, eachOf, crewWords}
+use Rattle.words.specs.Words.{answerWords, replyWords, playedWords, eachOf, crewWords, told}
 
 -- ---- the way back
 
@@ -137,3 +137,9 @@ crew-back r x =
 
 pub crew-tells : (r s : CrewReply) → Sixteen r → Sixteen s → crewWords r ≡ crewWords s → r ≡ s
 crew-tells r s x y e = sym (crew-back r x) ∙ ap crewIn e ∙ crew-back s y
+
+-- and what a caller sees of a call, reply and lent runs, fixes the result itself
+pub told-tells : {R A : Type 0} (words : R → List ℕ) → ((r s : R) → words r ≡ words s → r ≡ s) → (o p : R × A) → told words o ≡ told words p → o ≡ p
+told-tells {R} {A} words tells o p e =
+    ap (λ (r : R). (r, o .1)) (tells (o .0) (p .0) (ap (λ (x : List ℕ × A). x .0) e))
+    ∙ ap (λ (a : A). (p .0, a)) (ap (λ (x : List ℕ × A). x .1) e)
