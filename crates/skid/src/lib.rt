@@ -1,0 +1,456 @@
+// The calls of document 01 for a kernel in C or Rust; include/skid.h declares them. Only numbers and lent runs cross: the head goes in as
+// three numbers, a lease as two, and the last parameter is the lent reply, whose words crate `words` lays out.
+// Each is thin: it makes the head, makes the call, and writes the reply's words.
+use model::Head;
+use model::Lease;
+ghost use mathlib.Core.Path.{_≡_};
+ghost use Rattle.model.specs.Arena.{headOf, leaseOf};
+ghost use Rattle.model.specs.Calls.{prepareOf, tryAcquireOf, dropLeaseOf, readPermissionOf, competingAcquireOf, releaseThenHandoffOf, foreignReleaseOf, acquirePreservingOf, dropPreservingOf, environmentOf, tryLockOf, transactionalOf, acquireBucketOf, releaseAllOf, acquireLocksOf};
+ghost use Rattle.model.specs.Crew.{crewOf};
+ghost use Rattle.words.specs.Words.{replyWords, playedWords, crewWords, told};
+
+// ---- preparing
+
+#[no_mangle]
+pub extern "C" fn skid_prepare(
+    headers: u32,
+    buckets: u32,
+    serial: u32,
+    table: &mut [u32],
+    health: &mut [u8],
+    reply: &mut [u64; 12],
+)
+    ensures { λ _. ⌜ (now (reply .exit), (now (table .exit), now (health .exit))) ≡ told replyWords (prepareOf headers buckets serial (now (table .entry)) (now (health .entry)) .seen) ⌝ }
+{
+    let r = arena::prepare(headers, buckets, serial, table, health);
+    *reply = words::reply_words(r);
+}
+
+// ---- calls without a script
+
+#[no_mangle]
+pub extern "C" fn skid_try_acquire(
+    headers: u32,
+    buckets: u32,
+    next: u32,
+    table: &mut [u32],
+    cell: u32,
+    reply: &mut [u64; 12],
+)
+    ensures { λ _. ⌜ (now (reply .exit), now (table .exit)) ≡ told replyWords (tryAcquireOf (headOf headers buckets next) (now (table .entry)) cell .seen) ⌝ }
+{
+    let head = Head {
+        headers,
+        buckets,
+        next,
+    };
+    let r = lease::try_acquire(head, table, cell);
+    *reply = words::reply_words(r);
+}
+
+#[no_mangle]
+pub extern "C" fn skid_drop_lease(
+    headers: u32,
+    buckets: u32,
+    next: u32,
+    table: &mut [u32],
+    cell: u32,
+    serial: u32,
+    reply: &mut [u64; 12],
+)
+    ensures { λ _. ⌜ (now (reply .exit), now (table .exit)) ≡ told replyWords (dropLeaseOf (headOf headers buckets next) (now (table .entry)) (leaseOf cell serial) .seen) ⌝ }
+{
+    let head = Head {
+        headers,
+        buckets,
+        next,
+    };
+    let lease = Lease { cell, serial };
+    let r = lease::drop_lease(head, table, lease);
+    *reply = words::reply_words(r);
+}
+
+#[no_mangle]
+pub extern "C" fn skid_read_permission(
+    headers: u32,
+    buckets: u32,
+    next: u32,
+    table: &[u32],
+    cell: u32,
+    serial: u32,
+    reply: &mut [u64; 12],
+)
+    ensures { λ _. ⌜ now (reply .exit) ≡ replyWords (readPermissionOf (headOf headers buckets next) (now (table .entry)) (leaseOf cell serial) .seen) ⌝ }
+{
+    let head = Head {
+        headers,
+        buckets,
+        next,
+    };
+    let lease = Lease { cell, serial };
+    let r = lease::read_permission(head, table, lease);
+    *reply = words::reply_words(r);
+}
+
+#[no_mangle]
+pub extern "C" fn skid_competing_acquire_is_excluded(
+    headers: u32,
+    buckets: u32,
+    next: u32,
+    table: &mut [u32],
+    cell: u32,
+    serial: u32,
+    reply: &mut [u64; 12],
+)
+    ensures { λ _. ⌜ (now (reply .exit), now (table .exit)) ≡ told replyWords (competingAcquireOf (headOf headers buckets next) (now (table .entry)) (leaseOf cell serial) .seen) ⌝ }
+{
+    let head = Head {
+        headers,
+        buckets,
+        next,
+    };
+    let lease = Lease { cell, serial };
+    let r = lease::competing_acquire_is_excluded(head, table, lease);
+    *reply = words::reply_words(r);
+}
+
+#[no_mangle]
+pub extern "C" fn skid_release_then_handoff(
+    headers: u32,
+    buckets: u32,
+    next: u32,
+    table: &mut [u32],
+    cell: u32,
+    serial: u32,
+    reply: &mut [u64; 12],
+)
+    ensures { λ _. ⌜ (now (reply .exit), now (table .exit)) ≡ told replyWords (releaseThenHandoffOf (headOf headers buckets next) (now (table .entry)) (leaseOf cell serial) .seen) ⌝ }
+{
+    let head = Head {
+        headers,
+        buckets,
+        next,
+    };
+    let lease = Lease { cell, serial };
+    let r = lease::release_then_handoff(head, table, lease);
+    *reply = words::reply_words(r);
+}
+
+#[no_mangle]
+pub extern "C" fn skid_foreign_release_between_attempts(
+    headers: u32,
+    buckets: u32,
+    next: u32,
+    table: &mut [u32],
+    held: &[u32],
+    cell: u32,
+    serial: u32,
+    reply: &mut [u64; 12],
+)
+    ensures { λ _. ⌜ (now (reply .exit), now (table .exit)) ≡ told replyWords (foreignReleaseOf (headOf headers buckets next) (now (table .entry)) (now (held .entry)) (leaseOf cell serial) .seen) ⌝ }
+{
+    let head = Head {
+        headers,
+        buckets,
+        next,
+    };
+    let lease = Lease { cell, serial };
+    let r = lease::foreign_release_between_attempts(head, table, held, lease);
+    *reply = words::reply_words(r);
+}
+
+#[no_mangle]
+pub extern "C" fn skid_acquire_preserving_borrows(
+    headers: u32,
+    buckets: u32,
+    next: u32,
+    table: &mut [u32],
+    held: &[u32],
+    cell: u32,
+    reply: &mut [u64; 12],
+)
+    ensures { λ _. ⌜ (now (reply .exit), now (table .exit)) ≡ told replyWords (acquirePreservingOf (headOf headers buckets next) (now (table .entry)) (now (held .entry)) cell .seen) ⌝ }
+{
+    let head = Head {
+        headers,
+        buckets,
+        next,
+    };
+    let r = lease::acquire_preserving_borrows(head, table, held, cell);
+    *reply = words::reply_words(r);
+}
+
+#[no_mangle]
+pub extern "C" fn skid_drop_preserving_borrows(
+    headers: u32,
+    buckets: u32,
+    next: u32,
+    table: &mut [u32],
+    held: &[u32],
+    cell: u32,
+    serial: u32,
+    reply: &mut [u64; 12],
+)
+    ensures { λ _. ⌜ (now (reply .exit), now (table .exit)) ≡ told replyWords (dropPreservingOf (headOf headers buckets next) (now (table .entry)) (now (held .entry)) (leaseOf cell serial) .seen) ⌝ }
+{
+    let head = Head {
+        headers,
+        buckets,
+        next,
+    };
+    let lease = Lease { cell, serial };
+    let r = lease::drop_preserving_borrows(head, table, held, lease);
+    *reply = words::reply_words(r);
+}
+
+// ---- calls with a script
+
+#[no_mangle]
+pub extern "C" fn skid_environment(
+    headers: u32,
+    buckets: u32,
+    next: u32,
+    table: &mut [u32],
+    health: &mut [u8],
+    script: &[u32],
+    place: usize,
+    held: &[u32],
+    reply: &mut [u64; 12],
+)
+    ensures { λ _. ⌜ (now (reply .exit), (now (table .exit), now (health .exit))) ≡ told playedWords (environmentOf (headOf headers buckets next) (now (table .entry)) (now (health .entry)) (now (script .entry)) place (now (held .entry)) .seen) ⌝ }
+{
+    let head = Head {
+        headers,
+        buckets,
+        next,
+    };
+    let r = foreign::environment(head, table, health, script, place, held);
+    *reply = words::played_words(r);
+}
+
+#[no_mangle]
+pub extern "C" fn skid_environment_for_borrows(
+    headers: u32,
+    buckets: u32,
+    next: u32,
+    table: &mut [u32],
+    health: &mut [u8],
+    script: &[u32],
+    place: usize,
+    held: &[u32],
+    reply: &mut [u64; 12],
+)
+    ensures { λ _. ⌜ (now (reply .exit), (now (table .exit), now (health .exit))) ≡ told playedWords (environmentOf (headOf headers buckets next) (now (table .entry)) (now (health .entry)) (now (script .entry)) place (now (held .entry)) .seen) ⌝ }
+{
+    let head = Head {
+        headers,
+        buckets,
+        next,
+    };
+    let r = foreign::environment_for_borrows(head, table, health, script, place, held);
+    *reply = words::played_words(r);
+}
+
+#[no_mangle]
+pub extern "C" fn skid_try_lock(
+    headers: u32,
+    buckets: u32,
+    next: u32,
+    table: &mut [u32],
+    health: &mut [u8],
+    script: &[u32],
+    place: usize,
+    held: &[u32],
+    cell: u32,
+    reply: &mut [u64; 12],
+)
+    ensures { λ _. ⌜ (now (reply .exit), (now (table .exit), now (health .exit))) ≡ told playedWords (tryLockOf (headOf headers buckets next) (now (table .entry)) (now (health .entry)) (now (script .entry)) place (now (held .entry)) cell .seen) ⌝ }
+{
+    let head = Head {
+        headers,
+        buckets,
+        next,
+    };
+    let r = lock::try_lock(head, table, health, script, place, held, cell);
+    *reply = words::played_words(r);
+}
+
+#[no_mangle]
+pub extern "C" fn skid_other_mutex_preserves_leases(
+    headers: u32,
+    buckets: u32,
+    next: u32,
+    table: &mut [u32],
+    health: &mut [u8],
+    script: &[u32],
+    place: usize,
+    held: &[u32],
+    cell: u32,
+    reply: &mut [u64; 12],
+)
+    ensures { λ _. ⌜ (now (reply .exit), (now (table .exit), now (health .exit))) ≡ told playedWords (tryLockOf (headOf headers buckets next) (now (table .entry)) (now (health .entry)) (now (script .entry)) place (now (held .entry)) cell .seen) ⌝ }
+{
+    let head = Head {
+        headers,
+        buckets,
+        next,
+    };
+    let r = lock::other_mutex_preserves_leases(head, table, health, script, place, held, cell);
+    *reply = words::played_words(r);
+}
+
+#[no_mangle]
+pub extern "C" fn skid_transactional_try_lock_bucket(
+    headers: u32,
+    buckets: u32,
+    next: u32,
+    table: &mut [u32],
+    health: &mut [u8],
+    registry: &[u32],
+    script: &[u32],
+    place: usize,
+    held: &[u32],
+    binding: u32,
+    bucket: u32,
+    reply: &mut [u64; 12],
+)
+    ensures { λ _. ⌜ (now (reply .exit), (now (table .exit), now (health .exit))) ≡ told playedWords (transactionalOf (headOf headers buckets next) (now (table .entry)) (now (health .entry)) (now (registry .entry)) (now (script .entry)) place (now (held .entry)) binding bucket .seen) ⌝ }
+{
+    let head = Head {
+        headers,
+        buckets,
+        next,
+    };
+    let r = bucket::transactional_try_lock_bucket(
+        head,
+        table,
+        health,
+        registry,
+        script,
+        place,
+        held,
+        binding,
+        bucket,
+    );
+    *reply = words::played_words(r);
+}
+
+#[no_mangle]
+pub extern "C" fn skid_acquire_index_bucket(
+    headers: u32,
+    buckets: u32,
+    next: u32,
+    table: &mut [u32],
+    health: &mut [u8],
+    registry: &[u32],
+    script: &[u32],
+    place: usize,
+    held: &[u32],
+    binding: u32,
+    bucket: u32,
+    reply: &mut [u64; 12],
+)
+    ensures { λ _. ⌜ (now (reply .exit), (now (table .exit), now (health .exit))) ≡ told playedWords (acquireBucketOf (headOf headers buckets next) (now (table .entry)) (now (health .entry)) (now (registry .entry)) (now (script .entry)) place (now (held .entry)) binding bucket .seen) ⌝ }
+{
+    let head = Head {
+        headers,
+        buckets,
+        next,
+    };
+    let r = bucket::acquire_index_bucket(
+        head,
+        table,
+        health,
+        registry,
+        script,
+        place,
+        held,
+        binding,
+        bucket,
+    );
+    *reply = words::played_words(r);
+}
+
+#[no_mangle]
+pub extern "C" fn skid_release_all(
+    headers: u32,
+    buckets: u32,
+    next: u32,
+    table: &mut [u32],
+    health: &mut [u8],
+    script: &[u32],
+    place: usize,
+    leases: &[u32],
+    reply: &mut [u64; 12],
+)
+    ensures { λ _. ⌜ (now (reply .exit), (now (table .exit), now (health .exit))) ≡ told playedWords (releaseAllOf (headOf headers buckets next) (now (table .entry)) (now (health .entry)) (now (script .entry)) place (now (leases .entry)) .seen) ⌝ }
+{
+    let head = Head {
+        headers,
+        buckets,
+        next,
+    };
+    let r = multilock::release_all(head, table, health, script, place, leases);
+    *reply = words::played_words(r);
+}
+
+#[no_mangle]
+pub extern "C" fn skid_acquire_index_locks(
+    headers: u32,
+    buckets: u32,
+    next: u32,
+    table: &mut [u32],
+    health: &mut [u8],
+    registry: &[u32],
+    script: &[u32],
+    place: usize,
+    held: &[u32],
+    keys: &[u32],
+    grants: &mut [u32],
+    reply: &mut [u64; 12],
+)
+    ensures { λ _. ⌜ (now (reply .exit), (now (table .exit), (now (health .exit), now (grants .exit)))) ≡ told playedWords (acquireLocksOf (headOf headers buckets next) (now (table .entry)) (now (health .entry)) (now (registry .entry)) (now (script .entry)) place (now (held .entry)) (now (keys .entry)) (now (grants .entry)) .seen) ⌝ }
+{
+    let head = Head {
+        headers,
+        buckets,
+        next,
+    };
+    let r = multilock::acquire_index_locks(
+        head,
+        table,
+        health,
+        registry,
+        script,
+        place,
+        held,
+        keys,
+        grants,
+    );
+    *reply = words::played_words(r);
+}
+
+// ---- the crew
+
+#[no_mangle]
+pub extern "C" fn skid_crew(
+    headers: u32,
+    buckets: u32,
+    next: u32,
+    table: &mut [u32],
+    health: &[u8],
+    counts: &[u32],
+    cells: &[u32],
+    turns: &[u32],
+    reply: &mut [u64; 46],
+)
+    ensures { λ _. ⌜ (now (reply .exit), now (table .exit)) ≡ told crewWords (crewOf (headOf headers buckets next) (now (table .entry)) (now (health .entry)) (now (counts .entry)) (now (cells .entry)) (now (turns .entry)) .seen) ⌝ }
+{
+    let head = Head {
+        headers,
+        buckets,
+        next,
+    };
+    let r = crew::crew(head, table, health, counts, cells, turns);
+    *reply = words::crew_words(r);
+}

@@ -1,0 +1,145 @@
+-- The words lose nothing: equal words are equal replies.
+use Prim.Native.Nat.{ℕ, zero, suc, _+_}
+use mathlib.Core.Path.{_≡_, refl, sym, ap, _∙_}
+use mathlib.Core.List.{List, [], _∷_, _++_}
+use lib.Dec.{eqb}
+use native.Mathlib.Omega.{arith}
+use native.Mathlib.Numerals.{add-one}
+use lib.ListN.{length, getD, take, drop, drop-of-length-le}
+use lib.Seq.{drop-cons}
+use Rattle.model.specs.Arena.{headOf, leaseOf}
+use Rattle.model.specs.Calls.{countsOf}
+use Rattle.model.specs.Choice.{if_then_else_}
+use Rattle.model.specs.Crew.{takenOf, releasedOf, crewRules, crewOf}
+use Rattle.model.specs.Log.{Made}
+use Rattle.model.specs.Refusals.{refusalOf, numberOf, carriedOf, first, judge}
+use Rattle.model.specs.declared.Answer.{Answer}
+use Rattle.model.specs.declared.Answer.the-variants.{Done, Cell, Granted, AllGranted, Busy, Refused, RefusedAt}
+use Rattle.model.specs.declared.Check.{Check}
+use Rattle.model.specs.declared.Check.the-variants.{Fine, Fault}
+use Rattle.model.specs.declared.CrewReply.{CrewReply}
+use Rattle.model.specs.declared.Head.{Head}
+use Rattle.model.specs.declared.Played.{Played}
+use Rattle.model.specs.declared.Refusal.{Refusal}
+use Rattle.model.specs.declared.Refusal.the-variants.{BadShape, BadScript, BadHeld, TooMany, BadBinding, BadHeader, Poisoned, InvalidBucket, Damaged, SerialsSpent, SerializationFailure, NotHeld, Protected, Repeated, BadCrew}
+use Rattle.model.specs.declared.Reply.{Reply}
+use Rattle.words.specs.Laws.{four}
+use Rattle.words.specs.Words.{answerWords, replyWords, playedWords, eachOf, crewWords, told}
+
+-- ---- the way back
+
+pub refusal-back : (r : Refusal) → refusalOf (numberOf r) (carriedOf r) ≡ r
+refusal-back BadShape = refl
+refusal-back BadScript = refl
+refusal-back (BadHeld k) = refl
+refusal-back TooMany = refl
+refusal-back (BadBinding k) = refl
+refusal-back (BadHeader k) = refl
+refusal-back (Poisoned k) = refl
+refusal-back (InvalidBucket k) = refl
+refusal-back (Damaged k) = refl
+refusal-back (SerialsSpent k) = refl
+refusal-back SerializationFailure = refl
+refusal-back (NotHeld k) = refl
+refusal-back Protected = refl
+refusal-back (Repeated k) = refl
+refusal-back (BadCrew k) = refl
+
+-- the answer that four words tell
+abbrev pub answerIn : List ℕ → Answer
+answerIn ws =
+    let kind = getD ws 0 0 in
+    if eqb kind 0 then Done
+    else if eqb kind 1 then Cell (getD ws 1 0)
+    else if eqb kind 2 then Granted (leaseOf (getD ws 1 0) (getD ws 2 0))
+    else if eqb kind 3 then AllGranted
+    else if eqb kind 4 then Busy
+    else if eqb kind 5 then Refused (refusalOf (getD ws 1 0) (getD ws 2 0))
+    else RefusedAt (refusalOf (getD ws 1 0) (getD ws 2 0)) (getD ws 3 0)
+
+pub answer-back : (a : Answer) → answerIn (answerWords a) ≡ a
+answer-back Done = refl
+answer-back (Cell c) = refl
+answer-back (Granted l) = refl
+answer-back AllGranted = refl
+answer-back Busy = refl
+answer-back (Refused r) = ap Refused (refusal-back r)
+answer-back (RefusedAt r p) = ap (λ (x : Refusal). RefusedAt x p) (refusal-back r)
+
+-- the reply that twelve words tell
+abbrev pub playedIn : List ℕ → Played
+playedIn ws =
+    record {
+      head = headOf (getD ws 0 0) (getD ws 1 0) (getD ws 2 0);
+      place = getD ws 3 0;
+      counts = countsOf (getD ws 4 0) (getD ws 5 0) (getD ws 6 0) (getD ws 7 0);
+      answer = answerIn (drop 8 ws);
+    }
+
+abbrev pub replyIn : List ℕ → Reply
+replyIn ws = record { head = playedIn ws .head; counts = playedIn ws .counts; answer = playedIn ws .answer }
+
+-- the crew's reply that forty-six words tell
+abbrev pub crewIn : List ℕ → CrewReply
+crewIn ws =
+    record {
+      head = playedIn ws .head;
+      moving = getD ws 12 0;
+      idle = getD ws 13 0;
+      taken = take 16 (drop 14 ws);
+      released = drop 30 ws;
+      answer = answerIn (take 4 (drop 8 ws));
+    }
+
+played-back : (r : Played) → playedIn (playedWords r) ≡ r
+unfolding playedWords
+played-back r = ap (λ (a : Answer). record { head = r .head; place = r .place; counts = r .counts; answer = a }) (answer-back (r .answer))
+
+reply-back : (r : Reply) → replyIn (replyWords r) ≡ r
+unfolding replyWords
+reply-back r = ap (λ (a : Answer). record { head = r .head; counts = r .counts; answer = a }) (answer-back (r .answer))
+
+-- ---- the laws
+
+pub reply-tells : (r s : Reply) → replyWords r ≡ replyWords s → r ≡ s
+reply-tells r s e = sym (reply-back r) ∙ ap replyIn e ∙ reply-back s
+
+pub played-tells : (r s : Played) → playedWords r ≡ playedWords s → r ≡ s
+played-tells r s e = sym (played-back r) ∙ ap playedIn e ∙ played-back s
+
+-- the crew's, where each reply has its two sixteens, as every reply of the call has
+pub record Sixteen (r : CrewReply) : Type 0 where
+  pub taken : length (r .taken) ≡ 16
+  pub released : length (r .released) ≡ 16
+
+either : {A : Type 0} (P : A → Type 0) (k : Check) (f : Refusal → A) (a : A) → ((r : Refusal) → P (f r)) → P a → P (judge k f a)
+either P Fine f a p q = q
+either P (Fault r) f a p q = p r
+
+pub crew-sixteen : (h : Head) (t g counts cells turns : List ℕ) → Sixteen (crewOf h t g counts cells turns .seen .0)
+unfolding crewOf takenOf releasedOf
+crew-sixteen h t g counts cells turns =
+    either (λ (m : Made (CrewReply × List ℕ)). Sixteen (m .seen .0)) (first (crewRules h t g counts cells turns)) _ _
+    (λ r. record { taken = refl; released = refl }) (record { taken = refl; released = refl })
+
+each-rest : (n i : ℕ) (l : List ℕ) → length l ≡ i + n → eachOf n i l ≡ drop i l
+unfolding eachOf
+each-rest zero i l e = sym (drop-of-length-le l {i = i} (omega arith))
+each-rest (suc n) i l e = ap (λ (r : List ℕ). getD l i 0 ∷ r) (each-rest n (i + 1) l (omega arith)) ∙ rw (add-one i) (sym (drop-cons l i 0 (omega arith)))
+
+crew-back : (r : CrewReply) → Sixteen r → crewIn (crewWords r) ≡ r
+unfolding crewWords eachOf
+crew-back r x =
+    ap (λ (ws : List ℕ). crewIn (r .head .headers ∷ r .head .buckets ∷ r .head .next ∷ 0 ∷ 0 ∷ 0 ∷ 0 ∷ 0 ∷ (ws ++ (r .moving ∷ r .idle ∷ (eachOf 16 0 (r .taken) ++ eachOf 16 0 (r .released)))))) (sym (four (r .answer)))
+    ∙ ap (λ (a : Answer). record { head = r .head; moving = r .moving; idle = r .idle; taken = eachOf 16 0 (r .taken); released = eachOf 16 0 (r .released); answer = a }) (answer-back (r .answer))
+    ∙ ap (λ (l : List ℕ). record { head = r .head; moving = r .moving; idle = r .idle; taken = l; released = eachOf 16 0 (r .released); answer = r .answer }) (each-rest 16 0 (r .taken) (x .taken))
+    ∙ ap (λ (l : List ℕ). record { head = r .head; moving = r .moving; idle = r .idle; taken = r .taken; released = l; answer = r .answer }) (each-rest 16 0 (r .released) (x .released))
+
+pub crew-tells : (r s : CrewReply) → Sixteen r → Sixteen s → crewWords r ≡ crewWords s → r ≡ s
+crew-tells r s x y e = sym (crew-back r x) ∙ ap crewIn e ∙ crew-back s y
+
+-- and what a caller sees of a call, reply and lent runs, fixes the result itself
+pub told-tells : {R A : Type 0} (words : R → List ℕ) → ((r s : R) → words r ≡ words s → r ≡ s) → (o p : R × A) → told words o ≡ told words p → o ≡ p
+told-tells {R} {A} words tells o p e =
+    ap (λ (r : R). (r, o .1)) (tells (o .0) (p .0) (ap (λ (x : List ℕ × A). x .0) e))
+    ∙ ap (λ (a : A). (p .0, a)) (ap (λ (x : List ℕ × A). x .1) e)

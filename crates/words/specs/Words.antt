@@ -1,0 +1,49 @@
+-- The layout of a reply as words: what each of them means, once and for all. include/skid.h repeats it for readers.
+use Prim.Native.Nat.{ℕ, zero, suc, _+_}
+use mathlib.Core.List.{List, [], _∷_, _++_}
+use lib.ListN.{getD}
+use Rattle.model.specs.Calls.{countsOf}
+use Rattle.model.specs.Refusals.{numberOf, carriedOf}
+use Rattle.model.specs.declared.Answer.{Answer}
+use Rattle.model.specs.declared.Answer.the-variants.{Done, Cell, Granted, AllGranted, Busy, Refused, RefusedAt}
+use Rattle.model.specs.declared.Counts.{Counts}
+use Rattle.model.specs.declared.CrewReply.{CrewReply}
+use Rattle.model.specs.declared.Head.{Head}
+use Rattle.model.specs.declared.Played.{Played}
+use Rattle.model.specs.declared.Reply.{Reply}
+
+-- words 8 to 11: the kind of the answer; the cell, or the refusal's number; the serial, or what the refusal carries; the key's position
+abbrev pub answerWords : Answer → List ℕ
+answerWords Done = 0 ∷ 0 ∷ 0 ∷ 0 ∷ []
+answerWords (Cell c) = 1 ∷ c ∷ 0 ∷ 0 ∷ []
+answerWords (Granted l) = 2 ∷ l .cell ∷ l .serial ∷ 0 ∷ []
+answerWords AllGranted = 3 ∷ 0 ∷ 0 ∷ 0 ∷ []
+answerWords Busy = 4 ∷ 0 ∷ 0 ∷ 0 ∷ []
+answerWords (Refused r) = 5 ∷ numberOf r ∷ carriedOf r ∷ 0 ∷ []
+answerWords (RefusedAt r p) = 6 ∷ numberOf r ∷ carriedOf r ∷ p ∷ []
+
+-- words 0 to 2 the head, 3 the place, 4 to 7 the counts, and then the answer
+abbrev pub wordsOf : Head → ℕ → Counts → Answer → List ℕ
+wordsOf h place k a = h .headers ∷ h .buckets ∷ h .next ∷ place ∷ k .attempts ∷ k .boundaries ∷ k .yields ∷ k .dropped ∷ answerWords a
+
+-- of a call without a script: place 0
+unfoldable pub replyWords : Reply → List ℕ
+replyWords r = wordsOf (r .head) 0 (r .counts) (r .answer)
+
+-- of a call with a script
+unfoldable pub playedWords : Played → List ℕ
+playedWords r = wordsOf (r .head) (r .place) (r .counts) (r .answer)
+
+-- `left` numbers of a list, from place m on
+unfoldable pub eachOf : ℕ → ℕ → List ℕ → List ℕ
+eachOf zero m l = []
+eachOf (suc left) m l = getD l m 0 ∷ eachOf left (m + 1) l
+
+-- of the crew: no place and no counts; words 12 and 13 the moving and the idle turns, 14 to 29 what members 0 to 15 took, 30 to 45 what
+-- they released
+unfoldable pub crewWords : CrewReply → List ℕ
+crewWords r = wordsOf (r .head) 0 (countsOf 0 0 0 0) (r .answer) ++ (r .moving ∷ r .idle ∷ (eachOf 16 0 (r .taken) ++ eachOf 16 0 (r .released)))
+
+-- a result with its lent runs behind it, told in words
+abbrev pub told : {R A : Type 0} → (R → List ℕ) → R × A → List ℕ × A
+told words o = (words (o .0), o .1)

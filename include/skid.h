@@ -1,0 +1,275 @@
+/*
+ * The lease layer of the skid kernel: the calls of document 01, for C.
+ *
+ * Link with libskid.a (`rt staticlib skid` writes target/staticlib/libskid.a). The archive is code for x86-64, by the
+ * calling convention of Linux there (System V). It asks the host for memcpy and memset, and for nothing else. It has
+ * no data of its own that changes, no heap and no thread. As that convention allows, it uses the SSE registers and the
+ * 128 bytes below the stack pointer; a kernel that calls it where it saves neither must see to both.
+ *
+ * Each function is a call of document 01 and is proved to give what document 01 says, refusals included: the reply's
+ * words and every word of every lent run are fixed, whatever the numbers and the lent words are.
+ *
+ * How a call is made
+ * ------------------
+ * - The head (headers H, buckets B, next serial) goes in as three numbers, and comes back in the reply's first three
+ *   words. A lease is two numbers, cell and serial.
+ * - A run is lent as a pointer to its first element and a length. A length counts elements, not bytes.
+ * - The last argument is the lent reply: SKID_REPLY_WORDS words, SKID_CREW_WORDS for skid_crew. A call writes all of
+ *   them and reads none.
+ * - There is no result: the answer is in the reply.
+ *
+ * What a call needs, and changes
+ * ------------------------------
+ * - Of what is lent, a call changes only the runs that are declared without `const`, and the reply.
+ * - A call keeps no pointer. When it has returned, what was lent is the caller's again, and until then nobody else
+ *   writes it, or reads what the call may change.
+ * - Runs that are lent to one call must not overlap, and none may overlap the reply. Two runs that are both `const`
+ *   may.
+ * - A pointer must be aligned for its type, and point to as many elements as the length says. It may be null only if
+ *   the length is 0; then nothing is read or written through it. The reply is never null.
+ * - A length that breaks document 01's rules is answered by a refusal, and so is any number that does.
+ *
+ * What the caller must see to
+ * ---------------------------
+ * - Give each call the head, the table and the health that the last call left. After a refused skid_prepare the head
+ *   before it stays in force; the three zeros that it hands back are no head.
+ * - Let one caller at a time work on a table. No call takes a lock or issues a memory barrier.
+ * - Throw away the leases from before a preparation.
+ *
+ * The arena
+ * ---------
+ * - table: 3 x H x B words; bit, owner and waiters of each cell. Cell number = header x B + bucket.
+ * - health: H bytes; 0 is healthy, every other byte is poisoned.
+ * - registry: 0 to 64 header numbers; a binding is a place in it.
+ * - script: three words a step (kind, place, number), at most 32,768 steps. `place` counts steps, and the reply says
+ *   where the script was left. Kinds: enum skid_step.
+ * - held, leases: two words a lease (cell, serial), at most 64 leases.
+ * - keys: two words a key (binding, bucket). grants: two words a key (cell, serial).
+ */
+#ifndef SKID_H
+#define SKID_H
+
+#include <stddef.h>
+#include <stdint.h>
+
+#ifdef __cplusplus
+extern "C" {
+#endif
+
+/* ---- limits */
+
+#define SKID_MAX_HEADERS 64u
+#define SKID_MAX_BUCKETS 1024u
+#define SKID_MAX_CELLS 4096u         /* H x B */
+#define SKID_CELL_WORDS 3u           /* bit, owner, waiters */
+#define SKID_MAX_BINDINGS 64u        /* words of a registry */
+#define SKID_MAX_STEPS 32768u        /* steps of a script, three words each */
+#define SKID_MAX_LEASES 64u          /* leases of a list; in multi-lock, held leases and keys together */
+#define SKID_MAX_ATTEMPTS 4096u      /* attempts of a key before SKID_SERIALIZATION_FAILURE */
+#define SKID_NO_SERIAL 4294967295u   /* a next serial at which none remains */
+#define SKID_MAX_MEMBERS 16u         /* of a crew */
+#define SKID_MAX_MEMBER_CELLS 64u    /* of one member */
+#define SKID_MAX_CREW_CELLS 256u     /* of all members */
+#define SKID_MAX_TURNS 65536u
+
+/* ---- a foreign step: its kind, and what its place and number are */
+
+enum skid_step {
+    SKID_STEP_OBSERVE = 0, /* reads neither */
+    SKID_STEP_TAKE = 1,    /* a cell; the number is not read */
+    SKID_STEP_RELEASE = 2, /* a cell and its serial */
+    SKID_STEP_WAITERS = 3, /* a cell and its new waiters */
+    SKID_STEP_HEALTH = 4,  /* a header and 0 or 1 */
+    SKID_STEP_END = 5      /* of a boundary; reads neither */
+};
+
+/* ---- the reply */
+
+#define SKID_REPLY_WORDS 12
+#define SKID_CREW_WORDS 46
+
+/* Which word is what. */
+enum skid_reply {
+    SKID_HEADERS = 0, /* the head */
+    SKID_BUCKETS = 1,
+    SKID_NEXT = 2,
+    SKID_PLACE = 3,    /* where the script was left; 0 for a call without a script */
+    SKID_ATTEMPTS = 4, /* attempts begun */
+    SKID_BOUNDARIES = 5,
+    SKID_YIELDS = 6,
+    SKID_DROPPED = 7,   /* foreign steps dropped */
+    SKID_KIND = 8,      /* of the answer: enum skid_kind */
+    SKID_CELL = 9,      /* kinds 1 and 2: the cell; else 0, but for a refusal */
+    SKID_REFUSAL = 9,   /* kinds 5 and 6: the refusal's number, enum skid_refusal */
+    SKID_SERIAL = 10,   /* kind 2: the serial; else 0, but for a refusal */
+    SKID_CARRIED = 10,  /* kinds 5 and 6: what the refusal carries */
+    SKID_POSITION = 11  /* kind 6: the key's position; else 0 */
+};
+
+/* The crew's reply: words 0 to 2 and 8 to 11 as above, words 3 to 7 are 0. */
+enum skid_crew_reply {
+    SKID_MOVING = 12,  /* turns that took or released */
+    SKID_IDLE = 13,    /* turns that did neither */
+    SKID_TAKEN = 14,   /* words 14 to 29: cells taken by members 0 to 15 */
+    SKID_RELEASED = 30 /* words 30 to 45: cells released by members 0 to 15 */
+};
+
+/* The kinds of answers. Busy is no refusal. */
+enum skid_kind {
+    SKID_DONE = 0,
+    SKID_A_CELL = 1,      /* skid_read_permission: the lease's cell */
+    SKID_GRANTED = 2,     /* cell and serial of the new lease */
+    SKID_ALL_GRANTED = 3, /* multi-lock: the leases are in `grants` */
+    SKID_BUSY = 4,
+    SKID_REFUSED = 5,
+    SKID_REFUSED_AT = 6 /* multi-lock: a refusal at a key */
+};
+
+/*
+ * The refusals, by document 01's numbers, with what each carries. 1 to 5, 8 in a call by cell, and 12 to 15 are tested
+ * before anything else is done, in the order of the numbers (12 and 14 together, by position); they change nothing and
+ * have all counts 0. 6 to 11, but for that 8, end an attempt; they keep foreign steps and spent serials, and the
+ * caller holds nothing new.
+ */
+enum skid_refusal {
+    SKID_BAD_SHAPE = 1,              /* 0: the head or a length breaks the arena's rules */
+    SKID_BAD_SCRIPT = 2,             /* 0: no multiple of 3, too many steps, or a place past the end */
+    SKID_BAD_HELD = 3,               /* held list odd or too long: its leases, rounded down; else the first not live */
+    SKID_TOO_MANY = 4,               /* 0: a list of keys or leases odd or too long, or grants of a wrong length */
+    SKID_BAD_BINDING = 5,            /* the first position of a key whose binding is past the registry */
+    SKID_BAD_HEADER = 6,             /* the header that the registry names, at least H */
+    SKID_POISONED = 7,               /* the header */
+    SKID_INVALID_BUCKET = 8,         /* the bucket, at least B; by cell: the cell, at least H x B */
+    SKID_DAMAGED = 9,                /* the cell */
+    SKID_SERIALS_SPENT = 10,         /* the cell */
+    SKID_SERIALIZATION_FAILURE = 11, /* 4096 */
+    SKID_NOT_HELD = 12,              /* the position of a lease that is not live; 0 for one lease */
+    SKID_PROTECTED = 13,             /* 0: the lease is live and in the held list */
+    SKID_REPEATED = 14,              /* the position of a live lease that stands earlier in the list */
+    SKID_BAD_CREW = 15               /* 0 for a limit; the member of a bad list; the turn that names no member */
+};
+
+/* ---- preparing */
+
+/*
+ * Sets every word of the table and every health byte to 0, whatever they held: Done, with the head (headers, buckets,
+ * serial). `serial` is the first serial, 1 to SKID_NO_SERIAL. The table has exactly 3 x headers x buckets words and
+ * the health exactly `headers` bytes; else SKID_BAD_SHAPE, a head of three zeros, and no lent word changes.
+ */
+void skid_prepare(uint32_t headers, uint32_t buckets, uint32_t serial, uint32_t *table, size_t table_len,
+                  uint8_t *health, size_t health_len, uint64_t reply[SKID_REPLY_WORDS]);
+
+/* ---- calls without a script. Each changes no word but those of the named cell. */
+
+/* One compare-and-set of a cell: granted, or Busy if it is held. */
+void skid_try_acquire(uint32_t headers, uint32_t buckets, uint32_t next, uint32_t *table, size_t table_len,
+                      uint32_t cell, uint64_t reply[SKID_REPLY_WORDS]);
+
+/* One release of a live lease: Done. */
+void skid_drop_lease(uint32_t headers, uint32_t buckets, uint32_t next, uint32_t *table, size_t table_len,
+                     uint32_t cell, uint32_t serial, uint64_t reply[SKID_REPLY_WORDS]);
+
+/* The cell of a live lease. Changes nothing. */
+void skid_read_permission(uint32_t headers, uint32_t buckets, uint32_t next, const uint32_t *table, size_t table_len,
+                          uint32_t cell, uint32_t serial, uint64_t reply[SKID_REPLY_WORDS]);
+
+/* One compare-and-set of a live lease's cell: it is Busy and changes nothing. */
+void skid_competing_acquire_is_excluded(uint32_t headers, uint32_t buckets, uint32_t next, uint32_t *table,
+                                        size_t table_len, uint32_t cell, uint32_t serial,
+                                        uint64_t reply[SKID_REPLY_WORDS]);
+
+/* A live lease released, and its cell taken anew. Where no serial remains, the release stands. */
+void skid_release_then_handoff(uint32_t headers, uint32_t buckets, uint32_t next, uint32_t *table, size_t table_len,
+                               uint32_t cell, uint32_t serial, uint64_t reply[SKID_REPLY_WORDS]);
+
+/*
+ * A compare-and-set of a live lease's cell that is Busy, a release of the lease, which may not be in the held list, and
+ * a compare-and-set again. Where no serial remains, the release stands.
+ */
+void skid_foreign_release_between_attempts(uint32_t headers, uint32_t buckets, uint32_t next, uint32_t *table,
+                                           size_t table_len, const uint32_t *held, size_t held_len, uint32_t cell,
+                                           uint32_t serial, uint64_t reply[SKID_REPLY_WORDS]);
+
+/* skid_try_acquire after the held list's check. */
+void skid_acquire_preserving_borrows(uint32_t headers, uint32_t buckets, uint32_t next, uint32_t *table,
+                                     size_t table_len, const uint32_t *held, size_t held_len, uint32_t cell,
+                                     uint64_t reply[SKID_REPLY_WORDS]);
+
+/* skid_drop_lease, but not of a lease in the held list. */
+void skid_drop_preserving_borrows(uint32_t headers, uint32_t buckets, uint32_t next, uint32_t *table, size_t table_len,
+                                  const uint32_t *held, size_t held_len, uint32_t cell, uint32_t serial,
+                                  uint64_t reply[SKID_REPLY_WORDS]);
+
+/* ---- calls with a script. Foreign steps run at each boundary, from `place` on; they may change table and health. */
+
+/* One boundary: Done. A foreign release of a lease in the held list is dropped. */
+void skid_environment(uint32_t headers, uint32_t buckets, uint32_t next, uint32_t *table, size_t table_len,
+                      uint8_t *health, size_t health_len, const uint32_t *script, size_t script_len, size_t place,
+                      const uint32_t *held, size_t held_len, uint64_t reply[SKID_REPLY_WORDS]);
+
+/* The same. */
+void skid_environment_for_borrows(uint32_t headers, uint32_t buckets, uint32_t next, uint32_t *table, size_t table_len,
+                                  uint8_t *health, size_t health_len, const uint32_t *script, size_t script_len,
+                                  size_t place, const uint32_t *held, size_t held_len,
+                                  uint64_t reply[SKID_REPLY_WORDS]);
+
+/*
+ * One try_lock of a cell: boundary, waiters, boundary, compare-and-set, boundary, waiters. Granted or Busy. A late Busy
+ * releases the cell, and its serial stays spent.
+ */
+void skid_try_lock(uint32_t headers, uint32_t buckets, uint32_t next, uint32_t *table, size_t table_len,
+                   uint8_t *health, size_t health_len, const uint32_t *script, size_t script_len, size_t place,
+                   const uint32_t *held, size_t held_len, uint32_t cell, uint64_t reply[SKID_REPLY_WORDS]);
+
+/* The same. */
+void skid_other_mutex_preserves_leases(uint32_t headers, uint32_t buckets, uint32_t next, uint32_t *table,
+                                       size_t table_len, uint8_t *health, size_t health_len, const uint32_t *script,
+                                       size_t script_len, size_t place, const uint32_t *held, size_t held_len,
+                                       uint32_t cell, uint64_t reply[SKID_REPLY_WORDS]);
+
+/* One attempt on a key: header from the registry, then its health, then the bucket, then a try_lock. */
+void skid_transactional_try_lock_bucket(uint32_t headers, uint32_t buckets, uint32_t next, uint32_t *table,
+                                        size_t table_len, uint8_t *health, size_t health_len, const uint32_t *registry,
+                                        size_t registry_len, const uint32_t *script, size_t script_len, size_t place,
+                                        const uint32_t *held, size_t held_len, uint32_t binding, uint32_t bucket,
+                                        uint64_t reply[SKID_REPLY_WORDS]);
+
+/* Up to 4,096 attempts on a key, with boundaries, yields and spins between them. Granted or refused, never Busy. */
+void skid_acquire_index_bucket(uint32_t headers, uint32_t buckets, uint32_t next, uint32_t *table, size_t table_len,
+                               uint8_t *health, size_t health_len, const uint32_t *registry, size_t registry_len,
+                               const uint32_t *script, size_t script_len, size_t place, const uint32_t *held,
+                               size_t held_len, uint32_t binding, uint32_t bucket, uint64_t reply[SKID_REPLY_WORDS]);
+
+/* All leases of a list released, last first, a boundary after each: Done. Those not yet released are protected. */
+void skid_release_all(uint32_t headers, uint32_t buckets, uint32_t next, uint32_t *table, size_t table_len,
+                      uint8_t *health, size_t health_len, const uint32_t *script, size_t script_len, size_t place,
+                      const uint32_t *leases, size_t leases_len, uint64_t reply[SKID_REPLY_WORDS]);
+
+/*
+ * Multi-lock: the keys in the order given, each as skid_acquire_index_bucket takes it. All granted, and `grants` holds
+ * cell and serial for each key, in key order; or refused at a key, all taken leases released as in skid_release_all,
+ * and `grants` unchanged. `grants_len` is `keys_len`.
+ */
+void skid_acquire_index_locks(uint32_t headers, uint32_t buckets, uint32_t next, uint32_t *table, size_t table_len,
+                              uint8_t *health, size_t health_len, const uint32_t *registry, size_t registry_len,
+                              const uint32_t *script, size_t script_len, size_t place, const uint32_t *held,
+                              size_t held_len, const uint32_t *keys, size_t keys_len, uint32_t *grants,
+                              size_t grants_len, uint64_t reply[SKID_REPLY_WORDS]);
+
+/* ---- the crew */
+
+/*
+ * The crew's run, without a script. counts: how many cells each of 1 to 16 members wants, 0 to 64 each and 256 in all.
+ * cells: the members' lists one behind the other, each strictly rising. turns: members, by number, in the order of
+ * their turns. Done, or SKID_BAD_SHAPE or SKID_BAD_CREW.
+ */
+void skid_crew(uint32_t headers, uint32_t buckets, uint32_t next, uint32_t *table, size_t table_len,
+               const uint8_t *health, size_t health_len, const uint32_t *counts, size_t counts_len,
+               const uint32_t *cells, size_t cells_len, const uint32_t *turns, size_t turns_len,
+               uint64_t reply[SKID_CREW_WORDS]);
+
+#ifdef __cplusplus
+}
+#endif
+
+#endif

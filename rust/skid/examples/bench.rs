@@ -1,0 +1,550 @@
+//! Document 01's bench cases, through the crate `skid`, and edges of the calls. A line for each case; exit 1 if a
+//! figure is not document 01's.
+use skid::{
+    Answer, Arena, Counts, Head, Key, Lease, Played, Refusal, Reply, Script, Step, NO_SERIAL,
+};
+use std::fmt::Debug;
+use std::process::exit;
+
+const REGISTRY: [u32; 3] = [0, 1, 1];
+const CELL_2: Key = Key {
+    binding: 0,
+    bucket: 2,
+};
+const GUARD: u32 = 77;
+
+/// What is checked, and how many cases passed.
+struct Bench {
+    passed: usize,
+    failed: usize,
+    bad: bool,
+}
+
+impl Bench {
+    fn check<T: Debug + PartialEq>(&mut self, what: &str, got: T, want: T) {
+        print!("{what} {got:?}, ");
+        if got != want {
+            print!("BUT NOT {want:?}, ");
+            self.bad = true;
+        }
+    }
+
+    fn case(&mut self, name: &str, run: fn(&mut Bench)) {
+        self.bad = false;
+        print!("{name}: ");
+        run(self);
+        println!("{}", if self.bad { "FAILED" } else { "as it must be" });
+        if self.bad {
+            self.failed += 1;
+        } else {
+            self.passed += 1;
+        }
+    }
+
+    /// A lease of the key (0,2), as the first case takes it.
+    fn first_lease(&mut self, played: Played) {
+        self.check("answer", played.answer, granted(2, 1));
+        self.check("next", played.head.next, 2);
+        self.check("attempts", played.counts.attempts, 1);
+        self.check("boundaries", played.counts.boundaries, 3);
+    }
+
+    /// All of a reply without a script.
+    fn replied(&mut self, got: Reply, next: u32, attempts: usize, answer: Answer) {
+        self.check("answer", got.answer, answer);
+        self.check("next", got.head.next, next);
+        self.check("attempts", got.counts.attempts, attempts);
+        let head = Head {
+            headers: 2,
+            buckets: 4,
+            next,
+        };
+        let counts = Counts {
+            attempts,
+            boundaries: 0,
+            yields: 0,
+            dropped: 0,
+        };
+        let want = Reply {
+            head,
+            counts,
+            answer,
+        };
+        self.bad |= got != want;
+    }
+
+    fn all_free(&mut self, arena: &Arena) {
+        let free = arena
+            .table()
+            .chunks(3)
+            .filter(|cell| cell[0] == 0 && cell[1] == 0)
+            .count();
+        self.check("free cells", free, 8);
+    }
+}
+
+fn granted(cell: u32, serial: u32) -> Answer {
+    Answer::Granted(Lease { cell, serial })
+}
+
+/// The arena of the bench, H 2 and B 4, prepared over rubbish, between guards.
+fn with_arena(serial: u32, run: impl FnOnce(&mut Arena)) {
+    let mut table = [0x5a5a_5a5a; 26];
+    let mut health = [0x5a; 4];
+    (table[0], table[25]) = (GUARD, GUARD);
+    let mut arena =
+        Arena::prepare(2, 4, serial, &mut table[1..25], &mut health[1..3]).expect("prepared");
+    run(&mut arena);
+    assert_eq!(
+        (table[0], table[25], health[0], health[3]),
+        (GUARD, GUARD, 0x5a, 0x5a),
+        "a word outside the runs"
+    );
+}
+
+/// The retry on the key (0, bucket).
+fn acquire(arena: &mut Arena, steps: &[Step], held: &[Lease], bucket: u32) -> Played {
+    arena.acquire_index_bucket(
+        &REGISTRY,
+        &mut Script::new(steps),
+        held,
+        Key { binding: 0, bucket },
+    )
+}
+
+/// One boundary that runs one foreign step.
+fn foreign(arena: &mut Arena, step: Step) {
+    let played = arena.environment(&mut Script::new(&[step]), &[]);
+    assert_eq!(
+        (played.answer, played.counts.dropped),
+        (Answer::Done, 0),
+        "the step is legal"
+    );
+}
+
+// ---- the bench cases, in document 01's order
+
+fn key(b: &mut Bench) {
+    with_arena(1, |arena| b.first_lease(acquire(arena, &[], &[], 2)));
+    with_arena(1, |arena| {
+        b.first_lease(arena.transactional_try_lock_bucket(
+            &REGISTRY,
+            &mut Script::quiet(),
+            &[],
+            CELL_2,
+        ))
+    });
+    with_arena(1, |arena| {
+        let mut grants = [Lease { cell: 7, serial: 7 }];
+        let played =
+            arena.acquire_index_locks(&REGISTRY, &mut Script::quiet(), &[], &[CELL_2], &mut grants);
+        b.check("answer", played.answer, Answer::AllGranted);
+        b.check("grants", grants, [Lease { cell: 2, serial: 1 }]);
+        b.check("next", played.head.next, 2);
+        b.check("attempts", played.counts.attempts, 1);
+        b.check("boundaries", played.counts.boundaries, 3);
+    });
+}
+
+fn again(b: &mut Bench) {
+    with_arena(1, |arena| {
+        let first = acquire(arena, &[], &[], 2);
+        b.check("answer", first.answer, granted(2, 1));
+        let played = acquire(arena, &[], &[Lease { cell: 2, serial: 1 }], 2);
+        b.check(
+            "answer",
+            played.answer,
+            Answer::Refused(Refusal::SerializationFailure),
+        );
+        b.check("boundaries", played.counts.boundaries, 12352);
+        b.check("yields", played.counts.yields, 64);
+        b.check("next", played.head.next, 2);
+    });
+}
+
+fn waiters(b: &mut Bench) {
+    with_arena(1, |arena| {
+        foreign(arena, Step::waiters(2, 1));
+        let played = acquire(arena, &[], &[], 2);
+        b.check(
+            "answer",
+            played.answer,
+            Answer::Refused(Refusal::SerializationFailure),
+        );
+        b.check("boundaries", played.counts.boundaries, 8256);
+        b.check("yields", played.counts.yields, 64);
+        b.check("next", played.head.next, 1);
+    });
+}
+
+fn late_waiters(b: &mut Bench) {
+    with_arena(1, |arena| {
+        let steps = [Step::END, Step::END, Step::waiters(2, 1), Step::END];
+        let mut script = Script::new(&steps);
+        let played = arena.try_lock(&mut script, &[], 2);
+        b.check("answer", played.answer, Answer::Busy);
+        b.check("boundaries", played.counts.boundaries, 3);
+        b.check("place", (played.place, script.place()), (4, 4));
+        b.check("next", played.head.next, 2);
+        b.all_free(arena);
+    });
+}
+
+fn bucket_4(b: &mut Bench) {
+    with_arena(1, |arena| {
+        let played = acquire(arena, &[], &[], 4);
+        b.check(
+            "answer",
+            played.answer,
+            Answer::Refused(Refusal::InvalidBucket(4)),
+        );
+        b.check("boundaries", played.counts.boundaries, 0);
+    });
+}
+
+fn bucket_3(b: &mut Bench) {
+    with_arena(1, |arena| {
+        b.check("answer", acquire(arena, &[], &[], 3).answer, granted(3, 1))
+    });
+}
+
+fn poisoned(b: &mut Bench) {
+    with_arena(1, |arena| {
+        foreign(arena, Step::health(0, true));
+        b.check(
+            "answer",
+            acquire(arena, &[], &[], 4).answer,
+            Answer::Refused(Refusal::Poisoned(0)),
+        );
+    });
+}
+
+fn no_serial(b: &mut Bench) {
+    with_arena(NO_SERIAL, |arena| {
+        let played = acquire(arena, &[], &[], 2);
+        b.check(
+            "answer",
+            played.answer,
+            Answer::Refused(Refusal::SerialsSpent(2)),
+        );
+        b.check("boundaries", played.counts.boundaries, 2);
+    });
+}
+
+fn last_serial(b: &mut Bench) {
+    with_arena(NO_SERIAL - 1, |arena| {
+        b.check(
+            "answer",
+            acquire(arena, &[], &[], 2).answer,
+            granted(2, NO_SERIAL - 1),
+        )
+    });
+}
+
+fn spent_and_held(b: &mut Bench) {
+    with_arena(NO_SERIAL - 1, |arena| {
+        b.check(
+            "answer",
+            acquire(arena, &[], &[], 2).answer,
+            granted(2, NO_SERIAL - 1),
+        );
+        let played = acquire(
+            arena,
+            &[],
+            &[Lease {
+                cell: 2,
+                serial: NO_SERIAL - 1,
+            }],
+            2,
+        );
+        b.check(
+            "answer",
+            played.answer,
+            Answer::Refused(Refusal::SerializationFailure),
+        );
+    });
+}
+
+/// Cell 2 is foreign 1's, and the script releases it after the first attempt.
+fn releasing(b: &mut Bench, held: &[Lease], check: fn(&mut Bench, Played)) {
+    let lease = Lease { cell: 2, serial: 1 };
+    let steps = [Step::END, Step::END, Step::release(lease), Step::END];
+    with_arena(1, |arena| {
+        foreign(arena, Step::take(2));
+        let played = acquire(arena, &steps, held, 2);
+        check(b, played);
+    });
+}
+
+fn foreign_release(b: &mut Bench) {
+    releasing(b, &[], |b, played| {
+        b.check("answer", played.answer, granted(2, 2));
+        b.check("attempts", played.counts.attempts, 2);
+        b.check("boundaries", played.counts.boundaries, 6);
+    });
+}
+
+fn release_of_held(b: &mut Bench) {
+    releasing(b, &[Lease { cell: 2, serial: 1 }], |b, played| {
+        b.check(
+            "answer",
+            played.answer,
+            Answer::Refused(Refusal::SerializationFailure),
+        );
+        b.check("dropped", played.counts.dropped, 1);
+    });
+}
+
+fn two_keys(b: &mut Bench) {
+    with_arena(1, |arena| {
+        let keys = [
+            Key {
+                binding: 1,
+                bucket: 0,
+            },
+            Key {
+                binding: 2,
+                bucket: 0,
+            },
+        ];
+        let mut grants = [Lease { cell: 7, serial: 7 }; 2];
+        let played =
+            arena.acquire_index_locks(&REGISTRY, &mut Script::quiet(), &[], &keys, &mut grants);
+        b.check(
+            "answer",
+            played.answer,
+            Answer::RefusedAt(Refusal::SerializationFailure, 1),
+        );
+        b.check("attempts", played.counts.attempts, 4097);
+        b.check("boundaries", played.counts.boundaries, 12356);
+        b.check("yields", played.counts.yields, 64);
+        b.check("next", played.head.next, 2);
+        b.check("grants", grants, [Lease { cell: 7, serial: 7 }; 2]);
+        b.all_free(arena);
+    });
+}
+
+fn no_keys(b: &mut Bench) {
+    with_arena(1, |arena| {
+        let played = arena.acquire_index_locks(&REGISTRY, &mut Script::quiet(), &[], &[], &mut []);
+        b.check("answer", played.answer, Answer::AllGranted);
+        b.check(
+            "counts",
+            played.counts,
+            Counts {
+                attempts: 0,
+                boundaries: 0,
+                yields: 0,
+                dropped: 0,
+            },
+        );
+    });
+}
+
+fn crew(b: &mut Bench) {
+    with_arena(1, |arena| {
+        let turns = [0, 1, 0, 1, 0, 1, 0, 1, 0, 1, 0, 1, 0, 1];
+        let reply = arena.crew(&[2, 2], &[2, 5, 2, 5], &turns);
+        let mut each = [0; 16];
+        (each[0], each[1]) = (2, 2);
+        b.check("answer", reply.answer, Answer::Done);
+        b.check("moving", reply.moving, 8);
+        b.check("idle", reply.idle, 6);
+        b.check("next", reply.head.next, 5);
+        b.check("taken", reply.taken, each);
+        b.check("released", reply.released, each);
+        b.all_free(arena);
+    });
+}
+
+fn falling_list(b: &mut Bench) {
+    with_arena(1, |arena| {
+        let reply = arena.crew(&[2, 2], &[2, 5, 5, 2], &[0, 1]);
+        b.check("answer", reply.answer, Answer::Refused(Refusal::BadCrew(1)));
+    });
+}
+
+// ---- edges: each call by its own name, empty lists, refused preparations
+
+fn without_script(b: &mut Bench) {
+    with_arena(1, |arena| {
+        let (five, six) = (Lease { cell: 5, serial: 1 }, Lease { cell: 6, serial: 2 });
+        let newer = Lease { cell: 6, serial: 3 };
+        b.replied(arena.try_acquire(5), 2, 1, granted(5, 1));
+        b.replied(
+            arena.try_acquire(8),
+            2,
+            0,
+            Answer::Refused(Refusal::InvalidBucket(8)),
+        );
+        b.replied(arena.read_permission(five), 2, 0, Answer::Cell(5));
+        b.replied(
+            arena.read_permission(six),
+            2,
+            0,
+            Answer::Refused(Refusal::NotHeld(0)),
+        );
+        b.replied(
+            arena.competing_acquire_is_excluded(five),
+            2,
+            1,
+            Answer::Busy,
+        );
+        b.replied(
+            arena.acquire_preserving_borrows(&[five], 6),
+            3,
+            1,
+            granted(6, 2),
+        );
+        b.replied(
+            arena.drop_preserving_borrows(&[five], five),
+            3,
+            0,
+            Answer::Refused(Refusal::Protected),
+        );
+        b.replied(
+            arena.foreign_release_between_attempts(&[five], six),
+            4,
+            2,
+            granted(6, 3),
+        );
+        b.replied(
+            arena.acquire_preserving_borrows(&[five, six], 7),
+            4,
+            0,
+            Answer::Refused(Refusal::BadHeld(1)),
+        );
+        b.replied(arena.release_then_handoff(five), 5, 1, granted(5, 4));
+        b.replied(
+            arena.drop_lease(Lease { cell: 5, serial: 4 }),
+            5,
+            0,
+            Answer::Done,
+        );
+        b.replied(
+            arena.drop_preserving_borrows(&[], newer),
+            5,
+            0,
+            Answer::Done,
+        );
+        b.all_free(arena);
+    });
+}
+
+fn with_script(b: &mut Bench) {
+    with_arena(1, |arena| {
+        let three = Lease { cell: 3, serial: 1 };
+        b.replied(arena.try_acquire(3), 2, 1, granted(3, 1));
+        let unknown = Step {
+            kind: 9,
+            place: 9,
+            number: 9,
+        };
+        let steps = [
+            Step::OBSERVE,
+            Step::release(three),
+            unknown,
+            Step::health(1, true),
+        ];
+        let mut script = Script::starting_at(&steps, 1);
+        let played = arena.environment_for_borrows(&mut script, &[three]);
+        b.check("answer", played.answer, Answer::Done);
+        b.check("dropped", played.counts.dropped, 2);
+        b.check("place", script.place(), 4);
+        b.check("health", arena.health(), &[0, 1]);
+
+        let played = arena.environment(&mut Script::starting_at(&steps, 5), &[three]);
+        b.check("answer", played.answer, Answer::Refused(Refusal::BadScript));
+        b.check("place", played.place, 5);
+        let played = arena.other_mutex_preserves_leases(&mut Script::quiet(), &[three], 4);
+        b.check("answer", played.answer, granted(4, 2));
+        let leases = [three, Lease { cell: 4, serial: 2 }];
+        let played = arena.release_all(&mut Script::quiet(), &[leases[0], leases[1], leases[0]]);
+        b.check(
+            "answer",
+            played.answer,
+            Answer::Refused(Refusal::Repeated(2)),
+        );
+        let played = arena.release_all(&mut Script::quiet(), &leases);
+        b.check("answer", played.answer, Answer::Done);
+        b.check("boundaries", played.counts.boundaries, 2);
+        b.all_free(arena);
+        let played = arena.release_all(&mut Script::quiet(), &[]);
+        b.check("answer", played.answer, Answer::Done);
+        let played = arena.transactional_try_lock_bucket(&[], &mut Script::quiet(), &[], CELL_2);
+        b.check(
+            "answer",
+            played.answer,
+            Answer::Refused(Refusal::BadBinding(0)),
+        );
+    });
+}
+
+fn nothing_lent(b: &mut Bench) {
+    let (mut table, mut health) = ([0x5a5a_5a5au32; 23], [0x5au8; 2]);
+    let refused = Arena::prepare(2, 4, 1, &mut table, &mut health).err();
+    b.check(
+        "prepare with one word too few",
+        refused,
+        Some(Refusal::BadShape),
+    );
+    let as_they_were = table == [0x5a5a_5a5a; 23] && health == [0x5a; 2];
+    b.check("words as they were", as_they_were, true);
+
+    let head = Head {
+        headers: 2,
+        buckets: 4,
+        next: 1,
+    };
+    let mut arena = Arena::resume(head, &mut [], &mut []);
+    let played = arena.try_lock(&mut Script::quiet(), &[], 2);
+    b.check("answer", played.answer, Answer::Refused(Refusal::BadShape));
+    b.check("head", arena.head(), head);
+    with_arena(1, |arena| {
+        b.check(
+            "answer",
+            arena.crew(&[], &[], &[]).answer,
+            Answer::Refused(Refusal::BadCrew(0)),
+        )
+    });
+}
+
+fn main() {
+    let mut b = Bench {
+        passed: 0,
+        failed: 0,
+        bad: false,
+    };
+    b.case("key (0,2)", key);
+    b.case("again, lease 1 held", again);
+    b.case("waiters of cell 2 stay 1", waiters);
+    b.case(
+        "try_lock of cell 2, script 5; 5; set waiters of 2 to 1; 5",
+        late_waiters,
+    );
+    b.case("bucket 4", bucket_4);
+    b.case("bucket 3", bucket_3);
+    b.case("header 0 poisoned, bucket 4", poisoned);
+    b.case("next 4,294,967,295, cell free", no_serial);
+    b.case("next 4,294,967,294", last_serial);
+    b.case("spent and held", spent_and_held);
+    b.case(
+        "cell 2 held by foreign 1, script 5; 5; release (2,1); 5",
+        foreign_release,
+    );
+    b.case("the same with (2,1) in the held list", release_of_held);
+    b.case("keys (1,0),(2,0)", two_keys);
+    b.case("no keys", no_keys);
+    b.case("crew {2,5},{2,5}, turns 0,1 seven times", crew);
+    b.case("crew {2,5},{5,2}", falling_list);
+    let cases = b.passed;
+    b.case("calls without a script", without_script);
+    b.case("calls with a script", with_script);
+    b.case("nothing lent", nothing_lent);
+    if b.failed != 0 {
+        println!("bench cases in Rust: {} failed", b.failed);
+        exit(1);
+    }
+    println!("edges in Rust: {} passed", b.passed - cases);
+    println!("bench cases in Rust: {cases} passed");
+}

@@ -1,0 +1,677 @@
+//! The lease layer of the skid kernel: the calls of document 01, safe to call.
+//!
+//! The programs of a pump skid's kernel share one arena of setpoint buckets. Each bucket has a mutex cell. A program
+//! that takes a cell gets a [`Lease`]: the number of the cell, and a serial.
+//!
+//! Each call is made by a proved library, `libskid.a`: for every argument the answer and every lent word afterwards are
+//! what document 01 says, refusals included. This crate only lends the runs and reads the reply's words. It has no
+//! heap, no thread and no dependency.
+//!
+//! ```no_run
+//! use skid::{Answer, Arena, Key, Script};
+//!
+//! let (mut table, mut health) = ([0u32; 24], [0u8; 2]);
+//! let mut arena = Arena::prepare(2, 4, 1, &mut table, &mut health).unwrap();
+//! let key = Key { binding: 0, bucket: 2 };
+//! let played = arena.acquire_index_bucket(&[0, 1, 1], &mut Script::quiet(), &[], key);
+//! if let Answer::Granted(lease) = played.answer {
+//!     assert_eq!(arena.drop_lease(lease).answer, Answer::Done);
+//! }
+//! ```
+//!
+//! # Where the library is
+//!
+//! `rt staticlib skid` writes `target/staticlib/libskid.a`. The build looks there, or in the folder that the environment
+//! variable `SKID_LIB_DIR` names. The archive is x86-64 code.
+//!
+//! # What the caller must see to
+//!
+//! An [`Arena`] keeps the head, and borrows table and health, so that each call gets what the last one left and one
+//! caller at a time works on a table. Who takes an arena apart and goes on later ([`Arena::resume`]) must see to that
+//! himself. Leases from before a preparation are to be thrown away.
+#![no_std]
+#![deny(unsafe_code)]
+#![deny(unsafe_op_in_unsafe_fn)]
+#![deny(missing_docs)]
+
+#[allow(unsafe_code)]
+mod sys;
+
+/// Words of a table for each cell: bit, owner, waiters.
+pub const CELL_WORDS: usize = 3;
+/// A next serial at which none remains.
+pub const NO_SERIAL: u32 = 4_294_967_295;
+/// Attempts on a key before [`Refusal::SerializationFailure`].
+pub const ATTEMPTS: usize = 4096;
+
+/// Header slots H, buckets per header B, and the next serial.
+#[derive(Clone, Copy, Debug, PartialEq, Eq)]
+pub struct Head {
+    /// H, 1 to 64.
+    pub headers: u32,
+    /// B, 1 to 1,024; H x B is at most 4,096.
+    pub buckets: u32,
+    /// 1 to 4,294,967,295; there none remains.
+    pub next: u32,
+}
+
+/// A cell and the serial that owns it.
+#[derive(Clone, Copy, Debug, Default, PartialEq, Eq)]
+#[repr(C)]
+pub struct Lease {
+    /// Header x B + bucket.
+    pub cell: u32,
+    /// The cell's owner while the lease is live.
+    pub serial: u32,
+}
+
+/// A place in the registry, and a bucket of the header that stands there.
+#[derive(Clone, Copy, Debug, PartialEq, Eq)]
+#[repr(C)]
+pub struct Key {
+    /// A place in the registry.
+    pub binding: u32,
+    /// Below B.
+    pub bucket: u32,
+}
+
+/// A foreign step. One that is not legal at its turn is dropped and counted.
+#[derive(Clone, Copy, Debug, PartialEq, Eq)]
+#[repr(C)]
+pub struct Step {
+    /// 0 to 5; another kind is dropped.
+    pub kind: u32,
+    /// A cell, or a header.
+    pub place: u32,
+    /// A serial, waiters, or a health.
+    pub number: u32,
+}
+
+impl Step {
+    /// Changes nothing.
+    pub const OBSERVE: Step = Step {
+        kind: 0,
+        place: 0,
+        number: 0,
+    };
+    /// The end of a boundary.
+    pub const END: Step = Step {
+        kind: 5,
+        place: 0,
+        number: 0,
+    };
+
+    /// Takes a free cell, if a serial remains.
+    pub const fn take(cell: u32) -> Step {
+        Step {
+            kind: 1,
+            place: cell,
+            number: 0,
+        }
+    }
+
+    /// Releases a live lease that is not protected.
+    pub const fn release(lease: Lease) -> Step {
+        Step {
+            kind: 2,
+            place: lease.cell,
+            number: lease.serial,
+        }
+    }
+
+    /// Sets a cell's waiters.
+    pub const fn waiters(cell: u32, number: u32) -> Step {
+        Step {
+            kind: 3,
+            place: cell,
+            number,
+        }
+    }
+
+    /// Poisons a header, or heals it.
+    pub const fn health(header: u32, poisoned: bool) -> Step {
+        Step {
+            kind: 4,
+            place: header,
+            number: poisoned as u32,
+        }
+    }
+}
+
+/// Foreign steps, and the place up to which they have run. A call that takes it moves the place on.
+#[derive(Clone, Copy, Debug)]
+pub struct Script<'s> {
+    steps: &'s [Step],
+    place: usize,
+}
+
+impl<'s> Script<'s> {
+    /// A script from its first step on; at most 32,768 steps.
+    pub const fn new(steps: &'s [Step]) -> Script<'s> {
+        Script { steps, place: 0 }
+    }
+
+    /// A script from a place on.
+    pub const fn starting_at(steps: &'s [Step], place: usize) -> Script<'s> {
+        Script { steps, place }
+    }
+
+    /// No step: every boundary is quiet.
+    pub const fn quiet() -> Script<'static> {
+        Script {
+            steps: &[],
+            place: 0,
+        }
+    }
+
+    /// How many steps have run.
+    pub const fn place(&self) -> usize {
+        self.place
+    }
+}
+
+/// Each result gives attempts begun, boundaries, yields and dropped steps.
+#[derive(Clone, Copy, Debug, PartialEq, Eq)]
+pub struct Counts {
+    /// Attempts begun.
+    pub attempts: usize,
+    /// Boundaries.
+    pub boundaries: usize,
+    /// Yields.
+    pub yields: usize,
+    /// Foreign steps dropped.
+    pub dropped: usize,
+}
+
+/// The fifteen refusals, with what each carries.
+#[derive(Clone, Copy, Debug, PartialEq, Eq)]
+pub enum Refusal {
+    /// 1: the head or a length breaks the arena's rules.
+    BadShape,
+    /// 2: too many steps, or a place past the end.
+    BadScript,
+    /// 3: the held list is over 64 leases (carries how many), or else the first position that is not live.
+    BadHeld(usize),
+    /// 4: too many keys or leases, or the grant buffer is not one lease a key.
+    TooMany,
+    /// 5: the first position of a key whose binding is past the registry.
+    BadBinding(usize),
+    /// 6: the registry names this header, and it is at least H.
+    BadHeader(u32),
+    /// 7: this header is poisoned.
+    Poisoned(u32),
+    /// 8: this bucket is at least B; in a call by cell, this cell is at least H x B.
+    InvalidBucket(u32),
+    /// 9: this cell is neither free nor held.
+    Damaged(u32),
+    /// 10: this cell is free, and no serial remains.
+    SerialsSpent(u32),
+    /// 11: 4,096 attempts were Busy.
+    SerializationFailure,
+    /// 12: a lease to release or read is not live; its position, 0 for one.
+    NotHeld(usize),
+    /// 13: the lease is live and in the held list.
+    Protected,
+    /// 14: the position of a live lease that stands earlier in the list.
+    Repeated(usize),
+    /// 15: 0 for a limit of the crew; the member of a bad list; the turn that names no member.
+    BadCrew(usize),
+}
+
+impl Refusal {
+    /// Document 01's number.
+    pub const fn number(self) -> u32 {
+        match self {
+            Refusal::BadShape => 1,
+            Refusal::BadScript => 2,
+            Refusal::BadHeld(_) => 3,
+            Refusal::TooMany => 4,
+            Refusal::BadBinding(_) => 5,
+            Refusal::BadHeader(_) => 6,
+            Refusal::Poisoned(_) => 7,
+            Refusal::InvalidBucket(_) => 8,
+            Refusal::Damaged(_) => 9,
+            Refusal::SerialsSpent(_) => 10,
+            Refusal::SerializationFailure => 11,
+            Refusal::NotHeld(_) => 12,
+            Refusal::Protected => 13,
+            Refusal::Repeated(_) => 14,
+            Refusal::BadCrew(_) => 15,
+        }
+    }
+
+    /// The refusal of a number, with what it carries. The library gives no number but 1 to 15, and carries in 6 to 10
+    /// what fits a `u32`.
+    const fn of(number: u64, carried: u64) -> Refusal {
+        let n = carried as usize;
+        let k = carried as u32;
+        match number {
+            1 => Refusal::BadShape,
+            2 => Refusal::BadScript,
+            3 => Refusal::BadHeld(n),
+            4 => Refusal::TooMany,
+            5 => Refusal::BadBinding(n),
+            6 => Refusal::BadHeader(k),
+            7 => Refusal::Poisoned(k),
+            8 => Refusal::InvalidBucket(k),
+            9 => Refusal::Damaged(k),
+            10 => Refusal::SerialsSpent(k),
+            11 => Refusal::SerializationFailure,
+            12 => Refusal::NotHeld(n),
+            13 => Refusal::Protected,
+            14 => Refusal::Repeated(n),
+            _ => Refusal::BadCrew(n),
+        }
+    }
+}
+
+/// A call's answer. Busy is no refusal. `AllGranted` and `RefusedAt` (with the key's position) are multi-lock's alone.
+#[derive(Clone, Copy, Debug, PartialEq, Eq)]
+pub enum Answer {
+    /// What was asked is done.
+    Done,
+    /// The cell of a lease that may be read.
+    Cell(u32),
+    /// A new lease.
+    Granted(Lease),
+    /// A lease for each key, in the grant buffer.
+    AllGranted,
+    /// Another holds the cell, or waits for it.
+    Busy,
+    /// Refused.
+    Refused(Refusal),
+    /// Refused at a key, by its position; the leases taken before are released.
+    RefusedAt(Refusal, usize),
+}
+
+impl Answer {
+    /// The answer that words 8 to 11 of a reply tell. The library gives no kind but 0 to 6.
+    const fn of(w: &[u64; sys::REPLY]) -> Answer {
+        match w[8] {
+            0 => Answer::Done,
+            1 => Answer::Cell(w[9] as u32),
+            2 => Answer::Granted(Lease {
+                cell: w[9] as u32,
+                serial: w[10] as u32,
+            }),
+            3 => Answer::AllGranted,
+            4 => Answer::Busy,
+            5 => Answer::Refused(Refusal::of(w[9], w[10])),
+            _ => Answer::RefusedAt(Refusal::of(w[9], w[10]), w[11] as usize),
+        }
+    }
+}
+
+/// The result of a call that takes no script.
+#[derive(Clone, Copy, Debug, PartialEq, Eq)]
+#[must_use]
+pub struct Reply {
+    /// The head after the call.
+    pub head: Head,
+    /// Its counts.
+    pub counts: Counts,
+    /// Its answer.
+    pub answer: Answer,
+}
+
+/// The result of a call that takes a script.
+#[derive(Clone, Copy, Debug, PartialEq, Eq)]
+#[must_use]
+pub struct Played {
+    /// The head after the call.
+    pub head: Head,
+    /// Where the script was left.
+    pub place: usize,
+    /// Its counts.
+    pub counts: Counts,
+    /// Its answer.
+    pub answer: Answer,
+}
+
+/// The result of the crew's run.
+#[derive(Clone, Copy, Debug, PartialEq, Eq)]
+#[must_use]
+pub struct CrewReply {
+    /// The head after the call.
+    pub head: Head,
+    /// Turns that took or released a cell.
+    pub moving: usize,
+    /// Turns that did neither.
+    pub idle: usize,
+    /// For each member, cells taken; 0 where there is no member.
+    pub taken: [usize; 16],
+    /// For each member, cells released.
+    pub released: [usize; 16],
+    /// Done, or a refusal.
+    pub answer: Answer,
+}
+
+const fn head_of(w: &[u64; sys::REPLY]) -> Head {
+    Head {
+        headers: w[0] as u32,
+        buckets: w[1] as u32,
+        next: w[2] as u32,
+    }
+}
+
+const fn counts_of(w: &[u64; sys::REPLY]) -> Counts {
+    Counts {
+        attempts: w[4] as usize,
+        boundaries: w[5] as usize,
+        yields: w[6] as usize,
+        dropped: w[7] as usize,
+    }
+}
+
+const fn reply_of(w: &[u64; sys::REPLY]) -> Reply {
+    Reply {
+        head: head_of(w),
+        counts: counts_of(w),
+        answer: Answer::of(w),
+    }
+}
+
+const fn played_of(w: &[u64; sys::REPLY]) -> Played {
+    Played {
+        head: head_of(w),
+        place: w[3] as usize,
+        counts: counts_of(w),
+        answer: Answer::of(w),
+    }
+}
+
+fn crew_of(w: &[u64; sys::CREW]) -> CrewReply {
+    let mut front = [0; sys::REPLY];
+    front.copy_from_slice(&w[..sys::REPLY]);
+    let (mut taken, mut released) = ([0; 16], [0; 16]);
+    for m in 0..16 {
+        taken[m] = w[14 + m] as usize;
+        released[m] = w[30 + m] as usize;
+    }
+    CrewReply {
+        head: head_of(&front),
+        moving: w[12] as usize,
+        idle: w[13] as usize,
+        taken,
+        released,
+        answer: Answer::of(&front),
+    }
+}
+
+/// An arena: its head, and the table and the health that it borrows.
+#[derive(Debug)]
+pub struct Arena<'a> {
+    head: Head,
+    table: &'a mut [u32],
+    health: &'a mut [u8],
+}
+
+impl<'a> Arena<'a> {
+    /// Preparing: sets every table word and health byte to 0, whatever they held. The table has exactly 3 x H x B
+    /// words, the health exactly H bytes, and the first serial is at least 1; else [`Refusal::BadShape`], and no word
+    /// changes.
+    pub fn prepare(
+        headers: u32,
+        buckets: u32,
+        serial: u32,
+        table: &'a mut [u32],
+        health: &'a mut [u8],
+    ) -> Result<Arena<'a>, Refusal> {
+        let reply = reply_of(&sys::prepare(headers, buckets, serial, table, health));
+        match reply.answer {
+            Answer::Refused(refusal) => Err(refusal),
+            _ => Ok(Arena {
+                head: reply.head,
+                table,
+                health,
+            }),
+        }
+    }
+
+    /// An arena that was prepared before, as the last call left it. A head that does not belong to the table is
+    /// refused by the calls where it breaks the arena's rules, and else believed.
+    pub fn resume(head: Head, table: &'a mut [u32], health: &'a mut [u8]) -> Arena<'a> {
+        Arena {
+            head,
+            table,
+            health,
+        }
+    }
+
+    /// The head.
+    pub const fn head(&self) -> Head {
+        self.head
+    }
+
+    /// The table: bit, owner and waiters of each cell.
+    pub fn table(&self) -> &[u32] {
+        self.table
+    }
+
+    /// The health: a byte for each header, 0 is healthy.
+    pub fn health(&self) -> &[u8] {
+        self.health
+    }
+
+    fn replied(&mut self, words: [u64; sys::REPLY]) -> Reply {
+        let reply = reply_of(&words);
+        self.head = reply.head;
+        reply
+    }
+
+    fn played(&mut self, script: &mut Script, words: [u64; sys::REPLY]) -> Played {
+        let played = played_of(&words);
+        self.head = played.head;
+        script.place = played.place;
+        played
+    }
+
+    // ---- calls without a script
+
+    /// One compare-and-set of a cell: granted, Busy if it is held, or refused.
+    pub fn try_acquire(&mut self, cell: u32) -> Reply {
+        let words = sys::try_acquire(self.head, self.table, cell);
+        self.replied(words)
+    }
+
+    /// One release of a live lease, and no boundary.
+    pub fn drop_lease(&mut self, lease: Lease) -> Reply {
+        let words = sys::drop_lease(self.head, self.table, lease);
+        self.replied(words)
+    }
+
+    /// The cell of a live lease. Changes nothing.
+    pub fn read_permission(&self, lease: Lease) -> Reply {
+        reply_of(&sys::read_permission(self.head, self.table, lease))
+    }
+
+    /// One compare-and-set of a live lease's cell: it is Busy and changes nothing.
+    pub fn competing_acquire_is_excluded(&mut self, lease: Lease) -> Reply {
+        let words = sys::competing_acquire_is_excluded(self.head, self.table, lease);
+        self.replied(words)
+    }
+
+    /// A live lease released, and its cell taken anew. Where no serial remains, the release stands.
+    pub fn release_then_handoff(&mut self, lease: Lease) -> Reply {
+        let words = sys::release_then_handoff(self.head, self.table, lease);
+        self.replied(words)
+    }
+
+    /// A compare-and-set of a live lease's cell that is Busy, a release of the lease, which may not be in the held
+    /// list, and a compare-and-set again. Where no serial remains, the release stands.
+    pub fn foreign_release_between_attempts(&mut self, held: &[Lease], lease: Lease) -> Reply {
+        let words = sys::foreign_release_between_attempts(self.head, self.table, held, lease);
+        self.replied(words)
+    }
+
+    /// [`Arena::try_acquire`] after the held list's check.
+    pub fn acquire_preserving_borrows(&mut self, held: &[Lease], cell: u32) -> Reply {
+        let words = sys::acquire_preserving_borrows(self.head, self.table, held, cell);
+        self.replied(words)
+    }
+
+    /// [`Arena::drop_lease`], but not of a lease in the held list.
+    pub fn drop_preserving_borrows(&mut self, held: &[Lease], lease: Lease) -> Reply {
+        let words = sys::drop_preserving_borrows(self.head, self.table, held, lease);
+        self.replied(words)
+    }
+
+    // ---- calls with a script: foreign steps run at each boundary, from the script's place on
+
+    /// One boundary. A foreign release of a lease in the held list is dropped.
+    pub fn environment(&mut self, script: &mut Script, held: &[Lease]) -> Played {
+        let words = sys::environment(
+            self.head,
+            self.table,
+            self.health,
+            script.steps,
+            script.place,
+            held,
+        );
+        self.played(script, words)
+    }
+
+    /// One boundary.
+    pub fn environment_for_borrows(&mut self, script: &mut Script, held: &[Lease]) -> Played {
+        let words = sys::environment_for_borrows(
+            self.head,
+            self.table,
+            self.health,
+            script.steps,
+            script.place,
+            held,
+        );
+        self.played(script, words)
+    }
+
+    /// Boundary, waiters, boundary, compare-and-set, boundary, waiters. A late Busy releases the cell, and its serial
+    /// stays spent.
+    pub fn try_lock(&mut self, script: &mut Script, held: &[Lease], cell: u32) -> Played {
+        let words = sys::try_lock(
+            self.head,
+            self.table,
+            self.health,
+            script.steps,
+            script.place,
+            held,
+            cell,
+        );
+        self.played(script, words)
+    }
+
+    /// [`Arena::try_lock`].
+    pub fn other_mutex_preserves_leases(
+        &mut self,
+        script: &mut Script,
+        held: &[Lease],
+        cell: u32,
+    ) -> Played {
+        let words = sys::other_mutex_preserves_leases(
+            self.head,
+            self.table,
+            self.health,
+            script.steps,
+            script.place,
+            held,
+            cell,
+        );
+        self.played(script, words)
+    }
+
+    /// One attempt on a key: header from the registry, then its health, then the bucket, then a try_lock.
+    pub fn transactional_try_lock_bucket(
+        &mut self,
+        registry: &[u32],
+        script: &mut Script,
+        held: &[Lease],
+        key: Key,
+    ) -> Played {
+        let words = sys::transactional_try_lock_bucket(
+            self.head,
+            self.table,
+            self.health,
+            registry,
+            script.steps,
+            script.place,
+            held,
+            key,
+        );
+        self.played(script, words)
+    }
+
+    /// Up to 4,096 attempts on a key, with boundaries, yields and spins between them. Granted or refused, never Busy.
+    pub fn acquire_index_bucket(
+        &mut self,
+        registry: &[u32],
+        script: &mut Script,
+        held: &[Lease],
+        key: Key,
+    ) -> Played {
+        let words = sys::acquire_index_bucket(
+            self.head,
+            self.table,
+            self.health,
+            registry,
+            script.steps,
+            script.place,
+            held,
+            key,
+        );
+        self.played(script, words)
+    }
+
+    /// All leases of a list released, last first, a boundary after each. Those not yet released are protected.
+    pub fn release_all(&mut self, script: &mut Script, leases: &[Lease]) -> Played {
+        let words = sys::release_all(
+            self.head,
+            self.table,
+            self.health,
+            script.steps,
+            script.place,
+            leases,
+        );
+        self.played(script, words)
+    }
+
+    /// Multi-lock: the keys in the order given, each as [`Arena::acquire_index_bucket`] takes it. All granted, and the
+    /// buffer holds a lease for each key, in key order; or refused at a key, all taken leases released as in
+    /// [`Arena::release_all`], and the buffer unchanged.
+    pub fn acquire_index_locks(
+        &mut self,
+        registry: &[u32],
+        script: &mut Script,
+        held: &[Lease],
+        keys: &[Key],
+        grants: &mut [Lease],
+    ) -> Played {
+        let words = sys::acquire_index_locks(
+            self.head,
+            self.table,
+            self.health,
+            registry,
+            script.steps,
+            script.place,
+            held,
+            keys,
+            grants,
+        );
+        self.played(script, words)
+    }
+
+    // ---- the crew
+
+    /// The crew's run. `counts` says how many cells each member wants, `cells` has their lists one behind the other,
+    /// each strictly rising, and `turns` names members.
+    pub fn crew(&mut self, counts: &[u32], cells: &[u32], turns: &[u32]) -> CrewReply {
+        let reply = crew_of(&sys::crew(
+            self.head,
+            self.table,
+            self.health,
+            counts,
+            cells,
+            turns,
+        ));
+        self.head = reply.head;
+        reply
+    }
+}

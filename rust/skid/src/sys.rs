@@ -1,0 +1,763 @@
+//! The library's functions as include/skid.h declares them, and a safe function over slices for each. All `unsafe` of
+//! this crate is here.
+//!
+//! Each function of the library reads and writes only the runs that it is lent, of the lengths that it is told, and the
+//! reply; it keeps no pointer, and takes any numbers. So a function over references is safe: a reference is aligned and
+//! valid for its length, and one to be written overlaps no other. Lengths count elements; of leases, keys and steps they
+//! count words.
+#![allow(clippy::too_many_arguments)]
+
+use crate::{Head, Key, Lease, Step};
+use core::mem::{align_of, size_of};
+
+/// Words of a reply.
+pub(crate) const REPLY: usize = 12;
+/// Words of the crew's.
+pub(crate) const CREW: usize = 46;
+/// What a reply holds before a call. The library writes every word; one that it left out would show.
+const BLANK: u64 = 0xa5a5_a5a5_a5a5_a5a5;
+
+// Leases, keys and steps are lent as the words that they are made of, in their order (`repr(C)`).
+const _: () = assert!(size_of::<Lease>() == 8 && align_of::<Lease>() == 4);
+const _: () = assert!(size_of::<Key>() == 8 && align_of::<Key>() == 4);
+const _: () = assert!(size_of::<Step>() == 12 && align_of::<Step>() == 4);
+
+mod raw {
+    use super::{CREW, REPLY};
+
+    extern "C" {
+        pub(super) fn skid_prepare(
+            headers: u32,
+            buckets: u32,
+            serial: u32,
+            table: *mut u32,
+            table_len: usize,
+            health: *mut u8,
+            health_len: usize,
+            reply: *mut [u64; REPLY],
+        );
+        pub(super) fn skid_try_acquire(
+            headers: u32,
+            buckets: u32,
+            next: u32,
+            table: *mut u32,
+            table_len: usize,
+            cell: u32,
+            reply: *mut [u64; REPLY],
+        );
+        pub(super) fn skid_drop_lease(
+            headers: u32,
+            buckets: u32,
+            next: u32,
+            table: *mut u32,
+            table_len: usize,
+            cell: u32,
+            serial: u32,
+            reply: *mut [u64; REPLY],
+        );
+        pub(super) fn skid_read_permission(
+            headers: u32,
+            buckets: u32,
+            next: u32,
+            table: *const u32,
+            table_len: usize,
+            cell: u32,
+            serial: u32,
+            reply: *mut [u64; REPLY],
+        );
+        pub(super) fn skid_competing_acquire_is_excluded(
+            headers: u32,
+            buckets: u32,
+            next: u32,
+            table: *mut u32,
+            table_len: usize,
+            cell: u32,
+            serial: u32,
+            reply: *mut [u64; REPLY],
+        );
+        pub(super) fn skid_release_then_handoff(
+            headers: u32,
+            buckets: u32,
+            next: u32,
+            table: *mut u32,
+            table_len: usize,
+            cell: u32,
+            serial: u32,
+            reply: *mut [u64; REPLY],
+        );
+        pub(super) fn skid_foreign_release_between_attempts(
+            headers: u32,
+            buckets: u32,
+            next: u32,
+            table: *mut u32,
+            table_len: usize,
+            held: *const u32,
+            held_len: usize,
+            cell: u32,
+            serial: u32,
+            reply: *mut [u64; REPLY],
+        );
+        pub(super) fn skid_acquire_preserving_borrows(
+            headers: u32,
+            buckets: u32,
+            next: u32,
+            table: *mut u32,
+            table_len: usize,
+            held: *const u32,
+            held_len: usize,
+            cell: u32,
+            reply: *mut [u64; REPLY],
+        );
+        pub(super) fn skid_drop_preserving_borrows(
+            headers: u32,
+            buckets: u32,
+            next: u32,
+            table: *mut u32,
+            table_len: usize,
+            held: *const u32,
+            held_len: usize,
+            cell: u32,
+            serial: u32,
+            reply: *mut [u64; REPLY],
+        );
+        pub(super) fn skid_environment(
+            headers: u32,
+            buckets: u32,
+            next: u32,
+            table: *mut u32,
+            table_len: usize,
+            health: *mut u8,
+            health_len: usize,
+            script: *const u32,
+            script_len: usize,
+            place: usize,
+            held: *const u32,
+            held_len: usize,
+            reply: *mut [u64; REPLY],
+        );
+        pub(super) fn skid_environment_for_borrows(
+            headers: u32,
+            buckets: u32,
+            next: u32,
+            table: *mut u32,
+            table_len: usize,
+            health: *mut u8,
+            health_len: usize,
+            script: *const u32,
+            script_len: usize,
+            place: usize,
+            held: *const u32,
+            held_len: usize,
+            reply: *mut [u64; REPLY],
+        );
+        pub(super) fn skid_try_lock(
+            headers: u32,
+            buckets: u32,
+            next: u32,
+            table: *mut u32,
+            table_len: usize,
+            health: *mut u8,
+            health_len: usize,
+            script: *const u32,
+            script_len: usize,
+            place: usize,
+            held: *const u32,
+            held_len: usize,
+            cell: u32,
+            reply: *mut [u64; REPLY],
+        );
+        pub(super) fn skid_other_mutex_preserves_leases(
+            headers: u32,
+            buckets: u32,
+            next: u32,
+            table: *mut u32,
+            table_len: usize,
+            health: *mut u8,
+            health_len: usize,
+            script: *const u32,
+            script_len: usize,
+            place: usize,
+            held: *const u32,
+            held_len: usize,
+            cell: u32,
+            reply: *mut [u64; REPLY],
+        );
+        pub(super) fn skid_transactional_try_lock_bucket(
+            headers: u32,
+            buckets: u32,
+            next: u32,
+            table: *mut u32,
+            table_len: usize,
+            health: *mut u8,
+            health_len: usize,
+            registry: *const u32,
+            registry_len: usize,
+            script: *const u32,
+            script_len: usize,
+            place: usize,
+            held: *const u32,
+            held_len: usize,
+            binding: u32,
+            bucket: u32,
+            reply: *mut [u64; REPLY],
+        );
+        pub(super) fn skid_acquire_index_bucket(
+            headers: u32,
+            buckets: u32,
+            next: u32,
+            table: *mut u32,
+            table_len: usize,
+            health: *mut u8,
+            health_len: usize,
+            registry: *const u32,
+            registry_len: usize,
+            script: *const u32,
+            script_len: usize,
+            place: usize,
+            held: *const u32,
+            held_len: usize,
+            binding: u32,
+            bucket: u32,
+            reply: *mut [u64; REPLY],
+        );
+        pub(super) fn skid_release_all(
+            headers: u32,
+            buckets: u32,
+            next: u32,
+            table: *mut u32,
+            table_len: usize,
+            health: *mut u8,
+            health_len: usize,
+            script: *const u32,
+            script_len: usize,
+            place: usize,
+            leases: *const u32,
+            leases_len: usize,
+            reply: *mut [u64; REPLY],
+        );
+        pub(super) fn skid_acquire_index_locks(
+            headers: u32,
+            buckets: u32,
+            next: u32,
+            table: *mut u32,
+            table_len: usize,
+            health: *mut u8,
+            health_len: usize,
+            registry: *const u32,
+            registry_len: usize,
+            script: *const u32,
+            script_len: usize,
+            place: usize,
+            held: *const u32,
+            held_len: usize,
+            keys: *const u32,
+            keys_len: usize,
+            grants: *mut u32,
+            grants_len: usize,
+            reply: *mut [u64; REPLY],
+        );
+        pub(super) fn skid_crew(
+            headers: u32,
+            buckets: u32,
+            next: u32,
+            table: *mut u32,
+            table_len: usize,
+            health: *const u8,
+            health_len: usize,
+            counts: *const u32,
+            counts_len: usize,
+            cells: *const u32,
+            cells_len: usize,
+            turns: *const u32,
+            turns_len: usize,
+            reply: *mut [u64; CREW],
+        );
+    }
+}
+
+pub(crate) fn prepare(
+    headers: u32,
+    buckets: u32,
+    serial: u32,
+    table: &mut [u32],
+    health: &mut [u8],
+) -> [u64; REPLY] {
+    let mut reply = [BLANK; REPLY];
+    // SAFETY: the pointers and lengths are those of references; see the head of this file.
+    unsafe {
+        raw::skid_prepare(
+            headers,
+            buckets,
+            serial,
+            table.as_mut_ptr(),
+            table.len(),
+            health.as_mut_ptr(),
+            health.len(),
+            &mut reply,
+        );
+    }
+    reply
+}
+
+pub(crate) fn try_acquire(head: Head, table: &mut [u32], cell: u32) -> [u64; REPLY] {
+    let mut reply = [BLANK; REPLY];
+    // SAFETY: the pointers and lengths are those of references; see the head of this file.
+    unsafe {
+        raw::skid_try_acquire(
+            head.headers,
+            head.buckets,
+            head.next,
+            table.as_mut_ptr(),
+            table.len(),
+            cell,
+            &mut reply,
+        );
+    }
+    reply
+}
+
+pub(crate) fn drop_lease(head: Head, table: &mut [u32], lease: Lease) -> [u64; REPLY] {
+    let mut reply = [BLANK; REPLY];
+    // SAFETY: the pointers and lengths are those of references; see the head of this file.
+    unsafe {
+        raw::skid_drop_lease(
+            head.headers,
+            head.buckets,
+            head.next,
+            table.as_mut_ptr(),
+            table.len(),
+            lease.cell,
+            lease.serial,
+            &mut reply,
+        );
+    }
+    reply
+}
+
+pub(crate) fn read_permission(head: Head, table: &[u32], lease: Lease) -> [u64; REPLY] {
+    let mut reply = [BLANK; REPLY];
+    // SAFETY: the pointers and lengths are those of references; see the head of this file.
+    unsafe {
+        raw::skid_read_permission(
+            head.headers,
+            head.buckets,
+            head.next,
+            table.as_ptr(),
+            table.len(),
+            lease.cell,
+            lease.serial,
+            &mut reply,
+        );
+    }
+    reply
+}
+
+pub(crate) fn competing_acquire_is_excluded(
+    head: Head,
+    table: &mut [u32],
+    lease: Lease,
+) -> [u64; REPLY] {
+    let mut reply = [BLANK; REPLY];
+    // SAFETY: the pointers and lengths are those of references; see the head of this file.
+    unsafe {
+        raw::skid_competing_acquire_is_excluded(
+            head.headers,
+            head.buckets,
+            head.next,
+            table.as_mut_ptr(),
+            table.len(),
+            lease.cell,
+            lease.serial,
+            &mut reply,
+        );
+    }
+    reply
+}
+
+pub(crate) fn release_then_handoff(head: Head, table: &mut [u32], lease: Lease) -> [u64; REPLY] {
+    let mut reply = [BLANK; REPLY];
+    // SAFETY: the pointers and lengths are those of references; see the head of this file.
+    unsafe {
+        raw::skid_release_then_handoff(
+            head.headers,
+            head.buckets,
+            head.next,
+            table.as_mut_ptr(),
+            table.len(),
+            lease.cell,
+            lease.serial,
+            &mut reply,
+        );
+    }
+    reply
+}
+
+pub(crate) fn foreign_release_between_attempts(
+    head: Head,
+    table: &mut [u32],
+    held: &[Lease],
+    lease: Lease,
+) -> [u64; REPLY] {
+    let mut reply = [BLANK; REPLY];
+    // SAFETY: the pointers and lengths are those of references; see the head of this file.
+    unsafe {
+        raw::skid_foreign_release_between_attempts(
+            head.headers,
+            head.buckets,
+            head.next,
+            table.as_mut_ptr(),
+            table.len(),
+            held.as_ptr().cast(),
+            2 * held.len(),
+            lease.cell,
+            lease.serial,
+            &mut reply,
+        );
+    }
+    reply
+}
+
+pub(crate) fn acquire_preserving_borrows(
+    head: Head,
+    table: &mut [u32],
+    held: &[Lease],
+    cell: u32,
+) -> [u64; REPLY] {
+    let mut reply = [BLANK; REPLY];
+    // SAFETY: the pointers and lengths are those of references; see the head of this file.
+    unsafe {
+        raw::skid_acquire_preserving_borrows(
+            head.headers,
+            head.buckets,
+            head.next,
+            table.as_mut_ptr(),
+            table.len(),
+            held.as_ptr().cast(),
+            2 * held.len(),
+            cell,
+            &mut reply,
+        );
+    }
+    reply
+}
+
+pub(crate) fn drop_preserving_borrows(
+    head: Head,
+    table: &mut [u32],
+    held: &[Lease],
+    lease: Lease,
+) -> [u64; REPLY] {
+    let mut reply = [BLANK; REPLY];
+    // SAFETY: the pointers and lengths are those of references; see the head of this file.
+    unsafe {
+        raw::skid_drop_preserving_borrows(
+            head.headers,
+            head.buckets,
+            head.next,
+            table.as_mut_ptr(),
+            table.len(),
+            held.as_ptr().cast(),
+            2 * held.len(),
+            lease.cell,
+            lease.serial,
+            &mut reply,
+        );
+    }
+    reply
+}
+
+pub(crate) fn environment(
+    head: Head,
+    table: &mut [u32],
+    health: &mut [u8],
+    script: &[Step],
+    place: usize,
+    held: &[Lease],
+) -> [u64; REPLY] {
+    let mut reply = [BLANK; REPLY];
+    // SAFETY: the pointers and lengths are those of references; see the head of this file.
+    unsafe {
+        raw::skid_environment(
+            head.headers,
+            head.buckets,
+            head.next,
+            table.as_mut_ptr(),
+            table.len(),
+            health.as_mut_ptr(),
+            health.len(),
+            script.as_ptr().cast(),
+            3 * script.len(),
+            place,
+            held.as_ptr().cast(),
+            2 * held.len(),
+            &mut reply,
+        );
+    }
+    reply
+}
+
+pub(crate) fn environment_for_borrows(
+    head: Head,
+    table: &mut [u32],
+    health: &mut [u8],
+    script: &[Step],
+    place: usize,
+    held: &[Lease],
+) -> [u64; REPLY] {
+    let mut reply = [BLANK; REPLY];
+    // SAFETY: the pointers and lengths are those of references; see the head of this file.
+    unsafe {
+        raw::skid_environment_for_borrows(
+            head.headers,
+            head.buckets,
+            head.next,
+            table.as_mut_ptr(),
+            table.len(),
+            health.as_mut_ptr(),
+            health.len(),
+            script.as_ptr().cast(),
+            3 * script.len(),
+            place,
+            held.as_ptr().cast(),
+            2 * held.len(),
+            &mut reply,
+        );
+    }
+    reply
+}
+
+pub(crate) fn try_lock(
+    head: Head,
+    table: &mut [u32],
+    health: &mut [u8],
+    script: &[Step],
+    place: usize,
+    held: &[Lease],
+    cell: u32,
+) -> [u64; REPLY] {
+    let mut reply = [BLANK; REPLY];
+    // SAFETY: the pointers and lengths are those of references; see the head of this file.
+    unsafe {
+        raw::skid_try_lock(
+            head.headers,
+            head.buckets,
+            head.next,
+            table.as_mut_ptr(),
+            table.len(),
+            health.as_mut_ptr(),
+            health.len(),
+            script.as_ptr().cast(),
+            3 * script.len(),
+            place,
+            held.as_ptr().cast(),
+            2 * held.len(),
+            cell,
+            &mut reply,
+        );
+    }
+    reply
+}
+
+pub(crate) fn other_mutex_preserves_leases(
+    head: Head,
+    table: &mut [u32],
+    health: &mut [u8],
+    script: &[Step],
+    place: usize,
+    held: &[Lease],
+    cell: u32,
+) -> [u64; REPLY] {
+    let mut reply = [BLANK; REPLY];
+    // SAFETY: the pointers and lengths are those of references; see the head of this file.
+    unsafe {
+        raw::skid_other_mutex_preserves_leases(
+            head.headers,
+            head.buckets,
+            head.next,
+            table.as_mut_ptr(),
+            table.len(),
+            health.as_mut_ptr(),
+            health.len(),
+            script.as_ptr().cast(),
+            3 * script.len(),
+            place,
+            held.as_ptr().cast(),
+            2 * held.len(),
+            cell,
+            &mut reply,
+        );
+    }
+    reply
+}
+
+pub(crate) fn transactional_try_lock_bucket(
+    head: Head,
+    table: &mut [u32],
+    health: &mut [u8],
+    registry: &[u32],
+    script: &[Step],
+    place: usize,
+    held: &[Lease],
+    key: Key,
+) -> [u64; REPLY] {
+    let mut reply = [BLANK; REPLY];
+    // SAFETY: the pointers and lengths are those of references; see the head of this file.
+    unsafe {
+        raw::skid_transactional_try_lock_bucket(
+            head.headers,
+            head.buckets,
+            head.next,
+            table.as_mut_ptr(),
+            table.len(),
+            health.as_mut_ptr(),
+            health.len(),
+            registry.as_ptr(),
+            registry.len(),
+            script.as_ptr().cast(),
+            3 * script.len(),
+            place,
+            held.as_ptr().cast(),
+            2 * held.len(),
+            key.binding,
+            key.bucket,
+            &mut reply,
+        );
+    }
+    reply
+}
+
+pub(crate) fn acquire_index_bucket(
+    head: Head,
+    table: &mut [u32],
+    health: &mut [u8],
+    registry: &[u32],
+    script: &[Step],
+    place: usize,
+    held: &[Lease],
+    key: Key,
+) -> [u64; REPLY] {
+    let mut reply = [BLANK; REPLY];
+    // SAFETY: the pointers and lengths are those of references; see the head of this file.
+    unsafe {
+        raw::skid_acquire_index_bucket(
+            head.headers,
+            head.buckets,
+            head.next,
+            table.as_mut_ptr(),
+            table.len(),
+            health.as_mut_ptr(),
+            health.len(),
+            registry.as_ptr(),
+            registry.len(),
+            script.as_ptr().cast(),
+            3 * script.len(),
+            place,
+            held.as_ptr().cast(),
+            2 * held.len(),
+            key.binding,
+            key.bucket,
+            &mut reply,
+        );
+    }
+    reply
+}
+
+pub(crate) fn release_all(
+    head: Head,
+    table: &mut [u32],
+    health: &mut [u8],
+    script: &[Step],
+    place: usize,
+    leases: &[Lease],
+) -> [u64; REPLY] {
+    let mut reply = [BLANK; REPLY];
+    // SAFETY: the pointers and lengths are those of references; see the head of this file.
+    unsafe {
+        raw::skid_release_all(
+            head.headers,
+            head.buckets,
+            head.next,
+            table.as_mut_ptr(),
+            table.len(),
+            health.as_mut_ptr(),
+            health.len(),
+            script.as_ptr().cast(),
+            3 * script.len(),
+            place,
+            leases.as_ptr().cast(),
+            2 * leases.len(),
+            &mut reply,
+        );
+    }
+    reply
+}
+
+pub(crate) fn acquire_index_locks(
+    head: Head,
+    table: &mut [u32],
+    health: &mut [u8],
+    registry: &[u32],
+    script: &[Step],
+    place: usize,
+    held: &[Lease],
+    keys: &[Key],
+    grants: &mut [Lease],
+) -> [u64; REPLY] {
+    let mut reply = [BLANK; REPLY];
+    // SAFETY: the pointers and lengths are those of references; see the head of this file.
+    unsafe {
+        raw::skid_acquire_index_locks(
+            head.headers,
+            head.buckets,
+            head.next,
+            table.as_mut_ptr(),
+            table.len(),
+            health.as_mut_ptr(),
+            health.len(),
+            registry.as_ptr(),
+            registry.len(),
+            script.as_ptr().cast(),
+            3 * script.len(),
+            place,
+            held.as_ptr().cast(),
+            2 * held.len(),
+            keys.as_ptr().cast(),
+            2 * keys.len(),
+            grants.as_mut_ptr().cast(),
+            2 * grants.len(),
+            &mut reply,
+        );
+    }
+    reply
+}
+
+pub(crate) fn crew(
+    head: Head,
+    table: &mut [u32],
+    health: &[u8],
+    counts: &[u32],
+    cells: &[u32],
+    turns: &[u32],
+) -> [u64; CREW] {
+    let mut reply = [BLANK; CREW];
+    // SAFETY: the pointers and lengths are those of references; see the head of this file.
+    unsafe {
+        raw::skid_crew(
+            head.headers,
+            head.buckets,
+            head.next,
+            table.as_mut_ptr(),
+            table.len(),
+            health.as_ptr(),
+            health.len(),
+            counts.as_ptr(),
+            counts.len(),
+            cells.as_ptr(),
+            cells.len(),
+            turns.as_ptr(),
+            turns.len(),
+            &mut reply,
+        );
+    }
+    reply
+}

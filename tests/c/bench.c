@@ -1,0 +1,575 @@
+/*
+ * Document 01's bench cases, through skid.h, and edges of the calling convention. A line for each case; exit 1 if a
+ * figure is not document 01's.
+ */
+#include <inttypes.h>
+#include <stdio.h>
+#include <string.h>
+
+#include "skid.h"
+
+/* ---- what is checked */
+
+static int cases, edges, failures;
+static int bad; /* in the case at hand */
+
+static void check(const char *what, uint64_t got, uint64_t want) {
+    printf("%s %" PRIu64 ", ", what, got);
+    if (got != want) {
+        printf("BUT NOT %" PRIu64 ", ", want);
+        bad = 1;
+    }
+}
+
+static void name(const char *text) {
+    bad = 0;
+    printf("%s: ", text);
+}
+
+static void end(int *count) {
+    printf("%s\n", bad ? "FAILED" : "as it must be");
+    if (bad) {
+        failures++;
+    } else {
+        (*count)++;
+    }
+}
+
+/* ---- the arena of the bench: H 2, B 4, registry 0, 1, 1; every lent run stands between guards */
+
+#define PATTERN 0xa5a5a5a5a5a5a5a5u
+#define GUARD 77u
+#define NONE NULL, 0
+
+static struct {
+    uint32_t before, words[24], after;
+} table;
+static struct {
+    uint8_t before, bytes[2], after;
+} health;
+static struct {
+    uint64_t before, words[SKID_REPLY_WORDS], after;
+} reply;
+static struct {
+    uint64_t before, words[SKID_CREW_WORDS], after;
+} crew;
+static const uint32_t registry[3] = {0, 1, 1};
+static uint32_t next;
+
+#define HEAD 2, 4, next
+#define TABLE table.words, 24
+#define HEALTH health.bytes, 2
+#define REGISTRY registry, 3
+#define LIST(a) a, sizeof a / sizeof a[0]
+
+/* The reply as no call leaves it, so that a word that is not written shows. */
+static uint64_t *blank(void) {
+    int i;
+    for (i = 0; i < SKID_REPLY_WORDS; i++) {
+        reply.words[i] = PATTERN;
+    }
+    return reply.words;
+}
+
+static uint64_t *blank_crew(void) {
+    int i;
+    for (i = 0; i < SKID_CREW_WORDS; i++) {
+        crew.words[i] = PATTERN;
+    }
+    return crew.words;
+}
+
+/* After each call: no word as it was, none outside the runs, and the head goes on. */
+static void kept(void) {
+    if (table.before != GUARD || table.after != GUARD || health.before != GUARD || health.after != GUARD ||
+        reply.before != GUARD || reply.after != GUARD || crew.before != GUARD || crew.after != GUARD) {
+        printf("A WORD OUTSIDE THE RUNS CHANGED, ");
+        bad = 1;
+    }
+}
+
+static void called(void) {
+    int i;
+    for (i = 0; i < SKID_REPLY_WORDS; i++) {
+        if (reply.words[i] == PATTERN) {
+            printf("WORD %d NOT WRITTEN, ", i);
+            bad = 1;
+        }
+    }
+    kept();
+    if (reply.words[SKID_HEADERS] != 2 || reply.words[SKID_BUCKETS] != 4) {
+        printf("ANOTHER HEAD, ");
+        bad = 1;
+    }
+    next = (uint32_t)reply.words[SKID_NEXT];
+}
+
+static void crewed(void) {
+    int i;
+    for (i = 0; i < SKID_CREW_WORDS; i++) {
+        if (crew.words[i] == PATTERN) {
+            printf("WORD %d NOT WRITTEN, ", i);
+            bad = 1;
+        }
+    }
+    kept();
+    next = (uint32_t)crew.words[SKID_NEXT];
+}
+
+/* Memory after a cold start holds anything. */
+static void prepare(uint32_t serial) {
+    memset(&table, 0x5a, sizeof table);
+    memset(&health, 0x5a, sizeof health);
+    table.before = table.after = GUARD;
+    health.before = health.after = GUARD;
+    reply.before = reply.after = GUARD;
+    crew.before = crew.after = GUARD;
+    skid_prepare(2, 4, serial, TABLE, HEALTH, blank());
+    called();
+}
+
+static uint64_t word(int i) { return reply.words[i]; }
+
+static void granted(uint32_t cell, uint32_t serial) {
+    check("kind", word(SKID_KIND), SKID_GRANTED);
+    check("cell", word(SKID_CELL), cell);
+    check("serial", word(SKID_SERIAL), serial);
+}
+
+static void refused(uint64_t number, uint64_t carried) {
+    check("kind", word(SKID_KIND), SKID_REFUSED);
+    check("refusal", word(SKID_REFUSAL), number);
+    check("carrying", word(SKID_CARRIED), carried);
+}
+
+static void at_next(uint32_t want) { check("next", word(SKID_NEXT), want); }
+
+static void free_cells(void) {
+    uint32_t c, n = 0;
+    for (c = 0; c < 8; c++) {
+        n += table.words[3 * c] == 0 && table.words[3 * c + 1] == 0;
+    }
+    check("free cells", n, 8);
+}
+
+/* The retry on the key (0, bucket). */
+static void acquire(const uint32_t *script, size_t script_len, const uint32_t *held, size_t held_len, uint32_t bucket) {
+    skid_acquire_index_bucket(HEAD, TABLE, HEALTH, REGISTRY, script, script_len, 0, held, held_len, 0, bucket, blank());
+    called();
+}
+
+/* One boundary that runs one foreign step. */
+static void step(uint32_t kind, uint32_t place, uint32_t number) {
+    uint32_t script[3];
+    script[0] = kind;
+    script[1] = place;
+    script[2] = number;
+    skid_environment(HEAD, TABLE, HEALTH, LIST(script), 0, NONE, blank());
+    called();
+}
+
+/* ---- the bench cases, in document 01's order */
+
+static void key(void) {
+    static const uint32_t keys[2] = {0, 2};
+    uint32_t grants[2] = {7, 7};
+
+    name("key (0,2), acquire_index_bucket");
+    prepare(1);
+    acquire(NONE, NONE, 2);
+    granted(2, 1);
+    at_next(2);
+    check("attempts", word(SKID_ATTEMPTS), 1);
+    check("boundaries", word(SKID_BOUNDARIES), 3);
+
+    printf("transactional_try_lock_bucket: ");
+    prepare(1);
+    skid_transactional_try_lock_bucket(HEAD, TABLE, HEALTH, REGISTRY, NONE, 0, NONE, 0, 2, blank());
+    called();
+    granted(2, 1);
+    at_next(2);
+    check("attempts", word(SKID_ATTEMPTS), 1);
+    check("boundaries", word(SKID_BOUNDARIES), 3);
+
+    printf("acquire_index_locks: ");
+    prepare(1);
+    skid_acquire_index_locks(HEAD, TABLE, HEALTH, REGISTRY, NONE, 0, NONE, LIST(keys), LIST(grants), blank());
+    called();
+    check("kind", word(SKID_KIND), SKID_ALL_GRANTED);
+    check("cell", grants[0], 2);
+    check("serial", grants[1], 1);
+    at_next(2);
+    check("attempts", word(SKID_ATTEMPTS), 1);
+    check("boundaries", word(SKID_BOUNDARIES), 3);
+    end(&cases);
+}
+
+static void again(void) {
+    static const uint32_t held[2] = {2, 1};
+    name("again, lease 1 held");
+    prepare(1);
+    acquire(NONE, NONE, 2);
+    acquire(NONE, LIST(held), 2);
+    refused(SKID_SERIALIZATION_FAILURE, 4096);
+    check("boundaries", word(SKID_BOUNDARIES), 12352);
+    check("yields", word(SKID_YIELDS), 64);
+    at_next(2);
+    end(&cases);
+}
+
+static void waiters(void) {
+    name("waiters of cell 2 stay 1");
+    prepare(1);
+    step(SKID_STEP_WAITERS, 2, 1);
+    acquire(NONE, NONE, 2);
+    refused(SKID_SERIALIZATION_FAILURE, 4096);
+    check("boundaries", word(SKID_BOUNDARIES), 8256);
+    check("yields", word(SKID_YIELDS), 64);
+    at_next(1);
+    end(&cases);
+}
+
+static void late_waiters(void) {
+    static const uint32_t script[12] = {5, 0, 0, 5, 0, 0, 3, 2, 1, 5, 0, 0};
+    name("try_lock of cell 2, script 5; 5; set waiters of 2 to 1; 5");
+    prepare(1);
+    skid_try_lock(HEAD, TABLE, HEALTH, LIST(script), 0, NONE, 2, blank());
+    called();
+    check("kind", word(SKID_KIND), SKID_BUSY);
+    check("boundaries", word(SKID_BOUNDARIES), 3);
+    check("place", word(SKID_PLACE), 4);
+    at_next(2);
+    check("bit", table.words[6], 0);
+    check("owner", table.words[7], 0);
+    end(&cases);
+}
+
+static void buckets(void) {
+    name("bucket 4");
+    prepare(1);
+    acquire(NONE, NONE, 4);
+    refused(SKID_INVALID_BUCKET, 4);
+    check("boundaries", word(SKID_BOUNDARIES), 0);
+    end(&cases);
+
+    name("bucket 3");
+    prepare(1);
+    acquire(NONE, NONE, 3);
+    granted(3, 1);
+    end(&cases);
+
+    name("header 0 poisoned, bucket 4");
+    prepare(1);
+    step(SKID_STEP_HEALTH, 0, 1);
+    acquire(NONE, NONE, 4);
+    refused(SKID_POISONED, 0);
+    end(&cases);
+}
+
+static void serials(void) {
+    static const uint32_t held[2] = {2, 4294967294u};
+    name("next 4,294,967,295, cell free");
+    prepare(SKID_NO_SERIAL);
+    acquire(NONE, NONE, 2);
+    refused(SKID_SERIALS_SPENT, 2);
+    check("boundaries", word(SKID_BOUNDARIES), 2);
+    end(&cases);
+
+    name("next 4,294,967,294");
+    prepare(4294967294u);
+    acquire(NONE, NONE, 2);
+    granted(2, 4294967294u);
+    end(&cases);
+
+    name("spent and held");
+    acquire(NONE, LIST(held), 2);
+    refused(SKID_SERIALIZATION_FAILURE, 4096);
+    end(&cases);
+}
+
+static void foreign_release(void) {
+    static const uint32_t script[12] = {5, 0, 0, 5, 0, 0, 2, 2, 1, 5, 0, 0};
+    static const uint32_t held[2] = {2, 1};
+    name("cell 2 held by foreign 1, script 5; 5; release (2,1); 5");
+    prepare(1);
+    step(SKID_STEP_TAKE, 2, 0);
+    acquire(LIST(script), NONE, 2);
+    granted(2, 2);
+    check("attempts", word(SKID_ATTEMPTS), 2);
+    check("boundaries", word(SKID_BOUNDARIES), 6);
+    end(&cases);
+
+    name("the same with (2,1) in the held list");
+    prepare(1);
+    step(SKID_STEP_TAKE, 2, 0);
+    acquire(LIST(script), LIST(held), 2);
+    refused(SKID_SERIALIZATION_FAILURE, 4096);
+    check("dropped", word(SKID_DROPPED), 1);
+    end(&cases);
+}
+
+static void keys(void) {
+    static const uint32_t two[4] = {1, 0, 2, 0};
+    uint32_t grants[4] = {7, 7, 7, 7};
+    name("keys (1,0),(2,0)");
+    prepare(1);
+    skid_acquire_index_locks(HEAD, TABLE, HEALTH, REGISTRY, NONE, 0, NONE, LIST(two), LIST(grants), blank());
+    called();
+    check("kind", word(SKID_KIND), SKID_REFUSED_AT);
+    check("refusal", word(SKID_REFUSAL), SKID_SERIALIZATION_FAILURE);
+    check("position", word(SKID_POSITION), 1);
+    check("attempts", word(SKID_ATTEMPTS), 4097);
+    check("boundaries", word(SKID_BOUNDARIES), 12356);
+    check("yields", word(SKID_YIELDS), 64);
+    at_next(2);
+    free_cells();
+    check("grants as they were", grants[0] == 7 && grants[1] == 7 && grants[2] == 7 && grants[3] == 7, 1);
+    end(&cases);
+
+    name("no keys");
+    prepare(1);
+    skid_acquire_index_locks(HEAD, TABLE, HEALTH, REGISTRY, NONE, 0, NONE, NONE, NONE, blank());
+    called();
+    check("kind", word(SKID_KIND), SKID_ALL_GRANTED);
+    check("attempts", word(SKID_ATTEMPTS), 0);
+    check("boundaries", word(SKID_BOUNDARIES), 0);
+    check("yields", word(SKID_YIELDS), 0);
+    check("dropped", word(SKID_DROPPED), 0);
+    end(&cases);
+}
+
+static void crews(void) {
+    static const uint32_t counts[2] = {2, 2}, cells[4] = {2, 5, 2, 5}, falling[4] = {2, 5, 5, 2};
+    static const uint32_t turns[14] = {0, 1, 0, 1, 0, 1, 0, 1, 0, 1, 0, 1, 0, 1};
+    int i;
+    name("crew {2,5},{2,5}, turns 0,1 seven times");
+    prepare(1);
+    skid_crew(HEAD, TABLE, HEALTH, LIST(counts), LIST(cells), LIST(turns), blank_crew());
+    crewed();
+    check("kind", crew.words[SKID_KIND], SKID_DONE);
+    check("moving", crew.words[SKID_MOVING], 8);
+    check("idle", crew.words[SKID_IDLE], 6);
+    check("next", crew.words[SKID_NEXT], 5);
+    for (i = 0; i < 16; i++) {
+        uint64_t want = i < 2 ? 2 : 0;
+        if (crew.words[SKID_TAKEN + i] != want || crew.words[SKID_RELEASED + i] != want) {
+            printf("MEMBER %d, ", i);
+            bad = 1;
+        }
+    }
+    for (i = 3; i < 8; i++) {
+        if (crew.words[i] != 0) {
+            printf("WORD %d, ", i);
+            bad = 1;
+        }
+    }
+    free_cells();
+    end(&cases);
+
+    name("crew {2,5},{5,2}");
+    prepare(1);
+    skid_crew(HEAD, TABLE, HEALTH, LIST(counts), LIST(falling), LIST(turns), blank_crew());
+    crewed();
+    check("kind", crew.words[SKID_KIND], SKID_REFUSED);
+    check("refusal", crew.words[SKID_REFUSAL], SKID_BAD_CREW);
+    check("member", crew.words[SKID_CARRIED], 1);
+    end(&cases);
+}
+
+/* ---- edges: each call by its own name, with its arguments in their places */
+
+/* Every word behind the head. */
+static void words(uint64_t place, uint64_t attempts, uint64_t boundaries, uint64_t dropped, uint64_t kind, uint64_t a,
+                  uint64_t b, uint64_t position) {
+    check("place", word(SKID_PLACE), place);
+    check("attempts", word(SKID_ATTEMPTS), attempts);
+    check("boundaries", word(SKID_BOUNDARIES), boundaries);
+    check("yields", word(SKID_YIELDS), 0);
+    check("dropped", word(SKID_DROPPED), dropped);
+    check("kind", word(SKID_KIND), kind);
+    check("word 9", word(9), a);
+    check("word 10", word(10), b);
+    check("word 11", word(11), position);
+}
+
+static void without_script(void) {
+    static const uint32_t held[2] = {5, 1}, other[2] = {6, 2};
+    prepare(1);
+    name("try_acquire of cell 5");
+    skid_try_acquire(HEAD, TABLE, 5, blank());
+    called();
+    at_next(2);
+    words(0, 1, 0, 0, SKID_GRANTED, 5, 1, 0);
+    end(&edges);
+
+    name("read_permission");
+    skid_read_permission(HEAD, TABLE, 5, 1, blank());
+    called();
+    words(0, 0, 0, 0, SKID_A_CELL, 5, 0, 0);
+    end(&edges);
+
+    name("read_permission, another serial");
+    skid_read_permission(HEAD, TABLE, 5, 2, blank());
+    called();
+    words(0, 0, 0, 0, SKID_REFUSED, SKID_NOT_HELD, 0, 0);
+    end(&edges);
+
+    name("competing_acquire_is_excluded");
+    skid_competing_acquire_is_excluded(HEAD, TABLE, 5, 1, blank());
+    called();
+    words(0, 1, 0, 0, SKID_BUSY, 0, 0, 0);
+    end(&edges);
+
+    name("acquire_preserving_borrows");
+    skid_acquire_preserving_borrows(HEAD, TABLE, LIST(held), 6, blank());
+    called();
+    at_next(3);
+    words(0, 1, 0, 0, SKID_GRANTED, 6, 2, 0);
+    end(&edges);
+
+    name("drop_preserving_borrows of a held lease");
+    skid_drop_preserving_borrows(HEAD, TABLE, LIST(held), 5, 1, blank());
+    called();
+    words(0, 0, 0, 0, SKID_REFUSED, SKID_PROTECTED, 0, 0);
+    end(&edges);
+
+    name("foreign_release_between_attempts");
+    skid_foreign_release_between_attempts(HEAD, TABLE, LIST(held), 6, 2, blank());
+    called();
+    at_next(4);
+    words(0, 2, 0, 0, SKID_GRANTED, 6, 3, 0);
+    end(&edges);
+
+    name("a held list whose lease was released");
+    skid_acquire_preserving_borrows(HEAD, TABLE, LIST(other), 7, blank());
+    called();
+    words(0, 0, 0, 0, SKID_REFUSED, SKID_BAD_HELD, 0, 0);
+    end(&edges);
+
+    name("release_then_handoff");
+    skid_release_then_handoff(HEAD, TABLE, 5, 1, blank());
+    called();
+    at_next(5);
+    words(0, 1, 0, 0, SKID_GRANTED, 5, 4, 0);
+    end(&edges);
+
+    name("drop_lease");
+    skid_drop_lease(HEAD, TABLE, 5, 4, blank());
+    called();
+    words(0, 0, 0, 0, SKID_DONE, 0, 0, 0);
+    end(&edges);
+
+    name("drop_preserving_borrows, no held list");
+    skid_drop_preserving_borrows(HEAD, TABLE, NONE, 6, 3, blank());
+    called();
+    words(0, 0, 0, 0, SKID_DONE, 0, 0, 0);
+    free_cells();
+    end(&edges);
+}
+
+static void with_script(void) {
+    static const uint32_t script[12] = {0, 0, 0, 2, 3, 1, 9, 9, 9, 4, 1, 1};
+    static const uint32_t held[2] = {3, 1}, leases[4] = {3, 1, 4, 2};
+    prepare(1);
+    skid_try_acquire(HEAD, TABLE, 3, blank());
+    called();
+    name("environment_for_borrows from place 1: a release of a held lease and a step of no kind, dropped");
+    skid_environment_for_borrows(HEAD, TABLE, HEALTH, LIST(script), 1, LIST(held), blank());
+    called();
+    words(4, 0, 1, 2, SKID_DONE, 0, 0, 0);
+    check("health", health.bytes[0] * 16u + health.bytes[1], 1);
+    end(&edges);
+
+    name("environment with a place past the end");
+    skid_environment(HEAD, TABLE, HEALTH, LIST(script), 5, LIST(held), blank());
+    called();
+    words(5, 0, 0, 0, SKID_REFUSED, SKID_BAD_SCRIPT, 0, 0);
+    end(&edges);
+
+    name("other_mutex_preserves_leases");
+    skid_other_mutex_preserves_leases(HEAD, TABLE, HEALTH, NONE, 0, LIST(held), 4, blank());
+    called();
+    words(0, 1, 3, 0, SKID_GRANTED, 4, 2, 0);
+    end(&edges);
+
+    name("release_all");
+    skid_release_all(HEAD, TABLE, HEALTH, NONE, 0, LIST(leases), blank());
+    called();
+    words(0, 0, 2, 0, SKID_DONE, 0, 0, 0);
+    free_cells();
+    end(&edges);
+
+    name("release_all of leases that are released");
+    skid_release_all(HEAD, TABLE, HEALTH, NONE, 0, LIST(leases), blank());
+    called();
+    words(0, 0, 0, 0, SKID_REFUSED, SKID_NOT_HELD, 0, 0);
+    end(&edges);
+
+    name("release_all of nothing");
+    skid_release_all(HEAD, TABLE, HEALTH, NONE, 0, NONE, blank());
+    called();
+    words(0, 0, 0, 0, SKID_DONE, 0, 0, 0);
+    end(&edges);
+
+    name("a key and no registry");
+    skid_transactional_try_lock_bucket(HEAD, TABLE, HEALTH, NONE, NONE, 0, NONE, 0, 2, blank());
+    called();
+    words(0, 0, 0, 0, SKID_REFUSED, SKID_BAD_BINDING, 0, 0);
+    end(&edges);
+}
+
+/* A refused preparation: three zeros for a head, and nothing else changes. */
+static void refused_preparation(void) {
+    uint32_t i, n = 0;
+    name("prepare with one word too few");
+    prepare(1);
+    memset(table.words, 0x5a, sizeof table.words);
+    skid_prepare(2, 4, 1, table.words, 23, HEALTH, blank());
+    kept();
+    check("headers", word(SKID_HEADERS), 0);
+    check("buckets", word(SKID_BUCKETS), 0);
+    at_next(0);
+    words(0, 0, 0, 0, SKID_REFUSED, SKID_BAD_SHAPE, 0, 0);
+    for (i = 0; i < 24; i++) {
+        n += table.words[i] == 0x5a5a5a5au;
+    }
+    check("words as they were", n, 24);
+    end(&edges);
+
+    name("a call with nothing lent");
+    skid_try_lock(2, 4, 1, NONE, NONE, NONE, 0, NONE, 2, blank());
+    called();
+    words(0, 0, 0, 0, SKID_REFUSED, SKID_BAD_SHAPE, 0, 0);
+    end(&edges);
+
+    name("a crew with nothing lent");
+    prepare(1);
+    skid_crew(HEAD, TABLE, HEALTH, NONE, NONE, NONE, blank_crew());
+    crewed();
+    check("kind", crew.words[SKID_KIND], SKID_REFUSED);
+    check("refusal", crew.words[SKID_REFUSAL], SKID_BAD_CREW);
+    check("carrying", crew.words[SKID_CARRIED], 0);
+    end(&edges);
+}
+
+int main(void) {
+    key();
+    again();
+    waiters();
+    late_waiters();
+    buckets();
+    serials();
+    foreign_release();
+    keys();
+    crews();
+    without_script();
+    with_script();
+    refused_preparation();
+    if (failures != 0) {
+        printf("bench cases in C: %d failed\n", failures);
+        return 1;
+    }
+    printf("edges in C: %d passed\n", edges);
+    printf("bench cases in C: %d passed\n", cases);
+    return 0;
+}
