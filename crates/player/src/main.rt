@@ -49,7 +49,7 @@ fn play_all(
     let mut session = console::begin();
     while session.at < input.len() {
         session = console::play(session, input, table, health, lists, grants, out);
-        let used = console::within_bytes(session.used, out);
+        let used = desk::within_bytes(session.used, out);
         io::write_all(1, &out[..used]);
     }
 }

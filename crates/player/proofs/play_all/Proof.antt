@@ -7,7 +7,7 @@ use Rattle.player.proofs.play_all.Statement.{statement}
 use Rattle.player.proofs.play_all.Tie as tie
 use Rattle.player.proofs.play_all.Reads as reads
 use Rattle.player.proofs.play_all.Lts as lts
-use Rattle.console.proofs.within_bytes.Reads as within-bytes-reads
+use Rattle.desk.proofs.within_bytes.Reads as within-bytes-reads
 use Rattle.console.proofs.begin.Reads as begin-reads
 use Rattle.console.proofs.play.Reads as play-reads
 use Rattle.io.proofs.write_all.Reads as write-all-reads

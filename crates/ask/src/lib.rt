@@ -1,0 +1,223 @@
+// Each call of document 01, given the head in force, what is lent of the RAM, and the lists that it takes.
+use desk::CELLS;
+use desk::COUNTS;
+use desk::Desk;
+use desk::HELD;
+use desk::KEYS;
+use desk::LEASES;
+use desk::REGISTRY;
+use desk::SCRIPT;
+use desk::TURNS;
+use desk::Told;
+use desk::part;
+use desk::verbs::Scripted;
+use desk::verbs::Small;
+use desk::within;
+use model::Answer;
+use model::CrewReply;
+use model::Head;
+use model::Lease;
+use model::Played;
+use model::Reply;
+
+// The head in force stays where a preparation was refused.
+fn head_after(before: Head, reply: Reply) -> Head {
+    let after = reply.head;
+    let answer = reply.answer;
+    match answer {
+        Answer::Refused(_) => before,
+        _ => after,
+    }
+}
+
+pub fn prepare(
+    desk: Desk,
+    table: &mut [u32],
+    health: &mut [u8],
+    headers: u32,
+    buckets: u32,
+    serial: u32,
+) -> Told {
+    let t = desk.lent_words(headers, buckets, table);
+    let g = desk.lent_bytes(headers, health);
+    let reply = arena::prepare(headers, buckets, serial, &mut table[..t], &mut health[..g]);
+    let before = desk.head;
+    let head = head_after(before, reply);
+    let counts = reply.counts;
+    let answer = reply.answer;
+    Told {
+        desk: desk.with_head(head),
+        counts,
+        answer,
+    }
+}
+
+// A call without a script, on the lent table.
+fn small_reply(
+    call: Small,
+    head: Head,
+    table: &mut [u32],
+    held: &[u32],
+    cell: u32,
+    serial: u32,
+) -> Reply {
+    let lease = Lease { cell, serial };
+    match call {
+        Small::TryAcquire => lease::try_acquire(head, table, cell),
+        Small::DropLease => lease::drop_lease(head, table, lease),
+        Small::ReadPermission => lease::read_permission(head, table, lease),
+        Small::CompetingAcquire => lease::competing_acquire_is_excluded(head, table, lease),
+        Small::ReleaseThenHandoff => lease::release_then_handoff(head, table, lease),
+        Small::ForeignRelease => {
+            lease::foreign_release_between_attempts(head, table, held, lease)
+        }
+        Small::AcquirePreserving => lease::acquire_preserving_borrows(head, table, held, cell),
+        Small::DropPreserving => lease::drop_preserving_borrows(head, table, held, lease),
+    }
+}
+
+pub fn small_call(
+    desk: Desk,
+    call: Small,
+    table: &mut [u32],
+    lists: &[u32],
+    cell: u32,
+    serial: u32,
+) -> Told {
+    let head = desk.head;
+    let t = desk.lent_words(head.headers, head.buckets, table);
+    let held = part(lists, HELD, desk.held);
+    let reply = small_reply(call, head, &mut table[..t], held, cell, serial);
+    let after = reply.head;
+    let counts = reply.counts;
+    let answer = reply.answer;
+    Told {
+        desk: desk.with_head(after),
+        counts,
+        answer,
+    }
+}
+
+// A call with a script, on the lent table and health.
+fn scripted_reply(
+    desk: Desk,
+    call: Scripted,
+    table: &mut [u32],
+    health: &mut [u8],
+    lists: &[u32],
+    grants: &mut [u32],
+    a: u32,
+    b: u32,
+) -> Played {
+    let head = desk.head;
+    let place = desk.place;
+    let registry = part(lists, REGISTRY, desk.registry);
+    let script = part(lists, SCRIPT, desk.script);
+    let held = part(lists, HELD, desk.held);
+    match call {
+        Scripted::Environment => { foreign::environment(head, table, health, script, place, held) }
+        Scripted::EnvironmentForBorrows => {
+            foreign::environment_for_borrows(head, table, health, script, place, held)
+        }
+        Scripted::TryLock => lock::try_lock(head, table, health, script, place, held, a),
+        Scripted::OtherMutex => {
+            lock::other_mutex_preserves_leases(head, table, health, script, place, held, a)
+        }
+        Scripted::TransactionalTryLock => bucket::transactional_try_lock_bucket(
+            head,
+            table,
+            health,
+            registry,
+            script,
+            place,
+            held,
+            a,
+            b,
+        ),
+        Scripted::AcquireIndexBucket => {
+            bucket::acquire_index_bucket(head, table, health, registry, script, place, held, a, b)
+        }
+        Scripted::ReleaseAll => release_all(desk, table, health, lists),
+        Scripted::AcquireIndexLocks => acquire_index_locks(desk, table, health, lists, grants),
+    }
+}
+
+fn release_all(desk: Desk, table: &mut [u32], health: &mut [u8], lists: &[u32]) -> Played {
+    let head = desk.head;
+    let script = part(lists, SCRIPT, desk.script);
+    let leases = part(lists, LEASES, desk.leases);
+    multilock::release_all(head, table, health, script, desk.place, leases)
+}
+
+fn acquire_index_locks(
+    desk: Desk,
+    table: &mut [u32],
+    health: &mut [u8],
+    lists: &[u32],
+    grants: &mut [u32],
+) -> Played {
+    let head = desk.head;
+    let registry = part(lists, REGISTRY, desk.registry);
+    let script = part(lists, SCRIPT, desk.script);
+    let held = part(lists, HELD, desk.held);
+    let keys = part(lists, KEYS, desk.keys);
+    let n = within(desk.grants, grants);
+    multilock::acquire_index_locks(
+        head,
+        table,
+        health,
+        registry,
+        script,
+        desk.place,
+        held,
+        keys,
+        &mut grants[..n],
+    )
+}
+
+pub fn scripted_call(
+    desk: Desk,
+    call: Scripted,
+    table: &mut [u32],
+    health: &mut [u8],
+    lists: &[u32],
+    grants: &mut [u32],
+    a: u32,
+    b: u32,
+) -> Told {
+    let head = desk.head;
+    let t = desk.lent_words(head.headers, head.buckets, table);
+    let g = desk.lent_bytes(head.headers, health);
+    let played = scripted_reply(
+        desk,
+        call,
+        &mut table[..t],
+        &mut health[..g],
+        lists,
+        grants,
+        a,
+        b,
+    );
+    let after = played.head;
+    let counts = played.counts;
+    let answer = played.answer;
+    Told {
+        desk: desk.with_head(after).with_place(played.place),
+        counts,
+        answer,
+    }
+}
+
+pub fn crew(desk: Desk, table: &mut [u32], health: &[u8], lists: &[u32]) -> CrewReply {
+    let head = desk.head;
+    let t = desk.lent_words(head.headers, head.buckets, table);
+    let g = desk.lent_bytes(head.headers, health);
+    crew::crew(
+        head,
+        &mut table[..t],
+        &health[..g],
+        part(lists, COUNTS, desk.members),
+        part(lists, CELLS, desk.cells),
+        part(lists, TURNS, desk.turns),
+    )
+}

@@ -1,0 +1,211 @@
+// The console's state besides its RAM: the head in force, the place, what is lent, how long each list is. And its words.
+pub mod verbs;
+
+use model::Answer;
+use model::Counts;
+use model::Head;
+ghost use Rattle.io.specs.Counts.{Counts as Within};
+
+pub struct Desk {
+    pub head: Head,
+    pub place: usize,
+    // Whether `lend T G` is in force, and its two numbers.
+    pub fixed: bool,
+    pub words: usize,
+    pub bytes: usize,
+    // How many numbers each list has.
+    pub registry: usize,
+    pub held: usize,
+    pub keys: usize,
+    pub leases: usize,
+    pub turns: usize,
+    pub script: usize,
+    pub grants: usize,
+    pub members: usize,
+    pub cells: usize,
+}
+
+// What a call came to: the desk after it, its counts and its answer.
+pub struct Told {
+    pub desk: Desk,
+    pub counts: Counts,
+    pub answer: Answer,
+}
+
+// The lists that a line replaces whole.
+pub enum List {
+    Registry,
+    Held,
+    Keys,
+    Leases,
+    Turns,
+    Script,
+}
+
+// All lists lie in one run of 170,700 numbers: where each begins.
+pub const REGISTRY: usize = 0;
+
+pub const HELD: usize = 80;
+
+pub const KEYS: usize = 380;
+
+pub const LEASES: usize = 580;
+
+pub const COUNTS: usize = 880;
+
+pub const CELLS: usize = 900;
+
+pub const TURNS: usize = 2300;
+
+pub const SCRIPT: usize = 72300;
+
+pub fn start_of(list: List) -> usize {
+    match list {
+        List::Registry => REGISTRY,
+        List::Held => HELD,
+        List::Keys => KEYS,
+        List::Leases => LEASES,
+        List::Turns => TURNS,
+        List::Script => SCRIPT,
+    }
+}
+
+// The room of each list.
+pub fn room_of(list: List) -> usize {
+    match list {
+        List::Registry => 80,
+        List::Held => 300,
+        List::Keys => 200,
+        List::Leases => 300,
+        List::Turns => 70000,
+        List::Script => 98400,
+    }
+}
+
+// The part of the run from `start` on that has n numbers; where there is none, the empty one.
+pub fn part(lists: &[u32], start: usize, n: usize) -> &[u32] {
+    if start <= lists.len() {
+        if n <= lists.len() - start {
+            let end = start + n;
+            return &lists[start..end];
+        }
+    }
+    &lists[..0]
+}
+
+// n, or all that the run has where that is less.
+pub fn within(n: usize, run: &[u32]) -> usize
+    ensures { λ r. ⌜ Within r (now (run .entry)) ⌝ }
+{
+    if n < run.len() {
+        return n;
+    }
+    run.len()
+}
+
+pub fn within_bytes(n: usize, run: &[u8]) -> usize
+    ensures { λ r. ⌜ Within r (now (run .entry)) ⌝ }
+{
+    if n < run.len() {
+        return n;
+    }
+    run.len()
+}
+
+// 3·H·B, the true product, or a number that is more than there is.
+pub fn words_of(headers: u32, buckets: u32) -> usize {
+    let cells = (headers as u64) * (buckets as u64);
+    if cells < 4294967296 {
+        return 3 * (cells as usize);
+    }
+    4294967296
+}
+
+// At the beginning: an empty head, empty lists, no member.
+pub fn first_desk() -> Desk {
+    Desk {
+        head: Head {
+            headers: 0,
+            buckets: 0,
+            next: 0,
+        },
+        place: 0,
+        fixed: false,
+        words: 0,
+        bytes: 0,
+        registry: 0,
+        held: 0,
+        keys: 0,
+        leases: 0,
+        turns: 0,
+        script: 0,
+        grants: 0,
+        members: 0,
+        cells: 0,
+    }
+}
+
+impl Desk {
+    // How many table words and health bytes a call gets whose head has these numbers.
+    pub fn lent_words(self, headers: u32, buckets: u32, table: &[u32]) -> usize
+        ensures { λ r. ⌜ Within r (now (table .entry)) ⌝ }
+    {
+        if self.fixed {
+            return within(self.words, table);
+        }
+        within(words_of(headers, buckets), table)
+    }
+
+    pub fn lent_bytes(self, headers: u32, health: &[u8]) -> usize
+        ensures { λ r. ⌜ Within r (now (health .entry)) ⌝ }
+    {
+        if self.fixed {
+            return within_bytes(self.bytes, health);
+        }
+        within_bytes(headers as usize, health)
+    }
+
+    pub fn with_head(mut self, head: Head) -> Desk {
+        self.head = head;
+        self
+    }
+
+    pub fn with_place(mut self, place: usize) -> Desk {
+        self.place = place;
+        self
+    }
+
+    pub fn with_lent(mut self, fixed: bool, words: usize, bytes: usize) -> Desk {
+        self.fixed = fixed;
+        self.words = words;
+        self.bytes = bytes;
+        self
+    }
+
+    pub fn with_grants(mut self, n: usize) -> Desk {
+        self.grants = n;
+        self
+    }
+
+    pub fn with_members(mut self, members: usize, cells: usize) -> Desk {
+        self.members = members;
+        self.cells = cells;
+        self
+    }
+
+    // A list has n numbers now; with a new script the place is 0 again.
+    pub fn with_length(mut self, list: List, n: usize) -> Desk {
+        match list {
+            List::Registry => self.registry = n,
+            List::Held => self.held = n,
+            List::Keys => self.keys = n,
+            List::Leases => self.leases = n,
+            List::Turns => self.turns = n,
+            List::Script => {
+                self.script = n;
+                self.place = 0;
+            }
+        }
+        self
+    }
+}
