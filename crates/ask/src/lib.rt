@@ -98,48 +98,95 @@ pub fn small_call(
     }
 }
 
-// A call with a script, on the lent table and health.
-fn scripted_reply(
+// ---- the calls with a script, on the lent table and health
+
+fn environment(desk: Desk, table: &mut [u32], health: &mut [u8], lists: &[u32]) -> Played {
+    let head = desk.head;
+    let script = part(lists, SCRIPT, desk.script);
+    let held = part(lists, HELD, desk.held);
+    foreign::environment(head, table, health, script, desk.place, held)
+}
+
+fn environment_for_borrows(
     desk: Desk,
-    call: Scripted,
     table: &mut [u32],
     health: &mut [u8],
     lists: &[u32],
-    grants: &mut [u32],
-    a: u32,
-    b: u32,
 ) -> Played {
     let head = desk.head;
-    let place = desk.place;
-    let registry = part(lists, REGISTRY, desk.registry);
     let script = part(lists, SCRIPT, desk.script);
     let held = part(lists, HELD, desk.held);
-    match call {
-        Scripted::Environment => { foreign::environment(head, table, health, script, place, held) }
-        Scripted::EnvironmentForBorrows => {
-            foreign::environment_for_borrows(head, table, health, script, place, held)
-        }
-        Scripted::TryLock => lock::try_lock(head, table, health, script, place, held, a),
-        Scripted::OtherMutex => {
-            lock::other_mutex_preserves_leases(head, table, health, script, place, held, a)
-        }
-        Scripted::TransactionalTryLock => bucket::transactional_try_lock_bucket(
-            head,
-            table,
-            health,
-            registry,
-            script,
-            place,
-            held,
-            a,
-            b,
-        ),
-        Scripted::AcquireIndexBucket => {
-            bucket::acquire_index_bucket(head, table, health, registry, script, place, held, a, b)
-        }
-        Scripted::ReleaseAll => release_all(desk, table, health, lists),
-        Scripted::AcquireIndexLocks => acquire_index_locks(desk, table, health, lists, grants),
-    }
+    foreign::environment_for_borrows(head, table, health, script, desk.place, held)
+}
+
+fn try_lock(desk: Desk, table: &mut [u32], health: &mut [u8], lists: &[u32], cell: u32) -> Played {
+    let head = desk.head;
+    let script = part(lists, SCRIPT, desk.script);
+    let held = part(lists, HELD, desk.held);
+    lock::try_lock(head, table, health, script, desk.place, held, cell)
+}
+
+fn other_mutex_preserves_leases(
+    desk: Desk,
+    table: &mut [u32],
+    health: &mut [u8],
+    lists: &[u32],
+    cell: u32,
+) -> Played {
+    let head = desk.head;
+    let script = part(lists, SCRIPT, desk.script);
+    let held = part(lists, HELD, desk.held);
+    lock::other_mutex_preserves_leases(head, table, health, script, desk.place, held, cell)
+}
+
+fn transactional_try_lock_bucket(
+    desk: Desk,
+    table: &mut [u32],
+    health: &mut [u8],
+    lists: &[u32],
+    binding: u32,
+    bucket: u32,
+) -> Played {
+    let head = desk.head;
+    let script = part(lists, SCRIPT, desk.script);
+    let held = part(lists, HELD, desk.held);
+    let registry = part(lists, REGISTRY, desk.registry);
+    bucket::transactional_try_lock_bucket(
+        head,
+        table,
+        health,
+        registry,
+        script,
+        desk.place,
+        held,
+        binding,
+        bucket,
+    )
+}
+
+fn acquire_index_bucket(
+    desk: Desk,
+    table: &mut [u32],
+    health: &mut [u8],
+    lists: &[u32],
+    binding: u32,
+    bucket: u32,
+) -> Played {
+    let head = desk.head;
+    let script = part(lists, SCRIPT, desk.script);
+    let held = part(lists, HELD, desk.held);
+    let registry = part(lists, REGISTRY, desk.registry);
+    bucket::acquire_index_bucket(
+        head,
+        table,
+        health,
+        registry,
+        script,
+        desk.place,
+        held,
+        binding,
+        bucket,
+    )
 }
 
 fn release_all(desk: Desk, table: &mut [u32], health: &mut [u8], lists: &[u32]) -> Played {
@@ -173,6 +220,35 @@ fn acquire_index_locks(
         keys,
         &mut grants[..n],
     )
+}
+
+fn scripted_reply(
+    desk: Desk,
+    call: Scripted,
+    table: &mut [u32],
+    health: &mut [u8],
+    lists: &[u32],
+    grants: &mut [u32],
+    a: u32,
+    b: u32,
+) -> Played {
+    match call {
+        Scripted::Environment => environment(desk, table, health, lists),
+        Scripted::EnvironmentForBorrows => environment_for_borrows(desk, table, health, lists),
+        Scripted::TryLock => try_lock(desk, table, health, lists, a),
+        Scripted::OtherMutex => other_mutex_preserves_leases(desk, table, health, lists, a),
+        Scripted::TransactionalTryLock => transactional_try_lock_bucket(
+            desk,
+            table,
+            health,
+            lists,
+            a,
+            b,
+        ),
+        Scripted::AcquireIndexBucket => acquire_index_bucket(desk, table, health, lists, a, b),
+        Scripted::ReleaseAll => release_all(desk, table, health, lists),
+        Scripted::AcquireIndexLocks => acquire_index_locks(desk, table, health, lists, grants),
+    }
 }
 
 pub fn scripted_call(

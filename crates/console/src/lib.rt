@@ -4,10 +4,10 @@ use desk::CELLS;
 use desk::COUNTS;
 use desk::Desk;
 use desk::List;
-use desk::Told;
 use desk::first_desk;
 use desk::start_of;
 use desk::verbs::Scripted;
+use desk::verbs::Small;
 use desk::verbs::Verb;
 use desk::verbs::fits;
 use desk::verbs::verb_of;
@@ -123,17 +123,11 @@ fn member(desk: Desk, line: &[u8], at: usize, n: usize, lists: &mut [u32]) -> De
 
 // ---- one line
 
-fn tell(told: Told, out: &mut [u8], used: usize) -> Answered {
-    let desk = told.desk;
-    let n = say::told(told, out, used);
-    Answered { desk, used: n }
-}
-
 fn quiet(desk: Desk, used: usize) -> Answered {
     Answered { desk, used }
 }
 
-// A line that changes the RAM or the lists, and prints nothing.
+// What a line changes of the desk, the RAM and the lists before anything is printed: nothing, where it makes a call.
 fn change(
     desk: Desk,
     verb: Verb,
@@ -210,6 +204,65 @@ fn crew(
     quiet(desk.with_head(after), n)
 }
 
+fn prepare(
+    desk: Desk,
+    got: Numbers,
+    table: &mut [u32],
+    health: &mut [u8],
+    out: &mut [u8],
+    used: usize,
+) -> Answered {
+    let told = ask::prepare(desk, table, health, got.a, got.b, got.c);
+    let after = told.desk;
+    let n = say::told(told, out, used);
+    quiet(after, n)
+}
+
+// A call without a script.
+fn small(
+    desk: Desk,
+    call: Small,
+    got: Numbers,
+    table: &mut [u32],
+    lists: &[u32],
+    out: &mut [u8],
+    used: usize,
+) -> Answered {
+    let told = ask::small_call(desk, call, table, lists, got.a, got.b);
+    let after = told.desk;
+    let n = say::told(told, out, used);
+    quiet(after, n)
+}
+
+fn show(desk: Desk, table: &[u32], health: &[u8], out: &mut [u8], used: usize) -> Answered {
+    let n = say::show(desk, table, health, out, used);
+    quiet(desk, n)
+}
+
+// A line that is understood, and prints.
+fn answer(
+    desk: Desk,
+    verb: Verb,
+    got: Numbers,
+    table: &mut [u32],
+    health: &mut [u8],
+    lists: &[u32],
+    grants: &mut [u32],
+    out: &mut [u8],
+    used: usize,
+) -> Answered {
+    match verb {
+        Verb::Show => show(desk, table, health, out, used),
+        Verb::Prepare => prepare(desk, got, table, health, out, used),
+        Verb::Small(call) => small(desk, call, got, table, lists, out, used),
+        Verb::Scripted(call) => {
+            scripted(desk, call, got, table, health, lists, grants, out, used)
+        }
+        Verb::Crew => crew(desk, table, health, lists, out, used),
+        _ => quiet(desk, used),
+    }
+}
+
 // A line that is understood.
 fn obey(
     desk: Desk,
@@ -224,25 +277,8 @@ fn obey(
     out: &mut [u8],
     used: usize,
 ) -> Answered {
-    match verb {
-        Verb::Show => quiet(desk, say::show(desk, table, health, out, used)),
-        Verb::Prepare => tell(
-            ask::prepare(desk, table, health, got.a, got.b, got.c),
-            out,
-            used,
-        ),
-        Verb::Small(call) => tell(
-            ask::small_call(desk, call, table, lists, got.a, got.b),
-            out,
-            used,
-        ),
-        Verb::Scripted(call) => scripted(desk, call, got, table, health, lists, grants, out, used),
-        Verb::Crew => crew(desk, table, health, lists, out, used),
-        _ => quiet(
-            change(desk, verb, got, line, at, table, health, lists, grants),
-            used,
-        ),
-    }
+    let after = change(desk, verb, got, line, at, table, health, lists, grants);
+    answer(after, verb, got, table, health, lists, grants, out, used)
 }
 
 // A line that is neither empty nor a comment, the n-th.

@@ -14,32 +14,19 @@ use text::put_named;
 use text::put_word;
 ghost use Prim.Native.Nat.{_≤_};
 
-fn name_early(refusal: Refusal, out: &mut [u8], used: usize) -> usize {
-    match refusal {
-        Refusal::BadShape => put(out, used, b"BadShape"),
-        Refusal::BadScript => put(out, used, b"BadScript"),
-        Refusal::BadHeld(_) => put(out, used, b"BadHeld"),
-        Refusal::TooMany => put(out, used, b"TooMany"),
-        Refusal::BadBinding(_) => put(out, used, b"BadBinding"),
-        Refusal::BadHeader(_) => put(out, used, b"BadHeader"),
-        Refusal::Poisoned(_) => put(out, used, b"Poisoned"),
-        Refusal::InvalidBucket(_) => put(out, used, b"InvalidBucket"),
-        Refusal::Damaged(_) => put(out, used, b"Damaged"),
-        Refusal::SerialsSpent(_) => put(out, used, b"SerialsSpent"),
-        Refusal::SerializationFailure => put(out, used, b"SerializationFailure"),
-        Refusal::NotHeld(_) => put(out, used, b"NotHeld"),
-        Refusal::Protected => put(out, used, b"Protected"),
-        Refusal::Repeated(_) => put(out, used, b"Repeated"),
-        Refusal::BadCrew(_) => put(out, used, b"BadCrew"),
-    }
+// The names of document 01's table, in the order of their numbers.
+fn name(number: u32, out: &mut [u8], used: usize) -> usize {
+    let names =
+        b"BadShape BadScript BadHeld TooMany BadBinding BadHeader Poisoned InvalidBucket Damaged SerialsSpent SerializationFailure NotHeld Protected Repeated BadCrew";
+    text::put_nth(out, used, names, number)
 }
 
 // `refused NUMBER NAME CARRIES`.
 fn refused(refusal: Refusal, out: &mut [u8], used: usize) -> usize {
-    let a = put_named(out, used, b"refused ", refusal.number() as usize);
-    let b = put(out, a, b" ");
-    let c = name_early(refusal, out, b);
-    put_named(out, c, b" ", refusal.carried())
+    let number = refusal.number();
+    let a = put_word(out, used, b"refused ", number);
+    let b = name(number, out, a);
+    put_named(out, b, b" ", refusal.carried())
 }
 
 fn refused_at(refusal: Refusal, position: usize, out: &mut [u8], used: usize) -> usize {
@@ -52,36 +39,61 @@ fn granted(lease: Lease, out: &mut [u8], used: usize) -> usize {
     put_word(out, a, b" ", lease.serial)
 }
 
+fn done(out: &mut [u8], used: usize) -> usize {
+    put(out, used, b"done")
+}
+
+fn cell(cell: u32, out: &mut [u8], used: usize) -> usize {
+    put_word(out, used, b"cell ", cell)
+}
+
+fn all_granted(out: &mut [u8], used: usize) -> usize {
+    put(out, used, b"granted")
+}
+
+fn busy(out: &mut [u8], used: usize) -> usize {
+    put(out, used, b"busy")
+}
+
 fn answer(answer: Answer, out: &mut [u8], used: usize) -> usize {
     match answer {
-        Answer::Done => put(out, used, b"done"),
-        Answer::Cell(cell) => put_word(out, used, b"cell ", cell),
+        Answer::Done => done(out, used),
+        Answer::Cell(at) => cell(at, out, used),
         Answer::Granted(lease) => granted(lease, out, used),
-        Answer::AllGranted => put(out, used, b"granted"),
-        Answer::Busy => put(out, used, b"busy"),
+        Answer::AllGranted => all_granted(out, used),
+        Answer::Busy => busy(out, used),
         Answer::Refused(refusal) => refused(refusal, out, used),
         Answer::RefusedAt(refusal, position) => refused_at(refusal, position, out, used),
     }
 }
 
+fn line_feed(out: &mut [u8], used: usize) -> usize {
+    put(out, used, b"\n")
+}
+
+// The four counts end the line.
 fn counts(counts: Counts, out: &mut [u8], used: usize) -> usize {
     let a = put_named(out, used, b" attempts ", counts.attempts);
     let b = put_named(out, a, b" boundaries ", counts.boundaries);
     let c = put_named(out, b, b" yields ", counts.yields);
-    put_named(out, c, b" dropped ", counts.dropped)
+    let d = put_named(out, c, b" dropped ", counts.dropped);
+    line_feed(out, d)
+}
+
+fn next_and_place(desk: Desk, out: &mut [u8], used: usize) -> usize {
+    let head = desk.head;
+    let a = put_word(out, used, b" next ", head.next);
+    put_named(out, a, b" place ", desk.place)
 }
 
 // The line of a call.
 pub fn told(told: Told, out: &mut [u8], used: usize) -> usize {
     let desk = told.desk;
-    let head = desk.head;
     let said = told.answer;
     let counted = told.counts;
     let a = answer(said, out, used);
-    let b = put_word(out, a, b" next ", head.next);
-    let c = put_named(out, b, b" place ", desk.place);
-    let d = counts(counted, out, c);
-    put(out, d, b"\n")
+    let b = next_and_place(desk, out, a);
+    counts(counted, out, b)
 }
 
 // The grant buffer's line.
@@ -93,14 +105,14 @@ pub fn grants_line(n: usize, grants: &[u32], out: &mut [u8], used: usize) -> usi
         at = put_word(out, at, b" ", grants[i]);
         i += 1;
     }
-    put(out, at, b"\n")
+    line_feed(out, at)
 }
 
 fn member_line(m: usize, taken: usize, released: usize, out: &mut [u8], used: usize) -> usize {
     let a = put_named(out, used, b"member ", m);
     let b = put_named(out, a, b" taken ", taken);
     let c = put_named(out, b, b" released ", released);
-    put(out, c, b"\n")
+    line_feed(out, c)
 }
 
 // n, or sixteen where that is less.
@@ -138,7 +150,7 @@ fn crew_done(members: usize, reply: CrewReply, out: &mut [u8], used: usize) -> u
 fn crew_refused(refusal: Refusal, head: Head, out: &mut [u8], used: usize) -> usize {
     let a = refused(refusal, out, used);
     let b = put_word(out, a, b" next ", head.next);
-    put(out, b, b"\n")
+    line_feed(out, b)
 }
 
 // The crew's lines.
@@ -157,7 +169,7 @@ fn head_line(head: Head, out: &mut [u8], used: usize) -> usize {
     let a = put_word(out, used, b"head ", head.headers);
     let b = put_word(out, a, b" ", head.buckets);
     let c = put_word(out, b, b" ", head.next);
-    put(out, c, b"\n")
+    line_feed(out, c)
 }
 
 fn cell_line(
@@ -179,7 +191,7 @@ fn cell_line(
     let b = put_word(out, a, b" ", bit);
     let c = put_word(out, b, b" ", owner);
     let d = put_word(out, c, b" ", waiters);
-    put(out, d, b"\n")
+    line_feed(out, d)
 }
 
 fn cell_lines(words: usize, table: &[u32], out: &mut [u8], used: usize) -> usize {
@@ -199,7 +211,7 @@ fn byte_line(i: usize, byte: u8, out: &mut [u8], used: usize) -> usize {
     }
     let a = put_named(out, used, b"health ", i);
     let b = put_named(out, a, b" ", byte as usize);
-    put(out, b, b"\n")
+    line_feed(out, b)
 }
 
 fn byte_lines(bytes: usize, health: &[u8], out: &mut [u8], used: usize) -> usize {

@@ -269,3 +269,28 @@ pub fn put_named(out: &mut [u8], used: usize, name: &[u8], n: usize) -> usize {
 pub fn put_word(out: &mut [u8], used: usize, name: &[u8], n: u32) -> usize {
     put_named(out, used, name, n as usize)
 }
+
+// Where the word behind the one at `at` begins, or the end.
+fn next_word(words: &[u8], at: usize) -> usize
+    requires { ⌜ at ≤ length (now words) ⌝ }
+    ensures { λ r. ⌜ r ≤ length (now (words .entry)) ⌝ }
+{
+    let end = end_of(words, at, 32);
+    if end < words.len() {
+        return end + 1;
+    }
+    end
+}
+
+// Puts the n-th of these words, counted from 1, with a space in front.
+pub fn put_nth(out: &mut [u8], used: usize, words: &[u8], n: u32) -> usize {
+    let mut at = 0;
+    let mut i = 1;
+    while i < n {
+        at = next_word(words, at);
+        i += 1;
+    }
+    let end = end_of(words, at, 32);
+    let spaced = put(out, used, b" ");
+    put(out, spaced, &words[at..end])
+}
