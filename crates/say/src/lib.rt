@@ -10,9 +10,10 @@ use model::Head;
 use model::Lease;
 use model::Refusal;
 use text::put;
-use text::put_named;
-use text::put_word;
+use text::put_form;
 ghost use Prim.Native.Nat.{_≤_};
+
+// ---- the line of a call
 
 // The names of document 01's table, in the order of their numbers.
 fn name(number: u32, out: &mut [u8], used: usize) -> usize {
@@ -24,27 +25,32 @@ fn name(number: u32, out: &mut [u8], used: usize) -> usize {
 // `refused NUMBER NAME CARRIES`.
 fn refused(refusal: Refusal, out: &mut [u8], used: usize) -> usize {
     let number = refusal.number();
-    let a = put_word(out, used, b"refused ", number);
+    let a = number_after(b"refused #", number as usize, out, used);
     let b = name(number, out, a);
-    put_named(out, b, b" ", refusal.carried())
+    number_after(b" #", refusal.carried(), out, b)
+}
+
+fn number_after(form: &[u8], number: usize, out: &mut [u8], used: usize) -> usize {
+    let values = [number];
+    put_form(out, used, form, &values)
 }
 
 fn refused_at(refusal: Refusal, position: usize, out: &mut [u8], used: usize) -> usize {
     let a = refused(refusal, out, used);
-    put_named(out, a, b" at ", position)
+    number_after(b" at #", position, out, a)
 }
 
 fn granted(lease: Lease, out: &mut [u8], used: usize) -> usize {
-    let a = put_word(out, used, b"granted ", lease.cell);
-    put_word(out, a, b" ", lease.serial)
+    let values = [lease.cell as usize, lease.serial as usize];
+    put_form(out, used, b"granted # #", &values)
+}
+
+fn cell(cell: u32, out: &mut [u8], used: usize) -> usize {
+    number_after(b"cell #", cell as usize, out, used)
 }
 
 fn done(out: &mut [u8], used: usize) -> usize {
     put(out, used, b"done")
-}
-
-fn cell(cell: u32, out: &mut [u8], used: usize) -> usize {
-    put_word(out, used, b"cell ", cell)
 }
 
 fn all_granted(out: &mut [u8], used: usize) -> usize {
@@ -67,33 +73,34 @@ fn answer(answer: Answer, out: &mut [u8], used: usize) -> usize {
     }
 }
 
-fn line_feed(out: &mut [u8], used: usize) -> usize {
-    put(out, used, b"\n")
+fn rest(next: u32, place: usize, counts: Counts, out: &mut [u8], used: usize) -> usize {
+    let values = [
+        next as usize,
+        place,
+        counts.attempts,
+        counts.boundaries,
+        counts.yields,
+        counts.dropped,
+    ];
+    let form = b" next # place # attempts # boundaries # yields # dropped #\n";
+    put_form(out, used, form, &values)
 }
 
-// The four counts end the line.
-fn counts(counts: Counts, out: &mut [u8], used: usize) -> usize {
-    let a = put_named(out, used, b" attempts ", counts.attempts);
-    let b = put_named(out, a, b" boundaries ", counts.boundaries);
-    let c = put_named(out, b, b" yields ", counts.yields);
-    let d = put_named(out, c, b" dropped ", counts.dropped);
-    line_feed(out, d)
-}
-
-fn next_and_place(desk: Desk, out: &mut [u8], used: usize) -> usize {
-    let head = desk.head;
-    let a = put_word(out, used, b" next ", head.next);
-    put_named(out, a, b" place ", desk.place)
-}
-
-// The line of a call.
 pub fn told(told: Told, out: &mut [u8], used: usize) -> usize {
     let desk = told.desk;
+    let head = desk.head;
     let said = told.answer;
-    let counted = told.counts;
+    let counts = told.counts;
     let a = answer(said, out, used);
-    let b = next_and_place(desk, out, a);
-    counts(counted, out, b)
+    rest(head.next, desk.place, counts, out, a)
+}
+
+fn word_after(word: u32, out: &mut [u8], used: usize) -> usize {
+    number_after(b" #", word as usize, out, used)
+}
+
+fn line_feed(out: &mut [u8], used: usize) -> usize {
+    put(out, used, b"\n")
 }
 
 // The grant buffer's line.
@@ -102,17 +109,17 @@ pub fn grants_line(n: usize, grants: &[u32], out: &mut [u8], used: usize) -> usi
     let most = within(n, grants);
     let mut i = 0;
     while i < most {
-        at = put_word(out, at, b" ", grants[i]);
+        at = word_after(grants[i], out, at);
         i += 1;
     }
     line_feed(out, at)
 }
 
+// ---- the crew's lines
+
 fn member_line(m: usize, taken: usize, released: usize, out: &mut [u8], used: usize) -> usize {
-    let a = put_named(out, used, b"member ", m);
-    let b = put_named(out, a, b" taken ", taken);
-    let c = put_named(out, b, b" released ", released);
-    line_feed(out, c)
+    let values = [m, taken, released];
+    put_form(out, used, b"member # taken # released #\n", &values)
 }
 
 // n, or sixteen where that is less.
@@ -138,38 +145,50 @@ fn member_lines(members: usize, reply: CrewReply, out: &mut [u8], used: usize) -
     at
 }
 
-fn crew_done(members: usize, reply: CrewReply, out: &mut [u8], used: usize) -> usize {
-    let head = reply.head;
-    let a = put_named(out, used, b"crew moving ", reply.moving);
-    let b = put_named(out, a, b" idle ", reply.idle);
-    let c = put_word(out, b, b" next ", head.next);
-    let d = put(out, c, b"\n");
-    member_lines(members, reply, out, d)
+fn crew_line(moving: usize, idle: usize, next: u32, out: &mut [u8], used: usize) -> usize {
+    let values = [moving, idle, next as usize];
+    put_form(out, used, b"crew moving # idle # next #\n", &values)
 }
 
-fn crew_refused(refusal: Refusal, head: Head, out: &mut [u8], used: usize) -> usize {
+fn crew_refused(refusal: Refusal, next: u32, out: &mut [u8], used: usize) -> usize {
     let a = refused(refusal, out, used);
-    let b = put_word(out, a, b" next ", head.next);
-    line_feed(out, b)
+    number_after(b" next #\n", next as usize, out, a)
 }
 
-// The crew's lines.
+fn crew_done(members: usize, reply: CrewReply, next: u32, out: &mut [u8], used: usize) -> usize {
+    let a = crew_line(reply.moving, reply.idle, next, out, used);
+    member_lines(members, reply, out, a)
+}
+
 pub fn crew_lines(members: usize, reply: CrewReply, out: &mut [u8], used: usize) -> usize {
     let head = reply.head;
+    let next = head.next;
     let said = reply.answer;
     match said {
-        Answer::Refused(refusal) => crew_refused(refusal, head, out, used),
-        _ => crew_done(members, reply, out, used),
+        Answer::Refused(refusal) => crew_refused(refusal, next, out, used),
+        _ => crew_done(members, reply, next, out, used),
     }
 }
 
 // ---- show
 
 fn head_line(head: Head, out: &mut [u8], used: usize) -> usize {
-    let a = put_word(out, used, b"head ", head.headers);
-    let b = put_word(out, a, b" ", head.buckets);
-    let c = put_word(out, b, b" ", head.next);
-    line_feed(out, c)
+    let values = [
+        head.headers as usize,
+        head.buckets as usize,
+        head.next as usize,
+    ];
+    put_form(out, used, b"head # # #\n", &values)
+}
+
+fn blank(bit: u32, owner: u32, waiters: u32) -> bool {
+    if bit == 0 {
+        if owner == 0 {
+            return waiters == 0;
+        }
+        return false;
+    }
+    false
 }
 
 fn cell_line(
@@ -180,18 +199,11 @@ fn cell_line(
     out: &mut [u8],
     used: usize,
 ) -> usize {
-    if bit == 0 {
-        if owner == 0 {
-            if waiters == 0 {
-                return used;
-            }
-        }
+    if blank(bit, owner, waiters) {
+        return used;
     }
-    let a = put_named(out, used, b"cell ", cell);
-    let b = put_word(out, a, b" ", bit);
-    let c = put_word(out, b, b" ", owner);
-    let d = put_word(out, c, b" ", waiters);
-    line_feed(out, d)
+    let values = [cell, bit as usize, owner as usize, waiters as usize];
+    put_form(out, used, b"cell # # # #\n", &values)
 }
 
 fn cell_lines(words: usize, table: &[u32], out: &mut [u8], used: usize) -> usize {
@@ -209,9 +221,8 @@ fn byte_line(i: usize, byte: u8, out: &mut [u8], used: usize) -> usize {
     if byte == 0 {
         return used;
     }
-    let a = put_named(out, used, b"health ", i);
-    let b = put_named(out, a, b" ", byte as usize);
-    line_feed(out, b)
+    let values = [i, byte as usize];
+    put_form(out, used, b"health # #\n", &values)
 }
 
 fn byte_lines(bytes: usize, health: &[u8], out: &mut [u8], used: usize) -> usize {
@@ -236,6 +247,5 @@ pub fn show(desk: Desk, table: &[u32], health: &[u8], out: &mut [u8], used: usiz
 }
 
 pub fn not_understood(line: usize, out: &mut [u8], used: usize) -> usize {
-    let a = put_named(out, used, b"line ", line);
-    put(out, a, b": not understood\n")
+    number_after(b"line #: not understood\n", line, out, used)
 }

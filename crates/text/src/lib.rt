@@ -260,14 +260,35 @@ pub fn put_number(out: &mut [u8], used: usize, n: usize) -> usize {
     put(out, used, &digits[..k])
 }
 
-// Puts a word and a number.
-pub fn put_named(out: &mut [u8], used: usize, name: &[u8], n: usize) -> usize {
-    let behind = put(out, used, name);
-    put_number(out, behind, n)
+fn put_byte(out: &mut [u8], used: usize, byte: u8) -> usize {
+    let one = [byte];
+    put(out, used, &one)
 }
 
-pub fn put_word(out: &mut [u8], used: usize, name: &[u8], n: u32) -> usize {
-    put_named(out, used, name, n as usize)
+// The k-th value, in decimal.
+fn put_value(out: &mut [u8], used: usize, values: &[usize], k: usize) -> usize {
+    if k < values.len() {
+        return put_number(out, used, values[k]);
+    }
+    used
+}
+
+// Puts a form: its bytes as they are, but for each `#` the next value.
+pub fn put_form(out: &mut [u8], used: usize, form: &[u8], values: &[usize]) -> usize {
+    let mut at = used;
+    let mut k = 0;
+    let mut i = 0;
+    while i < form.len() {
+        let byte = form[i];
+        i += 1;
+        if byte == 35 {
+            at = put_value(out, at, values, k);
+            k += 1;
+            continue;
+        }
+        at = put_byte(out, at, byte);
+    }
+    at
 }
 
 // Where the word behind the one at `at` begins, or the end.

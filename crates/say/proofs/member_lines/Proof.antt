@@ -16,51 +16,51 @@ Inv-loop members out₀ used taken released most at₀ m₀ out at m = (length o
 abbrev μ-loop : tie.MeasureT-loop
 μ-loop members out₀ used taken released most at₀ m₀ out at m = most - m
 
--- src/say.rt:119:9
+-- src/lib.rt:138:9
 sixteen-requires : tie.Need-sixteen-requires Inv-loop μ-loop
 sixteen-requires c κs = search needs
 
--- src/say.rt:122:5
+-- src/lib.rt:141:5
 loop-holds : tie.Need-loop-holds Inv-loop μ-loop
 loop-holds c = search needs
 
--- src/say.rt:123:29
+-- src/lib.rt:142:29
 mul-member-line : tie.Need-mul-member-line Inv-loop μ-loop
 mul-member-line c = search needs
 
--- src/say.rt:123:29
+-- src/lib.rt:142:29
 array-read-member-line : tie.Need-array-read-member-line Inv-loop μ-loop
 array-read-member-line c = search needs
 
--- src/say.rt:123:39
+-- src/lib.rt:142:39
 mul-member-line-2 : tie.Need-mul-member-line-2 Inv-loop μ-loop
 mul-member-line-2 c = search needs
 
--- src/say.rt:123:39
+-- src/lib.rt:142:39
 array-read-member-line-2 : tie.Need-array-read-member-line-2 Inv-loop μ-loop
 array-read-member-line-2 c = search needs
 
--- src/say.rt:123:9
+-- src/lib.rt:142:9
 member-line-requires : tie.Need-member-line-requires Inv-loop μ-loop
 member-line-requires c κs = search needs
 
--- src/say.rt:124:9
+-- src/lib.rt:143:9
 add-m : tie.Need-add-m Inv-loop μ-loop
 add-m c = search needs
 
--- src/say.rt:122:5
+-- src/lib.rt:141:5
 loop-less : tie.Need-loop-less Inv-loop μ-loop
 loop-less c = search needs
 
--- src/say.rt:122:5
+-- src/lib.rt:141:5
 loop-again : tie.Need-loop-again Inv-loop μ-loop
 loop-again c = search needs
 
--- src/say.rt:116:1
+-- src/lib.rt:135:1
 same-length : tie.Need-same-length Inv-loop μ-loop
 same-length c = search needs
 
--- src/say.rt:116:1
+-- src/lib.rt:135:1
 returns : tie.Need-returns Inv-loop μ-loop
 returns c = search needs
 
