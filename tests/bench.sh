@@ -43,31 +43,33 @@ replay() {
     compare "$1" "$3" "the plain program" "$room/plain"
 }
 
-# the page's sessions, as 1.in and 1.out, 2.in and 2.out, ..; prints what is wrong with its fences
+# sessions_of PAGE: its sessions, as 1.in and 1.out, 2.in and 2.out, ..; prints what is wrong with its fences
 sessions_of() {
     awk -v room="$room" -v page="$1" '
         function bad(what) { print page ", line " NR ": " what }
-        function open_file(end) { file = room "/" count end; printf "" > file }
-        file != "" && /^```$/ { close(file); file = ""; inside = 0; next }
-        file != "" { print > file; next }
-        inside && /^```$/ { inside = 0; next }
-        inside { next }
-        /^```console-in$/ { if (waiting) bad("the console-in before has no console-out"); count++; waiting = 1; inside = 1; open_file(".in"); next }
-        /^```console-out$/ { if (!waiting) { bad("console-out without console-in"); count++; open_file(".in"); close(file) } waiting = 0; inside = 1; open_file(".out"); next }
+        function block(end) { file = room "/" count end; printf "" > file; inside = 1 }
+        inside && /^```$/ { if (file != "") close(file); file = ""; inside = 0; next }
+        inside { if (file != "") print > file; next }
+        /^```console-in$/ { if (waiting) bad("the console-in before it has no console-out"); waiting = 1; count++; block(".in"); next }
+        /^```console-out$/ { if (!waiting) bad("console-out without console-in"); waiting = 0; block(".out"); next }
         /^```/ { inside = 1 }
-        END { if (inside) bad("a block without end"); if (waiting) { bad("console-in without console-out"); open_file(".out") } }
+        END { if (inside) bad("a block has no end"); if (waiting) bad("the last console-in has no console-out") }
     ' "$1"
 }
 
-faults=$(sessions_of "$page")
-[ -z "$faults" ] || complain "$faults"
 sessions=0 lines=0
-while [ -e "$room/$((sessions + 1)).in" ]; do
-    sessions=$((sessions + 1))
-    replay "$page, session $sessions" "$room/$sessions.in" "$room/$sessions.out"
-    lines=$((lines + $(wc -l <"$room/$sessions.out")))
-done
-[ "$sessions" -gt 0 ] || complain "$page has no session"
+if [ ! -e "$page" ]; then
+    complain "there is no $page"
+elif faults=$(sessions_of "$page") && [ -n "$faults" ]; then
+    complain "$faults"
+else
+    while [ -e "$room/$((sessions + 1)).in" ]; do
+        sessions=$((sessions + 1))
+        replay "$page, session $sessions" "$room/$sessions.in" "$room/$sessions.out"
+        lines=$((lines + $(wc -l <"$room/$sessions.out")))
+    done
+    [ "$sessions" -gt 0 ] || complain "$page has no session"
+fi
 [ "$wrong" -gt 0 ] || echo "console page: $sessions sessions, $lines lines, as expected"
 
 files=0 lines=0
