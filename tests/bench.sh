@@ -1,7 +1,7 @@
 #!/usr/bin/env bash
 # Plays the case files of bench/ through the player and through the plain program, and compares what each prints with the
-# .out file beside it, byte by byte. Before that it does the same with the sessions of docs/CONSOLE.md: a block fenced as
-# console-in, and behind it one fenced as console-out. PLAYER names another program instead of the player. Ends with 1 if
+# .out file beside it, byte by byte. Before that it does the same with the sessions of README.md and docs/CONSOLE.md: a block
+# fenced as console-in, and behind it one fenced as console-out. PLAYER names another program instead of the player. Ends with 1 if
 # anything is not as expected.
 set -euo pipefail
 cd "$(dirname "$0")/.."
@@ -11,7 +11,6 @@ build_plain
 need_player
 room=$(mktemp -d)
 trap 'rm -rf "$room"' EXIT
-page=docs/CONSOLE.md
 
 wrong=0
 
@@ -57,20 +56,23 @@ sessions_of() {
     ' "$1"
 }
 
-sessions=0 lines=0
-if [ ! -e "$page" ]; then
-    complain "there is no $page"
-elif faults=$(sessions_of "$page") && [ -n "$faults" ]; then
-    complain "$faults"
-else
-    while [ -e "$room/$((sessions + 1)).in" ]; do
-        sessions=$((sessions + 1))
-        replay "$page, session $sessions" "$room/$sessions.in" "$room/$sessions.out"
-        lines=$((lines + $(wc -l <"$room/$sessions.out")))
-    done
-    [ "$sessions" -gt 0 ] || complain "$page has no session"
-fi
-[ "$wrong" -gt 0 ] || echo "console page: $sessions sessions, $lines lines, as expected"
+for page in README.md docs/CONSOLE.md; do
+    sessions=0 lines=0
+    rm -f "$room"/*.in "$room"/*.out
+    if [ ! -e "$page" ]; then
+        complain "there is no $page"
+    elif faults=$(sessions_of "$page") && [ -n "$faults" ]; then
+        complain "$faults"
+    else
+        while [ -e "$room/$((sessions + 1)).in" ]; do
+            sessions=$((sessions + 1))
+            replay "$page, session $sessions" "$room/$sessions.in" "$room/$sessions.out"
+            lines=$((lines + $(wc -l <"$room/$sessions.out")))
+        done
+        [ "$sessions" -gt 0 ] || complain "$page has no session"
+    fi
+    [ "$wrong" -gt 0 ] || echo "$page: $sessions sessions, $lines lines, as expected"
+done
 
 files=0 lines=0
 for input in bench/*.txt; do
