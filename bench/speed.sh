@@ -14,6 +14,7 @@ cases="refusal 100
 script 50
 crew 50
 try_lock 20000
+bucket 20000
 locks 2000
 prepare 1000"
 
@@ -152,6 +153,7 @@ $(date -u +%Y-%m-%d), $(uname -m), $("${rustc[@]}" --version), $(rt version)
 - script: the same with a script of 32,768 steps, played to its end: set the waiters of another cell, set, end of boundary.
 - crew: \`crew\` of 16 members with the same 16 cells, 65,536 turns in turn. The \`prepare\` before each is subtracted.
 - try_lock: \`try_lock\` of a free cell, no script, and \`drop_lease\` of it: two calls.
+- bucket: \`acquire_index_bucket\` of a free key, no script, and \`drop_lease\` of it: two calls.
 - locks: \`acquire_index_locks\` of 16 free keys, no script, and \`release_all\` of them: two calls.
 - prepare: \`prepare\` of 64 x 64 cells, 12,288 words.
 END

@@ -180,6 +180,29 @@ impl Case for TryLock {
     }
 }
 
+/// `acquire_index_bucket` of a free key, no script, and `drop_lease` of what it granted at once. Serials go on.
+struct Bucket;
+
+impl Case for Bucket {
+    fn desk<S: Side>() -> Desk {
+        bench_arena::<S>()
+    }
+
+    #[inline(always)]
+    fn run<S: Side>(desk: &mut Desk, watch: &mut impl Watch) {
+        let desk = desk.hidden();
+        let (next, granted) = S::acquire_index_bucket(desk, |r| {
+            watch.see(r, S::played_words);
+            (S::next(r), S::granted(r))
+        });
+        let (cell, serial) = granted.expect("the cell is free");
+        desk.head.next = next;
+        desk.cell = cell;
+        desk.serial = serial;
+        S::drop_lease(desk.hidden(), |r| watch.see(r, S::reply_words));
+    }
+}
+
 /// `prepare` of the largest arena: 64 x 64 cells, 12,288 words.
 struct Prepare;
 
@@ -279,8 +302,9 @@ fn on<S: Side>(case: &str, how: &[&str]) -> Option<String> {
         "crew" => asked::<Crew, S>(how),
         "crew-prepare" => asked::<CrewPrepare, S>(how),
         "try_lock" => asked::<TryLock, S>(how),
-        "prepare" => asked::<Prepare, S>(how),
+        "bucket" => asked::<Bucket, S>(how),
         "locks" => asked::<Locks, S>(how),
+        "prepare" => asked::<Prepare, S>(how),
         _ => None,
     }
 }
@@ -300,7 +324,7 @@ fn main() -> ExitCode {
         }
         None => {
             eprintln!("speed proved|plain CASE REPEATS [each], or speed proved|plain CASE time");
-            eprintln!("CASE: refusal script crew crew-prepare try_lock prepare locks");
+            eprintln!("CASE: refusal script crew crew-prepare try_lock bucket locks prepare");
             ExitCode::from(2)
         }
     }
