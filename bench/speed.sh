@@ -93,7 +93,7 @@ timed() {
         echo "- -"
         return
     fi
-    for round in 1 2 3 4 5; do
+    for round in 1 2 3 4 5 6 7 8 9 10; do
         for side in proved plain; do
             echo "$side $round $("$program" "$side" "$1" time)"
         done

@@ -280,7 +280,7 @@ fn time<C: Case, S: Side>() -> String {
         repeats *= 2;
     }
     let (start, mut best) = (Instant::now(), Duration::MAX);
-    while start.elapsed() < Duration::from_millis(400) {
+    while start.elapsed() < Duration::from_millis(200) {
         best = best.min(batch(repeats));
     }
     format!("{:.2}", best.as_nanos() as f64 / repeats as f64)
