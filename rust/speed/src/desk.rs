@@ -1,0 +1,55 @@
+//! What the calls are lent. Both sides get the same desk, and read their arguments from it.
+
+use std::hint::black_box;
+
+/// The head's three numbers.
+#[derive(Clone, Copy, Default)]
+pub struct Head {
+    pub headers: u32,
+    pub buckets: u32,
+    pub next: u32,
+}
+
+/// An arena and the arguments of one call on it.
+#[derive(Default)]
+pub struct Desk {
+    pub head: Head,
+    pub table: Vec<u32>,
+    pub health: Vec<u8>,
+    pub registry: Vec<u32>,
+    pub script: Vec<u32>,
+    pub held: Vec<u32>,
+    /// The cell of a call by cell, the key of a call by key, the lease to drop.
+    pub cell: u32,
+    pub binding: u32,
+    pub bucket: u32,
+    pub serial: u32,
+    /// Multi-lock's keys, and its leases.
+    pub keys: Vec<u32>,
+    pub grants: Vec<u32>,
+    /// The crew's.
+    pub counts: Vec<u32>,
+    pub cells: Vec<u32>,
+    pub turns: Vec<u32>,
+}
+
+impl Desk {
+    /// An arena that nobody has prepared.
+    pub fn new(headers: u32, buckets: u32) -> Desk {
+        Desk {
+            head: Head {
+                headers,
+                buckets,
+                next: 1,
+            },
+            table: vec![7; (3 * headers * buckets) as usize],
+            health: vec![7; headers as usize],
+            ..Desk::default()
+        }
+    }
+
+    /// The desk again, with nothing known about it: a call cannot be shortened by what the compiler sees here.
+    pub fn hidden(&mut self) -> &mut Desk {
+        black_box(self)
+    }
+}

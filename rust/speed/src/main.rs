@@ -1,0 +1,331 @@
+//! The proved library and plain Rust on the same cases. bench/speed.sh builds it, counts and times it, and prints the
+//! table.
+//!
+//! `speed SIDE CASE REPEATS` sets a case up, runs it REPEATS times and then once more, and prints a line made of that
+//! last run's replies and of all that was lent. The replies of the other runs are only kept from being optimised away.
+//! So what a run costs is what REPEATS cost above 0 repeats, divided by REPEATS.
+//!
+//! `speed SIDE CASE REPEATS each` makes the line of the replies of every run, and is not for measuring.
+//!
+//! `speed SIDE CASE time` prints nanoseconds a run: the best of many batches.
+//!
+//! SIDE is `proved` or `plain`. Both get the same arguments from the same desk, through the same loop.
+
+mod desk;
+mod plainly;
+mod proved;
+mod side;
+
+use desk::Desk;
+use plainly::Plain;
+use proved::Proved;
+use side::{Side, Words};
+use std::hint::black_box;
+use std::process::ExitCode;
+use std::time::{Duration, Instant};
+
+/// What becomes of the replies.
+trait Watch {
+    fn see<R>(&mut self, reply: &R, words: fn(&R) -> Words);
+}
+
+/// They are written to memory, and that is all.
+struct Blind;
+
+impl Watch for Blind {
+    #[inline(always)]
+    fn see<R>(&mut self, reply: &R, _words: fn(&R) -> Words) {
+        black_box(reply);
+    }
+}
+
+/// Their words go into a sum (FNV-1a, a word at a time), and the last ones are kept.
+struct Sum {
+    sum: u64,
+    last: Words,
+}
+
+impl Sum {
+    fn new() -> Sum {
+        Sum {
+            sum: 0xcbf2_9ce4_8422_2325,
+            last: Words::new(),
+        }
+    }
+
+    fn add(&mut self, words: impl IntoIterator<Item = impl Into<u64>>) {
+        for word in words {
+            self.sum = (self.sum ^ word.into()).wrapping_mul(0x0100_0000_01b3);
+        }
+    }
+}
+
+impl Watch for Sum {
+    fn see<R>(&mut self, reply: &R, words: fn(&R) -> Words) {
+        let words = words(reply);
+        self.add(words.iter().copied());
+        self.last = words;
+    }
+}
+
+/// A case: its desk, set up, and one run.
+trait Case {
+    fn desk<S: Side>() -> Desk;
+    fn run<S: Side>(desk: &mut Desk, watch: &mut impl Watch);
+}
+
+/// The prepared arena of document 01's bench cases.
+fn bench_arena<S: Side>() -> Desk {
+    let mut desk = Desk::new(2, 4);
+    desk.registry = vec![0, 1, 1];
+    desk.cell = 2;
+    desk.bucket = 2;
+    S::prepare(&mut desk, |_| ());
+    desk
+}
+
+/// The same, and the caller holds cell 2 with serial 1.
+fn held_arena<S: Side>() -> Desk {
+    let mut desk = bench_arena::<S>();
+    desk.head.next = S::acquire_index_bucket(&mut desk, S::next);
+    desk.held = vec![2, 1];
+    desk
+}
+
+/// `acquire_index_bucket` of a cell that is held, no script: 4,096 attempts, refusal 11. It changes nothing.
+struct Refused;
+
+impl Case for Refused {
+    fn desk<S: Side>() -> Desk {
+        held_arena::<S>()
+    }
+
+    #[inline(always)]
+    fn run<S: Side>(desk: &mut Desk, watch: &mut impl Watch) {
+        S::acquire_index_bucket(desk.hidden(), |r| watch.see(r, S::played_words));
+    }
+}
+
+/// The same with a script of 32,768 steps: set the waiters of another cell, set them again, end of boundary. It is
+/// played to its end from place 0.
+struct Scripted;
+
+impl Case for Scripted {
+    fn desk<S: Side>() -> Desk {
+        let mut desk = held_arena::<S>();
+        desk.script = [3, 5, 9, 3, 6, 1, 5, 0, 0].repeat(32_768 / 3 + 1);
+        desk.script.truncate(3 * 32_768);
+        desk
+    }
+
+    #[inline(always)]
+    fn run<S: Side>(desk: &mut Desk, watch: &mut impl Watch) {
+        S::acquire_index_bucket(desk.hidden(), |r| watch.see(r, S::played_words));
+    }
+}
+
+/// `prepare` of 16 x 16 cells, and the crew's 65,536 turns: 16 members, in turn, each with the same 16 cells.
+struct Crew;
+
+impl Case for Crew {
+    fn desk<S: Side>() -> Desk {
+        let mut desk = Desk::new(16, 16);
+        desk.counts = vec![16; 16];
+        desk.cells = (0..16).flat_map(|_| 0..16).map(|k| 17 * k).collect();
+        desk.turns = (0..65_536).map(|turn| turn % 16).collect();
+        desk
+    }
+
+    #[inline(always)]
+    fn run<S: Side>(desk: &mut Desk, watch: &mut impl Watch) {
+        S::prepare(desk.hidden(), |r| watch.see(r, S::reply_words));
+        S::crew(desk.hidden(), |r| watch.see(r, S::crew_words));
+    }
+}
+
+/// The `prepare` of the crew's case alone, to be subtracted from it.
+struct CrewPrepare;
+
+impl Case for CrewPrepare {
+    fn desk<S: Side>() -> Desk {
+        Crew::desk::<S>()
+    }
+
+    #[inline(always)]
+    fn run<S: Side>(desk: &mut Desk, watch: &mut impl Watch) {
+        S::prepare(desk.hidden(), |r| watch.see(r, S::reply_words));
+    }
+}
+
+/// `try_lock` of a free cell, no script, and `drop_lease` of what it granted. Serials go on.
+struct TryLock;
+
+impl Case for TryLock {
+    fn desk<S: Side>() -> Desk {
+        bench_arena::<S>()
+    }
+
+    #[inline(always)]
+    fn run<S: Side>(desk: &mut Desk, watch: &mut impl Watch) {
+        let desk = desk.hidden();
+        let (next, granted) = S::try_lock(desk, |r| {
+            watch.see(r, S::played_words);
+            (S::next(r), S::granted(r))
+        });
+        let (cell, serial) = granted.expect("the cell is free");
+        desk.head.next = next;
+        desk.cell = cell;
+        desk.serial = serial;
+        S::drop_lease(desk.hidden(), |r| watch.see(r, S::reply_words));
+    }
+}
+
+/// `acquire_index_bucket` of a free key, no script, and `drop_lease` of what it granted at once. Serials go on.
+struct Bucket;
+
+impl Case for Bucket {
+    fn desk<S: Side>() -> Desk {
+        bench_arena::<S>()
+    }
+
+    #[inline(always)]
+    fn run<S: Side>(desk: &mut Desk, watch: &mut impl Watch) {
+        let desk = desk.hidden();
+        let (next, granted) = S::acquire_index_bucket(desk, |r| {
+            watch.see(r, S::played_words);
+            (S::next(r), S::granted(r))
+        });
+        let (cell, serial) = granted.expect("the cell is free");
+        desk.head.next = next;
+        desk.cell = cell;
+        desk.serial = serial;
+        S::drop_lease(desk.hidden(), |r| watch.see(r, S::reply_words));
+    }
+}
+
+/// `prepare` of the largest arena: 64 x 64 cells, 12,288 words.
+struct Prepare;
+
+impl Case for Prepare {
+    fn desk<S: Side>() -> Desk {
+        Desk::new(64, 64)
+    }
+
+    #[inline(always)]
+    fn run<S: Side>(desk: &mut Desk, watch: &mut impl Watch) {
+        S::prepare(desk.hidden(), |r| watch.see(r, S::reply_words));
+    }
+}
+
+/// `acquire_index_locks` of 16 free keys, no script, and `release_all` of what it granted. Serials go on.
+struct Locks;
+
+impl Case for Locks {
+    fn desk<S: Side>() -> Desk {
+        let mut desk = Desk::new(16, 16);
+        desk.registry = (0..16).collect();
+        desk.keys = (0..16).flat_map(|key| [key, 15 - key]).collect();
+        desk.grants = vec![0; 32];
+        S::prepare(&mut desk, |_| ());
+        desk
+    }
+
+    #[inline(always)]
+    fn run<S: Side>(desk: &mut Desk, watch: &mut impl Watch) {
+        let desk = desk.hidden();
+        desk.head.next = S::acquire_index_locks(desk, |r| {
+            watch.see(r, S::played_words);
+            S::next(r)
+        });
+        S::release_all(desk.hidden(), |r| watch.see(r, S::played_words));
+    }
+}
+
+/// The measured loop, alike for both sides.
+#[inline(never)]
+fn repeat<C: Case, S: Side>(desk: &mut Desk, repeats: u64, watch: &mut impl Watch) {
+    for _ in 0..repeats {
+        C::run::<S>(desk, watch);
+    }
+}
+
+/// The line of a case: the last reply's words, and the sum of the replies and of all that was lent.
+fn line<C: Case, S: Side>(repeats: u64, each: bool) -> String {
+    let mut desk = C::desk::<S>();
+    let mut sum = Sum::new();
+    if each {
+        repeat::<C, S>(&mut desk, repeats, &mut sum);
+    } else {
+        repeat::<C, S>(&mut desk, repeats, &mut Blind);
+    }
+    repeat::<C, S>(&mut desk, 1, &mut sum);
+    sum.add([desk.head.headers, desk.head.buckets, desk.head.next]);
+    sum.add(desk.table);
+    sum.add(desk.health);
+    sum.add(desk.grants);
+    let last: Vec<String> = sum.last[..12].iter().map(u64::to_string).collect();
+    format!("{:016x} {}", sum.sum, last.join(" "))
+}
+
+/// Nanoseconds a run. Batches are of at least a fifth of a millisecond, so that many of them are not disturbed.
+fn time<C: Case, S: Side>() -> String {
+    let mut desk = C::desk::<S>();
+    let mut batch = |repeats| {
+        let start = Instant::now();
+        repeat::<C, S>(&mut desk, repeats, &mut Blind);
+        start.elapsed()
+    };
+    let mut repeats = 1;
+    while batch(repeats) < Duration::from_micros(200) {
+        repeats *= 2;
+    }
+    let (start, mut best) = (Instant::now(), Duration::MAX);
+    while start.elapsed() < Duration::from_millis(200) {
+        best = best.min(batch(repeats));
+    }
+    format!("{:.2}", best.as_nanos() as f64 / repeats as f64)
+}
+
+fn asked<C: Case, S: Side>(how: &[&str]) -> Option<String> {
+    match how {
+        ["time"] => Some(time::<C, S>()),
+        [repeats] => Some(line::<C, S>(repeats.parse().ok()?, false)),
+        [repeats, "each"] => Some(line::<C, S>(repeats.parse().ok()?, true)),
+        _ => None,
+    }
+}
+
+fn on<S: Side>(case: &str, how: &[&str]) -> Option<String> {
+    match case {
+        "refusal" => asked::<Refused, S>(how),
+        "script" => asked::<Scripted, S>(how),
+        "crew" => asked::<Crew, S>(how),
+        "crew-prepare" => asked::<CrewPrepare, S>(how),
+        "try_lock" => asked::<TryLock, S>(how),
+        "bucket" => asked::<Bucket, S>(how),
+        "locks" => asked::<Locks, S>(how),
+        "prepare" => asked::<Prepare, S>(how),
+        _ => None,
+    }
+}
+
+fn main() -> ExitCode {
+    let words: Vec<String> = std::env::args().skip(1).collect();
+    let words: Vec<&str> = words.iter().map(String::as_str).collect();
+    let said = match words[..] {
+        ["proved", case, ref how @ ..] => on::<Proved>(case, how),
+        ["plain", case, ref how @ ..] => on::<Plain>(case, how),
+        _ => None,
+    };
+    match said {
+        Some(line) => {
+            println!("{line}");
+            ExitCode::SUCCESS
+        }
+        None => {
+            eprintln!("speed proved|plain CASE REPEATS [each], or speed proved|plain CASE time");
+            eprintln!("CASE: refusal script crew crew-prepare try_lock bucket locks prepare");
+            ExitCode::from(2)
+        }
+    }
+}

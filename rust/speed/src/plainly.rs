@@ -1,0 +1,198 @@
+//! The plain side: plain::rules. Its replies are told in the library's words, so that the two can be compared.
+
+use crate::desk::Desk;
+use crate::side::{Side, Words};
+use plain::rules::{self, Answer, Counts, CrewReply, Head, Lease, Refusal, Reply, ScriptReply};
+
+pub struct Plain;
+
+#[inline(always)]
+fn head_of(desk: &Desk) -> Head {
+    Head {
+        headers: desk.head.headers,
+        buckets: desk.head.buckets,
+        next: desk.head.next,
+    }
+}
+
+fn refusal_words(kind: u64, refusal: Refusal, position: u64) -> [u64; 4] {
+    [
+        kind,
+        refusal.number().into(),
+        refusal.carries().into(),
+        position,
+    ]
+}
+
+fn answer_words(answer: Answer) -> [u64; 4] {
+    match answer {
+        Answer::Done => [0, 0, 0, 0],
+        Answer::Cell(cell) => [1, cell.into(), 0, 0],
+        Answer::Granted(lease) => [2, lease.cell.into(), lease.serial.into(), 0],
+        Answer::AllGranted => [3, 0, 0, 0],
+        Answer::Busy => [4, 0, 0, 0],
+        Answer::Refused(refusal) => refusal_words(5, refusal, 0),
+        Answer::RefusedAt(refusal, position) => refusal_words(6, refusal, position.into()),
+    }
+}
+
+fn words(head: Head, place: usize, counts: Counts, answer: Answer) -> Words {
+    let mut words = vec![
+        head.headers.into(),
+        head.buckets.into(),
+        head.next.into(),
+        place as u64,
+        counts.attempts.into(),
+        counts.boundaries.into(),
+        counts.yields.into(),
+        counts.dropped.into(),
+    ];
+    words.extend(answer_words(answer));
+    words
+}
+
+impl Side for Plain {
+    type Reply = Reply;
+    type Played = ScriptReply;
+    type Crew = CrewReply;
+
+    #[inline(always)]
+    fn prepare<T>(desk: &mut Desk, seen: impl FnOnce(&Reply) -> T) -> T {
+        let head = desk.head;
+        let reply = rules::prepare(
+            head.headers,
+            head.buckets,
+            1,
+            &mut desk.table,
+            &mut desk.health,
+        );
+        seen(&reply)
+    }
+
+    #[inline(always)]
+    fn drop_lease<T>(desk: &mut Desk, seen: impl FnOnce(&Reply) -> T) -> T {
+        let head = head_of(desk);
+        let lease = Lease {
+            cell: desk.cell,
+            serial: desk.serial,
+        };
+        let reply = rules::drop_lease(head, &mut desk.table, lease);
+        seen(&reply)
+    }
+
+    #[inline(always)]
+    fn try_lock<T>(desk: &mut Desk, seen: impl FnOnce(&ScriptReply) -> T) -> T {
+        let head = head_of(desk);
+        let reply = rules::try_lock(
+            head,
+            &mut desk.table,
+            &mut desk.health,
+            &desk.script,
+            0,
+            &desk.held,
+            desk.cell,
+        );
+        seen(&reply)
+    }
+
+    #[inline(always)]
+    fn acquire_index_bucket<T>(desk: &mut Desk, seen: impl FnOnce(&ScriptReply) -> T) -> T {
+        let head = head_of(desk);
+        let reply = rules::acquire_index_bucket(
+            head,
+            &mut desk.table,
+            &mut desk.health,
+            &desk.registry,
+            &desk.script,
+            0,
+            &desk.held,
+            desk.binding,
+            desk.bucket,
+        );
+        seen(&reply)
+    }
+
+    #[inline(always)]
+    fn acquire_index_locks<T>(desk: &mut Desk, seen: impl FnOnce(&ScriptReply) -> T) -> T {
+        let head = head_of(desk);
+        let reply = rules::acquire_index_locks(
+            head,
+            &mut desk.table,
+            &mut desk.health,
+            &desk.registry,
+            &desk.script,
+            0,
+            &desk.held,
+            &desk.keys,
+            &mut desk.grants,
+        );
+        seen(&reply)
+    }
+
+    #[inline(always)]
+    fn release_all<T>(desk: &mut Desk, seen: impl FnOnce(&ScriptReply) -> T) -> T {
+        let head = head_of(desk);
+        let reply = rules::release_all(
+            head,
+            &mut desk.table,
+            &mut desk.health,
+            &desk.script,
+            0,
+            &desk.grants,
+        );
+        seen(&reply)
+    }
+
+    #[inline(always)]
+    fn crew<T>(desk: &mut Desk, seen: impl FnOnce(&CrewReply) -> T) -> T {
+        let head = head_of(desk);
+        let reply = rules::crew(
+            head,
+            &mut desk.table,
+            &mut desk.health,
+            &desk.counts,
+            &desk.cells,
+            &desk.turns,
+        );
+        seen(&reply)
+    }
+
+    #[inline(always)]
+    fn next(played: &ScriptReply) -> u32 {
+        played.head.next
+    }
+
+    #[inline(always)]
+    fn granted(played: &ScriptReply) -> Option<(u32, u32)> {
+        match played.answer {
+            Answer::Granted(lease) => Some((lease.cell, lease.serial)),
+            _ => None,
+        }
+    }
+
+    fn reply_words(reply: &Reply) -> Words {
+        words(reply.head, 0, reply.counts, reply.answer)
+    }
+
+    fn played_words(played: &ScriptReply) -> Words {
+        words(played.head, played.place, played.counts, played.answer)
+    }
+
+    fn crew_words(crew: &CrewReply) -> Words {
+        let none = Counts::default();
+        match crew.answer {
+            Ok(run) => {
+                let mut words = words(crew.head, 0, none, Answer::Done);
+                words.extend([run.moving, run.idle].map(u64::from));
+                words.extend(run.taken.map(u64::from));
+                words.extend(run.released.map(u64::from));
+                words
+            }
+            Err(refusal) => {
+                let mut words = words(crew.head, 0, none, Answer::Refused(refusal));
+                words.resize(46, 0);
+                words
+            }
+        }
+    }
+}

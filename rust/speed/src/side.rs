@@ -1,0 +1,32 @@
+//! The two sides. A side makes a call with what lies on the desk, and shows its reply to `seen` where the call left it;
+//! nothing is copied, and nothing is read that `seen` does not read.
+
+use crate::desk::Desk;
+
+/// The words of a reply, as include/skid.h lays them out; the crew's are 46.
+pub type Words = Vec<u64>;
+
+pub trait Side {
+    /// The reply of a call without a script, of a call with one, and of the crew.
+    type Reply;
+    type Played;
+    type Crew;
+
+    fn prepare<T>(desk: &mut Desk, seen: impl FnOnce(&Self::Reply) -> T) -> T;
+    fn drop_lease<T>(desk: &mut Desk, seen: impl FnOnce(&Self::Reply) -> T) -> T;
+    fn try_lock<T>(desk: &mut Desk, seen: impl FnOnce(&Self::Played) -> T) -> T;
+    fn acquire_index_bucket<T>(desk: &mut Desk, seen: impl FnOnce(&Self::Played) -> T) -> T;
+    fn acquire_index_locks<T>(desk: &mut Desk, seen: impl FnOnce(&Self::Played) -> T) -> T;
+    /// Of the leases that multi-lock left in its buffer.
+    fn release_all<T>(desk: &mut Desk, seen: impl FnOnce(&Self::Played) -> T) -> T;
+    fn crew<T>(desk: &mut Desk, seen: impl FnOnce(&Self::Crew) -> T) -> T;
+
+    /// The next serial.
+    fn next(played: &Self::Played) -> u32;
+    /// Cell and serial, if the answer is a new lease.
+    fn granted(played: &Self::Played) -> Option<(u32, u32)>;
+
+    fn reply_words(reply: &Self::Reply) -> Words;
+    fn played_words(played: &Self::Played) -> Words;
+    fn crew_words(crew: &Self::Crew) -> Words;
+}
