@@ -262,7 +262,11 @@ pub fn boundary(
             none,
         );
     }
-    flow
+    Flow {
+        next: flow.next,
+        place: flow.place,
+        dropped: flow.dropped,
+    }
 }
 
 // The same, with a lease of the call's own protected too.
@@ -300,7 +304,11 @@ pub fn guarded(
             own,
         );
     }
-    flow
+    Flow {
+        next: flow.next,
+        place: flow.place,
+        dropped: flow.dropped,
+    }
 }
 
 // ---- the checks of calls with a script, in the order of document 01's table

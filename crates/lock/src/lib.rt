@@ -11,6 +11,7 @@ use model::Take;
 ghost use mathlib.Core.Path.{_≡_};
 ghost use Prim.Native.Nat.{_+_, _*_, _<_};
 ghost use lib.ListN.{length};
+ghost use Rattle.model.specs.Arena.{leasesOf};
 ghost use Rattle.model.specs.Refusals.{first};
 ghost use Rattle.model.specs.Checks.{lockRules};
 ghost use Rattle.model.specs.Foreign.{setting};
@@ -185,7 +186,11 @@ pub fn lock(
         );
     }
     Locked {
-        flow: after,
+        flow: Flow {
+            next: after.next,
+            place: after.place,
+            dropped: after.dropped,
+        },
         boundaries: 1,
         answer: Take::Busy,
     }
@@ -250,6 +255,40 @@ fn lock_check(
     }
 }
 
+// The try_lock of a call that has taken nothing. Past the script's end it is the quiet one, and then no room for leases is made.
+fn lock_alone(
+    head: Head,
+    cells: u32,
+    flow: Flow,
+    table: &mut [u32],
+    health: &mut [u8],
+    script: &[u32],
+    steps: usize,
+    held: &[u32],
+    cell: u32,
+) -> Locked
+    requires { ⌜ Room (head .headers) cells (length (now table)) (length (now health)) 0 steps (length (now script)) × (Paid steps flow × (cell < cells)) ⌝ }
+    ensures { λ r. ⌜ (r, (now (table .exit), now (health .exit))) ≡ lockOf (setting (head .headers) cells (now (script .entry)) (leasesOf (now (held .entry)))) flow (now (table .entry)) (now (health .entry)) cell .seen ⌝ }
+{
+    if flow.place < steps {
+        let taken = [[0; 2]; 64];
+        return lock(
+            head,
+            cells,
+            flow,
+            table,
+            health,
+            script,
+            steps,
+            held,
+            &taken,
+            0,
+            cell,
+        );
+    }
+    quiet_lock(head, flow, table, cell)
+}
+
 // One try_lock of a call whose checks are fine.
 fn lock_once(
     head: Head,
@@ -263,7 +302,6 @@ fn lock_once(
     requires { ⌜ LockFine head (length (now table)) (length (now health)) (length (now script)) place cell ⌝ }
     ensures { λ r. ⌜ (r, (now (table .exit), now (health .exit))) ≡ lockOnceOf head (now (table .entry)) (now (health .entry)) (now (script .entry)) place (now (held .entry)) cell ⌝ }
 {
-    let taken = [[0; 2]; 64];
     let flow = Flow {
         next: head.next,
         place,
@@ -271,19 +309,7 @@ fn lock_once(
     };
     let cells = head.headers * head.buckets;
     let steps = script.len() / 3;
-    let locked = lock(
-        head,
-        cells,
-        flow,
-        table,
-        health,
-        script,
-        steps,
-        held,
-        &taken,
-        0,
-        cell,
-    );
+    let locked = lock_alone(head, cells, flow, table, health, script, steps, held, cell);
     let after = locked.flow;
     let answer = locked.answer;
     let run = Run {

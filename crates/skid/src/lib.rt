@@ -228,6 +228,7 @@ pub extern "C" fn skid_environment(
     *reply = words::played_words(r);
 }
 
+// The same call under its other name. It goes through the first, so that the inner call has one caller and is compiled into it.
 #[no_mangle]
 pub extern "C" fn skid_environment_for_borrows(
     headers: u32,
@@ -242,13 +243,17 @@ pub extern "C" fn skid_environment_for_borrows(
 )
     ensures { λ _. ⌜ (now (reply .exit), (now (table .exit), now (health .exit))) ≡ told playedWords (environmentOf (headOf headers buckets next) (now (table .entry)) (now (health .entry)) (now (script .entry)) place (now (held .entry)) .seen) ⌝ }
 {
-    let head = Head {
+    skid_environment(
         headers,
         buckets,
         next,
-    };
-    let r = foreign::environment_for_borrows(head, table, health, script, place, held);
-    *reply = words::played_words(r);
+        table,
+        health,
+        script,
+        place,
+        held,
+        reply,
+    )
 }
 
 #[no_mangle]
@@ -275,6 +280,7 @@ pub extern "C" fn skid_try_lock(
     *reply = words::played_words(r);
 }
 
+// So too.
 #[no_mangle]
 pub extern "C" fn skid_other_mutex_preserves_leases(
     headers: u32,
@@ -290,13 +296,18 @@ pub extern "C" fn skid_other_mutex_preserves_leases(
 )
     ensures { λ _. ⌜ (now (reply .exit), (now (table .exit), now (health .exit))) ≡ told playedWords (tryLockOf (headOf headers buckets next) (now (table .entry)) (now (health .entry)) (now (script .entry)) place (now (held .entry)) cell .seen) ⌝ }
 {
-    let head = Head {
+    skid_try_lock(
         headers,
         buckets,
         next,
-    };
-    let r = lock::other_mutex_preserves_leases(head, table, health, script, place, held, cell);
-    *reply = words::played_words(r);
+        table,
+        health,
+        script,
+        place,
+        held,
+        cell,
+        reply,
+    )
 }
 
 #[no_mangle]

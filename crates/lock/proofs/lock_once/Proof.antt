@@ -1,16 +1,14 @@
 -- `lock::lock_once` meets its contract.
-use lib.ListN.{replicate}
-use borrow.Author.Needs.{needs}
-use Rattle.foreign.specs.Fine.{guards-none}
-use Rattle.lock.proofs.lock_once.Statement.{statement}
 use Rattle.lock.specs.Model.{lockOnceOf}
+use borrow.Author.Needs.{needs}
+use Rattle.lock.proofs.lock_once.Statement.{statement}
 use Rattle.lock.proofs.lock_once.Tie as tie
 
 mul-cells : tie.Need-mul-cells
 mul-cells c = search needs
 
-lock-requires : tie.Need-lock-requires
-lock-requires c κs = search needs
+lock-alone-requires : tie.Need-lock-alone-requires
+lock-alone-requires c κs = search needs
 
 outcome-requires : tie.Need-outcome-requires
 outcome-requires c κs = search needs
@@ -29,14 +27,14 @@ same-length-2 c = search needs
 
 returns : tie.Need-returns
 unfolding lockOnceOf
-returns c = rw (← guards-none (c .before .before .before .before .before .before .before .before .before .before .before .before .before .before .before .before .before .args .held .now) (replicate 64 (replicate 2 0)), ← c .before .before .before .before .before .before .before .before .lock .ensures, ← c .before .before .outcome .ensures, ← c .before .answered .ensures, ← c .play .ensures)
+returns c = rw (← c .before .before .before .before .before .before .before .before .lock-alone .ensures, ← c .before .before .outcome .ensures, ← c .before .answered .ensures, ← c .play .ensures)
 
 pub lock-once-spec : {M : Type 1} → statement M
 lock-once-spec =
     tie.close
     (tie.spec
     mul-cells
-    lock-requires
+    lock-alone-requires
     outcome-requires
     answered-requires
     play-requires
