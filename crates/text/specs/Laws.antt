@@ -1,6 +1,6 @@
 -- Laws of what the console's lines are made of: one turn and the end of each recursion, and what is read lies within the line.
 use Prim.Native.Nat.{ℕ, zero, suc, _+_, _*_, _-_, _≤_, _<_}
-use mathlib.Core.Path.{_≡_, refl, sym, ap, _∙_}
+use mathlib.Core.Path.{_≡_, refl, ap, _∙_}
 use mathlib.Core.List.{List, [], _∷_}
 use mathlib.Core.Bool.{Bool, true, false, _&&_}
 use native.Mathlib.Omega.{arith}
@@ -9,10 +9,9 @@ use native.Mathlib.Nat.{add-zero}
 use lib.Dec.{eqb, ltb}
 use lib.ListN.{length, getD, drop, drop-of-length-le, length-drop}
 use lib.Seq.{drop-cons, drop-drop, getD-drop}
-use borrow.Author.Tests.{ne-eqb, lt-ltb, le-ltb, ltb-true, ltb-false}
+use borrow.Author.Tests.{eqb-true, eqb-false, ne-eqb, lt-ltb, le-ltb, ltb-true, ltb-false}
 use Rattle.model.specs.Choice.{if_then_else_}
 use Rattle.laws.specs.Pick.{if-both}
-use Rattle.text.specs.declared.Number.{Number}
 use Rattle.text.specs.declared.Numbers.{Numbers}
 use Rattle.text.specs.Text.{before, isDigit, digitsIn, valueFrom, noNumber, endedOf, numberOf, spacedOf, counted, withOf, numbersFrom}
 
@@ -28,6 +27,31 @@ before-at stop l i b = rw (drop-one l i b)
 pub before-end : (stop : ℕ) (l : List ℕ) (i : ℕ) → length l ≤ i → before stop (drop i l) ≡ 0
 unfolding before
 before-end stop l i b = rw (drop-of-length-le l b)
+
+-- what `before` means: no stop stands before it, and a stop stands there, unless the end does
+pub before-none : (stop : ℕ) (l : List ℕ) (k : ℕ) → k < before stop l → getD l k 0 ≡ stop → ⊥
+unfolding before
+before-none stop [] k h e = omega arith
+before-none stop (b ∷ l) zero h e = go (eqb b stop) refl h
+  where
+    go : (t : Bool) → eqb b stop ≡ t → 0 < (if t then 0 else 1 + before stop l) → ⊥
+    go true p q = omega arith
+    go false p q = eqb-false b stop p e
+before-none stop (b ∷ l) (suc k) h e = go (eqb b stop) h (λ i. before-none stop l k i e)
+  where
+    go : (t : Bool) → suc k < (if t then 0 else 1 + before stop l) → (k < before stop l → ⊥) → ⊥
+    go true q r = omega arith
+    go false q r = r (omega arith)
+
+pub before-stop : (stop : ℕ) (l : List ℕ) → before stop l < length l → getD l (before stop l) 0 ≡ stop
+unfolding before
+before-stop stop [] h = omega arith
+before-stop stop (b ∷ l) h = go (eqb b stop) refl h (before-stop stop l)
+  where
+    go : (t : Bool) → eqb b stop ≡ t → (if t then 0 else 1 + before stop l) < length (b ∷ l) → (before stop l < length l → getD l (before stop l) 0 ≡ stop)
+        → getD (b ∷ l) (if t then 0 else 1 + before stop l) 0 ≡ stop
+    go true p q r = eqb-true b stop p
+    go false p q r = let e : 1 + before stop l ≡ suc (before stop l) = omega arith in rw e (r (omega arith))
 
 -- ---- digits
 

@@ -1,14 +1,10 @@
+-- `console::play` meets its contract.
+use Prim.Native.Nat.{_≤_, _-_}
+use mathlib.Core.Path.{_≡_}
+use lib.ListN.{length}
 use borrow.Author.Needs.{needs}
-use native.Mathlib.Omega.{arith}
-use Prim.Native.Nat.{_≤_, _<_, _-_, _+_, _*_, _/_}
-use mathlib.Core.Path.{_≡_, sym, _∙_}
-use lib.ListN.{length, drop, getD}
 use Rattle.console.proofs.play.Statement.{statement}
 use Rattle.console.proofs.play.Tie as tie
-use Rattle.console.proofs.play.Reads as reads
-use Rattle.console.proofs.play.Lts as lts
-use Rattle.console.proofs.play_line.Reads as play-line-reads
-use Rattle.text.proofs.end_of.Reads as end-of-reads
 
 abbrev Inv-loop : tie.InvT-loop
 Inv-loop input table₀ health₀ lists₀ grants₀ out₀ at₀ lines₀ desk₀ used₀ table health lists grants out at lines desk used =
@@ -18,91 +14,69 @@ abbrev μ-loop : tie.MeasureT-loop
 μ-loop input table₀ health₀ lists₀ grants₀ out₀ at₀ lines₀ desk₀ used₀ table health lists grants out at lines desk used =
     length input - at
 
--- src/lines.rt:321:5
 loop-holds : tie.Need-loop-holds Inv-loop μ-loop
 loop-holds c = search needs
 
--- src/lines.rt:322:13
 end-of-requires : tie.Need-end-of-requires Inv-loop μ-loop
 end-of-requires c κs = search needs
 
--- src/lines.rt:323:20
 add-next : tie.Need-add-next Inv-loop μ-loop
 add-next c = search needs
 
--- src/lines.rt:324:9
 add-lines : tie.Need-add-lines Inv-loop μ-loop
 add-lines c = search needs
 
--- src/lines.rt:328:13
 sub-play-line : tie.Need-sub-play-line Inv-loop μ-loop
 sub-play-line c = search needs
 
--- src/lines.rt:328:13
 part-play-line-start : tie.Need-part-play-line-start Inv-loop μ-loop
 part-play-line-start c = search needs
 
--- src/lines.rt:328:13
 part-play-line-end : tie.Need-part-play-line-end Inv-loop μ-loop
 part-play-line-end c = search needs
 
--- src/lines.rt:325:13
 play-line-requires : tie.Need-play-line-requires Inv-loop μ-loop
 play-line-requires c κs = search needs
 
--- src/lines.rt:340:13
 same-length : tie.Need-same-length Inv-loop μ-loop
 same-length c = search needs
 
--- src/lines.rt:340:13
 same-length-2 : tie.Need-same-length-2 Inv-loop μ-loop
 same-length-2 c = search needs
 
--- src/lines.rt:340:13
 same-length-3 : tie.Need-same-length-3 Inv-loop μ-loop
 same-length-3 c = search needs
 
--- src/lines.rt:340:13
 same-length-4 : tie.Need-same-length-4 Inv-loop μ-loop
 same-length-4 c = search needs
 
--- src/lines.rt:340:13
 same-length-5 : tie.Need-same-length-5 Inv-loop μ-loop
 same-length-5 c = search needs
 
--- src/lines.rt:340:13
 returns : tie.Need-returns Inv-loop μ-loop
 returns c = search needs
 
--- src/lines.rt:321:5
 loop-less : tie.Need-loop-less Inv-loop μ-loop
 loop-less c = search needs
 
--- src/lines.rt:321:5
 loop-again : tie.Need-loop-again Inv-loop μ-loop
 loop-again c = search needs
 
--- src/lines.rt:305:1
 same-length-6 : tie.Need-same-length-6 Inv-loop μ-loop
 same-length-6 c = search needs
 
--- src/lines.rt:305:1
 same-length-7 : tie.Need-same-length-7 Inv-loop μ-loop
 same-length-7 c = search needs
 
--- src/lines.rt:305:1
 same-length-8 : tie.Need-same-length-8 Inv-loop μ-loop
 same-length-8 c = search needs
 
--- src/lines.rt:305:1
 same-length-9 : tie.Need-same-length-9 Inv-loop μ-loop
 same-length-9 c = search needs
 
--- src/lines.rt:305:1
 same-length-10 : tie.Need-same-length-10 Inv-loop μ-loop
 same-length-10 c = search needs
 
--- src/lines.rt:305:1
 returns-2 : tie.Need-returns-2 Inv-loop μ-loop
 returns-2 c = search needs
 

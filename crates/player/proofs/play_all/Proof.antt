@@ -1,16 +1,11 @@
-use borrow.Author.Needs.{needs}
+-- `player::play_all` meets its contract.
+use Prim.Native.Nat.{_≤_, _-_}
+use mathlib.Core.Path.{_≡_}
 use native.Mathlib.Omega.{arith}
-use Prim.Native.Nat.{_≤_, _<_, _-_, _+_, _*_, _/_}
-use mathlib.Core.Path.{_≡_, sym, _∙_}
-use lib.ListN.{length, drop, getD}
+use lib.ListN.{length}
+use borrow.Author.Needs.{needs}
 use Rattle.player.proofs.play_all.Statement.{statement}
 use Rattle.player.proofs.play_all.Tie as tie
-use Rattle.player.proofs.play_all.Reads as reads
-use Rattle.player.proofs.play_all.Lts as lts
-use Rattle.desk.proofs.within_bytes.Reads as within-bytes-reads
-use Rattle.console.proofs.begin.Reads as begin-reads
-use Rattle.console.proofs.play.Reads as play-reads
-use Rattle.io.proofs.write_all.Reads as write-all-reads
 
 abbrev Inv-loop : tie.InvT-loop
 Inv-loop input table₀ health₀ lists₀ grants₀ out₀ session₀ table health lists grants out session =
@@ -19,63 +14,48 @@ Inv-loop input table₀ health₀ lists₀ grants₀ out₀ session₀ table hea
 abbrev μ-loop : tie.MeasureT-loop
 μ-loop input table₀ health₀ lists₀ grants₀ out₀ session₀ table health lists grants out session = length input - session .at
 
--- src/main.rt:41:9
 begin-requires : tie.Need-begin-requires Inv-loop μ-loop
 begin-requires c κs = search needs
 
--- src/main.rt:42:5
 loop-holds : tie.Need-loop-holds Inv-loop μ-loop
 loop-holds c = search needs
 
--- src/main.rt:43:9
 play-requires : tie.Need-play-requires Inv-loop μ-loop
 play-requires c κs = search needs
 
--- src/main.rt:44:13
 within-bytes-requires : tie.Need-within-bytes-requires Inv-loop μ-loop
 within-bytes-requires c κs = search needs
 
--- src/main.rt:45:26
 slice-reshare-prefix-write-all : tie.Need-slice-reshare-prefix-write-all Inv-loop μ-loop
 slice-reshare-prefix-write-all c = search needs
 
--- src/main.rt:45:26
 slice-aggregate-write-all : tie.Need-slice-aggregate-write-all Inv-loop μ-loop
 slice-aggregate-write-all c = search needs
 
--- src/main.rt:45:9
 write-all-requires : tie.Need-write-all-requires Inv-loop μ-loop
 write-all-requires c κs = search needs
 
--- src/main.rt:42:5
 loop-less : tie.Need-loop-less Inv-loop μ-loop
 loop-less c = omega (arith, c .before .before .before .before .before .before .before .before .before .before .before .before .before .before .play .ensures .1 (c .before .before .before .before .before .before .before .before .before .before .before .before .before .before .before .before .before .before .before .before .if1 .taken), c .before .before .before .before .before .before .before .before .before .before .before .before .before .before .before .before .before .before .before .before .if1 .taken)
 
--- src/main.rt:42:5
 loop-again : tie.Need-loop-again Inv-loop μ-loop
 loop-again c = search needs
 
--- src/main.rt:33:1
 same-length : tie.Need-same-length Inv-loop μ-loop
 same-length c = search needs
 
--- src/main.rt:33:1
 same-length-2 : tie.Need-same-length-2 Inv-loop μ-loop
 same-length-2 c = search needs
 
--- src/main.rt:33:1
 same-length-3 : tie.Need-same-length-3 Inv-loop μ-loop
 same-length-3 c = search needs
 
--- src/main.rt:33:1
 same-length-4 : tie.Need-same-length-4 Inv-loop μ-loop
 same-length-4 c = search needs
 
--- src/main.rt:33:1
 same-length-5 : tie.Need-same-length-5 Inv-loop μ-loop
 same-length-5 c = search needs
 
--- src/main.rt:33:1
 returns : tie.Need-returns Inv-loop μ-loop
 returns c = search needs
 

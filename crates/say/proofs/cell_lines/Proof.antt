@@ -1,14 +1,10 @@
+-- `say::cell_lines` meets its contract.
+use Prim.Native.Nat.{_-_}
+use mathlib.Core.Path.{_≡_}
+use lib.ListN.{length}
 use borrow.Author.Needs.{needs}
-use native.Mathlib.Omega.{arith}
-use Prim.Native.Nat.{_≤_, _<_, _-_, _+_, _*_, _/_}
-use mathlib.Core.Path.{_≡_, sym, _∙_}
-use lib.ListN.{length, drop, getD}
 use Rattle.say.proofs.cell_lines.Statement.{statement}
 use Rattle.say.proofs.cell_lines.Tie as tie
-use Rattle.say.proofs.cell_lines.Reads as reads
-use Rattle.say.proofs.cell_lines.Lts as lts
-use Rattle.desk.proofs.within.Reads as within-reads
-use Rattle.say.proofs.cell_line.Reads as cell-line-reads
 
 abbrev Inv-loop : tie.InvT-loop
 Inv-loop words table out₀ used cells at₀ c₀ out at c = (length out ≡ length out₀)
@@ -16,79 +12,60 @@ Inv-loop words table out₀ used cells at₀ c₀ out at c = (length out ≡ len
 abbrev μ-loop : tie.MeasureT-loop
 μ-loop words table out₀ used cells at₀ c₀ out at c = cells - c
 
--- src/say.rt:175:17
 within-requires : tie.Need-within-requires Inv-loop μ-loop
 within-requires c κs = search needs
 
--- src/say.rt:178:5
 loop-holds : tie.Need-loop-holds Inv-loop μ-loop
 loop-holds c = search needs
 
--- src/say.rt:179:33
 mul-cell-line : tie.Need-mul-cell-line Inv-loop μ-loop
 mul-cell-line c = search needs
 
--- src/say.rt:179:27
 mul-cell-line-2 : tie.Need-mul-cell-line-2 Inv-loop μ-loop
 mul-cell-line-2 c = search needs
 
--- src/say.rt:179:27
 shared-slice-read-cell-line : tie.Need-shared-slice-read-cell-line Inv-loop μ-loop
 shared-slice-read-cell-line c = search needs
 
--- src/say.rt:179:47
 mul-cell-line-3 : tie.Need-mul-cell-line-3 Inv-loop μ-loop
 mul-cell-line-3 c = search needs
 
--- src/say.rt:179:47
 add-cell-line : tie.Need-add-cell-line Inv-loop μ-loop
 add-cell-line c = search needs
 
--- src/say.rt:179:41
 mul-cell-line-4 : tie.Need-mul-cell-line-4 Inv-loop μ-loop
 mul-cell-line-4 c = search needs
 
--- src/say.rt:179:41
 shared-slice-read-cell-line-2 : tie.Need-shared-slice-read-cell-line-2 Inv-loop μ-loop
 shared-slice-read-cell-line-2 c = search needs
 
--- src/say.rt:179:65
 mul-cell-line-5 : tie.Need-mul-cell-line-5 Inv-loop μ-loop
 mul-cell-line-5 c = search needs
 
--- src/say.rt:179:65
 add-cell-line-2 : tie.Need-add-cell-line-2 Inv-loop μ-loop
 add-cell-line-2 c = search needs
 
--- src/say.rt:179:59
 mul-cell-line-6 : tie.Need-mul-cell-line-6 Inv-loop μ-loop
 mul-cell-line-6 c = search needs
 
--- src/say.rt:179:59
 shared-slice-read-cell-line-3 : tie.Need-shared-slice-read-cell-line-3 Inv-loop μ-loop
 shared-slice-read-cell-line-3 c = search needs
 
--- src/say.rt:179:9
 cell-line-requires : tie.Need-cell-line-requires Inv-loop μ-loop
 cell-line-requires c κs = search needs
 
--- src/say.rt:180:9
 add-c : tie.Need-add-c Inv-loop μ-loop
 add-c c = search needs
 
--- src/say.rt:178:5
 loop-less : tie.Need-loop-less Inv-loop μ-loop
 loop-less c = search needs
 
--- src/say.rt:178:5
 loop-again : tie.Need-loop-again Inv-loop μ-loop
 loop-again c = search needs
 
--- src/say.rt:174:1
 same-length : tie.Need-same-length Inv-loop μ-loop
 same-length c = search needs
 
--- src/say.rt:174:1
 returns : tie.Need-returns Inv-loop μ-loop
 returns c = search needs
 

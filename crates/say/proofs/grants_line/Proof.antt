@@ -1,16 +1,10 @@
+-- `say::grants_line` meets its contract.
+use Prim.Native.Nat.{_-_}
+use mathlib.Core.Path.{_≡_}
+use lib.ListN.{length}
 use borrow.Author.Needs.{needs}
-use native.Mathlib.Omega.{arith}
-use Prim.Native.Nat.{_≤_, _<_, _-_, _+_, _*_, _/_}
-use mathlib.Core.Path.{_≡_, sym, _∙_}
-use lib.ListN.{length, drop, getD}
 use Rattle.say.proofs.grants_line.Statement.{statement}
 use Rattle.say.proofs.grants_line.Tie as tie
-use Rattle.say.proofs.grants_line.Reads as reads
-use Rattle.say.proofs.grants_line.Lts as lts
-use Rattle.desk.proofs.within.Reads as within-reads
-use Rattle.say.proofs.line_feed.Reads as line-feed-reads
-use Rattle.say.proofs.word_after.Reads as word-after-reads
-use Rattle.text.proofs.put.Reads as put-reads
 
 abbrev Inv-loop : tie.InvT-loop
 Inv-loop n grants out₀ used at₀ most i₀ out at i = (length out ≡ length out₀)
@@ -18,55 +12,42 @@ Inv-loop n grants out₀ used at₀ most i₀ out at i = (length out ≡ length 
 abbrev μ-loop : tie.MeasureT-loop
 μ-loop n grants out₀ used at₀ most i₀ out at i = most - i
 
--- src/lib.rt:108:33
 slice-aggregate-put : tie.Need-slice-aggregate-put Inv-loop μ-loop
 slice-aggregate-put c = search needs
 
--- src/lib.rt:108:9
 put-requires : tie.Need-put-requires Inv-loop μ-loop
 put-requires c κs = search needs
 
--- src/lib.rt:109:9
 within-requires : tie.Need-within-requires Inv-loop μ-loop
 within-requires c κs = search needs
 
--- src/lib.rt:111:5
 loop-holds : tie.Need-loop-holds Inv-loop μ-loop
 loop-holds c = search needs
 
--- src/lib.rt:112:25
 mul-word-after : tie.Need-mul-word-after Inv-loop μ-loop
 mul-word-after c = search needs
 
--- src/lib.rt:112:25
 shared-slice-read-word-after : tie.Need-shared-slice-read-word-after Inv-loop μ-loop
 shared-slice-read-word-after c = search needs
 
--- src/lib.rt:112:9
 word-after-requires : tie.Need-word-after-requires Inv-loop μ-loop
 word-after-requires c κs = search needs
 
--- src/lib.rt:113:9
 add-i : tie.Need-add-i Inv-loop μ-loop
 add-i c = search needs
 
--- src/lib.rt:111:5
 loop-less : tie.Need-loop-less Inv-loop μ-loop
 loop-less c = search needs
 
--- src/lib.rt:111:5
 loop-again : tie.Need-loop-again Inv-loop μ-loop
 loop-again c = search needs
 
--- src/lib.rt:115:5
 line-feed-requires : tie.Need-line-feed-requires Inv-loop μ-loop
 line-feed-requires c κs = search needs
 
--- src/lib.rt:107:1
 same-length : tie.Need-same-length Inv-loop μ-loop
 same-length c = search needs
 
--- src/lib.rt:107:1
 returns : tie.Need-returns Inv-loop μ-loop
 returns c = search needs
 

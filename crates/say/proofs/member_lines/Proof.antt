@@ -1,14 +1,10 @@
+-- `say::member_lines` meets its contract.
+use Prim.Native.Nat.{_-_}
+use mathlib.Core.Path.{_≡_}
+use lib.ListN.{length}
 use borrow.Author.Needs.{needs}
-use native.Mathlib.Omega.{arith}
-use Prim.Native.Nat.{_≤_, _<_, _-_, _+_, _*_, _/_}
-use mathlib.Core.Path.{_≡_, sym, _∙_}
-use lib.ListN.{length, drop, getD}
 use Rattle.say.proofs.member_lines.Statement.{statement}
 use Rattle.say.proofs.member_lines.Tie as tie
-use Rattle.say.proofs.member_lines.Reads as reads
-use Rattle.say.proofs.member_lines.Lts as lts
-use Rattle.say.proofs.member_line.Reads as member-line-reads
-use Rattle.say.proofs.sixteen.Reads as sixteen-reads
 
 abbrev Inv-loop : tie.InvT-loop
 Inv-loop members out₀ used taken released most at₀ m₀ out at m = (length out ≡ length out₀)
@@ -16,51 +12,39 @@ Inv-loop members out₀ used taken released most at₀ m₀ out at m = (length o
 abbrev μ-loop : tie.MeasureT-loop
 μ-loop members out₀ used taken released most at₀ m₀ out at m = most - m
 
--- src/lib.rt:138:9
 sixteen-requires : tie.Need-sixteen-requires Inv-loop μ-loop
 sixteen-requires c κs = search needs
 
--- src/lib.rt:141:5
 loop-holds : tie.Need-loop-holds Inv-loop μ-loop
 loop-holds c = search needs
 
--- src/lib.rt:142:29
 mul-member-line : tie.Need-mul-member-line Inv-loop μ-loop
 mul-member-line c = search needs
 
--- src/lib.rt:142:29
 array-read-member-line : tie.Need-array-read-member-line Inv-loop μ-loop
 array-read-member-line c = search needs
 
--- src/lib.rt:142:39
 mul-member-line-2 : tie.Need-mul-member-line-2 Inv-loop μ-loop
 mul-member-line-2 c = search needs
 
--- src/lib.rt:142:39
 array-read-member-line-2 : tie.Need-array-read-member-line-2 Inv-loop μ-loop
 array-read-member-line-2 c = search needs
 
--- src/lib.rt:142:9
 member-line-requires : tie.Need-member-line-requires Inv-loop μ-loop
 member-line-requires c κs = search needs
 
--- src/lib.rt:143:9
 add-m : tie.Need-add-m Inv-loop μ-loop
 add-m c = search needs
 
--- src/lib.rt:141:5
 loop-less : tie.Need-loop-less Inv-loop μ-loop
 loop-less c = search needs
 
--- src/lib.rt:141:5
 loop-again : tie.Need-loop-again Inv-loop μ-loop
 loop-again c = search needs
 
--- src/lib.rt:135:1
 same-length : tie.Need-same-length Inv-loop μ-loop
 same-length c = search needs
 
--- src/lib.rt:135:1
 returns : tie.Need-returns Inv-loop μ-loop
 returns c = search needs
 

@@ -1,54 +1,41 @@
-use Rattle.text.specs.Text.{endedOf}
-use Prim.Native.Nat.{_≤_, _-_, _+_, _*_}
+-- `text::ended` meets its contract.
+use Prim.Native.Nat.{_-_}
 use mathlib.Core.Path.{_≡_}
-use lib.ListN.{length, drop, getD}
-use borrow.Author.Tests.{eq-eqb, ne-eqb, lt-ltb, le-ltb, le-leb, lt-leb}
 use native.Mathlib.Omega.{arith}
+use borrow.Author.Tests.{eq-eqb, ne-eqb}
 use borrow.Author.Needs.{needs}
+use Rattle.text.specs.Text.{endedOf}
 use Rattle.text.proofs.ended.Statement.{statement}
 use Rattle.text.proofs.ended.Tie as tie
-use Rattle.text.proofs.ended.Reads as reads
-use Rattle.text.proofs.ended.Lts as lts
-use Rattle.text.proofs.none.Reads as none-reads
-use Rattle.text.proofs.padded.Reads as padded-reads
 
--- src/lib.rt:99:9
 none-requires : tie.Need-none-requires
 none-requires c κs = search needs
 
--- src/lib.rt:99:9
 returns : tie.Need-returns
 unfolding endedOf
 returns c = let a = c .before .before .before .args in
     let e : a .i - a .at ≡ 0 = omega arith in rw (eq-eqb _ _ e, ← c .none .ensures)
 
--- src/lib.rt:101:18
 sub-digits : tie.Need-sub-digits
 sub-digits c = search needs
 
--- src/lib.rt:102:15
 shared-slice-read-padded : tie.Need-shared-slice-read-padded
 shared-slice-read-padded c = omega (arith, c .before .before .before .pre .1 (omega arith))
 
--- src/lib.rt:102:8
 padded-requires : tie.Need-padded-requires
 padded-requires c κs = search needs
 
--- src/lib.rt:103:9
 none-requires-2 : tie.Need-none-requires-2
 none-requires-2 c κs = search needs
 
--- src/lib.rt:103:9
 returns-2 : tie.Need-returns-2
 unfolding endedOf
 returns-2 c = let a = c .before .before .before .before .before .before .args in
     let e : a .i - a .at ≡ 0 → ⊥ = omega arith in rw (ne-eqb _ _ e, ← c .before .before .padded .ensures, c .before .if2 .taken, ← c .none2 .ensures)
 
--- src/lib.rt:107:16
 cast-t10 : tie.Need-cast-t10
 cast-t10 c = search needs
 
--- src/lib.rt:94:1
 returns-3 : tie.Need-returns-3
 unfolding endedOf
 returns-3 c = let a = c .before .before .before .before .before .args in

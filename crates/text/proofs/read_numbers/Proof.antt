@@ -1,20 +1,15 @@
-use borrow.Author.Needs.{needs}
-use Prim.Native.Nat.{_≤_, _<_, _-_, _+_, _*_}
+-- `text::read_numbers` meets its contract.
+use Prim.Native.Nat.{_≤_, _<_, _-_, _+_}
 use mathlib.Core.Path.{_≡_, ap, sym, _∙_}
-use lib.ListN.{length, drop, getD}
-use borrow.Author.Tests.{eq-eqb, ne-eqb, lt-ltb, le-ltb, le-leb, lt-leb}
-use native.Mathlib.Omega.{arith}
 use mathlib.Core.Bool.{true}
+use native.Mathlib.Omega.{arith}
+use lib.ListN.{length, drop}
+use borrow.Author.Needs.{needs}
 use Rattle.text.specs.declared.Numbers.{Numbers}
 use Rattle.text.specs.Text.{numbersFrom, counted}
 use Rattle.text.specs.Laws.{with-count, spaced-within, numbers-at, numbers-end}
 use Rattle.text.proofs.read_numbers.Statement.{statement}
 use Rattle.text.proofs.read_numbers.Tie as tie
-use Rattle.text.proofs.read_numbers.Reads as reads
-use Rattle.text.proofs.read_numbers.Lts as lts
-use Rattle.text.proofs.no_numbers.Reads as no-numbers-reads
-use Rattle.text.proofs.spaced.Reads as spaced-reads
-use Rattle.text.proofs.with.Reads as with-reads
 
 abbrev Inv-loop : tie.InvT-loop
 Inv-loop line at got₀ i₀ got i = (at ≤ i) × (got .count + at ≤ i) × (at < i → i ≤ length line) × (numbersFrom (length line - at - got .count) got (drop i line) ≡ numbersFrom (length line - at) (counted true) (drop at line))
@@ -22,11 +17,9 @@ Inv-loop line at got₀ i₀ got i = (at ≤ i) × (got .count + at ≤ i) × (a
 abbrev μ-loop : tie.MeasureT-loop
 μ-loop line at got₀ i₀ got i = length line - i
 
--- src/lib.rt:204:9
 no-numbers-requires : tie.Need-no-numbers-requires Inv-loop μ-loop
 no-numbers-requires c κs = search needs
 
--- src/lib.rt:206:5
 loop-holds : tie.Need-loop-holds Inv-loop μ-loop
 loop-holds c = let a = c .before .before .args in
     let start = c .no-numbers .ensures in
@@ -34,31 +27,25 @@ loop-holds c = let a = c .before .before .args in
     let whole : length (a .line .now) - a .at - 0 ≡ length (a .line .now) - a .at = omega arith in
     (search needs, omega (arith, none-yet), λ h. omega arith, rw (none-yet, whole, start))
 
--- src/lib.rt:207:13
 spaced-requires : tie.Need-spaced-requires Inv-loop μ-loop
 spaced-requires c κs = search needs
 
--- src/lib.rt:209:13
 with-requires : tie.Need-with-requires Inv-loop μ-loop
 with-requires c κs = search needs
 
--- src/lib.rt:210:18
 add-i : tie.Need-add-i Inv-loop μ-loop
 add-i c = let l = c .before .before .before .before .before .loop in let a = c .before .before .before .before .before .before .before .before .args in
     let within : c .before .before .before .spaced .result .digits + l .i + 1 ≤ length (a .line .now) = rw (c .before .before .before .spaced .ensures) (spaced-within (a .line .now) (l .i) (search needs)) in
     omega (arith, within)
 
--- src/lib.rt:210:13
 add-i-2 : tie.Need-add-i-2 Inv-loop μ-loop
 add-i-2 c = let l = c .before .before .before .before .before .loop in let a = c .before .before .before .before .before .before .before .before .args in
     let within : c .before .before .before .spaced .result .digits + l .i + 1 ≤ length (a .line .now) = rw (c .before .before .before .spaced .ensures) (spaced-within (a .line .now) (l .i) (search needs)) in
     omega (arith, within)
 
--- src/lib.rt:206:5
 loop-less : tie.Need-loop-less Inv-loop μ-loop
 loop-less c = search needs
 
--- src/lib.rt:206:5
 loop-again : tie.Need-loop-again Inv-loop μ-loop
 loop-again c = let l = c .before .before .before .before .before .loop in let a = c .before .before .before .before .before .before .before .before .args in
     let within : c .before .before .before .spaced .result .digits + l .i + 1 ≤ length (a .line .now) = rw (c .before .before .before .spaced .ensures) (spaced-within (a .line .now) (l .i) (search needs)) in
@@ -68,17 +55,14 @@ loop-again c = let l = c .before .before .before .before .before .loop in let a 
     rw (numbers-at (length (a .line .now) - a .at) (l .got) (a .line .now) (l .i) (search needs) few, ← c .before .before .before .spaced .ensures, c .before .before .if1 .taken, ← c .before .with .ensures, more) in
     (omega arith, omega (arith, more, l .inv .1), λ h. omega (arith, within), sym turn ∙ l .inv .3)
 
--- src/lib.rt:212:13
 no-numbers-requires-2 : tie.Need-no-numbers-requires-2 Inv-loop μ-loop
 no-numbers-requires-2 c κs = search needs
 
--- src/lib.rt:212:13
 returns : tie.Need-returns Inv-loop μ-loop
 returns c = let l = c .before .before .before .before .loop in let a = c .before .before .before .before .before .before .before .args in
     let few : l .got .count < length (a .line .now) - a .at = omega (arith, l .inv .1) in
     rw (← l .inv .3, numbers-at (length (a .line .now) - a .at) (l .got) (a .line .now) (l .i) (search needs) few, ← c .before .before .spaced .ensures, c .before .if1 .left, ← c .no-numbers2 .ensures)
 
--- src/lib.rt:201:1
 returns-2 : tie.Need-returns-2 Inv-loop μ-loop
 returns-2 c = let l = c .before .loop in let a = c .before .before .before .before .args in
     rw (← l .inv .3, numbers-end (length (a .line .now) - a .at - l .got .count) (l .got) (a .line .now) (l .i) (search needs))

@@ -1,35 +1,26 @@
-use Rattle.text.specs.Text.{withOf}
-use Prim.Native.Nat.{_≤_, _-_, _+_, _*_}
-use mathlib.Core.Path.{_≡_}
-use lib.ListN.{length, drop, getD}
-use borrow.Author.Tests.{eq-eqb, ne-eqb, lt-ltb, le-ltb, le-leb, lt-leb}
-use native.Mathlib.Omega.{arith}
+-- `text::with` meets its contract.
+use Prim.Native.Nat.{_-_}
+use borrow.Author.Tests.{eq-eqb, ne-eqb}
 use borrow.Author.Needs.{needs}
+use Rattle.text.specs.Text.{withOf}
 use Rattle.text.proofs.with.Statement.{statement}
 use Rattle.text.proofs.with.Tie as tie
-use Rattle.text.proofs.with.Reads as reads
-use Rattle.text.proofs.with.Lts as lts
 
--- src/lib.rt:148:17
 add-count : tie.Need-add-count
 add-count c = search needs
 
--- src/lib.rt:150:9
 returns : tie.Need-returns
 unfolding withOf
 returns c = rw (eq-eqb _ _ (c .if1 .taken))
 
--- src/lib.rt:159:9
 returns-2 : tie.Need-returns-2
 unfolding withOf
 returns-2 c = rw (ne-eqb _ _ (c .before .before .if1 .left), eq-eqb _ _ (c .if2 .taken))
 
--- src/lib.rt:168:9
 returns-3 : tie.Need-returns-3
 unfolding withOf
 returns-3 c = rw (ne-eqb _ _ (c .before .before .before .before .if1 .left), ne-eqb _ _ (c .before .before .if2 .left), eq-eqb _ _ (c .if3 .taken))
 
--- src/lib.rt:144:1
 returns-4 : tie.Need-returns-4
 unfolding withOf
 returns-4 c = rw (ne-eqb _ _ (c .before .before .before .before .if1 .left), ne-eqb _ _ (c .before .before .if2 .left), ne-eqb _ _ (c .if3 .left))
