@@ -15,7 +15,7 @@ fail() {
 # The library is x86-64 code. Elsewhere Debian's cross compilers make the programs, and an emulator runs them.
 if [ "$(uname -m)" = x86_64 ]; then
     cc=cc cxx=c++ nm=nm
-    rustc=(rustc)
+    rustc=(rustc -D warnings)
     run=()
 else
     cc=/usr/bin/x86_64-linux-gnu-gcc cxx=/usr/bin/x86_64-linux-gnu-g++ nm=/usr/bin/x86_64-linux-gnu-nm
@@ -61,8 +61,8 @@ fi
 passes "$out/bench_c" "bench cases in C: 16 passed"
 
 # ---- Rust
-"${rustc[@]}" --edition 2021 -O -D warnings --crate-type rlib --crate-name skid rust/skid/src/lib.rs \
+"${rustc[@]}" --edition 2021 -O --crate-type rlib --crate-name skid rust/skid/src/lib.rs \
     -L native=target/staticlib -l static=skid -o "$out/libskid.rlib"
-"${rustc[@]}" --edition 2021 -O -D warnings rust/skid/examples/bench.rs \
+"${rustc[@]}" --edition 2021 -O rust/skid/examples/bench.rs \
     --extern "skid=$out/libskid.rlib" -L native=target/staticlib -o "$out/bench_rust"
 passes "$out/bench_rust" "bench cases in Rust: 16 passed"
