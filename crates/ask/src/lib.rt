@@ -30,6 +30,7 @@ fn head_after(before: Head, reply: Reply) -> Head {
     }
 }
 
+// A step of the console, no call of document 01: only its own crates call it.
 pub fn prepare(
     desk: Desk,
     table: &mut [u32],
@@ -76,6 +77,7 @@ fn small_reply(
     }
 }
 
+// A step of the console, no call of document 01: only its own crates call it.
 pub fn small_call(
     desk: Desk,
     call: Small,
@@ -251,6 +253,7 @@ fn scripted_reply(
     }
 }
 
+// A step of the console, no call of document 01: only its own crates call it.
 pub fn scripted_call(
     desk: Desk,
     call: Scripted,
@@ -284,6 +287,7 @@ pub fn scripted_call(
     }
 }
 
+// A step of the console, no call of document 01: only its own crates call it.
 pub fn crew(desk: Desk, table: &mut [u32], health: &[u8], lists: &[u32]) -> CrewReply {
     let head = desk.head;
     let t = desk.lent_words(head.headers, head.buckets, table);

@@ -59,6 +59,7 @@ fn fill_bytes(seed: u32, health: &mut [u8]) {
 }
 
 // Fills table and health with rubbish.
+// A step of the console, no call of document 01: only its own crates call it.
 pub fn fill(seed: u32, table: &mut [u32], health: &mut [u8]) {
     let x = fill_words(seed, table);
     fill_bytes(x, health);
@@ -338,6 +339,7 @@ fn play_line(
 }
 
 // At the first byte, with nothing played.
+// A step of the console, no call of document 01: only its own crates call it.
 pub fn begin() -> Session
     ensures { λ r. ⌜ r .lines ≤ r .at ⌝ }
 {
@@ -351,6 +353,7 @@ pub fn begin() -> Session
 
 // Plays lines until the input ends or more than 60,000 bytes of output are used. One line answers less than 200,000 bytes,
 // so in a room of 262,144 no text is lost.
+// A step of the console, no call of document 01: only its own crates call it.
 pub fn play(
     session: Session,
     input: &[u8],

@@ -59,6 +59,7 @@ pub const TURNS: usize = 2300;
 
 pub const SCRIPT: usize = 72300;
 
+// A step of the console, no call of document 01: only its own crates call it.
 pub fn start_of(list: List) -> usize {
     match list {
         List::Registry => REGISTRY,
@@ -71,6 +72,7 @@ pub fn start_of(list: List) -> usize {
 }
 
 // The room of each list.
+// A step of the console, no call of document 01: only its own crates call it.
 pub fn room_of(list: List) -> usize {
     match list {
         List::Registry => 80,
@@ -83,6 +85,7 @@ pub fn room_of(list: List) -> usize {
 }
 
 // The part of the run from `start` on that has n numbers; where there is none, the empty one.
+// A step of the console, no call of document 01: only its own crates call it.
 pub fn part(lists: &[u32], start: usize, n: usize) -> &[u32] {
     if start <= lists.len() {
         if n <= lists.len() - start {
@@ -94,6 +97,7 @@ pub fn part(lists: &[u32], start: usize, n: usize) -> &[u32] {
 }
 
 // n, or all that the run has where that is less.
+// A step of the console, no call of document 01: only its own crates call it.
 pub fn within(n: usize, run: &[u32]) -> usize
     ensures { λ r. ⌜ Within r (now (run .entry)) ⌝ }
 {
@@ -103,6 +107,7 @@ pub fn within(n: usize, run: &[u32]) -> usize
     run.len()
 }
 
+// A step of the console, no call of document 01: only its own crates call it.
 pub fn within_bytes(n: usize, run: &[u8]) -> usize
     ensures { λ r. ⌜ Within r (now (run .entry)) ⌝ }
 {
@@ -113,6 +118,7 @@ pub fn within_bytes(n: usize, run: &[u8]) -> usize
 }
 
 // 3·H·B, the true product, or a number that is more than there is.
+// A step of the console, no call of document 01: only its own crates call it.
 pub fn words_of(headers: u32, buckets: u32) -> usize {
     let cells = (headers as u64) * (buckets as u64);
     if cells < 4294967296 {
@@ -122,6 +128,7 @@ pub fn words_of(headers: u32, buckets: u32) -> usize {
 }
 
 // At the beginning: an empty head, empty lists, no member.
+// A step of the console, no call of document 01: only its own crates call it.
 pub fn first_desk() -> Desk {
     Desk {
         head: Head {
@@ -147,6 +154,7 @@ pub fn first_desk() -> Desk {
 
 impl Desk {
     // How many table words and health bytes a call gets whose head has these numbers.
+    // A step of the console, no call of document 01: only its own crates call it.
     pub fn lent_words(self, headers: u32, buckets: u32, table: &[u32]) -> usize
         ensures { λ r. ⌜ Within r (now (table .entry)) ⌝ }
     {
@@ -156,6 +164,7 @@ impl Desk {
         within(words_of(headers, buckets), table)
     }
 
+    // A step of the console, no call of document 01: only its own crates call it.
     pub fn lent_bytes(self, headers: u32, health: &[u8]) -> usize
         ensures { λ r. ⌜ Within r (now (health .entry)) ⌝ }
     {
@@ -165,16 +174,19 @@ impl Desk {
         within_bytes(headers as usize, health)
     }
 
+    // A step of the console, no call of document 01: only its own crates call it.
     pub fn with_head(mut self, head: Head) -> Desk {
         self.head = head;
         self
     }
 
+    // A step of the console, no call of document 01: only its own crates call it.
     pub fn with_place(mut self, place: usize) -> Desk {
         self.place = place;
         self
     }
 
+    // A step of the console, no call of document 01: only its own crates call it.
     pub fn with_lent(mut self, fixed: bool, words: usize, bytes: usize) -> Desk {
         self.fixed = fixed;
         self.words = words;
@@ -182,11 +194,13 @@ impl Desk {
         self
     }
 
+    // A step of the console, no call of document 01: only its own crates call it.
     pub fn with_grants(mut self, n: usize) -> Desk {
         self.grants = n;
         self
     }
 
+    // A step of the console, no call of document 01: only its own crates call it.
     pub fn with_members(mut self, members: usize, cells: usize) -> Desk {
         self.members = members;
         self.cells = cells;
@@ -194,6 +208,7 @@ impl Desk {
     }
 
     // A list has n numbers now; with a new script the place is 0 again.
+    // A step of the console, no call of document 01: only its own crates call it.
     pub fn with_length(mut self, list: List, n: usize) -> Desk {
         match list {
             List::Registry => self.registry = n,

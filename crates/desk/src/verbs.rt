@@ -48,6 +48,7 @@ pub enum Scripted {
 }
 
 // What a line's first word means.
+// A step of the console, no call of document 01: only its own crates call it.
 pub fn verb_of(word: &[u8]) -> Verb {
     let desk = desk_verb(word);
     match desk {
@@ -247,6 +248,7 @@ fn member_fits(desk: Desk, got: Numbers) -> bool {
 }
 
 // Whether a line with this first word and these numbers is understood.
+// A step of the console, no call of document 01: only its own crates call it.
 pub fn fits(desk: Desk, verb: Verb, got: Numbers) -> bool {
     match verb {
         Verb::Unknown => false,

@@ -86,6 +86,7 @@ fn rest(next: u32, place: usize, counts: Counts, out: &mut [u8], used: usize) ->
     put_form(out, used, form, &values)
 }
 
+// A step of the console, no call of document 01: only its own crates call it.
 pub fn told(told: Told, out: &mut [u8], used: usize) -> usize {
     let desk = told.desk;
     let head = desk.head;
@@ -104,6 +105,7 @@ fn line_feed(out: &mut [u8], used: usize) -> usize {
 }
 
 // The grant buffer's line.
+// A step of the console, no call of document 01: only its own crates call it.
 pub fn grants_line(n: usize, grants: &[u32], out: &mut [u8], used: usize) -> usize {
     let mut at = put(out, used, b"grants");
     let most = within(n, grants);
@@ -160,6 +162,7 @@ fn crew_done(members: usize, reply: CrewReply, next: u32, out: &mut [u8], used: 
     member_lines(members, reply, out, a)
 }
 
+// A step of the console, no call of document 01: only its own crates call it.
 pub fn crew_lines(members: usize, reply: CrewReply, out: &mut [u8], used: usize) -> usize {
     let head = reply.head;
     let next = head.next;
@@ -237,6 +240,7 @@ fn byte_lines(bytes: usize, health: &[u8], out: &mut [u8], used: usize) -> usize
 }
 
 // What a call other than prepare would get now: the head, each cell that is not all 0, each health byte that is not 0.
+// A step of the console, no call of document 01: only its own crates call it.
 pub fn show(desk: Desk, table: &[u32], health: &[u8], out: &mut [u8], used: usize) -> usize {
     let head = desk.head;
     let t = desk.lent_words(head.headers, head.buckets, table);
@@ -246,6 +250,7 @@ pub fn show(desk: Desk, table: &[u32], health: &[u8], out: &mut [u8], used: usiz
     byte_lines(g, health, out, b)
 }
 
+// A step of the console, no call of document 01: only its own crates call it.
 pub fn not_understood(line: usize, out: &mut [u8], used: usize) -> usize {
     number_after(b"line #: not understood\n", line, out, used)
 }
