@@ -15,7 +15,7 @@ use Rattle.model.specs.Arena.{serialRemains, cellNumber, leaseOf, leasesOf, wor
 use Rattle.model.specs.Refusals.{Rule, refusalOf, first, judge}
 use Rattle.model.specs.Checks.{countIn, notLive, badBinding, bucketRules, locksRules}
 use Rattle.model.specs.Foreign.{Setting, protecting, stepsIn, kindAt, placeAt, numberAt, stepTakeOf, stepReleaseOf, stepWaitersOf, stepHealthOf, stepOf, stepsOf, boundaryOf, flowOf}
-use Rattle.model.specs.Lock.{takeOf, lockOf, outcomeOf, answerOf, settled, findOf, attemptAt, attemptOf, spinOf, pauseOf, isBusy, retryOf, runOf, attemptLimit, noLease, leaseAt, giveBackOf, Locks, rollbackOf, afterKey, bindingAt, bucketAt, locksOf}
+use Rattle.model.specs.Lock.{takeOf, lockOf, outcomeOf, answerOf, settled, findOf, attemptAt, attemptOf, spinOf, pauseOf, isBusy, retryOf, runOf, attemptLimit, noLease, leaseAt, giveBackOf, rollbackOf, afterKey, bindingAt, bucketAt, locksOf}
 use Rattle.model.specs.Calls.{given, starting, acquireOf, acquireBucketOf, acquireLocksOf}
 use Rattle.model.specs.declared.Answer.the-variants.{Done, AllGranted, Granted, Refused, RefusedAt}
 use Rattle.model.specs.declared.Check.{Check}
@@ -40,7 +40,6 @@ use Rattle.history.specs.World.{World, Live, Sound}
 use Rattle.history.specs.Items.{Call, try-acquire, drop-lease, read-permission, competing-acquire, release-then-handoff, foreign-release, drop-preserving, acquire-preserving, environment, try-lock, transactional, acquire-bucket, release-all, acquire-locks, crew, perform}
 use Rattle.history.specs.Statements.{Hands-over, answers, leaves, log-of}
 use Rattle.history.specs.Tests.{differ, In, in-take, leases-words, if-cases}
-use Rattle.history.specs.Events.{good}
 use Rattle.history.specs.Steps.{With}
 use Rattle.history.specs.Judged.{acting, judged, steps, performed}
 use Rattle.history.specs.Calls.{words-leases, call-kept}
@@ -429,7 +428,7 @@ steps-names w (crew counts cells turns) l a = let z : _≡_ {A = ℕ} 0 1 = cc i
 pub grant-is : (w : World) (k : Call) (l : Lease) → Sound w → answers w k ≡ Granted l → (l .cell ≡ asked w k) × Live (leaves w k) l
 grant-is w k l s a = (
   performed (λ m. m .seen .1 .answer ≡ Granted l → l .cell ≡ asked w k) w k (λ r a. let z : _≡_ {A = ℕ} 0 1 = cc in absurd (omega arith)) (λ _. steps-names w k l) a,
-  call-kept w k (good w s) .gain l (subst (λ x. Hands-over x (perform w k .seen .1 .grants) l) (sym a) refl),
+  call-kept w k .gain l (subst (λ x. Hands-over x (perform w k .seen .1 .grants) l) (sym a) refl),
 )
 
 -- ---- what multi-lock's buffer holds
@@ -490,7 +489,7 @@ pub buffer-is : (w : World) (registry script : List ℕ) (place : ℕ) (held key
     (length b ≡ 2 * countIn keys)
     × ((p : ℕ) → p < countIn keys
     → (leaseAt (leasesOf b) p .cell ≡ cellNumber (w .head .buckets) (getD registry (bindingAt keys p) 0) (bucketAt keys p)) × Live (leaves w k) (leaseAt (leasesOf b) p))
-buffer-is w registry script place held keys grants s a = (f .long, λ p i. (f .filled p i, call-kept w k (good w s) .gain (leaseAt ls p) (over p i)))
+buffer-is w registry script place held keys grants s a = (f .long, λ p i. (f .filled p i, call-kept w k .gain (leaseAt ls p) (over p i)))
   where
     k : Call
     k = acquire-locks registry script place held keys grants

@@ -17,7 +17,7 @@ use Rattle.history.specs.World.{World, worldOf, cells, now, Lawful, one,
 use Rattle.history.specs.Items.{foreign, Item, call, foreign-step, preparation, Course, courseOf, prepared-by, preparing, next-item, run, cold}
 use Rattle.history.specs.Statements.{Ledger, Demand-2, Forgets}
 use Rattle.history.specs.Tests.{free, In}
-use Rattle.history.specs.Events.{Good, sound, lives, counts}
+use Rattle.history.specs.Events.{Good, fit, sound, lives, counts}
 use Rattle.history.specs.Logs.{now-append, lawful-append, lawful-split, good-now, arena-now, next-now, bits-now, keep-now, spent-now, Kept, ended}
 use Rattle.history.specs.Steps.{step-kept}
 use Rattle.history.specs.Calls.{call-kept}
@@ -107,12 +107,9 @@ goes-on k {P} {v} {es} s m =
       leads = m .leads ∙ ap (λ w. now w es) (s .leads) ∙ sym (now-append (k .origin) (k .log) es);
     }
 
-good-stretch : (k : Course) → Stretch k → Good (k .world)
-good-stretch k s = subst Good (sym (s .leads)) (good-now (k .origin) (k .log) (s .good) (s .lawful))
-
 item-stretch : (k : Course) (i : Item) → Stretch k → Stretch (next-item k i)
 unfolding next-item
-item-stretch k (call c) s = goes-on k s (call-kept (k .world) c (good-stretch k s) .kept)
+item-stretch k (call c) s = goes-on k s (call-kept (k .world) c .kept)
 item-stretch k (foreign-step kind place number) s = goes-on k s (foreign-kept (k .world) kind place number)
 item-stretch k (preparation headers buckets serial t g) s = preparation-stretch headers buckets serial t g k (λ _. s)
 
@@ -151,10 +148,10 @@ ledger k s =
           sym (lives (now o before) (leaseOf c x) p .owner-is) ∙ lives (now o before) (leaseOf c y) q .owner-is;
       keeps = λ l before middle after e v u.
           let m = mid before (middle ++ after) e in
-          rw (now-append o before middle) (keep-now (now o before) middle l (m .0) (lawful-split (now o before) middle after (m .1) .0) v u);
+          rw (now-append o before middle) (keep-now (now o before) middle l (fit (m .0)) (lawful-split (now o before) middle after (m .1) .0) v u);
       never = λ x before middle after e v.
           let m = mid before (middle ++ after) e in
-          rw (now-append o before middle) (spent-now (now o before) middle x (m .0) (lawful-split (now o before) middle after (m .1) .0) v);
+          rw (now-append o before middle) (spent-now (now o before) middle x (fit (m .0)) (lawful-split (now o before) middle after (m .1) .0) v);
       once = λ a b c d x p p′ q q′ e f.
           let m = mid p (took a c x ∷ p′) e .1 .0 .1 .0 in
           let n = mid q (took b d x ∷ q′) f .1 .0 .1 .0 in

@@ -23,3 +23,16 @@ pub mod Refused
 pub mod Naming
 pub mod NamingCrew
 pub mod NamedCalls
+pub mod Replies
+pub mod Handed
+pub mod HandedCalls
+pub mod Writers
+pub mod Callers
+pub mod Others
+pub mod ColdRam
+pub mod Cold
+pub mod Strength
+pub mod StrengthExamples
+pub mod Promises
+pub mod Builds
+pub mod Always

@@ -25,7 +25,7 @@ use Rattle.history.specs.World.{World, cells, Live, step, now, Lawful}
 use Rattle.history.specs.Items.{Call, try-acquire, drop-lease, read-permission, competing-acquire, release-then-handoff, foreign-release, drop-preserving, acquire-preserving, environment, try-lock, transactional, acquire-bucket, release-all, acquire-locks, crew, perform, IsCrew}
 use Rattle.history.specs.Statements.{Hands-over, answers, log-of, Nothing-kept, Failed-locks, leaves}
 use Rattle.history.specs.Tests.{alive, state-held}
-use Rattle.history.specs.Events.{Good, good-step, released-spent, good}
+use Rattle.history.specs.Events.{Good, fit, good-step, released-spent, good}
 use Rattle.history.specs.Logs.{spent-now}
 use Rattle.history.specs.Judged.{Clear, clear-back, judged, rules, acting, steps, performed}
 use Rattle.history.specs.Calls.{words-leases, call-kept}
@@ -36,7 +36,7 @@ use Rattle.history.specs.Owing.{Frees, freed-here, freed-later, Settles,
 pub gone : {l : Lease} (w : World) (es : List Event) → Good w → Lawful w es → Frees l es → Live (now w es) l → ⊥
 gone {l} w es g k (freed-here xs) v =
     let e = released by-caller (l .cell) (l .serial) in
-    spent-now (step w e) xs (l .serial) (good-step w e g (k .0)) (k .1) (released-spent w by-caller (l .cell) (l .serial) g (k .0)) .owns-none (l .cell) v
+    spent-now (step w e) xs (l .serial) (fit (good-step w e g (k .0))) (k .1) (released-spent w by-caller (l .cell) (l .serial) g (k .0)) .owns-none (l .cell) v
 gone w es g k (freed-later e {es = xs} f) v = gone (step w e) xs (good-step w e g (k .0)) (k .1) f v
 
 -- ---- what each call hands over
@@ -145,10 +145,10 @@ calls-keep-nothing w k c s before after snd n e = go (settled-at c s before afte
     go : Handed w k (leaseOf c s) ⊎ Frees (leaseOf c s) after
         → (Handed w k (leaseOf c s) × Live (leaves w k) (leaseOf c s))
         ⊎ ((m n : List Event) × (after ≡ m ++ (released by-caller c s ∷ n)) × (Live (leaves w k) (leaseOf c s) → ⊥))
-    go (inl x) = inl (x, call-kept w k (good w snd) .gain (leaseOf c s) x)
+    go (inl x) = inl (x, call-kept w k .gain (leaseOf c s) x)
     go (inr f) =
         let r = freed-at f in
-        let p = call-kept w k (good w snd) .kept in
+        let p = call-kept w k .kept in
         let all = subst (Frees (leaseOf c s)) (sym e) (frees-right before (freed-later (took by-caller c s) f)) in
         inr (r .0, r .1, r .2, λ v. gone w (log-of w k) (good w snd) (p .lawful) all (subst (λ u. Live u (leaseOf c s)) (p .leads) v))
 
