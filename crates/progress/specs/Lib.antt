@@ -8,3 +8,7 @@ pub mod Deeds
 pub mod Ended
 pub mod Examples
 pub mod Theorems
+pub mod Told
+pub mod Whole
+pub mod Alone
+pub mod Tightness

@@ -1,0 +1,108 @@
+-- How a call uses up its script: the steps from its place on are run once each, in order, at the boundaries in order, each boundary up to and
+-- with its 5 or to the script's end. Between two boundaries there are only the caller's own events. No arena rule is needed.
+use Prim.Native.Nat.{ℕ, _+_, _≤_, _<_}
+use mathlib.Core.Path.{_≡_, refl, sym, ap, _∙_, subst}
+use mathlib.Core.List.{List, [], _∷_, _++_, append-assoc}
+use native.Mathlib.Omega.{arith}
+use Rattle.model.specs.Log.{Event, by-caller, attempt-begun, boundary-run, yielded, spun, took, released}
+use Rattle.model.specs.Foreign.{stepsIn, kindAt, placeAt, numberAt}
+use Rattle.model.specs.declared.Lease.{Lease}
+use Rattle.history.specs.World.{World, step, now}
+use Rattle.history.specs.Logs.{now-append}
+use Rattle.exact.specs.ForeignExactly.{Stepping, looks, ends, performed, dropped}
+
+-- ---- where a script stands: its place and the steps dropped so far, with the world there
+
+-- one boundary, from (p, d, w) to (q, c, v), while `ps` are protected; `es` is what its steps leave in the log
+pub data Boundary (script : List ℕ) (ps : List Lease) : (p d : ℕ) (w : World) (q c : ℕ) (v : World) → List Event → Type 0 where
+  -- "past the end it is quiet"
+  at-end : {p d : ℕ} {w : World} → stepsIn script ≤ p → Boundary script ps p d w p d w []
+  -- "up to and including the next 5"
+  at-five : {p d : ℕ} {w : World} → p < stepsIn script → kindAt script p ≡ 5 → Boundary script ps p d w (p + 1) d w []
+  -- one step: performed exactly if it is legal now, else dropped and counted (`Stepping`)
+  one-step : {p d : ℕ} {w : World} {x : ℕ} {u : World} {q c : ℕ} {v : World} {es fs : List Event} → p < stepsIn script → (kindAt script p ≡ 5 → ⊥)
+      → Stepping w ps (kindAt script p) (placeAt script p) (numberAt script p) u es x
+      → Boundary script ps (p + 1) (d + x) u q c v fs → Boundary script ps p d w q c v (es ++ fs)
+
+-- what a call counts besides
+pub data Counted-only : Event → Type 0 where
+  attempts-one : Counted-only attempt-begun
+  yields-once : Counted-only yielded
+  spins : Counted-only spun
+
+-- a whole call, from its first event to its last. "Protected: the caller's held leases, those this call has taken, .. and never those it has
+-- given up": what it takes is added behind, what it gives up is the last
+pub data Consumed (script : List ℕ) : (ps : List Lease) (p d : ℕ) (w : World) (rs : List Lease) (q c : ℕ) (v : World) → List Event → Type 0 where
+  at-rest : {ps : List Lease} {p d : ℕ} {w : World} → Consumed script ps p d w ps p d w []
+  counts : {ps rs : List Lease} {p d q c : ℕ} {w v : World} {es : List Event} {e : Event} → Counted-only e
+      → Consumed script ps p d w rs q c v es → Consumed script ps p d w rs q c v (e ∷ es)
+  takes : {ps rs : List Lease} {p d q c : ℕ} {w v : World} {es : List Event} (l : Lease)
+      → Consumed script (ps ++ (l ∷ [])) p d (step w (took by-caller (l .cell) (l .serial))) rs q c v es
+      → Consumed script ps p d w rs q c v (took by-caller (l .cell) (l .serial) ∷ es)
+  gives-up : {ps rs : List Lease} {p d q c : ℕ} {w v : World} {es : List Event} (l : Lease)
+      → Consumed script ps p d (step w (released by-caller (l .cell) (l .serial))) rs q c v es
+      → Consumed script (ps ++ (l ∷ [])) p d w rs q c v (released by-caller (l .cell) (l .serial) ∷ es)
+  boundary : {ps rs : List Lease} {p d x y q c : ℕ} {w u v : World} {es fs : List Event} → Boundary script ps p d w x y u es
+      → Consumed script ps x y u rs q c v fs → Consumed script ps p d w rs q c v (boundary-run ∷ (es ++ fs))
+
+-- one behind the other
+pub follow : {script : List ℕ} {ps rs ts : List Lease} {p d x y q c : ℕ} {w u v : World} {es fs : List Event}
+    → Consumed script ps p d w rs x y u es → Consumed script rs x y u ts q c v fs → Consumed script ps p d w ts q c v (es ++ fs)
+follow at-rest k = k
+follow (counts e m) k = counts e (follow m k)
+follow (takes l m) k = takes l (follow m k)
+follow (gives-up l m) k = gives-up l (follow m k)
+follow {script = script} {ps = ps} {ts = ts} {p = p} {d = d} {q = q} {c = c} {w = w} {v = v} {fs = fs} (boundary {es = es} {fs = gs} b m) k =
+    subst (λ (hs : List Event). Consumed script ps p d w ts q c v (boundary-run ∷ hs)) (sym (append-assoc es gs fs)) (boundary b (follow m k))
+
+-- ---- what follows
+
+-- a step's world is what its event makes of the world before
+pub step-now : {ps : List Lease} {w v : World} {kind place number x : ℕ} {es : List Event} → Stepping w ps kind place number v es x → v ≡ now w es
+step-now (looks z) = refl
+step-now (ends z) = refl
+step-now (performed e a l) = refl
+step-now (dropped i j n) = refl
+
+module _ {script : List ℕ} where
+  -- the place never goes back
+  pub boundary-rises : {ps : List Lease} {p d q c : ℕ} {w v : World} {es : List Event} → Boundary script ps p d w q c v es → p ≤ q
+  boundary-rises (at-end i) = omega arith
+  boundary-rises (at-five i k) = omega arith
+  boundary-rises (one-step i k s b) = omega (arith, boundary-rises b)
+
+  pub place-rises : {ps rs : List Lease} {p d q c : ℕ} {w v : World} {es : List Event} → Consumed script ps p d w rs q c v es → p ≤ q
+  place-rises at-rest = omega arith
+  place-rises (counts e m) = place-rises m
+  place-rises (takes l m) = place-rises m
+  place-rises (gives-up l m) = place-rises m
+  place-rises (boundary b m) = omega (arith, boundary-rises b, place-rises m)
+
+  -- and never passes the end
+  boundary-inside : {ps : List Lease} {p d q c : ℕ} {w v : World} {es : List Event} → Boundary script ps p d w q c v es → p ≤ stepsIn script → q ≤ stepsIn script
+  boundary-inside (at-end i) l = l
+  boundary-inside (at-five i k) l = omega arith
+  boundary-inside (one-step i k s b) l = boundary-inside b (omega arith)
+
+  pub place-inside : {ps rs : List Lease} {p d q c : ℕ} {w v : World} {es : List Event} → Consumed script ps p d w rs q c v es → p ≤ stepsIn script → q ≤ stepsIn script
+  place-inside at-rest l = l
+  place-inside (counts e m) l = place-inside m l
+  place-inside (takes k m) l = place-inside m l
+  place-inside (gives-up k m) l = place-inside m l
+  place-inside (boundary b m) l = place-inside m (boundary-inside b l)
+
+  -- the worlds are what the events make of the first
+  pub boundary-now : {ps : List Lease} {p d q c : ℕ} {w v : World} {es : List Event} → Boundary script ps p d w q c v es → v ≡ now w es
+  boundary-now (at-end i) = refl
+  boundary-now (at-five i k) = refl
+  boundary-now {w = w} (one-step {es = es} {fs = fs} i k s b) =
+      boundary-now b ∙ ap (λ (x : World). now x fs) (step-now s) ∙ sym (now-append w es fs)
+
+  pub consumed-now : {ps rs : List Lease} {p d q c : ℕ} {w v : World} {es : List Event} → Consumed script ps p d w rs q c v es → v ≡ now w es
+  consumed-now at-rest = refl
+  consumed-now (counts attempts-one m) = consumed-now m
+  consumed-now (counts yields-once m) = consumed-now m
+  consumed-now (counts spins m) = consumed-now m
+  consumed-now (takes l m) = consumed-now m
+  consumed-now (gives-up l m) = consumed-now m
+  consumed-now {w = w} (boundary {es = es} {fs = fs} b m) = consumed-now m ∙ ap (λ (x : World). now x fs) (boundary-now b) ∙ sym (now-append w es fs)

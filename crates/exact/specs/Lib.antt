@@ -1,0 +1,14 @@
+pub mod Exactly
+pub mod ForeignExactly
+pub mod Made
+pub mod Quiet
+pub mod QuietCalls
+pub mod QuietLocks
+pub mod QuietRefused
+pub mod Consumed
+pub mod ConsumedSteps
+pub mod ConsumedCalls
+pub mod ConsumedFacts
+pub mod Retried
+pub mod CountedOn
+pub mod Attempts
