@@ -9,7 +9,7 @@ use native.Mathlib.Decide.{decLt}
 use lib.ListN.{length, take}
 use lib.Seq.{append-snoc}
 use borrow.Author.Tests.{leb-false, not-false}
-use Rattle.model.specs.Log.{Made, by-caller, attempt-begun, released}
+use Rattle.model.specs.Log.{Made, by-caller, attempt-begun, released, Event}
 use Rattle.model.specs.Arena.{cellsOf, shapeFits, setCell, isLive, isIn, leasesOf}
 use Rattle.model.specs.Checks.{countIn, badShape, badHeld, badCell, notReleasable, cellRules, leaseRules, heldCellRules, heldLeaseRules, scriptRules, lockRules, bucketRules, releaseRules, locksRules}
 use Rattle.model.specs.Crew.{crewRules}
@@ -21,11 +21,11 @@ use Rattle.model.specs.declared.Lease.{Lease}
 use Rattle.model.specs.declared.Outcome.{Outcome}
 use Rattle.model.specs.declared.Take.{Take}
 use Rattle.laws.specs.Shape.{shaped}
-use Rattle.history.specs.World.{World, worldOf, cells, Live, Lawful, Unreleased}
+use Rattle.history.specs.World.{World, worldOf, cells, Live, Lawful, Unreleased, now}
 use Rattle.history.specs.Items.{Call, Says, try-acquire, drop-lease, read-permission, competing-acquire, release-then-handoff, foreign-release, drop-preserving, acquire-preserving, environment, try-lock, transactional, acquire-bucket, release-all, acquire-locks, crew, perform, held-of}
 use Rattle.history.specs.Statements.{Hands-over, Held-live, log-of}
 use Rattle.history.specs.Tests.{differ, In, in-take}
-use Rattle.history.specs.Events.{Fit, fit, lives, good}
+use Rattle.history.specs.Events.{Fit, lives, good}
 use Rattle.history.specs.Logs.{Kept, nothing, event, kept-fit, kept-live, weaken, chain, ended, lawful-split, unreleased-front, keep-now}
 use Rattle.history.specs.Steps.{Gains, followed, Gained, gained, was-busy, was-damaged, was-spent, Won, won, none-yet, no-more, boundary-kept, take-kept, lock-kept, attempt-kept, retry-kept}
 use Rattle.history.specs.Judged.{Clear, clear-back, rules, reply, seen-as, steps, performed}
@@ -197,7 +197,22 @@ pub call-kept : (w : World) (k : Call) → Said w (In (held-of k)) (perform w k)
 call-kept w k = performed (Said w (In (held-of k))) w k (λ r. record { kept = nothing; gain = λ l x. absurd x }) (λ c. steps-kept w k (clear-fit w k c) c)
 
 -- what is held is spared at every point
-pub calls-spare-held : Held-live
-calls-spare-held w k l before after s i v e =
-    let p = call-kept w k .kept in
-    keep-now w before l (fit (good w s)) (lawful-split w before after (subst (Lawful w) e (p .lawful)) .0) v (unreleased-front l before after (subst (Unreleased l) e (p .spares l i v)))
+
+-- an empty log has no parts
+no-front : (xs ys : List Event) → [] ≡ xs ++ ys → xs ≡ []
+no-front [] ys e = refl
+no-front (x ∷ xs) ys e = let z : _≡_ {A = ℕ} 0 1 = cc in absurd (omega arith)
+
+-- what holds at the beginning of a call's log, and at every point of it if the shape fits, holds at every point
+pub at-point : (P : List Event → Type 0) (w : World) (k : Call) (before after : List Event) → log-of w k ≡ before ++ after
+    → P [] → (Fit w → Lawful w before → P before) → P before
+at-point P w k before after e z f = go (call-fit w k)
+  where
+    go : (log-of w k ≡ []) ⊎ Fit w → P before
+    go (inl n) = subst P (sym (no-front before after (sym n ∙ e))) z
+    go (inr g) = f g (lawful-split w before after (subst (Lawful w) e (call-kept w k .kept .lawful)) .0)
+
+pub calls-spare-held : Held-live perform
+calls-spare-held w k l before after i v e =
+    at-point (λ (es : List Event). Live (now w es) l) w k before after e v
+    (λ g m. keep-now w before l g m v (unreleased-front l before after (subst (Unreleased l) e (call-kept w k .kept .spares l i v))))

@@ -22,16 +22,16 @@ use Rattle.model.specs.declared.Stepped.{Stepped}
 use Rattle.model.specs.declared.Took.{Took}
 use Rattle.laws.specs.Pick.{both}
 use Rattle.history.specs.World.{World, worldOf, cells, Free, Live, Legal, step, now, Lawful}
-use Rattle.history.specs.Items.{Says, says, try-acquire, drop-lease, perform, foreign, Item, preparation, Course, courseOf, next-item, run}
+use Rattle.history.specs.Items.{Says, says, try-acquire, drop-lease, perform, foreign, Item, preparation, Course, next-item, run, Call, cold, foreign-step, history-of, call, noted, saying, entryOf}
 use Rattle.history.specs.Statements.{answers, leaves, log-of}
 use Rattle.history.specs.Tests.{differ, free-words, is-free-state, if-cases}
 use Rattle.history.specs.Events.{Fit, fit, fit-step, fits, good}
 use Rattle.history.specs.Logs.{lawful-split}
 use Rattle.history.specs.Judged.{performed}
-use Rattle.history.specs.Calls.{call-kept}
-use Rattle.history.specs.Replies.{events-of, Diary, written, blank}
-use Rattle.history.specs.Writers.{Kept-well, through}
-use Rattle.history.specs.Callers.{Shape-fits, Takes-alike, Take-is-call, Releases-alike, Release-is-call, single, singles, replay, replays, By-single-calls, Histories-single}
+use Rattle.history.specs.Writers.{through}
+use Rattle.history.specs.Callers.{Shape-fits, Takes-alike, Take-is-call, Releases-alike, Release-is-call, single, singles, replay, replays, By-single-calls, Histories-single, Played-singly}
+use Rattle.history.specs.Calls.{at-point}
+use Rattle.history.specs.Courses.{events-append}
 
 -- ---- a call that takes or releases
 
@@ -93,14 +93,14 @@ foreign-take w c number =
     P : Made (Stepped × List ℕ) → Type 0
     P m = Foreign-take w c (record { seen = worldOf (spentTo (w .head) (m .seen .0 .next)) (m .seen .1) (w .health); log = (m .log ++ []) ++ [] })
 
-pub takes-alike : Takes-alike
+pub takes-alike : Takes-alike foreign
 takes-alike w c number s = go (foreign-take w c number)
   where
     go : {m : Made World} → Foreign-take w c m → m .seen ≡ leaves w (try-acquire c)
     go (performed-take f l) = sym (ap (λ (m : Made (World × Says)). m .seen .0) (taken-alone w c s f l))
     go (dropped-take n) = sym (not-taken w c n)
 
-pub take-is-call : Take-is-call
+pub take-is-call : Take-is-call foreign
 take-is-call w c number s fit = go (foreign-take w c number)
   where
     go : {m : Made World} → Foreign-take w c m → m .log ≡ took by-script c s ∷ []
@@ -125,14 +125,14 @@ foreign-release w c s = go (isLive (w .head .next) (cells w) (w .table) (leaseOf
     go true e = rw e (performed-release e)
     go false e = rw e (dropped-release e)
 
-pub releases-alike : Releases-alike
+pub releases-alike : Releases-alike foreign
 releases-alike w c s fit = go (foreign-release w c s)
   where
     go : {m : Made World} → Foreign-release w c s m → m .seen ≡ leaves w (drop-lease (leaseOf c s))
     go (performed-release v) = sym (ap (λ (m : Made (World × Says)). m .seen .0) (released-alone w c s fit v))
     go (dropped-release n) = sym (not-released w (leaseOf c s) n)
 
-pub release-is-call : Release-is-call
+pub release-is-call : Release-is-call foreign
 release-is-call w c s fit = go (foreign-release w c s)
   where
     go : {m : Made World} → Foreign-release w c s m → m .log ≡ released by-script c s ∷ []
@@ -152,42 +152,79 @@ health-alone : (w : World) (i n : ℕ) → Legal w (health-set i n) → foreign 
 unfolding foreign stepOf stepHealthOf
 health-alone w i n l = rw (lt-ltb i (w .head .headers) (l .0), le-leb n 1 (l .1))
 
--- one event
-replayed : (o w : World) (log : List Event) (e : Event) → Fit w → Legal w e → run (courseOf o log w) (single e) ≡ courseOf o (log ++ replay e) (step w e)
+-- one event, behind others: what is done, and the world that is left
+record Plays (k : Course) (is : List Item) (es : List Event) (v : World) : Type 0 where
+  did : history-of (run k is) ≡ history-of k ++ es
+  left : run k is .world ≡ v
+
+one-item : (k : Course) (es : List Event) (s : Says) (v : World) → history-of (noted k es s v) ≡ history-of k ++ es
+one-item k es s v = events-append (k .entries) (entryOf es s ∷ []) ∙ ap (λ (l : List Event). history-of k ++ l) (append-nil es)
+
+no-item : (k : Course) → Plays k [] [] (k .world)
+unfolding run
+no-item k = record { did = sym (append-nil (history-of k)); left = refl }
+
+called : (k : Course) (c : Call) {v : World} {s : Says} {es : List Event} → perform (k .world) c ≡ record { seen = (v, s); log = es } → Plays k (call c ∷ []) es v
 unfolding run next-item
-replayed o w log attempt-begun g k = rw (append-nil log)
-replayed o w log boundary-run g k = rw (append-nil log)
-replayed o w log yielded g k = rw (append-nil log)
-replayed o w log spun g k = rw (append-nil log)
-replayed o w log step-dropped g k = rw (append-nil log)
-replayed o w log (took a c s) g k =
-    rw (k .1 .0) (ap (λ (m : Made (World × Says)). courseOf o (log ++ m .log) (m .seen .0)) (taken-alone w c (fits (w .head) (length (w .table)) (g .shape)) (k .0) (subst (λ (x : ℕ). x < lastSerial) (k .1 .0) (k .1 .1))))
-replayed o w log (released a c s) g k =
-    ap (λ (m : Made (World × Says)). courseOf o (log ++ m .log) (m .seen .0)) (released-alone w c s (fits (w .head) (length (w .table)) (g .shape)) k)
-replayed o w log (waiters-set c n) g k = ap (λ (m : Made World). courseOf o (log ++ m .log) (m .seen)) (waiters-alone w c n k)
-replayed o w log (health-set i n) g k = ap (λ (m : Made World). courseOf o (log ++ m .log) (m .seen)) (health-alone w i n k)
+called k c {v} {s} {es} p =
+    record {
+      did = ap (λ (m : Made (World × Says)). history-of (noted k (m .log) (m .seen .1) (m .seen .0))) p ∙ one-item k es s v;
+      left = ap (λ (m : Made (World × Says)). m .seen .0) p;
+    }
+
+stepped : (k : Course) (kind place number : ℕ) {v : World} {es : List Event} → foreign (k .world) kind place number ≡ record { seen = v; log = es }
+    → Plays k (foreign-step kind place number ∷ []) es v
+unfolding run next-item
+stepped k kind place number {v} {es} p =
+    record {
+      did = ap (λ (m : Made World). history-of (noted k (m .log) (saying Done) (m .seen))) p ∙ one-item k es (saying Done) v;
+      left = ap (λ (m : Made World). m .seen) p;
+    }
+
+replayed : (k : Course) (e : Event) → Fit (k .world) → Legal (k .world) e → Plays k (single e) (replay e) (step (k .world) e)
+unfolding run next-item
+replayed k attempt-begun g l = no-item k
+replayed k boundary-run g l = no-item k
+replayed k yielded g l = no-item k
+replayed k spun g l = no-item k
+replayed k step-dropped g l = no-item k
+replayed k (took a c s) g l =
+    let w = k .world in
+    rw (l .1 .0) (called k (try-acquire c) (taken-alone w c (fits (w .head) (length (w .table)) (g .shape)) (l .0) (subst (λ (x : ℕ). x < lastSerial) (l .1 .0) (l .1 .1))))
+replayed k (released a c s) g l =
+    let w = k .world in
+    called k (drop-lease (leaseOf c s)) (released-alone w c s (fits (w .head) (length (w .table)) (g .shape)) l)
+replayed k (waiters-set c n) g l = stepped k 3 c n (waiters-alone (k .world) c n l)
+replayed k (health-set i n) g l = stepped k 4 i n (health-alone (k .world) i n l)
 
 run-append : (k : Course) (xs ys : List Item) → run k (xs ++ ys) ≡ run (run k xs) ys
 unfolding run
 run-append k [] ys = refl
 run-append k (x ∷ xs) ys = run-append (next-item k x) xs ys
 
-pub log-replayed : (o w : World) (log es : List Event) → Fit w → Lawful w es → run (courseOf o log w) (singles es) ≡ courseOf o (log ++ replays es) (now w es)
-unfolding run
-log-replayed o w log [] g k = rw (append-nil log)
-log-replayed o w log (e ∷ es) g k =
-    run-append (courseOf o log w) (single e) (singles es) ∙ ap (λ (c : Course). run c (singles es)) (replayed o w log e g (k .0))
-    ∙ log-replayed o (step w e) (log ++ replay e) es (fit-step w e g (k .0)) (k .1)
-    ∙ ap (λ (l : List Event). courseOf o l (now (step w e) es)) (append-assoc log (replay e) (replays es))
+log-replayed : (k : Course) (es : List Event) → Fit (k .world) → Lawful (k .world) es → Plays k (singles es) (replays es) (now (k .world) es)
+log-replayed k [] g l = no-item k
+log-replayed k (e ∷ es) g l =
+    let one = replayed k e g (l .0) in
+    let j = run k (single e) in
+    let all = log-replayed j es (subst Fit (sym (one .left)) (fit-step (k .world) e g (l .0))) (subst (λ (v : World). Lawful v es) (sym (one .left)) (l .1)) in
+    let parts = run-append k (single e) (singles es) in
+    record {
+      did = ap history-of parts ∙ all .did ∙ ap (λ (l : List Event). l ++ replays es) (one .did) ∙ append-assoc (history-of k) (replay e) (replays es);
+      left = ap (λ (c : Course). c .world) parts ∙ all .left ∙ ap (λ (v : World). now v es) (one .left);
+    }
 
-pub by-single-calls : By-single-calls
-by-single-calls w k before after s e =
-    let g = fit (good w s) in
-    log-replayed w w [] before g (lawful-split w before after (subst (Lawful w) e (call-kept w k .kept .lawful)) .0)
+played-singly : (w : World) (es : List Event) → Fit w → Lawful w es → Played-singly w es
+played-singly w es g l = let p = log-replayed (cold w) es g l in record { did = p .did; left = p .left }
+
+pub by-single-calls : By-single-calls perform
+by-single-calls w k before after e = at-point (Played-singly w) w k before after e nothing-played (λ g l. played-singly w before g l)
+  where
+    nothing-played : Played-singly w []
+    nothing-played = let p = no-item (cold w) in record { did = p .did; left = p .left }
 
 pub histories-single : Histories-single
-histories-single rubbish headers buckets serial t g items d =
-    let w = written (blank rubbish) (preparation headers buckets serial t g ∷ items) in
-    let s = through rubbish headers buckets serial t g items d .stretch in
-    let es = events-of (w .entries) in
-    log-replayed (w .origin) (w .origin) [] es (fit (s .good)) (s .lawful) ∙ ap (λ (v : World). courseOf (w .origin) (replays es) v) (sym (s .leads))
+histories-single rubbish headers buckets serial items d before after e =
+    let w = run (cold rubbish) (preparation headers buckets serial ∷ items) in
+    let s = through rubbish headers buckets serial items d .stretch in
+    played-singly (w .origin) before (fit (s .good)) (lawful-split (w .origin) before after (subst (Lawful (w .origin)) e (s .lawful)) .0)

@@ -1,7 +1,7 @@
 -- Two writers: a cell that an answer handed over is taken again only behind a release of that lease.
 use Prim.Native.Nat.{ℕ, zero, suc, _+_, _<_}
 use mathlib.Core.Path.{_≡_, refl, sym, ap, _∙_, subst}
-use mathlib.Core.List.{List, [], _∷_, _++_, append-nil, append-assoc}
+use mathlib.Core.List.{List, [], _∷_, _++_, append-assoc}
 use mathlib.Core.Logic.{_⊎_, inl, inr}
 use native.Mathlib.Omega.{arith}
 use native.Mathlib.Decide.{ℕ-discrete}
@@ -12,7 +12,7 @@ use Rattle.model.specs.Arena.{leaseOf, leasesOf, setCell}
 use Rattle.model.specs.Checks.{countIn}
 use Rattle.model.specs.Foreign.{Setting, protecting, flowOf}
 use Rattle.model.specs.Lock.{takeOf, lockOf, outcomeOf, answerOf, attemptOf, retryOf, attemptLimit, settled, leaseAt, noLease, rollbackOf, afterKey, bindingAt, bucketAt, locksOf}
-use Rattle.model.specs.Calls.{starting, acquireOf}
+use Rattle.model.specs.Calls.{starting, acquireOf, prepareOf}
 use Rattle.model.specs.declared.Answer.{Answer}
 use Rattle.model.specs.declared.Answer.the-variants.{Done, Cell, Granted, AllGranted, Busy, Refused, RefusedAt}
 use Rattle.model.specs.declared.Head.{Head}
@@ -21,19 +21,22 @@ use Rattle.model.specs.declared.Outcome.{Outcome}
 use Rattle.model.specs.declared.Outcome.the-variants as outcome
 use Rattle.model.specs.declared.Refusal.{Refusal}
 use Rattle.model.specs.declared.Run.{Run}
-use Rattle.history.specs.World.{World, Live, step, now, Lawful, Releases, Unreleased, Sound}
-use Rattle.history.specs.Items.{Call, try-acquire, drop-lease, read-permission, competing-acquire, release-then-handoff, foreign-release, drop-preserving, acquire-preserving, environment, try-lock, transactional, acquire-bucket, release-all, acquire-locks, crew, perform, foreign, Item, call, foreign-step, preparation, courseOf, prepared-by, preparing, next-item, run, cold}
-use Rattle.history.specs.Statements.{Hands-over, answers, log-of}
+use Rattle.laws.specs.Prepared.{Outcome as Prepared, Came, was-done, was-refused, came}
+use Rattle.history.specs.World.{World, Live, step, now, Lawful, Releases, Unreleased, worldOf}
+use Rattle.history.specs.Items.{Call, try-acquire, drop-lease, read-permission, competing-acquire, release-then-handoff, foreign-release, drop-preserving, acquire-preserving, environment, try-lock, transactional, acquire-bucket, release-all, acquire-locks, crew, perform, Item, call, foreign-step, preparation, prepared-by, preparing, next-item, run, cold, asked, Entry, entryOf, events-of, Course, keyCell, preparation-over}
+use Rattle.history.specs.Statements.{Hands-over, answers, log-of, Gives, Through, buffer-in}
 use Rattle.history.specs.Tests.{free-words, same-lease, In, in-take}
 use Rattle.history.specs.Events.{Fit, fit, fit-step, keep-step, lives, taken-live, good}
 use Rattle.history.specs.Logs.{now-append, lawful-split, fit-now, next-now}
 use Rattle.history.specs.Judged.{acting, steps, performed}
-use Rattle.history.specs.Calls.{words-leases, call-kept}
-use Rattle.history.specs.ByKey.{asked, cellOf, grant-is, buffer-is}
-use Rattle.history.specs.Courses.{Stretch, run-stretch, preparation-stretch}
+use Rattle.history.specs.Calls.{words-leases, call-kept, call-fit}
+use Rattle.history.specs.Courses.{Stretch, run-stretch, events-append, begun}
 use Rattle.history.specs.Handed.{Taken-in, taken-between}
 use Rattle.history.specs.HandedCalls.{call-came}
-use Rattle.history.specs.Replies.{buffer-after, Gives, Entry, entryOf, Hands, events-of, Diary, begun-by, next-entry, written, blank, course-of, Same-history, Never-twice, Once-each, Two-writers, None-takes, Takes-parted, Not-over-live, Asks-one, Busy-or-refused, Locks-refused}
+use Rattle.history.specs.Answers.{Asks-one, Busy-or-refused, Locks-refused, Never-twice, None-takes, Not-over-live, Once-each, Takes-parted, Two-writers}
+use Rattle.history.specs.Answers.{Hands}
+use Rattle.history.specs.ByKey.{grants-name, buffers-name}
+use Rattle.history.specs.Returns.{not-empty}
 
 -- ---- one log: between a live lease and the next take of its cell stands a release of it
 
@@ -68,38 +71,7 @@ parted w c s s′ b (e ∷ es) after g v k =
     go (inr r) on = (r .0, [], es, ap (λ (x : Event). x ∷ es) (r .1))
     go (inl n) on = let r = on n in (r .0, e ∷ r .1, r .2, ap (λ (x : List Event). e ∷ x) (r .3))
 
--- ---- the diary is the course
-
-events-append : (xs ys : List Entry) → events-of (xs ++ ys) ≡ events-of xs ++ events-of ys
-events-append [] ys = refl
-events-append (x ∷ xs) ys = ap (λ (es : List Event). x .events ++ es) (events-append xs ys) ∙ sym (append-assoc (x .events) (events-of xs) (events-of ys))
-
-one-entry : (xs : List Entry) (e : Entry) → events-of (xs ++ (e ∷ [])) ≡ events-of xs ++ e .events
-one-entry xs e = events-append xs (e ∷ []) ∙ ap (λ (es : List Event). events-of xs ++ es) (append-nil (e .events))
-
-begun-same : (a : Answer) (w : World) (d : Diary) → course-of (begun-by a w d) ≡ prepared-by a w (course-of d)
-begun-same Done w d = refl
-begun-same (Cell c) w d = refl
-begun-same (Granted l) w d = refl
-begun-same AllGranted w d = refl
-begun-same Busy w d = refl
-begun-same (Refused r) w d = refl
-begun-same (RefusedAt r p) w d = refl
-
-next-same : (d : Diary) (i : Item) → course-of (next-entry d i) ≡ next-item (course-of d) i
-unfolding next-entry next-item
-next-same d (call k) = let m = perform (d .world) k in ap (λ (es : List Event). courseOf (d .origin) es (m .seen .0)) (one-entry (d .entries) (entryOf (m .log) (m .seen .1 .answer) (m .seen .1 .grants)))
-next-same d (foreign-step kind place number) =
-    let m = foreign (d .world) kind place number in
-    ap (λ (es : List Event). courseOf (d .origin) es (m .seen)) (one-entry (d .entries) (entryOf (m .log) Done []))
-next-same d (preparation headers buckets serial t g) = let p = preparing headers buckets serial t g in begun-same (p .0) (p .1) d
-
-pub diaries-same : Same-history
-unfolding written run
-diaries-same d [] = refl
-diaries-same d (i ∷ is) = diaries-same (next-entry d i) is ∙ ap (λ k. run k is) (next-same d i)
-
--- ---- what a diary keeps
+-- ---- what a course keeps
 
 -- from the world w on, each entry took what it hands over, and left it live
 abbrev pub Honest : World → Entry → Type 0
@@ -117,50 +89,74 @@ fair-split : (w : World) (xs ys : List Entry) → Fair w (xs ++ ys) → Fair (no
 fair-split w [] ys p = p
 fair-split w (x ∷ xs) ys p = rw (now-append w (x .events) (events-of xs)) (fair-split (now w (x .events)) xs ys (p .1))
 
-pub record Kept-well (d : Diary) : Type 0 where
-  pub stretch : Stretch (course-of d)
+pub record Kept-well (d : Course) : Type 0 where
+  pub stretch : Stretch d
   pub fair : Fair (d .origin) (d .entries)
 
-call-honest : (w : World) (k : Call) → Honest w (entryOf (log-of w k) (perform w k .seen .1 .answer) (perform w k .seen .1 .grants))
+call-honest : (w : World) (k : Call) → Honest w (entryOf (log-of w k) (perform w k .seen .1))
 call-honest w k l x =
     let m = call-kept w k in
     (call-came w k l x, subst (λ v. Live v l) (m .kept .leads) (m .gain l x))
 
-one-more : (d : Diary) (e : Entry) → Kept-well d → Honest (d .world) e → Fair (d .origin) (d .entries ++ (e ∷ []))
+one-more : (d : Course) (e : Entry) → Kept-well d → Honest (d .world) e → Fair (d .origin) (d .entries ++ (e ∷ []))
 one-more d e s h = fair-append (d .origin) (d .entries) (e ∷ []) (s .fair) (subst (λ w. Honest w e) (s .stretch .leads) h, tt)
 
-begun-fair : (a : Answer) (w : World) (d : Diary) → Fair (d .origin) (d .entries) → Fair (begun-by a w d .origin) (begun-by a w d .entries)
-begun-fair Done w d f = tt
-begun-fair (Cell c) w d f = f
-begun-fair (Granted l) w d f = f
-begun-fair AllGranted w d f = f
-begun-fair Busy w d f = f
-begun-fair (Refused r) w d f = f
-begun-fair (RefusedAt r p) w d f = f
+-- a preparation hands nothing over
+prepared-fair : (a : Answer) (w v : World) (d : Course) → ((l : Lease) → Hands-over a [] l → ⊥) → Kept-well d
+    → Fair (prepared-by a w v d .origin) (prepared-by a w v d .entries)
+prepared-fair Done w v d h s = tt
+prepared-fair (Cell c) w v d h s = one-more d _ s (λ l x. absurd (h l x))
+prepared-fair (Granted k) w v d h s = one-more d _ s (λ l x. absurd (h l x))
+prepared-fair AllGranted w v d h s = one-more d _ s (λ l x. absurd (h l x))
+prepared-fair Busy w v d h s = one-more d _ s (λ l x. absurd (h l x))
+prepared-fair (Refused r) w v d h s = one-more d _ s (λ l x. absurd (h l x))
+prepared-fair (RefusedAt r p) w v d h s = one-more d _ s (λ l x. absurd (h l x))
 
-item-fair : (d : Diary) (i : Item) → Kept-well d → Fair (next-entry d i .origin) (next-entry d i .entries)
-unfolding next-entry
+hands-none : (headers buckets serial : ℕ) (t g : List ℕ) (l : Lease) → Hands-over (preparing headers buckets serial t g .0) [] l → ⊥
+unfolding preparing
+hands-none headers buckets serial t g l = go (came headers buckets serial t g)
+  where
+    None : Prepared → Type 0
+    None o = Hands-over (o .0 .answer) [] l → ⊥
+
+    go : Came headers buckets serial t g → None (prepareOf headers buckets serial t g .seen)
+    go (was-done e p) = subst None (sym p) (λ x. x)
+    go (was-refused e p) = subst None (sym p) (λ x. x)
+
+item-fair : (d : Course) (i : Item) → Kept-well d → Fair (next-item d i .origin) (next-item d i .entries)
+unfolding next-item
 item-fair d (call k) s = one-more d _ s (call-honest (d .world) k)
 item-fair d (foreign-step kind place number) s = one-more d _ s (λ l x. absurd x)
-item-fair d (preparation headers buckets serial t g) s = let p = preparing headers buckets serial t g in begun-fair (p .0) (p .1) d (s .fair)
+item-fair d (preparation headers buckets serial) s =
+    let p = preparing headers buckets serial (d .world .table) (d .world .health) in
+    prepared-fair (p .0) (p .1) (worldOf (d .world .head) (p .1 .table) (p .1 .health)) d (hands-none headers buckets serial (d .world .table) (d .world .health)) s
+item-fair d (preparation-over headers buckets serial t g) s =
+    let p = preparing headers buckets serial t g in
+    prepared-fair (p .0) (p .1) (d .world) d (hands-none headers buckets serial t g) s
 
-item-kept : (d : Diary) (i : Item) → Kept-well d → Kept-well (next-entry d i)
+item-kept : (d : Course) (i : Item) → Kept-well d → Kept-well (next-item d i)
 unfolding run
-item-kept d i s = record { stretch = subst Stretch (sym (next-same d i)) (run-stretch (course-of d) (i ∷ []) (s .stretch)); fair = item-fair d i s }
+item-kept d i s = record { stretch = run-stretch d (i ∷ []) (s .stretch); fair = item-fair d i s }
 
-written-kept : (d : Diary) (is : List Item) → Kept-well d → Kept-well (written d is)
-unfolding written
-written-kept d [] s = s
-written-kept d (i ∷ is) s = written-kept (next-entry d i) is (item-kept d i s)
+run-kept : (d : Course) (is : List Item) → Kept-well d → Kept-well (run d is)
+unfolding run
+run-kept d [] s = s
+run-kept d (i ∷ is) s = run-kept (next-item d i) is (item-kept d i s)
 
-pub through : (rubbish : World) (headers buckets serial : ℕ) (t g : List ℕ) (items : List Item) → preparing headers buckets serial t g .0 ≡ Done
-    → Kept-well (written (blank rubbish) (preparation headers buckets serial t g ∷ items))
-unfolding written next-entry
-through rubbish headers buckets serial t g items d =
-    let p = preparation headers buckets serial t g in
-    let b = preparation-stretch headers buckets serial t g (cold rubbish) (λ n. absurd (n d)) in
-    written-kept (next-entry (blank rubbish) p) items
-    (record { stretch = subst Stretch (sym (next-same (blank rubbish) p)) b; fair = begun-fair (preparing headers buckets serial t g .0) (preparing headers buckets serial t g .1) (blank rubbish) tt })
+pub through : Through Kept-well
+unfolding run next-item
+through rubbish headers buckets serial items d =
+    run-kept (next-item (cold rubbish) (preparation headers buckets serial)) items
+    (record { stretch = begun rubbish headers buckets serial d; fair = first (p .0) d })
+  where
+    p : Answer × World
+    p = preparing headers buckets serial (rubbish .table) (rubbish .health)
+
+    new : Answer → Course
+    new a = prepared-by a (p .1) (worldOf (rubbish .head) (p .1 .table) (p .1 .health)) (cold rubbish)
+
+    first : (a : Answer) → a ≡ Done → Fair (new a .origin) (new a .entries)
+    first a e = subst (λ (x : Answer). Fair (new x .origin) (new x .entries)) (sym e) tt
 
 -- ---- at an entry
 
@@ -171,7 +167,7 @@ record At (w : World) (i : Entry) (z : List Entry) : Type 0 where
   lawful : Lawful (now w (i .events)) (events-of z)
   fair : Fair (now w (i .events)) z
 
-at : (d : Diary) (x z : List Entry) (i : Entry) → Kept-well d → d .entries ≡ x ++ (i ∷ z) → At (now (d .origin) (events-of x)) i z
+at : (d : Course) (x z : List Entry) (i : Entry) → Kept-well d → d .entries ≡ x ++ (i ∷ z) → At (now (d .origin) (events-of x)) i z
 at d x z i s e =
     let o = d .origin in
     let u = now o (events-of x) in
@@ -195,45 +191,45 @@ spliced xs js before after m n new old e f =
 -- ---- the statements
 
 pub never-twice : Never-twice
-never-twice rubbish headers buckets serial t g items d x y z i j l k e p q =
-    let w = written (blank rubbish) (preparation headers buckets serial t g ∷ items) in
+never-twice rubbish headers buckets serial items d x y z i j l k e p q =
+    let w = run (cold rubbish) (preparation headers buckets serial ∷ items) in
     let u = now (w .origin) (events-of x) in
     let v = now u (i .events) in
-    let a = at w x (y ++ (j ∷ z)) i (through rubbish headers buckets serial t g items d) e in
+    let a = at w x (y ++ (j ∷ z)) i (through rubbish headers buckets serial items d) e in
     let b = taken-between (a .honest l p .0) in
     let c = taken-between (fair-split v y (j ∷ z) (a .fair) .0 k q .0) in
     omega (arith, b .1, c .0, next-now u (i .events), next-now v (events-of y))
 
 pub once-each : Once-each
-once-each rubbish headers buckets serial t g items d x z i c s s′ e p q =
-    let w = written (blank rubbish) (preparation headers buckets serial t g ∷ items) in
+once-each rubbish headers buckets serial items d x z i c s s′ e p q =
+    let w = run (cold rubbish) (preparation headers buckets serial ∷ items) in
     let v = now (now (w .origin) (events-of x)) (i .events) in
-    let a = at w x z i (through rubbish headers buckets serial t g items d) e in
+    let a = at w x z i (through rubbish headers buckets serial items d) e in
     sym (lives v (leaseOf c s) (a .honest (leaseOf c s) p .1) .owner-is) ∙ lives v (leaseOf c s′) (a .honest (leaseOf c s′) q .1) .owner-is
 
 pub none-takes : None-takes
-none-takes rubbish headers buckets serial t g items d x z i c s s′ b between after e p q =
-    let w = written (blank rubbish) (preparation headers buckets serial t g ∷ items) in
+none-takes rubbish headers buckets serial items d x z i c s s′ b between after e p q =
+    let w = run (cold rubbish) (preparation headers buckets serial ∷ items) in
     let v = now (now (w .origin) (events-of x)) (i .events) in
-    let a = at w x z i (through rubbish headers buckets serial t g items d) e in
+    let a = at w x z i (through rubbish headers buckets serial items d) e in
     parted v c s s′ b between after (a .fits) (a .honest (leaseOf c s) p .1) (subst (Lawful v) q (a .lawful))
 
 pub two-writers : Two-writers
-two-writers rubbish headers buckets serial t g items d x y z i j c s s′ e p q =
-    let w = written (blank rubbish) (preparation headers buckets serial t g ∷ items) in
+two-writers rubbish headers buckets serial items d x y z i j c s s′ e p q =
+    let w = run (cold rubbish) (preparation headers buckets serial ∷ items) in
     let v = now (now (w .origin) (events-of x)) (i .events) in
-    let a = at w x (y ++ (j ∷ z)) i (through rubbish headers buckets serial t g items d) e in
+    let a = at w x (y ++ (j ∷ z)) i (through rubbish headers buckets serial items d) e in
     let k = fair-split v y (j ∷ z) (a .fair) .0 (leaseOf c s′) q .0 in
     let es = events-of y in
     let new = took by-caller c s′ in
     let whole = events-append y (j ∷ z) ∙ seam es (j .events) (k .before) (k .after) (events-of z) new (k .parts) in
-    let r = none-takes rubbish headers buckets serial t g items d x (y ++ (j ∷ z)) i c s s′ by-caller (es ++ k .before) (k .after ++ events-of z) e p whole in
+    let r = none-takes rubbish headers buckets serial items d x (y ++ (j ∷ z)) i c s s′ by-caller (es ++ k .before) (k .after ++ events-of z) e p whole in
     (r .0, r .1, r .2, k .after, spliced es (j .events) (k .before) (k .after) (r .1) (r .2) new (released (r .0) c s) (k .parts) (r .3))
 
 pub takes-parted : Takes-parted
-takes-parted rubbish headers buckets serial t g items d c s s′ a b x between z e =
-    let w = written (blank rubbish) (preparation headers buckets serial t g ∷ items) in
-    let k = through rubbish headers buckets serial t g items d .stretch in
+takes-parted rubbish headers buckets serial items d c s s′ a b x between z e =
+    let w = run (cold rubbish) (preparation headers buckets serial ∷ items) in
+    let k = through rubbish headers buckets serial items d .stretch in
     let p = lawful-split (w .origin) x (took a c s ∷ (between ++ (took b c s′ ∷ z))) (subst (Lawful (w .origin)) e (k .lawful)) in
     let v = now (w .origin) x in
     let v-fits = fit-now (w .origin) x (fit (k .good)) (p .0) in
@@ -243,21 +239,26 @@ takes-parted rubbish headers buckets serial t g items d c s s′ a b x between z
 
 -- ---- one call over a live lease
 
-pub not-over-live : Not-over-live
-not-over-live w k c s s′ snd v x =
-    let g = fit (good w snd) in
-    let t = call-came w k (leaseOf c s′) x in
-    let r = parted w c s s′ by-caller (t .before) (t .after) g v (subst (Lawful w) (t .parts) (call-kept w k .kept .lawful)) in
-    (r .0, r .1, r .2, t .after, spliced [] (log-of w k) (t .before) (t .after) (r .1) (r .2) (took by-caller c s′) (released (r .0) c s) (t .parts) (r .3))
+pub not-over-live : Not-over-live perform
+not-over-live w k c s s′ v x = go (call-fit w k) (call-came w k (leaseOf c s′) x)
+  where
+    Out : Type 0
+    Out = (a : Actor) × (before middle after : List Event) × (log-of w k ≡ before ++ (released a c s ∷ (middle ++ (took by-caller c s′ ∷ after))))
+
+    go : (log-of w k ≡ []) ⊎ Fit w → Taken-in (w .head .next) (leaseOf c s′) (log-of w k) → Out
+    go (inl z) t = absurd (not-empty (took by-caller c s′) (t .before) (t .after) (sym z ∙ t .parts))
+    go (inr f) t =
+        let r = parted w c s s′ by-caller (t .before) (t .after) f v (subst (Lawful w) (t .parts) (call-kept w k .kept .lawful)) in
+        (r .0, r .1, r .2, t .after, spliced [] (log-of w k) (t .before) (t .after) (r .1) (r .2) (took by-caller c s′) (released (r .0) c s) (t .parts) (r .3))
 
 -- a log with a release of the lease is no log without one
 was-released : (c s : ℕ) (a : Actor) (before after : List Event) → Unreleased (leaseOf c s) (before ++ (released a c s ∷ after)) → ⊥
 was-released c s a [] after u = u .0 refl
 was-released c s a (e ∷ es) after u = was-released c s a es after (u .1)
 
-none-handed : (w : World) (k : Call) (c s s′ : ℕ) → Sound w → Live w (leaseOf c s) → Unreleased (leaseOf c s) (log-of w k) → Gives w k (leaseOf c s′) → ⊥
-none-handed w k c s s′ snd v u x =
-    let r = not-over-live w k c s s′ snd v x in
+none-handed : (w : World) (k : Call) (c s s′ : ℕ) → Live w (leaseOf c s) → Unreleased (leaseOf c s) (log-of w k) → Gives (perform w k) (leaseOf c s′) → ⊥
+none-handed w k c s s′ v u x =
+    let r = not-over-live w k c s s′ v x in
     was-released c s (r .0) (r .1) _ (subst (Unreleased (leaseOf c s)) (r .4) u)
 
 -- what such a call answers
@@ -308,16 +309,16 @@ steps-one w (release-all script place leases) a = absurd a
 steps-one w (acquire-locks registry script place held keys grants) a = absurd a
 steps-one w (crew counts cells turns) a = absurd a
 
-pub busy-or-refused : Busy-or-refused
-busy-or-refused w k s snd a v u = go (answers w k) refl (performed (λ m. One (m .seen .1 .answer)) w k (λ r. tt) (λ _. steps-one w k a))
+pub busy-or-refused : Busy-or-refused perform
+busy-or-refused w k s a v u = go (answers w k) refl (performed (λ m. One (m .seen .1 .answer)) w k (λ r. tt) (λ _. steps-one w k a))
   where
     go : (x : Answer) → answers w k ≡ x → One x → (answers w k ≡ Busy) ⊎ ((r : Refusal) × (answers w k ≡ Refused r))
     go Done e o = absurd o
     go (Cell c) e o = absurd o
     go (Granted l) e o =
-        let c = grant-is w k l snd e .0 in
+        let c = grants-name w k l e in
         let m = leaseOf (asked w k) (l .serial) in
-        absurd (none-handed w k (asked w k) s (l .serial) snd v u (subst (λ x. Hands-over x (buffer-after w k) m) (sym e) (same-lease l m c refl)))
+        absurd (none-handed w k (asked w k) s (l .serial) v u (subst (λ x. Hands-over x (buffer-in (perform w k)) m) (sym e) (same-lease l m c refl)))
     go AllGranted e o = absurd o
     go Busy e o = inl e
     go (Refused r) e o = inr (r, e)
@@ -348,8 +349,8 @@ locks-answer (suc left) p e buckets registry keys taken r t g grants =
     go outcome.Busy s u y on = tt
     go (outcome.Refused x) s u y on = tt
 
-pub locks-refused : Locks-refused
-locks-refused w registry script place held keys grants p s snd i v u =
+pub locks-refused : Locks-refused perform
+locks-refused w registry script place held keys grants p s i v u =
     go (answers w k) refl
     (performed (λ m. All-or-refused (m .seen .1 .answer)) w k (λ r. tt)
     (λ _. locks-answer (countIn keys) 0 (acting w k) (w .head .buckets) registry keys [] (starting (w .head) place) (w .table) (w .health) grants))
@@ -358,23 +359,23 @@ locks-refused w registry script place held keys grants p s snd i v u =
     k = acquire-locks registry script place held keys grants
 
     c : ℕ
-    c = cellOf (w .head .buckets) registry (bindingAt keys p) (bucketAt keys p)
+    c = keyCell (w .head .buckets) registry keys p
 
     ls : List Lease
-    ls = leasesOf (buffer-after w k)
+    ls = leasesOf (buffer-in (perform w k))
 
     go : (x : Answer) → answers w k ≡ x → All-or-refused x → ((r : Refusal) × (answers w k ≡ Refused r)) ⊎ ((r : Refusal) × (q : ℕ) × (answers w k ≡ RefusedAt r q))
     go Done e o = absurd o
     go (Cell c) e o = absurd o
     go (Granted l) e o = absurd o
     go AllGranted e o =
-        let b = buffer-is w registry script place held keys grants snd e in
+        let b = buffers-name w registry script place held keys grants e in
         let l = leaseAt ls p in
-        let n : p < length ls = omega (arith, words-leases (buffer-after w k), b .0) in
+        let n : p < length ls = omega (arith, words-leases (buffer-in (perform w k)), b .0) in
         let stands : In ls l = subst (λ x. In x l) (take-length ls) (in-take ls (length ls) p noLease n n) in
         let m = leaseOf c (l .serial) in
-        let here : In ls m = subst (In ls) (same-lease l m (b .1 p i .0) refl) stands in
-        absurd (none-handed w k c s (l .serial) snd v u (subst (λ x. Hands-over x (buffer-after w k) m) (sym e) here))
+        let here : In ls m = subst (In ls) (same-lease l m (b .1 p i) refl) stands in
+        absurd (none-handed w k c s (l .serial) v u (subst (λ x. Hands-over x (buffer-in (perform w k)) m) (sym e) here))
     go Busy e o = absurd o
     go (Refused r) e o = inl (r, e)
     go (RefusedAt r q) e o = inr (r, q, e)
