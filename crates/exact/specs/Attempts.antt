@@ -1,40 +1,70 @@
--- `acquire_index_bucket` from outside: up to 4,096 times what `transactional_try_lock_bucket` does, one after the other, and after each that is
--- Busy what `environment` does, once, or twice after every 64th. 11 exactly if all 4,096 were Busy. Any script, any arena.
-use Prim.Native.Nat.{ℕ, zero, suc, _+_, _%_, _<_}
-use mathlib.Core.Path.{_≡_, refl, sym, subst}
-use mathlib.Core.List.{List, [], _∷_, _++_, append-nil, append-assoc}
-use mathlib.Core.Bool.{true, false}
-use native.Mathlib.Omega.{arith}
-use native.Mathlib.Nat.{add-zero}
-use lib.Dec.{eqb}
-use borrow.Author.Tests.{eqb-true, eqb-false}
-use Rattle.model.specs.Log.{Made, yielded, spun, note, _>>=_, _>>_}
-use Rattle.model.specs.Arena.{leasesOf}
-use Rattle.model.specs.Foreign.{Setting, flowOf, boundaryOf}
-use Rattle.model.specs.Lock.{answerOf, settled, runOf, triedOf, attemptOf, spinOf, pauseOf, isBusy, retryOf, attemptLimit}
-use Rattle.model.specs.Calls.{countsOf, given}
-use Rattle.model.specs.declared.Answer.the-variants.{Done, Busy, Refused}
+-- Attempts, counted from outside, as statements for any script and any arena: how one attempt ends; that `acquire_index_bucket` is attempts and
+-- boundaries, and multi-lock such calls key by key; and what follows for the counts. `Theorems` has the proofs by name. What stands in quotes is
+-- of document 01.
+use Rattle.model.specs.Crew.{total}
+use Prim.Native.Nat.{ℕ, _+_, _/_, _≤_, _%_, _<_, _-_}
+use Rattle.model.specs.declared.Answer.{Answer}
+use Rattle.history.specs.Items.{Build, Says, acquire-bucket, acquire-locks, says, environment, transactional, drop-lease}
 use Rattle.model.specs.declared.Counts.{Counts}
-use Rattle.model.specs.declared.Head.{Head}
-use Rattle.model.specs.declared.Outcome.{Outcome}
-use Rattle.model.specs.declared.Outcome.the-variants as outcome
+use Rattle.model.specs.Log.{Event, Made, took, released, waiters-set, health-set, spun, yielded, attempt-begun, boundary-run, step-dropped, by-caller, by-script}
+use mathlib.Core.List.{List, _∷_, _++_, []}
+use lib.ListN.{length, getD}
+use Rattle.history.specs.World.{World, caller-releases}
+use Rattle.model.specs.Calls.{countsOf}
+use Rattle.exact.specs.Statements.{Passes}
+use Rattle.model.specs.declared.Answer.the-variants.{Done, Refused, Busy, RefusedAt, Cell, Granted, AllGranted}
+use Rattle.history.specs.Statements.{answer-in, world-in}
+use Rattle.model.specs.Checks.{countIn}
 use Rattle.model.specs.declared.Refusal.the-variants.{SerializationFailure}
-use Rattle.model.specs.declared.Run.{Run}
-use Rattle.model.specs.declared.Tried.{Tried}
-use Rattle.history.specs.World.{World}
-use Rattle.history.specs.Items.{Says, says, environment, transactional, acquire-bucket, perform}
-use Rattle.history.specs.Tests.{differ, if-cases}
-use Rattle.history.specs.Steps.{With, worldAt, of-run, of-tried}
-use Rattle.history.specs.Judged.{Clear, rules, steps}
-use Rattle.exact.specs.Made.{acquire-bucket-has, made}
-use Rattle.exact.specs.CountedOn.{on-run, run-on, tried-on, boundary-from, pause-on, retry-on}
+use mathlib.Core.Path.{_≡_}
+use mathlib.Core.Logic.{_↔_}
+use Rattle.model.specs.Arena.{leaseOf, wordsOf}
+use Rattle.model.specs.Lock.{bindingAt, bucketAt}
+use Rattle.model.specs.declared.Lease.{Lease}
+use Rattle.model.specs.declared.Refusal.{Refusal}
+use Rattle.model.specs.Refusals.{numberOf}
+use Rattle.exact.specs.Script.{place-in}
 
--- ---- the statement
+-- ---- how one attempt ends: its boundaries, the cells that the caller takes in it, and those that it releases
+
+unfoldable pub caller-takes : List Event → List Lease
+caller-takes [] = []
+caller-takes (attempt-begun ∷ es) = caller-takes es
+caller-takes (boundary-run ∷ es) = caller-takes es
+caller-takes (yielded ∷ es) = caller-takes es
+caller-takes (spun ∷ es) = caller-takes es
+caller-takes (step-dropped ∷ es) = caller-takes es
+caller-takes (took by-caller c s ∷ es) = leaseOf c s ∷ caller-takes es
+caller-takes (took by-script c s ∷ es) = caller-takes es
+caller-takes (released a c s ∷ es) = caller-takes es
+caller-takes (waiters-set c n ∷ es) = caller-takes es
+caller-takes (health-set i n ∷ es) = caller-takes es
+
+pub data Ends : Answer → (boundaries : ℕ) (taken released : List Lease) → Type 0 where
+  -- 6, 7, 8: the key names no cell of a healthy header
+  no-cell : (r : Refusal) → 6 ≤ numberOf r → numberOf r ≤ 8 → Ends (Refused r) 0 [] []
+  -- "boundary; waiters not 0: Busy"
+  waited : Ends Busy 1 [] []
+  -- "boundary; try_acquire": held, damaged, or no serial
+  held : Ends Busy 2 [] []
+  not-takable : (r : Refusal) → 9 ≤ numberOf r → numberOf r ≤ 10 → Ends (Refused r) 2 [] []
+  -- "boundary (protecting the new lease); waiters not 0: release it, Busy; else granted"
+  late : (l : Lease) → Ends Busy 3 (l ∷ []) (l ∷ [])
+  granted : (l : Lease) → Ends (Granted l) 3 (l ∷ []) []
+
+abbrev pub Ending : Made (World × Says) → Type 0
+Ending m = Ends (answer-in m) (m .seen .1 .counts .boundaries) (caller-takes (m .log)) (caller-releases (m .log))
+
+abbrev pub Attempt-ends : Build → Type 0
+Attempt-ends f =
+    (w : World) (registry script : List ℕ) (place : ℕ) (held : List ℕ) (binding bucket : ℕ)
+    → let k = transactional registry script place held binding bucket in Passes w k → Ending (f w k)
+
+-- ---- one call and then another: the counts add up, the logs follow one another, and the second's answer stands
 
 abbrev pub added : Counts → Counts → Counts
 added a b = countsOf (a .attempts + b .attempts) (a .boundaries + b .boundaries) (a .yields + b .yields) (a .dropped + b .dropped)
 
--- one call and then another: the counts add up, the logs follow one another, and the second's answer stands
 infixr 4 _and-then_
 abbrev pub _and-then_ : Made (World × Says) → Made (World × Says) → Made (World × Says)
 m and-then n =
@@ -43,14 +73,9 @@ m and-then n =
       log = m .log ++ n .log;
     }
 
-module _ (registry script held : List ℕ) (binding bucket : ℕ) where
-  -- one attempt, and one boundary, at a place of the script
-  abbrev pub attempt : World → ℕ → Made (World × Says)
-  attempt w p = steps w (transactional registry script p held binding bucket)
+-- ---- `acquire_index_bucket` is up to 4,096 times `transactional_try_lock_bucket`, and `environment` once or twice after each that is Busy
 
-  abbrev pub between : World → ℕ → Made (World × Says)
-  between w p = steps w (environment script p held)
-
+module _ (attempt between : World → (place : ℕ) → Made (World × Says)) where
   -- a boundary and a spin; a boundary and a yield
   abbrev pub spin : World → ℕ → Made (World × Says)
   spin w p = let m = between w p in record { seen = m .seen; log = m .log ++ (spun ∷ []) }
@@ -58,129 +83,156 @@ module _ (registry script held : List ℕ) (binding bucket : ℕ) where
   abbrev pub yield : World → ℕ → Made (World × Says)
   yield w p =
       let m = between w p in
-      record { seen = (m .seen .0, says Done (countsOf 0 1 1 (m .seen .1 .counts .dropped)) (m .seen .1 .place) []); log = m .log ++ (yielded ∷ []) }
+      record { seen = (m .seen .0, says Done (countsOf 0 1 1 (m .seen .1 .counts .dropped)) (place-in m) []); log = m .log ++ (yielded ∷ []) }
 
-  -- "after a Busy attempt whose number has remainder 63 by 64, a boundary and a yield; then after each Busy attempt, a boundary and a spin"
+  -- "after a Busy attempt whose number has remainder 63 by 64, a boundary and a yield; then, after each Busy attempt, a boundary and a spin"
   pub data Pause (i : ℕ) (w : World) (p : ℕ) : Made (World × Says) → Type 0 where
-    spins : (i % 64 ≡ 63 → ⊥) → Pause i w p (spin w p)
-    yields : i % 64 ≡ 63 → Pause i w p (yield w p and-then spin (yield w p .seen .0) (yield w p .seen .1 .place))
+    only-spins : (i % 64 ≡ 63 → ⊥) → Pause i w p (spin w p)
+    also-yields : i % 64 ≡ 63 → Pause i w p (yield w p and-then spin (world-in (yield w p)) (place-in (yield w p)))
 
   -- attempts from number i on
   pub data Attempts : (i : ℕ) (w : World) (p : ℕ) → Made (World × Says) → Type 0 where
     -- "After 4,096: SerializationFailure."
     all-busy : {w : World} {p : ℕ} → Attempts 4096 w p (record { seen = (w, says (Refused SerializationFailure) (countsOf 0 0 0 0) p []); log = [] })
     -- an attempt that is not Busy is the last
-    the-last : {i : ℕ} {w : World} {p : ℕ} → i < 4096 → (attempt w p .seen .1 .answer ≡ Busy → ⊥) → Attempts i w p (attempt w p)
-    one-busy : {i : ℕ} {w : World} {p : ℕ} {m n : Made (World × Says)} → i < 4096 → attempt w p .seen .1 .answer ≡ Busy
-        → Pause i (attempt w p .seen .0) (attempt w p .seen .1 .place) m → Attempts (i + 1) (m .seen .0) (m .seen .1 .place) n
+    the-last : {i : ℕ} {w : World} {p : ℕ} → i < 4096 → (answer-in (attempt w p) ≡ Busy → ⊥) → Attempts i w p (attempt w p)
+    one-busy : {i : ℕ} {w : World} {p : ℕ} {m n : Made (World × Says)} → i < 4096 → answer-in (attempt w p) ≡ Busy
+        → Pause i (world-in (attempt w p)) (place-in (attempt w p)) m → Attempts (i + 1) (world-in m) (place-in m) n
         → Attempts i w p (attempt w p and-then (m and-then n))
 
-abbrev pub Bucket-attempts : Type 0
-Bucket-attempts =
+abbrev pub Bucket-attempts : Build → Type 0
+Bucket-attempts f =
     (w : World) (registry script : List ℕ) (place : ℕ) (held : List ℕ) (binding bucket : ℕ)
     → let k = acquire-bucket registry script place held binding bucket in
-    Clear (rules w k) → Attempts registry script held binding bucket 0 w place (perform w k)
+    Passes w k
+    → Attempts (λ v p. f v (transactional registry script p held binding bucket)) (λ v p. f v (environment script p held)) 0 w place (f w k)
 
--- ---- proofs
+-- ---- multi-lock is `acquire_index_bucket` key by key, each holding what was taken before; and, refused, `drop_lease` and `environment` for each
+-- lease taken, the last first
 
--- a run that has counted nothing
-abbrev nil : ℕ → ℕ → Run
-nil n p = runOf (flowOf n p 0) 0 0 0
+module _ (f : Build) (registry script held keys grants : List ℕ) where
+  -- the call for the key at position p, holding what was taken
+  abbrev pub locking : ℕ → List Lease → World → (place : ℕ) → Made (World × Says)
+  locking p taken w place = f w (acquire-bucket registry script place (held ++ wordsOf taken) (bindingAt keys p) (bucketAt keys p))
 
-abbrev counted : Run → Counts
-counted r = countsOf (r .attempts) (r .boundaries) (r .yields) (r .flow .dropped)
+  -- one lease given back; and one boundary, holding what is not yet given back
+  abbrev pub dropping : Lease → World → Made (World × Says)
+  dropping l w = f w (drop-lease l)
 
--- every run is one that has counted nothing, counted on
-from-nil : (r : Run) → on-run (counted r) (nil (r .flow .next) (r .flow .place)) ≡ r
-from-nil r = rw (add-zero (r .attempts), add-zero (r .boundaries), add-zero (r .yields), add-zero (r .flow .dropped))
+  abbrev pub between : List Lease → World → (place : ℕ) → Made (World × Says)
+  between taken w place = f w (environment script place (held ++ wordsOf taken))
 
-busy-is : (o : Outcome) → isBusy o ≡ true → answerOf o ≡ Busy
-busy-is (outcome.Granted l) e = absurd (differ e)
-busy-is outcome.Busy e = refl
-busy-is (outcome.Refused r) e = absurd (differ e)
+  pub data Gives-back : List Lease → World → (place : ℕ) → Made (World × Says) → Type 0 where
+    all-back : {w : World} {place : ℕ} → Gives-back [] w place (record { seen = (w, says Done (countsOf 0 0 0 0) place []); log = [] })
+    one-back : {ls : List Lease} {w v : World} {place : ℕ} {n : Made (World × Says)} (l : Lease)
+        → answer-in (dropping l w) ≡ Done → v ≡ world-in (dropping l w) → answer-in (between ls v place) ≡ Done
+        → Gives-back ls (world-in (between ls v place)) (place-in (between ls v place)) n
+        → Gives-back (ls ++ (l ∷ [])) w place (dropping l w and-then (between ls v place and-then n))
 
-not-busy : (o : Outcome) → isBusy o ≡ false → answerOf o ≡ Busy → ⊥
-not-busy (outcome.Granted l) e q = let z : _≡_ {A = ℕ} 0 1 = cc in omega arith
-not-busy outcome.Busy e q = differ (sym e)
-not-busy (outcome.Refused r) e q = let z : _≡_ {A = ℕ} 0 1 = cc in omega arith
+  -- "multi-lock adds the key's position", "the grant buffer is unchanged"
+  abbrev pub refused-at : Refusal → ℕ → Made (World × Says) → Made (World × Says)
+  refused-at r p m = record { seen = (m .seen .0, says (RefusedAt r p) (m .seen .1 .counts) (m .seen .1 .place) grants); log = m .log }
 
-same-settled : (o : Outcome) → isBusy o ≡ false → settled o ≡ o
-same-settled (outcome.Granted l) e = refl
-same-settled outcome.Busy e = absurd (differ (sym e))
-same-settled (outcome.Refused r) e = refl
+  -- keys from position p on, with these leases taken
+  pub data Key-by-key : (p : ℕ) → List Lease → World → (place : ℕ) → Made (World × Says) → Type 0 where
+    all-locked : {p : ℕ} {taken : List Lease} {w : World} {place : ℕ} → p ≡ countIn keys
+        → Key-by-key p taken w place (record { seen = (w, says AllGranted (countsOf 0 0 0 0) place (wordsOf taken)); log = [] })
+    one-locked : {p : ℕ} {taken : List Lease} {w : World} {place : ℕ} {n : Made (World × Says)} (l : Lease) → p < countIn keys
+        → answer-in (locking p taken w place) ≡ Granted l
+        → Key-by-key (p + 1) (taken ++ (l ∷ [])) (world-in (locking p taken w place)) (place-in (locking p taken w place)) n
+        → Key-by-key p taken w place (locking p taken w place and-then n)
+    one-refused : {p : ℕ} {taken : List Lease} {w : World} {place : ℕ} {n : Made (World × Says)} (r : Refusal) → p < countIn keys
+        → answer-in (locking p taken w place) ≡ Refused r
+        → Gives-back taken (world-in (locking p taken w place)) (place-in (locking p taken w place)) n
+        → Key-by-key p taken w place (refused-at r p (locking p taken w place and-then n))
 
-module _ (h : Head) (registry script held : List ℕ) (binding bucket : ℕ) where
-  abbrev e : Setting
-  e = given h script (leasesOf held)
+abbrev pub Locks-as-calls : Build → Type 0
+Locks-as-calls f =
+    (w : World) (registry script : List ℕ) (place : ℕ) (held keys grants : List ℕ)
+    → let k = acquire-locks registry script place held keys grants in
+    Passes w k → Key-by-key f registry script held keys grants 0 [] w place (f w k)
 
-  -- as the call says it: a pause, and a retry
-  abbrev paused : Made (With Run) → Made (World × Says)
-  paused m = record { seen = (of-run h (m .seen), says Done (counted (m .seen .0)) (m .seen .0 .flow .place) []); log = m .log }
+-- ---- what follows for the counts. "after each Busy attempt, a boundary and a spin": the spins in the log are the Busy attempts
 
-  abbrev at-last : Made (With Tried) → Made (World × Says)
-  at-last m = record { seen = (of-tried h (m .seen), says (answerOf (settled (m .seen .0 .outcome))) (counted (m .seen .0 .run)) (m .seen .0 .run .flow .place) []); log = m .log }
+abbrev is-spin : Event → ℕ
+is-spin attempt-begun = 0
+is-spin boundary-run = 0
+is-spin yielded = 0
+is-spin spun = 1
+is-spin step-dropped = 0
+is-spin (took a c s) = 0
+is-spin (released a c s) = 0
+is-spin (waiters-set c n) = 0
+is-spin (health-set i n) = 0
 
-  abbrev Pauses : ℕ → ℕ → List ℕ → List ℕ → ℕ → Made (World × Says) → Type 0
-  Pauses n p t g i = Pause registry script held binding bucket i (worldAt h n t g) p
+unfoldable pub spins-in : List Event → ℕ
+spins-in [] = 0
+spins-in (e ∷ es) = is-spin e + spins-in es
 
-  pause-is : (i n p : ℕ) (t g : List ℕ) → Pauses n p t g i (paused (pauseOf e i (nil n p) t g))
-  unfolding pauseOf spinOf
-  pause-is i n p t g =
-      if-cases (λ (m : Made (With Run)). Pauses n p t g i (paused m)) (eqb (i % 64) 63)
-      (λ c. subst (Pauses n p t g i) twice (yields (eqb-true (i % 64) 63 c)))
-      (λ c. spins (eqb-false (i % 64) 63 c))
-    where
-      twice : (yield registry script held binding bucket (worldAt h n t g) p
-          and-then spin registry script held binding bucket (yield registry script held binding bucket (worldAt h n t g) p .seen .0) (yield registry script held binding bucket (worldAt h n t g) p .seen .1 .place))
-          ≡ paused (boundaryOf e (flowOf n p 0) t g >>= λ x. note yielded >> spinOf e (runOf (x .0) 0 (0 + 1) (0 + 1)) (x .1 .0) (x .1 .1))
-      twice =
-          let b = boundaryOf e (flowOf n p 0) t g in
-          rw (append-assoc (b .log) (yielded ∷ []), boundary-from e (b .seen .0) (b .seen .1 .0) (b .seen .1 .1))
+pub record Retries (a : Answer) (attempts yields busy : ℕ) : Type 0 where
+  pub yields-are : yields ≡ busy / 64
+  -- 11: every attempt was Busy, and there were 4,096; any other answer: all but the last were, and there were at most 4,096
+  pub failed : (a ≡ Refused SerializationFailure) ↔ (busy ≡ 4096)
+  pub all-busy : a ≡ Refused SerializationFailure → attempts ≡ busy
+  pub last-not : (a ≡ Refused SerializationFailure → ⊥) → (attempts ≡ busy + 1) × (attempts ≤ 4096)
 
-  pause-from : (i : ℕ) (r : Run) (t g : List ℕ) → pauseOf e i r t g ≡ run-on (counted r) (pauseOf e i (nil (r .flow .next) (r .flow .place)) t g)
-  pause-from i r t g = rw (from-nil r) at (pause-on (counted r) e i (nil (r .flow .next) (r .flow .place)) t g)
+abbrev pub Bucket-retries : Build → Type 0
+Bucket-retries f =
+    (w : World) (registry script : List ℕ) (place : ℕ) (held : List ℕ) (binding bucket : ℕ)
+    → let k = acquire-bucket registry script place held binding bucket in
+    Passes w k → Retries (answer-in (f w k)) (f w k .seen .1 .counts .attempts) (f w k .seen .1 .counts .yields) (spins-in (f w k .log))
 
-  retry-from : (left i : ℕ) (r : Run) (t g : List ℕ)
-      → retryOf left i e (h .buckets) registry binding bucket r t g
-      ≡ tried-on (counted r) (retryOf left i e (h .buckets) registry binding bucket (nil (r .flow .next) (r .flow .place)) t g)
-  retry-from left i r t g = rw (from-nil r) at (retry-on (counted r) e (h .buckets) registry binding bucket left i (nil (r .flow .next) (r .flow .place)) t g)
+-- multi-lock: the same for each key, summed over the keys; each divided by 64, rounded down
+unfoldable pub total-64 : List ℕ → ℕ
+total-64 [] = 0
+total-64 (n ∷ ns) = n / 64 + total-64 ns
 
-  -- a pause and what follows it, from a run that counts: the same from runs that have counted nothing, added up
-  abbrev pausing : ℕ → Run → List ℕ → List ℕ → Made (With Run)
-  pausing i r t g = pauseOf e i (nil (r .flow .next) (r .flow .place)) t g
+-- a key had 4,096 Busy attempts
+pub data Some-4096 : List ℕ → Type 0 where
+  this-key : {ns : List ℕ} → Some-4096 (4096 ∷ ns)
+  a-later : {n : ℕ} {ns : List ℕ} → Some-4096 ns → Some-4096 (n ∷ ns)
 
-  abbrev resting : ℕ → ℕ → With Run → Made (With Tried)
-  resting left i x = retryOf left (i + 1) e (h .buckets) registry binding bucket (nil (x .0 .flow .next) (x .0 .flow .place)) (x .1 .0) (x .1 .1)
+pub record Keys-retried (keys : ℕ) (a : Answer) (yields busy : ℕ) : Type 0 where
+  -- the Busy attempts of each key that was tried, in key order
+  pub of-key : List ℕ
+  pub few : length of-key ≤ keys
+  pub busy-are : busy ≡ total of-key
+  pub yields-are : yields ≡ total-64 of-key
+  pub failed : (p : ℕ) → a ≡ RefusedAt SerializationFailure p → Some-4096 of-key
+  pub fails : Some-4096 of-key → (p : ℕ) × (a ≡ RefusedAt SerializationFailure p)
 
-  both-from : (left i : ℕ) (r : Run) (t g : List ℕ)
-      → (pauseOf e i r t g >>= λ x. retryOf left (i + 1) e (h .buckets) registry binding bucket (x .0) (x .1 .0) (x .1 .1))
-      ≡ (pausing i r t g >>= λ x. tried-on (counted r) (tried-on (counted (x .0)) (resting left i x)))
-  both-from left i r t g =
-      let b = pausing i r t g .seen in
-      rw (pause-from i r t g, retry-on (counted r) e (h .buckets) registry binding bucket left (i + 1) (b .0) (b .1 .0) (b .1 .1), retry-from left (i + 1) (b .0) (b .1 .0) (b .1 .1))
+abbrev pub Locks-retry : Build → Type 0
+Locks-retry f =
+    (w : World) (registry script : List ℕ) (place : ℕ) (held keys grants : List ℕ)
+    → let k = acquire-locks registry script place held keys grants in
+    Passes w k → Keys-retried (countIn keys) (answer-in (f w k)) (f w k .seen .1 .counts .yields) (spins-in (f w k .log))
 
-  abbrev Tries : ℕ → ℕ → List ℕ → List ℕ → ℕ → Made (World × Says) → Type 0
-  Tries n p t g i = Attempts registry script held binding bucket i (worldAt h n t g) p
+-- the boundaries: what each attempt's ending gives, 0, 1, 2 or 3; one for each Busy attempt; one for each yield; one for each release in a
+-- rollback
+pub record Boundaries-add (counts : Counts) (busy releases : ℕ) : Type 0 where
+  pub endings : List ℕ
+  pub each : (i : ℕ) → i < length endings → getD endings i 0 ≤ 3
+  pub as-many : length endings ≡ counts .attempts
+  pub sum : counts .boundaries ≡ total endings + busy + counts .yields + releases
 
-  retry-is : (left i n p : ℕ) (t g : List ℕ) → i + left ≡ 4096 → Tries n p t g i (at-last (retryOf left i e (h .buckets) registry binding bucket (nil n p) t g))
-  unfolding retryOf
-  retry-is zero i n p t g l =
-      let z : i ≡ 4096 = omega arith in
-      subst (λ x. Tries n p t g x (at-last (record { seen = (triedOf (nil n p) outcome.Busy, (t, g)); log = [] }))) (sym z) all-busy
-  retry-is (suc left) i n p t g l =
-      let m = attemptOf e (h .buckets) registry binding bucket (nil n p) t g in
-      let r = m .seen .0 .run in
-      let b = pauseOf e i (nil (r .flow .next) (r .flow .place)) (m .seen .1 .0) (m .seen .1 .1) in
-      let s = b .seen .0 in
-      let j : i < 4096 = omega arith in
-      if-cases (λ (o : Made (With Tried)). Tries n p t g i (at-last (record { seen = o .seen; log = m .log ++ o .log }))) (isBusy (m .seen .0 .outcome))
-      (λ c.
-      subst (λ (o : Made (With Tried)). Tries n p t g i (at-last (record { seen = o .seen; log = m .log ++ o .log }))) (sym (both-from left i r (m .seen .1 .0) (m .seen .1 .1)))
-      (one-busy j (busy-is (m .seen .0 .outcome) c) (pause-is i (r .flow .next) (r .flow .place) (m .seen .1 .0) (m .seen .1 .1))
-      (retry-is left (i + 1) (s .flow .next) (s .flow .place) (b .seen .1 .0) (b .seen .1 .1) (omega arith))))
-      (λ c. rw (append-nil (m .log), same-settled (m .seen .0 .outcome) c) (the-last j (not-busy (m .seen .0 .outcome) c)))
+abbrev pub Bucket-boundaries : Build → Type 0
+Bucket-boundaries f =
+    (w : World) (registry script : List ℕ) (place : ℕ) (held : List ℕ) (binding bucket : ℕ)
+    → let k = acquire-bucket registry script place held binding bucket in
+    Passes w k → Boundaries-add (f w k .seen .1 .counts) (spins-in (f w k .log)) 0
 
-pub bucket-attempts : Bucket-attempts
-bucket-attempts w registry script place held binding bucket fine =
-    subst (Attempts registry script held binding bucket 0 w place) (sym (made w (acquire-bucket-has registry script place held binding bucket) fine))
-    (retry-is (w .head) registry script held binding bucket attemptLimit 0 (w .head .next) place (w .table) (w .health) (omega arith))
+-- how many leases a multi-lock gives back, by its answer
+abbrev pub rolled-back : Answer → ℕ
+rolled-back Done = 0
+rolled-back (Cell c) = 0
+rolled-back (Granted l) = 0
+rolled-back AllGranted = 0
+rolled-back Busy = 0
+rolled-back (Refused r) = 0
+rolled-back (RefusedAt r p) = p
+
+abbrev pub Locks-boundaries : Build → Type 0
+Locks-boundaries f =
+    (w : World) (registry script : List ℕ) (place : ℕ) (held keys grants : List ℕ)
+    → let k = acquire-locks registry script place held keys grants in
+    Passes w k → Boundaries-add (f w k .seen .1 .counts) (spins-in (f w k .log)) (rolled-back (answer-in (f w k)))

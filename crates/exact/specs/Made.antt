@@ -1,5 +1,4 @@
 -- A call with a script whose checks found nothing is its steps: answer, world and log.
-use Prim.Native.Nat.{ℕ}
 use mathlib.Core.Path.{_≡_, refl}
 use mathlib.Core.List.{List, [], _∷_, append-nil}
 use Rattle.model.specs.Refusals.{Rule, first}
@@ -8,15 +7,7 @@ use Rattle.model.specs.declared.Check.the-variants.{Fine}
 use Rattle.history.specs.World.{World}
 use Rattle.history.specs.Items.{Call, environment, try-lock, transactional, acquire-bucket, release-all, acquire-locks, perform}
 use Rattle.history.specs.Judged.{Clear, rules, steps}
-
--- the calls with a script
-pub data Scripted : Call → Type 0 where
-  environment-has : (script : List ℕ) (place : ℕ) (held : List ℕ) → Scripted (environment script place held)
-  try-lock-has : (script : List ℕ) (place : ℕ) (held : List ℕ) (c : ℕ) → Scripted (try-lock script place held c)
-  transactional-has : (registry script : List ℕ) (place : ℕ) (held : List ℕ) (binding bucket : ℕ) → Scripted (transactional registry script place held binding bucket)
-  acquire-bucket-has : (registry script : List ℕ) (place : ℕ) (held : List ℕ) (binding bucket : ℕ) → Scripted (acquire-bucket registry script place held binding bucket)
-  release-all-has : (script : List ℕ) (place : ℕ) (leases : List ℕ) → Scripted (release-all script place leases)
-  acquire-locks-has : (registry script : List ℕ) (place : ℕ) (held keys grants : List ℕ) → Scripted (acquire-locks registry script place held keys grants)
+use Rattle.exact.specs.Script.{Scripted, environment-has, try-lock-has, transactional-has, acquire-bucket-has, release-all-has, acquire-locks-has}
 
 clear-fine : (rs : List Rule) → Clear rs → first rs ≡ Fine
 unfolding first

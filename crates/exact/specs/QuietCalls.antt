@@ -4,14 +4,12 @@ use Prim.Native.Nat.{ℕ, suc, _+_, _*_, _≤_, _<_}
 use mathlib.Core.Path.{_≡_, refl, sym, ap, _∙_, subst}
 use mathlib.Core.List.{List, []}
 use mathlib.Core.Bool.{false, not}
-use mathlib.Core.Logic.{_↔_}
 use native.Mathlib.Omega.{arith}
 use native.Mathlib.Nat.{zero-add}
 use lib.Dec.{leb, eqb}
 use lib.ListN.{getD}
 use borrow.Author.Tests.{leb-true, leb-false, eqb-true, eqb-false, not-true, not-false}
-use Rattle.model.specs.Log.{by-caller, took}
-use Rattle.model.specs.Arena.{lastSerial, spentTo, leaseOf, leasesOf, waitersAt}
+use Rattle.model.specs.Arena.{spentTo, leasesOf}
 use Rattle.model.specs.Foreign.{Setting, stepsIn, flowOf}
 use Rattle.model.specs.Lock.{lockedOf, lockOf, outcomeOf, answerOf, settled, runOf, triedOf, findOf, attemptAt, attemptOf, isBusy, retryOf}
 use Rattle.model.specs.Calls.{countsOf, given, starting}
@@ -27,71 +25,14 @@ use Rattle.model.specs.declared.Refusal.the-variants.{BadHeader, Poisoned, Inva
 use Rattle.model.specs.declared.Run.{Run}
 use Rattle.model.specs.declared.Take.the-variants as taking
 use Rattle.model.specs.declared.Tried.{Tried}
-use Rattle.history.specs.World.{World, worldOf, step}
-use Rattle.history.specs.Items.{Says, says, try-lock, transactional, acquire-bucket, perform}
-use Rattle.history.specs.Statements.{answers}
+use Rattle.history.specs.World.{World, worldOf}
+use Rattle.history.specs.Items.{Says, says, perform, cellOf}
 use Rattle.history.specs.Tests.{if-cases}
 use Rattle.history.specs.Steps.{With}
-use Rattle.history.specs.Judged.{Clear, rules}
-use Rattle.exact.specs.Made.{try-lock-has, transactional-has, acquire-bucket-has, made}
-use Rattle.exact.specs.Exactly.{Is-free, Is-held, Is-damaged}
+use Rattle.exact.specs.Made.{made}
 use Rattle.exact.specs.Quiet.{Quiet-lock, was-waited, was-held, was-damaged, was-spent, was-free, lock-quiet, yieldsIn, yields-are, busy-retry}
-
--- ---- the table of a cell. A Busy attempt says one thing where waiters stand, another where the cell is held
-
-abbrev pub Unwaited : World → ℕ → Type 0
-Unwaited w c = waitersAt (w .table) c ≡ 0
-
-pub data Quietly (w : World) (place : ℕ) (waiting holding : Says) (c : ℕ) : World × Says → Type 0 where
-  at-waited : (Unwaited w c → ⊥) → Quietly w place waiting holding c (w, waiting)
-  at-held : Unwaited w c → Is-held w c → Quietly w place waiting holding c (w, holding)
-  at-damaged : Unwaited w c → Is-damaged w c → Quietly w place waiting holding c (w, says (Refused (Damaged c)) (countsOf 1 2 0 0) place [])
-  at-spent : Unwaited w c → Is-free w c → lastSerial ≤ w .head .next
-      → Quietly w place waiting holding c (w, says (Refused (SerialsSpent c)) (countsOf 1 2 0 0) place [])
-  at-free : Unwaited w c → Is-free w c → w .head .next < lastSerial
-      → Quietly w place waiting holding c (step w (took by-caller c (w .head .next)), says (Granted (leaseOf c (w .head .next))) (countsOf 1 3 0 0) place [])
-
--- ---- the table of a key: the header that the registry gives, its health, the bucket; then the cell's table
-
-pub data By-key (w : World) (registry : List ℕ) (binding bucket place : ℕ) (Row : ℕ → World × Says → Type 0) : World × Says → Type 0 where
-  bad-header : w .head .headers ≤ getD registry binding 0
-      → By-key w registry binding bucket place Row (w, says (Refused (BadHeader (getD registry binding 0))) (countsOf 1 0 0 0) place [])
-  is-poisoned : getD registry binding 0 < w .head .headers → (getD (w .health) (getD registry binding 0) 0 ≡ 0 → ⊥)
-      → By-key w registry binding bucket place Row (w, says (Refused (Poisoned (getD registry binding 0))) (countsOf 1 0 0 0) place [])
-  bad-bucket : getD registry binding 0 < w .head .headers → getD (w .health) (getD registry binding 0) 0 ≡ 0 → w .head .buckets ≤ bucket
-      → By-key w registry binding bucket place Row (w, says (Refused (InvalidBucket bucket)) (countsOf 1 0 0 0) place [])
-  names : {x : World × Says} → getD registry binding 0 < w .head .headers → getD (w .health) (getD registry binding 0) 0 ≡ 0 → bucket < w .head .buckets
-      → Row (getD registry binding 0 * w .head .buckets + bucket) x → By-key w registry binding bucket place Row x
-
--- ---- what the calls say where the cell is waited for, and where it is held
-
-abbrev pub busy-after : ℕ → ℕ → Says
-busy-after place boundaries = says Busy (countsOf 1 boundaries 0 0) place []
-
-abbrev pub failed-after : ℕ → ℕ → Says
-failed-after place boundaries = says (Refused SerializationFailure) (countsOf 4096 boundaries 64 0) place []
-
-abbrev pub Try-lock-quiet : Type 0
-Try-lock-quiet =
-    (w : World) (script : List ℕ) (place : ℕ) (held : List ℕ) (c : ℕ)
-    → let k = try-lock script place held c in
-    Clear (rules w k) → stepsIn script ≤ place
-    → Quietly w place (busy-after place 1) (busy-after place 2) c (perform w k .seen)
-
-abbrev pub Transactional-quiet : Type 0
-Transactional-quiet =
-    (w : World) (registry script : List ℕ) (place : ℕ) (held : List ℕ) (binding bucket : ℕ)
-    → let k = transactional registry script place held binding bucket in
-    Clear (rules w k) → stepsIn script ≤ place
-    → By-key w registry binding bucket place (Quietly w place (busy-after place 1) (busy-after place 2)) (perform w k .seen)
-
--- waited for: 4,096 attempts with 1 boundary and 1 spin each, and 64 yields; held: 2 boundaries and 1 spin each
-abbrev pub Acquire-bucket-quiet : Type 0
-Acquire-bucket-quiet =
-    (w : World) (registry script : List ℕ) (place : ℕ) (held : List ℕ) (binding bucket : ℕ)
-    → let k = acquire-bucket registry script place held binding bucket in
-    Clear (rules w k) → stepsIn script ≤ place
-    → By-key w registry binding bucket place (Quietly w place (failed-after place 8256) (failed-after place 12352)) (perform w k .seen)
+use Rattle.exact.specs.Script.{acquire-bucket-has, transactional-has, try-lock-has}
+use Rattle.exact.specs.Statements.{Acquire-bucket-exactly, Acquire-bucket-quiet, By-key, Names, Quietly, Transactional-quiet, Try-lock-exactly, Try-lock-quiet, bad-header, Locks-exactly, at-waited, busy-after, failed-after, is-poisoned, at-held, bad-bucket, at-damaged, names, at-spent, at-free}
 
 -- ---- proofs
 
@@ -111,7 +52,7 @@ lock-row w place c (was-damaged u p q) = at-damaged u ((λ x. p (x .0) (x .1)), 
 lock-row w place c (was-spent u p q r) = at-spent u (p, q) r
 lock-row w place c (was-free u p q r) = at-free u (p, q) r
 
-pub try-lock-quiet : Try-lock-quiet
+pub try-lock-quiet : Try-lock-quiet perform
 try-lock-quiet w script place held c fine end =
     subst (Quietly w place (busy-after place 1) (busy-after place 2) c) (sym (ap (λ m. m .seen) (made w (try-lock-has script place held c) fine)))
     (rw (zero-add (lockOf (given (w .head) script (leasesOf held)) (flowOf (w .head .next) place 0) (w .table) (w .health) c .seen .0 .boundaries))
@@ -141,7 +82,7 @@ keyed headers buckets g registry binding bucket =
     P : Found → Type 0
     P = Keyed headers buckets g registry binding bucket
 
-pub transactional-quiet : Transactional-quiet
+pub transactional-quiet : Transactional-quiet perform
 unfolding attemptOf
 transactional-quiet w registry script place held binding bucket fine end =
     subst (By-key w registry binding bucket place Row) (sym (ap (λ m. m .seen) (made w (transactional-has registry script place held binding bucket) fine)))
@@ -227,31 +168,10 @@ module _ (w : World) (registry script : List ℕ) (place : ℕ) (held : List ℕ
   all-rows (no-bucket p r b) q = stop q refl (bad-bucket p r b)
   all-rows (at-cell p r b) q = row _ q (lock-quiet around from (w .table) (w .health) _ end) refl (λ x y. names p r b y)
 
-pub acquire-bucket-quiet : Acquire-bucket-quiet
+pub acquire-bucket-quiet : Acquire-bucket-quiet perform
 acquire-bucket-quiet w registry script place held binding bucket fine end =
     subst (By-key w registry binding bucket place (Row w registry script place held binding bucket end)) (sym (ap (λ m. m .seen) (made w (acquire-bucket-has registry script place held binding bucket) fine)))
     (all-rows w registry script place held binding bucket end (keyed (w .head .headers) (w .head .buckets) (w .health) registry binding bucket) refl)
-
--- ---- exactly-ifs, read off the tables
-
--- a lock must lock here
-abbrev pub Ready : World → ℕ → Type 0
-Ready w c = Unwaited w c × Is-free w c × (w .head .next < lastSerial)
-
--- the key names a cell of a healthy header
-abbrev pub Names : World → List ℕ → ℕ → ℕ → Type 0
-Names w registry binding bucket =
-    (getD registry binding 0 < w .head .headers) × (getD (w .health) (getD registry binding 0) 0 ≡ 0) × (bucket < w .head .buckets)
-
-abbrev pub named-cell : World → List ℕ → ℕ → ℕ → ℕ
-named-cell w registry binding bucket = getD registry binding 0 * w .head .buckets + bucket
-
--- what an answer is, by the state of the cell
-pub record Locks-exactly (w : World) (c : ℕ) (busy : Answer) (a : Answer) : Type 0 where
-  pub granted : (l : Lease) → (a ≡ Granted l) ↔ (Ready w c × (l ≡ leaseOf c (w .head .next)))
-  pub not-now : (a ≡ busy) ↔ (Unwaited w c → Is-held w c)
-  pub damaged : (a ≡ Refused (Damaged c)) ↔ (Unwaited w c × Is-damaged w c)
-  pub spent : (a ≡ Refused (SerialsSpent c)) ↔ (Unwaited w c × Is-free w c × (lastSerial ≤ w .head .next))
 
 -- the answers of a Busy row are Busy, or 11
 data Late : Answer → Type 0 where
@@ -312,29 +232,15 @@ module _ {w : World} {place : ℕ} {waiting holding : Says} {c : ℕ} where
 
 -- a key that names a cell has that cell's row
 named-row : {w : World} {registry : List ℕ} {binding bucket place : ℕ} {Row : ℕ → World × Says → Type 0} {x : World × Says}
-    → Names w registry binding bucket → By-key w registry binding bucket place Row x → Row (named-cell w registry binding bucket) x
+    → Names w registry binding bucket → By-key w registry binding bucket place Row x → Row (cellOf (w .head .buckets) registry binding bucket) x
 named-row n (bad-header p) = absurd (omega (arith, n .0))
 named-row n (is-poisoned p q) = absurd (q (n .1))
 named-row n (bad-bucket p q r) = absurd (omega (arith, n .2))
 named-row n (names p q r y) = y
 
-abbrev pub Try-lock-exactly : Type 0
-Try-lock-exactly =
-    (w : World) (script : List ℕ) (place : ℕ) (held : List ℕ) (c : ℕ)
-    → let k = try-lock script place held c in
-    Clear (rules w k) → stepsIn script ≤ place → Locks-exactly w c Busy (answers w k)
-
-pub try-lock-exactly : Try-lock-exactly
+pub try-lock-exactly : Try-lock-exactly perform
 try-lock-exactly w script place held c fine end = exactly Busy at-once refl refl (try-lock-quiet w script place held c fine end)
 
--- granted exactly if the cell is ready; 11 exactly if it is waited for or held
-abbrev pub Acquire-bucket-exactly : Type 0
-Acquire-bucket-exactly =
-    (w : World) (registry script : List ℕ) (place : ℕ) (held : List ℕ) (binding bucket : ℕ)
-    → let k = acquire-bucket registry script place held binding bucket in
-    Clear (rules w k) → stepsIn script ≤ place → Names w registry binding bucket
-    → Locks-exactly w (named-cell w registry binding bucket) (Refused SerializationFailure) (answers w k)
-
-pub acquire-bucket-exactly : Acquire-bucket-exactly
+pub acquire-bucket-exactly : Acquire-bucket-exactly perform
 acquire-bucket-exactly w registry script place held binding bucket fine end n =
     exactly (Refused SerializationFailure) at-last refl refl (named-row n (acquire-bucket-quiet w registry script place held binding bucket fine end))

@@ -6,7 +6,7 @@ use mathlib.Core.Logic.{_≢_}
 use native.Mathlib.Omega.{arith}
 use native.Mathlib.Nat.{add-zero, zero-add, suc-add}
 use lib.ListN.{getD}
-use Rattle.model.specs.Log.{Made, Event, by-caller, took}
+use Rattle.model.specs.Log.{Made}
 use Rattle.model.specs.Arena.{lastSerial, spentTo, leaseOf, leasesOf, wordsOf, bitAt, ownerAt, waitersAt, setCell}
 use Rattle.model.specs.Checks.{countIn}
 use Rattle.model.specs.Foreign.{Setting, protecting, stepsIn, flowOf}
@@ -25,43 +25,13 @@ use Rattle.model.specs.declared.Run.{Run}
 use Rattle.model.specs.declared.Take.the-variants as taking
 use Rattle.laws.specs.Words.{waiters-set-cell, bit-set-other, owner-set-other}
 use Rattle.history.specs.World.{World, worldOf, now}
-use Rattle.history.specs.Items.{Says, says, acquire-locks, perform}
+use Rattle.history.specs.Items.{Says, says, perform, keyCell}
 use Rattle.history.specs.Steps.{With, worldAt}
-use Rattle.history.specs.Judged.{Clear, rules}
-use Rattle.exact.specs.Exactly.{Is-free}
 use Rattle.exact.specs.Quiet.{Quiet-lock, was-waited, was-held, was-damaged, was-spent, was-free, lock-quiet}
-use Rattle.exact.specs.QuietCalls.{Unwaited, Names, named-cell, Keyed, no-header, sick, no-bucket, at-cell, keyed, retry-stops, attempt-as}
-use Rattle.exact.specs.Made.{acquire-locks-has, made}
-
--- ---- the statement
-
--- the cell of the key at position p
-abbrev pub cell-of : World → List ℕ → List ℕ → ℕ → ℕ
-cell-of w registry keys p = named-cell w registry (bindingAt keys p) (bucketAt keys p)
-
--- `left` leases from position p on, with serials from s on
-unfoldable pub leases-from : (ℕ → ℕ) → ℕ → ℕ → ℕ → List Lease
-leases-from cell zero p s = []
-leases-from cell (suc left) p s = leaseOf (cell p) s ∷ leases-from cell left (p + 1) (s + 1)
-
--- these leases taken by the caller, one after the other
-abbrev pub takes-of : List Lease → List Event
-takes-of [] = []
-takes-of (l ∷ ls) = took by-caller (l .cell) (l .serial) ∷ takes-of ls
-
--- "keys in the order given": all granted, one attempt and three boundaries each
-abbrev pub Locks-quiet : Type 0
-Locks-quiet =
-    (w : World) (registry script : List ℕ) (place : ℕ) (held keys grants : List ℕ)
-    → let k = acquire-locks registry script place held keys grants in
-    let n = countIn keys in
-    let cell = cell-of w registry keys in
-    let leases = leases-from cell n 0 (w .head .next) in
-    Clear (rules w k) → stepsIn script ≤ place
-    → ((p : ℕ) → p < n → Names w registry (bindingAt keys p) (bucketAt keys p) × Unwaited w (cell p) × Is-free w (cell p))
-    → ((p q : ℕ) → p < n → q < n → cell p ≡ cell q → p ≡ q)
-    → w .head .next + n ≤ lastSerial
-    → perform w k .seen ≡ (now w (takes-of leases), says AllGranted (countsOf n (3 * n) 0 0) place (wordsOf leases))
+use Rattle.exact.specs.QuietCalls.{Keyed, no-header, sick, no-bucket, at-cell, keyed, retry-stops, attempt-as}
+use Rattle.exact.specs.Made.{made}
+use Rattle.exact.specs.Script.{acquire-locks-has}
+use Rattle.exact.specs.Statements.{Locks-quiet, leases-from, takes-of}
 
 -- ---- one key that is ready
 
@@ -184,12 +154,12 @@ done : (e : Setting) (buckets : ℕ) (registry keys : List ℕ) (p : ℕ) (taken
 unfolding locksOf
 done e buckets registry keys p taken r t g grants = refl
 
-pub locks-quiet : Locks-quiet
+pub locks-quiet : Locks-quiet perform
 locks-quiet w registry script place held keys grants fine end ready apart few =
     let s = w .head .next in
     let n = countIn keys in
     let e = given (w .head) script (leasesOf held) in
-    let cell = cell-of w registry keys in
+    let cell = keyCell (w .head .buckets) registry keys in
     let ls = leases-from cell n 0 s in
     let there : (p : ℕ) → p < n → findOf (w .head .headers) (w .head .buckets) (w .health) registry (bindingAt keys p) (bucketAt keys p) ≡ found.At (cell p)
     = λ p i. let a = ready p i .0 in find-named (w .head .headers) (w .head .buckets) (w .health) registry (bindingAt keys p) (bucketAt keys p) (a .0) (a .1) (a .2) in

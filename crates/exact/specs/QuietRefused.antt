@@ -1,5 +1,9 @@
 -- Multi-lock where the script is at its end, refused at position j: the keys before it were ready, the key at j is refused as
 -- `acquire_index_bucket` refuses it then. All is given back, j serials stay spent, and the counts are exact.
+use Rattle.history.specs.Tests.{state-free, In}
+use Rattle.history.specs.Logs.{Kept}
+use Rattle.exact.specs.Passing.{bucket-on, key-passes, in-script}
+use native.Mathlib.Nat.{mul-le-mul-right, suc-mul}
 use Prim.Native.Nat.{ℕ, zero, suc, _+_, _*_, _-_, _≤_, _<_}
 use mathlib.Core.Path.{_≡_, refl, sym, ap, _∙_, subst}
 use mathlib.Core.List.{List, [], _∷_, _++_}
@@ -7,11 +11,11 @@ use mathlib.Core.Bool.{false}
 use mathlib.Core.Logic.{_≢_}
 use native.Mathlib.Omega.{arith}
 use native.Mathlib.Nat.{add-zero, zero-add}
-use lib.ListN.{length, set, take}
+use lib.ListN.{length, set, take, getD}
 use lib.Seq.{set-set, set-getD}
 use Rattle.model.specs.Log.{Made}
-use Rattle.model.specs.Arena.{lastSerial, spentTo, leaseOf, leasesOf, bitAt, ownerAt, setCell}
-use Rattle.model.specs.Checks.{countIn}
+use Rattle.model.specs.Arena.{spentTo, leaseOf, leasesOf, bitAt, ownerAt, setCell, cellsOf, lastSerial, stateAt}
+use Rattle.model.specs.Checks.{countIn, locksRules}
 use Rattle.model.specs.Foreign.{Setting, protecting, stepsIn, flowOf}
 use Rattle.model.specs.Lock.{lockedOf, lockOf, outcomeOf, answerOf, settled, runOf, triedOf, findOf, attemptAt, isBusy, retryOf, attemptLimit, leaseAt, giveBackOf, rollbackOf, bindingAt, bucketAt, afterKey, endedOf, Locks, locksOf}
 use Rattle.model.specs.Calls.{countsOf, given}
@@ -31,39 +35,19 @@ use Rattle.model.specs.declared.Refusal.the-variants.{SerializationFailure}
 use Rattle.model.specs.declared.Take.{Take}
 use Rattle.model.specs.declared.Take.the-variants as taking
 use Rattle.model.specs.declared.Tried.{Tried}
-use Rattle.history.specs.World.{World, worldOf, now}
-use Rattle.history.specs.Items.{Says, says, acquire-bucket, acquire-locks, perform}
-use Rattle.history.specs.Steps.{With}
-use Rattle.history.specs.Judged.{Clear, rules, steps}
-use Rattle.exact.specs.Exactly.{Is-free}
-use Rattle.exact.specs.Made.{acquire-locks-has, made}
+use Rattle.history.specs.World.{World, worldOf, Unreleased, now, Lawful}
+use Rattle.history.specs.Items.{Says, says, acquire-bucket, acquire-locks, perform, keyCell, Call}
+use Rattle.history.specs.Steps.{With, worldAt}
+use Rattle.history.specs.Judged.{steps, Clear, rules}
+use Rattle.exact.specs.Made.{made}
 use Rattle.exact.specs.Quiet.{boundary-quiet, Quiet-lock, was-waited, was-held, was-damaged, was-spent, was-free, lock-quiet, yieldsIn, yields-are, busy-retry}
 use Rattle.laws.specs.Words.{bit-set-other, owner-set-other}
-use Rattle.exact.specs.QuietCalls.{Unwaited, Names, retry-stops, attempt-as}
-use Rattle.exact.specs.QuietLocks.{cell-of, leases-from, takes-of, set-all, ready-keys, find-named, now-takes, said}
-
--- ---- the statement
-
--- "On a refusal at position p all taken leases are released": one attempt and three boundaries for each key before it, the counts of the
--- refused key, and a boundary for each release. The grant buffer is unchanged
-abbrev pub Locks-refused-quiet : Type 0
-Locks-refused-quiet =
-    (w : World) (registry script : List ℕ) (place : ℕ) (held keys grants : List ℕ) (j : ℕ) (r : Refusal)
-    → let k = acquire-locks registry script place held keys grants in
-    let cell = cell-of w registry keys in
-    -- the world after the keys before j, and what `acquire_index_bucket` says there of the key at j
-    let v = now w (takes-of (leases-from cell j 0 (w .head .next))) in
-    let o = steps v (acquire-bucket registry script place held (bindingAt keys j) (bucketAt keys j)) .seen .1 in
-    Clear (rules w k) → stepsIn script ≤ place → j < countIn keys
-    → ((p : ℕ) → p < j → Names w registry (bindingAt keys p) (bucketAt keys p) × Unwaited w (cell p) × Is-free w (cell p))
-    → ((p q : ℕ) → p < j → q < j → cell p ≡ cell q → p ≡ q)
-    → w .head .next + j ≤ lastSerial
-    → o .answer ≡ Refused r
-    → perform w k .seen
-    ≡ (
-      worldOf (spentTo (w .head) (w .head .next + j)) (w .table) (w .health),
-      says (RefusedAt r j) (countsOf (j + o .counts .attempts) (4 * j + o .counts .boundaries) (o .counts .yields) 0) place grants,
-    )
+use Rattle.exact.specs.QuietCalls.{retry-stops, attempt-as}
+use Rattle.exact.specs.QuietLocks.{set-all, ready-keys, find-named, now-takes, said}
+use Rattle.exact.specs.Script.{acquire-locks-has, acquire-bucket-has}
+use Rattle.exact.specs.Statements.{leases-from, Locks-refused-quiet, takes-of, Names, Unwaited, Is-free}
+use Rattle.history.specs.Logs.{Kept}
+use Rattle.history.specs.Tests.{state-free}
 
 -- ---- a row of the table is the only one
 
@@ -313,39 +297,100 @@ same-says : {h : Head} {t t′ g grants : List ℕ} {a : Answer} {place n x x′
     → _≡_ {A = World × Says} (worldOf h t g, says a (countsOf n x y 0) place grants) (worldOf h t′ g, says a (countsOf n x′ y′ 0) place grants)
 same-says p q r = cc
 
-pub locks-refused-quiet : Locks-refused-quiet
+-- ---- the takes before the refused key: lawful, and they release nothing
+
+takes-release-none : (cell : ℕ → ℕ) (j p s : ℕ) (l : Lease) → Unreleased l (takes-of (leases-from cell j p s))
+unfolding leases-from
+takes-release-none cell zero p s l = tt
+takes-release-none cell (suc j) p s l = (λ z. z, takes-release-none cell j (p + 1) (s + 1) l)
+
+takes-lawful : (h : Head) (g : List ℕ) (cell : ℕ → ℕ) (n : ℕ) → ((p q : ℕ) → p < n → q < n → cell p ≡ cell q → p ≡ q) → ((p : ℕ) → p < n → cell p < cellsOf h)
+    → (j p s : ℕ) (t : List ℕ) → p + j ≤ n → ((q : ℕ) → p ≤ q → q < p + j → (bitAt t (cell q) ≡ 0) × (ownerAt t (cell q) ≡ 0)) → s + j ≤ lastSerial
+    → Lawful (worldAt h s t g) (takes-of (leases-from cell j p s))
+unfolding leases-from
+takes-lawful h g cell n apart inside zero p s t i f l = tt
+takes-lawful h g cell n apart inside (suc j) p s t i f l =
+    let c = cell p in
+    let w = f p (omega arith) (omega arith) in
+    let others : (q : ℕ) → p + 1 ≤ q → q < p + 1 + j → (bitAt (setCell t c 1 s) (cell q) ≡ 0) × (ownerAt (setCell t c 1 s) (cell q) ≡ 0)
+    = λ q a b.
+    let d : cell q ≢ c = λ z. absurd (omega (arith, apart q p (omega arith) (omega arith) z)) in
+    let k = f q (omega arith) (omega arith) in
+    (bit-set-other t c 1 s (cell q) d ∙ k .0, owner-set-other t c 1 s (cell q) d ∙ k .1) in (
+      ((inside p (omega arith), (unfold stateAt in state-free s (bitAt t c) (ownerAt t c) (w .0) (w .1))), (refl, omega arith)),
+      takes-lawful h g cell n apart inside j (p + 1) (s + 1) (setCell t c 1 s) (omega arith) others (omega arith),
+    )
+
+module _ (w : World) (registry script : List ℕ) (place : ℕ) (held keys grants : List ℕ) (j : ℕ) (r : Refusal) where
+  abbrev many : Call
+  many = acquire-locks registry script place held keys grants
+
+  abbrev cell : ℕ → ℕ
+  cell = keyCell (w .head .buckets) registry keys
+
+  -- the world after the keys before j
+  abbrev then-world : World
+  then-world = now w (takes-of (leases-from cell j 0 (w .head .next)))
+
+  abbrev key : Call
+  key = acquire-bucket registry script place held (bindingAt keys j) (bucketAt keys j)
+
+  -- what is to be shown, of what the key at j comes to
+  abbrev Says-so : Says → Type 0
+  Says-so o =
+      o .answer ≡ Refused r
+      → perform w many .seen
+      ≡ (
+        worldOf (spentTo (w .head) (w .head .next + j)) (w .table) (w .health),
+        says (RefusedAt r j) (countsOf (j + o .counts .attempts) (4 * j + o .counts .boundaries) (o .counts .yields) 0) place grants,
+      )
+
+  module _ (fine : Clear (rules w many)) (end : stepsIn script ≤ place) (few : j < countIn keys)
+      (ready : (p : ℕ) → p < j → Names w registry (bindingAt keys p) (bucketAt keys p) × Unwaited w (cell p) × Is-free w (cell p))
+      (apart : (p q : ℕ) → p < j → q < j → cell p ≡ cell q → p ≡ q) (serials : w .head .next + j ≤ lastSerial) where
+    -- the key at j passes its checks then
+    key-fine : Clear (rules then-world key)
+    key-fine =
+        let ls = takes-of (leases-from cell j 0 (w .head .next)) in
+        let k : Kept w (In (leasesOf held)) then-world ls = record {
+          lawful = takes-lawful (w .head) (w .health) cell j apart
+              (λ p i. let a = ready p i .0 in omega (arith, mul-le-mul-right (w .head .buckets) (a .0), suc-mul (getD registry (bindingAt keys p) 0) (w .head .buckets), a .2))
+              j 0 (w .head .next) (w .table) (omega arith) (λ q _ h. ready q (omega arith) .2) serials;
+          leads = refl;
+          spares = λ l _ _. takes-release-none cell j 0 (w .head .next) l;
+        } in
+        bucket-on held k registry script place place (bindingAt keys j) (in-script script place (unfold locksRules in fine .1 .1 .1 .0))
+        (key-passes w registry script place held keys grants j few fine)
+
+    by-steps : Says-so (steps then-world key .seen .1)
+    by-steps =
+        let s = w .head .next in
+        let t = w .table in
+        let g = w .health in
+        let e = given (w .head) script (leasesOf held) in
+        let ls = leases-from cell j 0 s in
+        let u = set-all t ls in
+        let f = flowOf (s + j) place 0 in
+        let left = countIn keys - (j + 1) in
+        let n : j + suc left ≡ countIn keys = omega arith in
+        let there : (p : ℕ) → p < j → findOf (w .head .headers) (w .head .buckets) g registry (bindingAt keys p) (bucketAt keys p) ≡ found.At (cell p)
+        = λ p i. let a = ready p i .0 in find-named (w .head .headers) (w .head .buckets) g registry (bindingAt keys p) (bucketAt keys p) (a .0) (a .1) (a .2) in
+        let all = ready-keys e place end 0 0 (w .head .buckets) registry keys g grants j apart there j (suc left) 0 [] s 0 0 t (omega arith)
+        (λ q _ h. let a = ready q (omega arith) in record { unwaited = a .1; no-bit = a .2 .0; no-owner = a .2 .1 }) serials in
+        let m = retried f u g (w .head .buckets) registry (bindingAt keys j) (bucketAt keys j) e end 0 0 0 in
+        let counted = retry-on f u g (w .head .buckets) registry (bindingAt keys j) (bucketAt keys j) (protecting e ls) e end end j (3 * j) 0 refl in
+        let back : undo (length ls) ls u ≡ t = rw (from-length cell j 0 s) (undone cell j s t (λ p i. ready p i .2) apart j (omega arith)) in
+        subst (λ (v : World). Says-so (steps v key .seen .1)) (sym (now-takes (w .head) g cell j 0 s t))
+        (λ refused.
+        let here = refused-here e f end ls j u g grants left (w .head .buckets) registry keys r j (3 * j) m counted
+        (unmoved f u g (w .head .buckets) registry (bindingAt keys j) (bucketAt keys j) e end (refused-not (m .0 .outcome) r refused)) refused in
+        ap (λ x. x .seen) (made w (acquire-locks-has registry script place held keys grants) fine)
+        ∙ ap (said w) (rw (n, zero-add j, zero-add (3 * j)) at all ∙ here)
+        ∙ same-says back (omega (arith, from-length cell j 0 s)) (zero-add (m .0 .run .yields)))
+
+pub locks-refused-quiet : Locks-refused-quiet perform
 locks-refused-quiet w registry script place held keys grants j r fine end few ready apart serials =
-    let s = w .head .next in
-    let t = w .table in
-    let g = w .health in
-    let e = given (w .head) script (leasesOf held) in
-    let cell = cell-of w registry keys in
-    let ls = leases-from cell j 0 s in
-    let u = set-all t ls in
-    let f = flowOf (s + j) place 0 in
-    let left = countIn keys - (j + 1) in
-    let n : j + suc left ≡ countIn keys = omega arith in
-    let there : (p : ℕ) → p < j → findOf (w .head .headers) (w .head .buckets) g registry (bindingAt keys p) (bucketAt keys p) ≡ found.At (cell p)
-    = λ p i. let a = ready p i .0 in find-named (w .head .headers) (w .head .buckets) g registry (bindingAt keys p) (bucketAt keys p) (a .0) (a .1) (a .2) in
-    let all = ready-keys e place end 0 0 (w .head .buckets) registry keys g grants j apart there j (suc left) 0 [] s 0 0 t (omega arith)
-    (λ q _ h. let a = ready q (omega arith) in record { unwaited = a .1; no-bit = a .2 .0; no-owner = a .2 .1 }) serials in
-    let m = retried f u g (w .head .buckets) registry (bindingAt keys j) (bucketAt keys j) e end 0 0 0 in
-    let counted = retry-on f u g (w .head .buckets) registry (bindingAt keys j) (bucketAt keys j) (protecting e ls) e end end j (3 * j) 0 refl in
-    let back : undo (length ls) ls u ≡ t = rw (from-length cell j 0 s) (undone cell j s t (λ p i. ready p i .2) apart j (omega arith)) in
-    subst Says-so (sym (now-takes (w .head) g cell j 0 s t))
-    (λ refused.
-    let here = refused-here e f end ls j u g grants left (w .head .buckets) registry keys r j (3 * j) m counted
-    (unmoved f u g (w .head .buckets) registry (bindingAt keys j) (bucketAt keys j) e end (refused-not (m .0 .outcome) r refused)) refused in
-    ap (λ x. x .seen) (made w (acquire-locks-has registry script place held keys grants) fine)
-    ∙ ap (said w) (rw (n, zero-add j, zero-add (3 * j)) at all ∙ here)
-    ∙ same-says back (omega (arith, from-length cell j 0 s)) (zero-add (m .0 .run .yields)))
-  where
-    Says-so : World → Type 0
-    Says-so v =
-        let o = steps v (acquire-bucket registry script place held (bindingAt keys j) (bucketAt keys j)) .seen .1 in
-        o .answer ≡ Refused r
-        → perform w (acquire-locks registry script place held keys grants) .seen
-        ≡ (
-          worldOf (spentTo (w .head) (w .head .next + j)) (w .table) (w .health),
-          says (RefusedAt r j) (countsOf (j + o .counts .attempts) (4 * j + o .counts .boundaries) (o .counts .yields) 0) place grants,
-        )
+    let k = acquire-bucket-has registry script place held (bindingAt keys j) (bucketAt keys j) in
+    subst (λ (x : Made (World × Says)). Says-so w registry script place held keys grants j r (x .seen .1))
+    (sym (made (then-world w registry script place held keys grants j r) k (key-fine w registry script place held keys grants j r fine end few ready apart serials)))
+    (by-steps w registry script place held keys grants j r fine end few ready apart serials)

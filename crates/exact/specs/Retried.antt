@@ -1,15 +1,15 @@
--- Busy attempts from outside. "after each Busy attempt, a boundary and a spin": the spins in the log are the Busy attempts. So yields are the
+-- Busy attempts from outside. "after each Busy attempt, a boundary and a spin": the spins-in in the log are the Busy attempts. So yields are the
 -- Busy attempts of a key divided by 64, rounded down, and 11 is answered exactly if 4,096 attempts of the key were all Busy. Any script.
-use Prim.Native.Nat.{ℕ, zero, suc, _+_, _-_, _/_, _%_, _≤_, _<_}
+use Rattle.model.specs.Crew.{total}
+use Prim.Native.Nat.{ℕ, zero, suc, _+_, _-_, _/_, _%_, _<_}
 use mathlib.Core.Path.{_≡_, refl, sym, ap, _∙_, subst}
 use mathlib.Core.List.{List, [], _∷_, _++_}
 use mathlib.Core.Bool.{true, false, not, _&&_}
-use mathlib.Core.Logic.{_↔_}
 use native.Mathlib.Omega.{arith}
 use lib.Dec.{ltb, leb, eqb}
 use lib.ListN.{length, getD, take}
 use borrow.Author.Tests.{eqb-true, eqb-false}
-use Rattle.model.specs.Log.{Made, Event, attempt-begun, boundary-run, yielded, spun, step-dropped, took, released, waiters-set, health-set}
+use Rattle.model.specs.Log.{Made, Event, yielded, spun}
 use Rattle.model.specs.Arena.{serialRemains, leaseOf, leasesOf, bitAt, ownerAt, waitersAt, setCell, stateAt, isFree, isLive, isIn}
 use Rattle.model.specs.Checks.{countIn}
 use Rattle.model.specs.Foreign.{Setting, protecting, stepsIn, kindAt, placeAt, numberAt, flowOf, stepTakeOf, stepReleaseOf, stepWaitersOf, stepHealthOf, stepOf, stepsOf, boundaryOf}
@@ -36,54 +36,22 @@ use Rattle.model.specs.declared.Took.{Took}
 use Rattle.model.specs.declared.Tried.{Tried}
 use Rattle.laws.specs.Pick.{if-both}
 use Rattle.history.specs.World.{World}
-use Rattle.history.specs.Items.{Says, acquire-bucket, acquire-locks, perform}
-use Rattle.history.specs.Statements.{answers, log-of}
+use Rattle.history.specs.Items.{Says, perform}
 use Rattle.history.specs.Tests.{differ, if-cases}
 use Rattle.history.specs.Steps.{With}
-use Rattle.history.specs.Judged.{Clear, rules}
-use Rattle.exact.specs.Made.{acquire-bucket-has, acquire-locks-has, made}
-
--- ---- the statement
-
-abbrev is-spin : Event → ℕ
-is-spin attempt-begun = 0
-is-spin boundary-run = 0
-is-spin yielded = 0
-is-spin spun = 1
-is-spin step-dropped = 0
-is-spin (took a c s) = 0
-is-spin (released a c s) = 0
-is-spin (waiters-set c n) = 0
-is-spin (health-set i n) = 0
-
--- Busy attempts in a log
-unfoldable pub spins : List Event → ℕ
-spins [] = 0
-spins (e ∷ es) = is-spin e + spins es
-
-pub record Retries (a : Answer) (attempts yields busy : ℕ) : Type 0 where
-  pub yields-are : yields ≡ busy / 64
-  -- 11: every attempt was Busy, and there were 4,096; any other answer: all but the last were, and there were at most 4,096
-  pub failed : (a ≡ Refused SerializationFailure) ↔ (busy ≡ 4096)
-  pub all-busy : a ≡ Refused SerializationFailure → attempts ≡ busy
-  pub last-not : (a ≡ Refused SerializationFailure → ⊥) → (attempts ≡ busy + 1) × (attempts ≤ 4096)
-
-abbrev pub Bucket-retries : Type 0
-Bucket-retries =
-    (w : World) (registry script : List ℕ) (place : ℕ) (held : List ℕ) (binding bucket : ℕ)
-    → let k = acquire-bucket registry script place held binding bucket in
-    Clear (rules w k)
-    → Retries (answers w k) (perform w k .seen .1 .counts .attempts) (perform w k .seen .1 .counts .yields) (spins (log-of w k))
+use Rattle.exact.specs.Made.{made}
+use Rattle.exact.specs.Script.{acquire-bucket-has, acquire-locks-has}
+use Rattle.exact.specs.Attempts.{Bucket-retries, Keys-retried, Locks-retry, Retries, total-64, Some-4096, a-later, this-key, spins-in}
 
 -- ---- no spin in a lock
 
-spins-append : (xs ys : List Event) → spins (xs ++ ys) ≡ spins xs + spins ys
-unfolding spins
+spins-append : (xs ys : List Event) → spins-in (xs ++ ys) ≡ spins-in xs + spins-in ys
+unfolding spins-in
 spins-append [] ys = omega arith
 spins-append (x ∷ xs) ys = omega (arith, spins-append xs ys)
 
 record Calm (es : List Event) : Type 0 where
-  none : spins es ≡ 0
+  none : spins-in es ≡ 0
 
 abbrev Still : {A : Type 0} → Made A → Type 0
 Still m = Calm (m .log)
@@ -93,7 +61,7 @@ two-still {xs} {ys} a b = record { none = omega (arith, spins-append xs ys) }
 
 module _ (e : Setting) where
   step-still : (n : ℕ) (t g : List ℕ) (kind place number : ℕ) → Still (stepOf e n t g kind place number)
-  unfolding stepOf stepTakeOf stepReleaseOf stepWaitersOf stepHealthOf spins
+  unfolding stepOf stepTakeOf stepReleaseOf stepWaitersOf stepHealthOf spins-in
   step-still n t g kind place number =
       if-both P (eqb kind 0) (record { none = refl })
       (if-both P (eqb kind 1) (if-both P′ (ltb place (e .cells) && isFree (bitAt t place) (ownerAt t place) && serialRemains n) (record { none = refl }) (record { none = refl }))
@@ -109,7 +77,7 @@ module _ (e : Setting) where
       P′ m = Calm (m .log ++ [])
 
   steps-still : (left : ℕ) (f : Flow) (t g : List ℕ) → Still (stepsOf left e f t g)
-  unfolding stepsOf spins
+  unfolding stepsOf spins-in
   steps-still zero f t g = (record { none = refl })
   steps-still (suc left) f t g =
       let kind = kindAt (e .script) (f .place) in
@@ -119,11 +87,11 @@ module _ (e : Setting) where
       (steps-still left (flowOf (s .0 .next) (f .place + 1) (f .dropped + s .0 .dropped)) (s .1 .0) (s .1 .1)))
 
   boundary-still : (f : Flow) (t g : List ℕ) → Still (boundaryOf e f t g)
-  unfolding boundaryOf spins
+  unfolding boundaryOf spins-in
   boundary-still f t g = let k = steps-still (stepsIn (e .script) - f .place) f t g in record { none = omega (arith, k .none) }
 
 take-still : (next : ℕ) (t : List ℕ) (c : ℕ) → Still (takeOf next t c)
-unfolding takeOf spins
+unfolding takeOf spins-in
 take-still next t c = go (stateAt next t c)
   where
     go : (x : State) → Still (takeIn x next t c)
@@ -136,13 +104,13 @@ module _ (e : Setting) where
   Quiet m = Still m
 
   late-still : (f : Flow) (t g : List ℕ) (c s : ℕ) → Quiet (lateOf e f t g c s)
-  unfolding lateOf spins
+  unfolding lateOf spins-in
   late-still f t g c s =
       let q = protecting e (leaseOf c s ∷ []) in
       two-still (boundary-still q f t g) (if-both Quiet (eqb (waitersAt (boundaryOf q f t g .seen .1 .0) c) 0) (record { none = refl }) (record { none = refl }))
 
   after-still : (a : Take) (f : Flow) (t g : List ℕ) (c : ℕ) → Quiet (afterTake a e f t g c)
-  unfolding spins
+  unfolding spins-in
   after-still (taking.Granted s) f t g c = late-still f t g c s
   after-still taking.Busy f t g c = (record { none = refl })
   after-still taking.Damaged f t g c = (record { none = refl })
@@ -157,7 +125,7 @@ module _ (e : Setting) where
       (after-still (k .0 .answer) (flowOf (k .0 .next) (m .0 .place) (m .0 .dropped)) (k .1) (m .1 .1) c))
 
   lock-still : (f : Flow) (t g : List ℕ) (c : ℕ) → Quiet (lockOf e f t g c)
-  unfolding lockOf spins
+  unfolding lockOf spins-in
   lock-still f t g c =
       let m = boundaryOf e f t g .seen in
       two-still (boundary-still e f t g) (if-both Quiet (eqb (waitersAt (m .1 .0) c) 0) (second-still (m .0) (m .1 .0) (m .1 .1) c) (record { none = refl }))
@@ -181,19 +149,19 @@ take-else c taking.Damaged = λ e. let z : _≡_ {A = ℕ} 0 1 = cc in omega ari
 take-else c taking.Spent = λ e. let z : _≡_ {A = ℕ} 0 1 = cc in omega arith
 
 record One (r : Run) (m : Made (With Tried)) : Type 0 where
-  no-spin : spins (m .log) ≡ 0
+  no-spin : spins-in (m .log) ≡ 0
   one-attempt : m .seen .0 .run .attempts ≡ r .attempts + 1
   no-yield : m .seen .0 .run .yields ≡ r .yields
   other : Else (m .seen .0 .outcome)
 
 record Paused (i : ℕ) (r : Run) (m : Made (With Run)) : Type 0 where
-  one-spin : spins (m .log) ≡ 1
+  one-spin : spins-in (m .log) ≡ 1
   no-attempt : m .seen .0 .attempts ≡ r .attempts
   yields-at : m .seen .0 .yields + i / 64 ≡ r .yields + (i + 1) / 64
 
 module _ (e : Setting) (buckets : ℕ) (registry : List ℕ) (binding bucket : ℕ) where
   attempt-one : (r : Run) (t g : List ℕ) → One r (attemptOf e buckets registry binding bucket r t g)
-  unfolding attemptOf findOf spins
+  unfolding attemptOf findOf spins-in
   attempt-one r t g =
       let header = getD registry binding 0 in
       let k = go (findOf (e .headers) buckets g registry binding bucket)
@@ -216,12 +184,12 @@ spin-run : (e : Setting) (r : Run) (t g : List ℕ) → (spinOf e r t g .seen .0
 unfolding spinOf
 spin-run e r t g = (refl, refl)
 
-spin-one : (e : Setting) (r : Run) (t g : List ℕ) → spins (spinOf e r t g .log) ≡ 1
-unfolding spinOf spins
+spin-one : (e : Setting) (r : Run) (t g : List ℕ) → spins-in (spinOf e r t g .log) ≡ 1
+unfolding spinOf spins-in
 spin-one e r t g = omega (arith, spins-append (boundaryOf e (r .flow) t g .log) (spun ∷ []), boundary-still e (r .flow) t g .none)
 
 pause-one : (e : Setting) (i : ℕ) (r : Run) (t g : List ℕ) → Paused i r (pauseOf e i r t g)
-unfolding pauseOf spins
+unfolding pauseOf spins-in
 pause-one e i r t g =
     let b = boundaryOf e (r .flow) t g in
     let m = b .seen in
@@ -243,14 +211,14 @@ pause-one e i r t g =
 -- ---- retrying
 
 record Ran (left i : ℕ) (r : Run) (m : Made (With Tried)) : Type 0 where
-  yields-at : m .seen .0 .run .yields + i / 64 ≡ r .yields + (i + spins (m .log)) / 64
+  yields-at : m .seen .0 .run .yields + i / 64 ≡ r .yields + (i + spins-in (m .log)) / 64
   other : Else (m .seen .0 .outcome)
-  all : isBusy (m .seen .0 .outcome) ≡ true → (spins (m .log) ≡ left) × (m .seen .0 .run .attempts ≡ r .attempts + left)
-  fewer : isBusy (m .seen .0 .outcome) ≡ false → (spins (m .log) < left) × (m .seen .0 .run .attempts ≡ r .attempts + spins (m .log) + 1)
+  all : isBusy (m .seen .0 .outcome) ≡ true → (spins-in (m .log) ≡ left) × (m .seen .0 .run .attempts ≡ r .attempts + left)
+  fewer : isBusy (m .seen .0 .outcome) ≡ false → (spins-in (m .log) < left) × (m .seen .0 .run .attempts ≡ r .attempts + spins-in (m .log) + 1)
 
 module _ (e : Setting) (buckets : ℕ) (registry : List ℕ) (binding bucket : ℕ) where
   retry-ran : (left i : ℕ) (r : Run) (t g : List ℕ) → Ran left i r (retryOf left i e buckets registry binding bucket r t g)
-  unfolding retryOf spins
+  unfolding retryOf spins-in
   retry-ran zero i r t g = record { yields-at = omega arith; other = tt; all = λ _. (refl, omega arith); fewer = λ q. absurd (differ (sym q)) }
   retry-ran (suc left) i r t g =
       let a = attemptOf e buckets registry binding bucket r t g in
@@ -263,7 +231,7 @@ module _ (e : Setting) (buckets : ℕ) (registry : List ℕ) (binding bucket : �
       let z = retry-ran left (i + 1) (p .0) (p .1 .0) (p .1 .1) in
       if-cases (λ (o : Made (With Tried)). Ran (suc left) i r (record { seen = o .seen; log = a .log ++ o .log })) (isBusy (m .0 .outcome))
       (λ c.
-      let s : spins (a .log ++ (b .log ++ rest .log)) ≡ 1 + spins (rest .log)
+      let s : spins-in (a .log ++ (b .log ++ rest .log)) ≡ 1 + spins-in (rest .log)
       = omega (arith, spins-append (a .log) (b .log ++ rest .log), spins-append (b .log) (rest .log), x .no-spin, y .one-spin) in
       record {
         yields-at = omega (arith, s, z .yields-at, y .yields-at, x .no-yield);
@@ -272,7 +240,7 @@ module _ (e : Setting) (buckets : ℕ) (registry : List ℕ) (binding bucket : �
         fewer = λ q. (omega (arith, s, z .fewer q .0), omega (arith, s, z .fewer q .1, y .no-attempt, x .one-attempt));
       })
       (λ c.
-      let s : spins (a .log ++ []) ≡ 0 = omega (arith, spins-append (a .log) [], x .no-spin) in
+      let s : spins-in (a .log ++ []) ≡ 0 = omega (arith, spins-append (a .log) [], x .no-spin) in
       record {
         yields-at = omega (arith, s, x .no-yield);
         other = x .other;
@@ -280,13 +248,13 @@ module _ (e : Setting) (buckets : ℕ) (registry : List ℕ) (binding bucket : �
         fewer = λ q. (omega (arith, s), omega (arith, s, x .one-attempt));
       })
 
-pub bucket-retries : Bucket-retries
+pub bucket-retries : Bucket-retries perform
 bucket-retries w registry script place held binding bucket fine =
     let m = retryOf attemptLimit 0 (given (w .head) script (leasesOf held)) (w .head .buckets) registry binding bucket (starting (w .head) place) (w .table) (w .health) in
     let z = retry-ran (given (w .head) script (leasesOf held)) (w .head .buckets) registry binding bucket attemptLimit 0 (starting (w .head) place) (w .table) (w .health) in
-    subst (λ (x : Made (World × Says)). Retries (x .seen .1 .answer) (x .seen .1 .counts .attempts) (x .seen .1 .counts .yields) (spins (x .log)))
+    subst (λ (x : Made (World × Says)). Retries (x .seen .1 .answer) (x .seen .1 .counts .attempts) (x .seen .1 .counts .yields) (spins-in (x .log)))
     (sym (made w (acquire-bucket-has registry script place held binding bucket) fine))
-    (go (m .seen .0 .outcome) (m .seen .0 .run .attempts) (m .seen .0 .run .yields) (spins (m .log)) (omega (arith, z .yields-at)) (z .other)
+    (go (m .seen .0 .outcome) (m .seen .0 .run .attempts) (m .seen .0 .run .yields) (spins-in (m .log)) (omega (arith, z .yields-at)) (z .other)
     (λ q. (z .all q .0, omega (arith, z .all q .1))) (λ q. (z .fewer q .0, omega (arith, z .fewer q .1))))
   where
     go : (o : Outcome) (a y b : ℕ) → y ≡ b / 64 → Else o → (isBusy o ≡ true → (b ≡ 4096) × (a ≡ 4096)) → (isBusy o ≡ false → (b < 4096) × (a ≡ b + 1))
@@ -308,43 +276,12 @@ bucket-retries w registry script place held binding bucket fine =
           last-not = λ _. (few refl .1, omega (arith, few refl .0, few refl .1));
         }
 
--- ---- multi-lock: the same for each key, summed over the keys
-
-unfoldable pub total : List ℕ → ℕ
-total [] = 0
-total (n ∷ ns) = n + total ns
-
--- each divided by 64, rounded down
-unfoldable pub total-64 : List ℕ → ℕ
-total-64 [] = 0
-total-64 (n ∷ ns) = n / 64 + total-64 ns
-
--- a key had 4,096 Busy attempts
-pub data Some-4096 : List ℕ → Type 0 where
-  this-key : {ns : List ℕ} → Some-4096 (4096 ∷ ns)
-  a-later : {n : ℕ} {ns : List ℕ} → Some-4096 ns → Some-4096 (n ∷ ns)
-
-pub record Keys-retried (keys : ℕ) (a : Answer) (yields busy : ℕ) : Type 0 where
-  -- the Busy attempts of each key that was tried, in key order
-  pub of-key : List ℕ
-  pub few : length of-key ≤ keys
-  pub busy-are : busy ≡ total of-key
-  pub yields-are : yields ≡ total-64 of-key
-  pub failed : (p : ℕ) → a ≡ RefusedAt SerializationFailure p → Some-4096 of-key
-  pub fails : Some-4096 of-key → (p : ℕ) × (a ≡ RefusedAt SerializationFailure p)
-
-abbrev pub Locks-retry : Type 0
-Locks-retry =
-    (w : World) (registry script : List ℕ) (place : ℕ) (held keys grants : List ℕ)
-    → let k = acquire-locks registry script place held keys grants in
-    Clear (rules w k) → Keys-retried (countIn keys) (answers w k) (perform w k .seen .1 .counts .yields) (spins (log-of w k))
-
 record Backed (r : Run) (m : Made (With Run)) : Type 0 where
   calm : Calm (m .log)
   same : m .seen .0 .yields ≡ r .yields
 
 back-still : (n : ℕ) (e : Setting) (ls : List Lease) (r : Run) (t g : List ℕ) → Backed r (giveBackOf n e ls r t g)
-unfolding giveBackOf spins
+unfolding giveBackOf spins-in
 back-still zero e ls r t g = record { calm = record { none = refl }; same = refl }
 back-still (suc n) e ls r t g =
     let l = leaseAt ls n in
@@ -355,9 +292,9 @@ back-still (suc n) e ls r t g =
     let two = two-still (boundary-still q (r .flow) u g) (k .calm) in
     record { calm = record { none = omega (arith, two .none) }; same = k .same }
 
--- what `left` keys add to y yields and to the spins
+-- what `left` keys add to y yields and to the spins-in
 abbrev Sums : ℕ → ℕ → Made Locks → Type 0
-Sums left y m = (z : ℕ) × (m .seen .0 .run .yields ≡ y + z) × Keys-retried left (m .seen .0 .answer) z (spins (m .log))
+Sums left y m = (z : ℕ) × (m .seen .0 .run .yields ≡ y + z) × Keys-retried left (m .seen .0 .answer) z (spins-in (m .log))
 
 none-failed : (keys : ℕ) (a : Answer) → ((p : ℕ) → a ≡ RefusedAt SerializationFailure p → ⊥) → Keys-retried keys a 0 0
 unfolding total total-64
@@ -415,7 +352,7 @@ same-tally p q k = rw (← p, ← q) k
 
 module _ (e : Setting) (buckets : ℕ) (registry keys grants : List ℕ) where
   locks-sums : (left p : ℕ) (taken : List Lease) (r : Run) (t g : List ℕ) → Sums left (r .yields) (locksOf left p e buckets registry keys taken r t g grants)
-  unfolding locksOf rollbackOf spins
+  unfolding locksOf rollbackOf spins-in
   locks-sums zero p taken r t g = (0, omega arith, none-failed 0 AllGranted (λ q e. let z : _≡_ {A = ℕ} 0 1 = cc in omega arith))
   locks-sums (suc left) p taken r t g =
       let m = retryOf attemptLimit 0 (protecting e taken) buckets registry (bindingAt keys p) (bucketAt keys p) r t g in
@@ -424,32 +361,32 @@ module _ (e : Setting) (buckets : ℕ) (registry keys grants : List ℕ) where
       (λ l. locksOf left (p + 1) e buckets registry keys (taken ++ (l ∷ [])) (m .seen .0 .run) (m .seen .1 .0) (m .seen .1 .1) grants)
       (λ l. locks-sums left (p + 1) (taken ++ (l ∷ [])) (m .seen .0 .run) (m .seen .1 .0) (m .seen .1 .1))
     where
-      go : (o : Outcome) (k : Run) (u w : List ℕ) (es : List Event) → k .yields ≡ r .yields + spins es / 64 → Else o
-          → (isBusy o ≡ true → spins es ≡ 4096) → (isBusy o ≡ false → spins es < 4096) → (more : Lease → Made Locks) → ((l : Lease) → Sums left (k .yields) (more l))
+      go : (o : Outcome) (k : Run) (u w : List ℕ) (es : List Event) → k .yields ≡ r .yields + spins-in es / 64 → Else o
+          → (isBusy o ≡ true → spins-in es ≡ 4096) → (isBusy o ≡ false → spins-in es < 4096) → (more : Lease → Made Locks) → ((l : Lease) → Sums left (k .yields) (more l))
           → let m = afterKey o e taken p k u w grants more in
           Sums (suc left) (r .yields) (record { seen = m .seen; log = es ++ m .log })
       go (outcome.Granted l) k u w es y el all few more on =
           let s = on l in
-          (spins es / 64 + s .0, omega (arith, s .1), same-tally refl (sym (spins-append es (more l .log))) (one-key left (spins es) (s .0) (spins (more l .log)) (more l .seen .0 .answer) (few refl) (s .2)))
+          (spins-in es / 64 + s .0, omega (arith, s .1), same-tally refl (sym (spins-append es (more l .log))) (one-key left (spins-in es) (s .0) (spins-in (more l .log)) (more l .seen .0 .answer) (few refl) (s .2)))
       go outcome.Busy k u w es y el all few more on =
           let b = back-still (length taken) e taken k u w in
           let c = two-still {ys = []} (b .calm) (record { none = refl }) .none in (
-            spins es / 64,
+            spins-in es / 64,
             omega (arith, b .same),
             same-tally refl (omega (arith, spins-append es (giveBackOf (length taken) e taken k u w .log ++ []), c))
-                (last-key left (spins es) SerializationFailure p (λ _. all refl) (λ _. refl)),
+                (last-key left (spins-in es) SerializationFailure p (λ _. all refl) (λ _. refl)),
           )
       go (outcome.Refused x) k u w es y el all few more on =
           let b = back-still (length taken) e taken k u w in
           let c = two-still {ys = []} (b .calm) (record { none = refl }) .none in (
-            spins es / 64,
+            spins-in es / 64,
             omega (arith, b .same),
             same-tally refl (omega (arith, spins-append es (giveBackOf (length taken) e taken k u w .log ++ []), c))
-                (last-key left (spins es) x p (λ q. absurd (el q)) (λ q. absurd (omega (arith, few refl)))),
+                (last-key left (spins-in es) x p (λ q. absurd (el q)) (λ q. absurd (omega (arith, few refl)))),
           )
 
-pub locks-retry : Locks-retry
+pub locks-retry : Locks-retry perform
 locks-retry w registry script place held keys grants fine =
     let k = locks-sums (given (w .head) script (leasesOf held)) (w .head .buckets) registry keys grants (countIn keys) 0 [] (starting (w .head) place) (w .table) (w .health) in
-    subst (λ (x : Made (World × Says)). Keys-retried (countIn keys) (x .seen .1 .answer) (x .seen .1 .counts .yields) (spins (x .log)))
+    subst (λ (x : Made (World × Says)). Keys-retried (countIn keys) (x .seen .1 .answer) (x .seen .1 .counts .yields) (spins-in (x .log)))
     (sym (made w (acquire-locks-has registry script place held keys grants) fine)) (same-tally (omega (arith, k .1)) refl (k .2))

@@ -2,7 +2,7 @@
 use Prim.Native.Nat.{ℕ, zero, suc, _+_, _*_, _-_, _/_, _≤_, _<_}
 use mathlib.Core.Path.{_≡_, refl, sym, ap, _∙_, subst}
 use mathlib.Core.List.{List, [], _∷_, _++_}
-use mathlib.Core.Bool.{Bool, true, false, _&&_, _||_, not}
+use mathlib.Core.Bool.{true, _&&_, _||_, not}
 use native.Mathlib.Omega.{arith}
 use native.Mathlib.Decide.{ℕ-discrete, decLt}
 use lib.Dec.{ltb, leb, eqb}
@@ -22,7 +22,7 @@ use Rattle.model.specs.declared.Take.{Take}
 use Rattle.model.specs.declared.Take.the-variants as taking
 use Rattle.laws.specs.Pick.{both, if-both}
 use Rattle.history.specs.World.{World, worldOf, Live, Unreleased}
-use Rattle.history.specs.Tests.{differ, In, in-first, if-cases}
+use Rattle.history.specs.Tests.{differ, In, in-first, if-cases, neither}
 use Rattle.history.specs.Events.{Fit, lives}
 use Rattle.history.specs.Logs.{Kept, nothing, event, kept-fit, kept-live, weaken, ended}
 use Rattle.history.specs.Steps.{worldAt, Gains, followed, With, Gained, gained, was-busy, was-damaged, was-spent, lock-kept}
@@ -55,10 +55,6 @@ one-place counts m j k i a b e = go (decLt m k) (decLt k m)
     go (no p) (no q) = let s : m ≡ k = omega arith in (s, omega (arith, ap (startOf counts) s))
 
 -- ---- what the checks say
-
-neither : (a b : Bool) → (a || b) ≡ false → (a ≡ false) × (b ≡ false)
-neither true b e = (e, absurd (let z : _≡_ {A = ℕ} 0 1 = cc in omega arith))
-neither false b e = (refl, e)
 
 rises-inside : (inside low : ℕ) (cs : List ℕ) → risesFrom inside low cs ≡ true → (j : ℕ) → j < length cs → getD cs j 0 < inside
 unfolding risesFrom

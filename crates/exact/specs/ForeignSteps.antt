@@ -3,8 +3,7 @@
 use Prim.Native.Nat.{ℕ, _≤_}
 use mathlib.Core.Path.{_≡_, refl, sym, _∙_, subst}
 use mathlib.Core.List.{List, [], _∷_, _++_, append-nil}
-use mathlib.Core.Bool.{true, false, not, _&&_}
-use mathlib.Core.Logic.{_↔_}
+use mathlib.Core.Bool.{true, not, _&&_}
 use native.Mathlib.Omega.{arith}
 use lib.Dec.{ltb, leb, eqb}
 use borrow.Author.Tests.{ltb-true, leb-true, eqb-true, eqb-false, lt-ltb, le-leb, eq-eqb, not-true}
@@ -20,36 +19,7 @@ use Rattle.history.specs.World.{World, Legal, step}
 use Rattle.history.specs.Items.{foreign}
 use Rattle.history.specs.Tests.{differ, is-free-state, free-words, if-cases}
 use Rattle.history.specs.Steps.{With, worldAt, of-step}
-
--- ---- what a step asks for, by its kind: the event that it makes if it is performed
-
-pub data Asks (w : World) : (kind place number : ℕ) → Event → Type 0 where
-  take-a-cell : (c n : ℕ) → Asks w 1 c n (took by-script c (w .head .next))
-  release-it : (c s : ℕ) → Asks w 2 c s (released by-script c s)
-  set-waiters : (c n : ℕ) → Asks w 3 c n (waiters-set c n)
-  set-health : (i n : ℕ) → Asks w 4 i n (health-set i n)
-
--- legal in this world, while these leases are protected: "2 release (cell, serial): legal if that lease is live and not protected"
-abbrev pub Allowed : World → List Lease → Event → Type 0
-Allowed w ps attempt-begun = Legal w attempt-begun
-Allowed w ps boundary-run = Legal w boundary-run
-Allowed w ps yielded = Legal w yielded
-Allowed w ps spun = Legal w spun
-Allowed w ps step-dropped = Legal w step-dropped
-Allowed w ps (took a c s) = Legal w (took a c s)
-Allowed w ps (released a c s) = Legal w (released a c s) × (isIn (leaseOf c s) ps ≡ false)
-Allowed w ps (waiters-set c n) = Legal w (waiters-set c n)
-Allowed w ps (health-set i n) = Legal w (health-set i n)
-
--- one step: the world that it leaves, its log, and 1 where it was dropped
-pub data Stepping (w : World) (ps : List Lease) (kind place number : ℕ) : World → List Event → ℕ → Type 0 where
-  -- "0 observe", "5 end of boundary"
-  looks : kind ≡ 0 → Stepping w ps kind place number w [] 0
-  ends : kind ≡ 5 → Stepping w ps kind place number w [] 0
-  performed : (e : Event) → Asks w kind place number e → Allowed w ps e → Stepping w ps kind place number (step w e) (e ∷ []) 0
-  -- "another kind, or not legal"
-  dropped : (kind ≡ 0 → ⊥) → (kind ≡ 5 → ⊥) → ((e : Event) → Asks w kind place number e → Allowed w ps e → ⊥)
-      → Stepping w ps kind place number w (step-dropped ∷ []) 1
+use Rattle.exact.specs.Statements.{Allowed, Asks, Foreign-exactly, Stepping, Lone, dropped, looks, release-it, set-health, set-waiters, take-a-cell, ends, performed}
 
 -- only kinds 1 to 4 ask for anything
 asks-kind : {w : World} {kind place number : ℕ} {e : Event} → Asks w kind place number e → (1 ≤ kind) × (kind ≤ 4)
@@ -148,27 +118,6 @@ module _ (h : Head) (script : List ℕ) (ps : List Lease) (n : ℕ) (t g : List 
       none : (kind ≡ 1 → ⊥) → (kind ≡ 2 → ⊥) → (kind ≡ 3 → ⊥) → (kind ≡ 4 → ⊥) → (1 ≤ kind) × (kind ≤ 4) → ⊥
       none a b c d r = omega (arith, r .0, r .1)
 
--- ---- a lone step, between two calls: nobody's lease is protected then
-
--- what a step asks for is done exactly if it is legal, else it is dropped; and a drop changes nothing
-pub record Lone (w : World) (e : Event) (m : Made World) : Type 0 where
-  pub done : (m .log ≡ e ∷ []) ↔ Legal w e
-  pub lost : (m .log ≡ step-dropped ∷ []) ↔ (Legal w e → ⊥)
-  pub legal : Legal w e → m ≡ record { seen = step w e; log = e ∷ [] }
-  pub illegal : (Legal w e → ⊥) → m ≡ record { seen = w; log = step-dropped ∷ [] }
-
-pub record Lone-exactly (w : World) (c n : ℕ) : Type 0 where
-  pub takes : Lone w (took by-script c (w .head .next)) (foreign w 1 c n)
-  pub releases : Lone w (released by-script c n) (foreign w 2 c n)
-  pub sets-waiters : Lone w (waiters-set c n) (foreign w 3 c n)
-  pub sets-health : Lone w (health-set c n) (foreign w 4 c n)
-  pub observes : foreign w 0 c n ≡ record { seen = w; log = [] }
-  pub closes : foreign w 5 c n ≡ record { seen = w; log = [] }
-  pub others : (k : ℕ) → 6 ≤ k → foreign w k c n ≡ record { seen = w; log = step-dropped ∷ [] }
-
-abbrev pub Foreign-exactly : Type 0
-Foreign-exactly = (w : World) (c n : ℕ) → Lone-exactly w c n
-
 allowed-legal : (w : World) (ps : List Lease) (e : Event) → Allowed w ps e → Legal w e
 allowed-legal w ps attempt-begun l = l
 allowed-legal w ps boundary-run l = l
@@ -220,7 +169,7 @@ module _ (w : World) where
         let k : Legal w e → ⊥ = λ l. n e a (legal-allowed w e l) in
         record { done = (λ q. absurd (not-asked a cc), λ l. absurd (k l)); lost = (λ _. k, λ _. refl); legal = λ l. absurd (k l); illegal = λ _. refl }
 
-pub foreign-exactly : Foreign-exactly
+pub foreign-exactly : Foreign-exactly foreign
 foreign-exactly w c n =
     record {
       takes = lone-of w (took by-script c (w .head .next)) (take-a-cell c n) only-take (foreign-is w 1 c n .1);

@@ -1,49 +1,27 @@
 -- What follows from `Consumed` of a call with a script: where its place stands afterwards, that each step between has its turn, and that each
 -- event by script in the log is the work of such a step.
-use Prim.Native.Nat.{ℕ, _+_, _-_, _%_, _≤_, _<_}
+use Rattle.model.specs.Crew.{total}
+use Rattle.exact.specs.Script.{Scripted, environment-has, try-lock-has, transactional-has, acquire-bucket-has, release-all-has, acquire-locks-has, place-in, Boundary, at-end, at-five, one-step, attempts-one, yields-once, spins, Consumed, at-rest, counts, takes, gives-up, boundary, Place-goes, Turn, Each-has-its-turn, Points, By-script-only, Tally, Dropped-are}
+use Prim.Native.Nat.{ℕ, _+_, _-_, _≤_, _<_}
 use mathlib.Core.Path.{_≡_, refl, sym, ap, _∙_, subst}
 use mathlib.Core.List.{List, [], _∷_, _++_, append-nil, append-assoc}
-use mathlib.Core.Bool.{Bool, true, false, not, _||_}
 use native.Mathlib.Omega.{arith}
 use native.Mathlib.Nat.{add-zero}
 use native.Mathlib.Decide.{ℕ-discrete, decLt}
-use lib.Dec.{ltb, eqb}
 use lib.ListN.{length, getD, length-append, List·getD-append}
 use lib.Seq.{getD-append-add}
-use borrow.Author.Tests.{ltb-false}
 use Rattle.model.specs.Log.{Event, by-caller, by-script, attempt-begun, boundary-run, yielded, spun, step-dropped, took, released, waiters-set, health-set}
-use Rattle.model.specs.Checks.{badScript, scriptRules, lockRules, bucketRules, releaseRules, locksRules}
+use Rattle.model.specs.Checks.{scriptRules, lockRules, bucketRules, releaseRules, locksRules}
 use Rattle.model.specs.Foreign.{stepsIn, kindAt, placeAt, numberAt}
 use Rattle.model.specs.declared.Lease.{Lease}
 use Rattle.history.specs.World.{World, now}
 use Rattle.history.specs.Items.{Call, script-of, place-of, perform}
-use Rattle.history.specs.Statements.{log-of}
-use Rattle.history.specs.Tests.{differ}
 use Rattle.history.specs.Logs.{now-append}
 use Rattle.history.specs.Judged.{Clear, rules}
-use Rattle.exact.specs.Made.{Scripted, environment-has, try-lock-has, transactional-has, acquire-bucket-has, release-all-has, acquire-locks-has}
-use Rattle.exact.specs.ForeignExactly.{Asks, take-a-cell, release-it, set-waiters, set-health, Stepping, looks, ends, performed, dropped}
-use Rattle.exact.specs.Consumed.{Boundary, at-end, at-five, one-step, Consumed, at-rest, counts, attempts-one, yields-once, spins, takes, gives-up, boundary, boundary-rises, place-rises, place-inside, boundary-now, step-now}
-use Rattle.exact.specs.ConsumedCalls.{script-consumed}
-
--- ---- the place
-
-abbrev pub place-after : World → Call → ℕ
-place-after w k = perform w k .seen .1 .place
-
-abbrev pub Place-goes : Type 0
-Place-goes =
-    (w : World) (k : Call) → Scripted k → Clear (rules w k)
-    → (place-of k ≤ place-after w k) × (place-after w k ≤ stepsIn (script-of k))
-
-either-false : (a b : Bool) → (a || b) ≡ false → b ≡ false
-either-false true b e = absurd (differ (sym e))
-either-false false b e = e
-
--- "place past the end" does not apply
-in-script : (script : List ℕ) (place : ℕ) → badScript script place .applies ≡ false → place ≤ stepsIn script
-in-script script place e =
-    ltb-false (stepsIn script) place (either-false (not (eqb (length script % 3) 0) || ltb 32768 (stepsIn script)) (ltb (stepsIn script) place) e)
+use Rattle.exact.specs.Consuming.{boundary-rises, place-rises, place-inside, boundary-now, step-now}
+use Rattle.exact.specs.ConsumingCalls.{script-consumed}
+use Rattle.exact.specs.Statements.{Asks, dropped, ends, looks, performed, release-it, set-health, set-waiters, take-a-cell, Stepping}
+use Rattle.exact.specs.Passing.{in-script}
 
 fits : (w : World) {k : Call} → Scripted k → Clear (rules w k) → place-of k ≤ stepsIn (script-of k)
 unfolding scriptRules lockRules bucketRules releaseRules locksRules
@@ -54,26 +32,8 @@ fits w (acquire-bucket-has registry script place held binding bucket) c = in-scr
 fits w (release-all-has script place leases) c = in-script script place (c .1 .1 .0)
 fits w (acquire-locks-has registry script place held keys grants) c = in-script script place (c .1 .1 .1 .0)
 
-pub place-goes : Place-goes
+pub place-goes : Place-goes perform
 place-goes w k s fine = let c = script-consumed w k s fine in (place-rises c, place-inside c (fits w s fine))
-
--- ---- each step has its turn
-
--- step x of the script is run at a point of the log: in the world of that point it is performed exactly if it is legal there (`Stepping`)
-pub record Turn (script : List ℕ) (w : World) (log : List Event) (x : ℕ) : Type 0 where
-  pub before : List Event
-  pub own : List Event
-  pub after : List Event
-  pub protected : List Lease
-  pub leaves : World
-  pub lost : ℕ
-  pub parts : log ≡ before ++ (own ++ after)
-  pub turn : Stepping (now w before) protected (kindAt script x) (placeAt script x) (numberAt script x) leaves own lost
-
-abbrev pub Each-has-its-turn : Type 0
-Each-has-its-turn =
-    (w : World) (k : Call) → Scripted k → Clear (rules w k)
-    → (x : ℕ) → place-of k ≤ x → x < place-after w k → Turn (script-of k) w (log-of w k) x
 
 module _ {script : List ℕ} {x : ℕ} where
   -- a turn in the later part, and in the earlier part of a log
@@ -138,28 +98,8 @@ module _ {script : List ℕ} {x : ℕ} where
       go (yes z) r = later (boundary-run ∷ []) refl (earlier fs (boundary-turn b l z))
       go (no z) r = later (boundary-run ∷ []) refl (later es (boundary-now b) (r (omega arith)))
 
-pub each-has-its-turn : Each-has-its-turn
+pub each-has-its-turn : Each-has-its-turn perform
 each-has-its-turn w k s fine x l m = turns (script-consumed w k s fine) l m
-
--- ---- each event by script is the work of a step between the two places
-
-abbrev pub Points : List ℕ → ℕ → ℕ → Event → Type 0
-Points script p q attempt-begun = Unit {0}
-Points script p q boundary-run = Unit {0}
-Points script p q yielded = Unit {0}
-Points script p q spun = Unit {0}
-Points script p q step-dropped = (x : ℕ) × (p ≤ x) × (x < q)
-Points script p q (took by-caller c s) = Unit {0}
-Points script p q (took by-script c s) = (x : ℕ) × (p ≤ x) × (x < q) × (kindAt script x ≡ 1) × (placeAt script x ≡ c)
-Points script p q (released by-caller c s) = Unit {0}
-Points script p q (released by-script c s) = (x : ℕ) × (p ≤ x) × (x < q) × (kindAt script x ≡ 2) × (placeAt script x ≡ c) × (numberAt script x ≡ s)
-Points script p q (waiters-set c n) = (x : ℕ) × (p ≤ x) × (x < q) × (kindAt script x ≡ 3) × (placeAt script x ≡ c) × (numberAt script x ≡ n)
-Points script p q (health-set i n) = (x : ℕ) × (p ≤ x) × (x < q) × (kindAt script x ≡ 4) × (placeAt script x ≡ i) × (numberAt script x ≡ n)
-
-abbrev pub By-script-only : Type 0
-By-script-only =
-    (w : World) (k : Call) (e : Event) (before after : List Event) → Scripted k → Clear (rules w k)
-    → log-of w k ≡ before ++ (e ∷ after) → Points (script-of k) (place-of k) (place-after w k) e
 
 -- all events of a log
 abbrev Every : (Event → Type 0) → List Event → Type 0
@@ -223,26 +163,9 @@ module _ (script : List ℕ) where
   points {p = p} {q = q} (boundary {es = es} {fs = fs} b k) =
       (tt, every-append (Points script p q) es fs (all-wider es (omega arith) (place-rises k) (boundary-points b)) (all-wider fs (boundary-rises b) (omega arith) (points k)))
 
-pub by-script-only : By-script-only
+pub by-script-only : By-script-only perform
 by-script-only w k e before after s fine q =
-    every-at (Points (script-of k) (place-of k) (place-after w k)) before e after (subst (Every (Points (script-of k) (place-of k) (place-after w k))) q (points (script-of k) (script-consumed w k s fine)))
-
--- ---- the dropped steps, counted from outside: a mark for each step between the two places, 1 where its turn dropped it
-
-unfoldable pub total : List ℕ → ℕ
-total [] = 0
-total (m ∷ ms) = m + total ms
-
-pub record Tally (script : List ℕ) (w : World) (log : List Event) (p q d c : ℕ) : Type 0 where
-  pub marks : List ℕ
-  pub as-many : p + length marks ≡ q
-  pub sum : c ≡ d + total marks
-  pub each : (n : ℕ) → n < length marks → (t : Turn script w log (p + n)) × (t .lost ≡ getD marks n 0)
-
-abbrev pub Dropped-are : Type 0
-Dropped-are =
-    (w : World) (k : Call) → Scripted k → Clear (rules w k)
-    → Tally (script-of k) w (log-of w k) (place-of k) (place-after w k) 0 (perform w k .seen .1 .counts .dropped)
+    every-at (Points (script-of k) (place-of k) (place-in (perform w k))) before e after (subst (Every (Points (script-of k) (place-of k) (place-in (perform w k)))) q (points (script-of k) (script-consumed w k s fine)))
 
 total-append : (ms ns : List ℕ) → total (ms ++ ns) ≡ total ms + total ns
 unfolding total
@@ -307,5 +230,5 @@ module _ {script : List ℕ} where
   tally (gives-up l k) = tally-later (released by-caller (l .cell) (l .serial) ∷ []) refl (tally k)
   tally (boundary {es = es} {fs = fs} b k) = tally-later (boundary-run ∷ []) refl (tally-then es fs (boundary-now b) (boundary-tally b) (tally k))
 
-pub dropped-are : Dropped-are
+pub dropped-are : Dropped-are perform
 dropped-are w k s fine = tally (script-consumed w k s fine)

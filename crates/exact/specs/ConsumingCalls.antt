@@ -1,12 +1,12 @@
 -- Every call with a script uses it up as `Consumed` says: from its place to the place that it gives back, with its dropped steps, from the
 -- world before it to the world after it, over its log.
+use Rattle.exact.specs.Script.{Scripted, environment-has, try-lock-has, transactional-has, acquire-bucket-has, release-all-has, acquire-locks-has, attempts-one, counts, handed, Consumes, Script-consumed}
 use Prim.Native.Nat.{ℕ, _*_, _≤_}
 use mathlib.Core.Path.{_≡_, refl, sym}
 use mathlib.Core.List.{List, [], _∷_, _++_, append-nil}
 use native.Mathlib.Omega.{arith}
 use lib.ListN.{length}
 use lib.Seq.{take-all}
-use Rattle.model.specs.Log.{Made}
 use Rattle.model.specs.Arena.{leasesOf}
 use Rattle.model.specs.Checks.{countIn}
 use Rattle.model.specs.Foreign.{flowOf}
@@ -18,31 +18,11 @@ use Rattle.model.specs.declared.Lease.{Lease}
 use Rattle.model.specs.declared.Outcome.{Outcome}
 use Rattle.model.specs.declared.Outcome.the-variants as outcome
 use Rattle.history.specs.World.{World}
-use Rattle.history.specs.Items.{Call, Says, perform, script-of, place-of, held-of, given-up}
-use Rattle.history.specs.Judged.{Clear, rules, steps}
+use Rattle.history.specs.Items.{Call, perform}
+use Rattle.history.specs.Judged.{steps}
 use Rattle.history.specs.Calls.{words-leases}
-use Rattle.exact.specs.Made.{Scripted, environment-has, try-lock-has, transactional-has, acquire-bucket-has, release-all-has, acquire-locks-has, made}
-use Rattle.exact.specs.Consumed.{Consumed, counts, attempts-one}
-use Rattle.exact.specs.ConsumedSteps.{held-after, granted-after, boundary-consumed, lock-consumed, attempt-consumed, retry-consumed, back-consumed, locks-consumed}
-
--- the leases that an answer hands over, with the grant buffer
-abbrev pub handed : Answer → List ℕ → List Lease
-handed Done b = []
-handed (Cell c) b = []
-handed (Granted l) b = l ∷ []
-handed AllGranted b = leasesOf b
-handed Busy b = []
-handed (Refused r) b = []
-handed (RefusedAt r p) b = []
-
--- protected at first: what the caller holds, and in `release_all` what it gives up; at last: what it holds, and what it is handed
-abbrev pub Consumes : World → Call → Made (World × Says) → Type 0
-Consumes w k m =
-    Consumed (script-of k) (held-of k ++ given-up k) (place-of k) 0 w
-    (held-of k ++ handed (m .seen .1 .answer) (m .seen .1 .grants)) (m .seen .1 .place) (m .seen .1 .counts .dropped) (m .seen .0) (m .log)
-
-abbrev pub Script-consumed : Type 0
-Script-consumed = (w : World) (k : Call) → Scripted k → Clear (rules w k) → Consumes w k (perform w k)
+use Rattle.exact.specs.Made.{made}
+use Rattle.exact.specs.ConsumingSteps.{held-after, granted-after, boundary-consumed, lock-consumed, attempt-consumed, retry-consumed, back-consumed, locks-consumed}
 
 -- ---- proofs
 
@@ -100,5 +80,5 @@ steps-consumed w (acquire-locks-has registry script place held keys grants) =
     rw (← (granted-handed ps (m .0 .answer) (m .1 .1 .1)))
     (locks-consumed (w .head) script ps (w .head .buckets) registry keys grants (countIn keys) 0 [] (starting (w .head) place) (w .table) (w .health))
 
-pub script-consumed : Script-consumed
+pub script-consumed : Script-consumed perform
 script-consumed w k s fine = rw (made w s fine) (steps-consumed w s)

@@ -6,16 +6,14 @@ use mathlib.Core.Bool.{Bool, true, false}
 use mathlib.Core.Logic.{_↔_}
 use native.Mathlib.Omega.{arith}
 use lib.Dec.{leb}
-use lib.ListN.{length}
 use borrow.Author.Tests.{ltb-true, ltb-false, leb-true, leb-false}
 use Rattle.model.specs.Choice.{if_then_else_}
-use Rattle.model.specs.Log.{Made, by-caller, attempt-begun, took, gives}
-use Rattle.model.specs.Arena.{lastSerial, serialRemains, spentTo, leaseOf, bitAt, ownerAt, stateAt, shapeFits}
+use Rattle.model.specs.Log.{Made, attempt-begun, gives}
+use Rattle.model.specs.Arena.{lastSerial, serialRemains, spentTo, leaseOf, bitAt, ownerAt, stateAt}
 use Rattle.model.specs.Refusals.{first, judge}
 use Rattle.model.specs.Checks.{cellRules}
 use Rattle.model.specs.Lock.{takeIn, takeOf, outcomeOf, answerOf}
 use Rattle.model.specs.Calls.{countsOf, refused, acquireOf, tryAcquireOf}
-use Rattle.model.specs.declared.Answer.{Answer}
 use Rattle.model.specs.declared.Answer.the-variants.{Granted, Busy, Refused}
 use Rattle.model.specs.declared.Check.{Check}
 use Rattle.model.specs.declared.Check.the-variants.{Fine, Fault}
@@ -23,47 +21,13 @@ use Rattle.model.specs.declared.Lease.{Lease}
 use Rattle.model.specs.declared.Refusal.the-variants.{InvalidBucket, Damaged, SerialsSpent}
 use Rattle.model.specs.declared.State.{State}
 use Rattle.model.specs.declared.Took.{Took}
-use Rattle.history.specs.World.{World, worldOf, cells, step}
+use Rattle.history.specs.World.{World, worldOf, cells}
 use Rattle.history.specs.Items.{Says, says, try-acquire, perform}
-use Rattle.history.specs.Statements.{answers}
 use Rattle.history.specs.Tests.{Stands, stands, is-free, is-held, is-damaged, if-cases}
+use Rattle.history.specs.Callers.{Shape-fits}
+use Rattle.exact.specs.Statements.{Tries, Try-acquire-exactly, Is-damaged, Is-free, Is-held, damaged, outside, held, free, spent}
 
--- ---- a cell by its words: bit and owner
-
-abbrev pub Is-free : World → ℕ → Type 0
-Is-free w c = (bitAt (w .table) c ≡ 0) × (ownerAt (w .table) c ≡ 0)
-
-abbrev pub Is-held : World → ℕ → Type 0
-Is-held w c = (bitAt (w .table) c ≡ 1) × (1 ≤ ownerAt (w .table) c) × (ownerAt (w .table) c < w .head .next)
-
-abbrev pub Is-damaged : World → ℕ → Type 0
-Is-damaged w c = (Is-free w c → ⊥) × (Is-held w c → ⊥)
-
--- ---- `try_acquire`
-
--- one attempt that changes nothing
-abbrev pub stays : World → Answer → Made (World × Says)
-stays w a = record { seen = (w, says a (countsOf 1 0 0 0) 0 []); log = attempt-begun ∷ [] }
-
--- one attempt that takes the cell
-abbrev pub takes-it : World → ℕ → Made (World × Says)
-takes-it w c =
-    let e = took by-caller c (w .head .next) in
-    record { seen = (step w e, says (Granted (leaseOf c (w .head .next))) (countsOf 1 0 0 0) 0 []); log = attempt-begun ∷ e ∷ [] }
-
--- the cell is not there: refused before any attempt
-abbrev pub no-cell : World → ℕ → Made (World × Says)
-no-cell w c = record { seen = (w, says (Refused (InvalidBucket c)) (countsOf 0 0 0 0) 0 []); log = [] }
-
--- the five ways, and what the whole call is in each: answer, counts, world and log
-pub data Tries (w : World) (c : ℕ) : Made (World × Says) → Type 0 where
-  outside : cells w ≤ c → Tries w c (no-cell w c)
-  damaged : c < cells w → Is-damaged w c → Tries w c (stays w (Refused (Damaged c)))
-  held : c < cells w → Is-held w c → Tries w c (stays w Busy)
-  spent : c < cells w → Is-free w c → lastSerial ≤ w .head .next → Tries w c (stays w (Refused (SerialsSpent c)))
-  free : c < cells w → Is-free w c → w .head .next < lastSerial → Tries w c (takes-it w c)
-
-pub tries : (w : World) (c : ℕ) → shapeFits (w .head) (length (w .table)) ≡ true → Tries w c (perform w (try-acquire c))
+tries : (w : World) (c : ℕ) → Shape-fits w → Tries w c (perform w (try-acquire c))
 unfolding perform tryAcquireOf cellRules first acquireOf takeOf stateAt
 tries w c s = subst After (sym checked) (go (leb (cells w) c) refl)
   where
@@ -91,19 +55,6 @@ tries w c s = subst After (sym checked) (go (leb (cells w) c) refl)
     go : (b : Bool) → leb (cells w) c ≡ b → After (if b then Fault (InvalidBucket c) else Fine)
     go true e = outside (leb-true (cells w) c e)
     go false e = on (stands (w .head .next) (bitAt (w .table) c) (ownerAt (w .table) c)) (leb-false (cells w) c e)
-
--- an exactly-if for each answer
-pub record Answered (w : World) (c : ℕ) : Type 0 where
-  pub granted : (l : Lease) → (answers w (try-acquire c) ≡ Granted l) ↔ ((c < cells w) × Is-free w c × (w .head .next < lastSerial) × (l ≡ leaseOf c (w .head .next)))
-  pub busy : (answers w (try-acquire c) ≡ Busy) ↔ ((c < cells w) × Is-held w c)
-  pub damaged : (d : ℕ) → (answers w (try-acquire c) ≡ Refused (Damaged d)) ↔ ((c < cells w) × Is-damaged w c × (d ≡ c))
-  pub spent : (d : ℕ) → (answers w (try-acquire c) ≡ Refused (SerialsSpent d)) ↔ ((c < cells w) × Is-free w c × (lastSerial ≤ w .head .next) × (d ≡ c))
-  pub outside : (d : ℕ) → (answers w (try-acquire c) ≡ Refused (InvalidBucket d)) ↔ ((cells w ≤ c) × (d ≡ c))
-  -- and the whole of it: what is granted is taken, with the next serial, and nothing else ever changes the world
-  pub whole : Tries w c (perform w (try-acquire c))
-
-abbrev pub Try-acquire-exactly : Type 0
-Try-acquire-exactly = (w : World) (c : ℕ) → shapeFits (w .head) (length (w .table)) ≡ true → Answered w c
 
 module _ {w : World} {c : ℕ} where
   granted′ : {m : Made (World × Says)} → (l : Lease) → Tries w c m → (m .seen .1 .answer ≡ Granted l) ↔ ((c < cells w) × Is-free w c × (w .head .next < lastSerial) × (l ≡ leaseOf c (w .head .next)))
@@ -141,7 +92,7 @@ module _ {w : World} {c : ℕ} where
   outside′ d (spent i x r) = (λ e. let z : _≡_ {A = ℕ} 0 1 = cc in absurd (omega arith), λ p. absurd (omega (arith, p .0)))
   outside′ d (free i x r) = (λ e. let z : _≡_ {A = ℕ} 0 1 = cc in absurd (omega arith), λ p. absurd (omega (arith, p .0)))
 
-pub try-acquire-exactly : Try-acquire-exactly
+pub try-acquire-exactly : Try-acquire-exactly perform
 try-acquire-exactly w c s =
     record {
       granted = λ l. granted′ l (tries w c s);

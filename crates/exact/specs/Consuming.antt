@@ -1,49 +1,16 @@
 -- How a call uses up its script: the steps from its place on are run once each, in order, at the boundaries in order, each boundary up to and
 -- with its 5 or to the script's end. Between two boundaries there are only the caller's own events. No arena rule is needed.
-use Prim.Native.Nat.{ℕ, _+_, _≤_, _<_}
+use Rattle.exact.specs.Script.{Boundary, at-end, at-five, one-step, attempts-one, yields-once, spins, Consumed, at-rest, counts, takes, gives-up, boundary}
+use Prim.Native.Nat.{ℕ, _+_, _≤_}
 use mathlib.Core.Path.{_≡_, refl, sym, ap, _∙_, subst}
-use mathlib.Core.List.{List, [], _∷_, _++_, append-assoc}
+use mathlib.Core.List.{List, _∷_, _++_, append-assoc}
 use native.Mathlib.Omega.{arith}
-use Rattle.model.specs.Log.{Event, by-caller, attempt-begun, boundary-run, yielded, spun, took, released}
-use Rattle.model.specs.Foreign.{stepsIn, kindAt, placeAt, numberAt}
+use Rattle.model.specs.Log.{Event, boundary-run}
+use Rattle.model.specs.Foreign.{stepsIn}
 use Rattle.model.specs.declared.Lease.{Lease}
-use Rattle.history.specs.World.{World, step, now}
+use Rattle.history.specs.World.{World, now}
 use Rattle.history.specs.Logs.{now-append}
-use Rattle.exact.specs.ForeignExactly.{Stepping, looks, ends, performed, dropped}
-
--- ---- where a script stands: its place and the steps dropped so far, with the world there
-
--- one boundary, from (p, d, w) to (q, c, v), while `ps` are protected; `es` is what its steps leave in the log
-pub data Boundary (script : List ℕ) (ps : List Lease) : (p d : ℕ) (w : World) (q c : ℕ) (v : World) → List Event → Type 0 where
-  -- "past the end it is quiet"
-  at-end : {p d : ℕ} {w : World} → stepsIn script ≤ p → Boundary script ps p d w p d w []
-  -- "up to and including the next 5"
-  at-five : {p d : ℕ} {w : World} → p < stepsIn script → kindAt script p ≡ 5 → Boundary script ps p d w (p + 1) d w []
-  -- one step: performed exactly if it is legal now, else dropped and counted (`Stepping`)
-  one-step : {p d : ℕ} {w : World} {x : ℕ} {u : World} {q c : ℕ} {v : World} {es fs : List Event} → p < stepsIn script → (kindAt script p ≡ 5 → ⊥)
-      → Stepping w ps (kindAt script p) (placeAt script p) (numberAt script p) u es x
-      → Boundary script ps (p + 1) (d + x) u q c v fs → Boundary script ps p d w q c v (es ++ fs)
-
--- what a call counts besides
-pub data Counted-only : Event → Type 0 where
-  attempts-one : Counted-only attempt-begun
-  yields-once : Counted-only yielded
-  spins : Counted-only spun
-
--- a whole call, from its first event to its last. "Protected: the caller's held leases, those this call has taken, .. and never those it has
--- given up": what it takes is added behind, what it gives up is the last
-pub data Consumed (script : List ℕ) : (ps : List Lease) (p d : ℕ) (w : World) (rs : List Lease) (q c : ℕ) (v : World) → List Event → Type 0 where
-  at-rest : {ps : List Lease} {p d : ℕ} {w : World} → Consumed script ps p d w ps p d w []
-  counts : {ps rs : List Lease} {p d q c : ℕ} {w v : World} {es : List Event} {e : Event} → Counted-only e
-      → Consumed script ps p d w rs q c v es → Consumed script ps p d w rs q c v (e ∷ es)
-  takes : {ps rs : List Lease} {p d q c : ℕ} {w v : World} {es : List Event} (l : Lease)
-      → Consumed script (ps ++ (l ∷ [])) p d (step w (took by-caller (l .cell) (l .serial))) rs q c v es
-      → Consumed script ps p d w rs q c v (took by-caller (l .cell) (l .serial) ∷ es)
-  gives-up : {ps rs : List Lease} {p d q c : ℕ} {w v : World} {es : List Event} (l : Lease)
-      → Consumed script ps p d (step w (released by-caller (l .cell) (l .serial))) rs q c v es
-      → Consumed script (ps ++ (l ∷ [])) p d w rs q c v (released by-caller (l .cell) (l .serial) ∷ es)
-  boundary : {ps rs : List Lease} {p d x y q c : ℕ} {w u v : World} {es fs : List Event} → Boundary script ps p d w x y u es
-      → Consumed script ps x y u rs q c v fs → Consumed script ps p d w rs q c v (boundary-run ∷ (es ++ fs))
+use Rattle.exact.specs.Statements.{Stepping, dropped, ends, looks, performed}
 
 -- one behind the other
 pub follow : {script : List ℕ} {ps rs ts : List Lease} {p d x y q c : ℕ} {w u v : World} {es fs : List Event}
