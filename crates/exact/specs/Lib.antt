@@ -2,6 +2,7 @@ pub mod Statements
 pub mod Script
 pub mod Attempts
 pub mod Theorems
+pub mod Cases
 pub mod Made
 pub mod Passing
 pub mod TryAcquire
