@@ -29,7 +29,7 @@ abbrev cells : List ℕ
 cells = 2 ∷ 5 ∷ 2 ∷ 5 ∷ []
 
 -- a prepared arena is open to them
-opened : (turns : List ℕ) → first (crewRules bench table health counts cells turns) ≡ Fine → Open bench table health counts cells turns
+pub opened : (turns : List ℕ) → first (crewRules bench table health counts cells turns) ≡ Fine → Open bench table health counts cells turns
 unfolding stateAt stateOf isFree bitAt ownerAt waitersAt total
 opened turns fine =
     record {
