@@ -15,4 +15,5 @@ pub mod ConsumingCalls
 pub mod ScriptFacts
 pub mod Retried
 pub mod CountedOn
+pub mod Ending
 pub mod Attempting
