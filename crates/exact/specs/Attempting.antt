@@ -1,14 +1,14 @@
 -- `acquire_index_bucket` from outside: up to 4,096 times what `transactional_try_lock_bucket` does, one after the other, and after each that is
 -- Busy what `environment` does, once, or twice after every 64th. 11 exactly if all 4,096 were Busy. Any script, any arena.
 use Prim.Native.Nat.{ℕ, zero, suc, _+_, _%_, _<_}
-use mathlib.Core.Path.{_≡_, refl, sym, subst}
+use mathlib.Core.Path.{_≡_, refl, sym, subst, ap, _∙_}
 use mathlib.Core.List.{List, [], _∷_, _++_, append-nil, append-assoc}
 use mathlib.Core.Bool.{true, false}
 use native.Mathlib.Omega.{arith}
 use native.Mathlib.Nat.{add-zero}
 use lib.Dec.{eqb}
 use borrow.Author.Tests.{eqb-true, eqb-false}
-use Rattle.model.specs.Log.{Made, yielded, note, _>>=_, _>>_}
+use Rattle.model.specs.Log.{Made, yielded, note, _>>=_, _>>_, spun}
 use Rattle.model.specs.Arena.{leasesOf}
 use Rattle.model.specs.Foreign.{Setting, flowOf, boundaryOf}
 use Rattle.model.specs.Lock.{answerOf, settled, runOf, triedOf, attemptOf, spinOf, pauseOf, isBusy, retryOf, attemptLimit}
@@ -22,14 +22,20 @@ use Rattle.model.specs.declared.Run.{Run}
 use Rattle.model.specs.declared.Tried.{Tried}
 use Rattle.history.specs.World.{World, attempts, yields}
 use Rattle.history.specs.Items.{Says, says, perform, acquire-bucket, environment, transactional}
-use Rattle.history.specs.Tests.{differ, if-cases}
+use Rattle.history.specs.Tests.{differ, if-cases, In}
 use Rattle.history.specs.Steps.{With, worldAt, of-run, of-tried}
 use Rattle.exact.specs.Made.{made}
 use Rattle.exact.specs.CountedOn.{on-run, run-on, tried-on, boundary-from, pause-on, retry-on}
-use Rattle.exact.specs.Script.{acquire-bucket-has}
-use Rattle.exact.specs.Attempts.{Attempts, Pause, all-busy, yield, _and-then_, one-busy, spin, the-last, also-yields, only-spins}
+use Rattle.exact.specs.Script.{acquire-bucket-has, environment-has, transactional-has, place-in}
+use Rattle.exact.specs.Attempts.{Attempts, Pause, all-busy, yield, _and-then_, one-busy, spin, the-last, also-yields, only-spins, Bucket-attempts}
 use Rattle.history.specs.Judged.{steps}
+use Rattle.model.specs.Checks.{bucketRules}
 use Rattle.exact.specs.Statements.{Passes}
+use Rattle.exact.specs.Passing.{boundary-on, bucket-on, in-script}
+use Rattle.history.specs.Statements.{world-in, answer-in}
+use Rattle.history.specs.Logs.{nothing}
+use Rattle.history.specs.Calls.{call-kept}
+use Rattle.exact.specs.ScriptFacts.{place-goes}
 
 -- ---- proofs
 
@@ -143,3 +149,82 @@ by-steps : (w : World) (registry script : List ℕ) (place : ℕ) (held : List �
 by-steps w registry script place held binding bucket fine =
     subst (Attempts (attempting registry script held binding bucket) (bounding script held) 0 w place) (sym (made w (acquire-bucket-has registry script place held binding bucket) fine))
     (retry-is (w .head) registry script held binding bucket attemptLimit 0 (w .head .next) place (w .table) (w .health) (omega arith))
+
+-- ---- from steps to calls
+
+-- two pairs of functions that do the same wherever `Ok` holds, which they keep
+module _ (attempt between attempt′ between′ : World → ℕ → Made (World × Says)) (Ok : World → ℕ → Type 0)
+    (same-attempt : (w : World) (p : ℕ) → Ok w p → attempt′ w p ≡ attempt w p) (same-between : (w : World) (p : ℕ) → Ok w p → between′ w p ≡ between w p)
+    (attempt-ok : (w : World) (p : ℕ) → Ok w p → Ok (world-in (attempt w p)) (place-in (attempt w p)))
+    (between-ok : (w : World) (p : ℕ) → Ok w p → Ok (world-in (between w p)) (place-in (between w p))) where
+  spin-same : (w : World) (p : ℕ) → Ok w p → spin attempt′ between′ w p ≡ spin attempt between w p
+  spin-same w p k = ap (λ (x : Made (World × Says)). record { seen = x .seen; log = x .log ++ (spun ∷ []) }) (same-between w p k)
+
+  yield-same : (w : World) (p : ℕ) → Ok w p → yield attempt′ between′ w p ≡ yield attempt between w p
+  yield-same w p k =
+      ap (λ (x : Made (World × Says)). record { seen = (x .seen .0, says Done (countsOf 0 1 1 (x .seen .1 .counts .dropped)) (place-in x) []); log = x .log ++ (yielded ∷ []) })
+      (same-between w p k)
+
+  pause-same : {i : ℕ} {w : World} {p : ℕ} {m : Made (World × Says)} → Ok w p → Pause attempt between i w p m
+      → Pause attempt′ between′ i w p m × Ok (world-in m) (place-in m)
+  pause-same {i} {w} {p} k (only-spins n) = (subst (Pause attempt′ between′ i w p) (spin-same w p k) (only-spins n), between-ok w p k)
+  pause-same {i} {w} {p} k (also-yields n) =
+      let x = yield attempt between w p in
+      let k′ = between-ok w p k in
+      let both : (yield attempt′ between′ w p and-then spin attempt′ between′ (world-in (yield attempt′ between′ w p)) (place-in (yield attempt′ between′ w p)))
+      ≡ (x and-then spin attempt between (world-in x) (place-in x))
+      = ap (λ (y : Made (World × Says)). y and-then spin attempt′ between′ (world-in y) (place-in y)) (yield-same w p k)
+      ∙ ap (λ (y : Made (World × Says)). x and-then y) (spin-same (world-in x) (place-in x) k′) in
+      (subst (Pause attempt′ between′ i w p) both (also-yields n), between-ok (world-in x) (place-in x) k′)
+
+  attempts-same : {i : ℕ} {w : World} {p : ℕ} {m : Made (World × Says)} → Ok w p → Attempts attempt between i w p m → Attempts attempt′ between′ i w p m
+  attempts-same k all-busy = all-busy
+  attempts-same {i} {w} {p} k (the-last l n) =
+      subst (λ (x : Made (World × Says)). (answer-in x ≡ Busy → ⊥) → Attempts attempt′ between′ i w p x) (same-attempt w p k) (the-last l) n
+  attempts-same {i} {w} {p} k (one-busy {m = m} {n = n} l b x rest) =
+      let y = pause-same (attempt-ok w p k) x in
+      subst (λ (a : Made (World × Says)). answer-in a ≡ Busy → Pause attempt′ between′ i (world-in a) (place-in a) m → Attempts attempt′ between′ i w p (a and-then (m and-then n)))
+      (same-attempt w p k) (λ c z. one-busy l c z (attempts-same (y .1) rest)) b (y .0)
+
+module _ (registry script held : List ℕ) (binding bucket : ℕ) where
+  abbrev calling : World → ℕ → Made (World × Says)
+  calling w p = perform w (transactional registry script p held binding bucket)
+
+  abbrev waiting : World → ℕ → Made (World × Says)
+  waiting w p = perform w (environment script p held)
+
+  -- the checks of an attempt pass here
+  abbrev Fine-at : World → ℕ → Type 0
+  Fine-at w p = Passes w (transactional registry script p held binding bucket)
+
+  boundary-fine : (w : World) (p : ℕ) → Fine-at w p → Passes w (environment script p held)
+  unfolding bucketRules
+  boundary-fine w p k = boundary-on held (nothing {w = w} {P = In (leasesOf held)}) registry script p p binding (in-script script p (k .1 .1 .1 .0)) k
+
+  calling-is : (w : World) (p : ℕ) → Fine-at w p → calling w p ≡ attempting registry script held binding bucket w p
+  calling-is w p k = made w (transactional-has registry script p held binding bucket) k
+
+  waiting-is : (w : World) (p : ℕ) → Fine-at w p → waiting w p ≡ bounding script held w p
+  waiting-is w p k = made w (environment-has script p held) (boundary-fine w p k)
+
+  calling-fine : (w : World) (p : ℕ) → Fine-at w p → Fine-at (world-in (calling w p)) (place-in (calling w p))
+  calling-fine w p k =
+      let c = transactional registry script p held binding bucket in
+      bucket-on held (call-kept w c .kept) registry script p (place-in (calling w p)) binding (place-goes w c (transactional-has registry script p held binding bucket) k .1) k
+
+  waiting-fine : (w : World) (p : ℕ) → Fine-at w p → Fine-at (world-in (waiting w p)) (place-in (waiting w p))
+  waiting-fine w p k =
+      let c = environment script p held in
+      bucket-on held (call-kept w c .kept) registry script p (place-in (waiting w p)) binding (place-goes w c (environment-has script p held) (boundary-fine w p k) .1) k
+
+  -- and they pass where this leaves off
+  abbrev Fine-after : Made (World × Says) → Type 0
+  Fine-after m = Fine-at (world-in m) (place-in m)
+
+pub bucket-attempts : Bucket-attempts perform
+bucket-attempts w registry script place held binding bucket fine =
+    attempts-same (attempting registry script held binding bucket) (bounding script held) (calling registry script held binding bucket) (waiting registry script held binding bucket)
+    (Fine-at registry script held binding bucket) (calling-is registry script held binding bucket) (waiting-is registry script held binding bucket)
+    (λ v p k. subst (Fine-after registry script held binding bucket) (calling-is registry script held binding bucket v p k) (calling-fine registry script held binding bucket v p k))
+    (λ v p k. subst (Fine-after registry script held binding bucket) (waiting-is registry script held binding bucket v p k) (waiting-fine registry script held binding bucket v p k))
+    fine (by-steps w registry script place held binding bucket fine)
