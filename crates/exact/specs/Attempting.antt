@@ -47,15 +47,23 @@ abbrev bounding : (script held : List ℕ) → World → ℕ → Made (World × 
 bounding script held w p = steps w (environment script p held)
 
 -- a run that has counted nothing
-abbrev nil : ℕ → ℕ → Run
+abbrev pub nil : ℕ → ℕ → Run
 nil n p = runOf (flowOf n p 0) 0 0 0
 
-abbrev counted : Run → Counts
+abbrev pub counted : Run → Counts
 counted r = countsOf (r .attempts) (r .boundaries) (r .yields) (r .flow .dropped)
 
 -- every run is one that has counted nothing, counted on
-from-nil : (r : Run) → on-run (counted r) (nil (r .flow .next) (r .flow .place)) ≡ r
+pub from-nil : (r : Run) → on-run (counted r) (nil (r .flow .next) (r .flow .place)) ≡ r
 from-nil r = rw (add-zero (r .attempts), add-zero (r .boundaries), add-zero (r .yields), add-zero (r .flow .dropped))
+
+-- as the calls say it: a run that is done, and a retry
+abbrev pub done-with : Head → Made (With Run) → Made (World × Says)
+done-with h m = record { seen = (of-run h (m .seen), says Done (counted (m .seen .0)) (m .seen .0 .flow .place) []); log = m .log }
+
+abbrev pub at-last : Head → Made (With Tried) → Made (World × Says)
+at-last h m =
+    record { seen = (of-tried h (m .seen), says (answerOf (settled (m .seen .0 .outcome))) (counted (m .seen .0 .run)) (m .seen .0 .run .flow .place) []); log = m .log }
 
 busy-is : (o : Outcome) → isBusy o ≡ true → answerOf o ≡ Busy
 busy-is (outcome.Granted l) e = absurd (differ e)
@@ -76,26 +84,19 @@ module _ (h : Head) (registry script held : List ℕ) (binding bucket : ℕ) whe
   abbrev e : Setting
   e = given h script (leasesOf held)
 
-  -- as the call says it: a pause, and a retry
-  abbrev paused : Made (With Run) → Made (World × Says)
-  paused m = record { seen = (of-run h (m .seen), says Done (counted (m .seen .0)) (m .seen .0 .flow .place) []); log = m .log }
-
-  abbrev at-last : Made (With Tried) → Made (World × Says)
-  at-last m = record { seen = (of-tried h (m .seen), says (answerOf (settled (m .seen .0 .outcome))) (counted (m .seen .0 .run)) (m .seen .0 .run .flow .place) []); log = m .log }
-
   abbrev Pauses : ℕ → ℕ → List ℕ → List ℕ → ℕ → Made (World × Says) → Type 0
   Pauses n p t g i = Pause (attempting registry script held binding bucket) (bounding script held) i (worldAt h n t g) p
 
-  pause-is : (i n p : ℕ) (t g : List ℕ) → Pauses n p t g i (paused (pauseOf e i (nil n p) t g))
+  pause-is : (i n p : ℕ) (t g : List ℕ) → Pauses n p t g i (done-with h (pauseOf e i (nil n p) t g))
   unfolding pauseOf spinOf
   pause-is i n p t g =
-      if-cases (λ (m : Made (With Run)). Pauses n p t g i (paused m)) (eqb (i % 64) 63)
+      if-cases (λ (m : Made (With Run)). Pauses n p t g i (done-with h m)) (eqb (i % 64) 63)
       (λ c. subst (Pauses n p t g i) twice (also-yields (eqb-true (i % 64) 63 c)))
       (λ c. only-spins (eqb-false (i % 64) 63 c))
     where
       twice : (yield (attempting registry script held binding bucket) (bounding script held) (worldAt h n t g) p
           and-then spin (attempting registry script held binding bucket) (bounding script held) (yield (attempting registry script held binding bucket) (bounding script held) (worldAt h n t g) p .seen .0) (yield (attempting registry script held binding bucket) (bounding script held) (worldAt h n t g) p .seen .1 .place))
-          ≡ paused (boundaryOf e (flowOf n p 0) t g >>= λ x. note yielded >> spinOf e (runOf (x .0) 0 (0 + 1) (0 + 1)) (x .1 .0) (x .1 .1))
+          ≡ done-with h (boundaryOf e (flowOf n p 0) t g >>= λ x. note yielded >> spinOf e (runOf (x .0) 0 (0 + 1) (0 + 1)) (x .1 .0) (x .1 .1))
       twice =
           let b = boundaryOf e (flowOf n p 0) t g in
           rw (append-assoc (b .log) (yielded ∷ []), boundary-from e (b .seen .0) (b .seen .1 .0) (b .seen .1 .1))
@@ -125,20 +126,20 @@ module _ (h : Head) (registry script held : List ℕ) (binding bucket : ℕ) whe
   abbrev Tries : ℕ → ℕ → List ℕ → List ℕ → ℕ → Made (World × Says) → Type 0
   Tries n p t g i = Attempts (attempting registry script held binding bucket) (bounding script held) i (worldAt h n t g) p
 
-  retry-is : (left i n p : ℕ) (t g : List ℕ) → i + left ≡ 4096 → Tries n p t g i (at-last (retryOf left i e (h .buckets) registry binding bucket (nil n p) t g))
+  retry-is : (left i n p : ℕ) (t g : List ℕ) → i + left ≡ 4096 → Tries n p t g i (at-last h (retryOf left i e (h .buckets) registry binding bucket (nil n p) t g))
   unfolding retryOf
   retry-is zero i n p t g l =
       let z : i ≡ 4096 = omega arith in
-      subst (λ x. Tries n p t g x (at-last (record { seen = (triedOf (nil n p) outcome.Busy, (t, g)); log = [] }))) (sym z) all-busy
+      subst (λ x. Tries n p t g x (at-last h (record { seen = (triedOf (nil n p) outcome.Busy, (t, g)); log = [] }))) (sym z) all-busy
   retry-is (suc left) i n p t g l =
       let m = attemptOf e (h .buckets) registry binding bucket (nil n p) t g in
       let r = m .seen .0 .run in
       let b = pauseOf e i (nil (r .flow .next) (r .flow .place)) (m .seen .1 .0) (m .seen .1 .1) in
       let s = b .seen .0 in
       let j : i < 4096 = omega arith in
-      if-cases (λ (o : Made (With Tried)). Tries n p t g i (at-last (record { seen = o .seen; log = m .log ++ o .log }))) (isBusy (m .seen .0 .outcome))
+      if-cases (λ (o : Made (With Tried)). Tries n p t g i (at-last h (record { seen = o .seen; log = m .log ++ o .log }))) (isBusy (m .seen .0 .outcome))
       (λ c.
-      subst (λ (o : Made (With Tried)). Tries n p t g i (at-last (record { seen = o .seen; log = m .log ++ o .log }))) (sym (both-from left i r (m .seen .1 .0) (m .seen .1 .1)))
+      subst (λ (o : Made (With Tried)). Tries n p t g i (at-last h (record { seen = o .seen; log = m .log ++ o .log }))) (sym (both-from left i r (m .seen .1 .0) (m .seen .1 .1)))
       (one-busy j (busy-is (m .seen .0 .outcome) c) (pause-is i (r .flow .next) (r .flow .place) (m .seen .1 .0) (m .seen .1 .1))
       (retry-is left (i + 1) (s .flow .next) (s .flow .place) (b .seen .1 .0) (b .seen .1 .1) (omega arith))))
       (λ c. rw (append-nil (m .log), same-settled (m .seen .0 .outcome) c) (the-last j (not-busy (m .seen .0 .outcome) c)))

@@ -17,3 +17,4 @@ pub mod Retried
 pub mod CountedOn
 pub mod Ending
 pub mod Attempting
+pub mod KeyByKey
