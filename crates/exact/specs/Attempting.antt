@@ -20,7 +20,7 @@ use Rattle.model.specs.declared.Outcome.{Outcome}
 use Rattle.model.specs.declared.Outcome.the-variants as outcome
 use Rattle.model.specs.declared.Run.{Run}
 use Rattle.model.specs.declared.Tried.{Tried}
-use Rattle.history.specs.World.{World, attempts, yields}
+use Rattle.history.specs.World.{World}
 use Rattle.history.specs.Items.{Says, says, perform, acquire-bucket, environment, transactional}
 use Rattle.history.specs.Tests.{differ, if-cases, In}
 use Rattle.history.specs.Steps.{With, worldAt, of-run, of-tried}
@@ -40,10 +40,10 @@ use Rattle.exact.specs.ScriptFacts.{place-goes}
 -- ---- proofs
 
 -- an attempt and a boundary by the definitions' own steps; where the checks pass, these are the calls
-abbrev attempting : (registry script held : List ℕ) (binding bucket : ℕ) → World → ℕ → Made (World × Says)
+abbrev pub attempting : (registry script held : List ℕ) (binding bucket : ℕ) → World → ℕ → Made (World × Says)
 attempting registry script held binding bucket w p = steps w (transactional registry script p held binding bucket)
 
-abbrev bounding : (script held : List ℕ) → World → ℕ → Made (World × Says)
+abbrev pub bounding : (script held : List ℕ) → World → ℕ → Made (World × Says)
 bounding script held w p = steps w (environment script p held)
 
 -- a run that has counted nothing
@@ -144,7 +144,7 @@ module _ (h : Head) (registry script held : List ℕ) (binding bucket : ℕ) whe
       (retry-is left (i + 1) (s .flow .next) (s .flow .place) (b .seen .1 .0) (b .seen .1 .1) (omega arith))))
       (λ c. rw (append-nil (m .log), same-settled (m .seen .0 .outcome) c) (the-last j (not-busy (m .seen .0 .outcome) c)))
 
-by-steps : (w : World) (registry script : List ℕ) (place : ℕ) (held : List ℕ) (binding bucket : ℕ)
+pub by-steps : (w : World) (registry script : List ℕ) (place : ℕ) (held : List ℕ) (binding bucket : ℕ)
     → let k = acquire-bucket registry script place held binding bucket in
     Passes w k → Attempts (attempting registry script held binding bucket) (bounding script held) 0 w place (perform w k)
 by-steps w registry script place held binding bucket fine =

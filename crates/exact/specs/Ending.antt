@@ -48,7 +48,7 @@ none-then ys (also (waiters-set c n) p a) = none-then ys a
 none-then ys (also (health-set i n) p a) = none-then ys a
 
 -- an ending, its takes and releases read off a log
-abbrev Ends-by : Answer → ℕ → List Event → Type 0
+abbrev pub Ends-by : Answer → ℕ → List Event → Type 0
 Ends-by a boundaries es = Ends a boundaries (caller-takes es) (caller-releases es)
 
 behind : {a : Answer} {n : ℕ} {xs : List Event} (ys : List Event) → Every Foreigner xs → Ends-by a n ys → Ends-by a n (xs ++ ys)
@@ -108,7 +108,7 @@ module _ (e : Setting) (buckets : ℕ) (registry : List ℕ) (binding bucket : �
       (if-both Faulty (leb buckets bucket) (omega arith, omega arith) tt))
 
   -- from a run that has counted no boundary
-  tried-ends : (r : Run) (t g : List ℕ) → r .boundaries ≡ 0
+  pub tried-ends : (r : Run) (t g : List ℕ) → r .boundaries ≡ 0
       → let m = attemptOf e buckets registry binding bucket r t g in Ends-by (answerOf (m .seen .0 .outcome)) (m .seen .0 .run .boundaries) (m .log)
   unfolding attemptOf caller-takes caller-releases
   tried-ends r t g z = go (findOf (e .headers) buckets g registry binding bucket) (find-faulty g)

@@ -18,3 +18,4 @@ pub mod CountedOn
 pub mod Ending
 pub mod Attempting
 pub mod KeyByKey
+pub mod Boundaries
