@@ -8,19 +8,19 @@ use native.Mathlib.Omega.{arith}
 use Rattle.model.specs.Log.{Event, boundary-run}
 use Rattle.model.specs.Foreign.{stepsIn}
 use Rattle.model.specs.declared.Lease.{Lease}
-use Rattle.history.specs.World.{World, now}
-use Rattle.history.specs.Logs.{now-append}
+use Rattle.history.specs.World.{World, now, Lawful, Legal}
+use Rattle.history.specs.Logs.{now-append, lawful-split}
 use Rattle.exact.specs.Statements.{Stepping, dropped, ends, looks, performed}
 
 -- one behind the other
-pub follow : {script : List ℕ} {ps rs ts : List Lease} {p d x y q c : ℕ} {w u v : World} {es fs : List Event}
-    → Consumed script ps p d w rs x y u es → Consumed script rs x y u ts q c v fs → Consumed script ps p d w ts q c v (es ++ fs)
+pub follow : {Own : World → Event → Type 0} {script : List ℕ} {ps rs ts : List Lease} {p d x y q c : ℕ} {w u v : World} {es fs : List Event}
+    → Consumed Own script ps p d w rs x y u es → Consumed Own script rs x y u ts q c v fs → Consumed Own script ps p d w ts q c v (es ++ fs)
 follow at-rest k = k
 follow (counts e m) k = counts e (follow m k)
-follow (takes l m) k = takes l (follow m k)
-follow (gives-up l m) k = gives-up l (follow m k)
-follow {script = script} {ps = ps} {ts = ts} {p = p} {d = d} {q = q} {c = c} {w = w} {v = v} {fs = fs} (boundary {es = es} {fs = gs} b m) k =
-    subst (λ (hs : List Event). Consumed script ps p d w ts q c v (boundary-run ∷ hs)) (sym (append-assoc es gs fs)) (boundary b (follow m k))
+follow (takes l o m) k = takes l o (follow m k)
+follow (gives-up l o m) k = gives-up l o (follow m k)
+follow {Own = Own} {script = script} {ps = ps} {ts = ts} {p = p} {d = d} {q = q} {c = c} {w = w} {v = v} {fs = fs} (boundary {es = es} {fs = gs} b m) k =
+    subst (λ (hs : List Event). Consumed Own script ps p d w ts q c v (boundary-run ∷ hs)) (sym (append-assoc es gs fs)) (boundary b (follow m k))
 
 -- ---- what follows
 
@@ -38,11 +38,11 @@ module _ {script : List ℕ} where
   boundary-rises (at-five i k) = omega arith
   boundary-rises (one-step i k s b) = omega (arith, boundary-rises b)
 
-  pub place-rises : {ps rs : List Lease} {p d q c : ℕ} {w v : World} {es : List Event} → Consumed script ps p d w rs q c v es → p ≤ q
+  pub place-rises : {Own : World → Event → Type 0} {ps rs : List Lease} {p d q c : ℕ} {w v : World} {es : List Event} → Consumed Own script ps p d w rs q c v es → p ≤ q
   place-rises at-rest = omega arith
   place-rises (counts e m) = place-rises m
-  place-rises (takes l m) = place-rises m
-  place-rises (gives-up l m) = place-rises m
+  place-rises (takes l o m) = place-rises m
+  place-rises (gives-up l o m) = place-rises m
   place-rises (boundary b m) = omega (arith, boundary-rises b, place-rises m)
 
   -- and never passes the end
@@ -51,11 +51,11 @@ module _ {script : List ℕ} where
   boundary-inside (at-five i k) l = omega arith
   boundary-inside (one-step i k s b) l = boundary-inside b (omega arith)
 
-  pub place-inside : {ps rs : List Lease} {p d q c : ℕ} {w v : World} {es : List Event} → Consumed script ps p d w rs q c v es → p ≤ stepsIn script → q ≤ stepsIn script
+  pub place-inside : {Own : World → Event → Type 0} {ps rs : List Lease} {p d q c : ℕ} {w v : World} {es : List Event} → Consumed Own script ps p d w rs q c v es → p ≤ stepsIn script → q ≤ stepsIn script
   place-inside at-rest l = l
   place-inside (counts e m) l = place-inside m l
-  place-inside (takes k m) l = place-inside m l
-  place-inside (gives-up k m) l = place-inside m l
+  place-inside (takes k o m) l = place-inside m l
+  place-inside (gives-up k o m) l = place-inside m l
   place-inside (boundary b m) l = place-inside m (boundary-inside b l)
 
   -- the worlds are what the events make of the first
@@ -65,11 +65,23 @@ module _ {script : List ℕ} where
   boundary-now {w = w} (one-step {es = es} {fs = fs} i k s b) =
       boundary-now b ∙ ap (λ (x : World). now x fs) (step-now s) ∙ sym (now-append w es fs)
 
-  pub consumed-now : {ps rs : List Lease} {p d q c : ℕ} {w v : World} {es : List Event} → Consumed script ps p d w rs q c v es → v ≡ now w es
+  pub consumed-now : {Own : World → Event → Type 0} {ps rs : List Lease} {p d q c : ℕ} {w v : World} {es : List Event} → Consumed Own script ps p d w rs q c v es → v ≡ now w es
   consumed-now at-rest = refl
   consumed-now (counts attempts-one m) = consumed-now m
   consumed-now (counts yields-once m) = consumed-now m
   consumed-now (counts spins m) = consumed-now m
-  consumed-now (takes l m) = consumed-now m
-  consumed-now (gives-up l m) = consumed-now m
+  consumed-now (takes l o m) = consumed-now m
+  consumed-now (gives-up l o m) = consumed-now m
   consumed-now {w = w} (boundary {es = es} {fs = fs} b m) = consumed-now m ∙ ap (λ (x : World). now x fs) (boundary-now b) ∙ sym (now-append w es fs)
+
+-- over a lawful log the caller's own events are legal
+pub lawfully : {Own : World → Event → Type 0} {script : List ℕ} {ps rs : List Lease} {p d q c : ℕ} {w v : World} {es : List Event}
+    → Consumed Own script ps p d w rs q c v es → Lawful w es → Consumed Legal script ps p d w rs q c v es
+lawfully at-rest l = at-rest
+lawfully (counts attempts-one m) l = counts attempts-one (lawfully m (l .1))
+lawfully (counts yields-once m) l = counts yields-once (lawfully m (l .1))
+lawfully (counts spins m) l = counts spins (lawfully m (l .1))
+lawfully (takes k o m) l = takes k (l .0) (lawfully m (l .1))
+lawfully (gives-up k o m) l = gives-up k (l .0) (lawfully m (l .1))
+lawfully {script = script} {w = w} (boundary {es = es} {fs = fs} b m) l =
+    boundary b (lawfully m (subst (λ (x : World). Lawful x fs) (sym (boundary-now b)) (lawful-split w es fs (l .1) .1)))

@@ -1,6 +1,8 @@
 -- Every call with a script uses it up as `Consumed` says: from its place to the place that it gives back, with its dropped steps, from the
 -- world before it to the world after it, over its log.
-use Rattle.exact.specs.Script.{Scripted, environment-has, try-lock-has, transactional-has, acquire-bucket-has, release-all-has, acquire-locks-has, attempts-one, counts, handed, Consumes, Script-consumed}
+use Rattle.history.specs.Theorems.{lawful-always}
+use Rattle.history.specs.Items.{held-of, given-up, place-of}
+use Rattle.exact.specs.Script.{Scripted, environment-has, try-lock-has, transactional-has, acquire-bucket-has, release-all-has, acquire-locks-has, attempts-one, counts, handed, Script-consumed, Consumed}
 use Prim.Native.Nat.{ℕ, _*_, _≤_}
 use mathlib.Core.Path.{_≡_, refl, sym}
 use mathlib.Core.List.{List, [], _∷_, _++_, append-nil}
@@ -18,11 +20,14 @@ use Rattle.model.specs.declared.Lease.{Lease}
 use Rattle.model.specs.declared.Outcome.{Outcome}
 use Rattle.model.specs.declared.Outcome.the-variants as outcome
 use Rattle.history.specs.World.{World}
-use Rattle.history.specs.Items.{Call, perform}
+use Rattle.history.specs.Items.{Call, perform, Says, script-of, held-of}
 use Rattle.history.specs.Judged.{steps}
 use Rattle.history.specs.Calls.{words-leases}
 use Rattle.exact.specs.Made.{made}
-use Rattle.exact.specs.ConsumingSteps.{held-after, granted-after, boundary-consumed, lock-consumed, attempt-consumed, retry-consumed, back-consumed, locks-consumed}
+use Rattle.exact.specs.ConsumingSteps.{held-after, granted-after, boundary-consumed, lock-consumed, attempt-consumed, retry-consumed, back-consumed, locks-consumed, Any}
+use Rattle.model.specs.Log.{Made}
+use Rattle.exact.specs.Consuming.{lawfully}
+use Rattle.history.specs.Theorems.{lawful-always}
 
 -- ---- proofs
 
@@ -52,7 +57,13 @@ leases-few [] = omega arith
 leases-few (c ∷ []) = omega arith
 leases-few (c ∷ s ∷ ws) = omega (arith, leases-few ws)
 
-steps-consumed : (w : World) {k : Call} → Scripted k → Consumes w k (steps w k)
+-- the same, where nothing is asked of the caller's own events
+abbrev Goes : World → Call → Made (World × Says) → Type 0
+Goes w k m =
+    Consumed Any (script-of k) (held-of k ++ given-up k) (place-of k) 0 w
+    (held-of k ++ handed (m .seen .1 .answer) (m .seen .1 .grants)) (m .seen .1 .place) (m .seen .1 .counts .dropped) (m .seen .0) (m .log)
+
+steps-consumed : (w : World) {k : Call} → Scripted k → Goes w k (steps w k)
 steps-consumed w (environment-has script place held) =
     simp append-nil (boundary-consumed (w .head) script (leasesOf held) (flowOf (w .head .next) place 0) (w .table) (w .health))
 steps-consumed w (try-lock-has script place held c) =
@@ -81,4 +92,4 @@ steps-consumed w (acquire-locks-has registry script place held keys grants) =
     (locks-consumed (w .head) script ps (w .head .buckets) registry keys grants (countIn keys) 0 [] (starting (w .head) place) (w .table) (w .health))
 
 pub script-consumed : Script-consumed perform
-script-consumed w k s fine = rw (made w s fine) (steps-consumed w s)
+script-consumed w k s fine = lawfully {Own = Any} (rw (made w s fine) (steps-consumed w s)) (lawful-always w k .0)

@@ -40,6 +40,10 @@ use Rattle.history.specs.Steps.{With, worldAt, of-flow, of-locked, of-run, of-t
 use Rattle.exact.specs.ForeignSteps.{step-is}
 use Rattle.exact.specs.Consuming.{follow}
 
+-- nothing is known of the caller's own events
+abbrev pub Any : World → Event → Type 0
+Any w e = Unit {0}
+
 -- what an outcome adds to the protected leases
 abbrev pub held-after : List Lease → Outcome → List Lease
 held-after ps (outcome.Granted l) = ps ++ (l ∷ [])
@@ -75,7 +79,7 @@ module _ (h : Head) (script : List ℕ) where
 
   -- from a flow and a table to another
   abbrev Goes : List Lease → Flow → List ℕ → List ℕ → List Lease → Flow → World → List Event → Type 0
-  Goes ps f t g rs k v es = Consumed script ps (f .place) (f .dropped) (worldAt h (f .next) t g) rs (k .place) (k .dropped) v es
+  Goes ps f t g rs k v es = Consumed Any script ps (f .place) (f .dropped) (worldAt h (f .next) t g) rs (k .place) (k .dropped) v es
 
   abbrev Flowing : List Lease → Flow → List ℕ → List ℕ → Made (With Flow) → Type 0
   Flowing ps f t g m = Goes ps f t g ps (m .seen .0) (of-flow h (m .seen)) (m .log)
@@ -98,7 +102,7 @@ module _ (h : Head) (script : List ℕ) where
       let qs = ps ++ (leaseOf c s ∷ []) in
       let m = boundaryOf (given h script qs) f t g .seen in
       follow (boundary-consumed qs f t g)
-      (if-both (Locking qs ps (m .0) (m .1 .0) (m .1 .1) c) (eqb (waitersAt (m .1 .0) c) 0) at-rest (gives-up (leaseOf c s) at-rest))
+      (if-both (Locking qs ps (m .0) (m .1 .0) (m .1 .1) c) (eqb (waitersAt (m .1 .0) c) 0) at-rest (gives-up (leaseOf c s) tt at-rest))
 
   after-consumed : (ps : List Lease) (a : Take) (f : Flow) (t g : List ℕ) (c : ℕ)
       → Locking (held-after ps (outcomeOf c a)) ps f t g c (afterTake a (given h script ps) f t g c)
@@ -119,7 +123,7 @@ module _ (h : Head) (script : List ℕ) where
       go : (x : State) → P (takeIn x (f .next) t c)
       go state.Damaged = at-rest
       go (state.Held o) = at-rest
-      go state.Free = if-both P (serialRemains (f .next)) (takes (leaseOf c (f .next)) at-rest) at-rest
+      go state.Free = if-both P (serialRemains (f .next)) (takes (leaseOf c (f .next)) tt at-rest) at-rest
 
   second-consumed : (ps : List Lease) (f : Flow) (t g : List ℕ) (c : ℕ) → Locking ps ps f t g c (secondOf (given h script ps) f t g c)
   unfolding secondOf
@@ -198,7 +202,7 @@ module _ (h : Head) (script : List ℕ) where
       let u = setCell t (k .cell) 0 0 in
       let m = boundaryOf (given h script (ps ++ take n ls)) (r .flow) u g .seen in
       rw (take-suc ls n noLease l, ← append-assoc ps (take n ls) (k ∷ []))
-      (gives-up k (follow (boundary-consumed (ps ++ take n ls) (r .flow) u g)
+      (gives-up k tt (follow (boundary-consumed (ps ++ take n ls) (r .flow) u g)
       (back-consumed n ps ls (runOf (m .0) (r .attempts) (r .boundaries + 1) (r .yields)) (m .1 .0) (m .1 .1) (omega arith))))
 
   abbrev Ending : List Lease → List Lease → Run → List ℕ → List ℕ → Made Locks → Type 0

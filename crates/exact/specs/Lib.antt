@@ -1,6 +1,8 @@
 pub mod Statements
 pub mod Script
 pub mod Attempts
+pub mod Theorems
+pub mod Cases
 pub mod Made
 pub mod Passing
 pub mod TryAcquire

@@ -231,7 +231,7 @@ module _ {w : World} {place : ℕ} {waiting holding : Says} {c : ℕ} where
       }
 
 -- a key that names a cell has that cell's row
-named-row : {w : World} {registry : List ℕ} {binding bucket place : ℕ} {Row : ℕ → World × Says → Type 0} {x : World × Says}
+pub named-row : {w : World} {registry : List ℕ} {binding bucket place : ℕ} {Row : ℕ → World × Says → Type 0} {x : World × Says}
     → Names w registry binding bucket → By-key w registry binding bucket place Row x → Row (cellOf (w .head .buckets) registry binding bucket) x
 named-row n (bad-header p) = absurd (omega (arith, n .0))
 named-row n (is-poisoned p q) = absurd (q (n .1))

@@ -7,7 +7,7 @@ use Rattle.history.specs.Items.{Build, Call, Says, environment, place-of, scrip
 use Rattle.model.specs.Log.{Event, Made, attempt-begun, yielded, spun, took, by-caller, boundary-run, released, by-script, step-dropped, waiters-set, health-set}
 use mathlib.Core.List.{List, _∷_, [], _++_}
 use lib.ListN.{length}
-use Rattle.history.specs.World.{World, step, now}
+use Rattle.history.specs.World.{World, step, now, Legal}
 use Rattle.model.specs.declared.Lease.{Lease}
 use Rattle.exact.specs.Statements.{Passes, Stepping}
 use Rattle.model.specs.Foreign.{stepsIn, kindAt, placeAt, numberAt}
@@ -49,19 +49,21 @@ pub data Counted-only : Event → Type 0 where
   spins : Counted-only spun
 
 -- a whole call, from its first event to its last. "Protected: the caller's held leases, those this call has taken, .. and never those it has
--- given up": what it takes is added behind, what it gives up is the last
-pub data Consumed (script : List ℕ) : (ps : List Lease) (p d : ℕ) (w : World) (rs : List Lease) (q c : ℕ) (v : World) → List Event → Type 0 where
-  at-rest : {ps : List Lease} {p d : ℕ} {w : World} → Consumed script ps p d w ps p d w []
+-- given up": what it takes is added behind, what it gives up is the last. `Own` is what is known of the caller's own takes and releases: that
+-- each is legal in the world in which it happens, where a call is spoken of
+pub data Consumed (Own : World → Event → Type 0) (script : List ℕ)
+    : (ps : List Lease) (p d : ℕ) (w : World) (rs : List Lease) (q c : ℕ) (v : World) → List Event → Type 0 where
+  at-rest : {ps : List Lease} {p d : ℕ} {w : World} → Consumed Own script ps p d w ps p d w []
   counts : {ps rs : List Lease} {p d q c : ℕ} {w v : World} {es : List Event} {e : Event} → Counted-only e
-      → Consumed script ps p d w rs q c v es → Consumed script ps p d w rs q c v (e ∷ es)
-  takes : {ps rs : List Lease} {p d q c : ℕ} {w v : World} {es : List Event} (l : Lease)
-      → Consumed script (ps ++ (l ∷ [])) p d (step w (took by-caller (l .cell) (l .serial))) rs q c v es
-      → Consumed script ps p d w rs q c v (took by-caller (l .cell) (l .serial) ∷ es)
-  gives-up : {ps rs : List Lease} {p d q c : ℕ} {w v : World} {es : List Event} (l : Lease)
-      → Consumed script ps p d (step w (released by-caller (l .cell) (l .serial))) rs q c v es
-      → Consumed script (ps ++ (l ∷ [])) p d w rs q c v (released by-caller (l .cell) (l .serial) ∷ es)
+      → Consumed Own script ps p d w rs q c v es → Consumed Own script ps p d w rs q c v (e ∷ es)
+  takes : {ps rs : List Lease} {p d q c : ℕ} {w v : World} {es : List Event} (l : Lease) → Own w (took by-caller (l .cell) (l .serial))
+      → Consumed Own script (ps ++ (l ∷ [])) p d (step w (took by-caller (l .cell) (l .serial))) rs q c v es
+      → Consumed Own script ps p d w rs q c v (took by-caller (l .cell) (l .serial) ∷ es)
+  gives-up : {ps rs : List Lease} {p d q c : ℕ} {w v : World} {es : List Event} (l : Lease) → Own w (released by-caller (l .cell) (l .serial))
+      → Consumed Own script ps p d (step w (released by-caller (l .cell) (l .serial))) rs q c v es
+      → Consumed Own script (ps ++ (l ∷ [])) p d w rs q c v (released by-caller (l .cell) (l .serial) ∷ es)
   boundary : {ps rs : List Lease} {p d x y q c : ℕ} {w u v : World} {es fs : List Event} → Boundary script ps p d w x y u es
-      → Consumed script ps x y u rs q c v fs → Consumed script ps p d w rs q c v (boundary-run ∷ (es ++ fs))
+      → Consumed Own script ps x y u rs q c v fs → Consumed Own script ps p d w rs q c v (boundary-run ∷ (es ++ fs))
 
 -- the leases that an answer hands over, with the grant buffer
 abbrev pub handed : Answer → List ℕ → List Lease
@@ -76,7 +78,7 @@ handed (RefusedAt r p) b = []
 -- protected at first: what the caller holds, and in `release_all` what it gives up; at last: what it holds, and what it is handed
 abbrev pub Consumes : World → Call → Made (World × Says) → Type 0
 Consumes w k m =
-    Consumed (script-of k) (held-of k ++ given-up k) (place-of k) 0 w
+    Consumed Legal (script-of k) (held-of k ++ given-up k) (place-of k) 0 w
     (held-of k ++ handed (m .seen .1 .answer) (m .seen .1 .grants)) (m .seen .1 .place) (m .seen .1 .counts .dropped) (m .seen .0) (m .log)
 
 abbrev pub Script-consumed : Build → Type 0

@@ -14,7 +14,7 @@ use Rattle.model.specs.Log.{Event, by-caller, by-script, attempt-begun, boundar
 use Rattle.model.specs.Checks.{scriptRules, lockRules, bucketRules, releaseRules, locksRules}
 use Rattle.model.specs.Foreign.{stepsIn, kindAt, placeAt, numberAt}
 use Rattle.model.specs.declared.Lease.{Lease}
-use Rattle.history.specs.World.{World, now}
+use Rattle.history.specs.World.{World, now, Legal}
 use Rattle.history.specs.Items.{Call, script-of, place-of, perform}
 use Rattle.history.specs.Logs.{now-append}
 use Rattle.history.specs.Judged.{Clear, rules}
@@ -85,13 +85,13 @@ module _ {script : List ℕ} {x : ℕ} where
           }
       go (no z) r = later es (step-now s) (r (omega arith))
 
-  pub turns : {ps rs : List Lease} {p d q c : ℕ} {w v : World} {es : List Event} → Consumed script ps p d w rs q c v es → p ≤ x → x < q → Turn script w es x
+  pub turns : {ps rs : List Lease} {p d q c : ℕ} {w v : World} {es : List Event} → Consumed Legal script ps p d w rs q c v es → p ≤ x → x < q → Turn script w es x
   turns at-rest l m = absurd (omega arith)
   turns (counts attempts-one k) l m = later (attempt-begun ∷ []) refl (turns k l m)
   turns (counts yields-once k) l m = later (yielded ∷ []) refl (turns k l m)
   turns (counts spins k) l m = later (spun ∷ []) refl (turns k l m)
-  turns (takes h k) l m = later (took by-caller (h .cell) (h .serial) ∷ []) refl (turns k l m)
-  turns (gives-up h k) l m = later (released by-caller (h .cell) (h .serial) ∷ []) refl (turns k l m)
+  turns (takes h o k) l m = later (took by-caller (h .cell) (h .serial) ∷ []) refl (turns k l m)
+  turns (gives-up h o k) l m = later (released by-caller (h .cell) (h .serial) ∷ []) refl (turns k l m)
   turns {w = w} (boundary {x = y} {u = u} {es = es} {fs = fs} b k) l m = go (decLt x y) (λ z. turns k z m)
     where
       go : Dec (x < y) → (y ≤ x → Turn script u fs x) → Turn script w (boundary-run ∷ (es ++ fs)) x
@@ -153,13 +153,13 @@ module _ (script : List ℕ) where
   boundary-points {p = p} (one-step {q = q} {es = es} {fs = fs} i k s b) =
       every-append (Points script p q) es fs (all-wider es (omega arith) (boundary-rises b) (step-points p s)) (all-wider fs (omega arith) (omega arith) (boundary-points b))
 
-  points : {ps rs : List Lease} {p d q c : ℕ} {w v : World} {es : List Event} → Consumed script ps p d w rs q c v es → Every (Points script p q) es
+  points : {ps rs : List Lease} {p d q c : ℕ} {w v : World} {es : List Event} → Consumed Legal script ps p d w rs q c v es → Every (Points script p q) es
   points at-rest = tt
   points (counts attempts-one k) = (tt, points k)
   points (counts yields-once k) = (tt, points k)
   points (counts spins k) = (tt, points k)
-  points (takes l k) = (tt, points k)
-  points (gives-up l k) = (tt, points k)
+  points (takes l o k) = (tt, points k)
+  points (gives-up l o k) = (tt, points k)
   points {p = p} {q = q} (boundary {es = es} {fs = fs} b k) =
       (tt, every-append (Points script p q) es fs (all-wider es (omega arith) (place-rises k) (boundary-points b)) (all-wider fs (boundary-rises b) (omega arith) (points k)))
 
@@ -221,13 +221,13 @@ module _ {script : List ℕ} where
   boundary-tally {ps = ps} {p = p} {d = d} {w = w} (at-five i k) = rw (add-zero d) at (one-mark {w = w} {v = w} {ps = ps} {p = p} {d = d} (ends k))
   boundary-tally (one-step {es = es} {fs = fs} i k s b) = tally-then es fs (step-now s) (one-mark s) (boundary-tally b)
 
-  tally : {ps rs : List Lease} {p d q c : ℕ} {w v : World} {es : List Event} → Consumed script ps p d w rs q c v es → Tally script w es p q d c
+  tally : {ps rs : List Lease} {p d q c : ℕ} {w v : World} {es : List Event} → Consumed Legal script ps p d w rs q c v es → Tally script w es p q d c
   tally at-rest = no-marks
   tally (counts attempts-one k) = tally-later (attempt-begun ∷ []) refl (tally k)
   tally (counts yields-once k) = tally-later (yielded ∷ []) refl (tally k)
   tally (counts spins k) = tally-later (spun ∷ []) refl (tally k)
-  tally (takes l k) = tally-later (took by-caller (l .cell) (l .serial) ∷ []) refl (tally k)
-  tally (gives-up l k) = tally-later (released by-caller (l .cell) (l .serial) ∷ []) refl (tally k)
+  tally (takes l o k) = tally-later (took by-caller (l .cell) (l .serial) ∷ []) refl (tally k)
+  tally (gives-up l o k) = tally-later (released by-caller (l .cell) (l .serial) ∷ []) refl (tally k)
   tally (boundary {es = es} {fs = fs} b k) = tally-later (boundary-run ∷ []) refl (tally-then es fs (boundary-now b) (boundary-tally b) (tally k))
 
 pub dropped-are : Dropped-are perform

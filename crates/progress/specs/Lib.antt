@@ -1,13 +1,14 @@
 pub mod Statements
+pub mod Theorems
+pub mod Examples
 pub mod Sum
 pub mod Lists
 pub mod Turns
 pub mod Steady
 pub mod Rounds
-pub mod Deeds
+pub mod Seen
 pub mod Ended
-pub mod Examples
-pub mod Theorems
+pub mod Deeds
 pub mod Told
 pub mod Whole
 pub mod Alone
