@@ -18,6 +18,7 @@ use Rattle.history.specs.World.{World, step, now}
 use Rattle.history.specs.Tests.{In, in-first, in-rest, in-cases, neither, differ, leases-words, in-either}
 use Rattle.history.specs.Events.{Fit, fits}
 use Rattle.history.specs.Logs.{Kept, kept-fit, kept-live, arena-now}
+use Rattle.history.specs.ByKey.{words-length}
 use Rattle.history.specs.Judged.{Clear, clear-front, clear-back, clear-append}
 use Rattle.model.specs.Lock.{bindingAt}
 use native.Mathlib.Omega.{arith}
@@ -134,11 +135,6 @@ in-script script place e =
 
 -- ---- leases taken in the call are held behind the caller's
 
-length-words : (ls : List Lease) → length (wordsOf ls) ≡ 2 * length ls
-unfolding wordsOf
-length-words [] = refl
-length-words (l ∷ ls) = omega (arith, length-words ls)
-
 -- a held list that passed has no word left over
 pub even : (held : List ℕ) → badHeldLength held .applies ≡ false → length held % 2 ≡ 0
 even held e = eqb-true (length held % 2) 0 (not-false _ (neither (isOdd held) (ltb 64 (countIn held)) e .0))
@@ -160,7 +156,7 @@ holding-more w registry script place held binding ls few live c =
     let front = clear-live (w .head) (w .table) 0 (leasesOf held) (clear-front old _ (c .1 .1 .1 .1 .1)) in
     let last = clear-back old _ (c .1 .1 .1 .1 .1) in
     let two = even held (c .1 .1 .1 .1 .0) in
-    let many : length (held ++ wordsOf ls) ≡ length held + 2 * length ls = omega (arith, length-append held (wordsOf ls), length-words ls) in
+    let many : length (held ++ wordsOf ls) ≡ length held + 2 * length ls = omega (arith, length-append held (wordsOf ls), words-length ls) in
     let fits : badHeldLength (held ++ wordsOf ls) .applies ≡ false
     = rw (many, eq-eqb ((length held + 2 * length ls) % 2) 0 (omega arith)) (le-ltb 64 ((length held + 2 * length ls) / 2) (omega arith)) in
     let all = live-clear (w .head) (w .table) 0 (leasesOf (held ++ wordsOf ls))
