@@ -7,16 +7,22 @@ use native.Mathlib.Omega.{arith}
 use native.Mathlib.Nat.{add-zero}
 use lib.Dec.{eqb}
 use Rattle.model.specs.Choice.{if_then_else_}
-use Rattle.model.specs.Log.{Made, Event, attempt-begun, yielded}
-use Rattle.model.specs.Arena.{leaseOf, waitersAt}
+use Rattle.model.specs.Log.{Made, Event, by-caller, attempt-begun, yielded, released}
+use lib.ListN.{length, take}
+use Rattle.model.specs.Arena.{leaseOf, setCell, waitersAt}
 use Rattle.model.specs.Foreign.{Setting, protecting, stepsIn, kindAt, placeAt, numberAt, flowOf, stepOf, stepsOf, boundaryOf}
-use Rattle.model.specs.Lock.{takeOf, lockedOf, lateOf, afterTake, secondOf, lockOf, runOf, triedOf, findOf, attemptAt, attemptOf, spinOf, pauseOf, isBusy, retryOf}
+use Rattle.model.specs.Lock.{takeOf, lockedOf, lateOf, afterTake, secondOf, lockOf, runOf, triedOf, findOf, attemptAt, attemptOf, spinOf, pauseOf, isBusy, retryOf, attemptLimit, leaseAt, giveBackOf, Locks, endedOf, rollbackOf, afterKey, bindingAt, bucketAt, locksOf}
 use Rattle.model.specs.declared.Counts.{Counts}
 use Rattle.model.specs.declared.Flow.{Flow}
 use Rattle.model.specs.declared.Found.{Found}
 use Rattle.model.specs.declared.Found.the-variants as found
 use Rattle.model.specs.declared.Locked.{Locked}
 use Rattle.model.specs.declared.Run.{Run}
+use Rattle.model.specs.declared.Lease.{Lease}
+use Rattle.model.specs.declared.Outcome.{Outcome}
+use Rattle.model.specs.declared.Outcome.the-variants as outcome
+use Rattle.model.specs.declared.Refusal.{Refusal}
+use Rattle.model.specs.declared.Refusal.the-variants.{SerializationFailure}
 use Rattle.model.specs.declared.Take.{Take}
 use Rattle.model.specs.declared.Take.the-variants as taking
 use Rattle.model.specs.declared.Tried.{Tried}
@@ -150,3 +156,46 @@ module _ (k : Counts) (e : Setting) where
         (ap (after (a .log)) (if-on (λ (m : With Tried). (triedOf (on-run k (m .0 .run)) (m .0 .outcome), m .1)) (isBusy (a .seen .0 .outcome))
         (rw (pause-on i (a .seen .0 .run) (a .seen .1 .0) (a .seen .1 .1)) (ap (after (b .log)) (retry-on left (i + 1) (b .seen .0) (b .seen .1 .0) (b .seen .1 .1))))
         refl))
+
+-- ---- giving back, and multi-lock
+
+abbrev pub locks-on : Counts → Made Locks → Made Locks
+locks-on k = seen-by (λ m. (endedOf (on-run k (m .0 .run)) (m .0 .answer), m .1))
+
+module _ (k : Counts) (e : Setting) where
+  pub back-on : (n : ℕ) (ls : List Lease) (r : Run) (t g : List ℕ) → giveBackOf n e ls (on-run k r) t g ≡ run-on k (giveBackOf n e ls r t g)
+  unfolding giveBackOf
+  back-on zero ls r t g = refl
+  back-on (suc n) ls r t g =
+      let l = leaseAt ls n in
+      let q = protecting e (take n ls) in
+      let b = boundaryOf q (r .flow) (setCell t (l .cell) 0 0) g in
+      rw (boundary-on (k .dropped) q (r .flow) (setCell t (l .cell) 0 0) g, assoc (k .boundaries) (r .boundaries) 1)
+      (ap (λ (m : Made (With Run)). after (released by-caller (l .cell) (l .serial) ∷ []) (after (b .log) m))
+      (back-on n ls (runOf (b .seen .0) (r .attempts) (r .boundaries + 1) (r .yields)) (b .seen .1 .0) (b .seen .1 .1)))
+
+  rollback-on : (taken : List Lease) (x : Refusal) (p : ℕ) (r : Run) (t g grants : List ℕ)
+      → rollbackOf e taken x p (on-run k r) t g grants ≡ locks-on k (rollbackOf e taken x p r t g grants)
+  unfolding rollbackOf
+  rollback-on taken x p r t g grants = rw (back-on (length taken) taken r t g)
+
+  pub keys-on : (left p buckets : ℕ) (registry keys : List ℕ) (taken : List Lease) (r : Run) (t g grants : List ℕ)
+      → locksOf left p e buckets registry keys taken (on-run k r) t g grants ≡ locks-on k (locksOf left p e buckets registry keys taken r t g grants)
+  unfolding locksOf
+  keys-on zero p buckets registry keys taken r t g grants = refl
+  keys-on (suc left) p buckets registry keys taken r t g grants =
+      let m = retryOf attemptLimit 0 (protecting e taken) buckets registry (bindingAt keys p) (bucketAt keys p) r t g in
+      let u = m .seen .1 .0 in
+      let v = m .seen .1 .1 in
+      rw (retry-on k (protecting e taken) buckets registry (bindingAt keys p) (bucketAt keys p) attemptLimit 0 r t g)
+      (ap (after (m .log)) (go (m .seen .0 .outcome) (m .seen .0 .run) u v
+      (λ l. keys-on left (p + 1) buckets registry keys (taken ++ (l ∷ [])) (m .seen .0 .run) u v grants)))
+    where
+      go : (o : Outcome) (s : Run) (u v : List ℕ)
+          → ((l : Lease) → locksOf left (p + 1) e buckets registry keys (taken ++ (l ∷ [])) (on-run k s) u v grants
+          ≡ locks-on k (locksOf left (p + 1) e buckets registry keys (taken ++ (l ∷ [])) s u v grants))
+          → afterKey o e taken p (on-run k s) u v grants (λ l. locksOf left (p + 1) e buckets registry keys (taken ++ (l ∷ [])) (on-run k s) u v grants)
+          ≡ locks-on k (afterKey o e taken p s u v grants (λ l. locksOf left (p + 1) e buckets registry keys (taken ++ (l ∷ [])) s u v grants))
+      go (outcome.Granted l) s u v more = more l
+      go outcome.Busy s u v more = rollback-on taken SerializationFailure p s u v grants
+      go (outcome.Refused x) s u v more = rollback-on taken x p s u v grants

@@ -17,4 +17,7 @@ pub mod ConsumingCalls
 pub mod ScriptFacts
 pub mod Retried
 pub mod CountedOn
+pub mod Ending
 pub mod Attempting
+pub mod KeyByKey
+pub mod Boundaries

@@ -1,11 +1,12 @@
--- A call with a script whose checks found nothing is its steps: answer, world and log.
+-- A call with a script, or a `drop_lease`, whose checks found nothing is its steps: answer, world and log.
 use mathlib.Core.Path.{_≡_, refl}
 use mathlib.Core.List.{List, [], _∷_, append-nil}
 use Rattle.model.specs.Refusals.{Rule, first}
-use Rattle.model.specs.Calls.{environmentOf, tryLockOf, transactionalOf, acquireBucketOf, releaseAllOf, acquireLocksOf}
+use Rattle.model.specs.Calls.{dropLeaseOf, environmentOf, tryLockOf, transactionalOf, acquireBucketOf, releaseAllOf, acquireLocksOf}
 use Rattle.model.specs.declared.Check.the-variants.{Fine}
+use Rattle.model.specs.declared.Lease.{Lease}
 use Rattle.history.specs.World.{World}
-use Rattle.history.specs.Items.{Call, environment, try-lock, transactional, acquire-bucket, release-all, acquire-locks, perform}
+use Rattle.history.specs.Items.{Call, drop-lease, environment, try-lock, transactional, acquire-bucket, release-all, acquire-locks, perform}
 use Rattle.history.specs.Judged.{Clear, rules, steps}
 use Rattle.exact.specs.Script.{Scripted, environment-has, try-lock-has, transactional-has, acquire-bucket-has, release-all-has, acquire-locks-has}
 
@@ -25,3 +26,7 @@ made w (acquire-bucket-has registry script place held binding bucket) fine =
 made w (release-all-has script place leases) fine = rw (clear-fine (rules w (release-all script place leases)) fine) (simp append-nil)
 made w (acquire-locks-has registry script place held keys grants) fine =
     rw (clear-fine (rules w (acquire-locks registry script place held keys grants)) fine) (simp append-nil)
+
+pub drop-made : (w : World) (l : Lease) → Clear (rules w (drop-lease l)) → perform w (drop-lease l) ≡ steps w (drop-lease l)
+unfolding perform dropLeaseOf
+drop-made w l fine = rw (clear-fine (rules w (drop-lease l)) fine)

@@ -1,23 +1,24 @@
 -- Checks go on passing: over lawful events that spare the held leases, and from one place of the script to another.
-use Prim.Native.Nat.{zero, suc, _<_, ℕ, _+_, _≤_, _%_, _<_, suc}
+use Prim.Native.Nat.{zero, suc, _<_, ℕ, _+_, _≤_, _%_, _<_, suc, _*_, _/_}
 use mathlib.Core.Path.{_≡_, refl, ap, _∙_, subst}
-use mathlib.Core.List.{List, [], _∷_}
+use mathlib.Core.List.{List, [], _∷_, _++_}
 use mathlib.Core.Logic.{inl, inr}
 use mathlib.Core.Bool.{true, false, not, _||_}
 use lib.Dec.{ltb, eqb}
-use lib.ListN.{length, length-set}
-use borrow.Author.Tests.{not-false, le-ltb, ltb-false}
+use lib.ListN.{length, length-set, length-append}
+use borrow.Author.Tests.{not-false, le-ltb, ltb-false, eqb-true, eq-eqb}
 use Rattle.laws.specs.Shape.{shaped}
 use Rattle.model.specs.Log.{Event, attempt-begun, boundary-run, yielded, spun, step-dropped, took, released, waiters-set, health-set}
-use Rattle.model.specs.Arena.{cellsOf, shapeFits, healthFits, isLive, leasesOf, isIn}
-use Rattle.model.specs.Checks.{notLive, badScript, bucketRules, scriptRules, badBindings, locksRules, badBinding, countIn}
+use Rattle.model.specs.Arena.{cellsOf, shapeFits, healthFits, isLive, leasesOf, isIn, wordsOf, leaseOf}
+use Rattle.model.specs.Checks.{notLive, badScript, bucketRules, scriptRules, badBindings, locksRules, badBinding, countIn, badHeldLength, isOdd}
 use Rattle.model.specs.Foreign.{stepsIn}
 use Rattle.model.specs.declared.Head.{Head}
 use Rattle.model.specs.declared.Lease.{Lease}
 use Rattle.history.specs.World.{World, step, now}
-use Rattle.history.specs.Tests.{In, in-first, in-rest, in-cases, neither, differ}
+use Rattle.history.specs.Tests.{In, in-first, in-rest, in-cases, neither, differ, leases-words, in-either}
 use Rattle.history.specs.Events.{Fit, fits}
 use Rattle.history.specs.Logs.{Kept, kept-fit, kept-live, arena-now}
+use Rattle.history.specs.ByKey.{words-length}
 use Rattle.history.specs.Judged.{Clear, clear-front, clear-back, clear-append}
 use Rattle.model.specs.Lock.{bindingAt}
 use native.Mathlib.Omega.{arith}
@@ -73,13 +74,13 @@ module _ {w v : World} {es : List Event} (held : List ℕ) (k : Kept w (In (leas
   held-on : Fit w → Clear (notLive (w .head) (w .table) 0 (leasesOf held)) → Clear (notLive (v .head) (v .table) 0 (leasesOf held))
   held-on g c = live-clear (v .head) (v .table) 0 (leasesOf held) (λ l i. kept-live g k l i (clear-live (w .head) (w .table) 0 (leasesOf held) c l i))
 
+  script-on : (script : List ℕ) (place p : ℕ) → p ≤ stepsIn script → badScript script place .applies ≡ false → badScript script p .applies ≡ false
+  script-on script place p inside e =
+      let a = neither (not (eqb (length script % 3) 0) || ltb 32768 (stepsIn script)) (ltb (stepsIn script) place) e in
+      rw (a .0) (le-ltb (stepsIn script) p inside)
+
   -- the checks of a call by key at another place of the script, and of a boundary there
   module _ (registry script : List ℕ) (place p binding : ℕ) (inside : p ≤ stepsIn script) where
-    script-on : badScript script place .applies ≡ false → badScript script p .applies ≡ false
-    script-on e =
-        let a = neither (not (eqb (length script % 3) 0) || ltb 32768 (stepsIn script)) (ltb (stepsIn script) place) e in
-        rw (a .0) (le-ltb (stepsIn script) p inside)
-
     pub bucket-on : Clear (bucketRules (w .head) (w .table) (w .health) registry script place held binding)
         → Clear (bucketRules (v .head) (v .table) (v .health) registry script p held binding)
     unfolding bucketRules
@@ -87,7 +88,7 @@ module _ {w v : World} {es : List Event} (held : List ℕ) (k : Kept w (In (leas
         let f = shape-fit (c .0) in
         let live = held-on f (clear-front (notLive (w .head) (w .table) 0 (leasesOf held)) _ (c .1 .1 .1 .1 .1)) in
         let last = clear-back (notLive (w .head) (w .table) 0 (leasesOf held)) _ (c .1 .1 .1 .1 .1) in
-        (shape-on (c .0), (health-on (c .1 .0), (c .1 .1 .0, (script-on (c .1 .1 .1 .0), (c .1 .1 .1 .1 .0, clear-append (notLive (v .head) (v .table) 0 (leasesOf held)) (badBinding registry 0 binding ∷ []) live last)))))
+        (shape-on (c .0), (health-on (c .1 .0), (c .1 .1 .0, (script-on script place p inside (c .1 .1 .1 .0), (c .1 .1 .1 .1 .0, clear-append (notLive (v .head) (v .table) 0 (leasesOf held)) (badBinding registry 0 binding ∷ []) live last)))))
 
     pub boundary-on : Clear (bucketRules (w .head) (w .table) (w .health) registry script place held binding)
         → Clear (scriptRules (v .head) (v .table) (v .health) script p held)
@@ -95,7 +96,17 @@ module _ {w v : World} {es : List Event} (held : List ℕ) (k : Kept w (In (leas
     boundary-on c =
         let f = shape-fit (c .0) in
         let live = held-on f (clear-front (notLive (w .head) (w .table) 0 (leasesOf held)) _ (c .1 .1 .1 .1 .1)) in
-        (shape-on (c .0), (health-on (c .1 .0), (script-on (c .1 .1 .1 .0), (c .1 .1 .1 .1 .0, live))))
+        (shape-on (c .0), (health-on (c .1 .0), (script-on script place p inside (c .1 .1 .1 .0), (c .1 .1 .1 .1 .0, live))))
+
+  -- and multi-lock's
+  pub locks-on : (registry script : List ℕ) (place p : ℕ) (keys grants : List ℕ) → p ≤ stepsIn script
+      → Clear (locksRules (w .head) (w .table) (w .health) registry script place held keys grants)
+      → Clear (locksRules (v .head) (v .table) (v .health) registry script p held keys grants)
+  unfolding locksRules
+  locks-on registry script place p keys grants inside c =
+      let live = held-on (shape-fit (c .0)) (clear-front (notLive (w .head) (w .table) 0 (leasesOf held)) _ (c .1 .1 .1 .1 .1)) in
+      let last = clear-back (notLive (w .head) (w .table) 0 (leasesOf held)) _ (c .1 .1 .1 .1 .1) in
+      (shape-on (c .0), (health-on (c .1 .0), (c .1 .1 .0, (script-on script place p inside (c .1 .1 .1 .0), (c .1 .1 .1 .1 .0, clear-append (notLive (v .head) (v .table) 0 (leasesOf held)) _ live last)))))
 
 -- multi-lock's checks are those of a call by key, for each of its keys
 bindings-clear : (left i : ℕ) (registry keys : List ℕ) → Clear (badBindings left i registry keys) → (p : ℕ) → i ≤ p → p < i + left → badBinding registry 0 (bindingAt keys p) .applies ≡ false
@@ -121,3 +132,33 @@ key-passes w registry script place held keys grants p l c =
 pub in-script : (script : List ℕ) (place : ℕ) → badScript script place .applies ≡ false → place ≤ stepsIn script
 in-script script place e =
     ltb-false (stepsIn script) place (neither (not (eqb (length script % 3) 0) || ltb 32768 (stepsIn script)) (ltb (stepsIn script) place) e .1)
+
+-- ---- leases taken in the call are held behind the caller's
+
+-- a held list that passed has no word left over
+pub even : (held : List ℕ) → badHeldLength held .applies ≡ false → length held % 2 ≡ 0
+even held e = eqb-true (length held % 2) 0 (not-false _ (neither (isOdd held) (ltb 64 (countIn held)) e .0))
+
+pub leases-append : (held : List ℕ) (ls : List Lease) → length held % 2 ≡ 0 → leasesOf (held ++ wordsOf ls) ≡ leasesOf held ++ ls
+unfolding leasesOf
+leases-append [] ls e = leases-words ls
+leases-append (c ∷ []) ls e = absurd (omega arith)
+leases-append (c ∷ s ∷ ws) ls e = ap {B = List Lease} (λ ks. leaseOf c s ∷ ks) (leases-append ws ls (omega arith))
+
+-- the checks of a call by key, holding leases besides that are live and not too many
+pub holding-more : (w : World) (registry script : List ℕ) (place : ℕ) (held : List ℕ) (binding : ℕ) (ls : List Lease) → countIn held + length ls ≤ 64
+    → ((l : Lease) → In ls l → isLive (w .head .next) (cellsOf (w .head)) (w .table) l ≡ true)
+    → Clear (bucketRules (w .head) (w .table) (w .health) registry script place held binding)
+    → Clear (bucketRules (w .head) (w .table) (w .health) registry script place (held ++ wordsOf ls) binding)
+unfolding bucketRules
+holding-more w registry script place held binding ls few live c =
+    let old = notLive (w .head) (w .table) 0 (leasesOf held) in
+    let front = clear-live (w .head) (w .table) 0 (leasesOf held) (clear-front old _ (c .1 .1 .1 .1 .1)) in
+    let last = clear-back old _ (c .1 .1 .1 .1 .1) in
+    let two = even held (c .1 .1 .1 .1 .0) in
+    let many : length (held ++ wordsOf ls) ≡ length held + 2 * length ls = omega (arith, length-append held (wordsOf ls), words-length ls) in
+    let fits : badHeldLength (held ++ wordsOf ls) .applies ≡ false
+    = rw (many, eq-eqb ((length held + 2 * length ls) % 2) 0 (omega arith)) (le-ltb 64 ((length held + 2 * length ls) / 2) (omega arith)) in
+    let all = live-clear (w .head) (w .table) 0 (leasesOf (held ++ wordsOf ls))
+    (λ l i. elim (in-either l (leasesOf held) ls (subst (λ (ks : List Lease). In ks l) (leases-append held ls two) i)) [ inl j ↦ front l j | inr j ↦ live l j ]) in
+    (c .0, (c .1 .0, (c .1 .1 .0, (c .1 .1 .1 .0, (fits, clear-append (notLive (w .head) (w .table) 0 (leasesOf (held ++ wordsOf ls))) (badBinding registry 0 binding ∷ []) all last)))))

@@ -45,15 +45,15 @@ use Rattle.exact.specs.Attempts.{Bucket-retries, Keys-retried, Locks-ret
 
 -- ---- no spin in a lock
 
-spins-append : (xs ys : List Event) → spins-in (xs ++ ys) ≡ spins-in xs + spins-in ys
+pub spins-append : (xs ys : List Event) → spins-in (xs ++ ys) ≡ spins-in xs + spins-in ys
 unfolding spins-in
 spins-append [] ys = omega arith
 spins-append (x ∷ xs) ys = omega (arith, spins-append xs ys)
 
-record Calm (es : List Event) : Type 0 where
-  none : spins-in es ≡ 0
+pub record Calm (es : List Event) : Type 0 where
+  pub none : spins-in es ≡ 0
 
-abbrev Still : {A : Type 0} → Made A → Type 0
+abbrev pub Still : {A : Type 0} → Made A → Type 0
 Still m = Calm (m .log)
 
 two-still : {xs ys : List Event} → Calm xs → Calm ys → Calm (xs ++ ys)
@@ -86,7 +86,7 @@ module _ (e : Setting) where
       (two-still (step-still (f .next) t g kind (placeAt (e .script) (f .place)) (numberAt (e .script) (f .place)))
       (steps-still left (flowOf (s .0 .next) (f .place + 1) (f .dropped + s .0 .dropped)) (s .1 .0) (s .1 .1)))
 
-  boundary-still : (f : Flow) (t g : List ℕ) → Still (boundaryOf e f t g)
+  pub boundary-still : (f : Flow) (t g : List ℕ) → Still (boundaryOf e f t g)
   unfolding boundaryOf spins-in
   boundary-still f t g = let k = steps-still (stepsIn (e .script) - f .place) f t g in record { none = omega (arith, k .none) }
 
@@ -133,7 +133,7 @@ module _ (e : Setting) where
 -- ---- an attempt: no spin, no yield, one attempt; a pause: one spin
 
 -- not 11
-abbrev Else : Outcome → Type 0
+abbrev pub Else : Outcome → Type 0
 Else (outcome.Granted l) = Unit {0}
 Else outcome.Busy = Unit {0}
 Else (outcome.Refused r) = r ≡ SerializationFailure → ⊥
@@ -148,11 +148,11 @@ take-else c taking.Busy = tt
 take-else c taking.Damaged = λ e. let z : _≡_ {A = ℕ} 0 1 = cc in omega arith
 take-else c taking.Spent = λ e. let z : _≡_ {A = ℕ} 0 1 = cc in omega arith
 
-record One (r : Run) (m : Made (With Tried)) : Type 0 where
-  no-spin : spins-in (m .log) ≡ 0
-  one-attempt : m .seen .0 .run .attempts ≡ r .attempts + 1
-  no-yield : m .seen .0 .run .yields ≡ r .yields
-  other : Else (m .seen .0 .outcome)
+pub record One (r : Run) (m : Made (With Tried)) : Type 0 where
+  pub no-spin : spins-in (m .log) ≡ 0
+  pub one-attempt : m .seen .0 .run .attempts ≡ r .attempts + 1
+  pub no-yield : m .seen .0 .run .yields ≡ r .yields
+  pub other : Else (m .seen .0 .outcome)
 
 record Paused (i : ℕ) (r : Run) (m : Made (With Run)) : Type 0 where
   one-spin : spins-in (m .log) ≡ 1
@@ -160,7 +160,7 @@ record Paused (i : ℕ) (r : Run) (m : Made (With Run)) : Type 0 where
   yields-at : m .seen .0 .yields + i / 64 ≡ r .yields + (i + 1) / 64
 
 module _ (e : Setting) (buckets : ℕ) (registry : List ℕ) (binding bucket : ℕ) where
-  attempt-one : (r : Run) (t g : List ℕ) → One r (attemptOf e buckets registry binding bucket r t g)
+  pub attempt-one : (r : Run) (t g : List ℕ) → One r (attemptOf e buckets registry binding bucket r t g)
   unfolding attemptOf findOf spins-in
   attempt-one r t g =
       let header = getD registry binding 0 in

@@ -167,7 +167,7 @@ pub by-script-only : By-script-only perform
 by-script-only w k e before after s fine q =
     every-at (Points (script-of k) (place-of k) (place-in (perform w k))) before e after (subst (Every (Points (script-of k) (place-of k) (place-in (perform w k)))) q (points (script-of k) (script-consumed w k s fine)))
 
-total-append : (ms ns : List ℕ) → total (ms ++ ns) ≡ total ms + total ns
+pub total-append : (ms ns : List ℕ) → total (ms ++ ns) ≡ total ms + total ns
 unfolding total
 total-append [] ns = omega arith
 total-append (m ∷ ms) ns = omega (arith, total-append ms ns)

@@ -2,7 +2,7 @@
 use Rattle.history.specs.Items.{perform, foreign}
 use Rattle.exact.specs.Statements.{Try-acquire-exactly, Foreign-exactly, Try-lock-quiet, Transactional-quiet, Acquire-bucket-quiet, Try-lock-exactly, Acquire-bucket-exactly, Locks-quiet, Locks-refused-quiet}
 use Rattle.exact.specs.Script.{Script-consumed, Place-goes, Each-has-its-turn, By-script-only, Dropped-are}
-use Rattle.exact.specs.Attempts.{Bucket-retries, Locks-retry}
+use Rattle.exact.specs.Attempts.{Attempt-ends, Bucket-attempts, Locks-as-calls, Bucket-retries, Locks-retry, Bucket-boundaries, Locks-boundaries}
 use Rattle.exact.specs.TryAcquire as acquiring
 use Rattle.exact.specs.ForeignSteps as stepping
 use Rattle.exact.specs.QuietCalls as quiet
@@ -11,6 +11,10 @@ use Rattle.exact.specs.QuietRefused as refusing
 use Rattle.exact.specs.ConsumingCalls as consuming
 use Rattle.exact.specs.ScriptFacts as facts
 use Rattle.exact.specs.Retried as retried
+use Rattle.exact.specs.Ending as ending
+use Rattle.exact.specs.Attempting as attempting
+use Rattle.exact.specs.KeyByKey as by-key
+use Rattle.exact.specs.Boundaries as bounding
 
 -- ---- exactly
 
@@ -60,6 +64,17 @@ by-script-only = facts.by-script-only
 pub dropped-are : Dropped-are perform
 dropped-are = facts.dropped-are
 
+-- ---- locks as attempts and calls
+
+pub attempt-ends : Attempt-ends perform
+attempt-ends = ending.attempt-ends
+
+pub bucket-attempts : Bucket-attempts perform
+bucket-attempts = attempting.bucket-attempts
+
+pub locks-as-calls : Locks-as-calls perform
+locks-as-calls = by-key.locks-as-calls
+
 -- ---- the counts
 
 pub bucket-retries : Bucket-retries perform
@@ -67,3 +82,9 @@ bucket-retries = retried.bucket-retries
 
 pub locks-retry : Locks-retry perform
 locks-retry = retried.locks-retry
+
+pub bucket-boundaries : Bucket-boundaries perform
+bucket-boundaries = bounding.bucket-boundaries
+
+pub locks-boundaries : Locks-boundaries perform
+locks-boundaries = bounding.locks-boundaries

@@ -141,7 +141,7 @@ grants-name w k l =
 
 -- ---- what multi-lock's buffer holds
 
-words-length : (ls : List Lease) → length (wordsOf ls) ≡ 2 * length ls
+pub words-length : (ls : List Lease) → length (wordsOf ls) ≡ 2 * length ls
 unfolding wordsOf
 words-length [] = refl
 words-length (l ∷ ls) = omega (arith, words-length ls)
