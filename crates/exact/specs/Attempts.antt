@@ -4,7 +4,7 @@
 use Rattle.model.specs.Crew.{total}
 use Prim.Native.Nat.{ℕ, _+_, _/_, _≤_, _%_, _<_, _-_}
 use Rattle.model.specs.declared.Answer.{Answer}
-use Rattle.history.specs.Items.{Build, Says, acquire-bucket, acquire-locks, says, environment, transactional, drop-lease}
+use Rattle.history.specs.Items.{Build, Says, acquire-bucket, acquire-locks, says, environment, transactional, drop-lease, Call}
 use Rattle.model.specs.declared.Counts.{Counts}
 use Rattle.model.specs.Log.{Event, Made, took, released, waiters-set, health-set, spun, yielded, attempt-begun, boundary-run, step-dropped, by-caller, by-script}
 use mathlib.Core.List.{List, _∷_, _++_, []}
@@ -112,8 +112,11 @@ Bucket-attempts f =
 
 module _ (f : Build) (registry script held keys grants : List ℕ) where
   -- the call for the key at position p, holding what was taken
+  abbrev pub key-at : ℕ → List Lease → (place : ℕ) → Call
+  key-at p taken place = acquire-bucket registry script place (held ++ wordsOf taken) (bindingAt keys p) (bucketAt keys p)
+
   abbrev pub locking : ℕ → List Lease → World → (place : ℕ) → Made (World × Says)
-  locking p taken w place = f w (acquire-bucket registry script place (held ++ wordsOf taken) (bindingAt keys p) (bucketAt keys p))
+  locking p taken w place = f w (key-at p taken place)
 
   -- one lease given back; and one boundary, holding what is not yet given back
   abbrev pub dropping : Lease → World → Made (World × Says)
@@ -133,16 +136,16 @@ module _ (f : Build) (registry script held keys grants : List ℕ) where
   abbrev pub refused-at : Refusal → ℕ → Made (World × Says) → Made (World × Says)
   refused-at r p m = record { seen = (m .seen .0, says (RefusedAt r p) (m .seen .1 .counts) (m .seen .1 .place) grants); log = m .log }
 
-  -- keys from position p on, with these leases taken
+  -- keys from position p on, with these leases taken; each call passes its checks
   pub data Key-by-key : (p : ℕ) → List Lease → World → (place : ℕ) → Made (World × Says) → Type 0 where
     all-locked : {p : ℕ} {taken : List Lease} {w : World} {place : ℕ} → p ≡ countIn keys
         → Key-by-key p taken w place (record { seen = (w, says AllGranted (countsOf 0 0 0 0) place (wordsOf taken)); log = [] })
     one-locked : {p : ℕ} {taken : List Lease} {w : World} {place : ℕ} {n : Made (World × Says)} (l : Lease) → p < countIn keys
-        → answer-in (locking p taken w place) ≡ Granted l
+        → Passes w (key-at p taken place) → answer-in (locking p taken w place) ≡ Granted l
         → Key-by-key (p + 1) (taken ++ (l ∷ [])) (world-in (locking p taken w place)) (place-in (locking p taken w place)) n
         → Key-by-key p taken w place (locking p taken w place and-then n)
     one-refused : {p : ℕ} {taken : List Lease} {w : World} {place : ℕ} {n : Made (World × Says)} (r : Refusal) → p < countIn keys
-        → answer-in (locking p taken w place) ≡ Refused r
+        → Passes w (key-at p taken place) → answer-in (locking p taken w place) ≡ Refused r
         → Gives-back taken (world-in (locking p taken w place)) (place-in (locking p taken w place)) n
         → Key-by-key p taken w place (refused-at r p (locking p taken w place and-then n))
 

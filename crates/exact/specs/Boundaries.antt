@@ -189,11 +189,11 @@ module _ (registry script words keys grants : List ℕ) where
       → Key-by-key perform registry script words keys grants p taken w place m → Adds (rolled-back (answer-in m)) m
   unfolding spins-in
   keys-add z (all-locked e) = adds-none
-  keys-add z (one-locked {p = p} {taken = taken} {w = w} {place = place} {n = n} l b a rest) =
+  keys-add z (one-locked {p = p} {taken = taken} {w = w} {place = place} {n = n} l b fine a rest) =
       subst (λ k. Adds k (locks p taken w place and-then n)) (zero-add (rolled-back (answer-in n)))
       (adds-then (locks p taken w place) n (key-adds w registry script place (words ++ wordsOf taken) (bindingAt keys p) (bucketAt keys p))
       (keys-add (omega (arith, length-append taken (l ∷ []))) rest))
-  keys-add z (one-refused {p = p} {taken = taken} {w = w} {place = place} {n = n} r b a rest) =
+  keys-add z (one-refused {p = p} {taken = taken} {w = w} {place = place} {n = n} r b fine a rest) =
       let e : 0 + length taken ≡ p = omega arith in
       subst (λ k. Adds k (locks p taken w place and-then n)) e
       (adds-then (locks p taken w place) n (key-adds w registry script place (words ++ wordsOf taken) (bindingAt keys p) (bucketAt keys p)) (back-adds rest))

@@ -43,7 +43,7 @@ use Rattle.exact.specs.CountedOn.{run-on, locks-on, back-on, keys-on}
 use Rattle.exact.specs.Passing.{clear-live, boundary-on, even, holding-more, in-script, key-passes, leases-append}
 use Rattle.exact.specs.Passing as passing
 use Rattle.exact.specs.Attempting.{nil, counted, from-nil, done-with, at-last}
-use Rattle.exact.specs.Attempts.{added, _and-then_, locking, dropping, between, Gives-back, all-back, one-back, refused-at, Key-by-key, all-locked, one-locked, one-refused, Locks-as-calls}
+use Rattle.exact.specs.Attempts.{added, _and-then_, locking, dropping, between, Gives-back, all-back, one-back, refused-at, Key-by-key, all-locked, one-locked, one-refused, Locks-as-calls, key-at}
 
 -- from a run that counts: the same from one that has counted nothing, counted on
 back-from : (e : Setting) (n : ℕ) (ls : List Lease) (r : Run) (t g : List ℕ)
@@ -87,18 +87,18 @@ module _ (h : Head) (registry script held keys grants : List ℕ) where
   abbrev bounds : List Lease → World → ℕ → Made (World × Says)
   bounds = between perform registry script held keys grants
 
-  locked-as : {p : ℕ} {taken : List Lease} {w : World} {place : ℕ} {x n : Made (World × Says)} (l : Lease) → p < countIn keys → locks-it p taken w place ≡ x
+  locked-as : {p : ℕ} {taken : List Lease} {w : World} {place : ℕ} {x n : Made (World × Says)} (l : Lease) → p < countIn keys → Passes w (key-at perform registry script held keys grants p taken place) → locks-it p taken w place ≡ x
       → answer-in x ≡ Granted l → Goes (p + 1) (taken ++ (l ∷ [])) (world-in x) (place-in x) n → Goes p taken w place (x and-then n)
-  locked-as {p} {taken} {w} {place} {x} {n} l b q =
+  locked-as {p} {taken} {w} {place} {x} {n} l b fine q =
       subst (λ (y : Made (World × Says)). answer-in y ≡ Granted l → Goes (p + 1) (taken ++ (l ∷ [])) (world-in y) (place-in y) n → Goes p taken w place (y and-then n)) q
-      (one-locked l b)
+      (one-locked l b fine)
 
-  refused-as : {p : ℕ} {taken : List Lease} {w : World} {place : ℕ} {x n : Made (World × Says)} (r : Refusal) → p < countIn keys → locks-it p taken w place ≡ x
+  refused-as : {p : ℕ} {taken : List Lease} {w : World} {place : ℕ} {x n : Made (World × Says)} (r : Refusal) → p < countIn keys → Passes w (key-at perform registry script held keys grants p taken place) → locks-it p taken w place ≡ x
       → answer-in x ≡ Refused r → Backs taken (world-in x) (place-in x) n → Goes p taken w place (refused-at perform registry script held keys grants r p (x and-then n))
-  refused-as {p} {taken} {w} {place} {x} {n} r b q =
+  refused-as {p} {taken} {w} {place} {x} {n} r b fine q =
       subst (λ (y : Made (World × Says)). answer-in y ≡ Refused r → Backs taken (world-in y) (place-in y) n
       → Goes p taken w place (refused-at perform registry script held keys grants r p (y and-then n))) q
-      (one-refused r b)
+      (one-refused r b fine)
 
   back-as : {ls : List Lease} {w : World} {place : ℕ} {x y n : Made (World × Says)} (l : Lease) → drops-it l w ≡ x → answer-in x ≡ Done
       → bounds ls (world-in x) place ≡ y → answer-in y ≡ Done → Backs ls (world-in y) (place-in y) n → Backs (ls ++ (l ∷ [])) w place (x and-then (y and-then n))
@@ -224,7 +224,7 @@ module _ (h : Head) (registry script held keys grants : List ℕ) where
   more left p taken m r l = locksOf left (p + 1) e (h .buckets) registry keys (taken ++ (l ∷ [])) r (m .seen .1 .0) (m .seen .1 .1) grants
 
   module _ {first : ℕ} (old : Older first) (p : ℕ) (b : p < countIn keys) (taken : List Lease) (w : World) (place : ℕ) (m : Made (With Tried))
-      (is : locks-it p taken w place ≡ at-last h m) (st : Standing first (of-tried h (m .seen)) (m .seen .0 .run .flow .place) (length taken) taken) where
+      (fine : Passes w (key-at perform registry script held keys grants p taken place)) (is : locks-it p taken w place ≡ at-last h m) (st : Standing first (of-tried h (m .seen)) (m .seen .0 .run .flow .place) (length taken) taken) where
     rolls-back : (x : Refusal) → answer-in (at-last h m) ≡ Refused x
         → Goes p taken w place (then-locks m (rollbackOf e taken x p (m .seen .0 .run) (m .seen .1 .0) (m .seen .1 .1) grants))
     unfolding rollbackOf
@@ -234,7 +234,7 @@ module _ (h : Head) (registry script held keys grants : List ℕ) where
         subst (λ (o : Made (With Run)). Goes p taken w place (then-locks m (record { seen = (endedOf (o .seen .0) (RefusedAt x p), (o .seen .1 .0, (o .seen .1 .1, grants))); log = o .log ++ [] })))
         (sym (back-from e (length taken) taken r (m .seen .1 .0) (m .seen .1 .1)))
         (rw (append-nil (back .log))
-        (refused-as x b is a
+        (refused-as x b fine is a
         (subst (λ (ls : List Lease). Backs ls (of-tried h (m .seen)) (r .flow .place) (done-with h back)) (take-length taken)
         (gives-back old p b (length taken) (r .flow .next) (r .flow .place) (m .seen .1 .0) (m .seen .1 .1) taken st))))
 
@@ -245,7 +245,7 @@ module _ (h : Head) (registry script held keys grants : List ℕ) where
     after-key left o q (won l x i) on =
         subst (λ (k : Made Locks). Goes p taken w place (then-locks m k))
         (sym (keys-from e left (p + 1) (h .buckets) registry keys (taken ++ (l ∷ [])) (m .seen .0 .run) (m .seen .1 .0) (m .seen .1 .1) grants))
-        (locked-as l b is (ap (λ (z : Outcome). answerOf (settled z)) q) (on l x i))
+        (locked-as l b fine is (ap (λ (z : Outcome). answerOf (settled z)) q) (on l x i))
     after-key left o q none-yet on = rolls-back SerializationFailure (ap (λ (z : Outcome). answerOf (settled z)) q)
     after-key left o q (no-more r) on = rolls-back r (ap (λ (z : Outcome). answerOf (settled z)) q)
 
@@ -274,7 +274,7 @@ module _ (h : Head) (registry script held keys grants : List ℕ) where
       (in-right (leaseAt taken i) (leasesOf held) taken (subst (λ (x : List Lease). In x (leaseAt taken i)) (take-length taken) (in-take taken (length taken) i noLease j j)))
       (st .mine .all-live i j) in
       let now = moved st (s .place) (length taken) within (omega arith) (weaken (λ c i _. in-left c (leasesOf held) taken i) (kept .kept)) still in
-      after-key old p b taken v place m is now left (m .seen .0 .outcome) refl (kept .gain)
+      after-key old p b taken v place m fine is now left (m .seen .0 .outcome) refl (kept .gain)
       (λ c x i.
       let all = one-more {w = v} {ls = taken} c (record { are-held = st .mine; young = st .young }) still f x i in
       locks-are old left (p + 1) (s .next) (s .place) (m .seen .1 .0) (m .seen .1 .1) (taken ++ (c ∷ [])) (omega arith) (omega (arith, length-append taken (c ∷ []))) (omega (arith, kept-next (kept .kept)))
