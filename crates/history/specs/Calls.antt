@@ -1,17 +1,18 @@
 -- Each call of document 01: refused, it changes nothing; else its log is lawful, leads to the world it leaves, and spares its held list.
 use Prim.Native.Nat.{ℕ, zero, suc, _+_, _*_, _≤_, _<_}
-use mathlib.Core.Path.{_≡_, sym, _∙_, subst}
+use mathlib.Core.Path.{_≡_, refl, sym, _∙_, subst}
 use mathlib.Core.List.{List, [], _∷_, _++_, append-nil}
 use mathlib.Core.Bool.{false, not}
+use mathlib.Core.Logic.{_⊎_, inl, inr}
 use native.Mathlib.Omega.{arith}
 use native.Mathlib.Decide.{decLt}
 use lib.ListN.{length, take}
 use lib.Seq.{append-snoc}
 use borrow.Author.Tests.{leb-false, not-false}
-use Rattle.model.specs.Choice.{if_then_else_}
-use Rattle.model.specs.Log.{Made, by-caller, attempt-begun, released}
-use Rattle.model.specs.Arena.{cellsOf, setCell, isLive, isIn, leasesOf}
-use Rattle.model.specs.Checks.{countIn, badShape, badHeld, badCell, notReleasable, cellRules, leaseRules, heldCellRules, heldLeaseRules, scriptRules, lockRules, releaseRules}
+use Rattle.model.specs.Log.{Made, by-caller, attempt-begun, released, Event}
+use Rattle.model.specs.Arena.{cellsOf, shapeFits, setCell, isLive, isIn, leasesOf}
+use Rattle.model.specs.Checks.{countIn, badShape, badHeld, badCell, notReleasable, cellRules, leaseRules, heldCellRules, heldLeaseRules, scriptRules, lockRules, bucketRules, releaseRules, locksRules}
+use Rattle.model.specs.Crew.{crewRules}
 use Rattle.model.specs.Foreign.{flowOf}
 use Rattle.model.specs.Lock.{leaseAt, noLease, outcomeOf, answerOf, settled, attemptLimit}
 use Rattle.model.specs.Calls.{starting, acquireOf}
@@ -19,12 +20,13 @@ use Rattle.model.specs.declared.Head.{Head}
 use Rattle.model.specs.declared.Lease.{Lease}
 use Rattle.model.specs.declared.Outcome.{Outcome}
 use Rattle.model.specs.declared.Take.{Take}
-use Rattle.history.specs.World.{World, worldOf, cells, Live, Lawful, Unreleased}
+use Rattle.laws.specs.Shape.{shaped}
+use Rattle.history.specs.World.{World, worldOf, cells, Live, Lawful, Unreleased, now}
 use Rattle.history.specs.Items.{Call, Says, try-acquire, drop-lease, read-permission, competing-acquire, release-then-handoff, foreign-release, drop-preserving, acquire-preserving, environment, try-lock, transactional, acquire-bucket, release-all, acquire-locks, crew, perform, held-of}
-use Rattle.history.specs.Statements.{Hands-over, Held-live}
+use Rattle.history.specs.Statements.{Hands-over, Held-live, log-of}
 use Rattle.history.specs.Tests.{differ, In, in-take}
-use Rattle.history.specs.Events.{Good, lives, good}
-use Rattle.history.specs.Logs.{Kept, nothing, event, kept-good, kept-live, weaken, chain, ended, lawful-split, unreleased-front, keep-now}
+use Rattle.history.specs.Events.{Fit, lives, good}
+use Rattle.history.specs.Logs.{Kept, nothing, event, kept-fit, kept-live, weaken, chain, ended, lawful-split, unreleased-front, keep-now}
 use Rattle.history.specs.Steps.{Gains, followed, Gained, gained, was-busy, was-damaged, was-spent, Won, won, none-yet, no-more, boundary-kept, take-kept, lock-kept, attempt-kept, retry-kept}
 use Rattle.history.specs.Judged.{Clear, clear-back, rules, reply, seen-as, steps, performed}
 use Rattle.history.specs.Many.{Held, give-back-kept, locks-kept}
@@ -93,7 +95,7 @@ live-settled (no-more r) l e = absurd e
 abbrev pub Said : World → (Lease → Type 0) → Made (World × Says) → Type 0
 Said = Gains (λ a. a .0) (λ a. (l : Lease) → Hands-over (a .1 .answer) (a .1 .grants) l → Live (a .0) l)
 
-module _ (w : World) (good : Good w) where
+module _ (w : World) (good : Fit w) where
   acquire-kept : (P : Lease → Type 0) (n c : ℕ) → c < cells w → Said w P (seen-as (reply w) (acquireOf n (w .head) (w .table) c))
   unfolding acquireOf
   acquire-kept P n c l =
@@ -115,7 +117,7 @@ module _ (w : World) (good : Good w) where
 apart-from : (held : List ℕ) (l : Lease) → isIn l (leasesOf held) ≡ false → (k : Lease) → In (leasesOf held) k → k ≡ l → ⊥
 apart-from held l n k i e = differ (sym n ∙ subst (In (leasesOf held)) e i)
 
-steps-kept : (w : World) (k : Call) → Good w → Clear (rules w k) → Said w (In (held-of k)) (steps w k)
+steps-kept : (w : World) (k : Call) → Fit w → Clear (rules w k) → Said w (In (held-of k)) (steps w k)
 unfolding cellRules leaseRules heldCellRules heldLeaseRules lockRules releaseRules isIn acquireOf
 steps-kept w (try-acquire c) g k = acquire-kept w g (In []) 1 c (leb-false (cells w) c (k .1 .0))
 steps-kept w (drop-lease l) g k = record { kept = release-kept w g (In []) l (is-live w g l (k .1 .0)) (λ _ i _. differ i); gain = λ l x. absurd x }
@@ -123,16 +125,16 @@ steps-kept w (read-permission l) g k = record { kept = nothing; gain = λ l x. a
 steps-kept w (competing-acquire l) g k = acquire-kept w g (In []) 1 (l .cell) (inside w g l (k .1 .0))
 steps-kept w (release-then-handoff l) g k =
     let a = release-kept w g (In []) l (is-live w g l (k .1 .0)) (λ _ i _. differ i) in
-    followed g a (acquire-kept (worldOf (w .head) (setCell (w .table) (l .cell) 0 0) (w .health)) (kept-good g a) (In []) 1 (l .cell) (inside w g l (k .1 .0)))
+    followed g a (acquire-kept (worldOf (w .head) (setCell (w .table) (l .cell) 0 0) (w .health)) (kept-fit g a) (In []) 1 (l .cell) (inside w g l (k .1 .0)))
 steps-kept w (foreign-release held l) g k =
     let c = clear-back (badShape (w .head) (w .table) ∷ badHeld (w .head) (w .table) held) _ k in
     let m = acquireOf 1 (w .head) (w .table) (l .cell) .seen in
     let v = worldOf (m .0 .head) (m .1) (w .health) in
     let a = acquire-kept w g (λ _. Unit {0}) 1 (l .cell) (inside w g l (c .0)) .kept in
-    let g₁ = kept-good g a in
+    let g₁ = kept-fit g a in
     let b = release-kept v g₁ (In (leasesOf held)) l (kept-live g a l tt (is-live w g l (c .0))) (apart-from held l (c .1 .0)) in
     followed g (weaken (λ _ _ _. tt) a)
-    (followed g₁ b (acquire-kept (worldOf (m .0 .head) (setCell (m .1) (l .cell) 0 0) (w .health)) (kept-good g₁ b) (In (leasesOf held)) 2 (l .cell) (inside w g l (c .0))))
+    (followed g₁ b (acquire-kept (worldOf (m .0 .head) (setCell (m .1) (l .cell) 0 0) (w .health)) (kept-fit g₁ b) (In (leasesOf held)) 2 (l .cell) (inside w g l (c .0))))
 steps-kept w (drop-preserving held l) g k =
     let c = clear-back (badShape (w .head) (w .table) ∷ badHeld (w .head) (w .table) held) _ k in
     record { kept = release-kept w g (In (leasesOf held)) l (is-live w g l (c .0)) (apart-from held l (c .1 .0)); gain = λ l x. absurd x }
@@ -164,12 +166,53 @@ steps-kept w (acquire-locks registry script place held keys grants) g k =
 steps-kept w (crew counts lists turns) g k =
     record { kept = crew-kept (w .head) (w .table) (w .health) counts lists turns g k; gain = λ l x. absurd x }
 
-pub call-kept : (w : World) (k : Call) → Good w → Said w (In (held-of k)) (perform w k)
-call-kept w k g = performed (Said w (In (held-of k))) w k (λ r. record { kept = nothing; gain = λ l x. absurd x }) (steps-kept w k g)
+-- the first check of every call is the shape
+clear-fit : (w : World) (k : Call) → Clear (rules w k) → Fit w
+unfolding cellRules leaseRules heldCellRules heldLeaseRules scriptRules lockRules bucketRules releaseRules locksRules crewRules
+clear-fit w k c = record { shape = shaped (w .head) (length (w .table)) (not-false (shapeFits (w .head) (length (w .table))) (first-clear k c)) }
+  where
+    first-clear : (k : Call) → Clear (rules w k) → not (shapeFits (w .head) (length (w .table))) ≡ false
+    first-clear (try-acquire c) k = k .0
+    first-clear (drop-lease l) k = k .0
+    first-clear (read-permission l) k = k .0
+    first-clear (competing-acquire l) k = k .0
+    first-clear (release-then-handoff l) k = k .0
+    first-clear (foreign-release held l) k = k .0
+    first-clear (drop-preserving held l) k = k .0
+    first-clear (acquire-preserving held c) k = k .0
+    first-clear (environment script place held) k = k .0
+    first-clear (try-lock script place held c) k = k .0
+    first-clear (transactional registry script place held binding bucket) k = k .0
+    first-clear (acquire-bucket registry script place held binding bucket) k = k .0
+    first-clear (release-all script place leases) k = k .0
+    first-clear (acquire-locks registry script place held keys grants) k = k .0
+    first-clear (crew counts lists turns) k = k .0
+
+-- a call whose shape does not fit does nothing
+pub call-fit : (w : World) (k : Call) → (log-of w k ≡ []) ⊎ Fit w
+call-fit w k = performed (λ m. (m .log ≡ []) ⊎ Fit w) w k (λ r. inl refl) (λ c. inr (clear-fit w k c))
+
+-- whatever the arena holds: a call whose shape does not fit is refused
+pub call-kept : (w : World) (k : Call) → Said w (In (held-of k)) (perform w k)
+call-kept w k = performed (Said w (In (held-of k))) w k (λ r. record { kept = nothing; gain = λ l x. absurd x }) (λ c. steps-kept w k (clear-fit w k c) c)
 
 -- what is held is spared at every point
-pub calls-spare-held : Held-live
-calls-spare-held w k l before after s i v e =
-    let g = good w s in
-    let p = call-kept w k g .kept in
-    keep-now w before l g (lawful-split w before after (subst (Lawful w) e (p .lawful)) .0) v (unreleased-front l before after (subst (Unreleased l) e (p .spares l i v)))
+
+-- an empty log has no parts
+no-front : (xs ys : List Event) → [] ≡ xs ++ ys → xs ≡ []
+no-front [] ys e = refl
+no-front (x ∷ xs) ys e = let z : _≡_ {A = ℕ} 0 1 = cc in absurd (omega arith)
+
+-- what holds at the beginning of a call's log, and at every point of it if the shape fits, holds at every point
+pub at-point : (P : List Event → Type 0) (w : World) (k : Call) (before after : List Event) → log-of w k ≡ before ++ after
+    → P [] → (Fit w → Lawful w before → P before) → P before
+at-point P w k before after e z f = go (call-fit w k)
+  where
+    go : (log-of w k ≡ []) ⊎ Fit w → P before
+    go (inl n) = subst P (sym (no-front before after (sym n ∙ e))) z
+    go (inr g) = f g (lawful-split w before after (subst (Lawful w) e (call-kept w k .kept .lawful)) .0)
+
+pub calls-spare-held : Held-live perform
+calls-spare-held w k l before after i v e =
+    at-point (λ (es : List Event). Live (now w es) l) w k before after e v
+    (λ g m. keep-now w before l g m v (unreleased-front l before after (subst (Unreleased l) e (call-kept w k .kept .spares l i v))))

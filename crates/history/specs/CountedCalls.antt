@@ -12,7 +12,7 @@ use Rattle.model.specs.Calls.{countsOf, starting, acquireOf}
 use Rattle.model.specs.declared.Counts.{Counts}
 use Rattle.model.specs.declared.Head.{Head}
 use Rattle.history.specs.World.{World, number-of, attempts, boundaries, yields, drops}
-use Rattle.history.specs.Items.{Call, Says, try-acquire, drop-lease, read-permission, competing-acquire, release-then-handoff, foreign-release, drop-preserving, acquire-preserving, environment, try-lock, transactional, acquire-bucket, release-all, acquire-locks, crew, IsCrew}
+use Rattle.history.specs.Items.{Call, Says, try-acquire, drop-lease, read-permission, competing-acquire, release-then-handoff, foreign-release, drop-preserving, acquire-preserving, environment, try-lock, transactional, acquire-bucket, release-all, acquire-locks, crew, IsCrew, perform}
 use Rattle.history.specs.Statements.{Counts-are}
 use Rattle.history.specs.Judged.{acting, steps, performed}
 use Rattle.history.specs.Counted.{Counted, then-counted, none-counted, boundary-counted, take-counted, lock-counted, attempt-counted, retry-counted, back-counted, locks-counted}
@@ -75,6 +75,6 @@ fair m k =
     let d : q .dropped ≡ number-of drops (m .log) = omega arith in
     rw (← a, ← b, ← y, ← d)
 
-pub calls-counted : Counts-are
+pub calls-counted : Counts-are perform
 unfolding number-of
 calls-counted w k n = performed Fair w k (λ r. refl) (λ _. fair (steps w k) (steps-counted w k n))

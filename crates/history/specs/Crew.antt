@@ -2,11 +2,11 @@
 use Prim.Native.Nat.{ℕ, zero, suc, _+_, _*_, _-_, _/_, _≤_, _<_}
 use mathlib.Core.Path.{_≡_, refl, sym, ap, _∙_, subst}
 use mathlib.Core.List.{List, [], _∷_, _++_}
-use mathlib.Core.Bool.{Bool, true, false, _&&_, _||_, not}
+use mathlib.Core.Bool.{true, _&&_, _||_, not}
 use native.Mathlib.Omega.{arith}
 use native.Mathlib.Decide.{ℕ-discrete, decLt}
 use lib.Dec.{ltb, leb, eqb}
-use lib.ListN.{length, getD, set, take, drop, replicate, length-take, length-drop, length-set, length-replicate, List·getD-eq-default}
+use lib.ListN.{length, getD, set, drop, replicate, length-take, length-drop, length-set, length-replicate, List·getD-eq-default}
 use lib.Seq.{getD-take, getD-drop, getD-set-same, getD-set-other}
 use borrow.Author.Tests.{ltb-true, ltb-false, leb-true, leb-false, eqb-true, not-false}
 use Rattle.model.specs.Log.{Made, Event, by-caller, attempt-begun, boundary-run, released}
@@ -22,9 +22,9 @@ use Rattle.model.specs.declared.Take.{Take}
 use Rattle.model.specs.declared.Take.the-variants as taking
 use Rattle.laws.specs.Pick.{both, if-both}
 use Rattle.history.specs.World.{World, worldOf, Live, Unreleased}
-use Rattle.history.specs.Tests.{differ, In, in-first, if-cases}
-use Rattle.history.specs.Events.{Good, lives}
-use Rattle.history.specs.Logs.{Kept, nothing, event, kept-good, kept-live, weaken, ended}
+use Rattle.history.specs.Tests.{differ, In, in-first, if-cases, neither}
+use Rattle.history.specs.Events.{Fit, lives}
+use Rattle.history.specs.Logs.{Kept, nothing, event, kept-fit, kept-live, weaken, ended}
 use Rattle.history.specs.Steps.{worldAt, Gains, followed, With, Gained, gained, was-busy, was-damaged, was-spent, lock-kept}
 use Rattle.history.specs.Judged.{Clear, clear-front}
 
@@ -55,10 +55,6 @@ one-place counts m j k i a b e = go (decLt m k) (decLt k m)
     go (no p) (no q) = let s : m ≡ k = omega arith in (s, omega (arith, ap (startOf counts) s))
 
 -- ---- what the checks say
-
-neither : (a b : Bool) → (a || b) ≡ false → (a ≡ false) × (b ≡ false)
-neither true b e = (e, absurd (let z : _≡_ {A = ℕ} 0 1 = cc in omega arith))
-neither false b e = (refl, e)
 
 rises-inside : (inside low : ℕ) (cs : List ℕ) → risesFrom inside low cs ≡ true → (j : ℕ) → j < length cs → getD cs j 0 < inside
 unfolding risesFrom
@@ -118,7 +114,7 @@ abbrev pub noted : List ℕ → List ℕ → ℕ → Lease
 noted cells serials k = leaseOf (getD cells k 0) (getD serials k 0)
 
 pub record Safe (counts cells : List ℕ) (w : World) (made serials : List ℕ) : Type 0 where
-  pub good : Good w
+  pub good : Fit w
   pub many-members : length made ≡ 16
   pub many-places : length serials ≡ 256
   pub holds : (m j : ℕ) → Holds counts made m j → Live w (noted cells serials (startOf counts m + j))
@@ -181,7 +177,7 @@ module _ (h : Head) (n : ℕ) (t g : List ℕ) (c : ℕ) where
       go taking.Damaged = refl
       go taking.Spent = refl
 
-  quiet-lock : Good (worldAt h n t g) → c < cellsOf h
+  quiet-lock : Fit (worldAt h n t g) → c < cellsOf h
       → Gains (λ a. worldAt h (a .0 .flow .next) (a .1 .0) g) (λ a. Gained n (worldAt h (a .0 .flow .next) (a .1 .0) g) c (a .0 .answer)) (worldAt h n t g)
       (λ _. Unit {0}) (lockOf (given h [] []) (flowOf n 0 0) t g c)
   quiet-lock good l =
@@ -210,7 +206,7 @@ module _ (h : Head) (counts cells : List ℕ) (lim : Limits h counts cells) wher
   still-safe : {w v : World} {es : List Event} {made serials : List ℕ} → Kept w (λ _. Unit {0}) v es → Safe counts cells w made serials → Safe counts cells v made serials
   still-safe k s =
       record {
-        good = kept-good (s .good) k;
+        good = kept-fit (s .good) k;
         many-members = s .many-members;
         many-places = s .many-places;
         holds = λ m j x. kept-live (s .good) k _ tt (s .holds m j x);
@@ -226,7 +222,7 @@ module _ (h : Head) (counts cells : List ℕ) (lim : Limits h counts cells) wher
         → Safe counts cells v (moved made m) (set serials (startOf counts m + done) x)
     taken-safe x k l new young =
         record {
-          good = kept-good (s .good) k;
+          good = kept-fit (s .good) k;
           many-members = length-set made m (done + 1) ∙ s .many-members;
           many-places = length-set serials p x ∙ s .many-places;
           holds = λ i j a. alive i j (which i j a);
@@ -276,7 +272,7 @@ module _ (h : Head) (counts cells : List ℕ) (lim : Limits h counts cells) wher
         → Safe counts cells v (moved made m) serials
     gave-safe z k a b =
         record {
-          good = kept-good (s .good) k;
+          good = kept-fit (s .good) k;
           many-members = length-set made m (done + 1) ∙ s .many-members;
           many-places = s .many-places;
           holds = λ i j x. let o = was i j x in kept-live (s .good) k _ (o .1) (s .holds i j (o .0));
@@ -362,7 +358,7 @@ zeros zero i = refl
 zeros (suc n) zero = refl
 zeros (suc n) (suc i) = zeros n i
 
-pub crew-kept : (h : Head) (t g counts cells turns : List ℕ) → Good (worldOf h t g) → Clear (crewRules h t g counts cells turns)
+pub crew-kept : (h : Head) (t g counts cells turns : List ℕ) → Fit (worldOf h t g) → Clear (crewRules h t g counts cells turns)
     → let m = turnsOf (h .headers) (h .buckets) g counts cells (crewAt (h .next) t (replicate 16 0) (replicate 256 0) 0 0) turns in
     Kept (worldOf h t g) (In []) (worldAt h (m .seen .next) (m .seen .table) g) (m .log)
 crew-kept h t g counts cells turns good k =

@@ -88,13 +88,20 @@ older : {b o n : ℕ} → Status b o n → Status b o (n + 1)
 older (free b o) = free b o
 older (held b o p) = held b o (omega arith)
 
-module _ (w : World) (g : Good w) (c : ℕ) (l : c < cells w) where
-  pub at : 3 * c + 2 < length (w .table)
-  at = omega (arith, g .shape .words-are)
+-- the shape alone: what a call's first check leaves, whatever the table holds
+pub record Fit (w : World) : Type 0 where
+  pub shape : Shaped (w .head) (length (w .table))
 
+pub fit : {w : World} → Good w → Fit w
+fit g = record { shape = g .shape }
+
+pub at : (w : World) → Fit w → (c : ℕ) → c < cells w → 3 * c + 2 < length (w .table)
+at w f c l = omega (arith, f .shape .words-are)
+
+module _ (w : World) (g : Good w) (c : ℕ) (l : c < cells w) where
   status-put : (b o n : ℕ) → Status b o n → ((d : ℕ) → d < cells w → Status (bitAt (w .table) d) (ownerAt (w .table) d) n)
       → (d : ℕ) → d < cells w → Status (bitAt (setCell (w .table) c b o) d) (ownerAt (setCell (w .table) c b o) d) n
-  status-put b o n new old d k = go (see (w .table) c b o d (omega (arith, at)))
+  status-put b o n new old d k = go (see (w .table) c b o d (omega (arith, at w (fit g) c l)))
     where
       go : Seen (w .table) c b o d → Status (bitAt (setCell (w .table) c b o) d) (ownerAt (setCell (w .table) c b o) d) n
       go (here e p q) = rw (p, q) new
@@ -102,7 +109,7 @@ module _ (w : World) (g : Good w) (c : ℕ) (l : c < cells w) where
 
   -- what is written is free, or held by a serial that owns nothing
   apart-put : (b o : ℕ) → (b ≡ 1 → (d : ℕ) → d < cells w → bitAt (w .table) d ≡ 1 → ownerAt (w .table) d ≢ o) → Apart (setCell (w .table) c b o) (cells w)
-  apart-put b o new d e k m x y z = go (see (w .table) c b o d (omega (arith, at))) (see (w .table) c b o e (omega (arith, at)))
+  apart-put b o new d e k m x y z = go (see (w .table) c b o d (omega (arith, at w (fit g) c l))) (see (w .table) c b o e (omega (arith, at w (fit g) c l)))
     where
       go : Seen (w .table) c b o d → Seen (w .table) c b o e → d ≡ e
       go (here p _ _) (here q _ _) = omega arith
@@ -154,6 +161,20 @@ good-step w (waiters-set c n) g l =
     }
 good-step w (health-set i n) g l = record { shape = g .shape; health-is = length-set (w .health) i n ∙ g .health-is; status = g .status; apart = g .apart }
 
+pub fit-step : (w : World) (e : Event) → Fit w → Legal w e → Fit (step w e)
+fit-step w attempt-begun f l = f
+fit-step w boundary-run f l = f
+fit-step w yielded f l = f
+fit-step w spun f l = f
+fit-step w step-dropped f l = f
+fit-step w (took a c s) f l =
+    record { shape = reshaped (w .head) (w .head .next + 1) (length (w .table)) (length (setCell (w .table) c 1 s)) (f .shape) (omega arith) (omega arith) (length-set-cell (w .table) c 1 s) }
+fit-step w (released a c s) f l =
+    record { shape = reshaped (w .head) (w .head .next) (length (w .table)) (length (setCell (w .table) c 0 0)) (f .shape) (f .shape .low) (f .shape .high) (length-set-cell (w .table) c 0 0) }
+fit-step w (waiters-set c n) f l =
+    record { shape = reshaped (w .head) (w .head .next) (length (w .table)) (length (setWaiters (w .table) c n)) (f .shape) (f .shape .low) (f .shape .high) (length-set-waiters (w .table) c n) }
+fit-step w (health-set i n) f l = record { shape = f .shape }
+
 -- the head but for the next serial stays
 pub same-arena : (w : World) (e : Event) → step w e .head ≡ spentTo (w .head) (step w e .head .next)
 same-arena w attempt-begun = refl
@@ -174,7 +195,7 @@ pub moved-live : (next cells next′ : ℕ) (t u : List ℕ) (l : Lease) → Ali
 moved-live next cells next′ t u l a n p q =
     live next′ cells u l (record { in-range = a .in-range; bit-is = p ∙ a .bit-is; owner-is = q ∙ a .owner-is; low = a .low; high = omega (arith, a .high) })
 
-pub keep-step : (w : World) (e : Event) (l : Lease) → Good w → Legal w e → Live w l → (Releases l e → ⊥) → Live (step w e) l
+pub keep-step : (w : World) (e : Event) (l : Lease) → Fit w → Legal w e → Live w l → (Releases l e → ⊥) → Live (step w e) l
 keep-step w attempt-begun l g k v n = v
 keep-step w boundary-run l g k v n = v
 keep-step w yielded l g k v n = v
@@ -200,7 +221,7 @@ keep-step w (waiters-set c n) l g k v u =
 keep-step w (health-set i n) l g k v u = v
 
 -- a live lease after an event was live before it, or its serial is the one just issued
-pub live-before : (w : World) (e : Event) (l : Lease) → Good w → Legal w e → Live (step w e) l → l .serial < w .head .next → Live w l
+pub live-before : (w : World) (e : Event) (l : Lease) → Fit w → Legal w e → Live (step w e) l → l .serial < w .head .next → Live w l
 live-before w attempt-begun l g k v o = v
 live-before w boundary-run l g k v o = v
 live-before w yielded l g k v o = v
@@ -240,7 +261,7 @@ next-step w (released a c s) = omega arith
 next-step w (waiters-set c n) = omega arith
 next-step w (health-set i n) = omega arith
 
-pub spent-step : (w : World) (e : Event) (s : ℕ) → Good w → Legal w e → Spent w s → Spent (step w e) s
+pub spent-step : (w : World) (e : Event) (s : ℕ) → Fit w → Legal w e → Spent w s → Spent (step w e) s
 spent-step w e s g k p =
     record {
       was-issued = omega (arith, p .was-issued, next-step w e);
@@ -277,15 +298,15 @@ bits-step w yielded g k = refl
 bits-step w spun g k = refl
 bits-step w step-dropped g k = refl
 bits-step w (took a c s) g k =
-    omega (arith, bits-put (cells w) (w .table) c 1 s (k .0 .0) (at w g c (k .0 .0)), ap (λ (x : ℕ). one (eqb x 1)) (free-words (w .head .next) (w .table) c (k .0 .1) .0))
+    omega (arith, bits-put (cells w) (w .table) c 1 s (k .0 .0) (at w (fit g) c (k .0 .0)), ap (λ (x : ℕ). one (eqb x 1)) (free-words (w .head .next) (w .table) c (k .0 .1) .0))
 bits-step w (released a c s) g k =
     let i = lives w (leaseOf c s) k in
-    omega (arith, bits-put (cells w) (w .table) c 0 0 (i .in-range) (at w g c (i .in-range)), ap (λ (x : ℕ). one (eqb x 1)) (i .bit-is))
+    omega (arith, bits-put (cells w) (w .table) c 0 0 (i .in-range) (at w (fit g) c (i .in-range)), ap (λ (x : ℕ). one (eqb x 1)) (i .bit-is))
 bits-step w (waiters-set c n) g k = ap (λ (x : ℕ). x + 0) (bits-same (cells w) (setWaiters (w .table) c n) (w .table) (λ d l. bit-set-waiters (w .table) c n d))
 bits-step w (health-set i n) g k = refl
 
 -- the lease that a take makes
-pub taken-live : (w : World) (a : Actor) (c : ℕ) → Good w → c < cells w → Live (step w (took a c (w .head .next))) (leaseOf c (w .head .next))
+pub taken-live : (w : World) (a : Actor) (c : ℕ) → Fit w → c < cells w → Live (step w (took a c (w .head .next))) (leaseOf c (w .head .next))
 taken-live w a c g l = go (see (w .table) c 1 (w .head .next) c (omega (arith, at w g c l)))
   where
     go : Seen (w .table) c 1 (w .head .next) c → Live (step w (took a c (w .head .next))) (leaseOf c (w .head .next))
@@ -301,9 +322,9 @@ released-spent w a c s g v =
     record {
       was-issued = x .high;
       owns-none = λ d u.
-          let y = lives w (leaseOf d s) (live-before w (released a c s) (leaseOf d s) g v u (x .high)) in
+          let y = lives w (leaseOf d s) (live-before w (released a c s) (leaseOf d s) (fit g) v u (x .high)) in
           go d (g .apart d c (y .in-range) (x .in-range) (y .bit-is) (x .bit-is) (y .owner-is ∙ sym (x .owner-is))) (lives (step w (released a c s)) (leaseOf d s) u)
-          (see (w .table) c 0 0 d (omega (arith, at w g c (x .in-range))));
+          (see (w .table) c 0 0 d (omega (arith, at w (fit g) c (x .in-range))));
     }
   where
     go : (d : ℕ) → d ≡ c → Alive (w .head .next) (cells w) (setCell (w .table) c 0 0) (leaseOf d s) → Seen (w .table) c 0 0 d → ⊥

@@ -7,24 +7,25 @@ use mathlib.Core.Bool.{true}
 use mathlib.Core.Logic.{inl, inr}
 use native.Mathlib.Omega.{arith}
 use lib.ListN.{replicate}
-use Rattle.model.specs.Log.{Made, Event, by-caller, by-script, attempt-begun, boundary-run, took, released, waiters-set}
+use Rattle.model.specs.Log.{Made, Event, by-caller, by-script, attempt-begun, boundary-run, took, released, waiters-set, Actor, step-dropped}
 use Rattle.model.specs.Arena.{headOf, leaseOf, bitAt, ownerAt, waitersAt, setCell, setWaiters, isFree, isHeld, stateOf, stateAt, isLive, leasesOf, wordsOf, sameLease, isIn, headFits, shapeFits, healthFits, registryFits}
 use Rattle.model.specs.Refusals.{first}
 use Rattle.model.specs.Foreign.{stepTakeOf, stepReleaseOf, stepWaitersOf, stepHealthOf, stepOf, stepsOf, boundaryOf}
 use Rattle.model.specs.Lock.{takeOf, lateOf, secondOf, lockOf, findOf, attemptOf, spinOf, pauseOf, retryOf, giveBackOf, rollbackOf, locksOf}
 use Rattle.model.specs.Checks.{notLive, badBindings, notReleasable, prepareRules, cellRules, leaseRules, scriptRules, lockRules, bucketRules, releaseRules, locksRules}
-use Rattle.model.specs.Calls.{prepareOf, acquireOf, tryAcquireOf, dropLeaseOf, tryLockOf, acquireBucketOf, releaseAllOf, acquireLocksOf, environmentOf}
+use Rattle.model.specs.Calls.{prepareOf, acquireOf, tryAcquireOf, dropLeaseOf, tryLockOf, acquireBucketOf, releaseAllOf, acquireLocksOf, environmentOf, countsOf}
 use Rattle.model.specs.Crew.{total, startOf, allWithin, risesFrom, badLists, badTurns, crewRules, crewOf}
 use Rattle.model.specs.declared.Answer.the-variants.{Done, Granted, AllGranted, Busy, Refused, RefusedAt}
 use Rattle.model.specs.declared.CrewReply.{CrewReply}
 use Rattle.model.specs.declared.Lease.{Lease}
-use Rattle.model.specs.declared.Refusal.the-variants.{InvalidBucket, NotHeld, BadCrew}
+use Rattle.model.specs.declared.Refusal.the-variants.{InvalidBucket, NotHeld, BadCrew, Damaged, BadShape}
 use Rattle.history.specs.World.{World, worldOf, Live, now, Sound, Spent, Unreleased}
-use Rattle.history.specs.Items.{Call, Says, acquire-bucket, try-lock, drop-lease, release-all, acquire-locks, environment, try-acquire, perform, foreign, Item, call, foreign-step, preparation, Course, courseOf, cold, next-item, run, preparing, held-of}
-use Rattle.history.specs.Statements.{Ledger, answers, leaves, log-of, Hands-over}
-use Rattle.history.specs.Theorems.{demand-2, forgets, compare-and-set, nothing-kept, failed-locks, held-live, changes-nothing, crew-refused, named}
+use Rattle.history.specs.Items.{Call, Says, acquire-bucket, try-lock, drop-lease, release-all, acquire-locks, environment, try-acquire, perform, foreign, Item, call, foreign-step, preparation, Course, courseOf, cold, next-item, run, preparing, held-of, Entry, noted, preparation-over, entryOf, events-of, saying, says}
+use Rattle.history.specs.Statements.{Ledger, answers, leaves, log-of, Hands-over, Rolled-back, buffer-in, Fails}
+use Rattle.history.specs.Theorems.{demand-2, forgets, nothing-kept, held-live, changes-nothing, crew-refused, named, take-is-call, nothing-new, rollback-is, two-writers}
 use Rattle.history.specs.Tests.{differ}
 use Rattle.history.specs.Events.{lives}
+use Rattle.history.specs.Callers.{singles}
 
 -- ---- a day
 
@@ -36,7 +37,7 @@ abbrev rubbish : World
 rubbish = worldOf (headOf 7 7 7) (replicate 24 7) (replicate 2 7)
 
 abbrev boot : Item
-boot = preparation 2 4 1 (replicate 24 7) (replicate 2 7)
+boot = preparation 2 4 1
 
 -- key (0,2) is granted: cell 2, serial 2; in its first boundary the script takes cell 5, serial 1
 abbrev grant : Call
@@ -82,8 +83,17 @@ abbrev prepared : World
 prepared = worldOf (headOf 2 4 1) (replicate 24 0) (replicate 2 0)
 
 -- every item does what was said of it; at the end all is free, the next serial is 4, and cell 3 is still waited for
+abbrev entries : List Entry
+entries =
+    entryOf granting (says (Granted (leaseOf 2 2)) (countsOf 1 3 0 0) 2 [])
+    ∷ entryOf late-busy (says Busy (countsOf 1 3 0 0) 4 [])
+    ∷ entryOf [] (saying (Refused (NotHeld 0)))
+    ∷ entryOf given-back (saying Done)
+    ∷ entryOf ending (says Done (countsOf 0 1 0 0) 0 [])
+    ∷ []
+
 abbrev the-day : Course
-the-day = courseOf prepared (granting ++ (late-busy ++ given-back) ++ ending) (worldOf (headOf 2 4 4) (setWaiters (replicate 24 0) 3 1) (replicate 2 0))
+the-day = courseOf prepared entries (worldOf (headOf 2 4 4) (setWaiters (replicate 24 0) 3 1) (replicate 2 0))
 
 pub day-is : after day ≡ the-day
 unfolding run next-item preparing perform foreign bitAt ownerAt waitersAt setCell setWaiters isFree isHeld stateOf stateAt isLive leasesOf sameLease isIn headFits shapeFits healthFits registryFits first stepReleaseOf stepTakeOf stepWaitersOf stepOf stepsOf boundaryOf takeOf lateOf secondOf lockOf findOf attemptOf retryOf giveBackOf notLive notReleasable prepareRules leaseRules scriptRules lockRules bucketRules releaseRules prepareOf dropLeaseOf tryLockOf acquireBucketOf releaseAllOf
@@ -92,20 +102,23 @@ day-is = refl
 -- ---- `demand-2`
 
 -- its premise: the preparation is done
-pub boot-done : preparing 2 4 1 (replicate 24 7) (replicate 2 7) .0 ≡ Done
+pub boot-done : preparing 2 4 1 (rubbish .table) (rubbish .health) .0 ≡ Done
 unfolding preparing prepareOf prepareRules first headFits shapeFits healthFits
 boot-done = refl
 
 pub day-kept : Ledger the-day
-day-kept = subst Ledger day-is (demand-2 rubbish 2 4 1 (replicate 24 7) (replicate 2 7) day boot-done)
+day-kept = subst Ledger day-is (demand-2 rubbish 2 4 1 day boot-done)
 
 -- `forgets`: the same day over other RAM
-pub other-boot-done : preparing 2 4 1 (replicate 24 4_294_967_295) (replicate 2 255) .0 ≡ Done
+abbrev other-rubbish : World
+other-rubbish = worldOf (headOf 0 0 0) (replicate 24 4_294_967_295) (replicate 2 255)
+
+pub other-boot-done : preparing 2 4 1 (other-rubbish .table) (other-rubbish .health) .0 ≡ Done
 unfolding preparing prepareOf prepareRules first headFits shapeFits healthFits
 other-boot-done = refl
 
-pub same-day : run (cold prepared) (preparation 2 4 1 (replicate 24 4_294_967_295) (replicate 2 255) ∷ day) ≡ the-day
-same-day = forgets prepared rubbish 2 4 1 (replicate 24 4_294_967_295) (replicate 2 255) (replicate 24 7) (replicate 2 7) day other-boot-done boot-done ∙ day-is
+pub same-day : run (cold other-rubbish) (boot ∷ day) ≡ the-day
+same-day = forgets other-rubbish rubbish 2 4 1 day other-boot-done boot-done ∙ day-is
 
 -- `keeps`: the lease (2,2) is live when it was granted; a Busy try_lock, a refused call and a foreign step later nothing has released it, and
 -- it is live; `release_all` releases it, and it is not
@@ -145,23 +158,24 @@ serial-dies = (dead, day-kept .never 3 (granting ++ late-busy) (given-back ++ en
     dead : Spent (now prepared (granting ++ late-busy)) 3
     dead = record { was-issued = omega arith; owns-none = none }
 
--- a second preparation begins a new stretch; one that is refused changes nothing
-pub prepared-again : (after (day ++ (boot ∷ [])) ≡ courseOf prepared [] prepared) × (after (day ++ (preparation 2 4 1 (replicate 23 7) (replicate 2 7) ∷ [])) ≡ after day)
+-- a second preparation begins a new stretch, of the arena's own runs or of others; one that is refused, since H x B no longer fits the runs
+-- or the runs that were lent are too short, is noted and leaves the arena as it was
+pub prepared-again : (after (day ++ (boot ∷ [])) ≡ cold prepared) × (after (day ++ (preparation-over 2 4 1 (replicate 24 9) (replicate 2 9) ∷ [])) ≡ cold prepared)
 unfolding run next-item preparing perform foreign bitAt ownerAt waitersAt setCell setWaiters isFree isHeld stateOf stateAt isLive leasesOf sameLease isIn headFits shapeFits healthFits registryFits first stepReleaseOf stepTakeOf stepWaitersOf stepOf stepsOf boundaryOf takeOf lateOf secondOf lockOf findOf attemptOf retryOf giveBackOf notLive notReleasable prepareRules leaseRules scriptRules lockRules bucketRules releaseRules prepareOf dropLeaseOf tryLockOf acquireBucketOf releaseAllOf
 prepared-again = (refl, refl)
 
--- ---- the other theorems, in the prepared world and in the one after the grant: both are sound
+pub refused-again : (after (day ++ (preparation 2 5 1 ∷ [])) ≡ noted the-day [] (saying (Refused BadShape)) (the-day .world))
+    × (after (day ++ (preparation-over 2 4 1 (replicate 23 9) (replicate 2 9) ∷ [])) ≡ noted the-day [] (saying (Refused BadShape)) (the-day .world))
+unfolding run next-item preparing perform foreign bitAt ownerAt waitersAt setCell setWaiters isFree isHeld stateOf stateAt isLive leasesOf sameLease isIn headFits shapeFits healthFits registryFits first stepReleaseOf stepTakeOf stepWaitersOf stepOf stepsOf boundaryOf takeOf lateOf secondOf lockOf findOf attemptOf retryOf giveBackOf notLive notReleasable prepareRules leaseRules scriptRules lockRules bucketRules releaseRules prepareOf dropLeaseOf tryLockOf acquireBucketOf releaseAllOf
+refused-again = (refl, refl)
+
+-- ---- one call, in the prepared world and in the one after the grant
 
 abbrev granted : World
 granted = now prepared granting
 
 pub both-sound : Sound prepared × Sound granted
 both-sound = (day-kept .sound [] _ refl, day-kept .sound granting _ refl)
-
--- `compare-and-set`: a free cell is taken, a held one is not
-pub tries : (answers prepared (try-acquire 2) ≡ Granted (leaseOf 2 1)) × (answers granted (try-acquire 2) ≡ Busy) × (leaves granted (try-acquire 2) ≡ granted)
-unfolding run next-item preparing perform foreign bitAt ownerAt waitersAt setCell setWaiters isFree isHeld stateOf stateAt isLive leasesOf wordsOf sameLease isIn headFits shapeFits healthFits registryFits first stepTakeOf stepReleaseOf stepWaitersOf stepHealthOf stepOf stepsOf boundaryOf takeOf lateOf secondOf lockOf findOf attemptOf spinOf pauseOf retryOf giveBackOf rollbackOf locksOf notLive badBindings notReleasable prepareRules cellRules leaseRules scriptRules lockRules bucketRules releaseRules locksRules prepareOf acquireOf tryAcquireOf dropLeaseOf environmentOf tryLockOf acquireBucketOf releaseAllOf acquireLocksOf
-tries = (refl, refl, refl)
 
 -- `changes-nothing`: number 12
 pub mistake-refused : (answers granted mistake ≡ Refused (NotHeld 0)) × (leaves granted mistake ≡ granted)
@@ -173,7 +187,7 @@ pub two-members-refused : let m = crewOf (headOf 2 4 1) (replicate 24 0) (replic
     (m .seen .0 .answer ≡ Refused (BadCrew 1)) × (m .seen .0 .moving ≡ 0)
 unfolding headFits shapeFits healthFits first total startOf allWithin risesFrom badLists badTurns crewRules crewOf
 two-members-refused =
-    (refl, ap (λ (m : Made (CrewReply × List ℕ)). m .seen .0 .moving) (crew-refused prepared (2 ∷ 2 ∷ []) (2 ∷ 5 ∷ 5 ∷ 2 ∷ []) [] (BadCrew 1) refl))
+    (refl, ap (λ (m : Made (CrewReply × List ℕ)). m .seen .0 .moving) (crew-refused (headOf 2 4 1) (replicate 24 0) (replicate 2 0) (2 ∷ 2 ∷ []) (2 ∷ 5 ∷ 5 ∷ 2 ∷ []) [] (BadCrew 1) refl))
 
 -- `nothing-kept`, where all is granted: cells 0 and 5, serials 1 and 2
 abbrev two-keys : Call
@@ -193,10 +207,9 @@ two-granted = (refl, refl, refl, refl)
 -- so the first is handed over
 pub two-handed : Hands-over (answers prepared two-keys) (perform prepared two-keys .seen .1 .grants) (leaseOf 0 1)
 two-handed =
-    elim (nothing-kept prepared two-keys 0 1 begun second (both-sound .0) (λ z. z) (two-granted .2))
-    [ inl x ↦ x .0 | inr y ↦ absurd (y .3 (two-granted .3)) ]
+    elim (nothing-kept prepared two-keys 0 1 begun second (λ z. z) (two-granted .2)) [ inl x ↦ x .0 | inr y ↦ absurd (y .1 (two-granted .3)) ]
 
--- `failed-locks`: the second key's bucket is refused after the first key's cell was taken
+-- `nothing-new`, `rollback-is`: the second key's bucket is refused after the first key's cell was taken
 abbrev bad-key : Call
 bad-key = acquire-locks registry [] 0 [] (0 ∷ 0 ∷ 0 ∷ 9 ∷ []) (7 ∷ 7 ∷ 7 ∷ 7 ∷ [])
 
@@ -208,10 +221,10 @@ unfolding run next-item preparing perform foreign bitAt ownerAt waitersAt setCel
 second-refused = (refl, refl)
 
 -- so it is given back, and the buffer is as it was
-pub all-undone : (perform prepared bad-key .seen .1 .grants ≡ 7 ∷ 7 ∷ 7 ∷ 7 ∷ []) × (Live (leaves prepared bad-key) (leaseOf 0 1) → ⊥)
+pub all-undone : (buffer-in (perform prepared bad-key) ≡ 7 ∷ 7 ∷ 7 ∷ 7 ∷ []) × (Live (leaves prepared bad-key) (leaseOf 0 1) → ⊥)
 all-undone =
-    let back = failed-locks prepared registry [] 0 [] (0 ∷ 0 ∷ 0 ∷ 9 ∷ []) (7 ∷ 7 ∷ 7 ∷ 7 ∷ []) (InvalidBucket 9) 1 (both-sound .0) (second-refused .0) in
-    (back .0, back .1 0 1 begun undone (second-refused .1) .3)
+    let back = nothing-new prepared bad-key (λ z. z) (subst Fails (sym (second-refused .0)) tt) in
+    (back .0, back .1 0 1 begun undone (second-refused .1) .1)
 
 -- `named`: a script's release, by its step 1; the caller's release of (3,3), which it took
 abbrev step-one : Call
@@ -233,4 +246,60 @@ lone-named = refl
 -- `held-live`: (2,2) is in the held list of the call that is late Busy, and live before it
 pub lease-held : (isIn lease (held-of late) ≡ true) × Live granted lease × (log-of granted late ≡ late-busy ++ []) × Live (now granted late-busy) lease
 unfolding run next-item preparing perform foreign bitAt ownerAt waitersAt setCell setWaiters isFree isHeld stateOf stateAt isLive leasesOf wordsOf sameLease isIn headFits shapeFits healthFits registryFits first stepTakeOf stepReleaseOf stepWaitersOf stepHealthOf stepOf stepsOf boundaryOf takeOf lateOf secondOf lockOf findOf attemptOf spinOf pauseOf retryOf giveBackOf rollbackOf locksOf notLive badBindings notReleasable prepareRules cellRules leaseRules scriptRules lockRules bucketRules releaseRules locksRules prepareOf acquireOf tryAcquireOf dropLeaseOf environmentOf tryLockOf acquireBucketOf releaseAllOf acquireLocksOf
-lease-held = (refl, refl, refl, held-live granted late lease late-busy [] (both-sound .1) refl refl refl)
+lease-held = (refl, refl, refl, held-live granted late lease late-busy [] refl refl refl)
+
+-- ---- `two-writers`: cell 2 is granted, Busy, given back, granted again
+
+abbrev valve : List Item
+valve = call (try-acquire 2) ∷ call (try-acquire 2) ∷ call (drop-lease (leaseOf 2 1)) ∷ call (try-acquire 2) ∷ []
+
+abbrev first-grant : Entry
+first-grant = entryOf (attempt-begun ∷ took by-caller 2 1 ∷ []) (says (Granted (leaseOf 2 1)) (countsOf 1 0 0 0) 0 [])
+
+abbrev meanwhile : List Entry
+meanwhile = entryOf (attempt-begun ∷ []) (says Busy (countsOf 1 0 0 0) 0 []) ∷ entryOf (released by-caller 2 1 ∷ []) (saying Done) ∷ []
+
+abbrev second-grant : Entry
+second-grant = entryOf (attempt-begun ∷ took by-caller 2 2 ∷ []) (says (Granted (leaseOf 2 2)) (countsOf 1 0 0 0) 0 [])
+
+pub valve-is : after valve .entries ≡ first-grant ∷ (meanwhile ++ (second-grant ∷ []))
+unfolding run next-item preparing perform foreign bitAt ownerAt waitersAt setCell setWaiters isFree isHeld stateOf stateAt isLive leasesOf wordsOf sameLease isIn headFits shapeFits healthFits registryFits first stepTakeOf stepReleaseOf stepWaitersOf stepHealthOf stepOf stepsOf boundaryOf takeOf lateOf secondOf lockOf findOf attemptOf spinOf pauseOf retryOf giveBackOf rollbackOf locksOf notLive badBindings notReleasable prepareRules cellRules leaseRules scriptRules lockRules bucketRules releaseRules locksRules prepareOf acquireOf tryAcquireOf dropLeaseOf environmentOf tryLockOf acquireBucketOf releaseAllOf acquireLocksOf
+valve-is = refl
+
+pub valve-released : (a : Actor) × (before middle after : List Event)
+    × (events-of meanwhile ++ second-grant .events ≡ before ++ (released a 2 1 ∷ (middle ++ (took by-caller 2 2 ∷ after))))
+valve-released = two-writers rubbish 2 4 1 valve boot-done [] meanwhile [] first-grant second-grant 2 1 2 valve-is refl refl
+
+-- ---- cold RAM: every cell is damaged but cell 0, and nobody waits for cell 1. The first key is locked, the second is refused as damaged, the first
+-- is given back
+
+abbrev damaged : World
+damaged = worldOf (headOf 2 4 1) (0 ∷ 0 ∷ 0 ∷ 7 ∷ 7 ∷ 0 ∷ replicate 18 7) (replicate 2 0)
+
+abbrev cold-keys : Call
+cold-keys = acquire-locks registry [] 0 [] (0 ∷ 0 ∷ 0 ∷ 1 ∷ []) (9 ∷ 9 ∷ 9 ∷ 9 ∷ [])
+
+pub cold-refused : (answers damaged cold-keys ≡ RefusedAt (Damaged 1) 1)
+unfolding run next-item preparing perform foreign bitAt ownerAt waitersAt setCell setWaiters isFree isHeld stateOf stateAt isLive leasesOf wordsOf sameLease isIn headFits shapeFits healthFits registryFits first stepTakeOf stepReleaseOf stepWaitersOf stepHealthOf stepOf stepsOf boundaryOf takeOf lateOf secondOf lockOf findOf attemptOf spinOf pauseOf retryOf giveBackOf rollbackOf locksOf notLive badBindings notReleasable prepareRules cellRules leaseRules scriptRules lockRules bucketRules releaseRules locksRules prepareOf acquireOf tryAcquireOf dropLeaseOf environmentOf tryLockOf acquireBucketOf releaseAllOf acquireLocksOf
+cold-refused = refl
+
+pub cold-rolled-back : buffer-in (perform damaged cold-keys) ≡ 9 ∷ 9 ∷ 9 ∷ 9 ∷ []
+cold-rolled-back = nothing-new damaged cold-keys (λ z. z) (subst Fails (sym cold-refused) tt) .0
+
+-- one lease of one key was rolled back
+pub cold-leases : Rolled-back 4 registry (0 ∷ 0 ∷ 0 ∷ 1 ∷ []) 1 (log-of damaged cold-keys)
+cold-leases = rollback-is damaged registry [] 0 [] (0 ∷ 0 ∷ 0 ∷ 1 ∷ []) (9 ∷ 9 ∷ 9 ∷ 9 ∷ []) (Damaged 1) 1 cold-refused
+
+-- ---- other callers: a foreign take of cell 3, and the call that it is; a boundary with a legal take and a dropped one, and the history that it is
+
+pub other-takes : (foreign prepared 1 3 0 .log ≡ took by-script 3 1 ∷ []) × (answers prepared (try-acquire 3) ≡ Granted (leaseOf 3 1))
+unfolding run next-item preparing perform foreign bitAt ownerAt waitersAt setCell setWaiters isFree isHeld stateOf stateAt isLive leasesOf wordsOf sameLease isIn headFits shapeFits healthFits registryFits first stepTakeOf stepReleaseOf stepWaitersOf stepHealthOf stepOf stepsOf boundaryOf takeOf lateOf secondOf lockOf findOf attemptOf spinOf pauseOf retryOf giveBackOf rollbackOf locksOf notLive badBindings notReleasable prepareRules cellRules leaseRules scriptRules lockRules bucketRules releaseRules locksRules prepareOf acquireOf tryAcquireOf dropLeaseOf environmentOf tryLockOf acquireBucketOf releaseAllOf acquireLocksOf
+other-takes = (refl, take-is-call prepared 3 0 1 refl refl .0)
+
+abbrev boundary : Call
+boundary = environment (1 ∷ 3 ∷ 0 ∷ 1 ∷ 3 ∷ 0 ∷ 2 ∷ 3 ∷ 1 ∷ []) 0 []
+
+pub boundary-history : (log-of prepared boundary ≡ boundary-run ∷ took by-script 3 1 ∷ step-dropped ∷ released by-script 3 1 ∷ [])
+    × (singles (log-of prepared boundary) ≡ call (try-acquire 3) ∷ call (drop-lease (leaseOf 3 1)) ∷ [])
+unfolding run next-item preparing perform foreign bitAt ownerAt waitersAt setCell setWaiters isFree isHeld stateOf stateAt isLive leasesOf wordsOf sameLease isIn headFits shapeFits healthFits registryFits first stepTakeOf stepReleaseOf stepWaitersOf stepHealthOf stepOf stepsOf boundaryOf takeOf lateOf secondOf lockOf findOf attemptOf spinOf pauseOf retryOf giveBackOf rollbackOf locksOf notLive badBindings notReleasable prepareRules cellRules leaseRules scriptRules lockRules bucketRules releaseRules locksRules prepareOf acquireOf tryAcquireOf dropLeaseOf environmentOf tryLockOf acquireBucketOf releaseAllOf acquireLocksOf
+boundary-history = (refl, refl)

@@ -2,8 +2,10 @@
 use Prim.Native.Nat.{ℕ, _+_}
 use mathlib.Core.List.{List, [], _∷_, _++_}
 use Rattle.model.specs.Log.{Made, Event, gives, _>>=_, _>>_}
-use Rattle.model.specs.Arena.{spentTo, leasesOf}
+use lib.ListN.{getD}
+use Rattle.model.specs.Arena.{cellNumber, spentTo, leasesOf}
 use Rattle.model.specs.Foreign.{stepOf}
+use Rattle.model.specs.Lock.{bindingAt, bucketAt}
 use Rattle.model.specs.Calls.{countsOf, given, prepareOf, tryAcquireOf, dropLeaseOf, readPermissionOf, competingAcquireOf, releaseThenHandoffOf, foreignReleaseOf, acquirePreservingOf, dropPreservingOf, environmentOf, tryLockOf, transactionalOf, acquireBucketOf, releaseAllOf, acquireLocksOf}
 use Rattle.model.specs.Crew.{crewOf}
 use Rattle.model.specs.declared.Answer.{Answer}
@@ -153,6 +155,34 @@ IsCrew (release-all script place leases) = ⊥
 IsCrew (acquire-locks registry script place held keys grants) = ⊥
 IsCrew (crew counts cells turns) = Unit {0}
 
+-- ---- which cell a call asks for
+
+-- "Cell number = header x B + bucket."
+abbrev pub cellOf : (buckets : ℕ) (registry : List ℕ) (binding bucket : ℕ) → ℕ
+cellOf buckets registry binding bucket = cellNumber buckets (getD registry binding 0) bucket
+
+-- the cell of multi-lock's key at a position
+abbrev pub keyCell : (buckets : ℕ) (registry keys : List ℕ) → ℕ → ℕ
+keyCell buckets registry keys p = cellOf buckets registry (bindingAt keys p) (bucketAt keys p)
+
+-- the cell that a call asks for; 0 where it asks for none, and then it never answers `Granted`
+abbrev pub asked : World → Call → ℕ
+asked w (try-acquire c) = c
+asked w (drop-lease l) = 0
+asked w (read-permission l) = 0
+asked w (competing-acquire l) = l .cell
+asked w (release-then-handoff l) = l .cell
+asked w (foreign-release held l) = l .cell
+asked w (drop-preserving held l) = 0
+asked w (acquire-preserving held c) = c
+asked w (environment script place held) = 0
+asked w (try-lock script place held c) = c
+asked w (transactional registry script place held binding bucket) = cellOf (w .head .buckets) registry binding bucket
+asked w (acquire-bucket registry script place held binding bucket) = cellOf (w .head .buckets) registry binding bucket
+asked w (release-all script place leases) = 0
+asked w (acquire-locks registry script place held keys grants) = 0
+asked w (crew counts cells turns) = 0
+
 -- ---- what a call says, and what it leaves
 
 -- the crew gives no such counts; the place is the script's afterwards, and only multi-lock has a grant buffer
@@ -219,50 +249,90 @@ foreign w kind place number = do
   (s, (t, g)) ← stepOf (given (w .head) [] []) (w .head .next) (w .table) (w .health) kind place number
   gives (worldOf (spentTo (w .head) (s .next)) t g)
 
-pub data Item : Type 0 where
-  call : Call → Item
-  foreign-step : (kind place number : ℕ) → Item
-  -- a preparation, over whatever runs it is lent
-  preparation : (headers buckets serial : ℕ) (table health : List ℕ) → Item
+-- ---- an answering function
+
+-- what answers calls: for each world and call the world that it leaves, what it says, and the log of what it did. `perform` is ours
+abbrev pub Build : Type 0
+Build = World → Call → Made (World × Says)
+
+-- and one that makes lone foreign steps; `foreign` is ours
+abbrev pub Stepper : Type 0
+Stepper = World → (kind place number : ℕ) → Made World
 
 -- ---- a history, seen since its last preparation
 
+pub data Item : Type 0 where
+  call : Call → Item
+  foreign-step : (kind place number : ℕ) → Item
+  -- a preparation of the arena's own runs; of other runs that are lent in their place, whatever they hold
+  preparation : (headers buckets serial : ℕ) → Item
+  preparation-over : (headers buckets serial : ℕ) (table health : List ℕ) → Item
+
+-- what one item did, and what it said
+pub record Entry : Type 0 where
+  pub events : List Event
+  pub said : Says
+
+abbrev pub entryOf : List Event → Says → Entry
+entryOf es s = record { events = es; said = s }
+
 pub record Course : Type 0 where
-  -- the world that the last preparation left, the events since, and the world now
+  -- the world that the last preparation left, what each item since did and said, and the world now
   pub origin : World
-  pub log : List Event
+  pub entries : List Entry
   pub world : World
 
-abbrev pub courseOf : World → List Event → World → Course
-courseOf o es w = record { origin = o; log = es; world = w }
+abbrev pub courseOf : World → List Entry → World → Course
+courseOf o es w = record { origin = o; entries = es; world = w }
 
--- done: a new stretch begins; refused: "the head before it stays the one in force"
-abbrev pub prepared-by : Answer → World → Course → Course
-prepared-by Done w k = courseOf w [] w
-prepared-by (Cell c) w k = k
-prepared-by (Granted l) w k = k
-prepared-by AllGranted w k = k
-prepared-by Busy w k = k
-prepared-by (Refused r) w k = k
-prepared-by (RefusedAt r p) w k = k
+-- before the first preparation: cold RAM, whatever it holds. After one: the world that it left
+abbrev pub cold : World → Course
+cold w = courseOf w [] w
 
--- the world that a preparation leaves
+-- one entry more
+abbrev pub noted : Course → List Event → Says → World → Course
+noted k es s w = courseOf (k .origin) (k .entries ++ (entryOf es s ∷ [])) w
+
+-- the events of some entries, and of a course, oldest first
+abbrev pub events-of : List Entry → List Event
+events-of [] = []
+events-of (e ∷ es) = e .events ++ events-of es
+
+abbrev pub history-of : Course → List Event
+history-of k = events-of (k .entries)
+
+-- what an item says that gives no counts
+abbrev pub saying : Answer → Says
+saying a = says a (countsOf 0 0 0 0) 0 []
+
+-- what a preparation answers, and the world of the head and the runs that it hands back
 unfoldable pub preparing : ℕ → ℕ → ℕ → List ℕ → List ℕ → Answer × World
 preparing headers buckets serial t g =
     let o = prepareOf headers buckets serial t g .seen in
     (o .0 .answer, worldOf (o .0 .head) (o .1 .0) (o .1 .1))
 
+-- done: a new stretch begins in the prepared world; refused: the stretch goes on in the world that stays
+abbrev pub prepared-by : Answer → (prepared stays : World) → Course → Course
+prepared-by Done w v k = cold w
+prepared-by (Cell c) w v k = noted k [] (saying (Cell c)) v
+prepared-by (Granted l) w v k = noted k [] (saying (Granted l)) v
+prepared-by AllGranted w v k = noted k [] (saying AllGranted) v
+prepared-by Busy w v k = noted k [] (saying Busy) v
+prepared-by (Refused r) w v k = noted k [] (saying (Refused r)) v
+prepared-by (RefusedAt r p) w v k = noted k [] (saying (RefusedAt r p)) v
+
+-- refused, "the head before it stays the one in force": over the arena's own runs, with these as the preparation hands them back; other runs
+-- leave the arena alone
 unfoldable pub next-item : Course → Item → Course
-next-item k (call c) = let m = perform (k .world) c in courseOf (k .origin) (k .log ++ m .log) (m .seen .0)
-next-item k (foreign-step kind place number) = let m = foreign (k .world) kind place number in courseOf (k .origin) (k .log ++ m .log) (m .seen)
-next-item k (preparation headers buckets serial t g) =
+next-item k (call c) = let m = perform (k .world) c in noted k (m .log) (m .seen .1) (m .seen .0)
+next-item k (foreign-step kind place number) = let m = foreign (k .world) kind place number in noted k (m .log) (saying Done) (m .seen)
+next-item k (preparation headers buckets serial) =
+    let p = preparing headers buckets serial (k .world .table) (k .world .health) in
+    prepared-by (p .0) (p .1) (worldOf (k .world .head) (p .1 .table) (p .1 .health)) k
+next-item k (preparation-over headers buckets serial t g) =
     let p = preparing headers buckets serial t g in
-    prepared-by (p .0) (p .1) k
+    prepared-by (p .0) (p .1) (k .world) k
 
 unfoldable pub run : Course → List Item → Course
 run k [] = k
 run k (i ∷ is) = run (next-item k i) is
-
--- before the first preparation: cold RAM, whatever it holds
-abbrev pub cold : World → Course
-cold w = courseOf w [] w

@@ -43,6 +43,10 @@ pub clear-front : (xs ys : List Rule) → Clear (xs ++ ys) → Clear xs
 clear-front [] ys c = tt
 clear-front (x ∷ xs) ys c = (c .0, clear-front xs ys (c .1))
 
+pub clear-append : (xs ys : List Rule) → Clear xs → Clear ys → Clear (xs ++ ys)
+clear-append [] ys a b = b
+clear-append (x ∷ xs) ys a b = (a .0, clear-append xs ys (a .1) b)
+
 pub clear-back : (xs ys : List Rule) → Clear (xs ++ ys) → Clear ys
 clear-back [] ys c = c
 clear-back (x ∷ xs) ys c = clear-back xs ys (c .1)

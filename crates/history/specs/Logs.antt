@@ -7,7 +7,7 @@ use Rattle.model.specs.Log.{Event}
 use Rattle.model.specs.Arena.{spentTo}
 use Rattle.model.specs.declared.Lease.{Lease}
 use Rattle.history.specs.World.{World, cells, Live, Legal, step, now, Lawful, bits, takes, releases, number-of, Releases, Unreleased, Spent}
-use Rattle.history.specs.Events.{Good, good-step, same-arena, keep-step, next-step, spent-step, bits-step}
+use Rattle.history.specs.Events.{Good, good-step, Fit, fit-step, same-arena, keep-step, next-step, spent-step, bits-step}
 
 -- ---- logs one behind the other
 
@@ -37,6 +37,10 @@ pub good-now : (w : World) (es : List Event) → Good w → Lawful w es → Good
 good-now w [] g t = g
 good-now w (e ∷ es) g t = good-now (step w e) es (good-step w e g (t .0)) (t .1)
 
+pub fit-now : (w : World) (es : List Event) → Fit w → Lawful w es → Fit (now w es)
+fit-now w [] f t = f
+fit-now w (e ∷ es) f t = fit-now (step w e) es (fit-step w e f (t .0)) (t .1)
+
 pub arena-now : (w : World) (es : List Event) → now w es .head ≡ spentTo (w .head) (now w es .head .next)
 arena-now w [] = refl
 arena-now w (e ∷ es) = arena-now (step w e) es ∙ ap (λ h. spentTo h (now (step w e) es .head .next)) (same-arena w e)
@@ -54,13 +58,13 @@ bits-now w (e ∷ es) g t =
     let same : cells (step w e) ≡ cells w = ap (λ h. h .headers * h .buckets) (same-arena w e) in
     omega (arith, rw same at (bits-now (step w e) es (good-step w e g (t .0)) (t .1)), bits-step w e g (t .0))
 
-pub keep-now : (w : World) (es : List Event) (l : Lease) → Good w → Lawful w es → Live w l → Unreleased l es → Live (now w es) l
+pub keep-now : (w : World) (es : List Event) (l : Lease) → Fit w → Lawful w es → Live w l → Unreleased l es → Live (now w es) l
 keep-now w [] l g t v u = v
-keep-now w (e ∷ es) l g t v u = keep-now (step w e) es l (good-step w e g (t .0)) (t .1) (keep-step w e l g (t .0) v (u .0)) (u .1)
+keep-now w (e ∷ es) l g t v u = keep-now (step w e) es l (fit-step w e g (t .0)) (t .1) (keep-step w e l g (t .0) v (u .0)) (u .1)
 
-pub spent-now : (w : World) (es : List Event) (s : ℕ) → Good w → Lawful w es → Spent w s → Spent (now w es) s
+pub spent-now : (w : World) (es : List Event) (s : ℕ) → Fit w → Lawful w es → Spent w s → Spent (now w es) s
 spent-now w [] s g t p = p
-spent-now w (e ∷ es) s g t p = spent-now (step w e) es s (good-step w e g (t .0)) (t .1) (spent-step w e s g (t .0) p)
+spent-now w (e ∷ es) s g t p = spent-now (step w e) es s (fit-step w e g (t .0)) (t .1) (spent-step w e s g (t .0) p)
 
 -- ---- what every step of a call keeps: its log is lawful and leads from the world w to the world v; a lease that is live in w and that P
 -- protects is not released
@@ -76,10 +80,10 @@ nothing = record { lawful = tt; leads = refl; spares = λ l p v. tt }
 pub event : {w : World} {P : Lease → Type 0} (e : Event) → Legal w e → ((l : Lease) → P l → Live w l → Releases l e → ⊥) → Kept w P (step w e) (e ∷ [])
 event e k n = record { lawful = (k, tt); leads = refl; spares = λ l p v. (n l p v, tt) }
 
-pub kept-good : {w v : World} {P : Lease → Type 0} {es : List Event} → Good w → Kept w P v es → Good v
-kept-good {w} {v} {P} {es} g k = rw (k .leads) (good-now w es g (k .lawful))
+pub kept-fit : {w v : World} {P : Lease → Type 0} {es : List Event} → Fit w → Kept w P v es → Fit v
+kept-fit {w} {v} {P} {es} g k = rw (k .leads) (fit-now w es g (k .lawful))
 
-pub kept-live : {w v : World} {P : Lease → Type 0} {es : List Event} → Good w → Kept w P v es → (l : Lease) → P l → Live w l → Live v l
+pub kept-live : {w v : World} {P : Lease → Type 0} {es : List Event} → Fit w → Kept w P v es → (l : Lease) → P l → Live w l → Live v l
 kept-live {w} {v} {P} {es} g k l p x = subst (λ u. Live u l) (sym (k .leads)) (keep-now w es l g (k .lawful) x (k .spares l p x))
 
 pub kept-next : {w v : World} {P : Lease → Type 0} {es : List Event} → Kept w P v es → w .head .next ≤ v .head .next
@@ -89,7 +93,7 @@ pub weaken : {w v : World} {P Q : Lease → Type 0} {es : List Event} → ((l : 
 weaken f k = record { lawful = k .lawful; leads = k .leads; spares = λ l q x. k .spares l (f l q x) x }
 
 -- one after the other
-pub chain : {w v u : World} {P : Lease → Type 0} {xs ys : List Event} → Good w → Kept w P v xs → Kept v P u ys → Kept w P u (xs ++ ys)
+pub chain : {w v u : World} {P : Lease → Type 0} {xs ys : List Event} → Fit w → Kept w P v xs → Kept v P u ys → Kept w P u (xs ++ ys)
 chain {w} {v} {u} {P} {xs} {ys} g a b =
     record {
       lawful = lawful-append w xs ys (a .lawful) (subst (λ x. Lawful x ys) (a .leads) (b .lawful));

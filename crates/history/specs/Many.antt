@@ -19,8 +19,8 @@ use Rattle.model.specs.declared.Run.{Run}
 use Rattle.history.specs.World.{World, Live}
 use Rattle.history.specs.Statements.{Hands-over}
 use Rattle.history.specs.Tests.{In, in-left, in-right, in-take, in-index, leases-words}
-use Rattle.history.specs.Events.{Good, lives}
-use Rattle.history.specs.Logs.{Kept, nothing, event, kept-good, kept-live, kept-next, weaken, chain, ended}
+use Rattle.history.specs.Events.{Fit, lives}
+use Rattle.history.specs.Logs.{Kept, nothing, event, kept-fit, kept-live, kept-next, weaken, chain, ended}
 use Rattle.history.specs.Steps.{worldAt, Leads, Gains, followed, of-run, of-tried, Won, won, none-yet, no-more, boundary-kept, retry-kept}
 
 -- the first n of a list are live, and no two of them are the same
@@ -96,7 +96,7 @@ module _ (h : Head) (script : List ℕ) where
   abbrev starts : Run → List ℕ → List ℕ → World
   starts r t g = worldAt h (r .flow .next) t g
 
-  pub give-back-kept : (n : ℕ) (ps ls : List Lease) (r : Run) (t g : List ℕ) → Good (starts r t g) → Held (starts r t g) n ls
+  pub give-back-kept : (n : ℕ) (ps ls : List Lease) (r : Run) (t g : List ℕ) → Fit (starts r t g) → Held (starts r t g) n ls
       → Leads (of-run h) (starts r t g) (λ l. In ps l × Outside ls n l) (giveBackOf n (given h script ps) ls r t g)
   unfolding giveBackOf
   give-back-kept zero ps ls r t g good held = record { kept = nothing }
@@ -106,10 +106,10 @@ module _ (h : Head) (script : List ℕ) where
       let u = setCell t (l .cell) 0 0 in
       let a : Kept w (λ k. k ≡ l → ⊥) (worldAt h (r .flow .next) u g) (released by-caller (l .cell) (l .serial) ∷ []) =
       event (released by-caller (l .cell) (l .serial)) (held .all-live n (omega arith)) (λ k p v x. p x) in
-      let good′ = kept-good good a in
+      let good′ = kept-fit good a in
       let b = boundary-kept h script (ps ++ take n ls) (r .flow) u g good′ .kept in
       let m = boundaryOf (given h script (ps ++ take n ls)) (r .flow) u g .seen in
-      let rest = give-back-kept n ps ls (runOf (m .0) (r .attempts) (r .boundaries + 1) (r .yields)) (m .1 .0) (m .1 .1) (kept-good good′ b)
+      let rest = give-back-kept n ps ls (runOf (m .0) (r .attempts) (r .boundaries + 1) (r .yields)) (m .1 .0) (m .1 .1) (kept-fit good′ b)
       (record {
         enough = omega (arith, held .enough);
         all-live = λ i k.
@@ -122,7 +122,7 @@ module _ (h : Head) (script : List ℕ) where
             (chain good′ (weaken (λ k p v. in-left k ps (take n ls) (p .0)) b) (weaken (λ k p v. (p .0, λ i x. p .1 i (omega arith))) (rest .kept)));
       }
 
-  rollback-kept : (ps ls : List Lease) (x : Refusal) (p : ℕ) (r : Run) (t g grants : List ℕ) (first : ℕ) → Good (starts r t g) → Taken (starts r t g) first ls
+  rollback-kept : (ps ls : List Lease) (x : Refusal) (p : ℕ) (r : Run) (t g grants : List ℕ) (first : ℕ) → Fit (starts r t g) → Taken (starts r t g) first ls
       → Gains (of-locks h) (AllLive h) (starts r t g) (λ l. In ps l × (l .serial < first)) (rollbackOf (given h script ps) ls x p r t g grants)
   unfolding rollbackOf
   rollback-kept ps ls x p r t g grants first good taken =
@@ -133,7 +133,7 @@ module _ (h : Head) (script : List ℕ) where
       }
 
   pub locks-kept : (left p : ℕ) (ps taken : List Lease) (registry keys : List ℕ) (r : Run) (t g grants : List ℕ) (first : ℕ)
-      → Good (starts r t g) → first ≤ r .flow .next → Taken (starts r t g) first taken
+      → Fit (starts r t g) → first ≤ r .flow .next → Taken (starts r t g) first taken
       → Gains (of-locks h) (AllLive h) (starts r t g) (λ l. In ps l × (l .serial < first)) (locksOf left p (given h script ps) (h .buckets) registry keys taken r t g grants)
   unfolding locksOf
   locks-kept zero p ps taken registry keys r t g grants first good f held =
@@ -150,14 +150,14 @@ module _ (h : Head) (script : List ℕ) where
       kept-live good (k .kept) (leaseAt taken i)
       (in-right (leaseAt taken i) ps taken (subst (λ x. In x (leaseAt taken i)) (take-length taken) (in-take taken (length taken) i noLease j j)))
       (held .are-held .all-live i j) in
-      let good′ = kept-good good (k .kept) in
+      let good′ = kept-fit good (k .kept) in
       let later = kept-next (k .kept) in
       followed good (weaken (λ l q v. in-left l ps taken (q .0)) (k .kept))
       (go (m .0 .outcome) (m .0 .run) (m .1 .0) (m .1 .1) good′
       (record { are-held = record { enough = omega arith; all-live = still; distinct = held .are-held .distinct }; young = held .young }) (k .gain)
       (λ l x i. locks-kept left (p + 1) ps (taken ++ (l ∷ [])) registry keys (m .0 .run) (m .1 .0) (m .1 .1) grants first good′ (omega arith) (one-more l held still f x i)))
     where
-      go : (o : Outcome) (s : Run) (u x : List ℕ) → Good (starts s u x) → Taken (starts s u x) first taken → Won (r .flow .next) (starts s u x) o
+      go : (o : Outcome) (s : Run) (u x : List ℕ) → Fit (starts s u x) → Taken (starts s u x) first taken → Won (r .flow .next) (starts s u x) o
           → ((l : Lease) → Live (starts s u x) l → r .flow .next ≤ l .serial
           → Gains (of-locks h) (AllLive h) (starts s u x) (λ l. In ps l × (l .serial < first))
           (locksOf left (p + 1) (given h script ps) (h .buckets) registry keys (taken ++ (l ∷ [])) s u x grants))

@@ -19,7 +19,7 @@ use Rattle.model.specs.declared.Head.{Head}
 use Rattle.model.specs.declared.Lease.{Lease}
 use Rattle.model.specs.declared.Stepped.{Stepped}
 use Rattle.history.specs.World.{World}
-use Rattle.history.specs.Items.{Call, try-acquire, drop-lease, read-permission, competing-acquire, release-then-handoff, foreign-release, drop-preserving, acquire-preserving, environment, try-lock, transactional, acquire-bucket, release-all, acquire-locks, crew, script-of, place-of, given-up, foreign}
+use Rattle.history.specs.Items.{Call, try-acquire, drop-lease, read-permission, competing-acquire, release-then-handoff, foreign-release, drop-preserving, acquire-preserving, environment, try-lock, transactional, acquire-bucket, release-all, acquire-locks, crew, script-of, place-of, given-up, foreign, perform}
 use Rattle.history.specs.Statements.{log-of, Named, Named-alone}
 use Rattle.history.specs.Tests.{in-take, if-cases}
 use Rattle.history.specs.Calls.{words-leases}
@@ -76,7 +76,7 @@ steps-told w (crew counts cells turns) fine = crew-told w counts cells turns (Mi
 call-told : (w : World) (k : Call) → Told (script-of k) (place-of k) (Mine k) (log-of w k) any
 call-told w k = performed (λ m. Told (script-of k) (place-of k) (Mine k) (m .log) any) w k (λ r. none tt) (steps-told w k)
 
-pub calls-named : Named
+pub calls-named : Named perform
 calls-named w k c s before after = (λ e. at-script c s (call-told w k) before after e, λ e. at-caller c s (call-told w k) before after e)
 
 -- ---- a lone foreign step
@@ -118,7 +118,7 @@ module _ (kind place number : ℕ) where
       if-both Step (eqb kind 4) (if-both Lone (ltb place (e .headers) && leb number 1) (lone _ tt) (lone _ tt)) (
       if-both Step (eqb kind 5) empty (lone _ tt))))))
 
-pub steps-named : Named-alone
+pub steps-named : Named-alone foreign
 unfolding foreign
 steps-named w kind place number c s a before after e =
     step-alone kind place number (given (w .head) [] []) (w .head .next) (w .table) (w .health) c s a before after e

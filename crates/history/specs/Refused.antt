@@ -6,7 +6,7 @@ use mathlib.Core.Bool.{not}
 use mathlib.Core.Logic.{_⊎_, inl, inr}
 use native.Mathlib.Omega.{arith}
 use lib.Dec.{leb, eqb}
-use lib.ListN.{getD, replicate}
+use lib.ListN.{getD}
 use Rattle.laws.specs.Pick.{if-both}
 use Rattle.model.specs.Log.{Made}
 use Rattle.model.specs.Arena.{setCell}
@@ -31,8 +31,8 @@ use Rattle.model.specs.declared.Take.{Take}
 use Rattle.model.specs.declared.Take.the-variants as taking
 use Rattle.model.specs.declared.Tried.{Tried}
 use Rattle.history.specs.World.{World}
-use Rattle.history.specs.Items.{Call, try-acquire, drop-lease, read-permission, competing-acquire, release-then-handoff, foreign-release, drop-preserving, acquire-preserving, environment, try-lock, transactional, acquire-bucket, release-all, acquire-locks, crew, ByCell}
-use Rattle.history.specs.Statements.{Early, Changes-nothing, Crew-refused}
+use Rattle.history.specs.Items.{Call, try-acquire, drop-lease, read-permission, competing-acquire, release-then-handoff, foreign-release, drop-preserving, acquire-preserving, environment, try-lock, transactional, acquire-bucket, release-all, acquire-locks, crew, ByCell, perform}
+use Rattle.history.specs.Statements.{Early, Changes-nothing, Crew-refused, nobody-moved}
 use Rattle.history.specs.Judged.{judged, acting, unchanged, steps, performed}
 
 -- ---- which refusals steps answer
@@ -166,18 +166,17 @@ never k a r b q = go (rw q at b)
     go (inr l) (inr (inl x)) = l .0 (x .1)
     go (inr l) (inr (inr x)) = omega arith
 
-pub refusals-early : Changes-nothing
+pub refusals-early : Changes-nothing perform
 refusals-early w k r =
     performed (λ m. m .seen .1 .answer ≡ answer.Refused r → Early k r → m ≡ unchanged w k r) w k
     (λ x q h. let z : x ≡ r = cc in rw z) (λ _ q h. absurd (never k (steps w k .seen .1 .answer) r (steps-late w k) q h))
 
 -- and a crew's reply, with its own counts
-pub crew-unmoved : Crew-refused
+pub crew-unmoved : Crew-refused crewOf
 unfolding crewOf
-crew-unmoved w counts cells turns r =
-    judged (λ (m : Made (CrewReply × List ℕ)). m .seen .0 .answer ≡ answer.Refused r → m ≡ refused r) (crewRules (w .head) (w .table) (w .health) counts cells turns)
+crew-unmoved h t g counts cells turns r =
+    judged (λ (m : Made (CrewReply × List ℕ)). m .seen .0 .answer ≡ answer.Refused r → m ≡ refused r) (crewRules h t g counts cells turns)
     (λ x q. let z : x ≡ r = cc in ap refused z) (λ _ q. let z : _≡_ {A = ℕ} 0 1 = cc in absurd (omega arith))
   where
     refused : Refusal → Made (CrewReply × List ℕ)
-    refused x =
-        record { seen = (record { head = w .head; moving = 0; idle = 0; taken = replicate 16 0; released = replicate 16 0; answer = answer.Refused x }, w .table); log = [] }
+    refused x = record { seen = (nobody-moved h x, t); log = [] }

@@ -1,43 +1,57 @@
 -- Each call hands over what it took and did not release: its log settles, and a lease that was released never is live again.
-use Prim.Native.Nat.{ℕ, zero, suc, _+_}
-use mathlib.Core.Path.{_≡_, refl, sym, subst}
+use Prim.Native.Nat.{ℕ, zero, suc, _+_, _<_}
+use mathlib.Core.Path.{_≡_, refl, sym, subst, _∙_}
 use mathlib.Core.List.{List, [], _∷_, _++_}
-use mathlib.Core.Bool.{true, not}
+use mathlib.Core.Bool.{true}
 use mathlib.Core.Logic.{inl, _⊎_, inr}
 use native.Mathlib.Omega.{arith}
 use borrow.Author.Tests.{not-false}
 use Rattle.model.specs.Log.{Made, Event, by-caller, attempt-begun, took, released}
 use Rattle.model.specs.Arena.{cellsOf, bitAt, ownerAt, isLive, stateAt, setCell, leasesOf, leaseOf}
-use Rattle.model.specs.Checks.{countIn, badShape, badHeld, heldLeaseRules, locksRules}
+use Rattle.model.specs.Checks.{countIn, badShape, badHeld, heldLeaseRules}
 use Rattle.model.specs.Foreign.{Setting, protecting, flowOf}
 use Rattle.model.specs.Lock.{takeOf, outcomeOf, answerOf, settled, attemptLimit, retryOf, bindingAt, bucketAt, rollbackOf, afterKey, locksOf}
-use Rattle.model.specs.Calls.{given, starting, acquireOf, acquireLocksOf}
-use Rattle.model.specs.declared.Answer.the-variants.{AllGranted, RefusedAt}
+use Rattle.model.specs.Calls.{starting, acquireOf}
+use Rattle.model.specs.declared.Answer.the-variants.{Done, Cell, Granted, AllGranted, Busy, Refused, RefusedAt}
 use Rattle.model.specs.declared.Head.{Head}
 use Rattle.model.specs.declared.Lease.{Lease}
 use Rattle.model.specs.declared.Outcome.{Outcome}
 use Rattle.model.specs.declared.Outcome.the-variants as outcome
-use Rattle.model.specs.declared.Played.{Played}
-use Rattle.model.specs.declared.Refusal.{Refusal}
 use Rattle.model.specs.declared.Reply.{Reply}
 use Rattle.model.specs.declared.Run.{Run}
 use Rattle.history.specs.World.{World, cells, Live, step, now, Lawful}
-use Rattle.history.specs.Items.{Call, try-acquire, drop-lease, read-permission, competing-acquire, release-then-handoff, foreign-release, drop-preserving, acquire-preserving, environment, try-lock, transactional, acquire-bucket, release-all, acquire-locks, crew, perform, IsCrew}
-use Rattle.history.specs.Statements.{Hands-over, answers, log-of, Nothing-kept, Failed-locks, leaves}
-use Rattle.history.specs.Tests.{alive, state-held}
-use Rattle.history.specs.Events.{Good, good-step, released-spent, good}
-use Rattle.history.specs.Logs.{spent-now}
-use Rattle.history.specs.Judged.{Clear, clear-back, judged, rules, acting, steps, performed}
-use Rattle.history.specs.Calls.{words-leases, call-kept}
+use Rattle.history.specs.Items.{Call, try-acquire, drop-lease, read-permission, competing-acquire, release-then-handoff, foreign-release, drop-preserving, acquire-preserving, environment, try-lock, transactional, acquire-bucket, release-all, acquire-locks, crew, perform, IsCrew, buffer}
+use Rattle.history.specs.Statements.{Hands-over, answers, log-of, Nothing-kept, leaves, Given-back, Gives, Nothing-new, buffer-in, Fails}
+use Rattle.history.specs.Tests.{alive, state-held, Alive}
+use Rattle.history.specs.Judged.{Clear, clear-back, rules, acting, steps, performed}
+use Rattle.history.specs.Calls.{words-leases, call-kept, call-fit}
 use Rattle.history.specs.Owing.{Frees, freed-here, freed-later, Settles, none, more, join, loosen, quiet, Nobody, Given, boundary-silent, take-hands, lock-hands, attempt-hands, retry-hands, give-back-hands, locks-hands, frees-right, freed-at, settled-at}
+use Rattle.model.specs.declared.Answer.{Answer}
+use Rattle.history.specs.Events.{Fit, fit-step, lives, next-step, live-before, at}
+use Rattle.laws.specs.Words.{Seen, here, there, see}
 
 -- ---- what is released is gone
 
-pub gone : {l : Lease} (w : World) (es : List Event) → Good w → Lawful w es → Frees l es → Live (now w es) l → ⊥
-gone {l} w es g k (freed-here xs) v =
+-- a lease whose serial was issued and that is not live never is again
+dead : (w : World) (es : List Event) (l : Lease) → Fit w → Lawful w es → l .serial < w .head .next → (Live w l → ⊥) → Live (now w es) l → ⊥
+dead w [] l f k i n v = n v
+dead w (e ∷ es) l f k i n v =
+    dead (step w e) es l (fit-step w e f (k .0)) (k .1) (omega (arith, next-step w e)) (λ x. n (live-before w e l f (k .0) x i)) v
+
+-- a cell that was released is free
+released-dead : (w : World) (l : Lease) → Fit w → Live w l → Live (step w (released by-caller (l .cell) (l .serial))) l → ⊥
+released-dead w l f v u =
+    go (see (w .table) (l .cell) 0 0 (l .cell) (omega (arith, at w f (l .cell) (lives w l v .in-range)))) (lives (step w (released by-caller (l .cell) (l .serial))) l u)
+  where
+    go : Seen (w .table) (l .cell) 0 0 (l .cell) → Alive (w .head .next) (cells w) (setCell (w .table) (l .cell) 0 0) l → ⊥
+    go (here e p q) a = omega (arith, a .bit-is)
+    go (there e p q) a = e refl
+
+gone : {l : Lease} (w : World) (es : List Event) → Fit w → Lawful w es → Frees l es → Live (now w es) l → ⊥
+gone {l} w es f k (freed-here xs) v =
     let e = released by-caller (l .cell) (l .serial) in
-    spent-now (step w e) xs (l .serial) (good-step w e g (k .0)) (k .1) (released-spent w by-caller (l .cell) (l .serial) g (k .0)) .owns-none (l .cell) v
-gone w es g k (freed-later e {es = xs} f) v = gone (step w e) xs (good-step w e g (k .0)) (k .1) f v
+    dead (step w e) xs l (fit-step w e f (k .0)) (k .1) (lives w l (k .0) .high) (released-dead w l f (k .0)) v
+gone w es f k (freed-later e {es = xs} g) v = gone (step w e) xs (fit-step w e f (k .0)) (k .1) g v
 
 -- ---- what each call hands over
 
@@ -100,71 +114,93 @@ steps-settles w (acquire-locks registry script place held keys grants) n k =
     locks-hands e (countIn keys) 0 (w .head .buckets) registry keys [] (starting (w .head) place) (w .table) (w .health) grants .settles
 steps-settles w (crew counts cells turns) n k = absurd (n tt)
 
--- what a call hands over
-abbrev pub Handed : World → Call → Lease → Type 0
-Handed w k = Hands-over (answers w k) (perform w k .seen .1 .grants)
+pub call-settles : (w : World) (k : Call) → (IsCrew k → ⊥) → Settles (Gives (perform w k)) (log-of w k)
+call-settles w k n = performed (λ m. Settles (Gives m) (m .log)) w k (λ r. none) (steps-settles w k n)
 
-pub call-settles : (w : World) (k : Call) → (IsCrew k → ⊥) → Settles (Handed w k) (log-of w k)
-call-settles w k n = performed (λ m. Settles (Hands-over (m .seen .1 .answer) (m .seen .1 .grants)) (m .log)) w k (λ r. none) (steps-settles w k n)
+-- a log with an event is not empty
+pub not-empty : (e : Event) (xs ys : List Event) → [] ≡ xs ++ (e ∷ ys) → ⊥
+not-empty e [] ys q = let z : _≡_ {A = ℕ} 0 1 = cc in omega arith
+not-empty e (x ∷ xs) ys q = let z : _≡_ {A = ℕ} 0 1 = cc in omega arith
 
--- ---- a multi-lock that failed
+-- ---- what a call takes and does not hand over, it gives back
 
--- its buffer is as it was
-locks-buffer : (left p : ℕ) (e : Setting) (buckets : ℕ) (registry keys : List ℕ) (taken : List Lease) (r : Run) (t g grants : List ℕ) (x : Refusal) (q : ℕ)
-    → let m = locksOf left p e buckets registry keys taken r t g grants in m .seen .0 .answer ≡ RefusedAt x q → m .seen .1 .1 .1 ≡ grants
+pub calls-keep-nothing : Nothing-kept perform
+calls-keep-nothing w k c s before after n e = go (settled-at c s before after (subst (Settles (Gives (perform w k))) e (call-settles w k n)))
+  where
+    Out : Type 0
+    Out = Given-back c s after × (Live (leaves w k) (leaseOf c s) → ⊥)
+
+    -- the call did something, so its shape fits
+    back : (log-of w k ≡ []) ⊎ Fit w → Frees (leaseOf c s) after → Out
+    back (inl z) f = absurd (not-empty (took by-caller c s) before after (sym z ∙ e))
+    back (inr g) f =
+        let p = call-kept w k .kept in
+        let all = subst (Frees (leaseOf c s)) (sym e) (frees-right before (freed-later (took by-caller c s) f)) in
+        (freed-at f, λ v. gone w (log-of w k) g (p .lawful) all (subst (λ u. Live u (leaseOf c s)) (p .leads) v))
+
+    go : Gives (perform w k) (leaseOf c s) ⊎ Frees (leaseOf c s) after → (Gives (perform w k) (leaseOf c s) × Live (leaves w k) (leaseOf c s)) ⊎ Out
+    go (inl x) = inl (x, call-kept w k .gain (leaseOf c s) x)
+    go (inr f) = inr (back (call-fit w k) f)
+
+-- ---- the buffer
+
+locks-buffer : (left p : ℕ) (e : Setting) (buckets : ℕ) (registry keys : List ℕ) (taken : List Lease) (r : Run) (t g grants : List ℕ)
+    → let m = locksOf left p e buckets registry keys taken r t g grants in (m .seen .0 .answer ≡ AllGranted → ⊥) → m .seen .1 .1 .1 ≡ grants
 unfolding locksOf rollbackOf
-locks-buffer zero p e buckets registry keys taken r t g grants x q a = let z : AllGranted ≡ RefusedAt x q = a in let y : _≡_ {A = ℕ} 0 1 = cc in absurd (omega arith)
-locks-buffer (suc left) p e buckets registry keys taken r t g grants x q a =
+locks-buffer zero p e buckets registry keys taken r t g grants n = absurd (n refl)
+locks-buffer (suc left) p e buckets registry keys taken r t g grants n =
     let m = retryOf attemptLimit 0 (protecting e taken) buckets registry (bindingAt keys p) (bucketAt keys p) r t g .seen in
     go (m .0 .outcome) (m .0 .run) (m .1 .0) (m .1 .1)
-    (λ l. locks-buffer left (p + 1) e buckets registry keys (taken ++ (l ∷ [])) (m .0 .run) (m .1 .0) (m .1 .1) grants x q) a
+    (λ l. locks-buffer left (p + 1) e buckets registry keys (taken ++ (l ∷ [])) (m .0 .run) (m .1 .0) (m .1 .1) grants) n
   where
     go : (o : Outcome) (s : Run) (u y : List ℕ)
-        → ((l : Lease) → let m = locksOf left (p + 1) e buckets registry keys (taken ++ (l ∷ [])) s u y grants in m .seen .0 .answer ≡ RefusedAt x q → m .seen .1 .1 .1 ≡ grants)
+        → ((l : Lease) → let m = locksOf left (p + 1) e buckets registry keys (taken ++ (l ∷ [])) s u y grants in (m .seen .0 .answer ≡ AllGranted → ⊥) → m .seen .1 .1 .1 ≡ grants)
         → let m = afterKey o e taken p s u y grants (λ l. locksOf left (p + 1) e buckets registry keys (taken ++ (l ∷ [])) s u y grants) in
-        m .seen .0 .answer ≡ RefusedAt x q → m .seen .1 .1 .1 ≡ grants
+        (m .seen .0 .answer ≡ AllGranted → ⊥) → m .seen .1 .1 .1 ≡ grants
     go (outcome.Granted l) s u y on = on l
     go outcome.Busy s u y on = λ _. refl
     go (outcome.Refused z) s u y on = λ _. refl
 
-pub failed-buffer : (h : Head) (t g registry script : List ℕ) (place : ℕ) (held keys grants : List ℕ) (x : Refusal) (q : ℕ)
-    → let m = acquireLocksOf h t g registry script place held keys grants in m .seen .0 .answer ≡ RefusedAt x q → m .seen .1 .1 .1 ≡ grants
-unfolding acquireLocksOf
-failed-buffer h t g registry script place held keys grants x q =
-    judged P (locksRules h t g registry script place held keys grants) (λ r _. refl)
-    (λ k. locks-buffer (countIn keys) 0 (given h script (leasesOf held)) (h .buckets) registry keys [] (starting h place) t g grants x q)
-  where
-    P : Made (Played × (List ℕ × (List ℕ × List ℕ))) → Type 0
-    P m = m .seen .0 .answer ≡ RefusedAt x q → m .seen .1 .1 .1 ≡ grants
+steps-buffer : (w : World) (k : Call) → (steps w k .seen .1 .answer ≡ AllGranted → ⊥) → steps w k .seen .1 .grants ≡ buffer k
+steps-buffer w (try-acquire c) n = refl
+steps-buffer w (drop-lease l) n = refl
+steps-buffer w (read-permission l) n = refl
+steps-buffer w (competing-acquire l) n = refl
+steps-buffer w (release-then-handoff l) n = refl
+steps-buffer w (foreign-release held l) n = refl
+steps-buffer w (drop-preserving held l) n = refl
+steps-buffer w (acquire-preserving held c) n = refl
+steps-buffer w (environment script place held) n = refl
+steps-buffer w (try-lock script place held c) n = refl
+steps-buffer w (transactional registry script place held binding bucket) n = refl
+steps-buffer w (acquire-bucket registry script place held binding bucket) n = refl
+steps-buffer w (release-all script place leases) n = refl
+steps-buffer w (acquire-locks registry script place held keys grants) n =
+    locks-buffer (countIn keys) 0 (acting w (acquire-locks registry script place held keys grants)) (w .head .buckets) registry keys [] (starting (w .head) place) (w .table) (w .health) grants n
+steps-buffer w (crew counts cells turns) n = refl
 
--- ---- what a call takes and does not hand over, it gives back
+buffer-kept : (w : World) (k : Call) → (answers w k ≡ AllGranted → ⊥) → buffer-in (perform w k) ≡ buffer k
+buffer-kept w k = performed (λ m. (m .seen .1 .answer ≡ AllGranted → ⊥) → m .seen .1 .grants ≡ buffer k) w k (λ r n. refl) (λ _. steps-buffer w k)
 
-pub calls-keep-nothing : Nothing-kept
-calls-keep-nothing w k c s before after snd n e = go (settled-at c s before after (subst (Settles (Handed w k)) e (call-settles w k n)))
-  where
-    go : Handed w k (leaseOf c s) ⊎ Frees (leaseOf c s) after
-        → (Handed w k (leaseOf c s) × Live (leaves w k) (leaseOf c s))
-        ⊎ ((m n : List Event) × (after ≡ m ++ (released by-caller c s ∷ n)) × (Live (leaves w k) (leaseOf c s) → ⊥))
-    go (inl x) = inl (x, call-kept w k (good w snd) .gain (leaseOf c s) x)
-    go (inr f) =
-        let r = freed-at f in
-        let p = call-kept w k (good w snd) .kept in
-        let all = subst (Frees (leaseOf c s)) (sym e) (frees-right before (freed-later (took by-caller c s) f)) in
-        inr (r .0, r .1, r .2, λ v. gone w (log-of w k) (good w snd) (p .lawful) all (subst (λ u. Live u (leaseOf c s)) (p .leads) v))
+-- ---- a call that fails
 
-pub failed-locks-give-back : Failed-locks
-unfolding perform
-failed-locks-give-back w registry script place held keys grants x q snd a = (
-  failed-buffer (w .head) (w .table) (w .health) registry script place held keys grants x q a,
-  λ c s before after e. go c s after (calls-keep-nothing w k c s before after snd (λ z. z) e),
+fails-not-all : (a : Answer) → Fails a → a ≡ AllGranted → ⊥
+fails-not-all a f e = subst Fails e f
+
+fails-hands-none : (a : Answer) (b : List ℕ) (l : Lease) → Fails a → Hands-over a b l → ⊥
+fails-hands-none Done b l f h = f
+fails-hands-none (Cell c) b l f h = f
+fails-hands-none (Granted k) b l f h = f
+fails-hands-none AllGranted b l f h = f
+fails-hands-none Busy b l f h = h
+fails-hands-none (Refused r) b l f h = h
+fails-hands-none (RefusedAt r p) b l f h = h
+
+pub calls-leave-nothing : Nothing-new perform
+calls-leave-nothing w k n f = (
+  buffer-kept w k (fails-not-all (answers w k) f),
+  λ c s before after e. elim (calls-keep-nothing w k c s before after n e) [
+    | inl x ↦ absurd (fails-hands-none (answers w k) (buffer-in (perform w k)) (leaseOf c s) f (x .0))
+    | inr y ↦ y
+  ],
 )
-  where
-    k : Call
-    k = acquire-locks registry script place held keys grants
-
-    go : (c s : ℕ) (after : List Event)
-        → (Handed w k (leaseOf c s) × Live (leaves w k) (leaseOf c s))
-        ⊎ ((m n : List Event) × (after ≡ m ++ (released by-caller c s ∷ n)) × (Live (leaves w k) (leaseOf c s) → ⊥))
-        → (m n : List Event) × (after ≡ m ++ (released by-caller c s ∷ n)) × (Live (leaves w k) (leaseOf c s) → ⊥)
-    go c s after (inl y) = absurd (subst (λ z. Hands-over z (perform w k .seen .1 .grants) (leaseOf c s)) a (y .0))
-    go c s after (inr y) = y

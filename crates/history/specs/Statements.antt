@@ -1,23 +1,27 @@
--- What demand 2 says, as statements. `World` and `Items` have the words they are made of, `Theorems` gives their proofs by name. What
--- stands in quotes is of the work order or of document 01.
+-- What demand 2 says, as statements: of a history, and of one call. `World` and `Items` have the words they are made of, `Theorems` gives
+-- their proofs by name. What stands in quotes is of the work order or of document 01. A statement about one call is one of any build, any
+-- function that answers calls: `Theorems` proves it of ours, `perform`, and crate `builds` proves that wrong builds fail it.
 use Prim.Native.Nat.{ℕ, _+_, _*_, _≤_, _<_}
 use mathlib.Core.Path.{_≡_}
-use mathlib.Core.List.{List, [], _∷_, _++_}
+use mathlib.Core.List.{List, [], _∷_, _++_, reverse}
 use mathlib.Core.Bool.{true}
-use mathlib.Core.Logic.{_↔_, _⊎_}
-use lib.ListN.{replicate}
-use Rattle.model.specs.Log.{Actor, Event, by-caller, by-script, took, released}
-use Rattle.model.specs.Arena.{lastSerial, leaseOf, leasesOf, isIn}
+use mathlib.Core.Logic.{_⊎_}
+use lib.ListN.{length, replicate}
+use Rattle.model.specs.Log.{Made, Actor, Event, by-caller, by-script, took, released}
+use Rattle.model.specs.Arena.{leaseOf, leasesOf, isIn}
 use Rattle.model.specs.Refusals.{numberOf}
+use Rattle.model.specs.Checks.{countIn}
 use Rattle.model.specs.Foreign.{stepsIn, kindAt, placeAt, numberAt}
+use Rattle.model.specs.Lock.{leaseAt}
 use Rattle.model.specs.Calls.{countsOf}
-use Rattle.model.specs.Crew.{crewOf}
 use Rattle.model.specs.declared.Answer.{Answer}
 use Rattle.model.specs.declared.Answer.the-variants.{Done, Cell, Granted, AllGranted, Busy, Refused, RefusedAt}
+use Rattle.model.specs.declared.CrewReply.{CrewReply}
+use Rattle.model.specs.declared.Head.{Head}
 use Rattle.model.specs.declared.Lease.{Lease}
 use Rattle.model.specs.declared.Refusal.{Refusal}
-use Rattle.history.specs.World.{World, worldOf, cells, Free, Live, step, now, Lawful, Sound, Spent, Unreleased, bits, number-of, attempts, boundaries, yields, drops, takes, releases}
-use Rattle.history.specs.Items.{Call, try-acquire, acquire-locks, script-of, place-of, held-of, given-up, buffer, ByCell, IsCrew, perform, foreign, Item, preparation, Course, cold, run, preparing}
+use Rattle.history.specs.World.{World, worldOf, cells, Live, now, Lawful, Sound, Spent, Unreleased, caller-releases, bits, number-of, attempts, boundaries, yields, drops, takes, releases}
+use Rattle.history.specs.Items.{Call, release-all, acquire-locks, script-of, place-of, held-of, given-up, buffer, ByCell, IsCrew, asked, keyCell, Says, saying, perform, Build, Stepper, Item, preparation, Course, cold, noted, history-of, preparing, next-item, run}
 
 -- ---- the ledger of a history: what holds of every stretch from a preparation, at every point of it. A point is a place in the log: the
 -- world there is what the events before it make of the first.
@@ -26,92 +30,122 @@ pub record Ledger (k : Course) : Type 0 where
   -- "Preparing .. sets every table word and health byte to 0."
   pub fresh : k .origin ≡ worldOf (k .origin .head) (replicate (3 * cells (k .origin)) 0) (replicate (k .origin .head .headers) 0)
   -- every event was legal in the state in which it happened, and the world now is what the events make of the first
-  pub lawful : Lawful (k .origin) (k .log)
-  pub leads : k .world ≡ now (k .origin) (k .log)
+  pub lawful : Lawful (k .origin) (history-of k)
+  pub leads : k .world ≡ now (k .origin) (history-of k)
   -- at every point: no damaged cell, each owner from 1 to next - 1, no serial owns two cells
-  pub sound : (before after : List Event) → k .log ≡ before ++ after → Sound (now (k .origin) before)
-  -- "two writers drive one valve": at no point do two different live leases name one cell
-  pub exclusive : (c s s′ : ℕ) (before after : List Event) → k .log ≡ before ++ after
-      → Live (now (k .origin) before) (leaseOf c s) → Live (now (k .origin) before) (leaseOf c s′) → s ≡ s′
+  pub sound : (before after : List Event) → history-of k ≡ before ++ after → Sound (now (k .origin) before)
   -- "until the next preparation a lease keeps its cell up to a release naming its cell and serial"
-  pub keeps : (l : Lease) (before middle after : List Event) → k .log ≡ before ++ (middle ++ after)
+  pub keeps : (l : Lease) (before middle after : List Event) → history-of k ≡ before ++ (middle ++ after)
       → Live (now (k .origin) before) l → Unreleased l middle → Live (now (k .origin) (before ++ middle)) l
   -- "a serial that was issued and owns nothing never owns again"
-  pub never : (s : ℕ) (before middle after : List Event) → k .log ≡ before ++ (middle ++ after)
+  pub never : (s : ℕ) (before middle after : List Event) → history-of k ≡ before ++ (middle ++ after)
       → Spent (now (k .origin) before) s → Spent (now (k .origin) (before ++ middle)) s
   -- each serial is issued at most once, to one cell
-  pub once : (a b : Actor) (c d s : ℕ) (x x′ y y′ : List Event) → k .log ≡ x ++ (took a c s ∷ x′) → k .log ≡ y ++ (took b d s ∷ y′) → (x ≡ y) × (c ≡ d)
+  pub once : (a b : Actor) (c d s : ℕ) (x x′ y y′ : List Event)
+      → history-of k ≡ x ++ (took a c s ∷ x′) → history-of k ≡ y ++ (took b d s ∷ y′) → (x ≡ y) × (c ≡ d)
   -- "next minus first serial = takes in the history; takes minus releases = cells with bit 1"
-  pub issued : k .world .head .next ≡ k .origin .head .next + number-of takes (k .log)
-  pub counted : bits (cells (k .world)) (k .world .table) + number-of releases (k .log) ≡ number-of takes (k .log)
+  pub issued : k .world .head .next ≡ k .origin .head .next + number-of takes (history-of k)
+  pub counted : bits (cells (k .world)) (k .world .table) + number-of releases (history-of k) ≡ number-of takes (history-of k)
 
--- "From a prepared table, over any calls and foreign steps, each call given the head, table and health the last one left": through a
--- preparation that is done, whatever stood in RAM before it, and over any further items, among them further preparations
+-- "From a prepared table, over any calls and foreign steps, each call given the head, table and health the last one left": what holds of
+-- every history through a preparation that is done, whatever stood in RAM before it, and over any further items, preparations among them
+abbrev pub Through : (Course → Type 0) → Type 0
+Through P =
+    (rubbish : World) (headers buckets serial : ℕ) (items : List Item)
+    → preparing headers buckets serial (rubbish .table) (rubbish .health) .0 ≡ Done
+    → P (run (cold rubbish) (preparation headers buckets serial ∷ items))
+
 abbrev pub Demand-2 : Type 0
-Demand-2 =
-    (rubbish : World) (headers buckets serial : ℕ) (t g : List ℕ) (items : List Item)
-    → preparing headers buckets serial t g .0 ≡ Done
-    → Ledger (run (cold rubbish) (preparation headers buckets serial t g ∷ items))
+Demand-2 = Through Ledger
 
--- "nothing afterwards depends on what stood there before": not on RAM, not on the runs that the preparation was lent
+-- "nothing afterwards depends on what stood there before"
 abbrev pub Forgets : Type 0
 Forgets =
-    (rubbish rubbish′ : World) (headers buckets serial : ℕ) (t g t′ g′ : List ℕ) (items : List Item)
-    → preparing headers buckets serial t g .0 ≡ Done → preparing headers buckets serial t′ g′ .0 ≡ Done
-    → run (cold rubbish) (preparation headers buckets serial t g ∷ items) ≡ run (cold rubbish′) (preparation headers buckets serial t′ g′ ∷ items)
+    (rubbish rubbish′ : World) (headers buckets serial : ℕ) (items : List Item)
+    → preparing headers buckets serial (rubbish .table) (rubbish .health) .0 ≡ Done
+    → preparing headers buckets serial (rubbish′ .table) (rubbish′ .health) .0 ≡ Done
+    → run (cold rubbish) (preparation headers buckets serial ∷ items) ≡ run (cold rubbish′) (preparation headers buckets serial ∷ items)
 
--- ---- "one compare-and-set takes a cell exactly if it is free and a serial remains"
+-- "A refused preparation changes no lent word .. and the head before it stays the one in force": the item, which reads the runs that the
+-- preparation hands back, leaves the world as it was
+abbrev pub Refused-stays : Type 0
+Refused-stays =
+    (k : Course) (headers buckets serial : ℕ)
+    → let a = preparing headers buckets serial (k .world .table) (k .world .health) .0 in
+    (a ≡ Done → ⊥) → next-item k (preparation headers buckets serial) ≡ noted k [] (saying a) (k .world)
 
+-- ---- of one call: its answer, its grant buffer, and the world that it leaves
+
+abbrev pub answer-in : Made (World × Says) → Answer
+answer-in m = m .seen .1 .answer
+
+abbrev pub buffer-in : Made (World × Says) → List ℕ
+buffer-in m = m .seen .1 .grants
+
+abbrev pub world-in : Made (World × Says) → World
+world-in m = m .seen .0
+
+-- the same of ours
 abbrev pub answers : World → Call → Answer
-answers w k = perform w k .seen .1 .answer
+answers w k = answer-in (perform w k)
 
 abbrev pub leaves : World → Call → World
-leaves w k = perform w k .seen .0
+leaves w k = world-in (perform w k)
 
 abbrev pub log-of : World → Call → List Event
 log-of w k = perform w k .log
 
-abbrev pub Takable : World → ℕ → Type 0
-Takable w c = Free w c × (w .head .next < lastSerial)
+-- ---- whatever the arena holds, cold RAM too: every event of a call is legal in the state in which it happens, and together they make the
+-- world that the call leaves
 
-pub record Exactly (w : World) (c : ℕ) : Type 0 where
-  pub granted : (l : Lease) → (answers w (try-acquire c) ≡ Granted l) ↔ (Takable w c × (l ≡ leaseOf c (w .head .next)))
-  -- and then the cell is that serial's
-  pub taken : answers w (try-acquire c) ≡ Granted (leaseOf c (w .head .next)) → leaves w (try-acquire c) ≡ step w (took by-caller c (w .head .next))
-  -- else nothing changed
-  pub not-taken : (answers w (try-acquire c) ≡ Granted (leaseOf c (w .head .next)) → ⊥) → leaves w (try-acquire c) ≡ w
-
-abbrev pub Compare-and-set : Type 0
-Compare-and-set = (w : World) (c : ℕ) → Sound w → Exactly w c
+abbrev pub Lawful-always : Build → Type 0
+Lawful-always f = (w : World) (k : Call) → Lawful w (f w k .log) × (world-in (f w k) ≡ now w (f w k .log))
 
 -- ---- "Each result gives attempts begun, boundaries, yields and dropped steps; each equals the number of such events in these steps." The
 -- crew gives "no other counts" than its own.
 
-abbrev pub Counts-are : Type 0
-Counts-are =
+abbrev pub Counts-are : Build → Type 0
+Counts-are f =
     (w : World) (k : Call) → (IsCrew k → ⊥)
-    → perform w k .seen .1 .counts
-    ≡ countsOf (number-of attempts (log-of w k)) (number-of boundaries (log-of w k)) (number-of yields (log-of w k)) (number-of drops (log-of w k))
+    → let log = f w k .log in
+    f w k .seen .1 .counts ≡ countsOf (number-of attempts log) (number-of boundaries log) (number-of yields log) (number-of drops log)
 
 -- ---- "Refusals 1 to 5, 8 (by cell), 12 to 15 change nothing, all counts 0." The script's place and the grant buffer are as they were given.
 
 abbrev pub Early : Call → Refusal → Type 0
 Early k r = (numberOf r ≤ 5) ⊎ (((numberOf r ≡ 8) × ByCell k) ⊎ (12 ≤ numberOf r))
 
-abbrev pub Changes-nothing : Type 0
-Changes-nothing =
-    (w : World) (k : Call) (r : Refusal) → answers w k ≡ Refused r → Early k r
-    → perform w k ≡ record { seen = (w, record { answer = Refused r; counts = countsOf 0 0 0 0; place = place-of k; grants = buffer k }); log = [] }
+abbrev pub Changes-nothing : Build → Type 0
+Changes-nothing f =
+    (w : World) (k : Call) (r : Refusal) → answer-in (f w k) ≡ Refused r → Early k r
+    → f w k ≡ record { seen = (w, record { answer = Refused r; counts = countsOf 0 0 0 0; place = place-of k; grants = buffer k }); log = [] }
 
 -- the same of a crew: "for each member, cells taken and cells released, and the counts of moving and idle turns" are 0
-abbrev pub Crew-refused : Type 0
-Crew-refused =
-    (w : World) (counts cells turns : List ℕ) (r : Refusal)
-    → let m = crewOf (w .head) (w .table) (w .health) counts cells turns in
-    m .seen .0 .answer ≡ Refused r
-    → m ≡ record { seen = (record { head = w .head; moving = 0; idle = 0; taken = replicate 16 0; released = replicate 16 0; answer = Refused r }, w .table); log = [] }
+abbrev pub Crew-build : Type 0
+Crew-build = Head → (table health counts cells turns : List ℕ) → Made (CrewReply × List ℕ)
 
--- ---- "one that takes a cell, answers nothing and keeps it" is ruled out: what a call takes and does not hand over, it gives back
+abbrev pub nobody-moved : Head → Refusal → CrewReply
+nobody-moved h r = record { head = h; moving = 0; idle = 0; taken = replicate 16 0; released = replicate 16 0; answer = Refused r }
+
+abbrev pub Crew-refused : Crew-build → Type 0
+Crew-refused f =
+    (h : Head) (t g counts cells turns : List ℕ) (r : Refusal) → f h t g counts cells turns .seen .0 .answer ≡ Refused r
+    → f h t g counts cells turns ≡ record { seen = (nobody-moved h r, t); log = [] }
+
+-- ---- what a grant is
+
+-- "Cell number = header x B + bucket.": a grant names the cell that was asked for, by key the key's own
+abbrev pub Grant-is : Build → Type 0
+Grant-is f = (w : World) (k : Call) (l : Lease) → answer-in (f w k) ≡ Granted l → l .cell ≡ asked w k
+
+-- "On a grant, multi-lock's buffer holds cell and serial for each key, in key order"
+abbrev pub Buffer-is : Build → Type 0
+Buffer-is f =
+    (w : World) (registry script : List ℕ) (place : ℕ) (held keys grants : List ℕ)
+    → let m = f w (acquire-locks registry script place held keys grants) in
+    answer-in m ≡ AllGranted
+    → (length (buffer-in m) ≡ 2 * countIn keys)
+    × ((p : ℕ) → p < countIn keys → leaseAt (leasesOf (buffer-in m)) p .cell ≡ keyCell (w .head .buckets) registry keys p)
 
 -- whether an answer, with the grant buffer, hands this lease over
 abbrev pub Hands-over : Answer → List ℕ → Lease → Type 0
@@ -123,46 +157,98 @@ Hands-over Busy grants l = ⊥
 Hands-over (Refused r) grants l = ⊥
 Hands-over (RefusedAt r p) grants l = ⊥
 
-abbrev pub Nothing-kept : Type 0
-Nothing-kept =
-    (w : World) (k : Call) (c s : ℕ) (before after : List Event) → Sound w → (IsCrew k → ⊥)
-    → log-of w k ≡ before ++ (took by-caller c s ∷ after)
-    → (Hands-over (answers w k) (perform w k .seen .1 .grants) (leaseOf c s) × Live (leaves w k) (leaseOf c s))
-    ⊎ ((m n : List Event) × (after ≡ m ++ (released by-caller c s ∷ n)) × (Live (leaves w k) (leaseOf c s) → ⊥))
+abbrev pub Gives : Made (World × Says) → Lease → Type 0
+Gives m = Hands-over (answer-in m) (buffer-in m)
 
--- "A failed multi-lock gives back all it took." "the grant buffer is unchanged"
-abbrev pub Failed-locks : Type 0
-Failed-locks =
-    (w : World) (registry script : List ℕ) (place : ℕ) (held keys grants : List ℕ) (r : Refusal) (p : ℕ) → Sound w
-    → let k = acquire-locks registry script place held keys grants in
-    answers w k ≡ RefusedAt r p
-    → (perform w k .seen .1 .grants ≡ grants)
-    × ((c s : ℕ) (before after : List Event) → log-of w k ≡ before ++ (took by-caller c s ∷ after)
-    → (m n : List Event) × (after ≡ m ++ (released by-caller c s ∷ n)) × (Live (leaves w k) (leaseOf c s) → ⊥))
+-- what is handed over is live in the world that the call leaves
+abbrev pub Given-live : Build → Type 0
+Given-live f = (w : World) (k : Call) (l : Lease) → Gives (f w k) l → Live (world-in (f w k)) l
+
+-- ---- "one that takes a cell, answers nothing and keeps it" is ruled out: what a call takes and does not hand over, it gives back
+
+-- in this log the caller releases this cell with this serial
+abbrev pub Given-back : ℕ → ℕ → List Event → Type 0
+Given-back c s log = (m n : List Event) × (log ≡ m ++ (released by-caller c s ∷ n))
+
+-- an unfinished crew keeps what it took
+abbrev pub Nothing-kept : Build → Type 0
+Nothing-kept f =
+    (w : World) (k : Call) (c s : ℕ) (before after : List Event) → (IsCrew k → ⊥)
+    → f w k .log ≡ before ++ (took by-caller c s ∷ after)
+    → (Gives (f w k) (leaseOf c s) × Live (world-in (f w k)) (leaseOf c s))
+    ⊎ (Given-back c s after × (Live (world-in (f w k)) (leaseOf c s) → ⊥))
+
+-- "6 to 11 .. the caller holds nothing new; the grant buffer is unchanged", and so for Busy
+abbrev pub Fails : Answer → Type 0
+Fails Done = ⊥
+Fails (Cell c) = ⊥
+Fails (Granted l) = ⊥
+Fails AllGranted = ⊥
+Fails Busy = Unit {0}
+Fails (Refused r) = Unit {0}
+Fails (RefusedAt r p) = Unit {0}
+
+abbrev pub Nothing-new : Build → Type 0
+Nothing-new f =
+    (w : World) (k : Call) → (IsCrew k → ⊥) → Fails (answer-in (f w k))
+    → (buffer-in (f w k) ≡ buffer k)
+    × ((c s : ℕ) (before after : List Event) → f w k .log ≡ before ++ (took by-caller c s ∷ after)
+    → Given-back c s after × (Live (world-in (f w k)) (leaseOf c s) → ⊥))
+
+-- ---- giving back: "last first"
+
+abbrev pub Falling-all : Build → Type 0
+Falling-all f =
+    (w : World) (script : List ℕ) (place : ℕ) (leases : List ℕ)
+    → let m = f w (release-all script place leases) in
+    answer-in m ≡ Done → caller-releases (m .log) ≡ reverse (leasesOf leases)
+
+-- "On a refusal at position p all taken leases are released as in `release_all`": the log of a refused multi-lock parts in two. The keys
+-- before the position p were locked in the first part, each its own cell, and every other lease taken there was given back there; the second
+-- part is the rollback: the caller releases those p leases, the last first, and nothing else
+pub record Rolled-back (buckets : ℕ) (registry keys : List ℕ) (p : ℕ) (log : List Event) : Type 0 where
+  pub locking : List Event
+  pub rollback : List Event
+  pub leases : List Lease
+  pub parts : log ≡ locking ++ rollback
+  pub position : p < countIn keys
+  pub many : length leases ≡ p
+  pub own : (i : ℕ) → i < p → leaseAt leases i .cell ≡ keyCell buckets registry keys i
+  pub taken : (l : Lease) → isIn l leases ≡ true → (m n : List Event) × (locking ≡ m ++ (took by-caller (l .cell) (l .serial) ∷ n))
+  pub others : (c s : ℕ) (before after : List Event) → locking ≡ before ++ (took by-caller c s ∷ after)
+      → (isIn (leaseOf c s) leases ≡ true) ⊎ Given-back c s after
+  pub last-first : caller-releases rollback ≡ reverse leases
+  pub none-taken : (c s : ℕ) (before after : List Event) → rollback ≡ before ++ (took by-caller c s ∷ after) → ⊥
+
+abbrev pub Rollback-is : Build → Type 0
+Rollback-is f =
+    (w : World) (registry script : List ℕ) (place : ℕ) (held keys grants : List ℕ) (r : Refusal) (p : ℕ)
+    → let m = f w (acquire-locks registry script place held keys grants) in
+    answer-in m ≡ RefusedAt r p → Rolled-back (w .head .buckets) registry keys p (m .log)
 
 -- ---- "up to a release naming its cell and serial": every release is one that the call, or a step of its script from its place on, named
 
--- a step of the script, not before the place `low`, releases this cell with this serial
+-- a step of the script, not before the place `low`, releases this cell with this serial; crate `exact` says it of the place afterwards too
 abbrev pub By-step : List ℕ → ℕ → ℕ → ℕ → Type 0
 By-step script low c s = (p : ℕ) × (low ≤ p) × (p < stepsIn script) × (kindAt script p ≡ 2) × (placeAt script p ≡ c) × (numberAt script p ≡ s)
 
-abbrev pub Named : Type 0
-Named =
+abbrev pub Named : Build → Type 0
+Named f =
     (w : World) (k : Call) (c s : ℕ) (before after : List Event)
-    → (log-of w k ≡ before ++ (released by-script c s ∷ after) → By-step (script-of k) (place-of k) c s)
-    × (log-of w k ≡ before ++ (released by-caller c s ∷ after)
+    → (f w k .log ≡ before ++ (released by-script c s ∷ after) → By-step (script-of k) (place-of k) c s)
+    × (f w k .log ≡ before ++ (released by-caller c s ∷ after)
     → (isIn (leaseOf c s) (given-up k) ≡ true) ⊎ ((m n : List Event) × (before ≡ m ++ (took by-caller c s ∷ n))))
 
 -- a lone foreign step releases only what it names
-abbrev pub Named-alone : Type 0
-Named-alone =
+abbrev pub Named-alone : Stepper → Type 0
+Named-alone f =
     (w : World) (kind place number c s : ℕ) (a : Actor) (before after : List Event)
-    → foreign w kind place number .log ≡ before ++ (released a c s ∷ after)
+    → f w kind place number .log ≡ before ++ (released a c s ∷ after)
     → (a ≡ by-script) × (kind ≡ 2) × (place ≡ c) × (number ≡ s)
 
 -- ---- "Protected: the caller's held leases": a held lease is live at every point of a call that holds it
 
-abbrev pub Held-live : Type 0
-Held-live =
-    (w : World) (k : Call) (l : Lease) (before after : List Event) → Sound w → isIn l (held-of k) ≡ true → Live w l
-    → log-of w k ≡ before ++ after → Live (now w before) l
+abbrev pub Held-live : Build → Type 0
+Held-live f =
+    (w : World) (k : Call) (l : Lease) (before after : List Event) → isIn l (held-of k) ≡ true → Live w l
+    → f w k .log ≡ before ++ after → Live (now w before) l

@@ -33,8 +33,8 @@ use Rattle.model.specs.declared.Tried.{Tried}
 use Rattle.laws.specs.Pick.{both, if-both}
 use Rattle.history.specs.World.{World, worldOf, Live}
 use Rattle.history.specs.Tests.{differ, In, in-first, in-left, in-right, is-free-state, if-cases}
-use Rattle.history.specs.Events.{Good, lives, taken-live}
-use Rattle.history.specs.Logs.{Kept, nothing, event, kept-good, kept-live, kept-next, weaken, chain, ended}
+use Rattle.history.specs.Events.{Fit, lives, taken-live}
+use Rattle.history.specs.Logs.{Kept, nothing, event, kept-fit, kept-live, kept-next, weaken, chain, ended}
 
 -- the world of a head with this next serial, this table and this health
 abbrev pub worldAt : Head → ℕ → List ℕ → List ℕ → World
@@ -51,7 +51,7 @@ pub record Gains {A : Type 0} (world : A → World) (Q : A → Type 0) (w : Worl
 
 -- one after the other: what the second gives is what both give
 pub followed : {A : Type 0} {world : A → World} {Q : A → Type 0} {w v : World} {P : Lease → Type 0} {xs : List Event} {m : Made A}
-    → Good w → Kept w P v xs → Gains world Q v P m → Gains world Q w P (record { seen = m .seen; log = xs ++ m .log })
+    → Fit w → Kept w P v xs → Gains world Q v P m → Gains world Q w P (record { seen = m .seen; log = xs ++ m .log })
 followed g a b = record { kept = chain g a (b .kept); gain = b .gain }
 
 -- what goes from step to step beside table and health
@@ -193,7 +193,7 @@ module _ (h : Head) (script : List ℕ) where
   abbrev Flowing : World → List Lease → Made (Flow × (List ℕ × List ℕ)) → Type 0
   Flowing w ps = Leads (of-flow h) w (In ps)
 
-  steps-kept : (left : ℕ) (ps : List Lease) (f : Flow) (t g : List ℕ) → Good (worldAt h (f .next) t g)
+  steps-kept : (left : ℕ) (ps : List Lease) (f : Flow) (t g : List ℕ) → Fit (worldAt h (f .next) t g)
       → Flowing (worldAt h (f .next) t g) ps (stepsOf left (given h script ps) f t g)
   unfolding stepsOf
   steps-kept zero ps f t g good = record { kept = nothing }
@@ -201,9 +201,9 @@ module _ (h : Head) (script : List ℕ) where
       let kind = kindAt script (f .place) in
       let one = step-kept ps (f .next) t g kind (placeAt script (f .place)) (numberAt script (f .place)) .kept in
       if-both (Flowing (worldAt h (f .next) t g) ps) (eqb kind 5) (record { kept = nothing })
-      (record { kept = chain good one (steps-kept left ps _ _ _ (kept-good good one) .kept) })
+      (record { kept = chain good one (steps-kept left ps _ _ _ (kept-fit good one) .kept) })
 
-  pub boundary-kept : (ps : List Lease) (f : Flow) (t g : List ℕ) → Good (worldAt h (f .next) t g)
+  pub boundary-kept : (ps : List Lease) (f : Flow) (t g : List ℕ) → Fit (worldAt h (f .next) t g)
       → Flowing (worldAt h (f .next) t g) ps (boundaryOf (given h script ps) f t g)
   unfolding boundaryOf
   boundary-kept ps f t g good =
@@ -211,7 +211,7 @@ module _ (h : Head) (script : List ℕ) where
 
   -- ---- a lock
 
-  pub take-kept : (P : Lease → Type 0) (n : ℕ) (t g : List ℕ) (c : ℕ) → Good (worldAt h n t g) → c < cellsOf h
+  pub take-kept : (P : Lease → Type 0) (n : ℕ) (t g : List ℕ) (c : ℕ) → Fit (worldAt h n t g) → c < cellsOf h
       → Gains (of-took h g) (λ a. Gained n (of-took h g a) c (a .0 .answer)) (worldAt h n t g) P (takeOf n t c)
   unfolding takeOf
   take-kept P n t g c good l = go (stateAt n t c) refl
@@ -231,7 +231,7 @@ module _ (h : Head) (script : List ℕ) where
   abbrev Locking : ℕ → World → (Lease → Type 0) → ℕ → Made (With Locked) → Type 0
   Locking n w P c = Gains (of-locked h) (λ a. Gained n (of-locked h a) c (a .0 .answer)) w P
 
-  late-kept : (ps : List Lease) (f : Flow) (t g : List ℕ) (c s n : ℕ) → Good (worldAt h (f .next) t g) → Live (worldAt h (f .next) t g) (leaseOf c s) → n ≤ s
+  late-kept : (ps : List Lease) (f : Flow) (t g : List ℕ) (c s n : ℕ) → Fit (worldAt h (f .next) t g) → Live (worldAt h (f .next) t g) (leaseOf c s) → n ≤ s
       → Locking n (worldAt h (f .next) t g) (λ l. In ps l × (l ≡ leaseOf c s → ⊥)) c (lateOf (given h script ps) f t g c s)
   unfolding lateOf
   late-kept ps f t g c s n good v l =
@@ -244,7 +244,7 @@ module _ (h : Head) (script : List ℕ) where
       (if-both (Locking n (of-flow h (m .seen)) P c) (eqb (waitersAt (m .seen .1 .0) c) 0) (record { kept = nothing; gain = gained s still l })
       (record { kept = event (released by-caller c s) still (λ k p _ x. p .1 x); gain = was-busy }))
 
-  after-kept : (ps : List Lease) (a : Take) (f : Flow) (t g : List ℕ) (c n m : ℕ) → Good (worldAt h (f .next) t g) → Gained n (worldAt h (f .next) t g) c a → m ≤ n
+  after-kept : (ps : List Lease) (a : Take) (f : Flow) (t g : List ℕ) (c n m : ℕ) → Fit (worldAt h (f .next) t g) → Gained n (worldAt h (f .next) t g) c a → m ≤ n
       → Locking m (worldAt h (f .next) t g) (λ l. In ps l × (l .serial < m)) c (afterTake a (given h script ps) f t g c)
   after-kept ps a f t g c n m good (gained s x i) l =
       let r = late-kept ps f t g c s m good x (omega arith) in
@@ -253,30 +253,30 @@ module _ (h : Head) (script : List ℕ) where
   after-kept ps a f t g c n m good was-damaged l = record { kept = nothing; gain = was-damaged }
   after-kept ps a f t g c n m good was-spent l = record { kept = nothing; gain = was-spent }
 
-  second-kept : (ps : List Lease) (f : Flow) (t g : List ℕ) (c : ℕ) → Good (worldAt h (f .next) t g) → c < cellsOf h
+  second-kept : (ps : List Lease) (f : Flow) (t g : List ℕ) (c : ℕ) → Fit (worldAt h (f .next) t g) → c < cellsOf h
       → Locking (f .next) (worldAt h (f .next) t g) (In ps) c (secondOf (given h script ps) f t g c)
   unfolding secondOf
   second-kept ps f t g c good l =
       let P : Lease → Type 0 = λ (l : Lease). In ps l × (l .serial < f .next) in
       let m = boundaryOf (given h script ps) f t g in
       let b = boundary-kept ps f t g good .kept in
-      let good′ = kept-good good b in
+      let good′ = kept-fit good b in
       let k = take-kept P (m .seen .0 .next) (m .seen .1 .0) (m .seen .1 .1) c good′ l in
       let a = takeOf (m .seen .0 .next) (m .seen .1 .0) c .seen in
       let r = after-kept ps (a .0 .answer) (flowOf (a .0 .next) (m .seen .0 .place) (m .seen .0 .dropped)) (a .1) (m .seen .1 .1) c
-      (m .seen .0 .next) (f .next) (kept-good good′ (k .kept)) (k .gain) (kept-next b) in
+      (m .seen .0 .next) (f .next) (kept-fit good′ (k .kept)) (k .gain) (kept-next b) in
       record {
         kept = weaken (λ x i v. (i, lives (worldAt h (f .next) t g) x v .high)) (chain good (weaken (λ x p _. p .0) b) (chain good′ (k .kept) (r .kept)));
         gain = r .gain;
       }
 
-  pub lock-kept : (ps : List Lease) (f : Flow) (t g : List ℕ) (c : ℕ) → Good (worldAt h (f .next) t g) → c < cellsOf h
+  pub lock-kept : (ps : List Lease) (f : Flow) (t g : List ℕ) (c : ℕ) → Fit (worldAt h (f .next) t g) → c < cellsOf h
       → Locking (f .next) (worldAt h (f .next) t g) (In ps) c (lockOf (given h script ps) f t g c)
   unfolding lockOf
   lock-kept ps f t g c good l =
       let m = boundaryOf (given h script ps) f t g in
       let b = boundary-kept ps f t g good .kept in
-      let two = second-kept ps (m .seen .0) (m .seen .1 .0) (m .seen .1 .1) c (kept-good good b) l in
+      let two = second-kept ps (m .seen .0) (m .seen .1 .0) (m .seen .1 .1) c (kept-fit good b) l in
       followed good b
       (if-both (Locking (f .next) (of-flow h (m .seen)) (In ps) c) (eqb (waitersAt (m .seen .1 .0) c) 0)
       (record { kept = two .kept; gain = gained-from (kept-next b) (two .gain) })
@@ -290,14 +290,14 @@ module _ (h : Head) (script : List ℕ) where
   abbrev starts : Run → List ℕ → List ℕ → World
   starts r t g = worldAt h (r .flow .next) t g
 
-  attempt-at : (ps : List Lease) (x : Found) (r : Run) (t g : List ℕ) → Good (starts r t g) → ((c : ℕ) → x ≡ found.At c → c < cellsOf h)
+  attempt-at : (ps : List Lease) (x : Found) (r : Run) (t g : List ℕ) → Fit (starts r t g) → ((c : ℕ) → x ≡ found.At c → c < cellsOf h)
       → Trying (r .flow .next) (starts r t g) ps (attemptAt x (given h script ps) r t g)
   attempt-at ps (found.Fault x) r t g good l = record { kept = nothing; gain = no-more x }
   attempt-at ps (found.At c) r t g good l =
       let k = lock-kept ps (r .flow) t g c good (l c refl) in
       record { kept = ended (k .kept); gain = won-of (k .gain) }
 
-  pub attempt-kept : (ps : List Lease) (registry : List ℕ) (binding bucket : ℕ) (r : Run) (t g : List ℕ) → Good (starts r t g)
+  pub attempt-kept : (ps : List Lease) (registry : List ℕ) (binding bucket : ℕ) (r : Run) (t g : List ℕ) → Fit (starts r t g)
       → Trying (r .flow .next) (starts r t g) ps (attemptOf (given h script ps) (h .buckets) registry binding bucket r t g)
   unfolding attemptOf
   attempt-kept ps registry binding bucket r t g good =
@@ -308,31 +308,31 @@ module _ (h : Head) (script : List ℕ) where
   abbrev Running : World → List Lease → Made (With Run) → Type 0
   Running w ps = Leads (of-run h) w (In ps)
 
-  spin-kept : (ps : List Lease) (r : Run) (t g : List ℕ) → Good (starts r t g) → Running (starts r t g) ps (spinOf (given h script ps) r t g)
+  spin-kept : (ps : List Lease) (r : Run) (t g : List ℕ) → Fit (starts r t g) → Running (starts r t g) ps (spinOf (given h script ps) r t g)
   unfolding spinOf
   spin-kept ps r t g good =
       record { kept = chain good (boundary-kept ps (r .flow) t g good .kept) (event spun tt (λ l i v x. x)) }
 
-  pause-kept : (ps : List Lease) (i : ℕ) (r : Run) (t g : List ℕ) → Good (starts r t g) → Running (starts r t g) ps (pauseOf (given h script ps) i r t g)
+  pause-kept : (ps : List Lease) (i : ℕ) (r : Run) (t g : List ℕ) → Fit (starts r t g) → Running (starts r t g) ps (pauseOf (given h script ps) i r t g)
   unfolding pauseOf
   pause-kept ps i r t g good =
       let m = boundaryOf (given h script ps) (r .flow) t g in
       let b = boundary-kept ps (r .flow) t g good .kept in
-      let s = spin-kept ps (runOf (m .seen .0) (r .attempts) (r .boundaries + 1) (r .yields + 1)) (m .seen .1 .0) (m .seen .1 .1) (kept-good good b) in
+      let s = spin-kept ps (runOf (m .seen .0) (r .attempts) (r .boundaries + 1) (r .yields + 1)) (m .seen .1 .0) (m .seen .1 .1) (kept-fit good b) in
       if-both (Running (starts r t g) ps) (eqb (i % 64) 63)
-      (record { kept = chain good b (chain (kept-good good b) (event yielded tt (λ l i v x. x)) (s .kept)) }) (spin-kept ps r t g good)
+      (record { kept = chain good b (chain (kept-fit good b) (event yielded tt (λ l i v x. x)) (s .kept)) }) (spin-kept ps r t g good)
 
-  pub retry-kept : (left i : ℕ) (ps : List Lease) (registry : List ℕ) (binding bucket : ℕ) (r : Run) (t g : List ℕ) → Good (starts r t g)
+  pub retry-kept : (left i : ℕ) (ps : List Lease) (registry : List ℕ) (binding bucket : ℕ) (r : Run) (t g : List ℕ) → Fit (starts r t g)
       → Trying (r .flow .next) (starts r t g) ps (retryOf left i (given h script ps) (h .buckets) registry binding bucket r t g)
   unfolding retryOf
   retry-kept zero i ps registry binding bucket r t g good = record { kept = nothing; gain = none-yet }
   retry-kept (suc left) i ps registry binding bucket r t g good =
       let m = attemptOf (given h script ps) (h .buckets) registry binding bucket r t g in
       let a = attempt-kept ps registry binding bucket r t g good in
-      let good′ = kept-good good (a .kept) in
+      let good′ = kept-fit good (a .kept) in
       let p = pause-kept ps i (m .seen .0 .run) (m .seen .1 .0) (m .seen .1 .1) good′ in
       let q = pauseOf (given h script ps) i (m .seen .0 .run) (m .seen .1 .0) (m .seen .1 .1) .seen in
-      let again = retry-kept left (i + 1) ps registry binding bucket (q .0) (q .1 .0) (q .1 .1) (kept-good good′ (p .kept)) in
+      let again = retry-kept left (i + 1) ps registry binding bucket (q .0) (q .1 .0) (q .1 .1) (kept-fit good′ (p .kept)) in
       followed good (a .kept)
       (if-both (Trying (r .flow .next) (of-tried h (m .seen)) ps) (isBusy (m .seen .0 .outcome))
       (record {

@@ -1,46 +1,124 @@
--- The statements of `Statements`, each proved; the proofs are in the files behind.
-use Rattle.history.specs.Statements.{Demand-2, Forgets, Compare-and-set, Held-live, Named, Named-alone, Nothing-kept, Failed-locks, Counts-are, Changes-nothing, Crew-refused}
-use Rattle.history.specs.Courses.{histories-kept, histories-forget}
-use Rattle.history.specs.Exact.{one-takes-exactly}
-use Rattle.history.specs.Calls.{calls-spare-held}
+-- The statements of `Statements`, `Answers` and `Callers`, each proved; the proofs are in the files behind.
+use Rattle.model.specs.Crew.{crewOf}
+use Rattle.history.specs.Items.{perform, foreign}
+use Rattle.history.specs.Statements.{Demand-2, Forgets, Refused-stays, Lawful-always, Counts-are, Changes-nothing, Crew-refused, Grant-is, Buffer-is, Given-live, Nothing-kept, Nothing-new, Falling-all, Rollback-is, Named, Named-alone, Held-live}
+use Rattle.history.specs.Answers.{Handed-over, Serials-rise, Not-over-live, Busy-or-refused, Locks-refused, Never-twice, Once-each, Two-writers, None-takes, Takes-parted}
+use Rattle.history.specs.Callers.{Takes-alike, Take-is-call, Releases-alike, Release-is-call, By-single-calls, Histories-single}
+use Rattle.history.specs.Courses as courses
+use Rattle.history.specs.Calls.{call-kept, calls-spare-held}
+use Rattle.history.specs.ByKey.{grants-name, buffers-name}
+use Rattle.history.specs.Returns.{calls-keep-nothing, calls-leave-nothing}
+use Rattle.history.specs.Rollback.{releases-fall, locks-roll-back}
 use Rattle.history.specs.NamedCalls.{calls-named, steps-named}
-use Rattle.history.specs.Returns.{calls-keep-nothing, failed-locks-give-back}
 use Rattle.history.specs.CountedCalls.{calls-counted}
 use Rattle.history.specs.Refused.{refusals-early, crew-unmoved}
+use Rattle.history.specs.HandedCalls as handed
+use Rattle.history.specs.Writers as writers
+use Rattle.history.specs.Others as others
 
 -- ---- a history from a preparation
 
 pub demand-2 : Demand-2
-demand-2 = histories-kept
+demand-2 = courses.histories-kept
 
 pub forgets : Forgets
-forgets = histories-forget
+forgets = courses.histories-forget
+
+pub refused-stays : Refused-stays
+refused-stays = courses.refused-stays
 
 -- ---- one call
 
-pub compare-and-set : Compare-and-set
-compare-and-set = one-takes-exactly
+pub lawful-always : Lawful-always perform
+lawful-always w k = let m = call-kept w k .kept in (m .lawful, m .leads)
 
-pub counts-are : Counts-are
+pub counts-are : Counts-are perform
 counts-are = calls-counted
 
-pub changes-nothing : Changes-nothing
+pub changes-nothing : Changes-nothing perform
 changes-nothing = refusals-early
 
-pub crew-refused : Crew-refused
+pub crew-refused : Crew-refused crewOf
 crew-refused = crew-unmoved
 
-pub nothing-kept : Nothing-kept
+pub grant-is : Grant-is perform
+grant-is = grants-name
+
+pub buffer-is : Buffer-is perform
+buffer-is = buffers-name
+
+pub given-live : Given-live perform
+given-live w k l x = call-kept w k .gain l x
+
+pub nothing-kept : Nothing-kept perform
 nothing-kept = calls-keep-nothing
 
-pub failed-locks : Failed-locks
-failed-locks = failed-locks-give-back
+pub nothing-new : Nothing-new perform
+nothing-new = calls-leave-nothing
 
-pub named : Named
+pub falling-all : Falling-all perform
+falling-all = releases-fall
+
+pub rollback-is : Rollback-is perform
+rollback-is = locks-roll-back
+
+pub named : Named perform
 named = calls-named
 
-pub named-alone : Named-alone
+pub named-alone : Named-alone foreign
 named-alone = steps-named
 
-pub held-live : Held-live
+pub held-live : Held-live perform
 held-live = calls-spare-held
+
+-- ---- answers
+
+pub handed-over : Handed-over perform
+handed-over = handed.calls-hand-over
+
+pub serials-rise : Serials-rise perform
+serials-rise = handed.serials-rise
+
+pub not-over-live : Not-over-live perform
+not-over-live = writers.not-over-live
+
+pub busy-or-refused : Busy-or-refused perform
+busy-or-refused = writers.busy-or-refused
+
+pub locks-refused : Locks-refused perform
+locks-refused = writers.locks-refused
+
+pub never-twice : Never-twice
+never-twice = writers.never-twice
+
+pub once-each : Once-each
+once-each = writers.once-each
+
+pub two-writers : Two-writers
+two-writers = writers.two-writers
+
+pub none-takes : None-takes
+none-takes = writers.none-takes
+
+pub takes-parted : Takes-parted
+takes-parted = writers.takes-parted
+
+-- ---- other callers
+
+pub takes-alike : Takes-alike foreign
+takes-alike = others.takes-alike
+
+pub take-is-call : Take-is-call foreign
+take-is-call = others.take-is-call
+
+pub releases-alike : Releases-alike foreign
+releases-alike = others.releases-alike
+
+pub release-is-call : Release-is-call foreign
+release-is-call = others.release-is-call
+
+pub by-single-calls : By-single-calls perform
+by-single-calls = others.by-single-calls
+
+pub histories-single : Histories-single
+histories-single = others.histories-single

@@ -5,7 +5,7 @@ use mathlib.Core.List.{List, [], _∷_}
 use mathlib.Core.Bool.{Bool, true, false}
 use lib.Dec.{eqb}
 use lib.ListN.{length, set}
-use Rattle.model.specs.Log.{Event, attempt-begun, boundary-run, yielded, spun, step-dropped, took, released, waiters-set, health-set}
+use Rattle.model.specs.Log.{Event, by-caller, by-script, attempt-begun, boundary-run, yielded, spun, step-dropped, took, released, waiters-set, health-set}
 use Rattle.model.specs.Arena.{lastSerial, cellsOf, spentTo, leaseOf, bitAt, setCell, setWaiters, stateAt, isLive, shapeFits, healthFits}
 use Rattle.model.specs.declared.Head.{Head}
 use Rattle.model.specs.declared.Lease.{Lease}
@@ -128,6 +128,20 @@ Releases l (health-set i n) = ⊥
 abbrev pub Unreleased : Lease → List Event → Type 0
 Unreleased l [] = Unit {0}
 Unreleased l (e ∷ es) = (Releases l e → ⊥) × Unreleased l es
+
+-- what the caller releases, in the order of the log
+unfoldable pub caller-releases : List Event → List Lease
+caller-releases [] = []
+caller-releases (attempt-begun ∷ es) = caller-releases es
+caller-releases (boundary-run ∷ es) = caller-releases es
+caller-releases (yielded ∷ es) = caller-releases es
+caller-releases (spun ∷ es) = caller-releases es
+caller-releases (step-dropped ∷ es) = caller-releases es
+caller-releases (took a c s ∷ es) = caller-releases es
+caller-releases (released by-caller c s ∷ es) = leaseOf c s ∷ caller-releases es
+caller-releases (released by-script c s ∷ es) = caller-releases es
+caller-releases (waiters-set c n ∷ es) = caller-releases es
+caller-releases (health-set i n ∷ es) = caller-releases es
 
 -- "a serial that was issued and owns nothing"
 pub record Spent (w : World) (s : ℕ) : Type 0 where

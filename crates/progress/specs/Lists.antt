@@ -1,8 +1,8 @@
 -- What the crew's checks give: members are few, and each list lies in the run of cells, in range and strictly rising.
 use Prim.Native.Nat.{ℕ, zero, suc, _+_, _-_, _≤_, _<_}
-use mathlib.Core.Path.{_≡_, refl, _∙_}
+use mathlib.Core.Path.{_≡_, _∙_}
 use mathlib.Core.List.{List, [], _∷_}
-use mathlib.Core.Bool.{Bool, true, false, not, _&&_, _||_}
+use mathlib.Core.Bool.{true, not, _&&_, _||_}
 use native.Mathlib.Omega.{arith}
 use native.Mathlib.Decide.{decLt, ℕ-discrete}
 use lib.Dec.{ltb, leb, eqb}
@@ -19,6 +19,7 @@ use Rattle.model.specs.declared.Check.the-variants.{Fine}
 use Rattle.model.specs.declared.Head.{Head}
 use Rattle.history.specs.Judged.{clear}
 use Rattle.history.specs.Crew.{start-fits, limits}
+use Rattle.history.specs.Tests.{neither}
 
 -- whoever has a cell is a member
 pub member : (counts : List ℕ) (m : ℕ) → 1 ≤ countOf counts m → m < length counts
@@ -49,10 +50,6 @@ module _ (inside : ℕ) where
   rises-on low (c ∷ cs) e (suc i) (suc j) b k = rises-on (c + 1) cs (heads low c cs e .1) i j (omega arith) (omega arith)
 
 -- ---- the checks
-
-neither : (a b : Bool) → (a || b) ≡ false → (a ≡ false) × (b ≡ false)
-neither true b e = (e, let z : true ≡ false = e in cc)
-neither false b e = (refl, e)
 
 -- each list of `left` members from m on
 lists-rise : (left m inside : ℕ) (counts cells : List ℕ) → first (badLists left m inside counts cells) ≡ Fine

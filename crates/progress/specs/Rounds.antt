@@ -122,7 +122,7 @@ module _ (h : Head) (t g counts cells turns : List ℕ) (o : Open h t g counts c
       go (moves l) = l
       go (rests e i) = absurd (none-left (w .next) (w .table) (w .made) (w .moving) s (λ q l. i q (round q (member counts q (omega arith), l))) m (un .1))
 
-  turns-append : (w : Crew) (xs ys : List ℕ) → after h g counts cells w (xs ++ ys) ≡ after h g counts cells (after h g counts cells w xs) ys
+  pub turns-append : (w : Crew) (xs ys : List ℕ) → after h g counts cells w (xs ++ ys) ≡ after h g counts cells (after h g counts cells w xs) ys
   unfolding turnsOf
   turns-append w [] ys = refl
   turns-append w (m ∷ xs) ys = turns-append (turnOf (h .headers) (h .buckets) g counts cells w m .seen) xs ys

@@ -15,6 +15,7 @@ use Rattle.model.specs.declared.Check.the-variants.{Fine}
 use Rattle.model.specs.declared.CrewReply.{CrewReply}
 use Rattle.model.specs.declared.Head.{Head}
 use Rattle.model.specs.declared.State.the-variants as state
+use Rattle.history.specs.Statements.{Crew-build}
 use Rattle.history.specs.World.{Kind, takes, releases, kind-of, code, number-of}
 
 -- ---- rounds
@@ -46,6 +47,18 @@ module _ (h : Head) (g counts cells : List ℕ) where
   abbrev pub Rounds : Crew → List (List ℕ) → Type 0
   Rounds w [] = Unit {0}
   Rounds w (r ∷ rs) = IsRound w r × Rounds (after w r) rs
+
+-- ---- rounds as the replies tell them, of any build of the crew
+
+module _ (f : Crew-build) (h : Head) (t g counts cells : List ℕ) where
+  -- after these turns a member is unfinished if the reply to them says that it has not released its whole list
+  abbrev pub Unfinished-after : List ℕ → ℕ → Type 0
+  Unfinished-after turns m = (m < length counts) × (getD (f h t g counts cells turns .seen .0 .released) m 0 < countOf counts m)
+
+  -- rounds behind the turns `before`
+  abbrev pub Rounds-after : List ℕ → List (List ℕ) → Type 0
+  Rounds-after before [] = Unit {0}
+  Rounds-after before (r ∷ rs) = ((m : ℕ) → Unfinished-after before m → In m r) × Rounds-after (before ++ r) rs
 
 -- ---- the premises: "Named cells start free and unwaited, headers healthy, K serials remain, nobody else steps."
 
@@ -83,13 +96,13 @@ abbrev pub Enough : List ℕ → List (List ℕ) → Type 0
 Enough counts rounds = 2 * total counts ≤ length rounds
 
 -- demand 3, "whatever the order of turns"
-abbrev pub Demand-3 : Type 0
-Demand-3 =
+abbrev pub Demand-3 : Crew-build → Type 0
+Demand-3 f =
     (h : Head) (t g counts cells : List ℕ) (rounds : List (List ℕ))
     → Open h t g counts cells (flat rounds)
-    → Rounds h g counts cells (start h t) rounds
+    → Rounds-after f h t g counts cells [] rounds
     → Enough counts rounds
-    → Complete h t counts (flat rounds) (crewOf h t g counts cells (flat rounds))
+    → Complete h t counts (flat rounds) (f h t g counts cells (flat rounds))
 
 -- ---- on the way, each of use by itself
 
@@ -202,25 +215,85 @@ abbrev pub Crew-deeds : Type 0
 Crew-deeds =
     (h : Head) (t g counts cells : List ℕ) (rounds : List (List ℕ)) (m : ℕ)
     → Open h t g counts cells (flat rounds)
-    → Rounds h g counts cells (start h t) rounds
+    → Rounds-after crewOf h t g counts cells [] rounds
     → Enough counts rounds
     → let log = own-log h g counts cells m (start h t) (flat rounds) in
     (cells-in takes log ≡ listOf counts cells m) × (cells-in releases log ≡ falling (countOf counts m) (listOf counts cells m))
 
--- ---- the bound is tight: a crew and rounds, one move in each, so that 2K - 1 rounds are not enough
+-- ---- the reply and the log agree, for every crew that is not refused, finished or not: each member's numbers are those of its own turns, every
+-- turn moved or was idle, and every move is one take or one release
 
-abbrev pub Tight : Type 0
-Tight =
-    (h : Head) × (t : List ℕ) × (g : List ℕ) × (counts : List ℕ) × (cells : List ℕ) × (rounds : List (List ℕ))
-    × Open h t g counts cells (flat rounds)
-    × Rounds h g counts cells (start h t) rounds
-    × (length rounds + 1 ≡ 2 * total counts)
-    × (crewOf h t g counts cells (flat rounds) .seen .0 .moving + 1 ≡ 2 * total counts)
+pub record Told (h : Head) (t g counts cells turns : List ℕ) (o : Made (CrewReply × List ℕ)) : Type 0 where
+  pub done : o .seen .0 .answer ≡ Done
+  -- for each member the takes and the releases of its own turns
+  pub taken : (m : ℕ) → m < length counts → getD (o .seen .0 .taken) m 0 ≡ number-of takes (own-log h g counts cells m (start h t) turns)
+  pub released : (m : ℕ) → m < length counts → getD (o .seen .0 .released) m 0 ≡ number-of releases (own-log h g counts cells m (start h t) turns)
+  pub turns-are : o .seen .0 .moving + o .seen .0 .idle ≡ length turns
+  pub moves-are : o .seen .0 .moving ≡ number-of takes (o .log) + number-of releases (o .log)
+
+abbrev pub Tells : Crew-build → Type 0
+Tells f = (h : Head) (t g counts cells turns : List ℕ) → first (crewRules h t g counts cells turns) ≡ Fine → Told h t g counts cells turns (f h t g counts cells turns)
+
+-- ---- "all have held their whole lists": there is a moment at which the table shows every cell of a member's list held by the serial noted for
+-- it, all at once
+
+-- a moment in these turns at which every cell of the list of m is held, each by the serial noted for it
+pub record Held-at-once (h : Head) (t g counts cells turns : List ℕ) (m : ℕ) : Type 0 where
+  pub before : List ℕ
+  pub later : List ℕ
+  pub turns-are : turns ≡ before ++ later
+  pub all-held : (j : ℕ) → j < countOf counts m → let w = after h g counts cells (start h t) before in
+      stateAt (w .next) (w .table) (getD (listOf counts cells m) j 0) ≡ state.Held (getD (w .serials) (startOf counts m + j) 0)
+
+-- from the premises, whatever the turns: for each member of which the reply says that it took all its cells
+abbrev pub Taken-is-held : Type 0
+Taken-is-held =
+    (h : Head) (t g counts cells turns : List ℕ) (m : ℕ)
+    → Open h t g counts cells turns
+    → m < length counts
+    → getD (crewOf h t g counts cells turns .seen .0 .taken) m 0 ≡ countOf counts m
+    → Held-at-once h t g counts cells turns m
+
+-- in demand 3's run: for each member
+abbrev pub Hold-whole : Type 0
+Hold-whole =
+    (h : Head) (t g counts cells : List ℕ) (rounds : List (List ℕ)) (m : ℕ)
+    → Open h t g counts cells (flat rounds)
+    → Rounds-after crewOf h t g counts cells [] rounds
+    → Enough counts rounds
+    → m < length counts
+    → Held-at-once h t g counts cells (flat rounds) m
+
+-- ---- the bound is tight: 2K - 1 rounds are not enough
+
+-- rounds, one fewer than 2K, after which one move is left to make
+pub record Short (h : Head) (t g counts cells : List ℕ) : Type 0 where
+  pub rounds : List (List ℕ)
+  pub opens : Open h t g counts cells (flat rounds)
+  pub are-rounds : Rounds-after crewOf h t g counts cells [] rounds
+  pub one-fewer : length rounds + 1 ≡ 2 * total counts
+  pub one-move-left : crewOf h t g counts cells (flat rounds) .seen .0 .moving + 1 ≡ 2 * total counts
+  pub member : ℕ
+  pub in-crew : member < length counts
+  pub not-finished : getD (crewOf h t g counts cells (flat rounds) .seen .0 .released) member 0 < countOf counts member
+
+abbrev pub Tight-where-shared : Type 0
+Tight-where-shared =
+    (h : Head) (t g counts cells : List ℕ) (c : ℕ)
+    → Open h t g counts cells []
+    → ((m : ℕ) → 1 ≤ countOf counts m → getD (listOf counts cells m) 0 0 ≡ c)
+    → 1 ≤ total counts
+    → Short h t g counts cells
+
+abbrev pub Tight-for-every : Type 0
+Tight-for-every =
+    (K : ℕ) → 1 ≤ K → K ≤ 256
+    → (h : Head) × (t : List ℕ) × (g : List ℕ) × (counts : List ℕ) × (cells : List ℕ) × (total counts ≡ K) × Short h t g counts cells
 
 -- the premises can be met by members that contend: two want the same cells
 abbrev pub Met : Type 0
 Met =
     (h : Head) × (t : List ℕ) × (g : List ℕ) × (rounds : List (List ℕ))
     × Open h t g (2 ∷ 2 ∷ []) (2 ∷ 5 ∷ 2 ∷ 5 ∷ []) (flat rounds)
-    × Rounds h g (2 ∷ 2 ∷ []) (2 ∷ 5 ∷ 2 ∷ 5 ∷ []) (start h t) rounds
+    × Rounds-after crewOf h t g (2 ∷ 2 ∷ []) (2 ∷ 5 ∷ 2 ∷ 5 ∷ []) [] rounds
     × (8 ≤ length rounds)

@@ -1,0 +1,3 @@
+pub mod Wrong
+pub mod Falls
+pub mod Crews

@@ -1,0 +1,279 @@
+-- Wrong builds: answering functions of the calls' own types, each wrong in one thing. "Slips to be ruled out" and "Idle builds the promises must
+-- reject" of document 01, and six slips of definitions that an earlier set of theorems let pass. `Falls` and `Crews` prove which theorem each
+-- fails. Where nothing else is said a build does as ours does.
+use Prim.Native.Nat.{ℕ, zero, suc, _+_, _-_, _%_}
+use mathlib.Core.List.{List, [], _∷_, _++_}
+use lib.Dec.{leb, eqb}
+use lib.ListN.{length, replicate}
+use Rattle.model.specs.Choice.{if_then_else_}
+use Rattle.model.specs.Log.{Made, Event, by-caller, by-script, attempt-begun, boundary-run, yielded, spun, step-dropped, took, released, waiters-set, health-set, gives, note, _>>=_, _>>_}
+use Rattle.model.specs.Arena.{spentTo, leaseOf, leasesOf, ownerAt, setCell}
+use Rattle.model.specs.Foreign.{Setting, boundaryOf}
+use Rattle.model.specs.Lock.{runOf, attemptOf, attemptLimit, spinOf, isBusy, triedOf, answerOf, settled}
+use Rattle.model.specs.Calls.{countsOf, given, starting}
+use Rattle.model.specs.Crew.{total, crewOf}
+use Rattle.model.specs.declared.Answer.{Answer}
+use Rattle.model.specs.declared.Answer.the-variants.{Done, Cell, Granted, AllGranted, Busy, Refused, RefusedAt}
+use Rattle.model.specs.declared.Counts.{Counts}
+use Rattle.model.specs.declared.CrewReply.{CrewReply}
+use Rattle.model.specs.declared.Lease.{Lease}
+use Rattle.model.specs.declared.Outcome.the-variants as outcome
+use Rattle.model.specs.declared.Refusal.{Refusal}
+use Rattle.model.specs.declared.Refusal.the-variants as refusal
+use Rattle.model.specs.declared.Run.{Run}
+use Rattle.model.specs.declared.Tried.{Tried}
+use Rattle.history.specs.World.{World, worldOf, now, caller-releases}
+use Rattle.history.specs.Items.{try-acquire, drop-lease, read-permission, competing-acquire, release-then-handoff, foreign-release, drop-preserving, acquire-preserving, environment, try-lock, transactional, acquire-bucket, release-all, acquire-locks, crew, asked, cellOf, place-of, Says, says, perform, foreign, Build, Stepper}
+use Rattle.history.specs.Statements.{Crew-build}
+
+-- ---- the same with another answer, and the like
+
+abbrev pub answering : (Says → Answer) → Made (World × Says) → Made (World × Says)
+answering f m = let s = m .seen .1 in record { seen = (m .seen .0, says (f s) (s .counts) (s .place) (s .grants)); log = m .log }
+
+abbrev pub counting : Counts → Made (World × Says) → Made (World × Says)
+counting c m = let s = m .seen .1 in record { seen = (m .seen .0, says (s .answer) c (s .place) (s .grants)); log = m .log }
+
+abbrev pub placing : ℕ → Made (World × Says) → Made (World × Says)
+placing p m = let s = m .seen .1 in record { seen = (m .seen .0, says (s .answer) (s .counts) p (s .grants)); log = m .log }
+
+abbrev pub leaving : World → Made (World × Says) → Made (World × Says)
+leaving w m = record { seen = (w, m .seen .1); log = m .log }
+
+-- ---- document 01, "Idle builds the promises must reject"
+
+-- "A build that only refuses"
+abbrev pub only-refuses : Build
+only-refuses w k = record { seen = (w, says (Refused refusal.BadShape) (countsOf 0 0 0 0) (place-of k) []); log = [] }
+
+-- "or is always Busy"
+abbrev pub always-busy : Build
+always-busy w k = record { seen = (w, says Busy (countsOf 1 0 0 0) (place-of k) []); log = attempt-begun ∷ [] }
+
+-- "One grant for all"
+abbrev pub one-for-all : Build
+one-for-all w k = record { seen = (w, says (Granted (leaseOf 0 1)) (countsOf 0 0 0 0) (place-of k) []); log = [] }
+
+-- "One that writes nothing"
+abbrev pub writes-nothing : Build
+writes-nothing w k = leaving w (perform w k)
+
+-- "One that takes the first key and feigns the rest": made-up leases on the other keys' cells
+unfoldable pub feigned : (buckets : ℕ) (registry : List ℕ) (serial : ℕ) (keys : List ℕ) → List ℕ
+feigned buckets registry s [] = []
+feigned buckets registry s (b ∷ []) = []
+feigned buckets registry s (b ∷ k ∷ keys) = cellOf buckets registry b k ∷ s ∷ feigned buckets registry (s + 1) keys
+
+abbrev pub first-key-only : World → (registry script : List ℕ) (place : ℕ) (held keys grants : List ℕ) → Made (World × Says)
+first-key-only w registry script place held [] grants = perform w (acquire-locks registry script place held [] grants)
+first-key-only w registry script place held (b ∷ []) grants = perform w (acquire-locks registry script place held (b ∷ []) grants)
+first-key-only w registry script place held (b ∷ k ∷ keys) grants =
+    let m = perform w (acquire-locks registry script place held (b ∷ k ∷ []) (0 ∷ 0 ∷ [])) in
+    let s = m .seen .1 in
+    record { seen = (m .seen .0, says (s .answer) (s .counts) (s .place) (s .grants ++ feigned (w .head .buckets) registry (m .seen .0 .head .next) keys)); log = m .log }
+
+-- "Counts made up"
+abbrev pub counts-made-up : Build
+counts-made-up w k = counting (countsOf 7 7 7 7) (perform w k)
+
+-- ---- document 01, "Slips to be ruled out"
+
+-- "giving the serial back after a late Busy"
+abbrev pub one-fewer : World → World
+one-fewer w = worldOf (spentTo (w .head) (w .head .next - 1)) (w .table) (w .health)
+
+abbrev pub if-late : Answer → List Lease → World → World
+if-late Busy (l ∷ ls) w = one-fewer w
+if-late Busy [] w = w
+if-late Done ls w = w
+if-late (Cell c) ls w = w
+if-late (Granted l) ls w = w
+if-late AllGranted ls w = w
+if-late (Refused r) ls w = w
+if-late (RefusedAt r p) ls w = w
+
+abbrev pub serial-given-back : Build
+serial-given-back w k = let m = perform w k in leaving (if-late (m .seen .1 .answer) (caller-releases (m .log)) (m .seen .0)) m
+
+-- "a rollback that skips the last lease": of a multi-lock that is refused the first release by the caller never happens
+unfoldable pub skipping : List Event → List Event
+skipping [] = []
+skipping (attempt-begun ∷ es) = attempt-begun ∷ skipping es
+skipping (boundary-run ∷ es) = boundary-run ∷ skipping es
+skipping (yielded ∷ es) = yielded ∷ skipping es
+skipping (spun ∷ es) = spun ∷ skipping es
+skipping (step-dropped ∷ es) = step-dropped ∷ skipping es
+skipping (took a c s ∷ es) = took a c s ∷ skipping es
+skipping (released by-caller c s ∷ es) = es
+skipping (released by-script c s ∷ es) = released by-script c s ∷ skipping es
+skipping (waiters-set c n ∷ es) = waiters-set c n ∷ skipping es
+skipping (health-set i n ∷ es) = health-set i n ∷ skipping es
+
+abbrev pub skipped : World → Made (World × Says) → Answer → Made (World × Says)
+skipped w m (RefusedAt r p) = record { seen = (now w (skipping (m .log)), m .seen .1); log = skipping (m .log) }
+skipped w m Done = m
+skipped w m (Cell c) = m
+skipped w m (Granted l) = m
+skipped w m AllGranted = m
+skipped w m Busy = m
+skipped w m (Refused r) = m
+
+abbrev pub rollback-skips : Build
+rollback-skips w k = let m = perform w k in skipped w m (m .seen .1 .answer)
+
+-- "yielding at remainder 0", or at another remainder than 63: `pauseOf` and `retryOf` of the model, but for that number
+unfoldable pub pauseAt : ℕ → Setting → ℕ → Run → List ℕ → List ℕ → Made (Run × (List ℕ × List ℕ))
+pauseAt remainder e i r t g =
+    if eqb (i % 64) remainder then (do
+      (f, (u, w)) ← boundaryOf e (r .flow) t g
+      note yielded
+      spinOf e (runOf f (r .attempts) (r .boundaries + 1) (r .yields + 1)) u w)
+    else spinOf e r t g
+
+unfoldable pub retryAt : ℕ → ℕ → ℕ → Setting → ℕ → List ℕ → ℕ → ℕ → Run → List ℕ → List ℕ → Made (Tried × (List ℕ × List ℕ))
+retryAt remainder zero i e buckets registry binding bucket r t g = gives (triedOf r outcome.Busy, (t, g))
+retryAt remainder (suc left) i e buckets registry binding bucket r t g = do
+  (k, (u, w)) ← attemptOf e buckets registry binding bucket r t g
+  if isBusy (k .outcome) then (do
+    (p, (v, x)) ← pauseAt remainder e i (k .run) u w
+    retryAt remainder left (i + 1) e buckets registry binding bucket p v x)
+      else gives (k, (u, w))
+
+abbrev pub retries-at : ℕ → World → (registry script : List ℕ) (place : ℕ) (held : List ℕ) (binding bucket : ℕ) → Made (World × Says)
+retries-at remainder w registry script place held binding bucket = do
+  (k, (t, g)) ← retryAt remainder attemptLimit 0 (given (w .head) script (leasesOf held)) (w .head .buckets) registry binding bucket (starting (w .head) place) (w .table) (w .health)
+  gives (
+    worldOf (spentTo (w .head) (k .run .flow .next)) t g,
+    says (answerOf (settled (k .outcome))) (countsOf (k .run .attempts) (k .run .boundaries) (k .run .yields) (k .run .flow .dropped)) (k .run .flow .place) [],
+  )
+
+-- ---- by kind of call: one of them done otherwise
+
+abbrev pub others : (drop : World → Lease → Made (World × Says)) (key once : World → (registry script : List ℕ) (place : ℕ) (held : List ℕ) (binding bucket : ℕ) → Made (World × Says))
+    (locks : World → (registry script : List ℕ) (place : ℕ) (held keys grants : List ℕ) → Made (World × Says)) → Build
+others drop key once locks w (try-acquire c) = perform w (try-acquire c)
+others drop key once locks w (drop-lease l) = drop w l
+others drop key once locks w (read-permission l) = perform w (read-permission l)
+others drop key once locks w (competing-acquire l) = perform w (competing-acquire l)
+others drop key once locks w (release-then-handoff l) = perform w (release-then-handoff l)
+others drop key once locks w (foreign-release held l) = perform w (foreign-release held l)
+others drop key once locks w (drop-preserving held l) = perform w (drop-preserving held l)
+others drop key once locks w (acquire-preserving held c) = perform w (acquire-preserving held c)
+others drop key once locks w (environment script place held) = perform w (environment script place held)
+others drop key once locks w (try-lock script place held c) = perform w (try-lock script place held c)
+others drop key once locks w (transactional registry script place held binding bucket) = once w registry script place held binding bucket
+others drop key once locks w (acquire-bucket registry script place held binding bucket) = key w registry script place held binding bucket
+others drop key once locks w (release-all script place leases) = perform w (release-all script place leases)
+others drop key once locks w (acquire-locks registry script place held keys grants) = locks w registry script place held keys grants
+others drop key once locks w (crew counts cells turns) = perform w (crew counts cells turns)
+
+abbrev pub our-drop : World → Lease → Made (World × Says)
+our-drop w l = perform w (drop-lease l)
+
+abbrev pub our-key : World → (registry script : List ℕ) (place : ℕ) (held : List ℕ) (binding bucket : ℕ) → Made (World × Says)
+our-key w registry script place held binding bucket = perform w (acquire-bucket registry script place held binding bucket)
+
+abbrev pub our-once : World → (registry script : List ℕ) (place : ℕ) (held : List ℕ) (binding bucket : ℕ) → Made (World × Says)
+our-once w registry script place held binding bucket = perform w (transactional registry script place held binding bucket)
+
+abbrev pub our-locks : World → (registry script : List ℕ) (place : ℕ) (held keys grants : List ℕ) → Made (World × Says)
+our-locks w registry script place held keys grants = perform w (acquire-locks registry script place held keys grants)
+
+abbrev pub feigns-the-rest : Build
+feigns-the-rest = others our-drop our-key our-once first-key-only
+
+abbrev pub yields-at : ℕ → Build
+yields-at remainder = others our-drop (retries-at remainder) our-once our-locks
+
+-- "testing the bucket before health"
+abbrev pub bucket-first : Build
+bucket-first =
+    others our-drop our-key
+    (λ w registry script place held binding bucket. if leb (w .head .buckets) bucket then
+    record { seen = (w, says (Refused (refusal.InvalidBucket bucket)) (countsOf 1 0 0 0) place []); log = attempt-begun ∷ [] }
+    else our-once w registry script place held binding bucket)
+    our-locks
+
+-- "freeing by cell without comparing the serial"
+abbrev pub frees-by-cell : Build
+frees-by-cell =
+    others (λ w l. record { seen = (worldOf (w .head) (setCell (w .table) (l .cell) 0 0) (w .health), says Done (countsOf 0 0 0 0) 0 []); log = released by-caller (l .cell) (l .serial) ∷ [] })
+    our-key our-once our-locks
+
+-- ---- six slips of definitions that no theorem caught once
+
+-- a `try_lock` of a held cell answers Granted with the present owner's lease
+abbrev pub granting : Lease → Answer → Answer
+granting l Done = Done
+granting l (Cell c) = Cell c
+granting l (Granted k) = Granted k
+granting l AllGranted = AllGranted
+granting l Busy = Granted l
+granting l (Refused r) = Refused r
+granting l (RefusedAt r p) = RefusedAt r p
+
+abbrev pub owners-lease : Build
+owners-lease w k = answering (λ s. granting (leaseOf (asked w k) (ownerAt (w .table) (asked w k))) (s .answer)) (perform w k)
+
+-- `acquire_index_bucket` answers 10 in place of 11
+abbrev pub spent-for-failed : Refusal → Refusal
+spent-for-failed refusal.BadShape = refusal.BadShape
+spent-for-failed refusal.BadScript = refusal.BadScript
+spent-for-failed (refusal.BadHeld i) = refusal.BadHeld i
+spent-for-failed refusal.TooMany = refusal.TooMany
+spent-for-failed (refusal.BadBinding i) = refusal.BadBinding i
+spent-for-failed (refusal.BadHeader i) = refusal.BadHeader i
+spent-for-failed (refusal.Poisoned i) = refusal.Poisoned i
+spent-for-failed (refusal.InvalidBucket i) = refusal.InvalidBucket i
+spent-for-failed (refusal.Damaged c) = refusal.Damaged c
+spent-for-failed (refusal.SerialsSpent c) = refusal.SerialsSpent c
+spent-for-failed refusal.SerializationFailure = refusal.SerialsSpent 0
+spent-for-failed (refusal.NotHeld i) = refusal.NotHeld i
+spent-for-failed refusal.Protected = refusal.Protected
+spent-for-failed (refusal.Repeated i) = refusal.Repeated i
+spent-for-failed (refusal.BadCrew i) = refusal.BadCrew i
+
+abbrev pub ten : Answer → Answer
+ten Done = Done
+ten (Cell c) = Cell c
+ten (Granted k) = Granted k
+ten AllGranted = AllGranted
+ten Busy = Busy
+ten (Refused r) = Refused (spent-for-failed r)
+ten (RefusedAt r p) = RefusedAt r p
+
+abbrev pub ten-for-eleven : Build
+ten-for-eleven w k = answering (λ s. ten (s .answer)) (perform w k)
+
+-- multi-lock never moves its script's place
+abbrev pub place-stays : Build
+place-stays w k = placing (place-of k) (perform w k)
+
+-- a legal foreign take dropped at the last serial
+abbrev pub spares-last : Stepper
+spares-last w kind place number =
+    if eqb (w .head .next) 4_294_967_294 then record { seen = w; log = step-dropped ∷ [] } else foreign w kind place number
+
+-- an unfinished crew gives sevens for taken and released
+abbrev pub sevens : CrewReply → CrewReply
+sevens r = record { head = r .head; moving = r .moving; idle = r .idle; taken = replicate 16 7; released = replicate 16 7; answer = r .answer }
+
+abbrev pub sevens-unfinished : Crew-build
+sevens-unfinished h t g counts cells turns =
+    let m = crewOf h t g counts cells turns in
+    if eqb (total (m .seen .0 .released)) (total counts) then m else record { seen = (sevens (m .seen .0), m .seen .1); log = m .log }
+
+-- ---- "a crew that moves one member": turns of others are idle
+
+unfoldable pub first-only : List ℕ → List ℕ
+first-only [] = []
+first-only (m ∷ ms) = if eqb m 0 then m ∷ first-only ms else first-only ms
+
+abbrev pub moves-one : Crew-build
+moves-one h t g counts cells turns =
+    let m = crewOf h t g counts cells (first-only turns) in
+    let r = m .seen .0 in
+    record {
+      seen = (record { head = r .head; moving = r .moving; idle = r .idle + (length turns - length (first-only turns)); taken = r .taken; released = r .released; answer = r .answer }, m .seen .1);
+      log = m .log;
+    }

@@ -1,0 +1,235 @@
+-- Each definition of the model, from a boundary to multi-lock, uses up its script as `Consumed` says.
+use Rattle.exact.specs.Script.{Boundary, at-end, at-five, one-step, attempts-one, yields-once, spins, Consumed, at-rest, counts, takes, gives-up, boundary}
+use Prim.Native.Nat.{ℕ, zero, suc, _+_, _-_, _%_, _≤_, _<_}
+use mathlib.Core.Path.{_≡_, refl, subst}
+use mathlib.Core.List.{List, [], _∷_, _++_, append-nil, append-assoc}
+use mathlib.Core.Bool.{true}
+use native.Mathlib.Omega.{arith}
+use lib.Dec.{eqb}
+use lib.ListN.{length, take}
+use lib.Seq.{take-suc, take-length}
+use borrow.Author.Tests.{eqb-true, eqb-false}
+use Rattle.model.specs.Log.{Made, Event, boundary-run}
+use Rattle.model.specs.Arena.{serialRemains, leaseOf, leasesOf, waitersAt, setCell, stateAt}
+use Rattle.model.specs.Foreign.{stepsIn, kindAt, placeAt, numberAt, flowOf, stepOf, stepsOf, boundaryOf}
+use Rattle.model.specs.Lock.{takeIn, takeOf, lateOf, afterTake, secondOf, lockOf, outcomeOf, runOf, findOf, attemptAt, attemptOf, spinOf, pauseOf, isBusy, retryOf, attemptLimit, noLease, leaseAt, giveBackOf, Locks, rollbackOf, afterKey, bindingAt, bucketAt, locksOf}
+use Rattle.model.specs.Calls.{given}
+use Rattle.model.specs.declared.Answer.{Answer}
+use Rattle.model.specs.declared.Answer.the-variants.{Done, Cell, Granted, AllGranted, Busy, Refused, RefusedAt}
+use Rattle.model.specs.declared.Flow.{Flow}
+use Rattle.model.specs.declared.Found.{Found}
+use Rattle.model.specs.declared.Found.the-variants as found
+use Rattle.model.specs.declared.Head.{Head}
+use Rattle.model.specs.declared.Lease.{Lease}
+use Rattle.model.specs.declared.Locked.{Locked}
+use Rattle.model.specs.declared.Outcome.{Outcome}
+use Rattle.model.specs.declared.Outcome.the-variants as outcome
+use Rattle.model.specs.declared.Refusal.{Refusal}
+use Rattle.model.specs.declared.Refusal.the-variants.{SerializationFailure}
+use Rattle.model.specs.declared.Run.{Run}
+use Rattle.model.specs.declared.State.{State}
+use Rattle.model.specs.declared.State.the-variants as state
+use Rattle.model.specs.declared.Take.{Take}
+use Rattle.model.specs.declared.Take.the-variants as taking
+use Rattle.model.specs.declared.Took.{Took}
+use Rattle.model.specs.declared.Tried.{Tried}
+use Rattle.laws.specs.Pick.{if-both}
+use Rattle.history.specs.World.{World}
+use Rattle.history.specs.Tests.{differ, if-cases, leases-words}
+use Rattle.history.specs.Steps.{With, worldAt, of-flow, of-locked, of-run, of-tried, of-took}
+use Rattle.exact.specs.ForeignSteps.{step-is}
+use Rattle.exact.specs.Consuming.{follow}
+
+-- nothing is known of the caller's own events
+abbrev pub Any : World → Event → Type 0
+Any w e = Unit {0}
+
+-- what an outcome adds to the protected leases
+abbrev pub held-after : List Lease → Outcome → List Lease
+held-after ps (outcome.Granted l) = ps ++ (l ∷ [])
+held-after ps outcome.Busy = ps
+held-after ps (outcome.Refused r) = ps
+
+-- what multi-lock holds afterwards
+abbrev pub granted-after : List Lease → Answer → List ℕ → List Lease
+granted-after ps Done b = ps
+granted-after ps (Cell c) b = ps
+granted-after ps (Granted l) b = ps ++ (l ∷ [])
+granted-after ps AllGranted b = ps ++ leasesOf b
+granted-after ps Busy b = ps
+granted-after ps (Refused r) b = ps
+granted-after ps (RefusedAt r p) b = ps
+
+module _ (h : Head) (script : List ℕ) where
+  -- ---- boundaries
+
+  abbrev Bounded : List Lease → Flow → List ℕ → List ℕ → Made (With Flow) → Type 0
+  Bounded ps f t g m = Boundary script ps (f .place) (f .dropped) (worldAt h (f .next) t g) (m .seen .0 .place) (m .seen .0 .dropped) (of-flow h (m .seen)) (m .log)
+
+  steps-bounded : (left : ℕ) (ps : List Lease) (f : Flow) (t g : List ℕ) → left ≡ stepsIn script - f .place → Bounded ps f t g (stepsOf left (given h script ps) f t g)
+  unfolding stepsOf
+  steps-bounded zero ps f t g l = let i : stepsIn script ≤ f .place = omega arith in at-end i
+  steps-bounded (suc left) ps f t g l =
+      let i : f .place < stepsIn script = omega arith in
+      let kind = kindAt script (f .place) in
+      let o = stepOf (given h script ps) (f .next) t g kind (placeAt script (f .place)) (numberAt script (f .place)) .seen in
+      if-cases (Bounded ps f t g) (eqb kind 5) (λ e. at-five i (eqb-true _ _ e))
+      (λ e. one-step i (eqb-false _ _ e) (step-is h script ps (f .next) t g kind (placeAt script (f .place)) (numberAt script (f .place)))
+      (steps-bounded left ps (flowOf (o .0 .next) (f .place + 1) (f .dropped + o .0 .dropped)) (o .1 .0) (o .1 .1) (omega arith)))
+
+  -- from a flow and a table to another
+  abbrev Goes : List Lease → Flow → List ℕ → List ℕ → List Lease → Flow → World → List Event → Type 0
+  Goes ps f t g rs k v es = Consumed Any script ps (f .place) (f .dropped) (worldAt h (f .next) t g) rs (k .place) (k .dropped) v es
+
+  abbrev Flowing : List Lease → Flow → List ℕ → List ℕ → Made (With Flow) → Type 0
+  Flowing ps f t g m = Goes ps f t g ps (m .seen .0) (of-flow h (m .seen)) (m .log)
+
+  pub boundary-consumed : (ps : List Lease) (f : Flow) (t g : List ℕ) → Flowing ps f t g (boundaryOf (given h script ps) f t g)
+  unfolding boundaryOf
+  boundary-consumed ps f t g =
+      let m = stepsOf (stepsIn script - f .place) (given h script ps) f t g in
+      subst (λ (es : List Event). Goes ps f t g ps (m .seen .0) (of-flow h (m .seen)) (boundary-run ∷ es)) (append-nil (m .log))
+      (boundary (steps-bounded (stepsIn script - f .place) ps f t g refl) at-rest)
+
+  -- ---- a lock
+
+  abbrev Locking : List Lease → List Lease → Flow → List ℕ → List ℕ → ℕ → Made (With Locked) → Type 0
+  Locking qs ps f t g c m = Goes qs f t g (held-after ps (outcomeOf c (m .seen .0 .answer))) (m .seen .0 .flow) (of-locked h (m .seen)) (m .log)
+
+  late-consumed : (ps : List Lease) (f : Flow) (t g : List ℕ) (c s : ℕ) → Locking (ps ++ (leaseOf c s ∷ [])) ps f t g c (lateOf (given h script ps) f t g c s)
+  unfolding lateOf
+  late-consumed ps f t g c s =
+      let qs = ps ++ (leaseOf c s ∷ []) in
+      let m = boundaryOf (given h script qs) f t g .seen in
+      follow (boundary-consumed qs f t g)
+      (if-both (Locking qs ps (m .0) (m .1 .0) (m .1 .1) c) (eqb (waitersAt (m .1 .0) c) 0) at-rest (gives-up (leaseOf c s) tt at-rest))
+
+  after-consumed : (ps : List Lease) (a : Take) (f : Flow) (t g : List ℕ) (c : ℕ)
+      → Locking (held-after ps (outcomeOf c a)) ps f t g c (afterTake a (given h script ps) f t g c)
+  after-consumed ps (taking.Granted s) f t g c = late-consumed ps f t g c s
+  after-consumed ps taking.Busy f t g c = at-rest
+  after-consumed ps taking.Damaged f t g c = at-rest
+  after-consumed ps taking.Spent f t g c = at-rest
+
+  take-consumed : (ps : List Lease) (f : Flow) (t g : List ℕ) (c : ℕ)
+      → let k = takeOf (f .next) t c in
+      Goes ps f t g (held-after ps (outcomeOf c (k .seen .0 .answer))) (flowOf (k .seen .0 .next) (f .place) (f .dropped)) (of-took h g (k .seen)) (k .log)
+  unfolding takeOf
+  take-consumed ps f t g c = go (stateAt (f .next) t c)
+    where
+      P : Made (Took × List ℕ) → Type 0
+      P k = Goes ps f t g (held-after ps (outcomeOf c (k .seen .0 .answer))) (flowOf (k .seen .0 .next) (f .place) (f .dropped)) (of-took h g (k .seen)) (k .log)
+
+      go : (x : State) → P (takeIn x (f .next) t c)
+      go state.Damaged = at-rest
+      go (state.Held o) = at-rest
+      go state.Free = if-both P (serialRemains (f .next)) (takes (leaseOf c (f .next)) tt at-rest) at-rest
+
+  second-consumed : (ps : List Lease) (f : Flow) (t g : List ℕ) (c : ℕ) → Locking ps ps f t g c (secondOf (given h script ps) f t g c)
+  unfolding secondOf
+  second-consumed ps f t g c =
+      let m = boundaryOf (given h script ps) f t g .seen in
+      let k = takeOf (m .0 .next) (m .1 .0) c .seen in
+      follow (boundary-consumed ps f t g) (follow (take-consumed ps (m .0) (m .1 .0) (m .1 .1) c)
+      (after-consumed ps (k .0 .answer) (flowOf (k .0 .next) (m .0 .place) (m .0 .dropped)) (k .1) (m .1 .1) c))
+
+  pub lock-consumed : (ps : List Lease) (f : Flow) (t g : List ℕ) (c : ℕ) → Locking ps ps f t g c (lockOf (given h script ps) f t g c)
+  unfolding lockOf
+  lock-consumed ps f t g c =
+      let m = boundaryOf (given h script ps) f t g .seen in
+      follow (boundary-consumed ps f t g)
+      (if-both (Locking ps ps (m .0) (m .1 .0) (m .1 .1) c) (eqb (waitersAt (m .1 .0) c) 0) (second-consumed ps (m .0) (m .1 .0) (m .1 .1) c) at-rest)
+
+  -- ---- attempts by key
+
+  abbrev Trying : List Lease → Run → List ℕ → List ℕ → Made (With Tried) → Type 0
+  Trying ps r t g m = Goes ps (r .flow) t g (held-after ps (m .seen .0 .outcome)) (m .seen .0 .run .flow) (of-tried h (m .seen)) (m .log)
+
+  at-consumed : (ps : List Lease) (x : Found) (r : Run) (t g : List ℕ) → Trying ps r t g (attemptAt x (given h script ps) r t g)
+  at-consumed ps (found.Fault x) r t g = at-rest
+  at-consumed ps (found.At c) r t g = follow (lock-consumed ps (r .flow) t g c) at-rest
+
+  pub attempt-consumed : (ps : List Lease) (buckets : ℕ) (registry : List ℕ) (binding bucket : ℕ) (r : Run) (t g : List ℕ)
+      → Trying ps r t g (attemptOf (given h script ps) buckets registry binding bucket r t g)
+  unfolding attemptOf
+  attempt-consumed ps buckets registry binding bucket r t g = counts attempts-one (at-consumed ps (findOf (h .headers) buckets g registry binding bucket) r t g)
+
+  abbrev Running : List Lease → List Lease → Run → List ℕ → List ℕ → Made (With Run) → Type 0
+  Running ps rs r t g m = Goes ps (r .flow) t g rs (m .seen .0 .flow) (of-run h (m .seen)) (m .log)
+
+  spin-consumed : (ps : List Lease) (r : Run) (t g : List ℕ) → Running ps ps r t g (spinOf (given h script ps) r t g)
+  unfolding spinOf
+  spin-consumed ps r t g = follow (boundary-consumed ps (r .flow) t g) (counts spins at-rest)
+
+  pause-consumed : (ps : List Lease) (i : ℕ) (r : Run) (t g : List ℕ) → Running ps ps r t g (pauseOf (given h script ps) i r t g)
+  unfolding pauseOf
+  pause-consumed ps i r t g =
+      let m = boundaryOf (given h script ps) (r .flow) t g .seen in
+      if-both (Running ps ps r t g) (eqb (i % 64) 63)
+      (follow (boundary-consumed ps (r .flow) t g)
+      (counts yields-once (spin-consumed ps (runOf (m .0) (r .attempts) (r .boundaries + 1) (r .yields + 1)) (m .1 .0) (m .1 .1))))
+      (spin-consumed ps r t g)
+
+  -- a Busy outcome adds nothing
+  none-held : (ps : List Lease) (o : Outcome) → isBusy o ≡ true → held-after ps o ≡ ps
+  none-held ps (outcome.Granted l) e = absurd (differ e)
+  none-held ps outcome.Busy e = refl
+  none-held ps (outcome.Refused r) e = absurd (differ e)
+
+  pub retry-consumed : (left i : ℕ) (ps : List Lease) (buckets : ℕ) (registry : List ℕ) (binding bucket : ℕ) (r : Run) (t g : List ℕ)
+      → Trying ps r t g (retryOf left i (given h script ps) buckets registry binding bucket r t g)
+  unfolding retryOf
+  retry-consumed zero i ps buckets registry binding bucket r t g = at-rest
+  retry-consumed (suc left) i ps buckets registry binding bucket r t g =
+      let m = attemptOf (given h script ps) buckets registry binding bucket r t g .seen in
+      let p = pauseOf (given h script ps) i (m .0 .run) (m .1 .0) (m .1 .1) .seen in
+      let qs = held-after ps (m .0 .outcome) in
+      follow (attempt-consumed ps buckets registry binding bucket r t g)
+      (if-cases (λ (x : Made (With Tried)). Goes qs (m .0 .run .flow) (m .1 .0) (m .1 .1) (held-after ps (x .seen .0 .outcome)) (x .seen .0 .run .flow) (of-tried h (x .seen)) (x .log))
+      (isBusy (m .0 .outcome))
+      (λ b. rw (none-held ps (m .0 .outcome) b)
+      (follow (pause-consumed ps i (m .0 .run) (m .1 .0) (m .1 .1)) (retry-consumed left (i + 1) ps buckets registry binding bucket (p .0) (p .1 .0) (p .1 .1))))
+      (λ _. at-rest))
+
+  -- ---- giving back, and multi-lock
+
+  pub back-consumed : (n : ℕ) (ps ls : List Lease) (r : Run) (t g : List ℕ) → n ≤ length ls
+      → Running (ps ++ take n ls) ps r t g (giveBackOf n (given h script ps) ls r t g)
+  unfolding giveBackOf
+  back-consumed zero ps ls r t g l = rw (append-nil ps) at-rest
+  back-consumed (suc n) ps ls r t g l =
+      let k = leaseAt ls n in
+      let u = setCell t (k .cell) 0 0 in
+      let m = boundaryOf (given h script (ps ++ take n ls)) (r .flow) u g .seen in
+      rw (take-suc ls n noLease l, ← append-assoc ps (take n ls) (k ∷ []))
+      (gives-up k tt (follow (boundary-consumed (ps ++ take n ls) (r .flow) u g)
+      (back-consumed n ps ls (runOf (m .0) (r .attempts) (r .boundaries + 1) (r .yields)) (m .1 .0) (m .1 .1) (omega arith))))
+
+  abbrev Ending : List Lease → List Lease → Run → List ℕ → List ℕ → Made Locks → Type 0
+  Ending qs ps r t g m =
+      Goes qs (r .flow) t g (granted-after ps (m .seen .0 .answer) (m .seen .1 .1 .1)) (m .seen .0 .run .flow)
+      (worldAt h (m .seen .0 .run .flow .next) (m .seen .1 .0) (m .seen .1 .1 .0)) (m .log)
+
+  module _ (ps : List Lease) (buckets : ℕ) (registry keys grants : List ℕ) where
+    rollback-consumed : (taken : List Lease) (x : Refusal) (p : ℕ) (r : Run) (t g : List ℕ)
+        → Ending (ps ++ taken) ps r t g (rollbackOf (given h script ps) taken x p r t g grants)
+    unfolding rollbackOf
+    rollback-consumed taken x p r t g =
+        follow (subst (λ (ls : List Lease). Running (ps ++ ls) ps r t g (giveBackOf (length taken) (given h script ps) taken r t g)) (take-length taken)
+        (back-consumed (length taken) ps taken r t g (omega arith))) at-rest
+
+    pub locks-consumed : (left p : ℕ) (taken : List Lease) (r : Run) (t g : List ℕ)
+        → Ending (ps ++ taken) ps r t g (locksOf left p (given h script ps) buckets registry keys taken r t g grants)
+    unfolding locksOf
+    locks-consumed zero p taken r t g = rw (leases-words taken) at-rest
+    locks-consumed (suc left) p taken r t g =
+        let m = retryOf attemptLimit 0 (given h script (ps ++ taken)) buckets registry (bindingAt keys p) (bucketAt keys p) r t g .seen in
+        follow (retry-consumed attemptLimit 0 (ps ++ taken) buckets registry (bindingAt keys p) (bucketAt keys p) r t g)
+        (go (m .0 .run) (m .1 .0) (m .1 .1) (m .0 .outcome) (λ l. locksOf left (p + 1) (given h script ps) buckets registry keys (taken ++ (l ∷ [])) (m .0 .run) (m .1 .0) (m .1 .1) grants)
+        (λ l. locks-consumed left (p + 1) (taken ++ (l ∷ [])) (m .0 .run) (m .1 .0) (m .1 .1)))
+      where
+        go : (k : Run) (u w : List ℕ) (o : Outcome) (more : Lease → Made Locks) → ((l : Lease) → Ending (ps ++ (taken ++ (l ∷ []))) ps k u w (more l))
+            → Ending (held-after (ps ++ taken) o) ps k u w (afterKey o (given h script ps) taken p k u w grants more)
+        go k u w (outcome.Granted l) more y = rw (append-assoc ps taken (l ∷ [])) (y l)
+        go k u w outcome.Busy more y = rollback-consumed taken SerializationFailure p k u w
+        go k u w (outcome.Refused x) more y = rollback-consumed taken x p k u w

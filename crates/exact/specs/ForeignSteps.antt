@@ -1,0 +1,212 @@
+-- A foreign step, alone or in a script: what it asks for, and that it is performed exactly if that is legal when its turn comes. Else it is
+-- dropped, once, and nothing changes.
+use Prim.Native.Nat.{ℕ, _≤_}
+use mathlib.Core.Path.{_≡_, refl, sym, _∙_, subst}
+use mathlib.Core.List.{List, [], _∷_, _++_, append-nil}
+use mathlib.Core.Bool.{true, not, _&&_}
+use native.Mathlib.Omega.{arith}
+use lib.Dec.{ltb, leb, eqb}
+use borrow.Author.Tests.{ltb-true, leb-true, eqb-true, eqb-false, lt-ltb, le-leb, eq-eqb, not-true}
+use Rattle.model.specs.Log.{Made, Event, by-script, attempt-begun, boundary-run, yielded, spun, step-dropped, took, released, waiters-set, health-set}
+use Rattle.model.specs.Arena.{lastSerial, serialRemains, cellsOf, leaseOf, bitAt, ownerAt, isFree, isLive, isIn}
+use Rattle.model.specs.Foreign.{stepTakeOf, stepReleaseOf, stepWaitersOf, stepHealthOf, stepOf}
+use Rattle.model.specs.Calls.{given}
+use Rattle.model.specs.declared.Head.{Head}
+use Rattle.model.specs.declared.Lease.{Lease}
+use Rattle.model.specs.declared.Stepped.{Stepped}
+use Rattle.laws.specs.Pick.{both}
+use Rattle.history.specs.World.{World, Legal, step}
+use Rattle.history.specs.Items.{foreign}
+use Rattle.history.specs.Tests.{differ, is-free-state, free-words, if-cases}
+use Rattle.history.specs.Steps.{With, worldAt, of-step}
+use Rattle.exact.specs.Statements.{Allowed, Asks, Foreign-exactly, Stepping, Lone, dropped, looks, release-it, set-health, set-waiters, take-a-cell, ends, performed}
+
+-- only kinds 1 to 4 ask for anything
+asks-kind : {w : World} {kind place number : ℕ} {e : Event} → Asks w kind place number e → (1 ≤ kind) × (kind ≤ 4)
+asks-kind (take-a-cell c s) = (omega arith, omega arith)
+asks-kind (release-it c s) = (omega arith, omega arith)
+asks-kind (set-waiters c s) = (omega arith, omega arith)
+asks-kind (set-health c s) = (omega arith, omega arith)
+
+-- `stepOf` is such a step, on any arena
+module _ (h : Head) (script : List ℕ) (ps : List Lease) (n : ℕ) (t g : List ℕ) where
+  abbrev before : World
+  before = worldAt h n t g
+
+  abbrev Is : (kind place number : ℕ) → Made (With Stepped) → Type 0
+  Is kind place number m = Stepping before ps kind place number (of-step h (m .seen)) (m .log) (m .seen .0 .dropped)
+
+  -- a step that asks for e alone, which is not allowed
+  gone : {kind place number : ℕ} (e : Event) → Asks before kind place number e → ((x : Event) → Asks before kind place number x → e ≡ x) → (Allowed before ps e → ⊥)
+      → Stepping before ps kind place number before (step-dropped ∷ []) 1
+  gone e a o n = dropped (λ z. omega (arith, asks-kind a .0)) (λ z. omega (arith, asks-kind a .1)) (λ x b l. n (subst (Allowed before ps) (sym (o x b)) l))
+
+  -- a step on one run, and then nothing
+  abbrev OnTable : (kind place number : ℕ) → Made (Stepped × List ℕ) → Type 0
+  OnTable kind place number m = Stepping before ps kind place number (worldAt h (m .seen .0 .next) (m .seen .1) g) (m .log ++ []) (m .seen .0 .dropped)
+
+  abbrev OnHealth : (kind place number : ℕ) → Made (Stepped × List ℕ) → Type 0
+  OnHealth kind place number m = Stepping before ps kind place number (worldAt h (m .seen .0 .next) t (m .seen .1)) (m .log ++ []) (m .seen .0 .dropped)
+
+  take-is : (c s : ℕ) → OnTable 1 c s (stepTakeOf (cellsOf h) n t c)
+  unfolding stepTakeOf isFree
+  take-is c s =
+      if-cases (OnTable 1 c s) (ltb c (cellsOf h) && isFree (bitAt t c) (ownerAt t c) && serialRemains n)
+      (λ e.
+      let p = both (ltb c (cellsOf h) && isFree (bitAt t c) (ownerAt t c)) (serialRemains n) e in
+      let q = both (ltb c (cellsOf h)) (isFree (bitAt t c) (ownerAt t c)) (p .0) in
+      performed (took by-script c n) (take-a-cell c s) ((ltb-true _ _ (q .0), is-free-state n t c (q .1)), (refl, ltb-true _ _ (p .1))))
+      (λ e. gone (took by-script c n) (take-a-cell c s) only
+      (λ l.
+      let f = free-words n t c (l .0 .1) in
+      differ (sym e ∙ rw (lt-ltb c (cellsOf h) (l .0 .0), eq-eqb (bitAt t c) 0 (f .0), eq-eqb (ownerAt t c) 0 (f .1), lt-ltb n lastSerial (l .1 .1)))))
+    where
+      only : (x : Event) → Asks before 1 c s x → took by-script c n ≡ x
+      only x (take-a-cell _ _) = refl
+
+  release-is : (c s : ℕ) → OnTable 2 c s (stepReleaseOf (cellsOf h) ps n t c s)
+  unfolding stepReleaseOf
+  release-is c s =
+      if-cases (OnTable 2 c s) (isLive n (cellsOf h) t (leaseOf c s) && not (isIn (leaseOf c s) ps))
+      (λ e.
+      let p = both (isLive n (cellsOf h) t (leaseOf c s)) (not (isIn (leaseOf c s) ps)) e in
+      performed (released by-script c s) (release-it c s) (p .0, not-true _ (p .1)))
+      (λ e. gone (released by-script c s) (release-it c s) only (λ l. differ (sym e ∙ rw (l .0, l .1))))
+    where
+      only : (x : Event) → Asks before 2 c s x → released by-script c s ≡ x
+      only x (release-it _ _) = refl
+
+  waiters-is : (c s : ℕ) → OnTable 3 c s (stepWaitersOf (cellsOf h) n t c s)
+  unfolding stepWaitersOf
+  waiters-is c s =
+      if-cases (OnTable 3 c s) (ltb c (cellsOf h))
+      (λ e. performed (waiters-set c s) (set-waiters c s) (ltb-true _ _ e))
+      (λ e. gone (waiters-set c s) (set-waiters c s) only (λ l. differ (sym e ∙ lt-ltb _ _ l)))
+    where
+      only : (x : Event) → Asks before 3 c s x → waiters-set c s ≡ x
+      only x (set-waiters _ _) = refl
+
+  health-is : (i s : ℕ) → OnHealth 4 i s (stepHealthOf (h .headers) n g i s)
+  unfolding stepHealthOf
+  health-is i s =
+      if-cases (OnHealth 4 i s) (ltb i (h .headers) && leb s 1)
+      (λ e.
+      let p = both (ltb i (h .headers)) (leb s 1) e in
+      performed (health-set i s) (set-health i s) (ltb-true _ _ (p .0), leb-true _ _ (p .1)))
+      (λ e. gone (health-set i s) (set-health i s) only (λ l. differ (sym e ∙ rw (lt-ltb i (h .headers) (l .0), le-leb s 1 (l .1)))))
+    where
+      only : (x : Event) → Asks before 4 i s x → health-set i s ≡ x
+      only x (set-health _ _) = refl
+
+  pub step-is : (kind place number : ℕ) → Is kind place number (stepOf (given h script ps) n t g kind place number)
+  unfolding stepOf
+  step-is kind place number =
+      if-cases P (eqb kind 0) (λ e. looks (eqb-true _ _ e)) (λ e₀.
+      if-cases P (eqb kind 1) (λ e. at 1 e (take-is place number)) (λ e₁.
+      if-cases P (eqb kind 2) (λ e. at 2 e (release-is place number)) (λ e₂.
+      if-cases P (eqb kind 3) (λ e. at 3 e (waiters-is place number)) (λ e₃.
+      if-cases P (eqb kind 4) (λ e. at 4 e (health-is place number)) (λ e₄.
+      if-cases P (eqb kind 5) (λ e. ends (eqb-true _ _ e)) (λ e₅.
+      dropped (eqb-false _ _ e₀) (eqb-false _ _ e₅) (λ x a l. none (eqb-false _ _ e₁) (eqb-false _ _ e₂) (eqb-false _ _ e₃) (eqb-false _ _ e₄) (asks-kind a))))))))
+    where
+      P : Made (With Stepped) → Type 0
+      P = Is kind place number
+
+      at : (k : ℕ) {v : World} {es : List Event} {d : ℕ} → eqb kind k ≡ true → Stepping before ps k place number v es d → Stepping before ps kind place number v es d
+      at k {v} {es} {d} e s = subst (λ x. Stepping before ps x place number v es d) (sym (eqb-true _ _ e)) s
+
+      none : (kind ≡ 1 → ⊥) → (kind ≡ 2 → ⊥) → (kind ≡ 3 → ⊥) → (kind ≡ 4 → ⊥) → (1 ≤ kind) × (kind ≤ 4) → ⊥
+      none a b c d r = omega (arith, r .0, r .1)
+
+allowed-legal : (w : World) (ps : List Lease) (e : Event) → Allowed w ps e → Legal w e
+allowed-legal w ps attempt-begun l = l
+allowed-legal w ps boundary-run l = l
+allowed-legal w ps yielded l = l
+allowed-legal w ps spun l = l
+allowed-legal w ps step-dropped l = l
+allowed-legal w ps (took a c s) l = l
+allowed-legal w ps (released a c s) l = l .0
+allowed-legal w ps (waiters-set c n) l = l
+allowed-legal w ps (health-set i n) l = l
+
+legal-allowed : (w : World) (e : Event) → Legal w e → Allowed w [] e
+unfolding isIn
+legal-allowed w attempt-begun l = l
+legal-allowed w boundary-run l = l
+legal-allowed w yielded l = l
+legal-allowed w spun l = l
+legal-allowed w step-dropped l = l
+legal-allowed w (took a c s) l = l
+legal-allowed w (released a c s) l = (l, refl)
+legal-allowed w (waiters-set c n) l = l
+legal-allowed w (health-set i n) l = l
+
+-- a drop is asked for by no step
+not-asked : {w : World} {kind place number : ℕ} {e : Event} → Asks w kind place number e → e ≡ step-dropped → ⊥
+not-asked (take-a-cell c s) q = let z : _≡_ {A = ℕ} 0 1 = cc in omega arith
+not-asked (release-it c s) q = let z : _≡_ {A = ℕ} 0 1 = cc in omega arith
+not-asked (set-waiters c s) q = let z : _≡_ {A = ℕ} 0 1 = cc in omega arith
+not-asked (set-health c s) q = let z : _≡_ {A = ℕ} 0 1 = cc in omega arith
+
+module _ (w : World) where
+  -- the step, as `foreign` gives it
+  foreign-is : (kind place number : ℕ)
+      → (d : ℕ) × Stepping w [] kind place number (foreign w kind place number .seen) (foreign w kind place number .log) d
+  unfolding foreign
+  foreign-is kind place number =
+      let m = stepOf (given (w .head) [] []) (w .head .next) (w .table) (w .health) kind place number in
+      (m .seen .0 .dropped, rw append-nil (step-is (w .head) [] [] (w .head .next) (w .table) (w .health) kind place number))
+
+  module _ {kind place number : ℕ} (e : Event) (a : Asks w kind place number e) (only : (x : Event) → Asks w kind place number x → e ≡ x) where
+    lone-of : {v : World} {es : List Event} {d : ℕ} → Stepping w [] kind place number v es d → Lone w e (record { seen = v; log = es })
+    lone-of (looks z) = absurd (omega (arith, asks-kind a .0))
+    lone-of (ends z) = absurd (omega (arith, asks-kind a .1))
+    lone-of (performed x b l) =
+        let k = allowed-legal w [] e (subst (Allowed w []) (sym (only x b)) l) in
+        subst (λ y. Lone w e (record { seen = step w y; log = y ∷ [] })) (only x b)
+        (record { done = (λ _. k, λ _. refl); lost = (λ q. absurd (not-asked a cc), λ n. absurd (n k)); legal = λ _. refl; illegal = λ n. absurd (n k) })
+    lone-of (dropped i j n) =
+        let k : Legal w e → ⊥ = λ l. n e a (legal-allowed w e l) in
+        record { done = (λ q. absurd (not-asked a cc), λ l. absurd (k l)); lost = (λ _. k, λ _. refl); legal = λ l. absurd (k l); illegal = λ _. refl }
+
+pub foreign-exactly : Foreign-exactly foreign
+foreign-exactly w c n =
+    record {
+      takes = lone-of w (took by-script c (w .head .next)) (take-a-cell c n) only-take (foreign-is w 1 c n .1);
+      releases = lone-of w (released by-script c n) (release-it c n) only-release (foreign-is w 2 c n .1);
+      sets-waiters = lone-of w (waiters-set c n) (set-waiters c n) only-waiters (foreign-is w 3 c n .1);
+      sets-health = lone-of w (health-set c n) (set-health c n) only-health (foreign-is w 4 c n .1);
+      observes = observe (foreign-is w 0 c n .1) refl;
+      closes = close (foreign-is w 5 c n .1) refl;
+      others = λ k i. other i (foreign-is w k c n .1);
+    }
+  where
+    only-take : (x : Event) → Asks w 1 c n x → took by-script c (w .head .next) ≡ x
+    only-take x (take-a-cell _ _) = refl
+
+    only-release : (x : Event) → Asks w 2 c n x → released by-script c n ≡ x
+    only-release x (release-it _ _) = refl
+
+    only-waiters : (x : Event) → Asks w 3 c n x → waiters-set c n ≡ x
+    only-waiters x (set-waiters _ _) = refl
+
+    only-health : (x : Event) → Asks w 4 c n x → health-set c n ≡ x
+    only-health x (set-health _ _) = refl
+
+    observe : {k d : ℕ} {v : World} {es : List Event} → Stepping w [] k c n v es d → k ≡ 0 → _≡_ {A = Made World} (record { seen = v; log = es }) (record { seen = w; log = [] })
+    observe (looks z) q = refl
+    observe (ends z) q = refl
+    observe (performed x a l) q = absurd (omega (arith, asks-kind a .0))
+    observe (dropped i j x) q = absurd (i q)
+
+    close : {k d : ℕ} {v : World} {es : List Event} → Stepping w [] k c n v es d → k ≡ 5 → _≡_ {A = Made World} (record { seen = v; log = es }) (record { seen = w; log = [] })
+    close (looks z) q = refl
+    close (ends z) q = refl
+    close (performed x a l) q = absurd (omega (arith, asks-kind a .1))
+    close (dropped i j x) q = absurd (j q)
+
+    other : {k d : ℕ} {v : World} {es : List Event} → 6 ≤ k → Stepping w [] k c n v es d → _≡_ {A = Made World} (record { seen = v; log = es }) (record { seen = w; log = step-dropped ∷ [] })
+    other i (looks z) = absurd (omega arith)
+    other i (ends z) = absurd (omega arith)
+    other i (performed x a l) = absurd (omega (arith, asks-kind a .1))
+    other i (dropped x y z) = refl

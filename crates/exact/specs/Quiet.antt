@@ -1,0 +1,121 @@
+-- Where the script is at its end nothing happens between the steps of a call. Then a lock must lock: what each call answers, by a table.
+use Prim.Native.Nat.{ℕ, zero, suc, _+_, _*_, _-_, _/_, _%_, _≤_, _<_}
+use mathlib.Core.Path.{_≡_, refl, ap, _∙_}
+use mathlib.Core.List.{List, [], _∷_}
+use mathlib.Core.Bool.{Bool, true, false}
+use native.Mathlib.Omega.{arith}
+use native.Mathlib.Nat.{suc-mul, zero-mul}
+use lib.Dec.{eqb}
+use borrow.Author.Tests.{ltb-true, ltb-false, eqb-true, eqb-false, eq-eqb}
+use Rattle.model.specs.Choice.{if_then_else_}
+use Rattle.model.specs.Log.{Made, boundary-run}
+use Rattle.model.specs.Arena.{lastSerial, serialRemains, leaseOf, bitAt, ownerAt, waitersAt, setCell, stateAt}
+use Rattle.model.specs.Foreign.{Setting, protecting, stepsIn, flowOf, stepsOf, boundaryOf}
+use Rattle.model.specs.Lock.{takeIn, takeOf, lockedOf, lateOf, afterTake, secondOf, lockOf, runOf, triedOf, attemptOf, spinOf, pauseOf, retryOf}
+use Rattle.model.specs.declared.Flow.{Flow}
+use Rattle.model.specs.declared.Locked.{Locked}
+use Rattle.model.specs.declared.Outcome.the-variants as outcome
+use Rattle.model.specs.declared.Run.{Run}
+use Rattle.model.specs.declared.State.{State}
+use Rattle.model.specs.declared.Take.the-variants as taking
+use Rattle.model.specs.declared.Took.{Took}
+use Rattle.laws.specs.Words.{waiters-set-cell}
+use Rattle.history.specs.World.{one}
+use Rattle.history.specs.Tests.{Stands, stands, is-free, is-held, is-damaged, if-cases}
+use Rattle.history.specs.Steps.{With}
+
+-- ---- one quiet boundary, and one quiet `try_lock`
+
+module _ (e : Setting) (f : Flow) (t g : List ℕ) where
+  pub boundary-quiet : stepsIn (e .script) ≤ f .place → boundaryOf e f t g ≡ record { seen = (f, (t, g)); log = boundary-run ∷ [] }
+  unfolding boundaryOf stepsOf
+  boundary-quiet l = let k : stepsIn (e .script) - f .place ≡ 0 = omega arith in rw k
+
+-- what one quiet try_lock of cell c comes to: five rows
+pub data Quiet-lock (f : Flow) (t g : List ℕ) (c : ℕ) : With Locked → Type 0 where
+  was-waited : (waitersAt t c ≡ 0 → ⊥) → Quiet-lock f t g c (lockedOf f 1 taking.Busy, (t, g))
+  was-held : waitersAt t c ≡ 0 → bitAt t c ≡ 1 → 1 ≤ ownerAt t c → ownerAt t c < f .next → Quiet-lock f t g c (lockedOf f 2 taking.Busy, (t, g))
+  was-damaged : waitersAt t c ≡ 0 → (bitAt t c ≡ 0 → ownerAt t c ≡ 0 → ⊥) → (bitAt t c ≡ 1 → 1 ≤ ownerAt t c → ownerAt t c < f .next → ⊥)
+      → Quiet-lock f t g c (lockedOf f 2 taking.Damaged, (t, g))
+  was-spent : waitersAt t c ≡ 0 → bitAt t c ≡ 0 → ownerAt t c ≡ 0 → lastSerial ≤ f .next → Quiet-lock f t g c (lockedOf f 2 taking.Spent, (t, g))
+  was-free : waitersAt t c ≡ 0 → bitAt t c ≡ 0 → ownerAt t c ≡ 0 → f .next < lastSerial
+      → Quiet-lock f t g c (lockedOf (flowOf (f .next + 1) (f .place) (f .dropped)) 3 (taking.Granted (f .next)), (setCell t c 1 (f .next), g))
+
+module _ (e : Setting) (f : Flow) (t g : List ℕ) (c : ℕ) (quiet : stepsIn (e .script) ≤ f .place) where
+  late-quiet : (n : ℕ) (u : List ℕ) (s : ℕ) → waitersAt u c ≡ 0
+      → lateOf e (flowOf n (f .place) (f .dropped)) u g c s .seen ≡ (lockedOf (flowOf n (f .place) (f .dropped)) 3 (taking.Granted s), (u, g))
+  unfolding lateOf
+  late-quiet n u s w = rw (boundary-quiet (protecting e (leaseOf c s ∷ [])) (flowOf n (f .place) (f .dropped)) u g quiet, eq-eqb (waitersAt u c) 0 w)
+
+  pub lock-quiet : Quiet-lock f t g c (lockOf e f t g c .seen)
+  unfolding lockOf secondOf takeOf stateAt
+  lock-quiet = rw (boundary-quiet e f t g quiet, boundary-quiet e f t g quiet) (
+      if-cases (λ (m : Made (With Locked)). Quiet-lock f t g c (m .seen)) (eqb (waitersAt t c) 0)
+      (λ w. on (eqb-true _ _ w) (stands (f .next) (bitAt t c) (ownerAt t c)))
+      (λ w. was-waited (eqb-false _ _ w)))
+    where
+      After : Made (Took × List ℕ) → Type 0
+      After k = Quiet-lock f t g c (afterTake (k .seen .0 .answer) e (flowOf (k .seen .0 .next) (f .place) (f .dropped)) (k .seen .1) g c .seen)
+
+      on : waitersAt t c ≡ 0 → {x : State} → Stands (f .next) (bitAt t c) (ownerAt t c) x → After (takeIn x (f .next) t c)
+      on w (is-damaged p q) = was-damaged w p q
+      on w (is-held p q r) = was-held w p q r
+      on w (is-free p q) =
+          if-cases After (serialRemains (f .next))
+          (λ r. rw (late-quiet (f .next + 1) (setCell t c 1 (f .next)) (f .next) (waiters-set-cell t c 1 (f .next) c ∙ w)) (was-free w p q (ltb-true _ _ r)))
+          (λ r. was-spent w p q (ltb-false _ _ r))
+
+-- ---- Busy attempts in a row
+
+-- yields among `left` Busy attempts, the first of which has number i
+unfoldable pub yieldsIn : ℕ → ℕ → ℕ
+yieldsIn zero i = 0
+yieldsIn (suc left) i = one (eqb (i % 64) 63) + yieldsIn left (i + 1)
+
+pub one-more : (i : ℕ) → one (eqb (i % 64) 63) + i / 64 ≡ (i + 1) / 64
+one-more i = go (eqb (i % 64) 63) refl
+  where
+    go : (b : Bool) → eqb (i % 64) 63 ≡ b → one b + i / 64 ≡ (i + 1) / 64
+    go true e = let q = eqb-true (i % 64) 63 e in omega arith
+    go false e = let q = eqb-false (i % 64) 63 e in omega arith
+
+-- "whose number has remainder 63 by 64": one for every 64
+pub yields-are : (left i : ℕ) → yieldsIn left i + i / 64 ≡ (i + left) / 64
+unfolding yieldsIn
+yields-are zero i = omega arith
+yields-are (suc left) i =
+    let k : i + 1 + left ≡ i + suc left = omega arith in
+    omega (arith, one-more i, rw k at (yields-are left (i + 1)))
+
+module _ (e : Setting) (f : Flow) (t g : List ℕ) (quiet : stepsIn (e .script) ≤ f .place) where
+  -- a run that counts the same is the same
+  same-run : {a a′ x x′ y y′ : ℕ} → a ≡ a′ → x ≡ x′ → y ≡ y′ → runOf f a x y ≡ runOf f a′ x′ y′
+  same-run p q r = cc
+
+  spin-quiet : (a x y : ℕ) → spinOf e (runOf f a x y) t g .seen ≡ (runOf f a (x + 1) y, (t, g))
+  unfolding spinOf
+  spin-quiet a x y = rw (boundary-quiet e f t g quiet)
+
+  pause-quiet : (i a x y : ℕ)
+      → pauseOf e i (runOf f a x y) t g .seen ≡ (runOf f a (x + 1 + one (eqb (i % 64) 63)) (y + one (eqb (i % 64) 63)), (t, g))
+  unfolding pauseOf
+  pause-quiet i a x y =
+      rw (boundary-quiet e f t g quiet) (go (eqb (i % 64) 63) _ _ (spin-quiet a (x + 1) (y + 1))
+      (spin-quiet a x y ∙ ap (λ (r : Run). (r, (t, g))) (same-run refl (omega arith) (omega arith))))
+    where
+      go : (b : Bool) (m o : Made (With Run)) → m .seen ≡ (runOf f a (x + 1 + 1) (y + 1), (t, g)) → o .seen ≡ (runOf f a (x + 1 + 0) (y + 0), (t, g))
+          → (if b then m else o) .seen ≡ (runOf f a (x + 1 + one b) (y + one b), (t, g))
+      go true m o p q = p
+      go false m o p q = q
+
+  -- attempts that are all Busy, with b boundaries each, and change nothing: each has a boundary for its spin too, and each yield one more
+  module _ (buckets : ℕ) (registry : List ℕ) (binding bucket b : ℕ)
+      (busy : (a x y : ℕ) → attemptOf e buckets registry binding bucket (runOf f a x y) t g .seen ≡ (triedOf (runOf f (a + 1) (x + b) y) outcome.Busy, (t, g))) where
+    pub busy-retry : (left i a x y : ℕ)
+        → retryOf left i e buckets registry binding bucket (runOf f a x y) t g .seen
+        ≡ (triedOf (runOf f (a + left) (x + left * (b + 1) + yieldsIn left i) (y + yieldsIn left i)) outcome.Busy, (t, g))
+    unfolding retryOf yieldsIn
+    busy-retry zero i a x y = ap (λ (r : Run). (triedOf r outcome.Busy, (t, g))) (same-run (omega arith) (omega (arith, zero-mul (b + 1))) (omega arith))
+    busy-retry (suc left) i a x y =
+        rw (busy a x y, pause-quiet i (a + 1) (x + b) y, busy-retry left (i + 1) (a + 1) (x + b + 1 + one (eqb (i % 64) 63)) (y + one (eqb (i % 64) 63)))
+        (ap (λ (r : Run). (triedOf r outcome.Busy, (t, g))) (same-run (omega arith) (omega (arith, suc-mul left (b + 1))) (omega arith)))

@@ -1,0 +1,246 @@
+-- The script is at its end and the checks found nothing: what `try_lock`, `transactional_try_lock_bucket` and `acquire_index_bucket` must
+-- answer, by a table each. Every row gives the answer, all counts, the place and the world afterwards.
+use Prim.Native.Nat.{ℕ, suc, _+_, _*_, _≤_, _<_}
+use mathlib.Core.Path.{_≡_, refl, sym, ap, _∙_, subst}
+use mathlib.Core.List.{List, []}
+use mathlib.Core.Bool.{false, not}
+use native.Mathlib.Omega.{arith}
+use native.Mathlib.Nat.{zero-add}
+use lib.Dec.{leb, eqb}
+use lib.ListN.{getD}
+use borrow.Author.Tests.{leb-true, leb-false, eqb-true, eqb-false, not-true, not-false}
+use Rattle.model.specs.Arena.{spentTo, leasesOf}
+use Rattle.model.specs.Foreign.{Setting, stepsIn, flowOf}
+use Rattle.model.specs.Lock.{lockedOf, lockOf, outcomeOf, answerOf, settled, runOf, triedOf, findOf, attemptAt, attemptOf, isBusy, retryOf}
+use Rattle.model.specs.Calls.{countsOf, given, starting}
+use Rattle.model.specs.declared.Answer.{Answer}
+use Rattle.model.specs.declared.Answer.the-variants.{Granted, Busy, Refused}
+use Rattle.model.specs.declared.Flow.{Flow}
+use Rattle.model.specs.declared.Found.{Found}
+use Rattle.model.specs.declared.Found.the-variants as found
+use Rattle.model.specs.declared.Lease.{Lease}
+use Rattle.model.specs.declared.Locked.{Locked}
+use Rattle.model.specs.declared.Outcome.the-variants as outcome
+use Rattle.model.specs.declared.Refusal.the-variants.{BadHeader, Poisoned, InvalidBucket, Damaged, SerialsSpent, SerializationFailure}
+use Rattle.model.specs.declared.Run.{Run}
+use Rattle.model.specs.declared.Take.the-variants as taking
+use Rattle.model.specs.declared.Tried.{Tried}
+use Rattle.history.specs.World.{World, worldOf}
+use Rattle.history.specs.Items.{Says, says, perform, cellOf}
+use Rattle.history.specs.Tests.{if-cases}
+use Rattle.history.specs.Steps.{With}
+use Rattle.exact.specs.Made.{made}
+use Rattle.exact.specs.Quiet.{Quiet-lock, was-waited, was-held, was-damaged, was-spent, was-free, lock-quiet, yieldsIn, yields-are, busy-retry}
+use Rattle.exact.specs.Script.{acquire-bucket-has, transactional-has, try-lock-has}
+use Rattle.exact.specs.Statements.{Acquire-bucket-exactly, Acquire-bucket-quiet, By-key, Names, Quietly, Transactional-quiet, Try-lock-exactly, Try-lock-quiet, bad-header, Locks-exactly, at-waited, busy-after, failed-after, is-poisoned, at-held, bad-bucket, at-damaged, names, at-spent, at-free}
+
+-- ---- proofs
+
+-- one attempt, as a call says it
+abbrev said : World → With Tried → World × Says
+said w m = (worldOf (spentTo (w .head) (m .0 .run .flow .next)) (m .1 .0) (m .1 .1), says (answerOf (m .0 .outcome)) (countsOf (m .0 .run .attempts) (m .0 .run .boundaries) (m .0 .run .yields) (m .0 .run .flow .dropped)) (m .0 .run .flow .place) [])
+
+-- one quiet try_lock in a run with a attempts and x boundaries before
+abbrev after : ℕ → ℕ → ℕ → ℕ → With Locked → With Tried
+after c a x y k = (triedOf (runOf (k .0 .flow) (a + 1) (x + k .0 .boundaries) y) (outcomeOf c (k .0 .answer)), k .1)
+
+lock-row : (w : World) (place c : ℕ) {m : With Locked} → Quiet-lock (flowOf (w .head .next) place 0) (w .table) (w .health) c m
+    → Quietly w place (busy-after place 1) (busy-after place 2) c (said w (after c 0 0 0 m))
+lock-row w place c (was-waited n) = at-waited n
+lock-row w place c (was-held u p q r) = at-held u (p, q, r)
+lock-row w place c (was-damaged u p q) = at-damaged u ((λ x. p (x .0) (x .1)), (λ x. q (x .0) (x .1) (x .2)))
+lock-row w place c (was-spent u p q r) = at-spent u (p, q) r
+lock-row w place c (was-free u p q r) = at-free u (p, q) r
+
+pub try-lock-quiet : Try-lock-quiet perform
+try-lock-quiet w script place held c fine end =
+    subst (Quietly w place (busy-after place 1) (busy-after place 2) c) (sym (ap (λ m. m .seen) (made w (try-lock-has script place held c) fine)))
+    (rw (zero-add (lockOf (given (w .head) script (leasesOf held)) (flowOf (w .head .next) place 0) (w .table) (w .health) c .seen .0 .boundaries))
+    at (lock-row w place c (lock-quiet (given (w .head) script (leasesOf held)) (flowOf (w .head .next) place 0) (w .table) (w .health) c end)))
+
+-- what a key names, in words
+pub data Keyed (headers buckets : ℕ) (g registry : List ℕ) (binding bucket : ℕ) : Found → Type 0 where
+  no-header : headers ≤ getD registry binding 0 → Keyed headers buckets g registry binding bucket (found.Fault (BadHeader (getD registry binding 0)))
+  sick : getD registry binding 0 < headers → (getD g (getD registry binding 0) 0 ≡ 0 → ⊥)
+      → Keyed headers buckets g registry binding bucket (found.Fault (Poisoned (getD registry binding 0)))
+  no-bucket : getD registry binding 0 < headers → getD g (getD registry binding 0) 0 ≡ 0 → buckets ≤ bucket
+      → Keyed headers buckets g registry binding bucket (found.Fault (InvalidBucket bucket))
+  at-cell : getD registry binding 0 < headers → getD g (getD registry binding 0) 0 ≡ 0 → bucket < buckets
+      → Keyed headers buckets g registry binding bucket (found.At (getD registry binding 0 * buckets + bucket))
+
+pub keyed : (headers buckets : ℕ) (g registry : List ℕ) (binding bucket : ℕ) → Keyed headers buckets g registry binding bucket (findOf headers buckets g registry binding bucket)
+unfolding findOf
+keyed headers buckets g registry binding bucket =
+    if-cases P (leb headers header) (λ e. no-header (leb-true _ _ e)) (λ e.
+    if-cases P (not (eqb (getD g header 0) 0)) (λ p. sick (leb-false _ _ e) (eqb-false _ _ (not-true _ p))) (λ p.
+    if-cases P (leb buckets bucket) (λ b. no-bucket (leb-false _ _ e) (eqb-true _ _ (not-false _ p)) (leb-true _ _ b))
+    (λ b. at-cell (leb-false _ _ e) (eqb-true _ _ (not-false _ p)) (leb-false _ _ b))))
+  where
+    header : ℕ
+    header = getD registry binding 0
+
+    P : Found → Type 0
+    P = Keyed headers buckets g registry binding bucket
+
+pub transactional-quiet : Transactional-quiet perform
+unfolding attemptOf
+transactional-quiet w registry script place held binding bucket fine end =
+    subst (By-key w registry binding bucket place Row) (sym (ap (λ m. m .seen) (made w (transactional-has registry script place held binding bucket) fine)))
+    (go (keyed (w .head .headers) (w .head .buckets) (w .health) registry binding bucket))
+  where
+    Row : ℕ → World × Says → Type 0
+    Row = Quietly w place (busy-after place 1) (busy-after place 2)
+
+    go : {x : Found} → Keyed (w .head .headers) (w .head .buckets) (w .health) registry binding bucket x
+        → By-key w registry binding bucket place Row (said w (attemptAt x (given (w .head) script (leasesOf held)) (starting (w .head) place) (w .table) (w .health) .seen))
+    go (no-header p) = bad-header p
+    go (sick p q) = is-poisoned p q
+    go (no-bucket p q r) = bad-bucket p q r
+    go (at-cell p q r) =
+        names p q r (lock-row w place _ (lock-quiet (given (w .head) script (leasesOf held)) (flowOf (w .head .next) place 0) (w .table) (w .health) _ end))
+
+-- ---- retrying
+
+-- an attempt that is not Busy ends the retry
+module _ (e : Setting) (buckets : ℕ) (registry : List ℕ) (binding bucket : ℕ) (r : Run) (t g : List ℕ) where
+  pub retry-stops : (left i : ℕ) → isBusy (attemptOf e buckets registry binding bucket r t g .seen .0 .outcome) ≡ false
+      → retryOf (suc left) i e buckets registry binding bucket r t g .seen ≡ attemptOf e buckets registry binding bucket r t g .seen
+  unfolding retryOf
+  retry-stops left i n = rw n
+
+  pub attempt-as : {x : Found} → findOf (e .headers) buckets g registry binding bucket ≡ x
+      → attemptOf e buckets registry binding bucket r t g .seen ≡ attemptAt x e r t g .seen
+  unfolding attemptOf
+  attempt-as q = rw q
+
+sixty-four : yieldsIn 4096 0 ≡ 64
+sixty-four = omega (arith, yields-are 4096 0)
+
+-- as `acquire_index_bucket` says it
+abbrev said-at-last : World → With Tried → World × Says
+said-at-last w m = said w (triedOf (m .0 .run) (settled (m .0 .outcome)), m .1)
+
+module _ (w : World) (registry script : List ℕ) (place : ℕ) (held : List ℕ) (binding bucket : ℕ) (end : stepsIn script ≤ place) where
+  abbrev around : Setting
+  around = given (w .head) script (leasesOf held)
+
+  abbrev from : Flow
+  from = flowOf (w .head .next) place 0
+
+  abbrev found-is : Found
+  found-is = findOf (w .head .headers) (w .head .buckets) (w .health) registry binding bucket
+
+  abbrev retried : With Tried
+  retried = retryOf 4096 0 around (w .head .buckets) registry binding bucket (runOf from 0 0 0) (w .table) (w .health) .seen
+
+  abbrev Row : ℕ → World × Says → Type 0
+  Row = Quietly w place (failed-after place 8256) (failed-after place 12352)
+
+  abbrev Fits : With Tried → Type 0
+  Fits m = By-key w registry binding bucket place Row (said-at-last w m)
+
+  stop : {x : Found} → found-is ≡ x → isBusy (attemptAt x around (runOf from 0 0 0) (w .table) (w .health) .seen .0 .outcome) ≡ false
+      → Fits (attemptAt x around (runOf from 0 0 0) (w .table) (w .health) .seen) → Fits retried
+  stop {x} q n y =
+      let k = attempt-as around (w .head .buckets) registry binding bucket (runOf from 0 0 0) (w .table) (w .health) q in
+      subst Fits (sym (retry-stops around (w .head .buckets) registry binding bucket (runOf from 0 0 0) (w .table) (w .health) 4095 0 (rw k n) ∙ k)) y
+
+  module _ (c : ℕ) (q : found-is ≡ found.At c) where
+    -- Busy again and again, with b boundaries each
+    again : (b : ℕ) → lockOf around from (w .table) (w .health) c .seen ≡ (lockedOf from b taking.Busy, (w .table, w .health))
+        → Fits (triedOf (runOf from 4096 (4096 * (b + 1) + 64) 64) outcome.Busy, (w .table, w .health)) → Fits retried
+    again b l y =
+        subst Fits (sym (busy-retry around from (w .table) (w .health) end (w .head .buckets) registry binding bucket b
+        (λ a x y. attempt-as around (w .head .buckets) registry binding bucket (runOf from a x y) (w .table) (w .health) q ∙ rw l) 4096 0 0 0 0)) (rw (sixty-four, zero-add (4096 * (b + 1))) y)
+
+    row : {m : With Locked} → Quiet-lock from (w .table) (w .health) c m → lockOf around from (w .table) (w .health) c .seen ≡ m
+        → ((x : World × Says) → Row c x → By-key w registry binding bucket place Row x) → Fits retried
+    row (was-waited n) l name = again 1 l (name _ (at-waited n))
+    row (was-held u x y z) l name = again 2 l (name _ (at-held u (x, y, z)))
+    row (was-damaged u x y) l name =
+        stop q (rw l) (rw l (name _ (at-damaged u ((λ z. x (z .0) (z .1)), (λ z. y (z .0) (z .1) (z .2))))))
+    row (was-spent u x y z) l name = stop q (rw l) (rw l (name _ (at-spent u (x, y) z)))
+    row (was-free u x y z) l name = stop q (rw l) (rw l (name _ (at-free u (x, y) z)))
+
+  all-rows : {x : Found} → Keyed (w .head .headers) (w .head .buckets) (w .health) registry binding bucket x → found-is ≡ x → Fits retried
+  all-rows (no-header p) q = stop q refl (bad-header p)
+  all-rows (sick p r) q = stop q refl (is-poisoned p r)
+  all-rows (no-bucket p r b) q = stop q refl (bad-bucket p r b)
+  all-rows (at-cell p r b) q = row _ q (lock-quiet around from (w .table) (w .health) _ end) refl (λ x y. names p r b y)
+
+pub acquire-bucket-quiet : Acquire-bucket-quiet perform
+acquire-bucket-quiet w registry script place held binding bucket fine end =
+    subst (By-key w registry binding bucket place (Row w registry script place held binding bucket end)) (sym (ap (λ m. m .seen) (made w (acquire-bucket-has registry script place held binding bucket) fine)))
+    (all-rows w registry script place held binding bucket end (keyed (w .head .headers) (w .head .buckets) (w .health) registry binding bucket) refl)
+
+-- the answers of a Busy row are Busy, or 11
+data Late : Answer → Type 0 where
+  at-once : Late Busy
+  at-last : Late (Refused SerializationFailure)
+
+late-granted : {a : Answer} {l : Lease} → Late a → a ≡ Granted l → ⊥
+late-granted at-once e = let z : _≡_ {A = ℕ} 0 1 = cc in omega arith
+late-granted at-last e = let z : _≡_ {A = ℕ} 0 1 = cc in omega arith
+
+late-damaged : {a : Answer} {d : ℕ} → Late a → a ≡ Refused (Damaged d) → ⊥
+late-damaged at-once e = let z : _≡_ {A = ℕ} 0 1 = cc in omega arith
+late-damaged at-last e = let z : _≡_ {A = ℕ} 0 1 = cc in omega arith
+
+late-spent : {a : Answer} {d : ℕ} → Late a → a ≡ Refused (SerialsSpent d) → ⊥
+late-spent at-once e = let z : _≡_ {A = ℕ} 0 1 = cc in omega arith
+late-spent at-last e = let z : _≡_ {A = ℕ} 0 1 = cc in omega arith
+
+module _ {w : World} {place : ℕ} {waiting holding : Says} {c : ℕ} where
+  -- the table says it exactly
+  exactly : {x : World × Says} (busy : Answer) → Late busy → waiting .answer ≡ busy → holding .answer ≡ busy → Quietly w place waiting holding c x
+      → Locks-exactly w c busy (x .1 .answer)
+  exactly busy l p q (at-waited n) =
+      record {
+        granted = λ k. (λ e. absurd (late-granted l (sym p ∙ e)), λ r. absurd (n (r .0 .0)));
+        not-now = (λ _ u. absurd (n u), λ _. p);
+        damaged = (λ e. absurd (late-damaged l (sym p ∙ e)), λ r. absurd (n (r .0)));
+        spent = (λ e. absurd (late-spent l (sym p ∙ e)), λ r. absurd (n (r .0)));
+      }
+  exactly busy l p q (at-held u h) =
+      record {
+        granted = λ k. (λ e. absurd (late-granted l (sym q ∙ e)), λ r. absurd (omega (arith, h .0, r .0 .1 .0)));
+        not-now = (λ _ _. h, λ _. q);
+        damaged = (λ e. absurd (late-damaged l (sym q ∙ e)), λ r. absurd (r .1 .1 h));
+        spent = (λ e. absurd (late-spent l (sym q ∙ e)), λ r. absurd (omega (arith, h .0, r .1 .0)));
+      }
+  exactly busy l p q (at-damaged u d) =
+      record {
+        granted = λ k. (λ e. let z : _≡_ {A = ℕ} 0 1 = cc in absurd (omega arith), λ r. absurd (d .0 (r .0 .1)));
+        not-now = (λ e. absurd (late-damaged l (sym e)), λ r. absurd (d .1 (r u)));
+        damaged = (λ e. (u, d), λ _. refl);
+        spent = (λ e. let z : _≡_ {A = ℕ} 0 1 = cc in absurd (omega arith), λ r. absurd (d .0 (r .1)));
+      }
+  exactly busy l p q (at-spent u f r) =
+      record {
+        granted = λ k. (λ e. let z : _≡_ {A = ℕ} 0 1 = cc in absurd (omega arith), λ s. absurd (omega (arith, s .0 .2)));
+        not-now = (λ e. absurd (late-spent l (sym e)), λ s. absurd (omega (arith, f .0, s u .0)));
+        damaged = (λ e. let z : _≡_ {A = ℕ} 0 1 = cc in absurd (omega arith), λ s. absurd (s .1 .0 f));
+        spent = (λ e. (u, f, r), λ _. refl);
+      }
+  exactly busy l p q (at-free u f r) =
+      record {
+        granted = λ k. (λ e. ((u, f, r), cc), λ s. ap (λ (y : Lease). Granted y) (sym (s .1)));
+        not-now = (λ e. absurd (late-granted l (sym e)), λ s. absurd (omega (arith, f .0, s u .0)));
+        damaged = (λ e. let z : _≡_ {A = ℕ} 0 1 = cc in absurd (omega arith), λ s. absurd (s .1 .0 f));
+        spent = (λ e. let z : _≡_ {A = ℕ} 0 1 = cc in absurd (omega arith), λ s. absurd (omega (arith, s .2)));
+      }
+
+-- a key that names a cell has that cell's row
+pub named-row : {w : World} {registry : List ℕ} {binding bucket place : ℕ} {Row : ℕ → World × Says → Type 0} {x : World × Says}
+    → Names w registry binding bucket → By-key w registry binding bucket place Row x → Row (cellOf (w .head .buckets) registry binding bucket) x
+named-row n (bad-header p) = absurd (omega (arith, n .0))
+named-row n (is-poisoned p q) = absurd (q (n .1))
+named-row n (bad-bucket p q r) = absurd (omega (arith, n .2))
+named-row n (names p q r y) = y
+
+pub try-lock-exactly : Try-lock-exactly perform
+try-lock-exactly w script place held c fine end = exactly Busy at-once refl refl (try-lock-quiet w script place held c fine end)
+
+pub acquire-bucket-exactly : Acquire-bucket-exactly perform
+acquire-bucket-exactly w registry script place held binding bucket fine end n =
+    exactly (Refused SerializationFailure) at-last refl refl (named-row n (acquire-bucket-quiet w registry script place held binding bucket fine end))

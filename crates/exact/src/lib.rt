@@ -1,0 +1,1 @@
+// Theory: when a call must do what. Everything is in specs/.

@@ -1,0 +1,122 @@
+-- What answers mean: statements about the leases that answers hand over, one call at a time and over a whole history. `World`, `Items` and
+-- `Statements` have the words they are made of, `Theorems` the proofs by name. What stands in quotes is of the work order or of document 01.
+use Prim.Native.Nat.{ℕ, _<_}
+use mathlib.Core.Path.{_≡_}
+use mathlib.Core.List.{List, _∷_, _++_}
+use mathlib.Core.Logic.{_⊎_}
+use lib.ListN.{length}
+use Rattle.model.specs.Log.{Actor, Event, by-caller, took, released}
+use Rattle.model.specs.Arena.{leaseOf, leasesOf}
+use Rattle.model.specs.Checks.{countIn}
+use Rattle.model.specs.Lock.{leaseAt}
+use Rattle.model.specs.declared.Answer.the-variants.{AllGranted, Busy, Refused, RefusedAt}
+use Rattle.model.specs.declared.Lease.{Lease}
+use Rattle.model.specs.declared.Refusal.{Refusal}
+use Rattle.history.specs.World.{World, Live, now, Unreleased}
+use Rattle.history.specs.Items.{Call, try-acquire, drop-lease, read-permission, competing-acquire, release-then-handoff, foreign-release, drop-preserving, acquire-preserving, environment, try-lock, transactional, acquire-bucket, release-all, acquire-locks, crew, asked, keyCell, Build, Entry, events-of, history-of}
+use Rattle.history.specs.Statements.{Through, answer-in, buffer-in, Hands-over, Gives}
+
+-- ---- one call, whatever the arena holds
+
+-- a lease that an answer hands over was taken by the caller in this very call, with the serial that was next then. So no answer hands over a
+-- lease that somebody else holds, or one made up
+abbrev pub Handed-over : Build → Type 0
+Handed-over f =
+    (w : World) (k : Call) (l : Lease) → Gives (f w k) l
+    → (before after : List Event) × (f w k .log ≡ before ++ (took by-caller (l .cell) (l .serial) ∷ after)) × (l .serial ≡ now w before .head .next)
+
+-- the serials in a granted buffer rise from each position to each later one
+abbrev pub Serials-rise : Build → Type 0
+Serials-rise f =
+    (w : World) (k : Call) (i j : ℕ) → answer-in (f w k) ≡ AllGranted
+    → let ls = leasesOf (buffer-in (f w k)) in i < j → j < length ls → leaseAt ls i .serial < leaseAt ls j .serial
+
+-- while (c, s) is live, no answer hands over a lease on c unless the call's own log releases (c, s) first
+abbrev pub Not-over-live : Build → Type 0
+Not-over-live f =
+    (w : World) (k : Call) (c s s′ : ℕ) → Live w (leaseOf c s) → Gives (f w k) (leaseOf c s′)
+    → (a : Actor) × (before middle after : List Event)
+    × (f w k .log ≡ before ++ (released a c s ∷ (middle ++ (took by-caller c s′ ∷ after))))
+
+-- the calls that ask for one cell
+abbrev pub Asks-one : Call → Type 0
+Asks-one (try-acquire c) = Unit {0}
+Asks-one (drop-lease l) = ⊥
+Asks-one (read-permission l) = ⊥
+Asks-one (competing-acquire l) = Unit {0}
+Asks-one (release-then-handoff l) = Unit {0}
+Asks-one (foreign-release held l) = Unit {0}
+Asks-one (drop-preserving held l) = ⊥
+Asks-one (acquire-preserving held c) = Unit {0}
+Asks-one (environment script place held) = ⊥
+Asks-one (try-lock script place held c) = Unit {0}
+Asks-one (transactional registry script place held binding bucket) = Unit {0}
+Asks-one (acquire-bucket registry script place held binding bucket) = Unit {0}
+Asks-one (release-all script place leases) = ⊥
+Asks-one (acquire-locks registry script place held keys grants) = ⊥
+Asks-one (crew counts cells turns) = ⊥
+
+-- "every attempt to take c in that stretch": such a call of a cell that a live lease holds, in whose log that lease is not released, is Busy
+-- or refused
+abbrev pub Busy-or-refused : Build → Type 0
+Busy-or-refused f =
+    (w : World) (k : Call) (s : ℕ) → Asks-one k
+    → let l = leaseOf (asked w k) s in
+    Live w l → Unreleased l (f w k .log)
+    → (answer-in (f w k) ≡ Busy) ⊎ ((r : Refusal) × (answer-in (f w k) ≡ Refused r))
+
+-- and a multi-lock with a key of that cell is refused
+abbrev pub Locks-refused : Build → Type 0
+Locks-refused f =
+    (w : World) (registry script : List ℕ) (place : ℕ) (held keys grants : List ℕ) (p s : ℕ) → p < countIn keys
+    → let m = f w (acquire-locks registry script place held keys grants) in
+    let l = leaseOf (keyCell (w .head .buckets) registry keys p) s in
+    Live w l → Unreleased l (m .log)
+    → ((r : Refusal) × (answer-in m ≡ Refused r)) ⊎ ((r : Refusal) × (q : ℕ) × (answer-in m ≡ RefusedAt r q))
+
+-- ---- a history, with what each item said
+
+-- this entry hands this lease over
+abbrev pub Hands : Entry → Lease → Type 0
+Hands e = Hands-over (e .said .answer) (e .said .grants)
+
+-- no lease is handed over twice: the serials that answers hand over rise from each answer to each later one of the stretch
+abbrev pub Never-twice : Type 0
+Never-twice =
+    Through (λ d.
+    (x y z : List Entry) (i j : Entry) (l k : Lease) → d .entries ≡ x ++ (i ∷ (y ++ (j ∷ z)))
+    → Hands i l → Hands j k → l .serial < k .serial)
+
+-- nor does one answer hand over two leases on one cell
+abbrev pub Once-each : Type 0
+Once-each =
+    Through (λ d.
+    (x z : List Entry) (i : Entry) (c s s′ : ℕ) → d .entries ≡ x ++ (i ∷ z)
+    → Hands i (leaseOf c s) → Hands i (leaseOf c s′) → s ≡ s′)
+
+-- "two writers drive one valve": an answer hands over (c, s), a later one hands over a lease on c, whoever calls. Then (c, s) was released in
+-- between, and only then was the second lease taken
+abbrev pub Two-writers : Type 0
+Two-writers =
+    Through (λ d.
+    (x y z : List Entry) (i j : Entry) (c s s′ : ℕ) → d .entries ≡ x ++ (i ∷ (y ++ (j ∷ z)))
+    → Hands i (leaseOf c s) → Hands j (leaseOf c s′)
+    → (a : Actor) × (before middle after : List Event)
+    × (events-of y ++ j .events ≡ before ++ (released a c s ∷ (middle ++ (took by-caller c s′ ∷ after)))))
+
+-- the same of anybody's take, a script's and a crew's too: after the answer that hands over (c, s), the cell is taken only behind a release
+-- of (c, s)
+abbrev pub None-takes : Type 0
+None-takes =
+    Through (λ d.
+    (x z : List Entry) (i : Entry) (c s s′ : ℕ) (b : Actor) (between after : List Event) → d .entries ≡ x ++ (i ∷ z)
+    → Hands i (leaseOf c s) → events-of z ≡ between ++ (took b c s′ ∷ after)
+    → (a : Actor) × (before middle : List Event) × (between ≡ before ++ (released a c s ∷ middle)))
+
+-- and of any two takes of one cell, by callers, scripts or crews: the first lease was released in between
+abbrev pub Takes-parted : Type 0
+Takes-parted =
+    Through (λ d.
+    (c s s′ : ℕ) (a b : Actor) (x between z : List Event)
+    → history-of d ≡ x ++ (took a c s ∷ (between ++ (took b c s′ ∷ z)))
+    → (e : Actor) × (before middle : List Event) × (between ≡ before ++ (released e c s ∷ middle)))

@@ -1,0 +1,381 @@
+-- Two writers: a cell that an answer handed over is taken again only behind a release of that lease.
+use Prim.Native.Nat.{ℕ, zero, suc, _+_, _<_}
+use mathlib.Core.Path.{_≡_, refl, sym, ap, _∙_, subst}
+use mathlib.Core.List.{List, [], _∷_, _++_, append-assoc}
+use mathlib.Core.Logic.{_⊎_, inl, inr}
+use native.Mathlib.Omega.{arith}
+use native.Mathlib.Decide.{ℕ-discrete}
+use lib.ListN.{length}
+use lib.Seq.{take-length}
+use Rattle.model.specs.Log.{Actor, Event, by-caller, attempt-begun, boundary-run, yielded, spun, step-dropped, took, released, waiters-set, health-set}
+use Rattle.model.specs.Arena.{leaseOf, leasesOf, setCell}
+use Rattle.model.specs.Checks.{countIn}
+use Rattle.model.specs.Foreign.{Setting, protecting, flowOf}
+use Rattle.model.specs.Lock.{takeOf, lockOf, outcomeOf, answerOf, attemptOf, retryOf, attemptLimit, settled, leaseAt, noLease, rollbackOf, afterKey, bindingAt, bucketAt, locksOf}
+use Rattle.model.specs.Calls.{starting, acquireOf, prepareOf}
+use Rattle.model.specs.declared.Answer.{Answer}
+use Rattle.model.specs.declared.Answer.the-variants.{Done, Cell, Granted, AllGranted, Busy, Refused, RefusedAt}
+use Rattle.model.specs.declared.Head.{Head}
+use Rattle.model.specs.declared.Lease.{Lease}
+use Rattle.model.specs.declared.Outcome.{Outcome}
+use Rattle.model.specs.declared.Outcome.the-variants as outcome
+use Rattle.model.specs.declared.Refusal.{Refusal}
+use Rattle.model.specs.declared.Run.{Run}
+use Rattle.laws.specs.Prepared.{Outcome as Prepared, Came, was-done, was-refused, came}
+use Rattle.history.specs.World.{World, Live, step, now, Lawful, Releases, Unreleased, worldOf}
+use Rattle.history.specs.Items.{Call, try-acquire, drop-lease, read-permission, competing-acquire, release-then-handoff, foreign-release, drop-preserving, acquire-preserving, environment, try-lock, transactional, acquire-bucket, release-all, acquire-locks, crew, perform, Item, call, foreign-step, preparation, prepared-by, preparing, next-item, run, cold, asked, Entry, entryOf, events-of, Course, keyCell, preparation-over}
+use Rattle.history.specs.Statements.{Hands-over, answers, log-of, Gives, Through, buffer-in}
+use Rattle.history.specs.Tests.{free-words, same-lease, In, in-take}
+use Rattle.history.specs.Events.{Fit, fit, fit-step, keep-step, lives, taken-live, good}
+use Rattle.history.specs.Logs.{now-append, lawful-split, fit-now, next-now}
+use Rattle.history.specs.Judged.{acting, steps, performed}
+use Rattle.history.specs.Calls.{words-leases, call-kept, call-fit}
+use Rattle.history.specs.Courses.{Stretch, run-stretch, events-append, begun}
+use Rattle.history.specs.Handed.{Taken-in, taken-between}
+use Rattle.history.specs.HandedCalls.{call-came}
+use Rattle.history.specs.Answers.{Asks-one, Busy-or-refused, Locks-refused, Never-twice, None-takes, Not-over-live, Once-each, Takes-parted, Two-writers}
+use Rattle.history.specs.Answers.{Hands}
+use Rattle.history.specs.ByKey.{grants-name, buffers-name}
+use Rattle.history.specs.Returns.{not-empty}
+
+-- ---- one log: between a live lease and the next take of its cell stands a release of it
+
+-- an event releases this lease, or not
+looked : (l : Lease) (e : Event) → (Releases l e → ⊥) ⊎ ((a : Actor) × (e ≡ released a (l .cell) (l .serial)))
+looked l attempt-begun = inl (λ x. x)
+looked l boundary-run = inl (λ x. x)
+looked l yielded = inl (λ x. x)
+looked l spun = inl (λ x. x)
+looked l step-dropped = inl (λ x. x)
+looked l (took a c s) = inl (λ x. x)
+looked l (released a c s) = go (ℕ-discrete (l .cell) c) (ℕ-discrete (l .serial) s)
+  where
+    go : Dec (l .cell ≡ c) → Dec (l .serial ≡ s) → (Releases l (released a c s) → ⊥) ⊎ ((b : Actor) × (released a c s ≡ released b (l .cell) (l .serial)))
+    go (yes p) (yes q) = inr (a, rw (p, q))
+    go (yes p) (no q) = inl (λ x. q (ap (λ (k : Lease). k .serial) x))
+    go (no p) q = inl (λ x. p (ap (λ (k : Lease). k .cell) x))
+looked l (waiters-set c n) = inl (λ x. x)
+looked l (health-set i n) = inl (λ x. x)
+
+pub parted : (w : World) (c s s′ : ℕ) (b : Actor) (between after : List Event) → Fit w → Live w (leaseOf c s) → Lawful w (between ++ (took b c s′ ∷ after))
+    → (a : Actor) × (before middle : List Event) × (between ≡ before ++ (released a c s ∷ middle))
+parted w c s s′ b [] after g v k =
+    absurd (omega (arith, lives w (leaseOf c s) v .bit-is, free-words (w .head .next) (w .table) c (k .0 .0 .1) .0))
+parted w c s s′ b (e ∷ es) after g v k =
+    go (looked (leaseOf c s) e) (λ n. parted (step w e) c s s′ b es after (fit-step w e g (k .0)) (keep-step w e (leaseOf c s) g (k .0) v n) (k .1))
+  where
+    Out : List Event → Type 0
+    Out xs = (a : Actor) × (before middle : List Event) × (xs ≡ before ++ (released a c s ∷ middle))
+
+    go : (Releases (leaseOf c s) e → ⊥) ⊎ ((a : Actor) × (e ≡ released a c s)) → ((Releases (leaseOf c s) e → ⊥) → Out es) → Out (e ∷ es)
+    go (inr r) on = (r .0, [], es, ap (λ (x : Event). x ∷ es) (r .1))
+    go (inl n) on = let r = on n in (r .0, e ∷ r .1, r .2, ap (λ (x : List Event). e ∷ x) (r .3))
+
+-- ---- what a course keeps
+
+-- from the world w on, each entry took what it hands over, and left it live
+abbrev pub Honest : World → Entry → Type 0
+Honest w e = (l : Lease) → Hands e l → Taken-in (w .head .next) l (e .events) × Live (now w (e .events)) l
+
+abbrev pub Fair : World → List Entry → Type 0
+Fair w [] = Unit {0}
+Fair w (e ∷ es) = Honest w e × Fair (now w (e .events)) es
+
+fair-append : (w : World) (xs ys : List Entry) → Fair w xs → Fair (now w (events-of xs)) ys → Fair w (xs ++ ys)
+fair-append w [] ys p q = q
+fair-append w (x ∷ xs) ys p q = (p .0, fair-append (now w (x .events)) xs ys (p .1) (rw (now-append w (x .events) (events-of xs)) at q))
+
+fair-split : (w : World) (xs ys : List Entry) → Fair w (xs ++ ys) → Fair (now w (events-of xs)) ys
+fair-split w [] ys p = p
+fair-split w (x ∷ xs) ys p = rw (now-append w (x .events) (events-of xs)) (fair-split (now w (x .events)) xs ys (p .1))
+
+pub record Kept-well (d : Course) : Type 0 where
+  pub stretch : Stretch d
+  pub fair : Fair (d .origin) (d .entries)
+
+call-honest : (w : World) (k : Call) → Honest w (entryOf (log-of w k) (perform w k .seen .1))
+call-honest w k l x =
+    let m = call-kept w k in
+    (call-came w k l x, subst (λ v. Live v l) (m .kept .leads) (m .gain l x))
+
+one-more : (d : Course) (e : Entry) → Kept-well d → Honest (d .world) e → Fair (d .origin) (d .entries ++ (e ∷ []))
+one-more d e s h = fair-append (d .origin) (d .entries) (e ∷ []) (s .fair) (subst (λ w. Honest w e) (s .stretch .leads) h, tt)
+
+-- a preparation hands nothing over
+prepared-fair : (a : Answer) (w v : World) (d : Course) → ((l : Lease) → Hands-over a [] l → ⊥) → Kept-well d
+    → Fair (prepared-by a w v d .origin) (prepared-by a w v d .entries)
+prepared-fair Done w v d h s = tt
+prepared-fair (Cell c) w v d h s = one-more d _ s (λ l x. absurd (h l x))
+prepared-fair (Granted k) w v d h s = one-more d _ s (λ l x. absurd (h l x))
+prepared-fair AllGranted w v d h s = one-more d _ s (λ l x. absurd (h l x))
+prepared-fair Busy w v d h s = one-more d _ s (λ l x. absurd (h l x))
+prepared-fair (Refused r) w v d h s = one-more d _ s (λ l x. absurd (h l x))
+prepared-fair (RefusedAt r p) w v d h s = one-more d _ s (λ l x. absurd (h l x))
+
+hands-none : (headers buckets serial : ℕ) (t g : List ℕ) (l : Lease) → Hands-over (preparing headers buckets serial t g .0) [] l → ⊥
+unfolding preparing
+hands-none headers buckets serial t g l = go (came headers buckets serial t g)
+  where
+    None : Prepared → Type 0
+    None o = Hands-over (o .0 .answer) [] l → ⊥
+
+    go : Came headers buckets serial t g → None (prepareOf headers buckets serial t g .seen)
+    go (was-done e p) = subst None (sym p) (λ x. x)
+    go (was-refused e p) = subst None (sym p) (λ x. x)
+
+item-fair : (d : Course) (i : Item) → Kept-well d → Fair (next-item d i .origin) (next-item d i .entries)
+unfolding next-item
+item-fair d (call k) s = one-more d _ s (call-honest (d .world) k)
+item-fair d (foreign-step kind place number) s = one-more d _ s (λ l x. absurd x)
+item-fair d (preparation headers buckets serial) s =
+    let p = preparing headers buckets serial (d .world .table) (d .world .health) in
+    prepared-fair (p .0) (p .1) (worldOf (d .world .head) (p .1 .table) (p .1 .health)) d (hands-none headers buckets serial (d .world .table) (d .world .health)) s
+item-fair d (preparation-over headers buckets serial t g) s =
+    let p = preparing headers buckets serial t g in
+    prepared-fair (p .0) (p .1) (d .world) d (hands-none headers buckets serial t g) s
+
+item-kept : (d : Course) (i : Item) → Kept-well d → Kept-well (next-item d i)
+unfolding run
+item-kept d i s = record { stretch = run-stretch d (i ∷ []) (s .stretch); fair = item-fair d i s }
+
+run-kept : (d : Course) (is : List Item) → Kept-well d → Kept-well (run d is)
+unfolding run
+run-kept d [] s = s
+run-kept d (i ∷ is) s = run-kept (next-item d i) is (item-kept d i s)
+
+pub through : Through Kept-well
+unfolding run next-item
+through rubbish headers buckets serial items d =
+    run-kept (next-item (cold rubbish) (preparation headers buckets serial)) items
+    (record { stretch = begun rubbish headers buckets serial d; fair = first (p .0) d })
+  where
+    p : Answer × World
+    p = preparing headers buckets serial (rubbish .table) (rubbish .health)
+
+    new : Answer → Course
+    new a = prepared-by a (p .1) (worldOf (rubbish .head) (p .1 .table) (p .1 .health)) (cold rubbish)
+
+    first : (a : Answer) → a ≡ Done → Fair (new a .origin) (new a .entries)
+    first a e = subst (λ (x : Answer). Fair (new x .origin) (new x .entries)) (sym e) tt
+
+-- ---- at an entry
+
+-- the world before an entry, and the entries behind it
+record At (w : World) (i : Entry) (z : List Entry) : Type 0 where
+  honest : Honest w i
+  fits : Fit (now w (i .events))
+  lawful : Lawful (now w (i .events)) (events-of z)
+  fair : Fair (now w (i .events)) z
+
+at : (d : Course) (x z : List Entry) (i : Entry) → Kept-well d → d .entries ≡ x ++ (i ∷ z) → At (now (d .origin) (events-of x)) i z
+at d x z i s e =
+    let o = d .origin in
+    let u = now o (events-of x) in
+    let f = fair-split o x (i ∷ z) (subst (Fair o) e (s .fair)) in
+    let k = lawful-split o (events-of x) (i .events ++ events-of z) (subst (Lawful o) (ap events-of e ∙ events-append x (i ∷ z)) (s .stretch .lawful)) in
+    let m = lawful-split u (i .events) (events-of z) (k .1) in
+    record { honest = f .0; fits = fit-now u (i .events) (fit-now o (events-of x) (fit (s .stretch .good)) (k .0)) (m .0); lawful = m .1; fair = f .1 }
+
+-- ---- lists
+
+-- where an event of the second of three lists stands in all of them
+seam : (xs js before after zs : List Event) (new : Event) → js ≡ before ++ (new ∷ after) → xs ++ (js ++ zs) ≡ (xs ++ before) ++ (new ∷ (after ++ zs))
+seam xs js before after zs new e =
+    ap (λ (l : List Event). xs ++ (l ++ zs)) e ∙ ap (λ (l : List Event). xs ++ l) (append-assoc before (new ∷ after) zs) ∙ sym (append-assoc xs before (new ∷ (after ++ zs)))
+
+pub spliced : (xs js before after m n : List Event) (new old : Event) → js ≡ before ++ (new ∷ after) → xs ++ before ≡ m ++ (old ∷ n)
+    → xs ++ js ≡ m ++ (old ∷ (n ++ (new ∷ after)))
+spliced xs js before after m n new old e f =
+    ap (λ (l : List Event). xs ++ l) e ∙ sym (append-assoc xs before (new ∷ after)) ∙ ap (λ (l : List Event). l ++ (new ∷ after)) f ∙ append-assoc m (old ∷ n) (new ∷ after)
+
+-- ---- the statements
+
+pub never-twice : Never-twice
+never-twice rubbish headers buckets serial items d x y z i j l k e p q =
+    let w = run (cold rubbish) (preparation headers buckets serial ∷ items) in
+    let u = now (w .origin) (events-of x) in
+    let v = now u (i .events) in
+    let a = at w x (y ++ (j ∷ z)) i (through rubbish headers buckets serial items d) e in
+    let b = taken-between (a .honest l p .0) in
+    let c = taken-between (fair-split v y (j ∷ z) (a .fair) .0 k q .0) in
+    omega (arith, b .1, c .0, next-now u (i .events), next-now v (events-of y))
+
+pub once-each : Once-each
+once-each rubbish headers buckets serial items d x z i c s s′ e p q =
+    let w = run (cold rubbish) (preparation headers buckets serial ∷ items) in
+    let v = now (now (w .origin) (events-of x)) (i .events) in
+    let a = at w x z i (through rubbish headers buckets serial items d) e in
+    sym (lives v (leaseOf c s) (a .honest (leaseOf c s) p .1) .owner-is) ∙ lives v (leaseOf c s′) (a .honest (leaseOf c s′) q .1) .owner-is
+
+pub none-takes : None-takes
+none-takes rubbish headers buckets serial items d x z i c s s′ b between after e p q =
+    let w = run (cold rubbish) (preparation headers buckets serial ∷ items) in
+    let v = now (now (w .origin) (events-of x)) (i .events) in
+    let a = at w x z i (through rubbish headers buckets serial items d) e in
+    parted v c s s′ b between after (a .fits) (a .honest (leaseOf c s) p .1) (subst (Lawful v) q (a .lawful))
+
+pub two-writers : Two-writers
+two-writers rubbish headers buckets serial items d x y z i j c s s′ e p q =
+    let w = run (cold rubbish) (preparation headers buckets serial ∷ items) in
+    let v = now (now (w .origin) (events-of x)) (i .events) in
+    let a = at w x (y ++ (j ∷ z)) i (through rubbish headers buckets serial items d) e in
+    let k = fair-split v y (j ∷ z) (a .fair) .0 (leaseOf c s′) q .0 in
+    let es = events-of y in
+    let new = took by-caller c s′ in
+    let whole = events-append y (j ∷ z) ∙ seam es (j .events) (k .before) (k .after) (events-of z) new (k .parts) in
+    let r = none-takes rubbish headers buckets serial items d x (y ++ (j ∷ z)) i c s s′ by-caller (es ++ k .before) (k .after ++ events-of z) e p whole in
+    (r .0, r .1, r .2, k .after, spliced es (j .events) (k .before) (k .after) (r .1) (r .2) new (released (r .0) c s) (k .parts) (r .3))
+
+pub takes-parted : Takes-parted
+takes-parted rubbish headers buckets serial items d c s s′ a b x between z e =
+    let w = run (cold rubbish) (preparation headers buckets serial ∷ items) in
+    let k = through rubbish headers buckets serial items d .stretch in
+    let p = lawful-split (w .origin) x (took a c s ∷ (between ++ (took b c s′ ∷ z))) (subst (Lawful (w .origin)) e (k .lawful)) in
+    let v = now (w .origin) x in
+    let v-fits = fit-now (w .origin) x (fit (k .good)) (p .0) in
+    let same : s ≡ v .head .next = p .1 .0 .1 .0 in
+    let new : Live (step v (took a c s)) (leaseOf c s) = rw same (taken-live v a c v-fits (p .1 .0 .0 .0)) in
+    parted (step v (took a c s)) c s s′ b between z (fit-step v (took a c s) v-fits (p .1 .0)) new (p .1 .1)
+
+-- ---- one call over a live lease
+
+pub not-over-live : Not-over-live perform
+not-over-live w k c s s′ v x = go (call-fit w k) (call-came w k (leaseOf c s′) x)
+  where
+    Out : Type 0
+    Out = (a : Actor) × (before middle after : List Event) × (log-of w k ≡ before ++ (released a c s ∷ (middle ++ (took by-caller c s′ ∷ after))))
+
+    go : (log-of w k ≡ []) ⊎ Fit w → Taken-in (w .head .next) (leaseOf c s′) (log-of w k) → Out
+    go (inl z) t = absurd (not-empty (took by-caller c s′) (t .before) (t .after) (sym z ∙ t .parts))
+    go (inr f) t =
+        let r = parted w c s s′ by-caller (t .before) (t .after) f v (subst (Lawful w) (t .parts) (call-kept w k .kept .lawful)) in
+        (r .0, r .1, r .2, t .after, spliced [] (log-of w k) (t .before) (t .after) (r .1) (r .2) (took by-caller c s′) (released (r .0) c s) (t .parts) (r .3))
+
+-- a log with a release of the lease is no log without one
+was-released : (c s : ℕ) (a : Actor) (before after : List Event) → Unreleased (leaseOf c s) (before ++ (released a c s ∷ after)) → ⊥
+was-released c s a [] after u = u .0 refl
+was-released c s a (e ∷ es) after u = was-released c s a es after (u .1)
+
+none-handed : (w : World) (k : Call) (c s s′ : ℕ) → Live w (leaseOf c s) → Unreleased (leaseOf c s) (log-of w k) → Gives (perform w k) (leaseOf c s′) → ⊥
+none-handed w k c s s′ v u x =
+    let r = not-over-live w k c s s′ v x in
+    was-released c s (r .0) (r .1) _ (subst (Unreleased (leaseOf c s)) (r .4) u)
+
+-- what such a call answers
+abbrev One : Answer → Type 0
+One Done = ⊥
+One (Cell c) = ⊥
+One (Granted l) = Unit {0}
+One AllGranted = ⊥
+One Busy = Unit {0}
+One (Refused r) = Unit {0}
+One (RefusedAt r p) = ⊥
+
+one-of : (o : Outcome) → One (answerOf o)
+one-of (outcome.Granted l) = tt
+one-of outcome.Busy = tt
+one-of (outcome.Refused r) = tt
+
+one-settled : (o : Outcome) → One (answerOf (settled o))
+one-settled (outcome.Granted l) = tt
+one-settled outcome.Busy = tt
+one-settled (outcome.Refused r) = tt
+
+acquire-one : (n : ℕ) (h : Head) (t : List ℕ) (c : ℕ) → One (acquireOf n h t c .seen .0 .answer)
+unfolding acquireOf
+acquire-one n h t c = one-of (outcomeOf c (takeOf (h .next) t c .seen .0 .answer))
+
+steps-one : (w : World) (k : Call) → Asks-one k → One (steps w k .seen .1 .answer)
+steps-one w (try-acquire c) a = acquire-one 1 (w .head) (w .table) c
+steps-one w (drop-lease l) a = absurd a
+steps-one w (read-permission l) a = absurd a
+steps-one w (competing-acquire l) a = acquire-one 1 (w .head) (w .table) (l .cell)
+steps-one w (release-then-handoff l) a = acquire-one 1 (w .head) (setCell (w .table) (l .cell) 0 0) (l .cell)
+steps-one w (foreign-release held l) a =
+    let m = acquireOf 1 (w .head) (w .table) (l .cell) .seen in
+    acquire-one 2 (m .0 .head) (setCell (m .1) (l .cell) 0 0) (l .cell)
+steps-one w (drop-preserving held l) a = absurd a
+steps-one w (acquire-preserving held c) a = acquire-one 1 (w .head) (w .table) c
+steps-one w (environment script place held) a = absurd a
+steps-one w (try-lock script place held c) a =
+    one-of (outcomeOf c (lockOf (acting w (try-lock script place held c)) (flowOf (w .head .next) place 0) (w .table) (w .health) c .seen .0 .answer))
+steps-one w (transactional registry script place held binding bucket) a =
+    let e = acting w (transactional registry script place held binding bucket) in
+    one-of (attemptOf e (w .head .buckets) registry binding bucket (starting (w .head) place) (w .table) (w .health) .seen .0 .outcome)
+steps-one w (acquire-bucket registry script place held binding bucket) a =
+    let e = acting w (acquire-bucket registry script place held binding bucket) in
+    one-settled (retryOf attemptLimit 0 e (w .head .buckets) registry binding bucket (starting (w .head) place) (w .table) (w .health) .seen .0 .outcome)
+steps-one w (release-all script place leases) a = absurd a
+steps-one w (acquire-locks registry script place held keys grants) a = absurd a
+steps-one w (crew counts cells turns) a = absurd a
+
+pub busy-or-refused : Busy-or-refused perform
+busy-or-refused w k s a v u = go (answers w k) refl (performed (λ m. One (m .seen .1 .answer)) w k (λ r. tt) (λ _. steps-one w k a))
+  where
+    go : (x : Answer) → answers w k ≡ x → One x → (answers w k ≡ Busy) ⊎ ((r : Refusal) × (answers w k ≡ Refused r))
+    go Done e o = absurd o
+    go (Cell c) e o = absurd o
+    go (Granted l) e o =
+        let c = grants-name w k l e in
+        let m = leaseOf (asked w k) (l .serial) in
+        absurd (none-handed w k (asked w k) s (l .serial) v u (subst (λ x. Hands-over x (buffer-in (perform w k)) m) (sym e) (same-lease l m c refl)))
+    go AllGranted e o = absurd o
+    go Busy e o = inl e
+    go (Refused r) e o = inr (r, e)
+    go (RefusedAt r p) e o = absurd o
+
+-- multi-lock grants all, or is refused
+abbrev All-or-refused : Answer → Type 0
+All-or-refused Done = ⊥
+All-or-refused (Cell c) = ⊥
+All-or-refused (Granted l) = ⊥
+All-or-refused AllGranted = Unit {0}
+All-or-refused Busy = ⊥
+All-or-refused (Refused r) = Unit {0}
+All-or-refused (RefusedAt r p) = Unit {0}
+
+locks-answer : (left p : ℕ) (e : Setting) (buckets : ℕ) (registry keys : List ℕ) (taken : List Lease) (r : Run) (t g grants : List ℕ)
+    → All-or-refused (locksOf left p e buckets registry keys taken r t g grants .seen .0 .answer)
+unfolding locksOf rollbackOf
+locks-answer zero p e buckets registry keys taken r t g grants = tt
+locks-answer (suc left) p e buckets registry keys taken r t g grants =
+    let m = retryOf attemptLimit 0 (protecting e taken) buckets registry (bindingAt keys p) (bucketAt keys p) r t g .seen in
+    go (m .0 .outcome) (m .0 .run) (m .1 .0) (m .1 .1) (λ l. locks-answer left (p + 1) e buckets registry keys (taken ++ (l ∷ [])) (m .0 .run) (m .1 .0) (m .1 .1) grants)
+  where
+    go : (o : Outcome) (s : Run) (u y : List ℕ)
+        → ((l : Lease) → All-or-refused (locksOf left (p + 1) e buckets registry keys (taken ++ (l ∷ [])) s u y grants .seen .0 .answer))
+        → All-or-refused (afterKey o e taken p s u y grants (λ l. locksOf left (p + 1) e buckets registry keys (taken ++ (l ∷ [])) s u y grants) .seen .0 .answer)
+    go (outcome.Granted l) s u y on = on l
+    go outcome.Busy s u y on = tt
+    go (outcome.Refused x) s u y on = tt
+
+pub locks-refused : Locks-refused perform
+locks-refused w registry script place held keys grants p s i v u =
+    go (answers w k) refl
+    (performed (λ m. All-or-refused (m .seen .1 .answer)) w k (λ r. tt)
+    (λ _. locks-answer (countIn keys) 0 (acting w k) (w .head .buckets) registry keys [] (starting (w .head) place) (w .table) (w .health) grants))
+  where
+    k : Call
+    k = acquire-locks registry script place held keys grants
+
+    c : ℕ
+    c = keyCell (w .head .buckets) registry keys p
+
+    ls : List Lease
+    ls = leasesOf (buffer-in (perform w k))
+
+    go : (x : Answer) → answers w k ≡ x → All-or-refused x → ((r : Refusal) × (answers w k ≡ Refused r)) ⊎ ((r : Refusal) × (q : ℕ) × (answers w k ≡ RefusedAt r q))
+    go Done e o = absurd o
+    go (Cell c) e o = absurd o
+    go (Granted l) e o = absurd o
+    go AllGranted e o =
+        let b = buffers-name w registry script place held keys grants e in
+        let l = leaseAt ls p in
+        let n : p < length ls = omega (arith, words-leases (buffer-in (perform w k)), b .0) in
+        let stands : In ls l = subst (λ x. In x l) (take-length ls) (in-take ls (length ls) p noLease n n) in
+        let m = leaseOf c (l .serial) in
+        let here : In ls m = subst (In ls) (same-lease l m (b .1 p i) refl) stands in
+        absurd (none-handed w k c s (l .serial) v u (subst (λ x. Hands-over x (buffer-in (perform w k)) m) (sym e) here))
+    go Busy e o = absurd o
+    go (Refused r) e o = inl (r, e)
+    go (RefusedAt r q) e o = inr (r, q, e)
