@@ -4,6 +4,7 @@ pub mod Renaming
 pub mod Scripts
 pub mod Statements
 pub mod Theorems
+pub mod Examples
 pub mod Fine
 pub mod Pairs
 pub mod Acts
