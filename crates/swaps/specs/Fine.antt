@@ -18,7 +18,7 @@ use Rattle.history.specs.Tests.{Status, free, held, undamaged, state-free, stat
 use Rattle.swaps.specs.Steps.{Whole}
 
 pub sound-arena : (w : World) → Sound w → Whole w
-sound-arena w s = record { fits = s .fits; undamaged = s .whole }
+sound-arena w s = record { fits = s .fits; undamaged = λ c l e. absurd (s .whole c l e) }
 
 -- the premise as facts about numbers
 pub record Fine (w : World) : Type 0 where
