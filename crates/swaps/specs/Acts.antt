@@ -25,6 +25,7 @@ use Rattle.swaps.specs.Pairs.{apart-sym, quiet-step, commute, takes-swap
 
 -- ---- a step as a test and an event
 
+-- what a step asks for: nothing, something that there is not, or one of the four
 pub data Act : Type 0 where
   idle never : Act
   takes : ℕ → Act
@@ -40,6 +41,7 @@ read s =
     else if eqb (s .kind) 5 then idle
     else never
 
+-- the model's test
 abbrev pub legal : List Lease → World → Act → Bool
 legal ps w idle = true
 legal ps w never = false
@@ -48,6 +50,7 @@ legal ps w (frees c s) = isLive (w .head .next) (cells w) (w .table) (leaseOf c 
 legal ps w (waits c n) = ltb c (cells w)
 legal ps w (heals i n) = ltb i (w .head .headers) && leb n 1
 
+-- the event that it is if the test holds; what asks for nothing stands as a quiet one
 abbrev pub event : World → Act → Event
 event w idle = spun
 event w never = step-dropped
@@ -56,6 +59,7 @@ event w (frees c s) = released by-script c s
 event w (waits c n) = waiters-set c n
 event w (heals i n) = health-set i n
 
+-- then the world is the event's, else it stays and the step is counted as dropped
 abbrev pub settle : Bool → World → Event → World
 settle true w e = step w e
 settle false w e = w
@@ -65,10 +69,10 @@ missed true = 0
 missed false = 1
 
 -- what is seen of a step, as world and number dropped
-abbrev pub outcome : World → Made (Stepped × (List ℕ × List ℕ)) → World × ℕ
+abbrev outcome : World → Made (Stepped × (List ℕ × List ℕ)) → World × ℕ
 outcome w m = (worldOf (spentTo (w .head) (m .seen .0 .next)) (m .seen .1 .0) (m .seen .1 .1), m .seen .0 .dropped)
 
-abbrev pub effect : List Lease → World → Act → World × ℕ
+abbrev effect : List Lease → World → Act → World × ℕ
 effect ps w a = (settle (legal ps w a) w (event w a), missed (legal ps w a))
 
 settled : {A : Type 0} (f : A → World × ℕ) (b : Bool) {x y : A} (w : World) (e : Event) → f x ≡ (step w e, 0) → f y ≡ (w, 1)
@@ -76,6 +80,7 @@ settled : {A : Type 0} (f : A → World × ℕ) (b : Bool) {x y : A} (w : World)
 settled f true w e p q = p
 settled f false w e p q = q
 
+-- an equation as a record: a choice inside it shows its branches
 record Comes (ps : List Lease) (w : World) (m : Made (Stepped × (List ℕ × List ℕ))) (a : Act) : Type 0 where
   is : outcome w m ≡ effect ps w a
 
@@ -100,12 +105,12 @@ comes ps w s =
     on-health : Made (Stepped × List ℕ) → World × ℕ
     on-health m = (worldOf (spentTo (w .head) (m .seen .0 .next)) (w .table) (m .seen .1), m .seen .0 .dropped)
 
-pub done : (ps : List Lease) (w : World) (s : Step) → outcome w (does ps w s) ≡ effect ps w (read s)
+done : (ps : List Lease) (w : World) (s : Step) → outcome w (does ps w s) ≡ effect ps w (read s)
 done ps w s = comes ps w s .is
 
 -- ---- the test does not hang on an event elsewhere
 
-pub legal-kept : (ps : List Lease) (w : World) (e : Event) (a : Act) → Fine w → Apart e (event w a) → legal ps (step w e) a ≡ legal ps w a
+legal-kept : (ps : List Lease) (w : World) (e : Event) (a : Act) → Fine w → Apart e (event w a) → legal ps (step w e) a ≡ legal ps w a
 legal-kept ps w e idle g x = refl
 legal-kept ps w e never g x = refl
 legal-kept ps w e (takes c) g (quiet-first q) = rw (quiet-step w q)
@@ -129,7 +134,7 @@ legal-kept ps w e (heals i n) g waiters-health = refl
 legal-kept ps w e (heals i n) g (health-health _) = refl
 
 -- nor does the event that it is
-pub event-kept : (w : World) (e : Event) (a : Act) → Apart e (event w a) → event (step w e) a ≡ event w a
+event-kept : (w : World) (e : Event) (a : Act) → Apart e (event w a) → event (step w e) a ≡ event w a
 event-kept w e idle x = refl
 event-kept w e never x = refl
 event-kept w e (takes c) (quiet-first q) = rw (quiet-step w q)
@@ -160,14 +165,14 @@ module _ (ps : List Lease) where
   abbrev pub acted : World → Act → World
   acted w a = settle (legal ps w a) w (event w a)
 
-  pub fine-acted : (w : World) (a : Act) → Fine w → Fine (acted w a)
+  fine-acted : (w : World) (a : Act) → Fine w → Fine (acted w a)
   fine-acted w a g = go (legal ps w a) refl
     where
       go : (b : Bool) → legal ps w a ≡ b → Fine (settle b w (event w a))
       go true l = fine-step w (event w a) g (is-legal ps w a l)
       go false l = g
 
-  pub legal-behind : (w : World) (a b : Act) → Fine w → Apart (event w a) (event w b) → legal ps (acted w a) b ≡ legal ps w b
+  legal-behind : (w : World) (a b : Act) → Fine w → Apart (event w a) (event w b) → legal ps (acted w a) b ≡ legal ps w b
   legal-behind w a b g x = go (legal ps w a)
     where
       go : (y : Bool) → legal ps (settle y w (event w a)) b ≡ legal ps w b
@@ -187,7 +192,7 @@ module _ (ps : List Lease) where
   settle-swap w false true e f a = refl
   settle-swap w false false e f a = refl
 
-  pub acted-swap : (w : World) (a b : Act) → Fine w → Apart (event w a) (event w b) → acted (acted w a) b ≡ acted (acted w b) a
+  acted-swap : (w : World) (a b : Act) → Fine w → Apart (event w a) (event w b) → acted (acted w a) b ≡ acted (acted w b) a
   acted-swap w a b g x =
       ap (λ (z : Bool). settle z (acted w a) (event (acted w a) b)) (legal-behind w a b g x)
       ∙ ap (settle (legal ps w b) (acted w a)) (event-behind w a b x)
@@ -284,7 +289,7 @@ takes-free ps w c l =
     let f = free-words (w .head .next) (w .table) c (l .0 .1) in
     rw (lt-ltb c (cells w) (l .0 .0), eq-eqb (bitAt (w .table) c) 0 (f .0), eq-eqb (ownerAt (w .table) c) 0 (f .1), lt-ltb (w .head .next) _ (l .1 .1))
 
-pub not-missed : (b : Bool) → missed b ≡ 0 → b ≡ true
+not-missed : (b : Bool) → missed b ≡ 0 → b ≡ true
 not-missed true e = refl
 not-missed false e = absurd (omega arith)
 
@@ -359,7 +364,7 @@ is-missed : (b : Bool) → missed b ≡ 1 → b ≡ false
 is-missed true e = absurd (omega arith)
 is-missed false e = refl
 
--- two tests that both hold no longer do where next has grown
+-- a take that is dropped stays so where next has grown
 spent-stays : (a : Bool) (n : ℕ) → (a && serialRemains n) ≡ false → (a && serialRemains (n + 1)) ≡ false
 spent-stays false n e = refl
 spent-stays true n e = ne-ltb n e

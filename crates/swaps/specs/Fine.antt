@@ -70,7 +70,7 @@ state-kept w (waiters-set d n) c f l a = rw (bit-set-waiters (w .table) d n c, o
 state-kept w (health-set i n) c f l a = refl
 
 -- the head but for the next serial stays
-pub same-cells : (w : World) (e : Event) → cells (step w e) ≡ cells w
+same-cells : (w : World) (e : Event) → cells (step w e) ≡ cells w
 same-cells w attempt-begun = refl
 same-cells w boundary-run = refl
 same-cells w yielded = refl

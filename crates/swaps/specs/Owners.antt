@@ -26,14 +26,14 @@ module _ {old next : ℕ} {to back : ℕ → ℕ} (z : Serials old next to back)
   pub into : (s r : ℕ) → to s ≡ to r → s ≡ r
   into s r e = sym (z .back-to s) ∙ ap back e ∙ z .back-to r
 
-  pub issued-stays : (s : ℕ) → s < next → to s < next
+  issued-stays : (s : ℕ) → s < next → to s < next
   issued-stays s l = go (decLt (to s) next)
     where
       go : Dec (to s < next) → to s < next
       go (yes k) = k
       go (no k) = absurd (omega (arith, into (to s) s (z .new-stay (to s) (omega arith))))
 
-  pub positive : (s : ℕ) → 1 ≤ old → 1 ≤ s → 1 ≤ to s
+  positive : (s : ℕ) → 1 ≤ old → 1 ≤ s → 1 ≤ to s
   positive s o l = go (ℕ-discrete (to s) 0)
     where
       go : Dec (to s ≡ 0) → 1 ≤ to s
@@ -230,7 +230,7 @@ module _ (to : ℕ → ℕ) (w v : World) (f : Fine w) (r : Renamed to w v) wher
       go (yes e) = rw e (waiters-set-same (v .table) c n (omega (arith, at w f c l, r .words)) ∙ sym (waiters-set-same (w .table) c n (at w f c l)))
       go (no e) = waiters-set-other (v .table) c n d e ∙ r .waiters d k ∙ sym (waiters-set-other (w .table) c n d e)
 
-abbrev pub Follows : (ℕ → ℕ) → World → World → Event → Type 0
+abbrev Follows : (ℕ → ℕ) → World → World → Event → Type 0
 Follows to w v e = Legal v (renamed to e) × Renamed to (step w e) (step v (renamed to e))
 
 pub follow : {old : ℕ} {to back : ℕ → ℕ} (w v : World) (e : Event) → Fine w → Serials old (w .head .next) to back → 1 ≤ old → Renamed to w v

@@ -96,7 +96,7 @@ quiet-step w yields = refl
 quiet-step w spins = refl
 quiet-step w drops = refl
 
-pub quiet-legal : (w : World) {e : Event} → Quiet e → Legal w e
+quiet-legal : (w : World) {e : Event} → Quiet e → Legal w e
 quiet-legal w attempts = tt
 quiet-legal w boundaries = tt
 quiet-legal w yields = tt

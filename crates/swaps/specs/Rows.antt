@@ -4,11 +4,11 @@ use mathlib.Core.Path.{_≡_, sym, _∙_}
 use mathlib.Core.Logic.{_≢_, _⊎_, inl, inr}
 use native.Mathlib.Omega.{arith}
 use Rattle.swaps.specs.Steps.{Step, stepWords, Parted}
-use Rattle.swaps.specs.Statements.{Swap, Two-releases, Take-release, Release-take, Take-waiters, Waiters-take, Release-waiters, Waiters-release, Two-waiters, Take-health, Health-take, Release-health, Health-release, Waiters-health, Health-waiters, Two-healths}
+use Rattle.swaps.specs.Statements.{Swap, Different-places, Two-releases, Take-release, Release-take, Take-waiters, Waiters-take, Release-waiters, Waiters-release, Two-waiters, Take-health, Health-take, Release-health, Health-release, Waiters-health, Health-waiters, Two-healths}
 use Rattle.swaps.specs.Acts.{any-steps-swap}
 
 -- legal in the first order: then in the other too
-pub either-way : (s t : Step) → Parted s t → Swap s t
+either-way : (s t : Step) → Parted s t → Swap s t
 either-way s t p ps w g l =
     let x = any-steps-swap ps w s t g p in
     record {
@@ -28,9 +28,11 @@ by-kind k p n l q m x y =
     })
 
 -- different places
+pub places-part : Different-places
+places-part s t x y = record { one-take = x; on-bits = λ a b. y; on-waiters = λ a b. y; on-health = λ a b. y }
+
 by-place : (k p n l q m : ℕ) → (k ≡ 1 → l ≡ 1 → ⊥) → p ≢ q → Swap (stepWords k p n) (stepWords l q m)
-by-place k p n l q m x y =
-    either-way (stepWords k p n) (stepWords l q m) (record { one-take = x; on-bits = λ a b. y; on-waiters = λ a b. y; on-health = λ a b. y })
+by-place k p n l q m x y = either-way (stepWords k p n) (stepWords l q m) (places-part (stepWords k p n) (stepWords l q m) x y)
 
 -- a kind that takes or releases is 1 or 2
 small : (k : ℕ) → (k ≡ 1) ⊎ (k ≡ 2) → k < 3
