@@ -24,18 +24,13 @@ use Rattle.model.specs.declared.Refusal.{Refusal}
 use Rattle.history.specs.World.{World}
 use Rattle.swaps.specs.Steps.{Step, stepWords, after-all, dropped-in}
 use Rattle.swaps.specs.Renaming.{renamed-owners, renamed-step, renamed-steps, Retaken, same, neighbours, two-takes, idle-take, behind, onward}
-use Rattle.swaps.specs.Scripts.{scriptOf, Unended, Ended}
-use Rattle.swaps.specs.Statements.{Reply-renamed, Environment-retaken}
+use Rattle.swaps.specs.Scripts.{scriptOf, Unended, Ended, ends}
+use Rattle.swaps.specs.Statements.{Boundary-runs, Reply-renamed, Environment-retaken}
 use Rattle.swaps.specs.Owners.{identity}
 use Rattle.swaps.specs.Boundaries.{goes-on, play, stand, turn-last, script-length, steps-in, word-on}
 use Rattle.swaps.specs.Retakes.{steps-retake}
 
 -- ---- one boundary
-
--- the end of boundary behind the stretch is run too
-abbrev ends : List Step → ℕ
-ends [] = 0
-ends (s ∷ ss) = 1
 
 -- a boundary that has run the stretch
 last : (e : Setting) (v : World) (pre ss post : List Step) (d : ℕ) → e .script ≡ scriptOf (pre ++ (ss ++ post)) → Ended post
@@ -47,14 +42,12 @@ last e v pre ss (q ∷ post) d s x =
     (ap (λ (script : List ℕ). kindAt script (length pre + length ss)) s
     ∙ ap (λ (i : ℕ). getD (scriptOf (pre ++ (ss ++ (q ∷ post)))) i 0) (omega arith) ∙ word-on pre ss (q ∷ post) 0 ∙ x)
 
-boundary-plays : (ps : List Lease) (w : World) (pre ss post : List Step) → Unended ss → Ended post
-    → boundaryOf (given (w .head) (scriptOf (pre ++ (ss ++ post))) ps) (flowOf (w .head .next) (length pre) 0) (w .table) (w .health) .seen
-    ≡ (flowOf (after-all ps w ss .head .next) (length pre + length ss + ends post) (0 + dropped-in ps w ss), (after-all ps w ss .table, after-all ps w ss .health))
+pub boundary-plays : Boundary-runs
 unfolding boundaryOf
-boundary-plays ps w pre ss post u x =
+boundary-plays ps w pre ss post d u x =
     let script = scriptOf (pre ++ (ss ++ post)) in
-    play (stepsIn script - length pre) (length post) ps script w (length pre) 0 ss (omega (arith, steps-in pre ss post)) (stand pre ss post) u
-    ∙ last (given (w .head) script ps) (after-all ps w ss) pre ss post (0 + dropped-in ps w ss) refl x
+    play (stepsIn script - length pre) (length post) ps script w (length pre) d ss (omega (arith, steps-in pre ss post)) (stand pre ss post) u
+    ∙ last (given (w .head) script ps) (after-all ps w ss) pre ss post (d + dropped-in ps w ss) refl x
 
 -- ---- what exchanges keep of a list of steps
 
@@ -134,8 +127,8 @@ environment-retake w held pre ss ts post g u x y r =
     go : (k : Check) → Reply-renamed w (judge k none (runs ss) .seen) (judge k none (runs ts) .seen)
     go check.Fine =
         let i = steps-retake ps w ss ts g y r in
-        let a = boundary-plays ps w pre ss post u x in
-        let b = boundary-plays ps w pre ts post (retaken-unended r u) x in
+        let a = boundary-plays ps w pre ss post 0 u x in
+        let b = boundary-plays ps w pre ts post 0 (retaken-unended r u) x in
         rw (a, b)
         (record {
           to = i .to;

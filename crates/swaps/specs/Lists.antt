@@ -5,11 +5,11 @@ use native.Mathlib.Omega.{arith}
 use Rattle.model.specs.Log.{Event}
 use Rattle.model.specs.declared.Lease.{Lease}
 use Rattle.history.specs.World.{World, step, now, Lawful, number-of}
-use Rattle.history.specs.Items.{foreign-step, Course, next-item, run, foreign}
+use Rattle.history.specs.Items.{foreign-step, next-item, run, foreign}
 use Rattle.swaps.specs.Steps.{Step, leaves, after-all, dropped-in, Shuffled}
 use Rattle.swaps.specs.Steps as steps
 use Rattle.swaps.specs.Logs.{Reordered, same, neighbours, behind, onward}
-use Rattle.swaps.specs.Statements.{Alike, Logs-reordered, Steps-shuffled, alone, History-shuffled}
+use Rattle.swaps.specs.Statements.{Alike, Logs-reordered, Steps-shuffled, Lone-steps, History-shuffled}
 use Rattle.swaps.specs.Fine.{Fine, fine, fine-step}
 use Rattle.swaps.specs.Pairs.{apart-sym, commute, before, after}
 use Rattle.swaps.specs.Acts.{swapped, fine-leaves}
@@ -66,7 +66,7 @@ steps-shuffle ps w ss ts g r = shuffle ps w (fine w g) r
 
 -- ---- the lone steps of a history
 
-run-alone : (k : Course) (ss : List Step) → run k (alone ss) .world ≡ after-all [] (k .world) ss
+pub run-alone : Lone-steps
 unfolding run next-item foreign after-all
 run-alone k [] = refl
 run-alone k (s ∷ ss) = run-alone (next-item k (foreign-step (s .kind) (s .place) (s .number))) ss

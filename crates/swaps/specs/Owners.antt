@@ -40,12 +40,25 @@ module _ {old next : ℕ} {to back : ℕ → ℕ} (z : Serials old next to back)
       go (yes e) = absurd (omega (arith, into s 0 (e ∙ sym (z .old-stay 0 (omega arith)))))
       go (no e) = omega arith
 
+-- the inverse is a renaming too
+turned : {old next : ℕ} {to back : ℕ → ℕ} → Serials old next to back → Serials old next back to
+turned {back = back} z =
+    record {
+      back-to = z .to-back;
+      to-back = z .back-to;
+      old-stay = λ s l. ap back (sym (z .old-stay s l)) ∙ z .back-to s;
+      new-stay = λ s l. ap back (sym (z .new-stay s l)) ∙ z .back-to s;
+    }
+
 pub issued-moves : Issued-stay
-issued-moves old next to back z s l k = (go (decLt (to s) old), issued-stays z s k)
+issued-moves old next to back z s l k = (within to back z, within back to (turned z))
   where
-    go : Dec (to s < old) → old ≤ to s
-    go (yes j) = absurd (omega (arith, into z (to s) s (z .old-stay (to s) j)))
-    go (no j) = omega arith
+    within : (f g : ℕ → ℕ) → Serials old next f g → (old ≤ f s) × (f s < next)
+    within f g y = (go (decLt (f s) old), issued-stays y s k)
+      where
+        go : Dec (f s < old) → old ≤ f s
+        go (yes j) = absurd (omega (arith, into y (f s) s (y .old-stay (f s) j)))
+        go (no j) = omega arith
 
 pub weaker : {old next old′ next′ : ℕ} {to back : ℕ → ℕ} → old′ ≤ old → next ≤ next′ → Serials old next to back → Serials old′ next′ to back
 weaker p q z = record { back-to = z .back-to; to-back = z .to-back; old-stay = λ s l. z .old-stay s (omega arith); new-stay = λ s l. z .new-stay s (omega arith) }

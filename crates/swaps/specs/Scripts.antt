@@ -22,6 +22,11 @@ abbrev pub Ended : List Step → Type 0
 Ended [] = Unit {0}
 Ended (s ∷ ss) = s .kind ≡ 5
 
+-- "up to and including the next 5": the end is run too
+abbrev pub ends : List Step → ℕ
+ends [] = 0
+ends (s ∷ ss) = 1
+
 -- One script from the other, seen from a place. A stretch with no end of boundary in it is shuffled; before it and behind it stands
 -- anything, ends of boundaries too, so exchanges in several boundaries follow one another. The place is not inside the stretch.
 pub data Respelled (place : ℕ) : List ℕ → List ℕ → Type 0 where

@@ -7,7 +7,8 @@ use mathlib.Core.Logic.{_≢_, _⊎_}
 use lib.ListN.{length}
 use Rattle.model.specs.Log.{Actor, Event, took}
 use Rattle.model.specs.Arena.{bitAt, ownerAt, waitersAt, leasesOf}
-use Rattle.model.specs.Calls.{environmentOf}
+use Rattle.model.specs.Foreign.{flowOf, boundaryOf}
+use Rattle.model.specs.Calls.{given, environmentOf}
 use Rattle.model.specs.declared.Lease.{Lease}
 use Rattle.model.specs.declared.Played.{Played}
 use Rattle.history.specs.World.{World, Live, step, now, Lawful, Sound, Kind, number-of}
@@ -15,7 +16,7 @@ use Rattle.history.specs.Items.{Call, perform, foreign-step, Item, Course, run}
 use Rattle.swaps.specs.Steps.{Whole, Step, take-step, release-step, waiters-step, health-step, leaves, dropped, on-table, exchanged, Parted, after-all, dropped-in, Shuffled}
 use Rattle.swaps.specs.Logs.{Apart, Both, Reordered}
 use Rattle.swaps.specs.Renaming.{Serials, renamed-owners, Recast, Retaken, Older}
-use Rattle.swaps.specs.Scripts.{scriptOf, Unended, Ended, Rescripted}
+use Rattle.swaps.specs.Scripts.{scriptOf, Unended, Ended, ends, Rescripted}
 
 -- the premise holds at every point of every history from a preparation (`history`: `Ledger.sound`)
 abbrev pub Sound-whole : Type 0
@@ -162,6 +163,9 @@ abbrev pub alone : List Step → List Item
 alone [] = []
 alone (s ∷ ss) = foreign-step (s .kind) (s .place) (s .number) ∷ alone ss
 
+abbrev pub Lone-steps : Type 0
+Lone-steps = (k : Course) (ss : List Step) → run k (alone ss) .world ≡ after-all [] (k .world) ss
+
 abbrev pub History-shuffled : Type 0
 History-shuffled = (k : Course) (ss ts : List Step) → Whole (k .world) → Shuffled ss ts → run k (alone ts) .world ≡ run k (alone ss) .world
 
@@ -209,9 +213,20 @@ pub record Renames (to : ℕ → ℕ) (n : ℕ) (t : List ℕ) : Type 0 where
 abbrev pub Renamed-words : Type 0
 Renamed-words = (to : ℕ → ℕ) (n : ℕ) (t : List ℕ) → length t ≡ 3 * n → Renames to n t
 
--- a renaming stays among the serials issued in the trace
+-- a renaming and its inverse stay among the serials issued in the trace
 abbrev pub Issued-stay : Type 0
-Issued-stay = (old next : ℕ) (to back : ℕ → ℕ) → Serials old next to back → (s : ℕ) → old ≤ s → s < next → (old ≤ to s) × (to s < next)
+Issued-stay =
+    (old next : ℕ) (to back : ℕ → ℕ) → Serials old next to back → (s : ℕ) → old ≤ s → s < next
+    → ((old ≤ to s) × (to s < next)) × ((old ≤ back s) × (back s < next))
+
+-- ---- a boundary is a list of steps: those that stand in the script from its place on, up to the next end of boundary or to the script's end
+
+abbrev pub Boundary-runs : Type 0
+Boundary-runs =
+    (ps : List Lease) (w : World) (pre ss post : List Step) (d : ℕ) → Unended ss → Ended post
+    → let v = after-all ps w ss in
+    boundaryOf (given (w .head) (scriptOf (pre ++ (ss ++ post))) ps) (flowOf (w .head .next) (length pre) d) (w .table) (w .health) .seen
+    ≡ (flowOf (v .head .next) (length pre + length ss + ends post) (d + dropped-in ps w ss), (v .table, v .health))
 
 -- ---- scripts, no two takes exchanged: a call over the shuffled script gives the same answer, head, table, health, place, counts and grant buffer
 
