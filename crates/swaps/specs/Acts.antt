@@ -17,7 +17,7 @@ use Rattle.laws.specs.Pick.{both}
 use Rattle.laws.specs.Words.{bit-set-other, owner-set-other, bit-set-waiters, owner-set-waiters}
 use Rattle.history.specs.World.{World, worldOf, cells, Legal, step}
 use Rattle.history.specs.Tests.{is-free-state, free-words, if-cases}
-use Rattle.swaps.specs.Steps.{Step, stepWords, take-step, does, leaves, dropped, on-table, exchanged, Parted}
+use Rattle.swaps.specs.Steps.{Step, take-step, does, leaves, dropped, on-table, exchanged, Parted}
 use Rattle.swaps.specs.Logs.{Apart, quiet-first, quiet-second, take-release, release-take, release-release, take-waiters, waiters-take, release-waiters, waiters-release, waiters-waiters, take-health, health-take, release-health, health-release, waiters-health, health-waiters, health-health, spins, drops, Both}
 use Rattle.swaps.specs.Statements.{Both-legal, Owners-exchanged, Swapped, Any-steps, Two-takes, Idle-take}
 use Rattle.swaps.specs.Fine.{Fine, fine, fine-step, live-kept}
@@ -318,10 +318,10 @@ takes-both-ways ps w c n d m g x p =
     }
   where
     s : Step
-    s = stepWords 1 c n
+    s = take-step c n
 
     t : Step
-    t = stepWords 1 d m
+    t = take-step d m
 
     legal-s : legal ps w (takes c) ≡ true
     legal-s = not-missed (legal ps w (takes c)) (sym (dropped-is ps w s) ∙ p .first-legal)

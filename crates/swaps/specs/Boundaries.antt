@@ -21,18 +21,27 @@ use Rattle.swaps.specs.Steps.{Step, stepWords, leaves, dropped, after-al
 use Rattle.swaps.specs.Scripts.{scriptOf, Unended}
 use Rattle.swaps.specs.Fine.{Fine}
 use Rattle.swaps.specs.Acts.{fine-leaves}
+use Rattle.swaps.specs.Owners.{three-on}
 use Rattle.swaps.specs.Lists.{shuffle, fine-all}
 
 -- ---- the words of a script
 
--- three words on, one step on
-next-step : (a b c : ℕ) (script : List ℕ) (i j : ℕ) → i ≡ suc (suc (suc j)) → getD (a ∷ b ∷ c ∷ script) i 0 ≡ getD script j 0
-next-step a b c script i j e = ap (λ (k : ℕ). getD (a ∷ b ∷ c ∷ script) k 0) e
-
-pub script-length : (ss : List Step) → length (scriptOf ss) ≡ length ss * 3
+script-length : (ss : List Step) → length (scriptOf ss) ≡ length ss * 3
 unfolding scriptOf
 script-length [] = refl
 script-length (s ∷ ss) = omega (arith, script-length ss)
+
+pub same-length : (pre xs ys post : List Step) → length ys ≡ length xs → length (scriptOf (pre ++ (ys ++ post))) ≡ length (scriptOf (pre ++ (xs ++ post)))
+same-length pre xs ys post e =
+    omega (
+      arith,
+      script-length (pre ++ (ys ++ post)),
+      script-length (pre ++ (xs ++ post)),
+      length-append pre (ys ++ post),
+      length-append pre (xs ++ post),
+      length-append ys post,
+      length-append xs post,
+    )
 
 pub steps-in : (pre xs post : List Step) → stepsIn (scriptOf (pre ++ (xs ++ post))) ≡ length pre + (length xs + length post)
 steps-in pre xs post =
@@ -53,7 +62,7 @@ word-behind : (xs post : List Step) (i : ℕ) → getD (scriptOf (xs ++ post)) (
 unfolding scriptOf
 word-behind [] post i = ap (λ (k : ℕ). getD (scriptOf post) k 0) (omega arith)
 word-behind (s ∷ xs) post i =
-    next-step (s .kind) (s .place) (s .number) (scriptOf (xs ++ post)) (3 * length (s ∷ xs) + i) (3 * length xs + i) (omega arith) ∙ word-behind xs post i
+    three-on (s .kind) (s .place) (s .number) (scriptOf (xs ++ post)) (3 * length (s ∷ xs) + i) (3 * length xs + i) (omega arith) ∙ word-behind xs post i
 
 pub word-on : (pre ss post : List Step) (i : ℕ) → getD (scriptOf (pre ++ (ss ++ post))) (3 * (length pre + length ss) + i) 0 ≡ getD (scriptOf post) i 0
 word-on pre ss post i =
@@ -79,8 +88,8 @@ shift : (a b c : ℕ) (script : List ℕ) (p : ℕ) (ss : List Step) → Stand s
 shift a b c script p [] x = tt
 shift a b c script p (s ∷ ss) x = (
   (
-    next-step a b c script (3 * (p + 1)) (3 * p) (omega arith) ∙ x .0 .0,
-    (next-step a b c script (3 * (p + 1) + 1) (3 * p + 1) (omega arith) ∙ x .0 .1 .0, next-step a b c script (3 * (p + 1) + 2) (3 * p + 2) (omega arith) ∙ x .0 .1 .1),
+    three-on a b c script (3 * (p + 1)) (3 * p) (omega arith) ∙ x .0 .0,
+    (three-on a b c script (3 * (p + 1) + 1) (3 * p + 1) (omega arith) ∙ x .0 .1 .0, three-on a b c script (3 * (p + 1) + 2) (3 * p + 2) (omega arith) ∙ x .0 .1 .1),
   ),
   shift a b c script (p + 1) ss (x .1),
 )

@@ -5,7 +5,7 @@ use mathlib.Core.List.{List, [], _∷_, _++_}
 use mathlib.Core.Bool.{Bool, true, false}
 use native.Mathlib.Omega.{arith}
 use lib.Dec.{eqb}
-use lib.ListN.{length, getD, length-append}
+use lib.ListN.{length, getD}
 use borrow.Author.Tests.{eqb-true}
 use Rattle.model.specs.Choice.{if_then_else_}
 use Rattle.model.specs.Log.{Made, gives, _>>=_}
@@ -27,7 +27,7 @@ use Rattle.swaps.specs.Renaming.{renamed-owners, renamed-step, renamed-s
 use Rattle.swaps.specs.Scripts.{scriptOf, Unended, Ended, ends}
 use Rattle.swaps.specs.Statements.{Boundary-runs, Reply-renamed, Environment-retaken}
 use Rattle.swaps.specs.Owners.{identity}
-use Rattle.swaps.specs.Boundaries.{goes-on, play, stand, turn-last, script-length, steps-in, word-on}
+use Rattle.swaps.specs.Boundaries.{goes-on, play, stand, turn-last, same-length, steps-in, word-on}
 use Rattle.swaps.specs.Retakes.{steps-retake}
 
 -- ---- one boundary
@@ -98,23 +98,10 @@ unmoved-owners (a ∷ b ∷ c ∷ t) = ap (λ (u : List ℕ). a ∷ b ∷ c ∷ 
 pub environment-retake : Environment-retaken
 unfolding environmentOf scriptRules
 environment-retake w held pre ss ts post g u x y r =
-    rw (same-length) (go (first (scriptRules (w .head) (w .table) (w .health) (scriptOf (pre ++ (ss ++ post))) (length pre) held)))
+    rw (same-length pre ss ts post (retaken-length r)) (go (first (scriptRules (w .head) (w .table) (w .health) (scriptOf (pre ++ (ss ++ post))) (length pre) held)))
   where
     ps : List Lease
     ps = leasesOf held
-
-    same-length : length (scriptOf (pre ++ (ts ++ post))) ≡ length (scriptOf (pre ++ (ss ++ post)))
-    same-length =
-        omega (
-          arith,
-          script-length (pre ++ (ts ++ post)),
-          script-length (pre ++ (ss ++ post)),
-          length-append pre (ts ++ post),
-          length-append pre (ss ++ post),
-          length-append ts post,
-          length-append ss post,
-          retaken-length r,
-        )
 
     runs : List Step → Made (Played × (List ℕ × List ℕ))
     runs xs = do

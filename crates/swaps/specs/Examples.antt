@@ -13,6 +13,7 @@ use Rattle.model.specs.declared.Lease.{Lease}
 use Rattle.model.specs.declared.State.the-variants as state
 use Rattle.history.specs.World.{World, worldOf, Lawful}
 use Rattle.history.specs.Items.{try-lock, perform}
+use Rattle.history.specs.Tests.{Status, free, held, not-damaged}
 use Rattle.swaps.specs.Steps.{Whole, Step, stepWords, take-step, release-step, waiters-step, health-step, leaves, dropped, Parted, dropped-in}
 use Rattle.swaps.specs.Steps as steps
 use Rattle.swaps.specs.Renaming.{flip, renamed-step, renamed-steps, Recast, Retaken}
@@ -145,32 +146,29 @@ over-an-end = (refl, refl)
 
 -- ---- the premises can be met
 
-whole-held : Whole one-held
-unfolding headFits shapeFits bitAt ownerAt isFree isHeld stateOf stateAt
-whole-held = record { fits = refl; undamaged = sound }
-  where
-    sound : (c : ℕ) → c < 2 → stateAt 2 (1 ∷ 1 ∷ 0 ∷ 0 ∷ 0 ∷ 0 ∷ []) c ≡ state.Damaged → ⊥
-    sound zero l e = let z : _≡_ {A = ℕ} 0 1 = cc in omega arith
-    sound (suc zero) l e = let z : _≡_ {A = ℕ} 0 1 = cc in omega arith
-    sound (suc (suc c)) l e = omega arith
+-- two cells, none damaged
+two-cells : (next : ℕ) (t : List ℕ) → Status (bitAt t 0) (ownerAt t 0) next → Status (bitAt t 1) (ownerAt t 1) next
+    → (c : ℕ) → c < 2 → stateAt next t c ≡ state.Damaged → ⊥
+unfolding stateAt
+two-cells next t x y zero l e = not-damaged next (bitAt t 0) (ownerAt t 0) x e
+two-cells next t x y (suc zero) l e = not-damaged next (bitAt t 1) (ownerAt t 1) y e
+two-cells next t x y (suc (suc c)) l e = omega arith
 
 whole-empty : Whole empty
-unfolding headFits shapeFits bitAt ownerAt isFree isHeld stateOf stateAt
-whole-empty = record { fits = refl; undamaged = sound }
-  where
-    sound : (c : ℕ) → c < 2 → stateAt 1 (0 ∷ 0 ∷ 0 ∷ 0 ∷ 0 ∷ 0 ∷ []) c ≡ state.Damaged → ⊥
-    sound zero l e = let z : _≡_ {A = ℕ} 0 1 = cc in omega arith
-    sound (suc zero) l e = let z : _≡_ {A = ℕ} 0 1 = cc in omega arith
-    sound (suc (suc c)) l e = omega arith
+unfolding headFits shapeFits bitAt ownerAt
+whole-empty = record { fits = refl; undamaged = two-cells 1 (empty .table) (free refl refl) (free refl refl) }
+
+whole-held : Whole one-held
+unfolding headFits shapeFits bitAt ownerAt
+whole-held = record { fits = refl; undamaged = two-cells 2 (one-held .table) (held refl (omega arith) (omega arith)) (free refl refl) }
 
 whole-both : Whole both-held
-unfolding headFits shapeFits bitAt ownerAt isFree isHeld stateOf stateAt
-whole-both = record { fits = refl; undamaged = sound }
-  where
-    sound : (c : ℕ) → c < 2 → stateAt 3 (1 ∷ 1 ∷ 0 ∷ 1 ∷ 2 ∷ 0 ∷ []) c ≡ state.Damaged → ⊥
-    sound zero l e = let z : _≡_ {A = ℕ} 0 1 = cc in omega arith
-    sound (suc zero) l e = let z : _≡_ {A = ℕ} 0 1 = cc in omega arith
-    sound (suc (suc c)) l e = omega arith
+unfolding headFits shapeFits bitAt ownerAt
+whole-both =
+    record {
+      fits = refl;
+      undamaged = two-cells 3 (both-held .table) (held refl (omega arith) (omega arith)) (held refl (omega arith) (omega arith));
+    }
 
 apart : _≢_ {A = ℕ} 0 1
 apart e = omega arith

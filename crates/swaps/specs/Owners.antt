@@ -107,9 +107,9 @@ flips n =
 
 -- ---- the renamed table, word by word
 
--- three words on, one cell on
-next-cell : (a b c : ℕ) (t : List ℕ) (i j : ℕ) → i ≡ suc (suc (suc j)) → getD (a ∷ b ∷ c ∷ t) i 0 ≡ getD t j 0
-next-cell a b c t i j e = ap (λ (k : ℕ). getD (a ∷ b ∷ c ∷ t) k 0) e
+-- three words on, one cell on, or one step of a script
+pub three-on : (a b c : ℕ) (t : List ℕ) (i j : ℕ) → i ≡ suc (suc (suc j)) → getD (a ∷ b ∷ c ∷ t) i 0 ≡ getD t j 0
+three-on a b c t i j e = ap (λ (k : ℕ). getD (a ∷ b ∷ c ∷ t) k 0) e
 
 pub renamed-cells : Renamed-words
 unfolding renamed-owners bitAt ownerAt waitersAt
@@ -128,19 +128,19 @@ renamed-cells to (suc n) (a ∷ b ∷ x ∷ t) e =
     bits : Renames to n t → (c : ℕ) → c < suc n → getD (a ∷ to b ∷ x ∷ u) (3 * c) 0 ≡ getD (a ∷ b ∷ x ∷ t) (3 * c) 0
     bits i zero l = refl
     bits i (suc c) l =
-        next-cell a (to b) x u (3 * suc c) (3 * c) (omega arith) ∙ i .bits c (omega arith) ∙ sym (next-cell a b x t (3 * suc c) (3 * c) (omega arith))
+        three-on a (to b) x u (3 * suc c) (3 * c) (omega arith) ∙ i .bits c (omega arith) ∙ sym (three-on a b x t (3 * suc c) (3 * c) (omega arith))
 
     owners : Renames to n t → (c : ℕ) → c < suc n → getD (a ∷ to b ∷ x ∷ u) (3 * c + 1) 0 ≡ to (getD (a ∷ b ∷ x ∷ t) (3 * c + 1) 0)
     owners i zero l = refl
     owners i (suc c) l =
-        next-cell a (to b) x u (3 * suc c + 1) (3 * c + 1) (omega arith) ∙ i .owners c (omega arith)
-        ∙ ap to (sym (next-cell a b x t (3 * suc c + 1) (3 * c + 1) (omega arith)))
+        three-on a (to b) x u (3 * suc c + 1) (3 * c + 1) (omega arith) ∙ i .owners c (omega arith)
+        ∙ ap to (sym (three-on a b x t (3 * suc c + 1) (3 * c + 1) (omega arith)))
 
     waiters : Renames to n t → (c : ℕ) → c < suc n → getD (a ∷ to b ∷ x ∷ u) (3 * c + 2) 0 ≡ getD (a ∷ b ∷ x ∷ t) (3 * c + 2) 0
     waiters i zero l = refl
     waiters i (suc c) l =
-        next-cell a (to b) x u (3 * suc c + 2) (3 * c + 2) (omega arith) ∙ i .waiters c (omega arith)
-        ∙ sym (next-cell a b x t (3 * suc c + 2) (3 * c + 2) (omega arith))
+        three-on a (to b) x u (3 * suc c + 2) (3 * c + 2) (omega arith) ∙ i .waiters c (omega arith)
+        ∙ sym (three-on a b x t (3 * suc c + 2) (3 * c + 2) (omega arith))
 
 -- two tables of n cells with the same words are one table
 same-words : (n : ℕ) (t u : List ℕ) → length t ≡ 3 * n → length u ≡ 3 * n → ((c : ℕ) → c < n → bitAt u c ≡ bitAt t c)
@@ -157,9 +157,9 @@ same-words (suc n) (p ∷ q ∷ r ∷ t) (p′ ∷ []) e f b o x = absurd (omega
 same-words (suc n) (p ∷ q ∷ r ∷ t) (p′ ∷ q′ ∷ []) e f b o x = absurd (omega arith)
 same-words (suc n) (p ∷ q ∷ r ∷ t) (p′ ∷ q′ ∷ r′ ∷ u) e f b o x =
     let i : u ≡ t = same-words n t u (omega arith) (omega arith)
-    (λ c l. sym (next-cell p′ q′ r′ u (3 * suc c) (3 * c) (omega arith)) ∙ b (suc c) (omega arith) ∙ next-cell p q r t (3 * suc c) (3 * c) (omega arith))
-    (λ c l. sym (next-cell p′ q′ r′ u (3 * suc c + 1) (3 * c + 1) (omega arith)) ∙ o (suc c) (omega arith) ∙ next-cell p q r t (3 * suc c + 1) (3 * c + 1) (omega arith))
-    (λ c l. sym (next-cell p′ q′ r′ u (3 * suc c + 2) (3 * c + 2) (omega arith)) ∙ x (suc c) (omega arith) ∙ next-cell p q r t (3 * suc c + 2) (3 * c + 2) (omega arith)) in
+    (λ c l. sym (three-on p′ q′ r′ u (3 * suc c) (3 * c) (omega arith)) ∙ b (suc c) (omega arith) ∙ three-on p q r t (3 * suc c) (3 * c) (omega arith))
+    (λ c l. sym (three-on p′ q′ r′ u (3 * suc c + 1) (3 * c + 1) (omega arith)) ∙ o (suc c) (omega arith) ∙ three-on p q r t (3 * suc c + 1) (3 * c + 1) (omega arith))
+    (λ c l. sym (three-on p′ q′ r′ u (3 * suc c + 2) (3 * c + 2) (omega arith)) ∙ x (suc c) (omega arith) ∙ three-on p q r t (3 * suc c + 2) (3 * c + 2) (omega arith)) in
     let a₀ : p′ ≡ p = b 0 (omega arith) in
     let a₁ : q′ ≡ q = o 0 (omega arith) in
     let a₂ : r′ ≡ r = x 0 (omega arith) in

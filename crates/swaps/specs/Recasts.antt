@@ -89,8 +89,8 @@ alike w g (onward {es = es} {fs = fs} {gs = gs} r s) l =
       numbers = λ k. j .numbers k ∙ i .numbers k;
     }
 
-pub logs-recasted : Logs-recast
-logs-recasted w es fs g r l =
+pub recast-logs : Logs-recast
+recast-logs w es fs g r l =
     let f = fine w g in
     let x = alike w f r l in
     record {

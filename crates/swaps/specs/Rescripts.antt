@@ -3,7 +3,7 @@ use Prim.Native.Nat.{ℕ, _+_}
 use mathlib.Core.Path.{_≡_, refl, _∙_}
 use mathlib.Core.List.{List, [], _++_}
 use native.Mathlib.Omega.{arith}
-use lib.ListN.{length, length-append}
+use lib.ListN.{length}
 use Rattle.model.specs.Log.{Made}
 use Rattle.model.specs.Arena.{spentTo, serialRemains, stateAt, leasesOf}
 use Rattle.model.specs.Foreign.{flowOf}
@@ -28,7 +28,7 @@ use Rattle.swaps.specs.Steps.{Step, Shuffled}
 use Rattle.swaps.specs.Scripts.{scriptOf, Unended, Respelled, stretch, onward, environments, try-locks, transactionals, acquire-buckets, releases-all, acquires-locks}
 use Rattle.swaps.specs.Statements.{Calls-rescripted}
 use Rattle.swaps.specs.Fine.{Fine, fine, older, status-put, freed}
-use Rattle.swaps.specs.Boundaries.{Ran, script-length, shuffled-length, Calm, boundary-alike}
+use Rattle.swaps.specs.Boundaries.{Ran, same-length, shuffled-length, Calm, boundary-alike}
 use Rattle.swaps.specs.Walks.{Twins, lock-alike, attempt-alike, retry-alike, back-alike, locks-alike}
 
 -- ---- a shuffled stretch gives twins
@@ -61,19 +61,6 @@ module _ (h : Head) (pre ss ts post : List Step) (u : Unended ss) (r : Shuffled 
         takes = λ f t g c x. (x .0, taken-fine h (f .next) t g c (x .1));
         frees = λ f t g c x. (x .0, freed (worldOf (spentTo h (f .next)) t g) c (x .1));
       }
-
-stretch-length : (pre ss ts post : List Step) → Shuffled ss ts → length (scriptOf (pre ++ (ts ++ post))) ≡ length (scriptOf (pre ++ (ss ++ post)))
-stretch-length pre ss ts post r =
-    omega (
-      arith,
-      script-length (pre ++ (ts ++ post)),
-      script-length (pre ++ (ss ++ post)),
-      length-append pre (ts ++ post),
-      length-append pre (ss ++ post),
-      length-append ts post,
-      length-append ss post,
-      shuffled-length r,
-    )
 
 -- ---- calls over twins: the checks read only the script's length
 
@@ -138,7 +125,7 @@ chained : {A : Type 0} (w : World) (place : ℕ) (f : List ℕ → A) → Fine w
     → {a b : List ℕ} → Respelled place a b → f b ≡ f a
 chained w place f g one (stretch pre ss ts post u r o) =
     one (scriptOf (pre ++ (ss ++ post))) (scriptOf (pre ++ (ts ++ post))) (Calm (w .head) pre ss ts post u r) (stretch-twins (w .head) pre ss ts post u r)
-    (stretch-length pre ss ts post r) (o, g)
+    (same-length pre ss ts post (shuffled-length r)) (o, g)
 chained w place f g one (onward x y) = chained w place f g one y ∙ chained w place f g one x
 
 pub calls-rescript : Calls-rescripted

@@ -6,7 +6,7 @@ use Rattle.swaps.specs.Acts.{take-steps-swap, any-steps-swap, idle-take-
 use Rattle.swaps.specs.Pairs.{exchanged-cells, events-swap, take-events-swap}
 use Rattle.swaps.specs.Lists.{logs-reorder, steps-shuffle, run-alone, history-shuffle}
 use Rattle.swaps.specs.Rescripts.{calls-rescript}
-use Rattle.swaps.specs.Recasts.{logs-recasted}
+use Rattle.swaps.specs.Recasts.{recast-logs}
 use Rattle.swaps.specs.Retakes.{steps-retake, live-before}
 use Rattle.swaps.specs.Environments.{boundary-plays, environment-retake}
 use Rattle.swaps.specs.Owners.{renamed-cells, issued-moves}
@@ -107,7 +107,7 @@ calls-rescripted = calls-rescript
 -- ---- whole traces, takes exchanged too
 
 pub logs-recast : Logs-recast
-logs-recast = logs-recasted
+logs-recast = recast-logs
 
 pub steps-retaken : Steps-retaken
 steps-retaken = steps-retake
