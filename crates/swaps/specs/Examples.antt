@@ -20,7 +20,7 @@ use Rattle.swaps.specs.Renaming.{flip, renamed-step, renamed-steps, Reca
 use Rattle.swaps.specs.Renaming as renaming
 use Rattle.swaps.specs.Scripts.{scriptOf, stretch, try-locks}
 use Rattle.swaps.specs.Statements.{Same-either-way, Owners-exchanged, Swapped, Alike-renamed, Steps-renamed, Reply-renamed}
-use Rattle.swaps.specs.Theorems.{two-releases, take-release, two-takes, any-steps, idle-take, logs-recast, steps-retaken, calls-rescripted, environment-retaken}
+use Rattle.swaps.specs.Theorems.{two-releases, take-release, two-takes, other-kinds, any-steps, idle-take, logs-recast, steps-retaken, calls-rescripted, environment-retaken}
 
 abbrev arena : ℕ → List ℕ → World
 arena next t = worldOf (headOf 1 2 next) t (0 ∷ [])
@@ -193,22 +193,9 @@ one-taken : Swapped [] one-held take-0 take-1
 unfolding stepOf stepTakeOf bitAt ownerAt setCell isFree
 one-taken = idle-take [] one-held 0 0 1 0 apart (inl refl)
 
--- steps with other kinds: 7 is no kind, and is dropped either way
-unknown : Parted (stepWords 7 0 0) take-0
-unknown =
-    record {
-      one-take = λ x y. omega arith;
-      on-bits = λ x y. absurd (neither x);
-      on-waiters = λ x y. omega arith;
-      on-health = λ x y. omega arith;
-    }
-  where
-    neither : steps.OnBit (stepWords 7 0 0) → ⊥
-    neither (inl x) = omega arith
-    neither (inr x) = omega arith
-
+-- 7 is no kind: it is dropped either way
 unknown-beside : Swapped [] one-held (stepWords 7 0 0) take-0
-unknown-beside = any-steps [] one-held (stepWords 7 0 0) take-0 whole-held unknown
+unknown-beside = any-steps [] one-held (stepWords 7 0 0) take-0 whole-held (other-kinds (stepWords 7 0 0) take-0 (inr (omega arith)))
 
 -- a log: cells 0 and 1 are taken, and cell 0 is released; with the takes exchanged, the release names serial 2
 abbrev morning : List Event

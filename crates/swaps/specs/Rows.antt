@@ -1,10 +1,10 @@
 -- The pairs of the page docs/SWAPS.md, one by one: each is the general law about any steps.
-use Prim.Native.Nat.{ℕ, _<_}
+use Prim.Native.Nat.{ℕ, _≤_, _<_}
 use mathlib.Core.Path.{_≡_, sym, _∙_}
 use mathlib.Core.Logic.{_≢_, _⊎_, inl, inr}
 use native.Mathlib.Omega.{arith}
-use Rattle.swaps.specs.Steps.{Step, stepWords, Parted}
-use Rattle.swaps.specs.Statements.{Swap, Different-places, Two-releases, Take-release, Release-take, Take-waiters, Waiters-take, Release-waiters, Waiters-release, Two-waiters, Take-health, Health-take, Release-health, Health-release, Waiters-health, Health-waiters, Two-healths}
+use Rattle.swaps.specs.Steps.{Step, stepWords, OnBit, Parted}
+use Rattle.swaps.specs.Statements.{Swap, Different-places, Other-kinds, Two-releases, Take-release, Release-take, Take-waiters, Waiters-take, Release-waiters, Waiters-release, Two-waiters, Take-health, Health-take, Release-health, Health-release, Waiters-health, Health-waiters, Two-healths}
 use Rattle.swaps.specs.Acts.{any-steps-swap}
 
 -- legal in the first order: then in the other too
@@ -30,6 +30,24 @@ by-kind k p n l q m x y =
 -- different places
 pub places-part : Different-places
 places-part s t x y = record { one-take = x; on-bits = λ a b. y; on-waiters = λ a b. y; on-health = λ a b. y }
+
+-- a kind that writes nothing
+pub kinds-part : Other-kinds
+kinds-part s t x =
+    record {
+      one-take = λ a b. beyond x (omega arith) (omega arith);
+      on-bits = λ a b. absurd (on-bit a);
+      on-waiters = λ a b. absurd (beyond x (omega arith) (omega arith));
+      on-health = λ a b. absurd (beyond x (omega arith) (omega arith));
+    }
+  where
+    beyond : (s .kind ≡ 0) ⊎ (5 ≤ s .kind) → 1 ≤ s .kind → s .kind ≤ 4 → ⊥
+    beyond (inl e) l k = omega arith
+    beyond (inr e) l k = omega arith
+
+    on-bit : OnBit s → ⊥
+    on-bit (inl e) = beyond x (omega arith) (omega arith)
+    on-bit (inr e) = beyond x (omega arith) (omega arith)
 
 by-place : (k p n l q m : ℕ) → (k ≡ 1 → l ≡ 1 → ⊥) → p ≢ q → Swap (stepWords k p n) (stepWords l q m)
 by-place k p n l q m x y = either-way (stepWords k p n) (stepWords l q m) (places-part (stepWords k p n) (stepWords l q m) x y)

@@ -108,8 +108,7 @@ pub record Exchanges (c d : ℕ) (t : List ℕ) : Type 0 where
 abbrev pub Exchanged-words : Type 0
 Exchanged-words = (c d : ℕ) (t : List ℕ) → c ≢ d → 3 * c + 1 < length t → 3 * d + 1 < length t → Exchanges c d t
 
--- ---- steps with any words, legal or not: the same world either way, and each step is dropped in both orders or in none. So it is with
--- "observe" and "end of boundary" met alone, and with kinds that there are not, beside every step.
+-- ---- steps with any words, legal or not: the same world either way, and each step is dropped in both orders or in none
 
 pub record Swapped (ps : List Lease) (w : World) (s t : Step) : Type 0 where
   pub state : leaves ps (leaves ps w t) s ≡ leaves ps (leaves ps w s) t
@@ -119,6 +118,10 @@ pub record Swapped (ps : List Lease) (w : World) (s t : Step) : Type 0 where
 -- steps at different places, not both takes
 abbrev pub Different-places : Type 0
 Different-places = (s t : Step) → (s .kind ≡ 1 → t .kind ≡ 1 → ⊥) → s .place ≢ t .place → Parted s t
+
+-- "observe", "end of boundary" met alone, and kinds that there are not, beside any step
+abbrev pub Other-kinds : Type 0
+Other-kinds = (s t : Step) → (s .kind ≡ 0) ⊎ (5 ≤ s .kind) → Parted s t
 
 abbrev pub Any-steps : Type 0
 Any-steps = (ps : List Lease) (w : World) (s t : Step) → Whole w → Parted s t → Swapped ps w s t
