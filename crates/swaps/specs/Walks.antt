@@ -1,0 +1,152 @@
+-- Calls over two scripts whose boundaries are alike: the same to the end. Each definition is walked through once, stage by stage.
+use Prim.Native.Nat.{ℕ, zero, suc, _+_, _%_}
+use mathlib.Core.Path.{_≡_, refl}
+use mathlib.Core.List.{List, [], _∷_, _++_}
+use mathlib.Core.Bool.{Bool, true, false}
+use lib.Dec.{eqb}
+use lib.ListN.{length, take}
+use Rattle.model.specs.Choice.{if_then_else_}
+use Rattle.model.specs.Log.{Made}
+use Rattle.model.specs.Arena.{waitersAt, setCell, leaseOf}
+use Rattle.model.specs.Foreign.{flowOf, boundaryOf}
+use Rattle.model.specs.Calls.{given}
+use Rattle.model.specs.Lock.{takeOf, afterTake, lateOf, secondOf, lockOf, runOf, findOf, attemptAt, attemptOf, spinOf, pauseOf, isBusy, retryOf, leaseAt, giveBackOf, rollbackOf, afterKey, bindingAt, bucketAt, attemptLimit, Locks, locksOf}
+use Rattle.model.specs.declared.Flow.{Flow}
+use Rattle.model.specs.declared.Found.{Found}
+use Rattle.model.specs.declared.Found.the-variants as found
+use Rattle.model.specs.declared.Head.{Head}
+use Rattle.model.specs.declared.Lease.{Lease}
+use Rattle.model.specs.declared.Locked.{Locked}
+use Rattle.model.specs.declared.Outcome.{Outcome}
+use Rattle.model.specs.declared.Outcome.the-variants as outcome
+use Rattle.model.specs.declared.Run.{Run}
+use Rattle.model.specs.declared.Take.{Take}
+use Rattle.model.specs.declared.Take.the-variants as taking
+use Rattle.model.specs.declared.Tried.{Tried}
+use Rattle.swaps.specs.Boundaries.{Ran, Same}
+
+-- two scripts, and what a call keeps up: then a boundary over either gives one result, and it is kept up by boundaries, takes and releases
+pub record Twins (h : Head) (a b : List ℕ) (Good : Ran → Type 0) : Type 0 where
+  pub boundaries : (ps : List Lease) (f : Flow) (t g : List ℕ) → Good (f, (t, g))
+      → Same Good (boundaryOf (given h a ps) f t g .seen) (boundaryOf (given h b ps) f t g .seen)
+  pub takes : (f : Flow) (t g : List ℕ) (c : ℕ) → Good (f, (t, g))
+      → Good (flowOf (takeOf (f .next) t c .seen .0 .next) (f .place) (f .dropped), (takeOf (f .next) t c .seen .1, g))
+  pub frees : (f : Flow) (t g : List ℕ) (c : ℕ) → Good (f, (t, g)) → Good (f, (setCell t c 0 0, g))
+
+-- one test in both
+if-two : {A : Type 0} (P : Made A → Made A → Type 0) (c : Bool) {x y u v : Made A} → P x u → P y v → P (if c then x else y) (if c then u else v)
+if-two P true p q = p
+if-two P false p q = q
+
+module _ {h : Head} {a b : List ℕ} {Good : Ran → Type 0} (tw : Twins h a b Good) where
+  -- ---- `try_lock`
+
+  abbrev Locking : Made (Locked × (List ℕ × List ℕ)) → Made (Locked × (List ℕ × List ℕ)) → Type 0
+  Locking m n = Same (λ (o : Locked × (List ℕ × List ℕ)). Good (o .0 .flow, o .1)) (m .seen) (n .seen)
+
+  late-alike : (ps : List Lease) (f : Flow) (t g : List ℕ) (c s : ℕ) → Good (f, (t, g)) → Locking (lateOf (given h a ps) f t g c s) (lateOf (given h b ps) f t g c s)
+  unfolding lateOf
+  late-alike ps f t g c s x =
+      let qs = ps ++ (leaseOf c s ∷ []) in
+      let m = boundaryOf (given h a qs) f t g .seen in
+      let r = tw .boundaries qs f t g x in
+      rw (r .equal)
+      (if-two Locking (eqb (waitersAt (m .1 .0) c) 0) (record { equal = refl; good = r .good })
+      (record { equal = refl; good = tw .frees (m .0) (m .1 .0) (m .1 .1) c (r .good) }))
+
+  second-alike : (ps : List Lease) (f : Flow) (t g : List ℕ) (c : ℕ) → Good (f, (t, g)) → Locking (secondOf (given h a ps) f t g c) (secondOf (given h b ps) f t g c)
+  unfolding secondOf
+  second-alike ps f t g c x =
+      let m = boundaryOf (given h a ps) f t g .seen in
+      let o = takeOf (m .0 .next) (m .1 .0) c .seen in
+      let r = tw .boundaries ps f t g x in
+      rw (r .equal)
+      (go (o .0 .answer) (flowOf (o .0 .next) (m .0 .place) (m .0 .dropped)) (o .1) (m .1 .1) (tw .takes (m .0) (m .1 .0) (m .1 .1) c (r .good)))
+    where
+      go : (y : Take) (f : Flow) (t g : List ℕ) → Good (f, (t, g)) → Locking (afterTake y (given h a ps) f t g c) (afterTake y (given h b ps) f t g c)
+      go (taking.Granted s) f t g x = late-alike ps f t g c s x
+      go taking.Busy f t g x = record { equal = refl; good = x }
+      go taking.Damaged f t g x = record { equal = refl; good = x }
+      go taking.Spent f t g x = record { equal = refl; good = x }
+
+  pub lock-alike : (ps : List Lease) (f : Flow) (t g : List ℕ) (c : ℕ) → Good (f, (t, g)) → Locking (lockOf (given h a ps) f t g c) (lockOf (given h b ps) f t g c)
+  unfolding lockOf
+  lock-alike ps f t g c x =
+      let m = boundaryOf (given h a ps) f t g .seen in
+      let r = tw .boundaries ps f t g x in
+      rw (r .equal)
+      (if-two Locking (eqb (waitersAt (m .1 .0) c) 0) (second-alike ps (m .0) (m .1 .0) (m .1 .1) c (r .good)) (record { equal = refl; good = r .good }))
+
+  -- ---- attempts by key
+
+  abbrev Trying : Made (Tried × (List ℕ × List ℕ)) → Made (Tried × (List ℕ × List ℕ)) → Type 0
+  Trying m n = Same (λ (o : Tried × (List ℕ × List ℕ)). Good (o .0 .run .flow, o .1)) (m .seen) (n .seen)
+
+  abbrev Running : Made (Run × (List ℕ × List ℕ)) → Made (Run × (List ℕ × List ℕ)) → Type 0
+  Running m n = Same (λ (o : Run × (List ℕ × List ℕ)). Good (o .0 .flow, o .1)) (m .seen) (n .seen)
+
+  module _ (ps : List Lease) (buckets : ℕ) (registry : List ℕ) (binding bucket : ℕ) where
+    pub attempt-alike : (r : Run) (t g : List ℕ) → Good (r .flow, (t, g))
+        → Trying (attemptOf (given h a ps) buckets registry binding bucket r t g) (attemptOf (given h b ps) buckets registry binding bucket r t g)
+    unfolding attemptOf
+    attempt-alike r t g x = go (findOf (h .headers) buckets g registry binding bucket)
+      where
+        go : (y : Found) → Trying (attemptAt y (given h a ps) r t g) (attemptAt y (given h b ps) r t g)
+        go (found.Fault y) = record { equal = refl; good = x }
+        go (found.At c) = let k = lock-alike ps (r .flow) t g c x in rw (k .equal) (record { equal = refl; good = k .good })
+
+    spin-alike : (r : Run) (t g : List ℕ) → Good (r .flow, (t, g)) → Running (spinOf (given h a ps) r t g) (spinOf (given h b ps) r t g)
+    unfolding spinOf
+    spin-alike r t g x = let k = tw .boundaries ps (r .flow) t g x in rw (k .equal) (record { equal = refl; good = k .good })
+
+    pause-alike : (i : ℕ) (r : Run) (t g : List ℕ) → Good (r .flow, (t, g)) → Running (pauseOf (given h a ps) i r t g) (pauseOf (given h b ps) i r t g)
+    unfolding pauseOf
+    pause-alike i r t g x =
+        let m = boundaryOf (given h a ps) (r .flow) t g .seen in
+        let k = tw .boundaries ps (r .flow) t g x in
+        rw (k .equal)
+        (if-two Running (eqb (i % 64) 63) (spin-alike (runOf (m .0) (r .attempts) (r .boundaries + 1) (r .yields + 1)) (m .1 .0) (m .1 .1) (k .good)) (spin-alike r t g x))
+
+    pub retry-alike : (left i : ℕ) (r : Run) (t g : List ℕ) → Good (r .flow, (t, g))
+        → Trying (retryOf left i (given h a ps) buckets registry binding bucket r t g) (retryOf left i (given h b ps) buckets registry binding bucket r t g)
+    unfolding retryOf
+    retry-alike zero i r t g x = record { equal = refl; good = x }
+    retry-alike (suc left) i r t g x =
+        let m = attemptOf (given h a ps) buckets registry binding bucket r t g .seen in
+        let p = pauseOf (given h a ps) i (m .0 .run) (m .1 .0) (m .1 .1) .seen in
+        let k = attempt-alike r t g x in
+        let l = pause-alike i (m .0 .run) (m .1 .0) (m .1 .1) (k .good) in
+        rw (k .equal, l .equal)
+        (if-two Trying (isBusy (m .0 .outcome)) (retry-alike left (i + 1) (p .0) (p .1 .0) (p .1 .1) (l .good)) (record { equal = refl; good = k .good }))
+
+  -- ---- giving back, and multi-lock
+
+  pub back-alike : (n : ℕ) (ps ls : List Lease) (r : Run) (t g : List ℕ) → Good (r .flow, (t, g))
+      → Running (giveBackOf n (given h a ps) ls r t g) (giveBackOf n (given h b ps) ls r t g)
+  unfolding giveBackOf
+  back-alike zero ps ls r t g x = record { equal = refl; good = x }
+  back-alike (suc n) ps ls r t g x =
+      let u = setCell t (leaseAt ls n .cell) 0 0 in
+      let m = boundaryOf (given h a (ps ++ take n ls)) (r .flow) u g .seen in
+      let k = tw .boundaries (ps ++ take n ls) (r .flow) u g (tw .frees (r .flow) t g (leaseAt ls n .cell) x) in
+      rw (k .equal) (back-alike n ps ls (runOf (m .0) (r .attempts) (r .boundaries + 1) (r .yields)) (m .1 .0) (m .1 .1) (k .good))
+
+  module _ (ps : List Lease) (buckets : ℕ) (registry keys grants : List ℕ) where
+    pub locks-alike : (left p : ℕ) (taken : List Lease) (r : Run) (t g : List ℕ) → Good (r .flow, (t, g))
+        → locksOf left p (given h b ps) buckets registry keys taken r t g grants .seen ≡ locksOf left p (given h a ps) buckets registry keys taken r t g grants .seen
+    unfolding locksOf rollbackOf
+    locks-alike zero p taken r t g x = refl
+    locks-alike (suc left) p taken r t g x =
+        let m = retryOf attemptLimit 0 (given h a (ps ++ taken)) buckets registry (bindingAt keys p) (bucketAt keys p) r t g .seen in
+        let k = retry-alike (ps ++ taken) buckets registry (bindingAt keys p) (bucketAt keys p) attemptLimit 0 r t g x in
+        rw (k .equal)
+        (go (m .0 .run) (m .1 .0) (m .1 .1) (m .0 .outcome)
+        (λ l. locksOf left (p + 1) (given h a ps) buckets registry keys (taken ++ (l ∷ [])) (m .0 .run) (m .1 .0) (m .1 .1) grants)
+        (λ l. locksOf left (p + 1) (given h b ps) buckets registry keys (taken ++ (l ∷ [])) (m .0 .run) (m .1 .0) (m .1 .1) grants)
+        (λ l. locks-alike left (p + 1) (taken ++ (l ∷ [])) (m .0 .run) (m .1 .0) (m .1 .1) (k .good)) (k .good))
+      where
+        go : (k : Run) (u w : List ℕ) (y : Outcome) (more more′ : Lease → Made Locks) → ((l : Lease) → more′ l .seen ≡ more l .seen) → Good (k .flow, (u, w))
+            → afterKey y (given h b ps) taken p k u w grants more′ .seen ≡ afterKey y (given h a ps) taken p k u w grants more .seen
+        go k u w (outcome.Granted l) more more′ f x = f l
+        go k u w outcome.Busy more more′ f x = let r = back-alike (length taken) ps taken k u w x in rw (r .equal)
+        go k u w (outcome.Refused y) more more′ f x = let r = back-alike (length taken) ps taken k u w x in rw (r .equal)
