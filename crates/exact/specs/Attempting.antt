@@ -4,14 +4,15 @@ use Prim.Native.Nat.{ℕ, zero, suc, _+_, _%_, _<_}
 use mathlib.Core.Path.{_≡_, refl, sym, subst, ap, _∙_}
 use mathlib.Core.List.{List, [], _∷_, _++_, append-nil, append-assoc}
 use mathlib.Core.Bool.{true, false}
-use native.Mathlib.Omega.{arith}
 use native.Mathlib.Nat.{add-zero}
+use native.Mathlib.Omega.{arith}
 use lib.Dec.{eqb}
 use borrow.Author.Tests.{eqb-true, eqb-false}
 use Rattle.model.specs.Log.{Made, yielded, note, _>>=_, _>>_, spun}
 use Rattle.model.specs.Arena.{leasesOf}
 use Rattle.model.specs.Foreign.{Setting, flowOf, boundaryOf}
 use Rattle.model.specs.Lock.{answerOf, settled, runOf, triedOf, attemptOf, spinOf, pauseOf, isBusy, retryOf, attemptLimit}
+use Rattle.model.specs.Checks.{bucketRules}
 use Rattle.model.specs.Calls.{countsOf, given}
 use Rattle.model.specs.declared.Answer.the-variants.{Done, Busy, Refused}
 use Rattle.model.specs.declared.Counts.{Counts}
@@ -22,20 +23,19 @@ use Rattle.model.specs.declared.Run.{Run}
 use Rattle.model.specs.declared.Tried.{Tried}
 use Rattle.history.specs.World.{World}
 use Rattle.history.specs.Items.{Says, says, perform, acquire-bucket, environment, transactional}
+use Rattle.history.specs.Statements.{world-in, answer-in}
 use Rattle.history.specs.Tests.{differ, if-cases, In}
+use Rattle.history.specs.Logs.{nothing}
+use Rattle.history.specs.Judged.{steps}
 use Rattle.history.specs.Steps.{With, worldAt, of-run, of-tried}
-use Rattle.exact.specs.Made.{made}
-use Rattle.exact.specs.CountedOn.{on-run, run-on, tried-on, boundary-from, pause-on, retry-on}
+use Rattle.history.specs.Calls.{call-kept}
+use Rattle.exact.specs.Statements.{Passes}
 use Rattle.exact.specs.Script.{acquire-bucket-has, environment-has, transactional-has, place-in}
 use Rattle.exact.specs.Attempts.{Attempts, Pause, all-busy, yield, _and-then_, one-busy, spin, the-last, also-yields, only-spins, Bucket-attempts}
-use Rattle.history.specs.Judged.{steps}
-use Rattle.model.specs.Checks.{bucketRules}
-use Rattle.exact.specs.Statements.{Passes}
+use Rattle.exact.specs.Made.{made}
 use Rattle.exact.specs.Passing.{boundary-on, bucket-on, in-script}
-use Rattle.history.specs.Statements.{world-in, answer-in}
-use Rattle.history.specs.Logs.{nothing}
-use Rattle.history.specs.Calls.{call-kept}
 use Rattle.exact.specs.ScriptFacts.{place-goes}
+use Rattle.exact.specs.CountedOn.{on-run, run-on, tried-on, boundary-from, pause-on, retry-on}
 
 -- ---- proofs
 

@@ -1,28 +1,28 @@
 -- Attempts, counted from outside, as statements for any script and any arena: how one attempt ends; that `acquire_index_bucket` is attempts and
 -- boundaries, and multi-lock such calls key by key; and what follows for the counts. `Theorems` has the proofs by name. What stands in quotes is
 -- of document 01.
-use Rattle.model.specs.Crew.{total}
 use Prim.Native.Nat.{ℕ, _+_, _/_, _≤_, _%_, _<_, _-_}
-use Rattle.model.specs.declared.Answer.{Answer}
-use Rattle.history.specs.Items.{Build, Says, acquire-bucket, acquire-locks, says, environment, transactional, drop-lease, Call}
-use Rattle.model.specs.declared.Counts.{Counts}
-use Rattle.model.specs.Log.{Event, Made, took, released, waiters-set, health-set, spun, yielded, attempt-begun, boundary-run, step-dropped, by-caller, by-script}
-use mathlib.Core.List.{List, _∷_, _++_, []}
-use lib.ListN.{length, getD}
-use Rattle.history.specs.World.{World, caller-releases}
-use Rattle.model.specs.Calls.{countsOf}
-use Rattle.exact.specs.Statements.{Passes}
-use Rattle.model.specs.declared.Answer.the-variants.{Done, Refused, Busy, RefusedAt, Cell, Granted, AllGranted}
-use Rattle.history.specs.Statements.{answer-in, world-in}
-use Rattle.model.specs.Checks.{countIn}
-use Rattle.model.specs.declared.Refusal.the-variants.{SerializationFailure}
 use mathlib.Core.Path.{_≡_}
+use mathlib.Core.List.{List, _∷_, _++_, []}
 use mathlib.Core.Logic.{_↔_}
+use lib.ListN.{length, getD}
+use Rattle.model.specs.Log.{Event, Made, took, released, waiters-set, health-set, spun, yielded, attempt-begun, boundary-run, step-dropped, by-caller, by-script}
 use Rattle.model.specs.Arena.{leaseOf, wordsOf}
+use Rattle.model.specs.Refusals.{numberOf}
 use Rattle.model.specs.Lock.{bindingAt, bucketAt}
+use Rattle.model.specs.Checks.{countIn}
+use Rattle.model.specs.Calls.{countsOf}
+use Rattle.model.specs.Crew.{total}
+use Rattle.model.specs.declared.Answer.{Answer}
+use Rattle.model.specs.declared.Answer.the-variants.{Done, Refused, Busy, RefusedAt, Cell, Granted, AllGranted}
+use Rattle.model.specs.declared.Counts.{Counts}
 use Rattle.model.specs.declared.Lease.{Lease}
 use Rattle.model.specs.declared.Refusal.{Refusal}
-use Rattle.model.specs.Refusals.{numberOf}
+use Rattle.model.specs.declared.Refusal.the-variants.{SerializationFailure}
+use Rattle.history.specs.World.{World, caller-releases}
+use Rattle.history.specs.Items.{Build, Says, acquire-bucket, acquire-locks, says, environment, transactional, drop-lease, Call}
+use Rattle.history.specs.Statements.{answer-in, world-in}
+use Rattle.exact.specs.Statements.{Passes}
 use Rattle.exact.specs.Script.{place-in}
 
 -- ---- how one attempt ends: its boundaries, the cells that the caller takes in it, and those that it releases

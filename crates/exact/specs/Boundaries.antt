@@ -1,12 +1,11 @@
 -- The boundaries of a lock by key and of multi-lock, counted from outside: what each attempt's ending gives, one for each Busy attempt, one for each
 -- yield, and one for each release in a rollback. By induction over the attempts, and over the keys.
-use Rattle.model.specs.Crew.{total}
 use Prim.Native.Nat.{ℕ, _+_, _-_, _≤_, _<_}
 use mathlib.Core.Path.{_≡_, refl, sym, subst}
 use mathlib.Core.List.{List, [], _∷_, _++_}
-use native.Mathlib.Omega.{arith}
-use native.Mathlib.Nat.{zero-add}
 use native.Mathlib.Decide.{decLt}
+use native.Mathlib.Nat.{zero-add}
+use native.Mathlib.Omega.{arith}
 use lib.ListN.{length, getD, length-append, List·getD-append}
 use lib.Seq.{getD-append-add}
 use Rattle.model.specs.Log.{Made, spun, yielded}
@@ -14,6 +13,7 @@ use Rattle.model.specs.Arena.{leasesOf, wordsOf}
 use Rattle.model.specs.Foreign.{flowOf}
 use Rattle.model.specs.Lock.{bindingAt, bucketAt}
 use Rattle.model.specs.Calls.{countsOf, given, starting}
+use Rattle.model.specs.Crew.{total}
 use Rattle.model.specs.declared.Answer.{Answer}
 use Rattle.model.specs.declared.Answer.the-variants.{Done}
 use Rattle.model.specs.declared.Lease.{Lease}
@@ -21,14 +21,14 @@ use Rattle.history.specs.World.{World}
 use Rattle.history.specs.Items.{Says, perform, acquire-bucket, drop-lease, environment}
 use Rattle.history.specs.Statements.{answer-in}
 use Rattle.history.specs.Judged.{performed}
-use Rattle.exact.specs.Made.{made}
 use Rattle.exact.specs.Script.{acquire-bucket-has}
-use Rattle.exact.specs.Retried.{spins-append, boundary-still, attempt-one}
+use Rattle.exact.specs.Attempts.{Ends, no-cell, waited, held, not-takable, late, granted, _and-then_, spin, yield, Pause, only-spins, also-yields, Attempts, all-busy, the-last, one-busy, locking, between, Gives-back, all-back, one-back, Key-by-key, all-locked, one-locked, one-refused, spins-in, Boundaries-add, Bucket-boundaries, rolled-back, Locks-boundaries}
+use Rattle.exact.specs.Made.{made}
 use Rattle.exact.specs.ScriptFacts.{total-append}
+use Rattle.exact.specs.Retried.{spins-append, boundary-still, attempt-one}
 use Rattle.exact.specs.Ending.{tried-ends}
 use Rattle.exact.specs.Attempting.{attempting, bounding, by-steps}
 use Rattle.exact.specs.KeyByKey.{locks-as-calls}
-use Rattle.exact.specs.Attempts.{Ends, no-cell, waited, held, not-takable, late, granted, _and-then_, spin, yield, Pause, only-spins, also-yields, Attempts, all-busy, the-last, one-busy, locking, between, Gives-back, all-back, one-back, Key-by-key, all-locked, one-locked, one-refused, spins-in, Boundaries-add, Bucket-boundaries, rolled-back, Locks-boundaries}
 
 -- ---- sums
 

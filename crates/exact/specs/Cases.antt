@@ -8,12 +8,12 @@ use lib.ListN.{replicate}
 use Rattle.model.specs.Log.{by-caller, took}
 use Rattle.model.specs.Arena.{lastSerial, headOf, leaseOf, leasesOf, bitAt, ownerAt, waitersAt, setCell, setWaiters, isFree, isHeld, stateOf, stateAt, isLive, headFits, shapeFits, healthFits, registryFits}
 use Rattle.model.specs.Refusals.{first}
-use Rattle.model.specs.Checks.{notLive, badBindings, bucketRules, locksRules}
 use Rattle.model.specs.Lock.{bindingAt, bucketAt}
+use Rattle.model.specs.Checks.{notLive, badBindings, bucketRules, locksRules}
 use Rattle.model.specs.Calls.{countsOf}
 use Rattle.model.specs.declared.Answer.the-variants.{Granted, Refused, RefusedAt}
-use Rattle.model.specs.declared.Refusal.the-variants.{SerialsSpent, SerializationFailure}
 use Rattle.model.specs.declared.Check.the-variants.{Fine}
+use Rattle.model.specs.declared.Refusal.the-variants.{SerialsSpent, SerializationFailure}
 use Rattle.history.specs.World.{World, worldOf, step}
 use Rattle.history.specs.Items.{Call, Says, says, acquire-bucket, acquire-locks, keyCell, perform}
 use Rattle.history.specs.Judged.{rules, clear}

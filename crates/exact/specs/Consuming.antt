@@ -1,6 +1,5 @@
 -- How a call uses up its script: the steps from its place on are run once each, in order, at the boundaries in order, each boundary up to and
 -- with its 5 or to the script's end. Between two boundaries there are only the caller's own events. No arena rule is needed.
-use Rattle.exact.specs.Script.{Boundary, at-end, at-five, one-step, attempts-one, yields-once, spins, Consumed, at-rest, counts, takes, gives-up, boundary}
 use Prim.Native.Nat.{ℕ, _+_, _≤_}
 use mathlib.Core.Path.{_≡_, refl, sym, ap, _∙_, subst}
 use mathlib.Core.List.{List, _∷_, _++_, append-assoc}
@@ -11,6 +10,7 @@ use Rattle.model.specs.declared.Lease.{Lease}
 use Rattle.history.specs.World.{World, now, Lawful, Legal}
 use Rattle.history.specs.Logs.{now-append, lawful-split}
 use Rattle.exact.specs.Statements.{Stepping, dropped, ends, looks, performed}
+use Rattle.exact.specs.Script.{Boundary, at-end, at-five, one-step, attempts-one, yields-once, spins, Consumed, at-rest, counts, takes, gives-up, boundary}
 
 -- one behind the other
 pub follow : {Own : World → Event → Type 0} {script : List ℕ} {ps rs ts : List Lease} {p d x y q c : ℕ} {w u v : World} {es fs : List Event}

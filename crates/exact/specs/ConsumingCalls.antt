@@ -1,18 +1,16 @@
 -- Every call with a script uses it up as `Consumed` says: from its place to the place that it gives back, with its dropped steps, from the
 -- world before it to the world after it, over its log.
-use Rattle.history.specs.Theorems.{lawful-always}
-use Rattle.history.specs.Items.{held-of, given-up, place-of}
-use Rattle.exact.specs.Script.{Scripted, environment-has, try-lock-has, transactional-has, acquire-bucket-has, release-all-has, acquire-locks-has, attempts-one, counts, handed, Script-consumed, Consumed}
 use Prim.Native.Nat.{ℕ, _*_, _≤_}
 use mathlib.Core.Path.{_≡_, refl, sym}
 use mathlib.Core.List.{List, [], _∷_, _++_, append-nil}
 use native.Mathlib.Omega.{arith}
 use lib.ListN.{length}
 use lib.Seq.{take-all}
+use Rattle.model.specs.Log.{Made}
 use Rattle.model.specs.Arena.{leasesOf}
-use Rattle.model.specs.Checks.{countIn}
 use Rattle.model.specs.Foreign.{flowOf}
 use Rattle.model.specs.Lock.{outcomeOf, answerOf, settled, lockOf, attemptOf, retryOf, attemptLimit, locksOf}
+use Rattle.model.specs.Checks.{countIn}
 use Rattle.model.specs.Calls.{given, starting}
 use Rattle.model.specs.declared.Answer.{Answer}
 use Rattle.model.specs.declared.Answer.the-variants.{Done, Cell, Granted, AllGranted, Busy, Refused, RefusedAt}
@@ -20,14 +18,14 @@ use Rattle.model.specs.declared.Lease.{Lease}
 use Rattle.model.specs.declared.Outcome.{Outcome}
 use Rattle.model.specs.declared.Outcome.the-variants as outcome
 use Rattle.history.specs.World.{World}
-use Rattle.history.specs.Items.{Call, perform, Says, script-of, held-of}
+use Rattle.history.specs.Items.{held-of, given-up, place-of, Call, perform, Says, script-of}
+use Rattle.history.specs.Theorems.{lawful-always}
 use Rattle.history.specs.Judged.{steps}
 use Rattle.history.specs.Calls.{words-leases}
+use Rattle.exact.specs.Script.{Scripted, environment-has, try-lock-has, transactional-has, acquire-bucket-has, release-all-has, acquire-locks-has, attempts-one, counts, handed, Script-consumed, Consumed}
 use Rattle.exact.specs.Made.{made}
-use Rattle.exact.specs.ConsumingSteps.{held-after, granted-after, boundary-consumed, lock-consumed, attempt-consumed, retry-consumed, back-consumed, locks-consumed, Any}
-use Rattle.model.specs.Log.{Made}
 use Rattle.exact.specs.Consuming.{lawfully}
-use Rattle.history.specs.Theorems.{lawful-always}
+use Rattle.exact.specs.ConsumingSteps.{held-after, granted-after, boundary-consumed, lock-consumed, attempt-consumed, retry-consumed, back-consumed, locks-consumed, Any}
 
 -- ---- proofs
 

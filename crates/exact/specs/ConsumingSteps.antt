@@ -1,5 +1,4 @@
 -- Each definition of the model, from a boundary to multi-lock, uses up its script as `Consumed` says.
-use Rattle.exact.specs.Script.{Boundary, at-end, at-five, one-step, attempts-one, yields-once, spins, Consumed, at-rest, counts, takes, gives-up, boundary}
 use Prim.Native.Nat.{ℕ, zero, suc, _+_, _-_, _%_, _≤_, _<_}
 use mathlib.Core.Path.{_≡_, refl, subst}
 use mathlib.Core.List.{List, [], _∷_, _++_, append-nil, append-assoc}
@@ -37,6 +36,7 @@ use Rattle.laws.specs.Pick.{if-both}
 use Rattle.history.specs.World.{World}
 use Rattle.history.specs.Tests.{differ, if-cases, leases-words}
 use Rattle.history.specs.Steps.{With, worldAt, of-flow, of-locked, of-run, of-tried, of-took}
+use Rattle.exact.specs.Script.{Boundary, at-end, at-five, one-step, attempts-one, yields-once, spins, Consumed, at-rest, counts, takes, gives-up, boundary}
 use Rattle.exact.specs.ForeignSteps.{step-is}
 use Rattle.exact.specs.Consuming.{follow}
 

@@ -3,15 +3,16 @@ use Prim.Native.Nat.{ℕ, _+_, _≤_}
 use mathlib.Core.Path.{_≡_, refl, sym, subst}
 use mathlib.Core.List.{List, [], _∷_, _++_, append-nil}
 use mathlib.Core.Bool.{not}
+use native.Mathlib.Nat.{zero-add}
 use native.Mathlib.Omega.{arith}
 use lib.Dec.{leb, eqb}
 use lib.ListN.{getD}
 use Rattle.model.specs.Log.{Made, Event, by-caller, by-script, attempt-begun, boundary-run, yielded, spun, step-dropped, took, released, waiters-set, health-set}
 use Rattle.model.specs.Arena.{serialRemains, leaseOf, leasesOf, waitersAt, stateAt}
+use Rattle.model.specs.Refusals.{numberOf}
 use Rattle.model.specs.Foreign.{Setting, protecting, flowOf, boundaryOf}
 use Rattle.model.specs.Lock.{takeIn, takeOf, lateOf, afterTake, secondOf, lockOf, outcomeOf, answerOf, findOf, attemptAt, attemptOf}
 use Rattle.model.specs.Calls.{given, starting}
-use Rattle.model.specs.Refusals.{numberOf}
 use Rattle.model.specs.declared.Answer.{Answer}
 use Rattle.model.specs.declared.Flow.{Flow}
 use Rattle.model.specs.declared.Found.{Found}
@@ -27,10 +28,9 @@ use Rattle.history.specs.World.{caller-releases}
 use Rattle.history.specs.Items.{perform}
 use Rattle.history.specs.Steps.{With}
 use Rattle.history.specs.Rollback.{Foreigner, Every, end, also, boundary-foreign, still-then}
-use Rattle.exact.specs.Made.{made}
 use Rattle.exact.specs.Script.{transactional-has}
 use Rattle.exact.specs.Attempts.{Ends, Ending, Attempt-ends, caller-takes, no-cell, waited, held, not-takable, late, granted}
-use native.Mathlib.Nat.{zero-add}
+use Rattle.exact.specs.Made.{made}
 
 -- what follows a boundary's log is all that the caller takes
 none-then : {xs : List Event} (ys : List Event) → Every Foreigner xs → caller-takes (xs ++ ys) ≡ caller-takes ys

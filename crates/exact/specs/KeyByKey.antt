@@ -4,17 +4,17 @@ use Prim.Native.Nat.{ℕ, zero, suc, _+_, _*_, _%_, _≤_, _<_}
 use mathlib.Core.Path.{_≡_, refl, sym, ap, _∙_, subst}
 use mathlib.Core.List.{List, [], _∷_, _++_, append-nil}
 use mathlib.Core.Bool.{not, _||_}
-use native.Mathlib.Omega.{arith}
 use native.Mathlib.Nat.{zero-add}
+use native.Mathlib.Omega.{arith}
 use lib.Dec.{ltb, eqb}
 use lib.ListN.{length, take, length-append}
 use lib.Seq.{take-length, take-suc, length-take-le, getD-take}
 use borrow.Author.Tests.{ltb-false, not-false}
 use Rattle.model.specs.Log.{Made, Event, by-caller, released}
 use Rattle.model.specs.Arena.{leasesOf, wordsOf, setCell}
-use Rattle.model.specs.Checks.{countIn, isOdd, locksRules, leaseRules, notLive}
 use Rattle.model.specs.Foreign.{Setting, protecting, stepsIn, flowOf, boundaryOf}
 use Rattle.model.specs.Lock.{noLease, leaseAt, attemptLimit, retryOf, giveBackOf, Locks, endedOf, rollbackOf, afterKey, bindingAt, bucketAt, locksOf, settled, answerOf, runOf}
+use Rattle.model.specs.Checks.{countIn, isOdd, locksRules, leaseRules, notLive}
 use Rattle.model.specs.Calls.{countsOf, given}
 use Rattle.model.specs.declared.Answer.the-variants.{Done, Granted, Refused, RefusedAt}
 use Rattle.model.specs.declared.Counts.{Counts}
@@ -32,18 +32,18 @@ use Rattle.history.specs.Statements.{answer-in, world-in}
 use Rattle.history.specs.Tests.{In, in-left, in-right, in-take, in-index, neither}
 use Rattle.history.specs.Events.{Fit, lives}
 use Rattle.history.specs.Logs.{Kept, nothing, event, kept-live, kept-next, weaken}
-use Rattle.history.specs.Steps.{With, worldAt, of-run, of-tried, Won, won, none-yet, no-more, boundary-kept, retry-kept}
 use Rattle.history.specs.Judged.{clear-front, clear-back}
+use Rattle.history.specs.Steps.{With, worldAt, of-run, of-tried, Won, won, none-yet, no-more, boundary-kept, retry-kept}
 use Rattle.history.specs.Many.{Held, of-locks, one-more}
-use Rattle.exact.specs.Made.{made, drop-made}
 use Rattle.exact.specs.Statements.{Passes}
 use Rattle.exact.specs.Script.{acquire-bucket-has, acquire-locks-has, environment-has, place-in}
-use Rattle.exact.specs.ScriptFacts.{place-goes}
-use Rattle.exact.specs.CountedOn.{run-on, locks-on, back-on, keys-on}
+use Rattle.exact.specs.Attempts.{added, _and-then_, locking, dropping, between, Gives-back, all-back, one-back, refused-at, Key-by-key, all-locked, one-locked, one-refused, Locks-as-calls, key-at}
+use Rattle.exact.specs.Made.{made, drop-made}
 use Rattle.exact.specs.Passing.{clear-live, boundary-on, even, holding-more, in-script, key-passes, leases-append}
 use Rattle.exact.specs.Passing as passing
+use Rattle.exact.specs.ScriptFacts.{place-goes}
+use Rattle.exact.specs.CountedOn.{run-on, locks-on, back-on, keys-on}
 use Rattle.exact.specs.Attempting.{nil, counted, from-nil, done-with, at-last}
-use Rattle.exact.specs.Attempts.{added, _and-then_, locking, dropping, between, Gives-back, all-back, one-back, refused-at, Key-by-key, all-locked, one-locked, one-refused, Locks-as-calls, key-at}
 
 -- from a run that counts: the same from one that has counted nothing, counted on
 back-from : (e : Setting) (n : ℕ) (ls : List Lease) (r : Run) (t g : List ℕ)

@@ -1,28 +1,28 @@
 -- Checks go on passing: over lawful events that spare the held leases, and from one place of the script to another.
-use Prim.Native.Nat.{zero, suc, _<_, ℕ, _+_, _≤_, _%_, _<_, suc, _*_, _/_}
+use Prim.Native.Nat.{zero, suc, _<_, ℕ, _+_, _≤_, _%_, _*_, _/_}
 use mathlib.Core.Path.{_≡_, refl, ap, _∙_, subst}
 use mathlib.Core.List.{List, [], _∷_, _++_}
-use mathlib.Core.Logic.{inl, inr}
 use mathlib.Core.Bool.{true, false, not, _||_}
+use mathlib.Core.Logic.{inl, inr}
+use native.Mathlib.Decide.{ℕ-discrete}
+use native.Mathlib.Omega.{arith}
 use lib.Dec.{ltb, eqb}
 use lib.ListN.{length, length-set, length-append}
 use borrow.Author.Tests.{not-false, le-ltb, ltb-false, eqb-true, eq-eqb}
-use Rattle.laws.specs.Shape.{shaped}
 use Rattle.model.specs.Log.{Event, attempt-begun, boundary-run, yielded, spun, step-dropped, took, released, waiters-set, health-set}
 use Rattle.model.specs.Arena.{cellsOf, shapeFits, healthFits, isLive, leasesOf, isIn, wordsOf, leaseOf}
-use Rattle.model.specs.Checks.{notLive, badScript, bucketRules, scriptRules, badBindings, locksRules, badBinding, countIn, badHeldLength, isOdd}
 use Rattle.model.specs.Foreign.{stepsIn}
+use Rattle.model.specs.Lock.{bindingAt}
+use Rattle.model.specs.Checks.{notLive, badScript, bucketRules, scriptRules, badBindings, locksRules, badBinding, countIn, badHeldLength, isOdd}
 use Rattle.model.specs.declared.Head.{Head}
 use Rattle.model.specs.declared.Lease.{Lease}
+use Rattle.laws.specs.Shape.{shaped}
 use Rattle.history.specs.World.{World, step, now}
 use Rattle.history.specs.Tests.{In, in-first, in-rest, in-cases, neither, differ, leases-words, in-either}
 use Rattle.history.specs.Events.{Fit, fits}
 use Rattle.history.specs.Logs.{Kept, kept-fit, kept-live, arena-now}
-use Rattle.history.specs.ByKey.{words-length}
 use Rattle.history.specs.Judged.{Clear, clear-front, clear-back, clear-append}
-use Rattle.model.specs.Lock.{bindingAt}
-use native.Mathlib.Omega.{arith}
-use native.Mathlib.Decide.{ℕ-discrete}
+use Rattle.history.specs.ByKey.{words-length}
 
 -- ---- the held list
 

@@ -4,8 +4,8 @@ use Prim.Native.Nat.{ℕ, suc, _+_, _*_, _≤_, _<_}
 use mathlib.Core.Path.{_≡_, refl, sym, ap, _∙_, subst}
 use mathlib.Core.List.{List, []}
 use mathlib.Core.Bool.{false, not}
-use native.Mathlib.Omega.{arith}
 use native.Mathlib.Nat.{zero-add}
+use native.Mathlib.Omega.{arith}
 use lib.Dec.{leb, eqb}
 use lib.ListN.{getD}
 use borrow.Author.Tests.{leb-true, leb-false, eqb-true, eqb-false, not-true, not-false}
@@ -29,10 +29,10 @@ use Rattle.history.specs.World.{World, worldOf}
 use Rattle.history.specs.Items.{Says, says, perform, cellOf}
 use Rattle.history.specs.Tests.{if-cases}
 use Rattle.history.specs.Steps.{With}
+use Rattle.exact.specs.Statements.{Acquire-bucket-exactly, Acquire-bucket-quiet, By-key, Names, Quietly, Transactional-quiet, Try-lock-exactly, Try-lock-quiet, bad-header, Locks-exactly, at-waited, busy-after, failed-after, is-poisoned, at-held, bad-bucket, at-damaged, names, at-spent, at-free}
+use Rattle.exact.specs.Script.{acquire-bucket-has, transactional-has, try-lock-has}
 use Rattle.exact.specs.Made.{made}
 use Rattle.exact.specs.Quiet.{Quiet-lock, was-waited, was-held, was-damaged, was-spent, was-free, lock-quiet, yieldsIn, yields-are, busy-retry}
-use Rattle.exact.specs.Script.{acquire-bucket-has, transactional-has, try-lock-has}
-use Rattle.exact.specs.Statements.{Acquire-bucket-exactly, Acquire-bucket-quiet, By-key, Names, Quietly, Transactional-quiet, Try-lock-exactly, Try-lock-quiet, bad-header, Locks-exactly, at-waited, busy-after, failed-after, is-poisoned, at-held, bad-bucket, at-damaged, names, at-spent, at-free}
 
 -- ---- proofs
 

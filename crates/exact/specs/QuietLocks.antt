@@ -3,14 +3,14 @@ use Prim.Native.Nat.{ℕ, zero, suc, _+_, _*_, _≤_, _<_}
 use mathlib.Core.Path.{_≡_, refl, sym, ap, _∙_}
 use mathlib.Core.List.{List, [], _∷_, _++_, append-nil, append-assoc}
 use mathlib.Core.Logic.{_≢_}
-use native.Mathlib.Omega.{arith}
 use native.Mathlib.Nat.{add-zero, zero-add, suc-add}
+use native.Mathlib.Omega.{arith}
 use lib.ListN.{getD}
 use Rattle.model.specs.Log.{Made}
 use Rattle.model.specs.Arena.{lastSerial, spentTo, leaseOf, leasesOf, wordsOf, bitAt, ownerAt, waitersAt, setCell}
-use Rattle.model.specs.Checks.{countIn}
 use Rattle.model.specs.Foreign.{Setting, protecting, stepsIn, flowOf}
 use Rattle.model.specs.Lock.{lockedOf, lockOf, runOf, triedOf, findOf, attemptOf, retryOf, attemptLimit, bindingAt, bucketAt, endedOf, Locks, locksOf}
+use Rattle.model.specs.Checks.{countIn}
 use Rattle.model.specs.Calls.{countsOf, given}
 use Rattle.model.specs.declared.Answer.the-variants.{AllGranted}
 use Rattle.model.specs.declared.Ended.{Ended}
@@ -27,11 +27,11 @@ use Rattle.laws.specs.Words.{waiters-set-cell, bit-set-other, owner-set-other}
 use Rattle.history.specs.World.{World, worldOf, now}
 use Rattle.history.specs.Items.{Says, says, perform, keyCell}
 use Rattle.history.specs.Steps.{With, worldAt}
+use Rattle.exact.specs.Statements.{Locks-quiet, leases-from, takes-of}
+use Rattle.exact.specs.Script.{acquire-locks-has}
+use Rattle.exact.specs.Made.{made}
 use Rattle.exact.specs.Quiet.{Quiet-lock, was-waited, was-held, was-damaged, was-spent, was-free, lock-quiet}
 use Rattle.exact.specs.QuietCalls.{Keyed, no-header, sick, no-bucket, at-cell, keyed, retry-stops, attempt-as}
-use Rattle.exact.specs.Made.{made}
-use Rattle.exact.specs.Script.{acquire-locks-has}
-use Rattle.exact.specs.Statements.{Locks-quiet, leases-from, takes-of}
 
 -- ---- one key that is ready
 

@@ -1,23 +1,19 @@
 -- Multi-lock where the script is at its end, refused at position j: the keys before it were ready, the key at j is refused as
 -- `acquire_index_bucket` refuses it then. All is given back, j serials stay spent, and the counts are exact.
-use Rattle.history.specs.Tests.{state-free, In}
-use Rattle.history.specs.Logs.{Kept}
-use Rattle.exact.specs.Passing.{bucket-on, key-passes, in-script}
-use native.Mathlib.Nat.{mul-le-mul-right, suc-mul}
 use Prim.Native.Nat.{ℕ, zero, suc, _+_, _*_, _-_, _≤_, _<_}
 use mathlib.Core.Path.{_≡_, refl, sym, ap, _∙_, subst}
 use mathlib.Core.List.{List, [], _∷_, _++_}
 use mathlib.Core.Bool.{false}
 use mathlib.Core.Logic.{_≢_}
+use native.Mathlib.Nat.{mul-le-mul-right, suc-mul, add-zero, zero-add}
 use native.Mathlib.Omega.{arith}
-use native.Mathlib.Nat.{add-zero, zero-add}
 use lib.ListN.{length, set, take, getD}
 use lib.Seq.{set-set, set-getD}
 use Rattle.model.specs.Log.{Made}
 use Rattle.model.specs.Arena.{spentTo, leaseOf, leasesOf, bitAt, ownerAt, setCell, cellsOf, lastSerial, stateAt}
-use Rattle.model.specs.Checks.{countIn, locksRules}
 use Rattle.model.specs.Foreign.{Setting, protecting, stepsIn, flowOf}
 use Rattle.model.specs.Lock.{lockedOf, lockOf, outcomeOf, answerOf, settled, runOf, triedOf, findOf, attemptAt, isBusy, retryOf, attemptLimit, leaseAt, giveBackOf, rollbackOf, bindingAt, bucketAt, afterKey, endedOf, Locks, locksOf}
+use Rattle.model.specs.Checks.{countIn, locksRules}
 use Rattle.model.specs.Calls.{countsOf, given}
 use Rattle.model.specs.declared.Answer.{Answer}
 use Rattle.model.specs.declared.Answer.the-variants.{Refused, RefusedAt}
@@ -35,19 +31,20 @@ use Rattle.model.specs.declared.Refusal.the-variants.{SerializationFailure}
 use Rattle.model.specs.declared.Take.{Take}
 use Rattle.model.specs.declared.Take.the-variants as taking
 use Rattle.model.specs.declared.Tried.{Tried}
+use Rattle.laws.specs.Words.{bit-set-other, owner-set-other}
 use Rattle.history.specs.World.{World, worldOf, Unreleased, now, Lawful}
 use Rattle.history.specs.Items.{Says, says, acquire-bucket, acquire-locks, perform, keyCell, Call}
-use Rattle.history.specs.Steps.{With, worldAt}
+use Rattle.history.specs.Tests.{state-free, In}
+use Rattle.history.specs.Logs.{Kept}
 use Rattle.history.specs.Judged.{steps, Clear, rules}
+use Rattle.history.specs.Steps.{With, worldAt}
+use Rattle.exact.specs.Statements.{leases-from, Locks-refused-quiet, takes-of, Names, Unwaited, Is-free}
+use Rattle.exact.specs.Script.{acquire-locks-has, acquire-bucket-has}
 use Rattle.exact.specs.Made.{made}
+use Rattle.exact.specs.Passing.{bucket-on, key-passes, in-script}
 use Rattle.exact.specs.Quiet.{boundary-quiet, Quiet-lock, was-waited, was-held, was-damaged, was-spent, was-free, lock-quiet, yieldsIn, yields-are, busy-retry}
-use Rattle.laws.specs.Words.{bit-set-other, owner-set-other}
 use Rattle.exact.specs.QuietCalls.{retry-stops, attempt-as}
 use Rattle.exact.specs.QuietLocks.{set-all, ready-keys, find-named, now-takes, said}
-use Rattle.exact.specs.Script.{acquire-locks-has, acquire-bucket-has}
-use Rattle.exact.specs.Statements.{leases-from, Locks-refused-quiet, takes-of, Names, Unwaited, Is-free}
-use Rattle.history.specs.Logs.{Kept}
-use Rattle.history.specs.Tests.{state-free}
 
 -- ---- a row of the table is the only one
 

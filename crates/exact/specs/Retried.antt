@@ -1,6 +1,5 @@
 -- Busy attempts from outside. "after each Busy attempt, a boundary and a spin": the spins-in in the log are the Busy attempts. So yields are the
 -- Busy attempts of a key divided by 64, rounded down, and 11 is answered exactly if 4,096 attempts of the key were all Busy. Any script.
-use Rattle.model.specs.Crew.{total}
 use Prim.Native.Nat.{ℕ, zero, suc, _+_, _-_, _/_, _%_, _<_}
 use mathlib.Core.Path.{_≡_, refl, sym, ap, _∙_, subst}
 use mathlib.Core.List.{List, [], _∷_, _++_}
@@ -11,10 +10,11 @@ use lib.ListN.{length, getD, take}
 use borrow.Author.Tests.{eqb-true, eqb-false}
 use Rattle.model.specs.Log.{Made, Event, yielded, spun}
 use Rattle.model.specs.Arena.{serialRemains, leaseOf, leasesOf, bitAt, ownerAt, waitersAt, setCell, stateAt, isFree, isLive, isIn}
-use Rattle.model.specs.Checks.{countIn}
 use Rattle.model.specs.Foreign.{Setting, protecting, stepsIn, kindAt, placeAt, numberAt, flowOf, stepTakeOf, stepReleaseOf, stepWaitersOf, stepHealthOf, stepOf, stepsOf, boundaryOf}
 use Rattle.model.specs.Lock.{takeIn, takeOf, lateOf, afterTake, secondOf, lockOf, outcomeOf, answerOf, settled, runOf, findOf, attemptAt, attemptOf, spinOf, pauseOf, isBusy, retryOf, attemptLimit, leaseAt, giveBackOf, Locks, rollbackOf, afterKey, bindingAt, bucketAt, locksOf}
+use Rattle.model.specs.Checks.{countIn}
 use Rattle.model.specs.Calls.{given, starting}
+use Rattle.model.specs.Crew.{total}
 use Rattle.model.specs.declared.Answer.{Answer}
 use Rattle.model.specs.declared.Answer.the-variants.{AllGranted, Refused, RefusedAt}
 use Rattle.model.specs.declared.Flow.{Flow}
@@ -39,9 +39,9 @@ use Rattle.history.specs.World.{World}
 use Rattle.history.specs.Items.{Says, perform}
 use Rattle.history.specs.Tests.{differ, if-cases}
 use Rattle.history.specs.Steps.{With}
-use Rattle.exact.specs.Made.{made}
 use Rattle.exact.specs.Script.{acquire-bucket-has, acquire-locks-has}
 use Rattle.exact.specs.Attempts.{Bucket-retries, Keys-retried, Locks-retry, Retries, total-64, Some-4096, a-later, this-key, spins-in}
+use Rattle.exact.specs.Made.{made}
 
 -- ---- no spin in a lock
 

@@ -1,20 +1,19 @@
 -- How a call uses up its script, as statements: the steps from its place on are run once each, in order, at the boundaries in order, each boundary
 -- up to and with its 5 or to the script's end. Between two boundaries there are only the caller's own events. Proofs are named in `Theorems`.
-use Rattle.model.specs.Crew.{total}
 use Prim.Native.Nat.{ℕ, _+_, _≤_, _<_, _-_}
-use Rattle.model.specs.declared.Answer.{Answer}
-use Rattle.history.specs.Items.{Build, Call, Says, environment, place-of, script-of, try-lock, held-of, transactional, acquire-bucket, given-up, release-all, acquire-locks}
-use Rattle.model.specs.Log.{Event, Made, attempt-begun, yielded, spun, took, by-caller, boundary-run, released, by-script, step-dropped, waiters-set, health-set}
-use mathlib.Core.List.{List, _∷_, [], _++_}
-use lib.ListN.{length}
-use Rattle.history.specs.World.{World, step, now, Legal}
-use Rattle.model.specs.declared.Lease.{Lease}
-use Rattle.exact.specs.Statements.{Passes, Stepping}
-use Rattle.model.specs.Foreign.{stepsIn, kindAt, placeAt, numberAt}
 use mathlib.Core.Path.{_≡_}
+use mathlib.Core.List.{List, _∷_, [], _++_}
+use lib.ListN.{length, getD}
+use Rattle.model.specs.Log.{Event, Made, attempt-begun, yielded, spun, took, by-caller, boundary-run, released, by-script, step-dropped, waiters-set, health-set}
 use Rattle.model.specs.Arena.{leasesOf}
+use Rattle.model.specs.Foreign.{stepsIn, kindAt, placeAt, numberAt}
+use Rattle.model.specs.Crew.{total}
+use Rattle.model.specs.declared.Answer.{Answer}
 use Rattle.model.specs.declared.Answer.the-variants.{Done, Busy, Refused, Cell, Granted, AllGranted, RefusedAt}
-use lib.ListN.{getD}
+use Rattle.model.specs.declared.Lease.{Lease}
+use Rattle.history.specs.World.{World, step, now, Legal}
+use Rattle.history.specs.Items.{Build, Call, Says, environment, place-of, script-of, try-lock, held-of, transactional, acquire-bucket, given-up, release-all, acquire-locks}
+use Rattle.exact.specs.Statements.{Passes, Stepping}
 
 -- the calls with a script
 pub data Scripted : Call → Type 0 where

@@ -1,27 +1,27 @@
 -- What follows from `Consumed` of a call with a script: where its place stands afterwards, that each step between has its turn, and that each
 -- event by script in the log is the work of such a step.
-use Rattle.model.specs.Crew.{total}
-use Rattle.exact.specs.Script.{Scripted, environment-has, try-lock-has, transactional-has, acquire-bucket-has, release-all-has, acquire-locks-has, place-in, Boundary, at-end, at-five, one-step, attempts-one, yields-once, spins, Consumed, at-rest, counts, takes, gives-up, boundary, Place-goes, Turn, Each-has-its-turn, Points, By-script-only, Tally, Dropped-are}
 use Prim.Native.Nat.{ℕ, _+_, _-_, _≤_, _<_}
 use mathlib.Core.Path.{_≡_, refl, sym, ap, _∙_, subst}
 use mathlib.Core.List.{List, [], _∷_, _++_, append-nil, append-assoc}
-use native.Mathlib.Omega.{arith}
-use native.Mathlib.Nat.{add-zero}
 use native.Mathlib.Decide.{ℕ-discrete, decLt}
+use native.Mathlib.Nat.{add-zero}
+use native.Mathlib.Omega.{arith}
 use lib.ListN.{length, getD, length-append, List·getD-append}
 use lib.Seq.{getD-append-add}
 use Rattle.model.specs.Log.{Event, by-caller, by-script, attempt-begun, boundary-run, yielded, spun, step-dropped, took, released, waiters-set, health-set}
-use Rattle.model.specs.Checks.{scriptRules, lockRules, bucketRules, releaseRules, locksRules}
 use Rattle.model.specs.Foreign.{stepsIn, kindAt, placeAt, numberAt}
+use Rattle.model.specs.Checks.{scriptRules, lockRules, bucketRules, releaseRules, locksRules}
+use Rattle.model.specs.Crew.{total}
 use Rattle.model.specs.declared.Lease.{Lease}
 use Rattle.history.specs.World.{World, now, Legal}
 use Rattle.history.specs.Items.{Call, script-of, place-of, perform}
 use Rattle.history.specs.Logs.{now-append}
 use Rattle.history.specs.Judged.{Clear, rules}
+use Rattle.exact.specs.Statements.{Asks, dropped, ends, looks, performed, release-it, set-health, set-waiters, take-a-cell, Stepping}
+use Rattle.exact.specs.Script.{Scripted, environment-has, try-lock-has, transactional-has, acquire-bucket-has, release-all-has, acquire-locks-has, place-in, Boundary, at-end, at-five, one-step, attempts-one, yields-once, spins, Consumed, at-rest, counts, takes, gives-up, boundary, Place-goes, Turn, Each-has-its-turn, Points, By-script-only, Tally, Dropped-are}
+use Rattle.exact.specs.Passing.{in-script}
 use Rattle.exact.specs.Consuming.{boundary-rises, place-rises, place-inside, boundary-now, step-now}
 use Rattle.exact.specs.ConsumingCalls.{script-consumed}
-use Rattle.exact.specs.Statements.{Asks, dropped, ends, looks, performed, release-it, set-health, set-waiters, take-a-cell, Stepping}
-use Rattle.exact.specs.Passing.{in-script}
 
 fits : (w : World) {k : Call} → Scripted k → Clear (rules w k) → place-of k ≤ stepsIn (script-of k)
 unfolding scriptRules lockRules bucketRules releaseRules locksRules

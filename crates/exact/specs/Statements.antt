@@ -3,27 +3,27 @@
 -- proofs by name. What stands in quotes is of document 01. A statement is one of any build, any function that answers calls; `Theorems` proves it
 -- of ours. The arena need not be sound: its shape fits, or the call passes its checks, and that is all.
 use Prim.Native.Nat.{ℕ, _<_, _≤_, suc, _+_, zero, _*_, _-_}
-use Rattle.history.specs.Items.{Build, Says, Stepper, Call, acquire-bucket, acquire-locks, says, transactional, try-lock, keyCell, cellOf, try-acquire}
-use mathlib.Core.List.{List, [], _∷_}
-use lib.ListN.{getD}
-use Rattle.history.specs.World.{World, Legal, cells, now, step, worldOf}
-use Rattle.model.specs.declared.Answer.{Answer}
-use Rattle.model.specs.Log.{Event, Made, took, by-caller, by-script, attempt-begun, released, waiters-set, health-set, yielded, spun, boundary-run, step-dropped}
-use Rattle.model.specs.declared.Lease.{Lease}
-use Rattle.model.specs.declared.Refusal.{Refusal}
-use Rattle.history.specs.Callers.{Shape-fits}
-use Rattle.model.specs.Arena.{bitAt, waitersAt, lastSerial, isIn, leaseOf, spentTo, ownerAt, wordsOf}
-use Rattle.model.specs.declared.Answer.the-variants.{Busy, Refused, Granted, AllGranted, RefusedAt}
-use Rattle.history.specs.Judged.{Clear, rules}
-use Rattle.history.specs.Statements.{answer-in}
-use Rattle.model.specs.Checks.{countIn}
-use Rattle.model.specs.Calls.{countsOf}
-use Rattle.model.specs.Foreign.{stepsIn}
-use Rattle.model.specs.declared.Refusal.the-variants.{BadHeader, Damaged, InvalidBucket, SerializationFailure, SerialsSpent, Poisoned}
-use Rattle.model.specs.Lock.{bindingAt, bucketAt}
 use mathlib.Core.Path.{_≡_}
+use mathlib.Core.List.{List, [], _∷_}
 use mathlib.Core.Bool.{false}
 use mathlib.Core.Logic.{_↔_}
+use lib.ListN.{getD}
+use Rattle.model.specs.Log.{Event, Made, took, by-caller, by-script, attempt-begun, released, waiters-set, health-set, yielded, spun, boundary-run, step-dropped}
+use Rattle.model.specs.Arena.{bitAt, waitersAt, lastSerial, isIn, leaseOf, spentTo, ownerAt, wordsOf}
+use Rattle.model.specs.Foreign.{stepsIn}
+use Rattle.model.specs.Lock.{bindingAt, bucketAt}
+use Rattle.model.specs.Checks.{countIn}
+use Rattle.model.specs.Calls.{countsOf}
+use Rattle.model.specs.declared.Answer.{Answer}
+use Rattle.model.specs.declared.Answer.the-variants.{Busy, Refused, Granted, AllGranted, RefusedAt}
+use Rattle.model.specs.declared.Lease.{Lease}
+use Rattle.model.specs.declared.Refusal.{Refusal}
+use Rattle.model.specs.declared.Refusal.the-variants.{BadHeader, Damaged, InvalidBucket, SerializationFailure, SerialsSpent, Poisoned}
+use Rattle.history.specs.World.{World, Legal, cells, now, step, worldOf}
+use Rattle.history.specs.Items.{Build, Says, Stepper, Call, acquire-bucket, acquire-locks, says, transactional, try-lock, keyCell, cellOf, try-acquire}
+use Rattle.history.specs.Statements.{answer-in}
+use Rattle.history.specs.Callers.{Shape-fits}
+use Rattle.history.specs.Judged.{Clear, rules}
 
 -- the call passes its checks: none of document 01's table applies to what it was given
 abbrev pub Passes : World → Call → Type 0

@@ -11,8 +11,8 @@ use Rattle.model.specs.Choice.{if_then_else_}
 use Rattle.model.specs.Log.{Made, attempt-begun, gives}
 use Rattle.model.specs.Arena.{lastSerial, serialRemains, spentTo, leaseOf, bitAt, ownerAt, stateAt}
 use Rattle.model.specs.Refusals.{first, judge}
-use Rattle.model.specs.Checks.{cellRules}
 use Rattle.model.specs.Lock.{takeIn, takeOf, outcomeOf, answerOf}
+use Rattle.model.specs.Checks.{cellRules}
 use Rattle.model.specs.Calls.{countsOf, refused, acquireOf, tryAcquireOf}
 use Rattle.model.specs.declared.Answer.the-variants.{Granted, Busy, Refused}
 use Rattle.model.specs.declared.Check.{Check}
@@ -23,8 +23,8 @@ use Rattle.model.specs.declared.State.{State}
 use Rattle.model.specs.declared.Took.{Took}
 use Rattle.history.specs.World.{World, worldOf, cells}
 use Rattle.history.specs.Items.{Says, says, try-acquire, perform}
-use Rattle.history.specs.Tests.{Stands, stands, is-free, is-held, is-damaged, if-cases}
 use Rattle.history.specs.Callers.{Shape-fits}
+use Rattle.history.specs.Tests.{Stands, stands, is-free, is-held, is-damaged, if-cases}
 use Rattle.exact.specs.Statements.{Tries, Try-acquire-exactly, Is-damaged, Is-free, Is-held, damaged, outside, held, free, spent}
 
 tries : (w : World) (c : ℕ) → Shape-fits w → Tries w c (perform w (try-acquire c))

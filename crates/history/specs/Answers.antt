@@ -7,8 +7,8 @@ use mathlib.Core.Logic.{_⊎_}
 use lib.ListN.{length}
 use Rattle.model.specs.Log.{Actor, Event, by-caller, took, released}
 use Rattle.model.specs.Arena.{leaseOf, leasesOf}
-use Rattle.model.specs.Checks.{countIn}
 use Rattle.model.specs.Lock.{leaseAt}
+use Rattle.model.specs.Checks.{countIn}
 use Rattle.model.specs.declared.Answer.the-variants.{AllGranted, Busy, Refused, RefusedAt}
 use Rattle.model.specs.declared.Lease.{Lease}
 use Rattle.model.specs.declared.Refusal.{Refusal}

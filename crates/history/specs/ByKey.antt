@@ -4,16 +4,16 @@ use Prim.Native.Nat.{ℕ, zero, suc, _+_, _*_, _-_, _<_}
 use mathlib.Core.Path.{_≡_, refl, sym, ap, _∙_}
 use mathlib.Core.List.{List, [], _∷_, _++_}
 use mathlib.Core.Bool.{not}
+use native.Mathlib.Decide.{ℕ-discrete}
 use native.Mathlib.Omega.{arith}
 use lib.Dec.{leb, eqb}
-use native.Mathlib.Decide.{ℕ-discrete}
 use lib.ListN.{length, getD, length-append, List·getD-append}
 use lib.Seq.{getD-append-seam}
 use Rattle.model.specs.Log.{Made}
 use Rattle.model.specs.Arena.{leaseOf, leasesOf, wordsOf, setCell}
-use Rattle.model.specs.Checks.{countIn}
 use Rattle.model.specs.Foreign.{Setting, protecting, flowOf}
 use Rattle.model.specs.Lock.{takeOf, lockOf, outcomeOf, answerOf, settled, findOf, attemptAt, attemptOf, pauseOf, isBusy, retryOf, attemptLimit, noLease, leaseAt, rollbackOf, afterKey, bindingAt, bucketAt, locksOf}
+use Rattle.model.specs.Checks.{countIn}
 use Rattle.model.specs.Calls.{starting, acquireOf}
 use Rattle.model.specs.declared.Answer.the-variants.{AllGranted, Granted, Refused}
 use Rattle.model.specs.declared.Check.the-variants.{Fault}
@@ -32,8 +32,8 @@ use Rattle.history.specs.World.{World}
 use Rattle.history.specs.Items.{Call, try-acquire, drop-lease, read-permission, competing-acquire, release-then-handoff, foreign-release, drop-preserving, acquire-preserving, environment, try-lock, transactional, acquire-bucket, release-all, acquire-locks, crew, perform, asked, cellOf, keyCell}
 use Rattle.history.specs.Statements.{answers, Buffer-is, Grant-is}
 use Rattle.history.specs.Tests.{leases-words}
-use Rattle.history.specs.Steps.{With}
 use Rattle.history.specs.Judged.{acting, steps, performed}
+use Rattle.history.specs.Steps.{With}
 
 -- ---- which cell a grant names
 

@@ -4,18 +4,18 @@ use mathlib.Core.Path.{_≡_, refl, sym, _∙_, subst}
 use mathlib.Core.List.{List, [], _∷_, _++_, append-nil}
 use mathlib.Core.Bool.{false, not}
 use mathlib.Core.Logic.{_⊎_, inl, inr}
-use native.Mathlib.Omega.{arith}
 use native.Mathlib.Decide.{decLt}
+use native.Mathlib.Omega.{arith}
 use lib.ListN.{length, take}
 use lib.Seq.{append-snoc}
 use borrow.Author.Tests.{leb-false, not-false}
 use Rattle.model.specs.Log.{Made, by-caller, attempt-begun, released, Event}
 use Rattle.model.specs.Arena.{cellsOf, shapeFits, setCell, isLive, isIn, leasesOf}
-use Rattle.model.specs.Checks.{countIn, badShape, badHeld, badCell, notReleasable, cellRules, leaseRules, heldCellRules, heldLeaseRules, scriptRules, lockRules, bucketRules, releaseRules, locksRules}
-use Rattle.model.specs.Crew.{crewRules}
 use Rattle.model.specs.Foreign.{flowOf}
 use Rattle.model.specs.Lock.{leaseAt, noLease, outcomeOf, answerOf, settled, attemptLimit}
+use Rattle.model.specs.Checks.{countIn, badShape, badHeld, badCell, notReleasable, cellRules, leaseRules, heldCellRules, heldLeaseRules, scriptRules, lockRules, bucketRules, releaseRules, locksRules}
 use Rattle.model.specs.Calls.{starting, acquireOf}
+use Rattle.model.specs.Crew.{crewRules}
 use Rattle.model.specs.declared.Head.{Head}
 use Rattle.model.specs.declared.Lease.{Lease}
 use Rattle.model.specs.declared.Outcome.{Outcome}
@@ -27,8 +27,8 @@ use Rattle.history.specs.Statements.{Hands-over, Held-live, log-of}
 use Rattle.history.specs.Tests.{differ, In, in-take}
 use Rattle.history.specs.Events.{Fit, lives, good}
 use Rattle.history.specs.Logs.{Kept, nothing, event, kept-fit, kept-live, weaken, chain, ended, lawful-split, unreleased-front, keep-now}
-use Rattle.history.specs.Steps.{Gains, followed, Gained, gained, was-busy, was-damaged, was-spent, Won, won, none-yet, no-more, boundary-kept, take-kept, lock-kept, attempt-kept, retry-kept}
 use Rattle.history.specs.Judged.{Clear, clear-back, rules, reply, seen-as, steps, performed}
+use Rattle.history.specs.Steps.{Gains, followed, Gained, gained, was-busy, was-damaged, was-spent, Won, won, none-yet, no-more, boundary-kept, take-kept, lock-kept, attempt-kept, retry-kept}
 use Rattle.history.specs.Many.{Held, give-back-kept, locks-kept}
 use Rattle.history.specs.Crew.{crew-kept}
 

@@ -6,16 +6,15 @@ use mathlib.Core.Bool.{not, _&&_}
 use native.Mathlib.Omega.{arith}
 use lib.Dec.{ltb, leb, eqb}
 use lib.ListN.{length, take}
-use Rattle.laws.specs.Pick.{if-both}
 use Rattle.model.specs.Log.{Made, Event, attempt-begun, yielded, released, by-caller, note, _>>_}
 use Rattle.model.specs.Arena.{serialRemains, bitAt, ownerAt, waitersAt, setCell, stateAt, isFree, isLive, isIn, leaseOf}
 use Rattle.model.specs.Foreign.{Setting, protecting, stepsIn, kindAt, placeAt, numberAt, flowOf, stepTakeOf, stepReleaseOf, stepWaitersOf, stepHealthOf, stepOf, stepsOf, boundaryOf}
 use Rattle.model.specs.Lock.{takeIn, takeOf, afterTake, lateOf, secondOf, lockOf, runOf, findOf, attemptAt, attemptOf, spinOf, pauseOf, isBusy, retryOf, leaseAt, giveBackOf, rollbackOf, afterKey, bindingAt, bucketAt, attemptLimit, Locks, locksOf}
 use Rattle.model.specs.Calls.{countsOf}
 use Rattle.model.specs.declared.Counts.{Counts}
+use Rattle.model.specs.declared.Flow.{Flow}
 use Rattle.model.specs.declared.Found.{Found}
 use Rattle.model.specs.declared.Found.the-variants as found
-use Rattle.model.specs.declared.Flow.{Flow}
 use Rattle.model.specs.declared.Lease.{Lease}
 use Rattle.model.specs.declared.Locked.{Locked}
 use Rattle.model.specs.declared.Outcome.{Outcome}
@@ -28,6 +27,7 @@ use Rattle.model.specs.declared.Take.{Take}
 use Rattle.model.specs.declared.Take.the-variants as taking
 use Rattle.model.specs.declared.Took.{Took}
 use Rattle.model.specs.declared.Tried.{Tried}
+use Rattle.laws.specs.Pick.{if-both}
 use Rattle.history.specs.World.{Kind, attempts, boundaries, yields, drops, number-of}
 
 pub number-append : (k : Kind) (xs ys : List Event) → number-of k (xs ++ ys) ≡ number-of k xs + number-of k ys

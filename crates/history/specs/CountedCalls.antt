@@ -5,9 +5,9 @@ use mathlib.Core.List.{List, [], _∷_}
 use native.Mathlib.Omega.{arith}
 use Rattle.model.specs.Log.{Made, by-caller, attempt-begun, released}
 use Rattle.model.specs.Arena.{leasesOf, setCell}
-use Rattle.model.specs.Checks.{countIn}
 use Rattle.model.specs.Foreign.{flowOf}
 use Rattle.model.specs.Lock.{attemptLimit}
+use Rattle.model.specs.Checks.{countIn}
 use Rattle.model.specs.Calls.{countsOf, starting, acquireOf}
 use Rattle.model.specs.declared.Counts.{Counts}
 use Rattle.model.specs.declared.Head.{Head}

@@ -21,8 +21,8 @@ use Rattle.history.specs.Tests.{free, In}
 use Rattle.history.specs.Events.{Good, fit, sound, counts}
 use Rattle.history.specs.Logs.{now-append, lawful-append, lawful-split, good-now, arena-now, next-now, bits-now, keep-now, spent-now, Kept, ended, nothing}
 use Rattle.history.specs.Steps.{step-kept}
-use Rattle.history.specs.Calls.{call-kept}
 use Rattle.history.specs.Crew.{zeros}
+use Rattle.history.specs.Calls.{call-kept}
 
 -- ---- a lone foreign step
 

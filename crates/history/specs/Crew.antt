@@ -3,8 +3,8 @@ use Prim.Native.Nat.{ℕ, zero, suc, _+_, _*_, _-_, _/_, _≤_, _<_}
 use mathlib.Core.Path.{_≡_, refl, sym, ap, _∙_, subst}
 use mathlib.Core.List.{List, [], _∷_, _++_}
 use mathlib.Core.Bool.{true, _&&_, _||_, not}
-use native.Mathlib.Omega.{arith}
 use native.Mathlib.Decide.{ℕ-discrete, decLt}
+use native.Mathlib.Omega.{arith}
 use lib.Dec.{ltb, leb, eqb}
 use lib.ListN.{length, getD, set, drop, replicate, length-take, length-drop, length-set, length-replicate, List·getD-eq-default}
 use lib.Seq.{getD-take, getD-drop, getD-set-same, getD-set-other}
@@ -25,8 +25,8 @@ use Rattle.history.specs.World.{World, worldOf, Live, Unreleased}
 use Rattle.history.specs.Tests.{differ, In, in-first, if-cases, neither}
 use Rattle.history.specs.Events.{Fit, lives}
 use Rattle.history.specs.Logs.{Kept, nothing, event, kept-fit, kept-live, weaken, ended}
-use Rattle.history.specs.Steps.{worldAt, Gains, followed, With, Gained, gained, was-busy, was-damaged, was-spent, lock-kept}
 use Rattle.history.specs.Judged.{Clear, clear-front}
+use Rattle.history.specs.Steps.{worldAt, Gains, followed, With, Gained, gained, was-busy, was-damaged, was-spent, lock-kept}
 
 -- ---- the places of the lists
 

@@ -22,10 +22,10 @@ use Rattle.model.specs.declared.Refusal.the-variants.{InvalidBucket, NotHeld, B
 use Rattle.history.specs.World.{World, worldOf, Live, now, Sound, Spent, Unreleased}
 use Rattle.history.specs.Items.{Call, Says, acquire-bucket, try-lock, drop-lease, release-all, acquire-locks, environment, try-acquire, perform, foreign, Item, call, foreign-step, preparation, Course, courseOf, cold, next-item, run, preparing, held-of, Entry, noted, preparation-over, entryOf, events-of, saying, says}
 use Rattle.history.specs.Statements.{Ledger, answers, leaves, log-of, Hands-over, Rolled-back, buffer-in, Fails}
+use Rattle.history.specs.Callers.{singles}
 use Rattle.history.specs.Theorems.{demand-2, forgets, nothing-kept, held-live, changes-nothing, crew-refused, named, take-is-call, nothing-new, rollback-is, two-writers}
 use Rattle.history.specs.Tests.{differ}
 use Rattle.history.specs.Events.{lives}
-use Rattle.history.specs.Callers.{singles}
 
 -- ---- a day
 

@@ -1,8 +1,8 @@
 -- What a history is made of: calls of document 01 with any arguments, lone foreign steps, preparations.
 use Prim.Native.Nat.{ℕ, _+_}
 use mathlib.Core.List.{List, [], _∷_, _++_}
-use Rattle.model.specs.Log.{Made, Event, gives, _>>=_, _>>_}
 use lib.ListN.{getD}
+use Rattle.model.specs.Log.{Made, Event, gives, _>>=_, _>>_}
 use Rattle.model.specs.Arena.{cellNumber, spentTo, leasesOf}
 use Rattle.model.specs.Foreign.{stepOf}
 use Rattle.model.specs.Lock.{bindingAt, bucketAt}

@@ -8,22 +8,22 @@ use lib.Dec.{ltb, leb, eqb}
 use lib.ListN.{length}
 use lib.Seq.{take-length}
 use borrow.Author.Tests.{eqb-true}
-use Rattle.laws.specs.Pick.{if-both}
 use Rattle.model.specs.Log.{Made, Actor, Event, by-script, attempt-begun, boundary-run, yielded, spun, step-dropped, took, released, waiters-set, health-set}
 use Rattle.model.specs.Arena.{leaseOf, leasesOf, isIn, setCell, serialRemains, bitAt, ownerAt, isFree, isLive}
-use Rattle.model.specs.Checks.{countIn}
 use Rattle.model.specs.Foreign.{Setting, flowOf, stepTakeOf, stepReleaseOf, stepWaitersOf, stepHealthOf, stepOf}
 use Rattle.model.specs.Lock.{noLease, leaseAt, attemptLimit}
+use Rattle.model.specs.Checks.{countIn}
 use Rattle.model.specs.Calls.{given, starting, acquireOf}
 use Rattle.model.specs.declared.Head.{Head}
 use Rattle.model.specs.declared.Lease.{Lease}
 use Rattle.model.specs.declared.Stepped.{Stepped}
+use Rattle.laws.specs.Pick.{if-both}
 use Rattle.history.specs.World.{World}
 use Rattle.history.specs.Items.{Call, try-acquire, drop-lease, read-permission, competing-acquire, release-then-handoff, foreign-release, drop-preserving, acquire-preserving, environment, try-lock, transactional, acquire-bucket, release-all, acquire-locks, crew, script-of, place-of, given-up, foreign, perform}
 use Rattle.history.specs.Statements.{log-of, Named, Named-alone}
 use Rattle.history.specs.Tests.{in-take, if-cases}
-use Rattle.history.specs.Calls.{words-leases}
 use Rattle.history.specs.Judged.{Clear, rules, acting, steps, performed}
+use Rattle.history.specs.Calls.{words-leases}
 use Rattle.history.specs.Naming.{Leases, Told, any, none, more, andthen, told, handed, and-took, at-script, at-caller, boundary-told, take-told, lock-told, attempt-told, retry-told, back-told, locks-told}
 use Rattle.history.specs.NamingCrew.{crew-told}
 

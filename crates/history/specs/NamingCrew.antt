@@ -2,21 +2,21 @@
 use Prim.Native.Nat.{ℕ, zero, suc, _+_, _*_, _-_, _/_, _≤_, _<_}
 use mathlib.Core.Path.{_≡_, refl, ap, _∙_}
 use mathlib.Core.List.{List, [], _∷_}
-use mathlib.Core.Logic.{_≢_, _⊎_, inl, inr}
 use mathlib.Core.Bool.{not}
-use native.Mathlib.Omega.{arith}
+use mathlib.Core.Logic.{_≢_, _⊎_, inl, inr}
 use native.Mathlib.Decide.{ℕ-discrete}
+use native.Mathlib.Omega.{arith}
 use lib.Dec.{ltb, leb, eqb}
 use lib.ListN.{length, getD, set, replicate, length-set}
 use lib.Seq.{getD-set-same, getD-set-other}
 use borrow.Author.Tests.{ltb-true, ltb-false, leb-false}
-use Rattle.laws.specs.Pick.{if-both}
 use Rattle.model.specs.Log.{Made}
 use Rattle.model.specs.Foreign.{setting, flowOf}
 use Rattle.model.specs.Lock.{lockOf}
 use Rattle.model.specs.Crew.{total, crewRules, startOf, countOf, Crew, crewAt, afterTry, tryTurnOf, releaseTurnOf, turnOf, turnsOf}
 use Rattle.model.specs.declared.Take.{Take}
 use Rattle.model.specs.declared.Take.the-variants as taking
+use Rattle.laws.specs.Pick.{if-both}
 use Rattle.history.specs.World.{World}
 use Rattle.history.specs.Items.{crew}
 use Rattle.history.specs.Tests.{if-cases}

@@ -10,9 +10,9 @@ use borrow.Author.Tests.{ltb-true, leb-false, lt-ltb, lt-leb, le-leb, eq-eqb, no
 use Rattle.model.specs.Log.{Made, Event, by-caller, by-script, attempt-begun, boundary-run, yielded, spun, step-dropped, took, released, waiters-set, health-set}
 use Rattle.model.specs.Arena.{lastSerial, serialRemains, spentTo, leaseOf, bitAt, ownerAt, isFree, isLive, isIn, stateAt}
 use Rattle.model.specs.Refusals.{first}
-use Rattle.model.specs.Checks.{cellRules, leaseRules}
 use Rattle.model.specs.Foreign.{stepTakeOf, stepReleaseOf, stepWaitersOf, stepHealthOf, stepOf}
 use Rattle.model.specs.Lock.{takeIn, takeOf}
+use Rattle.model.specs.Checks.{cellRules, leaseRules}
 use Rattle.model.specs.Calls.{countsOf, acquireOf, tryAcquireOf, dropLeaseOf}
 use Rattle.model.specs.declared.Answer.the-variants.{Done, Granted}
 use Rattle.model.specs.declared.Lease.{Lease}
@@ -24,14 +24,14 @@ use Rattle.laws.specs.Pick.{both}
 use Rattle.history.specs.World.{World, worldOf, cells, Free, Live, Legal, step, now, Lawful}
 use Rattle.history.specs.Items.{Says, says, try-acquire, drop-lease, perform, foreign, Item, preparation, Course, next-item, run, Call, cold, foreign-step, history-of, call, noted, saying, entryOf}
 use Rattle.history.specs.Statements.{answers, leaves, log-of}
+use Rattle.history.specs.Callers.{Shape-fits, Takes-alike, Take-is-call, Releases-alike, Release-is-call, single, singles, replay, replays, By-single-calls, Histories-single, Played-singly}
 use Rattle.history.specs.Tests.{differ, free-words, is-free-state, if-cases}
 use Rattle.history.specs.Events.{Fit, fit, fit-step, fits, good}
 use Rattle.history.specs.Logs.{lawful-split}
 use Rattle.history.specs.Judged.{performed}
-use Rattle.history.specs.Writers.{through}
-use Rattle.history.specs.Callers.{Shape-fits, Takes-alike, Take-is-call, Releases-alike, Release-is-call, single, singles, replay, replays, By-single-calls, Histories-single, Played-singly}
 use Rattle.history.specs.Calls.{at-point}
 use Rattle.history.specs.Courses.{events-append}
+use Rattle.history.specs.Writers.{through}
 
 -- ---- a call that takes or releases
 

@@ -7,13 +7,12 @@ use mathlib.Core.Logic.{_⊎_, inl, inr}
 use native.Mathlib.Omega.{arith}
 use lib.Dec.{leb, eqb}
 use lib.ListN.{getD}
-use Rattle.laws.specs.Pick.{if-both}
 use Rattle.model.specs.Log.{Made}
 use Rattle.model.specs.Arena.{setCell}
 use Rattle.model.specs.Refusals.{numberOf}
-use Rattle.model.specs.Checks.{countIn}
 use Rattle.model.specs.Foreign.{Setting, protecting, flowOf}
 use Rattle.model.specs.Lock.{takeOf, lockOf, outcomeOf, answerOf, findOf, attemptAt, attemptOf, pauseOf, isBusy, retryOf, settled, attemptLimit, rollbackOf, afterKey, bindingAt, bucketAt, Locks, locksOf}
+use Rattle.model.specs.Checks.{countIn}
 use Rattle.model.specs.Calls.{starting, acquireOf}
 use Rattle.model.specs.Crew.{crewRules, crewOf}
 use Rattle.model.specs.declared.Answer.{Answer}
@@ -30,6 +29,7 @@ use Rattle.model.specs.declared.Run.{Run}
 use Rattle.model.specs.declared.Take.{Take}
 use Rattle.model.specs.declared.Take.the-variants as taking
 use Rattle.model.specs.declared.Tried.{Tried}
+use Rattle.laws.specs.Pick.{if-both}
 use Rattle.history.specs.World.{World}
 use Rattle.history.specs.Items.{Call, try-acquire, drop-lease, read-permission, competing-acquire, release-then-handoff, foreign-release, drop-preserving, acquire-preserving, environment, try-lock, transactional, acquire-bucket, release-all, acquire-locks, crew, ByCell, perform}
 use Rattle.history.specs.Statements.{Early, Changes-nothing, Crew-refused, nobody-moved}

@@ -10,9 +10,9 @@ use lib.ListN.{length, replicate}
 use Rattle.model.specs.Log.{Made, Actor, Event, by-caller, by-script, took, released}
 use Rattle.model.specs.Arena.{leaseOf, leasesOf, isIn}
 use Rattle.model.specs.Refusals.{numberOf}
-use Rattle.model.specs.Checks.{countIn}
 use Rattle.model.specs.Foreign.{stepsIn, kindAt, placeAt, numberAt}
 use Rattle.model.specs.Lock.{leaseAt}
+use Rattle.model.specs.Checks.{countIn}
 use Rattle.model.specs.Calls.{countsOf}
 use Rattle.model.specs.declared.Answer.{Answer}
 use Rattle.model.specs.declared.Answer.the-variants.{Done, Cell, Granted, AllGranted, Busy, Refused, RefusedAt}

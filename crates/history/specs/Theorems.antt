@@ -4,17 +4,17 @@ use Rattle.history.specs.Items.{perform, foreign}
 use Rattle.history.specs.Statements.{Demand-2, Forgets, Refused-stays, Lawful-always, Counts-are, Changes-nothing, Crew-refused, Grant-is, Buffer-is, Given-live, Nothing-kept, Nothing-new, Falling-all, Rollback-is, Named, Named-alone, Held-live}
 use Rattle.history.specs.Answers.{Handed-over, Serials-rise, Not-over-live, Busy-or-refused, Locks-refused, Never-twice, Once-each, Two-writers, None-takes, Takes-parted}
 use Rattle.history.specs.Callers.{Takes-alike, Take-is-call, Releases-alike, Release-is-call, By-single-calls, Histories-single}
-use Rattle.history.specs.Courses as courses
 use Rattle.history.specs.Calls.{call-kept, calls-spare-held}
-use Rattle.history.specs.ByKey.{grants-name, buffers-name}
+use Rattle.history.specs.Courses as courses
 use Rattle.history.specs.Returns.{calls-keep-nothing, calls-leave-nothing}
 use Rattle.history.specs.Rollback.{releases-fall, locks-roll-back}
-use Rattle.history.specs.NamedCalls.{calls-named, steps-named}
-use Rattle.history.specs.CountedCalls.{calls-counted}
-use Rattle.history.specs.Refused.{refusals-early, crew-unmoved}
+use Rattle.history.specs.ByKey.{grants-name, buffers-name}
 use Rattle.history.specs.HandedCalls as handed
 use Rattle.history.specs.Writers as writers
 use Rattle.history.specs.Others as others
+use Rattle.history.specs.CountedCalls.{calls-counted}
+use Rattle.history.specs.Refused.{refusals-early, crew-unmoved}
+use Rattle.history.specs.NamedCalls.{calls-named, steps-named}
 
 -- ---- a history from a preparation
 

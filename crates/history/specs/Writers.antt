@@ -3,15 +3,15 @@ use Prim.Native.Nat.{ℕ, zero, suc, _+_, _<_}
 use mathlib.Core.Path.{_≡_, refl, sym, ap, _∙_, subst}
 use mathlib.Core.List.{List, [], _∷_, _++_, append-assoc}
 use mathlib.Core.Logic.{_⊎_, inl, inr}
-use native.Mathlib.Omega.{arith}
 use native.Mathlib.Decide.{ℕ-discrete}
+use native.Mathlib.Omega.{arith}
 use lib.ListN.{length}
 use lib.Seq.{take-length}
 use Rattle.model.specs.Log.{Actor, Event, by-caller, attempt-begun, boundary-run, yielded, spun, step-dropped, took, released, waiters-set, health-set}
 use Rattle.model.specs.Arena.{leaseOf, leasesOf, setCell}
-use Rattle.model.specs.Checks.{countIn}
 use Rattle.model.specs.Foreign.{Setting, protecting, flowOf}
 use Rattle.model.specs.Lock.{takeOf, lockOf, outcomeOf, answerOf, attemptOf, retryOf, attemptLimit, settled, leaseAt, noLease, rollbackOf, afterKey, bindingAt, bucketAt, locksOf}
+use Rattle.model.specs.Checks.{countIn}
 use Rattle.model.specs.Calls.{starting, acquireOf, prepareOf}
 use Rattle.model.specs.declared.Answer.{Answer}
 use Rattle.model.specs.declared.Answer.the-variants.{Done, Cell, Granted, AllGranted, Busy, Refused, RefusedAt}
@@ -25,18 +25,17 @@ use Rattle.laws.specs.Prepared.{Outcome as Prepared, Came, was-done, was-refuse
 use Rattle.history.specs.World.{World, Live, step, now, Lawful, Releases, Unreleased, worldOf}
 use Rattle.history.specs.Items.{Call, try-acquire, drop-lease, read-permission, competing-acquire, release-then-handoff, foreign-release, drop-preserving, acquire-preserving, environment, try-lock, transactional, acquire-bucket, release-all, acquire-locks, crew, perform, Item, call, foreign-step, preparation, prepared-by, preparing, next-item, run, cold, asked, Entry, entryOf, events-of, Course, keyCell, preparation-over}
 use Rattle.history.specs.Statements.{Hands-over, answers, log-of, Gives, Through, buffer-in}
+use Rattle.history.specs.Answers.{Asks-one, Busy-or-refused, Locks-refused, Never-twice, None-takes, Not-over-live, Once-each, Takes-parted, Two-writers, Hands}
 use Rattle.history.specs.Tests.{free-words, same-lease, In, in-take}
 use Rattle.history.specs.Events.{Fit, fit, fit-step, keep-step, lives, taken-live, good}
 use Rattle.history.specs.Logs.{now-append, lawful-split, fit-now, next-now}
 use Rattle.history.specs.Judged.{acting, steps, performed}
 use Rattle.history.specs.Calls.{words-leases, call-kept, call-fit}
 use Rattle.history.specs.Courses.{Stretch, run-stretch, events-append, begun}
+use Rattle.history.specs.Returns.{not-empty}
+use Rattle.history.specs.ByKey.{grants-name, buffers-name}
 use Rattle.history.specs.Handed.{Taken-in, taken-between}
 use Rattle.history.specs.HandedCalls.{call-came}
-use Rattle.history.specs.Answers.{Asks-one, Busy-or-refused, Locks-refused, Never-twice, None-takes, Not-over-live, Once-each, Takes-parted, Two-writers}
-use Rattle.history.specs.Answers.{Hands}
-use Rattle.history.specs.ByKey.{grants-name, buffers-name}
-use Rattle.history.specs.Returns.{not-empty}
 
 -- ---- one log: between a live lease and the next take of its cell stands a release of it
 

@@ -2,8 +2,8 @@
 use Prim.Native.Nat.{ℕ, zero, suc, _+_, _*_, _-_, _/_, min, _≤_, _<_}
 use mathlib.Core.Path.{_≡_, refl, sym, ap, _∙_}
 use mathlib.Core.List.{List, _∷_, _++_, append-nil}
-use native.Mathlib.Omega.{arith}
 use native.Mathlib.Decide.{ℕ-discrete, decLt}
+use native.Mathlib.Omega.{arith}
 use lib.ListN.{length, getD, drop, drop-of-length-le}
 use lib.Seq.{ext-getD}
 use Rattle.model.specs.Log.{Made}
@@ -13,10 +13,10 @@ use Rattle.model.specs.declared.Head.{Head}
 use Rattle.history.specs.World.{takes, releases}
 use Rattle.history.specs.Crew.{zeros}
 use Rattle.progress.specs.Statements.{Open, Complete, start, cells-in, falling, own-log}
-use Rattle.progress.specs.Deeds.{turns-did}
 use Rattle.progress.specs.Turns.{turns-count}
 use Rattle.progress.specs.Steady.{left, Status, same, held, Steady, fit, start-steady, turns-steady}
 use Rattle.progress.specs.Rounds.{left-at, some-left}
+use Rattle.progress.specs.Deeds.{turns-did}
 
 -- two tables with the same words
 same-words : (u t : List ℕ) → length u ≡ length t → ((c : ℕ) → bitAt u c ≡ bitAt t c) → ((c : ℕ) → ownerAt u c ≡ ownerAt t c)

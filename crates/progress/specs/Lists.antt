@@ -3,23 +3,23 @@ use Prim.Native.Nat.{ℕ, zero, suc, _+_, _-_, _≤_, _<_}
 use mathlib.Core.Path.{_≡_, _∙_}
 use mathlib.Core.List.{List, [], _∷_}
 use mathlib.Core.Bool.{true, not, _&&_, _||_}
-use native.Mathlib.Omega.{arith}
 use native.Mathlib.Decide.{decLt, ℕ-discrete}
+use native.Mathlib.Omega.{arith}
 use lib.Dec.{ltb, leb, eqb}
 use lib.ListN.{length, getD, drop, length-take, length-drop, List·getD-eq-default}
 use lib.Seq.{getD-take, getD-drop}
 use borrow.Author.Tests.{leb-true, eqb-true, not-false}
-use Rattle.laws.specs.Pick.{both}
-use Rattle.laws.specs.Shape.{Shaped, shaped}
-use Rattle.laws.specs.Checks.{fine-rest, fine-append}
 use Rattle.model.specs.Arena.{within, cellsOf}
 use Rattle.model.specs.Refusals.{first}
 use Rattle.model.specs.Crew.{total, startOf, countOf, listOf, allWithin, risesFrom, badLists, crewRules}
 use Rattle.model.specs.declared.Check.the-variants.{Fine}
 use Rattle.model.specs.declared.Head.{Head}
+use Rattle.laws.specs.Pick.{both}
+use Rattle.laws.specs.Shape.{Shaped, shaped}
+use Rattle.laws.specs.Checks.{fine-rest, fine-append}
+use Rattle.history.specs.Tests.{neither}
 use Rattle.history.specs.Judged.{clear}
 use Rattle.history.specs.Crew.{start-fits, limits}
-use Rattle.history.specs.Tests.{neither}
 
 -- whoever has a cell is a member
 pub member : (counts : List ℕ) (m : ℕ) → 1 ≤ countOf counts m → m < length counts

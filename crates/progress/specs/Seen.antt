@@ -8,18 +8,18 @@ use native.Mathlib.Omega.{arith}
 use lib.Dec.{ltb, eqb}
 use lib.ListN.{length, getD, length-append}
 use borrow.Author.Tests.{le-ltb, lt-leb, leb-false, ltb-false}
-use Rattle.laws.specs.Checks.{first-skip, first-append, fine-rest, fine-append}
 use Rattle.model.specs.Arena.{within, cellsOf}
 use Rattle.model.specs.Refusals.{first}
 use Rattle.model.specs.Checks.{badShape, badHealth}
 use Rattle.model.specs.Crew.{total, countOf, allWithin, badLimits, badLists, badTurns, crewRules, crewOf, Crew}
 use Rattle.model.specs.declared.Check.the-variants.{Fine}
 use Rattle.model.specs.declared.Head.{Head}
-use Rattle.progress.specs.Statements.{In, flat, start, after, Rounds, Open, Rounds-after}
-use Rattle.progress.specs.Ended.{released-at}
+use Rattle.laws.specs.Checks.{first-skip, first-append, fine-rest, fine-append}
 use Rattle.history.specs.Tests.{neither}
+use Rattle.progress.specs.Statements.{In, flat, start, after, Rounds, Open, Rounds-after}
 use Rattle.progress.specs.Steady.{fit}
 use Rattle.progress.specs.Rounds.{turns-append}
+use Rattle.progress.specs.Ended.{released-at}
 
 -- ---- the premises with other turns
 

@@ -15,8 +15,8 @@ use Rattle.model.specs.declared.Check.the-variants.{Fine}
 use Rattle.model.specs.declared.CrewReply.{CrewReply}
 use Rattle.model.specs.declared.Head.{Head}
 use Rattle.model.specs.declared.State.the-variants as state
-use Rattle.history.specs.Statements.{Crew-build}
 use Rattle.history.specs.World.{Kind, takes, releases, kind-of, code, number-of}
+use Rattle.history.specs.Statements.{Crew-build}
 
 -- ---- rounds
 

@@ -4,16 +4,16 @@ use Prim.Native.Nat.{ℕ, _+_, _*_, _-_, _≤_, _<_}
 use mathlib.Core.Path.{_≡_, refl, sym, ap, _∙_}
 use mathlib.Core.List.{List, [], _∷_}
 use mathlib.Core.Logic.{_≢_}
-use native.Mathlib.Omega.{arith}
-use native.Mathlib.Nat.{mul-add}
 use native.Mathlib.Decide.{ℕ-discrete}
+use native.Mathlib.Nat.{mul-add}
+use native.Mathlib.Omega.{arith}
 use lib.ListN.{length, getD, replicate, length-set}
 use lib.Seq.{getD-set-same, getD-set-other}
-use Rattle.laws.specs.Words.{length-set-cell, bit-set, owner-set, waiters-set-cell, Seen, here, there, see}
 use Rattle.model.specs.Log.{Event}
 use Rattle.model.specs.Arena.{cellsOf, bitAt, ownerAt, waitersAt, setCell}
 use Rattle.model.specs.Crew.{total, startOf, countOf, Crew, moved, turnOf, turnsOf}
 use Rattle.model.specs.declared.Head.{Head}
+use Rattle.laws.specs.Words.{length-set-cell, bit-set, owner-set, waiters-set-cell, Seen, here, there, see}
 use Rattle.history.specs.Tests.{free-words}
 use Rattle.history.specs.Crew.{start-fits, Holds, zeros}
 use Rattle.progress.specs.Statements.{Open, start, after, wish, last, Turn, idled, grabbed, gave}

@@ -1,9 +1,9 @@
 -- f 0 + .. + f (n - 1), and what all counting over the members rests on.
+use Prim.Native.Nat.{ℕ, zero, suc, _+_, _≤_, _<_}
 use mathlib.Core.Path.{_≡_, refl, ap}
 use mathlib.Core.Logic.{_≢_}
-use Prim.Native.Nat.{ℕ, zero, suc, _+_, _≤_, _<_}
-use native.Mathlib.Omega.{arith}
 use native.Mathlib.Decide.{ℕ-discrete, decLt}
+use native.Mathlib.Omega.{arith}
 
 unfoldable pub sum : ℕ → (ℕ → ℕ) → ℕ
 sum zero f = 0

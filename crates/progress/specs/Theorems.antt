@@ -5,12 +5,12 @@ use mathlib.Core.List.{[], _++_}
 use native.Mathlib.Omega.{arith}
 use Rattle.model.specs.Crew.{turnsOf, crewOf}
 use Rattle.progress.specs.Statements.{flat, start, after, Turns-are, Stays-finished, Round-moves, Demand-3, Crew-deeds, Tells, Taken-is-held, Hold-whole, Tight-where-shared, Tight-for-every, Met}
+use Rattle.progress.specs.Examples.{contending}
 use Rattle.progress.specs.Turns.{turn-is, turns-stay}
 use Rattle.progress.specs.Steady.{start-steady, turns-steady}
 use Rattle.progress.specs.Rounds.{round-moves-on, rounds-move}
 use Rattle.progress.specs.Seen.{by-state}
 use Rattle.progress.specs.Ended.{completes, deeds}
-use Rattle.progress.specs.Examples.{contending}
 use Rattle.progress.specs.Told as told
 use Rattle.progress.specs.Whole as whole
 use Rattle.progress.specs.Tightness as tightness

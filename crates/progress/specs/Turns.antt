@@ -8,7 +8,6 @@ use lib.Dec.{ltb, leb, eqb}
 use lib.ListN.{length, getD}
 use lib.Seq.{getD-set-other}
 use borrow.Author.Tests.{ltb-true, ltb-false, leb-true, leb-false, eqb-true, eq-eqb, lt-ltb}
-use Rattle.laws.specs.Words.{waiters-set-cell}
 use Rattle.model.specs.Log.{Made, Event, attempt-begun, boundary-run}
 use Rattle.model.specs.Arena.{lastSerial, waitersAt, stateAt}
 use Rattle.model.specs.Foreign.{stepsOf, boundaryOf}
@@ -16,9 +15,10 @@ use Rattle.model.specs.Lock.{takeOf, lateOf, secondOf, lockOf}
 use Rattle.model.specs.Crew.{startOf, countOf, Crew, moved, tryTurnOf, releaseTurnOf, turnOf, turnsOf}
 use Rattle.model.specs.declared.State.{State}
 use Rattle.model.specs.declared.State.the-variants as state
+use Rattle.laws.specs.Words.{waiters-set-cell}
 use Rattle.history.specs.World.{number-of, takes, releases}
-use Rattle.history.specs.Counted.{number-append}
 use Rattle.history.specs.Tests.{differ, if-cases}
+use Rattle.history.specs.Counted.{number-append}
 use Rattle.progress.specs.Statements.{Only, wish, finished, blocked, Turn, idled, grabbed, gave}
 
 -- a test does not come out both ways
