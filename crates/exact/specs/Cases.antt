@@ -15,8 +15,8 @@ use Rattle.model.specs.declared.Answer.the-variants.{Granted, Refused, RefusedA
 use Rattle.model.specs.declared.Check.the-variants.{Fine}
 use Rattle.model.specs.declared.Refusal.the-variants.{SerialsSpent, SerializationFailure}
 use Rattle.history.specs.World.{World, worldOf, step}
-use Rattle.history.specs.Items.{Call, Says, says, acquire-bucket, acquire-locks, keyCell, perform}
-use Rattle.history.specs.Judged.{rules, clear}
+use Rattle.history.specs.Items.{Call, Says, says, acquire-bucket, acquire-locks, keyCell, perform, rules}
+use Rattle.history.specs.Judged.{clear}
 use Rattle.exact.specs.Statements.{Is-free, Is-held, Unwaited, Quietly, at-waited, at-held, at-damaged, at-spent, at-free, Names, leases-from, Passes}
 use Rattle.exact.specs.Theorems.{acquire-bucket-quiet, locks-refused-quiet}
 use Rattle.exact.specs.QuietCalls.{named-row}

@@ -6,8 +6,8 @@ use Rattle.model.specs.Calls.{dropLeaseOf, environmentOf, tryLockOf, transactio
 use Rattle.model.specs.declared.Check.the-variants.{Fine}
 use Rattle.model.specs.declared.Lease.{Lease}
 use Rattle.history.specs.World.{World}
-use Rattle.history.specs.Items.{Call, drop-lease, environment, try-lock, transactional, acquire-bucket, release-all, acquire-locks, perform}
-use Rattle.history.specs.Judged.{Clear, rules, steps}
+use Rattle.history.specs.Items.{Call, drop-lease, environment, try-lock, transactional, acquire-bucket, release-all, acquire-locks, perform, Clear, rules}
+use Rattle.history.specs.Judged.{steps}
 use Rattle.exact.specs.Script.{Scripted, environment-has, try-lock-has, transactional-has, acquire-bucket-has, release-all-has, acquire-locks-has}
 
 clear-fine : (rs : List Rule) → Clear rs → first rs ≡ Fine

@@ -21,8 +21,9 @@ use Rattle.history.specs.World.{World, step, now}
 use Rattle.history.specs.Tests.{In, in-first, in-rest, in-cases, neither, differ, leases-words, in-either}
 use Rattle.history.specs.Events.{Fit, fits}
 use Rattle.history.specs.Logs.{Kept, kept-fit, kept-live, arena-now}
-use Rattle.history.specs.Judged.{Clear, clear-front, clear-back, clear-append}
+use Rattle.history.specs.Judged.{clear-front, clear-back, clear-append}
 use Rattle.history.specs.ByKey.{words-length}
+use Rattle.history.specs.Items.{Clear}
 
 -- ---- the held list
 

@@ -33,10 +33,10 @@ use Rattle.model.specs.declared.Take.the-variants as taking
 use Rattle.model.specs.declared.Tried.{Tried}
 use Rattle.laws.specs.Words.{bit-set-other, owner-set-other}
 use Rattle.history.specs.World.{World, worldOf, Unreleased, now, Lawful}
-use Rattle.history.specs.Items.{Says, says, acquire-bucket, acquire-locks, perform, keyCell, Call}
+use Rattle.history.specs.Items.{Says, says, acquire-bucket, acquire-locks, perform, keyCell, Call, Clear, rules}
 use Rattle.history.specs.Tests.{state-free, In}
 use Rattle.history.specs.Logs.{Kept}
-use Rattle.history.specs.Judged.{steps, Clear, rules}
+use Rattle.history.specs.Judged.{steps}
 use Rattle.history.specs.Steps.{With, worldAt}
 use Rattle.exact.specs.Statements.{leases-from, Locks-refused-quiet, takes-of, Names, Unwaited, Is-free}
 use Rattle.exact.specs.Script.{acquire-locks-has, acquire-bucket-has}

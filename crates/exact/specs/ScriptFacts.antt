@@ -14,9 +14,8 @@ use Rattle.model.specs.Checks.{scriptRules, lockRules, bucketRules, releaseRule
 use Rattle.model.specs.Crew.{total}
 use Rattle.model.specs.declared.Lease.{Lease}
 use Rattle.history.specs.World.{World, now, Legal}
-use Rattle.history.specs.Items.{Call, script-of, place-of, perform}
+use Rattle.history.specs.Items.{Call, script-of, place-of, perform, Clear, rules}
 use Rattle.history.specs.Logs.{now-append}
-use Rattle.history.specs.Judged.{Clear, rules}
 use Rattle.exact.specs.Statements.{Asks, dropped, ends, looks, performed, release-it, set-health, set-waiters, take-a-cell, Stepping}
 use Rattle.exact.specs.Script.{Scripted, environment-has, try-lock-has, transactional-has, acquire-bucket-has, release-all-has, acquire-locks-has, place-in, Boundary, at-end, at-five, one-step, attempts-one, yields-once, spins, Consumed, at-rest, counts, takes, gives-up, boundary, Place-goes, Turn, Each-has-its-turn, Points, By-script-only, Tally, Dropped-are}
 use Rattle.exact.specs.Passing.{in-script}

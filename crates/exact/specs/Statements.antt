@@ -20,10 +20,9 @@ use Rattle.model.specs.declared.Lease.{Lease}
 use Rattle.model.specs.declared.Refusal.{Refusal}
 use Rattle.model.specs.declared.Refusal.the-variants.{BadHeader, Damaged, InvalidBucket, SerializationFailure, SerialsSpent, Poisoned}
 use Rattle.history.specs.World.{World, Legal, cells, now, step, worldOf}
-use Rattle.history.specs.Items.{Build, Says, Stepper, Call, acquire-bucket, acquire-locks, says, transactional, try-lock, keyCell, cellOf, try-acquire}
+use Rattle.history.specs.Items.{Build, Says, Stepper, Call, acquire-bucket, acquire-locks, says, transactional, try-lock, keyCell, cellOf, try-acquire, Clear, rules}
 use Rattle.history.specs.Statements.{answer-in}
 use Rattle.history.specs.Callers.{Shape-fits}
-use Rattle.history.specs.Judged.{Clear, rules}
 
 -- the call passes its checks: none of document 01's table applies to what it was given
 abbrev pub Passes : World → Call → Type 0

@@ -22,10 +22,11 @@ use Rattle.model.specs.declared.Take.{Take}
 use Rattle.model.specs.declared.Take.the-variants as taking
 use Rattle.laws.specs.Pick.{both, if-both}
 use Rattle.history.specs.World.{World, worldOf, Live, Unreleased}
+use Rattle.history.specs.Items.{Clear}
 use Rattle.history.specs.Tests.{differ, In, in-first, if-cases, neither}
 use Rattle.history.specs.Events.{Fit, lives}
 use Rattle.history.specs.Logs.{Kept, nothing, event, kept-fit, kept-live, weaken, ended}
-use Rattle.history.specs.Judged.{Clear, clear-front}
+use Rattle.history.specs.Judged.{clear-front}
 use Rattle.history.specs.Steps.{worldAt, Gains, followed, With, Gained, gained, was-busy, was-damaged, was-spent, lock-kept}
 
 -- ---- the places of the lists

@@ -1,13 +1,17 @@
 -- What a history is made of: calls of document 01 with any arguments, lone foreign steps, preparations.
 use Prim.Native.Nat.{ℕ, _+_}
+use mathlib.Core.Path.{_≡_}
 use mathlib.Core.List.{List, [], _∷_, _++_}
+use mathlib.Core.Bool.{false}
 use lib.ListN.{getD}
 use Rattle.model.specs.Log.{Made, Event, gives, _>>=_, _>>_}
 use Rattle.model.specs.Arena.{cellNumber, spentTo, leasesOf}
+use Rattle.model.specs.Refusals.{Rule}
 use Rattle.model.specs.Foreign.{stepOf}
 use Rattle.model.specs.Lock.{bindingAt, bucketAt}
+use Rattle.model.specs.Checks.{cellRules, leaseRules, heldCellRules, heldLeaseRules, scriptRules, lockRules, bucketRules, releaseRules, locksRules}
 use Rattle.model.specs.Calls.{countsOf, given, prepareOf, tryAcquireOf, dropLeaseOf, readPermissionOf, competingAcquireOf, releaseThenHandoffOf, foreignReleaseOf, acquirePreservingOf, dropPreservingOf, environmentOf, tryLockOf, transactionalOf, acquireBucketOf, releaseAllOf, acquireLocksOf}
-use Rattle.model.specs.Crew.{crewOf}
+use Rattle.model.specs.Crew.{crewRules, crewOf}
 use Rattle.model.specs.declared.Answer.{Answer}
 use Rattle.model.specs.declared.Answer.the-variants.{Done, Cell, Granted, AllGranted, Busy, Refused, RefusedAt}
 use Rattle.model.specs.declared.Counts.{Counts}
@@ -182,6 +186,31 @@ asked w (acquire-bucket registry script place held binding bucket) = cellOf (w .
 asked w (release-all script place leases) = 0
 asked w (acquire-locks registry script place held keys grants) = 0
 asked w (crew counts cells turns) = 0
+
+-- ---- the checks of a call
+
+-- those of document 01's table on what it takes, in the order of the table
+abbrev pub rules : World → Call → List Rule
+rules w (try-acquire c) = cellRules (w .head) (w .table) c
+rules w (drop-lease l) = leaseRules (w .head) (w .table) l
+rules w (read-permission l) = leaseRules (w .head) (w .table) l
+rules w (competing-acquire l) = leaseRules (w .head) (w .table) l
+rules w (release-then-handoff l) = leaseRules (w .head) (w .table) l
+rules w (foreign-release held l) = heldLeaseRules (w .head) (w .table) held l
+rules w (drop-preserving held l) = heldLeaseRules (w .head) (w .table) held l
+rules w (acquire-preserving held c) = heldCellRules (w .head) (w .table) held c
+rules w (environment script place held) = scriptRules (w .head) (w .table) (w .health) script place held
+rules w (try-lock script place held c) = lockRules (w .head) (w .table) (w .health) script place held c
+rules w (transactional registry script place held binding bucket) = bucketRules (w .head) (w .table) (w .health) registry script place held binding
+rules w (acquire-bucket registry script place held binding bucket) = bucketRules (w .head) (w .table) (w .health) registry script place held binding
+rules w (release-all script place leases) = releaseRules (w .head) (w .table) (w .health) script place leases
+rules w (acquire-locks registry script place held keys grants) = locksRules (w .head) (w .table) (w .health) registry script place held keys grants
+rules w (crew counts cells turns) = crewRules (w .head) (w .table) (w .health) counts cells turns
+
+-- none of them applies
+abbrev pub Clear : List Rule → Type 0
+Clear [] = Unit {0}
+Clear (r ∷ rs) = (r .applies ≡ false) × Clear rs
 
 -- ---- what a call says, and what it leaves
 

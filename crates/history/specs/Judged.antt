@@ -11,9 +11,9 @@ use Rattle.model.specs.Arena.{spentTo, setCell, leasesOf}
 use Rattle.model.specs.Refusals.{Rule, refusalOf, first, judge}
 use Rattle.model.specs.Foreign.{Setting, flowOf, boundaryOf}
 use Rattle.model.specs.Lock.{lockOf, outcomeOf, answerOf, runOf, attemptOf, attemptLimit, retryOf, settled, giveBackOf, locksOf}
-use Rattle.model.specs.Checks.{countIn, cellRules, leaseRules, heldCellRules, heldLeaseRules, scriptRules, lockRules, bucketRules, releaseRules, locksRules}
+use Rattle.model.specs.Checks.{countIn}
 use Rattle.model.specs.Calls.{countsOf, given, starting, replied, played, refused, acquireOf, tryAcquireOf, dropLeaseOf, readPermissionOf, competingAcquireOf, releaseThenHandoffOf, foreignReleaseOf, acquirePreservingOf, dropPreservingOf, environmentOf, tryLockOf, transactionalOf, acquireBucketOf, releaseAllOf, acquireLocksOf}
-use Rattle.model.specs.Crew.{crewRules, crewAt, turnsOf, crewOf}
+use Rattle.model.specs.Crew.{crewAt, turnsOf, crewOf}
 use Rattle.model.specs.declared.Answer.the-variants as answer
 use Rattle.model.specs.declared.Check.{Check}
 use Rattle.model.specs.declared.Check.the-variants.{Fine, Fault}
@@ -22,13 +22,9 @@ use Rattle.model.specs.declared.Played.{Played}
 use Rattle.model.specs.declared.Refusal.{Refusal}
 use Rattle.model.specs.declared.Reply.{Reply}
 use Rattle.history.specs.World.{World, worldOf}
-use Rattle.history.specs.Items.{Call, Says, says, try-acquire, drop-lease, read-permission, competing-acquire, release-then-handoff, foreign-release, drop-preserving, acquire-preserving, environment, try-lock, transactional, acquire-bucket, release-all, acquire-locks, crew, perform, buffer, script-of, held-of, place-of}
+use Rattle.history.specs.Items.{Call, Says, says, try-acquire, drop-lease, read-permission, competing-acquire, release-then-handoff, foreign-release, drop-preserving, acquire-preserving, environment, try-lock, transactional, acquire-bucket, release-all, acquire-locks, crew, perform, buffer, script-of, held-of, place-of, Clear, rules}
 
 -- ---- checks that found nothing
-
-abbrev pub Clear : List Rule → Type 0
-Clear [] = Unit {0}
-Clear (r ∷ rs) = (r .applies ≡ false) × Clear rs
 
 pub clear : (rs : List Rule) → first rs ≡ Fine → Clear rs
 unfolding first
@@ -61,24 +57,6 @@ judged P rules {refused} {steps} r s = go (first rules) refl
     go (Fault x) e = r x
 
 -- ---- the parts of a call
-
--- the checks of a call
-abbrev pub rules : World → Call → List Rule
-rules w (try-acquire c) = cellRules (w .head) (w .table) c
-rules w (drop-lease l) = leaseRules (w .head) (w .table) l
-rules w (read-permission l) = leaseRules (w .head) (w .table) l
-rules w (competing-acquire l) = leaseRules (w .head) (w .table) l
-rules w (release-then-handoff l) = leaseRules (w .head) (w .table) l
-rules w (foreign-release held l) = heldLeaseRules (w .head) (w .table) held l
-rules w (drop-preserving held l) = heldLeaseRules (w .head) (w .table) held l
-rules w (acquire-preserving held c) = heldCellRules (w .head) (w .table) held c
-rules w (environment script place held) = scriptRules (w .head) (w .table) (w .health) script place held
-rules w (try-lock script place held c) = lockRules (w .head) (w .table) (w .health) script place held c
-rules w (transactional registry script place held binding bucket) = bucketRules (w .head) (w .table) (w .health) registry script place held binding
-rules w (acquire-bucket registry script place held binding bucket) = bucketRules (w .head) (w .table) (w .health) registry script place held binding
-rules w (release-all script place leases) = releaseRules (w .head) (w .table) (w .health) script place leases
-rules w (acquire-locks registry script place held keys grants) = locksRules (w .head) (w .table) (w .health) registry script place held keys grants
-rules w (crew counts cells turns) = crewRules (w .head) (w .table) (w .health) counts cells turns
 
 -- what its steps are given
 abbrev pub acting : World → Call → Setting

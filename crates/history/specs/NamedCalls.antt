@@ -19,10 +19,10 @@ use Rattle.model.specs.declared.Lease.{Lease}
 use Rattle.model.specs.declared.Stepped.{Stepped}
 use Rattle.laws.specs.Pick.{if-both}
 use Rattle.history.specs.World.{World}
-use Rattle.history.specs.Items.{Call, try-acquire, drop-lease, read-permission, competing-acquire, release-then-handoff, foreign-release, drop-preserving, acquire-preserving, environment, try-lock, transactional, acquire-bucket, release-all, acquire-locks, crew, script-of, place-of, given-up, foreign, perform}
+use Rattle.history.specs.Items.{Call, try-acquire, drop-lease, read-permission, competing-acquire, release-then-handoff, foreign-release, drop-preserving, acquire-preserving, environment, try-lock, transactional, acquire-bucket, release-all, acquire-locks, crew, script-of, place-of, given-up, foreign, perform, Clear, rules}
 use Rattle.history.specs.Statements.{log-of, Named, Named-alone}
 use Rattle.history.specs.Tests.{in-take, if-cases}
-use Rattle.history.specs.Judged.{Clear, rules, acting, steps, performed}
+use Rattle.history.specs.Judged.{acting, steps, performed}
 use Rattle.history.specs.Calls.{words-leases}
 use Rattle.history.specs.Naming.{Leases, Told, any, none, more, andthen, told, handed, and-took, at-script, at-caller, boundary-told, take-told, lock-told, attempt-told, retry-told, back-told, locks-told}
 use Rattle.history.specs.NamingCrew.{crew-told}

@@ -18,9 +18,9 @@ use Rattle.model.specs.declared.Take.{Take}
 use Rattle.model.specs.declared.Take.the-variants as taking
 use Rattle.laws.specs.Pick.{if-both}
 use Rattle.history.specs.World.{World}
-use Rattle.history.specs.Items.{crew}
+use Rattle.history.specs.Items.{crew, Clear}
 use Rattle.history.specs.Tests.{if-cases}
-use Rattle.history.specs.Judged.{Clear, steps}
+use Rattle.history.specs.Judged.{steps}
 use Rattle.history.specs.Crew.{start-fits, limits, Holds, zeros}
 use Rattle.history.specs.Naming.{Leases, Sub, Told, any, none, more, andthen, told, Taken, lock-told}
 

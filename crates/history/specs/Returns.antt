@@ -22,11 +22,11 @@ use Rattle.model.specs.declared.Reply.{Reply}
 use Rattle.model.specs.declared.Run.{Run}
 use Rattle.laws.specs.Words.{Seen, here, there, see}
 use Rattle.history.specs.World.{World, cells, Live, step, now, Lawful}
-use Rattle.history.specs.Items.{Call, try-acquire, drop-lease, read-permission, competing-acquire, release-then-handoff, foreign-release, drop-preserving, acquire-preserving, environment, try-lock, transactional, acquire-bucket, release-all, acquire-locks, crew, perform, IsCrew, buffer}
+use Rattle.history.specs.Items.{Call, try-acquire, drop-lease, read-permission, competing-acquire, release-then-handoff, foreign-release, drop-preserving, acquire-preserving, environment, try-lock, transactional, acquire-bucket, release-all, acquire-locks, crew, perform, IsCrew, buffer, Clear, rules}
 use Rattle.history.specs.Statements.{Hands-over, answers, log-of, Nothing-kept, leaves, Given-back, Gives, Nothing-new, buffer-in, Fails}
 use Rattle.history.specs.Tests.{alive, state-held, Alive}
 use Rattle.history.specs.Events.{Fit, fit-step, lives, next-step, live-before, at}
-use Rattle.history.specs.Judged.{Clear, clear-back, rules, acting, steps, performed}
+use Rattle.history.specs.Judged.{clear-back, acting, steps, performed}
 use Rattle.history.specs.Calls.{words-leases, call-kept, call-fit}
 use Rattle.history.specs.Owing.{Frees, freed-here, freed-later, Settles, none, more, join, loosen, quiet, Nobody, Given, boundary-silent, take-hands, lock-hands, attempt-hands, retry-hands, give-back-hands, locks-hands, frees-right, freed-at, settled-at}
 

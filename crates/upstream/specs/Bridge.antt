@@ -23,10 +23,10 @@ use Rattle.laws.specs.Words.{length-set-cell, length-set-waiters, bit-set-waite
 use Rattle.laws.specs.Checks.{first-hit, first-skip}
 use Rattle.history.specs.World as world
 use Rattle.history.specs.World.{World, worldOf, Live, Legal, Lawful, now, Sound, Unreleased}
-use Rattle.history.specs.Items.{Call, Says, perform, try-acquire, drop-lease, read-permission, competing-acquire, release-then-handoff, foreign-release, drop-preserving, acquire-preserving, environment, try-lock, transactional, acquire-bucket, release-all, acquire-locks, crew}
+use Rattle.history.specs.Items.{Call, Says, perform, try-acquire, drop-lease, read-permission, competing-acquire, release-then-handoff, foreign-release, drop-preserving, acquire-preserving, environment, try-lock, transactional, acquire-bucket, release-all, acquire-locks, crew, Clear, rules}
 use Rattle.history.specs.Tests.{Status, free as is-free, held as is-held, live, free-words, In, in-index, in-take, same-lease}
 use Rattle.history.specs.Events.{good, lives}
-use Rattle.history.specs.Judged.{Clear, clear, rules, steps, unchanged}
+use Rattle.history.specs.Judged.{clear, steps, unchanged}
 use Rattle.upstream.specs.Vocabulary.{Key, Cell, cell, Authority, Leases, next-serial, dom, contains-key, cells, insert, Cells-are, Valid-cell, valid, authorized, Step, Acquire, Release, Observe, step, releases, protected-valid, held-ids, leases-authorized}
 use Rattle.upstream.specs.Protocol.{Trace, ended, first as one}
 

@@ -27,10 +27,10 @@ use Rattle.model.specs.declared.Refusal.{Refusal}
 use Rattle.model.specs.declared.Refusal.the-variants.{BadHeld, BadBinding, BadHeader, Poisoned, InvalidBucket, Damaged}
 use Rattle.model.specs.declared.Run.{Run}
 use Rattle.history.specs.World.{yields, number-of}
-use Rattle.history.specs.Items.{Call, transactional, acquire-bucket, perform}
+use Rattle.history.specs.Items.{Call, transactional, acquire-bucket, perform, Clear, rules}
 use Rattle.history.specs.Statements.{answers, leaves, log-of}
 use Rattle.history.specs.Theorems.{counts-are}
-use Rattle.history.specs.Judged.{Clear, rules, unchanged}
+use Rattle.history.specs.Judged.{unchanged}
 use Rattle.history.specs.Steps.{of-flow}
 use Rattle.upstream.specs.Vocabulary.{Key, Authority, lease-key, dom, contains-key, cells, Valid-cell, valid, authorized, held-ids, leases-authorized, contains-place, key-of, bucket-request-valid, bucket-reply, physical, guards-place}
 use Rattle.upstream.specs.Protocol.{trace-valid, trace-keeps, trace-buries}

@@ -22,9 +22,9 @@ use Rattle.model.specs.declared.Refusal.{Refusal}
 use Rattle.model.specs.declared.Refusal.the-variants.{BadHeld}
 use Rattle.model.specs.declared.Stepped.{Stepped}
 use Rattle.laws.specs.Pick.{both}
-use Rattle.history.specs.Items.{environment, perform}
+use Rattle.history.specs.Items.{environment, perform, Clear}
 use Rattle.history.specs.Statements.{leaves}
-use Rattle.history.specs.Judged.{Clear, clear-front, unchanged}
+use Rattle.history.specs.Judged.{clear-front, unchanged}
 use Rattle.history.specs.Tests.{if-cases, free as is-free, free-words, is-free-state}
 use Rattle.upstream.specs.Vocabulary.{Key, Authority, Leases, next-serial, dom, cells, Valid-cell, valid, authorized, protected-valid, held-ids, leases-authorized, legal-environment, no-resurrection}
 use Rattle.upstream.specs.Protocol.{Trace, ended, trace-valid, trace-keeps, trace-buries, trace-legal}

@@ -25,9 +25,9 @@ use Rattle.model.specs.declared.Outcome.the-variants as outcome
 use Rattle.model.specs.declared.Refusal.the-variants.{BadBinding}
 use Rattle.model.specs.declared.Run.{Run}
 use Rattle.laws.specs.Checks.{first-hit, first-skip}
-use Rattle.history.specs.Items.{Call, try-lock, acquire-locks, perform}
+use Rattle.history.specs.Items.{Call, try-lock, acquire-locks, perform, Clear}
 use Rattle.history.specs.Statements.{answers}
-use Rattle.history.specs.Judged.{Clear, unchanged}
+use Rattle.history.specs.Judged.{unchanged}
 use Rattle.history.specs.Tests.{leases-words}
 use Rattle.upstream.specs.Vocabulary.{Key, Authority, Pair, Guard, lease-key, contains-key, key-at, guards-place, guards-match, all-guards-in, physical-members, guard-members}
 use Rattle.upstream.specs.Bridge.{refused, by-checks}

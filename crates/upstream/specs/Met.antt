@@ -11,9 +11,8 @@ use Rattle.model.specs.declared.Answer.the-variants.{Refused}
 use Rattle.model.specs.declared.Check.the-variants.{Fine}
 use Rattle.model.specs.declared.Refusal.the-variants.{Damaged}
 use Rattle.history.specs.World.{worldOf}
-use Rattle.history.specs.Items.{drop-preserving, try-lock, transactional, release-all, acquire-locks}
+use Rattle.history.specs.Items.{drop-preserving, try-lock, transactional, release-all, acquire-locks, rules}
 use Rattle.history.specs.Statements.{answers}
-use Rattle.history.specs.Judged.{rules}
 use Rattle.upstream.specs.Vocabulary.{Authority, valid, leases-authorized, cell}
 use Rattle.upstream.specs.Bridge.{status-valid}
 use Rattle.upstream.specs.Refusing.{Fits}

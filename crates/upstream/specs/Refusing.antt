@@ -1,4 +1,5 @@
 -- Where upstream requires, a call here tests: which check answers when a premise fails and no earlier check applies.
+use Rattle.history.specs.Items.{Clear}
 use Prim.Native.Nat.{ℕ, zero, suc, _+_, _<_}
 use mathlib.Core.Path.{_≡_, refl, ap, _∙_}
 use mathlib.Core.List.{List, [], _∷_, _++_}
@@ -15,7 +16,6 @@ use Rattle.model.specs.declared.Lease.{Lease}
 use Rattle.model.specs.declared.Refusal.the-variants.{BadHeld, InvalidBucket, NotHeld, Protected}
 use Rattle.laws.specs.Checks.{first-hit, first-skip}
 use Rattle.history.specs.World.{Live}
-use Rattle.history.specs.Judged.{Clear}
 use Rattle.upstream.specs.Vocabulary.{Authority, next-serial, dom, cells, contains-key, Valid-cell, authorized}
 use Rattle.upstream.specs.Bridge.{live-authorized, live-cell, first-after}
 

@@ -29,9 +29,9 @@ use Rattle.model.specs.declared.Run.{Run}
 use Rattle.laws.specs.Checks.{first-hit, first-skip}
 use Rattle.history.specs.World as world
 use Rattle.history.specs.World.{Live}
-use Rattle.history.specs.Items.{release-all, perform}
+use Rattle.history.specs.Items.{release-all, perform, Clear}
 use Rattle.history.specs.Statements.{answers, leaves}
-use Rattle.history.specs.Judged.{Clear, unchanged}
+use Rattle.history.specs.Judged.{unchanged}
 use Rattle.history.specs.Tests.{In, in-cases, in-take, same-lease, differ}
 use Rattle.history.specs.Steps.{worldAt, With, of-flow, of-run}
 use Rattle.history.specs.Events.{lives}
