@@ -113,6 +113,16 @@ None-takes =
     → Hands i (leaseOf c s) → events-of z ≡ between ++ (took b c s′ ∷ after)
     → (a : Actor) × (before middle : List Event) × (between ≡ before ++ (released a c s ∷ middle)))
 
+-- so, from the answer that hands (c, s) over up to the first event that releases (c, s): no other answer hands over a lease on c, whoever
+-- calls, and no attempt in any call takes c
+abbrev pub Alone-until-released : Type 0
+Alone-until-released =
+    Through (λ d.
+    (x y z : List Entry) (i j : Entry) (c s : ℕ) → d .entries ≡ x ++ (i ∷ (y ++ (j ∷ z)))
+    → Hands i (leaseOf c s) → Unreleased (leaseOf c s) (events-of y ++ j .events)
+    → ((s′ : ℕ) → Hands j (leaseOf c s′) → ⊥)
+    × ((b : Actor) (s′ : ℕ) (before after : List Event) → events-of y ++ j .events ≡ before ++ (took b c s′ ∷ after) → ⊥))
+
 -- and of any two takes of one cell, by callers, scripts or crews: the first lease was released in between
 abbrev pub Takes-parted : Type 0
 Takes-parted =

@@ -2,7 +2,7 @@
 use Rattle.model.specs.Crew.{crewOf}
 use Rattle.history.specs.Items.{perform, foreign}
 use Rattle.history.specs.Statements.{Demand-2, Forgets, Refused-stays, Lawful-always, Counts-are, Changes-nothing, Crew-refused, Grant-is, Buffer-is, Given-live, Nothing-kept, Nothing-new, Falling-all, Rollback-is, Named, Named-alone, Held-live}
-use Rattle.history.specs.Answers.{Handed-over, Serials-rise, Not-over-live, Busy-or-refused, Locks-refused, Never-twice, Once-each, Two-writers, None-takes, Takes-parted}
+use Rattle.history.specs.Answers.{Handed-over, Serials-rise, Not-over-live, Busy-or-refused, Locks-refused, Never-twice, Once-each, Two-writers, None-takes, Alone-until-released, Takes-parted}
 use Rattle.history.specs.Callers.{Takes-alike, Take-is-call, Releases-alike, Release-is-call, By-single-calls, Histories-single}
 use Rattle.history.specs.Calls.{call-kept, calls-spare-held}
 use Rattle.history.specs.Courses as courses
@@ -99,6 +99,9 @@ two-writers = writers.two-writers
 
 pub none-takes : None-takes
 none-takes = writers.none-takes
+
+pub alone-until-released : Alone-until-released
+alone-until-released = writers.alone-until-released
 
 pub takes-parted : Takes-parted
 takes-parted = writers.takes-parted

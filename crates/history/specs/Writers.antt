@@ -25,7 +25,7 @@ use Rattle.laws.specs.Prepared.{Outcome as Prepared, Came, was-done, was-refuse
 use Rattle.history.specs.World.{World, Live, step, now, Lawful, Releases, Unreleased, worldOf}
 use Rattle.history.specs.Items.{Call, try-acquire, drop-lease, read-permission, competing-acquire, release-then-handoff, foreign-release, drop-preserving, acquire-preserving, environment, try-lock, transactional, acquire-bucket, release-all, acquire-locks, crew, perform, Item, call, foreign-step, preparation, prepared-by, preparing, next-item, run, cold, asked, Entry, entryOf, events-of, Course, keyCell, preparation-over}
 use Rattle.history.specs.Statements.{Hands-over, answers, log-of, Gives, Through, buffer-in}
-use Rattle.history.specs.Answers.{Asks-one, Busy-or-refused, Locks-refused, Never-twice, None-takes, Not-over-live, Once-each, Takes-parted, Two-writers, Hands}
+use Rattle.history.specs.Answers.{Asks-one, Busy-or-refused, Locks-refused, Never-twice, None-takes, Not-over-live, Once-each, Takes-parted, Two-writers, Hands, Alone-until-released}
 use Rattle.history.specs.Tests.{free-words, same-lease, In, in-take}
 use Rattle.history.specs.Events.{Fit, fit, fit-step, keep-step, lives, taken-live, good}
 use Rattle.history.specs.Logs.{now-append, lawful-split, fit-now, next-now}
@@ -225,6 +225,24 @@ two-writers rubbish headers buckets serial items d x y z i j c s s′ e p q =
     let r = none-takes rubbish headers buckets serial items d x (y ++ (j ∷ z)) i c s s′ by-caller (es ++ k .before) (k .after ++ events-of z) e p whole in
     (r .0, r .1, r .2, k .after, spliced es (j .events) (k .before) (k .after) (r .1) (r .2) new (released (r .0) c s) (k .parts) (r .3))
 
+-- a log with a release of the lease is no log without one
+was-released : (c s : ℕ) (a : Actor) (before after : List Event) → Unreleased (leaseOf c s) (before ++ (released a c s ∷ after)) → ⊥
+was-released c s a [] after u = u .0 refl
+was-released c s a (e ∷ es) after u = was-released c s a es after (u .1)
+
+pub alone-until-released : Alone-until-released
+alone-until-released rubbish headers buckets serial items d x y z i j c s e p u = (
+  λ s′ q.
+      let r = two-writers rubbish headers buckets serial items d x y z i j c s s′ e p q in
+      was-released c s (r .0) (r .1) _ (subst (Unreleased (leaseOf c s)) (r .4) u),
+  λ b s′ before after q.
+      let whole : events-of (y ++ (j ∷ z)) ≡ before ++ (took b c s′ ∷ (after ++ events-of z))
+      = events-append y (j ∷ z) ∙ sym (append-assoc (events-of y) (j .events) (events-of z)) ∙ ap (λ (l : List Event). l ++ events-of z) q ∙ append-assoc before (took b c s′ ∷ after) (events-of z) in
+      let r = none-takes rubbish headers buckets serial items d x (y ++ (j ∷ z)) i c s s′ b before (after ++ events-of z) e p whole in
+      was-released c s (r .0) (r .1) (r .2 ++ (took b c s′ ∷ after))
+      (subst (Unreleased (leaseOf c s)) (q ∙ ap (λ (l : List Event). l ++ (took b c s′ ∷ after)) (r .3) ∙ append-assoc (r .1) (released (r .0) c s ∷ r .2) (took b c s′ ∷ after)) u),
+)
+
 pub takes-parted : Takes-parted
 takes-parted rubbish headers buckets serial items d c s s′ a b x between z e =
     let w = run (cold rubbish) (preparation headers buckets serial ∷ items) in
@@ -249,11 +267,6 @@ not-over-live w k c s s′ v x = go (call-fit w k) (call-came w k (leaseOf c s�
     go (inr f) t =
         let r = parted w c s s′ by-caller (t .before) (t .after) f v (subst (Lawful w) (t .parts) (call-kept w k .kept .lawful)) in
         (r .0, r .1, r .2, t .after, spliced [] (log-of w k) (t .before) (t .after) (r .1) (r .2) (took by-caller c s′) (released (r .0) c s) (t .parts) (r .3))
-
--- a log with a release of the lease is no log without one
-was-released : (c s : ℕ) (a : Actor) (before after : List Event) → Unreleased (leaseOf c s) (before ++ (released a c s ∷ after)) → ⊥
-was-released c s a [] after u = u .0 refl
-was-released c s a (e ∷ es) after u = was-released c s a es after (u .1)
 
 none-handed : (w : World) (k : Call) (c s s′ : ℕ) → Live w (leaseOf c s) → Unreleased (leaseOf c s) (log-of w k) → Gives (perform w k) (leaseOf c s′) → ⊥
 none-handed w k c s s′ v u x =
