@@ -1,4 +1,6 @@
-// What the player prints.
+// What the player prints, and how it is written out. A function puts text behind the first `used` bytes of the room for output
+// and says how many are used then. The room is written out when 9,000 bytes are used; between two such places less than 7,000
+// are put, and the room has 16,384. So it is full only where output was lost, and then says so to the end.
 use desk::Desk;
 use desk::Told;
 use desk::within;
@@ -12,6 +14,60 @@ use model::Refusal;
 use text::put;
 use text::put_form;
 ghost use Prim.Native.Nat.{_≤_};
+
+// ---- writing out
+
+// Writes out what the room has. Afterwards it is empty, or, where output was lost, full.
+// A step of the console, no call of document 01: only its own crates call it.
+pub fn written(out: &[u8], used: usize) -> usize {
+    if used < out.len() {
+        let n = within_bytes(used, out);
+        if io::write_all(1, &out[..n]) {
+            return 0;
+        }
+    }
+    out.len()
+}
+
+// Written out, if much of the room is used.
+// A step of the console, no call of document 01: only its own crates call it.
+pub fn ready(out: &[u8], used: usize) -> usize {
+    if used < 9000 {
+        return used;
+    }
+    written(out, used)
+}
+
+// Whether output was lost.
+// A step of the console, no call of document 01: only its own crates call it.
+pub fn lost(out: &[u8], used: usize) -> bool {
+    out.len() <= used
+}
+
+// Text that is too long for the room is written out as it stands.
+fn put_long(out: &[u8], used: usize, text: &[u8]) -> usize {
+    if written(out, used) == 0 {
+        if io::write_all(1, text) {
+            return 0;
+        }
+    }
+    out.len()
+}
+
+fn put_any(out: &mut [u8], used: usize, text: &[u8]) -> usize {
+    if text.len() < 1000 {
+        return put(out, used, text);
+    }
+    put_long(out, used, text)
+}
+
+// The line itself, as `echo 1` asks.
+// A step of the console, no call of document 01: only its own crates call it.
+pub fn echo(line: &[u8], out: &mut [u8], used: usize) -> usize {
+    let a = put(out, used, b"> ");
+    let b = put_any(out, a, line);
+    line_feed(out, b)
+}
 
 // ---- the line of a call
 
@@ -206,7 +262,8 @@ fn cell_line(
         return used;
     }
     let values = [cell, bit as usize, owner as usize, waiters as usize];
-    put_form(out, used, b"cell # # # #\n", &values)
+    let at = ready(out, used);
+    put_form(out, at, b"cell # # # #\n", &values)
 }
 
 fn cell_lines(words: usize, table: &[u32], out: &mut [u8], used: usize) -> usize {

@@ -1,10 +1,10 @@
--- `console::fill_bytes` meets its contract.
+-- `setup::fill_bytes` meets its contract.
 use Prim.Native.Nat.{_-_}
 use mathlib.Core.Path.{_≡_}
 use lib.ListN.{length}
 use borrow.Author.Needs.{needs}
-use Rattle.console.proofs.fill_bytes.Statement.{statement}
-use Rattle.console.proofs.fill_bytes.Tie as tie
+use Rattle.setup.proofs.fill_bytes.Statement.{statement}
+use Rattle.setup.proofs.fill_bytes.Tie as tie
 
 abbrev Inv-loop : tie.InvT-loop
 Inv-loop seed health₀ x₀ i₀ health x i = (length health ≡ length health₀)

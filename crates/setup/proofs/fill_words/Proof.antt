@@ -1,25 +1,28 @@
--- `console::nines` meets its contract.
+-- `setup::fill_words` meets its contract.
 use Prim.Native.Nat.{_-_}
 use mathlib.Core.Path.{_≡_}
 use lib.ListN.{length}
 use borrow.Author.Needs.{needs}
-use Rattle.console.proofs.nines.Statement.{statement}
-use Rattle.console.proofs.nines.Tie as tie
+use Rattle.setup.proofs.fill_words.Statement.{statement}
+use Rattle.setup.proofs.fill_words.Tie as tie
 
 abbrev Inv-loop : tie.InvT-loop
-Inv-loop grants₀ i₀ grants i = (length grants ≡ length grants₀)
+Inv-loop seed table₀ x₀ i₀ table x i = (length table ≡ length table₀)
 
 abbrev μ-loop : tie.MeasureT-loop
-μ-loop grants₀ i₀ grants i = length grants₀ - i
+μ-loop seed table₀ x₀ i₀ table x i = length table₀ - i
 
 loop-holds : tie.Need-loop-holds Inv-loop μ-loop
 loop-holds c = search needs
 
-mul-grants : tie.Need-mul-grants Inv-loop μ-loop
-mul-grants c = search needs
+rubbish-requires : tie.Need-rubbish-requires Inv-loop μ-loop
+rubbish-requires c κs = search needs
 
-slice-write-grants : tie.Need-slice-write-grants Inv-loop μ-loop
-slice-write-grants c = search needs
+mul-table : tie.Need-mul-table Inv-loop μ-loop
+mul-table c = search needs
+
+slice-write-table : tie.Need-slice-write-table Inv-loop μ-loop
+slice-write-table c = search needs
 
 add-i : tie.Need-add-i Inv-loop μ-loop
 add-i c = search needs
@@ -36,15 +39,16 @@ same-length c = search needs
 returns : tie.Need-returns Inv-loop μ-loop
 returns c = search needs
 
-pub nines-spec : {M : Type 1} → statement M
-nines-spec =
+pub fill-words-spec : {M : Type 1} → statement M
+fill-words-spec =
     tie.close
     (tie.spec
     Inv-loop
     μ-loop
     loop-holds
-    mul-grants
-    slice-write-grants
+    rubbish-requires
+    mul-table
+    slice-write-table
     add-i
     loop-less
     loop-again

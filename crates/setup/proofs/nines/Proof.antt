@@ -1,28 +1,25 @@
--- `console::fill_words` meets its contract.
+-- `setup::nines` meets its contract.
 use Prim.Native.Nat.{_-_}
 use mathlib.Core.Path.{_≡_}
 use lib.ListN.{length}
 use borrow.Author.Needs.{needs}
-use Rattle.console.proofs.fill_words.Statement.{statement}
-use Rattle.console.proofs.fill_words.Tie as tie
+use Rattle.setup.proofs.nines.Statement.{statement}
+use Rattle.setup.proofs.nines.Tie as tie
 
 abbrev Inv-loop : tie.InvT-loop
-Inv-loop seed table₀ x₀ i₀ table x i = (length table ≡ length table₀)
+Inv-loop grants₀ i₀ grants i = (length grants ≡ length grants₀)
 
 abbrev μ-loop : tie.MeasureT-loop
-μ-loop seed table₀ x₀ i₀ table x i = length table₀ - i
+μ-loop grants₀ i₀ grants i = length grants₀ - i
 
 loop-holds : tie.Need-loop-holds Inv-loop μ-loop
 loop-holds c = search needs
 
-rubbish-requires : tie.Need-rubbish-requires Inv-loop μ-loop
-rubbish-requires c κs = search needs
+mul-grants : tie.Need-mul-grants Inv-loop μ-loop
+mul-grants c = search needs
 
-mul-table : tie.Need-mul-table Inv-loop μ-loop
-mul-table c = search needs
-
-slice-write-table : tie.Need-slice-write-table Inv-loop μ-loop
-slice-write-table c = search needs
+slice-write-grants : tie.Need-slice-write-grants Inv-loop μ-loop
+slice-write-grants c = search needs
 
 add-i : tie.Need-add-i Inv-loop μ-loop
 add-i c = search needs
@@ -39,16 +36,15 @@ same-length c = search needs
 returns : tie.Need-returns Inv-loop μ-loop
 returns c = search needs
 
-pub fill-words-spec : {M : Type 1} → statement M
-fill-words-spec =
+pub nines-spec : {M : Type 1} → statement M
+nines-spec =
     tie.close
     (tie.spec
     Inv-loop
     μ-loop
     loop-holds
-    rubbish-requires
-    mul-table
-    slice-write-table
+    mul-grants
+    slice-write-grants
     add-i
     loop-less
     loop-again
