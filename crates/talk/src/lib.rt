@@ -1,5 +1,5 @@
 // A talk with the console: lines as they come, played out of a room of input. docs/CONSOLE.md has the language.
-use console::Answered;
+use answer::Answered;
 use desk::Desk;
 use desk::first_desk;
 use piece::Piece;
@@ -88,7 +88,7 @@ pub fn end_line(
 ) -> Talk {
     let n = one_more(talk.lines);
     let over = piece::too_long(talk.piece, line.len());
-    let used = say::ready(out, talk.used);
+    let used = output::ready(out, talk.used);
     let said = console::play_line(
         n,
         over,
@@ -130,7 +130,7 @@ pub fn play(
         now = end_line(now, &input[at..end], table, health, lists, grants, out);
         at = next;
         from = next;
-        if say::lost(out, now.used) {
+        if output::lost(out, now.used) {
             return Heard { talk: now, at };
         }
     }

@@ -1,8 +1,8 @@
--- `player::more` meets its contract.
+-- `room::more` meets its contract.
 use native.Mathlib.Omega.{arith}
 use borrow.Author.Needs.{needs}
-use Rattle.player.proofs.more.Statement.{statement}
-use Rattle.player.proofs.more.Tie as tie
+use Rattle.room.proofs.more.Statement.{statement}
+use Rattle.room.proofs.more.Tie as tie
 
 play-lines-requires : tie.Need-play-lines-requires
 play-lines-requires c κs = search needs

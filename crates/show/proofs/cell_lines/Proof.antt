@@ -1,10 +1,10 @@
--- `say::cell_lines` meets its contract.
+-- `show::cell_lines` meets its contract.
 use Prim.Native.Nat.{_-_}
 use mathlib.Core.Path.{_≡_}
 use lib.ListN.{length}
 use borrow.Author.Needs.{needs}
-use Rattle.say.proofs.cell_lines.Statement.{statement}
-use Rattle.say.proofs.cell_lines.Tie as tie
+use Rattle.show.proofs.cell_lines.Statement.{statement}
+use Rattle.show.proofs.cell_lines.Tie as tie
 
 abbrev Inv-loop : tie.InvT-loop
 Inv-loop words table out₀ used cells at₀ c₀ out at c = (length out ≡ length out₀)

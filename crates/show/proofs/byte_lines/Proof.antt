@@ -1,16 +1,16 @@
--- `player::move_up` meets its contract.
-use Prim.Native.Nat.{_≤_, _-_}
+-- `show::byte_lines` meets its contract.
+use Prim.Native.Nat.{_-_}
 use mathlib.Core.Path.{_≡_}
 use lib.ListN.{length}
 use borrow.Author.Needs.{needs}
-use Rattle.player.proofs.move_up.Statement.{statement}
-use Rattle.player.proofs.move_up.Tie as tie
+use Rattle.show.proofs.byte_lines.Statement.{statement}
+use Rattle.show.proofs.byte_lines.Tie as tie
 
 abbrev Inv-loop : tie.InvT-loop
-Inv-loop input₀ at end most i₀ j₀ input i j = (length input ≡ length input₀) × (i ≤ j)
+Inv-loop bytes health out₀ used most at₀ i₀ out at i = (length out ≡ length out₀)
 
 abbrev μ-loop : tie.MeasureT-loop
-μ-loop input₀ at end most i₀ j₀ input i j = most - j
+μ-loop bytes health out₀ used most at₀ i₀ out at i = most - i
 
 within-bytes-requires : tie.Need-within-bytes-requires Inv-loop μ-loop
 within-bytes-requires c κs = search needs
@@ -18,17 +18,14 @@ within-bytes-requires c κs = search needs
 loop-holds : tie.Need-loop-holds Inv-loop μ-loop
 loop-holds c = search needs
 
-slice-read-input : tie.Need-slice-read-input Inv-loop μ-loop
-slice-read-input c = search needs
+shared-slice-read-byte-line : tie.Need-shared-slice-read-byte-line Inv-loop μ-loop
+shared-slice-read-byte-line c = search needs
 
-slice-write-input : tie.Need-slice-write-input Inv-loop μ-loop
-slice-write-input c = search needs
+byte-line-requires : tie.Need-byte-line-requires Inv-loop μ-loop
+byte-line-requires c κs = search needs
 
 add-i : tie.Need-add-i Inv-loop μ-loop
 add-i c = search needs
-
-add-j : tie.Need-add-j Inv-loop μ-loop
-add-j c = search needs
 
 loop-less : tie.Need-loop-less Inv-loop μ-loop
 loop-less c = search needs
@@ -42,18 +39,17 @@ same-length c = search needs
 returns : tie.Need-returns Inv-loop μ-loop
 returns c = search needs
 
-pub move-up-spec : {M : Type 1} → statement M
-move-up-spec =
+pub byte-lines-spec : {M : Type 1} → statement M
+byte-lines-spec =
     tie.close
     (tie.spec
     Inv-loop
     μ-loop
     within-bytes-requires
     loop-holds
-    slice-read-input
-    slice-write-input
+    shared-slice-read-byte-line
+    byte-line-requires
     add-i
-    add-j
     loop-less
     loop-again
     same-length
