@@ -2,155 +2,95 @@
 use text::put;
 
 fn talk_lines(out: &mut [u8], used: usize) -> usize {
-    let a = put(out, used, b"help: this list\n");
-    let b = put(
-        out,
-        a,
-        b"echo N: 1: print each line before its answer; 0: no longer\n",
-    );
-    let c = put(
-        out,
-        b,
-        b"map: each cell: . free, # held, ! damaged; with waiters w free, W held\n",
-    );
     put(
         out,
-        c,
-        b"show: the head, and each cell and health byte that is not 0\n",
+        used,
+        b"help: this list\n\
+        echo N: 1: print each line before its answer; 0: no longer\n\
+        map: each cell: . free, # held, ! damaged; with waiters w free, W held\n\
+        show: the head, and each cell and health byte that is not 0\n",
     )
 }
 
 fn ram_lines(out: &mut [u8], used: usize) -> usize {
-    let a = put(out, used, b"ram SEED: fill table and health with rubbish\n");
-    let b = put(out, a, b"word I V: store table word I, as bad RAM would\n");
-    let c = put(out, b, b"byte I V: store health byte I, as bad RAM would\n");
-    let d = put(
+    put(
         out,
-        c,
-        b"lend T G: lend T words and G bytes; lend alone: what the head asks for\n",
-    );
-    put(out, d, b"head H B NEXT: put this head in force\n")
+        used,
+        b"ram SEED: fill table and health with rubbish\n\
+        word I V: store table word I, as bad RAM would\n\
+        byte I V: store health byte I, as bad RAM would\n\
+        lend T G: lend T words and G bytes; lend alone: what the head asks for\n\
+        head H B NEXT: put this head in force\n",
+    )
 }
 
 fn list_lines(out: &mut [u8], used: usize) -> usize {
-    let a = put(
-        out,
-        used,
-        b"registry N..: header numbers; a binding is a place in this list\n",
-    );
-    let b = put(
-        out,
-        a,
-        b"script N..: foreign steps, each kind, place, number; the place becomes 0\n",
-    );
-    let c = put(out, b, b"place P: the place in the script, in steps\n");
-    let d = put(
-        out,
-        c,
-        b"held N..: leases that the caller holds, each cell, serial\n",
-    );
-    let e = put(
-        out,
-        d,
-        b"keys N..: keys of acquire_index_locks, each binding, bucket\n",
-    );
-    let f = put(
-        out,
-        e,
-        b"grants N: a grant buffer of N words, two for each key\n",
-    );
     put(
         out,
-        f,
-        b"leases N..: leases of release_all, each cell, serial\n",
+        used,
+        b"registry N..: header numbers; a binding is a place in this list\n\
+        script N..: foreign steps, each kind, place, number; the place becomes 0\n\
+        place P: the place in the script, in steps\n\
+        held N..: leases that the caller holds, each cell, serial\n\
+        keys N..: keys of acquire_index_locks, each binding, bucket\n\
+        grants N: a grant buffer of N words, two for each key\n\
+        leases N..: leases of release_all, each cell, serial\n",
     )
 }
 
 fn crew_setup_lines(out: &mut [u8], used: usize) -> usize {
-    let a = put(
+    put(
         out,
         used,
-        b"member N..: one more member, which wants these cells\n",
-    );
-    let b = put(out, a, b"crewless: no members\n");
-    put(out, b, b"turns N..: members by number, one for each turn\n")
+        b"member N..: one more member, which wants these cells\n\
+        crewless: no members\n\
+        turns N..: members by number, one for each turn\n",
+    )
 }
 
 fn cell_lines(out: &mut [u8], used: usize) -> usize {
-    let a = put(
-        out,
-        used,
-        b"prepare H B FIRST: H headers of B buckets, serials from FIRST\n",
-    );
-    let b = put(out, a, b"try_acquire C: take cell C if it is free\n");
-    let c = put(
-        out,
-        b,
-        b"drop_lease C S: give the lease of cell C, serial S, back\n",
-    );
-    let d = put(out, c, b"read_permission C S: the cell of a live lease\n");
-    let e = put(
-        out,
-        d,
-        b"competing_acquire_is_excluded C S: a second take of that cell, which is busy\n",
-    );
     put(
         out,
-        e,
-        b"release_then_handoff C S: give it back and take it again\n",
+        used,
+        b"prepare H B FIRST: H headers of B buckets, serials from FIRST\n\
+        try_acquire C: take cell C if it is free\n\
+        drop_lease C S: give the lease of cell C, serial S, back\n\
+        read_permission C S: the cell of a live lease\n\
+        competing_acquire_is_excluded C S: a second take of that cell, which is busy\n\
+        release_then_handoff C S: give it back and take it again\n",
     )
 }
 
 fn held_lines(out: &mut [u8], used: usize) -> usize {
-    let a = put(
+    put(
         out,
         used,
-        b"foreign_release_between_attempts C S: a busy take, the release, a take\n",
-    );
-    let b = put(
-        out,
-        a,
-        b"acquire_preserving_borrows C: try_acquire, after the held list's check\n",
-    );
-    let c = put(
-        out,
-        b,
-        b"drop_preserving_borrows C S: drop_lease, not of a lease in the held list\n",
-    );
-    let d = put(out, c, b"environment: one boundary of the script\n");
-    put(out, d, b"environment_for_borrows: the same\n")
+        b"foreign_release_between_attempts C S: a busy take, the release, a take\n\
+        acquire_preserving_borrows C: try_acquire, after the held list's check\n\
+        drop_preserving_borrows C S: drop_lease, not of a lease in the held list\n\
+        environment: one boundary of the script\n\
+        environment_for_borrows: the same\n",
+    )
 }
 
 fn lock_lines(out: &mut [u8], used: usize) -> usize {
-    let a = put(
-        out,
-        used,
-        b"try_lock C: one attempt on cell C, with its boundaries\n",
-    );
-    let b = put(out, a, b"other_mutex_preserves_leases C: the same\n");
-    let c = put(
-        out,
-        b,
-        b"transactional_try_lock_bucket BINDING BUCKET: one attempt by key\n",
-    );
     put(
         out,
-        c,
-        b"acquire_index_bucket BINDING BUCKET: up to 4,096 attempts by key\n",
+        used,
+        b"try_lock C: one attempt on cell C, with its boundaries\n\
+        other_mutex_preserves_leases C: the same\n\
+        transactional_try_lock_bucket BINDING BUCKET: one attempt by key\n\
+        acquire_index_bucket BINDING BUCKET: up to 4,096 attempts by key\n",
     )
 }
 
 fn many_lines(out: &mut [u8], used: usize) -> usize {
-    let a = put(
-        out,
-        used,
-        b"release_all: give all of leases back, last first\n",
-    );
-    let b = put(out, a, b"acquire_index_locks: take all keys, or none\n");
     put(
         out,
-        b,
-        b"crew: the members take and release their cells, by turns\n",
+        used,
+        b"release_all: give all of leases back, last first\n\
+        acquire_index_locks: take all keys, or none\n\
+        crew: the members take and release their cells, by turns\n",
     )
 }
 

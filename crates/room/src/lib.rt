@@ -1,6 +1,8 @@
 // A room of input: what a read brought is played as far as lines have ended, and the rest is kept for the next read.
 use talk::Heard;
 use talk::Talk;
+ghost use Prim.Native.Nat.{_+_, _≤_};
+ghost use lib.ListN.{length};
 
 // The talk so far, and whether it goes on: not at the end of input, not if input or output was lost.
 pub struct Course {
@@ -56,30 +58,33 @@ pub fn at_its_end(talk: Talk, input_lost: bool) -> Course {
     }
 }
 
-// Whether a line has begun that has not ended.
-fn begun(talk: Talk, line: &[u8]) -> bool {
+// The end of input ends a line that has begun: a line feed is put behind it. How many bytes stand in the room then.
+fn end_of_input(talk: Talk, held: usize, input: &mut [u8]) -> usize {
     let piece = talk.piece;
-    if piece.over {
-        return true;
+    if begun(piece.over, held) {
+        if held < input.len() {
+            input[held] = 10;
+            return held + 1;
+        }
     }
-    0 < line.len()
+    held
 }
 
-// The input has ended: what stands in the room, if anything, is the last line.
-fn last_line(
-    talk: Talk,
-    line: &[u8],
-    table: &mut [u32],
-    health: &mut [u8],
-    lists: &mut [u32],
-    grants: &mut [u32],
-    out: &mut [u8],
-) -> Course {
-    if begun(talk, line) {
-        let last = talk::end_line(talk, line, table, health, lists, grants, out);
-        return at_its_end(last, false);
+fn begun(over: bool, held: usize) -> bool {
+    if over {
+        return true;
     }
-    at_its_end(talk, false)
+    0 < held
+}
+
+// How many bytes stand in the room after a read that brought so many.
+fn filled(talk: Talk, held: usize, fresh: usize, input: &mut [u8]) -> usize
+    requires { ⌜ held + fresh ≤ length (now input) ⌝ }
+{
+    if fresh == 0 {
+        return end_of_input(talk, held, input);
+    }
+    held + fresh
 }
 
 // Plays the whole lines among the first n bytes of the room, of which the first `held` have no line feed.
@@ -107,23 +112,6 @@ fn play_lines(
     )
 }
 
-// n bytes stand in the room.
-fn more(
-    talk: Talk,
-    input: &mut [u8],
-    held: usize,
-    n: usize,
-    table: &mut [u32],
-    health: &mut [u8],
-    lists: &mut [u32],
-    grants: &mut [u32],
-    out: &mut [u8],
-) -> Course {
-    let heard = play_lines(talk, input, held, n, table, health, lists, grants, out);
-    let after = heard.talk;
-    going_on(keep(after, input, heard.at, n))
-}
-
 // A read has answered: -1 where it failed, 0 at the end of input, else how many bytes it put behind those that are kept.
 // A step of the console, no call of document 01: only its own crates call it.
 pub fn after_read(
@@ -136,24 +124,19 @@ pub fn after_read(
     grants: &mut [u32],
     out: &mut [u8],
 ) -> Course {
-    let piece = talk.piece;
-    let held = desk::within_bytes(piece.held, input);
     if got < 0 {
         return at_its_end(talk, true);
     }
+    let piece = talk.piece;
+    let held = desk::within_bytes(piece.held, input);
     let fresh = io::count(got, &input[held..]);
-    if fresh == 0 {
-        return last_line(talk, &input[..held], table, health, lists, grants, out);
+    let n = filled(talk, held, fresh, input);
+    let heard = play_lines(talk, input, held, n, table, health, lists, grants, out);
+    let after = heard.talk;
+    let kept = keep(after, input, heard.at, n);
+    Course {
+        talk: kept,
+        goes_on: 0 < fresh,
+        input_lost: false,
     }
-    more(
-        talk,
-        input,
-        held,
-        held + fresh,
-        table,
-        health,
-        lists,
-        grants,
-        out,
-    )
 }
