@@ -110,7 +110,6 @@ done
 plays 'lines behind lines over the limit' 'player: 3 lines not understood' 'line 2: not understood' "done next 1 place 7 $counts" 'line 4: not understood' \
     'head 2 4 1' 'line 7: not understood'
 # the same in small pieces
-: >"$room/pieces"
 { printf 'echo 1\n'; for _ in {1..20}; do of_length 65536 x; sleep 0.01; done; printf '\nshow\n'; } | play /dev/stdin >"$room/out" 2>"$room/said"
 { printf '> '; of_length $limit x; printf '\nline 2: not understood\n> show\nhead 0 0 0\n'; } >"$room/wanted"
 same 'a line at the limit, in pieces' "$room/wanted" "$room/out"
@@ -121,8 +120,8 @@ same 'a line over the limit, in pieces' "$room/wanted" "$room/out"
 { printf 'script'; awk 'BEGIN { for (i = 0; i < 98400; i++) printf " 4294967295" }'; printf '\nprepare 1 1 1\nenvironment\n'; } >"$input"
 plays 'the longest script' '' "done next 1 place 0 $counts" "refused 2 BadScript 0 next 1 place 0 $counts"
 # 3 MB
-{ printf 'prepare 2 4 1\n'; awk 'BEGIN { for (i = 0; i < 150000; i++) print "place " i % 10; for (i = 0; i < 150000; i++) print "# remark" }'; printf 'show\nx\n'; } >"$input"
-plays "$(wc -c <"$input") bytes" 'player: 1 lines not understood' "done next 1 place 0 $counts" 'head 2 4 1' 'line 300003: not understood'
+{ printf 'prepare 2 4 1\n'; awk 'BEGIN { for (i = 0; i < 180000; i++) print "place " i % 10; for (i = 0; i < 180000; i++) print "# remark" }'; printf 'show\nx\n'; } >"$input"
+plays "$(wc -c <"$input") bytes" 'player: 1 lines not understood' "done next 1 place 0 $counts" 'head 2 4 1' 'line 360003: not understood'
 { awk 'BEGIN { for (i = 0; i < 60000; i++) print "prepare 2 4 1" }'; } >"$input"
 awk -v line="done next 1 place 0 $counts" 'BEGIN { for (i = 0; i < 60000; i++) print line }' >"$room/wanted"
 prints 'much output' ''
