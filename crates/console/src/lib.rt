@@ -1,5 +1,5 @@
-// The bench console: a line of its language is read, played through the calls, and answered. docs/CONSOLE.md has the language.
-// Every function takes any bytes and any numbers; none has a `requires` on what a line says.
+// The bench console: a line of its language is read, played through the calls, and answered. docs/CONSOLE.md has
+// the language. Every function takes any bytes and any numbers; none has a `requires` on what a line says.
 use answer::Answered;
 use answer::quiet;
 use desk::Desk;

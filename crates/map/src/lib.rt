@@ -116,7 +116,8 @@ fn rows(
     at
 }
 
-// What a call other than prepare would get now, if document 01's rules fit it. Less than 6,000 bytes: 4,096 cells in 64 lines.
+// What a call other than prepare would get now, if document 01's rules fit it. Less than 6,000 bytes: 4,096 cells
+// in 64 lines.
 // A step of the console, no call of document 01: only its own crates call it.
 pub fn map(desk: Desk, table: &[u32], health: &[u8], out: &mut [u8], used: usize) -> usize {
     let head = desk.head;

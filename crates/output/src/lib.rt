@@ -1,6 +1,7 @@
-// The room for output, and how it is written out. A function of the console puts text behind the first `used` bytes of the room
-// and says how many are used then. The room is written out when 9,000 bytes are used; between two such places less than 7,000
-// are put, and the room has 16,384. So it is full only where output was lost, and then it stays full.
+// The room for output, and how it is written out. A function of the console puts text behind the first `used`
+// bytes of the room and says how many are used then. The room is written out when 9,000 bytes are used; between
+// two such places less than 7,000 are put, and the room has 16,384. So it is full only where output was lost, and
+// then it stays full.
 use desk::within_bytes;
 use text::put;
 ghost use Prim.Native.Nat.{_+_, _≤_};
@@ -14,8 +15,8 @@ fn write_from(fd: i32, text: &[u8], at: usize) -> usize
     io::count(libc::write(fd, &text[at..]), &text[at..])
 }
 
-// Writes all of a text, and says whether that was done. It stops at the first write that fails or takes nothing. (The kit's
-// `write_all` does the same with 4,096 bytes of stack.)
+// Writes all of a text, and says whether that was done. It stops at the first write that fails or takes nothing.
+// (The kit's `write_all` does the same with 4,096 bytes of stack.)
 // A step of the console, no call of document 01: only its own crates call it.
 pub fn write_out(fd: i32, text: &[u8]) -> bool {
     let mut done = 0;

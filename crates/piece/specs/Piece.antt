@@ -20,6 +20,10 @@ overLimit bytes = ltb 1310720 bytes
 unfoldable pub overOf : Piece → ℕ → Bool
 overOf p bytes = if p .over then true else overLimit bytes
 
+-- its end comes, k bytes behind those that are kept
+abbrev pub endsOver : Piece → ℕ → Bool
+endsOver p k = overOf p (p .held + k)
+
 -- its end has not come: its bytes are kept, up to the limit
 unfoldable pub moreOf : Piece → ℕ → Piece
 moreOf p bytes = if overOf p bytes then pieceOf true 0 else pieceOf false bytes

@@ -3,7 +3,8 @@ ghost use mathlib.Core.Path.{_≡_};
 ghost use Prim.Native.Nat.{_+_, _<_, _^_};
 ghost use Rattle.piece.specs.Piece.{moreOf, overOf, fresh};
 
-// A line whose end has not come: whether it is over the limit, and how many of its bytes are kept, none of one that is over it.
+// A line whose end has not come: whether it is over the limit, and how many of its bytes are kept, none of one
+// that is over it.
 pub struct Piece {
     pub over: bool,
     pub held: usize,

@@ -1,5 +1,5 @@
-// The bench console. It reads its input in roomfuls, plays each line when its line feed has come, and writes what the calls
-// answered before it reads again. docs/CONSOLE.md has the language.
+// The bench console. It reads its input in roomfuls, plays each line when its line feed has come, and writes what
+// the calls answered before it reads again. docs/CONSOLE.md has the language.
 use room::Course;
 use room::after_read;
 use room::at_its_end;

@@ -31,7 +31,8 @@ fn left(at: usize, n: usize) -> usize {
     0
 }
 
-// The line that has not ended, of a room with n bytes of which the lines up to `at` were played: it is moved to the front.
+// The line that has not ended, of a room with n bytes of which the lines up to `at` were played: it is moved to
+// the front.
 fn keep(talk: Talk, input: &mut [u8], at: usize, n: usize) -> Talk {
     if at == 0 {
         return talk.with_piece(piece::more(talk.piece, n));
@@ -112,7 +113,8 @@ fn play_lines(
     )
 }
 
-// A read has answered: -1 where it failed, 0 at the end of input, else how many bytes it put behind those that are kept.
+// A read has answered: -1 where it failed, 0 at the end of input, else how many bytes it put behind those that are
+// kept.
 // A step of the console, no call of document 01: only its own crates call it.
 pub fn after_read(
     talk: Talk,

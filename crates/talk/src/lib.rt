@@ -6,8 +6,8 @@ use piece::Piece;
 ghost use Prim.Native.Nat.{_≤_};
 ghost use lib.ListN.{length};
 
-// How far the talk is: the lines played, how many of them were not understood, the line that has not ended yet, the desk, and
-// how much of the room for output is used.
+// How far the talk is: the lines played, how many of them were not understood, the line that has not ended yet,
+// the desk, and how much of the room for output is used.
 pub struct Talk {
     pub lines: usize,
     pub bad: usize,

@@ -8,7 +8,8 @@ use Rattle.player.proofs.converse.Tie as tie
 
 abbrev Inv-loop : tie.InvT-loop
 Inv-loop input₀ table₀ health₀ lists₀ grants₀ out₀ now₀ turns₀ input table health lists grants out now turns =
-    (length input ≡ length input₀) × (length table ≡ length table₀) × (length health ≡ length health₀) × (length lists ≡ length lists₀) × (length grants ≡ length grants₀) × (length out ≡ length out₀)
+    (length input ≡ length input₀) × (length table ≡ length table₀) × (length health ≡ length health₀) × (length lists ≡ length lists₀) ×
+    (length grants ≡ length grants₀) × (length out ≡ length out₀)
 
 abbrev μ-loop : tie.MeasureT-loop
 μ-loop input₀ table₀ health₀ lists₀ grants₀ out₀ now₀ turns₀ input table health lists grants out now turns =

@@ -35,7 +35,12 @@ keep-requires : tie.Need-keep-requires
 keep-requires c κs = search needs
 
 same-length : tie.Need-same-length
-same-length c = omega (arith, c .before .before .keep .kept, c .before .before .before .before .before .before .before .before .before .before .before .before .before .before .before .before .before .before .before .before .before .before .before .before .filled .kept)
+same-length c = omega (
+  arith,
+  c .before .before .keep .kept,
+  c .before .before .before .before .before .before .before .before .before .before .before .before
+      .before .before .before .before .before .before .before .before .before .before .before .before .filled .kept,
+)
 
 same-length-2 : tie.Need-same-length-2
 same-length-2 c = search needs

@@ -8,7 +8,8 @@ use Rattle.talk.proofs.play.Tie as tie
 
 abbrev Inv-loop : tie.InvT-loop
 Inv-loop input seen table₀ health₀ lists₀ grants₀ out₀ now₀ at₀ from₀ table health lists grants out now at from =
-    (length table ≡ length table₀) × (length health ≡ length health₀) × (length lists ≡ length lists₀) × (length grants ≡ length grants₀) × (length out ≡ length out₀) × (at ≤ from) × (from ≤ length input)
+    (length table ≡ length table₀) × (length health ≡ length health₀) × (length lists ≡ length lists₀) ×
+    (length grants ≡ length grants₀) × (length out ≡ length out₀) × (at ≤ from) × (from ≤ length input)
 
 abbrev μ-loop : tie.MeasureT-loop
 μ-loop input seen table₀ health₀ lists₀ grants₀ out₀ now₀ at₀ from₀ table health lists grants out now at from =
