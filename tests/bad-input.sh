@@ -1,6 +1,6 @@
 #!/usr/bin/env bash
-# Bad input, and input at the limits, through the player and through the plain program: what they print must be the
-# same, byte by byte, and where a text stands here it must be that text. PLAYER names another program instead of the
+# Bad input, and input at the limits, through the player and through the plain program: what they print, also on standard error,
+# must be the same, byte by byte, and where a text stands here it must be that text. PLAYER names another program instead of the
 # player. Ends with 1 if anything is wrong.
 set -euo pipefail
 cd "$(dirname "$0")/.."
@@ -11,16 +11,20 @@ need_player
 room=$(mktemp -d)
 trap 'rm -rf "$room"' EXIT
 input=$room/input
-most=2097152
+most=1310720
 
 inputs=0 lines=0 texts=0 wrong=0
 
 # compare NAME: the file $input through both
 compare() {
     inputs=$((inputs + 1))
-    plain "$input" >"$room/plain"
-    if ! play "$input" >"$room/player"; then
+    plain "$input" >"$room/plain" 2>"$room/plain-said"
+    if ! play "$input" >"$room/player" 2>"$room/player-said"; then
         echo "$1: the player did not end with 0"
+        wrong=$((wrong + 1))
+    elif ! cmp -s "$room/plain-said" "$room/player-said"; then
+        echo "$1: DIFFERENT on standard error"
+        show_difference "$room/plain-said" "$room/player-said"
         wrong=$((wrong + 1))
     elif cmp -s "$room/plain" "$room/player"; then
         lines=$((lines + $(wc -l <"$room/player")))
@@ -157,6 +161,9 @@ place 1 1
 grants 1 1
 crewless 0 0
 show 0 0
+map 0 0
+echo 1 1
+help 0 0
 prepare 3 3
 try_acquire 1 1
 drop_lease 2 2
@@ -176,9 +183,9 @@ release_all 0 0
 acquire_index_locks 0 0
 crew 0 0
 TABLE
-printf 'lend 1\nlend 0\nlend 1 2 3\nlend x\nlend 1 x\n' >>"$input"
+printf 'lend 1\nlend 0\nlend 1 2 3\nlend x\nlend 1 x\necho 2\necho 256\necho 4294967295\necho 4294967296\necho 01\necho x\necho\n' >>"$input"
 all_bad 'too many and too few words'
-for word in ram lend head word byte registry held keys leases turns script place grants member crewless show prepare try_acquire drop_lease read_permission \
+for word in ram lend head word byte registry held keys leases turns script place grants member crewless show map echo help prepare try_acquire drop_lease read_permission \
     competing_acquire_is_excluded release_then_handoff foreign_release_between_attempts acquire_preserving_borrows drop_preserving_borrows environment \
     environment_for_borrows try_lock other_mutex_preserves_leases transactional_try_lock_bucket acquire_index_bucket release_all acquire_index_locks crew; do
     # the right count of numbers, the word wrong: longer, shorter, of capitals
@@ -295,52 +302,54 @@ compare 'lending by heads out of range'
 printf 'ram 0\nlend 12600 70\nshow\nram 4294967295\nshow\nram 1\nshow\nram 4294967296\n' >"$input"
 compare 'rubbish in RAM'
 
-# ---- Long input
+# ---- Lines at the limit, and input without one
 
 of_length $most x >"$input"
-says 'one line of 2 MiB' 'line 1: not understood'
-of_length $((most - 1)) x >"$input"
-echo >>"$input"
-says 'one line of 2 MiB with its line feed' 'line 1: not understood'
+says 'one line at the limit' 'line 1: not understood'
+{ of_length $most x; echo; } >"$input"
+says 'one line at the limit with its line feed' 'line 1: not understood'
 of_length $most '#' >"$input"
-says 'a comment of 2 MiB'
-of_length $most ' ' >"$input"
-says '2 MiB of spaces' 'line 1: not understood'
-of_length $most '\0' >"$input"
-says '2 MiB of zero bytes' 'line 1: not understood'
-of_length $most '\377' >"$input"
-says '2 MiB of bytes 255' 'line 1: not understood'
+says 'a comment at the limit'
+{ of_length $most '#'; printf '\nshow'; } >"$input"
+says 'a line behind a comment at the limit' 'head 0 0 0'
 of_length $most '\n' >"$input"
-says '2 MiB of line feeds'
-of_length $most 1 >"$input"
-says '2 MiB of digits' 'line 1: not understood'
+says 'line feeds'
+for byte in x '#' ' ' '\0' '\377' '\r' 1; do
+    of_length $((most + 1)) "$byte" >"$input"
+    says "one byte over the limit, $byte" 'line 1: not understood'
+    { printf 'echo 1\n'; of_length $((most + 1)) "$byte"; printf '\nshow\n'; of_length $((3 * most)) "$byte"; } >"$input"
+    says "over the limit, not printed, $byte" 'line 2: not understood' '> show' 'head 0 0 0' 'line 4: not understood'
+    { printf 'echo 1\n'; of_length $most "$byte"; printf '\nshow\n'; } >"$input"
+    compare "at the limit, printed, $byte"
+    texts=$((texts + 1))
+    [ "$(tail -n 2 "$room/player")" = "$(printf '> show\nhead 0 0 0')" ] || {
+        echo "at the limit, printed, $byte: NOT THE TEXT WANTED"
+        wrong=$((wrong + 1))
+    }
+done
 { printf 'place '; of_length $((most - 6)) 1; } >"$input"
-says 'a number of nearly 2 MiB' 'line 1: not understood'
+says 'a number as long as fits' 'line 1: not understood'
 { printf 'place '; of_length $((most - 6)) 0; } >"$input"
-says 'a zero of nearly 2 MiB' 'line 1: not understood'
+says 'a zero as long as fits' 'line 1: not understood'
+{ printf 'place '; of_length $((most - 5)) 0; printf '\nshow\nplace 3\n'; } >"$input"
+says 'a number over the limit' 'line 1: not understood' 'head 0 0 0'
 for word in script turns held registry keys leases member lend place ram try_lock crew; do
     { printf '%s' "$word"; numbers $(((most - ${#word}) / 2)) 1; } >"$input"
     says "$word as long as fits" 'line 1: not understood'
 done
-{ printf 'prepare 2 4 1\n'; of_length $((most - 18)) '#'; printf 'show'; } >"$input"
-says 'exactly 2 MiB, a comment at the end' "done next 1 place 0 $counts"
-{ printf 'prepare 2 4 1\n'; of_length $((most - 19)) '#'; printf '\nshow'; } >"$input"
-says 'exactly 2 MiB, the last word whole' "done next 1 place 0 $counts" 'head 2 4 1'
+# the first 98,400 numbers of a line over the limit would fill the script
+{ printf 'prepare 2 4 1\nscript 5 0 0\nscript'; numbers 800000 0; printf '\nenvironment\n'; } >"$input"
+says 'a list over the limit' "done next 1 place 0 $counts" 'line 3: not understood' 'done next 1 place 1 attempts 0 boundaries 1 yields 0 dropped 0'
 of_length $((most / 2)) x | sed 's/x/x\n/g' >"$input"
-all_bad '2 MiB of lines of one letter'
+all_bad 'lines of one letter'
 of_length $((most / 5)) x | sed 's/x/show\n/g' >"$input"
-compare '2 MiB of show'
-
-for byte in x '#' '\n' '\0' ' ' 1; do
-    of_length $((most + 1)) "$byte" >"$input"
-    says "2 MiB and one byte, $byte" 'input too long'
-done
-{ printf 'prepare 2 4 1\nshow\n'; of_length $((most - 18)) '\n'; } >"$input"
-says '2 MiB and one byte, good lines first' 'input too long'
-for bytes in $((most + 2)) $((most + 4096)) $((2 * most)) $((5 * most + 1)); do
+compare 'much show'
+for bytes in 2097152 2097153 3000000 $((5 * most + 1)); do
     of_length "$bytes" '\n' >"$input"
-    says "$bytes bytes" 'input too long'
+    says "$bytes line feeds"
 done
+{ printf 'prepare 2 4 1\n'; of_length 3000000 '\n'; printf 'show\nx'; } >"$input"
+says '3 MB' "done next 1 place 0 $counts" 'head 2 4 1' 'line 3000003: not understood'
 
 [ "$wrong" -eq 0 ] || {
     echo "bad-input: $wrong WRONG, of $inputs inputs and $texts texts"

@@ -36,9 +36,9 @@ compare() {
 
 # replay NAME INPUT WANTED: the input through both programs
 replay() {
-    play "$2" >"$room/player" || complain "$1: the player ended with status $?"
+    play "$2" >"$room/player" 2>"$room/said" || complain "$1: the player ended with status $?"
     compare "$1" "$3" "the player" "$room/player"
-    plain "$2" >"$room/plain" || complain "$1: the plain program ended with status $?"
+    plain "$2" >"$room/plain" 2>"$room/plain-said" || complain "$1: the plain program ended with status $?"
     compare "$1" "$3" "the plain program" "$room/plain"
 }
 

@@ -33,7 +33,7 @@ input_line() {
     while [ "$low" -lt "$high" ]; do
         middle=$(((low + high) / 2))
         head -n "$middle" "$room/history" >"$room/part"
-        if [ "$(plain "$room/part" | wc -l)" -ge "$1" ]; then high=$middle; else low=$((middle + 1)); fi
+        if [ "$(plain "$room/part" 2>/dev/null | wc -l)" -ge "$1" ]; then high=$middle; else low=$((middle + 1)); fi
     done
     echo "$low"
 }
@@ -52,14 +52,19 @@ played=0
 lines=0
 while [ "$played" -lt "$calls" ]; do
     target/rust/release/histories "$seed" "$each" >"$room/history"
-    plain "$room/history" >"$room/plain"
-    play "$room/history" >"$room/player" || {
+    plain "$room/history" >"$room/plain" 2>"$room/plain-said"
+    play "$room/history" >"$room/player" 2>"$room/player-said" || {
         echo "seed $seed: the player ended with status $?"
         cmp -s "$room/plain" "$room/player" || report
         exit 1
     }
     if ! cmp -s "$room/plain" "$room/player"; then
         report
+        exit 1
+    fi
+    if ! cmp -s "$room/plain-said" "$room/player-said"; then
+        echo "seed $seed: DIFFERENT on standard error"
+        show_difference "$room/plain-said" "$room/player-said"
         exit 1
     fi
     own=$(calls_in "$room/player")

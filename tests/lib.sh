@@ -20,22 +20,50 @@ kit() {
     fi
 }
 
+# crates_of NAME..: the crates of crates.txt that these reach, themselves too; without a name, all.
+crates_of() {
+    awk -v wanted="$*" '
+        { sub(/#.*/, "") }
+        /:/ { name = $1; sub(/:$/, "", name); names[++count] = name; sub(/^[^:]*:/, ""); deps[name] = $0 }
+        END {
+            n = wanted == "" ? 0 : split(wanted, queue, " ")
+            if (wanted == "") for (i = 1; i <= count; i++) queue[++n] = names[i]
+            for (i = 1; i <= n; i++) {
+                if (!(queue[i] in deps) || queue[i] in seen) continue
+                seen[queue[i]]
+                print queue[i]
+                more = split(deps[queue[i]], next_ones, " ")
+                for (k = 1; k <= more; k++) queue[++n] = next_ones[k]
+            }
+        }' crates.txt
+}
+
+# player_is_old: whether there is no player, or a source that it is made of is newer.
+player_is_old() {
+    [ -e target/bin/player ] || return 0
+    [ -n "$(find crates.txt $(crates_of player | sed 's,^,crates/,') -newer target/bin/player \
+        \( -name '*.rt' -o -name '*.antt' -o -name crates.txt \) -print -quit)" ]
+}
+
 # play FILE: the player on FILE's bytes as standard input. It is an x86-64 program; on another machine it runs as the
 # kit runs programs there, under its emulator and its own loader and C library. PLAYER names another program
-# instead, by a path from the top folder of the repository or from /.
+# instead, by a path from the top folder of the repository or from /. STACK, in kilobytes, is all the stack that it gets.
 play() {
-    local tools word
-    if [ -n "${PLAYER:-}" ]; then
-        "$PLAYER" <"$1"
-    elif [ "$(uname -m)" = x86_64 ]; then
-        target/bin/player <"$1"
-    else
-        (
-            for word in $(env | sed -n 's/^\(QEMU_[A-Za-z0-9_]*\)=.*/\1/p'); do unset "$word"; done
-            tools=$(kit)/on/$(uname -m)/toolchain
-            exec "$tools/bin/qemu-x86_64" "$tools/lib/ld-linux-x86-64.so.2" --library-path "$tools/lib" target/bin/player <"$1"
-        )
-    fi
+    local tools word stack=()
+    (
+        if [ -n "${STACK:-}" ]; then
+            ulimit -s "$STACK"
+            stack=(-s $((STACK * 1024)))
+        fi
+        if [ -n "${PLAYER:-}" ]; then
+            exec "$PLAYER" <"$1"
+        elif [ "$(uname -m)" = x86_64 ]; then
+            exec target/bin/player <"$1"
+        fi
+        for word in $(env | sed -n 's/^\(QEMU_[A-Za-z0-9_]*\)=.*/\1/p'); do unset "$word"; done
+        tools=$(kit)/on/$(uname -m)/toolchain
+        exec "$tools/bin/qemu-x86_64" ${stack[@]+"${stack[@]}"} "$tools/lib/ld-linux-x86-64.so.2" --library-path "$tools/lib" target/bin/player <"$1"
+    )
 }
 
 # need_player: ends the script if there is no player to run.

@@ -9,6 +9,8 @@ ghost use Rattle.io.specs.Counts.{Counts as Within};
 pub struct Desk {
     pub head: Head,
     pub place: usize,
+    // Whether lines are printed before their answers.
+    pub echo: bool,
     // Whether `lend T G` is in force, and its two numbers.
     pub fixed: bool,
     pub words: usize,
@@ -137,6 +139,7 @@ pub fn first_desk() -> Desk {
             next: 0,
         },
         place: 0,
+        echo: false,
         fixed: false,
         words: 0,
         bytes: 0,
@@ -183,6 +186,12 @@ impl Desk {
     // A step of the console, no call of document 01: only its own crates call it.
     pub fn with_place(mut self, place: usize) -> Desk {
         self.place = place;
+        self
+    }
+
+    // A step of the console, no call of document 01: only its own crates call it.
+    pub fn with_echo(mut self, echo: bool) -> Desk {
+        self.echo = echo;
         self
     }
 

@@ -16,6 +16,9 @@ pub enum Verb {
     Member,
     Crewless,
     Show,
+    Map,
+    Echo,
+    Help,
     List(List),
     Prepare,
     Small(Small),
@@ -87,6 +90,19 @@ fn desk_verb(word: &[u8]) -> Verb {
     }
     if text::same(word, b"show") {
         return Verb::Show;
+    }
+    talk_verb(word)
+}
+
+fn talk_verb(word: &[u8]) -> Verb {
+    if text::same(word, b"map") {
+        return Verb::Map;
+    }
+    if text::same(word, b"echo") {
+        return Verb::Echo;
+    }
+    if text::same(word, b"help") {
+        return Verb::Help;
     }
     Verb::Unknown
 }
@@ -233,6 +249,14 @@ fn byte_fits(got: Numbers) -> bool {
     false
 }
 
+// `echo` takes 0 or 1.
+fn echo_fits(got: Numbers) -> bool {
+    if got.count == 1 {
+        return got.a <= 1;
+    }
+    false
+}
+
 fn grants_fit(got: Numbers) -> bool {
     if got.count == 1 {
         return got.a <= 300;
@@ -262,6 +286,9 @@ pub fn fits(desk: Desk, verb: Verb, got: Numbers) -> bool {
         Verb::Member => member_fits(desk, got),
         Verb::Crewless => got.count == 0,
         Verb::Show => got.count == 0,
+        Verb::Map => got.count == 0,
+        Verb::Echo => echo_fits(got),
+        Verb::Help => got.count == 0,
         Verb::List(list) => got.count <= room_of(list),
         Verb::Prepare => got.count == 3,
         Verb::Small(call) => got.count == small_wants(call),

@@ -1,55 +1,122 @@
-// The bench console. It reads all its input, plays it, and writes what the calls answered. docs/CONSOLE.md has the language.
+// The bench console. It reads its input in roomfuls, plays each line when its line feed has come, and writes what
+// the calls answered before it reads again. docs/CONSOLE.md has the language.
+use room::Course;
+use room::after_read;
+use room::at_its_end;
+use room::going_on;
+use talk::Talk;
 ghost use mathlib.Core.Path.{_≡_};
+ghost use Prim.Native.Nat.{_<_};
 ghost use lib.ListN.{length};
 
-// Room for 2 MiB and a byte more, which tells that the input is too long.
-fn input_room() -> [u8; 2097153]
-    ensures { λ r. ⌜ 2097153 ≡ length r ⌝ }
+// Room for the longest line and its line feed.
+fn input_room() -> [u8; 1310721]
+    ensures { λ r. ⌜ 1310721 ≡ length r ⌝ }
 {
-    [0; 2097153]
+    [0; 1310721]
 }
 
 fn main() {
     let mut input = input_room();
-    let n = io::read_full(0, &mut input);
-    if 2097152 < n {
-        io::write_all(1, b"input too long\n");
-        return;
-    }
-    with_ram(&input[..n]);
+    with_lists(&mut input);
 }
 
-// The player's own RAM, its lists, and a room for output.
-fn with_ram(input: &[u8]) {
+// The lists of the player.
+fn with_lists(input: &mut [u8]) {
+    let mut lists = [0u32; 170700];
+    with_ram(input, &mut lists);
+}
+
+// The player's own RAM, a grant buffer, and a room for output.
+fn with_ram(input: &mut [u8], lists: &mut [u32]) {
     let mut table = [0u32; 12600];
     let mut health = [0u8; 70];
-    let mut lists = [0u32; 170700];
     let mut grants = [0u32; 300];
-    let mut out = [0u8; 262144];
-    console::fill(1, &mut table, &mut health);
-    play_all(
-        input,
-        &mut table,
-        &mut health,
-        &mut lists,
-        &mut grants,
-        &mut out,
-    );
+    let mut out = [0u8; 16384];
+    setup::fill(1, &mut table, &mut health);
+    converse(input, &mut table, &mut health, lists, &mut grants, &mut out);
 }
 
-// Plays the whole input, a roomful of output at a time.
-fn play_all(
-    input: &[u8],
+// ---- one read
+
+// One read behind the bytes that are kept.
+fn read_behind(input: &mut [u8], held: usize) -> isize {
+    let n = desk::within_bytes(held, input);
+    libc::read(0, &mut input[n..])
+}
+
+// What was printed is written out before a read, which may wait.
+fn listen(
+    talk: Talk,
+    input: &mut [u8],
+    table: &mut [u32],
+    health: &mut [u8],
+    lists: &mut [u32],
+    grants: &mut [u32],
+    out: &mut [u8],
+) -> Course {
+    let used = output::written(out, talk.used);
+    let clear = talk.with_used(used);
+    if output::lost(out, used) {
+        return at_its_end(clear, false);
+    }
+    let piece = clear.piece;
+    let got = read_behind(input, piece.held);
+    after_read(clear, got, input, table, health, lists, grants, out)
+}
+
+// ---- the whole talk
+
+// How many turns are left: one less, or none where the talk is at its end.
+fn turns_left(goes_on: bool, turns: u64) -> u64
+    requires { ⌜ 0 < turns ⌝ }
+    ensures { λ r. ⌜ r < turns ⌝ }
+{
+    if goes_on {
+        return turns - 1;
+    }
+    0
+}
+
+// Up to the end of input. The number of turns is there to fall: no input has so many reads.
+fn converse(
+    input: &mut [u8],
     table: &mut [u32],
     health: &mut [u8],
     lists: &mut [u32],
     grants: &mut [u32],
     out: &mut [u8],
 ) {
-    let mut session = console::begin();
-    while session.at < input.len() {
-        session = console::play(session, input, table, health, lists, grants, out);
-        let used = desk::within_bytes(session.used, out);
-        io::write_all(1, &out[..used]);
+    let mut now = going_on(talk::begin());
+    let mut turns: u64 = 18446744073709551615;
+    while 0 < turns {
+        now = listen(now.talk, input, table, health, lists, grants, out);
+        turns = turns_left(now.goes_on, turns);
+    }
+    farewell(now, out);
+}
+
+// ---- messages, on standard error
+
+fn complain(form: &[u8], number: usize) {
+    let mut text = [0u8; 80];
+    let values = [number];
+    let n = text::put_form(&mut text, 0, form, &values);
+    let used = desk::within_bytes(n, &text);
+    output::write_out(2, &text[..used]);
+}
+
+fn farewell(last: Course, out: &[u8]) {
+    let talk = last.talk;
+    let used = output::written(out, talk.used);
+    if output::lost(out, used) {
+        complain(b"player: output lost\n", 0);
+        return;
+    }
+    if last.input_lost {
+        complain(b"player: input lost\n", 0);
+    }
+    if 0 < talk.bad {
+        complain(b"player: # lines not understood\n", talk.bad);
     }
 }

@@ -267,7 +267,8 @@ pub fn put_number(out: &mut [u8], used: usize, n: usize) -> usize {
     put(out, used, &digits[..k])
 }
 
-fn put_byte(out: &mut [u8], used: usize, byte: u8) -> usize {
+// A step of the console, no call of document 01: only its own crates call it.
+pub fn put_byte(out: &mut [u8], used: usize, byte: u8) -> usize {
     let one = [byte];
     put(out, used, &one)
 }

@@ -6,7 +6,7 @@ use Rattle.player.proofs.input_room.Statement.{statement}
 use Rattle.player.proofs.input_room.Tie as tie
 
 returns : tie.Need-returns
-returns c = sym (length-replicate {0} {A = ℕ} 2097153 0)
+returns c = sym (length-replicate {0} {A = ℕ} 1310721 0)
 
 pub input-room-spec : {M : Type 1} → statement M
 input-room-spec = tie.close (tie.spec returns)

@@ -1,0 +1,308 @@
+#!/usr/bin/env bash
+# A talk with the player, and what can go wrong around it: answers come before the end of input, in a terminal and through a pipe;
+# output that is lost (a full disk, a closed output, a pipe that nobody reads), input that is lost (a directory); input of 3 MB, a
+# line at the limit and one byte over it, a stack of 2 MB; the messages on standard error; bench/play.sh, its status, and when it
+# builds the player anew. PLAYER names another program instead of the player. Ends with 1 if anything is wrong.
+set -euo pipefail
+cd "$(dirname "$0")/.."
+. tests/lib.sh
+need_player
+room=$(mktemp -d)
+trap 'rm -rf "$room"' EXIT
+input=$room/input
+limit=1310720
+patience=60
+
+tried=0 wrong=0
+
+complain() {
+    echo "talk: $*"
+    wrong=$((wrong + 1))
+}
+
+# same NAME WANTED GOT: the two files are equal
+same() {
+    local line
+    tried=$((tried + 1))
+    cmp -s "$2" "$3" && return
+    line=$(first_difference "$2" "$3")
+    complain "$1: DIFFERENT in line $line"
+    echo "  expected: $(sed -n "${line}p" "$2" | cat -v | cut -c 1-200)"
+    echo "  got:      $(sed -n "${line}p" "$3" | cat -v | cut -c 1-200)"
+}
+
+# lines LINE..: these lines; none: nothing
+lines() {
+    if [ $# -gt 0 ]; then printf '%s\n' "$@"; fi
+}
+
+# prints NAME SAID: the player on $input prints $room/wanted and says the line SAID on standard error, nothing if it is empty
+prints() {
+    lines ${2:+"$2"} >"$room/wanted-said"
+    play "$input" >"$room/out" 2>"$room/said" || complain "$1: the player ended with status $?"
+    same "$1" "$room/wanted" "$room/out"
+    same "$1, standard error" "$room/wanted-said" "$room/said"
+}
+
+# plays NAME SAID LINE..: the same, with these lines
+plays() {
+    local name=$1 said=$2
+    shift 2
+    lines "$@" >"$room/wanted"
+    prints "$name" "$said"
+}
+
+# of_length COUNT BYTE: that byte so many times
+of_length() {
+    head -c "$1" /dev/zero | tr '\0' "$2"
+}
+
+counts='attempts 0 boundaries 0 yields 0 dropped 0'
+
+# ---- echo, map, help
+
+printf 'show\necho 1\nshow\n\n# a remark\nsh ow\necho 2\necho 1\n\377\0\t\necho 0\nshow\necho 1\nshow' >"$input"
+printf '%s\n' 'head 0 0 0' '> show' 'head 0 0 0' '> sh ow' 'line 6: not understood' '> echo 2' 'line 7: not understood' '> echo 1' >"$room/wanted"
+printf '> \377\0\t\nline 9: not understood\n> echo 0\nhead 0 0 0\n> show\nhead 0 0 0\n' >>"$room/wanted"
+prints echo 'player: 3 lines not understood'
+
+# bit, owner, waiters: free; free with waiters; held; held with waiters; damaged by the bit; by the owner; damaged with waiters
+printf 'map\nprepare 2 4 1\nmap\ntry_acquire 2\ntry_acquire 3\nword 5 1\nword 11 4294967295\nword 12 2\nword 16 1\nword 18 1\nword 19 3\nword 20 7\nbyte 1 200\nmap\n' >"$input"
+printf 'head 2 4 4\nmap\nhead 2 4 0\nmap\nhead 2 4 4\nlend 23 2\nmap\nlend 24 1\nmap\nlend 24 2\nmap\nlend\nhead 65 1 1\nmap\nprepare 3 1 1\nmap\n' >>"$input"
+plays map '' 'no arena' "done next 1 place 0 $counts" 'header 0 healthy ....' 'header 1 healthy ....' \
+    'granted 2 1 next 2 place 0 attempts 1 boundaries 0 yields 0 dropped 0' 'granted 3 2 next 3 place 0 attempts 1 boundaries 0 yields 0 dropped 0' \
+    'header 0 healthy .w#W' 'header 1 poisoned !!!.' 'header 0 healthy .w#W' 'header 1 poisoned !!W.' 'no arena' 'no arena' 'no arena' \
+    'header 0 healthy .w#W' 'header 1 poisoned !!W.' 'no arena' "done next 1 place 0 $counts" 'header 0 healthy .' 'header 1 healthy .' 'header 2 healthy .'
+printf 'prepare 64 64 1\nmap\nprepare 4 1024 1\nmap\n' >"$input"
+{
+    echo "done next 1 place 0 $counts"
+    for header in {0..63}; do echo "header $header healthy $(of_length 64 .)"; done
+    echo "done next 1 place 0 $counts"
+    for header in {0..3}; do echo "header $header healthy $(of_length 1024 .)"; done
+} >"$room/wanted"
+prints 'map of the largest arenas' ''
+
+echo help >"$input"
+play "$input" >"$room/out"
+tried=$((tried + 1))
+for word in ram lend head word byte registry held keys leases turns script place grants member crewless show echo map help prepare \
+    try_acquire drop_lease read_permission competing_acquire_is_excluded release_then_handoff foreign_release_between_attempts \
+    acquire_preserving_borrows drop_preserving_borrows environment environment_for_borrows try_lock other_mutex_preserves_leases \
+    transactional_try_lock_bucket acquire_index_bucket release_all acquire_index_locks crew; do
+    grep -q "^$word\b" "$room/out" || complain "help does not name $word"
+done
+
+# ---- the limit of a line, and long input
+
+for last in '\n' ''; do
+    { of_length $limit '#'; printf "$last"; } >"$input"
+    plays 'a remark at the limit' ''
+    { of_length $((limit + 1)) '#'; printf "$last"; } >"$input"
+    plays 'a remark over the limit' 'player: 1 lines not understood' 'line 1: not understood'
+    { printf 'echo 1\n'; of_length $limit x; printf "$last"; } >"$input"
+    { printf '> '; of_length $limit x; printf '\nline 2: not understood\n'; } >"$room/wanted"
+    prints 'a line at the limit is printed' 'player: 1 lines not understood'
+    { printf 'echo 1\n'; of_length $((limit + 1)) x; printf "$last"; } >"$input"
+    plays 'a line over the limit is not' 'player: 1 lines not understood' 'line 2: not understood'
+done
+# what stands behind a line over the limit is played; a line over the limit changes nothing
+{ printf 'place 7\nplace '; of_length $limit 1; printf '\nprepare 2 4 1\n'; of_length $((3 * limit)) '#'; printf '\nshow\n\nx'; } >"$input"
+plays 'lines behind lines over the limit' 'player: 3 lines not understood' 'line 2: not understood' "done next 1 place 7 $counts" 'line 4: not understood' \
+    'head 2 4 1' 'line 7: not understood'
+# the same in small pieces
+{ printf 'echo 1\n'; for _ in {1..20}; do of_length 65536 x; sleep 0.01; done; printf '\nshow\n'; } | play /dev/stdin >"$room/out" 2>"$room/said"
+{ printf '> '; of_length $limit x; printf '\nline 2: not understood\n> show\nhead 0 0 0\n'; } >"$room/wanted"
+same 'a line at the limit, in pieces' "$room/wanted" "$room/out"
+{ for _ in {1..20}; do of_length 65536 '#'; sleep 0.01; done; printf '#'; sleep 0.1; printf '\nshow\n'; } | play /dev/stdin >"$room/out" 2>"$room/said"
+lines 'line 1: not understood' 'head 0 0 0' >"$room/wanted"
+same 'a line over the limit, in pieces' "$room/wanted" "$room/out"
+# the longest line that is understood: a script that fills its room
+{ printf 'script'; awk 'BEGIN { for (i = 0; i < 98400; i++) printf " 4294967295" }'; printf '\nprepare 1 1 1\nenvironment\n'; } >"$input"
+plays 'the longest script' '' "done next 1 place 0 $counts" "refused 2 BadScript 0 next 1 place 0 $counts"
+# 3 MB
+{ printf 'prepare 2 4 1\n'; awk 'BEGIN { for (i = 0; i < 180000; i++) print "place " i % 10; for (i = 0; i < 180000; i++) print "# remark" }'; printf 'show\nx\n'; } >"$input"
+plays "$(wc -c <"$input") bytes" 'player: 1 lines not understood' "done next 1 place 0 $counts" 'head 2 4 1' 'line 360003: not understood'
+{ awk 'BEGIN { for (i = 0; i < 60000; i++) print "prepare 2 4 1" }'; } >"$input"
+awk -v line="done next 1 place 0 $counts" 'BEGIN { for (i = 0; i < 60000; i++) print line }' >"$room/wanted"
+prints 'much output' ''
+
+# ---- what is lost
+
+# lost NAME SAID: what was said on standard error begins with this line
+lost() {
+    tried=$((tried + 1))
+    [ "$(head -n 1 "$room/said")" = "$2" ] || complain "$1: said $(head -n 1 "$room/said" | cat -v), not $2"
+}
+
+echo help >"$input"
+play "$input" >/dev/full 2>"$room/said" || complain "a full disk: status $?"
+lost 'a full disk' 'player: output lost'
+# (a program in Rust never hears of it: its library opens a closed output anew)
+if [ -z "${PLAYER:-}" ]; then
+    play "$input" >&- 2>"$room/said" || complain "a closed output: status $?"
+    lost 'a closed output' 'player: output lost'
+fi
+# input without end: the player stops when a write fails
+yes help 2>/dev/null | timeout $patience bash -c '. tests/lib.sh; play /dev/stdin' >/dev/full 2>"$room/said" || true
+lost 'a full disk, input without end' 'player: output lost'
+(trap '' PIPE; yes help 2>/dev/null | timeout $patience bash -c '. tests/lib.sh; play /dev/stdin' 2>"$room/said" | head -n 1 >/dev/null) || true
+lost 'a pipe that nobody reads' 'player: output lost'
+play . >"$room/out" 2>"$room/said" || complain "a directory as input: status $?"
+lost 'a directory as input' 'player: input lost'
+: >"$room/wanted"
+same 'a directory as input' "$room/wanted" "$room/out"
+play "$input" >"$room/out" 2>/dev/full || complain "standard error lost: status $?"
+
+# ---- the stack: 2 MB, environment and all
+
+{ cat bench/*.txt; printf '\nhelp\nlend 12600 70\nram 3\nshow\necho 1\n'; of_length 5000 x; printf '\nlend\nprepare 64 64 1\nmap\n'; } >"$input"
+play "$input" >"$room/wanted" 2>"$room/wanted-said"
+STACK=2048 play "$input" >"$room/out" 2>"$room/said" || complain "a stack of 2 MB: status $?"
+same 'a stack of 2 MB' "$room/wanted" "$room/out"
+same 'a stack of 2 MB, standard error' "$room/wanted-said" "$room/said"
+
+# ---- a talk
+
+# hears NAME LINE: that line comes, without an end of input, in what the talk says (a terminal ends lines with a carriage return too,
+# and shows what is typed)
+hears() {
+    local line
+    tried=$((tried + 1))
+    while IFS= read -r -t $patience -u 7 line; do
+        [ "${line%$'\r'}" != "$2" ] || return 0
+    done
+    complain "$1: no answer $2"
+}
+
+# a_talk NAME: question and answer, twice, and then the end of input, by the bytes $2
+a_talk() {
+    printf 'prepare 2 4 1\n' >&8
+    hears "$1" "done next 1 place 0 $counts"
+    printf 'echo 1\nmap\n' >&8
+    hears "$1" 'header 1 healthy ....'
+    printf 'sho' >&8
+    sleep 0.2
+    printf 'w\n' >&8
+    hears "$1" 'head 2 4 1'
+    printf '%b' "$2" >&8
+}
+
+# with_talk: the talk that was just begun is heard by 7 and spoken to by 8
+with_talk() {
+    pid=$TALK_PID
+    exec 7<&"${TALK[0]}" 8>&"${TALK[1]}"
+    exec {TALK[0]}<&- {TALK[1]}>&-
+}
+
+coproc TALK { play /dev/stdin 2>/dev/null; }
+with_talk
+a_talk 'through a pipe' 'show'
+exec 8>&-
+hears 'through a pipe, the last line without line feed' 'head 2 4 1'
+wait "$pid" || complain "through a pipe: status $?"
+
+if command -v script >/dev/null; then
+    coproc TALK { script -qec 'bash bench/play.sh' /dev/null 2>/dev/null; }
+    with_talk
+    hears 'in a terminal' 'Type a line and press Enter. "help" lists the commands and calls, Ctrl-D leaves.'
+    a_talk 'in a terminal' 'x\n\004'
+    hears 'in a terminal, at the end' 'player: 1 lines not understood'
+    status=0
+    wait "$pid" || status=$?
+    [ "$status" -eq 1 ] || complain "in a terminal: status $status, not 1"
+else
+    complain 'script is missing (Debian: bsdutils), so no talk in a terminal was tried'
+fi
+
+# ---- bench/play.sh
+
+# ends NAME STATUS SAID WORDS..: play.sh with these words, fed with $input, ends with this status; SAID is in what it says
+ends() {
+    local name=$1 wanted=$2 said=$3 status=0
+    shift 3
+    bash bench/play.sh "$@" <"$input" >"$room/out" 2>"$room/said" || status=$?
+    tried=$((tried + 1))
+    [ "$status" -eq "$wanted" ] || complain "play.sh, $name: status $status, not $wanted"
+    cat "$room/out" "$room/said" | grep -q -e "$said" || complain "play.sh, $name: does not say '$said'"
+}
+
+printf 'prepare 2 4 1\nshow\n' >"$input"
+ends 'good lines' 0 'head 2 4 1'
+ends 'a file' 0 'head 2 4 1' "$input"
+ends help 0 'usage: bash bench/play.sh' --help
+ends 'a missing file' 2 'there is no file' "$room/missing"
+ends 'a directory' 2 'is a directory' "$room"
+ends 'an option that is none' 2 'no option' --nothing
+printf 'x\nshow\n' >"$input"
+ends 'a line that is not understood' 1 'player: 1 lines not understood'
+status=0
+bash bench/play.sh "$input" >/dev/full 2>"$room/said" || status=$?
+[ "$status" -eq 2 ] || complain "play.sh, a full disk: status $status, not 2"
+lost 'play.sh, a full disk' 'player: output lost'
+status=0
+bash bench/play.sh "$input" >&- 2>"$room/said" || status=$?
+[ "$status" -eq 2 ] || complain "play.sh, a closed output: status $status, not 2"
+status=0
+{ yes help 2>/dev/null | bash bench/play.sh 2>"$room/said" || echo $? >"$room/status"; } | head -n 1 >/dev/null || true
+lost 'play.sh, a pipe that nobody reads' 'player: output lost'
+
+# when it builds: in a small repository, with an rt that writes a player which prints its input
+small=$room/small
+mkdir -p "$small/bench" "$small/tests" "$small/crates/player/src" "$small/bin"
+cp bench/play.sh "$small/bench"
+cp tests/lib.sh tests/prove.sh "$small/tests"
+echo 'player: io libc' >"$small/crates.txt"
+echo '// nothing' >"$small/crates/player/src/main.rt"
+printf '#!/bin/sh\necho x86_64\n' >"$small/bin/uname"
+cat >"$small/bin/rt" <<'RT'
+#!/bin/sh
+echo "rt $*" >>calls
+echo 'a remark of the checker'
+if [ -e broken ]; then
+    echo 'rt: player NOT PROVED (exit 1, 3 s)'
+    echo 'rt: FAILED: player'
+    exit 1
+fi
+mkdir -p target/bin
+printf '#!/bin/sh\ncat\n' >target/bin/player
+chmod +x target/bin/player
+echo 'rt: player proved (3 s)'
+echo 'rt: ok, 1 crates proved'
+RT
+chmod +x "$small/bin/uname" "$small/bin/rt"
+
+# builds NAME STATUS CALLS SAID WORDS..: play.sh in that repository ends so, and rt was called so often by now
+builds() {
+    local name=$1 wanted=$2 calls=$3 said=$4 status=0
+    shift 4
+    (cd "$small" && PLAYER='' PATH=$small/bin:$PATH bash bench/play.sh "$@" <"$input") >"$room/out" 2>"$room/said" || status=$?
+    tried=$((tried + 1))
+    [ "$status" -eq "$wanted" ] || complain "play.sh, $name: status $status, not $wanted"
+    [ "$(cat "$small/calls" 2>/dev/null | wc -l)" -eq "$calls" ] || complain "play.sh, $name: rt was not called $calls times by now"
+    grep -q -e "$said" "$room/said" "$room/out" || complain "play.sh, $name: does not say '$said'"
+    ! grep -q 'a remark of the checker' "$room/said" "$room/out" || complain "play.sh, $name: shows the checker's remarks"
+}
+
+builds 'a missing file comes before the proof' 2 0 'there is no file' "$room/missing"
+builds 'no player' 0 1 '^proved 1 of 1: player, 3 s$' "$input"
+builds 'a player' 0 1 '^show$' "$input"
+touch -d '+1 minute' "$small/crates/player/src/main.rt"
+builds 'a newer source' 0 2 '^proved 1 of 1: player, 3 s$' "$input"
+touch "$small/broken"
+builds 'a source that is not proved' 2 3 '^what the checker said is in ' "$input"
+log=$(sed -n 's/^what the checker said is in //p' "$room/said")
+grep -q 'a remark of the checker' "$log" || complain "play.sh: the log does not have the checker's remarks"
+rm -f "$log" "$small/bin/rt" "$small/target/bin/player"
+if ! PATH=/usr/bin:/bin command -v rt >/dev/null; then
+    status=0
+    (cd "$small" && PLAYER='' PATH=$small/bin:/usr/bin:/bin bash bench/play.sh "$input") >"$room/out" 2>"$room/said" || status=$?
+    tried=$((tried + 1))
+    [ "$status" -eq 2 ] || complain "play.sh without rt: status $status, not 2"
+    grep -q 'install the Rattle kit (README.md' "$room/said" || complain 'play.sh without rt does not say what to install'
+fi
+
+[ "$wrong" -eq 0 ] || {
+    echo "talk: $wrong WRONG, of $tried tries"
+    exit 1
+}
+echo "talk: $tried tries, as expected"
