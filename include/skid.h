@@ -56,6 +56,9 @@
 extern "C" {
 #endif
 
+/* The version of header and library together; CHANGELOG.md says what came with which. */
+#define SKID_VERSION "0.9.0"
+
 /* ---- limits */
 
 #define SKID_MAX_HEADERS 64u

@@ -37,6 +37,8 @@
 #[allow(unsafe_code)]
 mod sys;
 
+/// The version of this crate and of the library under it; CHANGELOG.md says what came with which.
+pub const VERSION: &str = env!("CARGO_PKG_VERSION");
 /// Words of a table for each cell: bit, owner, waiters.
 pub const CELL_WORDS: usize = 3;
 /// A next serial at which none remains.
