@@ -1,7 +1,7 @@
 #!/bin/bash
 # docs/REFERENCE.md against the definitions and the header, and the definitions' quotes against the documents:
 # - every name File.name on the page, and on docs/MAP.md, is declared in crates/model/specs/File.antt; and every rule of these files, a
-#   definition that is `unfoldable pub`, stands on the page;
+#   definition that is `unfoldable pub`, stands on the page. Every such name on docs/DECISIONS.md is declared in File.antt of some crate;
 # - every call of include/skid.h has its heading on the page, every refusal its number and name in the table of refusals, and every SKID_..
 #   on the page stands in the header; a number behind it in the reply's table is the header's;
 # - every quote in a comment of crate model and of the files with the statements is of one of the three documents of the project. They are
@@ -25,6 +25,12 @@ quoting=(
 names_of() {
     grep -ohE '`[A-Z][A-Za-z]*\.[A-Za-z][A-Za-z0-9-]*`' "$@" | tr -d '`' | sort -u
 }
+# declared NAME FILE..: whether one of the files declares it
+declared() {
+    local name=$1
+    shift
+    grep -Eqs "^ *((abbrev|unfoldable) )?(pub )?((record|data) )?$name( |\$)" "$@"
+}
 names=$(names_of "$page")
 calls=$(grep -oE '^void skid_[a-z_]+' "$header" | sed 's/^void skid_//')
 # number and name of each refusal, as SKID_BAD_SHAPE = 1 says them: 1 BadShape
@@ -37,8 +43,11 @@ done
 
 wrong=$(
     while IFS=. read -r file word; do
-        grep -Eqs "^ *((abbrev|unfoldable) )?(pub )?((record|data) )?$word( |\$)" "$specs/$file.antt" || echo "$file.$word is not in $specs/$file.antt"
+        declared "$word" "$specs/$file.antt" || echo "$file.$word is not in $specs/$file.antt"
     done < <(names_of "$page" docs/MAP.md)
+    while IFS=. read -r file word; do
+        declared "$word" crates/*/specs/"$file.antt" || echo "docs/DECISIONS.md names $file.$word, which no crate has"
+    done < <(names_of docs/DECISIONS.md | grep -vx File.name)
     for file in $rules; do
         sed -n 's/^unfoldable pub \([^ ]*\) : .*/\1/p' "$specs/$file.antt" | while read -r word; do
             grep -qxF "$file.$word" <<< "$names" || echo "$file.$word is not on $page"

@@ -214,7 +214,7 @@ pub enum Refusal {
     NotHeld(usize),
     /// 13: the lease is live and in the held list.
     Protected,
-    /// 14: the position of a live lease that stands earlier in the list.
+    /// 14: the position of the later of two equal live leases in the list.
     Repeated(usize),
     /// 15: 0 for a limit of the crew; the member of a bad list; the turn that names no member.
     BadCrew(usize),
