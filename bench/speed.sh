@@ -57,6 +57,9 @@ else
     compile() {
         "${rustc[@]}" --target x86_64-unknown-linux-gnu -C "linker=$cc" --edition 2021 -C opt-level=3 -C codegen-units=1 "$@"
     }
+    # Without cargo the version has to be told.
+    CARGO_PKG_VERSION=$(sed -n 's/^version = "\(.*\)"$/\1/p' rust/skid/Cargo.toml)
+    export CARGO_PKG_VERSION
     compile --crate-type rlib --crate-name plain rust/plain/src/lib.rs -o "$out/libplain.rlib"
     compile --crate-type rlib --crate-name skid rust/skid/src/lib.rs \
         -L native=target/staticlib -l static=skid -o "$out/libskid.rlib"

@@ -56,6 +56,9 @@
 extern "C" {
 #endif
 
+/* The version of header and library together; CHANGELOG.md says what came with which. */
+#define SKID_VERSION "0.9.0"
+
 /* ---- limits */
 
 #define SKID_MAX_HEADERS 64u
@@ -145,7 +148,7 @@ enum skid_refusal {
     SKID_SERIALIZATION_FAILURE = 11, /* 4096 */
     SKID_NOT_HELD = 12,              /* the position of a lease that is not live; 0 for one lease */
     SKID_PROTECTED = 13,             /* 0: the lease is live and in the held list */
-    SKID_REPEATED = 14,              /* the position of a live lease that stands earlier in the list */
+    SKID_REPEATED = 14,              /* the position of the later of two equal live leases in the list */
     SKID_BAD_CREW = 15               /* 0 for a limit; the member of a bad list; the turn that names no member */
 };
 

@@ -60,7 +60,9 @@ fi
 "$cc" -std=c99 -Wall -Wextra -Werror -pedantic -O2 -Iinclude tests/c/bench.c "$archive" -o "$out/bench_c"
 passes "$out/bench_c" "bench cases in C: 16 passed"
 
-# ---- Rust
+# ---- Rust; without cargo the version has to be told
+CARGO_PKG_VERSION=$(sed -n 's/^version = "\(.*\)"$/\1/p' rust/skid/Cargo.toml)
+export CARGO_PKG_VERSION
 "${rustc[@]}" --edition 2021 -O --crate-type rlib --crate-name skid rust/skid/src/lib.rs \
     -L native=target/staticlib -l static=skid -o "$out/libskid.rlib"
 "${rustc[@]}" --edition 2021 -O rust/skid/examples/bench.rs \

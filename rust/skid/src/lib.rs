@@ -37,6 +37,8 @@
 #[allow(unsafe_code)]
 mod sys;
 
+/// The version of this crate and of the library under it; CHANGELOG.md says what came with which.
+pub const VERSION: &str = env!("CARGO_PKG_VERSION");
 /// Words of a table for each cell: bit, owner, waiters.
 pub const CELL_WORDS: usize = 3;
 /// A next serial at which none remains.
@@ -212,7 +214,7 @@ pub enum Refusal {
     NotHeld(usize),
     /// 13: the lease is live and in the held list.
     Protected,
-    /// 14: the position of a live lease that stands earlier in the list.
+    /// 14: the position of the later of two equal live leases in the list.
     Repeated(usize),
     /// 15: 0 for a limit of the crew; the member of a bad list; the turn that names no member.
     BadCrew(usize),
