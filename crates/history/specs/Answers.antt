@@ -56,7 +56,7 @@ Asks-one (release-all script place leases) = ⊥
 Asks-one (acquire-locks registry script place held keys grants) = ⊥
 Asks-one (crew counts cells turns) = ⊥
 
--- "every attempt to take c in that stretch": such a call of a cell that a live lease holds, in whose log that lease is not released, is Busy
+-- every attempt to take c in that stretch: such a call of a cell that a live lease holds, in whose log that lease is not released, is Busy
 -- or refused
 abbrev pub Busy-or-refused : Build → Type 0
 Busy-or-refused f =
