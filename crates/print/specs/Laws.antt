@@ -155,7 +155,11 @@ pub form-end : (l numbers form : List ℕ) (i k n : ℕ) → length form ≤ n �
 unfolding formFrom
 form-end l numbers form i k n h = rw (drop-of-length-le form h) (put-none l i)
 
-pub form-few : (numbers : List ℕ) (k : ℕ) (form : List ℕ) → length (formFrom numbers k form) ≤ 20 * length form
+form-few : (numbers : List ℕ) (k : ℕ) (form : List ℕ) → length (formFrom numbers k form) ≤ 20 * length form
 unfolding formFrom
 form-few numbers k [] = omega arith
 form-few numbers k (b ∷ form) = omega (arith, length-append (pieceOf numbers k b) (formFrom numbers (afterOf k b) form), piece-few numbers k b, form-few numbers (afterOf k b) form)
+
+pub form-size : (form numbers : List ℕ) → length (formOf form numbers) ≤ 20 * length form
+unfolding formOf
+form-size form numbers = form-few numbers 0 form

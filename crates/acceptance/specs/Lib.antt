@@ -1,0 +1,6 @@
+pub mod Reading
+pub mod Sums
+pub mod Scan
+pub mod Report
+pub mod Table
+pub mod Laws

@@ -1,0 +1,31 @@
+// The acceptance report of document 02, L12: trials from standard input, the report to standard output.
+ghost use mathlib.Core.Path.{_≡_};
+ghost use lib.ListN.{length};
+
+// The longest good input has 1,000 lines of 10 bytes. Behind it any byte is line 1,001, so more need not be read.
+fn input_room() -> [u8; 10240]
+    ensures { λ r. ⌜ 10240 ≡ length r ⌝ }
+{
+    [0; 10240]
+}
+
+fn main() {
+    let mut input = input_room();
+    let n = io::read_full(0, &mut input);
+    print_report(&input[..n]);
+}
+
+// The room that the report asks for.
+fn print_report(input: &[u8]) {
+    let mut out = [0u8; 4096];
+    let reported = acceptance::report(input, &mut out);
+    if let acceptance::Reported::Done(used) = reported {
+        write_front(&out, used);
+    }
+}
+
+fn write_front(out: &[u8], used: usize) {
+    if used <= out.len() {
+        io::write_all(1, &out[..used]);
+    }
+}
