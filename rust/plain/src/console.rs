@@ -1,10 +1,10 @@
 //! The bench console's language: lines that set up the player's own RAM and lists, and lines that make calls.
 
 use crate::rules::{self, Answer, Counts, CrewReply, Head, Lease, Reply, ScriptReply};
-use std::io::{self, Write};
+use std::io::{self, BufRead, ErrorKind, Write};
 
-/// The longest input, in bytes.
-pub const INPUT: usize = 2 * 1024 * 1024;
+/// The longest line that can be understood, in bytes, without its line feed.
+pub const LINE: usize = 1_310_720;
 /// The rooms of the player's own RAM.
 pub const TABLE: usize = 12_600;
 pub const HEALTH: usize = 70;
@@ -21,18 +21,114 @@ pub const TURNS: usize = 70_000;
 /// What a word of a fresh grant buffer holds.
 const GRANT: u32 = 9;
 
-/// Plays the lines of the input and writes what they print.
-pub fn play(input: &[u8], out: &mut impl Write) -> io::Result<()> {
-    if input.len() > INPUT {
-        return writeln!(out, "input too long");
+/// How a play ended.
+#[derive(Clone, Copy, Debug, PartialEq, Eq)]
+pub struct End {
+    pub lost: Option<Lost>,
+    /// How many lines were not understood.
+    pub not_understood: u64,
+}
+
+/// What a play could not go on without.
+#[derive(Clone, Copy, Debug, PartialEq, Eq)]
+pub enum Lost {
+    /// A read failed.
+    Input,
+    /// A write failed.
+    Output,
+}
+
+/// Plays each line as soon as its line feed has come, and writes what it prints. The last line may lack its line
+/// feed, unless the input was lost: then the unfinished line is not played.
+pub fn play(input: &mut impl BufRead, out: &mut impl Write) -> End {
+    let mut player = Player::new();
+    End {
+        lost: player.lines(input, out).err(),
+        not_understood: player.not_understood,
     }
-    let mut console = Console::new();
-    for (index, line) in input.split(|&byte| byte == b'\n').enumerate() {
-        if console.line(line, out)? == Line::NotUnderstood {
-            writeln!(out, "line {}: not understood", index + 1)?;
+}
+
+/// The console, and what there is of the line that has not ended.
+struct Player {
+    console: Console,
+    /// Without its line feed. Of a line over the limit the first bytes only, one more than the limit.
+    line: Vec<u8>,
+    /// How many lines have been played.
+    number: u64,
+    not_understood: u64,
+}
+
+impl Player {
+    fn new() -> Self {
+        Player {
+            console: Console::new(),
+            line: Vec::new(),
+            number: 0,
+            not_understood: 0,
         }
     }
-    Ok(())
+
+    /// Reads and plays to the end of the input.
+    fn lines(&mut self, input: &mut impl BufRead, out: &mut impl Write) -> Result<(), Lost> {
+        loop {
+            // everything played is written before more input is waited for
+            out.flush().map_err(|_| Lost::Output)?;
+            let bytes = match input.fill_buf() {
+                Ok(bytes) => bytes,
+                Err(error) if error.kind() == ErrorKind::Interrupted => continue,
+                Err(_) => return Err(Lost::Input),
+            };
+            if bytes.is_empty() {
+                break;
+            }
+            for piece in bytes.split_inclusive(|&byte| byte == b'\n') {
+                match piece.strip_suffix(b"\n") {
+                    Some(rest) => {
+                        self.keep(rest);
+                        self.end_of_line(out).map_err(|_| Lost::Output)?;
+                    }
+                    None => self.keep(piece),
+                }
+            }
+            let length = bytes.len();
+            input.consume(length);
+        }
+        if !self.line.is_empty() {
+            self.end_of_line(out).map_err(|_| Lost::Output)?;
+        }
+        out.flush().map_err(|_| Lost::Output)
+    }
+
+    /// More of the line.
+    fn keep(&mut self, bytes: &[u8]) {
+        let room = LINE + 1 - self.line.len();
+        self.line.extend_from_slice(&bytes[..bytes.len().min(room)]);
+    }
+
+    /// Plays the line that has come to its end.
+    fn end_of_line(&mut self, out: &mut impl Write) -> io::Result<()> {
+        self.number += 1;
+        let line = std::mem::take(&mut self.line);
+        // what counts is the echo before the line; a line over the limit is not echoed
+        if self.console.echo && line.len() <= LINE && !is_skipped(&line) {
+            out.write_all(b"> ")?;
+            out.write_all(&line)?;
+            out.write_all(b"\n")?;
+        }
+        if self.console.line(&line, out)? == Line::NotUnderstood {
+            self.not_understood += 1;
+            writeln!(out, "line {}: not understood", self.number)?;
+        }
+        // the room is kept for the next line
+        self.line = line;
+        self.line.clear();
+        Ok(())
+    }
+}
+
+/// An empty line, or one that begins with `#`, is skipped.
+fn is_skipped(line: &[u8]) -> bool {
+    line.is_empty() || line[0] == b'#'
 }
 
 /// What a line was.
@@ -66,6 +162,8 @@ pub struct Console {
     pub turns: Vec<u32>,
     /// Table words and health bytes to lend; none: as many as the head says.
     pub lent: Option<(usize, usize)>,
+    /// Whether lines are printed before they are played. The player does it, not the console.
+    pub echo: bool,
 }
 
 impl Default for Console {
@@ -91,6 +189,7 @@ impl Console {
             cells: Vec::new(),
             turns: Vec::new(),
             lent: None,
+            echo: false,
         };
         console.ram(1);
         console
@@ -98,7 +197,11 @@ impl Console {
 
     /// Plays one line, given without its line feed.
     pub fn line(&mut self, line: &[u8], out: &mut impl Write) -> io::Result<Line> {
-        if line.is_empty() || line[0] == b'#' {
+        // whatever it holds, a remark too
+        if line.len() > LINE {
+            return Ok(Line::NotUnderstood);
+        }
+        if is_skipped(line) {
             return Ok(Line::Skipped);
         }
         let mut words = line.split(|&byte| byte == b' ');
@@ -109,8 +212,7 @@ impl Console {
         if self.command(command, &numbers) {
             return Ok(Line::Command);
         }
-        if command == b"show" && numbers.is_empty() {
-            self.show(out)?;
+        if self.look(command, &numbers, out)? {
             return Ok(Line::Command);
         }
         if self.call(command, &numbers, out)? {
@@ -161,9 +263,21 @@ impl Console {
                 self.members.clear();
                 self.cells.clear();
             }
+            (b"echo", &[echo]) if echo <= 1 => self.echo = echo == 1,
             _ => return false,
         }
         true
+    }
+
+    /// A command that prints and changes nothing. False: it is none, and nothing was printed.
+    fn look(&self, command: &[u8], numbers: &[u32], out: &mut impl Write) -> io::Result<bool> {
+        match (command, numbers) {
+            (b"show", &[]) => self.show(out)?,
+            (b"map", &[]) => self.map(out)?,
+            (b"help", &[]) => out.write_all(HELP.as_bytes())?,
+            _ => return Ok(false),
+        }
+        Ok(true)
     }
 
     /// Fills table and health with rubbish.
@@ -203,6 +317,26 @@ impl Console {
             if *byte != 0 {
                 writeln!(out, "health {index} {byte}")?;
             }
+        }
+        Ok(())
+    }
+
+    /// `no arena` if the head in force breaks the arena's rules or the lent table or health has another length
+    /// than it asks for; else a line for each header, with a character for each of its cells.
+    fn map(&self, out: &mut impl Write) -> io::Result<()> {
+        let head = self.head;
+        let (words, bytes) = self.lent(head);
+        if !rules::is_arena(head, &self.table[..words], &self.health[..bytes]) {
+            return writeln!(out, "no arena");
+        }
+        let rows = self.table[..words].chunks_exact(3 * head.buckets as usize);
+        for (header, (row, &byte)) in rows.zip(&self.health[..bytes]).enumerate() {
+            let state = if byte == 0 { "healthy" } else { "poisoned" };
+            let cells: String = row
+                .chunks_exact(3)
+                .map(|cell| cell_character(cell, head.next))
+                .collect();
+            writeln!(out, "header {header} {state} {cells}")?;
         }
         Ok(())
     }
@@ -398,13 +532,28 @@ impl Console {
     }
 }
 
+/// `.` free, `#` held, `!` damaged; a free cell with waiters is `w`, a held one with waiters `W`, a damaged one
+/// stays `!`. A cell is free: bit 0, owner 0. Held: bit 1, owner from 1 to next - 1. Else it is damaged.
+fn cell_character(cell: &[u32], next: u32) -> char {
+    let (bit, owner, waiters) = (cell[0], cell[1], cell[2]);
+    let free = bit == 0 && owner == 0;
+    let held = bit == 1 && owner >= 1 && owner < next;
+    match (free, held, waiters != 0) {
+        (true, _, false) => '.',
+        (true, _, true) => 'w',
+        (_, true, false) => '#',
+        (_, true, true) => 'W',
+        (false, false, _) => '!',
+    }
+}
+
 fn replace(list: &mut Vec<u32>, numbers: &[u32]) {
     list.clear();
     list.extend_from_slice(numbers);
 }
 
 /// Decimal, from 0 to 4,294,967,295, without sign or leading zeros.
-fn number(word: &[u8]) -> Option<u32> {
+pub fn number(word: &[u8]) -> Option<u32> {
     if word.is_empty() || (word[0] == b'0' && word.len() > 1) {
         return None;
     }
@@ -415,3 +564,45 @@ fn number(word: &[u8]) -> Option<u32> {
         value.checked_mul(10)?.checked_add(u32::from(byte - b'0'))
     })
 }
+
+/// The commands and calls, one a line, with what they take, for people.
+const HELP: &str = "\
+ram SEED: fills table and health with rubbish
+lend T G: calls get the first T table words and the first G health bytes
+lend: calls get what the head asks for
+head H B NEXT: this head is in force
+word I V: stores a table word
+byte I V: stores a health byte
+registry N..: the header number of each binding
+held CELL SERIAL ..: the held leases
+keys BINDING BUCKET ..: what acquire_index_locks asks for
+leases CELL SERIAL ..: what release_all releases
+turns MEMBER ..: the crew's turns
+script KIND PLACE NUMBER ..: the foreign steps; the place becomes 0
+place P: the next foreign step
+grants N: a grant buffer of N words
+member CELL ..: one more member of the crew
+crewless: no members
+show: the head, the cells that are not all 0, the health that is not 0
+map: a character for each cell
+echo 1, echo 0: print each line before it is played, or do not
+help: this list
+prepare H B FIRST
+try_acquire CELL
+drop_lease CELL SERIAL
+read_permission CELL SERIAL
+competing_acquire_is_excluded CELL SERIAL
+release_then_handoff CELL SERIAL
+foreign_release_between_attempts CELL SERIAL
+acquire_preserving_borrows CELL
+drop_preserving_borrows CELL SERIAL
+environment
+environment_for_borrows
+try_lock CELL
+other_mutex_preserves_leases CELL
+transactional_try_lock_bucket BINDING BUCKET
+acquire_index_bucket BINDING BUCKET
+release_all
+acquire_index_locks
+crew
+";

@@ -1,11 +1,28 @@
-//! The bench console: plays what stands on standard input and prints what the calls answered.
+//! The bench console: plays what comes on standard input, line by line, and prints what the calls answered. What is
+//! not of the language goes to standard error.
 
-use std::io::{self, BufWriter, Read, Write};
+use plain::console::{self, Lost};
+use std::io::{self, BufWriter, Write};
 
-fn main() -> io::Result<()> {
-    let mut input = Vec::new();
-    io::stdin().lock().read_to_end(&mut input)?;
+fn main() {
+    let mut input = io::stdin().lock();
     let mut out = BufWriter::new(io::stdout().lock());
-    plain::console::play(&input, &mut out)?;
-    out.flush()
+    let end = console::play(&mut input, &mut out);
+    match end.lost {
+        Some(Lost::Output) => {
+            // the player stops here
+            say("output lost");
+            return;
+        }
+        Some(Lost::Input) => say("input lost"),
+        None => {}
+    }
+    if end.not_understood > 0 {
+        say(&format!("{} lines not understood", end.not_understood));
+    }
+}
+
+/// A message that is not of the language. If standard error is lost too, nobody is left to tell.
+fn say(message: &str) {
+    let _ = writeln!(io::stderr(), "player: {message}");
 }

@@ -208,6 +208,11 @@ fn shape(head: Head, table: &[u32]) -> Result<u32, Refusal> {
     Ok(cells)
 }
 
+/// The head keeps the arena's rules, and table and health have the lengths it asks for.
+pub fn is_arena(head: Head, table: &[u32], health: &[u8]) -> bool {
+    shape(head, table).is_ok() && health.len() == head.headers as usize
+}
+
 /// Where a cell's three words stand: bit, owner, waiters.
 fn bit(cell: u32) -> usize {
     3 * cell as usize
@@ -616,7 +621,7 @@ pub fn prepare(
         buckets,
         next: first,
     };
-    if shape(head, table).is_err() || health.len() != headers as usize {
+    if !is_arena(head, table, health) {
         return Reply::refused(Head::default(), Refusal::BadShape);
     }
     table.fill(0);

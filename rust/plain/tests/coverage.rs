@@ -1,6 +1,8 @@
-//! The random histories reach every call, and with every call each answer that it can give.
+//! The random histories reach every call, and with every call each answer that it can give; and echo and map in all
+//! their cases.
 
-use plain::console::{self, Console, Line};
+use plain::console::{Console, Line};
+use plain::rules;
 use std::collections::{BTreeMap, BTreeSet};
 use std::process::Command;
 
@@ -48,7 +50,6 @@ fn every_answer_of_every_call() {
     let mut not_understood = 0;
     for seed in [1, 2] {
         let text = history(seed);
-        assert!(text.len() <= console::INPUT, "{} bytes", text.len());
         let mut console = Console::new();
         let mut own_calls = 0;
         for line in text.split(|&byte| byte == b'\n') {
@@ -97,4 +98,94 @@ fn the_seed_decides() {
         text[end..].to_vec()
     };
     assert!(behind_the_first_line(&one) != behind_the_first_line(&other));
+}
+
+/// Why there is no arena, or what characters and states the map has.
+fn map_cases(console: &Console, map: &str, cases: &mut BTreeSet<String>) {
+    if map == "no arena\n" {
+        let rules::Head {
+            headers, buckets, ..
+        } = console.head;
+        let (words, bytes) = console.lent(console.head);
+        let right_words = words as u64 == 3 * u64::from(headers) * u64::from(buckets);
+        let right_bytes = bytes as u64 == u64::from(headers);
+        let good_head = (1..=64).contains(&headers)
+            && (1..=1024).contains(&buckets)
+            && headers * buckets <= 4096
+            && console.head.next > 0;
+        cases.insert(match (good_head, right_words, right_bytes) {
+            (false, true, true) => "no arena: the head alone".to_string(),
+            (false, _, _) => "no arena: the head and more".to_string(),
+            (true, false, true) => "no arena: the table".to_string(),
+            (true, true, false) => "no arena: the health".to_string(),
+            (true, false, false) => "no arena: table and health".to_string(),
+            (true, true, true) => "no arena without a reason".to_string(),
+        });
+    }
+    for line in map.lines().filter(|line| line.starts_with("header ")) {
+        let words: Vec<&str> = line.split(' ').collect();
+        cases.insert(words[2].to_string());
+        cases.extend(words[3].chars().map(String::from));
+    }
+}
+
+#[test]
+fn every_case_of_map_and_echo() {
+    let mut maps = BTreeSet::new();
+    let mut echoes = BTreeSet::new();
+    for seed in [1, 2] {
+        let mut console = Console::new();
+        for line in history(seed).split(|&byte| byte == b'\n') {
+            let (before, mut out) = (console.echo, Vec::new());
+            let kind = console
+                .line(line, &mut out)
+                .expect("a vector takes every byte");
+            let word = line.split(|&byte| byte == b' ').next().unwrap_or_default();
+            let what = match word {
+                b"map" if kind == Line::Command => {
+                    map_cases(&console, &String::from_utf8_lossy(&out), &mut maps);
+                    "map".to_string()
+                }
+                b"echo" if kind == Line::Command => format!("echo {}", u32::from(console.echo)),
+                b"echo" => "echo not understood".to_string(),
+                b"help" => {
+                    // its text is free
+                    assert_ne!(kind, Line::Command);
+                    continue;
+                }
+                _ => format!("{kind:?}"),
+            };
+            echoes.insert(format!("{what} while {}", u32::from(before)));
+        }
+    }
+    let expected = [
+        ".",
+        "#",
+        "!",
+        "w",
+        "W",
+        "healthy",
+        "poisoned",
+        "no arena: the head alone",
+        "no arena: the head and more",
+        "no arena: the table",
+        "no arena: the health",
+        "no arena: table and health",
+    ];
+    assert_eq!(maps, expected.map(String::from).into());
+    let kinds = [
+        "Skipped",
+        "Command",
+        "Call",
+        "NotUnderstood",
+        "map",
+        "echo 0",
+        "echo 1",
+        "echo not understood",
+    ];
+    let expected: BTreeSet<String> = kinds
+        .iter()
+        .flat_map(|kind| [format!("{kind} while 0"), format!("{kind} while 1")])
+        .collect();
+    assert_eq!(echoes, expected);
 }

@@ -5,6 +5,7 @@
 //! is in use, and keep the calls with 4,096 attempts few.
 
 use plain::console::{self, Console, Line};
+use plain::dice::Dice;
 use plain::rules;
 use std::io::{self, Write};
 
@@ -47,7 +48,7 @@ const CALLS: [(&str, usize); 18] = [
 ];
 
 /// Lines that are not understood.
-const BAD_LINES: [&str; 64] = [
+const BAD_LINES: [&str; 76] = [
     " ",
     "\t",
     "\r",
@@ -112,44 +113,19 @@ const BAD_LINES: [&str; 64] = [
     "environment 0",
     "release_all 0",
     "crew 0",
+    "echo",
+    "echo 2",
+    "echo 4294967295",
+    "echo 01",
+    "echo 1 0",
+    "echo 1 ",
+    "echo\t1",
+    "echo on",
+    "map 0",
+    "map ",
+    "maps",
+    "help 1",
 ];
-
-/// splitmix64.
-struct Dice(u64);
-
-impl Dice {
-    fn roll(&mut self) -> u64 {
-        self.0 = self.0.wrapping_add(0x9e37_79b9_7f4a_7c15);
-        let mut z = self.0;
-        z = (z ^ (z >> 30)).wrapping_mul(0xbf58_476d_1ce4_e5b9);
-        z = (z ^ (z >> 27)).wrapping_mul(0x94d0_49bb_1331_11eb);
-        z ^ (z >> 31)
-    }
-
-    /// From 0 to `bound` - 1; 0 where the bound is 0.
-    fn below(&mut self, bound: usize) -> usize {
-        (self.roll() % bound.max(1) as u64) as usize
-    }
-
-    fn number(&mut self, bound: u32) -> u32 {
-        self.below(bound as usize) as u32
-    }
-
-    /// True once in `turns`.
-    fn once_in(&mut self, turns: usize) -> bool {
-        self.below(turns) == 0
-    }
-
-    fn pick<T: Copy>(&mut self, list: &[T]) -> T {
-        list[self.below(list.len())]
-    }
-
-    /// A number at an edge, or any.
-    fn odd_number(&mut self) -> u32 {
-        let any = self.roll() as u32;
-        self.pick(&[0, 1, 2, 63, 64, 65, 1024, 4096, u32::MAX - 1, u32::MAX, any])
-    }
-}
 
 struct Writer {
     dice: Dice,
@@ -182,6 +158,7 @@ impl Writer {
                 self.write(name, &list);
             }
         }
+        self.write("map", &[]);
         // long lines are dear: one for each 3,000 calls
         let mut long = 3_000;
         while self.calls < calls {
@@ -202,6 +179,10 @@ impl Writer {
     // ---- Lines
 
     fn line(&mut self, line: &[u8]) {
+        // its text is free, so it is not to be compared
+        if line == b"help" {
+            return;
+        }
         let mut answer = Vec::new();
         let kind = self
             .console
@@ -242,6 +223,20 @@ impl Writer {
         if words <= 600 || self.dice.once_in(8) {
             self.write("show", &[]);
         }
+    }
+
+    /// `map`, of big arenas now and then.
+    fn map(&mut self) {
+        let (words, _) = self.console.lent(self.console.head);
+        if words <= 600 || self.dice.once_in(8) {
+            self.write("map", &[]);
+        }
+    }
+
+    /// Echo on or off, or said again as it is. It is off for most of a history.
+    fn echo(&mut self) {
+        let echo = self.dice.once_in(3);
+        self.write("echo", &[u32::from(echo)]);
     }
 
     // ---- What the arena has
@@ -415,6 +410,7 @@ impl Writer {
             self.call();
         }
         self.show();
+        self.map();
     }
 
     fn bad_prepare(&mut self, headers: u32, buckets: u32, first: u32) {
@@ -562,6 +558,9 @@ impl Writer {
         if self.dice.once_in(3) {
             self.show();
         }
+        if self.dice.once_in(3) {
+            self.map();
+        }
         // the serials spent meanwhile are spent, where the head was a good one
         let now = self.console.head.next;
         let kept = numbers[..2] == [headers, buckets] && now != 0 && self.dice.once_in(2);
@@ -576,6 +575,9 @@ impl Writer {
         }
         if self.dice.once_in(4) {
             self.show();
+        }
+        if self.dice.once_in(2) {
+            self.map();
         }
         self.write("lend", &[]);
     }
@@ -638,6 +640,9 @@ impl Writer {
                     self.write(name, &lease);
                 }
             }
+        }
+        if self.dice.once_in(3) {
+            self.map();
         }
         if self.console.lent.is_some() {
             self.write("lend", &[]);
@@ -966,12 +971,16 @@ impl Writer {
             15..=17 => self.bad_line(),
             18 => self.comment(),
             19..=20 => self.faults(),
+            21 => self.echo(),
             _ => {}
         }
         self.call();
         let small = self.cells() <= 30;
         if self.dice.once_in(if small { 4 } else { 60 }) {
             self.show();
+        }
+        if self.dice.once_in(if small { 6 } else { 60 }) {
+            self.map();
         }
     }
 
