@@ -4,3 +4,4 @@ pub mod Scan
 pub mod Report
 pub mod Table
 pub mod Laws
+pub mod Examples
