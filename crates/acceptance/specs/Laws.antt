@@ -25,7 +25,7 @@ use Rattle.acceptance.specs.declared.Reported.the-variants.{Done}
 use Rattle.acceptance.specs.Reading.{Reading, badLine, results, onto, noLine, fitsOf, endAt, refusalAt, lineAt, readFrom, readOf}
 use Rattle.acceptance.specs.Sums.{countOf, attemptsOf, largerOf, greatestOf}
 use Rattle.acceptance.specs.Scan.{noSums, withOf, countedOf, addedOf, badOf, scanFrom, scanOf, Bounded, Small}
-use Rattle.acceptance.specs.Table.{name-short}
+use Rattle.names.specs.Table.{name-short}
 use Rattle.acceptance.specs.Report.{headForm, numberForm, countForm, rowOf, rowsOf, headOf, textOf, badText, toldOf, answerOf, reportOf, seenIn, printedOf}
 
 -- ---- a line that is read

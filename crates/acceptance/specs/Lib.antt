@@ -2,6 +2,6 @@ pub mod Reading
 pub mod Sums
 pub mod Scan
 pub mod Report
-pub mod Table
 pub mod Laws
+pub mod Theorems
 pub mod Examples

@@ -9,7 +9,6 @@ ghost use Rattle.print.specs.Print.{putOf};
 ghost use Rattle.acceptance.specs.Reading.{noLine, fitsOf, endAt, refusalAt, lineAt};
 ghost use Rattle.acceptance.specs.Sums.{largerOf};
 ghost use Rattle.acceptance.specs.Scan.{noSums, addedOf, badOf, scanOf, Bounded, Small};
-ghost use Rattle.acceptance.specs.Table.{paddedOf};
 ghost use Rattle.acceptance.specs.Report.{seenIn, rowOf, rowsOf, headOf, badText, printedOf, reportOf};
 
 // One result: the attempts it took, and the number of its refusal, 0 for granted.
@@ -38,26 +37,6 @@ pub enum Reported {
     NoRoom,
     Done(usize),
 }
-
-// The names of the refusals, a row for each number from 1, padded with spaces.
-const NAMES: [[u8; 20]; 16] = [
-    *b"BadShape            ",
-    *b"BadScript           ",
-    *b"BadHeld             ",
-    *b"TooMany             ",
-    *b"BadBinding          ",
-    *b"BadHeader           ",
-    *b"Poisoned            ",
-    *b"InvalidBucket       ",
-    *b"Damaged             ",
-    *b"SerialsSpent        ",
-    *b"SerializationFailure",
-    *b"NotHeld             ",
-    *b"Protected           ",
-    *b"Repeated            ",
-    *b"BadCrew             ",
-    *b"StaleBoot           ",
-];
 
 // ---- reading
 
@@ -205,28 +184,19 @@ fn scan(input: &[u8], counts: &mut [usize; 17]) -> Sums
 
 // ---- printing
 
-// The row of a number: its name, padded.
-fn row(number: usize) -> [u8; 20]
-    requires { ⌜ (1 ≤ number) × (number ≤ 16) ⌝ }
-    ensures { λ r. ⌜ r ≡ paddedOf (nameOf number) ⌝ }
-    ensures { λ r. ⌜ 20 ≡ length r ⌝ }
-{
-    NAMES[number - 1]
-}
-
 // Puts the name of a refusal, without its padding.
 fn put_name(out: &mut [u8], at: usize, number: usize) -> usize
-    requires { ⌜ (1 ≤ number) × (number ≤ 16) × (at + 20 ≤ length (now out)) ⌝ }
+    requires { ⌜ at + 20 ≤ length (now out) ⌝ }
     ensures { λ r. ⌜ (r, now (out .exit)) ≡ putOf (now (out .entry)) at (nameOf number) ⌝ }
 {
-    let padded = row(number);
+    let padded = names::padded(number);
     let end = text::end_of(&padded, 0, 32);
     print::put(out, at, &padded[..end])
 }
 
 // Puts the line of a refusal, if it was seen.
 fn put_row(out: &mut [u8], at: usize, number: usize, count: usize) -> usize
-    requires { ⌜ (1 ≤ number) × (number ≤ 16) × (at + 120 ≤ length (now out)) ⌝ }
+    requires { ⌜ at + 120 ≤ length (now out) ⌝ }
     ensures { λ r. ⌜ (r, now (out .exit)) ≡ putOf (now (out .entry)) at (rowOf number count) ⌝ }
 {
     if count == 0 {

@@ -1,4 +1,4 @@
-use Rattle.acceptance.specs.Table.{paddedOf, trimmed}
+use Rattle.names.specs.Table.{paddedOf, trimmed}
 use Rattle.text.specs.Text.{before}
 use Rattle.model.specs.Names.{nameOf}
 use lib.ListN.{take}
@@ -9,13 +9,13 @@ use Rattle.acceptance.proofs.put_name.Statement.{statement}
 use Rattle.acceptance.proofs.put_name.Tie as tie
 use Rattle.acceptance.proofs.put_name.Reads as reads
 use Rattle.acceptance.proofs.put_name.Lts as lts
-use Rattle.acceptance.proofs.row.Reads as row-reads
+use Rattle.names.proofs.padded.Reads as padded-reads
 use Rattle.print.proofs.put.Reads as put-reads
 use Rattle.text.proofs.end_of.Reads as end-of-reads
 
 -- src/lib.rt:222:18
-row-requires : tie.Need-row-requires
-row-requires c κs = search needs
+padded-requires : tie.Need-padded-requires
+padded-requires c κs = search needs
 
 -- src/lib.rt:223:28
 slice-aggregate-end-of : tie.Need-slice-aggregate-end-of
@@ -45,16 +45,16 @@ same-length c = search needs
 returns : tie.Need-returns
 returns c =
     let n = c .before .before .before .before .before .before .before .before .before .args .number in
-    let p : c .before .before .before .before .before .before .before .row .result ≡ paddedOf (nameOf n) = c .before .before .before .before .before .before .before .row .ensures .0 in
-    let e : c .before .before .before .before .before .end-of .result ≡ before 32 (c .before .before .before .before .before .before .before .row .result) = c .before .before .before .before .before .end-of .ensures .0 ∙ omega arith in
-    let t : take (c .before .before .before .before .before .end-of .result) (c .before .before .before .before .before .before .before .row .result) ≡ nameOf n = rw (e, p) (trimmed n) in
+    let p : c .before .before .before .before .before .before .before .padded .result ≡ paddedOf (nameOf n) = c .before .before .before .before .before .before .before .padded .ensures .0 in
+    let e : c .before .before .before .before .before .end-of .result ≡ before 32 (c .before .before .before .before .before .before .before .padded .result) = c .before .before .before .before .before .end-of .ensures .0 ∙ omega arith in
+    let t : take (c .before .before .before .before .before .end-of .result) (c .before .before .before .before .before .before .before .padded .result) ≡ nameOf n = rw (e, p) (trimmed n) in
     rw t at (c .before .before .put .ensures)
 
 pub put-name-spec : {M : Type 1} → statement M
 put-name-spec =
     tie.close
     (tie.spec
-    row-requires
+    padded-requires
     slice-aggregate-end-of
     end-of-requires
     array-share-prefix-padded

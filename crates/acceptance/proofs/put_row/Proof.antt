@@ -1,5 +1,5 @@
 use Rattle.acceptance.specs.Report.{numberForm, countForm, rowOf}
-use Rattle.acceptance.specs.Table.{name-short}
+use Rattle.names.specs.Table.{name-short}
 use Rattle.print.specs.Laws.{put-none, put-join, put-place, form-size}
 use Rattle.print.specs.Print.{formOf}
 use Rattle.model.specs.Names.{nameOf}
@@ -35,7 +35,7 @@ put-form-requires c κs = search needs
 put-name-requires : tie.Need-put-name-requires
 put-name-requires c κs =
     let a = c .before .before .before .before .before .before .before .before .before .args in
-    (search needs, search needs, omega (arith, put-place _ _ _ _ _ (c .before .before .before .put-form .ensures), c .before .before .before .put-form .kept, form-size numberForm (a .number ∷ []), c .before .before .before .before .before .before .before .before .before .pre .2))
+    omega (arith, put-place _ _ _ _ _ (c .before .before .before .put-form .ensures), c .before .before .before .put-form .kept, form-size numberForm (a .number ∷ []), c .before .before .before .before .before .before .before .before .before .pre)
 
 -- src/lib.rt:229:29
 slice-aggregate-put-form-3 : tie.Need-slice-aggregate-put-form-3
@@ -49,7 +49,7 @@ slice-aggregate-put-form-4 c = search needs
 put-form-requires-2 : tie.Need-put-form-requires-2
 put-form-requires-2 c κs =
     let a = c .before .before .before .before .before .before .before .before .before .before .before .before .before .before .before .args in
-    omega (arith, put-place _ _ _ _ _ (c .before .before .before .before .before .before .before .before .before .put-form .ensures), c .before .before .before .before .before .before .before .before .before .put-form .kept, form-size numberForm (a .number ∷ []), put-place _ _ _ _ _ (c .before .before .before .before .before .put-name .ensures), c .before .before .before .before .before .put-name .kept, name-short (a .number), c .before .before .before .before .before .before .before .before .before .before .before .before .before .before .before .pre .2)
+    omega (arith, put-place _ _ _ _ _ (c .before .before .before .before .before .before .before .before .before .put-form .ensures), c .before .before .before .before .before .before .before .before .before .put-form .kept, form-size numberForm (a .number ∷ []), put-place _ _ _ _ _ (c .before .before .before .before .before .put-name .ensures), c .before .before .before .before .before .put-name .kept, name-short (a .number), c .before .before .before .before .before .before .before .before .before .before .before .before .before .before .before .pre)
 
 -- src/lib.rt:218:1
 same-length : tie.Need-same-length

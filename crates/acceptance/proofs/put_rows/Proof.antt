@@ -14,14 +14,14 @@ use Rattle.acceptance.proofs.put_rows.Lts as lts
 use Rattle.acceptance.proofs.put_row.Reads as put-row-reads
 
 abbrev Inv-loop : tie.InvT-loop
-Inv-loop out₀ at counts used₀ number₀ out used number = (length out ≡ length out₀) × (1 ≤ number) × (number ≤ 17) × (used + 120 * (17 - number) ≤ at + 1920) × (putOf out used (rowsOf (seenIn counts) number (17 - number)) ≡ putOf out₀ at (rowsOf (seenIn counts) 1 16))
+Inv-loop out₀ at counts used₀ number₀ out used number = (length out ≡ length out₀) × (number ≤ 17) × (used + 120 * (17 - number) ≤ at + 1920) × (putOf out used (rowsOf (seenIn counts) number (17 - number)) ≡ putOf out₀ at (rowsOf (seenIn counts) 1 16))
 
 abbrev μ-loop : tie.MeasureT-loop
 μ-loop out₀ at counts used₀ number₀ out used number = 17 - number
 
 -- src/lib.rt:239:5
 loop-holds : tie.Need-loop-holds Inv-loop μ-loop
-loop-holds c = (search needs, search needs, search needs, omega arith, refl)
+loop-holds c = (search needs, search needs, omega arith, refl)
 
 -- src/lib.rt:240:21
 mul-count : tie.Need-mul-count Inv-loop μ-loop
@@ -35,7 +35,7 @@ element-copy-out-count c = search needs
 put-row-requires : tie.Need-put-row-requires Inv-loop μ-loop
 put-row-requires c κs =
     let l = c .before .before .before .loop in
-    (search needs, search needs, omega (arith, c .before .before .loop-test .taken, l .inv .0, l .inv .3, c .before .before .before .before .before .pre))
+    omega (arith, c .before .before .loop-test .taken, l .inv .0, l .inv .2, c .before .before .before .before .before .pre)
 
 -- src/lib.rt:242:9
 add-number : tie.Need-add-number Inv-loop μ-loop
@@ -52,9 +52,8 @@ loop-again c =
     let a = c .before .before .before .before .before .before .before .before .args in (
       omega (arith, c .before .before .put-row .kept, l .inv .0),
       search needs,
-      search needs,
-      omega (arith, put-place _ _ _ _ _ (c .before .before .put-row .ensures), row-few (l .number) (getD (a .counts .now) (l .number) 0), l .inv .3, c .before .before .before .before .before .loop-test .taken),
-      rows-turn (l .out) _ (l .used) _ (seenIn (a .counts .now)) (l .number) (search needs) (c .before .before .put-row .ensures) ∙ l .inv .4,
+      omega (arith, put-place _ _ _ _ _ (c .before .before .put-row .ensures), row-few (l .number) (getD (a .counts .now) (l .number) 0), l .inv .2, c .before .before .before .before .before .loop-test .taken),
+      rows-turn (l .out) _ (l .used) _ (seenIn (a .counts .now)) (l .number) (search needs) (c .before .before .put-row .ensures) ∙ l .inv .3,
     )
 
 -- src/lib.rt:233:1
@@ -66,7 +65,7 @@ returns : tie.Need-returns Inv-loop μ-loop
 returns c =
     let l = c .before .loop in
     let a = c .before .before .before .args in
-    rows-end (l .out) (l .used) (seenIn (a .counts .now)) (l .number) (search needs) ∙ l .inv .4
+    rows-end (l .out) (l .used) (seenIn (a .counts .now)) (l .number) (search needs) ∙ l .inv .3
 
 pub put-rows-spec : {M : Type 1} → statement M
 put-rows-spec =

@@ -6,7 +6,7 @@ use mathlib.Core.Bool.{Bool, true, false, _&&_}
 use native.Mathlib.Omega.{arith}
 use native.Mathlib.Nat.{le-of-suc-le-suc, not-suc-le-zero}
 use lib.Dec.{eqb, leb}
-use lib.ListN.{length, getD, take, drop, replicate, length-append, length-replicate, List·getD-map}
+use lib.ListN.{length, getD, take, drop, replicate, length-append, length-replicate, List·getD-map, List·getD-eq-default}
 use lib.Seq.{take-append-seam}
 use borrow.Author.Tests.{leb-true}
 use Rattle.model.specs.Choice.{if_then_else_}
@@ -84,3 +84,13 @@ row-named zero d h l = absurd (omega arith)
 row-named (suc m) d h l =
     let e : suc m - 1 ≡ m = omega arith in
     rw e (any-default tableOf m d (paddedOf []) (omega arith) ∙ List·getD-map paddedOf names m [])
+
+-- no other number has a name
+pub no-name : (n : ℕ) → 16 < n → nameOf n ≡ []
+unfolding nameOf names
+no-name n h = List·getD-eq-default ([] ∷ names) [] h
+
+pub no-name-first : (n : ℕ) → n < 1 → nameOf n ≡ []
+unfolding nameOf
+no-name-first zero h = refl
+no-name-first (suc n) h = absurd (omega arith)
