@@ -1,6 +1,7 @@
 -- Document 02's examples of L12 to the byte, and a case for each sentence, computed: the input, and the whole output.
 use mathlib.Core.Path.{_≡_, refl}
-use mathlib.Core.List.{[], _∷_}
+use mathlib.Core.List.{List, [], _∷_}
+use Prim.Native.Nat.{ℕ}
 use Rattle.model.specs.Names.{names, nameOf}
 use Rattle.text.specs.Text.{isDigit, digitsIn, valueFrom, endedOf, numberOf}
 use Rattle.print.specs.Print.{placesIn, placesOf, decimalOf, pieceOf, afterOf, formFrom, formOf}
@@ -8,14 +9,25 @@ use Rattle.acceptance.specs.Reading.{badLine, results, trialOf, fitsOf, 
 use Rattle.acceptance.specs.Sums.{countOf, attemptsOf, greatestOf}
 use Rattle.acceptance.specs.Report.{headOf, rowOf, rowsOf, textOf, badText, answerOf}
 
--- "One granted trial with one attempt prints in full"
-one-granted :
-    answerOf
-    (49 ∷ 32 ∷ 48 ∷ 10 ∷ [])
-    ≡
+-- the report of one granted trial with one attempt, as document 02 prints it
+abbrev oneGranted : List ℕ
+oneGranted =
     116 ∷ 114 ∷ 105 ∷ 97 ∷ 108 ∷ 115 ∷ 32 ∷ 49 ∷ 10 ∷ 103 ∷ 114 ∷ 97 ∷ 110 ∷ 116 ∷ 115 ∷ 32 ∷ 49 ∷ 10 ∷ 97 ∷
     116 ∷ 116 ∷ 101 ∷ 109 ∷ 112 ∷ 116 ∷ 115 ∷ 32 ∷ 49 ∷ 32 ∷ 111 ∷ 102 ∷ 32 ∷ 49 ∷ 32 ∷ 116 ∷ 114 ∷ 105 ∷ 97 ∷
     108 ∷ 115 ∷ 10 ∷ 103 ∷ 114 ∷ 101 ∷ 97 ∷ 116 ∷ 101 ∷ 115 ∷ 116 ∷ 32 ∷ 49 ∷ 10 ∷ []
+
+-- `bad line 1`
+abbrev badFirst : List ℕ
+badFirst =
+    98 ∷ 97 ∷ 100 ∷ 32 ∷ 108 ∷ 105 ∷ 110 ∷ 101 ∷ 32 ∷ 49 ∷ 10 ∷ []
+
+-- `bad line 2`
+abbrev badSecond : List ℕ
+badSecond =
+    98 ∷ 97 ∷ 100 ∷ 32 ∷ 108 ∷ 105 ∷ 110 ∷ 101 ∷ 32 ∷ 50 ∷ 10 ∷ []
+
+-- "One granted trial with one attempt prints in full"
+one-granted : answerOf (49 ∷ 32 ∷ 48 ∷ 10 ∷ []) ≡ oneGranted
 unfolding answerOf readOf readFrom lineAt refusalAt endAt fitsOf numberOf endedOf valueFrom digitsIn isDigit textOf headOf rowsOf rowOf badText countOf attemptsOf greatestOf nameOf names formOf formFrom pieceOf afterOf decimalOf placesOf placesIn
 one-granted = refl
 
@@ -69,74 +81,42 @@ unfolding answerOf readOf readFrom lineAt refusalAt endAt fitsOf numberOf endedO
 most-attempts = refl
 
 -- one more
-too-many-attempts :
-    answerOf
-    (50 ∷ 54 ∷ 50 ∷ 49 ∷ 52 ∷ 53 ∷ 32 ∷ 48 ∷ 10 ∷ [])
-    ≡
-    98 ∷ 97 ∷ 100 ∷ 32 ∷ 108 ∷ 105 ∷ 110 ∷ 101 ∷ 32 ∷ 49 ∷ 10 ∷ []
+too-many-attempts : answerOf (50 ∷ 54 ∷ 50 ∷ 49 ∷ 52 ∷ 53 ∷ 32 ∷ 48 ∷ 10 ∷ []) ≡ badFirst
 unfolding answerOf readOf readFrom lineAt refusalAt endAt fitsOf numberOf endedOf valueFrom digitsIn isDigit textOf headOf rowsOf rowOf badText countOf attemptsOf greatestOf nameOf names formOf formFrom pieceOf afterOf decimalOf placesOf placesIn
 too-many-attempts = refl
 
 -- "refusal 1 to 16 or 0 for granted"
-no-such-refusal :
-    answerOf
-    (49 ∷ 32 ∷ 48 ∷ 10 ∷ 49 ∷ 32 ∷ 49 ∷ 55 ∷ 10 ∷ [])
-    ≡
-    98 ∷ 97 ∷ 100 ∷ 32 ∷ 108 ∷ 105 ∷ 110 ∷ 101 ∷ 32 ∷ 50 ∷ 10 ∷ []
+no-such-refusal : answerOf (49 ∷ 32 ∷ 48 ∷ 10 ∷ 49 ∷ 32 ∷ 49 ∷ 55 ∷ 10 ∷ []) ≡ badSecond
 unfolding answerOf readOf readFrom lineAt refusalAt endAt fitsOf numberOf endedOf valueFrom digitsIn isDigit textOf headOf rowsOf rowOf badText countOf attemptsOf greatestOf nameOf names formOf formFrom pieceOf afterOf decimalOf placesOf placesIn
 no-such-refusal = refl
 
 -- "without leading zeros"
-padded-attempts :
-    answerOf
-    (48 ∷ 49 ∷ 32 ∷ 48 ∷ 10 ∷ [])
-    ≡
-    98 ∷ 97 ∷ 100 ∷ 32 ∷ 108 ∷ 105 ∷ 110 ∷ 101 ∷ 32 ∷ 49 ∷ 10 ∷ []
+padded-attempts : answerOf (48 ∷ 49 ∷ 32 ∷ 48 ∷ 10 ∷ []) ≡ badFirst
 unfolding answerOf readOf readFrom lineAt refusalAt endAt fitsOf numberOf endedOf valueFrom digitsIn isDigit textOf headOf rowsOf rowOf badText countOf attemptsOf greatestOf nameOf names formOf formFrom pieceOf afterOf decimalOf placesOf placesIn
 padded-attempts = refl
 
 -- the same of the refusal
-padded-refusal :
-    answerOf
-    (49 ∷ 32 ∷ 48 ∷ 49 ∷ 10 ∷ [])
-    ≡
-    98 ∷ 97 ∷ 100 ∷ 32 ∷ 108 ∷ 105 ∷ 110 ∷ 101 ∷ 32 ∷ 49 ∷ 10 ∷ []
+padded-refusal : answerOf (49 ∷ 32 ∷ 48 ∷ 49 ∷ 10 ∷ []) ≡ badFirst
 unfolding answerOf readOf readFrom lineAt refusalAt endAt fitsOf numberOf endedOf valueFrom digitsIn isDigit textOf headOf rowsOf rowOf badText countOf attemptsOf greatestOf nameOf names formOf formFrom pieceOf afterOf decimalOf placesOf placesIn
 padded-refusal = refl
 
 -- "line feed": the last line has none
-no-feed :
-    answerOf
-    (49 ∷ 32 ∷ 48 ∷ 10 ∷ 49 ∷ 32 ∷ 48 ∷ [])
-    ≡
-    98 ∷ 97 ∷ 100 ∷ 32 ∷ 108 ∷ 105 ∷ 110 ∷ 101 ∷ 32 ∷ 50 ∷ 10 ∷ []
+no-feed : answerOf (49 ∷ 32 ∷ 48 ∷ 10 ∷ 49 ∷ 32 ∷ 48 ∷ []) ≡ badSecond
 unfolding answerOf readOf readFrom lineAt refusalAt endAt fitsOf numberOf endedOf valueFrom digitsIn isDigit textOf headOf rowsOf rowOf badText countOf attemptsOf greatestOf nameOf names formOf formFrom pieceOf afterOf decimalOf placesOf placesIn
 no-feed = refl
 
 -- "a space"
-two-spaces :
-    answerOf
-    (49 ∷ 32 ∷ 32 ∷ 48 ∷ 10 ∷ [])
-    ≡
-    98 ∷ 97 ∷ 100 ∷ 32 ∷ 108 ∷ 105 ∷ 110 ∷ 101 ∷ 32 ∷ 49 ∷ 10 ∷ []
+two-spaces : answerOf (49 ∷ 32 ∷ 32 ∷ 48 ∷ 10 ∷ []) ≡ badFirst
 unfolding answerOf readOf readFrom lineAt refusalAt endAt fitsOf numberOf endedOf valueFrom digitsIn isDigit textOf headOf rowsOf rowOf badText countOf attemptsOf greatestOf nameOf names formOf formFrom pieceOf afterOf decimalOf placesOf placesIn
 two-spaces = refl
 
 -- a line with nothing in it
-empty-line :
-    answerOf
-    (10 ∷ 49 ∷ 32 ∷ 48 ∷ 10 ∷ [])
-    ≡
-    98 ∷ 97 ∷ 100 ∷ 32 ∷ 108 ∷ 105 ∷ 110 ∷ 101 ∷ 32 ∷ 49 ∷ 10 ∷ []
+empty-line : answerOf (10 ∷ 49 ∷ 32 ∷ 48 ∷ 10 ∷ []) ≡ badFirst
 unfolding answerOf readOf readFrom lineAt refusalAt endAt fitsOf numberOf endedOf valueFrom digitsIn isDigit textOf headOf rowsOf rowOf badText countOf attemptsOf greatestOf nameOf names formOf formFrom pieceOf afterOf decimalOf placesOf placesIn
 empty-line = refl
 
 -- "A bad line N .. prints only `bad line N`": the first, whatever follows
-first-bad :
-    answerOf
-    (49 ∷ 32 ∷ 48 ∷ 10 ∷ 120 ∷ 10 ∷ 49 ∷ 32 ∷ 48 ∷ 10 ∷ 121 ∷ 10 ∷ [])
-    ≡
-    98 ∷ 97 ∷ 100 ∷ 32 ∷ 108 ∷ 105 ∷ 110 ∷ 101 ∷ 32 ∷ 50 ∷ 10 ∷ []
+first-bad : answerOf (49 ∷ 32 ∷ 48 ∷ 10 ∷ 120 ∷ 10 ∷ 49 ∷ 32 ∷ 48 ∷ 10 ∷ 121 ∷ 10 ∷ []) ≡ badSecond
 unfolding answerOf readOf readFrom lineAt refusalAt endAt fitsOf numberOf endedOf valueFrom digitsIn isDigit textOf headOf rowsOf rowOf badText countOf attemptsOf greatestOf nameOf names formOf formFrom pieceOf afterOf decimalOf placesOf placesIn
 first-bad = refl
 

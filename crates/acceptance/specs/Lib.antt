@@ -1,7 +1,8 @@
 pub mod Reading
 pub mod Sums
-pub mod Scan
 pub mod Report
-pub mod Laws
-pub mod Theorems
 pub mod Examples
+pub mod Scan
+pub mod Laws
+pub mod Long
+pub mod Theorems
