@@ -17,16 +17,16 @@ use Rattle.text.specs.Laws.{number-within}
 use Rattle.model.specs.Names.{nameOf}
 use Rattle.print.specs.Print.{putOf, formOf}
 use Rattle.print.specs.Laws.{put-none, put-first, form-size}
-use Rattle.acceptance.specs.declared.Trial.{Trial}
-use Rattle.acceptance.specs.declared.Line.{Line}
+use Rattle.trials.specs.declared.Trial.{Trial}
+use Rattle.trials.specs.declared.Line.{Line}
 use Rattle.acceptance.specs.declared.Sums.{Sums}
-use Rattle.acceptance.specs.declared.Reported.{Reported}
-use Rattle.acceptance.specs.declared.Reported.the-variants.{Done}
-use Rattle.acceptance.specs.Reading.{Reading, badLine, results, onto, noLine, fitsOf, endAt, refusalAt, lineAt, readFrom, readOf}
-use Rattle.acceptance.specs.Sums.{countOf, attemptsOf, largerOf, greatestOf}
-use Rattle.acceptance.specs.Scan.{noSums, withOf, countedOf, addedOf, badOf, scanFrom, scanOf, Bounded, Small}
+use Rattle.trials.specs.declared.Reported.{Reported}
+use Rattle.trials.specs.declared.Reported.the-variants.{Done}
+use Rattle.trials.specs.Reading.{Reading, badLine, results, onto, noLine, fitsOf, endAt, refusalAt, lineAt, readFrom, readOf}
+use Rattle.trials.specs.Sums.{countOf, attemptsOf, largerOf, greatestOf}
+use Rattle.acceptance.specs.Scan.{noSums, withOf, countedOf, addedOf, badOf, scanFrom, scanOf, Bounded, Small, seenIn, printedOf}
 use Rattle.names.specs.Table.{name-short}
-use Rattle.acceptance.specs.Report.{headForm, numberForm, countForm, rowOf, rowsOf, headOf, textOf, badText, toldOf, answerOf, reportOf, seenIn, printedOf}
+use Rattle.trials.specs.Report.{headForm, numberForm, countForm, rowOf, rowsOf, headOf, textOf, badText, toldOf, answerOf, reportOf}
 
 -- ---- a line that is read
 

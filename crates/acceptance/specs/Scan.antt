@@ -1,16 +1,17 @@
 -- What one pass over the input leaves: the sums, and the counts by number. `Laws` proves that these are the sums over the trials that were read.
 use Prim.Native.Nat.{ℕ, zero, suc, _+_, _*_, _≤_}
 use mathlib.Core.Path.{_≡_}
-use mathlib.Core.List.{List, [], _∷_}
+use mathlib.Core.List.{List, [], _∷_, _++_}
 use mathlib.Core.Bool.{true, false}
 use lib.Dec.{eqb, ltb}
 use lib.ListN.{length, getD, set}
 use Rattle.model.specs.Choice.{if_then_else_}
-use Rattle.acceptance.specs.declared.Trial.{Trial}
-use Rattle.acceptance.specs.declared.Line.{Line}
+use Rattle.trials.specs.declared.Trial.{Trial}
+use Rattle.trials.specs.declared.Line.{Line}
 use Rattle.acceptance.specs.declared.Sums.{Sums}
-use Rattle.acceptance.specs.Reading.{lineAt}
-use Rattle.acceptance.specs.Sums.{largerOf}
+use Rattle.trials.specs.Reading.{lineAt}
+use Rattle.trials.specs.Sums.{largerOf}
+use Rattle.trials.specs.Report.{headOf, rowsOf, badText}
 
 abbrev pub noSums : Sums
 noSums = record { bad = 0; trials = 0; attempts = 0; greatest = 0 }
@@ -54,3 +55,13 @@ pub record Bounded (s : Sums) (counts : List ℕ) : Type 0 where
 pub record Small (t : Trial) : Type 0 where
   pub tries : t .attempts ≤ 262144
   pub known : t .refusal ≤ 16
+
+-- how often each number stands in the counts
+abbrev pub seenIn : List ℕ → ℕ → ℕ
+seenIn counts number = getD counts number 0
+
+-- the same text, from the sums and the counts that a pass leaves
+unfoldable pub printedOf : Sums → List ℕ → List ℕ
+printedOf s counts =
+    if eqb (s .bad) 0 then headOf (s .trials) (getD counts 0 0) (s .attempts) (s .greatest) ++ rowsOf (seenIn counts) 1 16
+    else badText (s .bad)

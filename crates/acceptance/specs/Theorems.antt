@@ -7,8 +7,8 @@ use lib.ListN.{length, getD, set}
 use lib.Seq.{sets, getD-set-other}
 use borrow.Author.Tests.{le-ltb}
 use Rattle.laws.specs.Pick.{determined}
-use Rattle.acceptance.specs.declared.Reported.{Reported}
-use Rattle.acceptance.specs.Report.{answerOf, reportOf}
+use Rattle.trials.specs.declared.Reported.{Reported}
+use Rattle.trials.specs.Report.{answerOf, reportOf}
 
 -- two replies that meet the promise are equal
 pub report-determined : (input out : List ℕ) (a b : Reported × List ℕ) → a ≡ reportOf input out → b ≡ reportOf input out → a ≡ b

@@ -1,28 +1,18 @@
 // The acceptance report of document 02, L12: trials read from bytes, summed, and printed into a lent run.
-// `report` is the call; the other functions are its steps.
+// `report` is the call; the other functions are its steps. What they promise is defined in crate `trials`.
+use trials::Line;
+use trials::Reported;
+use trials::Trial;
 ghost use mathlib.Core.Path.{_≡_};
 ghost use mathlib.Core.Bool.{true};
 ghost use Prim.Native.Nat.{_+_, _*_, _<_, _≤_};
 ghost use lib.ListN.{length, getD};
 ghost use Rattle.model.specs.Names.{nameOf};
 ghost use Rattle.print.specs.Print.{putOf};
-ghost use Rattle.acceptance.specs.Reading.{noLine, fitsOf, endAt, refusalAt, lineAt};
-ghost use Rattle.acceptance.specs.Sums.{largerOf};
-ghost use Rattle.acceptance.specs.Scan.{noSums, addedOf, badOf, scanOf, Bounded, Small};
-ghost use Rattle.acceptance.specs.Report.{seenIn, rowOf, rowsOf, headOf, badText, printedOf, reportOf};
-
-// One result: the attempts it took, and the number of its refusal, 0 for granted.
-pub struct Trial {
-    pub attempts: u32,
-    pub refusal: u32,
-}
-
-// A line of the input: whether a trial stands there, the trial, and where the next line begins.
-pub struct Line {
-    pub fine: bool,
-    pub trial: Trial,
-    pub next: usize,
-}
+ghost use Rattle.trials.specs.Reading.{noLine, fitsOf, endAt, refusalAt, lineAt};
+ghost use Rattle.trials.specs.Sums.{largerOf};
+ghost use Rattle.acceptance.specs.Scan.{noSums, addedOf, badOf, scanOf, Bounded, Small, seenIn, printedOf};
+ghost use Rattle.trials.specs.Report.{rowOf, rowsOf, headOf, badText, reportOf};
 
 // The sums so far. `bad` is the number of the first bad line, 0 while there is none.
 pub struct Sums {
@@ -30,12 +20,6 @@ pub struct Sums {
     pub trials: usize,
     pub attempts: usize,
     pub greatest: usize,
-}
-
-// What the report comes to: the room is too small, or so many bytes were written.
-pub enum Reported {
-    NoRoom,
-    Done(usize),
 }
 
 // ---- reading

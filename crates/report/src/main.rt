@@ -3,7 +3,7 @@ ghost use mathlib.Core.Path.{_≡_};
 ghost use lib.ListN.{length};
 
 // Room for more than the longest good input, 1,000 lines of 10 bytes. The report of the first 16,384 bytes is the report of all, however
-// many there are: `front-is-enough` of crate `acceptance`.
+// many there are: `front-is-enough` of crate `trials`.
 fn input_room() -> [u8; 16384]
     ensures { λ r. ⌜ 16384 ≡ length r ⌝ }
 {
@@ -20,7 +20,7 @@ fn main() {
 fn print_report(input: &[u8]) {
     let mut out = [0u8; 4096];
     let reported = acceptance::report(input, &mut out);
-    if let acceptance::Reported::Done(used) = reported {
+    if let trials::Reported::Done(used) = reported {
         write_front(&out, used);
     }
 }

@@ -1,5 +1,5 @@
 use Rattle.acceptance.specs.Laws.{none-past}
-use Rattle.acceptance.specs.Reading.{endAt}
+use Rattle.trials.specs.Reading.{endAt}
 use borrow.Author.Tests.{eq-eqb, ne-eqb}
 use native.Mathlib.Omega.{arith}
 use borrow.Author.Needs.{needs}

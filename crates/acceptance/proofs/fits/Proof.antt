@@ -1,4 +1,4 @@
-use Rattle.acceptance.specs.Reading.{fitsOf}
+use Rattle.trials.specs.Reading.{fitsOf}
 use Rattle.acceptance.proofs.fits.Statement.{statement}
 use Rattle.acceptance.proofs.fits.Tie as tie
 use Rattle.acceptance.proofs.fits.Reads as reads

@@ -1,5 +1,5 @@
 use Rattle.acceptance.specs.Laws.{number-short}
-use Rattle.acceptance.specs.Reading.{lineAt}
+use Rattle.trials.specs.Reading.{lineAt}
 use Rattle.text.specs.declared.Number.{Number}
 use mathlib.Core.Path.{ap}
 use native.Mathlib.Omega.{arith}

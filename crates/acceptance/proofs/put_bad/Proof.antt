@@ -1,4 +1,4 @@
-use Rattle.acceptance.specs.Report.{badText}
+use Rattle.trials.specs.Report.{badText}
 use borrow.Author.Needs.{needs}
 use Rattle.acceptance.proofs.put_bad.Statement.{statement}
 use Rattle.acceptance.proofs.put_bad.Tie as tie

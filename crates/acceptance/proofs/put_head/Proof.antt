@@ -1,4 +1,4 @@
-use Rattle.acceptance.specs.Report.{headOf}
+use Rattle.trials.specs.Report.{headOf}
 use borrow.Author.Needs.{needs}
 use Rattle.acceptance.proofs.put_head.Statement.{statement}
 use Rattle.acceptance.proofs.put_head.Tie as tie

@@ -1,5 +1,6 @@
 use Rattle.acceptance.specs.Laws.{head-few}
-use Rattle.acceptance.specs.Report.{seenIn, headOf, rowsOf, printedOf}
+use Rattle.trials.specs.Report.{headOf, rowsOf}
+use Rattle.acceptance.specs.Scan.{seenIn, printedOf}
 use Rattle.print.specs.Laws.{put-join, put-place}
 use borrow.Author.Tests.{eq-eqb, ne-eqb}
 use lib.ListN.{getD}

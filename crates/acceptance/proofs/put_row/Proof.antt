@@ -1,4 +1,4 @@
-use Rattle.acceptance.specs.Report.{numberForm, countForm, rowOf}
+use Rattle.trials.specs.Report.{numberForm, countForm, rowOf}
 use Rattle.names.specs.Table.{name-short}
 use Rattle.print.specs.Laws.{put-none, put-join, put-place, form-size}
 use Rattle.print.specs.Print.{formOf}

@@ -1,5 +1,6 @@
 use Rattle.acceptance.specs.Laws.{row-few, rows-turn, rows-end}
-use Rattle.acceptance.specs.Report.{seenIn, rowsOf}
+use Rattle.trials.specs.Report.{rowsOf}
+use Rattle.acceptance.specs.Scan.{seenIn}
 use Rattle.print.specs.Laws.{put-place}
 use Rattle.print.specs.Print.{putOf}
 use borrow.Author.Needs.{needs}

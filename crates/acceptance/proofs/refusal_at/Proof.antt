@@ -1,6 +1,6 @@
 use Prim.Native.Nat.{_+_}
 use Rattle.acceptance.specs.Laws.{none-past, number-ends}
-use Rattle.acceptance.specs.Reading.{refusalAt}
+use Rattle.trials.specs.Reading.{refusalAt}
 use Rattle.text.specs.declared.Number.{Number}
 use borrow.Author.Tests.{eq-eqb, ne-eqb}
 use mathlib.Core.Path.{ap}

@@ -1,5 +1,5 @@
 use Rattle.acceptance.specs.Laws.{zeros-bounded, report-is}
-use Rattle.acceptance.specs.Report.{reportOf}
+use Rattle.trials.specs.Report.{reportOf}
 use borrow.Author.Tests.{lt-ltb}
 use borrow.Author.Needs.{needs}
 use Rattle.acceptance.proofs.report.Statement.{statement}

@@ -2,17 +2,16 @@
 use Prim.Native.Nat.{ℕ, zero, suc, _+_}
 use mathlib.Core.List.{List, [], _∷_, _++_}
 use lib.Dec.{eqb, ltb}
-use lib.ListN.{length, getD}
+use lib.ListN.{length}
 use lib.Seq.{sets}
 use Rattle.model.specs.Choice.{if_then_else_}
 use Rattle.model.specs.Names.{nameOf}
 use Rattle.print.specs.Print.{formOf}
-use Rattle.acceptance.specs.declared.Trial.{Trial}
-use Rattle.acceptance.specs.declared.Sums.{Sums}
-use Rattle.acceptance.specs.declared.Reported.{Reported}
-use Rattle.acceptance.specs.declared.Reported.the-variants.{NoRoom, Done}
-use Rattle.acceptance.specs.Reading.{Reading, badLine, results, readOf}
-use Rattle.acceptance.specs.Sums.{countOf, attemptsOf, greatestOf}
+use Rattle.trials.specs.declared.Trial.{Trial}
+use Rattle.trials.specs.declared.Reported.{Reported}
+use Rattle.trials.specs.declared.Reported.the-variants.{NoRoom, Done}
+use Rattle.trials.specs.Reading.{Reading, badLine, results, readOf}
+use Rattle.trials.specs.Sums.{countOf, attemptsOf, greatestOf}
 
 -- `trials #`, `grants #`, `attempts # of # trials`, `greatest #`, each with its line feed
 abbrev pub headForm : List ℕ
@@ -70,13 +69,3 @@ answerOf input = toldOf (readOf input)
 unfoldable pub reportOf : List ℕ → List ℕ → Reported × List ℕ
 reportOf input out =
     if ltb (length out) 4096 then (NoRoom, out) else (Done (length (answerOf input)), sets out 0 (answerOf input))
-
--- how often each number stands in the counts
-abbrev pub seenIn : List ℕ → ℕ → ℕ
-seenIn counts number = getD counts number 0
-
--- the same text, from the sums and the counts that a pass leaves
-unfoldable pub printedOf : Sums → List ℕ → List ℕ
-printedOf s counts =
-    if eqb (s .bad) 0 then headOf (s .trials) (getD counts 0 0) (s .attempts) (s .greatest) ++ rowsOf (seenIn counts) 1 16
-    else badText (s .bad)

@@ -16,9 +16,9 @@ use Rattle.model.specs.Choice.{if_then_else_}
 use Rattle.text.specs.declared.Number.{Number}
 use Rattle.text.specs.Text.{isDigit, digitsIn, valueFrom, noNumber, endedOf, numberOf}
 use Rattle.text.specs.Laws.{digit-is, number-within}
-use Rattle.acceptance.specs.declared.Line.{Line}
-use Rattle.acceptance.specs.Reading.{badLine, onto, noLine, fitsOf, endAt, refusalAt, lineAt, readFrom, readOf}
-use Rattle.acceptance.specs.Report.{answerOf}
+use Rattle.trials.specs.declared.Line.{Line}
+use Rattle.trials.specs.Reading.{badLine, onto, noLine, fitsOf, endAt, refusalAt, lineAt, readFrom, readOf}
+use Rattle.trials.specs.Report.{answerOf}
 
 drop-take : (n i : ℕ) (l : List ℕ) → drop i (take n l) ≡ take (n - i) (drop i l)
 drop-take n zero l = let e : n - 0 ≡ n = omega arith in rw e

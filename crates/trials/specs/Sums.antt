@@ -4,7 +4,7 @@ use mathlib.Core.List.{List, [], _∷_}
 use lib.Dec.{eqb, ltb}
 use lib.ListN.{length}
 use Rattle.model.specs.Choice.{if_then_else_}
-use Rattle.acceptance.specs.declared.Trial.{Trial}
+use Rattle.trials.specs.declared.Trial.{Trial}
 
 -- how many trials ended with this number; 0 is granted
 unfoldable pub countOf : ℕ → List Trial → ℕ

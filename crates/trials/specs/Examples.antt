@@ -5,9 +5,9 @@ use Prim.Native.Nat.{ℕ}
 use Rattle.model.specs.Names.{names, nameOf}
 use Rattle.text.specs.Text.{isDigit, digitsIn, valueFrom, endedOf, numberOf}
 use Rattle.print.specs.Print.{placesIn, placesOf, decimalOf, pieceOf, afterOf, formFrom, formOf}
-use Rattle.acceptance.specs.Reading.{badLine, results, trialOf, fitsOf, endAt, refusalAt, lineAt, readFrom, readOf}
-use Rattle.acceptance.specs.Sums.{countOf, attemptsOf, greatestOf}
-use Rattle.acceptance.specs.Report.{headOf, rowOf, rowsOf, textOf, badText, answerOf}
+use Rattle.trials.specs.Reading.{badLine, results, trialOf, fitsOf, endAt, refusalAt, lineAt, readFrom, readOf}
+use Rattle.trials.specs.Sums.{countOf, attemptsOf, greatestOf}
+use Rattle.trials.specs.Report.{headOf, rowOf, rowsOf, textOf, badText, answerOf}
 
 -- the report of one granted trial with one attempt, as document 02 prints it
 abbrev oneGranted : List ℕ

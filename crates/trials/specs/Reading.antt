@@ -7,8 +7,8 @@ use lib.ListN.{length, getD, drop}
 use Rattle.model.specs.Choice.{if_then_else_}
 use Rattle.text.specs.declared.Number.{Number}
 use Rattle.text.specs.Text.{numberOf}
-use Rattle.acceptance.specs.declared.Trial.{Trial}
-use Rattle.acceptance.specs.declared.Line.{Line}
+use Rattle.trials.specs.declared.Trial.{Trial}
+use Rattle.trials.specs.declared.Line.{Line}
 
 abbrev pub trialOf : ℕ → ℕ → Trial
 trialOf attempts refusal = record { attempts = attempts; refusal = refusal }

@@ -1,0 +1,5 @@
+pub mod Reading
+pub mod Sums
+pub mod Report
+pub mod Examples
+pub mod Long
