@@ -211,7 +211,8 @@ fn put_rows(out: &mut [u8], at: usize, counts: &[usize; 17]) -> usize
 // Puts the four lines that every report has.
 fn put_head(out: &mut [u8], sums: Sums, grants: usize) -> usize
     requires { ⌜ 2000 ≤ length (now out) ⌝ }
-    ensures { λ r. ⌜ (r, now (out .exit)) ≡ putOf (now (out .entry)) 0 (headOf (sums .trials) grants (sums .attempts) (sums .greatest)) ⌝ }
+    ensures { λ r. ⌜ (r, now (out .exit))
+        ≡ putOf (now (out .entry)) 0 (headOf (sums .trials) grants (sums .attempts) (sums .greatest)) ⌝ }
 {
     let numbers = [
         sums.trials,

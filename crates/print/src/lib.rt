@@ -67,7 +67,8 @@ fn after(k: usize, byte: u8) -> usize
 // Puts a form: its bytes as they are, but for each `#` the next number. A step.
 pub fn put_form(out: &mut [u8], at: usize, form: &[u8], numbers: &[usize]) -> usize
     requires { ⌜ at + 20 * length (now form) ≤ length (now out) ⌝ }
-    ensures { λ r. ⌜ (r, now (out .exit)) ≡ putOf (now (out .entry)) at (formOf (now (form .entry)) (now (numbers .entry))) ⌝ }
+    ensures { λ r. ⌜ (r, now (out .exit))
+        ≡ putOf (now (out .entry)) at (formOf (now (form .entry)) (now (numbers .entry))) ⌝ }
 {
     let mut used = at;
     let mut k: usize = 0;

@@ -1,4 +1,5 @@
-// Document 02, L12: the types of the acceptance report. What is read, summed and printed is defined in specs/, with computed cases.
+// Document 02, L12: the types of the acceptance report. What is read, summed and printed is defined in specs/, with
+// computed cases.
 
 // One result: the attempts it took, and the number of its refusal, 0 for granted.
 pub struct Trial {
