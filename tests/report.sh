@@ -24,6 +24,14 @@ complain() {
     wrong=$((wrong + 1))
 }
 
+# differ WANTED PRINTED: the first line in which the two differ, of both
+differ() {
+    local line
+    line=$(first_difference "$1" "$2")
+    echo "  line $line, expected: $(sed -n "${line}p" "$1" | cat -v | cut -c 1-300)"
+    echo "  line $line, printed:  $(sed -n "${line}p" "$2" | cat -v | cut -c 1-300)"
+}
+
 # both NAME: the input $room/in through both programs, which must print the same
 both() {
     cases=$((cases + 1))
@@ -31,7 +39,7 @@ both() {
     target/rust/release/report <"$room/in" >"$room/plain" || complain "$1: the plain program ended with status $?"
     cmp -s "$room/plain" "$room/report" && return
     complain "$1: DIFFERENT from the plain program"
-    show_difference "$room/plain" "$room/report"
+    differ "$room/plain" "$room/report"
 }
 
 # wanted NAME: what both print of $room/in is $room/wanted
@@ -39,7 +47,7 @@ wanted() {
     both "$1"
     cmp -s "$room/wanted" "$room/report" && return
     complain "$1: not as expected"
-    show_difference "$room/wanted" "$room/report"
+    differ "$room/wanted" "$room/report"
 }
 
 # prints NAME INPUT OUTPUT: the two as printf reads them
@@ -129,7 +137,7 @@ done
 bash bench/acceptance.sh >"$room/report" || complain "bench/acceptance.sh ended with status $?"
 cmp -s bench/acceptance.report "$room/report" || {
     complain "bench/acceptance.sh: not as expected"
-    show_difference bench/acceptance.report "$room/report"
+    differ bench/acceptance.report "$room/report"
 }
 
 # ---- the names: what the report prints is proved to be the definition of crate `model`
