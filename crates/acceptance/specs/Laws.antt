@@ -22,9 +22,9 @@ use Rattle.trials.specs.declared.Line.{Line}
 use Rattle.acceptance.specs.declared.Sums.{Sums}
 use Rattle.trials.specs.declared.Reported.{Reported}
 use Rattle.trials.specs.declared.Reported.the-variants.{Done}
-use Rattle.trials.specs.Reading.{Reading, badLine, results, onto, noLine, fitsOf, endAt, refusalAt, lineAt, readFrom, readOf}
+use Rattle.trials.specs.Reading.{Small, Reading, badLine, results, onto, noLine, fitsOf, endAt, refusalAt, lineAt, readFrom, readOf}
 use Rattle.trials.specs.Sums.{countOf, attemptsOf, largerOf, greatestOf}
-use Rattle.acceptance.specs.Scan.{noSums, withOf, countedOf, addedOf, badOf, scanFrom, scanOf, Bounded, Small, seenIn, printedOf}
+use Rattle.acceptance.specs.Scan.{noSums, withOf, countedOf, addedOf, badOf, scanFrom, scanOf, Bounded, seenIn, printedOf}
 use Rattle.names.specs.Table.{name-short}
 use Rattle.trials.specs.Report.{headForm, numberForm, countForm, rowOf, rowsOf, headOf, textOf, badText, toldOf, answerOf, reportOf}
 

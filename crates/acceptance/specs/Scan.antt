@@ -51,11 +51,6 @@ pub record Bounded (s : Sums) (counts : List ℕ) : Type 0 where
   pub tries : s .attempts ≤ 262144 * s .trials
   pub few : (number : ℕ) → getD counts number 0 ≤ s .trials
 
--- what a line that is read promises of its trial
-pub record Small (t : Trial) : Type 0 where
-  pub tries : t .attempts ≤ 262144
-  pub known : t .refusal ≤ 16
-
 -- how often each number stands in the counts
 abbrev pub seenIn : List ℕ → ℕ → ℕ
 seenIn counts number = getD counts number 0

@@ -9,9 +9,9 @@ ghost use Prim.Native.Nat.{_+_, _*_, _<_, _≤_};
 ghost use lib.ListN.{length, getD};
 ghost use Rattle.model.specs.Names.{nameOf};
 ghost use Rattle.print.specs.Print.{putOf};
-ghost use Rattle.trials.specs.Reading.{noLine, fitsOf, endAt, refusalAt, lineAt};
+ghost use Rattle.trials.specs.Reading.{Small, noLine, fitsOf, endAt, refusalAt, lineAt};
 ghost use Rattle.trials.specs.Sums.{largerOf};
-ghost use Rattle.acceptance.specs.Scan.{noSums, addedOf, badOf, scanOf, Bounded, Small, seenIn, printedOf};
+ghost use Rattle.acceptance.specs.Scan.{noSums, addedOf, badOf, scanOf, Bounded, seenIn, printedOf};
 ghost use Rattle.trials.specs.Report.{rowOf, rowsOf, headOf, badText, reportOf};
 
 // The sums so far. `bad` is the number of the first bad line, 0 while there is none.

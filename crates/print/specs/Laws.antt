@@ -71,6 +71,10 @@ places-few (suc k) n = go (ltb n 10) (places-few k (n / 10))
     go true h = omega arith
     go false h = omega arith
 
+pub length-decimal : (n : ℕ) → length (decimalOf n) ≡ placesOf n
+unfolding decimalOf
+length-decimal n = length-digits (placesOf n) n
+
 pub decimal-few : (n : ℕ) → length (decimalOf n) ≤ 20
 unfolding decimalOf placesOf
 decimal-few n = omega (arith, length-digits (placesIn 19 n) n, places-few 19 n)
@@ -112,13 +116,14 @@ fewest-one n j k f g = go (decLt j k) (decLt k j)
     go (no a) (yes b) = absurd (not-fewer n k j g f b)
     go (no a) (no b) = omega arith
 
+pub places-are : (n : ℕ) → n < 2 ^ 64 → Fewest 10 1 n (placesOf n)
+unfolding placesOf
+places-are n h = let small : n < 10 ^ 20 = omega arith in places-fewest 19 n small
+
 -- the fewest digits are those of the number
 pub decimal-is : (n k : ℕ) (l : List ℕ) → n < 2 ^ 64 → Fewest 10 1 n k → take k l ≡ digits 10 k n → take k l ≡ decimalOf n
-unfolding decimalOf placesOf
-decimal-is n k l h f e =
-    let small : n < 10 ^ 20 = omega arith in
-    let p : k ≡ placesIn 19 n = fewest-one n k (placesIn 19 n) f (places-fewest 19 n small) in
-    e ∙ ap (λ (i : ℕ). digits 10 i n) p
+unfolding decimalOf
+decimal-is n k l h f e = e ∙ ap (λ (i : ℕ). digits 10 i n) (fewest-one n k (placesOf n) f (places-are n h))
 
 -- ---- forms
 

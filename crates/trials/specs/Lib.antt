@@ -3,3 +3,4 @@ pub mod Sums
 pub mod Report
 pub mod Examples
 pub mod Long
+pub mod Back

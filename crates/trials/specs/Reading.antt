@@ -1,5 +1,5 @@
 -- Document 02, L12: the trials that stand in the input.
-use Prim.Native.Nat.{ℕ, zero, suc, _+_}
+use Prim.Native.Nat.{ℕ, zero, suc, _+_, _≤_}
 use mathlib.Core.List.{List, [], _∷_}
 use mathlib.Core.Bool.{Bool, true, false}
 use lib.Dec.{eqb, ltb, leb}
@@ -12,6 +12,11 @@ use Rattle.trials.specs.declared.Line.{Line}
 
 abbrev pub trialOf : ℕ → ℕ → Trial
 trialOf attempts refusal = record { attempts = attempts; refusal = refusal }
+
+-- a trial as it may be: "attempts up to 262,144 .. refusal 1 to 16 or 0 for granted"
+pub record Small (t : Trial) : Type 0 where
+  pub tries : t .attempts ≤ 262144
+  pub known : t .refusal ≤ 16
 
 -- no trial stands there
 abbrev pub noLine : Line
