@@ -45,25 +45,33 @@ player_is_old() {
         \( -name '*.rt' -o -name '*.antt' -o -name crates.txt \) -print -quit)" ]
 }
 
-# play FILE: the player on FILE's bytes as standard input. It is an x86-64 program; on another machine it runs as the
-# kit runs programs there, under its emulator and its own loader and C library. PLAYER names another program
-# instead, by a path from the top folder of the repository or from /. STACK, in kilobytes, is all the stack that it gets.
-play() {
+# program NAME: a program of target/bin on this standard input. It is an x86-64 program; on another machine it runs as the kit runs
+# programs there, under its emulator and its own loader and C library. STACK, in kilobytes, is all the stack that it gets.
+program() {
     local tools word stack=()
     (
         if [ -n "${STACK:-}" ]; then
             ulimit -s "$STACK"
             stack=(-s $((STACK * 1024)))
         fi
-        if [ -n "${PLAYER:-}" ]; then
-            exec "$PLAYER" <"$1"
-        elif [ "$(uname -m)" = x86_64 ]; then
-            exec target/bin/player <"$1"
-        fi
+        [ "$(uname -m)" != x86_64 ] || exec "target/bin/$1"
         for word in $(env | sed -n 's/^\(QEMU_[A-Za-z0-9_]*\)=.*/\1/p'); do unset "$word"; done
         tools=$(kit)/on/$(uname -m)/toolchain
-        exec "$tools/bin/qemu-x86_64" ${stack[@]+"${stack[@]}"} "$tools/lib/ld-linux-x86-64.so.2" --library-path "$tools/lib" target/bin/player <"$1"
+        exec "$tools/bin/qemu-x86_64" ${stack[@]+"${stack[@]}"} "$tools/lib/ld-linux-x86-64.so.2" --library-path "$tools/lib" "target/bin/$1"
     )
+}
+
+# play FILE: the player on FILE's bytes as standard input. PLAYER names another program instead, by a path from the top folder of the
+# repository or from /.
+play() {
+    if [ -n "${PLAYER:-}" ]; then
+        (
+            [ -z "${STACK:-}" ] || ulimit -s "$STACK"
+            exec "$PLAYER" <"$1"
+        )
+    else
+        program player <"$1"
+    fi
 }
 
 # need_player: ends the script if there is no player to run.

@@ -2,6 +2,7 @@ pub mod Choice
 pub mod Log
 pub mod Arena
 pub mod Refusals
+pub mod Names
 pub mod Answers
 pub mod Foreign
 pub mod Lock

@@ -553,7 +553,7 @@ fn replace(list: &mut Vec<u32>, numbers: &[u32]) {
 }
 
 /// Decimal, from 0 to 4,294,967,295, without sign or leading zeros.
-fn number(word: &[u8]) -> Option<u32> {
+pub fn number(word: &[u8]) -> Option<u32> {
     if word.is_empty() || (word[0] == b'0' && word.len() > 1) {
         return None;
     }

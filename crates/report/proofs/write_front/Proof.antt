@@ -1,0 +1,28 @@
+use lib.Seq.{length-take-le}
+use mathlib.Core.Path.{sym}
+use borrow.Author.Needs.{needs}
+use Rattle.report.proofs.write_front.Statement.{statement}
+use Rattle.report.proofs.write_front.Tie as tie
+use Rattle.report.proofs.write_front.Reads as reads
+use Rattle.report.proofs.write_front.Lts as lts
+use Rattle.io.proofs.write_all.Reads as write-all-reads
+
+-- src/main.rt:29:26
+slice-aggregate-write-all : tie.Need-slice-aggregate-write-all
+slice-aggregate-write-all c = sym (length-take-le _ _ (c .before .if1 .taken))
+
+-- src/main.rt:29:9
+write-all-requires : tie.Need-write-all-requires
+write-all-requires c κs = search needs
+
+-- src/main.rt:27:1
+returns : tie.Need-returns
+returns c = search needs
+
+-- src/main.rt:27:1
+returns-2 : tie.Need-returns-2
+returns-2 c = search needs
+
+pub write-front-spec : {M : Type 1} → statement M
+write-front-spec =
+    tie.close (tie.spec slice-aggregate-write-all write-all-requires returns returns-2)
