@@ -13,11 +13,10 @@ ghost use Prim.Native.Nat.{_≤_};
 
 // ---- the line of a call
 
-// The names of document 01's table, in the order of their numbers.
+// A refusal's name, without its padding, from the table that is proved to be that of the definitions.
 fn name(number: u32, out: &mut [u8], used: usize) -> usize {
-    let names =
-        b"BadShape BadScript BadHeld TooMany BadBinding BadHeader Poisoned InvalidBucket Damaged SerialsSpent SerializationFailure NotHeld Protected Repeated BadCrew";
-    text::put_nth(out, used, names, number)
+    let row = names::padded(number as usize);
+    text::put_nth(out, used, &row, 1)
 }
 
 // `refused NUMBER NAME CARRIES`.
