@@ -2,7 +2,7 @@
 use Prim.Native.Nat.{ℕ, _+_, _*_, _-_, _/_, _≤_, _<_}
 use mathlib.Core.Path.{_≡_, refl, sym, ap, _∙_}
 use mathlib.Core.List.{List, []}
-use mathlib.Core.Bool.{Bool, true, false, not}
+use mathlib.Core.Bool.{Bool, true, false}
 use native.Mathlib.Omega.{arith}
 use lib.Dec.{ltb, leb, eqb}
 use lib.ListN.{length, getD, set, drop, drop-of-length-le, length-set}
@@ -18,10 +18,10 @@ use Rattle.model.specs.declared.State.{State}
 use Rattle.model.specs.declared.State.the-variants as state
 use Rattle.model.specs.declared.Took.{Took}
 use Rattle.laws.specs.Pick.{if-both}
+use Rattle.laws.specs.Lists.{drop-one}
 use Rattle.lock.specs.Model.{quietTake, quietOf}
 use Rattle.lock.specs.Laws.{lock-quiet}
 use Rattle.crew.specs.Model.{placeOf, moveBy, tryOf, moveOf, after}
-use Rattle.crew.specs.Lists.{drop-one}
 use Rattle.crew.specs.declared.Move.{Move}
 use Rattle.crew.specs.declared.Move.the-variants as move
 

@@ -24,11 +24,11 @@ use Rattle.history.specs.Judged.{performed}
 use Rattle.exact.specs.Made.{made}
 use Rattle.exact.specs.Script.{acquire-bucket-has}
 use Rattle.exact.specs.Retried.{spins-append, boundary-still, attempt-one}
-use Rattle.exact.specs.ScriptFacts.{total-append}
 use Rattle.exact.specs.Ending.{tried-ends}
 use Rattle.exact.specs.Attempting.{attempting, bounding, by-steps}
 use Rattle.exact.specs.KeyByKey.{locks-as-calls}
 use Rattle.exact.specs.Attempts.{Ends, no-cell, waited, held, not-takable, late, granted, _and-then_, spin, yield, Pause, only-spins, also-yields, Attempts, all-busy, the-last, one-busy, locking, between, Gives-back, all-back, one-back, Key-by-key, all-locked, one-locked, one-refused, spins-in, Boundaries-add, Bucket-boundaries, rolled-back, Locks-boundaries}
+use Rattle.laws.specs.Crew.{total-append}
 
 -- ---- sums
 

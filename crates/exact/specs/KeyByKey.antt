@@ -29,7 +29,8 @@ use Rattle.laws.specs.Shape.{shaped}
 use Rattle.history.specs.World.{World, Live}
 use Rattle.history.specs.Items.{Says, says, perform, acquire-bucket, acquire-locks, environment}
 use Rattle.history.specs.Statements.{answer-in, world-in}
-use Rattle.history.specs.Tests.{In, in-left, in-right, in-take, in-index, neither}
+use Rattle.laws.specs.Pick.{neither}
+use Rattle.history.specs.Tests.{In, in-left, in-right, in-take, in-index}
 use Rattle.history.specs.Events.{Fit, lives}
 use Rattle.history.specs.Logs.{Kept, nothing, event, kept-live, kept-next, weaken}
 use Rattle.history.specs.Steps.{With, worldAt, of-run, of-tried, Won, won, none-yet, no-more, boundary-kept, retry-kept}

@@ -21,7 +21,9 @@ use Rattle.history.specs.World.{World}
 use Rattle.history.specs.Items.{crew}
 use Rattle.history.specs.Tests.{if-cases}
 use Rattle.history.specs.Judged.{Clear, steps}
-use Rattle.history.specs.Crew.{start-fits, limits, Holds, zeros}
+use Rattle.laws.specs.Lists.{zeros}
+use Rattle.laws.specs.Crew.{start-fits}
+use Rattle.history.specs.Crew.{limits, Holds}
 use Rattle.history.specs.Naming.{Leases, Sub, Told, any, none, more, andthen, told, Taken, lock-told}
 
 -- a list after one place was written, perhaps past its end

@@ -26,6 +26,7 @@ use Rattle.model.specs.declared.Take.the-variants as taking
 use Rattle.model.specs.declared.Tried.{Tried}
 use Rattle.foreign.specs.Model.{pairsOf}
 use Rattle.laws.specs.Pick.{if-both}
+use Rattle.laws.specs.Lists.{length-words}
 use Rattle.laws.specs.Checks.{drop-two}
 use Rattle.bucket.specs.Model.{Key}
 use Rattle.bucket.specs.Laws.{Calm, more-calm, find-inside, attempt-calm, pause-calm}
@@ -154,11 +155,6 @@ words-append : (xs ys : List Lease) → wordsOf (xs ++ ys) ≡ wordsOf xs ++ wor
 unfolding wordsOf
 words-append [] ys = refl
 words-append (x ∷ xs) ys = ap {B = List ℕ} (λ r. x .cell ∷ x .serial ∷ r) (words-append xs ys)
-
-pub length-words : (ls : List Lease) → length (wordsOf ls) ≡ 2 * length ls
-unfolding wordsOf
-length-words [] = refl
-length-words (l ∷ ls) = omega (arith, length-words ls)
 
 -- one pair more is written
 pub words-more : (i : ℕ) (a : List (List ℕ)) (b : List ℕ) → 2 * i + 1 < length b

@@ -11,7 +11,7 @@ use Rattle.model.specs.Arena.{bitAt, ownerAt, waitersAt, spentTo}
 use Rattle.model.specs.Crew.{total, countOf, listOf, takenOf, releasedOf, Crew, turnsOf, crewOf}
 use Rattle.model.specs.declared.Head.{Head}
 use Rattle.history.specs.World.{takes, releases}
-use Rattle.history.specs.Crew.{zeros}
+use Rattle.laws.specs.Lists.{zeros}
 use Rattle.progress.specs.Statements.{Open, Complete, start, cells-in, falling, own-log}
 use Rattle.progress.specs.Deeds.{turns-did}
 use Rattle.progress.specs.Turns.{turns-count}

@@ -27,7 +27,8 @@ use Rattle.history.specs.Tests as tests
 use Rattle.swaps.specs.Steps.{Step, Shuffled}
 use Rattle.swaps.specs.Scripts.{scriptOf, Unended, Respelled, stretch, onward, environments, try-locks, transactionals, acquire-buckets, releases-all, acquires-locks}
 use Rattle.swaps.specs.Statements.{Calls-rescripted}
-use Rattle.swaps.specs.Fine.{Fine, fine, older, status-put, freed}
+use Rattle.history.specs.Events.{older, status-put}
+use Rattle.swaps.specs.Fine.{Fine, fine, freed}
 use Rattle.swaps.specs.Boundaries.{Ran, same-length, shuffled-length, Calm, boundary-alike}
 use Rattle.swaps.specs.Walks.{Twins, lock-alike, attempt-alike, retry-alike, back-alike, locks-alike}
 

@@ -7,7 +7,7 @@ use borrow.Author.Needs.{needs}
 use Rattle.model.specs.Crew.{startOf}
 use Rattle.crew.proofs.work.Statement.{statement}
 use Rattle.crew.specs.Fine.{Spot, spot}
-use Rattle.crew.specs.Lists.{start-in}
+use Rattle.laws.specs.Crew.{start-fits}
 use Rattle.crew.specs.Model.{placeOf, begin, handed, workOf}
 use Rattle.crew.specs.Turns.{Working, work-idle, work-tried, work-took, work-gave, work-done}
 use Rattle.crew.proofs.work.Tie as tie
@@ -89,7 +89,7 @@ element-copy-out-place : tie.Need-element-copy-out-place Inv-loop μ-loop
 element-copy-out-place c = omega (arith, named (c .before .before .before), c .before .before .before .before .before .before .before .before .before .before .pre .0 .limits .few-members)
 
 place-requires : tie.Need-place-requires Inv-loop μ-loop
-place-requires c κs = (omega (arith, begins (c .before .before .before .before), start-in (c .before .before .before .before .before .before .before .before .before .before .before .args .counts .now) (getD (c .before .before .before .before .before .before .before .before .before .before .before .args .turns .now) (c .before .before .before .before .before .loop .i) 0) (named (c .before .before .before .before)), c .before .before .before .before .before .before .before .before .before .before .before .pre .0 .limits .few-cells), c .before .if1 .left)
+place-requires c κs = (omega (arith, begins (c .before .before .before .before), start-fits (c .before .before .before .before .before .before .before .before .before .before .before .args .counts .now) (getD (c .before .before .before .before .before .before .before .before .before .before .before .args .turns .now) (c .before .before .before .before .before .loop .i) 0), c .before .before .before .before .before .before .before .before .before .before .before .pre .0 .limits .few-cells), c .before .if1 .left)
 
 add-once-more : tie.Need-add-once-more Inv-loop μ-loop
 add-once-more c = omega (arith, wants-few (c .before .before .before .before .before), c .before .before .if1 .left)
