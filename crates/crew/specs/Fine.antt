@@ -131,7 +131,6 @@ place-in k start n count e l = rw e (go (ltb n count) refl)
 
 pub record Spot (h : Head) (words bytes : ℕ) (cells : List ℕ) (k : ℕ) : Type 0 where
   pub in-run : k < length cells
-  pub in-array : k < 256
   pub cell-fits : 3 * getD cells k 0 + 2 < words
   pub header-fits : getD cells k 0 / h .buckets < bytes
 
@@ -144,7 +143,6 @@ spot h words bytes counts cells turns m start n k f l s p u =
     let low : getD cells k 0 < cellsOf h = subst (λ j. getD cells j 0 < cellsOf h) own (f .inside m (k - start) l (omega (arith, r .0, r .1))) in
     record {
       in-run = omega (arith, r .1, f .limits .cells-are);
-      in-array = omega (arith, r .1, f .limits .few-cells);
       cell-fits = omega (arith, f .shape .words-are);
       header-fits = rw (f .bytes-are) (header-in (h .headers) (h .buckets) (getD cells k 0) (f .shape .some-buckets) low);
     }
