@@ -26,6 +26,7 @@ use Rattle.model.specs.declared.Take.the-variants as taking
 use Rattle.model.specs.declared.Tried.{Tried}
 use Rattle.laws.specs.Pick.{if-both, seen-if}
 use Rattle.foreign.specs.Laws.{Paid, boundary-paid}
+use Rattle.bucket.specs.Bounds.{callMost}
 use Rattle.bucket.specs.Model.{againOf}
 use Rattle.lock.specs.Model.{boundariesFor, quietOf}
 use Rattle.lock.specs.Laws.{Sober, lock-sober}
@@ -186,7 +187,7 @@ turn-goes headers cells steps script ps n o i buckets registry binding bucket mo
 
 -- where the retry loop stands, before attempt number i: what remains from here is what the whole comes to
 pub record Retrying (e : Setting) (steps buckets : ℕ) (registry : List ℕ) (binding bucket : ℕ) (r₀ : Run) (t₀ g₀ : List ℕ) (i : ℕ) (r : Run) (t g : List ℕ) : Type 0 where
-  pub calm : Calm steps (2000000 + 5 * i) r
+  pub calm : Calm steps (callMost + 5 * i) r
   pub few : i ≤ 4096
   pub words : length t ≡ length t₀
   pub bytes : length g ≡ length g₀

@@ -26,6 +26,7 @@ use Rattle.laws.specs.Checks.{or-else, fine-rest, fine-append, leases-at, lease
 use Rattle.foreign.specs.Model.{pairsOf, guardsOf, Room}
 use Rattle.foreign.specs.Laws.{boundary-goes}
 use Rattle.foreign.specs.Fine.{ScriptFine, arena-fine, place-fine, script-then, guards-none}
+use Rattle.bucket.specs.Bounds.{callMost}
 use Rattle.bucket.specs.Laws.{Calm}
 
 -- ---- the first leases of a list, and the lease at a position
@@ -163,7 +164,7 @@ room-for p q k = rw (p, q) k
 
 -- where the loop stands, with k leases still to be released: what remains from here is what the whole comes to
 pub record Giving (e : Setting) (steps : ℕ) (ls : List Lease) (n : ℕ) (r₀ : Run) (t₀ g₀ : List ℕ) (k : ℕ) (r : Run) (t g : List ℕ) : Type 0 where
-  pub calm : Calm steps (3000000 + (n - k)) r
+  pub calm : Calm steps (callMost + (n - k)) r
   pub few : k ≤ n
   pub words : length t ≡ length t₀
   pub bytes : length g ≡ length g₀
