@@ -1,9 +1,9 @@
 -- Multi-lock where the script is at its end, refused at position j: the keys before it were ready, the key at j is refused as
 -- `acquire_index_bucket` refuses it then. All is given back, j serials stay spent, and the counts are exact.
+use Rattle.laws.specs.Keys.{place-inside}
 use Rattle.history.specs.Tests.{state-free, In}
 use Rattle.history.specs.Logs.{Kept}
 use Rattle.exact.specs.Passing.{bucket-on, key-passes, in-script}
-use native.Mathlib.Nat.{mul-le-mul-right, suc-mul}
 use Prim.Native.Nat.{ℕ, zero, suc, _+_, _*_, _-_, _≤_, _<_}
 use mathlib.Core.Path.{_≡_, refl, sym, ap, _∙_, subst}
 use mathlib.Core.List.{List, [], _∷_, _++_}
@@ -354,7 +354,7 @@ module _ (w : World) (registry script : List ℕ) (place : ℕ) (held keys grant
         let ls = takes-of (leases-from cell j 0 (w .head .next)) in
         let k : Kept w (In (leasesOf held)) then-world ls = record {
           lawful = takes-lawful (w .head) (w .health) cell j apart
-              (λ p i. let a = ready p i .0 in omega (arith, mul-le-mul-right (w .head .buckets) (a .0), suc-mul (getD registry (bindingAt keys p) 0) (w .head .buckets), a .2))
+              (λ p i. let a = ready p i .0 in place-inside (w .head .headers) (w .head .buckets) (getD registry (bindingAt keys p) 0) (bucketAt keys p) (a .0) (a .2))
               j 0 (w .head .next) (w .table) (omega arith) (λ q _ h. ready q (omega arith) .2) serials;
           leads = refl;
           spares = λ l _ _. takes-release-none cell j 0 (w .head .next) l;

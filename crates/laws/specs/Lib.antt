@@ -4,5 +4,6 @@ pub mod Words
 pub mod Lists
 pub mod Fill
 pub mod Checks
+pub mod Keys
 pub mod Crew
 pub mod Prepared

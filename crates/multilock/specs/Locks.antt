@@ -28,9 +28,10 @@ use Rattle.foreign.specs.Model.{pairsOf}
 use Rattle.laws.specs.Pick.{if-both}
 use Rattle.laws.specs.Lists.{length-words}
 use Rattle.laws.specs.Checks.{drop-two}
+use Rattle.laws.specs.Keys.{find-inside}
 use Rattle.bucket.specs.Model.{Key}
 use Rattle.bucket.specs.Bounds.{keyMost}
-use Rattle.bucket.specs.Laws.{Calm, more-calm, find-inside, attempt-calm, pause-calm}
+use Rattle.bucket.specs.Laws.{Calm, more-calm, attempt-calm, pause-calm}
 
 -- ---- the array of pairs
 
