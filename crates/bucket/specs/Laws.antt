@@ -1,16 +1,15 @@
--- Laws of attempts by key: the cell a key names, one turn of the retry loop, and what a run's counts keep.
+-- Laws of attempts by key: one turn of the retry loop, and what a run's counts keep.
 use Prim.Native.Nat.{ℕ, suc, _+_, _*_, _-_, _/_, _%_, _≤_, _<_}
-use mathlib.Core.Path.{_≡_, refl, ap, _∙_}
+use mathlib.Core.Path.{_≡_, refl, _∙_}
 use mathlib.Core.List.{List}
-use mathlib.Core.Bool.{Bool, true, false, not}
+use mathlib.Core.Bool.{Bool, true, false}
 use native.Mathlib.Omega.{arith}
-use native.Mathlib.Nat.{mul-le-mul, mul-le-mul-right, suc-mul}
-use lib.Dec.{leb, eqb}
-use lib.ListN.{length, getD}
-use borrow.Author.Tests.{leb-false}
+use native.Mathlib.Nat.{mul-le-mul}
+use lib.Dec.{eqb}
+use lib.ListN.{length}
 use Rattle.model.specs.Choice.{if_then_else_}
 use Rattle.model.specs.Log.{Made}
-use Rattle.model.specs.Arena.{cellNumber, waitersAt}
+use Rattle.model.specs.Arena.{waitersAt}
 use Rattle.model.specs.Foreign.{Setting, setting, stepsIn, boundaryOf}
 use Rattle.model.specs.Lock.{takeOf, lockOf, runOf, triedOf, findOf, attemptAt, attemptOf, spinOf, pauseOf, isBusy, retryOf}
 use Rattle.model.specs.declared.Flow.{Flow}
@@ -19,45 +18,16 @@ use Rattle.model.specs.declared.Found.the-variants as found
 use Rattle.model.specs.declared.Lease.{Lease}
 use Rattle.model.specs.declared.Locked.{Locked}
 use Rattle.model.specs.declared.Outcome.the-variants as outcome
-use Rattle.model.specs.declared.Refusal.the-variants as refusal
 use Rattle.model.specs.declared.Run.{Run}
 use Rattle.model.specs.declared.Take.{Take}
 use Rattle.model.specs.declared.Take.the-variants as taking
 use Rattle.model.specs.declared.Tried.{Tried}
 use Rattle.laws.specs.Pick.{if-both, seen-if}
 use Rattle.foreign.specs.Laws.{Paid, boundary-paid}
+use Rattle.bucket.specs.Bounds.{callMost}
 use Rattle.bucket.specs.Model.{againOf}
 use Rattle.lock.specs.Model.{boundariesFor, quietOf}
 use Rattle.lock.specs.Laws.{Sober, lock-sober}
-
--- ---- a key's cell is in range
-
-abbrev one : Bool → ℕ
-one true = 1
-one false = 0
-
-module _ (headers buckets : ℕ) (g registry : List ℕ) (binding bucket : ℕ) where
-  abbrev header : ℕ
-  header = getD registry binding 0
-
-  abbrev Inside : Found → Type 0
-  Inside k = (c : ℕ) → k ≡ found.At c → c < headers * buckets
-
-  cell-inside : header < headers → bucket < buckets → cellNumber buckets header bucket < headers * buckets
-  cell-inside h b = omega (arith, mul-le-mul-right buckets h, suc-mul header buckets)
-
-  pub find-inside : Inside (findOf headers buckets g registry binding bucket)
-  unfolding findOf
-  find-inside = go (leb headers header) (not (eqb (getD g header 0) 0)) (leb buckets bucket) refl refl
-    where
-      go : (x y z : Bool) → leb headers header ≡ x → leb buckets bucket ≡ z
-          → Inside (if x then found.Fault (refusal.BadHeader header) else if y then found.Fault (refusal.Poisoned header) else if z then found.Fault (refusal.InvalidBucket bucket) else found.At (cellNumber buckets header bucket))
-      go true y z p q c e = let w : true ≡ false = cc in absurd (omega (arith, ap one w))
-      go false true z p q c e = let w : true ≡ false = cc in absurd (omega (arith, ap one w))
-      go false false true p q c e = let w : true ≡ false = cc in absurd (omega (arith, ap one w))
-      go false false false p q c e =
-          let w : cellNumber buckets header bucket ≡ c = cc in
-          omega (arith, cell-inside (leb-false _ _ p) (leb-false _ _ q))
 
 -- ---- counts: few enough that no sum wraps
 
@@ -186,7 +156,7 @@ turn-goes headers cells steps script ps n o i buckets registry binding bucket mo
 
 -- where the retry loop stands, before attempt number i: what remains from here is what the whole comes to
 pub record Retrying (e : Setting) (steps buckets : ℕ) (registry : List ℕ) (binding bucket : ℕ) (r₀ : Run) (t₀ g₀ : List ℕ) (i : ℕ) (r : Run) (t g : List ℕ) : Type 0 where
-  pub calm : Calm steps (2000000 + 5 * i) r
+  pub calm : Calm steps (callMost + 5 * i) r
   pub few : i ≤ 4096
   pub words : length t ≡ length t₀
   pub bytes : length g ≡ length g₀

@@ -24,6 +24,7 @@ ghost use Rattle.model.specs.Calls.{starting, transactionalOf, acquireBucketOf}
 ghost use Rattle.bucket.specs.Fine.{keyRules, listRules, BucketFine, onceByKeyOf, retryByKeyOf};
 ghost use Rattle.model.specs.declared.Outcome.the-variants as outcome;
 ghost use Rattle.foreign.specs.Model.{guardsOf, Room};
+ghost use Rattle.bucket.specs.Bounds.{callMost, tryMost};
 ghost use Rattle.bucket.specs.Laws.{Calm};
 ghost use Rattle.bucket.specs.Model.{Fit, Key, againOf};
 
@@ -56,7 +57,7 @@ fn find(
 
 // The run after an attempt that found no cell, and after one that tried it.
 fn missed(run: Run, refusal: Refusal) -> Tried
-    requires { ⌜ run .attempts ≤ 4000000 ⌝ }
+    requires { ⌜ run .attempts ≤ tryMost ⌝ }
     ensures { λ r. ⌜ r ≡ triedOf (runOf (run .flow) (run .attempts + 1) (run .boundaries) (run .yields)) (outcome.Refused refusal) ⌝ }
 {
     let flow = run.flow;
@@ -72,7 +73,7 @@ fn missed(run: Run, refusal: Refusal) -> Tried
 }
 
 fn counted(run: Run, locked: Locked, cell: u32) -> Tried
-    requires { ⌜ (run .attempts ≤ 4000000) × ((run .boundaries ≤ 4000000) × (locked .boundaries ≤ 3)) ⌝ }
+    requires { ⌜ (run .attempts ≤ tryMost) × ((run .boundaries ≤ tryMost) × (locked .boundaries ≤ 3)) ⌝ }
     ensures { λ r. ⌜ r ≡ triedOf (runOf (locked .flow) (run .attempts + 1) (run .boundaries + locked .boundaries) (run .yields)) (outcomeOf cell (locked .answer)) ⌝ }
 {
     let flow = locked.flow;
@@ -105,7 +106,7 @@ fn attempt_once(
     binding: u32,
     bucket: u32,
 ) -> Tried
-    requires { ⌜ Key head cells (length (now table)) (length (now health)) n steps (length (now script)) (length (now registry)) binding × Calm steps 4000000 run ⌝ }
+    requires { ⌜ Key head cells (length (now table)) (length (now health)) n steps (length (now script)) (length (now registry)) binding × Calm steps tryMost run ⌝ }
     ensures { λ r. ⌜ (r, (now (table .exit), now (health .exit))) ≡ attemptOf (setting (head .headers) cells (now (script .entry)) (guardsOf (now (held .entry)) (now (taken .entry)) n)) (head .buckets) (now (registry .entry)) binding bucket run (now (table .entry)) (now (health .entry)) .seen ⌝ }
 {
     let found = find(
@@ -154,7 +155,7 @@ fn attempt(
     binding: u32,
     bucket: u32,
 ) -> Tried
-    requires { ⌜ Key head cells (length (now table)) (length (now health)) n steps (length (now script)) (length (now registry)) binding × Calm steps 4000000 run ⌝ }
+    requires { ⌜ Key head cells (length (now table)) (length (now health)) n steps (length (now script)) (length (now registry)) binding × Calm steps tryMost run ⌝ }
     ensures { λ r. ⌜ (r, (now (table .exit), now (health .exit))) ≡ attemptOf (setting (head .headers) cells (now (script .entry)) (guardsOf (now (held .entry)) (now (taken .entry)) n)) (head .buckets) (now (registry .entry)) binding bucket run (now (table .entry)) (now (health .entry)) .seen ⌝ }
 {
     let found = find(
@@ -206,7 +207,7 @@ fn spin(
     taken: &[[u32; 2]; 64],
     n: usize,
 ) -> Run
-    requires { ⌜ Room headers cells (length (now table)) (length (now health)) n steps (length (now script)) × Calm steps 4000001 run ⌝ }
+    requires { ⌜ Room headers cells (length (now table)) (length (now health)) n steps (length (now script)) × Calm steps (tryMost + 4) run ⌝ }
     ensures { λ r. ⌜ (r, (now (table .exit), now (health .exit))) ≡ spinOf (setting headers cells (now (script .entry)) (guardsOf (now (held .entry)) (now (taken .entry)) n)) run (now (table .entry)) (now (health .entry)) .seen ⌝ }
 {
     let flow = run.flow;
@@ -244,7 +245,7 @@ fn pause(
     taken: &[[u32; 2]; 64],
     n: usize,
 ) -> Run
-    requires { ⌜ Room headers cells (length (now table)) (length (now health)) n steps (length (now script)) × Calm steps 4000000 run ⌝ }
+    requires { ⌜ Room headers cells (length (now table)) (length (now health)) n steps (length (now script)) × Calm steps (tryMost + 3) run ⌝ }
     ensures { λ r. ⌜ (r, (now (table .exit), now (health .exit))) ≡ pauseOf (setting headers cells (now (script .entry)) (guardsOf (now (held .entry)) (now (taken .entry)) n)) i run (now (table .entry)) (now (health .entry)) .seen ⌝ }
 {
     if i % 64 == 63 {
@@ -321,7 +322,7 @@ fn turn(
     binding: u32,
     bucket: u32,
 ) -> Tried
-    requires { ⌜ Key head cells (length (now table)) (length (now health)) n steps (length (now script)) (length (now registry)) binding × Calm steps 3000000 run ⌝ }
+    requires { ⌜ Key head cells (length (now table)) (length (now health)) n steps (length (now script)) (length (now registry)) binding × Calm steps tryMost run ⌝ }
     ensures { λ r. ⌜ (r, (now (table .exit), now (health .exit))) ≡ againOf i (setting (head .headers) cells (now (script .entry)) (guardsOf (now (held .entry)) (now (taken .entry)) n)) (head .buckets) (now (registry .entry)) binding bucket run (now (table .entry)) (now (health .entry)) ⌝ }
 {
     let tried = attempt(
@@ -380,7 +381,7 @@ pub fn retry(
     binding: u32,
     bucket: u32,
 ) -> Tried
-    requires { ⌜ Key head cells (length (now table)) (length (now health)) n steps (length (now script)) (length (now registry)) binding × Calm steps 2000000 start ⌝ }
+    requires { ⌜ Key head cells (length (now table)) (length (now health)) n steps (length (now script)) (length (now registry)) binding × Calm steps callMost start ⌝ }
     ensures { λ r. ⌜ (r, (now (table .exit), now (health .exit))) ≡ retryOf 4096 0 (setting (head .headers) cells (now (script .entry)) (guardsOf (now (held .entry)) (now (taken .entry)) n)) (head .buckets) (now (registry .entry)) binding bucket start (now (table .entry)) (now (health .entry)) .seen ⌝ }
 {
     let mut run = start;

@@ -2,89 +2,27 @@
 use Prim.Native.Nat.{ℕ, zero, suc, _+_, _*_, _-_, _/_, _≤_, _<_}
 use mathlib.Core.Path.{_≡_, refl, ap, subst, _∙_}
 use mathlib.Core.List.{List, [], _∷_, _++_}
-use mathlib.Core.Bool.{Bool, true, false, not, _&&_, _||_}
+use mathlib.Core.Bool.{Bool, true, false}
 use native.Mathlib.Omega.{arith}
 use native.Mathlib.Nat.{div-lt-iff-lt-mul}
-use lib.Dec.{ltb, leb, eqb}
+use lib.Dec.{ltb}
 use native.Mathlib.Decide.{ℕ-discrete}
-use lib.ListN.{length, getD, set, take, drop, length-drop, length-set}
-use lib.Seq.{getD-take, getD-drop, getD-set-same, getD-set-other, length-take-le}
-use borrow.Author.Tests.{ltb-true, ltb-false, leb-true, leb-false, eqb-true, not-false}
+use lib.ListN.{length, getD, set, length-set}
+use lib.Seq.{getD-set-same, getD-set-other}
+use borrow.Author.Tests.{ltb-true, ltb-false, leb-false}
 use Rattle.model.specs.Choice.{if_then_else_}
-use Rattle.model.specs.Arena.{within, cellsOf}
+use Rattle.model.specs.Arena.{cellsOf}
 use Rattle.model.specs.Refusals.{first}
 use Rattle.model.specs.Checks.{badShape, badHealth}
-use Rattle.model.specs.Crew.{total, startOf, allWithin, listOf, badLimits, risesFrom, badLists, badTurns, crewRules}
+use Rattle.model.specs.Crew.{startOf, badLimits, badLists, badTurns, crewRules}
 use Rattle.model.specs.declared.Check.the-variants.{Fine}
 use Rattle.model.specs.declared.Head.{Head}
-use Rattle.laws.specs.Pick.{both}
 use Rattle.laws.specs.Shape.{Shaped}
 use Rattle.laws.specs.Checks.{or-else, first-append, first-two, fine-rest, fine-append}
+use Rattle.laws.specs.Crew.{start-fits, Limited, limits-fine, cell-inside}
 use Rattle.foreign.specs.Fine.{arena-fine}
 use Rattle.crew.specs.Model.{placeOf}
-use Rattle.crew.specs.Lists.{start-next, start-in}
-
--- neither holds
-neither : (a b : Bool) → (a || b) ≡ false → (a ≡ false) × (b ≡ false)
-neither true b e = (let z : true ≡ false = e in cc, cc)
-neither false b e = (refl, e)
-
--- ---- limits
-
-pub record Limited (counts cells turns : List ℕ) : Type 0 where
-  pub some-members : 1 ≤ length counts
-  pub few-members : length counts ≤ 16
-  pub each-few : (m : ℕ) → getD counts m 0 ≤ 64
-  pub few-cells : total counts ≤ 256
-  pub cells-are : length cells ≡ total counts
-  pub few-turns : length turns ≤ 65536
-
-each : (most : ℕ) (l : List ℕ) → allWithin most l ≡ true → (m : ℕ) → getD l m 0 ≤ most
-unfolding allWithin
-each most [] e m = omega arith
-each most (n ∷ ns) e zero = leb-true n most (both (leb n most) (allWithin most ns) e .0)
-each most (n ∷ ns) e (suc m) = each most ns (both (leb n most) (allWithin most ns) e .1) m
-
-pub limits-fine : (counts cells turns : List ℕ) → first (badLimits counts cells turns ∷ []) ≡ Fine → Limited counts cells turns
-limits-fine counts cells turns e =
-    let n = length counts in
-    let a1 = not (within 1 16 n) in
-    let a2 = not (allWithin 64 counts) in
-    let a3 = ltb 256 (total counts) in
-    let a4 = not (eqb (length cells) (total counts)) in
-    let a5 = ltb 65536 (length turns) in
-    let d = neither (a1 || a2 || a3 || a4) a5 (fine-rest _ _ e .0) in
-    let c = neither (a1 || a2 || a3) a4 (d .0) in
-    let b = neither (a1 || a2) a3 (c .0) in
-    let a = neither a1 a2 (b .0) in
-    let w = both (leb 1 n) (leb n 16) (not-false _ (a .0)) in
-    record {
-      some-members = leb-true _ _ (w .0);
-      few-members = leb-true _ _ (w .1);
-      each-few = each 64 counts (not-false _ (a .1));
-      few-cells = ltb-false _ _ (b .1);
-      cells-are = eqb-true _ _ (not-false _ (c .1));
-      few-turns = ltb-false _ _ (d .1);
-    }
-
--- ---- lists
-
-lists-rise : (left m inside : ℕ) (counts cells : List ℕ) → first (badLists left m inside counts cells) ≡ Fine
-    → (j : ℕ) → j < left → risesFrom inside 0 (listOf counts cells (m + j)) ≡ true
-unfolding badLists
-lists-rise zero m inside counts cells e j l = absurd (omega arith)
-lists-rise (suc left) m inside counts cells e zero l = let k : m ≡ m + zero = omega arith in rw (← k) (not-false _ (fine-rest _ _ e .0))
-lists-rise (suc left) m inside counts cells e (suc j) l =
-    let k : m + 1 + j ≡ m + suc j = omega arith in
-    subst (λ i. risesFrom inside 0 (listOf counts cells i) ≡ true) k (lists-rise left (m + 1) inside counts cells (fine-rest _ _ e .1) j (omega arith))
-
-rises-inside : (inside low : ℕ) (cs : List ℕ) → risesFrom inside low cs ≡ true → (i : ℕ) → i < length cs → getD cs i 0 < inside
-unfolding risesFrom
-rises-inside inside low [] e i l = absurd (omega arith)
-rises-inside inside low (c ∷ cs) e zero l =
-    ltb-true c inside (both (leb low c) (ltb c inside) (both (leb low c && ltb c inside) (risesFrom inside (c + 1) cs) e .0) .1)
-rises-inside inside low (c ∷ cs) e (suc i) l =
-    rises-inside inside (c + 1) cs (both (leb low c && ltb c inside) (risesFrom inside (c + 1) cs) e .1) i (omega arith)
+use Rattle.crew.specs.Lists.{start-next}
 
 -- ---- turns
 
@@ -103,18 +41,6 @@ pub record CrewFine (h : Head) (words bytes : ℕ) (counts cells turns : List �
   pub limits : Limited counts cells turns
   pub inside : (m j : ℕ) → m < length counts → j < getD counts m 0 → getD cells (startOf counts m + j) 0 < cellsOf h
   pub named : (i : ℕ) → i < length turns → getD turns i 0 < length counts
-
-cell-inside : (inside : ℕ) (counts cells : List ℕ) → length cells ≡ total counts → first (badLists (length counts) 0 inside counts cells) ≡ Fine
-    → (m j : ℕ) → m < length counts → j < getD counts m 0 → getD cells (startOf counts m + j) 0 < inside
-cell-inside inside counts cells n e m j l b =
-    let s = startOf counts m in
-    let k = getD counts m 0 in
-    let first-one : 0 + m ≡ m = omega arith in
-    let r = subst (λ i. risesFrom inside 0 (listOf counts cells i) ≡ true) first-one (lists-rise (length counts) 0 inside counts cells e m l) in
-    let fits = start-in counts m l in
-    let long : length (take k (drop s cells)) ≡ k = length-take-le k (drop s cells) (rw (length-drop s cells) (omega arith)) in
-    let at : getD (take k (drop s cells)) j 0 ≡ getD cells (s + j) 0 = getD-take k (drop s cells) j 0 b ∙ getD-drop s cells j 0 in
-    rw (← at) (rises-inside inside 0 (take k (drop s cells)) r j (omega arith))
 
 -- one check behind the other
 pub names-then : (inside : ℕ) (counts cells turns : List ℕ)
@@ -149,7 +75,7 @@ crew-fine h t g counts cells turns e =
       shape = s .0;
       bytes-are = s .1;
       limits = k;
-      inside = cell-inside (cellsOf h) counts cells (k .cells-are) (c .0);
+      inside = λ m j _ l. cell-inside (cellsOf h) counts cells (k .cells-are) (c .0) m j l;
       named = turns-name (length counts) 0 turns (c .1);
     }
 
@@ -205,7 +131,6 @@ place-in k start n count e l = rw e (go (ltb n count) refl)
 
 pub record Spot (h : Head) (words bytes : ℕ) (cells : List ℕ) (k : ℕ) : Type 0 where
   pub in-run : k < length cells
-  pub in-array : k < 256
   pub cell-fits : 3 * getD cells k 0 + 2 < words
   pub header-fits : getD cells k 0 / h .buckets < bytes
 
@@ -213,12 +138,11 @@ pub spot : (h : Head) (words bytes : ℕ) (counts cells turns : List ℕ) (m sta
     → start ≡ startOf counts m → k ≡ placeOf start n (getD counts m 0) → n < 2 * getD counts m 0 → Spot h words bytes cells k
 spot h words bytes counts cells turns m start n k f l s p u =
     let r = place-in k start n (getD counts m 0) p u in
-    let fits = start-in counts m l in
+    let fits = start-fits counts m in
     let own : startOf counts m + (k - start) ≡ k = omega (arith, r .0) in
     let low : getD cells k 0 < cellsOf h = subst (λ j. getD cells j 0 < cellsOf h) own (f .inside m (k - start) l (omega (arith, r .0, r .1))) in
     record {
       in-run = omega (arith, r .1, f .limits .cells-are);
-      in-array = omega (arith, r .1, f .limits .few-cells);
       cell-fits = omega (arith, f .shape .words-are);
       header-fits = rw (f .bytes-are) (header-in (h .headers) (h .buckets) (getD cells k 0) (f .shape .some-buckets) low);
     }

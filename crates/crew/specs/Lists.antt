@@ -6,16 +6,15 @@ use mathlib.Core.Bool.{true, not, _&&_}
 use native.Mathlib.Omega.{arith}
 use native.Mathlib.Numerals.{add-one}
 use lib.Dec.{ltb, leb}
-use lib.ListN.{length, getD, set, take, drop, drop-of-length-le, take-append-drop, length-set}
-use lib.Seq.{drop-cons, take-suc, take-suc-set, take-all}
+use lib.ListN.{length, getD, set, take, drop, drop-of-length-le, length-set}
+use lib.Seq.{take-suc, take-suc-set, take-all}
 use Rattle.model.specs.Choice.{if_then_else_}
 use Rattle.model.specs.Refusals.{first}
 use Rattle.model.specs.Crew.{total, startOf, allWithin, risesFrom, badLists, badTurns, takenOf, releasedOf}
 use Rattle.model.specs.declared.Check.the-variants.{Fine, Fault}
 use Rattle.model.specs.declared.Refusal.the-variants.{BadCrew}
-
-pub drop-one : (l : List ℕ) (i : ℕ) → i < length l → drop i l ≡ getD l i 0 ∷ drop (i + 1) l
-drop-one l i b = rw (add-one i) (drop-cons l i 0 b)
+use Rattle.laws.specs.Lists.{drop-one}
+use Rattle.laws.specs.Crew.{total-append}
 
 -- ---- counts
 
@@ -35,11 +34,6 @@ pub total-end : (l : List ℕ) (i : ℕ) → length l ≤ i → total (drop i l)
 unfolding total
 total-end l i b = rw (drop-of-length-le l b)
 
-total-append : (xs ys : List ℕ) → total (xs ++ ys) ≡ total xs + total ys
-unfolding total
-total-append [] ys = omega arith
-total-append (x ∷ xs) ys = omega (arith, total-append xs ys)
-
 -- ---- where lists begin
 
 pub start-first : (counts : List ℕ) → startOf counts 0 ≡ 0
@@ -49,13 +43,6 @@ start-first counts = refl
 pub start-next : (counts : List ℕ) (m : ℕ) → m < length counts → startOf counts (m + 1) ≡ startOf counts m + getD counts m 0
 unfolding startOf total
 start-next counts m l = rw (add-one m, take-suc counts m 0 l, total-append (take m counts) (getD counts m 0 ∷ [])) (omega arith)
-
-start-split : (counts : List ℕ) (m : ℕ) → total counts ≡ startOf counts m + total (drop m counts)
-unfolding startOf
-start-split counts m = sym (ap total (take-append-drop m counts)) ∙ total-append (take m counts) (drop m counts)
-
-pub start-in : (counts : List ℕ) (m : ℕ) → m < length counts → startOf counts m + getD counts m 0 ≤ total counts
-start-in counts m l = omega (arith, start-split counts (m + 1), start-next counts m l)
 
 -- ---- one member's list
 

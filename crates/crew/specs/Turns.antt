@@ -2,7 +2,7 @@
 use Prim.Native.Nat.{ℕ, _+_, _*_, _-_, _/_, _≤_, _<_}
 use mathlib.Core.Path.{_≡_, refl, sym, ap, _∙_}
 use mathlib.Core.List.{List, []}
-use mathlib.Core.Bool.{Bool, true, false, not}
+use mathlib.Core.Bool.{Bool, true, false}
 use native.Mathlib.Omega.{arith}
 use lib.Dec.{ltb, leb, eqb}
 use lib.ListN.{length, getD, set, drop, drop-of-length-le, length-set}
@@ -18,10 +18,10 @@ use Rattle.model.specs.declared.State.{State}
 use Rattle.model.specs.declared.State.the-variants as state
 use Rattle.model.specs.declared.Took.{Took}
 use Rattle.laws.specs.Pick.{if-both}
+use Rattle.laws.specs.Lists.{drop-one}
 use Rattle.lock.specs.Model.{quietTake, quietOf}
 use Rattle.lock.specs.Laws.{lock-quiet}
 use Rattle.crew.specs.Model.{placeOf, moveBy, tryOf, moveOf, after}
-use Rattle.crew.specs.Lists.{drop-one}
 use Rattle.crew.specs.declared.Move.{Move}
 use Rattle.crew.specs.declared.Move.the-variants as move
 
@@ -120,20 +120,21 @@ module _ (headers buckets : ℕ) (g counts cells : List ℕ) (next : ℕ) (t mad
 -- ---- the loop
 
 -- where it stands: every turn passed moved or was idle, and what the turns give from here on is what they give for the whole
-pub record Working (headers buckets : ℕ) (g counts cells turns : List ℕ) (start : Crew) (next : ℕ) (t made serials : List ℕ) (moving i : ℕ) : Type 0 where
+pub record Working (headers buckets : ℕ) (g counts cells turns : List ℕ) (start : Crew) (next : ℕ) (t made : List ℕ) (moving i : ℕ) : Type 0 where
+  -- the serials that the crew has noted; the code notes none, since no turn reads them
+  pub serials : List ℕ
   pub place : i ≤ length turns
   pub few : moving ≤ i
   pub words : length t ≡ length (start .table)
   pub made-length : length made ≡ 16
-  pub serials-length : length serials ≡ 256
   pub rest : turnsOf headers buckets g counts cells (crewAt next t made serials moving (i - moving)) (drop i turns) .seen ≡ turnsOf headers buckets g counts cells start turns .seen
 
-module _ (headers buckets : ℕ) (g counts cells turns : List ℕ) (start : Crew) (next : ℕ) (t made serials : List ℕ) (moving i : ℕ) where
+module _ (headers buckets : ℕ) (g counts cells turns : List ℕ) (start : Crew) (next : ℕ) (t made : List ℕ) (moving i : ℕ) where
   abbrev Here : Type 0
-  Here = Working headers buckets g counts cells turns start next t made serials moving i
+  Here = Working headers buckets g counts cells turns start next t made moving i
 
-  abbrev Then : ℕ → List ℕ → List ℕ → List ℕ → ℕ → Type 0
-  Then next′ t′ made′ serials′ moving′ = Working headers buckets g counts cells turns start next′ t′ made′ serials′ moving′ (i + 1)
+  abbrev Then : ℕ → List ℕ → List ℕ → ℕ → Type 0
+  Then next′ t′ made′ moving′ = Working headers buckets g counts cells turns start next′ t′ made′ moving′ (i + 1)
 
   -- the member whose turn it is, the moves it has made, how many cells it wants
   abbrev member : ℕ
@@ -154,59 +155,59 @@ module _ (headers buckets : ℕ) (g counts cells turns : List ℕ) (start : Crew
   same-idle : i - moving ≡ i + 1 - (moving + 1)
   same-idle = omega arith
 
-  pub work-idle : Here → i < length turns → 2 * wants ≤ so-far → Then next t made serials moving
+  pub work-idle : Here → i < length turns → 2 * wants ≤ so-far → Then next t made moving
   work-idle w l e =
       record {
+        serials = w .serials;
         place = omega arith;
         few = omega (arith, w .few);
         words = w .words;
         made-length = w .made-length;
-        serials-length = w .serials-length;
-        rest = rw (← one-idle (w .few)) (sym (idle-at headers buckets g counts cells next t made serials moving (i - moving) turns i l e) ∙ w .rest);
+        rest = rw (← one-idle (w .few)) (sym (idle-at headers buckets g counts cells next t made (w .serials) moving (i - moving) turns i l e) ∙ w .rest);
       }
 
   module _ (w : Here) (l : i < length turns) (first k : ℕ) (un : Unfinished first k) (mv : Move) (u : List ℕ) (e : (mv, u) ≡ moveOf next buckets t g (ltb so-far wants) (getD cells k 0)) (same : length u ≡ length t) where
-    go-on : turnsOf headers buckets g counts cells (after mv u (crewAt next t made serials moving (i - moving)) member k) (drop (i + 1) turns) .seen ≡ turnsOf headers buckets g counts cells start turns .seen
+    go-on : turnsOf headers buckets g counts cells (after mv u (crewAt next t made (w .serials) moving (i - moving)) member k) (drop (i + 1) turns) .seen ≡ turnsOf headers buckets g counts cells start turns .seen
     go-on =
-        ap (λ (o : Move × List ℕ). turnsOf headers buckets g counts cells (after (o .0) (o .1) (crewAt next t made serials moving (i - moving)) member k) (drop (i + 1) turns) .seen) e
-        ∙ sym (move-at headers buckets g counts cells next t made serials moving (i - moving) turns i first k l (un .0) (un .1 .0) (un .1 .1))
+        ap (λ (o : Move × List ℕ). turnsOf headers buckets g counts cells (after (o .0) (o .1) (crewAt next t made (w .serials) moving (i - moving)) member k) (drop (i + 1) turns) .seen) e
+        ∙ sym (move-at headers buckets g counts cells next t made (w .serials) moving (i - moving) turns i first k l (un .0) (un .1 .0) (un .1 .1))
         ∙ w .rest
 
-    pub work-tried : mv ≡ move.Idle → Then next u made serials moving
+    pub work-tried : mv ≡ move.Idle → Then next u made moving
     work-tried f =
         record {
+          serials = w .serials;
           place = omega arith;
           few = omega (arith, w .few);
           words = same ∙ w .words;
           made-length = w .made-length;
-          serials-length = w .serials-length;
           rest = rw (← one-idle (w .few)) (rw f at go-on);
         }
 
-    pub work-took : (next′ s : ℕ) → mv ≡ move.Took next′ s → Then next′ u (set made member (so-far + 1)) (set serials k s) (moving + 1)
+    pub work-took : (next′ s : ℕ) → mv ≡ move.Took next′ s → Then next′ u (set made member (so-far + 1)) (moving + 1)
     work-took next′ s f =
         record {
+          serials = set (w .serials) k s;
           place = omega arith;
           few = omega (arith, w .few);
           words = same ∙ w .words;
           made-length = length-set made member (so-far + 1) ∙ w .made-length;
-          serials-length = length-set serials k s ∙ w .serials-length;
           rest = rw (← same-idle) (rw f at go-on);
         }
 
-    pub work-gave : mv ≡ move.Gave → Then next u (set made member (so-far + 1)) serials (moving + 1)
+    pub work-gave : mv ≡ move.Gave → Then next u (set made member (so-far + 1)) (moving + 1)
     work-gave f =
         record {
+          serials = w .serials;
           place = omega arith;
           few = omega (arith, w .few);
           words = same ∙ w .words;
           made-length = length-set made member (so-far + 1) ∙ w .made-length;
-          serials-length = w .serials-length;
           rest = rw (← same-idle) (rw f at go-on);
         }
 
   -- past the last turn: what the loop hands back
-  pub work-done : Here → length turns ≤ i → turnsOf headers buckets g counts cells start turns .seen ≡ crewAt next t made serials moving (length turns - moving)
+  pub work-done : (w : Here) → length turns ≤ i → turnsOf headers buckets g counts cells start turns .seen ≡ crewAt next t made (w .serials) moving (length turns - moving)
   work-done w l =
       let e : i ≡ length turns = omega (arith, w .place) in
-      sym (w .rest) ∙ turns-done headers buckets g counts cells next t made serials moving (i - moving) turns i l ∙ ap (λ (n : ℕ). crewAt next t made serials moving (n - moving)) e
+      sym (w .rest) ∙ turns-done headers buckets g counts cells next t made (w .serials) moving (i - moving) turns i l ∙ ap (λ (n : ℕ). crewAt next t made (w .serials) moving (n - moving)) e

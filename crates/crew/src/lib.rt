@@ -250,8 +250,8 @@ fn starts_of(counts: &[u32]) -> [usize; 16]
     starts
 }
 
-// The turns in order, from a crew that holds nothing. Its arrays stay here and a turn gets numbers: an idle turn stores nothing.
-// With its cell, a serial noted is a member's lease. A release compares it with nothing: only its holder ever names it.
+// The turns in order, from a crew that holds nothing. Its moves stay here and a turn gets numbers: an idle turn stores nothing.
+// No serial is kept: a release compares it with nothing, since only its holder ever names a cell.
 fn work(
     head: Head,
     table: &mut [u32],
@@ -265,7 +265,6 @@ fn work(
     ensures { λ r. ⌜ (r, now (table .exit)) ≡ workOf head (now (table .entry)) (now (health .entry)) (now (counts .entry)) (now (cells .entry)) (now (turns .entry)) ⌝ }
 {
     let mut made = [0usize; 16];
-    let mut serials = [0u32; 256];
     let mut next = head.next;
     let mut moving: usize = 0;
     let mut i: usize = 0;
@@ -281,9 +280,8 @@ fn work(
         let once_more = n + 1;
         match turn(head, next, table, health, n < count, cells[k]) {
             Move::Idle => continue,
-            Move::Took(after, serial) => {
+            Move::Took(after, _) => {
                 next = after;
-                serials[k] = serial;
                 made[m] = once_more;
                 moving += 1;
                 continue;

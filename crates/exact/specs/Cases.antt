@@ -66,7 +66,7 @@ arena next table = worldOf (headOf 2 4 next) table (replicate 2 0)
 abbrev key : ℕ → List ℕ → Call
 key bucket held = acquire-bucket registry [] 0 held 0 bucket
 
-passes : (w : World) (k : Call) → first (rules w k) ≡ Fine → Passes w k
+pub passes : (w : World) (k : Call) → first (rules w k) ≡ Fine → Passes w k
 passes w k = clear (rules w k)
 
 -- *"Key (0,2): cell 2, serial 1, next 2, attempts 1, boundaries 3."*

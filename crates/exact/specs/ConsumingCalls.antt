@@ -1,10 +1,9 @@
 -- Every call with a script uses it up as `Consumed` says: from its place to the place that it gives back, with its dropped steps, from the
 -- world before it to the world after it, over its log.
-use Prim.Native.Nat.{ℕ, _*_, _≤_}
+use Prim.Native.Nat.{ℕ}
 use mathlib.Core.Path.{_≡_, refl, sym}
-use mathlib.Core.List.{List, [], _∷_, _++_, append-nil}
+use mathlib.Core.List.{List, [], _++_, append-nil}
 use native.Mathlib.Omega.{arith}
-use lib.ListN.{length}
 use lib.Seq.{take-all}
 use Rattle.model.specs.Log.{Made}
 use Rattle.model.specs.Arena.{leasesOf}
@@ -17,6 +16,7 @@ use Rattle.model.specs.declared.Answer.the-variants.{Done, Cell, Granted, AllGr
 use Rattle.model.specs.declared.Lease.{Lease}
 use Rattle.model.specs.declared.Outcome.{Outcome}
 use Rattle.model.specs.declared.Outcome.the-variants as outcome
+use Rattle.laws.specs.Lists.{leases-few}
 use Rattle.history.specs.World.{World}
 use Rattle.history.specs.Items.{held-of, given-up, place-of, Call, perform, Says, script-of}
 use Rattle.history.specs.Theorems.{lawful-always}
@@ -48,12 +48,6 @@ granted-handed ps AllGranted b = refl
 granted-handed ps Busy b = sym (append-nil ps)
 granted-handed ps (Refused r) b = sym (append-nil ps)
 granted-handed ps (RefusedAt r p) b = sym (append-nil ps)
-
-leases-few : (ws : List ℕ) → 2 * length (leasesOf ws) ≤ length ws
-unfolding leasesOf
-leases-few [] = omega arith
-leases-few (c ∷ []) = omega arith
-leases-few (c ∷ s ∷ ws) = omega (arith, leases-few ws)
 
 -- the same, where nothing is asked of the caller's own events
 abbrev Goes : World → Call → Made (World × Says) → Type 0

@@ -25,11 +25,12 @@ use Rattle.model.specs.declared.Refusal.{Refusal}
 use Rattle.model.specs.declared.Refusal.the-variants.{SerializationFailure}
 use Rattle.model.specs.declared.Run.{Run}
 use Rattle.model.specs.declared.Tried.{Tried}
+use Rattle.laws.specs.Pick.{neither}
 use Rattle.laws.specs.Shape.{shaped}
 use Rattle.history.specs.World.{World, Live}
 use Rattle.history.specs.Items.{Says, says, perform, acquire-bucket, acquire-locks, environment}
 use Rattle.history.specs.Statements.{answer-in, world-in}
-use Rattle.history.specs.Tests.{In, in-left, in-right, in-take, in-index, neither}
+use Rattle.history.specs.Tests.{In, in-left, in-right, in-take, in-index}
 use Rattle.history.specs.Events.{Fit, lives}
 use Rattle.history.specs.Logs.{Kept, nothing, event, kept-live, kept-next, weaken}
 use Rattle.history.specs.Judged.{clear-front, clear-back}

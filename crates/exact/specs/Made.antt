@@ -1,19 +1,12 @@
 -- A call with a script, or a `drop_lease`, whose checks found nothing is its steps: answer, world and log.
-use mathlib.Core.Path.{_≡_, refl}
-use mathlib.Core.List.{List, [], _∷_, append-nil}
-use Rattle.model.specs.Refusals.{Rule, first}
+use mathlib.Core.Path.{_≡_}
+use mathlib.Core.List.{append-nil}
 use Rattle.model.specs.Calls.{dropLeaseOf, environmentOf, tryLockOf, transactionalOf, acquireBucketOf, releaseAllOf, acquireLocksOf}
-use Rattle.model.specs.declared.Check.the-variants.{Fine}
 use Rattle.model.specs.declared.Lease.{Lease}
 use Rattle.history.specs.World.{World}
 use Rattle.history.specs.Items.{Call, drop-lease, environment, try-lock, transactional, acquire-bucket, release-all, acquire-locks, perform, Clear, rules}
-use Rattle.history.specs.Judged.{steps}
+use Rattle.history.specs.Judged.{steps, clear-fine}
 use Rattle.exact.specs.Script.{Scripted, environment-has, try-lock-has, transactional-has, acquire-bucket-has, release-all-has, acquire-locks-has}
-
-clear-fine : (rs : List Rule) → Clear rs → first rs ≡ Fine
-unfolding first
-clear-fine [] c = refl
-clear-fine (r ∷ rs) c = rw (c .0) (clear-fine rs (c .1))
 
 pub made : (w : World) {k : Call} → Scripted k → Clear (rules w k) → perform w k ≡ steps w k
 unfolding perform environmentOf tryLockOf transactionalOf acquireBucketOf releaseAllOf acquireLocksOf

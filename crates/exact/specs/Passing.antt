@@ -16,14 +16,15 @@ use Rattle.model.specs.Lock.{bindingAt}
 use Rattle.model.specs.Checks.{notLive, badScript, bucketRules, scriptRules, badBindings, locksRules, badBinding, countIn, badHeldLength, isOdd}
 use Rattle.model.specs.declared.Head.{Head}
 use Rattle.model.specs.declared.Lease.{Lease}
+use Rattle.laws.specs.Pick.{neither}
 use Rattle.laws.specs.Shape.{shaped}
+use Rattle.laws.specs.Lists.{length-words}
 use Rattle.history.specs.World.{World, step, now}
-use Rattle.history.specs.Tests.{In, in-first, in-rest, in-cases, neither, differ, leases-words, in-either}
+use Rattle.history.specs.Items.{Clear}
+use Rattle.history.specs.Tests.{In, in-first, in-rest, in-cases, differ, leases-words, in-either}
 use Rattle.history.specs.Events.{Fit, fits}
 use Rattle.history.specs.Logs.{Kept, kept-fit, kept-live, arena-now}
 use Rattle.history.specs.Judged.{clear-front, clear-back, clear-append}
-use Rattle.history.specs.ByKey.{words-length}
-use Rattle.history.specs.Items.{Clear}
 
 -- ---- the held list
 
@@ -157,7 +158,7 @@ holding-more w registry script place held binding ls few live c =
     let front = clear-live (w .head) (w .table) 0 (leasesOf held) (clear-front old _ (c .1 .1 .1 .1 .1)) in
     let last = clear-back old _ (c .1 .1 .1 .1 .1) in
     let two = even held (c .1 .1 .1 .1 .0) in
-    let many : length (held ++ wordsOf ls) ≡ length held + 2 * length ls = omega (arith, length-append held (wordsOf ls), words-length ls) in
+    let many : length (held ++ wordsOf ls) ≡ length held + 2 * length ls = omega (arith, length-append held (wordsOf ls), length-words ls) in
     let fits : badHeldLength (held ++ wordsOf ls) .applies ≡ false
     = rw (many, eq-eqb ((length held + 2 * length ls) % 2) 0 (omega arith)) (le-ltb 64 ((length held + 2 * length ls) / 2) (omega arith)) in
     let all = live-clear (w .head) (w .table) 0 (leasesOf (held ++ wordsOf ls))

@@ -5,7 +5,7 @@ use mathlib.Core.Path.{_≡_, refl, sym, ap, _∙_, subst}
 use mathlib.Core.List.{List, [], _∷_, _++_}
 use mathlib.Core.Bool.{false}
 use mathlib.Core.Logic.{_≢_}
-use native.Mathlib.Nat.{mul-le-mul-right, suc-mul, add-zero, zero-add}
+use native.Mathlib.Nat.{add-zero, zero-add}
 use native.Mathlib.Omega.{arith}
 use lib.ListN.{length, set, take, getD}
 use lib.Seq.{set-set, set-getD}
@@ -32,6 +32,7 @@ use Rattle.model.specs.declared.Take.{Take}
 use Rattle.model.specs.declared.Take.the-variants as taking
 use Rattle.model.specs.declared.Tried.{Tried}
 use Rattle.laws.specs.Words.{bit-set-other, owner-set-other}
+use Rattle.laws.specs.Keys.{place-inside}
 use Rattle.history.specs.World.{World, worldOf, Unreleased, now, Lawful}
 use Rattle.history.specs.Items.{Says, says, acquire-bucket, acquire-locks, perform, keyCell, Call, Clear, rules}
 use Rattle.history.specs.Tests.{state-free, In}
@@ -351,7 +352,7 @@ module _ (w : World) (registry script : List ℕ) (place : ℕ) (held keys grant
         let ls = takes-of (leases-from cell j 0 (w .head .next)) in
         let k : Kept w (In (leasesOf held)) then-world ls = record {
           lawful = takes-lawful (w .head) (w .health) cell j apart
-              (λ p i. let a = ready p i .0 in omega (arith, mul-le-mul-right (w .head .buckets) (a .0), suc-mul (getD registry (bindingAt keys p) 0) (w .head .buckets), a .2))
+              (λ p i. let a = ready p i .0 in place-inside (w .head .headers) (w .head .buckets) (getD registry (bindingAt keys p) 0) (bucketAt keys p) (a .0) (a .2))
               j 0 (w .head .next) (w .table) (omega arith) (λ q _ h. ready q (omega arith) .2) serials;
           leads = refl;
           spares = λ l _ _. takes-release-none cell j 0 (w .head .next) l;

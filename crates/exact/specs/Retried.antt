@@ -296,16 +296,13 @@ back-still (suc n) e ls r t g =
 abbrev Sums : ℕ → ℕ → Made Locks → Type 0
 Sums left y m = (z : ℕ) × (m .seen .0 .run .yields ≡ y + z) × Keys-retried left (m .seen .0 .answer) z (spins-in (m .log))
 
+none-of : {ns : List ℕ} → Some-4096 ns → ns ≡ [] → ⊥
+none-of this-key e = let z : _≡_ {A = ℕ} 0 1 = cc in omega arith
+none-of (a-later s) e = let z : _≡_ {A = ℕ} 0 1 = cc in omega arith
+
 none-failed : (keys : ℕ) (a : Answer) → ((p : ℕ) → a ≡ RefusedAt SerializationFailure p → ⊥) → Keys-retried keys a 0 0
 unfolding total total-64
-none-failed keys a n = record { of-key = []; few = omega arith; busy-are = refl; yields-are = refl; failed = λ p e. absurd (n p e); fails = λ s. absurd (empty s) }
-  where
-    empty-of : {ns : List ℕ} → Some-4096 ns → ns ≡ [] → ⊥
-    empty-of this-key e = let z : _≡_ {A = ℕ} 0 1 = cc in omega arith
-    empty-of (a-later s) e = let z : _≡_ {A = ℕ} 0 1 = cc in omega arith
-
-    empty : Some-4096 [] → ⊥
-    empty s = empty-of s refl
+none-failed keys a n = record { of-key = []; few = omega arith; busy-are = refl; yields-are = refl; failed = λ p e. absurd (n p e); fails = λ s. absurd (none-of s refl) }
 
 -- one key more in front
 one-key : (keys b z s : ℕ) (a : Answer) → b < 4096 → Keys-retried keys a z s → Keys-retried (suc keys) a (b / 64 + z) (b + s)
@@ -338,10 +335,6 @@ last-key keys b x p f g =
       fails = λ s. (p, ap (λ (y : Refusal). RefusedAt y p) (g (only s refl)));
     }
   where
-    none-of : {ns : List ℕ} → Some-4096 ns → ns ≡ [] → ⊥
-    none-of this-key e = let z : _≡_ {A = ℕ} 0 1 = cc in omega arith
-    none-of (a-later s) e = let z : _≡_ {A = ℕ} 0 1 = cc in omega arith
-
     only : {ns : List ℕ} → Some-4096 ns → ns ≡ b ∷ [] → b ≡ 4096
     only this-key e = cc
     only (a-later {ns = ns} s) e = let z : ns ≡ [] = cc in absurd (none-of s z)

@@ -13,9 +13,11 @@ use Rattle.model.specs.Foreign.{stepsIn, kindAt, placeAt, numberAt}
 use Rattle.model.specs.Checks.{scriptRules, lockRules, bucketRules, releaseRules, locksRules}
 use Rattle.model.specs.Crew.{total}
 use Rattle.model.specs.declared.Lease.{Lease}
+use Rattle.laws.specs.Crew.{total-append}
 use Rattle.history.specs.World.{World, now, Legal}
 use Rattle.history.specs.Items.{Call, script-of, place-of, perform, Clear, rules}
 use Rattle.history.specs.Logs.{now-append}
+use Rattle.history.specs.Rollback.{Every, end, also, every-append, every-map, every-at}
 use Rattle.exact.specs.Statements.{Asks, dropped, ends, looks, performed, release-it, set-health, set-waiters, take-a-cell, Stepping}
 use Rattle.exact.specs.Script.{Scripted, environment-has, try-lock-has, transactional-has, acquire-bucket-has, release-all-has, acquire-locks-has, place-in, Boundary, at-end, at-five, one-step, attempts-one, yields-once, spins, Consumed, at-rest, counts, takes, gives-up, boundary, Place-goes, Turn, Each-has-its-turn, Points, By-script-only, Tally, Dropped-are}
 use Rattle.exact.specs.Passing.{in-script}
@@ -100,19 +102,6 @@ module _ {script : List ℕ} {x : ℕ} where
 pub each-has-its-turn : Each-has-its-turn perform
 each-has-its-turn w k s fine x l m = turns (script-consumed w k s fine) l m
 
--- all events of a log
-abbrev Every : (Event → Type 0) → List Event → Type 0
-Every P [] = Unit {0}
-Every P (e ∷ es) = P e × Every P es
-
-every-append : (P : Event → Type 0) (es fs : List Event) → Every P es → Every P fs → Every P (es ++ fs)
-every-append P [] fs a b = b
-every-append P (e ∷ es) fs a b = (a .0, every-append P es fs (a .1) b)
-
-every-at : (P : Event → Type 0) (es : List Event) (e : Event) (fs : List Event) → Every P (es ++ (e ∷ fs)) → P e
-every-at P [] e fs a = a .0
-every-at P (x ∷ es) e fs a = every-at P es e fs (a .1)
-
 module _ (script : List ℕ) where
   -- between two places that lie further apart
   wider : {p q o r : ℕ} (e : Event) → o ≤ p → q ≤ r → Points script p q e → Points script o r e
@@ -128,9 +117,8 @@ module _ (script : List ℕ) where
   wider (waiters-set c n) l m a = (a .0, omega (arith, a .1), omega (arith, a .2), a .3, a .4, a .5)
   wider (health-set i n) l m a = (a .0, omega (arith, a .1), omega (arith, a .2), a .3, a .4, a .5)
 
-  all-wider : {p q o r : ℕ} (es : List Event) → o ≤ p → q ≤ r → Every (Points script p q) es → Every (Points script o r) es
-  all-wider [] l m a = tt
-  all-wider (e ∷ es) l m a = (wider e l m (a .0), all-wider es l m (a .1))
+  all-wider : {p q o r : ℕ} {es : List Event} → o ≤ p → q ≤ r → Every (Points script p q) es → Every (Points script o r) es
+  all-wider l m = every-map (λ e. wider e l m)
 
   asked : {w : World} {kind place number : ℕ} {e : Event} (p : ℕ) → Asks w kind place number e → kindAt script p ≡ kind → placeAt script p ≡ place → numberAt script p ≡ number
       → Points script p (p + 1) e
@@ -141,35 +129,30 @@ module _ (script : List ℕ) where
 
   step-points : {ps : List Lease} {w v : World} {x : ℕ} {es : List Event} (p : ℕ)
       → Stepping w ps (kindAt script p) (placeAt script p) (numberAt script p) v es x → Every (Points script p (p + 1)) es
-  step-points p (looks z) = tt
-  step-points p (ends z) = tt
-  step-points p (performed e a l) = (asked p a refl refl refl, tt)
-  step-points p (dropped i j n) = ((p, omega arith, omega arith), tt)
+  step-points p (looks z) = end
+  step-points p (ends z) = end
+  step-points p (performed e a l) = also e (asked p a refl refl refl) end
+  step-points p (dropped i j n) = also step-dropped (p, omega arith, omega arith) end
 
   boundary-points : {ps : List Lease} {p d q c : ℕ} {w v : World} {es : List Event} → Boundary script ps p d w q c v es → Every (Points script p q) es
-  boundary-points (at-end i) = tt
-  boundary-points (at-five i k) = tt
+  boundary-points (at-end i) = end
+  boundary-points (at-five i k) = end
   boundary-points {p = p} (one-step {q = q} {es = es} {fs = fs} i k s b) =
-      every-append (Points script p q) es fs (all-wider es (omega arith) (boundary-rises b) (step-points p s)) (all-wider fs (omega arith) (omega arith) (boundary-points b))
+      every-append (all-wider (omega arith) (boundary-rises b) (step-points p s)) (all-wider (omega arith) (omega arith) (boundary-points b))
 
   points : {ps rs : List Lease} {p d q c : ℕ} {w v : World} {es : List Event} → Consumed Legal script ps p d w rs q c v es → Every (Points script p q) es
-  points at-rest = tt
-  points (counts attempts-one k) = (tt, points k)
-  points (counts yields-once k) = (tt, points k)
-  points (counts spins k) = (tt, points k)
-  points (takes l o k) = (tt, points k)
-  points (gives-up l o k) = (tt, points k)
+  points at-rest = end
+  points (counts attempts-one k) = also _ tt (points k)
+  points (counts yields-once k) = also _ tt (points k)
+  points (counts spins k) = also _ tt (points k)
+  points (takes l o k) = also _ tt (points k)
+  points (gives-up l o k) = also _ tt (points k)
   points {p = p} {q = q} (boundary {es = es} {fs = fs} b k) =
-      (tt, every-append (Points script p q) es fs (all-wider es (omega arith) (place-rises k) (boundary-points b)) (all-wider fs (boundary-rises b) (omega arith) (points k)))
+      also boundary-run tt (every-append (all-wider (omega arith) (place-rises k) (boundary-points b)) (all-wider (boundary-rises b) (omega arith) (points k)))
 
 pub by-script-only : By-script-only perform
 by-script-only w k e before after s fine q =
-    every-at (Points (script-of k) (place-of k) (place-in (perform w k))) before e after (subst (Every (Points (script-of k) (place-of k) (place-in (perform w k)))) q (points (script-of k) (script-consumed w k s fine)))
-
-pub total-append : (ms ns : List ℕ) → total (ms ++ ns) ≡ total ms + total ns
-unfolding total
-total-append [] ns = omega arith
-total-append (m ∷ ms) ns = omega (arith, total-append ms ns)
+    every-at e before after (subst (Every (Points (script-of k) (place-of k) (place-in (perform w k)))) q (points (script-of k) (script-consumed w k s fine)))
 
 module _ {script : List ℕ} where
   no-marks : {w : World} {p d : ℕ} → Tally script w [] p p d d

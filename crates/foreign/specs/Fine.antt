@@ -2,7 +2,7 @@
 use Prim.Native.Nat.{ℕ, _-_, _/_, _%_, _≤_}
 use mathlib.Core.Path.{_≡_, refl}
 use mathlib.Core.List.{List, [], _∷_, append-nil}
-use mathlib.Core.Bool.{Bool, true, false, not, _||_}
+use mathlib.Core.Bool.{true, not, _||_}
 use native.Mathlib.Omega.{arith}
 use lib.Dec.{ltb, eqb}
 use lib.ListN.{length}
@@ -13,15 +13,11 @@ use Rattle.model.specs.Checks.{badShape, badHealth, badScript, scriptRules}
 use Rattle.model.specs.Foreign.{stepsIn, flowOf}
 use Rattle.model.specs.declared.Check.the-variants.{Fine}
 use Rattle.model.specs.declared.Head.{Head}
+use Rattle.laws.specs.Pick.{neither}
 use Rattle.laws.specs.Shape.{Shaped, shaped, healthy}
 use Rattle.laws.specs.Checks.{or-else, first-append, fine-rest, fine-append}
 use Rattle.foreign.specs.Model.{pairsOf, guardsOf, Room}
 use Rattle.foreign.specs.Laws.{Paid}
-
--- neither holds
-neither : (a b : Bool) → (a || b) ≡ false → (a ≡ false) × (b ≡ false)
-neither true b e = (let z : true ≡ false = e in cc, cc)
-neither false b e = (refl, e)
 
 pub record ScriptFine (h : Head) (words bytes script place : ℕ) : Type 0 where
   pub shape : Shaped h words

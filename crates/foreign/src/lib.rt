@@ -62,7 +62,7 @@ fn step_take(cells: u32, next: u32, table: &mut [u32], cell: u32) -> Stepped
 {
     if cell < cells {
         if arena::free(table, cell) {
-            if next < 4294967295 {
+            if model::serial_remains(next) {
                 arena::set_cell(table, cell, 1, next);
                 return Stepped {
                     next: next + 1,

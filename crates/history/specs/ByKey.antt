@@ -10,7 +10,7 @@ use lib.Dec.{leb, eqb}
 use lib.ListN.{length, getD, length-append, List·getD-append}
 use lib.Seq.{getD-append-seam}
 use Rattle.model.specs.Log.{Made}
-use Rattle.model.specs.Arena.{leaseOf, leasesOf, wordsOf, setCell}
+use Rattle.model.specs.Arena.{leaseOf, leasesOf, setCell}
 use Rattle.model.specs.Foreign.{Setting, protecting, flowOf}
 use Rattle.model.specs.Lock.{takeOf, lockOf, outcomeOf, answerOf, settled, findOf, attemptAt, attemptOf, pauseOf, isBusy, retryOf, attemptLimit, noLease, leaseAt, rollbackOf, afterKey, bindingAt, bucketAt, locksOf}
 use Rattle.model.specs.Checks.{countIn}
@@ -28,6 +28,7 @@ use Rattle.model.specs.declared.Take.{Take}
 use Rattle.model.specs.declared.Take.the-variants as taking
 use Rattle.model.specs.declared.Tried.{Tried}
 use Rattle.laws.specs.Pick.{if-both}
+use Rattle.laws.specs.Lists.{length-words}
 use Rattle.history.specs.World.{World}
 use Rattle.history.specs.Items.{Call, try-acquire, drop-lease, read-permission, competing-acquire, release-then-handoff, foreign-release, drop-preserving, acquire-preserving, environment, try-lock, transactional, acquire-bucket, release-all, acquire-locks, crew, perform, asked, cellOf, keyCell}
 use Rattle.history.specs.Statements.{answers, Buffer-is, Grant-is}
@@ -141,11 +142,6 @@ grants-name w k l =
 
 -- ---- what multi-lock's buffer holds
 
-pub words-length : (ls : List Lease) → length (wordsOf ls) ≡ 2 * length ls
-unfolding wordsOf
-words-length [] = refl
-words-length (l ∷ ls) = omega (arith, words-length ls)
-
 module _ (buckets : ℕ) (registry keys : List ℕ) where
   record Filled (n : ℕ) (b : List ℕ) : Type 0 where
     long : length b ≡ 2 * n
@@ -169,7 +165,7 @@ module _ (buckets : ℕ) (registry keys : List ℕ) where
       → let m = locksOf left p e buckets registry keys taken r t g grants .seen in m .0 .answer ≡ AllGranted → Filled total (m .1 .1 .1)
   unfolding locksOf rollbackOf
   locks-filled total zero p h e taken r t g grants n all a =
-      record { long = omega (arith, words-length taken); filled = λ i k. rw (leases-words taken) (all i (omega arith)) }
+      record { long = omega (arith, length-words taken); filled = λ i k. rw (leases-words taken) (all i (omega arith)) }
   locks-filled total (suc left) p h e taken r t g grants n all a =
       let m = retryOf attemptLimit 0 (protecting e taken) buckets registry (bindingAt keys p) (bucketAt keys p) r t g .seen in
       go (m .0 .outcome) (m .0 .run) (m .1 .0) (m .1 .1) (retry-names (protecting e taken) buckets registry (bindingAt keys p) (bucketAt keys p) attemptLimit 0 r t g)

@@ -6,13 +6,14 @@ use native.Mathlib.Omega.{arith}
 use lib.Dec.{eqb}
 use lib.ListN.{length, replicate, length-replicate}
 use Rattle.model.specs.Log.{Actor, Event, took}
-use Rattle.model.specs.Arena.{headOf, bitAt, ownerAt, shapeFits, healthFits}
+use Rattle.model.specs.Arena.{headOf, shapeFits, healthFits}
 use Rattle.model.specs.Calls.{prepareOf}
 use Rattle.model.specs.declared.Answer.{Answer}
 use Rattle.model.specs.declared.Answer.the-variants.{Done, Cell, Granted, AllGranted, Busy, Refused, RefusedAt}
 use Rattle.model.specs.declared.Lease.{Lease}
 use Rattle.laws.specs.Pick.{both}
 use Rattle.laws.specs.Shape.{Shaped, shaped}
+use Rattle.laws.specs.Lists.{zero-bit, zero-owner}
 use Rattle.laws.specs.Prepared.{Outcome, Came, was-done, was-refused, came, prepare-done}
 use Rattle.history.specs.World.{World, worldOf, cells, now, Lawful, one, bits, takes, number-of}
 use Rattle.history.specs.Items.{Says, saying, foreign, Item, call, foreign-step, preparation, preparation-over, Entry, entryOf, Course, noted, events-of, history-of, prepared-by, preparing, next-item, run, cold}
@@ -21,7 +22,6 @@ use Rattle.history.specs.Tests.{free, In}
 use Rattle.history.specs.Events.{Good, fit, sound, counts}
 use Rattle.history.specs.Logs.{now-append, lawful-append, lawful-split, good-now, arena-now, next-now, bits-now, keep-now, spent-now, Kept, ended, nothing}
 use Rattle.history.specs.Steps.{step-kept}
-use Rattle.history.specs.Crew.{zeros}
 use Rattle.history.specs.Calls.{call-kept}
 
 -- ---- a lone foreign step
@@ -41,14 +41,6 @@ pub record Stretch (k : Course) : Type 0 where
   pub good : Good (k .origin)
   pub lawful : Lawful (k .origin) (history-of k)
   pub leads : k .world ≡ now (k .origin) (history-of k)
-
-zero-bit : (n c : ℕ) → bitAt (replicate n 0) c ≡ 0
-unfolding bitAt
-zero-bit n c = zeros n (3 * c)
-
-zero-owner : (n c : ℕ) → ownerAt (replicate n 0) c ≡ 0
-unfolding ownerAt
-zero-owner n c = zeros n (3 * c + 1)
 
 zero-bits : (n m : ℕ) → bits n (replicate m 0) ≡ 0
 unfolding bits

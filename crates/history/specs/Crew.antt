@@ -2,41 +2,36 @@
 use Prim.Native.Nat.{ℕ, zero, suc, _+_, _*_, _-_, _/_, _≤_, _<_}
 use mathlib.Core.Path.{_≡_, refl, sym, ap, _∙_, subst}
 use mathlib.Core.List.{List, [], _∷_, _++_}
-use mathlib.Core.Bool.{true, _&&_, _||_, not}
+use mathlib.Core.Bool.{not}
 use native.Mathlib.Decide.{ℕ-discrete, decLt}
 use native.Mathlib.Omega.{arith}
 use lib.Dec.{ltb, leb, eqb}
-use lib.ListN.{length, getD, set, drop, replicate, length-take, length-drop, length-set, length-replicate, List·getD-eq-default}
-use lib.Seq.{getD-take, getD-drop, getD-set-same, getD-set-other}
-use borrow.Author.Tests.{ltb-true, ltb-false, leb-true, leb-false, eqb-true, not-false}
+use lib.ListN.{length, getD, set, replicate, length-set, length-replicate, List·getD-eq-default}
+use lib.Seq.{getD-set-same, getD-set-other}
+use borrow.Author.Tests.{ltb-true, ltb-false, leb-false}
 use Rattle.model.specs.Log.{Made, Event, by-caller, attempt-begun, boundary-run, released}
-use Rattle.model.specs.Arena.{within, cellsOf, leaseOf, setCell, waitersAt, isIn}
+use Rattle.model.specs.Arena.{cellsOf, leaseOf, setCell, waitersAt, isIn}
 use Rattle.model.specs.Foreign.{flowOf, stepsOf, boundaryOf}
 use Rattle.model.specs.Lock.{takeOf, lateOf, afterTake, secondOf, lockOf}
 use Rattle.model.specs.Calls.{given}
-use Rattle.model.specs.Crew.{total, startOf, countOf, listOf, allWithin, risesFrom, badLists, badTurns, crewRules, Crew, crewAt, moved, afterTry, tryTurnOf, releaseTurnOf, turnOf, turnsOf}
+use Rattle.model.specs.Crew.{total, startOf, countOf, badLimits, badLists, badTurns, crewRules, Crew, crewAt, moved, afterTry, tryTurnOf, releaseTurnOf, turnOf, turnsOf}
 use Rattle.model.specs.declared.Head.{Head}
 use Rattle.model.specs.declared.Lease.{Lease}
 use Rattle.model.specs.declared.Locked.{Locked}
 use Rattle.model.specs.declared.Take.{Take}
 use Rattle.model.specs.declared.Take.the-variants as taking
-use Rattle.laws.specs.Pick.{both, if-both}
+use Rattle.laws.specs.Pick.{if-both}
+use Rattle.laws.specs.Lists.{zeros}
+use Rattle.laws.specs.Crew.{start-fits, limits-fine, cell-inside}
 use Rattle.history.specs.World.{World, worldOf, Live, Unreleased}
 use Rattle.history.specs.Items.{Clear}
-use Rattle.history.specs.Tests.{differ, In, in-first, if-cases, neither}
+use Rattle.history.specs.Tests.{differ, In, in-first, if-cases}
 use Rattle.history.specs.Events.{Fit, lives}
 use Rattle.history.specs.Logs.{Kept, nothing, event, kept-fit, kept-live, weaken, ended}
-use Rattle.history.specs.Judged.{clear-front}
+use Rattle.history.specs.Judged.{clear-front, clear-fine}
 use Rattle.history.specs.Steps.{worldAt, Gains, followed, With, Gained, gained, was-busy, was-damaged, was-spent, lock-kept}
 
 -- ---- the places of the lists
-
-pub start-fits : (counts : List ℕ) (m : ℕ) → startOf counts m + countOf counts m ≤ total counts
-unfolding startOf total
-start-fits [] zero = omega arith
-start-fits [] (suc m) = omega arith
-start-fits (n ∷ ns) zero = omega arith
-start-fits (n ∷ ns) (suc m) = omega (arith, start-fits ns m)
 
 pub start-rises : (counts : List ℕ) (m k : ℕ) → m < k → startOf counts m + countOf counts m ≤ startOf counts k
 unfolding startOf total
@@ -57,24 +52,6 @@ one-place counts m j k i a b e = go (decLt m k) (decLt k m)
 
 -- ---- what the checks say
 
-rises-inside : (inside low : ℕ) (cs : List ℕ) → risesFrom inside low cs ≡ true → (j : ℕ) → j < length cs → getD cs j 0 < inside
-unfolding risesFrom
-rises-inside inside low [] e j l = absurd (omega arith)
-rises-inside inside low (c ∷ cs) e zero l =
-    ltb-true c inside (both (leb low c) (ltb c inside) (both (leb low c && ltb c inside) (risesFrom inside (c + 1) cs) e .0) .1)
-rises-inside inside low (c ∷ cs) e (suc j) l =
-    rises-inside inside (c + 1) cs (both (leb low c && ltb c inside) (risesFrom inside (c + 1) cs) e .1) j (omega arith)
-
-lists-rise : (left m inside : ℕ) (counts cells : List ℕ) → Clear (badLists left m inside counts cells)
-    → (i : ℕ) → m ≤ i → i < m + left → risesFrom inside 0 (listOf counts cells i) ≡ true
-unfolding badLists
-lists-rise zero m inside counts cells c i a b = absurd (omega arith)
-lists-rise (suc left) m inside counts cells c i a b = go (ℕ-discrete i m) (lists-rise left (m + 1) inside counts cells (c .1) i)
-  where
-    go : Dec (i ≡ m) → (m + 1 ≤ i → i < m + 1 + left → risesFrom inside 0 (listOf counts cells i) ≡ true) → risesFrom inside 0 (listOf counts cells i) ≡ true
-    go (yes e) r = rw e (not-false _ (c .0))
-    go (no e) r = r (omega arith) (omega arith)
-
 pub record Limits (h : Head) (counts cells : List ℕ) : Type 0 where
   pub members : length counts ≤ 16
   pub small : total counts ≤ 256
@@ -83,26 +60,13 @@ pub record Limits (h : Head) (counts cells : List ℕ) : Type 0 where
 pub limits : (h : Head) (t g counts cells turns : List ℕ) → Clear (crewRules h t g counts cells turns) → Limits h counts cells
 unfolding crewRules
 limits h t g counts cells turns c =
-    let a = neither (not (within 1 16 (length counts)) || not (allWithin 64 counts) || ltb 256 (total counts) || not (eqb (length cells) (total counts))) (ltb 65536 (length turns)) (c .1 .1 .0) in
-    let b = neither (not (within 1 16 (length counts)) || not (allWithin 64 counts) || ltb 256 (total counts)) (not (eqb (length cells) (total counts))) (a .0) in
-    let d = neither (not (within 1 16 (length counts)) || not (allWithin 64 counts)) (ltb 256 (total counts)) (b .0) in
-    let e = neither (not (within 1 16 (length counts))) (not (allWithin 64 counts)) (d .0) in
-    let f = both (leb 1 (length counts)) (leb (length counts) 16) (not-false (within 1 16 (length counts)) (e .0)) in
-    let size : length cells ≡ total counts = eqb-true _ _ (not-false _ (b .1)) in
+    let lists = badLists (length counts) 0 (cellsOf h) counts cells in
+    let k = limits-fine counts cells turns (clear-fine (badLimits counts cells turns ∷ []) (c .1 .1 .0, tt)) in
     record {
-      members = leb-true (length counts) 16 (f .1);
-      small = ltb-false 256 (total counts) (d .1);
-      inside = λ m j l. go size m j l (decLt m (length counts));
+      members = k .few-members;
+      small = k .few-cells;
+      inside = cell-inside (cellsOf h) counts cells (k .cells-are) (clear-fine lists (clear-front lists (badTurns (length counts) 0 turns) (c .1 .1 .1)));
     }
-  where
-    go : length cells ≡ total counts → (m j : ℕ) → j < countOf counts m → Dec (m < length counts) → getD cells (startOf counts m + j) 0 < cellsOf h
-    go size m j l (yes k) =
-        let k₁ = clear-front (badLists (length counts) 0 (cellsOf h) counts cells) (badTurns (length counts) 0 turns) (c .1 .1 .1) in
-        let r = lists-rise (length counts) 0 (cellsOf h) counts cells k₁ m (omega arith) (omega arith) in
-        let s = start-fits counts m in
-        rw (← getD-drop (startOf counts m) cells j 0, ← getD-take (countOf counts m) (drop (startOf counts m) cells) j 0 l)
-        (rises-inside (cellsOf h) 0 (listOf counts cells m) r j (simp (length-take, length-drop) (omega arith)))
-    go size m j l (no k) = absurd (omega (arith, List·getD-eq-default counts 0 {n = m} (omega arith)))
 
 -- ---- who holds what
 
@@ -353,11 +317,6 @@ module _ (h : Head) (counts cells : List ℕ) (lim : Limits h counts cells) wher
         let k = turn-kept w m s in
         let v = turnOf (h .headers) (h .buckets) g counts cells w m .seen in
         followed (s .good) (k .kept) (turns-kept v ms (k .gain))
-
-pub zeros : (n i : ℕ) → _≡_ {A = ℕ} (getD (replicate n 0) i 0) 0
-zeros zero i = refl
-zeros (suc n) zero = refl
-zeros (suc n) (suc i) = zeros n i
 
 pub crew-kept : (h : Head) (t g counts cells turns : List ℕ) → Fit (worldOf h t g) → Clear (crewRules h t g counts cells turns)
     → let m = turnsOf (h .headers) (h .buckets) g counts cells (crewAt (h .next) t (replicate 16 0) (replicate 256 0) 0 0) turns in

@@ -14,7 +14,7 @@ use Rattle.model.specs.Arena.{lastSerial, cellsOf, headFits, shapeFits, healthF
 use Rattle.model.specs.declared.Head.{Head}
 use Rattle.model.specs.declared.Lease.{Lease}
 use Rattle.laws.specs.Shape.{Shaped, shaped, healthy}
-use Rattle.laws.specs.Words.{length-set-cell, length-set-waiters, bit-set, bit-set-other, bit-set-waiters, owner-set-waiters, Seen, here, there, see}
+use Rattle.laws.specs.Words.{length-set-cell, length-set-waiters, bit-set, bit-set-other, owner-set-other, bit-set-waiters, owner-set-waiters, Seen, here, there, see}
 use Rattle.history.specs.World.{World, cells, Live, Legal, step, Sound, one, bits, Kind, kind-of, code, takes, releases, Releases, Spent}
 use Rattle.history.specs.Tests.{Status, free, held, undamaged, not-damaged, free-words, Alive, alive, live, same-lease}
 
@@ -84,7 +84,7 @@ sound w g =
 pub lives : (w : World) (l : Lease) → Live w l → Alive (w .head .next) (cells w) (w .table) l
 lives w l v = alive (w .head .next) (cells w) (w .table) l v
 
-older : {b o n : ℕ} → Status b o n → Status b o (n + 1)
+pub older : {b o n : ℕ} → Status b o n → Status b o (n + 1)
 older (free b o) = free b o
 older (held b o p) = held b o (omega arith)
 
@@ -98,15 +98,20 @@ fit g = record { shape = g .shape }
 pub at : (w : World) → Fit w → (c : ℕ) → c < cells w → 3 * c + 2 < length (w .table)
 at w f c l = omega (arith, f .shape .words-are)
 
-module _ (w : World) (g : Good w) (c : ℕ) (l : c < cells w) where
-  status-put : (b o n : ℕ) → Status b o n → ((d : ℕ) → d < cells w → Status (bitAt (w .table) d) (ownerAt (w .table) d) n)
-      → (d : ℕ) → d < cells w → Status (bitAt (setCell (w .table) c b o) d) (ownerAt (setCell (w .table) c b o) d) n
-  status-put b o n new old d k = go (see (w .table) c b o d (omega (arith, at w (fit g) c l)))
-    where
-      go : Seen (w .table) c b o d → Status (bitAt (setCell (w .table) c b o) d) (ownerAt (setCell (w .table) c b o) d) n
-      go (here e p q) = rw (p, q) new
-      go (there e p q) = rw (p, q) (old d k)
+-- one cell written, in range or not
+pub status-put : (cells n : ℕ) (t : List ℕ) (c b o : ℕ) → length t ≡ 3 * cells → Status b o n
+    → ((d : ℕ) → d < cells → Status (bitAt t d) (ownerAt t d) n) → (d : ℕ) → d < cells → Status (bitAt (setCell t c b o) d) (ownerAt (setCell t c b o) d) n
+status-put cells n t c b o e new old d k = go (ℕ-discrete d c)
+  where
+    go : Dec (d ≡ c) → Status (bitAt (setCell t c b o) d) (ownerAt (setCell t c b o) d) n
+    go (yes x) = here-put (see t c b o d (omega arith))
+      where
+        here-put : Seen t c b o d → Status (bitAt (setCell t c b o) d) (ownerAt (setCell t c b o) d) n
+        here-put (here _ p q) = rw (p, q) new
+        here-put (there y _ _) = absurd (y x)
+    go (no x) = rw (bit-set-other t c b o d x, owner-set-other t c b o d x) (old d k)
 
+module _ (w : World) (g : Good w) (c : ℕ) (l : c < cells w) where
   -- what is written is free, or held by a serial that owns nothing
   apart-put : (b o : ℕ) → (b ≡ 1 → (d : ℕ) → d < cells w → bitAt (w .table) d ≡ 1 → ownerAt (w .table) d ≢ o) → Apart (setCell (w .table) c b o) (cells w)
   apart-put b o new d e k m x y z = go (see (w .table) c b o d (omega (arith, at w (fit g) c l))) (see (w .table) c b o e (omega (arith, at w (fit g) c l)))
@@ -141,7 +146,7 @@ good-step w (took a c s) g l =
     record {
       shape = reshaped (w .head) (w .head .next + 1) (length (w .table)) (length (setCell (w .table) c 1 s)) (g .shape) (omega arith) (omega arith) (length-set-cell (w .table) c 1 s);
       health-is = g .health-is;
-      status = status-put w g c (l .0 .0) 1 s (w .head .next + 1) (held refl (omega (arith, g .shape .low)) (omega arith)) (λ d k. older (g .status d k));
+      status = status-put (cells w) (w .head .next + 1) (w .table) c 1 s (g .shape .words-are) (held refl (omega (arith, g .shape .low)) (omega arith)) (λ d k. older (g .status d k));
       apart = apart-put w g c (l .0 .0) 1 s (λ _ d k b. omega (arith, issued (g .status d k) b .1));
     }
 good-step w (released a c s) g l =
@@ -149,7 +154,7 @@ good-step w (released a c s) g l =
     record {
       shape = reshaped (w .head) (w .head .next) (length (w .table)) (length (setCell (w .table) c 0 0)) (g .shape) (g .shape .low) (g .shape .high) (length-set-cell (w .table) c 0 0);
       health-is = g .health-is;
-      status = status-put w g c i 0 0 (w .head .next) (free refl refl) (g .status);
+      status = status-put (cells w) (w .head .next) (w .table) c 0 0 (g .shape .words-are) (free refl refl) (g .status);
       apart = apart-put w g c i 0 0 (omega arith);
     }
 good-step w (waiters-set c n) g l =

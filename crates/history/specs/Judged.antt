@@ -35,6 +35,11 @@ clear (r ∷ rs) e = go (r .applies) refl e (clear rs)
     go true a e k = let z : _≡_ {A = ℕ} 0 1 = cc in absurd (omega arith)
     go false a e k = (a, k e)
 
+pub clear-fine : (rs : List Rule) → Clear rs → first rs ≡ Fine
+unfolding first
+clear-fine [] c = refl
+clear-fine (r ∷ rs) c = rw (c .0) (clear-fine rs (c .1))
+
 pub clear-front : (xs ys : List Rule) → Clear (xs ++ ys) → Clear xs
 clear-front [] ys c = tt
 clear-front (x ∷ xs) ys c = (c .0, clear-front xs ys (c .1))

@@ -17,11 +17,13 @@ use Rattle.model.specs.Crew.{total, crewRules, startOf, countOf, Crew, crewAt, 
 use Rattle.model.specs.declared.Take.{Take}
 use Rattle.model.specs.declared.Take.the-variants as taking
 use Rattle.laws.specs.Pick.{if-both}
+use Rattle.laws.specs.Lists.{zeros}
+use Rattle.laws.specs.Crew.{start-fits}
 use Rattle.history.specs.World.{World}
 use Rattle.history.specs.Items.{crew, Clear}
 use Rattle.history.specs.Tests.{if-cases}
 use Rattle.history.specs.Judged.{steps}
-use Rattle.history.specs.Crew.{start-fits, limits, Holds, zeros}
+use Rattle.history.specs.Crew.{limits, Holds}
 use Rattle.history.specs.Naming.{Leases, Sub, Told, any, none, more, andthen, told, Taken, lock-told}
 
 -- a list after one place was written, perhaps past its end

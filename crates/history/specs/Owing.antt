@@ -182,10 +182,11 @@ take-hands n t c = go (stateAt n t c)
     go (state.Held o) = none
     go state.Free = if-both P (serialRemains n) (more (took by-caller c n) (inl refl) none) none
 
-no-grant : {l : Lease} → outcome.Busy ≡ outcome.Granted l → ⊥
+-- an outcome that is no grant
+pub no-grant : {l : Lease} → outcome.Busy ≡ outcome.Granted l → ⊥
 no-grant e = let z : _≡_ {A = ℕ} 0 1 = cc in omega arith
 
-no-refused : {r : Refusal} {l : Lease} → outcome.Refused r ≡ outcome.Granted l → ⊥
+pub no-refused : {r : Refusal} {l : Lease} → outcome.Refused r ≡ outcome.Granted l → ⊥
 no-refused e = let z : _≡_ {A = ℕ} 0 1 = cc in omega arith
 
 abbrev of-locked : ℕ → With Locked → Lease → Type 0

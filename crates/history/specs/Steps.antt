@@ -1,13 +1,11 @@
 -- The model's foreign steps and steps of a lock: the log of each is lawful, leads to the world it leaves, and spares the protected leases.
-use Prim.Native.Nat.{ℕ, zero, suc, _+_, _*_, _-_, _%_, _≤_, _<_}
+use Prim.Native.Nat.{ℕ, zero, suc, _+_, _-_, _%_, _≤_, _<_}
 use mathlib.Core.Path.{_≡_, refl, sym, ap, _∙_, subst}
 use mathlib.Core.List.{List, [], _∷_, _++_}
 use mathlib.Core.Bool.{_&&_, not}
-use native.Mathlib.Nat.{mul-le-mul-right, suc-mul}
 use native.Mathlib.Omega.{arith}
 use lib.Dec.{ltb, leb, eqb}
-use lib.ListN.{getD}
-use borrow.Author.Tests.{ltb-true, leb-true, leb-false, not-true}
+use borrow.Author.Tests.{ltb-true, leb-true, not-true}
 use Rattle.model.specs.Log.{Made, Event, by-caller, by-script, attempt-begun, boundary-run, yielded, spun, step-dropped, took, released, waiters-set, health-set}
 use Rattle.model.specs.Arena.{serialRemains, cellsOf, spentTo, leaseOf, bitAt, ownerAt, waitersAt, isFree, isLive, isIn, stateAt}
 use Rattle.model.specs.Foreign.{stepsIn, kindAt, placeAt, numberAt, stepTakeOf, stepReleaseOf, stepWaitersOf, stepHealthOf, stepOf, stepsOf, boundaryOf, flowOf}
@@ -31,6 +29,7 @@ use Rattle.model.specs.declared.Take.the-variants as taking
 use Rattle.model.specs.declared.Took.{Took}
 use Rattle.model.specs.declared.Tried.{Tried}
 use Rattle.laws.specs.Pick.{both, if-both}
+use Rattle.laws.specs.Keys.{find-inside}
 use Rattle.history.specs.World.{World, worldOf, Live}
 use Rattle.history.specs.Tests.{differ, In, in-first, in-left, in-right, is-free-state, if-cases}
 use Rattle.history.specs.Events.{Fit, lives, taken-live}
@@ -105,28 +104,6 @@ won-from : {n m : ℕ} {v : World} {o : Outcome} → m ≤ n → Won n v o → W
 won-from k (won l x i) = won l x (omega arith)
 won-from k none-yet = none-yet
 won-from k (no-more r) = no-more r
-
--- a key's cell is in range
-find-inside : (headers buckets : ℕ) (g registry : List ℕ) (binding bucket c : ℕ) → findOf headers buckets g registry binding bucket ≡ found.At c → c < headers * buckets
-unfolding findOf
-find-inside headers buckets g registry binding bucket c =
-    if-cases P (leb headers header) (λ e f. fault f)
-    (λ e. if-both P (not (eqb (getD g header 0) 0)) (λ f. fault f)
-    (if-cases P (leb buckets bucket) (λ x f. fault f) (λ x f. inside (leb-false headers header e) (leb-false buckets bucket x) f)))
-  where
-    header : ℕ
-    header = getD registry binding 0
-
-    P : Found → Type 0
-    P f = f ≡ found.At c → c < headers * buckets
-
-    fault : {r : _} → found.Fault r ≡ found.At c → c < headers * buckets
-    fault f = let z : _≡_ {A = ℕ} 0 1 = cc in absurd (omega arith)
-
-    inside : header < headers → bucket < buckets → found.At (header * buckets + bucket) ≡ found.At c → c < headers * buckets
-    inside p q f =
-        let e : header * buckets + bucket ≡ c = cc in
-        omega (arith, mul-le-mul-right buckets p, suc-mul header buckets)
 
 -- ---- foreign steps
 

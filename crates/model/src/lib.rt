@@ -1,6 +1,6 @@
 // The types that document 01's answers are made of. What they mean is in specs/: document 01 itself, as definitions.
 ghost use mathlib.Core.Path.{_≡_};
-ghost use Rattle.model.specs.Arena.{shapeFits, healthFits, issueOf, spentTo};
+ghost use Rattle.model.specs.Arena.{serialRemains, shapeFits, healthFits, issueOf, spentTo};
 ghost use Rattle.model.specs.Refusals.{numberOf, carriedOf};
 
 // The head: header slots H, buckets per header B, and the next serial. It is handed over and given back by value.
@@ -173,6 +173,16 @@ pub struct Ended {
     pub answer: Answer,
 }
 
+// The last serial. It is never issued: where the next serial has reached it, none remains.
+pub const LAST_SERIAL: u32 = 4294967295;
+
+// Whether a serial remains: the one test of it, for a caller's take and for a foreign one.
+pub fn serial_remains(next: u32) -> bool
+    ensures { λ r. ⌜ r ≡ serialRemains next ⌝ }
+{
+    next < LAST_SERIAL
+}
+
 impl Head {
     // Whether the head and the number of the table's words keep the arena's rules.
     pub fn shape_fits(self, words: usize) -> bool
@@ -213,7 +223,7 @@ impl Head {
         ensures { λ r. ⌜ r ≡ issueOf self ⌝ }
     {
         let n = self.next;
-        if n < 4294967295 {
+        if serial_remains(n) {
             return Issue {
                 head: self.spent_to(n + 1),
                 serial: Serial::Issued(n),

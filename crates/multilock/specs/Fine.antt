@@ -1,8 +1,8 @@
 -- The checks of multi-lock, one key at a time, and what is known once they are fine.
 use Prim.Native.Nat.{ℕ, zero, suc, _+_, _*_, _-_, _/_, _≤_, _<_}
-use mathlib.Core.Path.{_≡_, refl, ap, _∙_}
+use mathlib.Core.Path.{_≡_, ap, _∙_}
 use mathlib.Core.List.{List, [], _∷_}
-use mathlib.Core.Bool.{Bool, true, false, not, _||_}
+use mathlib.Core.Bool.{not, _||_}
 use native.Mathlib.Decide.{ℕ-discrete}
 use native.Mathlib.Omega.{arith}
 use lib.Dec.{ltb, eqb}
@@ -17,6 +17,7 @@ use Rattle.model.specs.declared.Check.{Check}
 use Rattle.model.specs.declared.Check.the-variants.{Fine}
 use Rattle.model.specs.declared.Head.{Head}
 use Rattle.model.specs.declared.Played.{Played}
+use Rattle.laws.specs.Pick.{neither}
 use Rattle.laws.specs.Checks.{or-else, first-append, first-two, fine-rest, fine-append}
 use Rattle.foreign.specs.Fine.{ScriptFine}
 use Rattle.bucket.specs.Fine.{keyRules, key-fine, fine-key}
@@ -55,10 +56,6 @@ unfolding locksRules keyRules
 locks-then h t g registry script place held keys grants =
     first-append (badShape h t ∷ badHealth h g ∷ badRegistry registry ∷ badScript script place ∷ badHeld h t held) _
     ∙ ap (λ (c : Check). or-else (first (badShape h t ∷ badHealth h g ∷ badRegistry registry ∷ badScript script place ∷ badHeld h t held)) c) (first-two _ _)
-
-neither : (a b : Bool) → (a || b) ≡ false → (a ≡ false) × (b ≡ false)
-neither true b e = (let z : true ≡ false = e in cc, cc)
-neither false b e = (refl, e)
 
 pub record LocksFine (h : Head) (words bytes script place : ℕ) (registry keys : List ℕ) (grants : ℕ) : Type 0 where
   pub script-ok : ScriptFine h words bytes script place

@@ -26,9 +26,12 @@ use Rattle.model.specs.declared.Take.the-variants as taking
 use Rattle.model.specs.declared.Tried.{Tried}
 use Rattle.foreign.specs.Model.{pairsOf}
 use Rattle.laws.specs.Pick.{if-both}
+use Rattle.laws.specs.Lists.{length-words}
 use Rattle.laws.specs.Checks.{drop-two}
+use Rattle.laws.specs.Keys.{find-inside}
 use Rattle.bucket.specs.Model.{Key}
-use Rattle.bucket.specs.Laws.{Calm, more-calm, find-inside, attempt-calm, pause-calm}
+use Rattle.bucket.specs.Bounds.{keyMost}
+use Rattle.bucket.specs.Laws.{Calm, more-calm, attempt-calm, pause-calm}
 
 -- ---- the array of pairs
 
@@ -108,7 +111,7 @@ module _ (e : Setting) (buckets : ℕ) (registry : List ℕ) (binding bucket : �
 
 -- as the code has them
 pub retry-goes : (o : Tried × (List ℕ × List ℕ)) (headers cells steps : ℕ) (script : List ℕ) (ps : List Lease) (buckets : ℕ) (registry : List ℕ) (binding bucket most : ℕ) (r : Run) (t g : List ℕ)
-    → steps ≡ length script / 3 → o ≡ retryOf 4096 0 (setting headers cells script ps) buckets registry binding bucket r t g .seen → Calm steps most r → Calm steps (most + 20480) (o .0 .run)
+    → steps ≡ length script / 3 → o ≡ retryOf 4096 0 (setting headers cells script ps) buckets registry binding bucket r t g .seen → Calm steps most r → Calm steps (most + keyMost) (o .0 .run)
 retry-goes o headers cells steps script ps buckets registry binding bucket most r t g n q b =
     rw (q, n) (retry-calm (setting headers cells script ps) buckets registry binding bucket 4096 0 most r t g (rw n at b))
 
@@ -154,11 +157,6 @@ words-append : (xs ys : List Lease) → wordsOf (xs ++ ys) ≡ wordsOf xs ++ wor
 unfolding wordsOf
 words-append [] ys = refl
 words-append (x ∷ xs) ys = ap {B = List ℕ} (λ r. x .cell ∷ x .serial ∷ r) (words-append xs ys)
-
-pub length-words : (ls : List Lease) → length (wordsOf ls) ≡ 2 * length ls
-unfolding wordsOf
-length-words [] = refl
-length-words (l ∷ ls) = omega (arith, length-words ls)
 
 -- one pair more is written
 pub words-more : (i : ℕ) (a : List (List ℕ)) (b : List ℕ) → 2 * i + 1 < length b
@@ -209,7 +207,7 @@ inside-push a p c s cells l h b i k = go (ℕ-discrete i p)
 
 -- where multi-lock stands, before the key at position p
 pub record Keying (e : Setting) (steps cells n buckets : ℕ) (registry keys : List ℕ) (grants : List ℕ) (r₀ : Run) (t₀ g₀ : List ℕ) (p : ℕ) (a : List (List ℕ)) (r : Run) (t g : List ℕ) : Type 0 where
-  pub calm : Calm steps (20480 * p) r
+  pub calm : Calm steps (keyMost * p) r
   pub few : p ≤ n
   pub words : length t ≡ length t₀
   pub bytes : length g ≡ length g₀

@@ -2,7 +2,7 @@
 use Prim.Native.Nat.{ℕ, zero, suc, _+_, _*_, _-_, _/_, _≤_, _<_}
 use mathlib.Core.Path.{_≡_, refl, ap, _∙_}
 use mathlib.Core.List.{List, [], _∷_, _++_}
-use mathlib.Core.Bool.{Bool, true, false, not, _||_}
+use mathlib.Core.Bool.{false, not}
 use native.Mathlib.Omega.{arith}
 use lib.Dec.{ltb}
 use lib.ListN.{length, getD, take, drop}
@@ -21,10 +21,12 @@ use Rattle.model.specs.declared.Lease.{Lease}
 use Rattle.model.specs.declared.Played.{Played}
 use Rattle.model.specs.declared.Refusal.the-variants as refusal
 use Rattle.model.specs.declared.Run.{Run}
+use Rattle.laws.specs.Pick.{neither}
 use Rattle.laws.specs.Checks.{or-else, fine-rest, fine-append, leases-at, leases-end, live-inside}
 use Rattle.foreign.specs.Model.{pairsOf, guardsOf, Room}
 use Rattle.foreign.specs.Laws.{boundary-goes}
 use Rattle.foreign.specs.Fine.{ScriptFine, arena-fine, place-fine, script-then, guards-none}
+use Rattle.bucket.specs.Bounds.{callMost}
 use Rattle.bucket.specs.Laws.{Calm}
 
 -- ---- the first leases of a list, and the lease at a position
@@ -92,12 +94,8 @@ releasable-inside h t n earlier (c ∷ s ∷ l) e (suc i) b =
     let k : 2 * suc i ≡ suc (suc (2 * i)) = omega arith in
     rw k (releasable-inside h t (n + 1) (earlier ++ (leaseOf c s ∷ [])) l (fine-rest _ _ (fine-rest _ _ e .1) .1) i (omega arith))
 
-neither : (a b : Bool) → (a || b) ≡ false → b ≡ false
-neither true b e = let z : true ≡ false = e in cc
-neither false b e = e
-
 few-leases : (leases : List ℕ) → tooManyLeases leases .applies ≡ false → countIn leases ≤ 64
-few-leases leases e = ltb-false _ _ (neither (isOdd leases) (ltb 64 (countIn leases)) e)
+few-leases leases e = ltb-false _ _ (neither (isOdd leases) (ltb 64 (countIn leases)) e .1)
 
 pub record ReleaseFine (h : Head) (words bytes script place : ℕ) (leases : List ℕ) : Type 0 where
   pub script-ok : ScriptFine h words bytes script place
@@ -166,7 +164,7 @@ room-for p q k = rw (p, q) k
 
 -- where the loop stands, with k leases still to be released: what remains from here is what the whole comes to
 pub record Giving (e : Setting) (steps : ℕ) (ls : List Lease) (n : ℕ) (r₀ : Run) (t₀ g₀ : List ℕ) (k : ℕ) (r : Run) (t g : List ℕ) : Type 0 where
-  pub calm : Calm steps (3000000 + (n - k)) r
+  pub calm : Calm steps (callMost + (n - k)) r
   pub few : k ≤ n
   pub words : length t ≡ length t₀
   pub bytes : length g ≡ length g₀

@@ -24,6 +24,7 @@ ghost use Rattle.model.specs.Lock.{retryOf, giveBackOf, bindingAt, bucketAt, lo
 ghost use Rattle.model.specs.Calls.{releaseAllOf, acquireLocksOf};
 ghost use Rattle.laws.specs.Checks.{or-else};
 ghost use Rattle.foreign.specs.Model.{pairsOf, guardsOf, Room};
+ghost use Rattle.bucket.specs.Bounds.{callMost, tryMost};
 ghost use Rattle.bucket.specs.Laws.{Calm};
 ghost use Rattle.multilock.specs.Release.{Inside, ReleaseFine, leasesRules, giveOneOf, releaseOnceOf};
 ghost use Rattle.multilock.specs.Locks.{rolledOf, Bound};
@@ -45,7 +46,7 @@ fn give_one(
     n: usize,
     cell: u32,
 ) -> Run
-    requires { ⌜ Room headers cells (length (now table)) (length (now health)) n steps (length (now script)) × (Calm steps 4000000 run × (cell < cells)) ⌝ }
+    requires { ⌜ Room headers cells (length (now table)) (length (now health)) n steps (length (now script)) × (Calm steps tryMost run × (cell < cells)) ⌝ }
     ensures { λ r. ⌜ (r, (now (table .exit), now (health .exit))) ≡ giveOneOf (setting headers cells (now (script .entry)) (guardsOf (now (held .entry)) (now (taken .entry)) n)) run (now (table .entry)) (now (health .entry)) cell ⌝ }
 {
     arena::release(table, cell);
@@ -81,7 +82,7 @@ fn give_back(
     steps: usize,
     leases: &[u32],
 ) -> Run
-    requires { ⌜ Room headers cells (length (now table)) (length (now health)) 0 steps (length (now script)) × (Calm steps 3000000 start × ((length (now leases) / 2 ≤ 64) × Inside cells (now leases))) ⌝ }
+    requires { ⌜ Room headers cells (length (now table)) (length (now health)) 0 steps (length (now script)) × (Calm steps callMost start × ((length (now leases) / 2 ≤ 64) × Inside cells (now leases))) ⌝ }
     ensures { λ r. ⌜ (r, (now (table .exit), now (health .exit))) ≡ giveBackOf (length (now (leases .entry)) / 2) (setting headers cells (now (script .entry)) []) (leasesOf (now (leases .entry))) start (now (table .entry)) (now (health .entry)) .seen ⌝ }
 {
     let none = [[0; 2]; 64];
@@ -243,7 +244,7 @@ fn give_pairs(
     taken: [[u32; 2]; 64],
     n: usize,
 ) -> Run
-    requires { ⌜ Room headers cells (length (now table)) (length (now health)) n steps (length (now script)) × (Calm steps 1900000 start × ((i : ℕ) → i < n → getD (getD taken i []) 0 0 < cells)) ⌝ }
+    requires { ⌜ Room headers cells (length (now table)) (length (now health)) n steps (length (now script)) × (Calm steps callMost start × ((i : ℕ) → i < n → getD (getD taken i []) 0 0 < cells)) ⌝ }
     ensures { λ r. ⌜ (r, (now (table .exit), now (health .exit))) ≡ giveBackOf n (setting headers cells (now (script .entry)) (leasesOf (now (held .entry)))) (pairsOf n 0 taken) start (now (table .entry)) (now (health .entry)) .seen ⌝ }
 {
     let mut run = start;
@@ -283,7 +284,7 @@ fn roll_back(
     n: usize,
     refusal: Refusal,
 ) -> Ended
-    requires { ⌜ Room headers cells (length (now table)) (length (now health)) n steps (length (now script)) × (Calm steps 1900000 run × ((i : ℕ) → i < n → getD (getD taken i []) 0 0 < cells)) ⌝ }
+    requires { ⌜ Room headers cells (length (now table)) (length (now health)) n steps (length (now script)) × (Calm steps callMost run × ((i : ℕ) → i < n → getD (getD taken i []) 0 0 < cells)) ⌝ }
     ensures { λ r. ⌜ (r, (now (table .exit), now (health .exit))) ≡ rolledOf (setting headers cells (now (script .entry)) (leasesOf (now (held .entry)))) (pairsOf n 0 taken) refusal n run (now (table .entry)) (now (health .entry)) ⌝ }
 {
     let after = give_pairs(
@@ -336,7 +337,7 @@ fn try_key(
     registry: &[u32],
     keys: &[u32],
 ) -> Tried
-    requires { ⌜ Bound head cells (length (now table)) (length (now health)) steps (length (now script)) (now registry) (now keys) × (Calm steps 2000000 run × ((p < 64) × (2 * p + 1 < length (now keys)))) ⌝ }
+    requires { ⌜ Bound head cells (length (now table)) (length (now health)) steps (length (now script)) (now registry) (now keys) × (Calm steps callMost run × ((p < 64) × (2 * p + 1 < length (now keys)))) ⌝ }
     ensures { λ r. ⌜ (r, (now (table .exit), now (health .exit))) ≡ retryOf 4096 0 (protecting (setting (head .headers) cells (now (script .entry)) (leasesOf (now (held .entry)))) (pairsOf p 0 (now (taken .entry)))) (head .buckets) (now (registry .entry)) (bindingAt (now (keys .entry)) p) (bucketAt (now (keys .entry)) p) run (now (table .entry)) (now (health .entry)) .seen ⌝ }
 {
     let binding = keys[2 * p];

@@ -13,10 +13,10 @@ use Rattle.model.specs.Choice.{if_then_else_}
 use Rattle.model.specs.Log.{Actor, Event, took, released}
 use Rattle.model.specs.Crew.{startOf, countOf, listOf, Crew, turnOf, turnsOf}
 use Rattle.model.specs.declared.Head.{Head}
+use Rattle.laws.specs.Crew.{member, listed}
 use Rattle.history.specs.World.{one, Kind, takes, releases, kind-of, code, number-of}
 use Rattle.history.specs.Tests.{if-cases}
 use Rattle.progress.specs.Statements.{Open, after, wish, last, Only, Turn, idled, grabbed, gave, cell-of, cells-in, falling, own-log}
-use Rattle.progress.specs.Lists.{member, listed}
 use Rattle.progress.specs.Turns.{turn-is}
 use Rattle.progress.specs.Steady.{Goes, fit, turn-steady}
 

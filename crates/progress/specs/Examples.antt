@@ -10,7 +10,7 @@ use Rattle.model.specs.Refusals.{first}
 use Rattle.model.specs.Crew.{total, startOf, allWithin, risesFrom, badLists, badTurns, crewRules, crewOf}
 use Rattle.model.specs.declared.Check.the-variants.{Fine}
 use Rattle.model.specs.declared.Head.{Head}
-use Rattle.history.specs.Crew.{zeros}
+use Rattle.laws.specs.Lists.{zeros}
 use Rattle.progress.specs.Statements.{In, flat, Open, Met, Rounds-after, Unfinished-after}
 
 abbrev bench : Head

@@ -1,33 +1,21 @@
 -- What the crew's checks give: members are few, and each list lies in the run of cells, in range and strictly rising.
 use Prim.Native.Nat.{ℕ, zero, suc, _+_, _-_, _≤_, _<_}
-use mathlib.Core.Path.{_≡_, _∙_}
-use mathlib.Core.List.{List, [], _∷_}
-use mathlib.Core.Bool.{true, not, _&&_, _||_}
-use native.Mathlib.Decide.{decLt, ℕ-discrete}
+use mathlib.Core.Path.{_≡_}
+use mathlib.Core.List.{List, [], _∷_, _++_}
+use mathlib.Core.Bool.{true, _&&_}
 use native.Mathlib.Omega.{arith}
-use lib.Dec.{ltb, leb, eqb}
-use lib.ListN.{length, getD, drop, length-take, length-drop, List·getD-eq-default}
-use lib.Seq.{getD-take, getD-drop}
-use borrow.Author.Tests.{leb-true, eqb-true, not-false}
-use Rattle.model.specs.Arena.{within, cellsOf}
+use lib.Dec.{ltb, leb}
+use lib.ListN.{length, getD}
+use borrow.Author.Tests.{leb-true, not-false}
+use Rattle.model.specs.Arena.{cellsOf}
 use Rattle.model.specs.Refusals.{first}
-use Rattle.model.specs.Crew.{total, startOf, countOf, listOf, allWithin, risesFrom, badLists, crewRules}
+use Rattle.model.specs.Crew.{startOf, countOf, listOf, risesFrom, badLimits, badLists, badTurns, crewRules}
 use Rattle.model.specs.declared.Check.the-variants.{Fine}
 use Rattle.model.specs.declared.Head.{Head}
 use Rattle.laws.specs.Pick.{both}
 use Rattle.laws.specs.Shape.{Shaped, shaped}
 use Rattle.laws.specs.Checks.{fine-rest, fine-append}
-use Rattle.history.specs.Tests.{neither}
-use Rattle.history.specs.Judged.{clear}
-use Rattle.history.specs.Crew.{start-fits, limits}
-
--- whoever has a cell is a member
-pub member : (counts : List ℕ) (m : ℕ) → 1 ≤ countOf counts m → m < length counts
-member counts m h = go (decLt m (length counts))
-  where
-    go : Dec (m < length counts) → m < length counts
-    go (yes l) = l
-    go (no l) = absurd (omega (arith, List·getD-eq-default counts 0 {n = m} (omega arith)))
+use Rattle.laws.specs.Crew.{member, listed, list-long, limits-fine, lists-rise, cell-inside}
 
 -- ---- a rising list
 
@@ -51,21 +39,6 @@ module _ (inside : ℕ) where
 
 -- ---- the checks
 
--- each list of `left` members from m on
-lists-rise : (left m inside : ℕ) (counts cells : List ℕ) → first (badLists left m inside counts cells) ≡ Fine
-    → (q : ℕ) → m ≤ q → q < m + left → risesFrom inside 0 (listOf counts cells q) ≡ true
-unfolding badLists
-lists-rise zero m inside counts cells e q a b = absurd (omega arith)
-lists-rise (suc left) m inside counts cells e q a b = go (ℕ-discrete q m) (lists-rise left (m + 1) inside counts cells (fine-rest _ _ e .1) q)
-  where
-    go : Dec (q ≡ m) → (m + 1 ≤ q → q < m + 1 + left → risesFrom inside 0 (listOf counts cells q) ≡ true) → risesFrom inside 0 (listOf counts cells q) ≡ true
-    go (yes p) r = rw p (not-false _ (fine-rest _ _ e .0))
-    go (no p) r = r (omega arith) (omega arith)
-
--- the j-th of a member's list
-pub listed : (counts cells : List ℕ) (m j : ℕ) → j < countOf counts m → getD (listOf counts cells m) j 0 ≡ getD cells (startOf counts m + j) 0
-listed counts cells m j l = getD-take (countOf counts m) (drop (startOf counts m) cells) j 0 l ∙ getD-drop (startOf counts m) cells j 0
-
 pub record Fits (h : Head) (words : ℕ) (counts cells : List ℕ) : Type 0 where
   pub shape : Shaped h words
   pub few : length counts ≤ 16
@@ -77,20 +50,19 @@ pub fits : (h : Head) (t g counts cells turns : List ℕ) → first (crewRules h
 unfolding crewRules
 fits h t g counts cells turns e =
     let a = fine-rest _ _ e in
-    let b = fine-rest _ _ (fine-rest _ _ (a .1) .1) in
-    let most = not (within 1 16 (length counts)) || not (allWithin 64 counts) || ltb 256 (total counts) in
-    let d = neither (most || not (eqb (length cells) (total counts))) (ltb 65536 (length turns)) (b .0) .0 in
-    let size : length cells ≡ total counts = eqb-true _ _ (not-false _ (neither most (not (eqb (length cells) (total counts))) d .1)) in
-    let rise = lists-rise (length counts) 0 (cellsOf h) counts cells (fine-append (badLists (length counts) 0 (cellsOf h) counts cells) _ (b .1) .0) in
-    let within-limits = limits h t g counts cells turns (clear _ e) in
+    let lists = badLists (length counts) 0 (cellsOf h) counts cells in
+    let names = badTurns (length counts) 0 turns in
+    let b = fine-append (badLimits counts cells turns ∷ []) (lists ++ names) (fine-rest _ _ (a .1) .1) in
+    let k = limits-fine counts cells turns (b .0) in
+    let fine = fine-append lists names (b .1) .0 in
+    let long = list-long counts cells (k .cells-are) in
     record {
       shape = shaped h (length t) (not-false _ (a .0));
-      few = within-limits .members;
-      long = long size;
-      range = within-limits .inside;
-      rising = λ m x j k l.
-          rw (listed counts cells m x (omega arith), listed counts cells m j l) at (rises-on (cellsOf h) 0 (listOf counts cells m) (rise m (omega arith) (omega (arith, member counts m (omega arith)))) x j k (omega (arith, long size m)));
+      few = k .few-members;
+      long = long;
+      range = cell-inside (cellsOf h) counts cells (k .cells-are) fine;
+      rising = λ m x j r l.
+          rw (listed counts cells m x (omega arith), listed counts cells m j l) at
+          (rises-on (cellsOf h) 0 (listOf counts cells m)
+          (lists-rise (length counts) 0 (cellsOf h) counts cells fine m (omega arith) (omega (arith, member counts m (omega arith)))) x j r (omega (arith, long m)));
     }
-  where
-    long : length cells ≡ total counts → (m : ℕ) → length (listOf counts cells m) ≡ countOf counts m
-    long size m = simp (length-take, length-drop) (omega (arith, start-fits counts m))

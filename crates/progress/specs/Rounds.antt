@@ -1,7 +1,7 @@
 -- Progress: as long as a member is unfinished, some unfinished member is not idle, so each round has a moving turn.
 use Prim.Native.Nat.{ℕ, zero, suc, _+_, _*_, _-_, min, _≤_, _<_}
 use mathlib.Core.Path.{_≡_, refl, ap, _∙_}
-use mathlib.Core.List.{List, [], _∷_, _++_}
+use mathlib.Core.List.{List, [], _∷_}
 use mathlib.Core.Logic.{_⊎_, inl, inr}
 use native.Mathlib.Decide.{decLt}
 use native.Mathlib.Omega.{arith}
@@ -10,11 +10,11 @@ use Rattle.model.specs.Log.{Event}
 use Rattle.model.specs.Arena.{cellsOf, isFree, stateOf, stateAt}
 use Rattle.model.specs.Crew.{total, startOf, countOf, Crew, crewAt, turnOf, turnsOf}
 use Rattle.model.specs.declared.Head.{Head}
-use Rattle.history.specs.Crew.{start-fits, Holds}
+use Rattle.laws.specs.Crew.{start-fits, member}
+use Rattle.history.specs.Crew.{Holds}
 use Rattle.progress.specs.Statements.{In, flat, after, Unfinished, IsRound, Rounds, Open, Ready, Idle, finished, blocked, wish, Turn, idled, grabbed, gave}
 use Rattle.progress.specs.Sum.{sum-at, sum-some}
-use Rattle.progress.specs.Lists.{member}
-use Rattle.progress.specs.Turns.{turn-is}
+use Rattle.progress.specs.Turns.{turn-is, turns-append}
 use Rattle.progress.specs.Steady.{left, Status, same, held, Steady, Goes, fit, was-free, turns-steady}
 
 -- what a member has left to do is at most what all have
@@ -122,11 +122,6 @@ module _ (h : Head) (t g counts cells turns : List ℕ) (o : Open h t g counts c
       go (moves l) = l
       go (rests e i) = absurd (none-left (w .next) (w .table) (w .made) (w .moving) s (λ q l. i q (round q (member counts q (omega arith), l))) m (un .1))
 
-  pub turns-append : (w : Crew) (xs ys : List ℕ) → after h g counts cells w (xs ++ ys) ≡ after h g counts cells (after h g counts cells w xs) ys
-  unfolding turnsOf
-  turns-append w [] ys = refl
-  turns-append w (m ∷ xs) ys = turns-append (turnOf (h .headers) (h .buckets) g counts cells w m .seen) xs ys
-
   -- each round moves, until nothing is left to move
   pub rounds-move : (w : Crew) (rs : List (List ℕ)) → Goes h t g counts cells turns o w → Rounds h g counts cells w rs
       → min (2 * total counts) (w .moving + length rs) ≤ after h g counts cells w (flat rs) .moving
@@ -135,7 +130,7 @@ module _ (h : Head) (t g counts cells turns : List ℕ) (o : Open h t g counts c
   rounds-move w (r ∷ rs) s x =
       let v = after h g counts cells w r in
       let later = rounds-move v rs (turns-steady h t g counts cells turns o w r s) (x .1) in
-      rw (turns-append w r (flat rs)) (go (decLt 0 (left 2 counts (w .made))) later)
+      rw (turns-append h g counts cells w r (flat rs)) (go (decLt 0 (left 2 counts (w .made))) later)
     where
       go : {n : ℕ} → Dec (0 < left 2 counts (w .made)) → min (2 * total counts) (after h g counts cells w r .moving + length rs) ≤ n
           → min (2 * total counts) (w .moving + suc (length rs)) ≤ n

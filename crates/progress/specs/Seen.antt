@@ -14,11 +14,11 @@ use Rattle.model.specs.Checks.{badShape, badHealth}
 use Rattle.model.specs.Crew.{total, countOf, allWithin, badLimits, badLists, badTurns, crewRules, crewOf, Crew}
 use Rattle.model.specs.declared.Check.the-variants.{Fine}
 use Rattle.model.specs.declared.Head.{Head}
+use Rattle.laws.specs.Pick.{neither}
 use Rattle.laws.specs.Checks.{first-skip, first-append, fine-rest, fine-append}
-use Rattle.history.specs.Tests.{neither}
 use Rattle.progress.specs.Statements.{In, flat, start, after, Rounds, Open, Rounds-after}
+use Rattle.progress.specs.Turns.{turns-append, in-left}
 use Rattle.progress.specs.Steady.{fit}
-use Rattle.progress.specs.Rounds.{turns-append}
 use Rattle.progress.specs.Ended.{released-at}
 
 -- ---- the premises with other turns
@@ -57,11 +57,6 @@ turns-name members i (m ∷ ms) e n k =
     let a = fine-rest _ _ e in
     elim k [ inl z ↦ omega (arith, leb-false members m (a .0)) | inr z ↦ turns-name members (i + 1) ms (a .1) n z ]
 
-in-front : (n : ℕ) (xs ys : List ℕ) → In n xs → In n (xs ++ ys)
-in-front n (x ∷ xs) ys (inl e) = inl e
-in-front n (x ∷ xs) ys (inr k) = inr (in-front n xs ys k)
-in-front n [] ys k = absurd k
-
 fine-front : (h : Head) (t g counts cells before later : List ℕ) → first (crewRules h t g counts cells (before ++ later)) ≡ Fine
     → first (crewRules h t g counts cells before) ≡ Fine
 unfolding crewRules
@@ -72,7 +67,7 @@ fine-front h t g counts cells before later e =
     let d = fine-append (badLists (length counts) 0 (cellsOf h) counts cells) (badTurns (length counts) 0 (before ++ later)) (c .1) in
     let most = not (within 1 16 (length counts)) || not (allWithin 64 counts) || ltb 256 (total counts) || not (eqb (length cells) (total counts)) in
     let few = ltb-false 65536 (length (before ++ later)) (neither most (ltb 65536 (length (before ++ later))) (c .0) .1) in
-    fine-turns h t g counts cells (before ++ later) before e (λ n k. turns-name (length counts) 0 (before ++ later) (d .1) n (in-front n before later k))
+    fine-turns h t g counts cells (before ++ later) before e (λ n k. turns-name (length counts) 0 (before ++ later) (d .1) n (in-left n before later k))
     (omega (arith, length-append before later))
 
 -- ---- rounds
@@ -94,7 +89,7 @@ module _ (h : Head) (t g counts cells turns : List ℕ) (o : Open h t g counts c
   by-state before [] e x = tt
   by-state before (r ∷ rs) e x = (
     λ m u. x .0 m (u .0, omega (arith, said before (r ++ flat rs) e m (u .0), u .1)),
-    subst (λ (w : Crew). Rounds h g counts cells w rs) (turns-append h t g counts cells turns o (start h t) before r)
+    subst (λ (w : Crew). Rounds h g counts cells w rs) (turns-append h g counts cells (start h t) before r)
         (by-state (before ++ r) rs (e ∙ sym (append-assoc before r (flat rs))) (x .1)),
   )
 
@@ -103,5 +98,5 @@ module _ (h : Head) (t g counts cells turns : List ℕ) (o : Open h t g counts c
   by-replies before (r ∷ rs) e x = (
     λ m u. x .0 m (u .0, omega (arith, said before (r ++ flat rs) e m (u .0), u .1)),
     by-replies (before ++ r) rs (e ∙ sym (append-assoc before r (flat rs)))
-        (subst (λ (w : Crew). Rounds h g counts cells w rs) (sym (turns-append h t g counts cells turns o (start h t) before r)) (x .1)),
+        (subst (λ (w : Crew). Rounds h g counts cells w rs) (sym (turns-append h g counts cells (start h t) before r)) (x .1)),
   )

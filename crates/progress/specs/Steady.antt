@@ -14,11 +14,13 @@ use Rattle.model.specs.Arena.{cellsOf, bitAt, ownerAt, waitersAt, setCell}
 use Rattle.model.specs.Crew.{total, startOf, countOf, Crew, moved, turnOf, turnsOf}
 use Rattle.model.specs.declared.Head.{Head}
 use Rattle.laws.specs.Words.{length-set-cell, bit-set, owner-set, waiters-set-cell, Seen, here, there, see}
+use Rattle.laws.specs.Lists.{zeros}
+use Rattle.laws.specs.Crew.{start-fits, member}
 use Rattle.history.specs.Tests.{free-words}
-use Rattle.history.specs.Crew.{start-fits, Holds, zeros}
+use Rattle.history.specs.Crew.{Holds}
 use Rattle.progress.specs.Statements.{Open, start, after, wish, last, Turn, idled, grabbed, gave}
 use Rattle.progress.specs.Sum.{sum, sum-same, sum-front, sum-change}
-use Rattle.progress.specs.Lists.{member, Fits, fits}
+use Rattle.progress.specs.Lists.{Fits, fits}
 use Rattle.progress.specs.Turns.{turn-is}
 
 -- ---- what is left to do
@@ -51,15 +53,15 @@ left-move k counts made m l i =
 -- ---- who holds what
 
 -- a member's moves after one move of member m
-data Made (made : List ℕ) (m q : ℕ) : Type 0 where
-  mine : q ≡ m → getD (moved made m) q 0 ≡ getD made q 0 + 1 → Made made m q
+pub data Made (made : List ℕ) (m q : ℕ) : Type 0 where
+  mine : q ≡ m → getD (moved made m) q 0 ≡ getD made m 0 + 1 → getD made q 0 ≡ getD made m 0 → Made made m q
   other : q ≢ m → getD (moved made m) q 0 ≡ getD made q 0 → Made made m q
 
-see-made : (made : List ℕ) (m q : ℕ) → m < length made → Made made m q
+pub see-made : (made : List ℕ) (m q : ℕ) → m < length made → Made made m q
 see-made made m q l = go (ℕ-discrete q m)
   where
     go : Dec (q ≡ m) → Made made m q
-    go (yes p) = mine p (rw p (getD-set-same made m (getD made m 0 + 1) 0 l))
+    go (yes p) = mine p (rw p (getD-set-same made m (getD made m 0 + 1) 0 l)) (ap (λ x. getD made x 0) p)
     go (no p) = other p (getD-set-other made m q (getD made m 0 + 1) 0 p)
 
 module _ (h : Head) (t counts cells : List ℕ) where
@@ -102,11 +104,11 @@ module _ (h : Head) (t counts cells : List ℕ) where
         }
       where
         bound′ : (q : ℕ) → Made made m q → getD (moved made m) q 0 ≤ 2 * countOf counts q
-        bound′ q (mine p e) = omega (arith, ap (λ x. getD made x 0) p, ap (countOf counts) p)
+        bound′ q (mine p e f) = omega (arith, ap (countOf counts) p)
         bound′ q (other p e) = omega (arith, s .bound q)
 
         holds′ : (d q j : ℕ) → d ≢ c → getD cells (startOf counts q + j) 0 ≡ d → Holds counts made q j → Made made m q → Holds counts (moved made m) q j
-        holds′ d q j x is k (mine p e) = omega (arith, still j (rw p at k) (λ y. x (cc)), ap (λ x. getD made x 0) p, ap (countOf counts) p)
+        holds′ d q j x is k (mine p e f) = omega (arith, still j (rw p at k) (λ y. x (cc)), ap (countOf counts) p)
         holds′ d q j x is k (other p e) = omega arith
 
         status′ : (d : ℕ) → Seen u c b o d → Status u made d → Status (setCell u c b o) (moved made m) d

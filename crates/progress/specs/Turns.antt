@@ -1,8 +1,9 @@
 -- One turn: the cases of what comes of it, each with its reason, and what turns add to the counts. Nothing is assumed of the crew.
 use Prim.Native.Nat.{ℕ, _+_, _*_, _-_, _/_, _≤_, _<_}
 use mathlib.Core.Path.{_≡_, refl, sym, ap, _∙_}
-use mathlib.Core.List.{List, [], _∷_}
+use mathlib.Core.List.{List, [], _∷_, _++_}
 use mathlib.Core.Bool.{Bool, true, false}
+use mathlib.Core.Logic.{_⊎_, inl, inr}
 use native.Mathlib.Omega.{arith}
 use lib.Dec.{ltb, leb, eqb}
 use lib.ListN.{length, getD}
@@ -13,21 +14,44 @@ use Rattle.model.specs.Arena.{lastSerial, waitersAt, stateAt}
 use Rattle.model.specs.Foreign.{stepsOf, boundaryOf}
 use Rattle.model.specs.Lock.{takeOf, lateOf, secondOf, lockOf}
 use Rattle.model.specs.Crew.{startOf, countOf, Crew, moved, tryTurnOf, releaseTurnOf, turnOf, turnsOf}
+use Rattle.model.specs.declared.Head.{Head}
 use Rattle.model.specs.declared.State.{State}
 use Rattle.model.specs.declared.State.the-variants as state
 use Rattle.laws.specs.Words.{waiters-set-cell}
 use Rattle.history.specs.World.{number-of, takes, releases}
 use Rattle.history.specs.Tests.{differ, if-cases}
 use Rattle.history.specs.Counted.{number-append}
-use Rattle.progress.specs.Statements.{Only, wish, finished, blocked, Turn, idled, grabbed, gave}
+use Rattle.progress.specs.Statements.{Only, wish, finished, blocked, Turn, idled, grabbed, gave, In, after}
 
 -- a test does not come out both ways
 no : {A : Type 0} {b : Bool} → b ≡ false → b ≡ true → A
 no p q = absurd (differ (sym p ∙ q))
 
+-- ---- lists of turns
+
+pub in-left : (m : ℕ) (xs ys : List ℕ) → In m xs → In m (xs ++ ys)
+in-left m [] ys i = absurd i
+in-left m (x ∷ xs) ys (inl e) = inl e
+in-left m (x ∷ xs) ys (inr i) = inr (in-left m xs ys i)
+
+pub in-right : (m : ℕ) (xs ys : List ℕ) → In m ys → In m (xs ++ ys)
+in-right m [] ys i = i
+in-right m (x ∷ xs) ys i = inr (in-right m xs ys i)
+
+pub in-either : (m : ℕ) (xs ys : List ℕ) → In m (xs ++ ys) → In m xs ⊎ In m ys
+in-either m [] ys i = inr i
+in-either m (x ∷ xs) ys (inl e) = inl (inl e)
+in-either m (x ∷ xs) ys (inr i) = elim (in-either m xs ys i) [ inl j ↦ inl (inr j) | inr j ↦ inr j ]
+
+pub turns-append : (h : Head) (g counts cells : List ℕ) (w : Crew) (xs ys : List ℕ)
+    → after h g counts cells w (xs ++ ys) ≡ after h g counts cells (after h g counts cells w xs) ys
+unfolding turnsOf
+turns-append h g counts cells w [] ys = refl
+turns-append h g counts cells w (m ∷ xs) ys = turns-append h g counts cells (turnOf (h .headers) (h .buckets) g counts cells w m .seen) xs ys
+
 -- ---- a log with one take, or one release
 
-only-counts : {e : Event} {log : List Event} → Only e log
+pub only-counts : {e : Event} {log : List Event} → Only e log
     → (number-of takes log ≡ number-of takes (e ∷ [])) × (number-of releases log ≡ number-of releases (e ∷ []))
 unfolding number-of
 only-counts {e} {log} (before, later, is, q, r) =

@@ -3,9 +3,9 @@ use Prim.Native.Nat.{ℕ, zero, suc, _+_, _*_, _-_, _≤_, _<_}
 use mathlib.Core.Path.{_≡_, refl, sym, ap, _∙_, subst}
 use mathlib.Core.List.{List, [], _∷_, _++_}
 use mathlib.Core.Logic.{_≢_, _⊎_, inl, inr}
-use native.Mathlib.Omega.{arith}
-use native.Mathlib.Nat.{div-eq-of-eq-mul-left}
 use native.Mathlib.Decide.{ℕ-discrete}
+use native.Mathlib.Nat.{div-eq-of-eq-mul-left}
+use native.Mathlib.Omega.{arith}
 use lib.ListN.{length, getD, length-append}
 use borrow.Author.Tests.{eq-eqb, ne-eqb}
 use Rattle.model.specs.Log.{Made}
@@ -21,8 +21,8 @@ use Rattle.swaps.specs.Steps.{Step, stepWords, leaves, dropped, after-al
 use Rattle.swaps.specs.Scripts.{scriptOf, Unended}
 use Rattle.swaps.specs.Fine.{Fine}
 use Rattle.swaps.specs.Acts.{fine-leaves}
-use Rattle.swaps.specs.Owners.{three-on}
 use Rattle.swaps.specs.Lists.{shuffle, fine-all}
+use Rattle.swaps.specs.Owners.{three-on}
 
 -- ---- the words of a script
 

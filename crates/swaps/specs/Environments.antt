@@ -10,9 +10,9 @@ use borrow.Author.Tests.{eqb-true}
 use Rattle.model.specs.Choice.{if_then_else_}
 use Rattle.model.specs.Log.{Made, gives, _>>=_}
 use Rattle.model.specs.Arena.{leasesOf}
+use Rattle.model.specs.Refusals.{first, judge}
 use Rattle.model.specs.Foreign.{Setting, stepsIn, kindAt, flowOf, stepsOf, boundaryOf}
 use Rattle.model.specs.Lock.{runOf}
-use Rattle.model.specs.Refusals.{first, judge}
 use Rattle.model.specs.Checks.{scriptRules}
 use Rattle.model.specs.Calls.{given, played, unplayed, environmentOf}
 use Rattle.model.specs.declared.Answer.the-variants.{Done}
@@ -27,8 +27,8 @@ use Rattle.swaps.specs.Renaming.{renamed-owners, renamed-step, renamed-s
 use Rattle.swaps.specs.Scripts.{scriptOf, Unended, Ended, ends}
 use Rattle.swaps.specs.Statements.{Boundary-runs, Reply-renamed, Environment-retaken}
 use Rattle.swaps.specs.Owners.{identity}
-use Rattle.swaps.specs.Boundaries.{goes-on, play, stand, turn-last, same-length, steps-in, word-on}
 use Rattle.swaps.specs.Retakes.{steps-retake}
+use Rattle.swaps.specs.Boundaries.{goes-on, play, stand, turn-last, same-length, steps-in, word-on}
 
 -- ---- one boundary
 

@@ -1,20 +1,19 @@
 -- What an event leaves of other cells, and that a legal event keeps the premise.
 use Prim.Native.Nat.{ℕ, _+_, _*_, _≤_, _<_}
-use mathlib.Core.Path.{_≡_, refl, sym, _∙_}
-use mathlib.Core.List.{List}
+use mathlib.Core.Path.{_≡_, refl, sym, ap, _∙_}
 use mathlib.Core.Bool.{Bool, true, false, _&&_}
 use mathlib.Core.Logic.{_≢_}
 use native.Mathlib.Omega.{arith}
-use native.Mathlib.Decide.{ℕ-discrete}
-use lib.ListN.{length}
 use lib.Dec.{ltb}
+use lib.ListN.{length}
 use borrow.Author.Tests.{ltb-true}
 use Rattle.model.specs.Log.{Event, attempt-begun, boundary-run, yielded, spun, step-dropped, took, released, waiters-set, health-set}
-use Rattle.model.specs.Arena.{leaseOf, bitAt, ownerAt, setCell, stateOf, stateAt, heldBy, isLive}
+use Rattle.model.specs.Arena.{cellsOf, leaseOf, bitAt, ownerAt, setCell, stateOf, stateAt, heldBy, isLive}
 use Rattle.laws.specs.Shape.{shaped}
-use Rattle.laws.specs.Words.{length-set-cell, length-set-waiters, bit-set-other, owner-set-other, bit-set-waiters, owner-set-waiters, Seen, here, there, see}
+use Rattle.laws.specs.Words.{length-set-cell, length-set-waiters, bit-set-other, owner-set-other, bit-set-waiters, owner-set-waiters}
 use Rattle.history.specs.World.{World, worldOf, cells, Legal, step, Sound}
 use Rattle.history.specs.Tests.{Status, free, held, undamaged, state-free, state-held}
+use Rattle.history.specs.Events.{older, status-put, same-arena}
 use Rattle.swaps.specs.Steps.{Whole}
 
 pub sound-arena : (w : World) → Sound w → Whole w
@@ -71,15 +70,7 @@ state-kept w (health-set i n) c f l a = refl
 
 -- the head but for the next serial stays
 same-cells : (w : World) (e : Event) → cells (step w e) ≡ cells w
-same-cells w attempt-begun = refl
-same-cells w boundary-run = refl
-same-cells w yielded = refl
-same-cells w spun = refl
-same-cells w step-dropped = refl
-same-cells w (took a c s) = refl
-same-cells w (released a c s) = refl
-same-cells w (waiters-set c n) = refl
-same-cells w (health-set i n) = refl
+same-cells w e = ap cellsOf (same-arena w e)
 
 -- a lease of a cell that the event leaves alone is live after it exactly if it was live before
 pub live-kept : (w : World) (e : Event) (c s : ℕ) → Fine w → Away e c
@@ -94,25 +85,8 @@ live-kept w e c s f a = rw (same-cells w e) (go (ltb c (cells w)) refl)
 
 -- ---- a step keeps the premise
 
-pub older : {b o n : ℕ} → Status b o n → Status b o (n + 1)
-older (free b o) = free b o
-older (held b o p) = held b o (omega arith)
-
 pub at : (w : World) (f : Fine w) (c : ℕ) → c < cells w → 3 * c + 2 < length (w .table)
 at w f c l = omega (arith, f .words)
-
--- one cell written, in range or not
-pub status-put : (cells n : ℕ) (t : List ℕ) (c b o : ℕ) → length t ≡ 3 * cells → Status b o n
-    → ((d : ℕ) → d < cells → Status (bitAt t d) (ownerAt t d) n) → (d : ℕ) → d < cells → Status (bitAt (setCell t c b o) d) (ownerAt (setCell t c b o) d) n
-status-put cells n t c b o e new old d k = go (ℕ-discrete d c)
-  where
-    go : Dec (d ≡ c) → Status (bitAt (setCell t c b o) d) (ownerAt (setCell t c b o) d) n
-    go (yes x) = here-put (see t c b o d (omega arith))
-      where
-        here-put : Seen t c b o d → Status (bitAt (setCell t c b o) d) (ownerAt (setCell t c b o) d) n
-        here-put (here _ p q) = rw (p, q) new
-        here-put (there y _ _) = absurd (y x)
-    go (no x) = rw (bit-set-other t c b o d x, owner-set-other t c b o d x) (old d k)
 
 -- a cell made free, in range or not
 pub freed : (w : World) (c : ℕ) → Fine w → Fine (worldOf (w .head) (setCell (w .table) c 0 0) (w .health))

@@ -6,28 +6,29 @@ use native.Mathlib.Omega.{arith}
 use lib.ListN.{length}
 use Rattle.model.specs.Log.{Made}
 use Rattle.model.specs.Arena.{spentTo, serialRemains, stateAt, leasesOf}
-use Rattle.model.specs.Foreign.{flowOf}
 use Rattle.model.specs.Refusals.{first, judge}
-use Rattle.model.specs.Checks.{countIn, scriptRules, lockRules, bucketRules, releaseRules, locksRules}
+use Rattle.model.specs.Foreign.{flowOf}
 use Rattle.model.specs.Lock.{takeIn, takeOf, attemptLimit}
+use Rattle.model.specs.Checks.{countIn, scriptRules, lockRules, bucketRules, releaseRules, locksRules}
 use Rattle.model.specs.Calls.{starting, environmentOf, tryLockOf, transactionalOf, acquireBucketOf, releaseAllOf, acquireLocksOf}
 use Rattle.model.specs.declared.Check.{Check}
 use Rattle.model.specs.declared.Check.the-variants as check
 use Rattle.model.specs.declared.Head.{Head}
 use Rattle.model.specs.declared.Played.{Played}
 use Rattle.model.specs.declared.Refusal.{Refusal}
-use Rattle.model.specs.declared.Took.{Took}
 use Rattle.model.specs.declared.State.{State}
 use Rattle.model.specs.declared.State.the-variants as state
+use Rattle.model.specs.declared.Took.{Took}
 use Rattle.laws.specs.Pick.{if-both}
 use Rattle.laws.specs.Words.{length-set-cell}
 use Rattle.history.specs.World.{World, worldOf, cells}
 use Rattle.history.specs.Items.{perform}
 use Rattle.history.specs.Tests as tests
+use Rattle.history.specs.Events.{older, status-put}
 use Rattle.swaps.specs.Steps.{Step, Shuffled}
 use Rattle.swaps.specs.Scripts.{scriptOf, Unended, Respelled, stretch, onward, environments, try-locks, transactionals, acquire-buckets, releases-all, acquires-locks}
 use Rattle.swaps.specs.Statements.{Calls-rescripted}
-use Rattle.swaps.specs.Fine.{Fine, fine, older, status-put, freed}
+use Rattle.swaps.specs.Fine.{Fine, fine, freed}
 use Rattle.swaps.specs.Boundaries.{Ran, same-length, shuffled-length, Calm, boundary-alike}
 use Rattle.swaps.specs.Walks.{Twins, lock-alike, attempt-alike, retry-alike, back-alike, locks-alike}
 

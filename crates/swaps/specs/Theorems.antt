@@ -1,15 +1,15 @@
 -- The statements of `Statements`, each proved; the proofs are in the files behind.
 use Rattle.swaps.specs.Statements.{Sound-whole, Two-releases, Take-release, Release-take, Take-waiters, Waiters-take, Release-waiters, Waiters-release, Two-waiters, Take-health, Health-take, Release-health, Health-release, Waiters-health, Health-waiters, Two-healths, Two-takes, Exchanged-words, Different-places, Other-kinds, Any-steps, Idle-take, Two-events, Two-take-events, Logs-reordered, Steps-shuffled, Lone-steps, History-shuffled, Boundary-runs, Calls-rescripted, Logs-recast, Steps-retaken, Environment-retaken, Live-older, Renamed-words, Issued-stay}
 use Rattle.swaps.specs.Fine.{sound-arena}
-use Rattle.swaps.specs.Rows.{places-part, kinds-part, releases-swap, take-release-swap, release-take-swap, take-waiters-swap, waiters-take-swap, release-waiters-swap, waiters-release-swap, waiters-swap, take-health-swap, health-take-swap, release-health-swap, health-release-swap, waiters-health-swap, health-waiters-swap, healths-swap}
-use Rattle.swaps.specs.Acts.{take-steps-swap, any-steps-swap, idle-take-swap}
 use Rattle.swaps.specs.Pairs.{exchanged-cells, events-swap, take-events-swap}
+use Rattle.swaps.specs.Acts.{take-steps-swap, any-steps-swap, idle-take-swap}
+use Rattle.swaps.specs.Rows.{places-part, kinds-part, releases-swap, take-release-swap, release-take-swap, take-waiters-swap, waiters-take-swap, release-waiters-swap, waiters-release-swap, waiters-swap, take-health-swap, health-take-swap, release-health-swap, health-release-swap, waiters-health-swap, health-waiters-swap, healths-swap}
 use Rattle.swaps.specs.Lists.{logs-reorder, steps-shuffle, run-alone, history-shuffle}
-use Rattle.swaps.specs.Rescripts.{calls-rescript}
+use Rattle.swaps.specs.Owners.{renamed-cells, issued-moves}
 use Rattle.swaps.specs.Recasts.{recast-logs}
 use Rattle.swaps.specs.Retakes.{steps-retake, live-before}
+use Rattle.swaps.specs.Rescripts.{calls-rescript}
 use Rattle.swaps.specs.Environments.{boundary-plays, environment-retake}
-use Rattle.swaps.specs.Owners.{renamed-cells, issued-moves}
 
 pub sound-whole : Sound-whole
 sound-whole = sound-arena

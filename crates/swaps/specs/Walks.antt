@@ -9,8 +9,8 @@ use Rattle.model.specs.Choice.{if_then_else_}
 use Rattle.model.specs.Log.{Made}
 use Rattle.model.specs.Arena.{waitersAt, setCell, leaseOf}
 use Rattle.model.specs.Foreign.{flowOf, boundaryOf}
-use Rattle.model.specs.Calls.{given}
 use Rattle.model.specs.Lock.{takeOf, afterTake, lateOf, secondOf, lockOf, runOf, findOf, attemptAt, attemptOf, spinOf, pauseOf, isBusy, retryOf, leaseAt, giveBackOf, rollbackOf, afterKey, bindingAt, bucketAt, attemptLimit, Locks, locksOf}
+use Rattle.model.specs.Calls.{given}
 use Rattle.model.specs.declared.Flow.{Flow}
 use Rattle.model.specs.declared.Found.{Found}
 use Rattle.model.specs.declared.Found.the-variants as found

@@ -32,12 +32,13 @@ use Rattle.history.specs.Statements.{answers, leaves, log-of}
 use Rattle.history.specs.Theorems.{counts-are}
 use Rattle.history.specs.Judged.{unchanged}
 use Rattle.history.specs.Steps.{of-flow}
+use Rattle.laws.specs.Keys.{place-inside}
 use Rattle.upstream.specs.Vocabulary.{Key, Authority, lease-key, dom, contains-key, cells, Valid-cell, valid, authorized, held-ids, leases-authorized, contains-place, key-of, bucket-request-valid, bucket-reply, physical, guards-place}
 use Rattle.upstream.specs.Protocol.{trace-valid, trace-keeps, trace-buries}
 use Rattle.upstream.specs.Bridge.{by-name, by-place, fits-sized, refused, first-after, by-checks}
 use Rattle.upstream.specs.Refusing.{First-bad, held-refused}
 use Rattle.upstream.specs.TryAcquire.{fine-fault}
-use Rattle.upstream.specs.Keys.{Finds, bad-header, poisoned, bad-bucket, at, finds, place-inside, answer-granted, Granted-at, attempt-key, retry-key}
+use Rattle.upstream.specs.Keys.{Finds, bad-header, poisoned, bad-bucket, at, finds, answer-granted, Granted-at, attempt-key, retry-key}
 use Rattle.upstream.specs.Scripts.{Ready, attempt-goes, retry-goes}
 use Rattle.upstream.specs.Environment.{Went, unmoved, held-live}
 use Rattle.upstream.specs.TryLock.{lock-damaged}

@@ -29,9 +29,10 @@ use Rattle.history.specs.Items.{Call, try-lock, acquire-locks, perform, Clear}
 use Rattle.history.specs.Statements.{answers}
 use Rattle.history.specs.Judged.{unchanged}
 use Rattle.history.specs.Tests.{leases-words}
+use Rattle.laws.specs.Keys.{place-inside}
 use Rattle.upstream.specs.Vocabulary.{Key, Authority, Pair, Guard, lease-key, contains-key, key-at, guards-place, guards-match, all-guards-in, physical-members, guard-members}
 use Rattle.upstream.specs.Bridge.{refused, by-checks}
-use Rattle.upstream.specs.Keys.{place-inside, Granted-at, retry-key}
+use Rattle.upstream.specs.Keys.{Granted-at, retry-key}
 use Rattle.upstream.specs.TryLock.{granted-key, try-lock-e4}
 
 -- ---- a cell number tells header and bucket

@@ -1,11 +1,10 @@
 -- A key's cell: what its header, health and bucket come to, and that a lease which attempts on the key grant is on that cell. No table is
 -- asked to be valid here: document 001 asks nothing of it.
-use Prim.Native.Nat.{ℕ, zero, suc, _+_, _*_, _≤_, _<_}
+use Prim.Native.Nat.{ℕ, zero, suc, _+_, _≤_, _<_}
 use mathlib.Core.Path.{_≡_, sym, ap, _∙_}
 use mathlib.Core.List.{List}
 use mathlib.Core.Bool.{not}
 use native.Mathlib.Omega.{arith}
-use native.Mathlib.Nat.{mul-le-mul-right, suc-mul}
 use lib.Dec.{leb, eqb}
 use lib.ListN.{getD}
 use borrow.Author.Tests.{leb-true, leb-false, eqb-true, eq-eqb, not-true, not-false}
@@ -52,9 +51,6 @@ finds headers buckets g registry binding bucket =
 
     P : Found → Type 0
     P f = Finds headers buckets g registry binding bucket f
-
-pub place-inside : (headers buckets header bucket : ℕ) → header < headers → bucket < buckets → cellNumber buckets header bucket < headers * buckets
-place-inside headers buckets header bucket p q = omega (arith, mul-le-mul-right buckets p, suc-mul header buckets)
 
 -- a take that granted this lease
 pub granted-lease : (c : ℕ) (a : Take) (l : Lease) → outcomeOf c a ≡ outcome.Granted l → (a ≡ taking.Granted (l .serial)) × (l ≡ leaseOf c (l .serial))

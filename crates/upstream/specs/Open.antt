@@ -1,7 +1,7 @@
 -- "What upstream leaves open" (document 01), as mathematics. For each sentence: upstream's contract of the function, restated on what was
 -- before, the result and what is after; a wrong build; that the contract accepts it (`accepted-..`); and that our promise, the equation
 -- with document 01's definition, rejects it (`rejected-..`). The arena of the work order's fears fits in one or two cells.
-use Prim.Native.Nat.{ℕ, _+_, _*_, _<_}
+use Prim.Native.Nat.{ℕ, _+_, _<_}
 use mathlib.Core.Path.{_≡_, refl, sym, ap, _∙_, subst}
 use mathlib.Core.List.{List, [], _∷_}
 use mathlib.Core.Bool.{false}
@@ -28,7 +28,7 @@ use Rattle.history.specs.Items.{try-acquire, acquire-preserving, drop-preservin
 use Rattle.history.specs.Statements.{answers, leaves}
 use Rattle.history.specs.Tests.{In, if-cases, differ, same-lease}
 use Rattle.history.specs.Events.{lives}
-use Rattle.history.specs.Crew.{zeros}
+use Rattle.laws.specs.Lists.{zero-bit, zero-owner}
 use Rattle.upstream.specs.Vocabulary.{Key, cell, Authority, lease-key, lease-serial, next-serial, dom, contains-key, cells, insert, Cells-are, Valid-cell, valid, authorized, Release, Gives-up, protected-valid, held-ids, leases-authorized, key-of}
 use Rattle.upstream.specs.Protocol.{Put, here, there, put, bit-of, owner-of, step-valid, step-keeps, step-frees}
 use Rattle.upstream.specs.Bridge.{authorized-live, by-name, by-place, Sized, put-cells, sized-now, event-step}
@@ -368,14 +368,6 @@ pub record Ensured-release (w : Authority) (leases : List Lease) (v : Authority)
 
 abbrev pub frees-all : Authority → List ℕ → Answer × Authority
 frees-all w leases = (Done, worldOf (w .head) (replicate (length (w .table)) 0) (w .health))
-
-zero-bit : (n c : ℕ) → bitAt (replicate n 0) c ≡ 0
-unfolding bitAt
-zero-bit n c = zeros n (3 * c)
-
-zero-owner : (n c : ℕ) → ownerAt (replicate n 0) c ≡ 0
-unfolding ownerAt
-zero-owner n c = zeros n (3 * c + 1)
 
 pub accepted-frees-all : (w : Authority) (leases : List ℕ) → valid w → Ensured-release w (leasesOf leases) (frees-all w leases .1)
 accepted-frees-all w leases v =

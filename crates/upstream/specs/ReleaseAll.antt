@@ -1,5 +1,5 @@
 -- 000: `release_all`.
-use Prim.Native.Nat.{ℕ, zero, suc, _+_, _*_, _≤_, _<_}
+use Prim.Native.Nat.{ℕ, zero, suc, _+_, _≤_, _<_}
 use mathlib.Core.Path.{_≡_, sym, ap, _∙_, subst}
 use mathlib.Core.List.{List, [], _∷_, _++_, append-nil}
 use mathlib.Core.Bool.{true, not}
@@ -27,6 +27,7 @@ use Rattle.model.specs.declared.Refusal.{Refusal}
 use Rattle.model.specs.declared.Refusal.the-variants.{NotHeld, Repeated}
 use Rattle.model.specs.declared.Run.{Run}
 use Rattle.laws.specs.Checks.{first-hit, first-skip}
+use Rattle.laws.specs.Lists.{leases-few}
 use Rattle.history.specs.World as world
 use Rattle.history.specs.World.{Live}
 use Rattle.history.specs.Items.{release-all, perform, Clear}
@@ -166,12 +167,6 @@ not-releasable-again w n earlier (k ∷ ls) (suc i) l c v d =
 plus-zero : (i : ℕ) → 0 + i ≡ i
 plus-zero i = omega arith
 
-few : (ws : List ℕ) → 2 * length (leasesOf ws) ≤ length ws
-unfolding leasesOf
-few [] = omega arith
-few (c ∷ []) = omega arith
-few (c ∷ s ∷ ws) = omega (arith, few ws)
-
 -- ---- `release_all`
 
 module _ (w : Authority) (script : List ℕ) (place : ℕ) (leases : List ℕ) where
@@ -243,4 +238,4 @@ module _ (w : Authority) (script : List ℕ) (place : ℕ) (leases : List ℕ) w
   release-all-e3 v a =
       by-checks (λ m. m .seen .1 .answer ≡ Done → (i : ℕ) → i < length ls → authorized (m .seen .0) (leaseAt ls i) → ⊥) w (release-all script place leases)
       (λ r e q. absurd (omega (arith, ap kindOf q)))
-      (λ e k q i l x. gone-all (fits-sized w (not-false _ (k .0))) v a .gone i (omega (arith, few leases)) (x .mine))
+      (λ e k q i l x. gone-all (fits-sized w (not-false _ (k .0))) v a .gone i (omega (arith, leases-few leases)) (x .mine))

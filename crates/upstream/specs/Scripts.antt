@@ -29,10 +29,11 @@ use Rattle.history.specs.World as world
 use Rattle.history.specs.Tests.{differ, same-lease, In, in-first, in-cases, in-left, in-right, in-either}
 use Rattle.history.specs.Logs.{Kept}
 use Rattle.history.specs.Steps.{worldAt, With, of-flow, of-locked, of-run, of-tried, step-kept}
+use Rattle.laws.specs.Keys.{place-inside}
 use Rattle.upstream.specs.Vocabulary.{Key, Authority, Acquires, Leases, next-serial, cells, valid, authorized, Step, Acquire, Release, step, releases, protected-valid}
 use Rattle.upstream.specs.Protocol.{Trace, ended, first, join, trace-valid, trace-keeps, loosen, step-grants}
 use Rattle.upstream.specs.Bridge.{authorized-live, Sized, sized-now, lawful-trace, event-step}
-use Rattle.upstream.specs.Keys.{Finds, bad-header, poisoned, bad-bucket, at, finds, place-inside, granted-lease}
+use Rattle.upstream.specs.Keys.{Finds, bad-header, poisoned, bad-bucket, at, finds, granted-lease}
 use Rattle.upstream.specs.TryAcquire.{Tries, acquired, tries-some, tries-none, tries-sized}
 
 -- ---- a way from one state to another

@@ -1,7 +1,7 @@
 -- The words lose nothing: equal words are equal replies.
 use Prim.Native.Nat.{ℕ, zero, suc, _+_}
 use mathlib.Core.Path.{_≡_, refl, sym, ap, _∙_}
-use mathlib.Core.List.{List, [], _∷_, _++_}
+use mathlib.Core.List.{List, _∷_, _++_}
 use lib.Dec.{eqb}
 use native.Mathlib.Omega.{arith}
 use native.Mathlib.Numerals.{add-one}
@@ -12,7 +12,8 @@ use Rattle.model.specs.Calls.{countsOf}
 use Rattle.model.specs.Choice.{if_then_else_}
 use Rattle.model.specs.Crew.{takenOf, releasedOf, crewRules, crewOf}
 use Rattle.model.specs.Log.{Made}
-use Rattle.model.specs.Refusals.{refusalOf, numberOf, carriedOf, first, judge}
+use Rattle.model.specs.Order.{refusal-is}
+use Rattle.model.specs.Refusals.{refusalOf, first, judge}
 use Rattle.model.specs.declared.Answer.{Answer}
 use Rattle.model.specs.declared.Answer.the-variants.{Done, Cell, Granted, AllGranted, Busy, Refused, RefusedAt}
 use Rattle.model.specs.declared.Check.{Check}
@@ -21,29 +22,11 @@ use Rattle.model.specs.declared.CrewReply.{CrewReply}
 use Rattle.model.specs.declared.Head.{Head}
 use Rattle.model.specs.declared.Played.{Played}
 use Rattle.model.specs.declared.Refusal.{Refusal}
-use Rattle.model.specs.declared.Refusal.the-variants.{BadShape, BadScript, BadHeld, TooMany, BadBinding, BadHeader, Poisoned, InvalidBucket, Damaged, SerialsSpent, SerializationFailure, NotHeld, Protected, Repeated, BadCrew}
 use Rattle.model.specs.declared.Reply.{Reply}
 use Rattle.words.specs.Laws.{four}
 use Rattle.words.specs.Words.{answerWords, replyWords, playedWords, eachOf, crewWords, told}
 
 -- ---- the way back
-
-pub refusal-back : (r : Refusal) → refusalOf (numberOf r) (carriedOf r) ≡ r
-refusal-back BadShape = refl
-refusal-back BadScript = refl
-refusal-back (BadHeld k) = refl
-refusal-back TooMany = refl
-refusal-back (BadBinding k) = refl
-refusal-back (BadHeader k) = refl
-refusal-back (Poisoned k) = refl
-refusal-back (InvalidBucket k) = refl
-refusal-back (Damaged k) = refl
-refusal-back (SerialsSpent k) = refl
-refusal-back SerializationFailure = refl
-refusal-back (NotHeld k) = refl
-refusal-back Protected = refl
-refusal-back (Repeated k) = refl
-refusal-back (BadCrew k) = refl
 
 -- the answer that four words tell
 abbrev pub answerIn : List ℕ → Answer
@@ -63,8 +46,8 @@ answer-back (Cell c) = refl
 answer-back (Granted l) = refl
 answer-back AllGranted = refl
 answer-back Busy = refl
-answer-back (Refused r) = ap Refused (refusal-back r)
-answer-back (RefusedAt r p) = ap (λ (x : Refusal). RefusedAt x p) (refusal-back r)
+answer-back (Refused r) = ap Refused (refusal-is r)
+answer-back (RefusedAt r p) = ap (λ (x : Refusal). RefusedAt x p) (refusal-is r)
 
 -- the reply that twelve words tell
 abbrev pub playedIn : List ℕ → Played

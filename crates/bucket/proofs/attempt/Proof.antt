@@ -5,7 +5,8 @@ use borrow.Author.Needs.{needs}
 use Rattle.model.specs.Foreign.{setting}
 use Rattle.model.specs.Lock.{attemptOf}
 use Rattle.bucket.proofs.attempt.Statement.{statement}
-use Rattle.bucket.specs.Laws.{find-inside, sober-of, quiet-few}
+use Rattle.laws.specs.Keys.{find-inside}
+use Rattle.bucket.specs.Laws.{sober-of, quiet-few}
 use Rattle.foreign.specs.Model.{guardsOf}
 use Rattle.lock.specs.Laws.{lock-quiet}
 use Rattle.bucket.proofs.attempt.Tie as tie

@@ -3,7 +3,8 @@ use mathlib.Core.Path.{sym, _∙_}
 use borrow.Author.Needs.{needs}
 use Rattle.model.specs.Lock.{attemptOf}
 use Rattle.bucket.proofs.attempt_once.Statement.{statement}
-use Rattle.bucket.specs.Laws.{find-inside, sober-of}
+use Rattle.laws.specs.Keys.{find-inside}
+use Rattle.bucket.specs.Laws.{sober-of}
 use Rattle.bucket.proofs.attempt_once.Tie as tie
 
 find-requires : tie.Need-find-requires

@@ -7,7 +7,8 @@ use borrow.Author.Needs.{needs}
 use Rattle.model.specs.Crew.{startOf, badLists}
 use Rattle.model.specs.Refusals.{first}
 use Rattle.crew.proofs.lists_fault.Statement.{statement}
-use Rattle.crew.specs.Lists.{start-first, start-next, start-in, lists-at, lists-end}
+use Rattle.crew.specs.Lists.{start-first, start-next, lists-at, lists-end}
+use Rattle.laws.specs.Crew.{start-fits}
 use Rattle.crew.proofs.lists_fault.Tie as tie
 
 abbrev Inv-loop : tie.InvT-loop
@@ -30,10 +31,10 @@ cast-count : tie.Need-cast-count Inv-loop μ-loop
 cast-count c = omega (arith, c .shared-slice-known3 .given (c .before .before .loop .m))
 
 rises-requires : tie.Need-rises-requires Inv-loop μ-loop
-rises-requires c κs = omega (arith, c .before .before .loop .inv .1 .0, c .before .before .before .before .before .pre .1, start-in (c .before .before .before .before .before .args .counts .now) (c .before .before .loop .m) (c .before .loop-test .taken))
+rises-requires c κs = omega (arith, c .before .before .loop .inv .1 .0, c .before .before .before .before .before .pre .1, start-fits (c .before .before .before .before .before .args .counts .now) (c .before .before .loop .m))
 
 add-start : tie.Need-add-start Inv-loop μ-loop
-add-start c = omega (arith, c .before .before .before .before .loop .inv .1 .0, c .before .before .before .before .before .before .before .pre .1, start-in (c .before .before .before .before .before .before .before .args .counts .now) (c .before .before .before .before .loop .m) (c .before .before .before .loop-test .taken))
+add-start c = omega (arith, c .before .before .before .before .loop .inv .1 .0, c .before .before .before .before .before .before .before .pre .1, start-fits (c .before .before .before .before .before .before .before .args .counts .now) (c .before .before .before .before .loop .m))
 
 add-m : tie.Need-add-m Inv-loop μ-loop
 add-m c = search needs

@@ -2,7 +2,8 @@
 use mathlib.Core.Path.{sym, _∙_}
 use borrow.Author.Needs.{needs}
 use Rattle.crew.proofs.plan_fault.Statement.{statement}
-use Rattle.crew.specs.Fine.{limits-fine, plan-then}
+use Rattle.laws.specs.Crew.{limits-fine}
+use Rattle.crew.specs.Fine.{plan-then}
 use Rattle.crew.proofs.plan_fault.Tie as tie
 
 limits-fault-requires : tie.Need-limits-fault-requires

@@ -2,22 +2,22 @@
 use Prim.Native.Nat.{_*_, _-_, _≤_, _<_}
 use mathlib.Core.Path.{_≡_, refl, sym, ap}
 use native.Mathlib.Omega.{arith}
-use lib.ListN.{length, getD}
+use lib.ListN.{length, getD, replicate}
 use borrow.Author.Needs.{needs}
 use Rattle.model.specs.Crew.{startOf}
 use Rattle.crew.proofs.work.Statement.{statement}
 use Rattle.crew.specs.Fine.{Spot, spot}
-use Rattle.crew.specs.Lists.{start-in}
+use Rattle.laws.specs.Crew.{start-fits}
 use Rattle.crew.specs.Model.{placeOf, begin, handed, workOf}
 use Rattle.crew.specs.Turns.{Working, work-idle, work-tried, work-took, work-gave, work-done}
 use Rattle.crew.proofs.work.Tie as tie
 
 abbrev Inv-loop : tie.InvT-loop
-Inv-loop head table₀ health counts cells starts turns made₀ serials₀ next₀ moving₀ i₀ table made serials next moving i =
-    Working (head .headers) (head .buckets) health counts cells turns (begin head table₀) next table made serials moving i
+Inv-loop head table₀ health counts cells starts turns made₀ next₀ moving₀ i₀ table made next moving i =
+    Working (head .headers) (head .buckets) health counts cells turns (begin head table₀) next table made moving i
 
 abbrev μ-loop : tie.MeasureT-loop
-μ-loop head table₀ health counts cells starts turns made₀ serials₀ next₀ moving₀ i₀ table made serials next moving i = length turns - i
+μ-loop head table₀ health counts cells starts turns made₀ next₀ moving₀ i₀ table made next moving i = length turns - i
 
 -- the member whose turn it is: it is named, its list begins where `starts` says, and it wants few cells
 named : (c : tie.In-loop Inv-loop μ-loop) → let a = c .before .before .before .before .before .before .before .args in getD (a .turns .now) (c .before .loop .i) 0 < length (a .counts .now)
@@ -44,7 +44,7 @@ spot-of : (c : tie.After-place Inv-loop μ-loop)
 spot-of c = spot _ _ _ _ _ _ _ _ _ _ (c .before .before .before .before .before .before .before .before .before .before .before .before .pre .0) (named (c .before .before .before .before .before)) (begins (c .before .before .before .before .before)) (c .place .ensures) (c .before .before .if1 .left)
 
 loop-holds : tie.Need-loop-holds Inv-loop μ-loop
-loop-holds c = record { place = search needs; few = search needs; words = refl; made-length = refl; serials-length = refl; rest = refl }
+loop-holds c = record { serials = replicate 256 0; place = search needs; few = search needs; words = refl; made-length = refl; rest = refl }
 
 mul-m : tie.Need-mul-m Inv-loop μ-loop
 mul-m c = search needs
@@ -80,7 +80,7 @@ loop-less : tie.Need-loop-less Inv-loop μ-loop
 loop-less c = search needs
 
 loop-again : tie.Need-loop-again Inv-loop μ-loop
-loop-again c = work-idle _ _ _ _ _ _ _ _ _ _ _ _ _ (c .before .before .before .before .loop .inv) (c .before .before .before .loop-test .taken) (c .if1 .taken)
+loop-again c = work-idle _ _ _ _ _ _ _ _ _ _ _ _ (c .before .before .before .before .loop .inv) (c .before .before .before .loop-test .taken) (c .if1 .taken)
 
 mul-place : tie.Need-mul-place Inv-loop μ-loop
 mul-place c = omega (arith, named (c .before .before .before), c .before .before .before .before .before .before .before .before .before .before .pre .0 .limits .few-members)
@@ -89,7 +89,7 @@ element-copy-out-place : tie.Need-element-copy-out-place Inv-loop μ-loop
 element-copy-out-place c = omega (arith, named (c .before .before .before), c .before .before .before .before .before .before .before .before .before .before .pre .0 .limits .few-members)
 
 place-requires : tie.Need-place-requires Inv-loop μ-loop
-place-requires c κs = (omega (arith, begins (c .before .before .before .before), start-in (c .before .before .before .before .before .before .before .before .before .before .before .args .counts .now) (getD (c .before .before .before .before .before .before .before .before .before .before .before .args .turns .now) (c .before .before .before .before .before .loop .i) 0) (named (c .before .before .before .before)), c .before .before .before .before .before .before .before .before .before .before .before .pre .0 .limits .few-cells), c .before .if1 .left)
+place-requires c κs = (omega (arith, begins (c .before .before .before .before), start-fits (c .before .before .before .before .before .before .before .before .before .before .before .args .counts .now) (getD (c .before .before .before .before .before .before .before .before .before .before .before .args .turns .now) (c .before .before .before .before .before .loop .i) 0), c .before .before .before .before .before .before .before .before .before .before .before .pre .0 .limits .few-cells), c .before .if1 .left)
 
 add-once-more : tie.Need-add-once-more Inv-loop μ-loop
 add-once-more c = omega (arith, wants-few (c .before .before .before .before .before), c .before .before .if1 .left)
@@ -110,16 +110,10 @@ loop-less-2 : tie.Need-loop-less-2 Inv-loop μ-loop
 loop-less-2 c = search needs
 
 loop-again-2 : tie.Need-loop-again-2 Inv-loop μ-loop
-loop-again-2 c = work-tried _ _ _ _ _ _ _ _ _ _ _ _ _ (c .before .before .before .before .before .before .before .before .before .before .before .before .before .loop .inv) (c .before .before .before .before .before .before .before .before .before .before .before .before .loop-test .taken) _ _ (unfinished (c .before .before .before .before .before .before .before)) _ _ (c .before .before .before .before .turn .ensures) (search needs) (c .enum-told .given .1)
+loop-again-2 c = work-tried _ _ _ _ _ _ _ _ _ _ _ _ (c .before .before .before .before .before .before .before .before .before .before .before .before .before .loop .inv) (c .before .before .before .before .before .before .before .before .before .before .before .before .loop-test .taken) _ _ (unfinished (c .before .before .before .before .before .before .before)) _ _ (c .before .before .before .before .turn .ensures) (search needs) (c .enum-told .given .1)
 
 enum-known-after : tie.Need-enum-known-after Inv-loop μ-loop
 enum-known-after c = search needs
-
-mul-serials : tie.Need-mul-serials Inv-loop μ-loop
-mul-serials c = omega (arith, spot-of (c .before .before .before .before .before .before .before .before) .in-array)
-
-array-write-serials : tie.Need-array-write-serials Inv-loop μ-loop
-array-write-serials c = omega (arith, spot-of (c .before .before .before .before .before .before .before .before) .in-array, c .before .before .before .before .before .before .before .before .before .before .before .before .before .before .loop .inv .serials-length)
 
 mul-made : tie.Need-mul-made Inv-loop μ-loop
 mul-made c = omega (arith, named (c .before .before .before .before .before .before .before .before .before .before .before .before .before), c .before .before .before .before .before .before .before .before .before .before .before .before .before .before .before .before .before .before .before .before .pre .0 .limits .few-members)
@@ -134,7 +128,7 @@ loop-less-3 : tie.Need-loop-less-3 Inv-loop μ-loop
 loop-less-3 c = search needs
 
 loop-again-3 : tie.Need-loop-again-3 Inv-loop μ-loop
-loop-again-3 c = work-took _ _ _ _ _ _ _ _ _ _ _ _ _ (c .before .before .before .before .before .before .before .before .before .before .before .before .before .before .loop .inv) (c .before .before .before .before .before .before .before .before .before .before .before .before .before .loop-test .taken) _ _ (unfinished (c .before .before .before .before .before .before .before .before)) _ _ (c .before .before .before .before .before .turn .ensures) (search needs) _ _ (c .before .after .given .1)
+loop-again-3 c = work-took _ _ _ _ _ _ _ _ _ _ _ _ (c .before .before .before .before .before .before .before .before .before .before .before .before .before .before .loop .inv) (c .before .before .before .before .before .before .before .before .before .before .before .before .before .loop-test .taken) _ _ (unfinished (c .before .before .before .before .before .before .before .before)) _ _ (c .before .before .before .before .before .turn .ensures) (search needs) _ _ (c .before .after .given .1)
 
 enum-told-2 : tie.Need-enum-told-2 Inv-loop μ-loop
 enum-told-2 c = search needs
@@ -152,7 +146,7 @@ loop-less-4 : tie.Need-loop-less-4 Inv-loop μ-loop
 loop-less-4 c = search needs
 
 loop-again-4 : tie.Need-loop-again-4 Inv-loop μ-loop
-loop-again-4 c = work-gave _ _ _ _ _ _ _ _ _ _ _ _ _ (c .before .before .before .before .before .before .before .before .before .before .before .before .before .loop .inv) (c .before .before .before .before .before .before .before .before .before .before .before .before .loop-test .taken) _ _ (unfinished (c .before .before .before .before .before .before .before)) _ _ (c .before .before .before .before .turn .ensures) (search needs) (c .enum-told2 .given .1)
+loop-again-4 c = work-gave _ _ _ _ _ _ _ _ _ _ _ _ (c .before .before .before .before .before .before .before .before .before .before .before .before .before .loop .inv) (c .before .before .before .before .before .before .before .before .before .before .before .before .loop-test .taken) _ _ (unfinished (c .before .before .before .before .before .before .before)) _ _ (c .before .before .before .before .turn .ensures) (search needs) (c .enum-told2 .given .1)
 
 sub-idle : tie.Need-sub-idle Inv-loop μ-loop
 sub-idle c = search needs
@@ -162,7 +156,7 @@ same-length c = search needs
 
 returns : tie.Need-returns Inv-loop μ-loop
 unfolding workOf
-returns c = sym (ap handed (work-done _ _ _ _ _ _ _ _ _ _ _ _ _ (c .before .loop .inv) (c .loop-test .left)))
+returns c = sym (ap handed (work-done _ _ _ _ _ _ _ _ _ _ _ _ (c .before .loop .inv) (c .loop-test .left)))
 
 pub work-spec : {M : Type 1} → statement M
 work-spec =
@@ -194,8 +188,6 @@ work-spec =
     loop-less-2
     loop-again-2
     enum-known-after
-    mul-serials
-    array-write-serials
     mul-made
     array-write-made
     add-moving

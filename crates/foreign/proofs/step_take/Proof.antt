@@ -1,6 +1,9 @@
 -- `foreign::step_take` meets its contract.
+use mathlib.Core.Path.{sym, _∙_}
+use native.Mathlib.Omega.{arith}
 use borrow.Author.Needs.{needs}
-use borrow.Author.Tests.{le-ltb, lt-ltb}
+use borrow.Author.Tests.{le-ltb, lt-ltb, ltb-true}
+use Rattle.model.specs.Arena.{lastSerial}
 use Rattle.model.specs.Foreign.{stepTakeOf}
 use Rattle.foreign.proofs.step_take.Statement.{statement}
 use Rattle.foreign.proofs.step_take.Tie as tie
@@ -8,25 +11,28 @@ use Rattle.foreign.proofs.step_take.Tie as tie
 free-requires : tie.Need-free-requires
 free-requires c κs = search needs
 
+serial-remains-requires : tie.Need-serial-remains-requires
+serial-remains-requires c κs = search needs
+
 set-cell-requires : tie.Need-set-cell-requires
 set-cell-requires c κs = search needs
 
 add-t13 : tie.Need-add-t13
-add-t13 c = search needs
+add-t13 c = omega (arith, ltb-true (c .before .before .before .before .before .before .before .before .before .before .before .args .next) lastSerial (sym (c .before .before .before .before .before .serial-remains .ensures) ∙ c .before .before .before .before .if3 .taken))
 
 same-length : tie.Need-same-length
 same-length c = search needs
 
 returns : tie.Need-returns
 unfolding stepTakeOf
-returns c = rw (lt-ltb _ _ (c .before .before .before .before .before .before .before .before .if1 .taken), ← c .before .before .before .before .before .before .free .ensures, c .before .before .before .before .before .if2 .taken, lt-ltb _ _ (c .before .before .before .before .if3 .taken), ← c .before .before .set-cell .ensures)
+returns c = rw (lt-ltb _ _ (c .before .before .before .before .before .before .before .before .before .if1 .taken), ← c .before .before .before .before .before .before .before .free .ensures, c .before .before .before .before .before .before .if2 .taken, ← c .before .before .before .before .before .serial-remains .ensures, c .before .before .before .before .if3 .taken, ← c .before .before .set-cell .ensures)
 
 same-length-2 : tie.Need-same-length-2
 same-length-2 c = search needs
 
 returns-2 : tie.Need-returns-2
 unfolding stepTakeOf
-returns-2 c = rw (lt-ltb _ _ (c .before .before .before .before .if1 .taken), ← c .before .before .free .ensures, c .before .if2 .taken, le-ltb _ _ (c .if3 .left))
+returns-2 c = rw (lt-ltb _ _ (c .before .before .before .before .before .if1 .taken), ← c .before .before .before .free .ensures, c .before .before .if2 .taken, ← c .before .serial-remains .ensures, c .if3 .left)
 
 same-length-3 : tie.Need-same-length-3
 same-length-3 c = search needs
@@ -44,6 +50,7 @@ step-take-spec =
     tie.close
     (tie.spec
     free-requires
+    serial-remains-requires
     set-cell-requires
     add-t13
     same-length

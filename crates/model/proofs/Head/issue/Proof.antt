@@ -1,23 +1,28 @@
 -- `model::Head::issue` meets its contract.
+use mathlib.Core.Path.{sym, _∙_}
+use native.Mathlib.Omega.{arith}
 use borrow.Author.Needs.{needs}
-use borrow.Author.Tests.{lt-ltb, le-ltb}
+use borrow.Author.Tests.{ltb-true}
 use Rattle.model.proofs.Head.issue.Statement.{statement}
-use Rattle.model.specs.Arena.{issueOf}
+use Rattle.model.specs.Arena.{lastSerial, issueOf}
 use Rattle.model.proofs.Head.issue.Tie as tie
 
+serial-remains-requires : tie.Need-serial-remains-requires
+serial-remains-requires c κs = search needs
+
 add-spent-to : tie.Need-add-spent-to
-add-spent-to c = search needs
+add-spent-to c = omega (arith, ltb-true (c .before .before .args .self .next) lastSerial (sym (c .before .serial-remains .ensures) ∙ c .if1 .taken))
 
 spent-to-requires : tie.Need-spent-to-requires
 spent-to-requires c κs = search needs
 
 returns : tie.Need-returns
 unfolding issueOf
-returns c = rw (lt-ltb _ _ (c .before .if1 .taken), c .spent-to .ensures)
+returns c = rw (← c .before .before .serial-remains .ensures, c .before .if1 .taken, c .spent-to .ensures)
 
 returns-2 : tie.Need-returns-2
 unfolding issueOf
-returns-2 c = rw (le-ltb _ _ (c .if1 .left))
+returns-2 c = rw (← c .before .serial-remains .ensures, c .if1 .left)
 
 pub issue-spec : {M : Type 1} → statement M
-issue-spec = tie.close (tie.spec add-spent-to spent-to-requires returns returns-2)
+issue-spec = tie.close (tie.spec serial-remains-requires add-spent-to spent-to-requires returns returns-2)
