@@ -23,15 +23,20 @@ unfoldable pub tooWide : ℕ → Bool
 tooWide n = eqb n 0 || ltb 94 n
 
 -- "A lent buffer too short for the whole dump ..: NoRoom, nothing written." Bytes behind the dump are left alone.
+unfoldable pub fittedOf : ℕ → List ℕ → List ℕ → Dumped × List ℕ
+fittedOf n script out =
+    if ltb (length out) (length (dumpOf n script)) then (dumped.NoRoom, out) else
+    (dumped.Written (length (dumpOf n script)), sets out 0 (dumpOf n script))
+
+-- the writer: 2, TooWide, NoRoom, in this order
 unfoldable pub writeOf : ℕ → List ℕ → List ℕ → Dumped × List ℕ
 writeOf n script out =
     if badHistory script then (dumped.BadScript, out) else
     if tooWide n then (dumped.TooWide, out) else
-    if ltb (length out) (length (dumpOf n script)) then (dumped.NoRoom, out) else
-    (dumped.Written (length (dumpOf n script)), sets out 0 (dumpOf n script))
+    fittedOf n script out
 
--- "anything else is refused, before NoRoom, with its first wrong line"; "A lent buffer too short for the whole .. reading: NoRoom, nothing
--- written." Words behind the script are left alone.
+-- the reader: "anything else is refused, before NoRoom, with its first wrong line"; "A lent buffer too short for the whole .. reading: NoRoom,
+-- nothing written." Words behind the script are left alone.
 abbrev pub answered : Reading → List ℕ → Undumped × List ℕ
 answered (refused k) out = (undumped.BadLine k, out)
 answered (read n script) out =

@@ -6,7 +6,7 @@ use lib.ListN.{replicate}
 use Rattle.text.specs.Text.{isDigit, digitsIn, valueFrom, endedOf, numberOf}
 use Rattle.wave.specs.declared.Dumped.the-variants as dumped
 use Rattle.wave.specs.declared.Undumped.the-variants as undumped
-use Rattle.wave.specs.Calls.{badHistory, tooWide, writeOf, readIntoOf}
+use Rattle.wave.specs.Calls.{badHistory, tooWide, fittedOf, writeOf, readIntoOf}
 use Rattle.wave.specs.Decimal.{placesOf, decimalOf}
 use Rattle.wave.specs.Lines.{joined, splitOf, same}
 use Rattle.wave.specs.Dump.{noBits, turns, changesOf, turnOf, timescale, scopeLine, varLine, upscope, endLine, timeLine, bitLine, varsOf, firstOf, bodyOf, middleOf, linesOf, dumpOf}
@@ -54,17 +54,17 @@ last-code = refl
 
 -- "(else 2, first)": a script of one word, and no cells
 script-first : writeOf 0 (1 ∷ []) (7 ∷ []) ≡ (dumped.BadScript, (7 ∷ []))
-unfolding writeOf badHistory tooWide joined decimalOf placesOf noBits turns changesOf turnOf timescale scopeLine varLine upscope endLine timeLine bitLine varsOf firstOf bodyOf middleOf linesOf dumpOf
+unfolding writeOf fittedOf badHistory tooWide joined decimalOf placesOf noBits turns changesOf turnOf timescale scopeLine varLine upscope endLine timeLine bitLine varsOf firstOf bodyOf middleOf linesOf dumpOf
 script-first = refl
 
 -- "No cells or more than 94: refused TooWide"
 no-cells : writeOf 0 [] (7 ∷ []) ≡ (dumped.TooWide, (7 ∷ []))
-unfolding writeOf badHistory tooWide joined decimalOf placesOf noBits turns changesOf turnOf timescale scopeLine varLine upscope endLine timeLine bitLine varsOf firstOf bodyOf middleOf linesOf dumpOf
+unfolding writeOf fittedOf badHistory tooWide joined decimalOf placesOf noBits turns changesOf turnOf timescale scopeLine varLine upscope endLine timeLine bitLine varsOf firstOf bodyOf middleOf linesOf dumpOf
 no-cells = refl
 
 -- more than 94
 cells-95 : writeOf 95 [] (7 ∷ []) ≡ (dumped.TooWide, (7 ∷ []))
-unfolding writeOf badHistory tooWide joined decimalOf placesOf noBits turns changesOf turnOf timescale scopeLine varLine upscope endLine timeLine bitLine varsOf firstOf bodyOf middleOf linesOf dumpOf
+unfolding writeOf fittedOf badHistory tooWide joined decimalOf placesOf noBits turns changesOf turnOf timescale scopeLine varLine upscope endLine timeLine bitLine varsOf firstOf bodyOf middleOf linesOf dumpOf
 cells-95 = refl
 
 -- one cell and no step
@@ -80,12 +80,12 @@ short =
 
 -- "A lent buffer too short for the whole dump ..: NoRoom, nothing written": one byte too short
 one-short : writeOf 1 [] (replicate 104 7) ≡ (dumped.NoRoom, replicate 104 7)
-unfolding writeOf badHistory tooWide joined decimalOf placesOf noBits turns changesOf turnOf timescale scopeLine varLine upscope endLine timeLine bitLine varsOf firstOf bodyOf middleOf linesOf dumpOf
+unfolding writeOf fittedOf badHistory tooWide joined decimalOf placesOf noBits turns changesOf turnOf timescale scopeLine varLine upscope endLine timeLine bitLine varsOf firstOf bodyOf middleOf linesOf dumpOf
 one-short = refl
 
 -- and two bytes longer: they are left alone
 left-alone : writeOf 1 [] (replicate 107 7) ≡ (dumped.Written 105, short ++ (7 ∷ 7 ∷ []))
-unfolding writeOf badHistory tooWide joined decimalOf placesOf noBits turns changesOf turnOf timescale scopeLine varLine upscope endLine timeLine bitLine varsOf firstOf bodyOf middleOf linesOf dumpOf
+unfolding writeOf fittedOf badHistory tooWide joined decimalOf placesOf noBits turns changesOf turnOf timescale scopeLine varLine upscope endLine timeLine bitLine varsOf firstOf bodyOf middleOf linesOf dumpOf
 left-alone = refl
 
 -- ---- reading

@@ -1,0 +1,79 @@
+-- `writer::fitted` meets its contract.
+use Prim.Native.Nat.{_<_, _≤_}
+use native.Mathlib.Omega.{arith}
+use lib.ListN.{length}
+use borrow.Author.Tests.{eq-eqb, ne-eqb, lt-ltb, le-ltb}
+use Rattle.wave.specs.Dump.{dumpOf}
+use Rattle.wave.specs.Calls.{fittedOf}
+use Rattle.writer.specs.Laws.{put-place, head-size, head-few, dump-size, dump-put}
+use borrow.Author.Needs.{needs}
+use Rattle.writer.proofs.fitted.Statement.{statement}
+use Rattle.writer.proofs.fitted.Tie as tie
+use Rattle.writer.proofs.fitted.Reads as reads
+use Rattle.writer.proofs.fitted.Lts as lts
+use Rattle.writer.proofs.body_size.Reads as body-size-reads
+use Rattle.writer.proofs.head_size.Reads as head-size-reads
+use Rattle.writer.proofs.put_body.Reads as put-body-reads
+use Rattle.writer.proofs.put_head.Reads as put-head-reads
+
+-- src/lib.rt:280:16
+head-size-requires : tie.Need-head-size-requires
+head-size-requires c κs = search needs
+
+-- src/lib.rt:280:35
+body-size-requires : tie.Need-body-size-requires
+body-size-requires c κs = search needs
+
+-- src/lib.rt:280:16
+add-size : tie.Need-add-size
+add-size c =
+    let n = c .before .before .before .before .args .n in
+    omega (arith, c .body-size .ensures .1, c .before .head-size .ensures, head-size n, head-few n 0)
+
+-- src/lib.rt:282:9
+returns : tie.Need-returns
+unfolding fittedOf
+returns c =
+    let a = c .before .before .before .before .before .args in
+    let h : length (a .out .now) < length (dumpOf (a .n) (a .script .now)) = omega (arith, c .if1 .taken, dump-size (a .n) (a .script .now), c .before .body-size .ensures .0, c .before .before .head-size .ensures) in
+    rw (lt-ltb _ _ h)
+
+-- src/lib.rt:284:28
+cast-put-head : tie.Need-cast-put-head
+cast-put-head c = search needs
+
+-- src/lib.rt:284:9
+put-head-requires : tie.Need-put-head-requires
+put-head-requires c κs = search needs
+
+-- src/lib.rt:285:19
+put-body-requires : tie.Need-put-body-requires
+put-body-requires c κs =
+    let e = put-place _ _ _ _ _ (c .before .before .before .put-head .ensures) in
+    (search needs, search needs, omega (arith, e, c .before .before .before .put-head .kept, c .before .before .before .before .before .if1 .left, c .before .before .before .before .before .before .body-size .ensures .0, c .before .before .before .before .before .before .before .head-size .ensures))
+
+-- src/lib.rt:264:1
+same-length : tie.Need-same-length
+same-length c = search needs
+
+-- src/lib.rt:264:1
+returns-2 : tie.Need-returns-2
+unfolding fittedOf
+returns-2 c =
+    let a = c .before .before .before .before .before .before .before .before .before .before .before .before .before .args in
+    let h : length (dumpOf (a .n) (a .script .now)) ≤ length (a .out .now) = omega (arith, c .before .before .before .before .before .before .before .before .if1 .left, dump-size (a .n) (a .script .now), c .before .before .before .before .before .before .before .before .before .body-size .ensures .0, c .before .before .before .before .before .before .before .before .before .before .head-size .ensures) in
+    rw (le-ltb _ _ h) (dump-put (a .n) (a .script .now) (a .out .now) _ _ _ _ (c .before .before .before .before .before .before .put-head .ensures) (c .before .before .put-body .ensures))
+
+pub fitted-spec : {M : Type 1} → statement M
+fitted-spec =
+    tie.close
+    (tie.spec
+    head-size-requires
+    body-size-requires
+    add-size
+    returns
+    cast-put-head
+    put-head-requires
+    put-body-requires
+    same-length
+    returns-2)
