@@ -16,10 +16,10 @@ use Rattle.reader.proofs.fill.Statement.{statement}
 use Rattle.reader.proofs.fill.Tie as tie
 use Rattle.reader.proofs.fill.Reads as reads
 use Rattle.reader.proofs.fill.Lts as lts
-use Rattle.reader.proofs.is_lost.Reads as is-lost-reads
-use Rattle.reader.proofs.next.Reads as next-reads
+use Rattle.stages.proofs.is_lost.Reads as is-lost-reads
+use Rattle.stages.proofs.next.Reads as next-reads
 use Rattle.reader.proofs.put_words.Reads as put-words-reads
-use Rattle.reader.proofs.turn.Reads as turn-reads
+use Rattle.stages.proofs.turn.Reads as turn-reads
 use Rattle.text.proofs.end_of.Reads as end-of-reads
 
 abbrev Inv-loop : tie.InvT-loop

@@ -13,10 +13,10 @@ use Rattle.reader.proofs.scan.Statement.{statement}
 use Rattle.reader.proofs.scan.Tie as tie
 use Rattle.reader.proofs.scan.Reads as reads
 use Rattle.reader.proofs.scan.Lts as lts
-use Rattle.reader.proofs.at_end.Reads as at-end-reads
-use Rattle.reader.proofs.is_lost.Reads as is-lost-reads
-use Rattle.reader.proofs.next.Reads as next-reads
-use Rattle.reader.proofs.turn.Reads as turn-reads
+use Rattle.stages.proofs.at_end.Reads as at-end-reads
+use Rattle.stages.proofs.is_lost.Reads as is-lost-reads
+use Rattle.stages.proofs.next.Reads as next-reads
+use Rattle.stages.proofs.turn.Reads as turn-reads
 use Rattle.text.proofs.end_of.Reads as end-of-reads
 
 abbrev Inv-loop : tie.InvT-loop

@@ -1,0 +1,31 @@
+use Rattle.wave.specs.Dump.{bitLine}
+use borrow.Author.Needs.{needs}
+use Rattle.stages.proofs.is_bit.Statement.{statement}
+use Rattle.stages.proofs.is_bit.Tie as tie
+use Rattle.stages.proofs.is_bit.Reads as reads
+use Rattle.stages.proofs.is_bit.Lts as lts
+use Rattle.stages.proofs.same.Reads as same-reads
+
+-- src/lib.rt:58:17
+add-t5 : tie.Need-add-t5
+add-t5 c = search needs
+
+-- src/lib.rt:58:27
+add-t6 : tie.Need-add-t6
+add-t6 c = search needs
+
+-- src/lib.rt:59:16
+slice-aggregate-same : tie.Need-slice-aggregate-same
+slice-aggregate-same c = search needs
+
+-- src/lib.rt:59:5
+same-requires : tie.Need-same-requires
+same-requires c κs = search needs
+
+-- src/lib.rt:54:1
+returns : tie.Need-returns
+unfolding bitLine
+returns c = c .same .ensures
+
+pub is-bit-spec : {M : Type 1} → statement M
+is-bit-spec = tie.close (tie.spec add-t5 add-t6 slice-aggregate-same same-requires returns)

@@ -1,0 +1,28 @@
+use borrow.Author.Tests.{eq-eqb, ne-eqb, lt-ltb, le-ltb, le-leb, lt-leb}
+use Rattle.wave.specs.Dump.{upscope}
+use borrow.Author.Needs.{needs}
+use Rattle.stages.proofs.no_more.Statement.{statement}
+use Rattle.stages.proofs.no_more.Tie as tie
+use Rattle.stages.proofs.no_more.Reads as reads
+use Rattle.stages.proofs.no_more.Lts as lts
+use Rattle.stages.proofs.same.Reads as same-reads
+
+-- src/lib.rt:77:27
+slice-aggregate-same : tie.Need-slice-aggregate-same
+slice-aggregate-same c = search needs
+
+-- src/lib.rt:77:9
+same-requires : tie.Need-same-requires
+same-requires c κs = search needs
+
+-- src/lib.rt:77:9
+returns : tie.Need-returns
+unfolding upscope
+returns c = rw (lt-ltb _ _ (c .before .before .if1 .taken)) (c .same .ensures)
+
+-- src/lib.rt:73:1
+returns-2 : tie.Need-returns-2
+returns-2 c = rw (le-ltb _ _ (c .if1 .left))
+
+pub no-more-spec : {M : Type 1} → statement M
+no-more-spec = tie.close (tie.spec slice-aggregate-same same-requires returns returns-2)
