@@ -1,29 +1,24 @@
 -- Laws for the reader's functions.
 use Prim.Native.Nat.{ℕ, zero, suc, _+_, _*_, _-_, _/_, _≤_, _<_}
 use mathlib.Core.Path.{_≡_, refl, sym, ap, _∙_}
-use mathlib.Core.Logic.{_≢_}
 use mathlib.Core.List.{List, [], _∷_, _++_, append-assoc}
 use mathlib.Core.Bool.{Bool, true, false}
 use native.Mathlib.Omega.{arith}
-use native.Mathlib.Numerals.{add-one}
-use lib.Dec.{eqb, ltb}
+use lib.Dec.{eqb}
 use lib.ListN.{length, getD, drop, take, set, length-append, length-drop, drop-of-length-le, replicate, length-replicate}
-use lib.Seq.{sets, sets-eq, take-at, drop-cons, drop-drop}
-use borrow.Author.Tests.{lt-ltb, le-ltb, ltb-true}
+use lib.Seq.{sets, drop-drop}
+use borrow.Author.Tests.{lt-ltb, le-ltb}
 use Rattle.model.specs.Choice.{if_then_else_}
-use Rattle.wave.specs.Lines.{joined, same}
-use Rattle.wave.specs.Dump.{turned}
 use Rattle.text.specs.Text.{before}
 use Rattle.wave.specs.declared.Stage.{Stage}
 use Rattle.wave.specs.declared.Stage.the-variants.{Opening, Scope, Variables, Ending, Start, Values, Waiting, Changing, Lost}
 use Rattle.wave.specs.declared.Verdict.{Verdict}
 use Rattle.wave.specs.declared.Verdict.the-variants.{Fine, Bad}
-use Rattle.wave.specs.Lines.{Items, finish, torn, line, put, splitOf}
-use Rattle.wave.specs.Dump.{noBits, turnOf, timescale, scopeLine, varLine, upscope, endLine, timeLine, bitLine}
-use Rattle.wave.specs.Reader.{timeIn, cellIn, afterVariable, afterValue, isTime, isChange, nextOf, bitsOf, atEnd, unless, verdictOf, idle, kindFor, wordsAt, wordsOf, read}
-use Rattle.wave.specs.Stages.{false-not, bad-not, Reach, words-count}
+use Rattle.wave.specs.Lines.{torn, line, put, splitOf}
+use Rattle.wave.specs.Dump.{noBits}
+use Rattle.wave.specs.Reader.{cellIn, nextOf, bitsOf, atEnd, unless, verdictOf, idle, kindFor, wordsAt, wordsOf, read}
+use Rattle.wave.specs.Stages.{false-not, bad-not, words-count}
 use Rattle.wave.specs.Calls.{answered}
-use Rattle.wave.specs.declared.Undumped.{Undumped}
 use Rattle.wave.specs.declared.Undumped.the-variants.{Read, NoRoom}
 use Rattle.stages.specs.Stages.{isLost, isChanging, gapOf}
 use Rattle.writer.specs.Writer.{putOf}

@@ -11,7 +11,7 @@ use lib.ListN.{length, getD, set, replicate, List·getD-eq-default, getD-replica
 use lib.Seq.{set-getD, getD-set-same, getD-set-other}
 use borrow.Author.Tests.{eqb-true, eqb-false}
 use Rattle.model.specs.Choice.{if_then_else_}
-use Rattle.wave.specs.Dump.{noBits, turns, turned, changesOf, turnOf}
+use Rattle.wave.specs.Dump.{noBits, turns, changesOf, turnOf}
 
 -- the bits after the first j steps; behind the last step they stay
 unfoldable pub bitsAfter : ℕ → List ℕ → ℕ → List ℕ → List ℕ

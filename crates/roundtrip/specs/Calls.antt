@@ -1,7 +1,7 @@
 -- The two calls: what is written reads back, and what is read is written again; two replies to one call are equal.
-use Prim.Native.Nat.{ℕ, _+_, _*_, _/_, _%_, _≤_, _<_}
-use mathlib.Core.Path.{_≡_, refl, sym, ap, _∙_}
-use mathlib.Core.List.{List, [], _∷_, _++_}
+use Prim.Native.Nat.{ℕ, _+_, _*_, _/_, _≤_}
+use mathlib.Core.Path.{_≡_, refl, _∙_}
+use mathlib.Core.List.{List, [], _∷_}
 use mathlib.Core.Bool.{Bool, true, false}
 use native.Mathlib.Omega.{arith}
 use lib.Dec.{ltb}
@@ -35,7 +35,7 @@ read-determined text out a b p q = determined p q
 
 -- what was put at the front of a run, and nothing else
 front : (x l : List ℕ) → length x ≤ length l → take (length x) (sets l 0 x) ≡ x
-front x l h = rw (sets-eq x l 0 h) (take-at x (drop (0 + length x) l) (length x) refl)
+front x l h = let k : 0 + length x ≤ length l = omega arith in rw (sets-eq x l 0 k) (take-at x (drop (0 + length x) l) (length x) refl)
 
 -- it writes what is dumpable, if there is room
 pub writes : (n : ℕ) (script out : List ℕ) → Dumpable n script → length (dumpOf n script) ≤ length out
@@ -50,17 +50,20 @@ pub record Wrote (n : ℕ) (script out : List ℕ) (size : ℕ) : Type 0 where
   pub whole : size ≡ length (dumpOf n script)
   pub left : writeOf n script out .1 ≡ sets out 0 (dumpOf n script)
 
+abbrev writing : Bool → Bool → Bool → ℕ → List ℕ → List ℕ → Dumped × List ℕ
+writing a b c n script out =
+    if a then (dumped.BadScript, out) else
+    if b then (dumped.TooWide, out) else
+    if c then (dumped.NoRoom, out) else
+    (dumped.Written (length (dumpOf n script)), sets out 0 (dumpOf n script))
+
 pub written : (n : ℕ) (script out : List ℕ) (size : ℕ) → writeOf n script out .0 ≡ dumped.Written size → Wrote n script out size
 unfolding writeOf fittedOf
 written n script out size =
     go (badHistory script) (tooWide n) (ltb (length out) (length (dumpOf n script))) refl refl refl
   where
     go : (a b c : Bool) → badHistory script ≡ a → tooWide n ≡ b → ltb (length out) (length (dumpOf n script)) ≡ c
-        → (if a then (dumped.BadScript, out) else
-        if b then (dumped.TooWide, out) else
-        if c then (dumped.NoRoom, out) else
-        (dumped.Written (length (dumpOf n script)), sets out 0 (dumpOf n script))) .0 ≡ dumped.Written size
-        → Wrote n script out size
+        → writing a b c n script out .0 ≡ dumped.Written size → Wrote n script out size
     go true b c p q r e = let z : _≡_ {A = ℕ} 0 1 = cc in absurd (omega arith)
     go false true c p q r e = let z : _≡_ {A = ℕ} 0 1 = cc in absurd (omega arith)
     go false false true p q r e = let z : _≡_ {A = ℕ} 0 1 = cc in absurd (omega arith)
@@ -103,13 +106,15 @@ pub record Got (text room : List ℕ) (n steps : ℕ) : Type 0 where
   pub count : steps ≡ length script / 3
   pub left : readIntoOf text room .1 ≡ sets room 0 script
 
+abbrev reading : Bool → ℕ → List ℕ → List ℕ → Undumped × List ℕ
+reading b m script room = if b then (undumped.NoRoom, room) else (undumped.Read m (length script / 3), sets room 0 script)
+
 pub got : (text room : List ℕ) (n steps : ℕ) → readIntoOf text room .0 ≡ undumped.Read n steps → Got text room n steps
 unfolding readIntoOf
 got text room n steps = go (readOf text) refl
   where
     fit : (m : ℕ) (script : List ℕ) (b : Bool) → readOf text ≡ read m script → ltb (length room) (length script) ≡ b
-        → (if b then (undumped.NoRoom, room) else (undumped.Read m (length script / 3), sets room 0 script)) .0 ≡ undumped.Read n steps
-        → Got text room n steps
+        → reading b m script room .0 ≡ undumped.Read n steps → Got text room n steps
     fit m script true p q e = let z : _≡_ {A = ℕ} 0 1 = cc in absurd (omega arith)
     fit m script false p q e =
         let w : m ≡ n = cc in

@@ -10,7 +10,6 @@ use lib.ListN.{getD}
 use borrow.Author.Tests.{ne-eqb, lt-ltb, le-ltb}
 use Rattle.model.specs.Choice.{if_then_else_}
 use Rattle.io.specs.Digits.{glyph, digits}
-use Rattle.text.specs.declared.Number.{Number}
 use Rattle.text.specs.Text.{isDigit, digitsIn, valueFrom, noNumber, endedOf, numberOf}
 use Rattle.wave.specs.Decimal.{placesOf, decimalOf, Places, places-is}
 

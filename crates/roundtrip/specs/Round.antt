@@ -3,26 +3,26 @@ use Prim.Native.Nat.{ℕ, zero, suc, _+_, _*_, _-_, _%_, _/_, _≤_, _<_}
 use mathlib.Core.Path.{_≡_, refl, sym, ap, _∙_}
 use mathlib.Core.Logic.{_≢_}
 use mathlib.Core.List.{List, [], _∷_, _++_, append-assoc, append-nil}
-use mathlib.Core.Bool.{Bool, true, false, _&&_}
+use mathlib.Core.Bool.{Bool, true, false}
 use native.Mathlib.Omega.{arith}
-use lib.Dec.{eqb, ltb, leb}
-use lib.ListN.{length, getD, drop, set}
-use borrow.Author.Tests.{eqb-true, eqb-false, eq-eqb, ne-eqb, lt-ltb, le-ltb, ltb-true, le-leb}
+use lib.Dec.{eqb, ltb}
+use lib.ListN.{length, getD}
+use borrow.Author.Tests.{eqb-true, ne-eqb, lt-ltb, le-ltb, le-leb}
 use Rattle.model.specs.Choice.{if_then_else_}
 use Rattle.io.specs.Digits.{glyph, digits}
 use Rattle.text.specs.declared.Number.{Number}
 use Rattle.wave.specs.Decimal.{decimalOf, placesOf}
 use Rattle.roundtrip.specs.Numbers.{glyph-is, number-printed}
-use Rattle.wave.specs.Lines.{Items, line, splitOf, same}
+use Rattle.wave.specs.Lines.{Items, line, same}
 use Rattle.roundtrip.specs.Texts.{itemsOf, plain, allPlain, same-refl, split-joined}
 use Rattle.roundtrip.specs.Bits.{bitsAfter}
 use Rattle.wave.specs.Stages.{changes-in}
 use Rattle.wave.specs.Dump.{noBits, turns, turned, changesOf, turnOf, timescale, scopeLine, varLine, upscope, endLine, timeLine, bitLine, varsOf, firstOf, bodyOf, middleOf, linesOf, dumpOf, Dumpable}
 use Rattle.wave.specs.declared.Stage.{Stage}
-use Rattle.wave.specs.declared.Stage.the-variants.{Opening, Scope, Variables, Ending, Start, Values, Waiting, Changing, Lost}
+use Rattle.wave.specs.declared.Stage.the-variants.{Opening, Scope, Variables, Ending, Start, Values, Waiting, Changing}
 use Rattle.wave.specs.declared.Verdict.{Verdict}
-use Rattle.wave.specs.declared.Verdict.the-variants.{Fine, Bad}
-use Rattle.wave.specs.Reader.{timeIn, cellIn, afterVariable, afterValue, isTime, isChange, nextOf, bitsOf, unless, verdictOf, idle, kindFor, wordsAt, wordsOf, Reading, read, refused, readOf}
+use Rattle.wave.specs.declared.Verdict.the-variants.{Fine}
+use Rattle.wave.specs.Reader.{timeIn, cellIn, afterVariable, afterValue, isTime, isChange, nextOf, bitsOf, unless, verdictOf, idle, kindFor, wordsAt, wordsOf, read, readOf}
 
 -- ---- the script that is read back: each change as a take or a release, the steps between as steps that only count, and nothing behind the last change
 

@@ -5,10 +5,10 @@ use mathlib.Core.Logic.{_↔_}
 use mathlib.Core.List.{List}
 use Rattle.wave.specs.Dump.{noBits, dumpOf, Dumpable}
 use Rattle.roundtrip.specs.Bits.{bitsAfter}
-use Rattle.wave.specs.Reader.{Reading, read, refused, readOf}
+use Rattle.wave.specs.Reader.{read, refused, readOf}
 use Rattle.roundtrip.specs.Round.{trimOf, round-trip, same-bits}
 use Rattle.roundtrip.specs.Image.{image}
-use Rattle.roundtrip.specs.Wrong.{linesTo, FirstWrong, first-wrong}
+use Rattle.roundtrip.specs.Wrong.{FirstWrong, first-wrong}
 
 -- "what was written reads back as the same bits at the same step numbers"
 pub reads-back : (n : ℕ) (script : List ℕ) → Dumpable n script → (back : List ℕ) × (readOf (dumpOf n script) ≡ read n back) × ((j : ℕ) → bitsAfter n noBits j back ≡ bitsAfter n noBits j script)

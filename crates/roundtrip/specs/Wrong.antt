@@ -1,24 +1,21 @@
 -- The first wrong line is the least k such that no dump begins with lines 1 to k.
-use Prim.Native.Nat.{ℕ, zero, suc, _+_, _*_, _-_, _≤_, _<_}
+use Prim.Native.Nat.{ℕ, zero, suc, _+_, _-_, _≤_, _<_}
 use mathlib.Core.Path.{_≡_, refl, sym, ap, _∙_}
-use mathlib.Core.Logic.{_≢_}
-use mathlib.Core.List.{List, [], _∷_, _++_}
+use mathlib.Core.List.{List, [], _∷_}
 use mathlib.Core.Bool.{Bool, true, false}
 use native.Mathlib.Omega.{arith}
-use lib.Dec.{eqb, ltb, leb}
-use lib.ListN.{length, getD}
-use borrow.Author.Tests.{eqb-true, lt-ltb, ltb-true, ltb-false}
+use lib.Dec.{eqb}
 use Rattle.model.specs.Choice.{if_then_else_}
 use Rattle.wave.specs.Lines.{Items, finish, torn, line, put, splitOf}
 use Rattle.roundtrip.specs.Texts.{itemsOf, textOf, same-refl, split-joined, text-split}
 use Rattle.wave.specs.Stages.{bad-not, Reach, reach-next}
-use Rattle.wave.specs.Dump.{noBits, turned, turnOf, timescale, scopeLine, varLine, upscope, endLine, timeLine, bitLine, varsOf, firstOf, middleOf, linesOf, dumpOf, Dumpable}
+use Rattle.wave.specs.Dump.{noBits, turnOf, scopeLine, endLine, timeLine, firstOf, linesOf, dumpOf, Dumpable}
 use Rattle.wave.specs.declared.Stage.{Stage}
 use Rattle.wave.specs.declared.Stage.the-variants.{Opening, Scope, Variables, Ending, Start, Values, Waiting, Changing, Lost}
 use Rattle.wave.specs.declared.Verdict.{Verdict}
 use Rattle.wave.specs.declared.Verdict.the-variants.{Fine, Bad}
-use Rattle.wave.specs.Reader.{timeIn, cellIn, afterVariable, afterValue, isTime, isChange, nextOf, bitsOf, atEnd, unless, verdictOf, wordsOf, idle, kindFor, Reading, read, refused, readingOf, readOf}
-use Rattle.roundtrip.specs.Round.{Reads, reads-on, reads-values, reads-vars, reads-ending, reads-head, reads-dump, change-line, plain-lines, trimOf, lastOf}
+use Rattle.wave.specs.Reader.{nextOf, bitsOf, atEnd, unless, verdictOf, wordsOf, refused, readingOf, readOf}
+use Rattle.roundtrip.specs.Round.{Reads, reads-on, reads-values, reads-vars, reads-ending, reads-head, reads-dump, change-line, plain-lines, lastOf}
 use Rattle.roundtrip.specs.Image.{image-lines}
 
 -- lines 1 to k of a text, or all of it if it has fewer: two texts that agree so far have the same line feeds, or the same end

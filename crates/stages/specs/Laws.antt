@@ -1,5 +1,5 @@
 -- Laws for the steps: lines compared, and what a stage changes.
-use Prim.Native.Nat.{ℕ, zero, suc, _+_, _*_, _-_, _/_, _≤_, _<_}
+use Prim.Native.Nat.{ℕ, suc, _+_, _-_, _≤_, _<_}
 use mathlib.Core.Path.{_≡_, refl, sym, ap, _∙_}
 use mathlib.Core.Logic.{_≢_}
 use mathlib.Core.List.{List, [], _∷_, _++_, append-assoc}
@@ -7,27 +7,19 @@ use mathlib.Core.Bool.{Bool, true, false}
 use native.Mathlib.Omega.{arith}
 use native.Mathlib.Numerals.{add-one}
 use lib.Dec.{eqb, ltb}
-use lib.ListN.{length, getD, drop, take, set, length-append, length-drop, drop-of-length-le, replicate, length-replicate}
-use lib.Seq.{sets, sets-eq, take-at, drop-cons, drop-drop}
-use borrow.Author.Tests.{lt-ltb, le-ltb, ltb-true}
+use lib.ListN.{length, getD, drop, take, length-append, drop-of-length-le}
+use lib.Seq.{sets, sets-eq, take-at, drop-cons}
+use borrow.Author.Tests.{ltb-true}
 use Rattle.model.specs.Choice.{if_then_else_}
 use Rattle.wave.specs.Lines.{joined, same}
 use Rattle.wave.specs.Dump.{turned}
-use Rattle.text.specs.Text.{before}
 use Rattle.wave.specs.declared.Stage.{Stage}
 use Rattle.wave.specs.declared.Stage.the-variants.{Opening, Scope, Variables, Ending, Start, Values, Waiting, Changing, Lost}
-use Rattle.wave.specs.declared.Verdict.{Verdict}
-use Rattle.wave.specs.declared.Verdict.the-variants.{Fine, Bad}
-use Rattle.wave.specs.Lines.{Items, finish, torn, line, put, splitOf}
-use Rattle.wave.specs.Dump.{noBits, turnOf, timescale, scopeLine, varLine, upscope, endLine, timeLine, bitLine}
-use Rattle.wave.specs.Reader.{timeIn, cellIn, afterVariable, afterValue, isTime, isChange, nextOf, bitsOf, atEnd, unless, verdictOf, idle, kindFor, wordsAt, wordsOf, read}
-use Rattle.wave.specs.Stages.{false-not, bad-not, Reach, words-count}
-use Rattle.wave.specs.Calls.{answered}
-use Rattle.wave.specs.declared.Undumped.{Undumped}
-use Rattle.wave.specs.declared.Undumped.the-variants.{Read, NoRoom}
+use Rattle.wave.specs.Dump.{turnOf, bitLine}
+use Rattle.wave.specs.Reader.{cellIn, isChange, nextOf, bitsOf}
+use Rattle.wave.specs.Stages.{false-not, Reach}
 use Rattle.stages.specs.Stages.{isLost, isChanging}
 use Rattle.writer.specs.Writer.{putOf}
-use Rattle.writer.specs.Laws.{put-none, put-join, put-more, put-size}
 
 pub same-short : (x y : List ℕ) → length x ≢ length y → same x y ≡ false
 unfolding same

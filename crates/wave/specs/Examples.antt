@@ -10,7 +10,7 @@ use Rattle.wave.specs.Calls.{badHistory, tooWide, fittedOf, writeOf, rea
 use Rattle.wave.specs.Decimal.{placesOf, decimalOf}
 use Rattle.wave.specs.Lines.{joined, splitOf, same}
 use Rattle.wave.specs.Dump.{noBits, turns, changesOf, turnOf, timescale, scopeLine, varLine, upscope, endLine, timeLine, bitLine, varsOf, firstOf, bodyOf, middleOf, linesOf, dumpOf}
-use Rattle.wave.specs.Reader.{timeIn, cellIn, afterVariable, afterValue, isTime, isChange, verdictOf, idle, wordsOf, Reading, read, refused, readOf}
+use Rattle.wave.specs.Reader.{timeIn, cellIn, afterVariable, afterValue, isTime, isChange, verdictOf, idle, wordsOf, read, refused, readOf}
 
 -- two cells: the lines before the first change
 abbrev paper : List ℕ

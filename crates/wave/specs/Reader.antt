@@ -2,7 +2,7 @@
 -- "The reader takes only what the writer could have written": a line is taken only if it is the one that the writer would put there.
 use Prim.Native.Nat.{ℕ, zero, suc, _+_, _-_}
 use mathlib.Core.List.{List, [], _∷_}
-use mathlib.Core.Bool.{Bool, true, false}
+use mathlib.Core.Bool.{Bool, false}
 use lib.Dec.{eqb, ltb, leb}
 use lib.ListN.{getD, drop}
 use Rattle.model.specs.Choice.{if_then_else_}

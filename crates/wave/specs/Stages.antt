@@ -1,7 +1,7 @@
 -- Laws about the reader's stages, for code and theory alike: what is true of the stages that are reached, and how many words are read.
 use Prim.Native.Nat.{ℕ, zero, suc, _+_, _*_, _-_, _≤_, _<_}
-use mathlib.Core.Path.{_≡_, refl, sym, ap, _∙_}
-use mathlib.Core.List.{List, [], _∷_}
+use mathlib.Core.Path.{_≡_, refl}
+use mathlib.Core.List.{List, _∷_}
 use mathlib.Core.Bool.{Bool, true, false}
 use native.Mathlib.Omega.{arith}
 use lib.Dec.{ltb, leb}
@@ -9,7 +9,7 @@ use lib.ListN.{length, getD}
 use borrow.Author.Tests.{ltb-true, leb-true}
 use Rattle.model.specs.Choice.{if_then_else_}
 use Rattle.wave.specs.Lines.{Items, finish, torn, line, same}
-use Rattle.wave.specs.Dump.{turned, turns, changesOf, timescale, scopeLine, varLine, upscope, endLine, timeLine, bitLine}
+use Rattle.wave.specs.Dump.{turns, changesOf, timescale, scopeLine, varLine, upscope, endLine, timeLine, bitLine}
 use Rattle.wave.specs.declared.Stage.{Stage}
 use Rattle.wave.specs.declared.Stage.the-variants.{Opening, Scope, Variables, Ending, Start, Values, Waiting, Changing, Lost}
 use Rattle.wave.specs.declared.Verdict.{Verdict}
@@ -34,13 +34,16 @@ pub changes-in : (n : ℕ) (bits : List ℕ) (kind c : ℕ) → changesOf n bits
 unfolding changesOf
 changes-in n bits kind c e = let p = nested (ltb c n) (turns kind (getD bits c 0)) e in (ltb-true c n (p .0), p .1)
 
+-- the first two of three
+two : (a b c : Bool) → (if a then (if b then c else false) else false) ≡ true → (a ≡ true) × (b ≡ true)
+two true true c e = (refl, refl)
+two true false c e = false-not e
+two false b c e = false-not e
+
 -- a time line that is taken is later than the last, and not too late
 pub time-later : (last : ℕ) (x : List ℕ) → isTime last x ≡ true → (last < timeIn x) × (timeIn x ≤ 32768)
 unfolding isTime
-time-later last x e =
-    let p = nested (ltb last (timeIn x)) (if leb (timeIn x) 32768 then same x (timeLine (timeIn x)) else false) e in
-    let q = nested (leb (timeIn x) 32768) (same x (timeLine (timeIn x))) (p .1) in
-    (ltb-true last (timeIn x) (p .0), leb-true (timeIn x) 32768 (q .0))
+time-later last x e = let p = two (ltb last (timeIn x)) (leb (timeIn x) 32768) _ e in (ltb-true last (timeIn x) (p .0), leb-true (timeIn x) 32768 (p .1))
 
 -- ---- the stages that are reached
 

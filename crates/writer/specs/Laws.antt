@@ -1,17 +1,17 @@
 -- Laws of putting bytes, and of the lengths of lines.
-use Prim.Native.Nat.{ℕ, zero, suc, _+_, _*_, _-_, _/_, _%_, _^_, _≤_, _<_}
+use Prim.Native.Nat.{ℕ, zero, suc, _+_, _*_, _-_, _/_, _%_, _≤_, _<_}
 use mathlib.Core.Path.{_≡_, refl, sym, ap, _∙_}
-use mathlib.Core.List.{List, [], _∷_, _++_, append-assoc, append-nil}
+use mathlib.Core.List.{List, [], _∷_, _++_, append-assoc}
 use mathlib.Core.Bool.{Bool, true, false}
 use native.Mathlib.Omega.{arith}
 use native.Mathlib.Numerals.{add-one}
 use lib.Dec.{eqb, ltb}
 use lib.ListN.{length, getD, drop, take, set, length-append, length-drop, drop-of-length-le}
-use lib.Seq.{sets, length-sets, drop-cons, getD-set-same}
+use lib.Seq.{sets, drop-cons}
 use borrow.Author.Tests.{eqb-true}
 use Rattle.model.specs.Choice.{if_then_else_}
 use Rattle.io.specs.Digits.{glyph, digits, Fewest}
-use Rattle.wave.specs.Decimal.{placesOf, decimalOf, fewest-is, fewest-one, places-is}
+use Rattle.wave.specs.Decimal.{placesOf, decimalOf, fewest-is, fewest-one}
 use Rattle.wave.specs.Lines.{joined}
 use Rattle.wave.specs.Dump.{noBits, turns, turned, changesOf, turnOf, timescale, scopeLine, upscope, endLine, timeLine, bitLine, varLine, varsOf, firstOf, bodyOf, middleOf, linesOf, dumpOf}
 use Rattle.wave.specs.declared.Dumped.{Dumped}

@@ -2,13 +2,13 @@
 // bytes. Each function but `write` is a step: it may have a `requires`, which its callers prove.
 use wave::Dumped;
 ghost use mathlib.Core.Path.{_≡_};
-ghost use Prim.Native.Nat.{_+_, _*_, _<_, _≤_};
+ghost use Prim.Native.Nat.{_+_, _<_, _≤_};
 ghost use mathlib.Core.Bool.{true};
-ghost use mathlib.Core.List.{[], _∷_, _++_};
-ghost use lib.ListN.{length, getD};
+ghost use mathlib.Core.List.{[], _∷_};
+ghost use lib.ListN.{length};
 ghost use Rattle.wave.specs.Decimal.{placesOf, decimalOf};
 ghost use Rattle.wave.specs.Lines.{joined};
-ghost use Rattle.wave.specs.Dump.{noBits, changesOf, timeLine, bitLine, varLine, varsOf, firstOf, bodyOf, dumpOf};
+ghost use Rattle.wave.specs.Dump.{noBits, changesOf, timeLine, bitLine, varLine, varsOf, firstOf, bodyOf};
 ghost use Rattle.wave.specs.Dump.{turns as Dump·turns, turned as Dump·turned};
 ghost use Rattle.wave.specs.Calls.{badHistory, tooWide, fittedOf, writeOf};
 ghost use Rattle.writer.specs.Writer.{putOf, wantedOf, turnedOf, stepOf, weighOf, headOf};

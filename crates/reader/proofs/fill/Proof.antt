@@ -1,7 +1,6 @@
 use borrow.Author.Needs.{needs}
-use Prim.Native.Nat.{_≤_, _-_, _+_, _*_}
-use mathlib.Core.Path.{_≡_, refl, sym, ap, _∙_}
-use mathlib.Core.List.{[]}
+use Prim.Native.Nat.{_≤_, _-_, _+_}
+use mathlib.Core.Path.{_≡_, refl, sym, _∙_}
 use native.Mathlib.Omega.{arith}
 use lib.ListN.{length, drop}
 use Rattle.wave.specs.declared.Stage.the-variants.{Opening}
@@ -14,13 +13,6 @@ use Rattle.wave.specs.Stages.{Reach, reach-next, words-count}
 use Rattle.reader.specs.Laws.{scan-torn, scan-lost, scan-turn, words-turn, words-room, words-end, put-all, not-bad}
 use Rattle.reader.proofs.fill.Statement.{statement}
 use Rattle.reader.proofs.fill.Tie as tie
-use Rattle.reader.proofs.fill.Reads as reads
-use Rattle.reader.proofs.fill.Lts as lts
-use Rattle.stages.proofs.is_lost.Reads as is-lost-reads
-use Rattle.stages.proofs.next.Reads as next-reads
-use Rattle.reader.proofs.put_words.Reads as put-words-reads
-use Rattle.stages.proofs.turn.Reads as turn-reads
-use Rattle.text.proofs.end_of.Reads as end-of-reads
 
 abbrev Inv-loop : tie.InvT-loop
 Inv-loop text n last out₀ bits₀ stage₀ at₀ k₀ used₀ out bits stage at k used = Reach stage × (k ≤ at + 1) × (at ≤ length text) × (length out ≡ length out₀) × (verdictOf k stage bits (splitOf (drop at text)) ≡ Fine n last) × (putOf out used (wordsOf stage bits (splitOf (drop at text))) ≡ putOf out₀ 0 (wordsOf Opening noBits (splitOf text)))

@@ -2,9 +2,6 @@ use Rattle.reader.specs.Laws.{give-none, give-some}
 use borrow.Author.Needs.{needs}
 use Rattle.reader.proofs.give.Statement.{statement}
 use Rattle.reader.proofs.give.Tie as tie
-use Rattle.reader.proofs.give.Reads as reads
-use Rattle.reader.proofs.give.Lts as lts
-use Rattle.reader.proofs.fill.Reads as fill-reads
 
 -- src/lib.rt:389:9
 returns : tie.Need-returns

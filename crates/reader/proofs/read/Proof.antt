@@ -4,10 +4,6 @@ use Rattle.wave.specs.Reader.{readOf}
 use borrow.Author.Needs.{needs}
 use Rattle.reader.proofs.read.Statement.{statement}
 use Rattle.reader.proofs.read.Tie as tie
-use Rattle.reader.proofs.read.Reads as reads
-use Rattle.reader.proofs.read.Lts as lts
-use Rattle.reader.proofs.give.Reads as give-reads
-use Rattle.reader.proofs.scan.Reads as scan-reads
 
 -- src/lib.rt:377:9
 scan-requires : tie.Need-scan-requires

@@ -11,13 +11,6 @@ use Rattle.wave.specs.Stages.{Reach, reach-next}
 use Rattle.reader.specs.Laws.{scan-end, scan-torn, scan-lost, scan-turn}
 use Rattle.reader.proofs.scan.Statement.{statement}
 use Rattle.reader.proofs.scan.Tie as tie
-use Rattle.reader.proofs.scan.Reads as reads
-use Rattle.reader.proofs.scan.Lts as lts
-use Rattle.stages.proofs.at_end.Reads as at-end-reads
-use Rattle.stages.proofs.is_lost.Reads as is-lost-reads
-use Rattle.stages.proofs.next.Reads as next-reads
-use Rattle.stages.proofs.turn.Reads as turn-reads
-use Rattle.text.proofs.end_of.Reads as end-of-reads
 
 abbrev Inv-loop : tie.InvT-loop
 Inv-loop text bits₀ stage₀ at₀ k₀ bits stage at k = Reach stage × (k ≤ at + 1) × (at ≤ length text) × (verdictOf k stage bits (splitOf (drop at text)) ≡ verdictOf 1 Opening noBits (splitOf text))

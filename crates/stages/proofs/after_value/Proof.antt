@@ -1,11 +1,8 @@
-use borrow.Author.Tests.{eq-eqb, ne-eqb, lt-ltb, le-ltb, le-leb, lt-leb}
+use borrow.Author.Tests.{lt-ltb, le-ltb}
 use Rattle.wave.specs.Reader.{afterValue}
 use borrow.Author.Needs.{needs}
 use Rattle.stages.proofs.after_value.Statement.{statement}
 use Rattle.stages.proofs.after_value.Tie as tie
-use Rattle.stages.proofs.after_value.Reads as reads
-use Rattle.stages.proofs.after_value.Lts as lts
-use Rattle.stages.proofs.is_bit.Reads as is-bit-reads
 
 -- src/lib.rt:99:24
 cast-is-bit : tie.Need-cast-is-bit

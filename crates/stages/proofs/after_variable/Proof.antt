@@ -1,12 +1,7 @@
-use borrow.Author.Tests.{eq-eqb, ne-eqb, lt-ltb, le-ltb, le-leb, lt-leb}
 use Rattle.wave.specs.Reader.{afterVariable}
 use borrow.Author.Needs.{needs}
 use Rattle.stages.proofs.after_variable.Statement.{statement}
 use Rattle.stages.proofs.after_variable.Tie as tie
-use Rattle.stages.proofs.after_variable.Reads as reads
-use Rattle.stages.proofs.after_variable.Lts as lts
-use Rattle.stages.proofs.more.Reads as more-reads
-use Rattle.stages.proofs.no_more.Reads as no-more-reads
 
 -- src/lib.rt:86:8
 more-requires : tie.Need-more-requires

@@ -1,8 +1,6 @@
 use borrow.Author.Needs.{needs}
 use Rattle.stages.proofs.at_end.Statement.{statement}
 use Rattle.stages.proofs.at_end.Tie as tie
-use Rattle.stages.proofs.at_end.Reads as reads
-use Rattle.stages.proofs.at_end.Lts as lts
 
 -- src/lib.rt:213:27
 enum-told : tie.Need-enum-told

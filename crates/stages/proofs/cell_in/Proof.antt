@@ -5,8 +5,6 @@ use Rattle.wave.specs.Reader.{cellIn}
 use borrow.Author.Needs.{needs}
 use Rattle.stages.proofs.cell_in.Statement.{statement}
 use Rattle.stages.proofs.cell_in.Tie as tie
-use Rattle.stages.proofs.cell_in.Reads as reads
-use Rattle.stages.proofs.cell_in.Lts as lts
 
 -- src/lib.rt:132:9
 returns : tie.Need-returns

@@ -2,8 +2,6 @@ use native.Mathlib.Omega.{arith}
 use borrow.Author.Needs.{needs}
 use Rattle.stages.proofs.gap.Statement.{statement}
 use Rattle.stages.proofs.gap.Tie as tie
-use Rattle.stages.proofs.gap.Reads as reads
-use Rattle.stages.proofs.gap.Lts as lts
 
 -- src/lib.rt:311:27
 enum-told : tie.Need-enum-told

@@ -1,18 +1,10 @@
-use Prim.Native.Nat.{_+_, _-_, _≤_}
-use mathlib.Core.Path.{_≡_, refl, sym, ap, _∙_}
 use native.Mathlib.Omega.{arith}
-use lib.ListN.{length, take}
-use lib.Seq.{length-take-le}
 use Rattle.wave.specs.Dump.{timeLine}
 use Rattle.writer.specs.Laws.{places-few, length-time}
 use Rattle.stages.specs.Laws.{line-put}
 use borrow.Author.Needs.{needs}
 use Rattle.stages.proofs.is_at.Statement.{statement}
 use Rattle.stages.proofs.is_at.Tie as tie
-use Rattle.stages.proofs.is_at.Reads as reads
-use Rattle.stages.proofs.is_at.Lts as lts
-use Rattle.stages.proofs.same.Reads as same-reads
-use Rattle.writer.proofs.put_time.Reads as put-time-reads
 
 -- src/lib.rt:50:30
 slice-aggregate-put-time : tie.Need-slice-aggregate-put-time

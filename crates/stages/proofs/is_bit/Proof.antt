@@ -2,9 +2,6 @@ use Rattle.wave.specs.Dump.{bitLine}
 use borrow.Author.Needs.{needs}
 use Rattle.stages.proofs.is_bit.Statement.{statement}
 use Rattle.stages.proofs.is_bit.Tie as tie
-use Rattle.stages.proofs.is_bit.Reads as reads
-use Rattle.stages.proofs.is_bit.Lts as lts
-use Rattle.stages.proofs.same.Reads as same-reads
 
 -- src/lib.rt:58:17
 add-t5 : tie.Need-add-t5

@@ -1,16 +1,11 @@
 use lib.ListN.{getD}
-use borrow.Author.Tests.{eq-eqb, ne-eqb, lt-ltb, le-ltb, le-leb, lt-leb}
+use borrow.Author.Tests.{lt-ltb, le-ltb}
 use native.Mathlib.Omega.{arith}
 use Rattle.wave.specs.Reader.{isChange}
 use Rattle.stages.specs.Laws.{turned-few}
 use borrow.Author.Needs.{needs}
 use Rattle.stages.proofs.is_change.Statement.{statement}
 use Rattle.stages.proofs.is_change.Tie as tie
-use Rattle.stages.proofs.is_change.Reads as reads
-use Rattle.stages.proofs.is_change.Lts as lts
-use Rattle.stages.proofs.cell_in.Reads as cell-in-reads
-use Rattle.stages.proofs.is_bit.Reads as is-bit-reads
-use Rattle.writer.proofs.turned.Reads as turned-reads
 
 -- src/lib.rt:144:9
 cell-in-requires : tie.Need-cell-in-requires

@@ -1,12 +1,8 @@
-use borrow.Author.Tests.{eq-eqb, ne-eqb, lt-ltb, le-ltb, le-leb, lt-leb}
+use borrow.Author.Tests.{lt-ltb, le-ltb, le-leb, lt-leb}
 use Rattle.wave.specs.Reader.{isTime}
 use borrow.Author.Needs.{needs}
 use Rattle.stages.proofs.is_time.Statement.{statement}
 use Rattle.stages.proofs.is_time.Tie as tie
-use Rattle.stages.proofs.is_time.Reads as reads
-use Rattle.stages.proofs.is_time.Lts as lts
-use Rattle.stages.proofs.is_at.Reads as is-at-reads
-use Rattle.stages.proofs.time_in.Reads as time-in-reads
 
 -- src/lib.rt:118:9
 time-in-requires : tie.Need-time-in-requires

@@ -1,18 +1,10 @@
-use Prim.Native.Nat.{_+_, _-_, _≤_}
-use mathlib.Core.Path.{_≡_, refl, sym, ap, _∙_}
 use native.Mathlib.Omega.{arith}
-use lib.ListN.{length, take}
-use lib.Seq.{length-take-le}
 use Rattle.wave.specs.Dump.{varLine}
 use Rattle.writer.specs.Laws.{places-few, length-var}
 use Rattle.stages.specs.Laws.{line-put}
 use borrow.Author.Needs.{needs}
 use Rattle.stages.proofs.is_var.Statement.{statement}
 use Rattle.stages.proofs.is_var.Tie as tie
-use Rattle.stages.proofs.is_var.Reads as reads
-use Rattle.stages.proofs.is_var.Lts as lts
-use Rattle.stages.proofs.same.Reads as same-reads
-use Rattle.writer.proofs.put_var.Reads as put-var-reads
 
 -- src/lib.rt:41:29
 slice-aggregate-put-var : tie.Need-slice-aggregate-put-var

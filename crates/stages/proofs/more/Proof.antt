@@ -1,10 +1,7 @@
-use borrow.Author.Tests.{eq-eqb, ne-eqb, lt-ltb, le-ltb, le-leb, lt-leb}
+use borrow.Author.Tests.{lt-ltb, le-ltb}
 use borrow.Author.Needs.{needs}
 use Rattle.stages.proofs.more.Statement.{statement}
 use Rattle.stages.proofs.more.Tie as tie
-use Rattle.stages.proofs.more.Reads as reads
-use Rattle.stages.proofs.more.Lts as lts
-use Rattle.stages.proofs.is_var.Reads as is-var-reads
 
 -- src/lib.rt:68:29
 cast-is-var : tie.Need-cast-is-var

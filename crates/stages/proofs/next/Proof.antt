@@ -3,15 +3,6 @@ use Rattle.wave.specs.Dump.{timescale, scopeLine, endLine, timeLine}
 use borrow.Author.Needs.{needs}
 use Rattle.stages.proofs.next.Statement.{statement}
 use Rattle.stages.proofs.next.Tie as tie
-use Rattle.stages.proofs.next.Reads as reads
-use Rattle.stages.proofs.next.Lts as lts
-use Rattle.stages.proofs.after_value.Reads as after-value-reads
-use Rattle.stages.proofs.after_variable.Reads as after-variable-reads
-use Rattle.stages.proofs.fixed.Reads as fixed-reads
-use Rattle.stages.proofs.is_change.Reads as is-change-reads
-use Rattle.stages.proofs.is_time.Reads as is-time-reads
-use Rattle.stages.proofs.same.Reads as same-reads
-use Rattle.stages.proofs.time_in.Reads as time-in-reads
 
 -- src/lib.rt:159:44
 enum-told : tie.Need-enum-told

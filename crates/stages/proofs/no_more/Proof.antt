@@ -1,11 +1,8 @@
-use borrow.Author.Tests.{eq-eqb, ne-eqb, lt-ltb, le-ltb, le-leb, lt-leb}
+use borrow.Author.Tests.{lt-ltb, le-ltb}
 use Rattle.wave.specs.Dump.{upscope}
 use borrow.Author.Needs.{needs}
 use Rattle.stages.proofs.no_more.Statement.{statement}
 use Rattle.stages.proofs.no_more.Tie as tie
-use Rattle.stages.proofs.no_more.Reads as reads
-use Rattle.stages.proofs.no_more.Lts as lts
-use Rattle.stages.proofs.same.Reads as same-reads
 
 -- src/lib.rt:77:27
 slice-aggregate-same : tie.Need-slice-aggregate-same

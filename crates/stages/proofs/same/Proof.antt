@@ -1,14 +1,12 @@
 use borrow.Author.Needs.{needs}
-use borrow.Author.Tests.{eq-eqb, ne-eqb, lt-ltb, le-ltb, le-leb, lt-leb}
-use Prim.Native.Nat.{_≤_, _-_, _+_}
+use borrow.Author.Tests.{eq-eqb, ne-eqb}
+use Prim.Native.Nat.{_≤_, _-_}
 use mathlib.Core.Path.{_≡_, refl, sym, _∙_}
 use lib.ListN.{length, drop}
 use Rattle.wave.specs.Lines.{same}
 use Rattle.stages.specs.Laws.{same-short, same-at, same-end}
 use Rattle.stages.proofs.same.Statement.{statement}
 use Rattle.stages.proofs.same.Tie as tie
-use Rattle.stages.proofs.same.Reads as reads
-use Rattle.stages.proofs.same.Lts as lts
 
 abbrev Inv-loop : tie.InvT-loop
 Inv-loop x y i₀ i = (i ≤ length x) × (length x ≡ length y) × (same (drop i x) (drop i y) ≡ same x y)

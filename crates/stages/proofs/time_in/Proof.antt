@@ -4,9 +4,6 @@ use Rattle.wave.specs.Reader.{timeIn}
 use borrow.Author.Needs.{needs}
 use Rattle.stages.proofs.time_in.Statement.{statement}
 use Rattle.stages.proofs.time_in.Tie as tie
-use Rattle.stages.proofs.time_in.Reads as reads
-use Rattle.stages.proofs.time_in.Lts as lts
-use Rattle.text.proofs.read_number.Reads as read-number-reads
 
 -- src/lib.rt:111:9
 read-number-requires : tie.Need-read-number-requires

@@ -1,15 +1,10 @@
-use mathlib.Core.Path.{_≡_, sym, _∙_}
+use mathlib.Core.Path.{sym, _∙_}
 use native.Mathlib.Omega.{arith}
 use Rattle.wave.specs.Dump.{turnOf}
 use Rattle.stages.specs.Laws.{change-within, still-bits, turned-bits}
 use borrow.Author.Needs.{needs}
 use Rattle.stages.proofs.turn.Statement.{statement}
 use Rattle.stages.proofs.turn.Tie as tie
-use Rattle.stages.proofs.turn.Reads as reads
-use Rattle.stages.proofs.turn.Lts as lts
-use Rattle.stages.proofs.cell_in.Reads as cell-in-reads
-use Rattle.stages.proofs.is_changing.Reads as is-changing-reads
-use Rattle.writer.proofs.turned.Reads as turned-reads
 
 -- src/lib.rt:217:8
 is-changing-requires : tie.Need-is-changing-requires

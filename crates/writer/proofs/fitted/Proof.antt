@@ -2,19 +2,13 @@
 use Prim.Native.Nat.{_<_, _≤_}
 use native.Mathlib.Omega.{arith}
 use lib.ListN.{length}
-use borrow.Author.Tests.{eq-eqb, ne-eqb, lt-ltb, le-ltb}
+use borrow.Author.Tests.{lt-ltb, le-ltb}
 use Rattle.wave.specs.Dump.{dumpOf}
 use Rattle.wave.specs.Calls.{fittedOf}
 use Rattle.writer.specs.Laws.{put-place, head-size, head-few, dump-size, dump-put}
 use borrow.Author.Needs.{needs}
 use Rattle.writer.proofs.fitted.Statement.{statement}
 use Rattle.writer.proofs.fitted.Tie as tie
-use Rattle.writer.proofs.fitted.Reads as reads
-use Rattle.writer.proofs.fitted.Lts as lts
-use Rattle.writer.proofs.body_size.Reads as body-size-reads
-use Rattle.writer.proofs.head_size.Reads as head-size-reads
-use Rattle.writer.proofs.put_body.Reads as put-body-reads
-use Rattle.writer.proofs.put_head.Reads as put-head-reads
 
 -- src/lib.rt:280:16
 head-size-requires : tie.Need-head-size-requires

@@ -6,11 +6,6 @@ use Rattle.writer.specs.Laws.{turn-true, turn-false, wanted-is, wanted-f
 use borrow.Author.Needs.{needs}
 use Rattle.writer.proofs.step.Statement.{statement}
 use Rattle.writer.proofs.step.Tie as tie
-use Rattle.writer.proofs.step.Reads as reads
-use Rattle.writer.proofs.step.Lts as lts
-use Rattle.writer.proofs.put_change.Reads as put-change-reads
-use Rattle.writer.proofs.turn.Reads as turn-reads
-use Rattle.writer.proofs.wanted.Reads as wanted-reads
 
 -- src/lib.rt:163:8
 turn-requires : tie.Need-turn-requires
