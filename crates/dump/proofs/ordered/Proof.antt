@@ -5,43 +5,33 @@ use borrow.Author.Needs.{needs}
 use Rattle.dump.proofs.ordered.Statement.{statement}
 use Rattle.dump.proofs.ordered.Tie as tie
 
--- src/main.rt:32:9
 read-history-requires : tie.Need-read-history-requires
 read-history-requires c κs = search needs
 
--- src/main.rt:35:26
 slice-reshare-prefix-with-room : tie.Need-slice-reshare-prefix-with-room
 slice-reshare-prefix-with-room c = search needs
 
--- src/main.rt:35:26
 slice-aggregate-with-room : tie.Need-slice-aggregate-with-room
 slice-aggregate-with-room c = sym (length-take-le _ _ (search needs))
 
--- src/main.rt:35:9
 with-room-requires : tie.Need-with-room-requires
 with-room-requires c κs = search needs
 
--- src/main.rt:37:13
 slice-aggregate-say : tie.Need-slice-aggregate-say
 slice-aggregate-say c = search needs
 
--- src/main.rt:37:9
 say-requires : tie.Need-say-requires
 say-requires c κs = search needs
 
--- src/main.rt:31:1
 same-length : tie.Need-same-length
 same-length c = search needs
 
--- src/main.rt:31:1
 returns : tie.Need-returns
 returns c = search needs
 
--- src/main.rt:31:1
 same-length-2 : tie.Need-same-length-2
 same-length-2 c = search needs
 
--- src/main.rt:31:1
 returns-2 : tie.Need-returns-2
 returns-2 c = search needs
 

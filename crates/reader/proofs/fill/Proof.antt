@@ -1,3 +1,4 @@
+-- `reader::fill` meets its contract.
 use borrow.Author.Needs.{needs}
 use Prim.Native.Nat.{_≤_, _-_, _+_}
 use mathlib.Core.Path.{_≡_, refl, sym, _∙_}
@@ -20,70 +21,55 @@ Inv-loop text n last out₀ bits₀ stage₀ at₀ k₀ used₀ out bits stage a
 abbrev μ-loop : tie.MeasureT-loop
 μ-loop text n last out₀ bits₀ stage₀ at₀ k₀ used₀ out bits stage at k used = length text - at
 
--- src/lib.rt:356:5
 loop-holds : tie.Need-loop-holds Inv-loop μ-loop
 unfolding noBits
 loop-holds c = (tt, search needs, search needs, search needs, c .before .before .pre .0, refl)
 
--- src/lib.rt:357:13
 end-of-requires : tie.Need-end-of-requires Inv-loop μ-loop
 end-of-requires c κs = search needs
 
--- src/lib.rt:359:13
 same-length : tie.Need-same-length Inv-loop μ-loop
 same-length c = search needs
 
--- src/lib.rt:359:13
 returns : tie.Need-returns Inv-loop μ-loop
 returns c =
     let l = c .before .before .before .loop in
     let a = c .before .before .before .before .before .before .args in
     not-bad (l .k) (a .n) (a .last) _ (scan-torn (a .text .now) (l .at) _ (l .k) (l .stage) (l .bits) (search needs) (c .before .end-of .ensures .0) (c .if1 .taken)) (l .inv .4)
 
--- src/lib.rt:361:40
 sub-next : tie.Need-sub-next Inv-loop μ-loop
 sub-next c = search needs
 
--- src/lib.rt:361:40
 part-next-start : tie.Need-part-next-start Inv-loop μ-loop
 part-next-start c = omega (arith, c .before .before .end-of .ensures .1)
 
--- src/lib.rt:361:40
 part-next-end : tie.Need-part-next-end Inv-loop μ-loop
 part-next-end c = omega (arith, c .before .before .end-of .ensures .1)
 
--- src/lib.rt:361:13
 next-requires : tie.Need-next-requires Inv-loop μ-loop
 next-requires c κs = c .before .before .before .before .before .loop .inv .0
 
--- src/lib.rt:362:12
 is-lost-requires : tie.Need-is-lost-requires Inv-loop μ-loop
 is-lost-requires c κs = search needs
 
--- src/lib.rt:363:13
 same-length-2 : tie.Need-same-length-2 Inv-loop μ-loop
 same-length-2 c = search needs
 
--- src/lib.rt:363:13
 returns-2 : tie.Need-returns-2 Inv-loop μ-loop
 returns-2 c =
     let l = c .before .before .before .before .before .before .before .before .loop in
     let a = c .before .before .before .before .before .before .before .before .before .before .before .args in
     not-bad (l .k) (a .n) (a .last) _ (scan-lost (a .text .now) (l .at) _ (l .k) (l .stage) _ (l .bits) (c .before .before .before .before .before .before .end-of .ensures .0) (omega (arith, c .before .before .before .before .before .before .end-of .ensures .1, c .before .before .before .before .before .if1 .left)) (c .before .before .next .ensures) (sym (c .before .is-lost .ensures) ∙ c .if2 .taken)) (l .inv .4)
 
--- src/lib.rt:365:40
 sub-put-words : tie.Need-sub-put-words Inv-loop μ-loop
 sub-put-words c = search needs
 
--- src/lib.rt:365:40
 part-put-words-start : tie.Need-part-put-words-start Inv-loop μ-loop
 part-put-words-start c = omega (arith, c .before .before .before .before .before .before .before .end-of .ensures .1)
 
--- src/lib.rt:365:40
 part-put-words-end : tie.Need-part-put-words-end Inv-loop μ-loop
 part-put-words-end c = omega (arith, c .before .before .before .before .before .before .before .end-of .ensures .1)
 
--- src/lib.rt:365:9
 put-words-requires : tie.Need-put-words-requires Inv-loop μ-loop
 put-words-requires c κs =
     let l = c .before .before .before .before .before .before .before .before .before .before .before .loop in
@@ -92,35 +78,27 @@ put-words-requires c κs =
     let room = words-room (a .text .now) (l .at) _ (l .stage) (l .bits) (l .out) (a .out .now) (l .used) 0 (wordsOf Opening noBits (splitOf (a .text .now))) (e .0) (omega (arith, e .1, c .before .before .before .before .before .before .before .before .if1 .left)) (l .inv .5) in
     (l .inv .0, rw (← c .before .before .before .before .before .next .ensures) (sym (c .before .before .before .before .is-lost .ensures) ∙ c .before .before .before .if2 .left), omega (arith, room, l .inv .3, c .before .before .before .before .before .before .before .before .before .before .before .before .before .before .pre .1, words-count (splitOf (a .text .now)) (a .n) (a .last) noBits (c .before .before .before .before .before .before .before .before .before .before .before .before .before .before .pre .0)))
 
--- src/lib.rt:366:32
 sub-turn : tie.Need-sub-turn Inv-loop μ-loop
 sub-turn c = search needs
 
--- src/lib.rt:366:32
 part-turn-start : tie.Need-part-turn-start Inv-loop μ-loop
 part-turn-start c = omega (arith, c .before .before .before .before .before .before .before .before .before .before .before .before .before .end-of .ensures .1)
 
--- src/lib.rt:366:32
 part-turn-end : tie.Need-part-turn-end Inv-loop μ-loop
 part-turn-end c = omega (arith, c .before .before .before .before .before .before .before .before .before .before .before .before .before .end-of .ensures .1)
 
--- src/lib.rt:366:9
 turn-requires : tie.Need-turn-requires Inv-loop μ-loop
 turn-requires c κs = (c .before .before .before .before .before .before .before .before .before .before .before .before .before .before .before .before .loop .inv .0, rw (← c .before .before .before .before .before .before .before .before .before .before .next .ensures) (sym (c .before .before .before .before .before .before .before .before .before .is-lost .ensures) ∙ c .before .before .before .before .before .before .before .before .if2 .left))
 
--- src/lib.rt:368:14
 add-at : tie.Need-add-at Inv-loop μ-loop
 add-at c = omega (arith, c .before .before .before .before .before .before .before .before .before .before .before .before .before .before .before .end-of .ensures .1, c .before .before .before .before .before .before .before .before .before .before .before .before .before .before .if1 .left)
 
--- src/lib.rt:369:9
 add-k : tie.Need-add-k Inv-loop μ-loop
 add-k c = omega (arith, c .before .before .before .before .before .before .before .before .before .before .before .before .before .before .before .before .before .loop .inv .1, c .before .before .before .before .before .before .before .before .before .before .before .before .before .before .before .end-of .ensures .1, c .before .before .before .before .before .before .before .before .before .before .before .before .before .before .if1 .left)
 
--- src/lib.rt:356:5
 loop-less : tie.Need-loop-less Inv-loop μ-loop
 loop-less c = omega (arith, c .before .before .before .before .before .before .before .before .before .before .before .before .before .before .before .end-of .ensures .1, c .before .before .before .before .before .before .before .before .before .before .before .before .before .before .if1 .left, c .before .before .before .before .before .before .before .before .before .before .before .before .before .before .before .before .loop-test .taken)
 
--- src/lib.rt:356:5
 loop-again : tie.Need-loop-again Inv-loop μ-loop
 loop-again c =
     let l = c .before .before .before .before .before .before .before .before .before .before .before .before .before .before .before .before .before .loop in
@@ -136,11 +114,9 @@ loop-again c =
       words-turn (a .text .now) (l .at) _ (l .stage) _ (l .bits) _ (l .out) _ (l .used) _ (e .0) (omega (arith, e .1, inside)) (c .before .before .before .before .before .before .before .before .before .before .before .next .ensures) (c .turn .ensures) (c .before .before .before .before .before .put-words .ensures) ∙ l .inv .5,
     )
 
--- src/lib.rt:347:1
 same-length-3 : tie.Need-same-length-3 Inv-loop μ-loop
 same-length-3 c = search needs
 
--- src/lib.rt:347:1
 returns-3 : tie.Need-returns-3 Inv-loop μ-loop
 returns-3 c =
     let l = c .before .loop in

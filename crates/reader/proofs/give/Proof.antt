@@ -1,21 +1,18 @@
+-- `reader::give` meets its contract.
 use Rattle.reader.specs.Laws.{give-none, give-some}
 use borrow.Author.Needs.{needs}
 use Rattle.reader.proofs.give.Statement.{statement}
 use Rattle.reader.proofs.give.Tie as tie
 
--- src/lib.rt:389:9
 returns : tie.Need-returns
 returns c = let a = c .before .before .before .args in give-none (a .text .now) (a .out .now) (a .n) (a .last) (c .before .before .before .pre) (c .if1 .taken)
 
--- src/lib.rt:391:5
 fill-requires : tie.Need-fill-requires
 fill-requires c κs = search needs
 
--- src/lib.rt:384:1
 same-length : tie.Need-same-length
 same-length c = search needs
 
--- src/lib.rt:384:1
 returns-2 : tie.Need-returns-2
 returns-2 c =
     let a = c .before .before .before .before .before .before .before .args in

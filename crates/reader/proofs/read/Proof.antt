@@ -1,3 +1,4 @@
+-- `reader::read` meets its contract.
 use mathlib.Core.Path.{sym, _∙_}
 use Rattle.wave.specs.Calls.{readIntoOf}
 use Rattle.wave.specs.Reader.{readOf}
@@ -5,32 +6,25 @@ use borrow.Author.Needs.{needs}
 use Rattle.reader.proofs.read.Statement.{statement}
 use Rattle.reader.proofs.read.Tie as tie
 
--- src/lib.rt:377:9
 scan-requires : tie.Need-scan-requires
 scan-requires c κs = search needs
 
--- src/lib.rt:379:22
 enum-known-verdict : tie.Need-enum-known-verdict
 enum-known-verdict c = search needs
 
--- src/lib.rt:380:23
 enum-known-verdict-2 : tie.Need-enum-known-verdict-2
 enum-known-verdict-2 c = search needs
 
--- src/lib.rt:380:35
 give-requires : tie.Need-give-requires
 give-requires c κs = sym (c .before .before .before .before .scan .ensures) ∙ c .before .before .verdict2 .given .1
 
--- src/lib.rt:374:1
 returns : tie.Need-returns
 unfolding readIntoOf readOf
 returns c = rw (← c .before .before .before .scan .ensures, c .before .verdict .given .1)
 
--- src/lib.rt:374:1
 same-length : tie.Need-same-length
 same-length c = search needs
 
--- src/lib.rt:374:1
 returns-2 : tie.Need-returns-2
 unfolding readIntoOf readOf
 returns-2 c = rw (← c .before .before .before .before .before .before .before .scan .ensures, c .before .before .before .before .before .verdict2 .given .1) (c .before .before .give .ensures)

@@ -1,3 +1,4 @@
+-- `reader::scan` meets its contract.
 use borrow.Author.Needs.{needs}
 use Prim.Native.Nat.{_≤_, _-_, _+_}
 use mathlib.Core.Path.{_≡_, refl, sym, _∙_}
@@ -18,78 +19,61 @@ Inv-loop text bits₀ stage₀ at₀ k₀ bits stage at k = Reach stage × (k �
 abbrev μ-loop : tie.MeasureT-loop
 μ-loop text bits₀ stage₀ at₀ k₀ bits stage at k = length text - at
 
--- src/lib.rt:249:5
 loop-holds : tie.Need-loop-holds Inv-loop μ-loop
 unfolding noBits
 loop-holds c = (tt, search needs, search needs, refl)
 
--- src/lib.rt:250:13
 end-of-requires : tie.Need-end-of-requires Inv-loop μ-loop
 end-of-requires c κs = search needs
 
--- src/lib.rt:252:13
 returns : tie.Need-returns Inv-loop μ-loop
 returns c =
     let l = c .before .before .before .loop in
     let a = c .before .before .before .before .before .args in
     scan-torn (a .text .now) (l .at) _ (l .k) (l .stage) (l .bits) (search needs) (c .before .end-of .ensures .0) (c .if1 .taken) ∙ l .inv .3
 
--- src/lib.rt:254:40
 sub-next : tie.Need-sub-next Inv-loop μ-loop
 sub-next c = search needs
 
--- src/lib.rt:254:40
 part-next-start : tie.Need-part-next-start Inv-loop μ-loop
 part-next-start c = omega (arith, c .before .before .end-of .ensures .1)
 
--- src/lib.rt:254:40
 part-next-end : tie.Need-part-next-end Inv-loop μ-loop
 part-next-end c = omega (arith, c .before .before .end-of .ensures .1)
 
--- src/lib.rt:254:13
 next-requires : tie.Need-next-requires Inv-loop μ-loop
 next-requires c κs = c .before .before .before .before .before .loop .inv .0
 
--- src/lib.rt:255:12
 is-lost-requires : tie.Need-is-lost-requires Inv-loop μ-loop
 is-lost-requires c κs = search needs
 
--- src/lib.rt:256:13
 returns-2 : tie.Need-returns-2 Inv-loop μ-loop
 returns-2 c =
     let l = c .before .before .before .before .before .before .before .before .loop in
     let a = c .before .before .before .before .before .before .before .before .before .before .args in
     scan-lost (a .text .now) (l .at) _ (l .k) (l .stage) _ (l .bits) (c .before .before .before .before .before .before .end-of .ensures .0) (omega (arith, c .before .before .before .before .before .before .end-of .ensures .1, c .before .before .before .before .before .if1 .left)) (c .before .before .next .ensures) (sym (c .before .is-lost .ensures) ∙ c .if2 .taken) ∙ l .inv .3
 
--- src/lib.rt:258:32
 sub-turn : tie.Need-sub-turn Inv-loop μ-loop
 sub-turn c = search needs
 
--- src/lib.rt:258:32
 part-turn-start : tie.Need-part-turn-start Inv-loop μ-loop
 part-turn-start c = omega (arith, c .before .before .before .before .before .before .before .end-of .ensures .1)
 
--- src/lib.rt:258:32
 part-turn-end : tie.Need-part-turn-end Inv-loop μ-loop
 part-turn-end c = omega (arith, c .before .before .before .before .before .before .before .end-of .ensures .1)
 
--- src/lib.rt:258:9
 turn-requires : tie.Need-turn-requires Inv-loop μ-loop
 turn-requires c κs = (c .before .before .before .before .before .before .before .before .before .before .loop .inv .0, rw (← c .before .before .before .before .next .ensures) (sym (c .before .before .before .is-lost .ensures) ∙ c .before .before .if2 .left))
 
--- src/lib.rt:260:14
 add-at : tie.Need-add-at Inv-loop μ-loop
 add-at c = omega (arith, c .before .before .before .before .before .before .before .before .before .end-of .ensures .1, c .before .before .before .before .before .before .before .before .if1 .left)
 
--- src/lib.rt:261:9
 add-k : tie.Need-add-k Inv-loop μ-loop
 add-k c = omega (arith, c .before .before .before .before .before .before .before .before .before .before .before .loop .inv .1, c .before .before .before .before .before .before .before .before .before .end-of .ensures .1, c .before .before .before .before .before .before .before .before .if1 .left)
 
--- src/lib.rt:249:5
 loop-less : tie.Need-loop-less Inv-loop μ-loop
 loop-less c = omega (arith, c .before .before .before .before .before .before .before .before .before .end-of .ensures .1, c .before .before .before .before .before .before .before .before .if1 .left, c .before .before .before .before .before .before .before .before .before .before .loop-test .taken)
 
--- src/lib.rt:249:5
 loop-again : tie.Need-loop-again Inv-loop μ-loop
 loop-again c =
     let l = c .before .before .before .before .before .before .before .before .before .before .before .loop in
@@ -102,11 +86,9 @@ loop-again c =
       scan-turn (a .text .now) (l .at) _ (l .k) (l .stage) _ (l .bits) _ (e .0) (omega (arith, e .1, inside)) (c .before .before .before .before .before .next .ensures) (sym (c .before .before .before .before .is-lost .ensures) ∙ c .before .before .before .if2 .left) (c .turn .ensures) ∙ l .inv .3,
     )
 
--- src/lib.rt:263:5
 at-end-requires : tie.Need-at-end-requires Inv-loop μ-loop
 at-end-requires c κs = search needs
 
--- src/lib.rt:242:1
 returns-3 : tie.Need-returns-3 Inv-loop μ-loop
 returns-3 c =
     let l = c .before .before .loop in

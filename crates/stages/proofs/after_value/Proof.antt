@@ -1,36 +1,30 @@
+-- `stages::after_value` meets its contract.
 use borrow.Author.Tests.{lt-ltb, le-ltb}
 use Rattle.wave.specs.Reader.{afterValue}
 use borrow.Author.Needs.{needs}
 use Rattle.stages.proofs.after_value.Statement.{statement}
 use Rattle.stages.proofs.after_value.Tie as tie
 
--- src/lib.rt:99:24
 cast-is-bit : tie.Need-cast-is-bit
 cast-is-bit c = search needs
 
--- src/lib.rt:99:8
 is-bit-requires : tie.Need-is-bit-requires
 is-bit-requires c κs = search needs
 
--- src/lib.rt:100:12
 add-if2 : tie.Need-add-if2
 add-if2 c = search needs
 
--- src/lib.rt:101:37
 add-t8 : tie.Need-add-t8
 add-t8 c = search needs
 
--- src/lib.rt:101:13
 returns : tie.Need-returns
 unfolding afterValue
 returns c = rw (← c .before .before .is-bit .ensures, c .before .if1 .taken, lt-ltb _ _ (c .if2 .taken))
 
--- src/lib.rt:103:9
 returns-2 : tie.Need-returns-2
 unfolding afterValue
 returns-2 c = rw (← c .before .before .is-bit .ensures, c .before .if1 .taken, le-ltb _ _ (c .if2 .left))
 
--- src/lib.rt:95:1
 returns-3 : tie.Need-returns-3
 unfolding afterValue
 returns-3 c = rw (← c .before .is-bit .ensures, c .if1 .left)

@@ -1,31 +1,26 @@
+-- `stages::after_variable` meets its contract.
 use Rattle.wave.specs.Reader.{afterVariable}
 use borrow.Author.Needs.{needs}
 use Rattle.stages.proofs.after_variable.Statement.{statement}
 use Rattle.stages.proofs.after_variable.Tie as tie
 
--- src/lib.rt:86:8
 more-requires : tie.Need-more-requires
 more-requires c κs = search needs
 
--- src/lib.rt:87:33
 add-t4 : tie.Need-add-t4
 add-t4 c = search needs
 
--- src/lib.rt:87:9
 returns : tie.Need-returns
 unfolding afterVariable
 returns c = rw (← c .before .more .ensures, c .if1 .taken)
 
--- src/lib.rt:89:8
 no-more-requires : tie.Need-no-more-requires
 no-more-requires c κs = search needs
 
--- src/lib.rt:90:9
 returns-2 : tie.Need-returns-2
 unfolding afterVariable
 returns-2 c = rw (← c .before .before .before .more .ensures, c .before .before .if1 .left, ← c .before .no-more .ensures, c .if2 .taken)
 
--- src/lib.rt:82:1
 returns-3 : tie.Need-returns-3
 unfolding afterVariable
 returns-3 c = rw (← c .before .before .before .more .ensures, c .before .before .if1 .left, ← c .before .no-more .ensures, c .if2 .left)

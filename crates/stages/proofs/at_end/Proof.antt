@@ -1,76 +1,59 @@
+-- `stages::at_end` meets its contract.
 use borrow.Author.Needs.{needs}
 use Rattle.stages.proofs.at_end.Statement.{statement}
 use Rattle.stages.proofs.at_end.Tie as tie
 
--- src/lib.rt:213:27
 enum-told : tie.Need-enum-told
 enum-told c = search needs
 
--- src/lib.rt:214:25
 enum-told-2 : tie.Need-enum-told-2
 enum-told-2 c = search needs
 
--- src/lib.rt:215:32
 enum-told-3 : tie.Need-enum-told-3
 enum-told-3 c = search needs
 
--- src/lib.rt:216:29
 enum-told-4 : tie.Need-enum-told-4
 enum-told-4 c = search needs
 
--- src/lib.rt:217:28
 enum-told-5 : tie.Need-enum-told-5
 enum-told-5 c = search needs
 
--- src/lib.rt:218:32
 enum-told-6 : tie.Need-enum-told-6
 enum-told-6 c = search needs
 
--- src/lib.rt:219:24
 enum-known-stage : tie.Need-enum-known-stage
 enum-known-stage c = search needs
 
--- src/lib.rt:220:37
 enum-told-7 : tie.Need-enum-told-7
 enum-told-7 c = search needs
 
--- src/lib.rt:221:24
 enum-told-8 : tie.Need-enum-told-8
 enum-told-8 c = search needs
 
--- src/lib.rt:209:1
 returns : tie.Need-returns
 returns c = rw (c .enum-told .given .1)
 
--- src/lib.rt:209:1
 returns-2 : tie.Need-returns-2
 returns-2 c = rw (c .enum-told2 .given .1)
 
--- src/lib.rt:209:1
 returns-3 : tie.Need-returns-3
 returns-3 c = rw (c .enum-told3 .given .1)
 
--- src/lib.rt:209:1
 returns-4 : tie.Need-returns-4
 returns-4 c = rw (c .enum-told4 .given .1)
 
--- src/lib.rt:209:1
 returns-5 : tie.Need-returns-5
 returns-5 c = rw (c .enum-told5 .given .1)
 
--- src/lib.rt:209:1
 returns-6 : tie.Need-returns-6
 returns-6 c = rw (c .enum-told6 .given .1)
 
--- src/lib.rt:209:1
 returns-7 : tie.Need-returns-7
 returns-7 c = rw (c .before .stage .given .1)
 
--- src/lib.rt:209:1
 returns-8 : tie.Need-returns-8
 returns-8 c = rw (c .enum-told7 .given .1)
 
--- src/lib.rt:209:1
 returns-9 : tie.Need-returns-9
 returns-9 c = rw (c .enum-told8 .given .1)
 

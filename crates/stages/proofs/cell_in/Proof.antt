@@ -1,3 +1,4 @@
+-- `stages::cell_in` meets its contract.
 use mathlib.Core.Path.{refl}
 use native.Mathlib.Omega.{arith}
 use lib.ListN.{List·getD-eq-default}
@@ -6,33 +7,26 @@ use borrow.Author.Needs.{needs}
 use Rattle.stages.proofs.cell_in.Statement.{statement}
 use Rattle.stages.proofs.cell_in.Tie as tie
 
--- src/lib.rt:132:9
 returns : tie.Need-returns
 unfolding cellIn
 returns c = omega (arith, List·getD-eq-default (c .before .args .line .now) 0 {n = 1} (search needs))
 
--- src/lib.rt:134:8
 shared-slice-read-if2 : tie.Need-shared-slice-read-if2
 shared-slice-read-if2 c = search needs
 
--- src/lib.rt:135:9
 returns-2 : tie.Need-returns-2
 unfolding cellIn
 returns-2 c = omega (arith, c .if2 .taken)
 
--- src/lib.rt:137:6
 shared-slice-read-result : tie.Need-shared-slice-read-result
 shared-slice-read-result c = search needs
 
--- src/lib.rt:137:6
 sub-result : tie.Need-sub-result
 sub-result c = search needs
 
--- src/lib.rt:137:5
 cast-result : tie.Need-cast-result
 cast-result c = omega (arith, c .shared-slice-known2 .given 1)
 
--- src/lib.rt:128:1
 returns-3 : tie.Need-returns-3
 unfolding cellIn
 returns-3 c = refl

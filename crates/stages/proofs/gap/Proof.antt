@@ -1,85 +1,66 @@
+-- `stages::gap` meets its contract.
 use native.Mathlib.Omega.{arith}
 use borrow.Author.Needs.{needs}
 use Rattle.stages.proofs.gap.Statement.{statement}
 use Rattle.stages.proofs.gap.Tie as tie
 
--- src/lib.rt:311:27
 enum-told : tie.Need-enum-told
 enum-told c = search needs
 
--- src/lib.rt:312:25
 enum-told-2 : tie.Need-enum-told-2
 enum-told-2 c = search needs
 
--- src/lib.rt:313:32
 enum-told-3 : tie.Need-enum-told-3
 enum-told-3 c = search needs
 
--- src/lib.rt:314:29
 enum-told-4 : tie.Need-enum-told-4
 enum-told-4 c = search needs
 
--- src/lib.rt:315:28
 enum-told-5 : tie.Need-enum-told-5
 enum-told-5 c = search needs
 
--- src/lib.rt:316:32
 enum-told-6 : tie.Need-enum-told-6
 enum-told-6 c = search needs
 
--- src/lib.rt:317:33
 enum-told-7 : tie.Need-enum-told-7
 enum-told-7 c = search needs
 
--- src/lib.rt:318:28
 enum-known-stage : tie.Need-enum-known-stage
 enum-known-stage c = search needs
 
--- src/lib.rt:318:40
 sub-result : tie.Need-sub-result
 sub-result c = let r = rw (c .before .stage .given .1) at (c .before .before .before .pre) in omega (arith, r .2)
 
--- src/lib.rt:318:40
 sub-result-2 : tie.Need-sub-result-2
 sub-result-2 c = let r = rw (c .before .stage .given .1) at (c .before .before .before .pre) in omega (arith, r .2)
 
--- src/lib.rt:319:24
 enum-told-8 : tie.Need-enum-told-8
 enum-told-8 c = search needs
 
--- src/lib.rt:306:1
 returns : tie.Need-returns
 returns c = search needs
 
--- src/lib.rt:306:1
 returns-2 : tie.Need-returns-2
 returns-2 c = search needs
 
--- src/lib.rt:306:1
 returns-3 : tie.Need-returns-3
 returns-3 c = search needs
 
--- src/lib.rt:306:1
 returns-4 : tie.Need-returns-4
 returns-4 c = search needs
 
--- src/lib.rt:306:1
 returns-5 : tie.Need-returns-5
 returns-5 c = search needs
 
--- src/lib.rt:306:1
 returns-6 : tie.Need-returns-6
 returns-6 c = search needs
 
--- src/lib.rt:306:1
 returns-7 : tie.Need-returns-7
 returns-7 c = search needs
 
--- src/lib.rt:306:1
 returns-8 : tie.Need-returns-8
 returns-8 c = rw (c .before .stage .given .1) (omega arith)
 
--- src/lib.rt:306:1
 returns-9 : tie.Need-returns-9
 returns-9 c = search needs
 

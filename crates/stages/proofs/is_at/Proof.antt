@@ -1,3 +1,4 @@
+-- `stages::is_at` meets its contract.
 use native.Mathlib.Omega.{arith}
 use Rattle.wave.specs.Dump.{timeLine}
 use Rattle.writer.specs.Laws.{places-few, length-time}
@@ -6,40 +7,33 @@ use borrow.Author.Needs.{needs}
 use Rattle.stages.proofs.is_at.Statement.{statement}
 use Rattle.stages.proofs.is_at.Tie as tie
 
--- src/lib.rt:50:30
 slice-aggregate-put-time : tie.Need-slice-aggregate-put-time
 slice-aggregate-put-time c = search needs
 
--- src/lib.rt:50:13
 put-time-requires : tie.Need-put-time-requires
 put-time-requires c κs = omega (arith, places-few (c .before .before .args .t))
 
--- src/lib.rt:50:13
 sub-k : tie.Need-sub-k
 sub-k c =
     let a = c .before .before .before .before .args in
     let f = line-put _ _ (timeLine (a .t)) _ (omega (arith, length-time (a .t), places-few (a .t))) (c .before .put-time .ensures) in
     omega (arith, f .0)
 
--- src/lib.rt:51:16
 array-share-prefix-want : tie.Need-array-share-prefix-want
 array-share-prefix-want c =
     let a = c .before .before .before .before .args in
     let f = line-put _ _ (timeLine (a .t)) _ (omega (arith, length-time (a .t), places-few (a .t))) (c .before .put-time .ensures) in
     omega (arith, f .0, length-time (a .t), places-few (a .t))
 
--- src/lib.rt:51:16
 slice-aggregate-same : tie.Need-slice-aggregate-same
 slice-aggregate-same c =
     let a = c .before .before .before .before .before .args in
     let f = line-put _ _ (timeLine (a .t)) _ (omega (arith, length-time (a .t), places-few (a .t))) (c .before .before .put-time .ensures) in
     f .2
 
--- src/lib.rt:51:5
 same-requires : tie.Need-same-requires
 same-requires c κs = search needs
 
--- src/lib.rt:45:1
 returns : tie.Need-returns
 returns c =
     let a = c .before .before .before .before .before .before .args in

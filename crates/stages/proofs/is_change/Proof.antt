@@ -1,3 +1,4 @@
+-- `stages::is_change` meets its contract.
 use lib.ListN.{getD}
 use borrow.Author.Tests.{lt-ltb, le-ltb}
 use native.Mathlib.Omega.{arith}
@@ -7,32 +8,25 @@ use borrow.Author.Needs.{needs}
 use Rattle.stages.proofs.is_change.Statement.{statement}
 use Rattle.stages.proofs.is_change.Tie as tie
 
--- src/lib.rt:144:9
 cell-in-requires : tie.Need-cell-in-requires
 cell-in-requires c κs = search needs
 
--- src/lib.rt:146:34
 element-copy-out-turned : tie.Need-element-copy-out-turned
 element-copy-out-turned c = search needs
 
--- src/lib.rt:146:13
 turned-requires : tie.Need-turned-requires
 turned-requires c κs = search needs
 
--- src/lib.rt:147:34
 cast-is-bit : tie.Need-cast-is-bit
 cast-is-bit c = search needs
 
--- src/lib.rt:147:9
 is-bit-requires : tie.Need-is-bit-requires
 is-bit-requires c κs = (omega (arith, c .turned .ensures, turned-few (getD (c .before .before .before .before .before .args .bits .now) (c .before .before .before .cell-in .result) 0)), search needs)
 
--- src/lib.rt:147:9
 returns : tie.Need-returns
 unfolding isChange
 returns c = rw (← c .before .before .before .before .cell-in .ensures, lt-ltb _ _ (c .before .before .before .if1 .taken), ← c .before .turned .ensures, ← c .is-bit .ensures)
 
--- src/lib.rt:140:1
 returns-2 : tie.Need-returns-2
 unfolding isChange
 returns-2 c = rw (← c .before .cell-in .ensures, le-ltb _ _ (c .if1 .left))

@@ -1,28 +1,24 @@
+-- `stages::is_time` meets its contract.
 use borrow.Author.Tests.{lt-ltb, le-ltb, le-leb, lt-leb}
 use Rattle.wave.specs.Reader.{isTime}
 use borrow.Author.Needs.{needs}
 use Rattle.stages.proofs.is_time.Statement.{statement}
 use Rattle.stages.proofs.is_time.Tie as tie
 
--- src/lib.rt:118:9
 time-in-requires : tie.Need-time-in-requires
 time-in-requires c κs = search needs
 
--- src/lib.rt:121:13
 is-at-requires : tie.Need-is-at-requires
 is-at-requires c κs = search needs
 
--- src/lib.rt:121:13
 returns : tie.Need-returns
 unfolding isTime
 returns c = rw (← c .before .before .before .time-in .ensures, lt-ltb _ _ (c .before .before .if1 .taken), le-leb _ _ (c .before .if2 .taken), ← c .is-at .ensures)
 
--- src/lib.rt:123:9
 returns-2 : tie.Need-returns-2
 unfolding isTime
 returns-2 c = rw (← c .before .before .time-in .ensures, lt-ltb _ _ (c .before .if1 .taken), lt-leb _ _ (c .if2 .left))
 
--- src/lib.rt:115:1
 returns-3 : tie.Need-returns-3
 unfolding isTime
 returns-3 c = rw (← c .before .time-in .ensures, le-ltb _ _ (c .if1 .left))

@@ -1,23 +1,20 @@
+-- `stages::no_more` meets its contract.
 use borrow.Author.Tests.{lt-ltb, le-ltb}
 use Rattle.wave.specs.Dump.{upscope}
 use borrow.Author.Needs.{needs}
 use Rattle.stages.proofs.no_more.Statement.{statement}
 use Rattle.stages.proofs.no_more.Tie as tie
 
--- src/lib.rt:77:27
 slice-aggregate-same : tie.Need-slice-aggregate-same
 slice-aggregate-same c = search needs
 
--- src/lib.rt:77:9
 same-requires : tie.Need-same-requires
 same-requires c κs = search needs
 
--- src/lib.rt:77:9
 returns : tie.Need-returns
 unfolding upscope
 returns c = rw (lt-ltb _ _ (c .before .before .if1 .taken)) (c .same .ensures)
 
--- src/lib.rt:73:1
 returns-2 : tie.Need-returns-2
 returns-2 c = rw (le-ltb _ _ (c .if1 .left))
 

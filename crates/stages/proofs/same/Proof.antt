@@ -1,3 +1,4 @@
+-- `stages::same` meets its contract.
 use borrow.Author.Needs.{needs}
 use borrow.Author.Tests.{eq-eqb, ne-eqb}
 use Prim.Native.Nat.{_≤_, _-_}
@@ -14,38 +15,30 @@ Inv-loop x y i₀ i = (i ≤ length x) × (length x ≡ length y) × (same (drop
 abbrev μ-loop : tie.MeasureT-loop
 μ-loop x y i₀ i = length x - i
 
--- src/lib.rt:24:9
 returns : tie.Need-returns Inv-loop μ-loop
 returns c = sym (same-short _ _ (c .if1 .taken))
 
--- src/lib.rt:27:5
 loop-holds : tie.Need-loop-holds Inv-loop μ-loop
 loop-holds c = (search needs, search needs, refl)
 
--- src/lib.rt:28:12
 shared-slice-read-if2 : tie.Need-shared-slice-read-if2 Inv-loop μ-loop
 shared-slice-read-if2 c = search needs
 
--- src/lib.rt:28:20
 shared-slice-read-if2-2 : tie.Need-shared-slice-read-if2-2 Inv-loop μ-loop
 shared-slice-read-if2-2 c = search needs
 
--- src/lib.rt:29:13
 returns-2 : tie.Need-returns-2 Inv-loop μ-loop
 returns-2 c =
     let l = c .before .before .before .before .loop in
     let a = c .before .before .before .before .before .before .args in
     rw (← l .inv .2, same-at (a .x .now) (a .y .now) (l .i) (search needs) (search needs), ne-eqb _ _ (c .if2 .taken))
 
--- src/lib.rt:31:9
 add-i : tie.Need-add-i Inv-loop μ-loop
 add-i c = search needs
 
--- src/lib.rt:27:5
 loop-less : tie.Need-loop-less Inv-loop μ-loop
 loop-less c = search needs
 
--- src/lib.rt:27:5
 loop-again : tie.Need-loop-again Inv-loop μ-loop
 loop-again c =
     let l = c .before .before .before .before .loop in
@@ -53,7 +46,6 @@ loop-again c =
     let e = same-at (a .x .now) (a .y .now) (l .i) (search needs) (search needs) in
     (search needs, search needs, sym (rw (eq-eqb _ _ (c .if2 .left)) at e) ∙ l .inv .2)
 
--- src/lib.rt:20:1
 returns-3 : tie.Need-returns-3 Inv-loop μ-loop
 returns-3 c =
     let l = c .before .loop in

@@ -1,3 +1,4 @@
+-- `stages::time_in` meets its contract.
 use mathlib.Core.Path.{ap}
 use Rattle.text.specs.declared.Number.{Number}
 use Rattle.wave.specs.Reader.{timeIn}
@@ -5,15 +6,12 @@ use borrow.Author.Needs.{needs}
 use Rattle.stages.proofs.time_in.Statement.{statement}
 use Rattle.stages.proofs.time_in.Tie as tie
 
--- src/lib.rt:111:9
 read-number-requires : tie.Need-read-number-requires
 read-number-requires c κs = search needs
 
--- src/lib.rt:112:5
 cast-result : tie.Need-cast-result
 cast-result c = search needs
 
--- src/lib.rt:108:1
 returns : tie.Need-returns
 unfolding timeIn
 returns c = ap (λ (o : Number). o .value) (c .before .read-number .ensures)

@@ -1,3 +1,4 @@
+-- `stages::turn` meets its contract.
 use mathlib.Core.Path.{sym, _∙_}
 use native.Mathlib.Omega.{arith}
 use Rattle.wave.specs.Dump.{turnOf}
@@ -6,15 +7,12 @@ use borrow.Author.Needs.{needs}
 use Rattle.stages.proofs.turn.Statement.{statement}
 use Rattle.stages.proofs.turn.Tie as tie
 
--- src/lib.rt:217:8
 is-changing-requires : tie.Need-is-changing-requires
 is-changing-requires c κs = search needs
 
--- src/lib.rt:218:13
 cell-in-requires : tie.Need-cell-in-requires
 cell-in-requires c κs = search needs
 
--- src/lib.rt:219:19
 element-copy-out-bit : tie.Need-element-copy-out-bit
 element-copy-out-bit c =
     let a = c .before .before .before .before .args in
@@ -22,11 +20,9 @@ element-copy-out-bit c =
     let l = change-within (a .stage) (a .bits .now) (a .line .now) (p .0) (sym (c .before .before .is-changing .ensures) ∙ c .before .if1 .taken) (p .1) in
     omega (arith, l, c .cell-in .ensures)
 
--- src/lib.rt:220:22
 turned-requires : tie.Need-turned-requires
 turned-requires c κs = search needs
 
--- src/lib.rt:220:9
 element-write-bits : tie.Need-element-write-bits
 element-write-bits c =
     let a = c .before .before .before .before .before .before .args in
@@ -34,14 +30,12 @@ element-write-bits c =
     let l = change-within (a .stage) (a .bits .now) (a .line .now) (p .0) (sym (c .before .before .before .before .is-changing .ensures) ∙ c .before .before .before .if1 .taken) (p .1) in
     omega (arith, l, c .before .before .cell-in .ensures)
 
--- src/lib.rt:213:1
 returns : tie.Need-returns
 unfolding turnOf
 returns c =
     let a = c .before .before .before .before .before .before .args in
     rw (turned-bits (a .stage) (a .bits .now) (a .line .now) (sym (c .before .before .before .before .is-changing .ensures) ∙ c .before .before .before .if1 .taken), ← c .before .before .cell-in .ensures, ← c .turned .ensures)
 
--- src/lib.rt:213:1
 returns-2 : tie.Need-returns-2
 returns-2 c =
     let a = c .before .before .before .args in

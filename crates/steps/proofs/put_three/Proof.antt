@@ -6,43 +6,33 @@ use borrow.Author.Needs.{needs}
 use Rattle.steps.proofs.put_three.Statement.{statement}
 use Rattle.steps.proofs.put_three.Tie as tie
 
--- src/lib.rt:88:5
 mul-script : tie.Need-mul-script
 mul-script c = search needs
 
--- src/lib.rt:88:5
 slice-write-script : tie.Need-slice-write-script
 slice-write-script c = search needs
 
--- src/lib.rt:89:12
 add-script : tie.Need-add-script
 add-script c = search needs
 
--- src/lib.rt:89:5
 mul-script-2 : tie.Need-mul-script-2
 mul-script-2 c = search needs
 
--- src/lib.rt:89:5
 slice-write-script-2 : tie.Need-slice-write-script-2
 slice-write-script-2 c = let s = c .args in omega (arith, length-set (s .script .now) (s .at) (s .a))
 
--- src/lib.rt:90:12
 add-script-2 : tie.Need-add-script-2
 add-script-2 c = search needs
 
--- src/lib.rt:90:5
 mul-script-3 : tie.Need-mul-script-3
 mul-script-3 c = search needs
 
--- src/lib.rt:90:5
 slice-write-script-3 : tie.Need-slice-write-script-3
 slice-write-script-3 c = let s = c .args in omega (arith, length-set (s .script .now) (s .at) (s .a), length-set (set (s .script .now) (s .at) (s .a)) (s .at + 1) (s .b))
 
--- src/lib.rt:85:1
 same-length : tie.Need-same-length
 same-length c = search needs
 
--- src/lib.rt:85:1
 returns : tie.Need-returns
 returns c = search needs
 

@@ -10,21 +10,17 @@ use borrow.Author.Needs.{needs}
 use Rattle.writer.proofs.fitted.Statement.{statement}
 use Rattle.writer.proofs.fitted.Tie as tie
 
--- src/lib.rt:280:16
 head-size-requires : tie.Need-head-size-requires
 head-size-requires c κs = search needs
 
--- src/lib.rt:280:35
 body-size-requires : tie.Need-body-size-requires
 body-size-requires c κs = search needs
 
--- src/lib.rt:280:16
 add-size : tie.Need-add-size
 add-size c =
     let n = c .before .before .before .before .args .n in
     omega (arith, c .body-size .ensures .1, c .before .head-size .ensures, head-size n, head-few n 0)
 
--- src/lib.rt:282:9
 returns : tie.Need-returns
 unfolding fittedOf
 returns c =
@@ -32,25 +28,20 @@ returns c =
     let h : length (a .out .now) < length (dumpOf (a .n) (a .script .now)) = omega (arith, c .if1 .taken, dump-size (a .n) (a .script .now), c .before .body-size .ensures .0, c .before .before .head-size .ensures) in
     rw (lt-ltb _ _ h)
 
--- src/lib.rt:284:28
 cast-put-head : tie.Need-cast-put-head
 cast-put-head c = search needs
 
--- src/lib.rt:284:9
 put-head-requires : tie.Need-put-head-requires
 put-head-requires c κs = search needs
 
--- src/lib.rt:285:19
 put-body-requires : tie.Need-put-body-requires
 put-body-requires c κs =
     let e = put-place _ _ _ _ _ (c .before .before .before .put-head .ensures) in
     (search needs, search needs, omega (arith, e, c .before .before .before .put-head .kept, c .before .before .before .before .before .if1 .left, c .before .before .before .before .before .before .body-size .ensures .0, c .before .before .before .before .before .before .before .head-size .ensures))
 
--- src/lib.rt:264:1
 same-length : tie.Need-same-length
 same-length c = search needs
 
--- src/lib.rt:264:1
 returns-2 : tie.Need-returns-2
 unfolding fittedOf
 returns-2 c =

@@ -1,3 +1,4 @@
+-- `writer::step` meets its contract.
 use mathlib.Core.Path.{_∙_}
 use native.Mathlib.Omega.{arith}
 use lib.ListN.{getD}
@@ -7,15 +8,12 @@ use borrow.Author.Needs.{needs}
 use Rattle.writer.proofs.step.Statement.{statement}
 use Rattle.writer.proofs.step.Tie as tie
 
--- src/lib.rt:163:8
 turn-requires : tie.Need-turn-requires
 turn-requires c κs = search needs
 
--- src/lib.rt:164:13
 wanted-requires : tie.Need-wanted-requires
 wanted-requires c κs = search needs
 
--- src/lib.rt:165:44
 cast-put-change : tie.Need-cast-put-change
 cast-put-change c =
     let a = c .before .before .before .before .before .before .args in
@@ -23,7 +21,6 @@ cast-put-change c =
     let l = changes-in (a .n) (a .bits .now) (a .kind) (a .cell) (f .0) in
     omega (arith, l .0)
 
--- src/lib.rt:165:9
 put-change-requires : tie.Need-put-change-requires
 put-change-requires c κs =
     let a = c .before .before .before .before .before .before .args in
@@ -31,11 +28,9 @@ put-change-requires c κs =
     let l = changes-in (a .n) (a .bits .now) (a .kind) (a .cell) (f .0) in
     (search needs, omega (arith, c .before .wanted .ensures, wanted-few (a .kind)), omega (arith, l .0), c .before .before .before .before .before .before .pre .2 (f .0))
 
--- src/lib.rt:165:9
 same-length : tie.Need-same-length
 same-length c = search needs
 
--- src/lib.rt:165:9
 returns : tie.Need-returns
 returns c =
     let a = c .before .before .before .before .before .before .before .before .before .args in
@@ -44,7 +39,6 @@ returns c =
     let e = c .before .before .before .before .wanted .ensures ∙ wanted-is (a .kind) (getD (a .bits .now) (a .cell) 0) (l .1) in
     step-done (a .n) (a .t) (a .bits .now) (a .kind) (a .cell) (a .out .now) (a .at) _ _ _ _ (f .0) (f .1) e (c .before .before .put-change .ensures)
 
--- src/lib.rt:159:1
 returns-2 : tie.Need-returns-2
 returns-2 c =
     let a = c .before .before .before .before .args in
