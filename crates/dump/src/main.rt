@@ -1,4 +1,4 @@
-// The program `dump`: a history from standard input, its waveform to standard output (document 02, L11). docs/CONSOLE.md has the language.
+// The program `dump`: a history from standard input, its waveform to standard output (document 02, L11). docs/WAVE.md has the language.
 use steps::Order;
 use wave::Dumped;
 ghost use mathlib.Core.Path.{_≡_};

@@ -1,5 +1,5 @@
 // A history as lines, for the programs `dump` and `undump`: the first line `N` or `N ROOM`, every other line a step, `KIND PLACE NUMBER`.
-// Every function takes any bytes; they are steps of the programs, no calls of document 02. docs/CONSOLE.md has the language.
+// Every function takes any bytes; they are steps of the programs, no calls of document 02. docs/WAVE.md has the language.
 ghost use Prim.Native.Nat.{_+_, _≤_};
 ghost use lib.ListN.{length};
 ghost use Rattle.io.specs.Counts.{Counts as Within};
