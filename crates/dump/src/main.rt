@@ -1,4 +1,5 @@
-// The program `dump`: a history from standard input, its waveform to standard output (document 02, L11). docs/WAVE.md has the language.
+// The program `dump`: a history from standard input, its waveform to standard output (document 02, L11). docs/WAVE.md
+// has the language.
 use steps::Order;
 use wave::Dumped;
 ghost use mathlib.Core.Path.{_≡_};
@@ -37,7 +38,8 @@ fn ordered(input: &[u8], script: &mut [u32]) {
     }
 }
 
-// Room for any dump: at most 80 bytes and 29 for each of 94 cells before the first change, and 10 for each of 32,768 steps.
+// Room for any dump: at most 80 bytes and 29 for each of 94 cells before the first change, and 10 for each of 32,768
+// steps.
 fn with_room(order: Order, script: &[u32]) {
     let mut out = [0u8; 331000];
     written(order, script, &mut out);

@@ -1,5 +1,5 @@
--- The bits of the first n cells over a history; and that they are those of document 02's own sentence: "from all bits 0: a take sets its
--- cell's bit, a release clears it, any other step only counts".
+-- The bits of the first n cells over a history; and that they are those of document 02's own sentence: "from all bits
+-- 0: a take sets its cell's bit, a release clears it, any other step only counts".
 use Prim.Native.Nat.{ℕ, zero, suc, _≤_, _<_}
 use mathlib.Core.Path.{_≡_, refl}
 use mathlib.Core.List.{List, [], _∷_}
@@ -46,7 +46,8 @@ bits-set bits c v b h d = go (ℕ-discrete d c) (decLt d (length bits))
     go (no e) l = rw (getD-set-other bits c d v 0 e) (b d)
 
 -- what a step does, and what the sentence says of it
-step-said : (n : ℕ) (bits : List ℕ) (kind cell : ℕ) → getD bits cell 0 ≤ 1 → saidOf n bits kind cell ≡ (if changesOf n bits kind cell then turnOf bits cell else bits)
+step-said : (n : ℕ) (bits : List ℕ) (kind cell : ℕ) → getD bits cell 0 ≤ 1
+    → saidOf n bits kind cell ≡ (if changesOf n bits kind cell then turnOf bits cell else bits)
 unfolding changesOf turns turnOf
 step-said n bits kind cell b = go (ltb cell n) (eqb (getD bits cell 0) 0) (eqb kind 1) (eqb kind 2) refl refl refl
   where
@@ -67,7 +68,8 @@ step-said n bits kind cell b = go (ltb cell n) (eqb (getD bits cell 0) 0) (eqb k
 bits-said : (n : ℕ) (bits : List ℕ) (kind cell : ℕ) → Bits bits → Bits (saidOf n bits kind cell)
 bits-said n bits kind cell b = go (ltb cell n) (eqb kind 1) (eqb kind 2)
   where
-    go : (w a r : Bool) → Bits (if w then (if a then set bits cell 1 else if r then set bits cell 0 else bits) else bits)
+    go : (w a r : Bool)
+        → Bits (if w then (if a then set bits cell 1 else if r then set bits cell 0 else bits) else bits)
     go false a r = b
     go true true r = bits-set bits cell 1 b (omega arith)
     go true false true = bits-set bits cell 0 b (omega arith)
@@ -81,7 +83,8 @@ as-said-from (suc j) n bits (kind ∷ []) b = refl
 as-said-from (suc j) n bits (kind ∷ cell ∷ []) b = refl
 as-said-from (suc j) n bits (kind ∷ cell ∷ number ∷ rest) b = go (changesOf n bits kind cell) (step-said n bits kind cell (b cell)) (λ o k. as-said-from j n o rest k) (bits-said n bits kind cell b)
   where
-    go : (t : Bool) → saidOf n bits kind cell ≡ (if t then turnOf bits cell else bits) → ((o : List ℕ) → Bits o → bitsAfter n o j rest ≡ saidAfter n o j rest) → Bits (saidOf n bits kind cell)
+    go : (t : Bool) → saidOf n bits kind cell ≡ (if t then turnOf bits cell else bits)
+        → ((o : List ℕ) → Bits o → bitsAfter n o j rest ≡ saidAfter n o j rest) → Bits (saidOf n bits kind cell)
         → (if t then bitsAfter n (turnOf bits cell) j rest else bitsAfter n bits j rest) ≡ saidAfter n (saidOf n bits kind cell) j rest
     go true e f k = rw (← e) (f (saidOf n bits kind cell) k)
     go false e f k = rw e (f bits b)

@@ -25,10 +25,12 @@ use Rattle.roundtrip.specs.Round.{trimOf, round-trip, same-bits}
 
 -- ---- two replies that meet a promise are equal
 
-pub write-determined : (n : ℕ) (script out : List ℕ) (a b : Dumped × List ℕ) → a ≡ writeOf n script out → b ≡ writeOf n script out → a ≡ b
+pub write-determined : (n : ℕ) (script out : List ℕ) (a b : Dumped × List ℕ) → a ≡ writeOf n script out
+    → b ≡ writeOf n script out → a ≡ b
 write-determined n script out a b p q = determined p q
 
-pub read-determined : (text out : List ℕ) (a b : Undumped × List ℕ) → a ≡ readIntoOf text out → b ≡ readIntoOf text out → a ≡ b
+pub read-determined : (text out : List ℕ) (a b : Undumped × List ℕ) → a ≡ readIntoOf text out → b ≡ readIntoOf text out
+    → a ≡ b
 read-determined text out a b p q = determined p q
 
 -- ---- what the writer writes
@@ -57,7 +59,8 @@ writing a b c n script out =
     if c then (dumped.NoRoom, out) else
     (dumped.Written (length (dumpOf n script)), sets out 0 (dumpOf n script))
 
-pub written : (n : ℕ) (script out : List ℕ) (size : ℕ) → writeOf n script out .0 ≡ dumped.Written size → Wrote n script out size
+pub written : (n : ℕ) (script out : List ℕ) (size : ℕ) → writeOf n script out .0 ≡ dumped.Written size
+    → Wrote n script out size
 unfolding writeOf fittedOf
 written n script out size =
     go (badHistory script) (tooWide n) (ltb (length out) (length (dumpOf n script))) refl refl refl
@@ -126,9 +129,11 @@ got text room n steps = go (readOf text) refl
 
 -- ---- the two together
 
--- "what was written reads back as the same bits at the same step numbers": whatever the writer wrote into a lent buffer, the reader takes,
--- into a run that is as long as the history, and the script that it leaves there has the bits of the history at every step
-pub calls-read-back : (n : ℕ) (script out room : List ℕ) (size : ℕ) → writeOf n script out .0 ≡ dumped.Written size → length script ≤ length room
+-- "what was written reads back as the same bits at the same step numbers": whatever the writer wrote into a lent
+-- buffer, the reader takes, into a run that is as long as the history, and the script that it leaves there has the bits
+-- of the history at every step
+pub calls-read-back : (n : ℕ) (script out room : List ℕ) (size : ℕ) → writeOf n script out .0 ≡ dumped.Written size
+    → length script ≤ length room
     → let text = take size (writeOf n script out .1) in
     (steps : ℕ) × (readIntoOf text room .0 ≡ undumped.Read n steps)
     × ((j : ℕ) → bitsAfter n noBits j (take (3 * steps) (readIntoOf text room .1)) ≡ bitsAfter n noBits j script)
@@ -142,8 +147,10 @@ calls-read-back n script out room size e r =
     let s : 3 * (length back / 3) ≡ length back = omega (arith, d .whole) in
     (length back / 3, rw (t, o), λ j. rw (t, o, s, front back room l) (same-bits n j script))
 
--- "The reader takes only what the writer could have written": of what the reader left, the writer makes the text again, byte for byte
-pub calls-write-again : (text room out : List ℕ) (n steps : ℕ) → readIntoOf text room .0 ≡ undumped.Read n steps → length text ≤ length out
+-- "The reader takes only what the writer could have written": of what the reader left, the writer makes the text again,
+-- byte for byte
+pub calls-write-again : (text room out : List ℕ) (n steps : ℕ) → readIntoOf text room .0 ≡ undumped.Read n steps
+    → length text ≤ length out
     → writeOf n (take (3 * steps) (readIntoOf text room .1)) out ≡ (dumped.Written (length text), sets out 0 text)
 calls-write-again text room out n steps e r =
     let g = got text room n steps e in

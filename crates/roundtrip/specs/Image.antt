@@ -47,7 +47,9 @@ change-read n bits x e =
 -- ---- a line that was accepted
 
 -- one test, and one stage behind it
-chosen : (b : Bool) (s : Stage) (k n last : ℕ) (bits : List ℕ) (r : Items) → unless (if b then s else Lost) k (verdictOf (k + 1) (if b then s else Lost) bits r) ≡ Fine n last → (b ≡ true) × (verdictOf (k + 1) s bits r ≡ Fine n last)
+chosen : (b : Bool) (s : Stage) (k n last : ℕ) (bits : List ℕ) (r : Items)
+    → unless (if b then s else Lost) k (verdictOf (k + 1) (if b then s else Lost) bits r) ≡ Fine n last
+    → (b ≡ true) × (verdictOf (k + 1) s bits r ≡ Fine n last)
 chosen true s k n last bits r e = (refl, onward s k n last (verdictOf (k + 1) s bits r) e)
 chosen false s k n last bits r e = bad-not e
 
@@ -89,7 +91,8 @@ pub record Image (n last : ℕ) (bits : List ℕ) (r : Items) (m e : ℕ) (w : L
   pub size : length w + 3 * last ≡ 3 * e
   pub is : r ≡ itemsOf (bodyOf n (last + 1) bits w)
 
-pub image-body : (r : Items) (k n last m e : ℕ) (bits : List ℕ) → last ≤ 32768 → verdictOf k (Waiting n last) bits r ≡ Fine m e → Image n last bits r m e (wordsOf (Waiting n last) bits r)
+pub image-body : (r : Items) (k n last m e : ℕ) (bits : List ℕ) → last ≤ 32768
+    → verdictOf k (Waiting n last) bits r ≡ Fine m e → Image n last bits r m e (wordsOf (Waiting n last) bits r)
 unfolding verdictOf wordsOf bodyOf itemsOf
 image-body finish k n last m e bits h v = let z : last ≡ e = cc in record { cells = cc; early = omega arith; size = omega arith; is = refl }
 image-body (torn x) k n last m e bits h v = bad-not v
@@ -103,7 +106,8 @@ image-body (line x (line y r)) k n last m e bits h v =
     let i = image-body r (k + 1 + 1) n (timeIn x) m e (turnOf bits (cellIn y)) (t .early) (b .1) in
     rw (words-change n last bits x y r (a .0) (b .0)) (go t c i)
   where
-    go : TimeRead last x → ChangeRead n bits y → Image n (timeIn x) (turnOf bits (cellIn y)) r m e (wordsOf (Waiting n (timeIn x)) (turnOf bits (cellIn y)) r)
+    go : TimeRead last x → ChangeRead n bits y
+        → Image n (timeIn x) (turnOf bits (cellIn y)) r m e (wordsOf (Waiting n (timeIn x)) (turnOf bits (cellIn y)) r)
         → Image n last bits (line x (line y r)) m e (idle (timeIn x - (last + 1)) (kindFor (getD bits (cellIn y) 0) ∷ cellIn y ∷ 0 ∷ wordsOf (Waiting n (timeIn x)) (turnOf bits (cellIn y)) r))
     go t c i =
         let w : List ℕ = wordsOf (Waiting n (timeIn x)) (turnOf bits (cellIn y)) r in
@@ -171,7 +175,8 @@ image-vars (torn x) k n m e bits h v = bad-not v
 image-vars (line x r) k n m e bits h v =
     go (if ltb n 94 then same x (varLine n) else false) (if ltb 0 n then same x upscope else false) refl refl (λ l u. image-vars r (k + 1) (n + 1) m e bits l u) v
   where
-    go : (a b : Bool) → (if ltb n 94 then same x (varLine n) else false) ≡ a → (if ltb 0 n then same x upscope else false) ≡ b
+    go : (a b : Bool) → (if ltb n 94 then same x (varLine n) else false) ≡ a
+        → (if ltb 0 n then same x upscope else false) ≡ b
         → (n + 1 ≤ 94 → verdictOf (k + 1) (Variables (n + 1)) bits r ≡ Fine m e
         → Varied (n + 1) r m e (wordsOf (Variables (n + 1)) bits r) (varsOf (n + 1) (m - (n + 1)) (middleOf m (bodyOf m 1 bits (wordsOf (Variables (n + 1)) bits r)))))
         → unless (if a then Variables (n + 1) else if b then Ending n else Lost) k (verdictOf (k + 1) (if a then Variables (n + 1) else if b then Ending n else Lost) bits r) ≡ Fine m e
@@ -209,11 +214,14 @@ image-lines (line x (line y r)) m e bits o v =
     rw (o, a .0, b .0) (record { some = i .some; few = i .few; whole = omega (arith, rw o at (i .headed .size)); short = omega (arith, rw o at (i .headed .size), i .headed .early) }, cc (same-true x timescale (a .0), same-true y scopeLine (b .0), j), rw o at (i .headed .size))
 
 -- a text that is accepted is the dump of what was read
-pub image : (text : List ℕ) (n : ℕ) (script : List ℕ) → readOf text ≡ read n script → (Dumpable n script) × (dumpOf n script ≡ text)
+pub image : (text : List ℕ) (n : ℕ) (script : List ℕ) → readOf text ≡ read n script
+    → (Dumpable n script) × (dumpOf n script ≡ text)
 unfolding readOf dumpOf
 image text n script = go (verdictOf 1 Opening noBits (splitOf text)) refl
   where
-    go : (v : Verdict) → verdictOf 1 Opening noBits (splitOf text) ≡ v → readingOf v (wordsOf Opening noBits (splitOf text)) ≡ read n script → (Dumpable n script) × (dumpOf n script ≡ text)
+    go : (v : Verdict) → verdictOf 1 Opening noBits (splitOf text) ≡ v
+        → readingOf v (wordsOf Opening noBits (splitOf text)) ≡ read n script
+        → (Dumpable n script) × (dumpOf n script ≡ text)
     go (Bad k) e f = let w : _≡_ {A = ℕ} 0 1 = cc in absurd (omega arith)
     go (Fine m l) e f =
         let i = image-lines (splitOf text) m l noBits refl e in

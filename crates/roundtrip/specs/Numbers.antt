@@ -31,7 +31,8 @@ count-digit : (d : ℕ) (r : List ℕ) → d < 10 → digitsIn (glyph d ∷ r) �
 unfolding digitsIn
 count-digit d r h = rw (glyph-is d h, digit-test d h)
 
-pub value-digits : (k n v : ℕ) (r : List ℕ) → n < 10 ^ k → valueFrom v (digits 10 k n ++ r) ≡ valueFrom (10 ^ k * v + n) r
+pub value-digits : (k n v : ℕ) (r : List ℕ) → n < 10 ^ k
+    → valueFrom v (digits 10 k n ++ r) ≡ valueFrom (10 ^ k * v + n) r
 value-digits zero n v r h = let e : v ≡ 10 ^ 0 * v + n = omega arith in ap (λ (w : ℕ). valueFrom w r) e
 value-digits (suc k) n v r h =
     let low : n % 10 < 10 = omega arith in
@@ -74,7 +75,8 @@ number-printed n h = go (places-is n h)
         let d : getD (digits 10 (suc (suc k)) n) 0 0 ≢ 48 = rw (← e) (lead (suc k) n [] (rw q at (f .needed (omega arith))) (f .holds)) in
         rw (ne-eqb _ _ d)
 
-    go : Places n (placesOf n) → (if ltb 4294967295 (valueFrom 0 (digits 10 (placesOf n) n)) then noNumber else endedOf (getD (digits 10 (placesOf n) n) 0 0) (digitsIn (digits 10 (placesOf n) n)) (valueFrom 0 (digits 10 (placesOf n) n)))
+    go : Places n (placesOf n)
+        → (if ltb 4294967295 (valueFrom 0 (digits 10 (placesOf n) n)) then noNumber else endedOf (getD (digits 10 (placesOf n) n) 0 0) (digitsIn (digits 10 (placesOf n) n)) (valueFrom 0 (digits 10 (placesOf n) n)))
         ≡ record { fine = true; value = n; digits = placesOf n }
     go f =
         let e : digits 10 (placesOf n) n ++ [] ≡ digits 10 (placesOf n) n = append-nil (digits 10 (placesOf n) n) in

@@ -65,14 +65,16 @@ pub record Reads (s : Stage) (bits : List ℕ) (r : Items) (v : Verdict) (w : Li
   pub wrote : wordsOf s bits r ≡ w
 
 module _ (s next : Stage) (bits x : List ℕ) (r : Items) (v : Verdict) (w : List ℕ) where
-  pub reads-on : nextOf s bits x ≡ next → ((k : ℕ) → unless next k v ≡ v) → Reads next (bitsOf s bits x) r v w → Reads s bits (line x r) v (wordsAt s bits x w)
+  pub reads-on : nextOf s bits x ≡ next → ((k : ℕ) → unless next k v ≡ v) → Reads next (bitsOf s bits x) r v w
+      → Reads s bits (line x r) v (wordsAt s bits x w)
   unfolding verdictOf wordsOf
   reads-on e keep q = record { told = λ j. rw (e, q .told (j + 1)) (keep j); wrote = rw (e, q .wrote) }
 
 -- ---- the changes
 
 module _ (n last t c : ℕ) (bits : List ℕ) (r : Items) (v : Verdict) (w : List ℕ) (later : last < t) (early : t ≤ 32768) (cell : c < n) where
-  pub change-line : Reads (Waiting n t) (turnOf bits c) r v w → Reads (Changing n last t) bits (line (bitLine (turned (getD bits c 0)) c) r) v (idle (t - (last + 1)) (kindFor (getD bits c 0) ∷ c ∷ 0 ∷ w))
+  pub change-line : Reads (Waiting n t) (turnOf bits c) r v w
+      → Reads (Changing n last t) bits (line (bitLine (turned (getD bits c 0)) c) r) v (idle (t - (last + 1)) (kindFor (getD bits c 0) ∷ c ∷ 0 ∷ w))
   change-line q =
       let x : List ℕ = bitLine (turned (getD bits c 0)) c in
       let e : cellIn x ≡ c = cell-in (turned (getD bits c 0)) c in
@@ -110,7 +112,8 @@ reads-body n t last bits (kind ∷ cell ∷ number ∷ rest) h m =
 
 -- ---- the head
 
-pub reads-values : (left n c : ℕ) (bits : List ℕ) (ls : List (List ℕ)) (v : Verdict) (w : List ℕ) → c + suc left ≡ n → Reads (Waiting n 0) bits (itemsOf ls) v w → Reads (Values n c) bits (itemsOf (firstOf c (suc left) ls)) v w
+pub reads-values : (left n c : ℕ) (bits : List ℕ) (ls : List (List ℕ)) (v : Verdict) (w : List ℕ) → c + suc left ≡ n
+    → Reads (Waiting n 0) bits (itemsOf ls) v w → Reads (Values n c) bits (itemsOf (firstOf c (suc left) ls)) v w
 unfolding firstOf itemsOf
 reads-values zero n c bits ls v w e q =
     let f : nextOf (Values n c) bits (bitLine 0 c) ≡ Waiting n 0 = unfold afterValue in rw (same-refl (bitLine 0 c), le-ltb (c + 1) n (omega arith)) in
@@ -135,7 +138,9 @@ variable-last : (n : ℕ) → 0 < n → afterVariable n upscope ≡ Ending n
 unfolding afterVariable
 variable-last n h = rw (no-variable n, lt-ltb 0 n h, same-refl upscope)
 
-pub reads-vars : (left n c : ℕ) (bits : List ℕ) (ls : List (List ℕ)) (v : Verdict) (w : List ℕ) → c + left ≡ n → 1 ≤ n → n ≤ 94 → Reads (Ending n) bits (itemsOf ls) v w → Reads (Variables c) bits (itemsOf (varsOf c left (upscope ∷ ls))) v w
+pub reads-vars : (left n c : ℕ) (bits : List ℕ) (ls : List (List ℕ)) (v : Verdict) (w : List ℕ) → c + left ≡ n → 1 ≤ n
+    → n ≤ 94 → Reads (Ending n) bits (itemsOf ls) v w
+    → Reads (Variables c) bits (itemsOf (varsOf c left (upscope ∷ ls))) v w
 unfolding varsOf itemsOf
 reads-vars zero n c bits ls v w e a b q =
     let z : n ≡ c = omega arith in
@@ -145,7 +150,9 @@ reads-vars (suc left) n c bits ls v w e a b q =
     reads-on (Variables c) (Variables (c + 1)) bits (varLine c) (itemsOf (varsOf (c + 1) left (upscope ∷ ls))) v w (variable-next c (omega arith)) (λ k. refl) (reads-vars left n (c + 1) bits ls v w (omega arith) a b q)
 
 -- from the end of the definitions to the first time line
-pub reads-ending : (n : ℕ) (bits : List ℕ) (ls : List (List ℕ)) (v : Verdict) (w : List ℕ) → 1 ≤ n → Reads (Waiting n 0) bits (itemsOf ls) v w → Reads (Ending n) bits (itemsOf (endLine ∷ timeLine 0 ∷ firstOf 0 n ls)) v w
+pub reads-ending : (n : ℕ) (bits : List ℕ) (ls : List (List ℕ)) (v : Verdict) (w : List ℕ) → 1 ≤ n
+    → Reads (Waiting n 0) bits (itemsOf ls) v w
+    → Reads (Ending n) bits (itemsOf (endLine ∷ timeLine 0 ∷ firstOf 0 n ls)) v w
 unfolding itemsOf
 reads-ending zero bits ls v w h q = absurd (omega arith)
 reads-ending (suc n) bits ls v w h q =
@@ -155,7 +162,9 @@ reads-ending (suc n) bits ls v w h q =
     (reads-on (Start (suc n)) (Values (suc n) 0) bits (timeLine 0) (itemsOf (firstOf 0 (suc n) ls)) v w f (λ k. refl)
     (reads-values n (suc n) 0 bits ls v w (omega arith) q))
 
-pub reads-head : (n : ℕ) (bits : List ℕ) (ls : List (List ℕ)) (v : Verdict) (w : List ℕ) → 1 ≤ n → n ≤ 94 → Reads (Waiting n 0) bits (itemsOf ls) v w → Reads Opening bits (itemsOf (timescale ∷ scopeLine ∷ varsOf 0 n (middleOf n ls))) v w
+pub reads-head : (n : ℕ) (bits : List ℕ) (ls : List (List ℕ)) (v : Verdict) (w : List ℕ) → 1 ≤ n → n ≤ 94
+    → Reads (Waiting n 0) bits (itemsOf ls) v w
+    → Reads Opening bits (itemsOf (timescale ∷ scopeLine ∷ varsOf 0 n (middleOf n ls))) v w
 unfolding itemsOf middleOf
 reads-head n bits ls v w a b q =
     let e : nextOf Opening bits timescale ≡ Scope = rw (same-refl timescale) in
@@ -164,7 +173,8 @@ reads-head n bits ls v w a b q =
     (reads-on Scope (Variables 0) bits scopeLine (itemsOf (varsOf 0 n (middleOf n ls))) v w f (λ k. refl)
     (reads-vars n n 0 bits (endLine ∷ timeLine 0 ∷ firstOf 0 n ls) v w (omega arith) a b (reads-ending n bits ls v w a q)))
 
-pub reads-dump : (n : ℕ) (script : List ℕ) → Dumpable n script → Reads Opening noBits (itemsOf (linesOf n script)) (Fine n (lastOf n 1 0 noBits script)) (trimOf n 0 noBits script)
+pub reads-dump : (n : ℕ) (script : List ℕ) → Dumpable n script
+    → Reads Opening noBits (itemsOf (linesOf n script)) (Fine n (lastOf n 1 0 noBits script)) (trimOf n 0 noBits script)
 unfolding linesOf
 reads-dump n script d = reads-head n noBits (bodyOf n 1 noBits script) (Fine n (lastOf n 1 0 noBits script)) (trimOf n 0 noBits script) (d .some) (d .few) (reads-body n 1 0 noBits script (omega arith) (omega (arith, d .short)))
 
@@ -210,7 +220,8 @@ plain-body n t bits (kind ∷ []) = refl
 plain-body n t bits (kind ∷ cell ∷ []) = refl
 plain-body n t bits (kind ∷ cell ∷ number ∷ rest) = go (changesOf n bits kind cell) (plain-body n (t + 1) (turnOf bits cell) rest) (plain-body n (t + 1) bits rest)
   where
-    go : (b : Bool) → allPlain (bodyOf n (t + 1) (turnOf bits cell) rest) ≡ true → allPlain (bodyOf n (t + 1) bits rest) ≡ true
+    go : (b : Bool) → allPlain (bodyOf n (t + 1) (turnOf bits cell) rest) ≡ true
+        → allPlain (bodyOf n (t + 1) bits rest) ≡ true
         → allPlain (if b then timeLine t ∷ bitLine (turned (getD bits cell 0)) cell ∷ bodyOf n (t + 1) (turnOf bits cell) rest else bodyOf n (t + 1) bits rest) ≡ true
     go true p q = rw (plain-time t, plain-bit (turned (getD bits cell 0)) cell, p)
     go false p q = q
@@ -225,7 +236,8 @@ plain-lines n script = plain-vars n 0 (middleOf n (bodyOf n 1 noBits script)) (p
 
 -- ---- the round trip
 
-pub round-trip : (n : ℕ) (script : List ℕ) → Dumpable n script → readOf (dumpOf n script) ≡ read n (trimOf n 0 noBits script)
+pub round-trip : (n : ℕ) (script : List ℕ) → Dumpable n script
+    → readOf (dumpOf n script) ≡ read n (trimOf n 0 noBits script)
 unfolding readOf dumpOf
 round-trip n script d = let q = reads-dump n script d in rw (split-joined (linesOf n script) (plain-lines n script), q .told 1, q .wrote)
 
@@ -274,19 +286,22 @@ two-left n zero bits kind cell = refl
 two-left n (suc j) bits kind cell = refl
 
 -- two scripts that begin with the same change and go on alike
-turned-bits : (n i : ℕ) (bits : List ℕ) (kind cell number : ℕ) (v w : List ℕ) → changesOf n bits kind cell ≡ true → ((k : ℕ) → bitsAfter n (turnOf bits cell) k v ≡ bitsAfter n (turnOf bits cell) k w)
+turned-bits : (n i : ℕ) (bits : List ℕ) (kind cell number : ℕ) (v w : List ℕ) → changesOf n bits kind cell ≡ true
+    → ((k : ℕ) → bitsAfter n (turnOf bits cell) k v ≡ bitsAfter n (turnOf bits cell) k w)
     → bitsAfter n bits i (kindFor (getD bits cell 0) ∷ cell ∷ 0 ∷ v) ≡ bitsAfter n bits i (kind ∷ cell ∷ number ∷ w)
 unfolding bitsAfter
 turned-bits n zero bits kind cell number v w e p = refl
 turned-bits n (suc i) bits kind cell number v w e p = rw (turning kind (getD bits cell 0) (changes-in n bits kind cell e .1), e) (p i)
 
 -- a step without a change
-still-bits : (n i : ℕ) (bits : List ℕ) (kind cell number : ℕ) (w : List ℕ) → changesOf n bits kind cell ≡ false → bitsAfter n bits (i - 1) w ≡ bitsAfter n bits i (kind ∷ cell ∷ number ∷ w)
+still-bits : (n i : ℕ) (bits : List ℕ) (kind cell number : ℕ) (w : List ℕ) → changesOf n bits kind cell ≡ false
+    → bitsAfter n bits (i - 1) w ≡ bitsAfter n bits i (kind ∷ cell ∷ number ∷ w)
 unfolding bitsAfter
 still-bits n zero bits kind cell number w e = refl
 still-bits n (suc i) bits kind cell number w e = let z : suc i - 1 ≡ i = omega arith in rw (z, e)
 
-pub trim-bits : (n gap j : ℕ) (bits script : List ℕ) → bitsAfter n bits j (trimOf n gap bits script) ≡ bitsAfter n bits (j - gap) script
+pub trim-bits : (n gap j : ℕ) (bits script : List ℕ)
+    → bitsAfter n bits j (trimOf n gap bits script) ≡ bitsAfter n bits (j - gap) script
 unfolding trimOf
 trim-bits n gap j bits [] = none-left n j bits ∙ sym (none-left n (j - gap) bits)
 trim-bits n gap j bits (kind ∷ []) = none-left n j bits ∙ sym (one-left n (j - gap) bits kind)
@@ -303,5 +318,6 @@ trim-bits n gap j bits (kind ∷ cell ∷ number ∷ rest) = go (changesOf n bit
     go false e p q = let z : j - (gap + 1) ≡ j - gap - 1 = omega arith in q ∙ (rw z (still-bits n (j - gap) bits kind cell number rest e))
 
 -- what is read back has the bits of the history, at every step
-pub same-bits : (n j : ℕ) (script : List ℕ) → bitsAfter n noBits j (trimOf n 0 noBits script) ≡ bitsAfter n noBits j script
+pub same-bits : (n j : ℕ) (script : List ℕ)
+    → bitsAfter n noBits j (trimOf n 0 noBits script) ≡ bitsAfter n noBits j script
 same-bits n j script = let z : j - 0 ≡ j = omega arith in rw z at (trim-bits n 0 j noBits script)

@@ -43,7 +43,8 @@ same-true [] (b ∷ y) e = let z : false ≡ true = e in cc
 same-true (a ∷ x) [] e = let z : false ≡ true = e in cc
 same-true (a ∷ x) (b ∷ y) e = go (eqb a b) refl e (same-true x y)
   where
-    go : (t : Bool) → eqb a b ≡ t → (if t then same x y else false) ≡ true → (same x y ≡ true → x ≡ y) → _≡_ {A = List ℕ} (a ∷ x) (b ∷ y)
+    go : (t : Bool) → eqb a b ≡ t → (if t then same x y else false) ≡ true → (same x y ≡ true → x ≡ y)
+        → _≡_ {A = List ℕ} (a ∷ x) (b ∷ y)
     go true p q f = cc (eqb-true a b p, f q)
     go false p q f = let z : false ≡ true = q in cc
 
@@ -52,7 +53,8 @@ unfolding plain
 plain-append [] y p q = q
 plain-append (b ∷ x) y p q = go (eqb b 10) p (λ h. plain-append x y h q)
   where
-    go : (t : Bool) → (if t then false else plain x) ≡ true → (plain x ≡ true → plain (x ++ y) ≡ true) → (if t then false else plain (x ++ y)) ≡ true
+    go : (t : Bool) → (if t then false else plain x) ≡ true → (plain x ≡ true → plain (x ++ y) ≡ true)
+        → (if t then false else plain (x ++ y)) ≡ true
     go true h f = h
     go false h f = f h
 
@@ -61,7 +63,8 @@ unfolding splitOf plain
 split-line [] r p = refl
 split-line (b ∷ x) r p = go (eqb b 10) p (split-line x r)
   where
-    go : (t : Bool) → (if t then false else plain x) ≡ true → (plain x ≡ true → splitOf (x ++ 10 ∷ r) ≡ line x (splitOf r))
+    go : (t : Bool) → (if t then false else plain x) ≡ true
+        → (plain x ≡ true → splitOf (x ++ 10 ∷ r) ≡ line x (splitOf r))
         → (if t then line [] (splitOf (x ++ 10 ∷ r)) else put b (splitOf (x ++ 10 ∷ r))) ≡ line (b ∷ x) (splitOf r)
     go true h f = let z : false ≡ true = h in cc
     go false h f = rw (f h)

@@ -18,7 +18,8 @@ use Rattle.wave.specs.Reader.{nextOf, bitsOf, atEnd, unless, verdictOf, wordsOf
 use Rattle.roundtrip.specs.Round.{Reads, reads-on, reads-values, reads-vars, reads-ending, reads-head, reads-dump, change-line, plain-lines, lastOf}
 use Rattle.roundtrip.specs.Image.{image-lines}
 
--- lines 1 to k of a text, or all of it if it has fewer: two texts that agree so far have the same line feeds, or the same end
+-- lines 1 to k of a text, or all of it if it has fewer: two texts that agree so far have the same line feeds, or the
+-- same end
 unfoldable pub linesTo : ℕ → List ℕ → List ℕ
 linesTo zero l = []
 linesTo (suc k) [] = []
@@ -114,7 +115,8 @@ bad-from finish j k s bits l e = omega (arith, end-bad s j k e)
 bad-from (torn x) j k s bits l e = let z : j ≡ k = cc in omega arith
 bad-from (line x r) j k s bits l e = go (nextOf s bits x) (λ m f. bad-from r (j + 1) k (nextOf s bits x) (bitsOf s bits x) m f) e
   where
-    go : (t : Stage) → (Live t → verdictOf (j + 1) t (bitsOf s bits x) r ≡ Bad k → j + 1 ≤ k) → unless t j (verdictOf (j + 1) t (bitsOf s bits x) r) ≡ Bad k → j ≤ k
+    go : (t : Stage) → (Live t → verdictOf (j + 1) t (bitsOf s bits x) r ≡ Bad k → j + 1 ≤ k)
+        → unless t j (verdictOf (j + 1) t (bitsOf s bits x) r) ≡ Bad k → j ≤ k
     go Opening f u = omega (arith, f tt u)
     go Scope f u = omega (arith, f tt u)
     go (Variables n) f u = omega (arith, f tt u)
@@ -126,7 +128,8 @@ bad-from (line x r) j k s bits l e = go (nextOf s bits x) (λ m f. bad-from r (j
     go Lost f u = let z : j ≡ k = cc in omega arith
 
 -- what agrees with a text up to its wrong line is not accepted
-no-other : (r o : Items) (j i k n last : ℕ) (s : Stage) (bits : List ℕ) → Live s → verdictOf j s bits r ≡ Bad k → k ≡ j + i → cut (suc i) r ≡ cut (suc i) o → verdictOf j s bits o ≡ Fine n last → ⊥
+no-other : (r o : Items) (j i k n last : ℕ) (s : Stage) (bits : List ℕ) → Live s → verdictOf j s bits r ≡ Bad k
+    → k ≡ j + i → cut (suc i) r ≡ cut (suc i) o → verdictOf j s bits o ≡ Fine n last → ⊥
 unfolding verdictOf cut
 no-other finish finish j i k n last s bits l e h c f = bad-not (sym e ∙ f)
 no-other finish (torn y) j i k n last s bits l e h c f = bad-not f
@@ -145,7 +148,8 @@ no-other (line x r) (line y o) j i k n last s bits l e h c f =
     let v : verdictOf (j + 1) (nextOf s bits x) (bitsOf s bits x) o ≡ Fine n last = sym (live-unless (nextOf s bits x) j (verdictOf (j + 1) (nextOf s bits x) (bitsOf s bits x) o) m) ∙ f′ in
     go i h g (bad-from r (j + 1) k (nextOf s bits x) (bitsOf s bits x) m u) (λ p a b. no-other r o (j + 1) p k n last (nextOf s bits x) (bitsOf s bits x) m u a b v)
   where
-    go : (i : ℕ) → k ≡ j + i → cut i r ≡ cut i o → j + 1 ≤ k → ((p : ℕ) → k ≡ j + 1 + p → cut (suc p) r ≡ cut (suc p) o → ⊥) → ⊥
+    go : (i : ℕ) → k ≡ j + i → cut i r ≡ cut i o → j + 1 ≤ k
+        → ((p : ℕ) → k ≡ j + 1 + p → cut (suc p) r ≡ cut (suc p) o → ⊥) → ⊥
     go zero a b c f = omega arith
     go (suc p) a b c f = f p (omega arith) b
 
@@ -189,7 +193,8 @@ pub record Other (j i : ℕ) (s : Stage) (bits : List ℕ) (r : Items) : Type 0 
   pub accepted : verdictOf j s bits rest ≡ Fine n last
   pub agrees : cut i rest ≡ cut i r
 
-other : (r : Items) (j i k : ℕ) (s : Stage) (bits : List ℕ) → Live s → Reach s → verdictOf j s bits r ≡ Bad k → k ≡ j + i → Other j i s bits r
+other : (r : Items) (j i k : ℕ) (s : Stage) (bits : List ℕ) → Live s → Reach s → verdictOf j s bits r ≡ Bad k
+    → k ≡ j + i → Other j i s bits r
 unfolding verdictOf cut
 other r j zero k s bits l h e f = let d = ends s bits l h in record { rest = d .rest; n = d .n; last = d .last; accepted = d .reads .told j; agrees = refl }
 other finish j (suc i) k s bits l h e f = let z = end-bad s j k e in absurd (omega arith)
@@ -204,7 +209,8 @@ other (line x r) j (suc i) k s bits l h e f =
 pub record FirstWrong (text : List ℕ) (k : ℕ) : Type 0 where
   pub counted : 1 ≤ k
   pub nobody : (n : ℕ) (script : List ℕ) → Dumpable n script → linesTo k (dumpOf n script) ≡ linesTo k text → ⊥
-  pub before : (i : ℕ) → i < k → (n : ℕ) × (script : List ℕ) × Dumpable n script × (linesTo i (dumpOf n script) ≡ linesTo i text)
+  pub before : (i : ℕ) → i < k
+      → (n : ℕ) × (script : List ℕ) × Dumpable n script × (linesTo i (dumpOf n script) ≡ linesTo i text)
 
 -- fewer lines of some lines
 cut-cut : (i j : ℕ) (r : Items) → i ≤ j → cut i (cut j r) ≡ cut i r
@@ -223,7 +229,8 @@ pub first-wrong : (text : List ℕ) (k : ℕ) → readOf text ≡ refused k → 
 unfolding readOf dumpOf
 first-wrong text k = go (verdictOf 1 Opening noBits (splitOf text)) refl
   where
-    go : (v : Verdict) → verdictOf 1 Opening noBits (splitOf text) ≡ v → readingOf v (wordsOf Opening noBits (splitOf text)) ≡ refused k → FirstWrong text k
+    go : (v : Verdict) → verdictOf 1 Opening noBits (splitOf text) ≡ v
+        → readingOf v (wordsOf Opening noBits (splitOf text)) ≡ refused k → FirstWrong text k
     go (Fine n last) e f = let z : _≡_ {A = ℕ} 0 1 = cc in absurd (omega arith)
     go (Bad p) e f =
         let q : p ≡ k = cc in

@@ -1,6 +1,7 @@
-// The calls of document 01, and document 02's waveform, for a kernel in C or Rust; include/skid.h declares them. Only numbers and lent runs
-// cross: the head goes in as three numbers, a lease as two, and the last parameter is the lent reply, whose words crate `words` lays out.
-// Each is thin: it makes the head, makes the call, and writes the reply's words.
+// The calls of document 01, and document 02's waveform, for a kernel in C or Rust; include/skid.h declares them. Only
+// numbers and lent runs cross: the head goes in as three numbers, a lease as two, and the last parameter is the lent
+// reply, whose words crate `words` lays out. Each is thin: it makes the head, makes the call, and writes the reply's
+// words.
 use model::Head;
 use model::Lease;
 ghost use mathlib.Core.Path.{_≡_};

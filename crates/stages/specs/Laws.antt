@@ -32,7 +32,8 @@ same-short (a ∷ x) (b ∷ y) h = go (eqb a b) (same-short x y (λ e. h (ap suc
     go true e = e
     go false e = refl
 
-pub same-at : (x y : List ℕ) (i : ℕ) → i < length x → i < length y → same (drop i x) (drop i y) ≡ (if eqb (getD x i 0) (getD y i 0) then same (drop (i + 1) x) (drop (i + 1) y) else false)
+pub same-at : (x y : List ℕ) (i : ℕ) → i < length x → i < length y
+    → same (drop i x) (drop i y) ≡ (if eqb (getD x i 0) (getD y i 0) then same (drop (i + 1) x) (drop (i + 1) y) else false)
 unfolding same
 same-at x y i h k = rw (drop-cons x i 0 h, drop-cons y i 0 k, add-one i)
 
@@ -41,7 +42,8 @@ unfolding same
 same-end x y i h k = rw (drop-of-length-le x h, drop-of-length-le y k)
 
 -- a line that was put, without its line feed
-pub line-put : (l m x : List ℕ) (j : ℕ) → length x + 1 ≤ length l → (j, m) ≡ putOf l 0 (joined (x ∷ [])) → (j ≡ length x + 1) × (take (j - 1) m ≡ x) × (j - 1 ≡ length (take (j - 1) m))
+pub line-put : (l m x : List ℕ) (j : ℕ) → length x + 1 ≤ length l → (j, m) ≡ putOf l 0 (joined (x ∷ []))
+    → (j ≡ length x + 1) × (take (j - 1) m ≡ x) × (j - 1 ≡ length (take (j - 1) m))
 unfolding putOf joined
 line-put l m x j h e =
     let s : length (x ++ 10 ∷ []) ≡ length x + 1 = omega (arith, length-append x (10 ∷ [])) in
@@ -85,7 +87,8 @@ turned-bits (Changing n last t) bits x e = refl
 turned-bits Lost bits x e = false-not e
 
 -- a change that was taken is of a cell that there is
-pub change-within : (s : Stage) (bits x : List ℕ) → Reach s → isChanging s ≡ true → isLost (nextOf s bits x) ≡ false → cellIn x < 94
+pub change-within : (s : Stage) (bits x : List ℕ) → Reach s → isChanging s ≡ true → isLost (nextOf s bits x) ≡ false
+    → cellIn x < 94
 unfolding isChange
 change-within Opening bits x h e f = false-not e
 change-within Scope bits x h e f = false-not e
@@ -96,7 +99,8 @@ change-within (Values n c) bits x h e f = false-not e
 change-within (Waiting n last) bits x h e f = false-not e
 change-within (Changing n last t) bits x h e f = go (ltb (cellIn x) n) refl f
   where
-    go : (b : Bool) → ltb (cellIn x) n ≡ b → isLost (if (if b then same x (bitLine (turned (getD bits (cellIn x) 0)) (cellIn x)) else false) then Waiting n t else Lost) ≡ false → cellIn x < 94
+    go : (b : Bool) → ltb (cellIn x) n ≡ b
+        → isLost (if (if b then same x (bitLine (turned (getD bits (cellIn x) 0)) (cellIn x)) else false) then Waiting n t else Lost) ≡ false → cellIn x < 94
     go true p q = omega (arith, h .1, ltb-true (cellIn x) n p)
     go false p q = false-not (sym q)
 change-within Lost bits x h e f = false-not e

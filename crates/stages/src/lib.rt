@@ -1,5 +1,5 @@
-// The stages of the waveform's reader (document 02, L11): what one line leads to. The only lines that lead on are those that the writer would
-// put there. The functions are steps: each may have a `requires`, which its callers prove.
+// The stages of the waveform's reader (document 02, L11): what one line leads to. The only lines that lead on are those
+// that the writer would put there. The functions are steps: each may have a `requires`, which its callers prove.
 use wave::Stage;
 use wave::Verdict;
 ghost use mathlib.Core.Path.{_≡_};

@@ -1,11 +1,12 @@
-// A history as lines, for the programs `dump` and `undump`: the first line `N` or `N ROOM`, every other line a step, `KIND PLACE NUMBER`.
-// Every function takes any bytes; they are steps of the programs, no calls of document 02. docs/WAVE.md has the language.
+// A history as lines, for the programs `dump` and `undump`: the first line `N` or `N ROOM`, every other line a step,
+// `KIND PLACE NUMBER`. Every function takes any bytes; they are steps of the programs, no calls of document 02.
+// docs/WAVE.md has the language.
 ghost use Prim.Native.Nat.{_+_, _≤_};
 ghost use lib.ListN.{length};
 ghost use Rattle.io.specs.Counts.{Counts as Within};
 
-// What the input of `dump` says: its first line that is not understood, or 0; how many cells; how long the lent buffer is; how many words of
-// the script are used.
+// What the input of `dump` says: its first line that is not understood, or 0; how many cells; how long the lent buffer
+// is; how many words of the script are used.
 pub struct Order {
     pub bad: usize,
     pub cells: u32,
@@ -58,7 +59,8 @@ fn read_line(line: &[u8]) -> Line {
     }
 }
 
-// `N` or `N ROOM`. Without ROOM there is room for any dump: none is longer than the greatest number that a line can hold.
+// `N` or `N ROOM`. Without ROOM there is room for any dump: none is longer than the greatest number that a line can
+// hold.
 fn read_opening(line: &[u8]) -> Opened {
     let got = read_line(line);
     if got.fine {
@@ -90,8 +92,8 @@ fn put_three(script: &mut [u32], at: usize, a: u32, b: u32, c: u32)
     script[at + 2] = c;
 }
 
-// Stores a step behind the words that are used, and says how many are used then; as many as before where the line is no step, or there is no
-// room for it.
+// Stores a step behind the words that are used, and says how many are used then; as many as before where the line is no
+// step, or there is no room for it.
 fn store_step(line: &[u8], script: &mut [u32], used: usize) -> usize
     requires { ⌜ used ≤ length (now script) ⌝ }
     ensures { λ r. ⌜ (used ≤ r) × (r ≤ length (now (script .exit))) ⌝ }

@@ -1,4 +1,5 @@
-// The program `undump`: a waveform from standard input, its history to standard output (document 02, L11). docs/WAVE.md has the language.
+// The program `undump`: a waveform from standard input, its history to standard output (document 02, L11). docs/WAVE.md
+// has the language.
 use wave::Undumped;
 ghost use mathlib.Core.Path.{_≡_};
 ghost use lib.ListN.{length};

@@ -1,4 +1,5 @@
--- The answers of the writer and the reader: document 02's number and name of each refusal, and the values that an answer gives.
+-- The answers of the writer and the reader: document 02's number and name of each refusal, and the values that an
+-- answer gives.
 use Prim.Native.Nat.{ℕ}
 use mathlib.Core.List.{List, [], _∷_}
 use Rattle.model.specs.Refusals.{numberOf}

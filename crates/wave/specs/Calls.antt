@@ -35,8 +35,8 @@ writeOf n script out =
     if tooWide n then (dumped.TooWide, out) else
     fittedOf n script out
 
--- the reader: "anything else is refused, before NoRoom, with its first wrong line"; "A lent buffer too short for the whole .. reading: NoRoom,
--- nothing written." Words behind the script are left alone.
+-- the reader: "anything else is refused, before NoRoom, with its first wrong line"; "A lent buffer too short for the
+-- whole .. reading: NoRoom, nothing written." Words behind the script are left alone.
 abbrev pub answered : Reading → List ℕ → Undumped × List ℕ
 answered (refused k) out = (undumped.BadLine k, out)
 answered (read n script) out =

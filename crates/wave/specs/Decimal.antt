@@ -31,7 +31,8 @@ pub places-is : (n : ℕ) → n < 100000 → Places n (placesOf n)
 unfolding placesOf
 places-is n h = go (ltb n 10) (ltb n 100) (ltb n 1000) (ltb n 10000) refl refl refl refl
   where
-    go : (a b c d : Bool) → ltb n 10 ≡ a → ltb n 100 ≡ b → ltb n 1000 ≡ c → ltb n 10000 ≡ d → Places n (if a then 1 else if b then 2 else if c then 3 else if d then 4 else 5)
+    go : (a b c d : Bool) → ltb n 10 ≡ a → ltb n 100 ≡ b → ltb n 1000 ≡ c → ltb n 10000 ≡ d
+        → Places n (if a then 1 else if b then 2 else if c then 3 else if d then 4 else 5)
     go true b c d p q r s = record { some = omega arith; few = omega arith; holds = omega (arith, ltb-true n 10 p); needed = λ e. omega arith }
     go false true c d p q r s = record { some = omega arith; few = omega arith; holds = omega (arith, ltb-true n 100 q); needed = λ e. omega (arith, ltb-false n 10 p) }
     go false false true d p q r s = record { some = omega arith; few = omega arith; holds = omega (arith, ltb-true n 1000 r); needed = λ e. omega (arith, ltb-false n 100 q) }

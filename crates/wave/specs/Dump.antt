@@ -15,8 +15,9 @@ use Rattle.wave.specs.Lines.{joined}
 unfoldable pub noBits : List ℕ
 noBits = replicate 94 0
 
--- "a take sets its cell's bit, a release clears it, any other step only counts": whether a step of this kind turns the bit. A take is kind 1
--- and a release kind 2 (document 01, "Foreign steps"). Crate `roundtrip` proves that turning bits is what the sentence says (`as-said`).
+-- "a take sets its cell's bit, a release clears it, any other step only counts": whether a step of this kind turns the
+-- bit. A take is kind 1 and a release kind 2 (document 01, "Foreign steps"). Crate `roundtrip` proves that turning bits
+-- is what the sentence says (`as-said`).
 unfoldable pub turns : ℕ → ℕ → Bool
 turns kind bit = if eqb bit 0 then eqb kind 1 else eqb kind 2
 
@@ -77,8 +78,8 @@ unfoldable pub firstOf : ℕ → ℕ → List (List ℕ) → List (List ℕ)
 firstOf c zero ls = ls
 firstOf c (suc left) ls = bitLine 0 c ∷ firstOf (c + 1) left ls
 
--- "After `#0`, a time line stands only where a bit changed": the changes from step t on. A step changes at most one bit, so a time line has
--- one change line.
+-- "After `#0`, a time line stands only where a bit changed": the changes from step t on. A step changes at most one
+-- bit, so a time line has one change line.
 unfoldable pub bodyOf : ℕ → ℕ → List ℕ → List ℕ → List (List ℕ)
 bodyOf n t bits [] = []
 bodyOf n t bits (kind ∷ []) = []

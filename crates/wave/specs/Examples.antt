@@ -37,7 +37,8 @@ cleared : dumpOf 2 (2 ∷ 0 ∷ 0 ∷ 1 ∷ 0 ∷ 0 ∷ 2 ∷ 0 ∷ 9 ∷ []) �
 unfolding joined decimalOf placesOf noBits turns changesOf turnOf timescale scopeLine varLine upscope endLine timeLine bitLine varsOf firstOf bodyOf middleOf linesOf dumpOf
 cleared = refl
 
--- "any other step only counts"; a time line "only where a bit changed": a step of kind 0, a take, a take of the same cell
+-- "any other step only counts"; a time line "only where a bit changed": a step of kind 0, a take, a take of the same
+-- cell
 counted : dumpOf 2 (0 ∷ 0 ∷ 0 ∷ 1 ∷ 0 ∷ 7 ∷ 1 ∷ 0 ∷ 8 ∷ []) ≡ paper ++ (35 ∷ 50 ∷ 10 ∷ 49 ∷ 33 ∷ 10 ∷ [])
 unfolding joined decimalOf placesOf noBits turns changesOf turnOf timescale scopeLine varLine upscope endLine timeLine bitLine varsOf firstOf bodyOf middleOf linesOf dumpOf
 counted = refl

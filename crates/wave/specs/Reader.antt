@@ -1,5 +1,6 @@
--- Document 02, L11, the reading: where the reader stands is a stage with the bits so far, and a line leads to the next stage.
--- "The reader takes only what the writer could have written": a line is taken only if it is the one that the writer would put there.
+-- Document 02, L11, the reading: where the reader stands is a stage with the bits so far, and a line leads to the next
+-- stage. "The reader takes only what the writer could have written": a line is taken only if it is the one that the
+-- writer would put there.
 use Prim.Native.Nat.{ℕ, zero, suc, _+_, _-_}
 use mathlib.Core.List.{List, [], _∷_}
 use mathlib.Core.Bool.{Bool, false}

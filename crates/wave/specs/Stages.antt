@@ -1,4 +1,5 @@
--- Laws about the reader's stages, for code and theory alike: what is true of the stages that are reached, and how many words are read.
+-- Laws about the reader's stages, for code and theory alike: what is true of the stages that are reached, and how many
+-- words are read.
 use Prim.Native.Nat.{ℕ, zero, suc, _+_, _*_, _-_, _≤_, _<_}
 use mathlib.Core.Path.{_≡_, refl}
 use mathlib.Core.List.{List, _∷_}
@@ -30,7 +31,8 @@ nested true b e = (refl, e)
 nested false b e = false-not e
 
 -- a step that changes a bit is on a cell that there is, and turns it
-pub changes-in : (n : ℕ) (bits : List ℕ) (kind c : ℕ) → changesOf n bits kind c ≡ true → (c < n) × (turns kind (getD bits c 0) ≡ true)
+pub changes-in : (n : ℕ) (bits : List ℕ) (kind c : ℕ) → changesOf n bits kind c ≡ true
+    → (c < n) × (turns kind (getD bits c 0) ≡ true)
 unfolding changesOf
 changes-in n bits kind c e = let p = nested (ltb c n) (turns kind (getD bits c 0)) e in (ltb-true c n (p .0), p .1)
 
@@ -66,7 +68,8 @@ reach-variable : (n : ℕ) (x : List ℕ) → n ≤ 94 → Reach (afterVariable 
 unfolding afterVariable
 reach-variable n x h = go (if ltb n 94 then same x (varLine n) else false) (if ltb 0 n then same x upscope else false) refl refl
   where
-    go : (a b : Bool) → (if ltb n 94 then same x (varLine n) else false) ≡ a → (if ltb 0 n then same x upscope else false) ≡ b
+    go : (a b : Bool) → (if ltb n 94 then same x (varLine n) else false) ≡ a
+        → (if ltb 0 n then same x upscope else false) ≡ b
         → Reach (if a then Variables (n + 1) else if b then Ending n else Lost)
     go true b p q = omega (arith, ltb-true n 94 (nested (ltb n 94) (same x (varLine n)) p .0))
     go false true p q = (omega (arith, ltb-true 0 n (nested (ltb 0 n) (same x upscope) q .0)), h)
@@ -189,5 +192,6 @@ words-from (line x r) k m e s bits h v =
     omega (arith, line-count s bits x w k m e r h v, words-from r (k + 1) m e (nextOf s bits x) (bitsOf s bits x) (reach-next s bits x h) u)
 
 -- a text that is accepted has three words for each step up to its last change
-pub words-count : (r : Items) (m e : ℕ) (bits : List ℕ) → verdictOf 1 Opening bits r ≡ Fine m e → length (wordsOf Opening bits r) ≡ 3 * e
+pub words-count : (r : Items) (m e : ℕ) (bits : List ℕ) → verdictOf 1 Opening bits r ≡ Fine m e
+    → length (wordsOf Opening bits r) ≡ 3 * e
 words-count r m e bits v = omega (arith, words-from r 1 m e Opening bits tt v)

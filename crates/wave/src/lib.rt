@@ -1,5 +1,6 @@
-// The waveform of the cells (document 02, L11): a value change dump. Here are the answers of its writer and its reader, and the stages that
-// the reader goes through. What they mean is in specs/: L11 itself, as definitions, and its example as a computed case.
+// The waveform of the cells (document 02, L11): a value change dump. Here are the answers of its writer and its reader,
+// and the stages that the reader goes through. What they mean is in specs/: L11 itself, as definitions, and its example
+// as a computed case.
 
 // What writing comes to: how many bytes the dump has, or a refusal.
 pub enum Dumped {
@@ -17,8 +18,8 @@ pub enum Undumped {
 }
 
 // What the reader waits for: the first line; the second; a variable, or the end of them if there is one; the end of the
-// definitions; `#0`; the first value of a cell; a time line, or the end; the change at a time. Lost: a line led nowhere.
-// The numbers: of cells (so far, for Variables); the cell; the time of the last change; the time of this one.
+// definitions; `#0`; the first value of a cell; a time line, or the end; the change at a time. Lost: a line led
+// nowhere. The numbers: of cells (so far, for Variables); the cell; the time of the last change; the time of this one.
 pub enum Stage {
     Opening,
     Scope,

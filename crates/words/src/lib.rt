@@ -1,5 +1,5 @@
-// A reply as words, for callers in C or Rust: twelve of them, the crew's forty-six, or the waveform's three. specs/Words.antt lays them out, and specs/Tells.antt
-// proves that they lose nothing.
+// A reply as words, for callers in C or Rust: twelve of them, the crew's forty-six, or the waveform's three.
+// specs/Words.antt lays them out, and specs/Tells.antt proves that they lose nothing.
 use model::Answer;
 use model::Counts;
 use model::CrewReply;

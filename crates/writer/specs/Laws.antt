@@ -30,7 +30,8 @@ unfolding putOf
 put-none l i = let e : i + 0 ≡ i = omega arith in rw e
 
 -- text behind text
-pub put-join : (l m k : List ℕ) (i j h : ℕ) (x y : List ℕ) → (j, m) ≡ putOf l i x → (h, k) ≡ putOf m j y → (h, k) ≡ putOf l i (x ++ y)
+pub put-join : (l m k : List ℕ) (i j h : ℕ) (x y : List ℕ) → (j, m) ≡ putOf l i x → (h, k) ≡ putOf m j y
+    → (h, k) ≡ putOf l i (x ++ y)
 unfolding putOf
 put-join l m k i j h x y e f =
     let p : j ≡ i + length x = ap (λ (o : ℕ × List ℕ). o .0) e in
@@ -44,7 +45,8 @@ unfolding putOf
 put-more l i b x = let e : i + 1 + length x ≡ i + suc (length x) = omega arith in rw (e, add-one i)
 
 -- the rest of a run from i on
-pub put-at : (l text : List ℕ) (i k : ℕ) → k < length text → putOf l i (drop k text) ≡ putOf (set l i (getD text k 0)) (i + 1) (drop (k + 1) text)
+pub put-at : (l text : List ℕ) (i k : ℕ) → k < length text
+    → putOf l i (drop k text) ≡ putOf (set l i (getD text k 0)) (i + 1) (drop (k + 1) text)
 put-at l text i k h = rw (drop-cons text k 0 h, ← add-one k) (sym (put-more l i (getD text k 0) (drop (k + 1) text)))
 
 pub put-end : (l text : List ℕ) (i k : ℕ) → length text ≤ k → (i, l) ≡ putOf l i (drop k text)
@@ -66,7 +68,8 @@ unfolding decimalOf
 length-decimal n = length-digits (placesOf n) n
 
 -- the fewest digits are those of the number
-pub decimal-is : (n k : ℕ) (l : List ℕ) → n < 100000 → Fewest 10 1 n k → take k l ≡ digits 10 k n → take k l ≡ decimalOf n
+pub decimal-is : (n k : ℕ) (l : List ℕ) → n < 100000 → Fewest 10 1 n k → take k l ≡ digits 10 k n
+    → take k l ≡ decimalOf n
 unfolding decimalOf
 decimal-is n k l h f e = let p : k ≡ placesOf n = fewest-one n k (placesOf n) f (fewest-is n h) in e ∙ ap (λ (i : ℕ). digits 10 i n) p
 
@@ -85,7 +88,8 @@ unfolding joined
 length-line x ls = omega (arith, length-append x (10 ∷ joined ls))
 
 -- a line is put, and the rest is left to put
-pub put-line : (l m : List ℕ) (i j : ℕ) (x : List ℕ) (ls : List (List ℕ)) → (j, m) ≡ putOf l i (joined (x ∷ [])) → putOf m j (joined ls) ≡ putOf l i (joined (x ∷ ls))
+pub put-line : (l m : List ℕ) (i j : ℕ) (x : List ℕ) (ls : List (List ℕ)) → (j, m) ≡ putOf l i (joined (x ∷ []))
+    → putOf m j (joined ls) ≡ putOf l i (joined (x ∷ ls))
 put-line l m i j x ls e = rw (joined-line x ls) (put-join l m (putOf m j (joined ls) .1) i j (putOf m j (joined ls) .0) (joined (x ∷ [])) (joined ls) e refl)
 
 pub length-time : (t : ℕ) → length (timeLine t) ≡ 1 + placesOf t
@@ -108,7 +112,8 @@ pub vars-end : (n c : ℕ) (ls : List (List ℕ)) → n ≤ c → varsOf c (n - 
 unfolding varsOf
 vars-end n c ls h = let e : n - c ≡ 0 = omega arith in rw e
 
-pub first-at : (n c : ℕ) (ls : List (List ℕ)) → c < n → firstOf c (n - c) ls ≡ bitLine 0 c ∷ firstOf (c + 1) (n - (c + 1)) ls
+pub first-at : (n c : ℕ) (ls : List (List ℕ)) → c < n
+    → firstOf c (n - c) ls ≡ bitLine 0 c ∷ firstOf (c + 1) (n - (c + 1)) ls
 unfolding firstOf
 first-at n c ls h = let e : n - c ≡ suc (n - (c + 1)) = omega arith in rw e
 
@@ -126,37 +131,45 @@ put-nothing l i = put-none l i
 pub from-none : (n : ℕ) → n - 0 ≡ n
 from-none n = omega arith
 
-pub vars-turn : (l m : List ℕ) (i j n c : ℕ) → c < n → (j, m) ≡ putOf l i (joined (varLine c ∷ [])) → putOf m j (joined (varsOf (c + 1) (n - (c + 1)) [])) ≡ putOf l i (joined (varsOf c (n - c) []))
+pub vars-turn : (l m : List ℕ) (i j n c : ℕ) → c < n → (j, m) ≡ putOf l i (joined (varLine c ∷ []))
+    → putOf m j (joined (varsOf (c + 1) (n - (c + 1)) [])) ≡ putOf l i (joined (varsOf c (n - c) []))
 vars-turn l m i j n c h e = rw (vars-at n c [] h) (put-line l m i j (varLine c) (varsOf (c + 1) (n - (c + 1)) []) e)
 
-pub vars-room : (l m : List ℕ) (i j n c : ℕ) (y : List ℕ) → c < n → putOf l i (joined (varsOf c (n - c) [])) ≡ putOf m j y → i + placesOf c + 21 ≤ j + length y
+pub vars-room : (l m : List ℕ) (i j n c : ℕ) (y : List ℕ) → c < n
+    → putOf l i (joined (varsOf c (n - c) [])) ≡ putOf m j y → i + placesOf c + 21 ≤ j + length y
 vars-room l m i j n c y h e =
     let s = put-size l m i j (joined (varsOf c (n - c) [])) y e in
     omega (arith, s, ap (λ (ls : List (List ℕ)). length (joined ls)) (vars-at n c [] h), length-line (varLine c) (varsOf (c + 1) (n - (c + 1)) []), length-var c)
 
-pub first-turn : (l m : List ℕ) (i j n c : ℕ) → c < n → (j, m) ≡ putOf l i (joined (bitLine 0 c ∷ [])) → putOf m j (joined (firstOf (c + 1) (n - (c + 1)) [])) ≡ putOf l i (joined (firstOf c (n - c) []))
+pub first-turn : (l m : List ℕ) (i j n c : ℕ) → c < n → (j, m) ≡ putOf l i (joined (bitLine 0 c ∷ []))
+    → putOf m j (joined (firstOf (c + 1) (n - (c + 1)) [])) ≡ putOf l i (joined (firstOf c (n - c) []))
 first-turn l m i j n c h e = rw (first-at n c [] h) (put-line l m i j (bitLine 0 c) (firstOf (c + 1) (n - (c + 1)) []) e)
 
-pub first-room : (l m : List ℕ) (i j n c : ℕ) (y : List ℕ) → c < n → putOf l i (joined (firstOf c (n - c) [])) ≡ putOf m j y → i + 3 ≤ j + length y
+pub first-room : (l m : List ℕ) (i j n c : ℕ) (y : List ℕ) → c < n
+    → putOf l i (joined (firstOf c (n - c) [])) ≡ putOf m j y → i + 3 ≤ j + length y
 first-room l m i j n c y h e =
     let s = put-size l m i j (joined (firstOf c (n - c) [])) y e in
     omega (arith, s, ap (λ (ls : List (List ℕ)). length (joined ls)) (first-at n c [] h), length-line (bitLine 0 c) (firstOf (c + 1) (n - (c + 1)) []), length-bit 0 c)
 
 -- ---- a step
 
-pub turn-true : (n : ℕ) (bits o : List ℕ) (kind cell : ℕ) (r : Bool) → r ≡ true → (r, o) ≡ turnedOf n bits kind cell → (changesOf n bits kind cell ≡ true) × (o ≡ turnOf bits cell)
+pub turn-true : (n : ℕ) (bits o : List ℕ) (kind cell : ℕ) (r : Bool) → r ≡ true → (r, o) ≡ turnedOf n bits kind cell
+    → (changesOf n bits kind cell ≡ true) × (o ≡ turnOf bits cell)
 unfolding turnedOf
 turn-true n bits o kind cell r h = go (changesOf n bits kind cell)
   where
-    go : (b : Bool) → _≡_ {A = Bool × List ℕ} (r, o) (if b then (true, turnOf bits cell) else (false, bits)) → (b ≡ true) × (o ≡ turnOf bits cell)
+    go : (b : Bool) → _≡_ {A = Bool × List ℕ} (r, o) (if b then (true, turnOf bits cell) else (false, bits))
+        → (b ≡ true) × (o ≡ turnOf bits cell)
     go true e = (refl, ap (λ (p : Bool × List ℕ). p .1) e)
     go false e = let z : false ≡ true = sym (ap (λ (p : Bool × List ℕ). p .0) e) ∙ h in let w : _≡_ {A = ℕ} 0 1 = cc in absurd (omega arith)
 
-pub turn-false : (n : ℕ) (bits o : List ℕ) (kind cell : ℕ) (r : Bool) → r ≡ false → (r, o) ≡ turnedOf n bits kind cell → (changesOf n bits kind cell ≡ false) × (o ≡ bits)
+pub turn-false : (n : ℕ) (bits o : List ℕ) (kind cell : ℕ) (r : Bool) → r ≡ false → (r, o) ≡ turnedOf n bits kind cell
+    → (changesOf n bits kind cell ≡ false) × (o ≡ bits)
 unfolding turnedOf
 turn-false n bits o kind cell r h = go (changesOf n bits kind cell)
   where
-    go : (b : Bool) → _≡_ {A = Bool × List ℕ} (r, o) (if b then (true, turnOf bits cell) else (false, bits)) → (b ≡ false) × (o ≡ bits)
+    go : (b : Bool) → _≡_ {A = Bool × List ℕ} (r, o) (if b then (true, turnOf bits cell) else (false, bits))
+        → (b ≡ false) × (o ≡ bits)
     go false e = (refl, ap (λ (p : Bool × List ℕ). p .1) e)
     go true e = let z : true ≡ false = sym (ap (λ (p : Bool × List ℕ). p .0) e) ∙ h in let w : _≡_ {A = ℕ} 0 1 = cc in absurd (omega arith)
 
@@ -165,7 +178,8 @@ pub wanted-is : (kind bit : ℕ) → turns kind bit ≡ true → wantedOf kind �
 unfolding turns wantedOf
 wanted-is kind bit = go (eqb bit 0)
   where
-    go : (z : Bool) → (if z then eqb kind 1 else eqb kind 2) ≡ true → _≡_ {A = ℕ} (if eqb kind 1 then 1 else 0) (if z then 1 else 0)
+    go : (z : Bool) → (if z then eqb kind 1 else eqb kind 2) ≡ true
+        → _≡_ {A = ℕ} (if eqb kind 1 then 1 else 0) (if z then 1 else 0)
     go true e = rw e
     go false e = rw (eqb-true kind 2 e)
 
@@ -177,11 +191,13 @@ wanted-few kind = go (eqb kind 1)
     go true = omega arith
     go false = omega arith
 
-pub change-size : (t bit cell : ℕ) (ls : List (List ℕ)) → length (joined (timeLine t ∷ bitLine bit cell ∷ ls)) ≡ placesOf t + 5 + length (joined ls)
+pub change-size : (t bit cell : ℕ) (ls : List (List ℕ))
+    → length (joined (timeLine t ∷ bitLine bit cell ∷ ls)) ≡ placesOf t + 5 + length (joined ls)
 change-size t bit cell ls = omega (arith, length-line (timeLine t) (bitLine bit cell ∷ ls), length-line (bitLine bit cell) ls, length-time t, length-bit bit cell)
 
 -- two lines are put, and the rest is left to put
-put-two : (l m : List ℕ) (i j : ℕ) (x y : List ℕ) (ls : List (List ℕ)) → (j, m) ≡ putOf l i (joined (x ∷ y ∷ [])) → putOf m j (joined ls) ≡ putOf l i (joined (x ∷ y ∷ ls))
+put-two : (l m : List ℕ) (i j : ℕ) (x y : List ℕ) (ls : List (List ℕ)) → (j, m) ≡ putOf l i (joined (x ∷ y ∷ []))
+    → putOf m j (joined ls) ≡ putOf l i (joined (x ∷ y ∷ ls))
 put-two l m i j x y ls e =
     let p : joined (x ∷ y ∷ ls) ≡ joined (x ∷ y ∷ []) ++ joined ls = joined-line x (y ∷ ls) ∙ ap (λ (o : List ℕ). joined (x ∷ []) ++ o) (joined-line y ls) ∙ sym (append-assoc (joined (x ∷ [])) (joined (y ∷ [])) (joined ls)) ∙ ap (λ (o : List ℕ). o ++ joined ls) (sym (joined-line x (y ∷ []))) in
     rw p (put-join l m (putOf m j (joined ls) .1) i j (putOf m j (joined ls) .0) (joined (x ∷ y ∷ [])) (joined ls) e refl)
@@ -199,7 +215,8 @@ places-few t = go (ltb t 10) (ltb t 100) (ltb t 1000) (ltb t 10000)
 
 -- ---- a loop over steps: one turn, and the end
 
-drop-three : (l : List ℕ) (i : ℕ) → i + 2 < length l → drop i l ≡ getD l i 0 ∷ getD l (i + 1) 0 ∷ getD l (i + 2) 0 ∷ drop (i + 3) l
+drop-three : (l : List ℕ) (i : ℕ) → i + 2 < length l
+    → drop i l ≡ getD l i 0 ∷ getD l (i + 1) 0 ∷ getD l (i + 2) 0 ∷ drop (i + 3) l
 drop-three l i h =
     let a : suc i ≡ i + 1 = omega arith in
     let b : suc (i + 1) ≡ i + 2 = omega arith in
@@ -225,7 +242,8 @@ pub body-end : (n t : ℕ) (bits script : List ℕ) (i : ℕ) → length script 
 body-end n t bits script i h = short-body n t bits (drop i script) (omega (arith, length-drop i script))
 
 -- putting the lines of a step leaves the rest to put
-pub body-turn : (n t : ℕ) (bits script : List ℕ) (i : ℕ) (out : List ℕ) (at r : ℕ) (b o : List ℕ) → i + 2 < length script
+pub body-turn : (n t : ℕ) (bits script : List ℕ) (i : ℕ) (out : List ℕ) (at r : ℕ) (b o : List ℕ)
+    → i + 2 < length script
     → (r, (b, o)) ≡ stepOf n t bits (getD script i 0) (getD script (i + 1) 0) out at
     → putOf o r (joined (bodyOf n (t + 1) b (drop (i + 3) script))) ≡ putOf out at (joined (bodyOf n t bits (drop i script)))
 unfolding stepOf
@@ -248,7 +266,8 @@ body-turn n t bits script i out at r b o h e = rw (body-at n t bits script i h) 
         rw (p, q, s)
 
 -- there is room for a step's lines
-pub body-room : (n t : ℕ) (bits script : List ℕ) (i : ℕ) (out m : List ℕ) (at j : ℕ) (y : List ℕ) → i + 2 < length script → changesOf n bits (getD script i 0) (getD script (i + 1) 0) ≡ true
+pub body-room : (n t : ℕ) (bits script : List ℕ) (i : ℕ) (out m : List ℕ) (at j : ℕ) (y : List ℕ)
+    → i + 2 < length script → changesOf n bits (getD script i 0) (getD script (i + 1) 0) ≡ true
     → putOf out at (joined (bodyOf n t bits (drop i script))) ≡ putOf m j y → at + placesOf t + 5 ≤ j + length y
 body-room n t bits script i out m at j y h c e =
     let s = put-size out m at j (joined (bodyOf n t bits (drop i script))) y e in
@@ -262,7 +281,8 @@ pub body-less : (n t : ℕ) (bits script : List ℕ) (i r : ℕ) (b : List ℕ) 
 unfolding weighOf
 body-less n t bits script i r b h e = rw (body-at n t bits script i h) (go (changesOf n bits (getD script i 0) (getD script (i + 1) 0)) e)
   where
-    go : (z : Bool) → _≡_ {A = ℕ × List ℕ} (r, b) (if z then (placesOf t + 5, turnOf bits (getD script (i + 1) 0)) else (0, bits))
+    go : (z : Bool)
+        → _≡_ {A = ℕ × List ℕ} (r, b) (if z then (placesOf t + 5, turnOf bits (getD script (i + 1) 0)) else (0, bits))
         → (r + length (joined (bodyOf n (t + 1) b (drop (i + 3) script)))
         ≡ length (joined (if z
         then timeLine t ∷ bitLine (turned (getD bits (getD script (i + 1) 0) 0)) (getD script (i + 1) 0) ∷ bodyOf n (t + 1) (turnOf bits (getD script (i + 1) 0)) (drop (i + 3) script)
@@ -310,20 +330,24 @@ head-size n = simp length-append (omega arith)
 
 -- ---- what a step's function leaves
 
-pub step-done : (n t : ℕ) (bits : List ℕ) (kind cell : ℕ) (out : List ℕ) (at r : ℕ) (b o : List ℕ) (bit : ℕ) → changesOf n bits kind cell ≡ true → b ≡ turnOf bits cell → bit ≡ turned (getD bits cell 0)
+pub step-done : (n t : ℕ) (bits : List ℕ) (kind cell : ℕ) (out : List ℕ) (at r : ℕ) (b o : List ℕ) (bit : ℕ)
+    → changesOf n bits kind cell ≡ true → b ≡ turnOf bits cell → bit ≡ turned (getD bits cell 0)
     → (r, o) ≡ putOf out at (joined (timeLine t ∷ bitLine bit cell ∷ [])) → (r, (b, o)) ≡ stepOf n t bits kind cell out at
 unfolding stepOf
 step-done n t bits kind cell out at r b o bit c p q e = rw (c, p, ← q, ← e)
 
-pub step-none : (n t : ℕ) (bits : List ℕ) (kind cell : ℕ) (out : List ℕ) (at : ℕ) (b : List ℕ) → changesOf n bits kind cell ≡ false → b ≡ bits → (at, (b, out)) ≡ stepOf n t bits kind cell out at
+pub step-none : (n t : ℕ) (bits : List ℕ) (kind cell : ℕ) (out : List ℕ) (at : ℕ) (b : List ℕ)
+    → changesOf n bits kind cell ≡ false → b ≡ bits → (at, (b, out)) ≡ stepOf n t bits kind cell out at
 unfolding stepOf
 step-none n t bits kind cell out at b c p = rw (c, p)
 
-pub weigh-done : (n t : ℕ) (bits : List ℕ) (kind cell r : ℕ) (b : List ℕ) → changesOf n bits kind cell ≡ true → b ≡ turnOf bits cell → r ≡ placesOf t → (r + 5, b) ≡ weighOf n t bits kind cell
+pub weigh-done : (n t : ℕ) (bits : List ℕ) (kind cell r : ℕ) (b : List ℕ) → changesOf n bits kind cell ≡ true
+    → b ≡ turnOf bits cell → r ≡ placesOf t → (r + 5, b) ≡ weighOf n t bits kind cell
 unfolding weighOf
 weigh-done n t bits kind cell r b c p q = rw (c, p, q)
 
-pub weigh-none : (n t : ℕ) (bits : List ℕ) (kind cell : ℕ) (b : List ℕ) → changesOf n bits kind cell ≡ false → b ≡ bits → (0, b) ≡ weighOf n t bits kind cell
+pub weigh-none : (n t : ℕ) (bits : List ℕ) (kind cell : ℕ) (b : List ℕ) → changesOf n bits kind cell ≡ false → b ≡ bits
+    → (0, b) ≡ weighOf n t bits kind cell
 unfolding weighOf
 weigh-none n t bits kind cell b c p = rw (c, p)
 
@@ -346,11 +370,13 @@ head-few zero c = omega arith
 head-few (suc left) c =
     omega (arith, length-append (varLine c) (10 ∷ joined (varsOf (c + 1) left [])), length-append (bitLine 0 c) (10 ∷ joined (firstOf (c + 1) left [])), length-var c, length-bit 0 c, places-few c, head-few left (c + 1))
 
-pub dump-size : (n : ℕ) (script : List ℕ) → length (dumpOf n script) ≡ length (headOf n) + length (joined (bodyOf n 1 noBits script))
+pub dump-size : (n : ℕ) (script : List ℕ)
+    → length (dumpOf n script) ≡ length (headOf n) + length (joined (bodyOf n 1 noBits script))
 dump-size n script = rw (dump-parts n script) (length-append (headOf n) (joined (bodyOf n 1 noBits script)))
 
 -- the head and the changes are put: the dump is
-pub dump-put : (n : ℕ) (script out m o : List ℕ) (at r : ℕ) → (at, m) ≡ putOf out 0 (headOf n) → (r, o) ≡ putOf m at (joined (bodyOf n 1 noBits script))
+pub dump-put : (n : ℕ) (script out m o : List ℕ) (at r : ℕ) → (at, m) ≡ putOf out 0 (headOf n)
+    → (r, o) ≡ putOf m at (joined (bodyOf n 1 noBits script))
     → _≡_ {A = Dumped × List ℕ} (Written r, o) (Written (length (dumpOf n script)), sets out 0 (dumpOf n script))
 unfolding putOf
 dump-put n script out m o at r e f =

@@ -1,5 +1,5 @@
-// The writer of the waveform (document 02, L11): first how long the dump is, so that nothing is written where it does not fit, and then its
-// bytes. Each function but `write` is a step: it may have a `requires`, which its callers prove.
+// The writer of the waveform (document 02, L11): first how long the dump is, so that nothing is written where it does
+// not fit, and then its bytes. Each function but `write` is a step: it may have a `requires`, which its callers prove.
 use wave::Dumped;
 ghost use mathlib.Core.Path.{_≡_};
 ghost use Prim.Native.Nat.{_+_, _<_, _≤_};
