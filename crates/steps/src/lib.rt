@@ -1,9 +1,13 @@
 // A history as lines, for the programs `dump` and `undump`: the first line `N` or `N ROOM`, every other line a step,
 // `KIND PLACE NUMBER`. Every function takes any bytes; they are steps of the programs, no calls of document 02.
 // docs/WAVE.md has the language.
-ghost use Prim.Native.Nat.{_+_, _≤_};
-ghost use lib.ListN.{length};
+ghost use mathlib.Core.Path.{_≡_};
+ghost use mathlib.Core.List.{[], _∷_};
+ghost use Prim.Native.Nat.{_+_, _-_, _≤_};
+ghost use lib.ListN.{length, drop};
+ghost use lib.Seq.{sets};
 ghost use Rattle.io.specs.Counts.{Counts as Within};
+ghost use Rattle.steps.specs.Steps.{lineOf, openedOf, storedOf, storeFrom, historyOf};
 
 // What the input of `dump` says: its first line that is not understood, or 0; how many cells; how long the lent buffer
 // is; how many words of the script are used.
@@ -38,7 +42,9 @@ struct Stored {
 
 // ---- reading
 
-fn read_line(line: &[u8]) -> Line {
+fn read_line(line: &[u8]) -> Line
+    ensures { λ r. ⌜ r ≡ lineOf (now (line .entry)) ⌝ }
+{
     let first = text::read_number(line, 0);
     if first.fine {
         let rest = text::read_numbers(line, first.digits);
@@ -61,7 +67,9 @@ fn read_line(line: &[u8]) -> Line {
 
 // `N` or `N ROOM`. Without ROOM there is room for any dump: none is longer than the greatest number that a line can
 // hold.
-fn read_opening(line: &[u8]) -> Opened {
+fn read_opening(line: &[u8]) -> Opened
+    ensures { λ r. ⌜ r ≡ openedOf (now (line .entry)) ⌝ }
+{
     let got = read_line(line);
     if got.fine {
         if got.more == 0 {
@@ -86,6 +94,7 @@ fn read_opening(line: &[u8]) -> Opened {
 
 fn put_three(script: &mut [u32], at: usize, a: u32, b: u32, c: u32)
     requires { ⌜ at + 3 ≤ length (now script) ⌝ }
+    ensures { λ _. ⌜ now (script .exit) ≡ sets (now (script .entry)) at (a ∷ b ∷ c ∷ []) ⌝ }
 {
     script[at] = a;
     script[at + 1] = b;
@@ -96,7 +105,8 @@ fn put_three(script: &mut [u32], at: usize, a: u32, b: u32, c: u32)
 // step, or there is no room for it.
 fn store_step(line: &[u8], script: &mut [u32], used: usize) -> usize
     requires { ⌜ used ≤ length (now script) ⌝ }
-    ensures { λ r. ⌜ (used ≤ r) × (r ≤ length (now (script .exit))) ⌝ }
+    ensures { λ r. ⌜ (r, now (script .exit)) ≡ storedOf (now (line .entry)) (now (script .entry)) used ⌝ }
+    ensures { λ r. ⌜ r ≤ length (now (script .exit)) ⌝ }
 {
     let got = read_line(line);
     if got.fine {
@@ -114,6 +124,7 @@ fn store_step(line: &[u8], script: &mut [u32], used: usize) -> usize
 
 // The steps from a byte on, the first of them in line 2.
 fn store_steps(input: &[u8], start: usize, script: &mut [u32]) -> Stored
+    ensures { λ r. ⌜ (r, now (script .exit)) ≡ storeFrom (length (now (input .entry)) - start) 2 0 (now (script .entry)) (drop start (now (input .entry))) ⌝ }
     ensures { λ r. ⌜ r .words ≤ length (now (script .exit)) ⌝ }
 {
     let mut at = start;
@@ -140,6 +151,7 @@ fn store_steps(input: &[u8], start: usize, script: &mut [u32]) -> Stored
 
 // A whole history.
 pub fn read_history(input: &[u8], script: &mut [u32]) -> Order
+    ensures { λ r. ⌜ (r, now (script .exit)) ≡ historyOf (now (input .entry)) (now (script .entry)) ⌝ }
     ensures { λ r. ⌜ r .words ≤ length (now (script .exit)) ⌝ }
 {
     let end = text::end_of(input, 0, 10);

@@ -1,4 +1,5 @@
 -- `steps::put_three` meets its contract.
+use Rattle.steps.specs.Laws.{three}
 use Prim.Native.Nat.{_+_}
 use native.Mathlib.Omega.{arith}
 use lib.ListN.{set, length-set}
@@ -34,7 +35,7 @@ same-length : tie.Need-same-length
 same-length c = search needs
 
 returns : tie.Need-returns
-returns c = search needs
+returns c = let s = c .args in three (s .script .now) (s .at) (s .a) (s .b) (s .c)
 
 pub put-three-spec : {M : Type 1} → statement M
 put-three-spec =
