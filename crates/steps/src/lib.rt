@@ -207,3 +207,29 @@ pub fn within(n: usize, run: &[u8]) -> usize
     }
     run.len()
 }
+
+// ---- what both programs do
+
+// Room for 2 MiB and a byte more, which tells that the input is too long.
+pub fn input_room() -> [u8; 2097153]
+    ensures { λ r. ⌜ 2097153 ≡ length r ⌝ }
+{
+    [0; 2097153]
+}
+
+// Prints the first bytes of a run; if they cannot all be written, standard error says so.
+pub fn print(out: &[u8], size: usize) {
+    let n = within(size, out);
+    if io::write_all(1, &out[..n]) {
+        return;
+    }
+    io::write_all(2, b"output lost\n");
+}
+
+// Prints a line, in which a `#` stands for the number.
+pub fn say(form: &[u8], number: usize) {
+    let mut out = [0u8; 64];
+    let values = [number];
+    let used = text::put_form(&mut out, 0, form, &values);
+    print(&out, used);
+}
