@@ -20,28 +20,21 @@ kit() {
     fi
 }
 
-# program NAME: a program of target/bin on this standard input. It is an x86-64 program; on another machine it runs as the kit runs programs
-# there, under its emulator and its own loader and C library.
-program() {
+# play FILE: the player on FILE's bytes as standard input. It is an x86-64 program; on another machine it runs as the
+# kit runs programs there, under its emulator and its own loader and C library. PLAYER names another program
+# instead, by a path from the top folder of the repository or from /.
+play() {
     local tools word
-    if [ "$(uname -m)" = x86_64 ]; then
-        "target/bin/$1"
+    if [ -n "${PLAYER:-}" ]; then
+        "$PLAYER" <"$1"
+    elif [ "$(uname -m)" = x86_64 ]; then
+        target/bin/player <"$1"
     else
         (
             for word in $(env | sed -n 's/^\(QEMU_[A-Za-z0-9_]*\)=.*/\1/p'); do unset "$word"; done
             tools=$(kit)/on/$(uname -m)/toolchain
-            exec "$tools/bin/qemu-x86_64" "$tools/lib/ld-linux-x86-64.so.2" --library-path "$tools/lib" "target/bin/$1"
+            exec "$tools/bin/qemu-x86_64" "$tools/lib/ld-linux-x86-64.so.2" --library-path "$tools/lib" target/bin/player <"$1"
         )
-    fi
-}
-
-# play FILE: the player on FILE's bytes as standard input. PLAYER names another program instead, by a path from the top folder of the
-# repository or from /.
-play() {
-    if [ -n "${PLAYER:-}" ]; then
-        "$PLAYER" <"$1"
-    else
-        program player <"$1"
     fi
 }
 
@@ -73,4 +66,18 @@ show_difference() {
     echo "first difference in line $line of what was printed"
     echo "  plain:  $(sed -n "${line}p" "$1" | cat -v | cut -c 1-300)"
     echo "  player: $(sed -n "${line}p" "$2" | cat -v | cut -c 1-300)"
+}
+
+# program NAME: the program NAME of target/bin on this standard input, run as `play` runs the player.
+program() {
+    local tools word
+    if [ "$(uname -m)" = x86_64 ]; then
+        "target/bin/$1"
+    else
+        (
+            for word in $(env | sed -n 's/^\(QEMU_[A-Za-z0-9_]*\)=.*/\1/p'); do unset "$word"; done
+            tools=$(kit)/on/$(uname -m)/toolchain
+            exec "$tools/bin/qemu-x86_64" "$tools/lib/ld-linux-x86-64.so.2" --library-path "$tools/lib" "target/bin/$1"
+        )
+    fi
 }
