@@ -1,5 +1,6 @@
 /*
- * The lease layer of the skid kernel: the calls of document 01, and the waveform of the cells of document 02 (L11), for C.
+ * The lease layer of the skid kernel: the calls of document 01, and the waveform of the cells (document 02, L11), for
+ * C.
  *
  * Link with libskid.a (`rt staticlib skid` writes target/staticlib/libskid.a). The archive is code for x86-64, by the
  * calling convention of Linux there (System V). It asks the host for memcpy and memset, and for nothing else. It has

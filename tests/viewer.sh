@@ -1,7 +1,7 @@
 #!/usr/bin/env bash
-# A dump in an independent viewer: GTKWave's own reader of value change dumps, without a screen. `vcd2fst` reads the dump into the viewer's
-# format, and `fst2vcd` tells what the viewer holds then: its names and transitions must be those of the history. For document 02's example,
-# random histories and the largest history. Ends with 1 if anything differs.
+# A dump in an independent viewer: GTKWave's own reader of value change dumps, without a screen. `vcd2fst` reads the
+# dump into the viewer's format, and `fst2vcd` tells what the viewer holds then: its names and transitions must be those
+# of the history. For document 02's example, random histories and the largest history. Ends with 1 if anything differs.
 set -euo pipefail
 cd "$(dirname "$0")/.."
 . tests/lib.sh

@@ -1,7 +1,7 @@
 #!/usr/bin/env bash
-# The waveform programs `dump` and `undump`: document 02's example, every refusal, the round trip at size, and random histories and dumps
-# through them and through the plain programs, byte by byte. `wave.sh [INPUTS [SEED]]`: so many random histories, and as many dumps.
-# Ends with 1 if anything is wrong.
+# The waveform programs `dump` and `undump`: document 02's example, every refusal, the round trip at size, and random
+# histories and dumps, through them and through the plain programs, byte by byte. `wave.sh [INPUTS [SEED]]`: so many
+# random histories, and as many dumps. Ends with 1 if anything is wrong.
 set -euo pipefail
 cd "$(dirname "$0")/.."
 . tests/lib.sh
@@ -36,7 +36,8 @@ ask() {
 # prints PROGRAM NAME: ask, and what was printed must be the file $room/wanted
 prints() {
     ask "$1" "$2"
-    cmp -s "$room/wanted" "$room/out" || complain "$1, $2: NOT THE TEXT WANTED, first difference in line $(first_difference "$room/wanted" "$room/out")"
+    cmp -s "$room/wanted" "$room/out" && return
+    complain "$1, $2: NOT THE TEXT WANTED, first difference in line $(first_difference "$room/wanted" "$room/out")"
 }
 
 # says PROGRAM NAME LINE..: prints, with these lines
@@ -54,7 +55,8 @@ steps() {
 
 # ---- document 02's example, to the byte, and back
 
-paper=('$timescale 1 ns $end' '$scope module t $end' '$var wire 1 ! c0 $end' '$var wire 1 " c1 $end' '$upscope $end' '$enddefinitions $end' '#0' '0!' '0"')
+paper=('$timescale 1 ns $end' '$scope module t $end' '$var wire 1 ! c0 $end' '$var wire 1 " c1 $end' '$upscope $end'
+    '$enddefinitions $end' '#0' '0!' '0"')
 printf '2\n1 0 7\n' >"$input"
 says dump 'the example' "${paper[@]}" '#1' '1!'
 cp "$room/out" "$input"
@@ -78,7 +80,8 @@ for line in '' '#' 'x' ' 2' '2 ' '02' '-1' '2 3 4' '2  3' '4294967296' $'2\r' '2
     printf '%s\n1 0 0\n' "$line" >"$input"
     says dump "first line '$line'" 'line 1: not understood'
 done
-for line in '' '#' '1 0' '1 0 0 0' '1 0 0 ' ' 1 0 0' '1  0 0' '1 0 00' '1 0 4294967296' 'take 0 0' $'1 0 0\r' $'1\t0 0'; do
+for line in '' '#' '1 0' '1 0 0 0' '1 0 0 ' ' 1 0 0' '1  0 0' '1 0 00' '1 0 4294967296' 'take 0 0' $'1 0 0\r' \
+    $'1\t0 0'; do
     printf '0\n1 0 0\n%s\n1 0 x\n' "$line" >"$input"
     says dump "third line '$line'" 'line 3: not understood'
 done

@@ -1,6 +1,6 @@
 /*
- * Document 02's waveform (L11), through skid.h: the example to the byte and back, and each refusal. Exit 1 if a figure is
- * not document 02's.
+ * Document 02's waveform (L11), through skid.h: the example to the byte and back, and each refusal. Exit 1 if a figure
+ * is not document 02's.
  */
 #include <inttypes.h>
 #include <stdio.h>
@@ -28,7 +28,8 @@ static void holds(const char *what, int truth) {
     }
 }
 
-static const char example[] = "$timescale 1 ns $end\n$scope module t $end\n$var wire 1 ! c0 $end\n$var wire 1 \" c1 $end\n"
+static const char example[] = "$timescale 1 ns $end\n$scope module t $end\n"
+                              "$var wire 1 ! c0 $end\n$var wire 1 \" c1 $end\n"
                               "$upscope $end\n$enddefinitions $end\n#0\n0!\n0\"\n#1\n1!\n";
 #define SIZE (sizeof example - 1)
 
