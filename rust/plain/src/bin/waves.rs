@@ -120,11 +120,13 @@ fn history(dice: &mut Dice) -> Vec<u8> {
     let cells = cells(dice);
     let mut steps = steps(dice, cells);
     // over the limit of steps, and over the room of the program
-    if dice.once_in(20) {
+    let over = dice.once_in(20);
+    if over {
         let count = dice.pick(&[MOST_STEPS + 1, STEP_ROOM, STEP_ROOM + 1, STEP_ROOM + 9]);
         steps.resize(count, [1, 0, 0]);
     }
-    let wide = match dice.below(12) {
+    // two faults at once, for the order of the checks
+    let wide = match dice.below(if over { 2 } else { 12 }) {
         0 => dice.pick(&[0, 95, 96, 350, u32::MAX]),
         _ => cells,
     };
@@ -565,9 +567,19 @@ mod tests {
         assert_eq!(counts.keys().collect::<Vec<_>>(), expected);
     }
 
+    /// Too wide, whatever else is wrong.
+    fn is_wide(input: &[u8]) -> bool {
+        let first = String::from_utf8_lossy(input);
+        let first = first.split(['\n', ' ']).next().unwrap_or_default();
+        !matches!(first.parse(), Ok(1..=94))
+    }
+
     fn history_case(seed: u64) -> String {
         let input = history(&mut Dice(seed));
         let text = wave::dump(&input);
+        if text == "refused 2 BadScript 0\n" && is_wide(&input) {
+            return "refused 2, and too wide".to_string();
+        }
         let lines = input.split_inclusive(|&byte| byte == b'\n').count();
         let first = input
             .split(|&byte| byte == b'\n')
@@ -614,6 +626,7 @@ mod tests {
                 "a line between",
                 "input too long",
                 "refused 2 BadScript 0",
+                "refused 2, and too wide",
                 "refused TooWide",
                 "refused NoRoom",
                 "a dump, room to the byte",
