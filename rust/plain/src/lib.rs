@@ -3,5 +3,7 @@
 
 pub mod console;
 pub mod dice;
+pub mod filter;
 pub mod report;
 pub mod rules;
+pub mod wave;

@@ -48,7 +48,7 @@ const CALLS: [(&str, usize); 18] = [
 ];
 
 /// Lines that are not understood.
-const BAD_LINES: [&str; 76] = [
+const BAD_LINES: [&str; 80] = [
     " ",
     "\t",
     "\r",
@@ -125,6 +125,10 @@ const BAD_LINES: [&str; 76] = [
     "map ",
     "maps",
     "help 1",
+    "trace",
+    "trace 2",
+    "trace 01",
+    "trace 1 0",
 ];
 
 struct Writer {
@@ -237,6 +241,12 @@ impl Writer {
     fn echo(&mut self) {
         let echo = self.dice.once_in(3);
         self.write("echo", &[u32::from(echo)]);
+    }
+
+    /// Trace on or off, or said again as it is.
+    fn trace(&mut self) {
+        let trace = self.dice.once_in(2);
+        self.write("trace", &[u32::from(trace)]);
     }
 
     // ---- What the arena has
@@ -972,6 +982,7 @@ impl Writer {
             18 => self.comment(),
             19..=20 => self.faults(),
             21 => self.echo(),
+            22 => self.trace(),
             _ => {}
         }
         self.call();
