@@ -1,21 +1,22 @@
 /*
- * The lease layer of the skid kernel: the calls of document 01, for C.
+ * The lease layer of the skid kernel: the calls of document 01, and the waveform of the cells (document 02, L11), for
+ * C.
  *
  * Link with libskid.a (`rt staticlib skid` writes target/staticlib/libskid.a). The archive is code for x86-64, by the
  * calling convention of Linux there (System V). It asks the host for memcpy and memset, and for nothing else. It has
  * no data of its own that changes, no heap and no thread. As that convention allows, it uses the SSE registers and the
  * 128 bytes below the stack pointer; a kernel that calls it where it saves neither must see to both.
  *
- * Each function is a call of document 01 and is proved to give what document 01 says, refusals included: the reply's
- * words and every word of every lent run are fixed, whatever the numbers and the lent words are.
+ * Each function is a call of these documents and is proved to give what they say, refusals included: the reply's words
+ * and every word of every lent run are fixed, whatever the numbers and the lent words are.
  *
  * How a call is made
  * ------------------
  * - The head (headers H, buckets B, next serial) goes in as three numbers, and comes back in the reply's first three
  *   words. A lease is two numbers, cell and serial.
  * - A run is lent as a pointer to its first element and a length. A length counts elements, not bytes.
- * - The last argument is the lent reply: SKID_REPLY_WORDS words, SKID_CREW_WORDS for skid_crew. A call writes all of
- *   them and reads none.
+ * - The last argument is the lent reply: SKID_REPLY_WORDS words, SKID_CREW_WORDS for skid_crew, SKID_WAVE_WORDS for
+ *   skid_write_dump and skid_read_dump. A call writes all of them and reads none.
  * - There is no result: the answer is in the reply.
  *
  * What a call needs, and changes
@@ -74,6 +75,8 @@ extern "C" {
 #define SKID_MAX_MEMBER_CELLS 64u    /* of one member */
 #define SKID_MAX_CREW_CELLS 256u     /* of all members */
 #define SKID_MAX_TURNS 65536u
+#define SKID_MAX_WAVE_CELLS 94u      /* of a waveform */
+#define SKID_MAX_DUMP 319088u        /* bytes: no dump is longer */
 
 /* ---- a foreign step: its kind, and what its place and number are */
 
@@ -90,6 +93,7 @@ enum skid_step {
 
 #define SKID_REPLY_WORDS 12
 #define SKID_CREW_WORDS 46
+#define SKID_WAVE_WORDS 3
 
 /* Which word is what. */
 enum skid_reply {
@@ -150,6 +154,24 @@ enum skid_refusal {
     SKID_PROTECTED = 13,             /* 0: the lease is live and in the held list */
     SKID_REPEATED = 14,              /* the position of the later of two equal live leases in the list */
     SKID_BAD_CREW = 15               /* 0 for a limit; the member of a bad list; the turn that names no member */
+};
+
+/* The reply of the waveform's two calls. A refusal changes no lent byte or word. */
+enum skid_wave_reply {
+    SKID_WAVE_KIND = 0,    /* enum skid_wave_kind */
+    SKID_WAVE_SIZE = 1,    /* skid_write_dump, done: the bytes written */
+    SKID_WAVE_CELLS = 1,   /* skid_read_dump, done: the cells */
+    SKID_WAVE_REFUSAL = 1, /* refused by number: SKID_BAD_SCRIPT */
+    SKID_WAVE_LINE = 1,    /* a bad line: its number, from 1 */
+    SKID_WAVE_STEPS = 2    /* skid_read_dump, done: the steps, three words each; else 0 */
+};
+
+enum skid_wave_kind {
+    SKID_WAVE_DONE = 0,
+    SKID_WAVE_REFUSED = 1,  /* by number */
+    SKID_WAVE_TOO_WIDE = 2, /* no cells, or more than SKID_MAX_WAVE_CELLS */
+    SKID_WAVE_NO_ROOM = 3,  /* the lent run is too short for all of it */
+    SKID_WAVE_BAD_LINE = 4  /* no dump begins with this line and those before it */
 };
 
 /* ---- preparing */
@@ -270,6 +292,25 @@ void skid_crew(uint32_t headers, uint32_t buckets, uint32_t next, uint32_t *tabl
                const uint8_t *health, size_t health_len, const uint32_t *counts, size_t counts_len,
                const uint32_t *cells, size_t cells_len, const uint32_t *turns, size_t turns_len,
                uint64_t reply[SKID_CREW_WORDS]);
+
+/* ---- the waveform of the cells (document 02, L11) */
+
+/*
+ * Writes the bits of the first `cells` cells over a history as a value change dump (IEEE 1364), for a viewer. The
+ * history is a script (three words a step), from all bits 0: a take sets its cell's bit, a release clears it, any other
+ * step only counts. Bytes behind the dump are left alone. Refused, in this order: SKID_BAD_SCRIPT (no multiple of 3, or
+ * more than SKID_MAX_STEPS steps), too wide, no room.
+ */
+void skid_write_dump(uint32_t cells, const uint32_t *script, size_t script_len, uint8_t *text, size_t text_len,
+                     uint64_t reply[SKID_WAVE_WORDS]);
+
+/*
+ * Reads back what skid_write_dump can have written, and nothing else: how many cells, and a history with the same bits
+ * at the same steps, up to the last change; other words of it are 0. Words behind it are left alone. Refused, in this
+ * order: bad line, no room.
+ */
+void skid_read_dump(const uint8_t *text, size_t text_len, uint32_t *script, size_t script_len,
+                    uint64_t reply[SKID_WAVE_WORDS]);
 
 #ifdef __cplusplus
 }

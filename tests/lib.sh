@@ -95,3 +95,17 @@ show_difference() {
     echo "  plain:  $(sed -n "${line}p" "$1" | cat -v | cut -c 1-300)"
     echo "  player: $(sed -n "${line}p" "$2" | cat -v | cut -c 1-300)"
 }
+
+# program NAME: the program NAME of target/bin on this standard input, run as `play` runs the player.
+program() {
+    local tools word
+    if [ "$(uname -m)" = x86_64 ]; then
+        "target/bin/$1"
+    else
+        (
+            for word in $(env | sed -n 's/^\(QEMU_[A-Za-z0-9_]*\)=.*/\1/p'); do unset "$word"; done
+            tools=$(kit)/on/$(uname -m)/toolchain
+            exec "$tools/bin/qemu-x86_64" "$tools/lib/ld-linux-x86-64.so.2" --library-path "$tools/lib" "target/bin/$1"
+        )
+    fi
+}

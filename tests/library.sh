@@ -1,6 +1,6 @@
 #!/usr/bin/env bash
-# The static library as people use it. Header, Rust face and archive have the same functions; document 01's bench cases run through the
-# library from C and from Rust, and each figure is checked. Built things go to target/library.
+# The static library as people use it. Header, Rust face and archive have the same functions; document 01's bench cases and document 02's
+# waveform run through the library from C and from Rust, and each figure is checked. Built things go to target/library.
 set -euo pipefail
 cd "$(dirname "$0")/.."
 out=target/library
@@ -34,12 +34,12 @@ rt staticlib skid
 # ---- header, Rust face, C test and archive have the same functions; the archive asks for no more than the header says
 grep -oE '^void skid_[a-z_]+' include/skid.h | sed 's/^void //' | sort >"$out/header"
 grep -oE 'fn skid_[a-z_]+' rust/skid/src/sys.rs | sed 's/^fn //' | sort >"$out/face"
-grep -oE 'skid_[a-z_]+\(' tests/c/bench.c | tr -d '(' | sort -u >"$out/called"
+grep -ohE 'skid_[a-z_]+\(' tests/c/*.c | tr -d '(' | sort -u >"$out/called"
 "$nm" -g --defined-only "$archive" | awk 'NF == 3 { print $3 }' | sort >"$out/archive"
 diff "$out/header" "$out/archive" || fail "the header (<) and the archive (>) have different functions"
 diff "$out/face" "$out/archive" || fail "the Rust face (<) and the archive (>) have different functions"
-diff "$out/called" "$out/archive" || fail "the C test calls (<) other functions than the archive has (>)"
-[ "$(wc -l <"$out/header")" = 18 ] || fail "document 01 has 18 calls"
+diff "$out/called" "$out/archive" || fail "the C tests call (<) other functions than the archive has (>)"
+[ "$(wc -l <"$out/header")" = 20 ] || fail "document 01 has 18 calls, and the waveform 2"
 "$nm" -u "$archive" | awk '$1 == "U" && $2 != "memcpy" && $2 != "memset" { print "asks for " $2; bad = 1 } END { exit bad }' ||
     fail "the header says that the archive asks for memcpy and memset alone"
 "$nm" "$archive" | awk '$2 ~ /^[BbCDd]$/ { print "changing data: " $3; bad = 1 } END { exit bad }' ||
@@ -59,6 +59,8 @@ if command -v "$cxx" >/dev/null; then
 fi
 "$cc" -std=c99 -Wall -Wextra -Werror -pedantic -O2 -Iinclude tests/c/bench.c "$archive" -o "$out/bench_c"
 passes "$out/bench_c" "bench cases in C: 16 passed"
+"$cc" -std=c99 -Wall -Wextra -Werror -pedantic -O2 -Iinclude tests/c/wave.c "$archive" -o "$out/wave_c"
+passes "$out/wave_c" "waveform in C: passed"
 
 # ---- Rust; without cargo the version has to be told
 CARGO_PKG_VERSION=$(sed -n 's/^version = "\(.*\)"$/\1/p' rust/skid/Cargo.toml)
@@ -68,3 +70,6 @@ export CARGO_PKG_VERSION
 "${rustc[@]}" --edition 2021 -O rust/skid/examples/bench.rs \
     --extern "skid=$out/libskid.rlib" -L native=target/staticlib -o "$out/bench_rust"
 passes "$out/bench_rust" "bench cases in Rust: 16 passed"
+"${rustc[@]}" --edition 2021 -O rust/skid/examples/wave.rs \
+    --extern "skid=$out/libskid.rlib" -L native=target/staticlib -o "$out/wave_rust"
+passes "$out/wave_rust" "waveform in Rust: passed"

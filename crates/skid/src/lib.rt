@@ -1,13 +1,15 @@
-// The calls of document 01 for a kernel in C or Rust; include/skid.h declares them. Only numbers and lent runs cross: the head goes in as
-// three numbers, a lease as two, and the last parameter is the lent reply, whose words crate `words` lays out.
-// Each is thin: it makes the head, makes the call, and writes the reply's words.
+// The calls of document 01, and document 02's waveform, for a kernel in C or Rust; include/skid.h declares them. Only
+// numbers and lent runs cross: the head goes in as three numbers, a lease as two, and the last parameter is the lent
+// reply, whose words crate `words` lays out. Each is thin: it makes the head, makes the call, and writes the reply's
+// words.
 use model::Head;
 use model::Lease;
 ghost use mathlib.Core.Path.{_≡_};
 ghost use Rattle.model.specs.Arena.{headOf, leaseOf};
 ghost use Rattle.model.specs.Calls.{prepareOf, tryAcquireOf, dropLeaseOf, readPermissionOf, competingAcquireOf, releaseThenHandoffOf, foreignReleaseOf, acquirePreservingOf, dropPreservingOf, environmentOf, tryLockOf, transactionalOf, acquireBucketOf, releaseAllOf, acquireLocksOf};
 ghost use Rattle.model.specs.Crew.{crewOf};
-ghost use Rattle.words.specs.Words.{replyWords, playedWords, crewWords, told};
+ghost use Rattle.wave.specs.Calls.{writeOf, readIntoOf};
+ghost use Rattle.words.specs.Words.{replyWords, playedWords, crewWords, dumpedWords, undumpedWords, told};
 
 // ---- preparing
 
@@ -464,4 +466,22 @@ pub extern "C" fn skid_crew(
     };
     let r = crew::crew(head, table, health, counts, cells, turns);
     *reply = words::crew_words(r);
+}
+
+// ---- the waveform of the cells (document 02, L11)
+
+#[no_mangle]
+pub extern "C" fn skid_write_dump(cells: u32, script: &[u32], text: &mut [u8], reply: &mut [u64; 3])
+    ensures { λ _. ⌜ (now (reply .exit), now (text .exit)) ≡ told dumpedWords (writeOf cells (now (script .entry)) (now (text .entry))) ⌝ }
+{
+    let r = writer::write(cells, script, text);
+    *reply = words::dumped_words(r);
+}
+
+#[no_mangle]
+pub extern "C" fn skid_read_dump(text: &[u8], script: &mut [u32], reply: &mut [u64; 3])
+    ensures { λ _. ⌜ (now (reply .exit), now (script .exit)) ≡ told undumpedWords (readIntoOf (now (text .entry)) (now (script .entry))) ⌝ }
+{
+    let r = reader::read(text, script);
+    *reply = words::undumped_words(r);
 }

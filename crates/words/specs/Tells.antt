@@ -23,8 +23,12 @@ use Rattle.model.specs.declared.Played.{Played}
 use Rattle.model.specs.declared.Refusal.{Refusal}
 use Rattle.model.specs.declared.Refusal.the-variants.{BadShape, BadScript, BadHeld, TooMany, BadBinding, BadHeader, Poisoned, InvalidBucket, Damaged, SerialsSpent, SerializationFailure, NotHeld, Protected, Repeated, BadCrew}
 use Rattle.model.specs.declared.Reply.{Reply}
+use Rattle.wave.specs.declared.Dumped.{Dumped}
+use Rattle.wave.specs.declared.Dumped.the-variants as dumped
+use Rattle.wave.specs.declared.Undumped.{Undumped}
+use Rattle.wave.specs.declared.Undumped.the-variants as undumped
 use Rattle.words.specs.Laws.{four}
-use Rattle.words.specs.Words.{answerWords, replyWords, playedWords, eachOf, crewWords, told}
+use Rattle.words.specs.Words.{answerWords, replyWords, playedWords, eachOf, crewWords, dumpedWords, undumpedWords, told}
 
 -- ---- the way back
 
@@ -137,6 +141,36 @@ crew-back r x =
 
 pub crew-tells : (r s : CrewReply) → Sixteen r → Sixteen s → crewWords r ≡ crewWords s → r ≡ s
 crew-tells r s x y e = sym (crew-back r x) ∙ ap crewIn e ∙ crew-back s y
+
+-- the waveform's answers that three words tell
+abbrev pub dumpedIn : List ℕ → Dumped
+dumpedIn ws =
+    let kind = getD ws 0 0 in
+    if eqb kind 0 then dumped.Written (getD ws 1 0) else if eqb kind 1 then dumped.BadScript else if eqb kind 2 then dumped.TooWide else dumped.NoRoom
+
+abbrev pub undumpedIn : List ℕ → Undumped
+undumpedIn ws =
+    let kind = getD ws 0 0 in
+    if eqb kind 0 then undumped.Read (getD ws 1 0) (getD ws 2 0) else if eqb kind 3 then undumped.NoRoom else undumped.BadLine (getD ws 1 0)
+
+dumped-back : (a : Dumped) → dumpedIn (dumpedWords a) ≡ a
+unfolding dumpedWords
+dumped-back (dumped.Written size) = refl
+dumped-back dumped.BadScript = refl
+dumped-back dumped.TooWide = refl
+dumped-back dumped.NoRoom = refl
+
+undumped-back : (a : Undumped) → undumpedIn (undumpedWords a) ≡ a
+unfolding undumpedWords
+undumped-back (undumped.Read n steps) = refl
+undumped-back (undumped.BadLine k) = refl
+undumped-back undumped.NoRoom = refl
+
+pub dumped-tells : (a b : Dumped) → dumpedWords a ≡ dumpedWords b → a ≡ b
+dumped-tells a b e = sym (dumped-back a) ∙ ap dumpedIn e ∙ dumped-back b
+
+pub undumped-tells : (a b : Undumped) → undumpedWords a ≡ undumpedWords b → a ≡ b
+undumped-tells a b e = sym (undumped-back a) ∙ ap undumpedIn e ∙ undumped-back b
 
 -- and what a caller sees of a call, reply and lent runs, fixes the result itself
 pub told-tells : {R A : Type 0} (words : R → List ℕ) → ((r s : R) → words r ≡ words s → r ≡ s) → (o p : R × A) → told words o ≡ told words p → o ≡ p

@@ -11,6 +11,11 @@ use Rattle.model.specs.declared.CrewReply.{CrewReply}
 use Rattle.model.specs.declared.Head.{Head}
 use Rattle.model.specs.declared.Played.{Played}
 use Rattle.model.specs.declared.Reply.{Reply}
+use Rattle.wave.specs.Answers.{dumpedNumber}
+use Rattle.wave.specs.declared.Dumped.{Dumped}
+use Rattle.wave.specs.declared.Dumped.the-variants as dumped
+use Rattle.wave.specs.declared.Undumped.{Undumped}
+use Rattle.wave.specs.declared.Undumped.the-variants as undumped
 
 -- words 8 to 11: the kind of the answer; the cell, or the refusal's number; the serial, or what the refusal carries; the key's position
 abbrev pub answerWords : Answer → List ℕ
@@ -43,6 +48,19 @@ eachOf (suc left) m l = getD l m 0 ∷ eachOf left (m + 1) l
 -- they released
 unfoldable pub crewWords : CrewReply → List ℕ
 crewWords r = wordsOf (r .head) 0 (countsOf 0 0 0 0) (r .answer) ++ (r .moving ∷ r .idle ∷ (eachOf 16 0 (r .taken) ++ eachOf 16 0 (r .released)))
+
+-- of the waveform's writer and reader: the kind of the answer (0 done, 1 refused by number, 2 TooWide, 3 NoRoom, 4 BadLine); the bytes
+-- written, the cells read, the refusal's number or the wrong line; the steps read
+unfoldable pub dumpedWords : Dumped → List ℕ
+dumpedWords (dumped.Written size) = 0 ∷ size ∷ 0 ∷ []
+dumpedWords dumped.BadScript = 1 ∷ dumpedNumber dumped.BadScript ∷ 0 ∷ []
+dumpedWords dumped.TooWide = 2 ∷ 0 ∷ 0 ∷ []
+dumpedWords dumped.NoRoom = 3 ∷ 0 ∷ 0 ∷ []
+
+unfoldable pub undumpedWords : Undumped → List ℕ
+undumpedWords (undumped.Read n steps) = 0 ∷ n ∷ steps ∷ []
+undumpedWords undumped.NoRoom = 3 ∷ 0 ∷ 0 ∷ []
+undumpedWords (undumped.BadLine k) = 4 ∷ k ∷ 0 ∷ []
 
 -- a result with its lent runs behind it, told in words
 abbrev pub told : {R A : Type 0} → (R → List ℕ) → R × A → List ℕ × A

@@ -1,15 +1,17 @@
-// A reply as words, for callers in C or Rust: twelve of them, or the crew's forty-six. specs/Words.antt lays them out, and specs/Tells.antt
-// proves that they lose nothing.
+// A reply as words, for callers in C or Rust: twelve of them, the crew's forty-six, or the waveform's three.
+// specs/Words.antt lays them out, and specs/Tells.antt proves that they lose nothing.
 use model::Answer;
 use model::Counts;
 use model::CrewReply;
 use model::Head;
 use model::Played;
 use model::Reply;
+use wave::Dumped;
+use wave::Undumped;
 ghost use mathlib.Core.Path.{_≡_};
 ghost use Prim.Native.Nat.{_+_, _≤_};
 ghost use lib.Seq.{sets};
-ghost use Rattle.words.specs.Words.{answerWords, wordsOf, replyWords, playedWords, eachOf, crewWords};
+ghost use Rattle.words.specs.Words.{answerWords, wordsOf, replyWords, playedWords, eachOf, crewWords, dumpedWords, undumpedWords};
 
 // Words 8 to 11.
 fn answer_words(answer: Answer) -> [u64; 4]
@@ -106,4 +108,27 @@ pub fn crew_words(r: CrewReply) -> [u64; 46]
     put_counts(&mut words, 14, &taken);
     put_counts(&mut words, 30, &released);
     words
+}
+
+// Of the waveform's writer.
+pub fn dumped_words(answer: Dumped) -> [u64; 3]
+    ensures { λ w. ⌜ w ≡ dumpedWords answer ⌝ }
+{
+    match answer {
+        Dumped::Written(size) => [0, size as u64, 0],
+        Dumped::BadScript => [1, 2, 0],
+        Dumped::TooWide => [2, 0, 0],
+        Dumped::NoRoom => [3, 0, 0],
+    }
+}
+
+// Of its reader.
+pub fn undumped_words(answer: Undumped) -> [u64; 3]
+    ensures { λ w. ⌜ w ≡ undumpedWords answer ⌝ }
+{
+    match answer {
+        Undumped::Read(cells, steps) => [0, cells as u64, steps as u64],
+        Undumped::BadLine(line) => [4, line as u64, 0],
+        Undumped::NoRoom => [3, 0, 0],
+    }
 }

@@ -1,4 +1,4 @@
-//! The lease layer of the skid kernel: the calls of document 01, safe to call.
+//! The lease layer of the skid kernel: the calls of document 01, and the waveform of the cells ([`wave`]), safe to call.
 //!
 //! The programs of a pump skid's kernel share one arena of setpoint buckets. Each bucket has a mutex cell. A program
 //! that takes a cell gets a [`Lease`]: the number of the cell, and a serial.
@@ -36,6 +36,7 @@
 
 #[allow(unsafe_code)]
 mod sys;
+pub mod wave;
 
 /// The version of this crate and of the library under it; CHANGELOG.md says what came with which.
 pub const VERSION: &str = env!("CARGO_PKG_VERSION");

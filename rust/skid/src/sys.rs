@@ -14,6 +14,8 @@ use core::mem::{align_of, size_of};
 pub(crate) const REPLY: usize = 12;
 /// Words of the crew's.
 pub(crate) const CREW: usize = 46;
+/// Words of the waveform's.
+pub(crate) const WAVE: usize = 3;
 /// What a reply holds before a call. The library writes every word; one that it left out would show.
 const BLANK: u64 = 0xa5a5_a5a5_a5a5_a5a5;
 
@@ -23,7 +25,7 @@ const _: () = assert!(size_of::<Key>() == 8 && align_of::<Key>() == 4);
 const _: () = assert!(size_of::<Step>() == 12 && align_of::<Step>() == 4);
 
 mod raw {
-    use super::{CREW, REPLY};
+    use super::{CREW, REPLY, WAVE};
 
     extern "C" {
         pub(super) fn skid_prepare(
@@ -271,6 +273,21 @@ mod raw {
             turns: *const u32,
             turns_len: usize,
             reply: *mut [u64; CREW],
+        );
+        pub(super) fn skid_write_dump(
+            cells: u32,
+            script: *const u32,
+            script_len: usize,
+            text: *mut u8,
+            text_len: usize,
+            reply: *mut [u64; WAVE],
+        );
+        pub(super) fn skid_read_dump(
+            text: *const u8,
+            text_len: usize,
+            script: *mut u32,
+            script_len: usize,
+            reply: *mut [u64; WAVE],
         );
     }
 }
@@ -756,6 +773,37 @@ pub(crate) fn crew(
             cells.len(),
             turns.as_ptr(),
             turns.len(),
+            &mut reply,
+        );
+    }
+    reply
+}
+
+pub(crate) fn write_dump(cells: u32, history: &[Step], text: &mut [u8]) -> [u64; WAVE] {
+    let mut reply = [BLANK; WAVE];
+    // SAFETY: the pointers and lengths are those of references; see the head of this file.
+    unsafe {
+        raw::skid_write_dump(
+            cells,
+            history.as_ptr().cast(),
+            3 * history.len(),
+            text.as_mut_ptr(),
+            text.len(),
+            &mut reply,
+        );
+    }
+    reply
+}
+
+pub(crate) fn read_dump(text: &[u8], history: &mut [Step]) -> [u64; WAVE] {
+    let mut reply = [BLANK; WAVE];
+    // SAFETY: the pointers and lengths are those of references; see the head of this file.
+    unsafe {
+        raw::skid_read_dump(
+            text.as_ptr(),
+            text.len(),
+            history.as_mut_ptr().cast(),
+            3 * history.len(),
             &mut reply,
         );
     }

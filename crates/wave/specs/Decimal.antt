@@ -1,0 +1,57 @@
+-- Numbers in decimal, as the dump has them: below 100,000, without leading zeros.
+use Prim.Native.Nat.{ℕ, _-_, _^_, _≤_, _<_}
+use mathlib.Core.Path.{_≡_, refl}
+use mathlib.Core.List.{List}
+use mathlib.Core.Bool.{Bool, true, false}
+use native.Mathlib.Omega.{arith}
+use native.Mathlib.Nat.{pow-le-pow-right}
+use native.Mathlib.Decide.{decLt}
+use lib.Dec.{ltb}
+use borrow.Author.Tests.{ltb-true, ltb-false}
+use Rattle.model.specs.Choice.{if_then_else_}
+use Rattle.io.specs.Digits.{digits, Fewest}
+
+-- how many digits a number below 100,000 has
+unfoldable pub placesOf : ℕ → ℕ
+placesOf n = if ltb n 10 then 1 else if ltb n 100 then 2 else if ltb n 1000 then 3 else if ltb n 10000 then 4 else 5
+
+-- `c0`, `#1`: its digits, without leading zeros
+unfoldable pub decimalOf : ℕ → List ℕ
+decimalOf n = digits 10 (placesOf n) n
+
+-- ---- laws: what the number of places means, and that there is one such number
+
+pub record Places (n k : ℕ) : Type 0 where
+  pub some : 1 ≤ k
+  pub few : k ≤ 5
+  pub holds : n < 10 ^ k
+  pub needed : 1 < k → 10 ^ (k - 1) ≤ n
+
+pub places-is : (n : ℕ) → n < 100000 → Places n (placesOf n)
+unfolding placesOf
+places-is n h = go (ltb n 10) (ltb n 100) (ltb n 1000) (ltb n 10000) refl refl refl refl
+  where
+    go : (a b c d : Bool) → ltb n 10 ≡ a → ltb n 100 ≡ b → ltb n 1000 ≡ c → ltb n 10000 ≡ d
+        → Places n (if a then 1 else if b then 2 else if c then 3 else if d then 4 else 5)
+    go true b c d p q r s = record { some = omega arith; few = omega arith; holds = omega (arith, ltb-true n 10 p); needed = λ e. omega arith }
+    go false true c d p q r s = record { some = omega arith; few = omega arith; holds = omega (arith, ltb-true n 100 q); needed = λ e. omega (arith, ltb-false n 10 p) }
+    go false false true d p q r s = record { some = omega arith; few = omega arith; holds = omega (arith, ltb-true n 1000 r); needed = λ e. omega (arith, ltb-false n 100 q) }
+    go false false false true p q r s = record { some = omega arith; few = omega arith; holds = omega (arith, ltb-true n 10000 s); needed = λ e. omega (arith, ltb-false n 1000 r) }
+    go false false false false p q r s = record { some = omega arith; few = omega arith; holds = omega arith; needed = λ e. omega (arith, ltb-false n 10000 s) }
+
+pub fewest-is : (n : ℕ) → n < 100000 → Fewest 10 1 n (placesOf n)
+fewest-is n h = let f = places-is n h in (f .some, f .holds, f .needed)
+
+not-fewer : (n j k : ℕ) → Fewest 10 1 n j → Fewest 10 1 n k → j < k → ⊥
+not-fewer n j k f g h =
+    let p : 10 ^ (k - 1) ≤ n = g .2 (omega (arith, f .0)) in
+    let q : 10 ^ j ≤ 10 ^ (k - 1) = pow-le-pow-right (omega arith) (omega arith) in
+    omega (arith, f .1)
+
+pub fewest-one : (n j k : ℕ) → Fewest 10 1 n j → Fewest 10 1 n k → j ≡ k
+fewest-one n j k f g = go (decLt j k) (decLt k j)
+  where
+    go : Dec (j < k) → Dec (k < j) → j ≡ k
+    go (yes a) b = absurd (not-fewer n j k f g a)
+    go (no a) (yes b) = absurd (not-fewer n k j g f b)
+    go (no a) (no b) = omega arith
