@@ -164,6 +164,8 @@ pub struct Console {
     pub lent: Option<(usize, usize)>,
     /// Whether lines are printed before they are played. The player does it, not the console.
     pub echo: bool,
+    /// Whether each call prints what it did to the bits of the cells.
+    pub trace: bool,
 }
 
 impl Default for Console {
@@ -190,6 +192,7 @@ impl Console {
             turns: Vec::new(),
             lent: None,
             echo: false,
+            trace: false,
         };
         console.ram(1);
         console
@@ -264,6 +267,7 @@ impl Console {
                 self.cells.clear();
             }
             (b"echo", &[echo]) if echo <= 1 => self.echo = echo == 1,
+            (b"trace", &[trace]) if trace <= 1 => self.trace = trace == 1,
             _ => return false,
         }
         true
@@ -341,8 +345,36 @@ impl Console {
         Ok(())
     }
 
-    /// A call and what it prints. False: it is none, and nothing has changed.
+    /// A call and what it prints, and behind that its trace. False: it is none, and nothing has changed.
     fn call(&mut self, call: &[u8], numbers: &[u32], out: &mut impl Write) -> io::Result<bool> {
+        if !self.trace {
+            return self.untraced_call(call, numbers, out);
+        }
+        // the lent table is that of the call, for a preparation that of its own numbers
+        let head = match (call, numbers) {
+            (b"prepare", &[headers, buckets, next]) => Head {
+                headers,
+                buckets,
+                next,
+            },
+            _ => self.head,
+        };
+        let (words, _) = self.lent(head);
+        let before = self.table[..words].to_vec();
+        if !self.untraced_call(call, numbers, out)? {
+            return Ok(false);
+        }
+        print_trace(&before, &self.table[..words], out)?;
+        Ok(true)
+    }
+
+    /// A call and what it prints. False: it is none, and nothing has changed.
+    fn untraced_call(
+        &mut self,
+        call: &[u8],
+        numbers: &[u32],
+        out: &mut impl Write,
+    ) -> io::Result<bool> {
         if let (b"prepare", &[headers, buckets, first]) = (call, numbers) {
             self.prepare(headers, buckets, first, out)?;
         } else if let (b"crew", &[]) = (call, numbers) {
@@ -547,13 +579,31 @@ fn cell_character(cell: &[u32], next: u32) -> char {
     }
 }
 
+/// "for each cell of the lent table whose bit word is another than before the call, in rising order, `step 1 CELL 0` if
+/// it is now 1 and `step 2 CELL 0` if not; if there is none, `step 0 0 0`". Whole cells only.
+fn print_trace(before: &[u32], after: &[u32], out: &mut impl Write) -> io::Result<()> {
+    let mut changed = false;
+    let cells = before.chunks_exact(3).zip(after.chunks_exact(3));
+    for (cell, (old, new)) in cells.enumerate() {
+        if new[0] != old[0] {
+            changed = true;
+            let kind = if new[0] == 1 { 1 } else { 2 };
+            writeln!(out, "step {kind} {cell} 0")?;
+        }
+    }
+    if !changed {
+        writeln!(out, "step 0 0 0")?;
+    }
+    Ok(())
+}
+
 fn replace(list: &mut Vec<u32>, numbers: &[u32]) {
     list.clear();
     list.extend_from_slice(numbers);
 }
 
 /// Decimal, from 0 to 4,294,967,295, without sign or leading zeros.
-fn number(word: &[u8]) -> Option<u32> {
+pub fn number(word: &[u8]) -> Option<u32> {
     if word.is_empty() || (word[0] == b'0' && word.len() > 1) {
         return None;
     }
@@ -586,6 +636,7 @@ crewless: no members
 show: the head, the cells that are not all 0, the health that is not 0
 map: a character for each cell
 echo 1, echo 0: print each line before it is played, or do not
+trace 1, trace 0: each call prints what it did to the bits of the cells, or does not
 help: this list
 prepare H B FIRST
 try_acquire CELL

@@ -2,7 +2,8 @@
 //! not of the language goes to standard error.
 
 use plain::console::{self, Lost};
-use std::io::{self, BufWriter, Write};
+use plain::filter::say;
+use std::io::{self, BufWriter};
 
 fn main() {
     let mut input = io::stdin().lock();
@@ -11,18 +12,14 @@ fn main() {
     match end.lost {
         Some(Lost::Output) => {
             // the player stops here
-            say("output lost");
+            say("player", "output lost");
             return;
         }
-        Some(Lost::Input) => say("input lost"),
+        Some(Lost::Input) => say("player", "input lost"),
         None => {}
     }
     if end.not_understood > 0 {
-        say(&format!("{} lines not understood", end.not_understood));
+        let message = format!("{} lines not understood", end.not_understood);
+        say("player", &message);
     }
-}
-
-/// A message that is not of the language. If standard error is lost too, nobody is left to tell.
-fn say(message: &str) {
-    let _ = writeln!(io::stderr(), "player: {message}");
 }

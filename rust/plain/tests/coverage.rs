@@ -1,5 +1,5 @@
-//! The random histories reach every call, and with every call each answer that it can give; and echo and map in all
-//! their cases.
+//! The random histories reach every call, and with every call each answer that it can give; and echo, map and
+//! trace in all their cases.
 
 use plain::console::{Console, Line};
 use plain::rules;
@@ -188,4 +188,64 @@ fn every_case_of_map_and_echo() {
         .flat_map(|kind| [format!("{kind} while 0"), format!("{kind} while 1")])
         .collect();
     assert_eq!(echoes, expected);
+}
+
+/// What each call can do to bits: kinds of `step` lines that its trace can have. Behind the kind `+` if there can be
+/// several.
+const STEPS: [(&str, &str); 18] = [
+    ("prepare", "0 2 2+"),
+    ("try_acquire", "0 1"),
+    ("drop_lease", "0 2"),
+    ("read_permission", "0"),
+    ("competing_acquire_is_excluded", "0"),
+    ("release_then_handoff", "0 2"),
+    ("foreign_release_between_attempts", "0 2"),
+    ("acquire_preserving_borrows", "0 1"),
+    ("drop_preserving_borrows", "0 2"),
+    ("environment", "0 1 1+ 2 2+"),
+    ("environment_for_borrows", "0 1 1+ 2 2+"),
+    ("try_lock", "0 1 1+ 2 2+"),
+    ("other_mutex_preserves_leases", "0 1 1+ 2 2+"),
+    ("transactional_try_lock_bucket", "0 1 1+ 2 2+"),
+    ("acquire_index_bucket", "0 1 1+ 2 2+"),
+    ("release_all", "0 1 1+ 2 2+"),
+    ("acquire_index_locks", "0 1 1+ 2 2+"),
+    ("crew", "0 1 1+"),
+];
+
+#[test]
+fn every_case_of_trace() {
+    let mut seen: BTreeMap<String, BTreeSet<String>> = BTreeMap::new();
+    let mut lines = BTreeSet::new();
+    for seed in 1..=6 {
+        let mut console = Console::new();
+        for line in history(seed).split(|&byte| byte == b'\n') {
+            let (before, mut out) = (console.trace, Vec::new());
+            let kind = console
+                .line(line, &mut out)
+                .expect("a vector takes every byte");
+            let out = String::from_utf8_lossy(&out).into_owned();
+            let steps: Vec<&str> = out
+                .lines()
+                .filter_map(|line| line.strip_prefix("step "))
+                .collect();
+            assert_eq!(steps.is_empty(), !before || kind != Line::Call);
+            let word = line.split(|&byte| byte == b' ').next().unwrap_or_default();
+            let word = String::from_utf8_lossy(word).into_owned();
+            if word == "trace" {
+                lines.insert(format!("{kind:?} while {}", u32::from(before)));
+            }
+            for step in &steps {
+                let several = if steps.len() > 1 { "+" } else { "" };
+                let kind = format!("{}{several}", &step[..1]);
+                seen.entry(word.clone()).or_default().insert(kind);
+            }
+        }
+    }
+    for (call, kinds) in STEPS {
+        let expected: BTreeSet<String> = kinds.split(' ').map(String::from).collect();
+        assert_eq!(seen.get(call), Some(&expected), "{call}");
+    }
+    assert_eq!(seen.len(), STEPS.len());
+    assert_eq!(lines.len(), 4, "{lines:?}");
 }

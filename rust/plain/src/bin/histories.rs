@@ -5,6 +5,7 @@
 //! is in use, and keep the calls with 4,096 attempts few.
 
 use plain::console::{self, Console, Line};
+use plain::dice::Dice;
 use plain::rules;
 use std::io::{self, Write};
 
@@ -47,7 +48,7 @@ const CALLS: [(&str, usize); 18] = [
 ];
 
 /// Lines that are not understood.
-const BAD_LINES: [&str; 76] = [
+const BAD_LINES: [&str; 80] = [
     " ",
     "\t",
     "\r",
@@ -124,44 +125,11 @@ const BAD_LINES: [&str; 76] = [
     "map ",
     "maps",
     "help 1",
+    "trace",
+    "trace 2",
+    "trace 01",
+    "trace 1 0",
 ];
-
-/// splitmix64.
-struct Dice(u64);
-
-impl Dice {
-    fn roll(&mut self) -> u64 {
-        self.0 = self.0.wrapping_add(0x9e37_79b9_7f4a_7c15);
-        let mut z = self.0;
-        z = (z ^ (z >> 30)).wrapping_mul(0xbf58_476d_1ce4_e5b9);
-        z = (z ^ (z >> 27)).wrapping_mul(0x94d0_49bb_1331_11eb);
-        z ^ (z >> 31)
-    }
-
-    /// From 0 to `bound` - 1; 0 where the bound is 0.
-    fn below(&mut self, bound: usize) -> usize {
-        (self.roll() % bound.max(1) as u64) as usize
-    }
-
-    fn number(&mut self, bound: u32) -> u32 {
-        self.below(bound as usize) as u32
-    }
-
-    /// True once in `turns`.
-    fn once_in(&mut self, turns: usize) -> bool {
-        self.below(turns) == 0
-    }
-
-    fn pick<T: Copy>(&mut self, list: &[T]) -> T {
-        list[self.below(list.len())]
-    }
-
-    /// A number at an edge, or any.
-    fn odd_number(&mut self) -> u32 {
-        let any = self.roll() as u32;
-        self.pick(&[0, 1, 2, 63, 64, 65, 1024, 4096, u32::MAX - 1, u32::MAX, any])
-    }
-}
 
 struct Writer {
     dice: Dice,
@@ -273,6 +241,12 @@ impl Writer {
     fn echo(&mut self) {
         let echo = self.dice.once_in(3);
         self.write("echo", &[u32::from(echo)]);
+    }
+
+    /// Trace on or off, or said again as it is.
+    fn trace(&mut self) {
+        let trace = self.dice.once_in(2);
+        self.write("trace", &[u32::from(trace)]);
     }
 
     // ---- What the arena has
@@ -1008,6 +982,7 @@ impl Writer {
             18 => self.comment(),
             19..=20 => self.faults(),
             21 => self.echo(),
+            22 => self.trace(),
             _ => {}
         }
         self.call();

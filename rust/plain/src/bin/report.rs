@@ -1,0 +1,7 @@
+//! Document 02, L12: reads acquisition trials from standard input and prints the acceptance report.
+
+use plain::{filter, report};
+
+fn main() {
+    filter::run("report", report::LONGEST, report::report);
+}
