@@ -47,10 +47,7 @@ if [ -z "${PLAYER:-}" ]; then
     command -v rt >/dev/null || { [ "$(uname -m)" = x86_64 ] && ! player_is_old; } ||
         fail "rt is not on the path: install the Rattle kit (README.md, \"What a machine needs\"), then run this again"
     if player_is_old; then
-        began=$(mktemp)
-        bash tests/prove.sh check player >&2 || fail "the console could not be built"
-        touch -r "$began" target/bin/player
-        rm -f "$began"
+        build_program player >&2 || fail "the console could not be built"
     fi
 fi
 need_player
