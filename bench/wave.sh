@@ -6,18 +6,18 @@ usage() {
     cat <<'TEXT'
 usage: bash bench/wave.sh CASES N
 
-Plays the lines of the case file CASES through the bench console, with `trace 1` before them, and writes the waveform of the
-first N cells (1 to 94) to standard output: a value change dump (IEEE 1364), for a viewer such as GTKWave. A call is one step for
-each bit that it changed, or one step if it changed none; a step is one nanosecond.
+Plays the lines of the case file CASES through the bench console, with `trace 1` before them, and writes the waveform
+of the first N cells (1 to 94) to standard output: a value change dump (IEEE 1364), for a viewer such as GTKWave. A
+call is one step for each bit that it changed, or one step if it changed none; a step is one nanosecond.
 
     bash bench/wave.sh bench/skid-day.txt 12 >skid-day.vcd
     gtkwave skid-day.vcd
 
-Console and writer are built from proved code. The first time, and when a source has changed, they are proved and built, which
-takes some minutes; a line is printed for each layer.
+Console and writer are built from proved code. The first time, and when a source has changed, they are proved and built,
+which takes some minutes; a line is printed for each layer.
 
-status: 0 all is well; 1 some lines were not understood, and the waveform is that of the others; 2 something was lost or is
-missing (output, the file, `rt`), or there is no such waveform: nothing is written
+status: 0 all is well; 1 some lines were not understood, and the waveform is that of the others; 2 something was lost or
+is missing (output, the file, `rt`), or there is no such waveform, and then nothing is written
 
 docs/WAVE.md has more.
 TEXT

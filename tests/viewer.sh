@@ -2,8 +2,8 @@
 # A dump in an independent viewer: GTKWave's own reader of value change dumps, without a screen. `vcd2fst` reads the
 # dump into the viewer's format, and `fst2vcd` tells what the viewer holds then: its names and transitions must be those
 # of the history. For document 02's example, random histories and the largest history; and for the day on the skid, as
-# bench/wave.sh writes it, with the steps that the plain program tells. Then bench/wave.sh's status and messages. Ends with 1 if
-# anything differs.
+# bench/wave.sh writes it, with the steps that the plain program tells. Then bench/wave.sh's status and messages.
+# Ends with 1 if anything differs.
 set -euo pipefail
 cd "$(dirname "$0")/.."
 . tests/lib.sh
@@ -72,7 +72,7 @@ done
 { echo 12; plain "$room/day" | sed -n 's/^step //p'; } >"$room/history"
 bash bench/wave.sh bench/skid-day.txt 12 >"$room/dump.vcd" || { echo "bench/wave.sh ended with status $?"; exit 1; }
 compare 'the day on the skid'
-[ "$(wc -l <"$room/seen")" -gt 40 ] || { echo "the day on the skid has only $(wc -l <"$room/seen") values and transitions"; exit 1; }
+[ "$(wc -l <"$room/seen")" -gt 40 ] || { echo "the day on the skid has only $(wc -l <"$room/seen") values"; exit 1; }
 [ "$viewed" -gt 10 ] || { echo "only $viewed dumps were viewed"; exit 1; }
 
 # ---- bench/wave.sh
