@@ -44,13 +44,10 @@ cd "$(dirname "$0")/.."
 . tests/lib.sh
 
 if [ -z "${PLAYER:-}" ]; then
-    command -v rt >/dev/null || { [ "$(uname -m)" = x86_64 ] && ! player_is_old; } ||
+    command -v rt >/dev/null || { [ "$(uname -m)" = x86_64 ] && ! program_is_old player; } ||
         fail "rt is not on the path: install the Rattle kit (README.md, \"What a machine needs\"), then run this again"
-    if player_is_old; then
-        began=$(mktemp)
-        bash tests/prove.sh check player >&2 || fail "the console could not be built"
-        touch -r "$began" target/bin/player
-        rm -f "$began"
+    if program_is_old player; then
+        build_program player >&2 || fail "the console could not be built"
     fi
 fi
 need_player

@@ -38,11 +38,20 @@ crates_of() {
         }' crates.txt
 }
 
-# player_is_old: whether there is no player, or a source that it is made of is newer.
-player_is_old() {
-    [ -e target/bin/player ] || return 0
-    [ -n "$(find crates.txt $(crates_of player | sed 's,^,crates/,') -newer target/bin/player \
+# program_is_old NAME: whether there is no such program in target/bin, or a source that it is made of is newer.
+program_is_old() {
+    [ -e "target/bin/$1" ] || return 0
+    [ -n "$(find crates.txt $(crates_of "$1" | sed 's,^,crates/,') -newer "target/bin/$1" \
         \( -name '*.rt' -o -name '*.antt' -o -name crates.txt \) -print -quit)" ]
+}
+
+# build_program NAME: proves and builds it. A source that changes meanwhile is newer than what was built.
+build_program() {
+    local began
+    began=$(mktemp)
+    bash tests/prove.sh check "$1" || { rm -f "$began"; return 1; }
+    touch -r "$began" "target/bin/$1"
+    rm -f "$began"
 }
 
 # program NAME: a program of target/bin on this standard input. It is an x86-64 program; on another machine it runs as the kit runs

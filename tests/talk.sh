@@ -85,7 +85,7 @@ prints 'map of the largest arenas' ''
 echo help >"$input"
 play "$input" >"$room/out"
 tried=$((tried + 1))
-for word in ram lend head word byte registry held keys leases turns script place grants member crewless show echo map help prepare \
+for word in ram lend head word byte registry held keys leases turns script place grants member crewless show echo map trace help prepare \
     try_acquire drop_lease read_permission competing_acquire_is_excluded release_then_handoff foreign_release_between_attempts \
     acquire_preserving_borrows drop_preserving_borrows environment environment_for_borrows try_lock other_mutex_preserves_leases \
     transactional_try_lock_bucket acquire_index_bucket release_all acquire_index_locks crew; do

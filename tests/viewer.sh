@@ -1,7 +1,9 @@
 #!/usr/bin/env bash
 # A dump in an independent viewer: GTKWave's own reader of value change dumps, without a screen. `vcd2fst` reads the
 # dump into the viewer's format, and `fst2vcd` tells what the viewer holds then: its names and transitions must be those
-# of the history. For document 02's example, random histories and the largest history. Ends with 1 if anything differs.
+# of the history. For document 02's example, random histories and the largest history; and for the day on the skid, as
+# bench/wave.sh writes it, with the steps that the plain program tells. Then bench/wave.sh's status and messages.
+# Ends with 1 if anything differs.
 set -euo pipefail
 cd "$(dirname "$0")/.."
 . tests/lib.sh
@@ -30,13 +32,18 @@ of_viewer() {
 }
 
 viewed=0 seen=0
-# view NAME: the history $room/history
+# view NAME: the history $room/history, through `dump`
 view() {
     program dump <"$room/history" >"$room/dump.vcd"
     case $(head -n 1 "$room/dump.vcd") in
         '$timescale'*) ;;
         *) return ;;
     esac
+    compare "$1"
+}
+
+# compare NAME: the dump $room/dump.vcd in the viewer, with the history $room/history
+compare() {
     (cd "$room" && vcd2fst dump.vcd dump.fst >vcd2fst.out 2>&1 && fst2vcd dump.fst >seen.vcd) || {
         echo "$1: the viewer does not read the dump"
         cat "$room/vcd2fst.out"
@@ -61,5 +68,40 @@ for ((i = 0; i < 40; i++)); do
     target/rust/release/waves history $((20261115 + i)) >"$room/history"
     view "history $((20261115 + i))"
 done
+{ echo 'trace 1'; cat bench/skid-day.txt; } >"$room/day"
+{ echo 12; plain "$room/day" | sed -n 's/^step //p'; } >"$room/history"
+bash bench/wave.sh bench/skid-day.txt 12 >"$room/dump.vcd" || { echo "bench/wave.sh ended with status $?"; exit 1; }
+compare 'the day on the skid'
+[ "$(wc -l <"$room/seen")" -gt 40 ] || { echo "the day on the skid has only $(wc -l <"$room/seen") values"; exit 1; }
 [ "$viewed" -gt 10 ] || { echo "only $viewed dumps were viewed"; exit 1; }
+
+# ---- bench/wave.sh
+
+# status WANTED WORDS..: bench/wave.sh with these words ends so; with 2 it writes nothing and says why
+status() {
+    local wanted=$1 got=0
+    shift
+    bash bench/wave.sh "$@" >"$room/out" 2>"$room/said" || got=$?
+    [ "$got" = "$wanted" ] || { echo "bench/wave.sh $*: status $got, not $wanted"; exit 1; }
+    [ "$got" != 2 ] || { [ ! -s "$room/out" ] && grep -q '^wave.sh: ' "$room/said"; } || {
+        echo "bench/wave.sh $*: status 2, and it wrote something or did not say why"
+        exit 1
+    }
+}
+
+status 0 --help
+status 2
+status 2 bench/skid-day.txt
+status 2 --cells 2
+status 2 "$room/none" 2
+status 2 "$room" 2
+for cells in 0 95 02 -1 x ''; do status 2 bench/skid-day.txt "$cells"; done
+# a line that is not understood, and a last line without its line feed; step 3 is the take
+printf 'prepare 1 2 1\nx\ntry_acquire 1' >"$room/cases"
+status 1 "$room/cases" 2
+[ "$(tail -n 2 "$room/out")" = $'#3\n1"' ] || { echo 'bench/wave.sh: not the take of cell 1 at step 3'; exit 1; }
+awk 'BEGIN { for (i = 0; i < 32768; i++) print "environment" }' >"$room/cases"
+status 0 "$room/cases" 1
+echo environment >>"$room/cases"
+status 2 "$room/cases" 1
 echo "viewer: $viewed dumps, $seen values and transitions, as in the histories"

@@ -3,9 +3,11 @@
 use answer::Answered;
 use answer::quiet;
 use desk::Desk;
+use desk::HEALTH;
 use desk::verbs::Verb;
 use desk::verbs::fits;
 use desk::verbs::verb_of;
+use desk::within_bytes;
 use text::Numbers;
 
 // The n-th line was not understood.
@@ -17,6 +19,110 @@ fn puzzled(n: usize, desk: Desk, out: &mut [u8], used: usize) -> Answered {
     }
 }
 
+// What a line changes before anything is printed. The health bytes are the first of the bytes.
+fn set_up(
+    desk: Desk,
+    verb: Verb,
+    got: Numbers,
+    line: &[u8],
+    at: usize,
+    table: &mut [u32],
+    bytes: &mut [u8],
+    lists: &mut [u32],
+    grants: &mut [u32],
+) -> Desk {
+    let h = within_bytes(HEALTH, bytes);
+    setup::change(
+        desk,
+        verb,
+        got,
+        line,
+        at,
+        table,
+        &mut bytes[..h],
+        lists,
+        grants,
+    )
+}
+
+// What it prints, but for the steps.
+fn say_answer(
+    desk: Desk,
+    verb: Verb,
+    got: Numbers,
+    table: &mut [u32],
+    bytes: &mut [u8],
+    lists: &[u32],
+    grants: &mut [u32],
+    out: &mut [u8],
+    used: usize,
+) -> Answered {
+    let h = within_bytes(HEALTH, bytes);
+    answer::answer(
+        desk,
+        verb,
+        got,
+        table,
+        &mut bytes[..h],
+        lists,
+        grants,
+        out,
+        used,
+    )
+}
+
+// Before a call that is traced: its bits are kept, in the bytes behind health.
+fn keep_bits(desk: Desk, verb: Verb, got: Numbers, table: &[u32], bytes: &mut [u8]) {
+    let h = within_bytes(HEALTH, bytes);
+    trace::keep(desk, verb, got, table, &mut bytes[h..]);
+}
+
+// Behind what such a call printed: its steps.
+fn say_steps(
+    desk: Desk,
+    verb: Verb,
+    got: Numbers,
+    table: &[u32],
+    bytes: &[u8],
+    out: &mut [u8],
+    used: usize,
+) -> usize {
+    let h = within_bytes(HEALTH, bytes);
+    trace::steps(desk, verb, got, table, &bytes[h..], out, used)
+}
+
+// All that it prints. The steps are those of the table that the desk before it lends.
+fn say_all(
+    desk: Desk,
+    verb: Verb,
+    got: Numbers,
+    table: &mut [u32],
+    bytes: &mut [u8],
+    lists: &[u32],
+    grants: &mut [u32],
+    out: &mut [u8],
+    used: usize,
+) -> Answered {
+    let said = say_answer(desk, verb, got, table, bytes, lists, grants, out, used);
+    let n = say_steps(desk, verb, got, table, bytes, out, said.used);
+    quiet(said.desk, n)
+}
+
+fn perform(
+    desk: Desk,
+    verb: Verb,
+    got: Numbers,
+    table: &mut [u32],
+    bytes: &mut [u8],
+    lists: &[u32],
+    grants: &mut [u32],
+    out: &mut [u8],
+    used: usize,
+) -> Answered {
+    keep_bits(desk, verb, got, table, bytes);
+    say_all(desk, verb, got, table, bytes, lists, grants, out, used)
+}
+
 // A line that is understood.
 fn obey(
     desk: Desk,
@@ -25,14 +131,14 @@ fn obey(
     line: &[u8],
     at: usize,
     table: &mut [u32],
-    health: &mut [u8],
+    bytes: &mut [u8],
     lists: &mut [u32],
     grants: &mut [u32],
     out: &mut [u8],
     used: usize,
 ) -> Answered {
-    let after = setup::change(desk, verb, got, line, at, table, health, lists, grants);
-    answer::answer(after, verb, got, table, health, lists, grants, out, used)
+    let ready = set_up(desk, verb, got, line, at, table, bytes, lists, grants);
+    perform(ready, verb, got, table, bytes, lists, grants, out, used)
 }
 
 // A line that is neither empty nor a comment, the n-th.
@@ -41,7 +147,7 @@ fn act(
     desk: Desk,
     line: &[u8],
     table: &mut [u32],
-    health: &mut [u8],
+    bytes: &mut [u8],
     lists: &mut [u32],
     grants: &mut [u32],
     out: &mut [u8],
@@ -59,7 +165,7 @@ fn act(
                 line,
                 at,
                 table,
-                health,
+                bytes,
                 lists,
                 grants,
                 out,
@@ -94,7 +200,7 @@ pub fn play_line(
     desk: Desk,
     line: &[u8],
     table: &mut [u32],
-    health: &mut [u8],
+    bytes: &mut [u8],
     lists: &mut [u32],
     grants: &mut [u32],
     out: &mut [u8],
@@ -107,5 +213,5 @@ pub fn play_line(
         return quiet(desk, used);
     }
     let at = echoed(desk.echo, line, out, used);
-    act(n, desk, line, table, health, lists, grants, out, at)
+    act(n, desk, line, table, bytes, lists, grants, out, at)
 }

@@ -11,6 +11,8 @@ pub struct Desk {
     pub place: usize,
     // Whether lines are printed before their answers.
     pub echo: bool,
+    // Whether each call prints what it did to the bits of the cells.
+    pub trace: bool,
     // Whether `lend T G` is in force, and its two numbers.
     pub fixed: bool,
     pub words: usize,
@@ -119,6 +121,9 @@ pub fn within_bytes(n: usize, run: &[u8]) -> usize
     run.len()
 }
 
+// All bytes lie in one run of 4,270: 70 of health, and behind them one for each cell, for `trace`.
+pub const HEALTH: usize = 70;
+
 // 3·H·B, the true product, or a number that is more than there is.
 // A step of the console, no call of document 01: only its own crates call it.
 pub fn words_of(headers: u32, buckets: u32) -> usize {
@@ -140,6 +145,7 @@ pub fn first_desk() -> Desk {
         },
         place: 0,
         echo: false,
+        trace: false,
         fixed: false,
         words: 0,
         bytes: 0,
@@ -192,6 +198,12 @@ impl Desk {
     // A step of the console, no call of document 01: only its own crates call it.
     pub fn with_echo(mut self, echo: bool) -> Desk {
         self.echo = echo;
+        self
+    }
+
+    // A step of the console, no call of document 01: only its own crates call it.
+    pub fn with_trace(mut self, trace: bool) -> Desk {
+        self.trace = trace;
         self
     }
 

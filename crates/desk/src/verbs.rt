@@ -18,6 +18,7 @@ pub enum Verb {
     Show,
     Map,
     Echo,
+    Trace,
     Help,
     List(List),
     Prepare,
@@ -100,6 +101,9 @@ fn talk_verb(word: &[u8]) -> Verb {
     }
     if text::same(word, b"echo") {
         return Verb::Echo;
+    }
+    if text::same(word, b"trace") {
+        return Verb::Trace;
     }
     if text::same(word, b"help") {
         return Verb::Help;
@@ -249,8 +253,8 @@ fn byte_fits(got: Numbers) -> bool {
     false
 }
 
-// `echo` takes 0 or 1.
-fn echo_fits(got: Numbers) -> bool {
+// `echo` and `trace` take 0 or 1.
+fn switch_fits(got: Numbers) -> bool {
     if got.count == 1 {
         return got.a <= 1;
     }
@@ -287,12 +291,25 @@ pub fn fits(desk: Desk, verb: Verb, got: Numbers) -> bool {
         Verb::Crewless => got.count == 0,
         Verb::Show => got.count == 0,
         Verb::Map => got.count == 0,
-        Verb::Echo => echo_fits(got),
+        Verb::Echo => switch_fits(got),
+        Verb::Trace => switch_fits(got),
         Verb::Help => got.count == 0,
         Verb::List(list) => got.count <= room_of(list),
         Verb::Prepare => got.count == 3,
         Verb::Small(call) => got.count == small_wants(call),
         Verb::Scripted(call) => got.count == scripted_wants(call),
         Verb::Crew => got.count == 0,
+    }
+}
+
+// Whether a line with this first word makes a call.
+// A step of the console, no call of document 01: only its own crates call it.
+pub fn calls(verb: Verb) -> bool {
+    match verb {
+        Verb::Prepare => true,
+        Verb::Small(_) => true,
+        Verb::Scripted(_) => true,
+        Verb::Crew => true,
+        _ => false,
     }
 }

@@ -7,6 +7,7 @@ fn talk_lines(out: &mut [u8], used: usize) -> usize {
         used,
         b"help: this list\n\
         echo N: 1: print each line before its answer; 0: no longer\n\
+        trace N: 1: each call prints the bits that it changed, as steps; 0: no longer\n\
         map: each cell: . free, # held, ! damaged; with waiters w free, W held\n\
         show: the head, and each cell and health byte that is not 0\n",
     )

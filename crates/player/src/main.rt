@@ -1,5 +1,6 @@
 // The bench console. It reads its input in roomfuls, plays each line when its line feed has come, and writes what
 // the calls answered before it reads again. docs/CONSOLE.md has the language.
+use desk::HEALTH;
 use room::Course;
 use room::after_read;
 use room::at_its_end;
@@ -27,14 +28,20 @@ fn with_lists(input: &mut [u8]) {
     with_ram(input, &mut lists);
 }
 
-// The player's own RAM, a grant buffer, and a room for output.
+// The player starts as after `ram 1`.
+fn rubbish(table: &mut [u32], bytes: &mut [u8]) {
+    let h = desk::within_bytes(HEALTH, bytes);
+    setup::fill(1, table, &mut bytes[..h]);
+}
+
+// The player's own RAM and a byte for each of its cells, a grant buffer, and a room for output.
 fn with_ram(input: &mut [u8], lists: &mut [u32]) {
     let mut table = [0u32; 12600];
-    let mut health = [0u8; 70];
+    let mut bytes = [0u8; 4270];
     let mut grants = [0u32; 300];
     let mut out = [0u8; 16384];
-    setup::fill(1, &mut table, &mut health);
-    converse(input, &mut table, &mut health, lists, &mut grants, &mut out);
+    rubbish(&mut table, &mut bytes);
+    converse(input, &mut table, &mut bytes, lists, &mut grants, &mut out);
 }
 
 // ---- one read
@@ -50,7 +57,7 @@ fn listen(
     talk: Talk,
     input: &mut [u8],
     table: &mut [u32],
-    health: &mut [u8],
+    bytes: &mut [u8],
     lists: &mut [u32],
     grants: &mut [u32],
     out: &mut [u8],
@@ -62,7 +69,7 @@ fn listen(
     }
     let piece = clear.piece;
     let got = read_behind(input, piece.held);
-    after_read(clear, got, input, table, health, lists, grants, out)
+    after_read(clear, got, input, table, bytes, lists, grants, out)
 }
 
 // ---- the whole talk
@@ -82,7 +89,7 @@ fn turns_left(goes_on: bool, turns: u64) -> u64
 fn converse(
     input: &mut [u8],
     table: &mut [u32],
-    health: &mut [u8],
+    bytes: &mut [u8],
     lists: &mut [u32],
     grants: &mut [u32],
     out: &mut [u8],
@@ -90,7 +97,7 @@ fn converse(
     let mut now = going_on(talk::begin());
     let mut turns: u64 = 18446744073709551615;
     while 0 < turns {
-        now = listen(now.talk, input, table, health, lists, grants, out);
+        now = listen(now.talk, input, table, bytes, lists, grants, out);
         turns = turns_left(now.goes_on, turns);
     }
     farewell(now, out);

@@ -95,22 +95,13 @@ fn play_lines(
     held: usize,
     n: usize,
     table: &mut [u32],
-    health: &mut [u8],
+    bytes: &mut [u8],
     lists: &mut [u32],
     grants: &mut [u32],
     out: &mut [u8],
 ) -> Heard {
     let most = desk::within_bytes(n, input);
-    talk::play(
-        talk,
-        &input[..most],
-        held,
-        table,
-        health,
-        lists,
-        grants,
-        out,
-    )
+    talk::play(talk, &input[..most], held, table, bytes, lists, grants, out)
 }
 
 // A read has answered: -1 where it failed, 0 at the end of input, else how many bytes it put behind those that are
@@ -121,7 +112,7 @@ pub fn after_read(
     got: isize,
     input: &mut [u8],
     table: &mut [u32],
-    health: &mut [u8],
+    bytes: &mut [u8],
     lists: &mut [u32],
     grants: &mut [u32],
     out: &mut [u8],
@@ -133,7 +124,7 @@ pub fn after_read(
     let held = desk::within_bytes(piece.held, input);
     let fresh = io::count(got, &input[held..]);
     let n = filled(talk, held, fresh, input);
-    let heard = play_lines(talk, input, held, n, table, health, lists, grants, out);
+    let heard = play_lines(talk, input, held, n, table, bytes, lists, grants, out);
     let after = heard.talk;
     let kept = keep(after, input, heard.at, n);
     Course {

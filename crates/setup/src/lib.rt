@@ -136,6 +136,7 @@ pub fn change(
         Verb::Head => head(desk, got),
         Verb::Place => desk.with_place(got.a as usize),
         Verb::Echo => desk.with_echo(got.a == 1),
+        Verb::Trace => desk.with_trace(got.a == 1),
         Verb::Crewless => desk.with_members(0, 0),
         _ => desk,
     }

@@ -81,7 +81,7 @@ pub fn end_line(
     talk: Talk,
     line: &[u8],
     table: &mut [u32],
-    health: &mut [u8],
+    bytes: &mut [u8],
     lists: &mut [u32],
     grants: &mut [u32],
     out: &mut [u8],
@@ -95,7 +95,7 @@ pub fn end_line(
         talk.desk,
         line,
         table,
-        health,
+        bytes,
         lists,
         grants,
         out,
@@ -111,7 +111,7 @@ pub fn play(
     input: &[u8],
     seen: usize,
     table: &mut [u32],
-    health: &mut [u8],
+    bytes: &mut [u8],
     lists: &mut [u32],
     grants: &mut [u32],
     out: &mut [u8],
@@ -127,7 +127,7 @@ pub fn play(
             return Heard { talk: now, at };
         }
         let next = end + 1;
-        now = end_line(now, &input[at..end], table, health, lists, grants, out);
+        now = end_line(now, &input[at..end], table, bytes, lists, grants, out);
         at = next;
         from = next;
         if output::lost(out, now.used) {
