@@ -1,0 +1,47 @@
+#!/usr/bin/env bash
+# Which crate may name which (CONTRIBUTING.md), held to crates.txt. The step crates have functions that ask something of their callers
+# (`requires`); only the crates listed here may name them, so a reader knows where every such call is. Exported calls ask nothing: C and
+# Rust callers prove nothing. Ends with 1 and says what is wrong.
+set -euo pipefail
+cd "$(dirname "$0")/.."
+
+base='model laws'
+theory='history exact progress upstream builds swaps'
+steps='arena lease foreign lock bucket multilock crew'
+callers="$steps records skid ask map" # the calls themselves, and the faces that make them
+exports=skid
+
+wrong=0
+complain() {
+    echo "$1"
+    wrong=1
+}
+# among NAME LIST: whether it is one of them
+among() {
+    case " $2 " in *" $1 "*) ;; *) return 1 ;; esac
+}
+
+crates=0
+while IFS=: read -r name needs; do
+    crates=$((crates + 1))
+    for needed in $needs; do
+        if among "$name" "$base $theory"; then
+            among "$needed" "$base $theory" || complain "$name names $needed: theory names theory, model and laws"
+        elif among "$name" "$steps"; then
+            among "$needed" "$base $steps" || complain "$name names $needed: the calls name calls, model and laws"
+        else
+            ! among "$needed" "$theory" || complain "$name names $needed: a face names no theory"
+        fi
+        ! among "$needed" "$steps" || among "$name" "$callers" || complain "$name names $needed, whose steps ask something of their callers"
+    done
+done < <(grep -v '^#' crates.txt | grep .)
+
+for name in $base $theory $callers; do
+    grep -q "^$name:" crates.txt || complain "tests/layers.sh lists $name, which is no crate"
+done
+for file in crates/"$exports"/src/*.rt; do
+    ! grep -Hn 'requires' "$file" || complain "$file: an exported call has no requires"
+done
+
+[ "$wrong" -ne 0 ] || echo "layers: $crates crates; steps with a requires are named by $(wc -w <<<"$callers") of them, exported calls have none"
+exit "$wrong"
