@@ -21,3 +21,4 @@ pub mod Ending
 pub mod Attempting
 pub mod KeyByKey
 pub mod Boundaries
+pub mod Bits

@@ -15,6 +15,7 @@ use Rattle.exact.specs.Ending as ending
 use Rattle.exact.specs.Attempting as attempting
 use Rattle.exact.specs.KeyByKey as by-key
 use Rattle.exact.specs.Boundaries as bounding
+use Rattle.exact.specs.Bits as bits
 
 -- ---- exactly
 
@@ -88,3 +89,11 @@ bucket-boundaries = bounding.bucket-boundaries
 
 pub locks-boundaries : Locks-boundaries perform
 locks-boundaries = bounding.locks-boundaries
+
+-- ---- what is left in a bit word
+
+pub bits-left : bits.Bits-left perform
+bits-left = bits.bits-left
+
+pub bits-prepared : bits.Bits-prepared
+bits-prepared = bits.bits-prepared
