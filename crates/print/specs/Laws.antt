@@ -40,7 +40,7 @@ pub put-first : (l m : List ℕ) (i j : ℕ) (x y : List ℕ) → (j, m) ≡ put
 put-first l m i j x y e = put-join l m (putOf m j y .1) i j (putOf m j y .0) x y e refl
 
 -- one byte more
-put-more : (l : List ℕ) (i b : ℕ) (x : List ℕ) → putOf (set l i b) (i + 1) x ≡ putOf l i (b ∷ x)
+pub put-more : (l : List ℕ) (i b : ℕ) (x : List ℕ) → putOf (set l i b) (i + 1) x ≡ putOf l i (b ∷ x)
 unfolding putOf
 put-more l i b x = let e : i + 1 + length x ≡ i + suc (length x) = omega arith in rw (e, add-one i)
 
@@ -58,7 +58,7 @@ put-place l m i j x e = ap (λ (o : ℕ × List ℕ). o .0) e
 
 -- ---- numbers
 
-length-digits : (k n : ℕ) → length (digits 10 k n) ≡ k
+pub length-digits : (k n : ℕ) → length (digits 10 k n) ≡ k
 length-digits zero n = refl
 length-digits (suc k) n = omega (arith, length-append (digits 10 k (n / 10)) (glyph (n % 10) ∷ []), length-digits k (n / 10))
 
@@ -108,7 +108,7 @@ not-fewer n j k f g h =
     let q : 10 ^ j ≤ 10 ^ (k - 1) = pow-le-pow-right (omega arith) (omega arith) in
     omega (arith, f .1)
 
-fewest-one : (n j k : ℕ) → Fewest 10 1 n j → Fewest 10 1 n k → j ≡ k
+pub fewest-one : (n j k : ℕ) → Fewest 10 1 n j → Fewest 10 1 n k → j ≡ k
 fewest-one n j k f g = go (decLt j k) (decLt k j)
   where
     go : Dec (j < k) → Dec (k < j) → j ≡ k

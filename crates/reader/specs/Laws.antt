@@ -21,8 +21,9 @@ use Rattle.wave.specs.Stages.{false-not, bad-not, words-count}
 use Rattle.wave.specs.Calls.{answered}
 use Rattle.wave.specs.declared.Undumped.the-variants.{Read, NoRoom}
 use Rattle.stages.specs.Stages.{isLost, isChanging, gapOf}
-use Rattle.writer.specs.Writer.{putOf}
-use Rattle.writer.specs.Laws.{put-none, put-join, put-more, put-size}
+use Rattle.print.specs.Print.{putOf}
+use Rattle.print.specs.Laws.{put-none, put-join, put-more}
+use Rattle.writer.specs.Laws.{put-size}
 
 -- ---- stages
 

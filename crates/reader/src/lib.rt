@@ -17,7 +17,7 @@ ghost use Rattle.wave.specs.Calls.{answered, readIntoOf};
 ghost use Rattle.wave.specs.Stages.{Reach};
 ghost use Rattle.wave.specs.declared.Stage.the-variants.{Opening};
 ghost use Rattle.wave.specs.declared.Verdict.the-variants.{Fine};
-ghost use Rattle.writer.specs.Writer.{putOf};
+ghost use Rattle.print.specs.Print.{putOf};
 ghost use Rattle.stages.specs.Stages.{isLost};
 
 // The first wrong line, or how many cells and steps.

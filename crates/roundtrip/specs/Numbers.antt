@@ -1,58 +1,18 @@
 -- Numbers of the dump: what is printed is read back.
-use Prim.Native.Nat.{ℕ, zero, suc, _+_, _*_, _-_, _/_, _%_, _^_, _≤_, _<_}
+use Prim.Native.Nat.{ℕ, _≤_, _<_}
 use mathlib.Core.Logic.{_≢_}
-use mathlib.Core.Path.{_≡_, refl, ap, _∙_}
-use mathlib.Core.List.{List, [], _∷_, _++_, append-assoc, append-nil}
-use mathlib.Core.Bool.{Bool, true, false, _&&_}
+use mathlib.Core.Path.{_≡_, _∙_}
+use mathlib.Core.List.{[], _++_, append-nil}
+use mathlib.Core.Bool.{true, false, _&&_}
 use native.Mathlib.Omega.{arith}
 use lib.Dec.{eqb, ltb}
 use lib.ListN.{getD}
-use borrow.Author.Tests.{ne-eqb, lt-ltb, le-ltb}
+use borrow.Author.Tests.{ne-eqb, le-ltb}
 use Rattle.model.specs.Choice.{if_then_else_}
-use Rattle.io.specs.Digits.{glyph, digits}
-use Rattle.text.specs.Text.{isDigit, digitsIn, valueFrom, noNumber, endedOf, numberOf}
-use Rattle.wave.specs.Decimal.{placesOf, decimalOf, Places, places-is}
-
-pub glyph-is : (d : ℕ) → d < 10 → glyph d ≡ 48 + d
-glyph-is d h = rw (lt-ltb d 10 h)
-
-digit-test : (d : ℕ) → d < 10 → isDigit (48 + d) ≡ true
-unfolding isDigit
-digit-test d h = let p : 48 ≤ 48 + d = omega arith in let q : 48 + d < 58 = omega arith in rw (le-ltb (48 + d) 48 p, lt-ltb (48 + d) 58 q)
-
--- one digit more
-value-digit : (v d : ℕ) (r : List ℕ) → d < 10 → valueFrom v (glyph d ∷ r) ≡ valueFrom (10 * v + d) r
-unfolding valueFrom
-value-digit v d r h =
-    let e : 10 * v + (48 + d - 48) ≡ 10 * v + d = omega arith in
-    rw (glyph-is d h, digit-test d h, e)
-
-count-digit : (d : ℕ) (r : List ℕ) → d < 10 → digitsIn (glyph d ∷ r) ≡ 1 + digitsIn r
-unfolding digitsIn
-count-digit d r h = rw (glyph-is d h, digit-test d h)
-
-pub value-digits : (k n v : ℕ) (r : List ℕ) → n < 10 ^ k
-    → valueFrom v (digits 10 k n ++ r) ≡ valueFrom (10 ^ k * v + n) r
-value-digits zero n v r h = let e : v ≡ 10 ^ 0 * v + n = omega arith in ap (λ (w : ℕ). valueFrom w r) e
-value-digits (suc k) n v r h =
-    let low : n % 10 < 10 = omega arith in
-    let p : 10 ^ suc k ≡ 10 * 10 ^ k = omega arith in
-    let e : 10 * (10 ^ k * v + n / 10) + n % 10 ≡ 10 ^ suc k * v + n = rw p (omega arith) in
-    rw (append-assoc (digits 10 k (n / 10)) (glyph (n % 10) ∷ []) r, value-digits k (n / 10) v (glyph (n % 10) ∷ r) (omega arith), value-digit (10 ^ k * v + n / 10) (n % 10) r low, e)
-
-pub count-digits : (k n : ℕ) (r : List ℕ) → digitsIn (digits 10 k n ++ r) ≡ k + digitsIn r
-count-digits zero n r = let e : digitsIn r ≡ 0 + digitsIn r = omega arith in e
-count-digits (suc k) n r =
-    let low : n % 10 < 10 = omega arith in
-    let e : k + (1 + digitsIn r) ≡ suc k + digitsIn r = omega arith in
-    rw (append-assoc (digits 10 k (n / 10)) (glyph (n % 10) ∷ []) r, count-digits k (n / 10) (glyph (n % 10) ∷ r), count-digit (n % 10) r low, e)
-
-lead : (k n : ℕ) (r : List ℕ) → 10 ^ k ≤ n → n < 10 ^ suc k → getD (digits 10 (suc k) n ++ r) 0 0 ≢ 48
-lead zero n r a b =
-    let low : n % 10 < 10 = omega arith in
-    let e : getD (digits 10 1 n ++ r) 0 0 ≡ 48 + n % 10 = glyph-is (n % 10) low in
-    λ z. omega arith
-lead (suc k) n r a b = rw (append-assoc (digits 10 (suc k) (n / 10)) (glyph (n % 10) ∷ []) r) (lead k (n / 10) (glyph (n % 10) ∷ r) (omega arith) (omega arith))
+use Rattle.io.specs.Digits.{digits}
+use Rattle.text.specs.Text.{digitsIn, valueFrom, noNumber, endedOf, numberOf}
+use Rattle.print.specs.Back.{value-digits, count-digits, unpadded}
+use Rattle.wave.specs.Decimal.{placesOf, decimalOf, Places, places-is, fewest-is}
 
 -- a number is printed so that it is read, whole
 pub number-printed : (n : ℕ) → n < 100000 → numberOf (decimalOf n) ≡ record { fine = true; value = n; digits = placesOf n }
@@ -62,18 +22,8 @@ number-printed n h = go (places-is n h)
     small : n ≤ 4294967295
     small = omega arith
 
-    front : (k : ℕ) → Places n k → (eqb (getD (digits 10 k n) 0 0) 48 && ltb 1 k) ≡ false
-    front zero f = absurd (omega (arith, f .some))
-    front (suc zero) f = last (eqb (getD (digits 10 1 n) 0 0) 48)
-      where
-        last : (b : Bool) → (b && ltb 1 1) ≡ false
-        last true = refl
-        last false = refl
-    front (suc (suc k)) f =
-        let e : digits 10 (suc (suc k)) n ++ [] ≡ digits 10 (suc (suc k)) n = append-nil (digits 10 (suc (suc k)) n) in
-        let q : suc (suc k) - 1 ≡ suc k = omega arith in
-        let d : getD (digits 10 (suc (suc k)) n) 0 0 ≢ 48 = rw (← e) (lead (suc k) n [] (rw q at (f .needed (omega arith))) (f .holds)) in
-        rw (ne-eqb _ _ d)
+    front : (eqb (getD (digits 10 (placesOf n) n) 0 0) 48 && ltb 1 (placesOf n)) ≡ false
+    front = rw (append-nil (digits 10 (placesOf n) n)) at (unpadded (placesOf n) n [] (fewest-is n h))
 
     go : Places n (placesOf n)
         → (if ltb 4294967295 (valueFrom 0 (digits 10 (placesOf n) n)) then noNumber else endedOf (getD (digits 10 (placesOf n) n) 0 0) (digitsIn (digits 10 (placesOf n) n)) (valueFrom 0 (digits 10 (placesOf n) n)))
@@ -83,4 +33,4 @@ number-printed n h = go (places-is n h)
         let v : valueFrom 0 (digits 10 (placesOf n) n) ≡ n = rw e at (value-digits (placesOf n) n 0 [] (f .holds)) ∙ (omega arith) in
         let c : digitsIn (digits 10 (placesOf n) n) ≡ placesOf n = rw e at (count-digits (placesOf n) n []) ∙ (omega arith) in
         let some : placesOf n ≢ 0 = omega (arith, f .some) in
-        rw (v, c, le-ltb _ _ small, ne-eqb _ _ some, front (placesOf n) f)
+        rw (v, c, le-ltb _ _ small, ne-eqb _ _ some, front)

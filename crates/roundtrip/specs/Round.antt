@@ -12,7 +12,8 @@ use Rattle.model.specs.Choice.{if_then_else_}
 use Rattle.io.specs.Digits.{glyph, digits}
 use Rattle.text.specs.declared.Number.{Number}
 use Rattle.wave.specs.Decimal.{decimalOf, placesOf}
-use Rattle.roundtrip.specs.Numbers.{glyph-is, number-printed}
+use Rattle.print.specs.Back.{glyph-is}
+use Rattle.roundtrip.specs.Numbers.{number-printed}
 use Rattle.wave.specs.Lines.{Items, line, same}
 use Rattle.roundtrip.specs.Texts.{itemsOf, plain, allPlain, same-refl, split-joined}
 use Rattle.roundtrip.specs.Bits.{bitsAfter}

@@ -19,7 +19,7 @@ use Rattle.wave.specs.Dump.{turnOf, bitLine}
 use Rattle.wave.specs.Reader.{cellIn, isChange, nextOf, bitsOf}
 use Rattle.wave.specs.Stages.{false-not, Reach}
 use Rattle.stages.specs.Stages.{isLost, isChanging}
-use Rattle.writer.specs.Writer.{putOf}
+use Rattle.print.specs.Print.{putOf}
 
 pub same-short : (x y : List ℕ) → length x ≢ length y → same x y ≡ false
 unfolding same

@@ -4,8 +4,6 @@ use mathlib.Core.Path.{_≡_, refl}
 use mathlib.Core.List.{List}
 use mathlib.Core.Bool.{Bool, true, false}
 use native.Mathlib.Omega.{arith}
-use native.Mathlib.Nat.{pow-le-pow-right}
-use native.Mathlib.Decide.{decLt}
 use lib.Dec.{ltb}
 use borrow.Author.Tests.{ltb-true, ltb-false}
 use Rattle.model.specs.Choice.{if_then_else_}
@@ -41,17 +39,3 @@ places-is n h = go (ltb n 10) (ltb n 100) (ltb n 1000) (ltb n 10000) refl refl r
 
 pub fewest-is : (n : ℕ) → n < 100000 → Fewest 10 1 n (placesOf n)
 fewest-is n h = let f = places-is n h in (f .some, f .holds, f .needed)
-
-not-fewer : (n j k : ℕ) → Fewest 10 1 n j → Fewest 10 1 n k → j < k → ⊥
-not-fewer n j k f g h =
-    let p : 10 ^ (k - 1) ≤ n = g .2 (omega (arith, f .0)) in
-    let q : 10 ^ j ≤ 10 ^ (k - 1) = pow-le-pow-right (omega arith) (omega arith) in
-    omega (arith, f .1)
-
-pub fewest-one : (n j k : ℕ) → Fewest 10 1 n j → Fewest 10 1 n k → j ≡ k
-fewest-one n j k f g = go (decLt j k) (decLt k j)
-  where
-    go : Dec (j < k) → Dec (k < j) → j ≡ k
-    go (yes a) b = absurd (not-fewer n j k f g a)
-    go (no a) (yes b) = absurd (not-fewer n k j g f b)
-    go (no a) (no b) = omega arith

@@ -1,67 +1,25 @@
--- Laws of putting bytes, and of the lengths of lines.
-use Prim.Native.Nat.{ℕ, zero, suc, _+_, _*_, _-_, _/_, _%_, _≤_, _<_}
+-- Laws of lines put into a run, and of their lengths.
+use Prim.Native.Nat.{ℕ, zero, suc, _+_, _*_, _-_, _≤_, _<_}
 use mathlib.Core.Path.{_≡_, refl, sym, ap, _∙_}
 use mathlib.Core.List.{List, [], _∷_, _++_, append-assoc}
 use mathlib.Core.Bool.{Bool, true, false}
 use native.Mathlib.Omega.{arith}
-use native.Mathlib.Numerals.{add-one}
 use lib.Dec.{eqb, ltb}
-use lib.ListN.{length, getD, drop, take, set, length-append, length-drop, drop-of-length-le}
+use lib.ListN.{length, getD, drop, take, length-append, length-drop}
 use lib.Seq.{sets, drop-cons}
 use borrow.Author.Tests.{eqb-true}
 use Rattle.model.specs.Choice.{if_then_else_}
-use Rattle.io.specs.Digits.{glyph, digits, Fewest}
-use Rattle.wave.specs.Decimal.{placesOf, decimalOf, fewest-is, fewest-one}
+use Rattle.io.specs.Digits.{digits, Fewest}
+use Rattle.print.specs.Print.{putOf}
+use Rattle.print.specs.Laws.{put-none, put-join, put-place, length-digits, fewest-one}
+use Rattle.wave.specs.Decimal.{placesOf, decimalOf, fewest-is}
 use Rattle.wave.specs.Lines.{joined}
 use Rattle.wave.specs.Dump.{noBits, turns, turned, changesOf, turnOf, timescale, scopeLine, upscope, endLine, timeLine, bitLine, varLine, varsOf, firstOf, bodyOf, middleOf, linesOf, dumpOf}
 use Rattle.wave.specs.declared.Dumped.{Dumped}
 use Rattle.wave.specs.declared.Dumped.the-variants.{Written}
-use Rattle.writer.specs.Writer.{putOf, wantedOf, turnedOf, stepOf, weighOf, headOf}
-
--- ---- bytes
-
-sets-sets : (l a b : List ℕ) (i : ℕ) → sets (sets l i a) (i + length a) b ≡ sets l i (a ++ b)
-sets-sets l [] b i = let e : i + 0 ≡ i = omega arith in rw e
-sets-sets l (x ∷ a) b i = let e : i + suc (length a) ≡ suc i + length a = omega arith in rw e (sets-sets (set l i x) a b (suc i))
-
--- nothing put
-pub put-none : (l : List ℕ) (i : ℕ) → (i, l) ≡ putOf l i []
-unfolding putOf
-put-none l i = let e : i + 0 ≡ i = omega arith in rw e
-
--- text behind text
-pub put-join : (l m k : List ℕ) (i j h : ℕ) (x y : List ℕ) → (j, m) ≡ putOf l i x → (h, k) ≡ putOf m j y
-    → (h, k) ≡ putOf l i (x ++ y)
-unfolding putOf
-put-join l m k i j h x y e f =
-    let p : j ≡ i + length x = ap (λ (o : ℕ × List ℕ). o .0) e in
-    let q : m ≡ sets l i x = ap (λ (o : ℕ × List ℕ). o .1) e in
-    let r : i + length x + length y ≡ i + length (x ++ y) = omega (arith, length-append x y) in
-    f ∙ rw (p, q, r, sets-sets l x y i)
-
--- one byte more
-pub put-more : (l : List ℕ) (i b : ℕ) (x : List ℕ) → putOf (set l i b) (i + 1) x ≡ putOf l i (b ∷ x)
-unfolding putOf
-put-more l i b x = let e : i + 1 + length x ≡ i + suc (length x) = omega arith in rw (e, add-one i)
-
--- the rest of a run from i on
-pub put-at : (l text : List ℕ) (i k : ℕ) → k < length text
-    → putOf l i (drop k text) ≡ putOf (set l i (getD text k 0)) (i + 1) (drop (k + 1) text)
-put-at l text i k h = rw (drop-cons text k 0 h, ← add-one k) (sym (put-more l i (getD text k 0) (drop (k + 1) text)))
-
-pub put-end : (l text : List ℕ) (i k : ℕ) → length text ≤ k → (i, l) ≡ putOf l i (drop k text)
-put-end l text i k h = rw (drop-of-length-le text h) (put-none l i)
-
--- where it ends
-pub put-place : (l m : List ℕ) (i j : ℕ) (x : List ℕ) → (j, m) ≡ putOf l i x → j ≡ i + length x
-unfolding putOf
-put-place l m i j x e = ap (λ (o : ℕ × List ℕ). o .0) e
+use Rattle.writer.specs.Writer.{wantedOf, turnedOf, stepOf, weighOf, headOf}
 
 -- ---- numbers
-
-pub length-digits : (k n : ℕ) → length (digits 10 k n) ≡ k
-length-digits zero n = refl
-length-digits (suc k) n = omega (arith, length-append (digits 10 k (n / 10)) (glyph (n % 10) ∷ []), length-digits k (n / 10))
 
 pub length-decimal : (n : ℕ) → length (decimalOf n) ≡ placesOf n
 unfolding decimalOf

@@ -1,18 +1,14 @@
--- What the writer's steps leave: bytes at a place, and the bits after a step.
+-- What the writer's steps leave: bytes at a place (`putOf` of crate `print`), and the bits after a step.
 use Prim.Native.Nat.{ℕ, _+_}
 use mathlib.Core.List.{List, [], _∷_, _++_}
 use mathlib.Core.Bool.{Bool, true, false}
 use lib.Dec.{eqb}
-use lib.ListN.{length, getD}
-use lib.Seq.{sets}
+use lib.ListN.{getD}
 use Rattle.model.specs.Choice.{if_then_else_}
+use Rattle.print.specs.Print.{putOf}
 use Rattle.wave.specs.Decimal.{placesOf}
 use Rattle.wave.specs.Lines.{joined}
 use Rattle.wave.specs.Dump.{turned, changesOf, turnOf, timescale, scopeLine, upscope, endLine, timeLine, bitLine, varsOf, firstOf}
-
--- bytes put at a place: where they end, and the run
-unfoldable pub putOf : List ℕ → ℕ → List ℕ → ℕ × List ℕ
-putOf out at bytes = (at + length bytes, sets out at bytes)
 
 -- the bit that a take or a release leaves
 unfoldable pub wantedOf : ℕ → ℕ

@@ -1,34 +1,21 @@
 // The writer of the waveform (document 02, L11): first how long the dump is, so that nothing is written where it does
 // not fit, and then its bytes. Each function but `write` is a step: it may have a `requires`, which its callers prove.
+use print::put;
 use wave::Dumped;
 ghost use mathlib.Core.Path.{_≡_};
 ghost use Prim.Native.Nat.{_+_, _<_, _≤_};
 ghost use mathlib.Core.Bool.{true};
 ghost use mathlib.Core.List.{[], _∷_};
 ghost use lib.ListN.{length};
+ghost use Rattle.print.specs.Print.{putOf};
 ghost use Rattle.wave.specs.Decimal.{placesOf, decimalOf};
 ghost use Rattle.wave.specs.Lines.{joined};
 ghost use Rattle.wave.specs.Dump.{noBits, changesOf, timeLine, bitLine, varLine, varsOf, firstOf, bodyOf};
 ghost use Rattle.wave.specs.Dump.{turns as Dump·turns, turned as Dump·turned};
 ghost use Rattle.wave.specs.Calls.{badHistory, tooWide, fittedOf, writeOf};
-ghost use Rattle.writer.specs.Writer.{putOf, wantedOf, turnedOf, stepOf, weighOf, headOf};
+ghost use Rattle.writer.specs.Writer.{wantedOf, turnedOf, stepOf, weighOf, headOf};
 
-// ---- bytes
-
-// Puts text at `at`, and says where it ends.
-fn put(out: &mut [u8], at: usize, text: &[u8]) -> usize
-    requires { ⌜ at + length (now text) ≤ length (now out) ⌝ }
-    ensures { λ r. ⌜ (r, now (out .exit)) ≡ putOf (now (out .entry)) at (now (text .entry)) ⌝ }
-{
-    let mut n = at;
-    let mut i = 0;
-    while i < text.len() {
-        out[n] = text[i];
-        n += 1;
-        i += 1;
-    }
-    n
-}
+// ---- numbers
 
 // Puts a number in decimal.
 fn put_number(out: &mut [u8], at: usize, t: usize) -> usize

@@ -9,7 +9,7 @@ use Rattle.wave.specs.declared.Verdict.the-variants.{Fine}
 use Rattle.wave.specs.Lines.{splitOf}
 use Rattle.wave.specs.Dump.{noBits}
 use Rattle.wave.specs.Reader.{verdictOf, wordsOf}
-use Rattle.writer.specs.Writer.{putOf}
+use Rattle.print.specs.Print.{putOf}
 use Rattle.wave.specs.Stages.{Reach, reach-next, words-count}
 use Rattle.reader.specs.Laws.{scan-torn, scan-lost, scan-turn, words-turn, words-room, words-end, put-all, not-bad}
 use Rattle.reader.proofs.fill.Statement.{statement}

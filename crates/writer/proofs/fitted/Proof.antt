@@ -5,7 +5,8 @@ use lib.ListN.{length}
 use borrow.Author.Tests.{lt-ltb, le-ltb}
 use Rattle.wave.specs.Dump.{dumpOf}
 use Rattle.wave.specs.Calls.{fittedOf}
-use Rattle.writer.specs.Laws.{put-place, head-size, head-few, dump-size, dump-put}
+use Rattle.print.specs.Laws.{put-place}
+use Rattle.writer.specs.Laws.{head-size, head-few, dump-size, dump-put}
 use borrow.Author.Needs.{needs}
 use Rattle.writer.proofs.fitted.Statement.{statement}
 use Rattle.writer.proofs.fitted.Tie as tie
