@@ -1,5 +1,7 @@
-// The crew: up to sixteen members take turns, each taking the cells of its list in order and then releasing them, last first.
-// Functions with a `requires` are steps: the call has tested shape, limits, lists and turns, and a step tests nothing twice.
+// The crew: up to sixteen members take turns, each taking the cells of its list in order and then releasing them, last
+// first.
+// Functions with a `requires` are steps: the call has tested shape, limits, lists and turns, and a step tests nothing
+// twice.
 use model::Answer;
 use model::Check;
 use model::CrewReply;
@@ -250,7 +252,8 @@ fn starts_of(counts: &[u32]) -> [usize; 16]
     starts
 }
 
-// The turns in order, from a crew that holds nothing. Its moves stay here and a turn gets numbers: an idle turn stores nothing.
+// The turns in order, from a crew that holds nothing. Its moves stay here and a turn gets numbers: an idle turn stores
+// nothing.
 // No serial is kept: a release compares it with nothing, since only its holder ever names a cell.
 fn work(
     head: Head,

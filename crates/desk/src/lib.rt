@@ -1,4 +1,5 @@
-// The console's state besides its RAM: the head in force, the place, what is lent, how long each list is. And its words.
+// The console's state besides its RAM: the head in force, the place, what is lent, how long each list is. And its
+// words.
 pub mod verbs;
 
 use model::Answer;

@@ -255,7 +255,8 @@ fn lock_check(
     }
 }
 
-// The try_lock of a call that has taken nothing. Past the script's end it is the quiet one, and then no room for leases is made.
+// The try_lock of a call that has taken nothing. Past the script's end it is the quiet one, and then no room for leases
+// is made.
 fn lock_alone(
     head: Head,
     cells: u32,

@@ -1,5 +1,7 @@
-// Giving back and multi-lock: `release_all`, last first with a boundary after each release, and `acquire_index_locks`, all keys or none.
-// The leases multi-lock has taken so far stand in an array of sixty-four pairs, passed by value with a count; a refusal rolls it back from the end.
+// Giving back and multi-lock: `release_all`, last first with a boundary after each release, and `acquire_index_locks`,
+// all keys or none.
+// The leases multi-lock has taken so far stand in an array of sixty-four pairs, passed by value with a count; a refusal
+// rolls it back from the end.
 // Functions with a `requires` are steps: calls have tested the shape, and a step tests nothing twice.
 use model::Answer;
 use model::Check;
@@ -71,7 +73,8 @@ fn give_one(
     }
 }
 
-// The leases of a list from the last on; those before the one released stay protected, so that no step frees them first.
+// The leases of a list from the last on; those before the one released stay protected, so that no step frees them
+// first.
 fn give_back(
     headers: u32,
     cells: u32,

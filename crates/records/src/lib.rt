@@ -1,5 +1,7 @@
-// A thin face over the core: the cells as a lent slice of records. A single take and a single release give the answers of
-// `lease` on the table of words that the records spell. All rules are on one record by value; the two calls at the end only
+// A thin face over the core: the cells as a lent slice of records. A single take and a single release give the answers
+// of
+// `lease` on the table of words that the records spell. All rules are on one record by value; the two calls at the end
+// only
 // copy the record out and write it back.
 use model::Answer;
 use model::Head;
@@ -36,7 +38,8 @@ struct Changed {
 
 // ---- where the record stands
 
-// Whether the head and the number of records keep the arena's rules. More than 4,096 never do, so three words each can be counted.
+// Whether the head and the number of records keep the arena's rules. More than 4,096 never do, so three words each can
+// be counted.
 fn fits(head: Head, n: usize) -> bool
     ensures { λ r. ⌜ r ≡ shapeFits head (3 * n) ⌝ }
 {
@@ -46,7 +49,8 @@ fn fits(head: Head, n: usize) -> bool
     head.shape_fits(3 * n)
 }
 
-// Where the record of a cell stands. The refusal is for a cell out of range; where the arena's rules are broken the place is
+// Where the record of a cell stands. The refusal is for a cell out of range; where the arena's rules are broken the
+// place is
 // past the end, so that no record is read.
 fn find(head: Head, n: usize, cell: u32, refusal: Refusal) -> Spot
     ensures { λ r. ⌜ r ≡ spotOf head n cell refusal ⌝ }

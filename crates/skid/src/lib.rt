@@ -230,7 +230,8 @@ pub extern "C" fn skid_environment(
     *reply = words::played_words(r);
 }
 
-// The same call under its other name. It goes through the first, so that the inner call has one caller and is compiled into it.
+// The same call under its other name. It goes through the first, so that the inner call has one caller and is compiled
+// into it.
 #[no_mangle]
 pub extern "C" fn skid_environment_for_borrows(
     headers: u32,

@@ -27,7 +27,7 @@ pub struct Numbers {
 // ---- splitting
 
 // Where the first `stop` from `at` on stands, or the end. A line ends at a line feed, a word at a space.
-// A step of the console, no call of document 01: only its own crates call it.
+// A step, no call of document 01: the console, the waveform and the report call it.
 pub fn end_of(bytes: &[u8], at: usize, stop: u8) -> usize
     requires { ⌜ at ≤ length (now bytes) ⌝ }
     ensures { λ r. ⌜ r ≡ at + before stop (drop at (now (bytes .entry))) ⌝ }
@@ -44,7 +44,7 @@ pub fn end_of(bytes: &[u8], at: usize, stop: u8) -> usize
 }
 
 // Whether a word is this name.
-// A step of the console, no call of document 01: only its own crates call it.
+// A step, no call of document 01: the console, the waveform and the report call it.
 pub fn same(word: &[u8], name: &[u8]) -> bool {
     if word.len() != name.len() {
         return false;
@@ -116,7 +116,7 @@ fn ended(line: &[u8], at: usize, i: usize, value: u64) -> Number
 }
 
 // The number that stands at `at`: the digits there, up to the first byte that is none.
-// A step of the console, no call of document 01: only its own crates call it.
+// A step, no call of document 01: the console, the waveform and the report call it.
 pub fn read_number(line: &[u8], at: usize) -> Number
     ensures { λ r. ⌜ r ≡ numberOf (drop at (now (line .entry))) ⌝ }
 {
@@ -203,7 +203,7 @@ fn spaced(line: &[u8], at: usize) -> Number
 }
 
 // The numbers from `at` to the end of the line, each behind one space; anything else there is not fine.
-// A step of the console, no call of document 01: only its own crates call it.
+// A step, no call of document 01: the console, the waveform and the report call it.
 pub fn read_numbers(line: &[u8], at: usize) -> Numbers
     ensures { λ r. ⌜ r ≡ numbersFrom (length (now (line .entry)) - at) (counted true) (drop at (now (line .entry))) ⌝ }
 {
@@ -222,7 +222,7 @@ pub fn read_numbers(line: &[u8], at: usize) -> Numbers
 }
 
 // Stores these numbers into a list from `start` on, as far as it reaches.
-// A step of the console, no call of document 01: only its own crates call it.
+// A step, no call of document 01: the console, the waveform and the report call it.
 pub fn store(line: &[u8], at: usize, list: &mut [u32], start: usize) {
     let mut i = at;
     let mut k = start;
@@ -241,7 +241,7 @@ pub fn store(line: &[u8], at: usize, list: &mut [u32], start: usize) {
 // ---- putting text behind text
 
 // Puts text behind the first `used` bytes, as far as the room reaches, and says how many are used then.
-// A step of the console, no call of document 01: only its own crates call it.
+// A step, no call of document 01: the console, the waveform and the report call it.
 pub fn put(out: &mut [u8], used: usize, text: &[u8]) -> usize
     ensures { λ r. ⌜ r ≤ length (now (out .exit)) ⌝ }
 {
@@ -260,14 +260,14 @@ pub fn put(out: &mut [u8], used: usize, text: &[u8]) -> usize
 }
 
 // Puts a number in decimal.
-// A step of the console, no call of document 01: only its own crates call it.
+// A step, no call of document 01: the console, the waveform and the report call it.
 pub fn put_number(out: &mut [u8], used: usize, n: usize) -> usize {
     let mut digits = [0u8; 20];
     let k = io::decimal(n as u64, &mut digits);
     put(out, used, &digits[..k])
 }
 
-// A step of the console, no call of document 01: only its own crates call it.
+// A step, no call of document 01: the console, the waveform and the report call it.
 pub fn put_byte(out: &mut [u8], used: usize, byte: u8) -> usize {
     let one = [byte];
     put(out, used, &one)
@@ -282,7 +282,7 @@ fn put_value(out: &mut [u8], used: usize, values: &[usize], k: usize) -> usize {
 }
 
 // Puts a form: its bytes as they are, but for each `#` the next value.
-// A step of the console, no call of document 01: only its own crates call it.
+// A step, no call of document 01: the console, the waveform and the report call it.
 pub fn put_form(out: &mut [u8], used: usize, form: &[u8], values: &[usize]) -> usize {
     let mut at = used;
     let mut k = 0;
@@ -313,7 +313,7 @@ fn next_word(words: &[u8], at: usize) -> usize
 }
 
 // Puts the n-th of these words, counted from 1, with a space in front.
-// A step of the console, no call of document 01: only its own crates call it.
+// A step, no call of document 01: the console, the waveform and the report call it.
 pub fn put_nth(out: &mut [u8], used: usize, words: &[u8], n: u32) -> usize {
     let mut at = 0;
     let mut i = 1;
