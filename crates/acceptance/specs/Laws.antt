@@ -12,7 +12,7 @@ use lib.Seq.{sets, set-out, getD-set-same, getD-set-other}
 use borrow.Author.Tests.{eqb-true, eqb-false, eq-eqb, ne-eqb, lt-ltb, le-ltb, ltb-true, ltb-false, leb-true}
 use Rattle.model.specs.Choice.{if_then_else_}
 use Rattle.text.specs.declared.Number.{Number}
-use Rattle.text.specs.Text.{numberOf}
+use Rattle.text.specs.Text.{readNumberOf}
 use Rattle.text.specs.Laws.{number-within}
 use Rattle.model.specs.Names.{nameOf}
 use Rattle.print.specs.Print.{putOf, formOf}
@@ -35,10 +35,10 @@ pub none-past : (l : List ℕ) (at stop : ℕ) → length l ≤ at → 0 < stop 
 none-past l at stop h p = let e : 0 ≢ stop = omega arith in rw (List·getD-eq-default l 0 h) (ne-eqb 0 stop e)
 
 -- a number that is read ends within the input
-pub number-ends : (l : List ℕ) (at : ℕ) → at ≤ length l → at + numberOf (drop at l) .digits ≤ length l
+pub number-ends : (l : List ℕ) (at : ℕ) → at ≤ length l → at + readNumberOf (drop at l) .digits ≤ length l
 number-ends l at h = omega (arith, number-within (drop at l), length-drop at l)
 
-pub number-short : (l : List ℕ) (at : ℕ) → numberOf (drop at l) .digits ≤ length l - at
+pub number-short : (l : List ℕ) (at : ℕ) → readNumberOf (drop at l) .digits ≤ length l - at
 number-short l at = omega (arith, number-within (drop at l), length-drop at l)
 
 fits-is : (number : Number) (most : ℕ) → fitsOf number most ≡ true → number .value ≤ most
@@ -85,7 +85,7 @@ unfolding refusalAt
 refusal-good input from at attempts h p = go (eqb (getD input at 0) 32)
   where
     number : Number
-    number = numberOf (drop (at + 1) input)
+    number = readNumberOf (drop (at + 1) input)
 
     inner : (b : Bool) → fitsOf number 16 ≡ b → Fine input from (if b then endAt input (at + 1 + number .digits) attempts (number .value) else noLine)
     inner true e = end-good input from (at + 1 + number .digits) attempts (number .value) (omega arith) p (fits-is number 16 e)
@@ -100,7 +100,7 @@ unfolding lineAt
 line-good input at = go (fitsOf number 262144) refl
   where
     number : Number
-    number = numberOf (drop at input)
+    number = readNumberOf (drop at input)
 
     go : (b : Bool) → fitsOf number 262144 ≡ b → Fine input at (if b then refusalAt input (at + number .digits) (number .value) else noLine)
     go true e = refusal-good input at (at + number .digits) (number .value) (omega arith) (fits-is number 262144 e)

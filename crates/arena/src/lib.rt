@@ -14,7 +14,7 @@ ghost use Rattle.model.specs.Calls.{prepareOf, refused, replied};
 
 // Bit, owner and waiters of a cell.
 // A step, no call of document 01: only the layers here call it, and each proves its `requires`.
-pub fn bit(table: &[u32], cell: u32) -> u32
+pub fn bit_at(table: &[u32], cell: u32) -> u32
     requires { ⌜ 3 * cell + 2 < length (now table) ⌝ }
     ensures { λ r. ⌜ r ≡ bitAt (now (table .entry)) cell ⌝ }
 {
@@ -22,7 +22,7 @@ pub fn bit(table: &[u32], cell: u32) -> u32
 }
 
 // A step, no call of document 01: only the layers here call it, and each proves its `requires`.
-pub fn owner(table: &[u32], cell: u32) -> u32
+pub fn owner_at(table: &[u32], cell: u32) -> u32
     requires { ⌜ 3 * cell + 2 < length (now table) ⌝ }
     ensures { λ r. ⌜ r ≡ ownerAt (now (table .entry)) cell ⌝ }
 {
@@ -30,7 +30,7 @@ pub fn owner(table: &[u32], cell: u32) -> u32
 }
 
 // A step, no call of document 01: only the layers here call it, and each proves its `requires`.
-pub fn waiters(table: &[u32], cell: u32) -> u32
+pub fn waiters_at(table: &[u32], cell: u32) -> u32
     requires { ⌜ 3 * cell + 2 < length (now table) ⌝ }
     ensures { λ r. ⌜ r ≡ waitersAt (now (table .entry)) cell ⌝ }
 {
@@ -68,12 +68,12 @@ pub fn set_waiters(table: &mut [u32], cell: u32, number: u32)
 
 // Whether a cell is free.
 // A step, no call of document 01: only the layers here call it, and each proves its `requires`.
-pub fn free(table: &[u32], cell: u32) -> bool
+pub fn is_free(table: &[u32], cell: u32) -> bool
     requires { ⌜ 3 * cell + 2 < length (now table) ⌝ }
     ensures { λ r. ⌜ r ≡ isFree (bitAt (now (table .entry)) cell) (ownerAt (now (table .entry)) cell) ⌝ }
 {
-    let b = bit(table, cell);
-    let o = owner(table, cell);
+    let b = bit_at(table, cell);
+    let o = owner_at(table, cell);
     if b == 0 {
         return o == 0;
     }
@@ -81,7 +81,7 @@ pub fn free(table: &[u32], cell: u32) -> bool
 }
 
 // What a bit and an owner say.
-pub fn said(next: u32, bit: u32, owner: u32) -> State
+pub fn state_of(next: u32, bit: u32, owner: u32) -> State
     ensures { λ r. ⌜ r ≡ stateOf next bit owner ⌝ }
 {
     if bit == 0 {
@@ -104,23 +104,23 @@ pub fn said(next: u32, bit: u32, owner: u32) -> State
 
 // A cell's state.
 // A step, no call of document 01: only the layers here call it, and each proves its `requires`.
-pub fn state(next: u32, table: &[u32], cell: u32) -> State
+pub fn state_at(next: u32, table: &[u32], cell: u32) -> State
     requires { ⌜ 3 * cell + 2 < length (now table) ⌝ }
     ensures { λ r. ⌜ r ≡ stateAt next (now (table .entry)) cell ⌝ }
 {
-    let b = bit(table, cell);
-    let o = owner(table, cell);
-    said(next, b, o)
+    let b = bit_at(table, cell);
+    let o = owner_at(table, cell);
+    state_of(next, b, o)
 }
 
 // Whether a lease is live.
 // A step, no call of document 01: only the layers here call it, and each proves its `requires`.
-pub fn live(next: u32, cells: u32, table: &[u32], cell: u32, serial: u32) -> bool
+pub fn is_live(next: u32, cells: u32, table: &[u32], cell: u32, serial: u32) -> bool
     requires { ⌜ 3 * cells ≤ length (now table) ⌝ }
     ensures { λ r. ⌜ r ≡ isLive next cells (now (table .entry)) (leaseOf cell serial) ⌝ }
 {
     if cell < cells {
-        let s = state(next, table, cell);
+        let s = state_at(next, table, cell);
         return match s {
             State::Free => false,
             State::Held(owner) => owner == serial,

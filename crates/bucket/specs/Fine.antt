@@ -14,9 +14,9 @@ use Rattle.model.specs.declared.Check.the-variants.{Fine}
 use Rattle.model.specs.declared.Head.{Head}
 use Rattle.model.specs.declared.Played.{Played}
 use Rattle.laws.specs.Checks.{or-else, first-append, first-two, fine-rest, fine-append}
-use Rattle.foreign.specs.Fine.{ScriptFine, arena-fine, place-fine, fine-room, fine-paid}
+use Rattle.foreign.specs.Fine.{ScriptFine, arena-fine, place-fine, fine-room, fine-flow-bound}
 use Rattle.bucket.specs.Model.{Key}
-use Rattle.bucket.specs.Laws.{Calm}
+use Rattle.bucket.specs.Laws.{RunBound}
 
 -- 1, 2 and 3 of a call by key
 unfoldable pub keyRules : Head → List ℕ → List ℕ → List ℕ → List ℕ → ℕ → List ℕ → List Rule
@@ -64,10 +64,10 @@ bucket-fine h t g registry script place held binding e =
     let a = fine-append (keyRules h t g registry script place held) (badBinding registry 0 binding ∷ []) e in
     record { script-ok = key-fine h t g registry script place held (a .0); bound = leb-false _ _ (fine-rest _ _ (a .1) .0) }
 
--- a call that has made no step is calm, and its key may be tried
-pub start-calm : (h : Head) (words bytes script place : ℕ) → ScriptFine h words bytes script place → Calm (script / 3) 0 (starting h place)
-start-calm h words bytes script place f =
-    record { paid = fine-paid h words bytes script place f; few-attempts = omega arith; few-boundaries = omega arith; few-yields = omega arith }
+-- a call that has made no step is run-bound, and its key may be tried
+pub start-run-bound : (h : Head) (words bytes script place : ℕ) → ScriptFine h words bytes script place → RunBound (script / 3) 0 (starting h place)
+start-run-bound h words bytes script place f =
+    record { flow-bound = fine-flow-bound h words bytes script place f; few-attempts = omega arith; few-boundaries = omega arith; few-yields = omega arith }
 
 pub fine-key : (h : Head) (words bytes registry script place binding n : ℕ) → ScriptFine h words bytes script place → binding < registry → n ≤ 64
     → Key h (cellsOf h) words bytes n (script / 3) script registry binding

@@ -23,74 +23,74 @@ use Rattle.model.specs.declared.Take.{Take}
 use Rattle.model.specs.declared.Take.the-variants as taking
 use Rattle.model.specs.declared.Tried.{Tried}
 use Rattle.laws.specs.Pick.{if-both, seen-if}
-use Rattle.foreign.specs.Laws.{Paid, boundary-paid}
+use Rattle.foreign.specs.Laws.{FlowBound, boundary-flow-bound}
 use Rattle.bucket.specs.Bounds.{callMost}
 use Rattle.bucket.specs.Model.{againOf}
-use Rattle.lock.specs.Model.{boundariesFor, quietOf}
-use Rattle.lock.specs.Laws.{Sober, lock-sober}
+use Rattle.lock.specs.Model.{boundariesFor, quietLockOf}
+use Rattle.lock.specs.Laws.{LockedBound, lock-locked-bound}
 
 -- ---- counts: few enough that no sum wraps
 
-pub record Calm (steps most : ℕ) (r : Run) : Type 0 where
-  pub paid : Paid steps (r .flow)
+pub record RunBound (steps most : ℕ) (r : Run) : Type 0 where
+  pub flow-bound : FlowBound steps (r .flow)
   pub few-attempts : r .attempts ≤ most
   pub few-boundaries : r .boundaries ≤ most
   pub few-yields : r .yields ≤ most
 
-pub more-calm : (steps most more : ℕ) (r : Run) → most ≤ more → Calm steps most r → Calm steps more r
-more-calm steps most more r l b =
-    record { paid = b .paid; few-attempts = omega (arith, b .few-attempts); few-boundaries = omega (arith, b .few-boundaries); few-yields = omega (arith, b .few-yields) }
+pub more-run-bound : (steps most more : ℕ) (r : Run) → most ≤ more → RunBound steps most r → RunBound steps more r
+more-run-bound steps most more r l b =
+    record { flow-bound = b .flow-bound; few-attempts = omega (arith, b .few-attempts); few-boundaries = omega (arith, b .few-boundaries); few-yields = omega (arith, b .few-yields) }
 
 module _ (e : Setting) where
-  abbrev CalmRun : ℕ → Made (Run × (List ℕ × List ℕ)) → Type 0
-  CalmRun most m = Calm (stepsIn (e .script)) most (m .seen .0)
+  abbrev RunBoundRun : ℕ → Made (Run × (List ℕ × List ℕ)) → Type 0
+  RunBoundRun most m = RunBound (stepsIn (e .script)) most (m .seen .0)
 
-  abbrev CalmTry : ℕ → Made (Tried × (List ℕ × List ℕ)) → Type 0
-  CalmTry most m = Calm (stepsIn (e .script)) most (m .seen .0 .run)
+  abbrev RunBoundTry : ℕ → Made (Tried × (List ℕ × List ℕ)) → Type 0
+  RunBoundTry most m = RunBound (stepsIn (e .script)) most (m .seen .0 .run)
 
   -- an attempt is one attempt and at most three boundaries
-  attempt-at : (k : Found) (most : ℕ) (r : Run) (t g : List ℕ) → Calm (stepsIn (e .script)) most r → CalmTry (most + 3) (attemptAt k e r t g)
+  attempt-at : (k : Found) (most : ℕ) (r : Run) (t g : List ℕ) → RunBound (stepsIn (e .script)) most r → RunBoundTry (most + 3) (attemptAt k e r t g)
   attempt-at (found.Fault x) most r t g b =
-      record { paid = b .paid; few-attempts = omega (arith, b .few-attempts); few-boundaries = omega (arith, b .few-boundaries); few-yields = omega (arith, b .few-yields) }
+      record { flow-bound = b .flow-bound; few-attempts = omega (arith, b .few-attempts); few-boundaries = omega (arith, b .few-boundaries); few-yields = omega (arith, b .few-yields) }
   attempt-at (found.At c) most r t g b =
-      let k = lock-sober _ e (r .flow) t g c refl (b .paid) in
-      record { paid = k .paid; few-attempts = omega (arith, b .few-attempts); few-boundaries = omega (arith, b .few-boundaries, k .few); few-yields = omega (arith, b .few-yields) }
+      let k = lock-locked-bound _ e (r .flow) t g c refl (b .flow-bound) in
+      record { flow-bound = k .flow-bound; few-attempts = omega (arith, b .few-attempts); few-boundaries = omega (arith, b .few-boundaries, k .few); few-yields = omega (arith, b .few-yields) }
 
-  pub attempt-calm : (buckets : ℕ) (registry : List ℕ) (binding bucket most : ℕ) (r : Run) (t g : List ℕ) → Calm (stepsIn (e .script)) most r
-      → CalmTry (most + 3) (attemptOf e buckets registry binding bucket r t g)
+  pub attempt-run-bound : (buckets : ℕ) (registry : List ℕ) (binding bucket most : ℕ) (r : Run) (t g : List ℕ) → RunBound (stepsIn (e .script)) most r
+      → RunBoundTry (most + 3) (attemptOf e buckets registry binding bucket r t g)
   unfolding attemptOf
-  attempt-calm buckets registry binding bucket most r t g b = attempt-at (findOf (e .headers) buckets g registry binding bucket) most r t g b
+  attempt-run-bound buckets registry binding bucket most r t g b = attempt-at (findOf (e .headers) buckets g registry binding bucket) most r t g b
 
   -- a pause is at most two boundaries and a yield
-  spin-calm : (most : ℕ) (r : Run) (t g : List ℕ) → Calm (stepsIn (e .script)) most r → CalmRun (most + 1) (spinOf e r t g)
+  spin-run-bound : (most : ℕ) (r : Run) (t g : List ℕ) → RunBound (stepsIn (e .script)) most r → RunBoundRun (most + 1) (spinOf e r t g)
   unfolding spinOf
-  spin-calm most r t g b =
-      record { paid = boundary-paid _ e (r .flow) t g refl (b .paid); few-attempts = omega (arith, b .few-attempts); few-boundaries = omega (arith, b .few-boundaries); few-yields = omega (arith, b .few-yields) }
+  spin-run-bound most r t g b =
+      record { flow-bound = boundary-flow-bound _ e (r .flow) t g refl (b .flow-bound); few-attempts = omega (arith, b .few-attempts); few-boundaries = omega (arith, b .few-boundaries); few-yields = omega (arith, b .few-yields) }
 
-  pub pause-calm : (i most : ℕ) (r : Run) (t g : List ℕ) → Calm (stepsIn (e .script)) most r → CalmRun (most + 2) (pauseOf e i r t g)
+  pub pause-run-bound : (i most : ℕ) (r : Run) (t g : List ℕ) → RunBound (stepsIn (e .script)) most r → RunBoundRun (most + 2) (pauseOf e i r t g)
   unfolding pauseOf
-  pause-calm i most r t g b =
+  pause-run-bound i most r t g b =
       let o = boundaryOf e (r .flow) t g .seen in
-      let p = boundary-paid o e (r .flow) t g refl (b .paid) in
-      let y : Calm (stepsIn (e .script)) (most + 1) (runOf (o .0) (r .attempts) (r .boundaries + 1) (r .yields + 1)) = record { paid = p; few-attempts = omega (arith, b .few-attempts); few-boundaries = omega (arith, b .few-boundaries); few-yields = omega (arith, b .few-yields) } in
-      if-both (CalmRun (most + 2)) (eqb (i % 64) 63)
-      (more-calm _ (most + 1 + 1) (most + 2) _ (omega arith) (spin-calm (most + 1) (runOf (o .0) (r .attempts) (r .boundaries + 1) (r .yields + 1)) (o .1 .0) (o .1 .1) y))
-      (more-calm _ (most + 1) (most + 2) _ (omega arith) (spin-calm most r t g b))
+      let p = boundary-flow-bound o e (r .flow) t g refl (b .flow-bound) in
+      let y : RunBound (stepsIn (e .script)) (most + 1) (runOf (o .0) (r .attempts) (r .boundaries + 1) (r .yields + 1)) = record { flow-bound = p; few-attempts = omega (arith, b .few-attempts); few-boundaries = omega (arith, b .few-boundaries); few-yields = omega (arith, b .few-yields) } in
+      if-both (RunBoundRun (most + 2)) (eqb (i % 64) 63)
+      (more-run-bound _ (most + 1 + 1) (most + 2) _ (omega arith) (spin-run-bound (most + 1) (runOf (o .0) (r .attempts) (r .boundaries + 1) (r .yields + 1)) (o .1 .0) (o .1 .1) y))
+      (more-run-bound _ (most + 1) (most + 2) _ (omega arith) (spin-run-bound most r t g b))
 
 -- as a caller has it: steps, and a promise
 module _ (headers cells steps : ℕ) (script : List ℕ) (ps : List Lease) (n : steps ≡ length script / 3) where
   pub attempt-goes : (o : Tried × (List ℕ × List ℕ)) (buckets : ℕ) (registry : List ℕ) (binding bucket most : ℕ) (r : Run) (t g : List ℕ)
-      → o ≡ attemptOf (setting headers cells script ps) buckets registry binding bucket r t g .seen → Calm steps most r → Calm steps (most + 3) (o .0 .run)
+      → o ≡ attemptOf (setting headers cells script ps) buckets registry binding bucket r t g .seen → RunBound steps most r → RunBound steps (most + 3) (o .0 .run)
   attempt-goes o buckets registry binding bucket most r t g q b =
-      rw (q, n) (attempt-calm (setting headers cells script ps) buckets registry binding bucket most r t g (rw (← n) b))
+      rw (q, n) (attempt-run-bound (setting headers cells script ps) buckets registry binding bucket most r t g (rw (← n) b))
 
   pub pause-goes : (o : Run × (List ℕ × List ℕ)) (i most : ℕ) (r : Run) (t g : List ℕ)
-      → o ≡ pauseOf (setting headers cells script ps) i r t g .seen → Calm steps most r → Calm steps (most + 2) (o .0)
-  pause-goes o i most r t g q b = rw (q, n) (pause-calm (setting headers cells script ps) i most r t g (rw (← n) b))
+      → o ≡ pauseOf (setting headers cells script ps) i r t g .seen → RunBound steps most r → RunBound steps (most + 2) (o .0)
+  pause-goes o i most r t g q b = rw (q, n) (pause-run-bound (setting headers cells script ps) i most r t g (rw (← n) b))
 
-  pub sober-of : (o : Locked × (List ℕ × List ℕ)) (f : Flow) (t g : List ℕ) (c : ℕ)
-      → o ≡ lockOf (setting headers cells script ps) f t g c .seen → Paid steps f → Sober steps (o .0)
-  sober-of o f t g c q b = rw n (lock-sober o (setting headers cells script ps) f t g c q (rw (← n) b))
+  pub locked-bound-of : (o : Locked × (List ℕ × List ℕ)) (f : Flow) (t g : List ℕ) (c : ℕ)
+      → o ≡ lockOf (setting headers cells script ps) f t g c .seen → FlowBound steps f → LockedBound steps (o .0)
+  locked-bound-of o f t g c q b = rw n (lock-locked-bound o (setting headers cells script ps) f t g c q (rw (← n) b))
 
 -- a quiet try_lock has at most three boundaries
 few-for : (a : Take) → boundariesFor a ≤ 3
@@ -99,8 +99,8 @@ few-for taking.Busy = omega arith
 few-for taking.Damaged = omega arith
 few-for taking.Spent = omega arith
 
-pub quiet-few : (o : Locked × List ℕ) (f : Flow) (t : List ℕ) (c : ℕ) → o ≡ quietOf f t c → o .0 .boundaries ≤ 3
-unfolding quietOf
+pub quiet-few : (o : Locked × List ℕ) (f : Flow) (t : List ℕ) (c : ℕ) → o ≡ quietLockOf f t c → o .0 .boundaries ≤ 3
+unfolding quietLockOf
 quiet-few o f t c q =
     rw q (if-both (λ (k : Locked × List ℕ). k .0 .boundaries ≤ 3) (eqb (waitersAt t c) 0) (few-for (takeOf (f .next) t c .seen .0 .answer)) (omega arith))
 
@@ -138,25 +138,25 @@ module _ (n i : ℕ) (e : Setting) (buckets : ℕ) (registry : List ℕ) (bindin
   retry-end l = let k : n - i ≡ 0 = omega arith in rw k
 
 -- a turn is one attempt and at most five boundaries
-turn-calm : (e : Setting) (i buckets : ℕ) (registry : List ℕ) (binding bucket most : ℕ) (r : Run) (t g : List ℕ) → Calm (stepsIn (e .script)) most r
-    → Calm (stepsIn (e .script)) (most + 5) (againOf i e buckets registry binding bucket r t g .0 .run)
+turn-run-bound : (e : Setting) (i buckets : ℕ) (registry : List ℕ) (binding bucket most : ℕ) (r : Run) (t g : List ℕ) → RunBound (stepsIn (e .script)) most r
+    → RunBound (stepsIn (e .script)) (most + 5) (againOf i e buckets registry binding bucket r t g .0 .run)
 unfolding againOf
-turn-calm e i buckets registry binding bucket most r t g b =
+turn-run-bound e i buckets registry binding bucket most r t g b =
     let o = attemptOf e buckets registry binding bucket r t g .seen in
-    let c = attempt-calm e buckets registry binding bucket most r t g b in
-    if-both (λ (k : Tried × (List ℕ × List ℕ)). Calm (stepsIn (e .script)) (most + 5) (k .0 .run)) (isBusy (o .0 .outcome))
-    (more-calm _ (most + 3 + 2) (most + 5) _ (omega arith) (pause-calm e i (most + 3) (o .0 .run) (o .1 .0) (o .1 .1) c))
-    (more-calm _ (most + 3) (most + 5) _ (omega arith) c)
+    let c = attempt-run-bound e buckets registry binding bucket most r t g b in
+    if-both (λ (k : Tried × (List ℕ × List ℕ)). RunBound (stepsIn (e .script)) (most + 5) (k .0 .run)) (isBusy (o .0 .outcome))
+    (more-run-bound _ (most + 3 + 2) (most + 5) _ (omega arith) (pause-run-bound e i (most + 3) (o .0 .run) (o .1 .0) (o .1 .1) c))
+    (more-run-bound _ (most + 3) (most + 5) _ (omega arith) c)
 
 pub turn-goes : (headers cells steps : ℕ) (script : List ℕ) (ps : List Lease) → steps ≡ length script / 3
     → (o : Tried × (List ℕ × List ℕ)) (i buckets : ℕ) (registry : List ℕ) (binding bucket most : ℕ) (r : Run) (t g : List ℕ)
-    → o ≡ againOf i (setting headers cells script ps) buckets registry binding bucket r t g → Calm steps most r → Calm steps (most + 5) (o .0 .run)
+    → o ≡ againOf i (setting headers cells script ps) buckets registry binding bucket r t g → RunBound steps most r → RunBound steps (most + 5) (o .0 .run)
 turn-goes headers cells steps script ps n o i buckets registry binding bucket most r t g q b =
-    rw (q, n) (turn-calm (setting headers cells script ps) i buckets registry binding bucket most r t g (rw (← n) b))
+    rw (q, n) (turn-run-bound (setting headers cells script ps) i buckets registry binding bucket most r t g (rw (← n) b))
 
 -- where the retry loop stands, before attempt number i: what remains from here is what the whole comes to
 pub record Retrying (e : Setting) (steps buckets : ℕ) (registry : List ℕ) (binding bucket : ℕ) (r₀ : Run) (t₀ g₀ : List ℕ) (i : ℕ) (r : Run) (t g : List ℕ) : Type 0 where
-  pub calm : Calm steps (callMost + 5 * i) r
+  pub run-bound : RunBound steps (callMost + 5 * i) r
   pub few : i ≤ 4096
   pub words : length t ≡ length t₀
   pub bytes : length g ≡ length g₀

@@ -25,7 +25,7 @@ ghost use Rattle.bucket.specs.Fine.{keyRules, listRules, BucketFine, onc
 ghost use Rattle.model.specs.declared.Outcome.the-variants as outcome;
 ghost use Rattle.foreign.specs.Model.{guardsOf, Room};
 ghost use Rattle.bucket.specs.Bounds.{callMost, tryMost};
-ghost use Rattle.bucket.specs.Laws.{Calm};
+ghost use Rattle.bucket.specs.Laws.{RunBound};
 ghost use Rattle.bucket.specs.Model.{Fit, Key, againOf};
 
 // ---- one attempt
@@ -106,7 +106,7 @@ fn attempt_once(
     binding: u32,
     bucket: u32,
 ) -> Tried
-    requires { ⌜ Key head cells (length (now table)) (length (now health)) n steps (length (now script)) (length (now registry)) binding × Calm steps tryMost run ⌝ }
+    requires { ⌜ Key head cells (length (now table)) (length (now health)) n steps (length (now script)) (length (now registry)) binding × RunBound steps tryMost run ⌝ }
     ensures { λ r. ⌜ (r, (now (table .exit), now (health .exit))) ≡ attemptOf (setting (head .headers) cells (now (script .entry)) (guardsOf (now (held .entry)) (now (taken .entry)) n)) (head .buckets) (now (registry .entry)) binding bucket run (now (table .entry)) (now (health .entry)) .seen ⌝ }
 {
     let found = find(
@@ -155,7 +155,7 @@ fn attempt(
     binding: u32,
     bucket: u32,
 ) -> Tried
-    requires { ⌜ Key head cells (length (now table)) (length (now health)) n steps (length (now script)) (length (now registry)) binding × Calm steps tryMost run ⌝ }
+    requires { ⌜ Key head cells (length (now table)) (length (now health)) n steps (length (now script)) (length (now registry)) binding × RunBound steps tryMost run ⌝ }
     ensures { λ r. ⌜ (r, (now (table .exit), now (health .exit))) ≡ attemptOf (setting (head .headers) cells (now (script .entry)) (guardsOf (now (held .entry)) (now (taken .entry)) n)) (head .buckets) (now (registry .entry)) binding bucket run (now (table .entry)) (now (health .entry)) .seen ⌝ }
 {
     let found = find(
@@ -207,7 +207,7 @@ fn spin(
     taken: &[[u32; 2]; 64],
     n: usize,
 ) -> Run
-    requires { ⌜ Room headers cells (length (now table)) (length (now health)) n steps (length (now script)) × Calm steps (tryMost + 4) run ⌝ }
+    requires { ⌜ Room headers cells (length (now table)) (length (now health)) n steps (length (now script)) × RunBound steps (tryMost + 4) run ⌝ }
     ensures { λ r. ⌜ (r, (now (table .exit), now (health .exit))) ≡ spinOf (setting headers cells (now (script .entry)) (guardsOf (now (held .entry)) (now (taken .entry)) n)) run (now (table .entry)) (now (health .entry)) .seen ⌝ }
 {
     let flow = run.flow;
@@ -245,7 +245,7 @@ fn pause(
     taken: &[[u32; 2]; 64],
     n: usize,
 ) -> Run
-    requires { ⌜ Room headers cells (length (now table)) (length (now health)) n steps (length (now script)) × Calm steps (tryMost + 3) run ⌝ }
+    requires { ⌜ Room headers cells (length (now table)) (length (now health)) n steps (length (now script)) × RunBound steps (tryMost + 3) run ⌝ }
     ensures { λ r. ⌜ (r, (now (table .exit), now (health .exit))) ≡ pauseOf (setting headers cells (now (script .entry)) (guardsOf (now (held .entry)) (now (taken .entry)) n)) i run (now (table .entry)) (now (health .entry)) .seen ⌝ }
 {
     if i % 64 == 63 {
@@ -295,7 +295,7 @@ fn pause(
     )
 }
 
-fn busy(outcome: Outcome) -> bool
+fn is_busy(outcome: Outcome) -> bool
     ensures { λ r. ⌜ r ≡ isBusy outcome ⌝ }
 {
     match outcome {
@@ -306,7 +306,7 @@ fn busy(outcome: Outcome) -> bool
 }
 
 // Attempt number i, and, if it was Busy, the pause after it.
-fn turn(
+fn again(
     i: usize,
     head: Head,
     cells: u32,
@@ -322,7 +322,7 @@ fn turn(
     binding: u32,
     bucket: u32,
 ) -> Tried
-    requires { ⌜ Key head cells (length (now table)) (length (now health)) n steps (length (now script)) (length (now registry)) binding × Calm steps tryMost run ⌝ }
+    requires { ⌜ Key head cells (length (now table)) (length (now health)) n steps (length (now script)) (length (now registry)) binding × RunBound steps tryMost run ⌝ }
     ensures { λ r. ⌜ (r, (now (table .exit), now (health .exit))) ≡ againOf i (setting (head .headers) cells (now (script .entry)) (guardsOf (now (held .entry)) (now (taken .entry)) n)) (head .buckets) (now (registry .entry)) binding bucket run (now (table .entry)) (now (health .entry)) ⌝ }
 {
     let tried = attempt(
@@ -342,7 +342,7 @@ fn turn(
     );
     let after = tried.run;
     let outcome = tried.outcome;
-    if busy(outcome) {
+    if is_busy(outcome) {
         let paused = pause(
             i,
             head.headers,
@@ -381,13 +381,13 @@ pub fn retry(
     binding: u32,
     bucket: u32,
 ) -> Tried
-    requires { ⌜ Key head cells (length (now table)) (length (now health)) n steps (length (now script)) (length (now registry)) binding × Calm steps callMost start ⌝ }
+    requires { ⌜ Key head cells (length (now table)) (length (now health)) n steps (length (now script)) (length (now registry)) binding × RunBound steps callMost start ⌝ }
     ensures { λ r. ⌜ (r, (now (table .exit), now (health .exit))) ≡ retryOf 4096 0 (setting (head .headers) cells (now (script .entry)) (guardsOf (now (held .entry)) (now (taken .entry)) n)) (head .buckets) (now (registry .entry)) binding bucket start (now (table .entry)) (now (health .entry)) .seen ⌝ }
 {
     let mut run = start;
     let mut i = 0;
     while i < 4096 {
-        let tried = turn(
+        let tried = again(
             i,
             head,
             cells,
@@ -404,7 +404,7 @@ pub fn retry(
             bucket,
         );
         let outcome = tried.outcome;
-        if busy(outcome) {
+        if is_busy(outcome) {
             run = tried.run;
         } else {
             return tried;
@@ -420,7 +420,7 @@ pub fn retry(
 // ---- the calls
 
 // A run that has made no step.
-pub fn begin(head: Head, place: usize) -> Run
+pub fn starting(head: Head, place: usize) -> Run
     ensures { λ r. ⌜ r ≡ starting head place ⌝ }
 {
     Run {
@@ -455,7 +455,7 @@ fn registry_fault(registry: &[u32]) -> Check
     Check::Fault(Refusal::BadShape)
 }
 
-fn lists_check(
+fn lists_fault(
     head: Head,
     table: &[u32],
     registry: &[u32],
@@ -469,12 +469,12 @@ fn lists_check(
     let names = registry_fault(registry);
     match names {
         Check::Fault(refusal) => Check::Fault(refusal),
-        Check::Fine => foreign::lists_check(head, table, script, place, held),
+        Check::Fine => foreign::lists_fault(head, table, script, place, held),
     }
 }
 
 // The checks that every call by key makes first.
-pub fn key_check(
+pub fn key_fault(
     head: Head,
     table: &[u32],
     health: &[u8],
@@ -485,10 +485,10 @@ pub fn key_check(
 ) -> Check
     ensures { λ r. ⌜ r ≡ first (keyRules head (now (table .entry)) (now (health .entry)) (now (registry .entry)) (now (script .entry)) place (now (held .entry))) ⌝ }
 {
-    let shape = foreign::arena_check(head, table, health);
+    let shape = foreign::arena_fault(head, table, health);
     match shape {
         Check::Fault(refusal) => Check::Fault(refusal),
-        Check::Fine => lists_check(head, table, registry, script, place, held),
+        Check::Fine => lists_fault(head, table, registry, script, place, held),
     }
 }
 
@@ -514,7 +514,7 @@ fn bucket_check(
 ) -> Check
     ensures { λ r. ⌜ r ≡ first (bucketRules head (now (table .entry)) (now (health .entry)) (now (registry .entry)) (now (script .entry)) place (now (held .entry)) binding) ⌝ }
 {
-    let key = key_check(head, table, health, registry, script, place, held);
+    let key = key_fault(head, table, health, registry, script, place, held);
     match key {
         Check::Fault(refusal) => Check::Fault(refusal),
         Check::Fine => binding_fault(registry, 0, binding),
@@ -539,7 +539,7 @@ fn once_by_key(
     let taken = [[0; 2]; 64];
     let cells = head.headers * head.buckets;
     let steps = script.len() / 3;
-    let start = begin(head, place);
+    let start = starting(head, place);
     let tried = attempt_once(
         head,
         cells,
@@ -557,7 +557,7 @@ fn once_by_key(
     );
     let run = tried.run;
     let outcome = tried.outcome;
-    foreign::play(head, run, lease::answered(outcome))
+    foreign::play(head, run, lease::answer_of(outcome))
 }
 
 // All attempts of a call whose checks are fine.
@@ -578,7 +578,7 @@ fn retry_by_key(
     let taken = [[0; 2]; 64];
     let cells = head.headers * head.buckets;
     let steps = script.len() / 3;
-    let start = begin(head, place);
+    let start = starting(head, place);
     let tried = retry(
         head,
         cells,
@@ -597,7 +597,7 @@ fn retry_by_key(
     let run = tried.run;
     let outcome = tried.outcome;
     let last = settle(outcome);
-    foreign::play(head, run, lease::answered(last))
+    foreign::play(head, run, lease::answer_of(last))
 }
 
 pub fn transactional_try_lock_bucket(

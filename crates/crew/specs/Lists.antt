@@ -1,4 +1,4 @@
--- Laws of the lent lists: one turn and the end of each recursion over them, and where members' lists begin.
+-- Laws of the lent lists: one turn and the end of each recursion over them, and where members' lists crewStart.
 use Prim.Native.Nat.{ℕ, suc, _+_, _-_, _≤_, _<_, min}
 use mathlib.Core.Path.{_≡_, refl, sym, ap, _∙_}
 use mathlib.Core.List.{List, [], _∷_, _++_, append-assoc, append-nil}
@@ -34,7 +34,7 @@ pub total-end : (l : List ℕ) (i : ℕ) → length l ≤ i → total (drop i l)
 unfolding total
 total-end l i b = rw (drop-of-length-le l b)
 
--- ---- where lists begin
+-- ---- where lists crewStart
 
 pub start-first : (counts : List ℕ) → startOf counts 0 ≡ 0
 unfolding startOf total

@@ -15,7 +15,7 @@ use Rattle.model.specs.declared.Locked.{Locked}
 use Rattle.model.specs.declared.Refusal.{Refusal}
 use Rattle.model.specs.declared.Take.{Take}
 use Rattle.model.specs.declared.Take.the-variants as taking
-use Rattle.lock.specs.Model.{quietOf}
+use Rattle.lock.specs.Model.{quietLockOf}
 use Rattle.crew.specs.declared.Move.{Move}
 use Rattle.crew.specs.declared.Move.the-variants as move
 use Rattle.crew.specs.declared.Worked.{Worked}
@@ -34,13 +34,13 @@ moveFor taking.Spent next = move.Idle
 abbrev pub moveBy : Locked × List ℕ → Move × List ℕ
 moveBy o = (moveFor (o .0 .answer) (o .0 .flow .next), o .1)
 
-unfoldable pub tryOf : ℕ → List ℕ → ℕ → Move × List ℕ
-tryOf next t c = moveBy (quietOf (flowOf next 0 0) t c)
+unfoldable pub tryMoveOf : ℕ → List ℕ → ℕ → Move × List ℕ
+tryMoveOf next t c = moveBy (quietLockOf (flowOf next 0 0) t c)
 
 -- one turn of an unfinished member, on a cell
-unfoldable pub moveOf : ℕ → ℕ → List ℕ → List ℕ → Bool → ℕ → Move × List ℕ
-moveOf next buckets t g taking c =
-    if taking then (if eqb (getD g (c / buckets) 0) 0 then tryOf next t c else (move.Idle, t))
+unfoldable pub makeMoveOf : ℕ → ℕ → List ℕ → List ℕ → Bool → ℕ → Move × List ℕ
+makeMoveOf next buckets t g taking c =
+    if taking then (if eqb (getD g (c / buckets) 0) 0 then tryMoveOf next t c else (move.Idle, t))
     else (move.Gave, setCell t c 0 0)
 
 -- the crew after a move of member m at place k that left this table
@@ -51,14 +51,14 @@ after move.Gave t w m k = crewAt (w .next) t (moved (w .made) m) (w .serials) (w
 
 -- ---- all turns, and the reply
 
-abbrev pub begin : Head → List ℕ → Crew
-begin h t = crewAt (h .next) t (replicate 16 0) (replicate 256 0) 0 0
+abbrev pub crewStart : Head → List ℕ → Crew
+crewStart h t = crewAt (h .next) t (replicate 16 0) (replicate 256 0) 0 0
 
 abbrev pub handed : Crew → Worked × List ℕ
 handed w = (record { next = w .next; moving = w .moving; idle = w .idle; made = w .made }, w .table)
 
 unfoldable pub workOf : Head → List ℕ → List ℕ → List ℕ → List ℕ → List ℕ → Worked × List ℕ
-workOf h t g counts cells turns = handed (turnsOf (h .headers) (h .buckets) g counts cells (begin h t) turns .seen)
+workOf h t g counts cells turns = handed (turnsOf (h .headers) (h .buckets) g counts cells (crewStart h t) turns .seen)
 
 unfoldable pub finishOf : Head → List ℕ → Worked → CrewReply
 finishOf h counts k =
@@ -71,8 +71,8 @@ finishOf h counts k =
       answer = Done;
     }
 
-unfoldable pub runOf : Head → List ℕ → List ℕ → List ℕ → List ℕ → List ℕ → CrewReply × List ℕ
-runOf h t g counts cells turns = let o = workOf h t g counts cells turns in (finishOf h counts (o .0), o .1)
+unfoldable pub crewRunOf : Head → List ℕ → List ℕ → List ℕ → List ℕ → List ℕ → CrewReply × List ℕ
+crewRunOf h t g counts cells turns = let o = workOf h t g counts cells turns in (finishOf h counts (o .0), o .1)
 
 abbrev pub refusedOf : Head → Refusal → CrewReply
 refusedOf h r = record { head = h; moving = 0; idle = 0; taken = replicate 16 0; released = replicate 16 0; answer = Refused r }

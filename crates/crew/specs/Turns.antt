@@ -19,9 +19,9 @@ use Rattle.model.specs.declared.State.the-variants as state
 use Rattle.model.specs.declared.Took.{Took}
 use Rattle.laws.specs.Pick.{if-both}
 use Rattle.laws.specs.Lists.{drop-one}
-use Rattle.lock.specs.Model.{quietTake, quietOf}
+use Rattle.lock.specs.Model.{quietTake, quietLockOf}
 use Rattle.lock.specs.Laws.{lock-quiet}
-use Rattle.crew.specs.Model.{placeOf, moveBy, tryOf, moveOf, after}
+use Rattle.crew.specs.Model.{placeOf, moveBy, tryMoveOf, makeMoveOf, after}
 use Rattle.crew.specs.declared.Move.{Move}
 use Rattle.crew.specs.declared.Move.the-variants as move
 
@@ -45,20 +45,20 @@ module _ (next : ℕ) (t made serials : List ℕ) (moving idle m k c : ℕ) wher
   in-state (state.Held o) = refl
   in-state state.Free = if-both SameTake (serialRemains next) refl refl
 
-  quiet-same : Same (quietOf (flowOf next 0 0) t c)
-  unfolding quietOf takeOf
+  quiet-same : Same (quietLockOf (flowOf next 0 0) t c)
+  unfolding quietLockOf takeOf
   quiet-same = if-both Same (eqb (waitersAt t c) 0) (in-state (stateAt next t c)) refl
 
-  try-is : (headers buckets : ℕ) (g : List ℕ) → tryTurnOf headers buckets g crew m k c .seen ≡ behind (moveOf next buckets t g true c)
-  unfolding tryTurnOf moveOf tryOf
+  try-is : (headers buckets : ℕ) (g : List ℕ) → tryTurnOf headers buckets g crew m k c .seen ≡ behind (makeMoveOf next buckets t g true c)
+  unfolding tryTurnOf makeMoveOf tryMoveOf
   try-is headers buckets g = go (eqb (getD g (c / buckets) 0) 0) refl
     where
-      go : (b : Bool) → eqb (getD g (c / buckets) 0) 0 ≡ b → tryTurnOf headers buckets g crew m k c .seen ≡ behind (moveOf next buckets t g true c)
+      go : (b : Bool) → eqb (getD g (c / buckets) 0) 0 ≡ b → tryTurnOf headers buckets g crew m k c .seen ≡ behind (makeMoveOf next buckets t g true c)
       go true e = rw (e, lock-quiet (setting headers (headers * buckets) [] []) g c (flowOf next 0 0) t (omega arith)) quiet-same
       go false e = rw e
 
-  give-is : (buckets : ℕ) (g : List ℕ) → releaseTurnOf crew m k c .seen ≡ behind (moveOf next buckets t g false c)
-  unfolding releaseTurnOf moveOf
+  give-is : (buckets : ℕ) (g : List ℕ) → releaseTurnOf crew m k c .seen ≡ behind (makeMoveOf next buckets t g false c)
+  unfolding releaseTurnOf makeMoveOf
   give-is buckets g = refl
 
 -- ---- one turn of the loop, at place i of the turns
@@ -73,7 +73,7 @@ module _ (headers buckets : ℕ) (g counts cells : List ℕ) (next : ℕ) (t mad
 
   -- what a turn of an unfinished member comes to
   abbrev pub moveAt : ℕ → ℕ → Move × List ℕ
-  moveAt m k = moveOf next buckets t g (ltb (getD made m 0) (getD counts m 0)) (getD cells k 0)
+  moveAt m k = makeMoveOf next buckets t g (ltb (getD made m 0) (getD counts m 0)) (getD cells k 0)
 
   move-is : (m start k : ℕ) → start ≡ startOf counts m → k ≡ placeOf start (getD made m 0) (getD counts m 0) → leb (2 * getD counts m 0) (getD made m 0) ≡ false
       → turnOf headers buckets g counts cells at-work m .seen ≡ after (moveAt m k .0) (moveAt m k .1) at-work m k
@@ -92,7 +92,7 @@ module _ (headers buckets : ℕ) (g counts cells : List ℕ) (next : ℕ) (t mad
       go : (b : Bool)
           → (if b then tryTurnOf headers buckets g at-work m (startOf counts m + n) (getD cells (startOf counts m + n) 0)
           else releaseTurnOf at-work m (startOf counts m + (2 * count - 1 - n)) (getD cells (startOf counts m + (2 * count - 1 - n)) 0)) .seen
-          ≡ after (moveOf next buckets t g b (getD cells (place b) 0) .0) (moveOf next buckets t g b (getD cells (place b) 0) .1) at-work m (place b)
+          ≡ after (makeMoveOf next buckets t g b (getD cells (place b) 0) .0) (makeMoveOf next buckets t g b (getD cells (place b) 0) .1) at-work m (place b)
       go true = try-is next t made serials moving idle m (startOf counts m + n) (getD cells (startOf counts m + n) 0) headers buckets g
       go false = give-is next t made serials moving idle m (startOf counts m + (2 * count - 1 - n)) (getD cells (startOf counts m + (2 * count - 1 - n)) 0) buckets g
 
@@ -166,7 +166,7 @@ module _ (headers buckets : ℕ) (g counts cells turns : List ℕ) (start : Crew
         rest = rw (← one-idle (w .few)) (sym (idle-at headers buckets g counts cells next t made (w .serials) moving (i - moving) turns i l e) ∙ w .rest);
       }
 
-  module _ (w : Here) (l : i < length turns) (first k : ℕ) (un : Unfinished first k) (mv : Move) (u : List ℕ) (e : (mv, u) ≡ moveOf next buckets t g (ltb so-far wants) (getD cells k 0)) (same : length u ≡ length t) where
+  module _ (w : Here) (l : i < length turns) (first k : ℕ) (un : Unfinished first k) (mv : Move) (u : List ℕ) (e : (mv, u) ≡ makeMoveOf next buckets t g (ltb so-far wants) (getD cells k 0)) (same : length u ≡ length t) where
     go-on : turnsOf headers buckets g counts cells (after mv u (crewAt next t made (w .serials) moving (i - moving)) member k) (drop (i + 1) turns) .seen ≡ turnsOf headers buckets g counts cells start turns .seen
     go-on =
         ap (λ (o : Move × List ℕ). turnsOf headers buckets g counts cells (after (o .0) (o .1) (crewAt next t made (w .serials) moving (i - moving)) member k) (drop (i + 1) turns) .seen) e

@@ -15,7 +15,7 @@ ghost use Prim.Native.Nat.{_+_, _*_, _-_, _/_, _<_, _≤_, min};
 ghost use lib.ListN.{length, getD, take, drop};
 ghost use Rattle.model.specs.Refusals.{first};
 ghost use Rattle.model.specs.Crew.{total, allWithin, badLimits, risesFrom, badLists, badTurns, crewRules, crewOf};
-ghost use Rattle.crew.specs.Model.{placeOf, tryOf, moveOf, workOf, finishOf, runOf, refusedOf};
+ghost use Rattle.crew.specs.Model.{placeOf, tryMoveOf, makeMoveOf, workOf, finishOf, crewRunOf, refusedOf};
 ghost use Rattle.crew.specs.Fine.{CrewFine, Begun};
 
 // What a turn comes to; a take hands on the next serial and the one it took.
@@ -177,7 +177,7 @@ fn crew_check(
 ) -> Check
     ensures { λ r. ⌜ r ≡ first (crewRules head (now (table .entry)) (now (health .entry)) (now (counts .entry)) (now (cells .entry)) (now (turns .entry))) ⌝ }
 {
-    let shape = foreign::arena_check(head, table, health);
+    let shape = foreign::arena_fault(head, table, health);
     match shape {
         Check::Fault(refusal) => Check::Fault(refusal),
         Check::Fine => plan_fault(head.headers * head.buckets, counts, cells, turns),
@@ -198,9 +198,9 @@ fn place(start: usize, n: usize, count: usize) -> usize
 }
 
 // One try_lock with no script: it is the quiet one.
-fn try_turn(head: Head, next: u32, table: &mut [u32], cell: u32) -> Move
+fn try_move(head: Head, next: u32, table: &mut [u32], cell: u32) -> Move
     requires { ⌜ 3 * cell + 2 < length (now table) ⌝ }
-    ensures { λ r. ⌜ (r, now (table .exit)) ≡ tryOf next (now (table .entry)) cell ⌝ }
+    ensures { λ r. ⌜ (r, now (table .exit)) ≡ tryMoveOf next (now (table .entry)) cell ⌝ }
 {
     let flow = Flow {
         next,
@@ -219,14 +219,21 @@ fn try_turn(head: Head, next: u32, table: &mut [u32], cell: u32) -> Move
 }
 
 // One turn of a member that is not finished: a health reading and a try_lock, or a release of a cell that it holds.
-fn turn(head: Head, next: u32, table: &mut [u32], health: &[u8], taking: bool, cell: u32) -> Move
+fn make_move(
+    head: Head,
+    next: u32,
+    table: &mut [u32],
+    health: &[u8],
+    taking: bool,
+    cell: u32,
+) -> Move
     requires { ⌜ (3 * cell + 2 < length (now table)) × ((1 ≤ head .buckets) × (cell / head .buckets < length (now health))) ⌝ }
-    ensures { λ r. ⌜ (r, now (table .exit)) ≡ moveOf next (head .buckets) (now (table .entry)) (now (health .entry)) taking cell ⌝ }
+    ensures { λ r. ⌜ (r, now (table .exit)) ≡ makeMoveOf next (head .buckets) (now (table .entry)) (now (health .entry)) taking cell ⌝ }
 {
     if taking {
         let header = (cell / head.buckets) as usize;
         if health[header] == 0 {
-            return try_turn(head, next, table, cell);
+            return try_move(head, next, table, cell);
         }
         return Move::Idle;
     }
@@ -281,7 +288,7 @@ fn work(
         }
         let k = place(starts[m], n, count);
         let once_more = n + 1;
-        match turn(head, next, table, health, n < count, cells[k]) {
+        match make_move(head, next, table, health, n < count, cells[k]) {
             Move::Idle => continue,
             Move::Took(after, _) => {
                 next = after;
@@ -376,7 +383,7 @@ fn refuse(head: Head, refusal: Refusal) -> CrewReply
 }
 
 // The turns of a call whose checks are fine.
-fn run(
+fn crew_run(
     head: Head,
     table: &mut [u32],
     health: &[u8],
@@ -385,7 +392,7 @@ fn run(
     turns: &[u32],
 ) -> CrewReply
     requires { ⌜ CrewFine head (length (now table)) (length (now health)) (now counts) (now cells) (now turns) ⌝ }
-    ensures { λ r. ⌜ (r, now (table .exit)) ≡ runOf head (now (table .entry)) (now (health .entry)) (now (counts .entry)) (now (cells .entry)) (now (turns .entry)) ⌝ }
+    ensures { λ r. ⌜ (r, now (table .exit)) ≡ crewRunOf head (now (table .entry)) (now (health .entry)) (now (counts .entry)) (now (cells .entry)) (now (turns .entry)) ⌝ }
 {
     let starts = starts_of(counts);
     let worked = work(head, table, health, counts, cells, &starts, turns);
@@ -408,6 +415,6 @@ pub fn crew(
     let check = crew_check(head, table, health, counts, cells, turns);
     match check {
         Check::Fault(refusal) => refuse(head, refusal),
-        Check::Fine => run(head, table, health, counts, cells, turns),
+        Check::Fine => crew_run(head, table, health, counts, cells, turns),
     }
 }

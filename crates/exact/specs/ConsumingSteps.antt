@@ -10,7 +10,7 @@ use lib.Seq.{take-suc, take-length}
 use borrow.Author.Tests.{eqb-true, eqb-false}
 use Rattle.model.specs.Log.{Made, Event, boundary-run}
 use Rattle.model.specs.Arena.{serialRemains, leaseOf, leasesOf, waitersAt, setCell, stateAt}
-use Rattle.model.specs.Foreign.{stepsIn, kindAt, placeAt, numberAt, flowOf, stepOf, stepsOf, boundaryOf}
+use Rattle.model.specs.Foreign.{stepsIn, kindAt, placeAt, numberAt, flowOf, stepOf, runStepsOf, boundaryOf}
 use Rattle.model.specs.Lock.{takeIn, takeOf, lateOf, afterTake, secondOf, lockOf, outcomeOf, runOf, findOf, attemptAt, attemptOf, spinOf, pauseOf, isBusy, retryOf, attemptLimit, noLease, leaseAt, giveBackOf, Locks, rollbackOf, afterKey, bindingAt, bucketAt, locksOf}
 use Rattle.model.specs.Calls.{given}
 use Rattle.model.specs.declared.Answer.{Answer}
@@ -66,8 +66,8 @@ module _ (h : Head) (script : List ℕ) where
   abbrev Bounded : List Lease → Flow → List ℕ → List ℕ → Made (With Flow) → Type 0
   Bounded ps f t g m = Boundary script ps (f .place) (f .dropped) (worldAt h (f .next) t g) (m .seen .0 .place) (m .seen .0 .dropped) (of-flow h (m .seen)) (m .log)
 
-  steps-bounded : (left : ℕ) (ps : List Lease) (f : Flow) (t g : List ℕ) → left ≡ stepsIn script - f .place → Bounded ps f t g (stepsOf left (given h script ps) f t g)
-  unfolding stepsOf
+  steps-bounded : (left : ℕ) (ps : List Lease) (f : Flow) (t g : List ℕ) → left ≡ stepsIn script - f .place → Bounded ps f t g (runStepsOf left (given h script ps) f t g)
+  unfolding runStepsOf
   steps-bounded zero ps f t g l = let i : stepsIn script ≤ f .place = omega arith in at-end i
   steps-bounded (suc left) ps f t g l =
       let i : f .place < stepsIn script = omega arith in
@@ -87,7 +87,7 @@ module _ (h : Head) (script : List ℕ) where
   pub boundary-consumed : (ps : List Lease) (f : Flow) (t g : List ℕ) → Flowing ps f t g (boundaryOf (given h script ps) f t g)
   unfolding boundaryOf
   boundary-consumed ps f t g =
-      let m = stepsOf (stepsIn script - f .place) (given h script ps) f t g in
+      let m = runStepsOf (stepsIn script - f .place) (given h script ps) f t g in
       subst (λ (es : List Event). Goes ps f t g ps (m .seen .0) (of-flow h (m .seen)) (boundary-run ∷ es)) (append-nil (m .log))
       (boundary (steps-bounded (stepsIn script - f .place) ps f t g refl) at-rest)
 

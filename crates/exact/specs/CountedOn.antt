@@ -10,7 +10,7 @@ use lib.ListN.{length, take}
 use Rattle.model.specs.Choice.{if_then_else_}
 use Rattle.model.specs.Log.{Made, Event, by-caller, attempt-begun, yielded, released}
 use Rattle.model.specs.Arena.{leaseOf, setCell, waitersAt}
-use Rattle.model.specs.Foreign.{Setting, protecting, stepsIn, kindAt, placeAt, numberAt, flowOf, stepOf, stepsOf, boundaryOf}
+use Rattle.model.specs.Foreign.{Setting, protecting, stepsIn, kindAt, placeAt, numberAt, flowOf, stepOf, runStepsOf, boundaryOf}
 use Rattle.model.specs.Lock.{takeOf, lockedOf, lateOf, afterTake, secondOf, lockOf, runOf, triedOf, findOf, attemptAt, attemptOf, spinOf, pauseOf, isBusy, retryOf, attemptLimit, leaseAt, giveBackOf, Locks, endedOf, rollbackOf, afterKey, bindingAt, bucketAt, locksOf}
 use Rattle.model.specs.declared.Counts.{Counts}
 use Rattle.model.specs.declared.Flow.{Flow}
@@ -71,8 +71,8 @@ assoc a b c = omega arith
 -- ---- boundaries
 
 module _ (d : ℕ) where
-  steps-on : (left : ℕ) (e : Setting) (f : Flow) (t g : List ℕ) → stepsOf left e (on-flow d f) t g ≡ flow-on d (stepsOf left e f t g)
-  unfolding stepsOf
+  steps-on : (left : ℕ) (e : Setting) (f : Flow) (t g : List ℕ) → runStepsOf left e (on-flow d f) t g ≡ flow-on d (runStepsOf left e f t g)
+  unfolding runStepsOf
   steps-on zero e f t g = refl
   steps-on (suc left) e f t g =
       let kind = kindAt (e .script) (f .place) in

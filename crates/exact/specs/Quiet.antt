@@ -10,7 +10,7 @@ use borrow.Author.Tests.{ltb-true, ltb-false, eqb-true, eqb-false, eq-eqb}
 use Rattle.model.specs.Choice.{if_then_else_}
 use Rattle.model.specs.Log.{Made, boundary-run}
 use Rattle.model.specs.Arena.{lastSerial, serialRemains, leaseOf, bitAt, ownerAt, waitersAt, setCell, stateAt}
-use Rattle.model.specs.Foreign.{Setting, protecting, stepsIn, flowOf, stepsOf, boundaryOf}
+use Rattle.model.specs.Foreign.{Setting, protecting, stepsIn, flowOf, runStepsOf, boundaryOf}
 use Rattle.model.specs.Lock.{takeIn, takeOf, lockedOf, lateOf, afterTake, secondOf, lockOf, runOf, triedOf, attemptOf, spinOf, pauseOf, retryOf}
 use Rattle.model.specs.declared.Flow.{Flow}
 use Rattle.model.specs.declared.Locked.{Locked}
@@ -28,7 +28,7 @@ use Rattle.history.specs.Steps.{With}
 
 module _ (e : Setting) (f : Flow) (t g : List ℕ) where
   pub boundary-quiet : stepsIn (e .script) ≤ f .place → boundaryOf e f t g ≡ record { seen = (f, (t, g)); log = boundary-run ∷ [] }
-  unfolding boundaryOf stepsOf
+  unfolding boundaryOf runStepsOf
   boundary-quiet l = let k : stepsIn (e .script) - f .place ≡ 0 = omega arith in rw k
 
 -- what one quiet try_lock of cell c comes to: five rows

@@ -10,7 +10,7 @@ use lib.ListN.{length, getD, take}
 use borrow.Author.Tests.{eqb-true, eqb-false}
 use Rattle.model.specs.Log.{Made, Event, yielded, spun}
 use Rattle.model.specs.Arena.{serialRemains, leaseOf, leasesOf, bitAt, ownerAt, waitersAt, setCell, stateAt, isFree, isLive, isIn}
-use Rattle.model.specs.Foreign.{Setting, protecting, stepsIn, kindAt, placeAt, numberAt, flowOf, stepTakeOf, stepReleaseOf, stepWaitersOf, stepHealthOf, stepOf, stepsOf, boundaryOf}
+use Rattle.model.specs.Foreign.{Setting, protecting, stepsIn, kindAt, placeAt, numberAt, flowOf, stepTakeOf, stepReleaseOf, stepWaitersOf, stepHealthOf, stepOf, runStepsOf, boundaryOf}
 use Rattle.model.specs.Lock.{takeIn, takeOf, lateOf, afterTake, secondOf, lockOf, outcomeOf, answerOf, settled, runOf, findOf, attemptAt, attemptOf, spinOf, pauseOf, isBusy, retryOf, attemptLimit, leaseAt, giveBackOf, Locks, rollbackOf, afterKey, bindingAt, bucketAt, locksOf}
 use Rattle.model.specs.Checks.{countIn}
 use Rattle.model.specs.Calls.{given, starting}
@@ -50,13 +50,13 @@ unfolding spins-in
 spins-append [] ys = omega arith
 spins-append (x ∷ xs) ys = omega (arith, spins-append xs ys)
 
-pub record Calm (es : List Event) : Type 0 where
+pub record NoSpins (es : List Event) : Type 0 where
   pub none : spins-in es ≡ 0
 
 abbrev pub Still : {A : Type 0} → Made A → Type 0
-Still m = Calm (m .log)
+Still m = NoSpins (m .log)
 
-two-still : {xs ys : List Event} → Calm xs → Calm ys → Calm (xs ++ ys)
+two-still : {xs ys : List Event} → NoSpins xs → NoSpins ys → NoSpins (xs ++ ys)
 two-still {xs} {ys} a b = record { none = omega (arith, spins-append xs ys) }
 
 module _ (e : Setting) where
@@ -74,10 +74,10 @@ module _ (e : Setting) where
       P m = Still m
 
       P′ : Made (Stepped × List ℕ) → Type 0
-      P′ m = Calm (m .log ++ [])
+      P′ m = NoSpins (m .log ++ [])
 
-  steps-still : (left : ℕ) (f : Flow) (t g : List ℕ) → Still (stepsOf left e f t g)
-  unfolding stepsOf spins-in
+  steps-still : (left : ℕ) (f : Flow) (t g : List ℕ) → Still (runStepsOf left e f t g)
+  unfolding runStepsOf spins-in
   steps-still zero f t g = (record { none = refl })
   steps-still (suc left) f t g =
       let kind = kindAt (e .script) (f .place) in
@@ -277,7 +277,7 @@ bucket-retries w registry script place held binding bucket fine =
         }
 
 record Backed (r : Run) (m : Made (With Run)) : Type 0 where
-  calm : Calm (m .log)
+  calm : NoSpins (m .log)
   same : m .seen .0 .yields ≡ r .yields
 
 back-still : (n : ℕ) (e : Setting) (ls : List Lease) (r : Run) (t g : List ℕ) → Backed r (giveBackOf n e ls r t g)

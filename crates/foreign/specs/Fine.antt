@@ -17,7 +17,7 @@ use Rattle.laws.specs.Pick.{neither}
 use Rattle.laws.specs.Shape.{Shaped, shaped, healthy}
 use Rattle.laws.specs.Checks.{or-else, first-append, fine-rest, fine-append}
 use Rattle.foreign.specs.Model.{pairsOf, guardsOf, Room}
-use Rattle.foreign.specs.Laws.{Paid}
+use Rattle.foreign.specs.Laws.{FlowBound}
 
 pub record ScriptFine (h : Head) (words bytes script place : ℕ) : Type 0 where
   pub shape : Shaped h words
@@ -65,5 +65,5 @@ pub fine-room : (h : Head) (words bytes script place n : ℕ) → ScriptFine h w
 fine-room h words bytes script place n f b =
     record { words-fit = omega (arith, f .shape .words-are); bytes-fit = omega (arith, f .bytes-are); few-taken = b; steps-are = refl }
 
-pub fine-paid : (h : Head) (words bytes script place : ℕ) → ScriptFine h words bytes script place → Paid (script / 3) (flowOf (h .next) place 0)
-fine-paid h words bytes script place f = record { few = omega arith; in-script = f .in-script }
+pub fine-flow-bound : (h : Head) (words bytes script place : ℕ) → ScriptFine h words bytes script place → FlowBound (script / 3) (flowOf (h .next) place 0)
+fine-flow-bound h words bytes script place f = record { few = omega arith; in-script = f .in-script }

@@ -11,7 +11,7 @@ use borrow.Author.Tests.{leb-true, ne-eqb}
 use Rattle.model.specs.Choice.{if_then_else_}
 use Rattle.model.specs.Log.{Made}
 use Rattle.model.specs.Arena.{serialRemains, bitAt, ownerAt, leaseOf, leasesOf, sameLease, isIn, isLive, heldBy, stateAt, stateOf, isFree, isHeld}
-use Rattle.model.specs.Foreign.{Setting, setting, flowOf, stepReleaseOf, stepTakeOf, stepWaitersOf, stepHealthOf, stepOf, stepsOf, boundaryOf, kindAt, placeAt, numberAt, stepsIn}
+use Rattle.model.specs.Foreign.{Setting, setting, flowOf, stepReleaseOf, stepTakeOf, stepWaitersOf, stepHealthOf, stepOf, runStepsOf, boundaryOf, kindAt, placeAt, numberAt, stepsIn}
 use Rattle.model.specs.declared.Flow.{Flow}
 use Rattle.model.specs.declared.Lease.{Lease}
 use Rattle.model.specs.declared.State.the-variants as state
@@ -103,8 +103,8 @@ module _ (headers cells : ℕ) (script : List ℕ) (ps : List Lease) where
   unfolding stepOf
   step-zero next t g k p q = rw (release-zero cells ps next t p q)
 
-  pub steps-zero : (left : ℕ) (f : Flow) (t g : List ℕ) → stepsOf left with-zero f t g ≡ stepsOf left (setting headers cells script ps) f t g
-  unfolding stepsOf
+  pub steps-zero : (left : ℕ) (f : Flow) (t g : List ℕ) → runStepsOf left with-zero f t g ≡ runStepsOf left (setting headers cells script ps) f t g
+  unfolding runStepsOf
   steps-zero zero f t g = refl
   steps-zero (suc left) f t g =
       let o = stepOf (setting headers cells script ps) (f .next) t g (kindAt script (f .place)) (placeAt script (f .place)) (numberAt script (f .place)) in
@@ -117,14 +117,14 @@ module _ (e : Setting) (f : Flow) (t g : List ℕ) where
   turn = stepOf e (f .next) t g (kindAt (e .script) (f .place)) (placeAt (e .script) (f .place)) (numberAt (e .script) (f .place)) .seen
 
   pub steps-at : (steps : ℕ) → f .place < steps
-      → stepsOf (steps - f .place) e f t g .seen
+      → runStepsOf (steps - f .place) e f t g .seen
       ≡ (if eqb (kindAt (e .script) (f .place)) 5 then (flowOf (f .next) (f .place + 1) (f .dropped), (t, g))
-      else stepsOf (steps - (f .place + 1)) e (flowOf (turn .0 .next) (f .place + 1) (f .dropped + turn .0 .dropped)) (turn .1 .0) (turn .1 .1) .seen)
-  unfolding stepsOf
+      else runStepsOf (steps - (f .place + 1)) e (flowOf (turn .0 .next) (f .place + 1) (f .dropped + turn .0 .dropped)) (turn .1 .0) (turn .1 .1) .seen)
+  unfolding runStepsOf
   steps-at steps l = let k : steps - f .place ≡ suc (steps - (f .place + 1)) = omega arith in rw k (seen-if (eqb (kindAt (e .script) (f .place)) 5) _ _)
 
-  pub steps-end : (steps : ℕ) → steps ≤ f .place → stepsOf (steps - f .place) e f t g .seen ≡ (f, (t, g))
-  unfolding stepsOf
+  pub steps-end : (steps : ℕ) → steps ≤ f .place → runStepsOf (steps - f .place) e f t g .seen ≡ (f, (t, g))
+  unfolding runStepsOf
   steps-end steps l = let k : steps - f .place ≡ 0 = omega arith in rw k
 
   -- a boundary past the script's end is quiet
@@ -142,13 +142,13 @@ module _ (headers cells : ℕ) (script : List ℕ) (ps : List Lease) (f : Flow) 
   same-step = refl
 
   pub steps-turn : (steps : ℕ) → f .place < steps → (eqb (kindAt script (f .place)) 5 ≡ false)
-      → stepsOf (steps - f .place) (setting headers cells script ps) f t g .seen
-      ≡ stepsOf (steps - (f .place + 1)) (setting headers cells script ps) (flowOf (alone .0 .next) (f .place + 1) (f .dropped + alone .0 .dropped)) (alone .1 .0) (alone .1 .1) .seen
+      → runStepsOf (steps - f .place) (setting headers cells script ps) f t g .seen
+      ≡ runStepsOf (steps - (f .place + 1)) (setting headers cells script ps) (flowOf (alone .0 .next) (f .place + 1) (f .dropped + alone .0 .dropped)) (alone .1 .0) (alone .1 .1) .seen
   steps-turn steps l n =
       steps-at (setting headers cells script ps) f t g steps l
-      ∙ rw n (ap (λ (o : Stepped × (List ℕ × List ℕ)). stepsOf (steps - (f .place + 1)) (setting headers cells script ps) (flowOf (o .0 .next) (f .place + 1) (f .dropped + o .0 .dropped)) (o .1 .0) (o .1 .1) .seen) same-step)
+      ∙ rw n (ap (λ (o : Stepped × (List ℕ × List ℕ)). runStepsOf (steps - (f .place + 1)) (setting headers cells script ps) (flowOf (o .0 .next) (f .place + 1) (f .dropped + o .0 .dropped)) (o .1 .0) (o .1 .1) .seen) same-step)
 
--- ---- counts: a step drops at most one, and drops stay paid by steps
+-- ---- counts: a step drops at most one, and drops stay flow-bound by steps
 
 abbrev Few : Made (Stepped × List ℕ) → Type 0
 Few o = o .seen .0 .dropped ≤ 1
@@ -186,44 +186,44 @@ pub step-drops : (o : Stepped × (List ℕ × List ℕ)) (e : Setting) (next : �
     → o ≡ stepOf e next t g k p q .seen → o .0 .dropped ≤ 1
 step-drops o e next t g k p q h = rw h (step-few e next t g k p q)
 
--- what a boundary keeps: drops are paid by steps, the place does not pass the script's end
-pub record Paid (steps : ℕ) (f : Flow) : Type 0 where
+-- what a boundary keeps: drops are flow-bound by steps, the place does not pass the script's end
+pub record FlowBound (steps : ℕ) (f : Flow) : Type 0 where
   pub few : f .dropped ≤ f .place
   pub in-script : f .place ≤ steps
 
-abbrev PaidAfter : ℕ → Made (Flow × (List ℕ × List ℕ)) → Type 0
-PaidAfter steps o = Paid steps (o .seen .0)
+abbrev FlowBoundAfter : ℕ → Made (Flow × (List ℕ × List ℕ)) → Type 0
+FlowBoundAfter steps o = FlowBound steps (o .seen .0)
 
-steps-paid : (e : Setting) (left : ℕ) (f : Flow) (t g : List ℕ) → f .dropped ≤ f .place → PaidAfter (f .place + left) (stepsOf left e f t g)
-unfolding stepsOf
-steps-paid e zero f t g b = record { few = b; in-script = omega arith }
-steps-paid e (suc left) f t g b =
+steps-flow-bound : (e : Setting) (left : ℕ) (f : Flow) (t g : List ℕ) → f .dropped ≤ f .place → FlowBoundAfter (f .place + left) (runStepsOf left e f t g)
+unfolding runStepsOf
+steps-flow-bound e zero f t g b = record { few = b; in-script = omega arith }
+steps-flow-bound e (suc left) f t g b =
     let k = kindAt (e .script) (f .place) in
     let p = placeAt (e .script) (f .place) in
     let q = numberAt (e .script) (f .place) in
     let o = stepOf e (f .next) t g k p q .seen in
     let d = step-few e (f .next) t g k p q in
     let n : f .place + 1 + left ≡ f .place + suc left = omega arith in
-    if-both (PaidAfter (f .place + suc left)) (eqb k 5) (record { few = omega arith; in-script = omega arith })
-    (subst (λ m. PaidAfter m (stepsOf left e (flowOf (o .0 .next) (f .place + 1) (f .dropped + o .0 .dropped)) (o .1 .0) (o .1 .1))) n
-    (steps-paid e left (flowOf (o .0 .next) (f .place + 1) (f .dropped + o .0 .dropped)) (o .1 .0) (o .1 .1) (omega arith)))
+    if-both (FlowBoundAfter (f .place + suc left)) (eqb k 5) (record { few = omega arith; in-script = omega arith })
+    (subst (λ m. FlowBoundAfter m (runStepsOf left e (flowOf (o .0 .next) (f .place + 1) (f .dropped + o .0 .dropped)) (o .1 .0) (o .1 .1))) n
+    (steps-flow-bound e left (flowOf (o .0 .next) (f .place + 1) (f .dropped + o .0 .dropped)) (o .1 .0) (o .1 .1) (omega arith)))
 
 -- what a caller of a boundary uses
-pub boundary-paid : (o : Flow × (List ℕ × List ℕ)) (e : Setting) (f : Flow) (t g : List ℕ)
-    → o ≡ boundaryOf e f t g .seen → Paid (stepsIn (e .script)) f → Paid (stepsIn (e .script)) (o .0)
+pub boundary-flow-bound : (o : Flow × (List ℕ × List ℕ)) (e : Setting) (f : Flow) (t g : List ℕ)
+    → o ≡ boundaryOf e f t g .seen → FlowBound (stepsIn (e .script)) f → FlowBound (stepsIn (e .script)) (o .0)
 unfolding boundaryOf
-boundary-paid o e f t g q b =
+boundary-flow-bound o e f t g q b =
     let n : f .place + (stepsIn (e .script) - f .place) ≡ stepsIn (e .script) = omega (arith, b .in-script) in
-    rw q (subst (λ m. PaidAfter m (stepsOf (stepsIn (e .script) - f .place) e f t g)) n (steps-paid e (stepsIn (e .script) - f .place) f t g (b .few)))
+    rw q (subst (λ m. FlowBoundAfter m (runStepsOf (stepsIn (e .script) - f .place) e f t g)) n (steps-flow-bound e (stepsIn (e .script) - f .place) f t g (b .few)))
 
 -- where the loop over a script stands: what remains from here is what the whole comes to
 pub record Walk (e : Setting) (steps : ℕ) (f₀ : Flow) (t₀ g₀ : List ℕ) (f : Flow) (t g : List ℕ) : Type 0 where
-  pub paid : Paid steps f
+  pub flow-bound : FlowBound steps f
   pub words : length t ≡ length t₀
   pub bytes : length g ≡ length g₀
-  pub rest : stepsOf (steps - f .place) e f t g .seen ≡ stepsOf (steps - f₀ .place) e f₀ t₀ g₀ .seen
+  pub rest : runStepsOf (steps - f .place) e f t g .seen ≡ runStepsOf (steps - f₀ .place) e f₀ t₀ g₀ .seen
 
 -- the same, as the code lends a script and its number of steps
 pub boundary-goes : (o : Flow × (List ℕ × List ℕ)) (headers cells steps : ℕ) (script : List ℕ) (ps : List Lease) (f : Flow) (t g : List ℕ)
-    → steps ≡ length script / 3 → o ≡ boundaryOf (setting headers cells script ps) f t g .seen → Paid steps f → Paid steps (o .0)
-boundary-goes o headers cells steps script ps f t g n q b = rw n (boundary-paid o (setting headers cells script ps) f t g q (rw (← n) b))
+    → steps ≡ length script / 3 → o ≡ boundaryOf (setting headers cells script ps) f t g .seen → FlowBound steps f → FlowBound steps (o .0)
+boundary-goes o headers cells steps script ps f t g n q b = rw n (boundary-flow-bound o (setting headers cells script ps) f t g q (rw (← n) b))

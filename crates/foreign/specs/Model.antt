@@ -29,7 +29,7 @@ pub record Room (headers cells words bytes n steps script : ℕ) : Type 0 where
   pub steps-are : steps ≡ script / 3
 
 -- the boundary of `environment`, once its checks are fine
-unfoldable pub onceOf : Head → List ℕ → List ℕ → List ℕ → ℕ → List ℕ → Played × (List ℕ × List ℕ)
-onceOf h t g script place held =
+unfoldable pub runOnceOf : Head → List ℕ → List ℕ → List ℕ → ℕ → List ℕ → Played × (List ℕ × List ℕ)
+runOnceOf h t g script place held =
     let o = boundaryOf (given h script (leasesOf held)) (flowOf (h .next) place 0) t g .seen in
     (played h (runOf (o .0) 0 1 0) Done, o .1)

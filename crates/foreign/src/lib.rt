@@ -18,22 +18,22 @@ ghost use lib.ListN.{length};
 ghost use Rattle.model.specs.Arena.{shapeFits, isIn};
 ghost use Rattle.model.specs.Refusals.{first};
 ghost use Rattle.model.specs.Checks.{badShape, badHealth, badScript, badHeld, scriptRules};
-ghost use Rattle.model.specs.Foreign.{setting, protecting, flowOf, stepsIn, stepTakeOf, stepReleaseOf, stepWaitersOf, stepHealthOf, stepOf, stepsOf, boundaryOf};
+ghost use Rattle.model.specs.Foreign.{setting, protecting, flowOf, stepsIn, stepTakeOf, stepReleaseOf, stepWaitersOf, stepHealthOf, stepOf, runStepsOf, boundaryOf};
 ghost use Rattle.model.specs.Calls.{played, unplayed, environmentOf};
-ghost use Rattle.foreign.specs.Model.{pairsOf, guardsOf, Room, onceOf};
-ghost use Rattle.foreign.specs.Laws.{Paid};
+ghost use Rattle.foreign.specs.Model.{pairsOf, guardsOf, Room, runOnceOf};
+ghost use Rattle.foreign.specs.Laws.{FlowBound};
 ghost use Rattle.foreign.specs.Fine.{ScriptFine};
 
 // ---- one step
 
 // Whether a lease is among the first n pairs.
-fn in_pairs(taken: &[[u32; 2]; 64], n: usize, lease: Lease) -> bool
+fn is_in_pairs(taken: &[[u32; 2]; 64], n: usize, lease: Lease) -> bool
     requires { ⌜ n ≤ 64 ⌝ }
     ensures { λ r. ⌜ r ≡ isIn lease (pairsOf n 0 (now (taken .entry))) ⌝ }
 {
     let mut i = 0;
     while i < n {
-        if lease::same(taken[i][0], taken[i][1], lease) {
+        if lease::same_lease(taken[i][0], taken[i][1], lease) {
             return true;
         }
         i += 1;
@@ -42,17 +42,17 @@ fn in_pairs(taken: &[[u32; 2]; 64], n: usize, lease: Lease) -> bool
 }
 
 // Whether a lease is protected: held, taken by this call, or the call's own new one.
-fn guarded_by(held: &[u32], taken: &[[u32; 2]; 64], n: usize, own: Lease, lease: Lease) -> bool
+fn is_guarded(held: &[u32], taken: &[[u32; 2]; 64], n: usize, own: Lease, lease: Lease) -> bool
     requires { ⌜ n ≤ 64 ⌝ }
     ensures { λ r. ⌜ r ≡ isIn lease (guardsOf (now (held .entry)) (now (taken .entry)) n ++ (own ∷ [])) ⌝ }
 {
-    if lease::in_list(held, lease) {
+    if lease::is_in(held, lease) {
         return true;
     }
-    if in_pairs(taken, n, lease) {
+    if is_in_pairs(taken, n, lease) {
         return true;
     }
-    lease::same(own.cell, own.serial, lease)
+    lease::same_lease(own.cell, own.serial, lease)
 }
 
 // 1: take a cell, if it is in range and free and a serial remains.
@@ -61,7 +61,7 @@ fn step_take(cells: u32, next: u32, table: &mut [u32], cell: u32) -> Stepped
     ensures { λ r. ⌜ (r, now (table .exit)) ≡ stepTakeOf cells next (now (table .entry)) cell .seen ⌝ }
 {
     if cell < cells {
-        if arena::free(table, cell) {
+        if arena::is_free(table, cell) {
             if model::serial_remains(next) {
                 arena::set_cell(table, cell, 1, next);
                 return Stepped {
@@ -90,8 +90,8 @@ fn step_release(
     requires { ⌜ (3 * cells ≤ length (now table)) × (n ≤ 64) ⌝ }
     ensures { λ r. ⌜ (r, now (table .exit)) ≡ stepReleaseOf cells (guardsOf (now (held .entry)) (now (taken .entry)) n ++ (own ∷ [])) next (now (table .entry)) (lease .cell) (lease .serial) .seen ⌝ }
 {
-    if arena::live(next, cells, table, lease.cell, lease.serial) {
-        if guarded_by(held, taken, n, own, lease) {
+    if arena::is_live(next, cells, table, lease.cell, lease.serial) {
+        if is_guarded(held, taken, n, own, lease) {
             return Stepped { next, dropped: 1 };
         }
         arena::release(table, lease.cell);
@@ -186,8 +186,8 @@ fn run_steps(
     n: usize,
     own: Lease,
 ) -> Flow
-    requires { ⌜ Room headers cells (length (now table)) (length (now health)) n steps (length (now script)) × Paid steps (flowOf start place before) ⌝ }
-    ensures { λ r. ⌜ (r, (now (table .exit), now (health .exit))) ≡ stepsOf (steps - place) (setting headers cells (now (script .entry)) (guardsOf (now (held .entry)) (now (taken .entry)) n ++ (own ∷ []))) (flowOf start place before) (now (table .entry)) (now (health .entry)) .seen ⌝ }
+    requires { ⌜ Room headers cells (length (now table)) (length (now health)) n steps (length (now script)) × FlowBound steps (flowOf start place before) ⌝ }
+    ensures { λ r. ⌜ (r, (now (table .exit), now (health .exit))) ≡ runStepsOf (steps - place) (setting headers cells (now (script .entry)) (guardsOf (now (held .entry)) (now (taken .entry)) n ++ (own ∷ []))) (flowOf start place before) (now (table .entry)) (now (health .entry)) .seen ⌝ }
 {
     let mut next = start;
     let mut p = place;
@@ -241,7 +241,7 @@ pub fn boundary(
     taken: &[[u32; 2]; 64],
     n: usize,
 ) -> Flow
-    requires { ⌜ Room headers cells (length (now table)) (length (now health)) n steps (length (now script)) × Paid steps flow ⌝ }
+    requires { ⌜ Room headers cells (length (now table)) (length (now health)) n steps (length (now script)) × FlowBound steps flow ⌝ }
     ensures { λ r. ⌜ (r, (now (table .exit), now (health .exit))) ≡ boundaryOf (setting headers cells (now (script .entry)) (guardsOf (now (held .entry)) (now (taken .entry)) n)) flow (now (table .entry)) (now (health .entry)) .seen ⌝ }
 {
     if flow.place < steps {
@@ -271,7 +271,7 @@ pub fn boundary(
 
 // The same, with a lease of the call's own protected too.
 // A step, no call of document 01: only the layers here call it, and each proves its `requires`.
-pub fn guarded(
+pub fn protecting_boundary(
     headers: u32,
     cells: u32,
     flow: Flow,
@@ -284,7 +284,7 @@ pub fn guarded(
     n: usize,
     own: Lease,
 ) -> Flow
-    requires { ⌜ Room headers cells (length (now table)) (length (now health)) n steps (length (now script)) × Paid steps flow ⌝ }
+    requires { ⌜ Room headers cells (length (now table)) (length (now health)) n steps (length (now script)) × FlowBound steps flow ⌝ }
     ensures { λ r. ⌜ (r, (now (table .exit), now (health .exit))) ≡ boundaryOf (protecting (setting headers cells (now (script .entry)) (guardsOf (now (held .entry)) (now (taken .entry)) n)) (own ∷ [])) flow (now (table .entry)) (now (health .entry)) .seen ⌝ }
 {
     if flow.place < steps {
@@ -314,7 +314,7 @@ pub fn guarded(
 // ---- the checks of calls with a script, in the order of document 01's table
 
 // 1, of head, table and health.
-pub fn arena_check(head: Head, table: &[u32], health: &[u8]) -> Check
+pub fn arena_fault(head: Head, table: &[u32], health: &[u8]) -> Check
     ensures { λ r. ⌜ r ≡ first (badShape head (now (table .entry)) ∷ badHealth head (now (health .entry)) ∷ []) ⌝ }
 {
     if head.shape_fits(table.len()) {
@@ -345,14 +345,14 @@ pub fn script_fault(script: &[u32], place: usize) -> Check
 
 // 2, and then 3.
 // A step, no call of document 01: only the layers here call it, and each proves its `requires`.
-pub fn lists_check(head: Head, table: &[u32], script: &[u32], place: usize, held: &[u32]) -> Check
+pub fn lists_fault(head: Head, table: &[u32], script: &[u32], place: usize, held: &[u32]) -> Check
     requires { ⌜ shapeFits head (length (now table)) ≡ true ⌝ }
     ensures { λ r. ⌜ r ≡ first (badScript (now (script .entry)) place ∷ badHeld head (now (table .entry)) (now (held .entry))) ⌝ }
 {
     let fault = script_fault(script, place);
     match fault {
         Check::Fault(refusal) => Check::Fault(refusal),
-        Check::Fine => lease::held_check(head, table, held),
+        Check::Fine => lease::held_fault(head, table, held),
     }
 }
 
@@ -366,10 +366,10 @@ pub fn script_check(
 ) -> Check
     ensures { λ r. ⌜ r ≡ first (scriptRules head (now (table .entry)) (now (health .entry)) (now (script .entry)) place (now (held .entry))) ⌝ }
 {
-    let shape = arena_check(head, table, health);
+    let shape = arena_fault(head, table, health);
     match shape {
         Check::Fault(refusal) => Check::Fault(refusal),
-        Check::Fine => lists_check(head, table, script, place, held),
+        Check::Fine => lists_fault(head, table, script, place, held),
     }
 }
 
@@ -453,7 +453,7 @@ fn run_once(
     held: &[u32],
 ) -> Played
     requires { ⌜ ScriptFine head (length (now table)) (length (now health)) (length (now script)) place ⌝ }
-    ensures { λ r. ⌜ (r, (now (table .exit), now (health .exit))) ≡ onceOf head (now (table .entry)) (now (health .entry)) (now (script .entry)) place (now (held .entry)) ⌝ }
+    ensures { λ r. ⌜ (r, (now (table .exit), now (health .exit))) ≡ runOnceOf head (now (table .entry)) (now (health .entry)) (now (script .entry)) place (now (held .entry)) ⌝ }
 {
     let taken = [[0; 2]; 64];
     let flow = Flow {

@@ -8,7 +8,7 @@ use lib.Dec.{ltb, leb, eqb}
 use lib.ListN.{length, take}
 use Rattle.model.specs.Log.{Made, Event, attempt-begun, yielded, released, by-caller, note, _>>_}
 use Rattle.model.specs.Arena.{serialRemains, bitAt, ownerAt, waitersAt, setCell, stateAt, isFree, isLive, isIn, leaseOf}
-use Rattle.model.specs.Foreign.{Setting, protecting, stepsIn, kindAt, placeAt, numberAt, flowOf, stepTakeOf, stepReleaseOf, stepWaitersOf, stepHealthOf, stepOf, stepsOf, boundaryOf}
+use Rattle.model.specs.Foreign.{Setting, protecting, stepsIn, kindAt, placeAt, numberAt, flowOf, stepTakeOf, stepReleaseOf, stepWaitersOf, stepHealthOf, stepOf, runStepsOf, boundaryOf}
 use Rattle.model.specs.Lock.{takeIn, takeOf, afterTake, lateOf, secondOf, lockOf, runOf, findOf, attemptAt, attemptOf, spinOf, pauseOf, isBusy, retryOf, leaseAt, giveBackOf, rollbackOf, afterKey, bindingAt, bucketAt, attemptLimit, Locks, locksOf}
 use Rattle.model.specs.Calls.{countsOf}
 use Rattle.model.specs.declared.Counts.{Counts}
@@ -78,8 +78,8 @@ module _ (a b y d : ℕ) where
 abbrev Flows : ℕ → ℕ → ℕ → ℕ → ℕ → Made (Flow × (List ℕ × List ℕ)) → Type 0
 Flows a b c y d m = Counted (countsOf a b y d) (countsOf a c y (m .seen .0 .dropped)) (m .log)
 
-steps-counted : (left : ℕ) (e : Setting) (f : Flow) (t g : List ℕ) (a b y : ℕ) → Flows a b b y (f .dropped) (stepsOf left e f t g)
-unfolding stepsOf number-of
+steps-counted : (left : ℕ) (e : Setting) (f : Flow) (t g : List ℕ) (a b y : ℕ) → Flows a b b y (f .dropped) (runStepsOf left e f t g)
+unfolding runStepsOf number-of
 steps-counted zero e f t g a b y = omega arith
 steps-counted (suc left) e f t g a b y =
     let kind = kindAt (e .script) (f .place) in

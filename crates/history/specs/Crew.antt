@@ -11,7 +11,7 @@ use lib.Seq.{getD-set-same, getD-set-other}
 use borrow.Author.Tests.{ltb-true, ltb-false, leb-false}
 use Rattle.model.specs.Log.{Made, Event, by-caller, attempt-begun, boundary-run, released}
 use Rattle.model.specs.Arena.{cellsOf, leaseOf, setCell, waitersAt, isIn}
-use Rattle.model.specs.Foreign.{flowOf, stepsOf, boundaryOf}
+use Rattle.model.specs.Foreign.{flowOf, runStepsOf, boundaryOf}
 use Rattle.model.specs.Lock.{takeOf, lateOf, afterTake, secondOf, lockOf}
 use Rattle.model.specs.Calls.{given}
 use Rattle.model.specs.Crew.{total, startOf, countOf, badLimits, badLists, badTurns, crewRules, Crew, crewAt, moved, afterTry, tryTurnOf, releaseTurnOf, turnOf, turnsOf}
@@ -112,7 +112,7 @@ data Noted (counts cells made serials : List ℕ) (m x i j : ℕ) : Type 0 where
 module _ (h : Head) (n : ℕ) (t g : List ℕ) (c : ℕ) where
   -- what is protected makes no difference
   late-same : (ps : List Lease) (k d : ℕ) (u : List ℕ) (s : ℕ) → lateOf (given h [] ps) (flowOf k 0 d) u g c s ≡ lateOf (given h [] []) (flowOf k 0 d) u g c s
-  unfolding lateOf boundaryOf stepsOf
+  unfolding lateOf boundaryOf runStepsOf
   late-same ps k d u s = refl
 
   after-same : (ps : List Lease) (a : Take) (k d : ℕ) (u : List ℕ) → afterTake a (given h [] ps) (flowOf k 0 d) u g c ≡ afterTake a (given h [] []) (flowOf k 0 d) u g c
@@ -122,18 +122,18 @@ module _ (h : Head) (n : ℕ) (t g : List ℕ) (c : ℕ) where
   after-same ps taking.Spent k d u = refl
 
   second-same : (ps : List Lease) → secondOf (given h [] ps) (flowOf n 0 0) t g c ≡ secondOf (given h [] []) (flowOf n 0 0) t g c
-  unfolding secondOf boundaryOf stepsOf
+  unfolding secondOf boundaryOf runStepsOf
   second-same ps =
       let k = takeOf n t c in
       ap (λ (m : Made (With Locked)). record { seen = m .seen; log = (boundary-run ∷ []) ++ (k .log ++ m .log) })
       (after-same ps (k .seen .0 .answer) (k .seen .0 .next) 0 (k .seen .1))
 
   lock-same : (ps : List Lease) → lockOf (given h [] ps) (flowOf n 0 0) t g c ≡ lockOf (given h [] []) (flowOf n 0 0) t g c
-  unfolding lockOf boundaryOf stepsOf
+  unfolding lockOf boundaryOf runStepsOf
   lock-same ps = rw (second-same ps)
 
   same-health : lockOf (given h [] []) (flowOf n 0 0) t g c .seen .1 .1 ≡ g
-  unfolding lockOf secondOf lateOf boundaryOf stepsOf
+  unfolding lockOf secondOf lateOf boundaryOf runStepsOf
   same-health = if-both (λ (m : Made (With Locked)). m .seen .1 .1 ≡ g) (eqb (waitersAt t c) 0) (go (takeOf n t c .seen .0 .answer)) refl
     where
       go : (a : Take) → afterTake a (given h [] []) (flowOf (takeOf n t c .seen .0 .next) 0 0) (takeOf n t c .seen .1) g c .seen .1 .1 ≡ g

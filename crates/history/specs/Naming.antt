@@ -10,7 +10,7 @@ use lib.ListN.{length, take}
 use borrow.Author.Tests.{eqb-true}
 use Rattle.model.specs.Log.{Made, Event, by-caller, by-script, attempt-begun, boundary-run, yielded, spun, step-dropped, took, released, waiters-set, health-set}
 use Rattle.model.specs.Arena.{serialRemains, bitAt, ownerAt, waitersAt, setCell, stateAt, isFree, isLive, isIn, leaseOf}
-use Rattle.model.specs.Foreign.{Setting, protecting, stepsIn, kindAt, placeAt, numberAt, flowOf, stepTakeOf, stepReleaseOf, stepWaitersOf, stepHealthOf, stepOf, stepsOf, boundaryOf}
+use Rattle.model.specs.Foreign.{Setting, protecting, stepsIn, kindAt, placeAt, numberAt, flowOf, stepTakeOf, stepReleaseOf, stepWaitersOf, stepHealthOf, stepOf, runStepsOf, boundaryOf}
 use Rattle.model.specs.Lock.{takeIn, takeOf, afterTake, lateOf, secondOf, lockOf, outcomeOf, runOf, findOf, attemptAt, attemptOf, spinOf, pauseOf, isBusy, retryOf, leaseAt, giveBackOf, rollbackOf, afterKey, bindingAt, bucketAt, attemptLimit, Locks, locksOf}
 use Rattle.model.specs.declared.Flow.{Flow}
 use Rattle.model.specs.declared.Found.{Found}
@@ -141,8 +141,8 @@ abbrev Flows : List ℕ → ℕ → Leases → Made (Flow × (List ℕ × List �
 Flows script low A m = Told script low A (m .log) (λ _. low ≤ m .seen .0 .place)
 
 steps-told : (left : ℕ) (e : Setting) (low : ℕ) (f : Flow) (t g : List ℕ) (A : Leases) → low ≤ f .place → left ≤ stepsIn (e .script) - f .place
-    → Flows (e .script) low A (stepsOf left e f t g)
-unfolding stepsOf
+    → Flows (e .script) low A (runStepsOf left e f t g)
+unfolding runStepsOf
 steps-told zero e low f t g A b l = none b
 steps-told (suc left) e low f t g A b l =
     let kind = kindAt (e .script) (f .place) in

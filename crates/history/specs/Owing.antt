@@ -10,7 +10,7 @@ use lib.ListN.{length, take}
 use lib.Seq.{take-suc, take-length}
 use Rattle.model.specs.Log.{Made, Event, by-caller, by-script, attempt-begun, boundary-run, yielded, spun, step-dropped, took, released, waiters-set, health-set}
 use Rattle.model.specs.Arena.{serialRemains, leaseOf, bitAt, ownerAt, waitersAt, setCell, isFree, isLive, isIn, stateAt}
-use Rattle.model.specs.Foreign.{Setting, protecting, stepsIn, kindAt, placeAt, numberAt, stepTakeOf, stepReleaseOf, stepWaitersOf, stepHealthOf, stepOf, stepsOf, boundaryOf, flowOf}
+use Rattle.model.specs.Foreign.{Setting, protecting, stepsIn, kindAt, placeAt, numberAt, stepTakeOf, stepReleaseOf, stepWaitersOf, stepHealthOf, stepOf, runStepsOf, boundaryOf, flowOf}
 use Rattle.model.specs.Lock.{takeIn, takeOf, lateOf, afterTake, secondOf, lockOf, outcomeOf, findOf, attemptAt, attemptOf, spinOf, pauseOf, isBusy, retryOf, runOf, attemptLimit, noLease, leaseAt, giveBackOf, Locks, rollbackOf, afterKey, bindingAt, bucketAt, locksOf}
 use Rattle.model.specs.declared.Flow.{Flow}
 use Rattle.model.specs.declared.Found.{Found}
@@ -147,8 +147,8 @@ module _ (e : Setting) where
       P′ : Made (Stepped × List ℕ) → Type 0
       P′ m = Silent m
 
-  steps-silent : (left : ℕ) (f : Flow) (t g : List ℕ) → Silent (stepsOf left e f t g)
-  unfolding stepsOf
+  steps-silent : (left : ℕ) (f : Flow) (t g : List ℕ) → Silent (runStepsOf left e f t g)
+  unfolding runStepsOf
   steps-silent zero f t g = none
   steps-silent (suc left) f t g =
       if-both P (eqb (kindAt (e .script) (f .place)) 5) none

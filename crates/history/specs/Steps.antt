@@ -8,7 +8,7 @@ use lib.Dec.{ltb, leb, eqb}
 use borrow.Author.Tests.{ltb-true, leb-true, not-true}
 use Rattle.model.specs.Log.{Made, Event, by-caller, by-script, attempt-begun, boundary-run, yielded, spun, step-dropped, took, released, waiters-set, health-set}
 use Rattle.model.specs.Arena.{serialRemains, cellsOf, spentTo, leaseOf, bitAt, ownerAt, waitersAt, isFree, isLive, isIn, stateAt}
-use Rattle.model.specs.Foreign.{stepsIn, kindAt, placeAt, numberAt, stepTakeOf, stepReleaseOf, stepWaitersOf, stepHealthOf, stepOf, stepsOf, boundaryOf, flowOf}
+use Rattle.model.specs.Foreign.{stepsIn, kindAt, placeAt, numberAt, stepTakeOf, stepReleaseOf, stepWaitersOf, stepHealthOf, stepOf, runStepsOf, boundaryOf, flowOf}
 use Rattle.model.specs.Lock.{takeIn, takeOf, lateOf, afterTake, secondOf, lockOf, outcomeOf, findOf, attemptAt, attemptOf, spinOf, pauseOf, isBusy, retryOf, runOf}
 use Rattle.model.specs.Calls.{given}
 use Rattle.model.specs.declared.Flow.{Flow}
@@ -171,8 +171,8 @@ module _ (h : Head) (script : List ℕ) where
   Flowing w ps = Leads (of-flow h) w (In ps)
 
   steps-kept : (left : ℕ) (ps : List Lease) (f : Flow) (t g : List ℕ) → Fit (worldAt h (f .next) t g)
-      → Flowing (worldAt h (f .next) t g) ps (stepsOf left (given h script ps) f t g)
-  unfolding stepsOf
+      → Flowing (worldAt h (f .next) t g) ps (runStepsOf left (given h script ps) f t g)
+  unfolding runStepsOf
   steps-kept zero ps f t g good = record { kept = nothing }
   steps-kept (suc left) ps f t g good =
       let kind = kindAt script (f .place) in

@@ -23,8 +23,8 @@ claimWith h a = record { head = h; answer = a }
 abbrev pub claimed : Head → Took × List ℕ → Claim × List ℕ
 claimed h k = (claimWith (spentTo h (k .0 .next)) (k .0 .answer), k .1)
 
-unfoldable pub claimOf : Head → List ℕ → ℕ → Claim × List ℕ
-claimOf h t c = claimed h (takeOf (h .next) t c .seen)
+unfoldable pub claimAtOf : Head → List ℕ → ℕ → Claim × List ℕ
+claimAtOf h t c = claimed h (takeOf (h .next) t c .seen)
 
 -- of a cell that is known to be free: by what the head issues
 abbrev pub serve : Serial → Head → List ℕ → ℕ → Claim × List ℕ
@@ -35,8 +35,8 @@ unfoldable pub claimFreeOf : Head → List ℕ → ℕ → Claim × List ℕ
 claimFreeOf h t c = serve (issueOf h .serial) (issueOf h .head) t c
 
 -- it is the compare-and-set of a free cell
-pub claim-free : (h : Head) (t : List ℕ) (c : ℕ) → stateAt (h .next) t c ≡ state.Free → claimOf h t c ≡ claimFreeOf h t c
-unfolding claimOf claimFreeOf takeOf issueOf
+pub claim-free : (h : Head) (t : List ℕ) (c : ℕ) → stateAt (h .next) t c ≡ state.Free → claimAtOf h t c ≡ claimFreeOf h t c
+unfolding claimAtOf claimFreeOf takeOf issueOf
 claim-free h t c e = rw e (go (serialRemains (h .next)) refl)
   where
     go : (b : Bool) → serialRemains (h .next) ≡ b → claimed h (takeIn state.Free (h .next) t c .seen) ≡ serve (issueOf h .serial) (issueOf h .head) t c
@@ -44,14 +44,14 @@ claim-free h t c e = rw e (go (serialRemains (h .next)) refl)
     go false p = rw p
 
 -- the result of attempt number n of a call, on its cell
-abbrev pub repliedWith : ℕ → Claim → ℕ → Reply
-repliedWith n k c = replied (k .head) n (answerOf (outcomeOf c (k .answer)))
+abbrev pub claimReplyOf : ℕ → Claim → ℕ → Reply
+claimReplyOf n k c = replied (k .head) n (answerOf (outcomeOf c (k .answer)))
 
-pub acquire-is : (n : ℕ) (h : Head) (t : List ℕ) (c : ℕ) → acquireOf n h t c .seen ≡ (repliedWith n (claimOf h t c .0) c, claimOf h t c .1)
-unfolding acquireOf claimOf
+pub acquire-is : (n : ℕ) (h : Head) (t : List ℕ) (c : ℕ) → acquireOf n h t c .seen ≡ (claimReplyOf n (claimAtOf h t c .0) c, claimAtOf h t c .1)
+unfolding acquireOf claimAtOf
 acquire-is n h t c = refl
 
 -- and where the cell is known to be free
 pub acquire-free : (n : ℕ) (h : Head) (t : List ℕ) (c : ℕ) → stateAt (h .next) t c ≡ state.Free
-    → acquireOf n h t c .seen ≡ (repliedWith n (claimFreeOf h t c .0) c, claimFreeOf h t c .1)
-acquire-free n h t c e = acquire-is n h t c ∙ ap (λ (k : Claim × List ℕ). (repliedWith n (k .0) c, k .1)) (claim-free h t c e)
+    → acquireOf n h t c .seen ≡ (claimReplyOf n (claimFreeOf h t c .0) c, claimFreeOf h t c .1)
+acquire-free n h t c e = acquire-is n h t c ∙ ap (λ (k : Claim × List ℕ). (claimReplyOf n (k .0) c, k .1)) (claim-free h t c e)

@@ -20,7 +20,7 @@ ghost use Rattle.model.specs.Refusals.{first};
 ghost use Rattle.model.specs.Lock.{outcomeOf, answerOf};
 ghost use Rattle.model.specs.Checks.{cellRules, leaseRules, heldCellRules, heldLeaseRules, badHeld, notLive, badCell, notHeld, isProtected};
 ghost use Rattle.model.specs.Calls.{acquireOf, tryAcquireOf, dropLeaseOf, readPermissionOf, competingAcquireOf, releaseThenHandoffOf, foreignReleaseOf, acquirePreservingOf, dropPreservingOf};
-ghost use Rattle.lease.specs.Model.{claimOf, claimFreeOf, repliedWith};
+ghost use Rattle.lease.specs.Model.{claimAtOf, claimFreeOf, claimReplyOf};
 
 // What a compare-and-set hands back: the changed head, and its answer.
 pub struct Claim {
@@ -57,9 +57,9 @@ fn claim_free(head: Head, table: &mut [u32], cell: u32) -> Claim
 // A step, no call of document 01: only the layers here call it, and each proves its `requires`.
 pub fn claim_at(head: Head, table: &mut [u32], cell: u32) -> Claim
     requires { ⌜ 3 * cell + 2 < length (now table) ⌝ }
-    ensures { λ r. ⌜ (r, now (table .exit)) ≡ claimOf head (now (table .entry)) cell ⌝ }
+    ensures { λ r. ⌜ (r, now (table .exit)) ≡ claimAtOf head (now (table .entry)) cell ⌝ }
 {
-    let state = arena::state(head.next, table, cell);
+    let state = arena::state_at(head.next, table, cell);
     match state {
         State::Damaged => Claim {
             head,
@@ -85,7 +85,7 @@ pub fn outcome(cell: u32, answer: Take) -> Outcome
     }
 }
 
-pub fn answered(outcome: Outcome) -> Answer
+pub fn answer_of(outcome: Outcome) -> Answer
     ensures { λ r. ⌜ r ≡ answerOf outcome ⌝ }
 {
     match outcome {
@@ -96,13 +96,13 @@ pub fn answered(outcome: Outcome) -> Answer
 }
 
 // The result of attempt number n of a call, on its cell.
-fn claimed(n: usize, claim: Claim, cell: u32) -> Reply
-    ensures { λ r. ⌜ r ≡ repliedWith n claim cell ⌝ }
+fn claim_reply(n: usize, claim: Claim, cell: u32) -> Reply
+    ensures { λ r. ⌜ r ≡ claimReplyOf n claim cell ⌝ }
 {
     let head = claim.head;
     let answer = claim.answer;
     let said = outcome(cell, answer);
-    arena::reply(head, n, answered(said))
+    arena::reply(head, n, answer_of(said))
 }
 
 // Attempt number n of a call: one compare-and-set.
@@ -111,7 +111,7 @@ fn acquire(n: usize, head: Head, table: &mut [u32], cell: u32) -> Reply
     ensures { λ r. ⌜ (r, now (table .exit)) ≡ acquireOf n head (now (table .entry)) cell .seen ⌝ }
 {
     let claim = claim_at(head, table, cell);
-    claimed(n, claim, cell)
+    claim_reply(n, claim, cell)
 }
 
 // Attempt number n of a call, on a cell that is released just before: it is free, so nothing is tested again.
@@ -121,13 +121,13 @@ fn hand_on(n: usize, head: Head, table: &mut [u32], cell: u32) -> Reply
 {
     arena::release(table, cell);
     let claim = claim_free(head, table, cell);
-    claimed(n, claim, cell)
+    claim_reply(n, claim, cell)
 }
 
 // ---- the checks of these calls, in the order of document 01's table
 
 // Whether these are the lease's words.
-pub fn same(cell: u32, serial: u32, lease: Lease) -> bool
+pub fn same_lease(cell: u32, serial: u32, lease: Lease) -> bool
     ensures { λ r. ⌜ r ≡ sameLease (leaseOf cell serial) lease ⌝ }
 {
     if cell == lease.cell {
@@ -137,12 +137,12 @@ pub fn same(cell: u32, serial: u32, lease: Lease) -> bool
 }
 
 // Whether a lease stands in a list; the scan ends at the first match.
-pub fn in_list(list: &[u32], lease: Lease) -> bool
+pub fn is_in(list: &[u32], lease: Lease) -> bool
     ensures { λ r. ⌜ r ≡ isIn lease (leasesOf (now (list .entry))) ⌝ }
 {
     let mut i = 0;
     while i < list.len() / 2 {
-        if same(list[2 * i], list[2 * i + 1], lease) {
+        if same_lease(list[2 * i], list[2 * i + 1], lease) {
             return true;
         }
         i += 1;
@@ -156,11 +156,11 @@ pub fn is_live(head: Head, table: &[u32], cell: u32, serial: u32) -> bool
     requires { ⌜ shapeFits head (length (now table)) ≡ true ⌝ }
     ensures { λ r. ⌜ r ≡ isLive (head .next) (cellsOf head) (now (table .entry)) (leaseOf cell serial) ⌝ }
 {
-    arena::live(head.next, head.headers * head.buckets, table, cell, serial)
+    arena::is_live(head.next, head.headers * head.buckets, table, cell, serial)
 }
 
 // The first lease of a held list that is not live.
-fn dead(head: Head, table: &[u32], held: &[u32]) -> Check
+fn live_fault(head: Head, table: &[u32], held: &[u32]) -> Check
     requires { ⌜ shapeFits head (length (now table)) ≡ true ⌝ }
     ensures { λ r. ⌜ r ≡ first (notLive head (now (table .entry)) 0 (leasesOf (now (held .entry)))) ⌝ }
 {
@@ -177,7 +177,7 @@ fn dead(head: Head, table: &[u32], held: &[u32]) -> Check
 
 // A held list: its length, and then each lease by position.
 // A step, no call of document 01: only the layers here call it, and each proves its `requires`.
-pub fn held_check(head: Head, table: &[u32], held: &[u32]) -> Check
+pub fn held_fault(head: Head, table: &[u32], held: &[u32]) -> Check
     requires { ⌜ shapeFits head (length (now table)) ≡ true ⌝ }
     ensures { λ r. ⌜ r ≡ first (badHeld head (now (table .entry)) (now (held .entry))) ⌝ }
 {
@@ -188,7 +188,7 @@ pub fn held_check(head: Head, table: &[u32], held: &[u32]) -> Check
     if 64 < n {
         return Check::Fault(Refusal::BadHeld(n));
     }
-    dead(head, table, held)
+    live_fault(head, table, held)
 }
 
 // A cell number of a call by cell.
@@ -236,7 +236,7 @@ fn held_cell_check(head: Head, table: &[u32], held: &[u32], cell: u32) -> Check
     ensures { λ r. ⌜ r ≡ first (heldCellRules head (now (table .entry)) (now (held .entry)) cell) ⌝ }
 {
     if head.shape_fits(table.len()) {
-        let list = held_check(head, table, held);
+        let list = held_fault(head, table, held);
         return match list {
             Check::Fault(refusal) => Check::Fault(refusal),
             Check::Fine => cell_fault(head, cell),
@@ -246,10 +246,10 @@ fn held_cell_check(head: Head, table: &[u32], held: &[u32], cell: u32) -> Check
 }
 
 // Of a live lease that may not be in the held list.
-fn loose(held: &[u32], lease: Lease) -> Check
+fn protected_fault(held: &[u32], lease: Lease) -> Check
     ensures { λ r. ⌜ r ≡ first (isProtected (now (held .entry)) lease ∷ []) ⌝ }
 {
-    if in_list(held, lease) {
+    if is_in(held, lease) {
         return Check::Fault(Refusal::Protected);
     }
     Check::Fine
@@ -259,24 +259,24 @@ fn held_lease_check(head: Head, table: &[u32], held: &[u32], lease: Lease) -> Ch
     ensures { λ r. ⌜ r ≡ first (heldLeaseRules head (now (table .entry)) (now (held .entry)) lease) ⌝ }
 {
     if head.shape_fits(table.len()) {
-        let list = held_check(head, table, held);
+        let list = held_fault(head, table, held);
         return match list {
             Check::Fault(refusal) => Check::Fault(refusal),
-            Check::Fine => lease_or_loose(head, table, held, lease),
+            Check::Fine => drop_fault(head, table, held, lease),
         };
     }
     Check::Fault(Refusal::BadShape)
 }
 
 // 12, and then 13.
-fn lease_or_loose(head: Head, table: &[u32], held: &[u32], lease: Lease) -> Check
+fn drop_fault(head: Head, table: &[u32], held: &[u32], lease: Lease) -> Check
     requires { ⌜ shapeFits head (length (now table)) ≡ true ⌝ }
     ensures { λ r. ⌜ r ≡ first (notHeld head (now (table .entry)) 0 lease ∷ isProtected (now (held .entry)) lease ∷ []) ⌝ }
 {
     let one = lease_fault(head, table, lease);
     match one {
         Check::Fault(refusal) => Check::Fault(refusal),
-        Check::Fine => loose(held, lease),
+        Check::Fine => protected_fault(held, lease),
     }
 }
 

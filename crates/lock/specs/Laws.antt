@@ -21,9 +21,9 @@ use Rattle.model.specs.declared.Take.the-variants as taking
 use Rattle.model.specs.declared.Took.{Took}
 use Rattle.laws.specs.Pick.{if-both}
 use Rattle.laws.specs.Words.{waiters-set-cell}
-use Rattle.lease.specs.Model.{claimOf}
-use Rattle.foreign.specs.Laws.{Paid, boundary-quiet, boundary-paid}
-use Rattle.lock.specs.Model.{boundariesFor, quietTake, quietOf}
+use Rattle.lease.specs.Model.{claimAtOf}
+use Rattle.foreign.specs.Laws.{FlowBound, boundary-quiet, boundary-flow-bound}
+use Rattle.lock.specs.Model.{boundariesFor, quietTake, quietLockOf}
 
 -- ---- past the script's end
 
@@ -65,8 +65,8 @@ module _ (e : Setting) (g : List ℕ) (c : ℕ) where
       rw (boundary-quiet e f t g l) (after-quiet (k .0 .answer) (flowOf (k .0 .next) (f .place) (f .dropped)) (k .1) l (take-waiters (f .next) t c c ∙ w))
 
   -- it is the quiet one
-  pub lock-quiet : (f : Flow) (t : List ℕ) → stepsIn (e .script) ≤ f .place → lockOf e f t g c .seen ≡ beside (quietOf f t c)
-  unfolding lockOf quietOf
+  pub lock-quiet : (f : Flow) (t : List ℕ) → stepsIn (e .script) ≤ f .place → lockOf e f t g c .seen ≡ beside (quietLockOf f t c)
+  unfolding lockOf quietLockOf
   lock-quiet f t l = rw (boundary-quiet e f t g l) (go (eqb (waitersAt t c) 0) refl)
     where
       go : (b : Bool) → eqb (waitersAt t c) 0 ≡ b
@@ -75,51 +75,51 @@ module _ (e : Setting) (g : List ℕ) (c : ℕ) where
       go true w = second-quiet f t l (eqb-true _ _ w)
       go false w = refl
 
--- ---- what a try_lock keeps: drops stay paid by steps, and it has at most three boundaries
+-- ---- what a try_lock keeps: drops stay flow-bound by steps, and it has at most three boundaries
 
-pub record Sober (steps : ℕ) (k : Locked) : Type 0 where
-  pub paid : Paid steps (k .flow)
+pub record LockedBound (steps : ℕ) (k : Locked) : Type 0 where
+  pub flow-bound : FlowBound steps (k .flow)
   pub few : k .boundaries ≤ 3
 
 module _ (e : Setting) (g : List ℕ) (c : ℕ) where
   abbrev Kept : Made (Locked × (List ℕ × List ℕ)) → Type 0
-  Kept m = Sober (stepsIn (e .script)) (m .seen .0)
+  Kept m = LockedBound (stepsIn (e .script)) (m .seen .0)
 
-  late-kept : (f : Flow) (t g : List ℕ) (s : ℕ) → Paid (stepsIn (e .script)) f → Kept (lateOf e f t g c s)
+  late-kept : (f : Flow) (t g : List ℕ) (s : ℕ) → FlowBound (stepsIn (e .script)) f → Kept (lateOf e f t g c s)
   unfolding lateOf
   late-kept f t g s b =
       let q = protecting e (leaseOf c s ∷ []) in
-      let p = boundary-paid _ q f t g refl b in
-      if-both Kept (eqb (waitersAt (boundaryOf q f t g .seen .1 .0) c) 0) (record { paid = p; few = omega arith }) (record { paid = p; few = omega arith })
+      let p = boundary-flow-bound _ q f t g refl b in
+      if-both Kept (eqb (waitersAt (boundaryOf q f t g .seen .1 .0) c) 0) (record { flow-bound = p; few = omega arith }) (record { flow-bound = p; few = omega arith })
 
-  after-kept : (a : Take) (f : Flow) (t g : List ℕ) → Paid (stepsIn (e .script)) f → Kept (afterTake a e f t g c)
+  after-kept : (a : Take) (f : Flow) (t g : List ℕ) → FlowBound (stepsIn (e .script)) f → Kept (afterTake a e f t g c)
   after-kept (taking.Granted s) f t g b = late-kept f t g s b
-  after-kept taking.Busy f t g b = record { paid = b; few = omega arith }
-  after-kept taking.Damaged f t g b = record { paid = b; few = omega arith }
-  after-kept taking.Spent f t g b = record { paid = b; few = omega arith }
+  after-kept taking.Busy f t g b = record { flow-bound = b; few = omega arith }
+  after-kept taking.Damaged f t g b = record { flow-bound = b; few = omega arith }
+  after-kept taking.Spent f t g b = record { flow-bound = b; few = omega arith }
 
-  second-kept : (f : Flow) (t g : List ℕ) → Paid (stepsIn (e .script)) f → Kept (secondOf e f t g c)
+  second-kept : (f : Flow) (t g : List ℕ) → FlowBound (stepsIn (e .script)) f → Kept (secondOf e f t g c)
   unfolding secondOf
   second-kept f t g b =
       let o = boundaryOf e f t g .seen in
-      let p = boundary-paid o e f t g refl b in
+      let p = boundary-flow-bound o e f t g refl b in
       let k = takeOf (o .0 .next) (o .1 .0) c .seen in
       after-kept (k .0 .answer) (flowOf (k .0 .next) (o .0 .place) (o .0 .dropped)) (k .1) (o .1 .1) (record { few = p .few; in-script = p .in-script })
 
-  lock-kept : (f : Flow) (t g : List ℕ) → Paid (stepsIn (e .script)) f → Kept (lockOf e f t g c)
+  lock-kept : (f : Flow) (t g : List ℕ) → FlowBound (stepsIn (e .script)) f → Kept (lockOf e f t g c)
   unfolding lockOf
   lock-kept f t g b =
       let o = boundaryOf e f t g .seen in
-      let p = boundary-paid o e f t g refl b in
-      if-both Kept (eqb (waitersAt (o .1 .0) c) 0) (second-kept (o .0) (o .1 .0) (o .1 .1) p) (record { paid = p; few = omega arith })
+      let p = boundary-flow-bound o e f t g refl b in
+      if-both Kept (eqb (waitersAt (o .1 .0) c) 0) (second-kept (o .0) (o .1 .0) (o .1 .1) p) (record { flow-bound = p; few = omega arith })
 
 -- as a caller has it
-pub lock-sober : (o : Locked × (List ℕ × List ℕ)) (e : Setting) (f : Flow) (t g : List ℕ) (c : ℕ)
-    → o ≡ lockOf e f t g c .seen → Paid (stepsIn (e .script)) f → Sober (stepsIn (e .script)) (o .0)
-lock-sober o e f t g c q b = rw q (lock-kept e g c f t g b)
+pub lock-locked-bound : (o : Locked × (List ℕ × List ℕ)) (e : Setting) (f : Flow) (t g : List ℕ) (c : ℕ)
+    → o ≡ lockOf e f t g c .seen → FlowBound (stepsIn (e .script)) f → LockedBound (stepsIn (e .script)) (o .0)
+lock-locked-bound o e f t g c q b = rw q (lock-kept e g c f t g b)
 
 -- the compare-and-set as the code makes it, on a whole head
 pub take-claim : (h : Head) (next : ℕ) (t : List ℕ) (c : ℕ)
-    → takeOf next t c .seen ≡ (tookOf (claimOf (spentTo h next) t c .0 .head .next) (claimOf (spentTo h next) t c .0 .answer), claimOf (spentTo h next) t c .1)
-unfolding claimOf
+    → takeOf next t c .seen ≡ (tookOf (claimAtOf (spentTo h next) t c .0 .head .next) (claimAtOf (spentTo h next) t c .0 .answer), claimAtOf (spentTo h next) t c .1)
+unfolding claimAtOf
 take-claim h next t c = refl

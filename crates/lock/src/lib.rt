@@ -18,8 +18,8 @@ ghost use Rattle.model.specs.Foreign.{setting};
 ghost use Rattle.model.specs.Lock.{lateOf, secondOf, lockOf};
 ghost use Rattle.model.specs.Calls.{tryLockOf};
 ghost use Rattle.foreign.specs.Model.{guardsOf, Room};
-ghost use Rattle.foreign.specs.Laws.{Paid};
-ghost use Rattle.lock.specs.Model.{quietOf, boundariesFor, lockOnceOf};
+ghost use Rattle.foreign.specs.Laws.{FlowBound};
+ghost use Rattle.lock.specs.Model.{quietLockOf, boundariesFor, lockOnceOf};
 ghost use Rattle.lock.specs.Fine.{LockFine};
 
 // The third boundary, and the second look at the waiters.
@@ -37,11 +37,11 @@ fn late(
     cell: u32,
     serial: u32,
 ) -> Locked
-    requires { ⌜ Room headers cells (length (now table)) (length (now health)) n steps (length (now script)) × (Paid steps flow × (cell < cells)) ⌝ }
+    requires { ⌜ Room headers cells (length (now table)) (length (now health)) n steps (length (now script)) × (FlowBound steps flow × (cell < cells)) ⌝ }
     ensures { λ r. ⌜ (r, (now (table .exit), now (health .exit))) ≡ lateOf (setting headers cells (now (script .entry)) (guardsOf (now (held .entry)) (now (taken .entry)) n)) flow (now (table .entry)) (now (health .entry)) cell serial .seen ⌝ }
 {
     let own = Lease { cell, serial };
-    let after = foreign::guarded(
+    let after = foreign::protecting_boundary(
         headers,
         cells,
         flow,
@@ -54,7 +54,7 @@ fn late(
         n,
         own,
     );
-    if arena::waiters(table, cell) == 0 {
+    if arena::waiters_at(table, cell) == 0 {
         return Locked {
             flow: after,
             boundaries: 3,
@@ -83,7 +83,7 @@ fn second(
     n: usize,
     cell: u32,
 ) -> Locked
-    requires { ⌜ Room (head .headers) cells (length (now table)) (length (now health)) n steps (length (now script)) × (Paid steps flow × (cell < cells)) ⌝ }
+    requires { ⌜ Room (head .headers) cells (length (now table)) (length (now health)) n steps (length (now script)) × (FlowBound steps flow × (cell < cells)) ⌝ }
     ensures { λ r. ⌜ (r, (now (table .exit), now (health .exit))) ≡ secondOf (setting (head .headers) cells (now (script .entry)) (guardsOf (now (held .entry)) (now (taken .entry)) n)) flow (now (table .entry)) (now (health .entry)) cell .seen ⌝ }
 {
     let headers = head.headers;
@@ -155,7 +155,7 @@ pub fn lock(
     n: usize,
     cell: u32,
 ) -> Locked
-    requires { ⌜ Room (head .headers) cells (length (now table)) (length (now health)) n steps (length (now script)) × (Paid steps flow × (cell < cells)) ⌝ }
+    requires { ⌜ Room (head .headers) cells (length (now table)) (length (now health)) n steps (length (now script)) × (FlowBound steps flow × (cell < cells)) ⌝ }
     ensures { λ r. ⌜ (r, (now (table .exit), now (health .exit))) ≡ lockOf (setting (head .headers) cells (now (script .entry)) (guardsOf (now (held .entry)) (now (taken .entry)) n)) flow (now (table .entry)) (now (health .entry)) cell .seen ⌝ }
 {
     let after = foreign::boundary(
@@ -170,7 +170,7 @@ pub fn lock(
         taken,
         n,
     );
-    if arena::waiters(table, cell) == 0 {
+    if arena::waiters_at(table, cell) == 0 {
         return second(
             head,
             cells,
@@ -212,9 +212,9 @@ fn boundaries_for(answer: Take) -> usize
 // A step, no call of document 01: only the layers here call it, and each proves its `requires`.
 pub fn quiet_lock(head: Head, flow: Flow, table: &mut [u32], cell: u32) -> Locked
     requires { ⌜ 3 * cell + 2 < length (now table) ⌝ }
-    ensures { λ r. ⌜ (r, now (table .exit)) ≡ quietOf flow (now (table .entry)) cell ⌝ }
+    ensures { λ r. ⌜ (r, now (table .exit)) ≡ quietLockOf flow (now (table .entry)) cell ⌝ }
 {
-    if arena::waiters(table, cell) == 0 {
+    if arena::waiters_at(table, cell) == 0 {
         let claim = lease::claim_at(head.spent_to(flow.next), table, cell);
         let spent = claim.head;
         let answer = claim.answer;
@@ -268,7 +268,7 @@ fn lock_alone(
     held: &[u32],
     cell: u32,
 ) -> Locked
-    requires { ⌜ Room (head .headers) cells (length (now table)) (length (now health)) 0 steps (length (now script)) × (Paid steps flow × (cell < cells)) ⌝ }
+    requires { ⌜ Room (head .headers) cells (length (now table)) (length (now health)) 0 steps (length (now script)) × (FlowBound steps flow × (cell < cells)) ⌝ }
     ensures { λ r. ⌜ (r, (now (table .exit), now (health .exit))) ≡ lockOf (setting (head .headers) cells (now (script .entry)) (leasesOf (now (held .entry)))) flow (now (table .entry)) (now (health .entry)) cell .seen ⌝ }
 {
     if flow.place < steps {
@@ -320,7 +320,7 @@ fn lock_once(
         yields: 0,
     };
     let outcome = lease::outcome(cell, answer);
-    foreign::play(head, run, lease::answered(outcome))
+    foreign::play(head, run, lease::answer_of(outcome))
 }
 
 pub fn try_lock(

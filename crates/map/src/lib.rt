@@ -27,7 +27,7 @@ fn waited(waiters: u32, none: u8, some: u8) -> u8
 pub fn sign(next: u32, bit: u32, owner: u32, waiters: u32) -> u8
     ensures { λ r. ⌜ r ≡ signOf (stateOf next bit owner) waiters ⌝ }
 {
-    let state = arena::said(next, bit, owner);
+    let state = arena::state_of(next, bit, owner);
     match state {
         State::Free => waited(waiters, 46, 119),
         State::Held(_) => waited(waiters, 35, 87),

@@ -108,16 +108,16 @@ abbrev pub flowOf : ℕ → ℕ → ℕ → Flow
 flowOf next place dropped = record { next = next; place = place; dropped = dropped }
 
 -- "A boundary runs steps up to and including the next 5, or to the script's end": `left` steps are left of the script
-unfoldable pub stepsOf : ℕ → Setting → Flow → List ℕ → List ℕ → Made (Flow × (List ℕ × List ℕ))
-stepsOf zero e f t g = gives (f, (t, g))
-stepsOf (suc left) e f t g =
+unfoldable pub runStepsOf : ℕ → Setting → Flow → List ℕ → List ℕ → Made (Flow × (List ℕ × List ℕ))
+runStepsOf zero e f t g = gives (f, (t, g))
+runStepsOf (suc left) e f t g =
     if eqb (kindAt (e .script) (f .place)) 5 then gives (flowOf (f .next) (f .place + 1) (f .dropped), (t, g))
     else do
       (s, (u, w)) ← stepOf e (f .next) t g (kindAt (e .script) (f .place)) (placeAt (e .script) (f .place)) (numberAt (e .script) (f .place))
-      stepsOf left e (flowOf (s .next) (f .place + 1) (f .dropped + s .dropped)) u w
+      runStepsOf left e (flowOf (s .next) (f .place + 1) (f .dropped + s .dropped)) u w
 
 -- one boundary; "past the end it is quiet"
 unfoldable pub boundaryOf : Setting → Flow → List ℕ → List ℕ → Made (Flow × (List ℕ × List ℕ))
 boundaryOf e f t g = do
   note boundary-run
-  stepsOf (stepsIn (e .script) - f .place) e f t g
+  runStepsOf (stepsIn (e .script) - f .place) e f t g

@@ -31,7 +31,7 @@ use Rattle.laws.specs.Checks.{drop-two}
 use Rattle.laws.specs.Keys.{find-inside}
 use Rattle.bucket.specs.Model.{Key}
 use Rattle.bucket.specs.Bounds.{keyMost}
-use Rattle.bucket.specs.Laws.{Calm, more-calm, attempt-calm, pause-calm}
+use Rattle.bucket.specs.Laws.{RunBound, more-run-bound, attempt-run-bound, pause-run-bound}
 
 -- ---- the array of pairs
 
@@ -69,18 +69,18 @@ pairs-push p a c s l =
 -- ---- what a retry keeps, and where its grant lies
 
 module _ (e : Setting) (buckets : ℕ) (registry : List ℕ) (binding bucket : ℕ) where
-  retry-calm : (left i most : ℕ) (r : Run) (t g : List ℕ) → Calm (stepsIn (e .script)) most r
-      → Calm (stepsIn (e .script)) (most + 5 * left) (retryOf left i e buckets registry binding bucket r t g .seen .0 .run)
+  retry-run-bound : (left i most : ℕ) (r : Run) (t g : List ℕ) → RunBound (stepsIn (e .script)) most r
+      → RunBound (stepsIn (e .script)) (most + 5 * left) (retryOf left i e buckets registry binding bucket r t g .seen .0 .run)
   unfolding retryOf
-  retry-calm zero i most r t g b = more-calm _ most (most + 5 * 0) _ (omega arith) b
-  retry-calm (suc left) i most r t g b =
+  retry-run-bound zero i most r t g b = more-run-bound _ most (most + 5 * 0) _ (omega arith) b
+  retry-run-bound (suc left) i most r t g b =
       let o = attemptOf e buckets registry binding bucket r t g .seen in
-      let c = attempt-calm e buckets registry binding bucket most r t g b in
+      let c = attempt-run-bound e buckets registry binding bucket most r t g b in
       let p = pauseOf e i (o .0 .run) (o .1 .0) (o .1 .1) .seen in
-      let d = pause-calm e i (most + 3) (o .0 .run) (o .1 .0) (o .1 .1) c in
-      if-both (λ (m : Made (Tried × (List ℕ × List ℕ))). Calm (stepsIn (e .script)) (most + 5 * suc left) (m .seen .0 .run)) (isBusy (o .0 .outcome))
-      (more-calm _ (most + 3 + 2 + 5 * left) (most + 5 * suc left) _ (omega arith) (retry-calm left (i + 1) (most + 3 + 2) (p .0) (p .1 .0) (p .1 .1) d))
-      (more-calm _ (most + 3) (most + 5 * suc left) _ (omega arith) c)
+      let d = pause-run-bound e i (most + 3) (o .0 .run) (o .1 .0) (o .1 .1) c in
+      if-both (λ (m : Made (Tried × (List ℕ × List ℕ))). RunBound (stepsIn (e .script)) (most + 5 * suc left) (m .seen .0 .run)) (isBusy (o .0 .outcome))
+      (more-run-bound _ (most + 3 + 2 + 5 * left) (most + 5 * suc left) _ (omega arith) (retry-run-bound left (i + 1) (most + 3 + 2) (p .0) (p .1 .0) (p .1 .1) d))
+      (more-run-bound _ (most + 3) (most + 5 * suc left) _ (omega arith) c)
 
   -- a granted lease's cell is in range
   abbrev Within : Outcome → Type 0
@@ -111,9 +111,9 @@ module _ (e : Setting) (buckets : ℕ) (registry : List ℕ) (binding bucket : �
 
 -- as the code has them
 pub retry-goes : (o : Tried × (List ℕ × List ℕ)) (headers cells steps : ℕ) (script : List ℕ) (ps : List Lease) (buckets : ℕ) (registry : List ℕ) (binding bucket most : ℕ) (r : Run) (t g : List ℕ)
-    → steps ≡ length script / 3 → o ≡ retryOf 4096 0 (setting headers cells script ps) buckets registry binding bucket r t g .seen → Calm steps most r → Calm steps (most + keyMost) (o .0 .run)
+    → steps ≡ length script / 3 → o ≡ retryOf 4096 0 (setting headers cells script ps) buckets registry binding bucket r t g .seen → RunBound steps most r → RunBound steps (most + keyMost) (o .0 .run)
 retry-goes o headers cells steps script ps buckets registry binding bucket most r t g n q b =
-    rw (q, n) (retry-calm (setting headers cells script ps) buckets registry binding bucket 4096 0 most r t g (rw n at b))
+    rw (q, n) (retry-run-bound (setting headers cells script ps) buckets registry binding bucket 4096 0 most r t g (rw n at b))
 
 pub grant-inside : (o : Tried × (List ℕ × List ℕ)) (headers cells : ℕ) (script : List ℕ) (ps : List Lease) (buckets : ℕ) (registry : List ℕ) (binding bucket : ℕ) (r : Run) (t g : List ℕ) (l : Lease)
     → o ≡ retryOf 4096 0 (setting headers cells script ps) buckets registry binding bucket r t g .seen → o .0 .outcome ≡ outcome.Granted l → l .cell < headers * buckets
@@ -141,14 +141,14 @@ module _ (n p : ℕ) (e : Setting) (buckets : ℕ) (registry keys : List ℕ) (t
   locks-end l = let d : n - p ≡ 0 = omega arith in rw d
 
 -- a rollback, as the code has it: without the grant buffer, which it does not touch
-unfoldable pub rolledOf : Setting → List Lease → Refusal → ℕ → Run → List ℕ → List ℕ → Ended × (List ℕ × List ℕ)
-rolledOf e ls x p r t g = let k = giveBackOf (length ls) e ls r t g .seen in (endedOf (k .0) (answer.RefusedAt x p), k .1)
+unfoldable pub rollBackOf : Setting → List Lease → Refusal → ℕ → Run → List ℕ → List ℕ → Ended × (List ℕ × List ℕ)
+rollBackOf e ls x p r t g = let k = giveBackOf (length ls) e ls r t g .seen in (endedOf (k .0) (answer.RefusedAt x p), k .1)
 
 abbrev pub with-grants : Ended × (List ℕ × List ℕ) → List ℕ → Ended × (List ℕ × (List ℕ × List ℕ))
 with-grants o grants = (o .0, (o .1 .0, (o .1 .1, grants)))
 
-pub rolled : (e : Setting) (ls : List Lease) (x : Refusal) (p : ℕ) (r : Run) (t g grants : List ℕ) → rollbackOf e ls x p r t g grants .seen ≡ with-grants (rolledOf e ls x p r t g) grants
-unfolding rollbackOf rolledOf
+pub rolled : (e : Setting) (ls : List Lease) (x : Refusal) (p : ℕ) (r : Run) (t g grants : List ℕ) → rollbackOf e ls x p r t g grants .seen ≡ with-grants (rollBackOf e ls x p r t g) grants
+unfolding rollbackOf rollBackOf
 rolled e ls x p r t g grants = refl
 
 -- ---- the grant buffer
@@ -207,7 +207,7 @@ inside-push a p c s cells l h b i k = go (ℕ-discrete i p)
 
 -- where multi-lock stands, before the key at position p
 pub record Keying (e : Setting) (steps cells n buckets : ℕ) (registry keys : List ℕ) (grants : List ℕ) (r₀ : Run) (t₀ g₀ : List ℕ) (p : ℕ) (a : List (List ℕ)) (r : Run) (t g : List ℕ) : Type 0 where
-  pub calm : Calm steps (keyMost * p) r
+  pub run-bound : RunBound steps (keyMost * p) r
   pub few : p ≤ n
   pub words : length t ≡ length t₀
   pub bytes : length g ≡ length g₀

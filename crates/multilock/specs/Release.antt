@@ -27,7 +27,7 @@ use Rattle.foreign.specs.Model.{pairsOf, guardsOf, Room}
 use Rattle.foreign.specs.Laws.{boundary-goes}
 use Rattle.foreign.specs.Fine.{ScriptFine, arena-fine, place-fine, script-then, guards-none}
 use Rattle.bucket.specs.Bounds.{callMost}
-use Rattle.bucket.specs.Laws.{Calm}
+use Rattle.bucket.specs.Laws.{RunBound}
 
 -- ---- the first leases of a list, and the lease at a position
 
@@ -135,12 +135,12 @@ giveOneOf e r t g c =
 
 pub give-one-goes : (headers cells steps : ℕ) (script : List ℕ) (ps : List Lease) → steps ≡ length script / 3
     → (o : Run × (List ℕ × List ℕ)) (most : ℕ) (r : Run) (t g : List ℕ) (c : ℕ)
-    → o ≡ giveOneOf (setting headers cells script ps) r t g c → Calm steps most r → Calm steps (most + 1) (o .0)
+    → o ≡ giveOneOf (setting headers cells script ps) r t g c → RunBound steps most r → RunBound steps (most + 1) (o .0)
 unfolding giveOneOf
 give-one-goes headers cells steps script ps n o most r t g c q b =
     rw q
     (record {
-      paid = boundary-goes _ headers cells steps script ps (r .flow) (setCell t c 0 0) g n refl (b .paid);
+      flow-bound = boundary-goes _ headers cells steps script ps (r .flow) (setCell t c 0 0) g n refl (b .flow-bound);
       few-attempts = omega (arith, b .few-attempts);
       few-boundaries = omega (arith, b .few-boundaries);
       few-yields = omega (arith, b .few-yields);
@@ -164,7 +164,7 @@ room-for p q k = rw (p, q) k
 
 -- where the loop stands, with k leases still to be released: what remains from here is what the whole comes to
 pub record Giving (e : Setting) (steps : ℕ) (ls : List Lease) (n : ℕ) (r₀ : Run) (t₀ g₀ : List ℕ) (k : ℕ) (r : Run) (t g : List ℕ) : Type 0 where
-  pub calm : Calm steps (callMost + (n - k)) r
+  pub run-bound : RunBound steps (callMost + (n - k)) r
   pub few : k ≤ n
   pub words : length t ≡ length t₀
   pub bytes : length g ≡ length g₀

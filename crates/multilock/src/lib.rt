@@ -27,9 +27,9 @@ ghost use Rattle.model.specs.Calls.{releaseAllOf, acquireLocksOf};
 ghost use Rattle.laws.specs.Checks.{or-else};
 ghost use Rattle.foreign.specs.Model.{pairsOf, guardsOf, Room};
 ghost use Rattle.bucket.specs.Bounds.{callMost, tryMost};
-ghost use Rattle.bucket.specs.Laws.{Calm};
+ghost use Rattle.bucket.specs.Laws.{RunBound};
 ghost use Rattle.multilock.specs.Release.{Inside, ReleaseFine, leasesRules, giveOneOf, releaseOnceOf};
-ghost use Rattle.multilock.specs.Locks.{rolledOf, Bound};
+ghost use Rattle.multilock.specs.Locks.{rollBackOf, Bound};
 ghost use Rattle.multilock.specs.Fine.{LocksFine, locksOnceOf};
 
 // ---- giving back
@@ -48,7 +48,7 @@ fn give_one(
     n: usize,
     cell: u32,
 ) -> Run
-    requires { ⌜ Room headers cells (length (now table)) (length (now health)) n steps (length (now script)) × (Calm steps tryMost run × (cell < cells)) ⌝ }
+    requires { ⌜ Room headers cells (length (now table)) (length (now health)) n steps (length (now script)) × (RunBound steps tryMost run × (cell < cells)) ⌝ }
     ensures { λ r. ⌜ (r, (now (table .exit), now (health .exit))) ≡ giveOneOf (setting headers cells (now (script .entry)) (guardsOf (now (held .entry)) (now (taken .entry)) n)) run (now (table .entry)) (now (health .entry)) cell ⌝ }
 {
     arena::release(table, cell);
@@ -85,7 +85,7 @@ fn give_back(
     steps: usize,
     leases: &[u32],
 ) -> Run
-    requires { ⌜ Room headers cells (length (now table)) (length (now health)) 0 steps (length (now script)) × (Calm steps callMost start × ((length (now leases) / 2 ≤ 64) × Inside cells (now leases))) ⌝ }
+    requires { ⌜ Room headers cells (length (now table)) (length (now health)) 0 steps (length (now script)) × (RunBound steps callMost start × ((length (now leases) / 2 ≤ 64) × Inside cells (now leases))) ⌝ }
     ensures { λ r. ⌜ (r, (now (table .exit), now (health .exit))) ≡ giveBackOf (length (now (leases .entry)) / 2) (setting headers cells (now (script .entry)) []) (leasesOf (now (leases .entry))) start (now (table .entry)) (now (health .entry)) .seen ⌝ }
 {
     let none = [[0; 2]; 64];
@@ -114,7 +114,7 @@ fn give_back(
 // ---- the checks, in the order of document 01's table
 
 // 12 and 14, tested together by position.
-fn releasable(head: Head, table: &[u32], leases: &[u32]) -> Check
+fn releasable_fault(head: Head, table: &[u32], leases: &[u32]) -> Check
     requires { ⌜ shapeFits head (length (now table)) ≡ true ⌝ }
     ensures { λ r. ⌜ r ≡ first (notReleasable head (now (table .entry)) 0 [] (leasesOf (now (leases .entry)))) ⌝ }
 {
@@ -125,7 +125,7 @@ fn releasable(head: Head, table: &[u32], leases: &[u32]) -> Check
         let serial = leases[e + 1];
         if lease::is_live(head, table, cell, serial) {
             let lease = Lease { cell, serial };
-            if lease::in_list(&leases[..e], lease) {
+            if lease::is_in(&leases[..e], lease) {
                 return Check::Fault(Refusal::Repeated(i));
             }
             i += 1;
@@ -137,7 +137,7 @@ fn releasable(head: Head, table: &[u32], leases: &[u32]) -> Check
 }
 
 // 4, and then 12 and 14.
-fn leases_check(head: Head, table: &[u32], leases: &[u32]) -> Check
+fn leases_fault(head: Head, table: &[u32], leases: &[u32]) -> Check
     requires { ⌜ shapeFits head (length (now table)) ≡ true ⌝ }
     ensures { λ r. ⌜ r ≡ first (leasesRules head (now (table .entry)) (now (leases .entry))) ⌝ }
 {
@@ -147,11 +147,11 @@ fn leases_check(head: Head, table: &[u32], leases: &[u32]) -> Check
     if 64 < leases.len() / 2 {
         return Check::Fault(Refusal::TooMany);
     }
-    releasable(head, table, leases)
+    releasable_fault(head, table, leases)
 }
 
 // 2, and then those.
-fn release_lists_check(
+fn release_lists_fault(
     head: Head,
     table: &[u32],
     script: &[u32],
@@ -164,7 +164,7 @@ fn release_lists_check(
     let fault = foreign::script_fault(script, place);
     match fault {
         Check::Fault(refusal) => Check::Fault(refusal),
-        Check::Fine => leases_check(head, table, leases),
+        Check::Fine => leases_fault(head, table, leases),
     }
 }
 
@@ -178,10 +178,10 @@ fn release_check(
 ) -> Check
     ensures { λ r. ⌜ r ≡ first (releaseRules head (now (table .entry)) (now (health .entry)) (now (script .entry)) place (now (leases .entry))) ⌝ }
 {
-    let shape = foreign::arena_check(head, table, health);
+    let shape = foreign::arena_fault(head, table, health);
     match shape {
         Check::Fault(refusal) => Check::Fault(refusal),
-        Check::Fine => release_lists_check(head, table, script, place, leases),
+        Check::Fine => release_lists_fault(head, table, script, place, leases),
     }
 }
 
@@ -201,7 +201,7 @@ fn release_once(
 {
     let cells = head.headers * head.buckets;
     let steps = script.len() / 3;
-    let start = bucket::begin(head, place);
+    let start = bucket::starting(head, place);
     let run = give_back(
         head.headers,
         cells,
@@ -247,7 +247,7 @@ fn give_pairs(
     taken: [[u32; 2]; 64],
     n: usize,
 ) -> Run
-    requires { ⌜ Room headers cells (length (now table)) (length (now health)) n steps (length (now script)) × (Calm steps callMost start × ((i : ℕ) → i < n → getD (getD taken i []) 0 0 < cells)) ⌝ }
+    requires { ⌜ Room headers cells (length (now table)) (length (now health)) n steps (length (now script)) × (RunBound steps callMost start × ((i : ℕ) → i < n → getD (getD taken i []) 0 0 < cells)) ⌝ }
     ensures { λ r. ⌜ (r, (now (table .exit), now (health .exit))) ≡ giveBackOf n (setting headers cells (now (script .entry)) (leasesOf (now (held .entry)))) (pairsOf n 0 taken) start (now (table .entry)) (now (health .entry)) .seen ⌝ }
 {
     let mut run = start;
@@ -287,8 +287,8 @@ fn roll_back(
     n: usize,
     refusal: Refusal,
 ) -> Ended
-    requires { ⌜ Room headers cells (length (now table)) (length (now health)) n steps (length (now script)) × (Calm steps callMost run × ((i : ℕ) → i < n → getD (getD taken i []) 0 0 < cells)) ⌝ }
-    ensures { λ r. ⌜ (r, (now (table .exit), now (health .exit))) ≡ rolledOf (setting headers cells (now (script .entry)) (leasesOf (now (held .entry)))) (pairsOf n 0 taken) refusal n run (now (table .entry)) (now (health .entry)) ⌝ }
+    requires { ⌜ Room headers cells (length (now table)) (length (now health)) n steps (length (now script)) × (RunBound steps callMost run × ((i : ℕ) → i < n → getD (getD taken i []) 0 0 < cells)) ⌝ }
+    ensures { λ r. ⌜ (r, (now (table .exit), now (health .exit))) ≡ rollBackOf (setting headers cells (now (script .entry)) (leasesOf (now (held .entry)))) (pairsOf n 0 taken) refusal n run (now (table .entry)) (now (health .entry)) ⌝ }
 {
     let after = give_pairs(
         headers,
@@ -340,7 +340,7 @@ fn try_key(
     registry: &[u32],
     keys: &[u32],
 ) -> Tried
-    requires { ⌜ Bound head cells (length (now table)) (length (now health)) steps (length (now script)) (now registry) (now keys) × (Calm steps callMost run × ((p < 64) × (2 * p + 1 < length (now keys)))) ⌝ }
+    requires { ⌜ Bound head cells (length (now table)) (length (now health)) steps (length (now script)) (now registry) (now keys) × (RunBound steps callMost run × ((p < 64) × (2 * p + 1 < length (now keys)))) ⌝ }
     ensures { λ r. ⌜ (r, (now (table .exit), now (health .exit))) ≡ retryOf 4096 0 (protecting (setting (head .headers) cells (now (script .entry)) (leasesOf (now (held .entry)))) (pairsOf p 0 (now (taken .entry)))) (head .buckets) (now (registry .entry)) (bindingAt (now (keys .entry)) p) (bucketAt (now (keys .entry)) p) run (now (table .entry)) (now (health .entry)) .seen ⌝ }
 {
     let binding = keys[2 * p];
@@ -377,7 +377,7 @@ fn lock_keys(
     n: usize,
     grants: &mut [u32],
 ) -> Ended
-    requires { ⌜ Bound head cells (length (now table)) (length (now health)) steps (length (now script)) (now registry) (now keys) × (Calm steps 0 start × ((n ≤ 64) × ((2 * n ≤ length (now keys)) × (length (now grants) ≡ 2 * n)))) ⌝ }
+    requires { ⌜ Bound head cells (length (now table)) (length (now health)) steps (length (now script)) (now registry) (now keys) × (RunBound steps 0 start × ((n ≤ 64) × ((2 * n ≤ length (now keys)) × (length (now grants) ≡ 2 * n)))) ⌝ }
     ensures { λ r. ⌜ (r, (now (table .exit), (now (health .exit), now (grants .exit)))) ≡ locksOf n 0 (setting (head .headers) cells (now (script .entry)) (leasesOf (now (held .entry)))) (head .buckets) (now (registry .entry)) (now (keys .entry)) [] start (now (table .entry)) (now (health .entry)) (now (grants .entry)) .seen ⌝ }
 {
     let headers = head.headers;
@@ -508,7 +508,7 @@ fn locks_check(
 ) -> Check
     ensures { λ r. ⌜ r ≡ first (locksRules head (now (table .entry)) (now (health .entry)) (now (registry .entry)) (now (script .entry)) place (now (held .entry)) (now (keys .entry)) (now (grants .entry))) ⌝ }
 {
-    let key = bucket::key_check(head, table, health, registry, script, place, held);
+    let key = bucket::key_fault(head, table, health, registry, script, place, held);
     match key {
         Check::Fault(refusal) => Check::Fault(refusal),
         Check::Fine => all_keys_fault(registry, held, keys, grants),
@@ -534,7 +534,7 @@ fn locks_once(
 {
     let cells = head.headers * head.buckets;
     let steps = script.len() / 3;
-    let start = bucket::begin(head, place);
+    let start = bucket::starting(head, place);
     let n = keys.len() / 2;
     let ended = lock_keys(
         head,

@@ -94,7 +94,7 @@ fn converse(
     grants: &mut [u32],
     out: &mut [u8],
 ) {
-    let mut now = going_on(talk::begin());
+    let mut now = going_on(talk::fresh());
     let mut turns: u64 = 18446744073709551615;
     while 0 < turns {
         now = listen(now.talk, input, table, bytes, lists, grants, out);

@@ -11,7 +11,7 @@ use lib.Seq.{getD-set-other}
 use borrow.Author.Tests.{ltb-true, ltb-false, leb-true, leb-false, eqb-true, eq-eqb, lt-ltb}
 use Rattle.model.specs.Log.{Made, Event, attempt-begun, boundary-run}
 use Rattle.model.specs.Arena.{lastSerial, waitersAt, stateAt}
-use Rattle.model.specs.Foreign.{stepsOf, boundaryOf}
+use Rattle.model.specs.Foreign.{runStepsOf, boundaryOf}
 use Rattle.model.specs.Lock.{takeOf, lateOf, secondOf, lockOf}
 use Rattle.model.specs.Crew.{startOf, countOf, Crew, moved, tryTurnOf, releaseTurnOf, turnOf, turnsOf}
 use Rattle.model.specs.declared.Head.{Head}
@@ -74,7 +74,7 @@ module _ (buckets : ℕ) (g counts cells : List ℕ) where
 
     -- with no script every boundary is quiet, and the second look at the waiters sees what the first saw
     tried : getD (w .made) m 0 < countOf counts m → Comes attempt
-    unfolding tryTurnOf lockOf secondOf takeOf lateOf boundaryOf stepsOf number-of
+    unfolding tryTurnOf lockOf secondOf takeOf lateOf boundaryOf runStepsOf number-of
     tried less = go (eqb (getD g (c / buckets) 0) 0) (eqb (waitersAt (w .table) c) 0) (stateAt (w .next) (w .table) c) (ltb (w .next) lastSerial) refl refl refl refl
       where
         go : (a b : Bool) (s : State) (r : Bool) → eqb (getD g (c / buckets) 0) 0 ≡ a → eqb (waitersAt (w .table) c) 0 ≡ b → stateAt (w .next) (w .table) c ≡ s

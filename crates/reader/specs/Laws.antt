@@ -16,7 +16,7 @@ use Rattle.wave.specs.declared.Verdict.{Verdict}
 use Rattle.wave.specs.declared.Verdict.the-variants.{Fine, Bad}
 use Rattle.wave.specs.Lines.{torn, line, put, splitOf}
 use Rattle.wave.specs.Dump.{noBits}
-use Rattle.wave.specs.Reader.{cellIn, nextOf, bitsOf, atEnd, unless, verdictOf, idle, kindFor, wordsAt, wordsOf, read}
+use Rattle.wave.specs.Reader.{cellIn, nextOf, bitsOf, atEnd, unless, verdictOf, idle, kindFor, scriptWordsAt, scriptWordsOf, read}
 use Rattle.wave.specs.Stages.{false-not, bad-not, words-count}
 use Rattle.wave.specs.Calls.{answered}
 use Rattle.wave.specs.declared.Undumped.the-variants.{Read, NoRoom}
@@ -131,7 +131,7 @@ unfolding idle
 idle-zeros zero w = refl
 idle-zeros (suc g) w = let e : 3 * suc g ≡ suc (suc (suc (3 * g))) = omega arith in rw (e, idle-zeros g w)
 
-still-words : (s : Stage) (bits x w : List ℕ) → isChanging s ≡ false → wordsAt s bits x w ≡ w
+still-words : (s : Stage) (bits x w : List ℕ) → isChanging s ≡ false → scriptWordsAt s bits x w ≡ w
 still-words Opening bits x w e = refl
 still-words Scope bits x w e = refl
 still-words (Variables n) bits x w e = refl
@@ -143,7 +143,7 @@ still-words (Changing n last t) bits x w e = false-not (sym e)
 still-words Lost bits x w e = refl
 
 change-words : (s : Stage) (bits x w : List ℕ) → isChanging s ≡ true
-    → wordsAt s bits x w ≡ idle (gapOf s) (kindFor (getD bits (cellIn x) 0) ∷ cellIn x ∷ 0 ∷ w)
+    → scriptWordsAt s bits x w ≡ idle (gapOf s) (kindFor (getD bits (cellIn x) 0) ∷ cellIn x ∷ 0 ∷ w)
 change-words Opening bits x w e = false-not e
 change-words Scope bits x w e = false-not e
 change-words (Variables n) bits x w e = false-not e
@@ -155,27 +155,27 @@ change-words (Changing n last t) bits x w e = refl
 change-words Lost bits x w e = false-not e
 
 -- the words that a line adds stand before those that follow
-pub words-append : (s : Stage) (bits x w : List ℕ) → wordsAt s bits x w ≡ wordsAt s bits x [] ++ w
+pub words-append : (s : Stage) (bits x w : List ℕ) → scriptWordsAt s bits x w ≡ scriptWordsAt s bits x [] ++ w
 words-append s bits x w = go (isChanging s) refl
   where
-    go : (b : Bool) → isChanging s ≡ b → wordsAt s bits x w ≡ wordsAt s bits x [] ++ w
+    go : (b : Bool) → isChanging s ≡ b → scriptWordsAt s bits x w ≡ scriptWordsAt s bits x [] ++ w
     go true e =
         let k : ℕ = kindFor (getD bits (cellIn x) 0) in
         rw (change-words s bits x w e, change-words s bits x [] e, idle-zeros (gapOf s) (k ∷ cellIn x ∷ 0 ∷ w), idle-zeros (gapOf s) (k ∷ cellIn x ∷ 0 ∷ [])) (sym (append-assoc (replicate (3 * gapOf s) 0) (k ∷ cellIn x ∷ 0 ∷ []) w))
     go false e = rw (still-words s bits x w e, still-words s bits x [] e)
 
 pub words-none : (s : Stage) (bits x out : List ℕ) (at : ℕ) → isChanging s ≡ false
-    → (at, out) ≡ putOf out at (wordsAt s bits x [])
+    → (at, out) ≡ putOf out at (scriptWordsAt s bits x [])
 words-none s bits x out at e = rw (still-words s bits x [] e) (put-none out at)
 
 pub words-some : (s : Stage) (bits x out m o : List ℕ) (at a r kind cell : ℕ) → isChanging s ≡ true
     → kind ≡ kindFor (getD bits (cellIn x) 0) → cell ≡ cellIn x
-    → (a, m) ≡ putOf out at (replicate (3 * gapOf s) 0) → (r, o) ≡ putOf m a (kind ∷ cell ∷ 0 ∷ []) → (r, o) ≡ putOf out at (wordsAt s bits x [])
+    → (a, m) ≡ putOf out at (replicate (3 * gapOf s) 0) → (r, o) ≡ putOf m a (kind ∷ cell ∷ 0 ∷ []) → (r, o) ≡ putOf out at (scriptWordsAt s bits x [])
 words-some s bits x out m o at a r kind cell e p q f g =
     rw (change-words s bits x [] e, idle-zeros (gapOf s) (kindFor (getD bits (cellIn x) 0) ∷ cellIn x ∷ 0 ∷ []), ← p, ← q)
     (put-join out m o at a r (replicate (3 * gapOf s) 0) (kind ∷ cell ∷ 0 ∷ []) f g)
 
-pub words-size : (s : Stage) (bits x : List ℕ) → isChanging s ≡ true → length (wordsAt s bits x []) ≡ 3 * gapOf s + 3
+pub words-size : (s : Stage) (bits x : List ℕ) → isChanging s ≡ true → length (scriptWordsAt s bits x []) ≡ 3 * gapOf s + 3
 words-size s bits x e =
     rw (change-words s bits x [] e, idle-zeros (gapOf s) (kindFor (getD bits (cellIn x) 0) ∷ cellIn x ∷ 0 ∷ []))
     (omega (arith, length-append (replicate (3 * gapOf s) 0) (kindFor (getD bits (cellIn x) 0) ∷ cellIn x ∷ 0 ∷ []), length-replicate {A = ℕ} (3 * gapOf s) 0))
@@ -184,17 +184,17 @@ words-size s bits x e =
 pub words-line : (text : List ℕ) (at end : ℕ) (s after : Stage) (bits b : List ℕ) → end ≡ at + before 10 (drop at text)
     → end < length text → after ≡ nextOf s bits (take (end - at) (drop at text))
     → b ≡ bitsOf s bits (take (end - at) (drop at text))
-    → wordsOf s bits (splitOf (drop at text)) ≡ wordsAt s bits (take (end - at) (drop at text)) [] ++ wordsOf after b (splitOf (drop (end + 1) text))
-unfolding wordsOf
+    → scriptWordsOf s bits (splitOf (drop at text)) ≡ scriptWordsAt s bits (take (end - at) (drop at text)) [] ++ scriptWordsOf after b (splitOf (drop (end + 1) text))
+unfolding scriptWordsOf
 words-line text at end s after bits b e h n m =
     let o : before 10 (drop at text) ≡ end - at = omega arith in
     let i : at + (before 10 (drop at text) + 1) ≡ end + 1 = omega arith in
     let q : drop (before 10 (drop at text) + 1) (drop at text) ≡ drop (end + 1) text = drop-drop (before 10 (drop at text) + 1) at text ∙ ap (λ (j : ℕ). drop j text) i in
-    rw (split-at (drop at text) (omega (arith, length-drop at text)), q, o, ← n, ← m) (words-append s bits (take (end - at) (drop at text)) (wordsOf after b (splitOf (drop (end + 1) text))))
+    rw (split-at (drop at text) (omega (arith, length-drop at text)), q, o, ← n, ← m) (words-append s bits (take (end - at) (drop at text)) (scriptWordsOf after b (splitOf (drop (end + 1) text))))
 
 pub words-end : (text : List ℕ) (at : ℕ) (s : Stage) (bits : List ℕ) → length text ≤ at
-    → wordsOf s bits (splitOf (drop at text)) ≡ []
-unfolding wordsOf splitOf
+    → scriptWordsOf s bits (splitOf (drop at text)) ≡ []
+unfolding scriptWordsOf splitOf
 words-end text at s bits h = rw (drop-of-length-le text h)
 
 -- ---- the room
@@ -202,20 +202,20 @@ words-end text at s bits h = rw (drop-of-length-le text h)
 -- the answer where the words do not fit, and where they do
 pub give-none : (text out : List ℕ) (n last : ℕ) → verdictOf 1 Opening noBits (splitOf text) ≡ Fine n last
     → length out / 3 < last
-    → (NoRoom, out) ≡ answered (read n (wordsOf Opening noBits (splitOf text))) out
+    → (NoRoom, out) ≡ answered (read n (scriptWordsOf Opening noBits (splitOf text))) out
 give-none text out n last e h =
     let c = words-count (splitOf text) n last noBits e in
-    let l : length out < length (wordsOf Opening noBits (splitOf text)) = omega arith in
+    let l : length out < length (scriptWordsOf Opening noBits (splitOf text)) = omega arith in
     rw (lt-ltb _ _ l)
 
 pub give-some : (text out o : List ℕ) (n last : ℕ) → verdictOf 1 Opening noBits (splitOf text) ≡ Fine n last
     → last ≤ length out / 3
-    → o ≡ sets out 0 (wordsOf Opening noBits (splitOf text))
-    → (Read n last, o) ≡ answered (read n (wordsOf Opening noBits (splitOf text))) out
+    → o ≡ sets out 0 (scriptWordsOf Opening noBits (splitOf text))
+    → (Read n last, o) ≡ answered (read n (scriptWordsOf Opening noBits (splitOf text))) out
 give-some text out o n last e h p =
     let c = words-count (splitOf text) n last noBits e in
-    let l : length (wordsOf Opening noBits (splitOf text)) ≤ length out = omega arith in
-    let s : length (wordsOf Opening noBits (splitOf text)) / 3 ≡ last = omega arith in
+    let l : length (scriptWordsOf Opening noBits (splitOf text)) ≤ length out = omega arith in
+    let s : length (scriptWordsOf Opening noBits (splitOf text)) / 3 ≡ last = omega arith in
     rw (le-ltb _ _ l, s, p)
 
 -- ---- the loop that fills
@@ -224,19 +224,19 @@ give-some text out o n last e h p =
 pub words-turn : (text : List ℕ) (at end : ℕ) (s after : Stage) (bits b : List ℕ) (out m : List ℕ) (i j : ℕ)
     → end ≡ at + before 10 (drop at text) → end < length text → after ≡ nextOf s bits (take (end - at) (drop at text))
     → b ≡ bitsOf s bits (take (end - at) (drop at text))
-    → (j, m) ≡ putOf out i (wordsAt s bits (take (end - at) (drop at text)) []) → putOf m j (wordsOf after b (splitOf (drop (end + 1) text))) ≡ putOf out i (wordsOf s bits (splitOf (drop at text)))
+    → (j, m) ≡ putOf out i (scriptWordsAt s bits (take (end - at) (drop at text)) []) → putOf m j (scriptWordsOf after b (splitOf (drop (end + 1) text))) ≡ putOf out i (scriptWordsOf s bits (splitOf (drop at text)))
 words-turn text at end s after bits b out m i j e h n o p =
-    let w : List ℕ = wordsOf after b (splitOf (drop (end + 1) text)) in
-    rw (words-line text at end s after bits b e h n o) (put-join out m (putOf m j w .1) i j (putOf m j w .0) (wordsAt s bits (take (end - at) (drop at text)) []) w p refl)
+    let w : List ℕ = scriptWordsOf after b (splitOf (drop (end + 1) text)) in
+    rw (words-line text at end s after bits b e h n o) (put-join out m (putOf m j w .1) i j (putOf m j w .0) (scriptWordsAt s bits (take (end - at) (drop at text)) []) w p refl)
 
 -- there is room for the words of a line
 pub words-room : (text : List ℕ) (at end : ℕ) (s : Stage) (bits out m : List ℕ) (i j : ℕ) (y : List ℕ)
     → end ≡ at + before 10 (drop at text) → end < length text
-    → putOf out i (wordsOf s bits (splitOf (drop at text))) ≡ putOf m j y → i + length (wordsAt s bits (take (end - at) (drop at text)) []) ≤ j + length y
+    → putOf out i (scriptWordsOf s bits (splitOf (drop at text))) ≡ putOf m j y → i + length (scriptWordsAt s bits (take (end - at) (drop at text)) []) ≤ j + length y
 words-room text at end s bits out m i j y e h p =
     let x : List ℕ = take (end - at) (drop at text) in
-    let w : List ℕ = wordsOf (nextOf s bits x) (bitsOf s bits x) (splitOf (drop (end + 1) text)) in
-    omega (arith, put-size out m i j (wordsOf s bits (splitOf (drop at text))) y p, ap length (words-line text at end s (nextOf s bits x) bits (bitsOf s bits x) e h refl refl), length-append (wordsAt s bits x []) w)
+    let w : List ℕ = scriptWordsOf (nextOf s bits x) (bitsOf s bits x) (splitOf (drop (end + 1) text)) in
+    omega (arith, put-size out m i j (scriptWordsOf s bits (splitOf (drop at text))) y p, ap length (words-line text at end s (nextOf s bits x) bits (bitsOf s bits x) e h refl refl), length-append (scriptWordsAt s bits x []) w)
 
 pub put-all : (l m : List ℕ) (i : ℕ) (x : List ℕ) → putOf m i [] ≡ putOf l 0 x → m ≡ sets l 0 x
 unfolding putOf

@@ -59,19 +59,19 @@ abbrev pub changed : Cell → Reply → Changed
 changed c r = record { cell = c; reply = r }
 
 -- the reply of the one attempt of a take
-abbrev pub attemptOf : Head → ℕ → Take → Reply
-attemptOf h n a = replied h 1 (answerOf (outcomeOf n a))
+abbrev pub takeReplyOf : Head → ℕ → Take → Reply
+takeReplyOf h n a = replied h 1 (answerOf (outcomeOf n a))
 
 abbrev pub serve : Serial → Head → Cell → ℕ → Changed
-serve (serial.Issued s) h c n = changed (cellOf 1 s (c .waiters)) (attemptOf h n (taking.Granted s))
-serve serial.Spent h c n = changed c (attemptOf h n taking.Spent)
+serve (serial.Issued s) h c n = changed (cellOf 1 s (c .waiters)) (takeReplyOf h n (taking.Granted s))
+serve serial.Spent h c n = changed c (takeReplyOf h n taking.Spent)
 
 unfoldable pub takeFreeOf : Head → Cell → ℕ → Changed
 takeFreeOf h c n = serve (issueOf h .serial) (issueOf h .head) c n
 
 abbrev pub takeBy : State → Head → Cell → ℕ → Changed
-takeBy state.Damaged h c n = changed c (attemptOf h n taking.Damaged)
-takeBy (state.Held owner) h c n = changed c (attemptOf h n taking.Busy)
+takeBy state.Damaged h c n = changed c (takeReplyOf h n taking.Damaged)
+takeBy (state.Held owner) h c n = changed c (takeReplyOf h n taking.Busy)
 takeBy state.Free h c n = takeFreeOf h c n
 
 -- one compare-and-set of record c, which stands for cell n

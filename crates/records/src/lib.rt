@@ -15,7 +15,7 @@ ghost use mathlib.Core.Path.{_≡_};
 ghost use Prim.Native.Nat.{_*_};
 ghost use Rattle.model.specs.Arena.{shapeFits, stateOf, heldBy};
 ghost use Rattle.model.specs.Calls.{tryAcquireOf, dropLeaseOf};
-ghost use Rattle.records.specs.Model.{spelled, spotOf, takeSpotOf, dropSpotOf, attemptOf, takeFreeOf, takeRuleOf, dropRuleOf};
+ghost use Rattle.records.specs.Model.{spelled, spotOf, takeSpotOf, dropSpotOf, takeReplyOf, takeFreeOf, takeRuleOf, dropRuleOf};
 
 // A cell of the arena.
 pub struct Cell {
@@ -40,7 +40,7 @@ struct Changed {
 
 // Whether the head and the number of records keep the arena's rules. More than 4,096 never do, so three words each can
 // be counted.
-fn fits(head: Head, n: usize) -> bool
+fn shape_fits(head: Head, n: usize) -> bool
     ensures { λ r. ⌜ r ≡ shapeFits head (3 * n) ⌝ }
 {
     if 4096 < n {
@@ -55,7 +55,7 @@ fn fits(head: Head, n: usize) -> bool
 fn find(head: Head, n: usize, cell: u32, refusal: Refusal) -> Spot
     ensures { λ r. ⌜ r ≡ spotOf head n cell refusal ⌝ }
 {
-    if fits(head, n) {
+    if shape_fits(head, n) {
         let refused = arena::refuse(head, refusal);
         return Spot {
             at: cell as usize,
@@ -83,11 +83,11 @@ fn drop_spot(head: Head, n: usize, lease: Lease) -> Spot
 // ---- the rules on one record
 
 // The reply of the one attempt of a take.
-fn attempt(head: Head, cell: u32, answer: Take) -> Reply
-    ensures { λ r. ⌜ r ≡ attemptOf head cell answer ⌝ }
+fn take_reply(head: Head, cell: u32, answer: Take) -> Reply
+    ensures { λ r. ⌜ r ≡ takeReplyOf head cell answer ⌝ }
 {
     let said = lease::outcome(cell, answer);
-    arena::reply(head, 1, lease::answered(said))
+    arena::reply(head, 1, lease::answer_of(said))
 }
 
 // Of a record that is free: the head issues the next serial, if one remains.
@@ -99,7 +99,7 @@ fn take_free(head: Head, c: Cell, cell: u32) -> Changed
     let serial = issue.serial;
     match serial {
         Serial::Issued(next) => {
-            let reply = attempt(after, cell, Take::Granted(next));
+            let reply = take_reply(after, cell, Take::Granted(next));
             let taken = Cell {
                 bit: 1,
                 owner: next,
@@ -108,7 +108,7 @@ fn take_free(head: Head, c: Cell, cell: u32) -> Changed
             Changed { cell: taken, reply }
         }
         Serial::Spent => {
-            let reply = attempt(after, cell, Take::Spent);
+            let reply = take_reply(after, cell, Take::Spent);
             Changed { cell: c, reply }
         }
     }
@@ -118,14 +118,14 @@ fn take_free(head: Head, c: Cell, cell: u32) -> Changed
 fn take_rule(head: Head, c: Cell, cell: u32) -> Changed
     ensures { λ r. ⌜ r ≡ takeRuleOf head c cell ⌝ }
 {
-    let state = arena::said(head.next, c.bit, c.owner);
+    let state = arena::state_of(head.next, c.bit, c.owner);
     match state {
         State::Damaged => {
-            let reply = attempt(head, cell, Take::Damaged);
+            let reply = take_reply(head, cell, Take::Damaged);
             Changed { cell: c, reply }
         }
         State::Held(_) => {
-            let reply = attempt(head, cell, Take::Busy);
+            let reply = take_reply(head, cell, Take::Busy);
             Changed { cell: c, reply }
         }
         State::Free => take_free(head, c, cell),
@@ -133,10 +133,10 @@ fn take_rule(head: Head, c: Cell, cell: u32) -> Changed
 }
 
 // Whether a record is held by this serial.
-fn held(next: u32, c: Cell, serial: u32) -> bool
+fn held_by(next: u32, c: Cell, serial: u32) -> bool
     ensures { λ r. ⌜ r ≡ heldBy (stateOf next (c .bit) (c .owner)) serial ⌝ }
 {
-    let state = arena::said(next, c.bit, c.owner);
+    let state = arena::state_of(next, c.bit, c.owner);
     match state {
         State::Free => false,
         State::Held(owner) => owner == serial,
@@ -148,7 +148,7 @@ fn held(next: u32, c: Cell, serial: u32) -> bool
 fn drop_rule(head: Head, c: Cell, lease: Lease) -> Changed
     ensures { λ r. ⌜ r ≡ dropRuleOf head c lease ⌝ }
 {
-    if held(head.next, c, lease.serial) {
+    if held_by(head.next, c, lease.serial) {
         let reply = arena::reply(head, 0, Answer::Done);
         let freed = Cell {
             bit: 0,

@@ -11,7 +11,7 @@ use lib.ListN.{length, getD, set, replicate, List·getD-eq-default, getD-replica
 use lib.Seq.{set-getD, getD-set-same, getD-set-other}
 use borrow.Author.Tests.{eqb-true, eqb-false}
 use Rattle.model.specs.Choice.{if_then_else_}
-use Rattle.wave.specs.Dump.{noBits, turns, changesOf, turnOf}
+use Rattle.wave.specs.Dump.{noBits, turns, changesOf, flipOf}
 
 -- the bits after the first j steps; behind the last step they stay
 unfoldable pub bitsAfter : ℕ → List ℕ → ℕ → List ℕ → List ℕ
@@ -19,7 +19,7 @@ bitsAfter n bits zero script = bits
 bitsAfter n bits (suc j) [] = bits
 bitsAfter n bits (suc j) (kind ∷ []) = bits
 bitsAfter n bits (suc j) (kind ∷ cell ∷ []) = bits
-bitsAfter n bits (suc j) (kind ∷ cell ∷ number ∷ rest) = if changesOf n bits kind cell then bitsAfter n (turnOf bits cell) j rest else bitsAfter n bits j rest
+bitsAfter n bits (suc j) (kind ∷ cell ∷ number ∷ rest) = if changesOf n bits kind cell then bitsAfter n (flipOf bits cell) j rest else bitsAfter n bits j rest
 
 -- "a take sets its cell's bit, a release clears it, any other step only counts": the bits after one step, word by word
 abbrev pub saidOf : ℕ → List ℕ → ℕ → ℕ → List ℕ
@@ -47,8 +47,8 @@ bits-set bits c v b h d = go (ℕ-discrete d c) (decLt d (length bits))
 
 -- what a step does, and what the sentence says of it
 step-said : (n : ℕ) (bits : List ℕ) (kind cell : ℕ) → getD bits cell 0 ≤ 1
-    → saidOf n bits kind cell ≡ (if changesOf n bits kind cell then turnOf bits cell else bits)
-unfolding changesOf turns turnOf
+    → saidOf n bits kind cell ≡ (if changesOf n bits kind cell then flipOf bits cell else bits)
+unfolding changesOf turns flipOf
 step-said n bits kind cell b = go (ltb cell n) (eqb (getD bits cell 0) 0) (eqb kind 1) (eqb kind 2) refl refl refl
   where
     same : (v : ℕ) → getD bits cell 0 ≡ v → set bits cell v ≡ bits
@@ -83,9 +83,9 @@ as-said-from (suc j) n bits (kind ∷ []) b = refl
 as-said-from (suc j) n bits (kind ∷ cell ∷ []) b = refl
 as-said-from (suc j) n bits (kind ∷ cell ∷ number ∷ rest) b = go (changesOf n bits kind cell) (step-said n bits kind cell (b cell)) (λ o k. as-said-from j n o rest k) (bits-said n bits kind cell b)
   where
-    go : (t : Bool) → saidOf n bits kind cell ≡ (if t then turnOf bits cell else bits)
+    go : (t : Bool) → saidOf n bits kind cell ≡ (if t then flipOf bits cell else bits)
         → ((o : List ℕ) → Bits o → bitsAfter n o j rest ≡ saidAfter n o j rest) → Bits (saidOf n bits kind cell)
-        → (if t then bitsAfter n (turnOf bits cell) j rest else bitsAfter n bits j rest) ≡ saidAfter n (saidOf n bits kind cell) j rest
+        → (if t then bitsAfter n (flipOf bits cell) j rest else bitsAfter n bits j rest) ≡ saidAfter n (saidOf n bits kind cell) j rest
     go true e f k = rw (← e) (f (saidOf n bits kind cell) k)
     go false e f k = rw e (f bits b)
 

@@ -15,7 +15,7 @@ use Rattle.wave.specs.declared.Dumped.the-variants as dumped
 use Rattle.wave.specs.declared.Undumped.{Undumped}
 use Rattle.wave.specs.declared.Undumped.the-variants as undumped
 use Rattle.wave.specs.Calls.{badHistory, tooWide, fittedOf, writeOf, answered, readIntoOf}
-use Rattle.wave.specs.Dump.{noBits, changesOf, turnOf, dumpOf, Dumpable}
+use Rattle.wave.specs.Dump.{noBits, changesOf, flipOf, dumpOf, Dumpable}
 use Rattle.wave.specs.Limits.{history-good, cells-good, fits-dumpable}
 use Rattle.wave.specs.Reader.{idle, kindFor, Reading, read, refused, readOf}
 use Rattle.wave.specs.Stages.{idle-length}
@@ -86,13 +86,13 @@ unfolding trimOf
 trim-length n gap bits [] = omega arith
 trim-length n gap bits (kind ∷ []) = omega arith
 trim-length n gap bits (kind ∷ cell ∷ []) = omega arith
-trim-length n gap bits (kind ∷ cell ∷ number ∷ rest) = go (changesOf n bits kind cell) (trim-length n 0 (turnOf bits cell) rest) (trim-length n (gap + 1) bits rest)
+trim-length n gap bits (kind ∷ cell ∷ number ∷ rest) = go (changesOf n bits kind cell) (trim-length n 0 (flipOf bits cell) rest) (trim-length n (gap + 1) bits rest)
   where
-    go : (b : Bool) → length (trimOf n 0 (turnOf bits cell) rest) ≤ 3 * 0 + length rest
+    go : (b : Bool) → length (trimOf n 0 (flipOf bits cell) rest) ≤ 3 * 0 + length rest
         → length (trimOf n (gap + 1) bits rest) ≤ 3 * (gap + 1) + length rest
-        → length (if b then idle gap (kindFor (getD bits cell 0) ∷ cell ∷ 0 ∷ trimOf n 0 (turnOf bits cell) rest) else trimOf n (gap + 1) bits rest)
+        → length (if b then idle gap (kindFor (getD bits cell 0) ∷ cell ∷ 0 ∷ trimOf n 0 (flipOf bits cell) rest) else trimOf n (gap + 1) bits rest)
         ≤ 3 * gap + length (kind ∷ cell ∷ number ∷ rest)
-    go true p q = omega (arith, idle-length gap (kindFor (getD bits cell 0) ∷ cell ∷ 0 ∷ trimOf n 0 (turnOf bits cell) rest))
+    go true p q = omega (arith, idle-length gap (kindFor (getD bits cell 0) ∷ cell ∷ 0 ∷ trimOf n 0 (flipOf bits cell) rest))
     go false p q = omega arith
 
 -- a text that is read, into a run that holds it

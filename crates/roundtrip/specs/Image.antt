@@ -11,12 +11,12 @@ use Rattle.model.specs.Choice.{if_then_else_}
 use Rattle.wave.specs.Lines.{Items, finish, torn, line, splitOf, same}
 use Rattle.roundtrip.specs.Texts.{itemsOf, textOf, same-true, text-split, text-items}
 use Rattle.wave.specs.Stages.{bad-not, nested, time-later, idle-length, onward}
-use Rattle.wave.specs.Dump.{noBits, turns, turned, changesOf, turnOf, timescale, scopeLine, varLine, upscope, endLine, timeLine, bitLine, varsOf, firstOf, bodyOf, middleOf, linesOf, dumpOf, Dumpable}
+use Rattle.wave.specs.Dump.{noBits, turns, turned, changesOf, flipOf, timescale, scopeLine, varLine, upscope, endLine, timeLine, bitLine, varsOf, firstOf, bodyOf, middleOf, linesOf, dumpOf, Dumpable}
 use Rattle.wave.specs.declared.Stage.{Stage}
 use Rattle.wave.specs.declared.Stage.the-variants.{Opening, Scope, Variables, Ending, Start, Values, Waiting, Changing, Lost}
 use Rattle.wave.specs.declared.Verdict.{Verdict}
 use Rattle.wave.specs.declared.Verdict.the-variants.{Fine, Bad}
-use Rattle.wave.specs.Reader.{timeIn, cellIn, afterVariable, afterValue, isTime, isChange, unless, verdictOf, idle, kindFor, wordsOf, read, readingOf, readOf}
+use Rattle.wave.specs.Reader.{timeIn, cellIn, afterVariable, afterValue, isTime, isChange, unless, verdictOf, idle, kindFor, scriptWordsOf, read, readingOf, readOf}
 use Rattle.roundtrip.specs.Round.{still}
 
 -- ---- what a line was
@@ -72,7 +72,7 @@ changes-so n bits c h = rw (lt-ltb c n h) (go (eqb (getD bits c 0) 0))
 -- a change after last, at t
 body-change : (n last t c : ℕ) (bits w : List ℕ) → last < t → c < n
     → itemsOf (bodyOf n (last + 1) bits (idle (t - (last + 1)) (kindFor (getD bits c 0) ∷ c ∷ 0 ∷ w)))
-    ≡ line (timeLine t) (line (bitLine (turned (getD bits c 0)) c) (itemsOf (bodyOf n (t + 1) (turnOf bits c) w)))
+    ≡ line (timeLine t) (line (bitLine (turned (getD bits c 0)) c) (itemsOf (bodyOf n (t + 1) (flipOf bits c) w)))
 unfolding itemsOf bodyOf
 body-change n last t c bits w h k =
     let e : last + 1 + (t - (last + 1)) ≡ t = omega arith in
@@ -80,8 +80,8 @@ body-change n last t c bits w h k =
 
 -- the words of a time line and its change
 words-change : (n last : ℕ) (bits x y : List ℕ) (r : Items) → isTime last x ≡ true → isChange n bits y ≡ true
-    → wordsOf (Waiting n last) bits (line x (line y r)) ≡ idle (timeIn x - (last + 1)) (kindFor (getD bits (cellIn y) 0) ∷ cellIn y ∷ 0 ∷ wordsOf (Waiting n (timeIn x)) (turnOf bits (cellIn y)) r)
-unfolding wordsOf
+    → scriptWordsOf (Waiting n last) bits (line x (line y r)) ≡ idle (timeIn x - (last + 1)) (kindFor (getD bits (cellIn y) 0) ∷ cellIn y ∷ 0 ∷ scriptWordsOf (Waiting n (timeIn x)) (flipOf bits (cellIn y)) r)
+unfolding scriptWordsOf
 words-change n last bits x y r e f = rw (e, f)
 
 -- what was read from here on, and what it is the text of
@@ -92,25 +92,25 @@ pub record Image (n last : ℕ) (bits : List ℕ) (r : Items) (m e : ℕ) (w : L
   pub is : r ≡ itemsOf (bodyOf n (last + 1) bits w)
 
 pub image-body : (r : Items) (k n last m e : ℕ) (bits : List ℕ) → last ≤ 32768
-    → verdictOf k (Waiting n last) bits r ≡ Fine m e → Image n last bits r m e (wordsOf (Waiting n last) bits r)
-unfolding verdictOf wordsOf bodyOf itemsOf
+    → verdictOf k (Waiting n last) bits r ≡ Fine m e → Image n last bits r m e (scriptWordsOf (Waiting n last) bits r)
+unfolding verdictOf scriptWordsOf bodyOf itemsOf
 image-body finish k n last m e bits h v = let z : last ≡ e = cc in record { cells = cc; early = omega arith; size = omega arith; is = refl }
 image-body (torn x) k n last m e bits h v = bad-not v
 image-body (line x finish) k n last m e bits h v = bad-not (chosen (isTime last x) (Changing n last (timeIn x)) k m e bits finish v .1)
 image-body (line x (torn y)) k n last m e bits h v = bad-not (chosen (isTime last x) (Changing n last (timeIn x)) k m e bits (torn y) v .1)
 image-body (line x (line y r)) k n last m e bits h v =
     let a = chosen (isTime last x) (Changing n last (timeIn x)) k m e bits (line y r) v in
-    let b = chosen (isChange n bits y) (Waiting n (timeIn x)) (k + 1) m e (turnOf bits (cellIn y)) r (a .1) in
+    let b = chosen (isChange n bits y) (Waiting n (timeIn x)) (k + 1) m e (flipOf bits (cellIn y)) r (a .1) in
     let t = time-read last x (a .0) in
     let c = change-read n bits y (b .0) in
-    let i = image-body r (k + 1 + 1) n (timeIn x) m e (turnOf bits (cellIn y)) (t .early) (b .1) in
+    let i = image-body r (k + 1 + 1) n (timeIn x) m e (flipOf bits (cellIn y)) (t .early) (b .1) in
     rw (words-change n last bits x y r (a .0) (b .0)) (go t c i)
   where
     go : TimeRead last x → ChangeRead n bits y
-        → Image n (timeIn x) (turnOf bits (cellIn y)) r m e (wordsOf (Waiting n (timeIn x)) (turnOf bits (cellIn y)) r)
-        → Image n last bits (line x (line y r)) m e (idle (timeIn x - (last + 1)) (kindFor (getD bits (cellIn y) 0) ∷ cellIn y ∷ 0 ∷ wordsOf (Waiting n (timeIn x)) (turnOf bits (cellIn y)) r))
+        → Image n (timeIn x) (flipOf bits (cellIn y)) r m e (scriptWordsOf (Waiting n (timeIn x)) (flipOf bits (cellIn y)) r)
+        → Image n last bits (line x (line y r)) m e (idle (timeIn x - (last + 1)) (kindFor (getD bits (cellIn y) 0) ∷ cellIn y ∷ 0 ∷ scriptWordsOf (Waiting n (timeIn x)) (flipOf bits (cellIn y)) r))
     go t c i =
-        let w : List ℕ = wordsOf (Waiting n (timeIn x)) (turnOf bits (cellIn y)) r in
+        let w : List ℕ = scriptWordsOf (Waiting n (timeIn x)) (flipOf bits (cellIn y)) r in
         let f = body-change n last (timeIn x) (cellIn y) bits w (t .later) (c .within) in
         record { cells = i .cells; early = i .early; size = omega (arith, i .size, t .later, idle-length (timeIn x - (last + 1)) (kindFor (getD bits (cellIn y) 0) ∷ cellIn y ∷ 0 ∷ w)); is = cc (t .is, c .is, i .is, f) }
 
@@ -123,8 +123,8 @@ pub record Headed (r : Items) (m e : ℕ) (w : List ℕ) (ls : List (List ℕ)) 
   pub is : r ≡ itemsOf ls
 
 image-values : (r : Items) (k n c m e : ℕ) (bits : List ℕ) → c < n → verdictOf k (Values n c) bits r ≡ Fine m e
-    → (m ≡ n) × Headed r m e (wordsOf (Values n c) bits r) (firstOf c (n - c) (bodyOf n 1 bits (wordsOf (Values n c) bits r)))
-unfolding verdictOf wordsOf itemsOf afterValue firstOf
+    → (m ≡ n) × Headed r m e (scriptWordsOf (Values n c) bits r) (firstOf c (n - c) (bodyOf n 1 bits (scriptWordsOf (Values n c) bits r)))
+unfolding verdictOf scriptWordsOf itemsOf afterValue firstOf
 image-values finish k n c m e bits h v = bad-not v
 image-values (torn x) k n c m e bits h v = bad-not v
 image-values (line x r) k n c m e bits h v =
@@ -134,9 +134,9 @@ image-values (line x r) k n c m e bits h v =
   where
     go : (b : Bool) → ltb (c + 1) n ≡ b → x ≡ bitLine 0 c
         → (c + 1 < n → verdictOf (k + 1) (Values n (c + 1)) bits r ≡ Fine m e
-        → (m ≡ n) × Headed r m e (wordsOf (Values n (c + 1)) bits r) (firstOf (c + 1) (n - (c + 1)) (bodyOf n 1 bits (wordsOf (Values n (c + 1)) bits r))))
+        → (m ≡ n) × Headed r m e (scriptWordsOf (Values n (c + 1)) bits r) (firstOf (c + 1) (n - (c + 1)) (bodyOf n 1 bits (scriptWordsOf (Values n (c + 1)) bits r))))
         → verdictOf (k + 1) (if b then Values n (c + 1) else Waiting n 0) bits r ≡ Fine m e
-        → (m ≡ n) × Headed (line x r) m e (wordsOf (if b then Values n (c + 1) else Waiting n 0) bits r) (firstOf c (n - c) (bodyOf n 1 bits (wordsOf (if b then Values n (c + 1) else Waiting n 0) bits r)))
+        → (m ≡ n) × Headed (line x r) m e (scriptWordsOf (if b then Values n (c + 1) else Waiting n 0) bits r) (firstOf c (n - c) (bodyOf n 1 bits (scriptWordsOf (if b then Values n (c + 1) else Waiting n 0) bits r)))
     go true p q f u =
         let i = f (ltb-true (c + 1) n p) u in
         let z : n - c ≡ suc (n - (c + 1)) = omega (arith, h) in
@@ -147,8 +147,8 @@ image-values (line x r) k n c m e bits h v =
         (i .cells, record { early = i .early; size = omega (arith, i .size); is = rw z (cc (q, i .is)) })
 
 image-ending : (r : Items) (k n m e : ℕ) (bits : List ℕ) → 0 < n → verdictOf k (Ending n) bits r ≡ Fine m e
-    → (m ≡ n) × Headed r m e (wordsOf (Ending n) bits r) (endLine ∷ timeLine 0 ∷ firstOf 0 n (bodyOf n 1 bits (wordsOf (Ending n) bits r)))
-unfolding verdictOf wordsOf itemsOf
+    → (m ≡ n) × Headed r m e (scriptWordsOf (Ending n) bits r) (endLine ∷ timeLine 0 ∷ firstOf 0 n (bodyOf n 1 bits (scriptWordsOf (Ending n) bits r)))
+unfolding verdictOf scriptWordsOf itemsOf
 image-ending finish k n m e bits h v = bad-not v
 image-ending (torn x) k n m e bits h v = bad-not v
 image-ending (line x finish) k n m e bits h v = bad-not (chosen (same x endLine) (Start n) k m e bits finish v .1)
@@ -168,8 +168,8 @@ pub record Varied (n : ℕ) (r : Items) (m e : ℕ) (w : List ℕ) (ls : List (L
   pub headed : Headed r m e w ls
 
 image-vars : (r : Items) (k n m e : ℕ) (bits : List ℕ) → n ≤ 94 → verdictOf k (Variables n) bits r ≡ Fine m e
-    → Varied n r m e (wordsOf (Variables n) bits r) (varsOf n (m - n) (middleOf m (bodyOf m 1 bits (wordsOf (Variables n) bits r))))
-unfolding verdictOf wordsOf itemsOf afterVariable varsOf middleOf
+    → Varied n r m e (scriptWordsOf (Variables n) bits r) (varsOf n (m - n) (middleOf m (bodyOf m 1 bits (scriptWordsOf (Variables n) bits r))))
+unfolding verdictOf scriptWordsOf itemsOf afterVariable varsOf middleOf
 image-vars finish k n m e bits h v = bad-not v
 image-vars (torn x) k n m e bits h v = bad-not v
 image-vars (line x r) k n m e bits h v =
@@ -178,9 +178,9 @@ image-vars (line x r) k n m e bits h v =
     go : (a b : Bool) → (if ltb n 94 then same x (varLine n) else false) ≡ a
         → (if ltb 0 n then same x upscope else false) ≡ b
         → (n + 1 ≤ 94 → verdictOf (k + 1) (Variables (n + 1)) bits r ≡ Fine m e
-        → Varied (n + 1) r m e (wordsOf (Variables (n + 1)) bits r) (varsOf (n + 1) (m - (n + 1)) (middleOf m (bodyOf m 1 bits (wordsOf (Variables (n + 1)) bits r)))))
+        → Varied (n + 1) r m e (scriptWordsOf (Variables (n + 1)) bits r) (varsOf (n + 1) (m - (n + 1)) (middleOf m (bodyOf m 1 bits (scriptWordsOf (Variables (n + 1)) bits r)))))
         → unless (if a then Variables (n + 1) else if b then Ending n else Lost) k (verdictOf (k + 1) (if a then Variables (n + 1) else if b then Ending n else Lost) bits r) ≡ Fine m e
-        → Varied n (line x r) m e (wordsOf (if a then Variables (n + 1) else if b then Ending n else Lost) bits r) (varsOf n (m - n) (middleOf m (bodyOf m 1 bits (wordsOf (if a then Variables (n + 1) else if b then Ending n else Lost) bits r))))
+        → Varied n (line x r) m e (scriptWordsOf (if a then Variables (n + 1) else if b then Ending n else Lost) bits r) (varsOf n (m - n) (middleOf m (bodyOf m 1 bits (scriptWordsOf (if a then Variables (n + 1) else if b then Ending n else Lost) bits r))))
     go true b p q f u =
         let t = nested (ltb n 94) (same x (varLine n)) p in
         let i = f (omega (arith, ltb-true n 94 (t .0))) u in
@@ -191,7 +191,7 @@ image-vars (line x r) k n m e bits h v =
         let i = image-ending r (k + 1) n m e bits (ltb-true 0 n (t .0)) u in
         let y : m ≡ n = i .0 in
         let z : m - n ≡ 0 = omega arith in
-        let g : line x r ≡ itemsOf (middleOf n (bodyOf n 1 bits (wordsOf (Ending n) bits r))) = cc (same-true x upscope (t .1), i .1 .is) in
+        let g : line x r ≡ itemsOf (middleOf n (bodyOf n 1 bits (scriptWordsOf (Ending n) bits r))) = cc (same-true x upscope (t .1), i .1 .is) in
         record { some = omega (arith, ltb-true 0 n (t .0)); few = omega arith; least = omega arith; headed = record { early = i .1 .early; size = i .1 .size; is = rw (z, y) g } }
     go false false p q f u = bad-not u
 
@@ -199,8 +199,8 @@ image-vars (line x r) k n m e bits h v =
 
 -- the lines that are accepted are those of a dump
 pub image-lines : (r : Items) (m e : ℕ) (bits : List ℕ) → bits ≡ noBits → verdictOf 1 Opening bits r ≡ Fine m e
-    → (Dumpable m (wordsOf Opening bits r)) × (r ≡ itemsOf (linesOf m (wordsOf Opening bits r))) × (length (wordsOf Opening bits r) ≡ 3 * e)
-unfolding verdictOf wordsOf itemsOf linesOf
+    → (Dumpable m (scriptWordsOf Opening bits r)) × (r ≡ itemsOf (linesOf m (scriptWordsOf Opening bits r))) × (length (scriptWordsOf Opening bits r) ≡ 3 * e)
+unfolding verdictOf scriptWordsOf itemsOf linesOf
 image-lines finish m e bits o v = bad-not v
 image-lines (torn x) m e bits o v = bad-not v
 image-lines (line x finish) m e bits o v = bad-not (chosen (same x timescale) Scope 1 m e bits finish v .1)
@@ -220,13 +220,13 @@ unfolding readOf dumpOf
 image text n script = go (verdictOf 1 Opening noBits (splitOf text)) refl
   where
     go : (v : Verdict) → verdictOf 1 Opening noBits (splitOf text) ≡ v
-        → readingOf v (wordsOf Opening noBits (splitOf text)) ≡ read n script
+        → readingOf v (scriptWordsOf Opening noBits (splitOf text)) ≡ read n script
         → (Dumpable n script) × (dumpOf n script ≡ text)
     go (Bad k) e f = let w : _≡_ {A = ℕ} 0 1 = cc in absurd (omega arith)
     go (Fine m l) e f =
         let i = image-lines (splitOf text) m l noBits refl e in
         let p : m ≡ n = cc in
-        let q : wordsOf Opening noBits (splitOf text) ≡ script = cc in
+        let q : scriptWordsOf Opening noBits (splitOf text) ≡ script = cc in
         let d : Dumpable n script = rw (p, q) at (i .0) in
         let s : splitOf text ≡ itemsOf (linesOf n script) = cc (i .1) in
         (d, sym (text-items (linesOf n script)) ∙ ap textOf (sym s) ∙ text-split text)

@@ -10,13 +10,13 @@ use lib.ListN.{getD}
 use borrow.Author.Tests.{ne-eqb, le-ltb}
 use Rattle.model.specs.Choice.{if_then_else_}
 use Rattle.io.specs.Digits.{digits}
-use Rattle.text.specs.Text.{digitsIn, valueFrom, noNumber, endedOf, numberOf}
+use Rattle.text.specs.Text.{digitsIn, valueFrom, noNumber, endedNumberOf, readNumberOf}
 use Rattle.print.specs.Back.{value-digits, count-digits, unpadded}
 use Rattle.wave.specs.Decimal.{placesOf, decimalOf, Places, places-is, fewest-is}
 
 -- a number is printed so that it is read, whole
-pub number-printed : (n : ℕ) → n < 100000 → numberOf (decimalOf n) ≡ record { fine = true; value = n; digits = placesOf n }
-unfolding decimalOf numberOf endedOf valueFrom digitsIn
+pub number-printed : (n : ℕ) → n < 100000 → readNumberOf (decimalOf n) ≡ record { fine = true; value = n; digits = placesOf n }
+unfolding decimalOf readNumberOf endedNumberOf valueFrom digitsIn
 number-printed n h = go (places-is n h)
   where
     small : n ≤ 4294967295
@@ -26,7 +26,7 @@ number-printed n h = go (places-is n h)
     front = rw (append-nil (digits 10 (placesOf n) n)) at (unpadded (placesOf n) n [] (fewest-is n h))
 
     go : Places n (placesOf n)
-        → (if ltb 4294967295 (valueFrom 0 (digits 10 (placesOf n) n)) then noNumber else endedOf (getD (digits 10 (placesOf n) n) 0 0) (digitsIn (digits 10 (placesOf n) n)) (valueFrom 0 (digits 10 (placesOf n) n)))
+        → (if ltb 4294967295 (valueFrom 0 (digits 10 (placesOf n) n)) then noNumber else endedNumberOf (getD (digits 10 (placesOf n) n) 0 0) (digitsIn (digits 10 (placesOf n) n)) (valueFrom 0 (digits 10 (placesOf n) n)))
         ≡ record { fine = true; value = n; digits = placesOf n }
     go f =
         let e : digits 10 (placesOf n) n ++ [] ≡ digits 10 (placesOf n) n = append-nil (digits 10 (placesOf n) n) in

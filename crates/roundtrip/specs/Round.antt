@@ -18,12 +18,12 @@ use Rattle.wave.specs.Lines.{Items, line, same}
 use Rattle.roundtrip.specs.Texts.{itemsOf, plain, allPlain, same-refl, split-joined}
 use Rattle.roundtrip.specs.Bits.{bitsAfter}
 use Rattle.wave.specs.Stages.{changes-in}
-use Rattle.wave.specs.Dump.{noBits, turns, turned, changesOf, turnOf, timescale, scopeLine, varLine, upscope, endLine, timeLine, bitLine, varsOf, firstOf, bodyOf, middleOf, linesOf, dumpOf, Dumpable}
+use Rattle.wave.specs.Dump.{noBits, turns, turned, changesOf, flipOf, timescale, scopeLine, varLine, upscope, endLine, timeLine, bitLine, varsOf, firstOf, bodyOf, middleOf, linesOf, dumpOf, Dumpable}
 use Rattle.wave.specs.declared.Stage.{Stage}
 use Rattle.wave.specs.declared.Stage.the-variants.{Opening, Scope, Variables, Ending, Start, Values, Waiting, Changing}
 use Rattle.wave.specs.declared.Verdict.{Verdict}
 use Rattle.wave.specs.declared.Verdict.the-variants.{Fine}
-use Rattle.wave.specs.Reader.{timeIn, cellIn, afterVariable, afterValue, isTime, isChange, nextOf, bitsOf, unless, verdictOf, idle, kindFor, wordsAt, wordsOf, read, readOf}
+use Rattle.wave.specs.Reader.{timeIn, cellIn, afterVariable, afterValue, isTime, isChange, nextOf, bitsOf, unless, verdictOf, idle, kindFor, scriptWordsAt, scriptWordsOf, read, readOf}
 
 -- ---- the script that is read back: each change as a take or a release, the steps between as steps that only count, and nothing behind the last change
 
@@ -32,14 +32,14 @@ trimOf n gap bits [] = []
 trimOf n gap bits (kind ∷ []) = []
 trimOf n gap bits (kind ∷ cell ∷ []) = []
 trimOf n gap bits (kind ∷ cell ∷ number ∷ rest) =
-    if changesOf n bits kind cell then idle gap (kindFor (getD bits cell 0) ∷ cell ∷ 0 ∷ trimOf n 0 (turnOf bits cell) rest) else trimOf n (gap + 1) bits rest
+    if changesOf n bits kind cell then idle gap (kindFor (getD bits cell 0) ∷ cell ∷ 0 ∷ trimOf n 0 (flipOf bits cell) rest) else trimOf n (gap + 1) bits rest
 
 -- the number of the last change
 unfoldable pub lastOf : ℕ → ℕ → ℕ → List ℕ → List ℕ → ℕ
 lastOf n t last bits [] = last
 lastOf n t last bits (kind ∷ []) = last
 lastOf n t last bits (kind ∷ cell ∷ []) = last
-lastOf n t last bits (kind ∷ cell ∷ number ∷ rest) = if changesOf n bits kind cell then lastOf n (t + 1) t (turnOf bits cell) rest else lastOf n (t + 1) last bits rest
+lastOf n t last bits (kind ∷ cell ∷ number ∷ rest) = if changesOf n bits kind cell then lastOf n (t + 1) t (flipOf bits cell) rest else lastOf n (t + 1) last bits rest
 
 -- ---- single lines
 
@@ -63,27 +63,27 @@ is-change n bits c h = rw (cell-in (turned (getD bits c 0)) c, lt-ltb _ _ h, sam
 
 pub record Reads (s : Stage) (bits : List ℕ) (r : Items) (v : Verdict) (w : List ℕ) : Type 0 where
   pub told : (j : ℕ) → verdictOf j s bits r ≡ v
-  pub wrote : wordsOf s bits r ≡ w
+  pub wrote : scriptWordsOf s bits r ≡ w
 
 module _ (s next : Stage) (bits x : List ℕ) (r : Items) (v : Verdict) (w : List ℕ) where
   pub reads-on : nextOf s bits x ≡ next → ((k : ℕ) → unless next k v ≡ v) → Reads next (bitsOf s bits x) r v w
-      → Reads s bits (line x r) v (wordsAt s bits x w)
-  unfolding verdictOf wordsOf
+      → Reads s bits (line x r) v (scriptWordsAt s bits x w)
+  unfolding verdictOf scriptWordsOf
   reads-on e keep q = record { told = λ j. rw (e, q .told (j + 1)) (keep j); wrote = rw (e, q .wrote) }
 
 -- ---- the changes
 
 module _ (n last t c : ℕ) (bits : List ℕ) (r : Items) (v : Verdict) (w : List ℕ) (later : last < t) (early : t ≤ 32768) (cell : c < n) where
-  pub change-line : Reads (Waiting n t) (turnOf bits c) r v w
+  pub change-line : Reads (Waiting n t) (flipOf bits c) r v w
       → Reads (Changing n last t) bits (line (bitLine (turned (getD bits c 0)) c) r) v (idle (t - (last + 1)) (kindFor (getD bits c 0) ∷ c ∷ 0 ∷ w))
   change-line q =
       let x : List ℕ = bitLine (turned (getD bits c 0)) c in
       let e : cellIn x ≡ c = cell-in (turned (getD bits c 0)) c in
       let f : nextOf (Changing n last t) bits x ≡ Waiting n t = rw (is-change n bits c cell) in
-      let q′ : Reads (Waiting n t) (turnOf bits (cellIn x)) r v w = rw e q in
+      let q′ : Reads (Waiting n t) (flipOf bits (cellIn x)) r v w = rw e q in
       rw e at (reads-on (Changing n last t) (Waiting n t) bits x r v w f (λ k. refl) q′)
 
-  pub reads-change : Reads (Waiting n t) (turnOf bits c) r v w
+  pub reads-change : Reads (Waiting n t) (flipOf bits c) r v w
       → Reads (Waiting n last) bits (line (timeLine t) (line (bitLine (turned (getD bits c 0)) c) r)) v (idle (t - (last + 1)) (kindFor (getD bits c 0) ∷ c ∷ 0 ∷ w))
   reads-change q =
       let f : nextOf (Waiting n last) bits (timeLine t) ≡ Changing n last t = rw (is-time last t later early, time-in t (omega arith)) in
@@ -92,20 +92,20 @@ module _ (n last t c : ℕ) (bits : List ℕ) (r : Items) (v : Verdict) (w : Lis
 -- the changes of a script from step t on
 pub reads-body : (n t last : ℕ) (bits script : List ℕ) → last < t → 3 * t + length script ≤ 98307
     → Reads (Waiting n last) bits (itemsOf (bodyOf n t bits script)) (Fine n (lastOf n t last bits script)) (trimOf n (t - (last + 1)) bits script)
-unfolding bodyOf lastOf trimOf itemsOf verdictOf wordsOf
+unfolding bodyOf lastOf trimOf itemsOf verdictOf scriptWordsOf
 reads-body n t last bits [] h m = record { told = λ j. refl; wrote = refl }
 reads-body n t last bits (kind ∷ []) h m = record { told = λ j. refl; wrote = refl }
 reads-body n t last bits (kind ∷ cell ∷ []) h m = record { told = λ j. refl; wrote = refl }
 reads-body n t last bits (kind ∷ cell ∷ number ∷ rest) h m =
-    go (changesOf n bits kind cell) refl (reads-body n (t + 1) t (turnOf bits cell) rest (omega arith) (omega arith)) (reads-body n (t + 1) last bits rest (omega arith) (omega arith))
+    go (changesOf n bits kind cell) refl (reads-body n (t + 1) t (flipOf bits cell) rest (omega arith) (omega arith)) (reads-body n (t + 1) last bits rest (omega arith) (omega arith))
   where
     go : (b : Bool) → changesOf n bits kind cell ≡ b
-        → Reads (Waiting n t) (turnOf bits cell) (itemsOf (bodyOf n (t + 1) (turnOf bits cell) rest)) (Fine n (lastOf n (t + 1) t (turnOf bits cell) rest)) (trimOf n (t + 1 - (t + 1)) (turnOf bits cell) rest)
+        → Reads (Waiting n t) (flipOf bits cell) (itemsOf (bodyOf n (t + 1) (flipOf bits cell) rest)) (Fine n (lastOf n (t + 1) t (flipOf bits cell) rest)) (trimOf n (t + 1 - (t + 1)) (flipOf bits cell) rest)
         → Reads (Waiting n last) bits (itemsOf (bodyOf n (t + 1) bits rest)) (Fine n (lastOf n (t + 1) last bits rest)) (trimOf n (t + 1 - (last + 1)) bits rest)
         → Reads (Waiting n last) bits
-        (itemsOf (if b then timeLine t ∷ bitLine (turned (getD bits cell 0)) cell ∷ bodyOf n (t + 1) (turnOf bits cell) rest else bodyOf n (t + 1) bits rest))
-        (Fine n (if b then lastOf n (t + 1) t (turnOf bits cell) rest else lastOf n (t + 1) last bits rest))
-        (if b then idle (t - (last + 1)) (kindFor (getD bits cell 0) ∷ cell ∷ 0 ∷ trimOf n 0 (turnOf bits cell) rest) else trimOf n (t - (last + 1) + 1) bits rest)
+        (itemsOf (if b then timeLine t ∷ bitLine (turned (getD bits cell 0)) cell ∷ bodyOf n (t + 1) (flipOf bits cell) rest else bodyOf n (t + 1) bits rest))
+        (Fine n (if b then lastOf n (t + 1) t (flipOf bits cell) rest else lastOf n (t + 1) last bits rest))
+        (if b then idle (t - (last + 1)) (kindFor (getD bits cell 0) ∷ cell ∷ 0 ∷ trimOf n 0 (flipOf bits cell) rest) else trimOf n (t - (last + 1) + 1) bits rest)
     go true e p q =
         let z : t + 1 - (t + 1) ≡ 0 = omega arith in
         reads-change n last t cell bits _ _ _ h (omega arith) (changes-in n bits kind cell e .0) (rw z at p)
@@ -219,11 +219,11 @@ unfolding bodyOf allPlain
 plain-body n t bits [] = refl
 plain-body n t bits (kind ∷ []) = refl
 plain-body n t bits (kind ∷ cell ∷ []) = refl
-plain-body n t bits (kind ∷ cell ∷ number ∷ rest) = go (changesOf n bits kind cell) (plain-body n (t + 1) (turnOf bits cell) rest) (plain-body n (t + 1) bits rest)
+plain-body n t bits (kind ∷ cell ∷ number ∷ rest) = go (changesOf n bits kind cell) (plain-body n (t + 1) (flipOf bits cell) rest) (plain-body n (t + 1) bits rest)
   where
-    go : (b : Bool) → allPlain (bodyOf n (t + 1) (turnOf bits cell) rest) ≡ true
+    go : (b : Bool) → allPlain (bodyOf n (t + 1) (flipOf bits cell) rest) ≡ true
         → allPlain (bodyOf n (t + 1) bits rest) ≡ true
-        → allPlain (if b then timeLine t ∷ bitLine (turned (getD bits cell 0)) cell ∷ bodyOf n (t + 1) (turnOf bits cell) rest else bodyOf n (t + 1) bits rest) ≡ true
+        → allPlain (if b then timeLine t ∷ bitLine (turned (getD bits cell 0)) cell ∷ bodyOf n (t + 1) (flipOf bits cell) rest else bodyOf n (t + 1) bits rest) ≡ true
     go true p q = rw (plain-time t, plain-bit (turned (getD bits cell 0)) cell, p)
     go false p q = q
 
@@ -288,7 +288,7 @@ two-left n (suc j) bits kind cell = refl
 
 -- two scripts that begin with the same change and go on alike
 turned-bits : (n i : ℕ) (bits : List ℕ) (kind cell number : ℕ) (v w : List ℕ) → changesOf n bits kind cell ≡ true
-    → ((k : ℕ) → bitsAfter n (turnOf bits cell) k v ≡ bitsAfter n (turnOf bits cell) k w)
+    → ((k : ℕ) → bitsAfter n (flipOf bits cell) k v ≡ bitsAfter n (flipOf bits cell) k w)
     → bitsAfter n bits i (kindFor (getD bits cell 0) ∷ cell ∷ 0 ∷ v) ≡ bitsAfter n bits i (kind ∷ cell ∷ number ∷ w)
 unfolding bitsAfter
 turned-bits n zero bits kind cell number v w e p = refl
@@ -307,15 +307,15 @@ unfolding trimOf
 trim-bits n gap j bits [] = none-left n j bits ∙ sym (none-left n (j - gap) bits)
 trim-bits n gap j bits (kind ∷ []) = none-left n j bits ∙ sym (one-left n (j - gap) bits kind)
 trim-bits n gap j bits (kind ∷ cell ∷ []) = none-left n j bits ∙ sym (two-left n (j - gap) bits kind cell)
-trim-bits n gap j bits (kind ∷ cell ∷ number ∷ rest) = go (changesOf n bits kind cell) refl (λ k. trim-bits n 0 k (turnOf bits cell) rest) (trim-bits n (gap + 1) j bits rest)
+trim-bits n gap j bits (kind ∷ cell ∷ number ∷ rest) = go (changesOf n bits kind cell) refl (λ k. trim-bits n 0 k (flipOf bits cell) rest) (trim-bits n (gap + 1) j bits rest)
   where
     go : (b : Bool) → changesOf n bits kind cell ≡ b
-        → ((k : ℕ) → bitsAfter n (turnOf bits cell) k (trimOf n 0 (turnOf bits cell) rest) ≡ bitsAfter n (turnOf bits cell) (k - 0) rest)
+        → ((k : ℕ) → bitsAfter n (flipOf bits cell) k (trimOf n 0 (flipOf bits cell) rest) ≡ bitsAfter n (flipOf bits cell) (k - 0) rest)
         → bitsAfter n bits j (trimOf n (gap + 1) bits rest) ≡ bitsAfter n bits (j - (gap + 1)) rest
-        → bitsAfter n bits j (if b then idle gap (kindFor (getD bits cell 0) ∷ cell ∷ 0 ∷ trimOf n 0 (turnOf bits cell) rest) else trimOf n (gap + 1) bits rest) ≡ bitsAfter n bits (j - gap) (kind ∷ cell ∷ number ∷ rest)
+        → bitsAfter n bits j (if b then idle gap (kindFor (getD bits cell 0) ∷ cell ∷ 0 ∷ trimOf n 0 (flipOf bits cell) rest) else trimOf n (gap + 1) bits rest) ≡ bitsAfter n bits (j - gap) (kind ∷ cell ∷ number ∷ rest)
     go true e p q =
-        idle-bits gap n j bits (kindFor (getD bits cell 0) ∷ cell ∷ 0 ∷ trimOf n 0 (turnOf bits cell) rest)
-        ∙ turned-bits n (j - gap) bits kind cell number (trimOf n 0 (turnOf bits cell) rest) rest e (λ k. let z : k - 0 ≡ k = omega arith in rw z at (p k))
+        idle-bits gap n j bits (kindFor (getD bits cell 0) ∷ cell ∷ 0 ∷ trimOf n 0 (flipOf bits cell) rest)
+        ∙ turned-bits n (j - gap) bits kind cell number (trimOf n 0 (flipOf bits cell) rest) rest e (λ k. let z : k - 0 ≡ k = omega arith in rw z at (p k))
     go false e p q = let z : j - (gap + 1) ≡ j - gap - 1 = omega arith in q ∙ (rw z (still-bits n (j - gap) bits kind cell number rest e))
 
 -- what is read back has the bits of the history, at every step

@@ -9,12 +9,12 @@ use Rattle.model.specs.Choice.{if_then_else_}
 use Rattle.wave.specs.Lines.{Items, finish, torn, line, put, splitOf}
 use Rattle.roundtrip.specs.Texts.{itemsOf, textOf, same-refl, split-joined, text-split}
 use Rattle.wave.specs.Stages.{bad-not, Reach, reach-next}
-use Rattle.wave.specs.Dump.{noBits, turnOf, scopeLine, endLine, timeLine, firstOf, linesOf, dumpOf, Dumpable}
+use Rattle.wave.specs.Dump.{noBits, flipOf, scopeLine, endLine, timeLine, firstOf, linesOf, dumpOf, Dumpable}
 use Rattle.wave.specs.declared.Stage.{Stage}
 use Rattle.wave.specs.declared.Stage.the-variants.{Opening, Scope, Variables, Ending, Start, Values, Waiting, Changing, Lost}
 use Rattle.wave.specs.declared.Verdict.{Verdict}
 use Rattle.wave.specs.declared.Verdict.the-variants.{Fine, Bad}
-use Rattle.wave.specs.Reader.{nextOf, bitsOf, atEnd, unless, verdictOf, wordsOf, refused, readingOf, readOf}
+use Rattle.wave.specs.Reader.{nextOf, bitsOf, atEnd, unless, verdictOf, scriptWordsOf, refused, readingOf, readOf}
 use Rattle.roundtrip.specs.Round.{Reads, reads-on, reads-values, reads-vars, reads-ending, reads-head, reads-dump, change-line, plain-lines, lastOf}
 use Rattle.roundtrip.specs.Image.{image-lines}
 
@@ -164,7 +164,7 @@ pub record Ends (s : Stage) (bits : List ℕ) : Type 0 where
   pub reads : Reads s bits rest (Fine n last) words
 
 at-rest : (n last : ℕ) (bits : List ℕ) → Reads (Waiting n last) bits (itemsOf []) (Fine n last) []
-unfolding verdictOf wordsOf itemsOf
+unfolding verdictOf scriptWordsOf itemsOf
 at-rest n last bits = record { told = λ j. refl; wrote = refl }
 
 ends : (s : Stage) (bits : List ℕ) → Live s → Reach s → Ends s bits
@@ -182,7 +182,7 @@ ends (Start n) bits l h =
     record { rest = _; n = n; last = 0; words = []; reads = reads-on (Start n) (Values n 0) bits (timeLine 0) _ (Fine n 0) [] f (λ k. refl) (reads-values (n - 1) n 0 bits [] (Fine n 0) [] (omega (arith, h .0)) (at-rest n 0 bits)) }
 ends (Values n c) bits l h = record { rest = _; n = n; last = 0; words = []; reads = reads-values (n - (c + 1)) n c bits [] (Fine n 0) [] (omega (arith, h .0)) (at-rest n 0 bits) }
 ends (Waiting n last) bits l h = record { rest = _; n = n; last = last; words = []; reads = at-rest n last bits }
-ends (Changing n last t) bits l h = record { rest = _; n = n; last = t; words = _; reads = change-line n last t 0 bits (itemsOf []) (Fine n t) [] (h .2) (h .3) (h .0) (at-rest n t (turnOf bits 0)) }
+ends (Changing n last t) bits l h = record { rest = _; n = n; last = t; words = _; reads = change-line n last t 0 bits (itemsOf []) (Fine n t) [] (h .2) (h .3) (h .0) (at-rest n t (flipOf bits 0)) }
 ends Lost bits l h = absurd l
 
 -- a text that agrees with this one for i lines, and is accepted
@@ -230,7 +230,7 @@ unfolding readOf dumpOf
 first-wrong text k = go (verdictOf 1 Opening noBits (splitOf text)) refl
   where
     go : (v : Verdict) → verdictOf 1 Opening noBits (splitOf text) ≡ v
-        → readingOf v (wordsOf Opening noBits (splitOf text)) ≡ refused k → FirstWrong text k
+        → readingOf v (scriptWordsOf Opening noBits (splitOf text)) ≡ refused k → FirstWrong text k
     go (Fine n last) e f = let z : _≡_ {A = ℕ} 0 1 = cc in absurd (omega arith)
     go (Bad p) e f =
         let q : p ≡ k = cc in
@@ -240,7 +240,7 @@ first-wrong text k = go (verdictOf 1 Opening noBits (splitOf text)) refl
         let whole : suc (k - 1) ≡ k = omega arith in
         let d = other (splitOf text) 1 (k - 1) k Opening noBits tt tt b one in
         let i = image-lines (d .rest) (d .n) (d .last) noBits refl (d .accepted) in
-        let w : List ℕ = wordsOf Opening noBits (d .rest) in
+        let w : List ℕ = scriptWordsOf Opening noBits (d .rest) in
         let s : splitOf (dumpOf (d .n) w) ≡ d .rest = split-joined (linesOf (d .n) w) (plain-lines (d .n) w) ∙ sym (i .1) in
         record {
           counted = from;

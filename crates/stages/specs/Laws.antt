@@ -15,7 +15,7 @@ use Rattle.wave.specs.Lines.{joined, same}
 use Rattle.wave.specs.Dump.{turned}
 use Rattle.wave.specs.declared.Stage.{Stage}
 use Rattle.wave.specs.declared.Stage.the-variants.{Opening, Scope, Variables, Ending, Start, Values, Waiting, Changing, Lost}
-use Rattle.wave.specs.Dump.{turnOf, bitLine}
+use Rattle.wave.specs.Dump.{flipOf, bitLine}
 use Rattle.wave.specs.Reader.{cellIn, isChange, nextOf, bitsOf}
 use Rattle.wave.specs.Stages.{false-not, Reach}
 use Rattle.stages.specs.Stages.{isLost, isChanging}
@@ -75,7 +75,7 @@ still-bits (Waiting n last) bits x e = refl
 still-bits (Changing n last t) bits x e = false-not (sym e)
 still-bits Lost bits x e = refl
 
-pub turned-bits : (s : Stage) (bits x : List ℕ) → isChanging s ≡ true → bitsOf s bits x ≡ turnOf bits (cellIn x)
+pub turned-bits : (s : Stage) (bits x : List ℕ) → isChanging s ≡ true → bitsOf s bits x ≡ flipOf bits (cellIn x)
 turned-bits Opening bits x e = false-not e
 turned-bits Scope bits x e = false-not e
 turned-bits (Variables n) bits x e = false-not e

@@ -219,7 +219,7 @@ pub fn is_changing(stage: Stage) -> bool
 }
 
 // The bits after a line that was taken. A step: the reader calls it.
-pub fn turn(stage: Stage, bits: &mut [u8; 94], line: &[u8])
+pub fn bits_after(stage: Stage, bits: &mut [u8; 94], line: &[u8])
     requires { ⌜ Reach stage × (isLost (nextOf stage (now bits) (now line)) ≡ false) ⌝ }
     ensures { λ r. ⌜ now (bits .exit) ≡ bitsOf stage (now (bits .entry)) (now (line .entry)) ⌝ }
 {

@@ -7,7 +7,7 @@ use lib.Dec.{eqb, ltb}
 use lib.ListN.{length, drop, take}
 use lib.Seq.{sets}
 use Rattle.model.specs.Choice.{if_then_else_}
-use Rattle.text.specs.Text.{before, numberOf, counted, numbersFrom}
+use Rattle.text.specs.Text.{before, readNumberOf, counted, numbersFrom}
 use Rattle.text.specs.declared.Numbers.{Numbers}
 use Rattle.steps.specs.declared.Line.{Line}
 use Rattle.steps.specs.declared.Opened.{Opened}
@@ -16,13 +16,13 @@ use Rattle.steps.specs.declared.Order.{Order}
 
 -- the numbers of a line, behind the first one
 unfoldable pub restOf : List ℕ → Numbers
-restOf l = numbersFrom (length l - numberOf l .digits) (counted true) (drop (numberOf l .digits) l)
+restOf l = numbersFrom (length l - readNumberOf l .digits) (counted true) (drop (readNumberOf l .digits) l)
 
 -- a line of numbers
 unfoldable pub lineOf : List ℕ → Line
 lineOf l =
-    if numberOf l .fine
-    then record { fine = restOf l .fine; more = restOf l .count; a = numberOf l .value; b = restOf l .a; c = restOf l .b }
+    if readNumberOf l .fine
+    then record { fine = restOf l .fine; more = restOf l .count; a = readNumberOf l .value; b = restOf l .a; c = restOf l .b }
     else record { fine = false; more = 0; a = 0; b = 0; c = 0 }
 
 -- "`N` or `N ROOM`"; "without it there is room for any dump"

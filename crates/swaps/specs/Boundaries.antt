@@ -10,7 +10,7 @@ use lib.ListN.{length, getD, length-append}
 use borrow.Author.Tests.{eq-eqb, ne-eqb}
 use Rattle.model.specs.Log.{Made}
 use Rattle.model.specs.Arena.{spentTo}
-use Rattle.model.specs.Foreign.{Setting, stepsIn, kindAt, placeAt, numberAt, flowOf, stepOf, stepsOf, boundaryOf}
+use Rattle.model.specs.Foreign.{Setting, stepsIn, kindAt, placeAt, numberAt, flowOf, stepOf, runStepsOf, boundaryOf}
 use Rattle.model.specs.Calls.{given}
 use Rattle.model.specs.declared.Flow.{Flow}
 use Rattle.model.specs.declared.Head.{Head}
@@ -108,16 +108,16 @@ Ran = Flow × (List ℕ × List ℕ)
 
 -- the rest of a boundary behind one step
 abbrev rest-of : ℕ → Setting → Flow → Made (Stepped × (List ℕ × List ℕ)) → Ran
-rest-of left e f o = stepsOf left e (flowOf (o .seen .0 .next) (f .place + 1) (f .dropped + o .seen .0 .dropped)) (o .seen .1 .0) (o .seen .1 .1) .seen
+rest-of left e f o = runStepsOf left e (flowOf (o .seen .0 .next) (f .place + 1) (f .dropped + o .seen .0 .dropped)) (o .seen .1 .0) (o .seen .1 .1) .seen
 
 turn : (left : ℕ) (e : Setting) (f : Flow) (t g : List ℕ) (k q m : ℕ) → kindAt (e .script) (f .place) ≡ k → placeAt (e .script) (f .place) ≡ q
-    → numberAt (e .script) (f .place) ≡ m → k ≢ 5 → stepsOf (suc left) e f t g .seen ≡ rest-of left e f (stepOf e (f .next) t g k q m)
-unfolding stepsOf
+    → numberAt (e .script) (f .place) ≡ m → k ≢ 5 → runStepsOf (suc left) e f t g .seen ≡ rest-of left e f (stepOf e (f .next) t g k q m)
+unfolding runStepsOf
 turn left e f t g k q m x y z u = rw (x, y, z, ne-eqb k 5 u)
 
 pub turn-last : (left : ℕ) (e : Setting) (f : Flow) (t g : List ℕ) → kindAt (e .script) (f .place) ≡ 5
-    → stepsOf (suc left) e f t g .seen ≡ (flowOf (f .next) (f .place + 1) (f .dropped), (t, g))
-unfolding stepsOf
+    → runStepsOf (suc left) e f t g .seen ≡ (flowOf (f .next) (f .place + 1) (f .dropped), (t, g))
+unfolding runStepsOf
 turn-last left e f t g x = rw (eq-eqb (kindAt (e .script) (f .place)) 5 x)
 
 -- a step reads nothing of the script itself
@@ -128,7 +128,7 @@ unscripted h script ps n t g k q m = refl
 
 -- the rest of a boundary from this world on
 abbrev pub goes-on : ℕ → Setting → World → ℕ → ℕ → Ran
-goes-on more e v p d = stepsOf more e (flowOf (v .head .next) p d) (v .table) (v .health) .seen
+goes-on more e v p d = runStepsOf more e (flowOf (v .head .next) p d) (v .table) (v .health) .seen
 
 pub play : (left more : ℕ) (ps : List Lease) (script : List ℕ) (w : World) (p d : ℕ) (ss : List Step) → left ≡ length ss + more → Stand script p ss
     → Unended ss
@@ -198,8 +198,8 @@ module _ (h : Head) (pre ss ts post : List Step) (unended : Unended ss) (shuffle
   arena f t g = worldOf (spentTo h (f .next)) t g
 
   -- the place is outside, and no cell is damaged
-  abbrev pub Calm : Ran → Type 0
-  Calm o = Outside (o .0 .place) × Fine (arena (o .0) (o .1 .0) (o .1 .1))
+  abbrev pub OutsideFine : Ran → Type 0
+  OutsideFine o = Outside (o .0 .place) × Fine (arena (o .0) (o .1 .0) (o .1 .1))
 
   word-outside : (i : ℕ) → (i < 3 * length pre) ⊎ (3 * (length pre + length ss) ≤ i) → getD other i 0 ≡ getD one i 0
   word-outside i (inl l) = word-before pre (ts ++ post) (ss ++ post) i l
@@ -225,7 +225,7 @@ module _ (h : Head) (pre ss ts post : List Step) (unended : Unended ss) (shuffle
 
   module _ (ps : List Lease) where
     abbrev Runs-alike : ℕ → Flow → List ℕ → List ℕ → Type 0
-    Runs-alike left f t g = Same Calm (stepsOf left (given h one ps) f t g .seen) (stepsOf left (given h other ps) f t g .seen)
+    Runs-alike left f t g = Same OutsideFine (runStepsOf left (given h one ps) f t g .seen) (runStepsOf left (given h other ps) f t g .seen)
 
     -- one step outside the stretch, and then what follows
     one-turn : (left : ℕ) (f : Flow) (t g : List ℕ) → Same-words one other (f .place) → Outside (f .place + 1) → Fine (arena f t g)
@@ -239,23 +239,23 @@ module _ (h : Head) (pre ss ts post : List Step) (unended : Unended ss) (shuffle
         go (yes e) =
             record {
               equal = turn-last left (given h other ps) f t g (x .kinds ∙ e) ∙ sym (turn-last left (given h one ps) f t g e);
-              good = subst Calm (sym (turn-last left (given h one ps) f t g e)) (o, c);
+              good = subst OutsideFine (sym (turn-last left (given h one ps) f t g e)) (o, c);
             }
         go (no e) =
             let m = stepOf (given h [] ps) (f .next) t g (s .kind) (s .place) (s .number) in
             let k = flowOf (m .seen .0 .next) (f .place + 1) (f .dropped + m .seen .0 .dropped) in
             let r = more k (m .seen .1 .0) (m .seen .1 .1) refl (fine-leaves ps (arena f t g) s c) in
-            let a : stepsOf (suc left) (given h one ps) f t g .seen ≡ rest-of left (given h one ps) f m =
+            let a : runStepsOf (suc left) (given h one ps) f t g .seen ≡ rest-of left (given h one ps) f m =
             turn left (given h one ps) f t g (s .kind) (s .place) (s .number) refl refl refl e
             ∙ ap (rest-of left (given h one ps) f) (unscripted h one ps (f .next) t g (s .kind) (s .place) (s .number)) in
-            let b : stepsOf (suc left) (given h other ps) f t g .seen ≡ rest-of left (given h other ps) f m =
+            let b : runStepsOf (suc left) (given h other ps) f t g .seen ≡ rest-of left (given h other ps) f m =
             turn left (given h other ps) f t g (s .kind) (s .place) (s .number) (x .kinds) (x .places) (x .numbers) e
             ∙ ap (rest-of left (given h other ps) f) (unscripted h other ps (f .next) t g (s .kind) (s .place) (s .number)) in
-            record { equal = b ∙ r .equal ∙ sym a; good = subst Calm (sym a) (r .good) }
+            record { equal = b ∙ r .equal ∙ sym a; good = subst OutsideFine (sym a) (r .good) }
 
     -- from a place behind the stretch
     runs-behind : (left : ℕ) (f : Flow) (t g : List ℕ) → length pre + length ss ≤ f .place → Fine (arena f t g) → Runs-alike left f t g
-    unfolding stepsOf
+    unfolding runStepsOf
     runs-behind zero f t g l c = record { equal = refl; good = (inr l, c) }
     runs-behind (suc left) f t g l c =
         one-turn left f t g (words-behind (f .place) l) (inr (omega arith)) c (λ k u v e d. runs-behind left k u v (omega arith) d)
@@ -266,10 +266,10 @@ module _ (h : Head) (pre ss ts post : List Step) (unended : Unended ss) (shuffle
         let w = arena f t g in
         let eq = shuffle ps w c shuffle-is in
         let v = after-all ps w ss in
-        let a : stepsOf left (given h one ps) f t g .seen
+        let a : runStepsOf left (given h one ps) f t g .seen
         ≡ goes-on (length post) (given h one ps) v (f .place + length ss) (f .dropped + dropped-in ps w ss) =
         play left (length post) ps one w (f .place) (f .dropped) ss n (stand-at one (length pre) (f .place) ss (sym l) (stand pre ss post)) unended in
-        let b : stepsOf left (given h other ps) f t g .seen
+        let b : runStepsOf left (given h other ps) f t g .seen
         ≡ goes-on (length post) (given h other ps) (after-all ps w ts) (f .place + length ts) (f .dropped + dropped-in ps w ts) =
         play left (length post) ps other w (f .place) (f .dropped) ts (omega (arith, shuffled-length shuffle-is))
         (stand-at other (length pre) (f .place) ts (sym l) (stand pre ts post)) (shuffled-unended shuffle-is unended) in
@@ -278,7 +278,7 @@ module _ (h : Head) (pre ss ts post : List Step) (unended : Unended ss) (shuffle
         rw (eq .0, eq .1, shuffled-length shuffle-is) in
         let r = runs-behind (length post) (flowOf (v .head .next) (f .place + length ss) (f .dropped + dropped-in ps w ss)) (v .table) (v .health)
         (omega arith) (fine-after ps w ss c) in
-        record { equal = b ∙ c₁ ∙ r .equal ∙ sym a; good = subst Calm (sym a) (r .good) }
+        record { equal = b ∙ c₁ ∙ r .equal ∙ sym a; good = subst OutsideFine (sym a) (r .good) }
 
     -- from a place before the stretch
     runs-before : (left gap : ℕ) (f : Flow) (t g : List ℕ) → left ≡ gap + (length ss + length post) → f .place + gap ≡ length pre → Fine (arena f t g)
@@ -289,12 +289,12 @@ module _ (h : Head) (pre ss ts post : List Step) (unended : Unended ss) (shuffle
         one-turn left f t g (words-before (f .place) (omega arith)) (inl (omega arith)) c (λ k u v e d. runs-before left gap k u v (omega arith) (omega arith) d)
 
     from : (left : ℕ) (f : Flow) (t g : List ℕ) → left ≡ stepsIn one - f .place → left ≡ stepsIn other - f .place → Runs-alike left f t g
-        → Same Calm (stepsOf (stepsIn one - f .place) (given h one ps) f t g .seen) (stepsOf (stepsIn other - f .place) (given h other ps) f t g .seen)
+        → Same OutsideFine (runStepsOf (stepsIn one - f .place) (given h one ps) f t g .seen) (runStepsOf (stepsIn other - f .place) (given h other ps) f t g .seen)
     from left f t g x y r =
-        subst (λ (n : ℕ). Same Calm (stepsOf n (given h one ps) f t g .seen) (stepsOf (stepsIn other - f .place) (given h other ps) f t g .seen)) x
-        (subst (λ (n : ℕ). Same Calm (stepsOf left (given h one ps) f t g .seen) (stepsOf n (given h other ps) f t g .seen)) y r)
+        subst (λ (n : ℕ). Same OutsideFine (runStepsOf n (given h one ps) f t g .seen) (runStepsOf (stepsIn other - f .place) (given h other ps) f t g .seen)) x
+        (subst (λ (n : ℕ). Same OutsideFine (runStepsOf left (given h one ps) f t g .seen) (runStepsOf n (given h other ps) f t g .seen)) y r)
 
-    pub boundary-alike : (f : Flow) (t g : List ℕ) → Calm (f, (t, g)) → Same Calm (boundaryOf (given h one ps) f t g .seen) (boundaryOf (given h other ps) f t g .seen)
+    pub boundary-alike : (f : Flow) (t g : List ℕ) → OutsideFine (f, (t, g)) → Same OutsideFine (boundaryOf (given h one ps) f t g .seen) (boundaryOf (given h other ps) f t g .seen)
     unfolding boundaryOf
     boundary-alike f t g (inl l, c) =
         let gap = length pre - f .place in

@@ -11,7 +11,7 @@ use Rattle.model.specs.Choice.{if_then_else_}
 use Rattle.model.specs.Log.{Made, gives, _>>=_}
 use Rattle.model.specs.Arena.{leasesOf}
 use Rattle.model.specs.Refusals.{first, judge}
-use Rattle.model.specs.Foreign.{Setting, stepsIn, kindAt, flowOf, stepsOf, boundaryOf}
+use Rattle.model.specs.Foreign.{Setting, stepsIn, kindAt, flowOf, runStepsOf, boundaryOf}
 use Rattle.model.specs.Lock.{runOf}
 use Rattle.model.specs.Checks.{scriptRules}
 use Rattle.model.specs.Calls.{given, played, unplayed, environmentOf}
@@ -35,7 +35,7 @@ use Rattle.swaps.specs.Boundaries.{goes-on, play, stand, turn-last, same
 -- a boundary that has run the stretch
 last : (e : Setting) (v : World) (pre ss post : List Step) (d : ℕ) → e .script ≡ scriptOf (pre ++ (ss ++ post)) → Ended post
     → goes-on (length post) e v (length pre + length ss) d ≡ (flowOf (v .head .next) (length pre + length ss + ends post) d, (v .table, v .health))
-unfolding stepsOf scriptOf
+unfolding runStepsOf scriptOf
 last e v pre ss [] d s x = ap (λ (p : ℕ). (flowOf (v .head .next) p d, (v .table, v .health))) (omega arith)
 last e v pre ss (q ∷ post) d s x =
     turn-last (length post) e (flowOf (v .head .next) (length pre + length ss) d) (v .table) (v .health)

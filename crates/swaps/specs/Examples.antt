@@ -7,7 +7,7 @@ use mathlib.Core.Logic.{_≢_, inl, inr}
 use native.Mathlib.Omega.{arith}
 use Rattle.model.specs.Log.{Event, by-caller, by-script, took, released}
 use Rattle.model.specs.Arena.{headOf, leaseOf, leasesOf, bitAt, ownerAt, setCell, setWaiters, isFree, isHeld, stateOf, stateAt, isLive, sameLease, isIn, headFits, shapeFits}
-use Rattle.model.specs.Foreign.{flowOf, stepTakeOf, stepReleaseOf, stepWaitersOf, stepHealthOf, stepOf, stepsOf, boundaryOf}
+use Rattle.model.specs.Foreign.{flowOf, stepTakeOf, stepReleaseOf, stepWaitersOf, stepHealthOf, stepOf, runStepsOf, boundaryOf}
 use Rattle.model.specs.Calls.{given, environmentOf}
 use Rattle.model.specs.declared.Lease.{Lease}
 use Rattle.model.specs.declared.State.the-variants as state
@@ -135,13 +135,13 @@ left-by ss place = boundaryOf (given (empty .head) (scriptOf ss) []) (flowOf 1 p
 -- begun between the two steps: each order runs another one
 inside-stretch : (left-by (waiters-step 0 5 ∷ waiters-step 1 6 ∷ []) 1 ≡ 0 ∷ 0 ∷ 0 ∷ 0 ∷ 0 ∷ 6 ∷ [])
     × (left-by (waiters-step 1 6 ∷ waiters-step 0 5 ∷ []) 1 ≡ 0 ∷ 0 ∷ 5 ∷ 0 ∷ 0 ∷ 0 ∷ [])
-unfolding scriptOf boundaryOf stepsOf stepOf stepWaitersOf setWaiters
+unfolding scriptOf boundaryOf runStepsOf stepOf stepWaitersOf setWaiters
 inside-stretch = (refl, refl)
 
 -- a step moved over an end of boundary belongs to another boundary
 over-an-end : (left-by (waiters-step 0 5 ∷ stepWords 5 0 0 ∷ []) 0 ≡ 0 ∷ 0 ∷ 5 ∷ 0 ∷ 0 ∷ 0 ∷ [])
     × (left-by (stepWords 5 0 0 ∷ waiters-step 0 5 ∷ []) 0 ≡ 0 ∷ 0 ∷ 0 ∷ 0 ∷ 0 ∷ 0 ∷ [])
-unfolding scriptOf boundaryOf stepsOf stepOf stepWaitersOf setWaiters
+unfolding scriptOf boundaryOf runStepsOf stepOf stepWaitersOf setWaiters
 over-an-end = (refl, refl)
 
 -- ---- the premises can be met

@@ -29,7 +29,7 @@ use Rattle.swaps.specs.Steps.{Step, Shuffled}
 use Rattle.swaps.specs.Scripts.{scriptOf, Unended, Respelled, stretch, onward, environments, try-locks, transactionals, acquire-buckets, releases-all, acquires-locks}
 use Rattle.swaps.specs.Statements.{Calls-rescripted}
 use Rattle.swaps.specs.Fine.{Fine, fine, freed}
-use Rattle.swaps.specs.Boundaries.{Ran, same-length, shuffled-length, Calm, boundary-alike}
+use Rattle.swaps.specs.Boundaries.{Ran, same-length, shuffled-length, OutsideFine, boundary-alike}
 use Rattle.swaps.specs.Walks.{Twins, lock-alike, attempt-alike, retry-alike, back-alike, locks-alike}
 
 -- ---- a shuffled stretch gives twins
@@ -55,7 +55,7 @@ taken-fine h n t g c f = go (stateAt n t c)
         }) f
 
 module _ (h : Head) (pre ss ts post : List Step) (u : Unended ss) (r : Shuffled ss ts) where
-  stretch-twins : Twins h (scriptOf (pre ++ (ss ++ post))) (scriptOf (pre ++ (ts ++ post))) (Calm h pre ss ts post u r)
+  stretch-twins : Twins h (scriptOf (pre ++ (ss ++ post))) (scriptOf (pre ++ (ts ++ post))) (OutsideFine h pre ss ts post u r)
   stretch-twins =
       record {
         boundaries = boundary-alike h pre ss ts post u r;
@@ -125,7 +125,7 @@ chained : {A : Type 0} (w : World) (place : ℕ) (f : List ℕ → A) → Fine w
     → ((a b : List ℕ) (Good : Ran → Type 0) → Twins (w .head) a b Good → length b ≡ length a → Good (flowOf (w .head .next) place 0, (w .table, w .health)) → f b ≡ f a)
     → {a b : List ℕ} → Respelled place a b → f b ≡ f a
 chained w place f g one (stretch pre ss ts post u r o) =
-    one (scriptOf (pre ++ (ss ++ post))) (scriptOf (pre ++ (ts ++ post))) (Calm (w .head) pre ss ts post u r) (stretch-twins (w .head) pre ss ts post u r)
+    one (scriptOf (pre ++ (ss ++ post))) (scriptOf (pre ++ (ts ++ post))) (OutsideFine (w .head) pre ss ts post u r) (stretch-twins (w .head) pre ss ts post u r)
     (same-length pre ss ts post (shuffled-length r)) (o, g)
 chained w place f g one (onward x y) = chained w place f g one y ∙ chained w place f g one x
 

@@ -24,7 +24,7 @@ pub struct Heard {
 
 // At the first byte, with nothing played.
 // A step of the console, no call of document 01: only its own crates call it.
-pub fn begin() -> Talk {
+pub fn fresh() -> Talk {
     Talk {
         lines: 0,
         bad: 0,

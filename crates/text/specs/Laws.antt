@@ -13,7 +13,7 @@ use borrow.Author.Tests.{eqb-true, eqb-false, ne-eqb, lt-ltb, le-ltb, ltb-true, 
 use Rattle.model.specs.Choice.{if_then_else_}
 use Rattle.laws.specs.Pick.{if-both}
 use Rattle.text.specs.declared.Numbers.{Numbers}
-use Rattle.text.specs.Text.{before, isDigit, digitsIn, valueFrom, noNumber, endedOf, numberOf, spacedOf, counted, withOf, numbersFrom}
+use Rattle.text.specs.Text.{before, isDigit, digitsIn, valueFrom, noNumber, endedNumberOf, readNumberOf, spacedOf, counted, withOf, numbersFrom}
 
 drop-one : (l : List ℕ) (i : ℕ) → i < length l → drop i l ≡ getD l i 0 ∷ drop (i + 1) l
 drop-one l i b = rw (add-one i) (drop-cons l i 0 b)
@@ -98,8 +98,8 @@ digits-within (b ∷ l) = go (isDigit b) (digits-within l)
     go true h = omega arith
     go false h = omega arith
 
-ended-within : (b digits value : ℕ) → endedOf b digits value .digits ≤ digits
-unfolding endedOf
+ended-within : (b digits value : ℕ) → endedNumberOf b digits value .digits ≤ digits
+unfolding endedNumberOf
 ended-within b digits value = go (eqb digits 0) (eqb b 48 && ltb 1 digits)
   where
     go : (s t : Bool) → (if s then noNumber else if t then noNumber else record { fine = true; value = value; digits = digits }) .digits ≤ digits
@@ -107,11 +107,11 @@ ended-within b digits value = go (eqb digits 0) (eqb b 48 && ltb 1 digits)
     go false true = omega arith
     go false false = omega arith
 
-pub number-within : (l : List ℕ) → numberOf l .digits ≤ length l
-unfolding numberOf
+pub number-within : (l : List ℕ) → readNumberOf l .digits ≤ length l
+unfolding readNumberOf
 number-within l = go (ltb 4294967295 (valueFrom 0 l)) (ended-within (getD l 0 0) (digitsIn l) (valueFrom 0 l)) (digits-within l)
   where
-    go : (t : Bool) → endedOf (getD l 0 0) (digitsIn l) (valueFrom 0 l) .digits ≤ digitsIn l → digitsIn l ≤ length l → (if t then noNumber else endedOf (getD l 0 0) (digitsIn l) (valueFrom 0 l)) .digits ≤ length l
+    go : (t : Bool) → endedNumberOf (getD l 0 0) (digitsIn l) (valueFrom 0 l) .digits ≤ digitsIn l → digitsIn l ≤ length l → (if t then noNumber else endedNumberOf (getD l 0 0) (digitsIn l) (valueFrom 0 l)) .digits ≤ length l
     go true h k = omega arith
     go false h k = omega arith
 
@@ -123,22 +123,22 @@ spaced-within l i b = go (eqb (getD (drop i l) 0 0) 32) (number-within (drop 1 (
     shorter : length (drop 1 (drop i l)) + i + 1 ≡ length l
     shorter = rw (length-drop 1 (drop i l), length-drop i l) (omega arith)
 
-    go : (t : Bool) → numberOf (drop 1 (drop i l)) .digits ≤ length (drop 1 (drop i l)) → (if t then numberOf (drop 1 (drop i l)) else noNumber) .digits + i + 1 ≤ length l
+    go : (t : Bool) → readNumberOf (drop 1 (drop i l)) .digits ≤ length (drop 1 (drop i l)) → (if t then readNumberOf (drop 1 (drop i l)) else noNumber) .digits + i + 1 ≤ length l
     go true h = omega (arith, shorter)
     go false h = omega arith
 
 -- ---- numbers
 
 -- digits up to i, where no more follow, with the value so far: the number is what they come to
-pub number-ends : (l : List ℕ) (at i v : ℕ) → at ≤ i → v ≤ 4294967295 → valueFrom 0 (drop at l) ≡ v → digitsIn (drop at l) ≡ i - at → endedOf (getD l at 0) (i - at) v ≡ numberOf (drop at l)
-unfolding numberOf
+pub number-ends : (l : List ℕ) (at i v : ℕ) → at ≤ i → v ≤ 4294967295 → valueFrom 0 (drop at l) ≡ v → digitsIn (drop at l) ≡ i - at → endedNumberOf (getD l at 0) (i - at) v ≡ readNumberOf (drop at l)
+unfolding readNumberOf
 number-ends l at i v h small e d =
     let first : getD (drop at l) 0 0 ≡ getD l at 0 = getD-drop at l 0 0 ∙ ap (λ (k : ℕ). getD l k 0) (add-zero at) in
     rw (e, d, le-ltb _ _ small, first)
 
 -- what is too large stays so
-pub number-large : (l : List ℕ) (at v : ℕ) (rest : List ℕ) → 4294967295 < v → valueFrom v rest ≡ valueFrom 0 (drop at l) → noNumber ≡ numberOf (drop at l)
-unfolding numberOf
+pub number-large : (l : List ℕ) (at v : ℕ) (rest : List ℕ) → 4294967295 < v → valueFrom v rest ≡ valueFrom 0 (drop at l) → noNumber ≡ readNumberOf (drop at l)
+unfolding readNumberOf
 number-large l at v rest big e = let over : 4294967295 < valueFrom 0 (drop at l) = omega (arith, value-grows v rest, e) in rw (lt-ltb _ _ over)
 
 pub with-count : (got : Numbers) (v : ℕ) → withOf got v .count ≡ got .count + 1

@@ -31,16 +31,16 @@ abbrev pub noNumber : Number
 noNumber = record { fine = false; value = 0; digits = 0 }
 
 -- "without sign or leading zeros": so many digits, of which b is the first, with this value
-unfoldable pub endedOf : ℕ → ℕ → ℕ → Number
-endedOf b digits value = if eqb digits 0 then noNumber else if (eqb b 48 && ltb 1 digits) then noNumber else record { fine = true; value = value; digits = digits }
+unfoldable pub endedNumberOf : ℕ → ℕ → ℕ → Number
+endedNumberOf b digits value = if eqb digits 0 then noNumber else if (eqb b 48 && ltb 1 digits) then noNumber else record { fine = true; value = value; digits = digits }
 
 -- "from 0 to 4,294,967,295": the number at the front
-unfoldable pub numberOf : List ℕ → Number
-numberOf l = if ltb 4294967295 (valueFrom 0 l) then noNumber else endedOf (getD l 0 0) (digitsIn l) (valueFrom 0 l)
+unfoldable pub readNumberOf : List ℕ → Number
+readNumberOf l = if ltb 4294967295 (valueFrom 0 l) then noNumber else endedNumberOf (getD l 0 0) (digitsIn l) (valueFrom 0 l)
 
 -- "separated by single spaces": the number behind one space
 unfoldable pub spacedOf : List ℕ → Number
-spacedOf l = if eqb (getD l 0 0) 32 then numberOf (drop 1 l) else noNumber
+spacedOf l = if eqb (getD l 0 0) 32 then readNumberOf (drop 1 l) else noNumber
 
 abbrev pub counted : Bool → Numbers
 counted fine = record { fine = fine; count = 0; a = 0; b = 0; c = 0 }

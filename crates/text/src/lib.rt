@@ -6,7 +6,7 @@ ghost use mathlib.Core.Bool.{true, _&&_};
 ghost use lib.Dec.{eqb, ltb, leb};
 ghost use lib.ListN.{length, getD, drop};
 ghost use Rattle.io.specs.Counts.{Counts};
-ghost use Rattle.text.specs.Text.{before, isDigit, noNumber, endedOf, numberOf, spacedOf, withOf, counted, numbersFrom};
+ghost use Rattle.text.specs.Text.{before, isDigit, noNumber, endedNumberOf, readNumberOf, spacedOf, withOf, counted, numbersFrom};
 
 // A number that was read: whether one stands there, its value, and how many digits it has.
 pub struct Number {
@@ -99,7 +99,7 @@ fn padded(b: u8, digits: usize) -> bool
 // What these digits come to, from `at` up to `i`, none of them too large.
 fn ended(line: &[u8], at: usize, i: usize, value: u64) -> Number
     requires { ⌜ (value ≤ 4294967295) × (at < i → i ≤ length (now line)) ⌝ }
-    ensures { λ r. ⌜ r ≡ endedOf (getD (now (line .entry)) at 0) (i - at) value ⌝ }
+    ensures { λ r. ⌜ r ≡ endedNumberOf (getD (now (line .entry)) at 0) (i - at) value ⌝ }
 {
     if i <= at {
         return none();
@@ -118,7 +118,7 @@ fn ended(line: &[u8], at: usize, i: usize, value: u64) -> Number
 // The number that stands at `at`: the digits there, up to the first byte that is none.
 // A step, no call of document 01: the console, the waveform and the report call it.
 pub fn read_number(line: &[u8], at: usize) -> Number
-    ensures { λ r. ⌜ r ≡ numberOf (drop at (now (line .entry))) ⌝ }
+    ensures { λ r. ⌜ r ≡ readNumberOf (drop at (now (line .entry))) ⌝ }
 {
     let mut value: u64 = 0;
     let mut i = at;

@@ -15,7 +15,7 @@ use Rattle.print.specs.Print.{placesOf, decimalOf}
 use Rattle.print.specs.Laws.{length-decimal, places-are}
 use Rattle.print.specs.Back.{value-digits, count-digits, unpadded}
 use Rattle.text.specs.declared.Number.{Number}
-use Rattle.text.specs.Text.{isDigit, digitsIn, valueFrom, noNumber, endedOf, numberOf}
+use Rattle.text.specs.Text.{isDigit, digitsIn, valueFrom, noNumber, endedNumberOf, readNumberOf}
 use Rattle.trials.specs.declared.Trial.{Trial}
 use Rattle.trials.specs.Reading.{Small, badLine, results, onto, fitsOf, endAt, refusalAt, lineAt, readFrom, readOf}
 
@@ -33,13 +33,13 @@ unfolding digitsIn
 stop-count b r e = rw e
 
 -- up to a byte that is no digit
-number-back : (n b : ℕ) (r : List ℕ) → n ≤ 262144 → isDigit b ≡ false → numberOf (decimalOf n ++ (b ∷ r)) ≡ wholeNumber n
-unfolding decimalOf numberOf endedOf
+number-back : (n b : ℕ) (r : List ℕ) → n ≤ 262144 → isDigit b ≡ false → readNumberOf (decimalOf n ++ (b ∷ r)) ≡ wholeNumber n
+unfolding decimalOf readNumberOf endedNumberOf
 number-back n b r h stop = go (places-are n (omega arith))
   where
     go : Fewest 10 1 n (placesOf n)
         → (if ltb 4294967295 (valueFrom 0 (digits 10 (placesOf n) n ++ (b ∷ r))) then noNumber
-        else endedOf (getD (digits 10 (placesOf n) n ++ (b ∷ r)) 0 0) (digitsIn (digits 10 (placesOf n) n ++ (b ∷ r))) (valueFrom 0 (digits 10 (placesOf n) n ++ (b ∷ r)))) ≡ wholeNumber n
+        else endedNumberOf (getD (digits 10 (placesOf n) n ++ (b ∷ r)) 0 0) (digitsIn (digits 10 (placesOf n) n ++ (b ∷ r))) (valueFrom 0 (digits 10 (placesOf n) n ++ (b ∷ r)))) ≡ wholeNumber n
     go f =
         let v : valueFrom 0 (digits 10 (placesOf n) n ++ (b ∷ r)) ≡ n = value-digits (placesOf n) n 0 (b ∷ r) (f .1) ∙ stop-value (10 ^ placesOf n * 0 + n) b r stop ∙ (omega arith) in
         let c : digitsIn (digits 10 (placesOf n) n ++ (b ∷ r)) ≡ placesOf n = count-digits (placesOf n) n (b ∷ r) ∙ rw (stop-count b r stop) (omega arith) in

@@ -14,7 +14,7 @@ use lib.Seq.{length-take-le, take-all, take-nil, getD-take}
 use borrow.Author.Tests.{eq-eqb, ne-eqb, lt-ltb, lt-leb, leb-false}
 use Rattle.model.specs.Choice.{if_then_else_}
 use Rattle.text.specs.declared.Number.{Number}
-use Rattle.text.specs.Text.{isDigit, digitsIn, valueFrom, noNumber, endedOf, numberOf}
+use Rattle.text.specs.Text.{isDigit, digitsIn, valueFrom, noNumber, endedNumberOf, readNumberOf}
 use Rattle.text.specs.Laws.{digit-is, number-within}
 use Rattle.trials.specs.declared.Line.{Line}
 use Rattle.trials.specs.Reading.{badLine, onto, noLine, fitsOf, endAt, refusalAt, lineAt, readFrom, readOf}
@@ -61,8 +61,8 @@ digits-full (suc j) (suc k) (b ∷ l) h p = go (isDigit b) h (digits-full j k l)
     go true q r = omega (arith, r (omega arith) (omega arith))
     go false q r = absurd (omega arith)
 
-same-number : (k : ℕ) (l : List ℕ) → digitsIn l < k → numberOf (take k l) ≡ numberOf l
-unfolding numberOf
+same-number : (k : ℕ) (l : List ℕ) → digitsIn l < k → readNumberOf (take k l) ≡ readNumberOf l
+unfolding readNumberOf
 same-number k l h = rw (value-take k 0 l h, digits-take k l h, getD-take k l 0 0 (omega arith))
 
 value-low : (l : List ℕ) (v : ℕ) → 10 ^ digitsIn l * v ≤ valueFrom v l
@@ -95,8 +95,8 @@ value-high (b ∷ l) h d = go (isDigit b) refl h (value-low l (10 * 0 + (b - 48)
     go false e q r = absurd (omega arith)
 
 -- seven digits are too many
-too-long : (l : List ℕ) → 7 ≤ digitsIn l → fitsOf (numberOf l) 262144 ≡ false
-unfolding fitsOf numberOf endedOf
+too-long : (l : List ℕ) → 7 ≤ digitsIn l → fitsOf (readNumberOf l) 262144 ≡ false
+unfolding fitsOf readNumberOf endedNumberOf
 too-long l h = go (ltb 4294967295 (valueFrom 0 l)) (ℕ-discrete (getD l 0 0) 48)
   where
     some : digitsIn l ≢ 0
@@ -118,10 +118,10 @@ data Alike (a b : Number) : Type 0 where
   equal : a ≡ b → b .digits ≤ 7 → Alike a b
   neither : fitsOf a 262144 ≡ false → fitsOf b 262144 ≡ false → Alike a b
 
-alike : (k : ℕ) (l : List ℕ) → 7 ≤ k → Alike (numberOf (take k l)) (numberOf l)
+alike : (k : ℕ) (l : List ℕ) → 7 ≤ k → Alike (readNumberOf (take k l)) (readNumberOf l)
 alike k l h = go (decLt (digitsIn l) 7)
   where
-    go : Dec (digitsIn l < 7) → Alike (numberOf (take k l)) (numberOf l)
+    go : Dec (digitsIn l < 7) → Alike (readNumberOf (take k l)) (readNumberOf l)
     go (yes p) =
         equal (same-number k l (omega arith))
         (omega (arith, number-within (take 7 l), length-take 7 l, ap (λ (n : Number). n .digits) (same-number 7 l p)))
@@ -176,34 +176,34 @@ end-near input at attempts refusal = go (eqb (getD input at 0) 10)
     go true e = omega arith
     go false e = no-line (at + 1) e
 
-few-digits : (l : List ℕ) (most : ℕ) → most ≤ 262144 → fitsOf (numberOf l) most ≡ true → numberOf l .digits ≤ 7
+few-digits : (l : List ℕ) (most : ℕ) → most ≤ 262144 → fitsOf (readNumberOf l) most ≡ true → readNumberOf l .digits ≤ 7
 few-digits l most h e = go (alike 7 l (omega arith))
   where
-    go : Alike (numberOf (take 7 l)) (numberOf l) → numberOf l .digits ≤ 7
+    go : Alike (readNumberOf (take 7 l)) (readNumberOf l) → readNumberOf l .digits ≤ 7
     go (equal p d) = d
-    go (neither p q) = let z : true ≡ false = sym e ∙ fits-less (numberOf l) most h q in absurd (let w : _≡_ {A = ℕ} 0 1 = cc in omega arith)
+    go (neither p q) = let z : true ≡ false = sym e ∙ fits-less (readNumberOf l) most h q in absurd (let w : _≡_ {A = ℕ} 0 1 = cc in omega arith)
 
 refusal-near : (input : List ℕ) (at attempts : ℕ) → Near (at + 9) (refusalAt input at attempts)
 unfolding refusalAt
 refusal-near input at attempts = go (eqb (getD input at 0) 32)
   where
-    inner : (t : Bool) → fitsOf (numberOf (drop (at + 1) input)) 16 ≡ t
-        → Near (at + 9) (if t then endAt input (at + 1 + numberOf (drop (at + 1) input) .digits) attempts (numberOf (drop (at + 1) input) .value) else noLine)
-    inner true e f = omega (arith, end-near input (at + 1 + numberOf (drop (at + 1) input) .digits) attempts (numberOf (drop (at + 1) input) .value) f, few-digits (drop (at + 1) input) 16 (omega arith) e)
+    inner : (t : Bool) → fitsOf (readNumberOf (drop (at + 1) input)) 16 ≡ t
+        → Near (at + 9) (if t then endAt input (at + 1 + readNumberOf (drop (at + 1) input) .digits) attempts (readNumberOf (drop (at + 1) input) .value) else noLine)
+    inner true e f = omega (arith, end-near input (at + 1 + readNumberOf (drop (at + 1) input) .digits) attempts (readNumberOf (drop (at + 1) input) .value) f, few-digits (drop (at + 1) input) 16 (omega arith) e)
     inner false e f = no-line (at + 9) f
 
     go : (t : Bool) → Near (at + 9)
-        (if t then (if fitsOf (numberOf (drop (at + 1) input)) 16 then endAt input (at + 1 + numberOf (drop (at + 1) input) .digits) attempts (numberOf (drop (at + 1) input) .value) else noLine) else noLine)
-    go true f = inner (fitsOf (numberOf (drop (at + 1) input)) 16) refl f
+        (if t then (if fitsOf (readNumberOf (drop (at + 1) input)) 16 then endAt input (at + 1 + readNumberOf (drop (at + 1) input) .digits) attempts (readNumberOf (drop (at + 1) input) .value) else noLine) else noLine)
+    go true f = inner (fitsOf (readNumberOf (drop (at + 1) input)) 16) refl f
     go false f = no-line (at + 9) f
 
 line-near : (input : List ℕ) (at : ℕ) → Near (at + 16) (lineAt input at)
 unfolding lineAt
-line-near input at = go (fitsOf (numberOf (drop at input)) 262144) refl
+line-near input at = go (fitsOf (readNumberOf (drop at input)) 262144) refl
   where
-    go : (t : Bool) → fitsOf (numberOf (drop at input)) 262144 ≡ t
-        → Near (at + 16) (if t then refusalAt input (at + numberOf (drop at input) .digits) (numberOf (drop at input) .value) else noLine)
-    go true e f = omega (arith, refusal-near input (at + numberOf (drop at input) .digits) (numberOf (drop at input) .value) f, few-digits (drop at input) 262144 (omega arith) e)
+    go : (t : Bool) → fitsOf (readNumberOf (drop at input)) 262144 ≡ t
+        → Near (at + 16) (if t then refusalAt input (at + readNumberOf (drop at input) .digits) (readNumberOf (drop at input) .value) else noLine)
+    go true e f = omega (arith, refusal-near input (at + readNumberOf (drop at input) .digits) (readNumberOf (drop at input) .value) f, few-digits (drop at input) 262144 (omega arith) e)
     go false e f = no-line (at + 16) f
 
 -- ---- the whole

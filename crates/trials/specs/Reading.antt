@@ -6,7 +6,7 @@ use lib.Dec.{eqb, ltb, leb}
 use lib.ListN.{length, getD, drop}
 use Rattle.model.specs.Choice.{if_then_else_}
 use Rattle.text.specs.declared.Number.{Number}
-use Rattle.text.specs.Text.{numberOf}
+use Rattle.text.specs.Text.{readNumberOf}
 use Rattle.trials.specs.declared.Trial.{Trial}
 use Rattle.trials.specs.declared.Line.{Line}
 
@@ -34,7 +34,7 @@ fitsOf number most = if number .fine then leb (number .value) most else false
 -- "a space, refusal 1 to 16 or 0 for granted, decimal without leading zeros", from `at` on
 unfoldable pub refusalAt : List ℕ → ℕ → ℕ → Line
 refusalAt input at attempts =
-    let number = numberOf (drop (at + 1) input) in
+    let number = readNumberOf (drop (at + 1) input) in
     if eqb (getD input at 0) 32 then
     (if fitsOf number 16 then endAt input (at + 1 + number .digits) attempts (number .value) else noLine)
     else noLine
@@ -42,7 +42,7 @@ refusalAt input at attempts =
 -- "a line each (attempts up to 262,144, ..": the line that begins at `at`
 unfoldable pub lineAt : List ℕ → ℕ → Line
 lineAt input at =
-    let number = numberOf (drop at input) in
+    let number = readNumberOf (drop at input) in
     if fitsOf number 262144 then refusalAt input (at + number .digits) (number .value) else noLine
 
 -- what was read: the first line that is bad, or all trials in their order

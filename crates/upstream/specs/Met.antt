@@ -6,7 +6,7 @@ use native.Mathlib.Omega.{arith}
 use Rattle.model.specs.Arena.{headOf, leaseOf, leasesOf, bitAt, ownerAt, waitersAt, isIn, isFree, isHeld, stateOf, stateAt, isLive, sameLease, headFits, shapeFits, healthFits, registryFits}
 use Rattle.model.specs.Refusals.{first}
 use Rattle.model.specs.Checks.{notLive, notReleasable, badBindings, heldLeaseRules, lockRules, scriptRules, bucketRules, releaseRules, locksRules}
-use Rattle.model.specs.Foreign.{boundaryOf, stepsOf}
+use Rattle.model.specs.Foreign.{boundaryOf, runStepsOf}
 use Rattle.model.specs.declared.Answer.the-variants.{Refused}
 use Rattle.model.specs.declared.Check.the-variants.{Fine}
 use Rattle.model.specs.declared.Refusal.the-variants.{Damaged}
@@ -57,5 +57,5 @@ abbrev one-damaged : Authority
 one-damaged = worldOf (headOf 1 1 1) (1 ∷ 0 ∷ 0 ∷ []) (0 ∷ [])
 
 pub met-damaged : answers one-damaged (try-lock [] 0 [] 0) ≡ Refused (Damaged 0)
-unfolding first shapeFits headFits healthFits leasesOf notLive lockRules scriptRules boundaryOf stepsOf waitersAt bitAt ownerAt
+unfolding first shapeFits headFits healthFits leasesOf notLive lockRules scriptRules boundaryOf runStepsOf waitersAt bitAt ownerAt
 met-damaged = try-lock-r1 one-damaged [] 0 [] 0 refl refl (λ v. omega (arith, v .owned .1 refl)) .0

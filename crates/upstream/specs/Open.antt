@@ -15,7 +15,7 @@ use Rattle.model.specs.Arena.{headOf, spentTo, leaseOf, leasesOf, bitAt, ownerA
 use Rattle.model.specs.Answers.{kindOf}
 use Rattle.model.specs.Refusals.{first}
 use Rattle.model.specs.Checks.{notLive, cellRules, notReleasable, heldCellRules, heldLeaseRules, scriptRules, lockRules, bucketRules, releaseRules}
-use Rattle.model.specs.Foreign.{stepsOf, boundaryOf}
+use Rattle.model.specs.Foreign.{runStepsOf, boundaryOf}
 use Rattle.model.specs.Lock.{leaseAt, takeOf, lateOf, secondOf, lockOf, findOf, attemptOf, retryOf, giveBackOf}
 use Rattle.model.specs.Calls.{acquireOf, tryAcquireOf, acquirePreservingOf, dropPreservingOf, tryLockOf, acquireBucketOf, releaseAllOf}
 use Rattle.model.specs.declared.Answer.{Answer}
@@ -78,12 +78,12 @@ one-held = worldOf (headOf 1 1 2) (1 ∷ 1 ∷ 0 ∷ []) (0 ∷ [])
 
 -- what ours answers there
 granted-there : answers one-free (try-lock [] 0 [] 0) ≡ Granted (leaseOf 0 1)
-unfolding perform tryLockOf lockRules scriptRules notLive first shapeFits headFits healthFits leasesOf boundaryOf stepsOf lockOf secondOf takeOf lateOf
+unfolding perform tryLockOf lockRules scriptRules notLive first shapeFits headFits healthFits leasesOf boundaryOf runStepsOf lockOf secondOf takeOf lateOf
     waitersAt bitAt ownerAt setCell stateAt stateOf isFree isHeld
 granted-there = refl
 
 busy-there : answers one-held (try-lock [] 0 [] 0) ≡ Busy
-unfolding perform tryLockOf lockRules scriptRules notLive first shapeFits headFits healthFits leasesOf boundaryOf stepsOf lockOf secondOf takeOf lateOf
+unfolding perform tryLockOf lockRules scriptRules notLive first shapeFits headFits healthFits leasesOf boundaryOf runStepsOf lockOf secondOf takeOf lateOf
     waitersAt bitAt ownerAt setCell stateAt stateOf isFree isHeld
 busy-there = refl
 
@@ -150,7 +150,7 @@ abbrev one-waited : Authority
 one-waited = worldOf (headOf 1 1 1) (0 ∷ 0 ∷ 1 ∷ []) (0 ∷ [])
 
 pub rejected-keeps-when-none : We-accept-lock keeps-when-none → ⊥
-unfolding perform tryLockOf lockRules scriptRules notLive first shapeFits headFits healthFits leasesOf boundaryOf stepsOf lockOf waitersAt tryAcquireOf cellRules acquireOf takeOf bitAt ownerAt setCell
+unfolding perform tryLockOf lockRules scriptRules notLive first shapeFits headFits healthFits leasesOf boundaryOf runStepsOf lockOf waitersAt tryAcquireOf cellRules acquireOf takeOf bitAt ownerAt setCell
     stateAt stateOf isFree isHeld
 rejected-keeps-when-none p = omega (arith, ap (λ (x : Answer × Authority). bitAt (x .1 .table) 0) (p one-waited [] 0 [] 0))
 
@@ -381,7 +381,7 @@ accepted-frees-all w leases v =
     }
 
 pub rejected-frees-all : ((w : Authority) (leases : List ℕ) → frees-all w leases ≡ (answers w (release-all [] 0 leases), leaves w (release-all [] 0 leases))) → ⊥
-unfolding perform releaseAllOf releaseRules notReleasable first shapeFits headFits healthFits leasesOf isIn isLive giveBackOf boundaryOf stepsOf bitAt ownerAt setCell stateAt stateOf isFree isHeld
+unfolding perform releaseAllOf releaseRules notReleasable first shapeFits headFits healthFits leasesOf isIn isLive giveBackOf boundaryOf runStepsOf bitAt ownerAt setCell stateAt stateOf isFree isHeld
 rejected-frees-all p = omega (arith, ap (λ (x : Answer × Authority). bitAt (x .1 .table) 0) (p two-held (1 ∷ 2 ∷ [])))
 
 -- ---- "Errors, their numbers, 4,096, yields and waiters are in bodies only": an `acquire_index_bucket` that gives up at once
@@ -403,7 +403,7 @@ accepted-gives-up w registry held binding bucket v p =
 
 pub rejected-gives-up : ((w : Authority) (registry held : List ℕ) (binding bucket : ℕ)
     → gives-up w registry held binding bucket ≡ (answers w (acquire-bucket registry [] 0 held binding bucket), leaves w (acquire-bucket registry [] 0 held binding bucket))) → ⊥
-unfolding perform acquireBucketOf bucketRules notLive first shapeFits headFits healthFits registryFits leasesOf retryOf attemptOf findOf boundaryOf stepsOf
+unfolding perform acquireBucketOf bucketRules notLive first shapeFits headFits healthFits registryFits leasesOf retryOf attemptOf findOf boundaryOf runStepsOf
     lockOf secondOf takeOf lateOf waitersAt bitAt ownerAt setCell stateAt stateOf isFree isHeld
 rejected-gives-up p = omega (arith, ap (λ (x : Answer × Authority). kindOf (x .0)) (p one-free (0 ∷ []) [] 0 0))
 

@@ -10,7 +10,7 @@ use lib.ListN.{getD}
 use Rattle.model.specs.Log.{Made, Event, by-caller, released}
 use Rattle.model.specs.Arena.{lastSerial, cellsOf, cellNumber, leaseOf, waitersAt, isIn}
 use Rattle.model.specs.Answers.{kindOf}
-use Rattle.model.specs.Foreign.{stepsIn, kindAt, placeAt, numberAt, stepsOf, boundaryOf, flowOf}
+use Rattle.model.specs.Foreign.{stepsIn, kindAt, placeAt, numberAt, runStepsOf, boundaryOf, flowOf}
 use Rattle.model.specs.Lock.{takeOf, lateOf, afterTake, secondOf, lockOf, outcomeOf, answerOf, attemptAt, attemptOf, spinOf, pauseOf, isBusy, retryOf, runOf}
 use Rattle.model.specs.Calls.{given, acquireOf}
 use Rattle.model.specs.declared.Flow.{Flow}
@@ -76,8 +76,8 @@ ready r g = record { sized = g .sized; valid-now = trace-valid (g .trace) (r .va
 
 module _ (h : Head) (script : List ℕ) where
   steps-go : (left : ℕ) (ps : List Lease) (f : Flow) (t g : List ℕ) → Ready (In ps) (worldAt h (f .next) t g)
-      → Goes (In ps) (worldAt h (f .next) t g) (of-flow h (stepsOf left (given h script ps) f t g .seen))
-  unfolding stepsOf
+      → Goes (In ps) (worldAt h (f .next) t g) (of-flow h (runStepsOf left (given h script ps) f t g .seen))
+  unfolding runStepsOf
   steps-go zero ps f t g r = stays (r .sized)
   steps-go (suc left) ps f t g r =
       let kind = kindAt script (f .place) in

@@ -30,8 +30,8 @@ unfoldable pub changesOf : ℕ → List ℕ → ℕ → ℕ → Bool
 changesOf n bits kind cell = if ltb cell n then turns kind (getD bits cell 0) else false
 
 -- the bits after a change of this cell
-unfoldable pub turnOf : List ℕ → ℕ → List ℕ
-turnOf bits cell = set bits cell (turned (getD bits cell 0))
+unfoldable pub flipOf : List ℕ → ℕ → List ℕ
+flipOf bits cell = set bits cell (turned (getD bits cell 0))
 
 -- ---- the lines
 
@@ -86,7 +86,7 @@ bodyOf n t bits (kind ∷ []) = []
 bodyOf n t bits (kind ∷ cell ∷ []) = []
 bodyOf n t bits (kind ∷ cell ∷ number ∷ rest) =
     if changesOf n bits kind cell
-    then timeLine t ∷ bitLine (turned (getD bits cell 0)) cell ∷ bodyOf n (t + 1) (turnOf bits cell) rest
+    then timeLine t ∷ bitLine (turned (getD bits cell 0)) cell ∷ bodyOf n (t + 1) (flipOf bits cell) rest
     else bodyOf n (t + 1) bits rest
 
 -- the lines behind the variables

@@ -7,19 +7,19 @@ use mathlib.Core.Bool.{Bool, false}
 use lib.Dec.{eqb, ltb, leb}
 use lib.ListN.{getD, drop}
 use Rattle.model.specs.Choice.{if_then_else_}
-use Rattle.text.specs.Text.{numberOf}
+use Rattle.text.specs.Text.{readNumberOf}
 use Rattle.wave.specs.declared.Stage.{Stage}
 use Rattle.wave.specs.declared.Stage.the-variants.{Opening, Scope, Variables, Ending, Start, Values, Waiting, Changing, Lost}
 use Rattle.wave.specs.declared.Verdict.{Verdict}
 use Rattle.wave.specs.declared.Verdict.the-variants.{Fine, Bad}
 use Rattle.wave.specs.Lines.{Items, finish, torn, line, splitOf, same}
-use Rattle.wave.specs.Dump.{noBits, turned, turnOf, timescale, scopeLine, varLine, upscope, endLine, timeLine, bitLine}
+use Rattle.wave.specs.Dump.{noBits, turned, flipOf, timescale, scopeLine, varLine, upscope, endLine, timeLine, bitLine}
 
 -- ---- one line
 
 -- the time that a line names: the number behind its first byte
 unfoldable pub timeIn : List ℕ → ℕ
-timeIn x = numberOf (drop 1 x) .value
+timeIn x = readNumberOf (drop 1 x) .value
 
 -- "Codes are the printable characters from `!` (33) up": the cell that a line's second byte names
 unfoldable pub cellIn : List ℕ → ℕ
@@ -65,7 +65,7 @@ bitsOf (Ending n) bits x = bits
 bitsOf (Start n) bits x = bits
 bitsOf (Values n c) bits x = bits
 bitsOf (Waiting n last) bits x = bits
-bitsOf (Changing n last t) bits x = turnOf bits (cellIn x)
+bitsOf (Changing n last t) bits x = flipOf bits (cellIn x)
 bitsOf Lost bits x = bits
 
 -- ---- the whole: "anything else is refused .. with its first wrong line, from 1"
@@ -112,22 +112,22 @@ abbrev pub kindFor : ℕ → ℕ
 kindFor bit = if eqb bit 0 then 1 else 2
 
 -- the words that a line adds, before those that follow
-abbrev pub wordsAt : Stage → List ℕ → List ℕ → List ℕ → List ℕ
-wordsAt Opening bits x w = w
-wordsAt Scope bits x w = w
-wordsAt (Variables n) bits x w = w
-wordsAt (Ending n) bits x w = w
-wordsAt (Start n) bits x w = w
-wordsAt (Values n c) bits x w = w
-wordsAt (Waiting n last) bits x w = w
-wordsAt (Changing n last t) bits x w = idle (t - (last + 1)) (kindFor (getD bits (cellIn x) 0) ∷ cellIn x ∷ 0 ∷ w)
-wordsAt Lost bits x w = w
+abbrev pub scriptWordsAt : Stage → List ℕ → List ℕ → List ℕ → List ℕ
+scriptWordsAt Opening bits x w = w
+scriptWordsAt Scope bits x w = w
+scriptWordsAt (Variables n) bits x w = w
+scriptWordsAt (Ending n) bits x w = w
+scriptWordsAt (Start n) bits x w = w
+scriptWordsAt (Values n c) bits x w = w
+scriptWordsAt (Waiting n last) bits x w = w
+scriptWordsAt (Changing n last t) bits x w = idle (t - (last + 1)) (kindFor (getD bits (cellIn x) 0) ∷ cellIn x ∷ 0 ∷ w)
+scriptWordsAt Lost bits x w = w
 
 -- the words of the lines from here on
-unfoldable pub wordsOf : Stage → List ℕ → Items → List ℕ
-wordsOf s bits finish = []
-wordsOf s bits (torn x) = []
-wordsOf s bits (line x r) = wordsAt s bits x (wordsOf (nextOf s bits x) (bitsOf s bits x) r)
+unfoldable pub scriptWordsOf : Stage → List ℕ → Items → List ℕ
+scriptWordsOf s bits finish = []
+scriptWordsOf s bits (torn x) = []
+scriptWordsOf s bits (line x r) = scriptWordsAt s bits x (scriptWordsOf (nextOf s bits x) (bitsOf s bits x) r)
 
 -- "The reader gives n and such a script"; or the first wrong line
 pub data Reading : Type 0 where
@@ -140,4 +140,4 @@ readingOf (Bad k) w = refused k
 
 -- what the reader makes of a text
 unfoldable pub readOf : List ℕ → Reading
-readOf text = readingOf (verdictOf 1 Opening noBits (splitOf text)) (wordsOf Opening noBits (splitOf text))
+readOf text = readingOf (verdictOf 1 Opening noBits (splitOf text)) (scriptWordsOf Opening noBits (splitOf text))

@@ -15,7 +15,7 @@ use Rattle.wave.specs.declared.Stage.{Stage}
 use Rattle.wave.specs.declared.Stage.the-variants.{Opening, Scope, Variables, Ending, Start, Values, Waiting, Changing, Lost}
 use Rattle.wave.specs.declared.Verdict.{Verdict}
 use Rattle.wave.specs.declared.Verdict.the-variants.{Fine, Bad}
-use Rattle.wave.specs.Reader.{timeIn, cellIn, afterVariable, afterValue, isTime, isChange, nextOf, bitsOf, atEnd, unless, verdictOf, idle, kindFor, wordsAt, wordsOf}
+use Rattle.wave.specs.Reader.{timeIn, cellIn, afterVariable, afterValue, isTime, isChange, nextOf, bitsOf, atEnd, unless, verdictOf, idle, kindFor, scriptWordsAt, scriptWordsOf}
 
 -- ---- tests that hold
 
@@ -157,7 +157,7 @@ last-value n c x = go (same x (bitLine 0 c)) (ltb (c + 1) n)
 -- the words of one line that was taken
 line-count : (s : Stage) (bits x w : List ℕ) (k m e : ℕ) (r : Items) → Reach s
     → unless (nextOf s bits x) k (verdictOf (k + 1) (nextOf s bits x) (bitsOf s bits x) r) ≡ Fine m e
-    → length (wordsAt s bits x w) + 3 * lastIn s ≡ length w + 3 * lastIn (nextOf s bits x)
+    → length (scriptWordsAt s bits x w) + 3 * lastIn s ≡ length w + 3 * lastIn (nextOf s bits x)
 line-count Opening bits x w k m e r h v = omega (arith, last-if (same x timescale) Scope refl)
 line-count Scope bits x w k m e r h v = omega (arith, last-if (same x scopeLine) (Variables 0) refl)
 line-count (Variables n) bits x w k m e r h v = omega (arith, last-variable n x)
@@ -182,16 +182,16 @@ end-count (Changing n last t) k m e v = bad-not v
 end-count Lost k m e v = bad-not v
 
 words-from : (r : Items) (k m e : ℕ) (s : Stage) (bits : List ℕ) → Reach s → verdictOf k s bits r ≡ Fine m e
-    → length (wordsOf s bits r) + 3 * lastIn s ≡ 3 * e
-unfolding verdictOf wordsOf
+    → length (scriptWordsOf s bits r) + 3 * lastIn s ≡ 3 * e
+unfolding verdictOf scriptWordsOf
 words-from finish k m e s bits h v = omega (arith, end-count s k m e v)
 words-from (torn x) k m e s bits h v = bad-not v
 words-from (line x r) k m e s bits h v =
-    let w : List ℕ = wordsOf (nextOf s bits x) (bitsOf s bits x) r in
+    let w : List ℕ = scriptWordsOf (nextOf s bits x) (bitsOf s bits x) r in
     let u = onward (nextOf s bits x) k m e (verdictOf (k + 1) (nextOf s bits x) (bitsOf s bits x) r) v in
     omega (arith, line-count s bits x w k m e r h v, words-from r (k + 1) m e (nextOf s bits x) (bitsOf s bits x) (reach-next s bits x h) u)
 
 -- a text that is accepted has three words for each step up to its last change
 pub words-count : (r : Items) (m e : ℕ) (bits : List ℕ) → verdictOf 1 Opening bits r ≡ Fine m e
-    → length (wordsOf Opening bits r) ≡ 3 * e
+    → length (scriptWordsOf Opening bits r) ≡ 3 * e
 words-count r m e bits v = omega (arith, words-from r 1 m e Opening bits tt v)

@@ -10,7 +10,7 @@ use Rattle.model.specs.declared.Answer.the-variants.{Done, Cell, Granted, AllGr
 use Rattle.model.specs.declared.Counts.{Counts}
 use Rattle.model.specs.declared.CrewReply.{CrewReply}
 use Rattle.model.specs.declared.Head.{Head}
-use Rattle.words.specs.Words.{answerWords, wordsOf, eachOf, crewWords}
+use Rattle.words.specs.Words.{answerWords, resultWords, eachOf, crewWords}
 
 pub four : (a : Answer) → getD (answerWords a) 0 0 ∷ getD (answerWords a) 1 0 ∷ getD (answerWords a) 2 0 ∷ getD (answerWords a) 3 0 ∷ [] ≡ answerWords a
 four Done = refl
@@ -24,7 +24,7 @@ four (RefusedAt r p) = refl
 -- twelve words, the last four of them read from the answer's
 pub laid : (h : Head) (place : ℕ) (k : Counts) (a : Answer) (ws : List ℕ) → ws ≡ answerWords a
     → h .headers ∷ h .buckets ∷ h .next ∷ place ∷ k .attempts ∷ k .boundaries ∷ k .yields ∷ k .dropped ∷ getD ws 0 0 ∷ getD ws 1 0 ∷ getD ws 2 0 ∷ getD ws 3 0 ∷ []
-    ≡ wordsOf h place k a
+    ≡ resultWords h place k a
 laid h place k a ws e = rw e (ap (λ (r : List ℕ). h .headers ∷ h .buckets ∷ h .next ∷ place ∷ k .attempts ∷ k .boundaries ∷ k .yields ∷ k .dropped ∷ r) (four a))
 
 -- one turn and the end of the loop that stores the counts of the members

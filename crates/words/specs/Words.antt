@@ -28,16 +28,16 @@ answerWords (Refused r) = 5 ∷ numberOf r ∷ carriedOf r ∷ 0 ∷ []
 answerWords (RefusedAt r p) = 6 ∷ numberOf r ∷ carriedOf r ∷ p ∷ []
 
 -- words 0 to 2 the head, 3 the place, 4 to 7 the counts, and then the answer
-abbrev pub wordsOf : Head → ℕ → Counts → Answer → List ℕ
-wordsOf h place k a = h .headers ∷ h .buckets ∷ h .next ∷ place ∷ k .attempts ∷ k .boundaries ∷ k .yields ∷ k .dropped ∷ answerWords a
+abbrev pub resultWords : Head → ℕ → Counts → Answer → List ℕ
+resultWords h place k a = h .headers ∷ h .buckets ∷ h .next ∷ place ∷ k .attempts ∷ k .boundaries ∷ k .yields ∷ k .dropped ∷ answerWords a
 
 -- of a call without a script: place 0
 unfoldable pub replyWords : Reply → List ℕ
-replyWords r = wordsOf (r .head) 0 (r .counts) (r .answer)
+replyWords r = resultWords (r .head) 0 (r .counts) (r .answer)
 
 -- of a call with a script
 unfoldable pub playedWords : Played → List ℕ
-playedWords r = wordsOf (r .head) (r .place) (r .counts) (r .answer)
+playedWords r = resultWords (r .head) (r .place) (r .counts) (r .answer)
 
 -- `left` numbers of a list, from place m on
 unfoldable pub eachOf : ℕ → ℕ → List ℕ → List ℕ
@@ -47,7 +47,7 @@ eachOf (suc left) m l = getD l m 0 ∷ eachOf left (m + 1) l
 -- of the crew: no place and no counts; words 12 and 13 the moving and the idle turns, 14 to 29 what members 0 to 15 took, 30 to 45 what
 -- they released
 unfoldable pub crewWords : CrewReply → List ℕ
-crewWords r = wordsOf (r .head) 0 (countsOf 0 0 0 0) (r .answer) ++ (r .moving ∷ r .idle ∷ (eachOf 16 0 (r .taken) ++ eachOf 16 0 (r .released)))
+crewWords r = resultWords (r .head) 0 (countsOf 0 0 0 0) (r .answer) ++ (r .moving ∷ r .idle ∷ (eachOf 16 0 (r .taken) ++ eachOf 16 0 (r .released)))
 
 -- of the waveform's writer and reader: the kind of the answer (0 done, 1 refused by number, 2 TooWide, 3 NoRoom, 4 BadLine); the bytes
 -- written, the cells read, the refusal's number or the wrong line; the steps read

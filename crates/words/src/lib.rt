@@ -11,7 +11,7 @@ use wave::Undumped;
 ghost use mathlib.Core.Path.{_≡_};
 ghost use Prim.Native.Nat.{_+_, _≤_};
 ghost use lib.Seq.{sets};
-ghost use Rattle.words.specs.Words.{answerWords, wordsOf, replyWords, playedWords, eachOf, crewWords, dumpedWords, undumpedWords};
+ghost use Rattle.words.specs.Words.{answerWords, resultWords, replyWords, playedWords, eachOf, crewWords, dumpedWords, undumpedWords};
 
 // Words 8 to 11.
 fn answer_words(answer: Answer) -> [u64; 4]
@@ -35,7 +35,7 @@ fn answer_words(answer: Answer) -> [u64; 4]
 
 // All twelve.
 fn words(head: Head, place: usize, counts: Counts, answer: Answer) -> [u64; 12]
-    ensures { λ r. ⌜ r ≡ wordsOf head place counts answer ⌝ }
+    ensures { λ r. ⌜ r ≡ resultWords head place counts answer ⌝ }
 {
     let said = answer_words(answer);
     [

@@ -14,10 +14,10 @@ use Rattle.print.specs.Print.{putOf}
 use Rattle.print.specs.Laws.{put-none, put-join, put-place, length-digits, fewest-one}
 use Rattle.wave.specs.Decimal.{placesOf, decimalOf, fewest-is}
 use Rattle.wave.specs.Lines.{joined}
-use Rattle.wave.specs.Dump.{noBits, turns, turned, changesOf, turnOf, timescale, scopeLine, upscope, endLine, timeLine, bitLine, varLine, varsOf, firstOf, bodyOf, middleOf, linesOf, dumpOf}
+use Rattle.wave.specs.Dump.{noBits, turns, turned, changesOf, flipOf, timescale, scopeLine, upscope, endLine, timeLine, bitLine, varLine, varsOf, firstOf, bodyOf, middleOf, linesOf, dumpOf}
 use Rattle.wave.specs.declared.Dumped.{Dumped}
 use Rattle.wave.specs.declared.Dumped.the-variants.{Written}
-use Rattle.writer.specs.Writer.{wantedOf, turnedOf, stepOf, weighOf, headOf}
+use Rattle.writer.specs.Writer.{wantedOf, flippedOf, stepOf, weighOf, headOf}
 
 -- ---- numbers
 
@@ -111,22 +111,22 @@ first-room l m i j n c y h e =
 
 -- ---- a step
 
-pub turn-true : (n : ℕ) (bits o : List ℕ) (kind cell : ℕ) (r : Bool) → r ≡ true → (r, o) ≡ turnedOf n bits kind cell
-    → (changesOf n bits kind cell ≡ true) × (o ≡ turnOf bits cell)
-unfolding turnedOf
+pub turn-true : (n : ℕ) (bits o : List ℕ) (kind cell : ℕ) (r : Bool) → r ≡ true → (r, o) ≡ flippedOf n bits kind cell
+    → (changesOf n bits kind cell ≡ true) × (o ≡ flipOf bits cell)
+unfolding flippedOf
 turn-true n bits o kind cell r h = go (changesOf n bits kind cell)
   where
-    go : (b : Bool) → _≡_ {A = Bool × List ℕ} (r, o) (if b then (true, turnOf bits cell) else (false, bits))
-        → (b ≡ true) × (o ≡ turnOf bits cell)
+    go : (b : Bool) → _≡_ {A = Bool × List ℕ} (r, o) (if b then (true, flipOf bits cell) else (false, bits))
+        → (b ≡ true) × (o ≡ flipOf bits cell)
     go true e = (refl, ap (λ (p : Bool × List ℕ). p .1) e)
     go false e = let z : false ≡ true = sym (ap (λ (p : Bool × List ℕ). p .0) e) ∙ h in let w : _≡_ {A = ℕ} 0 1 = cc in absurd (omega arith)
 
-pub turn-false : (n : ℕ) (bits o : List ℕ) (kind cell : ℕ) (r : Bool) → r ≡ false → (r, o) ≡ turnedOf n bits kind cell
+pub turn-false : (n : ℕ) (bits o : List ℕ) (kind cell : ℕ) (r : Bool) → r ≡ false → (r, o) ≡ flippedOf n bits kind cell
     → (changesOf n bits kind cell ≡ false) × (o ≡ bits)
-unfolding turnedOf
+unfolding flippedOf
 turn-false n bits o kind cell r h = go (changesOf n bits kind cell)
   where
-    go : (b : Bool) → _≡_ {A = Bool × List ℕ} (r, o) (if b then (true, turnOf bits cell) else (false, bits))
+    go : (b : Bool) → _≡_ {A = Bool × List ℕ} (r, o) (if b then (true, flipOf bits cell) else (false, bits))
         → (b ≡ false) × (o ≡ bits)
     go false e = (refl, ap (λ (p : Bool × List ℕ). p .1) e)
     go true e = let z : true ≡ false = sym (ap (λ (p : Bool × List ℕ). p .0) e) ∙ h in let w : _≡_ {A = ℕ} 0 1 = cc in absurd (omega arith)
@@ -184,7 +184,7 @@ drop-three l i h =
 body-at : (n t : ℕ) (bits script : List ℕ) (i : ℕ) → i + 2 < length script
     → bodyOf n t bits (drop i script)
     ≡ (if changesOf n bits (getD script i 0) (getD script (i + 1) 0)
-    then timeLine t ∷ bitLine (turned (getD bits (getD script (i + 1) 0) 0)) (getD script (i + 1) 0) ∷ bodyOf n (t + 1) (turnOf bits (getD script (i + 1) 0)) (drop (i + 3) script)
+    then timeLine t ∷ bitLine (turned (getD bits (getD script (i + 1) 0) 0)) (getD script (i + 1) 0) ∷ bodyOf n (t + 1) (flipOf bits (getD script (i + 1) 0)) (drop (i + 3) script)
     else bodyOf n (t + 1) bits (drop (i + 3) script))
 unfolding bodyOf
 body-at n t bits script i h = rw (drop-three script i h)
@@ -208,14 +208,14 @@ unfolding stepOf
 body-turn n t bits script i out at r b o h e = rw (body-at n t bits script i h) (go (changesOf n bits (getD script i 0) (getD script (i + 1) 0)) e)
   where
     go : (z : Bool)
-        → _≡_ {A = ℕ × (List ℕ × List ℕ)} (r, (b, o)) (if z then (putOf out at (joined (timeLine t ∷ bitLine (turned (getD bits (getD script (i + 1) 0) 0)) (getD script (i + 1) 0) ∷ [])) .0, (turnOf bits (getD script (i + 1) 0), putOf out at (joined (timeLine t ∷ bitLine (turned (getD bits (getD script (i + 1) 0) 0)) (getD script (i + 1) 0) ∷ [])) .1)) else (at, (bits, out)))
+        → _≡_ {A = ℕ × (List ℕ × List ℕ)} (r, (b, o)) (if z then (putOf out at (joined (timeLine t ∷ bitLine (turned (getD bits (getD script (i + 1) 0) 0)) (getD script (i + 1) 0) ∷ [])) .0, (flipOf bits (getD script (i + 1) 0), putOf out at (joined (timeLine t ∷ bitLine (turned (getD bits (getD script (i + 1) 0) 0)) (getD script (i + 1) 0) ∷ [])) .1)) else (at, (bits, out)))
         → putOf o r (joined (bodyOf n (t + 1) b (drop (i + 3) script)))
         ≡ putOf out at (joined (if z
-        then timeLine t ∷ bitLine (turned (getD bits (getD script (i + 1) 0) 0)) (getD script (i + 1) 0) ∷ bodyOf n (t + 1) (turnOf bits (getD script (i + 1) 0)) (drop (i + 3) script)
+        then timeLine t ∷ bitLine (turned (getD bits (getD script (i + 1) 0) 0)) (getD script (i + 1) 0) ∷ bodyOf n (t + 1) (flipOf bits (getD script (i + 1) 0)) (drop (i + 3) script)
         else bodyOf n (t + 1) bits (drop (i + 3) script)))
     go true f =
         let p : (r, o) ≡ putOf out at (joined (timeLine t ∷ bitLine (turned (getD bits (getD script (i + 1) 0) 0)) (getD script (i + 1) 0) ∷ [])) = ap (λ (q : ℕ × (List ℕ × List ℕ)). (q .0, q .1 .1)) f in
-        let q : b ≡ turnOf bits (getD script (i + 1) 0) = ap (λ (q : ℕ × (List ℕ × List ℕ)). q .1 .0) f in
+        let q : b ≡ flipOf bits (getD script (i + 1) 0) = ap (λ (q : ℕ × (List ℕ × List ℕ)). q .1 .0) f in
         rw q (put-two out o at r _ _ _ p)
     go false f =
         let p : r ≡ at = ap (λ (q : ℕ × (List ℕ × List ℕ)). q .0) f in
@@ -230,7 +230,7 @@ pub body-room : (n t : ℕ) (bits script : List ℕ) (i : ℕ) (out m : List ℕ
 body-room n t bits script i out m at j y h c e =
     let s = put-size out m at j (joined (bodyOf n t bits (drop i script))) y e in
     let d = rw c at (body-at n t bits script i h) in
-    omega (arith, s, ap (λ (ls : List (List ℕ)). length (joined ls)) d, change-size t (turned (getD bits (getD script (i + 1) 0) 0)) (getD script (i + 1) 0) (bodyOf n (t + 1) (turnOf bits (getD script (i + 1) 0)) (drop (i + 3) script)))
+    omega (arith, s, ap (λ (ls : List (List ℕ)). length (joined ls)) d, change-size t (turned (getD bits (getD script (i + 1) 0) 0)) (getD script (i + 1) 0) (bodyOf n (t + 1) (flipOf bits (getD script (i + 1) 0)) (drop (i + 3) script)))
 
 -- weighing the lines of a step leaves the rest to weigh
 pub body-less : (n t : ℕ) (bits script : List ℕ) (i r : ℕ) (b : List ℕ) → i + 2 < length script
@@ -240,15 +240,15 @@ unfolding weighOf
 body-less n t bits script i r b h e = rw (body-at n t bits script i h) (go (changesOf n bits (getD script i 0) (getD script (i + 1) 0)) e)
   where
     go : (z : Bool)
-        → _≡_ {A = ℕ × List ℕ} (r, b) (if z then (placesOf t + 5, turnOf bits (getD script (i + 1) 0)) else (0, bits))
+        → _≡_ {A = ℕ × List ℕ} (r, b) (if z then (placesOf t + 5, flipOf bits (getD script (i + 1) 0)) else (0, bits))
         → (r + length (joined (bodyOf n (t + 1) b (drop (i + 3) script)))
         ≡ length (joined (if z
-        then timeLine t ∷ bitLine (turned (getD bits (getD script (i + 1) 0) 0)) (getD script (i + 1) 0) ∷ bodyOf n (t + 1) (turnOf bits (getD script (i + 1) 0)) (drop (i + 3) script)
+        then timeLine t ∷ bitLine (turned (getD bits (getD script (i + 1) 0) 0)) (getD script (i + 1) 0) ∷ bodyOf n (t + 1) (flipOf bits (getD script (i + 1) 0)) (drop (i + 3) script)
         else bodyOf n (t + 1) bits (drop (i + 3) script)))) × (r ≤ 10)
     go true f =
         let p : r ≡ placesOf t + 5 = ap (λ (q : ℕ × List ℕ). q .0) f in
-        let q : b ≡ turnOf bits (getD script (i + 1) 0) = ap (λ (q : ℕ × List ℕ). q .1) f in
-        rw q (omega (arith, p, change-size t (turned (getD bits (getD script (i + 1) 0) 0)) (getD script (i + 1) 0) (bodyOf n (t + 1) (turnOf bits (getD script (i + 1) 0)) (drop (i + 3) script))), omega (arith, p, places-few t))
+        let q : b ≡ flipOf bits (getD script (i + 1) 0) = ap (λ (q : ℕ × List ℕ). q .1) f in
+        rw q (omega (arith, p, change-size t (turned (getD bits (getD script (i + 1) 0) 0)) (getD script (i + 1) 0) (bodyOf n (t + 1) (flipOf bits (getD script (i + 1) 0)) (drop (i + 3) script))), omega (arith, p, places-few t))
     go false f =
         let p : r ≡ 0 = ap (λ (q : ℕ × List ℕ). q .0) f in
         let q : b ≡ bits = ap (λ (q : ℕ × List ℕ). q .1) f in
@@ -289,7 +289,7 @@ head-size n = simp length-append (omega arith)
 -- ---- what a step's function leaves
 
 pub step-done : (n t : ℕ) (bits : List ℕ) (kind cell : ℕ) (out : List ℕ) (at r : ℕ) (b o : List ℕ) (bit : ℕ)
-    → changesOf n bits kind cell ≡ true → b ≡ turnOf bits cell → bit ≡ turned (getD bits cell 0)
+    → changesOf n bits kind cell ≡ true → b ≡ flipOf bits cell → bit ≡ turned (getD bits cell 0)
     → (r, o) ≡ putOf out at (joined (timeLine t ∷ bitLine bit cell ∷ [])) → (r, (b, o)) ≡ stepOf n t bits kind cell out at
 unfolding stepOf
 step-done n t bits kind cell out at r b o bit c p q e = rw (c, p, ← q, ← e)
@@ -300,7 +300,7 @@ unfolding stepOf
 step-none n t bits kind cell out at b c p = rw (c, p)
 
 pub weigh-done : (n t : ℕ) (bits : List ℕ) (kind cell r : ℕ) (b : List ℕ) → changesOf n bits kind cell ≡ true
-    → b ≡ turnOf bits cell → r ≡ placesOf t → (r + 5, b) ≡ weighOf n t bits kind cell
+    → b ≡ flipOf bits cell → r ≡ placesOf t → (r + 5, b) ≡ weighOf n t bits kind cell
 unfolding weighOf
 weigh-done n t bits kind cell r b c p q = rw (c, p, q)
 

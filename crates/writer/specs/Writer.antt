@@ -8,25 +8,25 @@ use Rattle.model.specs.Choice.{if_then_else_}
 use Rattle.print.specs.Print.{putOf}
 use Rattle.wave.specs.Decimal.{placesOf}
 use Rattle.wave.specs.Lines.{joined}
-use Rattle.wave.specs.Dump.{turned, changesOf, turnOf, timescale, scopeLine, upscope, endLine, timeLine, bitLine, varsOf, firstOf}
+use Rattle.wave.specs.Dump.{turned, changesOf, flipOf, timescale, scopeLine, upscope, endLine, timeLine, bitLine, varsOf, firstOf}
 
 -- the bit that a take or a release leaves
 unfoldable pub wantedOf : ℕ → ℕ
 wantedOf kind = if eqb kind 1 then 1 else 0
 
 -- whether a step changes a bit, and the bits after it
-unfoldable pub turnedOf : ℕ → List ℕ → ℕ → ℕ → Bool × List ℕ
-turnedOf n bits kind cell = if changesOf n bits kind cell then (true, turnOf bits cell) else (false, bits)
+unfoldable pub flippedOf : ℕ → List ℕ → ℕ → ℕ → Bool × List ℕ
+flippedOf n bits kind cell = if changesOf n bits kind cell then (true, flipOf bits cell) else (false, bits)
 
 -- one step: where its lines end, the bits after it, and the run
 unfoldable pub stepOf : ℕ → ℕ → List ℕ → ℕ → ℕ → List ℕ → ℕ → ℕ × (List ℕ × List ℕ)
 stepOf n t bits kind cell out at =
     let o = putOf out at (joined (timeLine t ∷ bitLine (turned (getD bits cell 0)) cell ∷ [])) in
-    if changesOf n bits kind cell then (o .0, (turnOf bits cell, o .1)) else (at, (bits, out))
+    if changesOf n bits kind cell then (o .0, (flipOf bits cell, o .1)) else (at, (bits, out))
 
 -- the bytes of one step, and the bits after it
 unfoldable pub weighOf : ℕ → ℕ → List ℕ → ℕ → ℕ → ℕ × List ℕ
-weighOf n t bits kind cell = if changesOf n bits kind cell then (placesOf t + 5, turnOf bits cell) else (0, bits)
+weighOf n t bits kind cell = if changesOf n bits kind cell then (placesOf t + 5, flipOf bits cell) else (0, bits)
 
 -- the lines before the first change
 unfoldable pub headOf : ℕ → List ℕ

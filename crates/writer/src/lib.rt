@@ -13,7 +13,7 @@ ghost use Rattle.wave.specs.Lines.{joined};
 ghost use Rattle.wave.specs.Dump.{noBits, changesOf, timeLine, bitLine, varLine, varsOf, firstOf, bodyOf};
 ghost use Rattle.wave.specs.Dump.{turns as Dump·turns, turned as Dump·turned};
 ghost use Rattle.wave.specs.Calls.{badHistory, tooWide, fittedOf, writeOf};
-ghost use Rattle.writer.specs.Writer.{wantedOf, turnedOf, stepOf, weighOf, headOf};
+ghost use Rattle.writer.specs.Writer.{wantedOf, flippedOf, stepOf, weighOf, headOf};
 
 // ---- numbers
 
@@ -124,9 +124,9 @@ pub fn turned(bit: u8) -> u8
 }
 
 // Whether a step changes a bit; the bits after it.
-fn turn(n: usize, bits: &mut [u8; 94], kind: u32, cell: usize) -> bool
+fn flip(n: usize, bits: &mut [u8; 94], kind: u32, cell: usize) -> bool
     requires { ⌜ n ≤ 94 ⌝ }
-    ensures { λ r. ⌜ (r, now (bits .exit)) ≡ turnedOf n (now (bits .entry)) kind cell ⌝ }
+    ensures { λ r. ⌜ (r, now (bits .exit)) ≡ flippedOf n (now (bits .entry)) kind cell ⌝ }
 {
     if cell < n {
         let bit = bits[cell];
@@ -170,7 +170,7 @@ fn step(
     requires { ⌜ (n ≤ 94) × (t < 100000) × (changesOf n (now bits) kind cell ≡ true → at + placesOf t + 5 ≤ length (now out)) ⌝ }
     ensures { λ r. ⌜ (r, (now (bits .exit), now (out .exit))) ≡ stepOf n t (now (bits .entry)) kind cell (now (out .entry)) at ⌝ }
 {
-    if turn(n, bits, kind, cell) {
+    if flip(n, bits, kind, cell) {
         let bit = wanted(kind);
         return put_change(out, at, t, bit, cell as u8);
     }
@@ -243,7 +243,7 @@ fn weigh(n: usize, t: usize, bits: &mut [u8; 94], kind: u32, cell: usize) -> usi
     requires { ⌜ n ≤ 94 ⌝ }
     ensures { λ r. ⌜ (r, now (bits .exit)) ≡ weighOf n t (now (bits .entry)) kind cell ⌝ }
 {
-    if turn(n, bits, kind, cell) {
+    if flip(n, bits, kind, cell) {
         return places(t) + 5;
     }
     0

@@ -6,7 +6,7 @@ use Rattle.model.specs.Foreign.{setting}
 use Rattle.model.specs.Lock.{attemptOf}
 use Rattle.bucket.proofs.attempt.Statement.{statement}
 use Rattle.laws.specs.Keys.{find-inside}
-use Rattle.bucket.specs.Laws.{sober-of, quiet-few}
+use Rattle.bucket.specs.Laws.{locked-bound-of, quiet-few}
 use Rattle.foreign.specs.Model.{guardsOf}
 use Rattle.lock.specs.Laws.{lock-quiet}
 use Rattle.bucket.proofs.attempt.Tie as tie
@@ -26,13 +26,13 @@ enum-known-found-2 c = search needs
 lock-requires : tie.Need-lock-requires
 lock-requires c κs =
     let key = c .before .before .before .before .before .before .before .before .before .before .before .before .before .before .before .pre .0 in
-    (key .room, (c .before .before .before .before .before .before .before .before .before .before .before .before .before .before .before .pre .1 .paid, rw (key .cells-are) (find-inside _ _ _ _ _ _ _ (sym (c .before .before .before .before .before .before .before .before .find .ensures) ∙ c .before .before .before .before .before .before .found2 .given .1))))
+    (key .room, (c .before .before .before .before .before .before .before .before .before .before .before .before .before .before .before .pre .1 .flow-bound, rw (key .cells-are) (find-inside _ _ _ _ _ _ _ (sym (c .before .before .before .before .before .before .before .before .find .ensures) ∙ c .before .before .before .before .before .before .found2 .given .1))))
 
 counted-requires : tie.Need-counted-requires
 counted-requires c κs =
-    let calm = c .before .before .before .before .before .before .before .before .before .before .before .before .before .before .before .before .before .before .before .before .pre .1 in
-    let k = sober-of _ _ _ _ _ (c .before .before .before .before .before .before .before .before .before .before .before .before .before .before .before .before .before .before .before .before .pre .0 .room .steps-are) _ _ _ _ _ (c .before .before .before .before .lock .ensures) (calm .paid) in
-    (calm .few-attempts, (calm .few-boundaries, k .few))
+    let run-bound = c .before .before .before .before .before .before .before .before .before .before .before .before .before .before .before .before .before .before .before .before .pre .1 in
+    let k = locked-bound-of _ _ _ _ _ (c .before .before .before .before .before .before .before .before .before .before .before .before .before .before .before .before .before .before .before .before .pre .0 .room .steps-are) _ _ _ _ _ (c .before .before .before .before .lock .ensures) (run-bound .flow-bound) in
+    (run-bound .few-attempts, (run-bound .few-boundaries, k .few))
 
 same-length : tie.Need-same-length
 same-length c = search needs
@@ -52,8 +52,8 @@ quiet-lock-requires c κs =
 
 counted-requires-2 : tie.Need-counted-requires-2
 counted-requires-2 c κs =
-    let calm = c .before .before .before .before .before .before .before .before .before .before .before .before .before .before .before .before .before .pre .1 in
-    (calm .few-attempts, (calm .few-boundaries, quiet-few _ _ _ _ (c .before .before .quiet-lock .ensures)))
+    let run-bound = c .before .before .before .before .before .before .before .before .before .before .before .before .before .before .before .before .before .pre .1 in
+    (run-bound .few-attempts, (run-bound .few-boundaries, quiet-few _ _ _ _ (c .before .before .quiet-lock .ensures)))
 
 same-length-3 : tie.Need-same-length-3
 same-length-3 c = search needs

@@ -4,7 +4,7 @@ use borrow.Author.Needs.{needs}
 use Rattle.model.specs.Lock.{attemptOf}
 use Rattle.bucket.proofs.attempt_once.Statement.{statement}
 use Rattle.laws.specs.Keys.{find-inside}
-use Rattle.bucket.specs.Laws.{sober-of}
+use Rattle.bucket.specs.Laws.{locked-bound-of}
 use Rattle.bucket.proofs.attempt_once.Tie as tie
 
 find-requires : tie.Need-find-requires
@@ -22,13 +22,13 @@ enum-known-found-2 c = search needs
 lock-requires : tie.Need-lock-requires
 lock-requires c κs =
     let key = c .before .before .before .before .before .before .before .before .before .before .before .before .before .pre .0 in
-    (key .room, (c .before .before .before .before .before .before .before .before .before .before .before .before .before .pre .1 .paid, rw (key .cells-are) (find-inside _ _ _ _ _ _ _ (sym (c .before .before .before .before .before .before .find .ensures) ∙ c .before .before .before .before .found2 .given .1))))
+    (key .room, (c .before .before .before .before .before .before .before .before .before .before .before .before .before .pre .1 .flow-bound, rw (key .cells-are) (find-inside _ _ _ _ _ _ _ (sym (c .before .before .before .before .before .before .find .ensures) ∙ c .before .before .before .before .found2 .given .1))))
 
 counted-requires : tie.Need-counted-requires
 counted-requires c κs =
-    let calm = c .before .before .before .before .before .before .before .before .before .before .before .before .before .before .before .before .before .before .pre .1 in
-    let k = sober-of _ _ _ _ _ (c .before .before .before .before .before .before .before .before .before .before .before .before .before .before .before .before .before .before .pre .0 .room .steps-are) _ _ _ _ _ (c .before .before .before .before .lock .ensures) (calm .paid) in
-    (calm .few-attempts, (calm .few-boundaries, k .few))
+    let run-bound = c .before .before .before .before .before .before .before .before .before .before .before .before .before .before .before .before .before .before .pre .1 in
+    let k = locked-bound-of _ _ _ _ _ (c .before .before .before .before .before .before .before .before .before .before .before .before .before .before .before .before .before .before .pre .0 .room .steps-are) _ _ _ _ _ (c .before .before .before .before .lock .ensures) (run-bound .flow-bound) in
+    (run-bound .few-attempts, (run-bound .few-boundaries, k .few))
 
 same-length : tie.Need-same-length
 same-length c = search needs

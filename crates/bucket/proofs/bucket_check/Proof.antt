@@ -4,8 +4,8 @@ use Rattle.bucket.proofs.bucket_check.Statement.{statement}
 use Rattle.bucket.specs.Fine.{bucket-then}
 use Rattle.bucket.proofs.bucket_check.Tie as tie
 
-key-check-requires : tie.Need-key-check-requires
-key-check-requires c κs = search needs
+key-fault-requires : tie.Need-key-fault-requires
+key-fault-requires c κs = search needs
 
 enum-known-key : tie.Need-enum-known-key
 enum-known-key c = search needs
@@ -17,12 +17,12 @@ binding-fault-requires : tie.Need-binding-fault-requires
 binding-fault-requires c κs = search needs
 
 returns : tie.Need-returns
-returns c = rw (bucket-then _ _ _ _ _ _ _ _, ← c .before .before .before .key-check .ensures, c .before .key .given .1)
+returns c = rw (bucket-then _ _ _ _ _ _ _ _, ← c .before .before .before .key-fault .ensures, c .before .key .given .1)
 
 returns-2 : tie.Need-returns-2
-returns-2 c = rw (bucket-then _ _ _ _ _ _ _ _, ← c .before .before .before .key-check .ensures, c .before .enum-told .given .1, ← c .binding-fault .ensures)
+returns-2 c = rw (bucket-then _ _ _ _ _ _ _ _, ← c .before .before .before .key-fault .ensures, c .before .enum-told .given .1, ← c .binding-fault .ensures)
 
 pub bucket-check-spec : {M : Type 1} → statement M
 bucket-check-spec =
     tie.close
-    (tie.spec key-check-requires enum-known-key enum-told binding-fault-requires returns returns-2)
+    (tie.spec key-fault-requires enum-known-key enum-told binding-fault-requires returns returns-2)

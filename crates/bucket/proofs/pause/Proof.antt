@@ -19,8 +19,8 @@ add-t22 c = search needs
 spin-requires : tie.Need-spin-requires
 spin-requires c κs =
     let room = c .before .before .before .before .before .before .before .before .before .before .before .before .before .before .before .before .before .pre .0 in
-    let calm = c .before .before .before .before .before .before .before .before .before .before .before .before .before .before .before .before .before .pre .1 in
-    (record { words-fit = search needs; bytes-fit = search needs; few-taken = room .few-taken; steps-are = room .steps-are }, record { paid = boundary-goes _ _ _ _ _ _ _ _ _ (room .steps-are) (c .before .before .before .before .before .before .before .before .boundary .ensures) (calm .paid); few-attempts = omega (arith, calm .few-attempts); few-boundaries = omega (arith, calm .few-boundaries); few-yields = omega (arith, calm .few-yields) })
+    let run-bound = c .before .before .before .before .before .before .before .before .before .before .before .before .before .before .before .before .before .pre .1 in
+    (record { words-fit = search needs; bytes-fit = search needs; few-taken = room .few-taken; steps-are = room .steps-are }, record { flow-bound = boundary-goes _ _ _ _ _ _ _ _ _ (room .steps-are) (c .before .before .before .before .before .before .before .before .boundary .ensures) (run-bound .flow-bound); few-attempts = omega (arith, run-bound .few-attempts); few-boundaries = omega (arith, run-bound .few-boundaries); few-yields = omega (arith, run-bound .few-yields) })
 
 same-length : tie.Need-same-length
 same-length c = search needs

@@ -5,7 +5,7 @@ use native.Mathlib.Omega.{arith}
 use borrow.Author.Needs.{needs}
 use Rattle.model.specs.Foreign.{setting}
 use Rattle.bucket.proofs.retry.Statement.{statement}
-use Rattle.bucket.specs.Laws.{Retrying, more-calm, turn-goes, retry-at, retry-end}
+use Rattle.bucket.specs.Laws.{Retrying, more-run-bound, turn-goes, retry-at, retry-end}
 use Rattle.bucket.specs.Model.{key-for}
 use Rattle.foreign.specs.Model.{guardsOf}
 use Rattle.bucket.proofs.retry.Tie as tie
@@ -19,13 +19,13 @@ abbrev μ-loop : tie.MeasureT-loop
     4096 - i
 
 loop-holds : tie.Need-loop-holds Inv-loop μ-loop
-loop-holds c = record { calm = c .before .before .before .before .before .pre .1; few = search needs; words = refl; bytes = refl; rest = refl }
+loop-holds c = record { run-bound = c .before .before .before .before .before .pre .1; few = search needs; words = refl; bytes = refl; rest = refl }
 
-turn-requires : tie.Need-turn-requires Inv-loop μ-loop
-turn-requires c κs = let l = c .before .before .before .loop in (key-for (l .inv .words) (l .inv .bytes) (c .before .before .before .before .before .before .before .before .before .pre .0), more-calm _ _ _ _ (omega (arith, l .inv .few)) (l .inv .calm))
+again-requires : tie.Need-again-requires Inv-loop μ-loop
+again-requires c κs = let l = c .before .before .before .loop in (key-for (l .inv .words) (l .inv .bytes) (c .before .before .before .before .before .before .before .before .before .pre .0), more-run-bound _ _ _ _ (omega (arith, l .inv .few)) (l .inv .run-bound))
 
-busy-requires : tie.Need-busy-requires Inv-loop μ-loop
-busy-requires c κs = search needs
+is-busy-requires : tie.Need-is-busy-requires Inv-loop μ-loop
+is-busy-requires c κs = search needs
 
 same-length : tie.Need-same-length Inv-loop μ-loop
 same-length c = search needs
@@ -38,7 +38,7 @@ returns c =
     let l = c .before .before .before .before .before .before .before .before .before .before .loop in
     let a = c .before .before .before .before .before .before .before .before .before .before .before .before .before .before .before .before .args in
     let e = setting (a .head .headers) (a .cells) (a .script .now) (guardsOf (a .held .now) (a .taken .now) (a .n)) in
-    rw (← l .inv .rest, retry-at 4096 (l .i) e (a .head .buckets) (a .registry .now) (a .binding) (a .bucket) (l .run) (l .table) (l .health) _ (c .before .before .before .before .before .before .turn .ensures) (search needs), ← c .before .busy .ensures, c .if1 .left)
+    rw (← l .inv .rest, retry-at 4096 (l .i) e (a .head .buckets) (a .registry .now) (a .binding) (a .bucket) (l .run) (l .table) (l .health) _ (c .before .before .before .before .before .before .again .ensures) (search needs), ← c .before .is-busy .ensures, c .if1 .left)
 
 add-i : tie.Need-add-i Inv-loop μ-loop
 add-i c = search needs
@@ -52,11 +52,11 @@ loop-again c =
     let a = c .before .before .before .before .before .before .before .before .before .before .before .before .before .before .before .before .before .args in
     let e = setting (a .head .headers) (a .cells) (a .script .now) (guardsOf (a .held .now) (a .taken .now) (a .n)) in
     record {
-      calm = more-calm _ _ _ _ (omega arith) (turn-goes _ _ _ _ _ (c .before .before .before .before .before .before .before .before .before .before .before .before .before .before .before .before .before .pre .0 .room .steps-are) _ _ _ _ _ _ _ _ _ _ (c .before .before .before .before .before .before .before .turn .ensures) (l .inv .calm));
+      run-bound = more-run-bound _ _ _ _ (omega arith) (turn-goes _ _ _ _ _ (c .before .before .before .before .before .before .before .before .before .before .before .before .before .before .before .before .before .pre .0 .room .steps-are) _ _ _ _ _ _ _ _ _ _ (c .before .before .before .before .before .before .before .again .ensures) (l .inv .run-bound));
       few = search needs;
       words = search needs;
       bytes = search needs;
-      rest = rw (← l .inv .rest, retry-at 4096 (l .i) e (a .head .buckets) (a .registry .now) (a .binding) (a .bucket) (l .run) (l .table) (l .health) _ (c .before .before .before .before .before .before .before .turn .ensures) (search needs), ← c .before .before .busy .ensures, c .before .if1 .taken);
+      rest = rw (← l .inv .rest, retry-at 4096 (l .i) e (a .head .buckets) (a .registry .now) (a .binding) (a .bucket) (l .run) (l .table) (l .health) _ (c .before .before .before .before .before .before .before .again .ensures) (search needs), ← c .before .before .is-busy .ensures, c .before .if1 .taken);
     }
 
 same-length-3 : tie.Need-same-length-3 Inv-loop μ-loop
@@ -79,8 +79,8 @@ retry-spec =
     Inv-loop
     μ-loop
     loop-holds
-    turn-requires
-    busy-requires
+    again-requires
+    is-busy-requires
     same-length
     same-length-2
     returns

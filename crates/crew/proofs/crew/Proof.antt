@@ -4,7 +4,7 @@ use borrow.Author.Needs.{needs}
 use Rattle.model.specs.Crew.{crewOf}
 use Rattle.crew.proofs.crew.Statement.{statement}
 use Rattle.crew.specs.Fine.{crew-fine}
-use Rattle.crew.specs.Model.{workOf, finishOf, runOf}
+use Rattle.crew.specs.Model.{workOf, finishOf, crewRunOf}
 use Rattle.crew.proofs.crew.Tie as tie
 
 crew-check-requires : tie.Need-crew-check-requires
@@ -19,8 +19,8 @@ refuse-requires c κs = search needs
 enum-told : tie.Need-enum-told
 enum-told c = search needs
 
-run-requires : tie.Need-run-requires
-run-requires c κs = crew-fine _ _ _ _ _ _ (sym (c .before .before .before .crew-check .ensures) ∙ c .before .enum-told .given .1)
+crew-run-requires : tie.Need-crew-run-requires
+crew-run-requires c κs = crew-fine _ _ _ _ _ _ (sym (c .before .before .before .crew-check .ensures) ∙ c .before .enum-told .given .1)
 
 same-length : tie.Need-same-length
 same-length c = search needs
@@ -33,8 +33,8 @@ same-length-2 : tie.Need-same-length-2
 same-length-2 c = search needs
 
 returns-2 : tie.Need-returns-2
-unfolding crewOf runOf workOf finishOf
-returns-2 c = rw (← c .before .before .before .before .before .before .crew-check .ensures, c .before .before .before .before .enum-told .given .1) (c .before .before .run .ensures)
+unfolding crewOf crewRunOf workOf finishOf
+returns-2 c = rw (← c .before .before .before .before .before .before .crew-check .ensures, c .before .before .before .before .enum-told .given .1) (c .before .before .crew-run .ensures)
 
 pub crew-spec : {M : Type 1} → statement M
 crew-spec =
@@ -44,7 +44,7 @@ crew-spec =
     enum-known-check
     refuse-requires
     enum-told
-    run-requires
+    crew-run-requires
     same-length
     returns
     same-length-2

@@ -8,13 +8,13 @@ use Rattle.model.specs.Crew.{startOf}
 use Rattle.crew.proofs.work.Statement.{statement}
 use Rattle.crew.specs.Fine.{Spot, spot}
 use Rattle.laws.specs.Crew.{start-fits}
-use Rattle.crew.specs.Model.{placeOf, begin, handed, workOf}
+use Rattle.crew.specs.Model.{placeOf, crewStart, handed, workOf}
 use Rattle.crew.specs.Turns.{Working, work-idle, work-tried, work-took, work-gave, work-done}
 use Rattle.crew.proofs.work.Tie as tie
 
 abbrev Inv-loop : tie.InvT-loop
 Inv-loop head table₀ health counts cells starts turns made₀ next₀ moving₀ i₀ table made next moving i =
-    Working (head .headers) (head .buckets) health counts cells turns (begin head table₀) next table made moving i
+    Working (head .headers) (head .buckets) health counts cells turns (crewStart head table₀) next table made moving i
 
 abbrev μ-loop : tie.MeasureT-loop
 μ-loop head table₀ health counts cells starts turns made₀ next₀ moving₀ i₀ table made next moving i = length turns - i
@@ -94,14 +94,14 @@ place-requires c κs = (omega (arith, begins (c .before .before .before .before)
 add-once-more : tie.Need-add-once-more Inv-loop μ-loop
 add-once-more c = omega (arith, wants-few (c .before .before .before .before .before), c .before .before .if1 .left)
 
-mul-turn : tie.Need-mul-turn Inv-loop μ-loop
-mul-turn c = omega (arith, spot-of (c .before) .in-run)
+mul-make-move : tie.Need-mul-make-move Inv-loop μ-loop
+mul-make-move c = omega (arith, spot-of (c .before) .in-run)
 
-shared-slice-read-turn : tie.Need-shared-slice-read-turn Inv-loop μ-loop
-shared-slice-read-turn c = spot-of (c .before .before) .in-run
+shared-slice-read-make-move : tie.Need-shared-slice-read-make-move Inv-loop μ-loop
+shared-slice-read-make-move c = spot-of (c .before .before) .in-run
 
-turn-requires : tie.Need-turn-requires Inv-loop μ-loop
-turn-requires c κs = (omega (arith, spot-of (c .before .before) .cell-fits, c .before .before .before .before .before .before .before .before .loop .inv .words), (c .before .before .before .before .before .before .before .before .before .before .before .before .before .before .pre .0 .shape .some-buckets, spot-of (c .before .before) .header-fits))
+make-move-requires : tie.Need-make-move-requires Inv-loop μ-loop
+make-move-requires c κs = (omega (arith, spot-of (c .before .before) .cell-fits, c .before .before .before .before .before .before .before .before .loop .inv .words), (c .before .before .before .before .before .before .before .before .before .before .before .before .before .before .pre .0 .shape .some-buckets, spot-of (c .before .before) .header-fits))
 
 enum-told : tie.Need-enum-told Inv-loop μ-loop
 enum-told c = search needs
@@ -110,7 +110,7 @@ loop-less-2 : tie.Need-loop-less-2 Inv-loop μ-loop
 loop-less-2 c = search needs
 
 loop-again-2 : tie.Need-loop-again-2 Inv-loop μ-loop
-loop-again-2 c = work-tried _ _ _ _ _ _ _ _ _ _ _ _ (c .before .before .before .before .before .before .before .before .before .before .before .before .before .loop .inv) (c .before .before .before .before .before .before .before .before .before .before .before .before .loop-test .taken) _ _ (unfinished (c .before .before .before .before .before .before .before)) _ _ (c .before .before .before .before .turn .ensures) (search needs) (c .enum-told .given .1)
+loop-again-2 c = work-tried _ _ _ _ _ _ _ _ _ _ _ _ (c .before .before .before .before .before .before .before .before .before .before .before .before .before .loop .inv) (c .before .before .before .before .before .before .before .before .before .before .before .before .loop-test .taken) _ _ (unfinished (c .before .before .before .before .before .before .before)) _ _ (c .before .before .before .before .make-move .ensures) (search needs) (c .enum-told .given .1)
 
 enum-known-after : tie.Need-enum-known-after Inv-loop μ-loop
 enum-known-after c = search needs
@@ -128,7 +128,7 @@ loop-less-3 : tie.Need-loop-less-3 Inv-loop μ-loop
 loop-less-3 c = search needs
 
 loop-again-3 : tie.Need-loop-again-3 Inv-loop μ-loop
-loop-again-3 c = work-took _ _ _ _ _ _ _ _ _ _ _ _ (c .before .before .before .before .before .before .before .before .before .before .before .before .before .before .loop .inv) (c .before .before .before .before .before .before .before .before .before .before .before .before .before .loop-test .taken) _ _ (unfinished (c .before .before .before .before .before .before .before .before)) _ _ (c .before .before .before .before .before .turn .ensures) (search needs) _ _ (c .before .after .given .1)
+loop-again-3 c = work-took _ _ _ _ _ _ _ _ _ _ _ _ (c .before .before .before .before .before .before .before .before .before .before .before .before .before .before .loop .inv) (c .before .before .before .before .before .before .before .before .before .before .before .before .before .loop-test .taken) _ _ (unfinished (c .before .before .before .before .before .before .before .before)) _ _ (c .before .before .before .before .before .make-move .ensures) (search needs) _ _ (c .before .after .given .1)
 
 enum-told-2 : tie.Need-enum-told-2 Inv-loop μ-loop
 enum-told-2 c = search needs
@@ -146,7 +146,7 @@ loop-less-4 : tie.Need-loop-less-4 Inv-loop μ-loop
 loop-less-4 c = search needs
 
 loop-again-4 : tie.Need-loop-again-4 Inv-loop μ-loop
-loop-again-4 c = work-gave _ _ _ _ _ _ _ _ _ _ _ _ (c .before .before .before .before .before .before .before .before .before .before .before .before .before .loop .inv) (c .before .before .before .before .before .before .before .before .before .before .before .before .loop-test .taken) _ _ (unfinished (c .before .before .before .before .before .before .before)) _ _ (c .before .before .before .before .turn .ensures) (search needs) (c .enum-told2 .given .1)
+loop-again-4 c = work-gave _ _ _ _ _ _ _ _ _ _ _ _ (c .before .before .before .before .before .before .before .before .before .before .before .before .before .loop .inv) (c .before .before .before .before .before .before .before .before .before .before .before .before .loop-test .taken) _ _ (unfinished (c .before .before .before .before .before .before .before)) _ _ (c .before .before .before .before .make-move .ensures) (search needs) (c .enum-told2 .given .1)
 
 sub-idle : tie.Need-sub-idle Inv-loop μ-loop
 sub-idle c = search needs
@@ -181,9 +181,9 @@ work-spec =
     element-copy-out-place
     place-requires
     add-once-more
-    mul-turn
-    shared-slice-read-turn
-    turn-requires
+    mul-make-move
+    shared-slice-read-make-move
+    make-move-requires
     enum-told
     loop-less-2
     loop-again-2

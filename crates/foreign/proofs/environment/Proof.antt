@@ -4,7 +4,7 @@ use borrow.Author.Needs.{needs}
 use Rattle.model.specs.Calls.{environmentOf}
 use Rattle.foreign.proofs.environment.Statement.{statement}
 use Rattle.foreign.specs.Fine.{script-fine}
-use Rattle.foreign.specs.Model.{onceOf}
+use Rattle.foreign.specs.Model.{runOnceOf}
 use Rattle.foreign.proofs.environment.Tie as tie
 
 script-check-requires : tie.Need-script-check-requires
@@ -39,7 +39,7 @@ same-length-4 : tie.Need-same-length-4
 same-length-4 c = search needs
 
 returns-2 : tie.Need-returns-2
-unfolding environmentOf onceOf
+unfolding environmentOf runOnceOf
 returns-2 c = rw (← c .before .before .before .before .before .before .before .before .before .script-check .ensures, c .before .before .before .before .before .before .before .enum-told .given .1) (c .before .before .before .before .run-once .ensures)
 
 pub environment-spec : {M : Type 1} → statement M

@@ -3,7 +3,7 @@ use lib.ListN.{replicate}
 use borrow.Author.Needs.{needs}
 use Rattle.foreign.proofs.run_once.Statement.{statement}
 use Rattle.foreign.specs.Fine.{guards-none}
-use Rattle.foreign.specs.Model.{onceOf}
+use Rattle.foreign.specs.Model.{runOnceOf}
 use Rattle.foreign.proofs.run_once.Tie as tie
 
 mul-boundary : tie.Need-mul-boundary
@@ -22,7 +22,7 @@ same-length-2 : tie.Need-same-length-2
 same-length-2 c = search needs
 
 returns : tie.Need-returns
-unfolding onceOf
+unfolding runOnceOf
 returns c = rw (← guards-none (c .before .before .before .before .before .before .before .before .before .before .before .before .before .before .args .held .now) (replicate 64 (replicate 2 0)), ← c .before .before .before .before .before .boundary .ensures, ← c .play .ensures)
 
 pub run-once-spec : {M : Type 1} → statement M

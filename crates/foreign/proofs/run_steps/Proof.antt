@@ -20,7 +20,7 @@ abbrev μ-loop : tie.MeasureT-loop
     steps - p
 
 loop-holds : tie.Need-loop-holds Inv-loop μ-loop
-loop-holds c = record { paid = c .before .before .before .before .pre .1; words = refl; bytes = refl; rest = refl }
+loop-holds c = record { flow-bound = c .before .before .before .before .pre .1; words = refl; bytes = refl; rest = refl }
 
 mul-at : tie.Need-mul-at Inv-loop μ-loop
 mul-at c = search needs
@@ -80,7 +80,7 @@ loop-again c = let l = c .before .before .before .before .before .before .before
     let e = setting (a .headers) (a .cells) (a .script .now) (guardsOf (a .held .now) (a .taken .now) (a .n) ++ (a .own ∷ [])) in
     let d = step-drops _ _ _ _ _ _ _ _ (c .before .before .before .before .before .step .ensures) in
     record {
-      paid = record { few = omega arith; in-script = omega arith };
+      flow-bound = record { few = omega arith; in-script = omega arith };
       words = search needs;
       bytes = search needs;
       rest =

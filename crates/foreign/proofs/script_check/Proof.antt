@@ -6,8 +6,8 @@ use Rattle.foreign.proofs.script_check.Statement.{statement}
 use Rattle.foreign.specs.Fine.{arena-shape, script-then}
 use Rattle.foreign.proofs.script_check.Tie as tie
 
-arena-check-requires : tie.Need-arena-check-requires
-arena-check-requires c κs = search needs
+arena-fault-requires : tie.Need-arena-fault-requires
+arena-fault-requires c κs = search needs
 
 enum-known-shape : tie.Need-enum-known-shape
 enum-known-shape c = search needs
@@ -15,24 +15,24 @@ enum-known-shape c = search needs
 enum-told : tie.Need-enum-told
 enum-told c = search needs
 
-lists-check-requires : tie.Need-lists-check-requires
-lists-check-requires c κs = let a = c .before .before .before .before .before .before .before .args in arena-shape (a .head) (a .table .now) (a .health .now) (sym (c .before .before .arena-check .ensures) ∙ c .enum-told .given .1)
+lists-fault-requires : tie.Need-lists-fault-requires
+lists-fault-requires c κs = let a = c .before .before .before .before .before .before .before .args in arena-shape (a .head) (a .table .now) (a .health .now) (sym (c .before .before .arena-fault .ensures) ∙ c .enum-told .given .1)
 
 returns : tie.Need-returns
 unfolding scriptRules
-returns c = rw (script-then _ _ _ _, ← c .before .before .before .arena-check .ensures, c .before .shape .given .1)
+returns c = rw (script-then _ _ _ _, ← c .before .before .before .arena-fault .ensures, c .before .shape .given .1)
 
 returns-2 : tie.Need-returns-2
 unfolding scriptRules
-returns-2 c = rw (script-then _ _ _ _, ← c .before .before .before .arena-check .ensures, c .before .enum-told .given .1, ← c .lists-check .ensures)
+returns-2 c = rw (script-then _ _ _ _, ← c .before .before .before .arena-fault .ensures, c .before .enum-told .given .1, ← c .lists-fault .ensures)
 
 pub script-check-spec : {M : Type 1} → statement M
 script-check-spec =
     tie.close
     (tie.spec
-    arena-check-requires
+    arena-fault-requires
     enum-known-shape
     enum-told
-    lists-check-requires
+    lists-fault-requires
     returns
     returns-2)

@@ -8,8 +8,8 @@ use Rattle.model.specs.Foreign.{stepTakeOf}
 use Rattle.foreign.proofs.step_take.Statement.{statement}
 use Rattle.foreign.proofs.step_take.Tie as tie
 
-free-requires : tie.Need-free-requires
-free-requires c κs = search needs
+is-free-requires : tie.Need-is-free-requires
+is-free-requires c κs = search needs
 
 serial-remains-requires : tie.Need-serial-remains-requires
 serial-remains-requires c κs = search needs
@@ -25,21 +25,21 @@ same-length c = search needs
 
 returns : tie.Need-returns
 unfolding stepTakeOf
-returns c = rw (lt-ltb _ _ (c .before .before .before .before .before .before .before .before .before .if1 .taken), ← c .before .before .before .before .before .before .before .free .ensures, c .before .before .before .before .before .before .if2 .taken, ← c .before .before .before .before .before .serial-remains .ensures, c .before .before .before .before .if3 .taken, ← c .before .before .set-cell .ensures)
+returns c = rw (lt-ltb _ _ (c .before .before .before .before .before .before .before .before .before .if1 .taken), ← c .before .before .before .before .before .before .before .is-free .ensures, c .before .before .before .before .before .before .if2 .taken, ← c .before .before .before .before .before .serial-remains .ensures, c .before .before .before .before .if3 .taken, ← c .before .before .set-cell .ensures)
 
 same-length-2 : tie.Need-same-length-2
 same-length-2 c = search needs
 
 returns-2 : tie.Need-returns-2
 unfolding stepTakeOf
-returns-2 c = rw (lt-ltb _ _ (c .before .before .before .before .before .if1 .taken), ← c .before .before .before .free .ensures, c .before .before .if2 .taken, ← c .before .serial-remains .ensures, c .if3 .left)
+returns-2 c = rw (lt-ltb _ _ (c .before .before .before .before .before .if1 .taken), ← c .before .before .before .is-free .ensures, c .before .before .if2 .taken, ← c .before .serial-remains .ensures, c .if3 .left)
 
 same-length-3 : tie.Need-same-length-3
 same-length-3 c = search needs
 
 returns-3 : tie.Need-returns-3
 unfolding stepTakeOf
-returns-3 c = rw (lt-ltb _ _ (c .before .before .before .if1 .taken), ← c .before .free .ensures, c .if2 .left)
+returns-3 c = rw (lt-ltb _ _ (c .before .before .before .if1 .taken), ← c .before .is-free .ensures, c .if2 .left)
 
 returns-4 : tie.Need-returns-4
 unfolding stepTakeOf
@@ -49,7 +49,7 @@ pub step-take-spec : {M : Type 1} → statement M
 step-take-spec =
     tie.close
     (tie.spec
-    free-requires
+    is-free-requires
     serial-remains-requires
     set-cell-requires
     add-t13

@@ -3,11 +3,11 @@ use mathlib.Core.Path.{sym, _∙_}
 use borrow.Author.Needs.{needs}
 use Rattle.model.specs.Lock.{takeOf}
 use Rattle.lease.proofs.claim_at.Statement.{statement}
-use Rattle.lease.specs.Model.{claim-free, claimOf}
+use Rattle.lease.specs.Model.{claim-free, claimAtOf}
 use Rattle.lease.proofs.claim_at.Tie as tie
 
-state-requires : tie.Need-state-requires
-state-requires c κs = search needs
+state-at-requires : tie.Need-state-at-requires
+state-at-requires c κs = search needs
 
 enum-told : tie.Need-enum-told
 enum-told c = search needs
@@ -25,15 +25,15 @@ same-length : tie.Need-same-length
 same-length c = search needs
 
 returns : tie.Need-returns
-unfolding claimOf takeOf
-returns c = rw (← c .before .before .state .ensures, c .enum-told .given .1)
+unfolding claimAtOf takeOf
+returns c = rw (← c .before .before .state-at .ensures, c .enum-told .given .1)
 
 same-length-2 : tie.Need-same-length-2
 same-length-2 c = search needs
 
 returns-2 : tie.Need-returns-2
-unfolding claimOf takeOf
-returns-2 c = rw (← c .before .before .state .ensures, c .enum-told2 .given .1)
+unfolding claimAtOf takeOf
+returns-2 c = rw (← c .before .before .state-at .ensures, c .enum-told2 .given .1)
 
 same-length-3 : tie.Need-same-length-3
 same-length-3 c = search needs
@@ -41,13 +41,13 @@ same-length-3 c = search needs
 returns-3 : tie.Need-returns-3
 returns-3 c =
     let a = c .before .before .before .before .before .before .before .before .before .args in
-    rw (claim-free (a .head) (a .table .now) (a .cell) (sym (c .before .before .before .before .before .before .state .ensures) ∙ c .before .before .before .before .enum-told3 .given .1)) (c .before .before .claim-free .ensures)
+    rw (claim-free (a .head) (a .table .now) (a .cell) (sym (c .before .before .before .before .before .before .state-at .ensures) ∙ c .before .before .before .before .enum-told3 .given .1)) (c .before .before .claim-free .ensures)
 
 pub claim-at-spec : {M : Type 1} → statement M
 claim-at-spec =
     tie.close
     (tie.spec
-    state-requires
+    state-at-requires
     enum-told
     enum-told-2
     enum-told-3

@@ -11,8 +11,8 @@ release-requires c κs = search needs
 claim-free-requires : tie.Need-claim-free-requires
 claim-free-requires c κs = search needs
 
-claimed-requires : tie.Need-claimed-requires
-claimed-requires c κs = search needs
+claim-reply-requires : tie.Need-claim-reply-requires
+claim-reply-requires c κs = search needs
 
 same-length : tie.Need-same-length
 same-length c = search needs
@@ -20,8 +20,8 @@ same-length c = search needs
 returns : tie.Need-returns
 returns c = let a = c .before .before .before .before .before .before .before .before .before .before .args in
     let e = acquire-free (a .n) (a .head) _ (a .cell) (state-freed (a .head .next) (a .table .now) (a .cell) (search needs)) in
-    rw (e, ← c .before .before .before .before .before .before .before .release .ensures, ← c .before .before .before .claim-free .ensures, ← c .claimed .ensures)
+    rw (e, ← c .before .before .before .before .before .before .before .release .ensures, ← c .before .before .before .claim-free .ensures, ← c .claim-reply .ensures)
 
 pub hand-on-spec : {M : Type 1} → statement M
 hand-on-spec =
-    tie.close (tie.spec release-requires claim-free-requires claimed-requires same-length returns)
+    tie.close (tie.spec release-requires claim-free-requires claim-reply-requires same-length returns)

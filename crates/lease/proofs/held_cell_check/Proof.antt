@@ -10,8 +10,8 @@ use Rattle.lease.proofs.held_cell_check.Tie as tie
 shape-fits-requires : tie.Need-shape-fits-requires
 shape-fits-requires c κs = search needs
 
-held-check-requires : tie.Need-held-check-requires
-held-check-requires c κs = sym (c .before .shape-fits .ensures) ∙ c .if1 .taken
+held-fault-requires : tie.Need-held-fault-requires
+held-fault-requires c κs = sym (c .before .shape-fits .ensures) ∙ c .if1 .taken
 
 enum-known-list : tie.Need-enum-known-list
 enum-known-list c = search needs
@@ -24,11 +24,11 @@ cell-fault-requires c κs = shaped _ _ (sym (c .before .before .before .before .
 
 returns : tie.Need-returns
 unfolding heldCellRules
-returns c = rw (shape-ok _ _ _ (sym (c .before .before .before .before .before .shape-fits .ensures) ∙ c .before .before .before .before .if1 .taken), held-then _ _ _ _, ← c .before .before .before .held-check .ensures, c .before .list .given .1)
+returns c = rw (shape-ok _ _ _ (sym (c .before .before .before .before .before .shape-fits .ensures) ∙ c .before .before .before .before .if1 .taken), held-then _ _ _ _, ← c .before .before .before .held-fault .ensures, c .before .list .given .1)
 
 returns-2 : tie.Need-returns-2
 unfolding heldCellRules
-returns-2 c = rw (shape-ok _ _ _ (sym (c .before .before .before .before .before .shape-fits .ensures) ∙ c .before .before .before .before .if1 .taken), held-then _ _ _ _, ← c .before .before .before .held-check .ensures, c .before .enum-told .given .1, ← c .cell-fault .ensures)
+returns-2 c = rw (shape-ok _ _ _ (sym (c .before .before .before .before .before .shape-fits .ensures) ∙ c .before .before .before .before .if1 .taken), held-then _ _ _ _, ← c .before .before .before .held-fault .ensures, c .before .enum-told .given .1, ← c .cell-fault .ensures)
 
 returns-3 : tie.Need-returns-3
 unfolding heldCellRules
@@ -39,7 +39,7 @@ held-cell-check-spec =
     tie.close
     (tie.spec
     shape-fits-requires
-    held-check-requires
+    held-fault-requires
     enum-known-list
     enum-told
     cell-fault-requires

@@ -9,8 +9,8 @@ use Rattle.lease.proofs.held_lease_check.Tie as tie
 shape-fits-requires : tie.Need-shape-fits-requires
 shape-fits-requires c κs = search needs
 
-held-check-requires : tie.Need-held-check-requires
-held-check-requires c κs = sym (c .before .shape-fits .ensures) ∙ c .if1 .taken
+held-fault-requires : tie.Need-held-fault-requires
+held-fault-requires c κs = sym (c .before .shape-fits .ensures) ∙ c .if1 .taken
 
 enum-known-list : tie.Need-enum-known-list
 enum-known-list c = search needs
@@ -18,16 +18,16 @@ enum-known-list c = search needs
 enum-told : tie.Need-enum-told
 enum-told c = search needs
 
-lease-or-loose-requires : tie.Need-lease-or-loose-requires
-lease-or-loose-requires c κs = sym (c .before .before .before .before .shape-fits .ensures) ∙ c .before .before .before .if1 .taken
+drop-fault-requires : tie.Need-drop-fault-requires
+drop-fault-requires c κs = sym (c .before .before .before .before .shape-fits .ensures) ∙ c .before .before .before .if1 .taken
 
 returns : tie.Need-returns
 unfolding heldLeaseRules
-returns c = rw (shape-ok _ _ _ (sym (c .before .before .before .before .before .shape-fits .ensures) ∙ c .before .before .before .before .if1 .taken), held-then _ _ _ _, ← c .before .before .before .held-check .ensures, c .before .list .given .1)
+returns c = rw (shape-ok _ _ _ (sym (c .before .before .before .before .before .shape-fits .ensures) ∙ c .before .before .before .before .if1 .taken), held-then _ _ _ _, ← c .before .before .before .held-fault .ensures, c .before .list .given .1)
 
 returns-2 : tie.Need-returns-2
 unfolding heldLeaseRules
-returns-2 c = rw (shape-ok _ _ _ (sym (c .before .before .before .before .before .shape-fits .ensures) ∙ c .before .before .before .before .if1 .taken), held-then _ _ _ _, ← c .before .before .before .held-check .ensures, c .before .enum-told .given .1, ← c .lease-or-loose .ensures)
+returns-2 c = rw (shape-ok _ _ _ (sym (c .before .before .before .before .before .shape-fits .ensures) ∙ c .before .before .before .before .if1 .taken), held-then _ _ _ _, ← c .before .before .before .held-fault .ensures, c .before .enum-told .given .1, ← c .drop-fault .ensures)
 
 returns-3 : tie.Need-returns-3
 unfolding heldLeaseRules
@@ -38,10 +38,10 @@ held-lease-check-spec =
     tie.close
     (tie.spec
     shape-fits-requires
-    held-check-requires
+    held-fault-requires
     enum-known-list
     enum-told
-    lease-or-loose-requires
+    drop-fault-requires
     returns
     returns-2
     returns-3)

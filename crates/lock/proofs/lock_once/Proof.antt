@@ -13,8 +13,8 @@ lock-alone-requires c κs = search needs
 outcome-requires : tie.Need-outcome-requires
 outcome-requires c κs = search needs
 
-answered-requires : tie.Need-answered-requires
-answered-requires c κs = search needs
+answer-of-requires : tie.Need-answer-of-requires
+answer-of-requires c κs = search needs
 
 play-requires : tie.Need-play-requires
 play-requires c κs = search needs
@@ -27,7 +27,7 @@ same-length-2 c = search needs
 
 returns : tie.Need-returns
 unfolding lockOnceOf
-returns c = rw (← c .before .before .before .before .before .before .before .before .lock-alone .ensures, ← c .before .before .outcome .ensures, ← c .before .answered .ensures, ← c .play .ensures)
+returns c = rw (← c .before .before .before .before .before .before .before .before .lock-alone .ensures, ← c .before .before .outcome .ensures, ← c .before .answer-of .ensures, ← c .play .ensures)
 
 pub lock-once-spec : {M : Type 1} → statement M
 lock-once-spec =
@@ -36,7 +36,7 @@ lock-once-spec =
     mul-cells
     lock-alone-requires
     outcome-requires
-    answered-requires
+    answer-of-requires
     play-requires
     same-length
     same-length-2

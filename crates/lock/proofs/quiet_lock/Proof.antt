@@ -3,11 +3,11 @@ use borrow.Author.Needs.{needs}
 use borrow.Author.Tests.{eq-eqb, ne-eqb}
 use Rattle.lock.proofs.quiet_lock.Statement.{statement}
 use Rattle.lock.specs.Laws.{take-claim}
-use Rattle.lock.specs.Model.{quietOf}
+use Rattle.lock.specs.Model.{quietLockOf}
 use Rattle.lock.proofs.quiet_lock.Tie as tie
 
-waiters-requires : tie.Need-waiters-requires
-waiters-requires c κs = search needs
+waiters-at-requires : tie.Need-waiters-at-requires
+waiters-at-requires c κs = search needs
 
 spent-to-requires : tie.Need-spent-to-requires
 spent-to-requires c κs = search needs
@@ -22,21 +22,21 @@ same-length : tie.Need-same-length
 same-length c = search needs
 
 returns : tie.Need-returns
-unfolding quietOf
-returns c = rw (← c .before .before .before .before .before .before .before .before .waiters .ensures, eq-eqb _ _ (c .before .before .before .before .before .before .before .if1 .taken), take-claim (c .before .before .before .before .before .before .before .before .before .before .before .args .head) _ _ _, ← c .before .before .before .before .before .before .spent-to .ensures, ← c .before .before .before .before .claim-at .ensures, ← c .boundaries-for .ensures)
+unfolding quietLockOf
+returns c = rw (← c .before .before .before .before .before .before .before .before .waiters-at .ensures, eq-eqb _ _ (c .before .before .before .before .before .before .before .if1 .taken), take-claim (c .before .before .before .before .before .before .before .before .before .before .before .args .head) _ _ _, ← c .before .before .before .before .before .before .spent-to .ensures, ← c .before .before .before .before .claim-at .ensures, ← c .boundaries-for .ensures)
 
 same-length-2 : tie.Need-same-length-2
 same-length-2 c = search needs
 
 returns-2 : tie.Need-returns-2
-unfolding quietOf
-returns-2 c = rw (← c .before .waiters .ensures, ne-eqb _ _ (c .if1 .left))
+unfolding quietLockOf
+returns-2 c = rw (← c .before .waiters-at .ensures, ne-eqb _ _ (c .if1 .left))
 
 pub quiet-lock-spec : {M : Type 1} → statement M
 quiet-lock-spec =
     tie.close
     (tie.spec
-    waiters-requires
+    waiters-at-requires
     spent-to-requires
     claim-at-requires
     boundaries-for-requires

@@ -1,7 +1,7 @@
 -- `lock::second` meets its contract.
 use borrow.Author.Needs.{needs}
 use Rattle.model.specs.Lock.{secondOf}
-use Rattle.foreign.specs.Laws.{Paid, boundary-goes}
+use Rattle.foreign.specs.Laws.{FlowBound, boundary-goes}
 use Rattle.lock.proofs.second.Statement.{statement}
 use Rattle.lock.specs.Laws.{take-claim}
 use Rattle.lock.proofs.second.Tie as tie
@@ -18,13 +18,13 @@ claim-at-requires c κs = search needs
 enum-known-answer : tie.Need-enum-known-answer
 enum-known-answer c = search needs
 
-paid : (c : tie.After-boundary) → Paid (c .before .before .before .before .before .before .before .args .steps) (c .boundary .result)
-paid c = boundary-goes _ _ _ _ _ _ _ _ _ (c .before .before .before .before .before .before .before .pre .0 .steps-are) (c .boundary .ensures) (c .before .before .before .before .before .before .before .pre .1 .0)
+flow-bound : (c : tie.After-boundary) → FlowBound (c .before .before .before .before .before .before .before .args .steps) (c .boundary .result)
+flow-bound c = boundary-goes _ _ _ _ _ _ _ _ _ (c .before .before .before .before .before .before .before .pre .0 .steps-are) (c .boundary .ensures) (c .before .before .before .before .before .before .before .pre .1 .0)
 
 late-requires : tie.Need-late-requires
 late-requires c κs =
     let room = c .before .before .before .before .before .before .before .before .before .before .before .before .before .before .before .before .before .before .before .before .before .before .pre .0 in
-    let p = paid (c .before .before .before .before .before .before .before .before .before .before .before .before .before .before .before) in
+    let p = flow-bound (c .before .before .before .before .before .before .before .before .before .before .before .before .before .before .before) in
     (record { words-fit = search needs; bytes-fit = search needs; few-taken = room .few-taken; steps-are = room .steps-are }, (record { few = p .few; in-script = p .in-script }, c .before .before .before .before .before .before .before .before .before .before .before .before .before .before .before .before .before .before .before .before .before .before .pre .1 .1))
 
 enum-told : tie.Need-enum-told

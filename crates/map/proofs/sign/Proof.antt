@@ -3,8 +3,8 @@ use borrow.Author.Needs.{needs}
 use Rattle.map.proofs.sign.Statement.{statement}
 use Rattle.map.proofs.sign.Tie as tie
 
-said-requires : tie.Need-said-requires
-said-requires c κs = search needs
+state-of-requires : tie.Need-state-of-requires
+state-of-requires c κs = search needs
 
 enum-told : tie.Need-enum-told
 enum-told c = search needs
@@ -22,19 +22,19 @@ enum-told-3 : tie.Need-enum-told-3
 enum-told-3 c = search needs
 
 returns : tie.Need-returns
-returns c = rw (← c .before .before .before .said .ensures, c .before .enum-told .given .1) (c .waited .ensures)
+returns c = rw (← c .before .before .before .state-of .ensures, c .before .enum-told .given .1) (c .waited .ensures)
 
 returns-2 : tie.Need-returns-2
-returns-2 c = rw (← c .before .before .before .said .ensures, c .before .enum-told2 .given .1) (c .waited2 .ensures)
+returns-2 c = rw (← c .before .before .before .state-of .ensures, c .before .enum-told2 .given .1) (c .waited2 .ensures)
 
 returns-3 : tie.Need-returns-3
-returns-3 c = rw (← c .before .before .said .ensures, c .enum-told3 .given .1)
+returns-3 c = rw (← c .before .before .state-of .ensures, c .enum-told3 .given .1)
 
 pub sign-spec : {M : Type 1} → statement M
 sign-spec =
     tie.close
     (tie.spec
-    said-requires
+    state-of-requires
     enum-told
     waited-requires
     enum-told-2

@@ -8,7 +8,7 @@ use lib.Seq.{length-take-le}
 use borrow.Author.Needs.{needs}
 use Rattle.model.specs.Arena.{leasesOf}
 use Rattle.model.specs.Foreign.{setting}
-use Rattle.bucket.specs.Laws.{more-calm}
+use Rattle.bucket.specs.Laws.{more-run-bound}
 use Rattle.multilock.proofs.give_back.Statement.{statement}
 use Rattle.multilock.specs.Release.{Giving, room-for, give-one-goes, give-list-at, give-back-end}
 use Rattle.multilock.proofs.give_back.Tie as tie
@@ -21,7 +21,7 @@ abbrev μ-loop : tie.MeasureT-loop
 μ-loop headers cells table₀ health₀ script steps leases none run₀ k₀ table health run k = k
 
 loop-holds : tie.Need-loop-holds Inv-loop μ-loop
-loop-holds c = record { calm = more-calm _ _ _ _ (omega arith) (c .before .before .before .before .pre .1 .0); few = search needs; words = refl; bytes = refl; rest = refl }
+loop-holds c = record { run-bound = more-run-bound _ _ _ _ (omega arith) (c .before .before .before .before .pre .1 .0); few = search needs; words = refl; bytes = refl; rest = refl }
 
 sub-k : tie.Need-sub-k Inv-loop μ-loop
 sub-k c = search needs
@@ -42,7 +42,7 @@ give-one-requires : tie.Need-give-one-requires Inv-loop μ-loop
 give-one-requires c κs =
     let l = c .before .before .before .before .before .before .loop in
     let p = c .before .before .before .before .before .before .before .before .before .before .before .pre in
-    (room-for (l .inv .words) (l .inv .bytes) (p .0), (more-calm _ _ _ _ (omega (arith, p .1 .1 .0)) (l .inv .calm), p .1 .1 .1 (l .k - 1) (omega (arith, l .inv .few, c .before .before .before .before .before .loop-test .taken))))
+    (room-for (l .inv .words) (l .inv .bytes) (p .0), (more-run-bound _ _ _ _ (omega (arith, p .1 .1 .0)) (l .inv .run-bound), p .1 .1 .1 (l .k - 1) (omega (arith, l .inv .few, c .before .before .before .before .before .loop-test .taken))))
 
 loop-less : tie.Need-loop-less Inv-loop μ-loop
 loop-less c = search needs
@@ -54,7 +54,7 @@ loop-again c =
     let p = c .before .before .before .before .before .before .before .before .before .before .before .before .before .before .before .before .pre in
     let some = c .before .before .before .before .before .before .before .before .before .before .loop-test .taken in
     record {
-      calm = more-calm _ _ _ _ (omega (arith, l .inv .few, some)) (give-one-goes _ _ _ _ _ (p .0 .steps-are) _ _ _ _ _ _ (c .before .before .before .before .give-one .ensures) (l .inv .calm));
+      run-bound = more-run-bound _ _ _ _ (omega (arith, l .inv .few, some)) (give-one-goes _ _ _ _ _ (p .0 .steps-are) _ _ _ _ _ _ (c .before .before .before .before .give-one .ensures) (l .inv .run-bound));
       few = omega (arith, l .inv .few);
       words = search needs;
       bytes = search needs;

@@ -5,7 +5,7 @@ use native.Mathlib.Omega.{arith}
 use borrow.Author.Needs.{needs}
 use Rattle.model.specs.Arena.{leasesOf}
 use Rattle.model.specs.Foreign.{setting}
-use Rattle.bucket.specs.Laws.{more-calm}
+use Rattle.bucket.specs.Laws.{more-run-bound}
 use Rattle.foreign.specs.Model.{pairsOf}
 use Rattle.multilock.proofs.give_pairs.Statement.{statement}
 use Rattle.multilock.specs.Release.{Giving, give-one-goes, give-pairs-at, give-back-end}
@@ -19,7 +19,7 @@ abbrev μ-loop : tie.MeasureT-loop
 μ-loop headers cells table₀ health₀ script steps held n taken run₀ k₀ table health run k = k
 
 loop-holds : tie.Need-loop-holds Inv-loop μ-loop
-loop-holds c = record { calm = more-calm _ _ _ _ (omega arith) (c .before .before .before .before .pre .1 .0); few = search needs; words = refl; bytes = refl; rest = refl }
+loop-holds c = record { run-bound = more-run-bound _ _ _ _ (omega arith) (c .before .before .before .before .pre .1 .0); few = search needs; words = refl; bytes = refl; rest = refl }
 
 sub-k : tie.Need-sub-k Inv-loop μ-loop
 sub-k c = search needs
@@ -38,7 +38,7 @@ give-one-requires c κs =
     let l = c .before .before .before .before .before .loop in
     let p = c .before .before .before .before .before .before .before .before .before .before .pre in
     let room = p .0 in
-    (record { words-fit = omega (arith, room .words-fit, l .inv .words); bytes-fit = omega (arith, room .bytes-fit, l .inv .bytes); few-taken = omega (arith, room .few-taken, l .inv .few); steps-are = room .steps-are }, (more-calm _ _ _ _ (omega (arith, room .few-taken)) (l .inv .calm), p .1 .1 (l .k - 1) (omega (arith, l .inv .few, c .before .before .before .before .loop-test .taken))))
+    (record { words-fit = omega (arith, room .words-fit, l .inv .words); bytes-fit = omega (arith, room .bytes-fit, l .inv .bytes); few-taken = omega (arith, room .few-taken, l .inv .few); steps-are = room .steps-are }, (more-run-bound _ _ _ _ (omega (arith, room .few-taken)) (l .inv .run-bound), p .1 .1 (l .k - 1) (omega (arith, l .inv .few, c .before .before .before .before .loop-test .taken))))
 
 loop-less : tie.Need-loop-less Inv-loop μ-loop
 loop-less c = search needs
@@ -50,7 +50,7 @@ loop-again c =
     let p = c .before .before .before .before .before .before .before .before .before .before .before .before .before .before .before .pre in
     let some = c .before .before .before .before .before .before .before .before .before .loop-test .taken in
     record {
-      calm = more-calm _ _ _ _ (omega (arith, l .inv .few, some)) (give-one-goes _ _ _ _ _ (p .0 .steps-are) _ _ _ _ _ _ (c .before .before .before .before .give-one .ensures) (l .inv .calm));
+      run-bound = more-run-bound _ _ _ _ (omega (arith, l .inv .few, some)) (give-one-goes _ _ _ _ _ (p .0 .steps-are) _ _ _ _ _ _ (c .before .before .before .before .give-one .ensures) (l .inv .run-bound));
       few = omega (arith, l .inv .few);
       words = search needs;
       bytes = search needs;

@@ -6,7 +6,7 @@ use lib.ListN.{length-set}
 use borrow.Author.Needs.{needs}
 use Rattle.model.specs.Arena.{leasesOf}
 use Rattle.model.specs.Foreign.{setting}
-use Rattle.bucket.specs.Laws.{more-calm}
+use Rattle.bucket.specs.Laws.{more-run-bound}
 use Rattle.foreign.specs.Model.{pairsOf}
 use Rattle.multilock.proofs.lock_keys.Statement.{statement}
 use Rattle.multilock.specs.Locks.{Keying, bound-for, retry-goes, locks-at, locks-end, rolled, pairs-push, inside-push, grant-inside}
@@ -23,7 +23,7 @@ abbrev μ-loop : tie.MeasureT-loop
 loop-holds : tie.Need-loop-holds Inv-loop μ-loop
 unfolding pairsOf
 loop-holds c = let z : c .before .before .before .before .before .before .before .args .n - 0 ≡ c .before .before .before .before .before .before .before .args .n = omega arith in
-    record { calm = c .before .before .before .before .before .before .before .pre .1 .0; few = search needs; words = refl; bytes = refl; size = refl; inside = λ i h. absurd (omega arith); rest = rw z }
+    record { run-bound = c .before .before .before .before .before .before .before .pre .1 .0; few = search needs; words = refl; bytes = refl; size = refl; inside = λ i h. absurd (omega arith); rest = rw z }
 
 try-key-requires : tie.Need-try-key-requires Inv-loop μ-loop
 try-key-requires c κs =
@@ -31,7 +31,7 @@ try-key-requires c κs =
     let a = c .before .before .before .before .before .before .before .before .before .before .before .before .args in
     let q = c .before .before .before .before .before .before .before .before .before .before .before .before .pre in
     let e = setting (a .head .headers) (a .cells) (a .script .now) (leasesOf (a .held .now)) in
-    (bound-for (l .inv .words) (l .inv .bytes) (q .0), (more-calm _ _ _ _ (omega (arith, l .inv .few, q .1 .1 .0)) (l .inv .calm), (omega (arith, l .inv .few, q .1 .1 .0), omega (arith, q .1 .1 .1 .0))))
+    (bound-for (l .inv .words) (l .inv .bytes) (q .0), (more-run-bound _ _ _ _ (omega (arith, l .inv .few, q .1 .1 .0)) (l .inv .run-bound), (omega (arith, l .inv .few, q .1 .1 .0), omega (arith, q .1 .1 .1 .0))))
 
 enum-known-outcome : tie.Need-enum-known-outcome Inv-loop μ-loop
 enum-known-outcome c = search needs
@@ -52,7 +52,7 @@ roll-back-requires c κs =
     let q = c .before .before .before .before .before .before .before .before .before .before .before .before .before .before .before .before .before .before .before .before .before .before .pre in
     let e = setting (a .head .headers) (a .cells) (a .script .now) (leasesOf (a .held .now)) in
     let room = q .0 .key .room in
-    (record { words-fit = search needs; bytes-fit = search needs; few-taken = omega (arith, l .inv .few, q .1 .1 .0); steps-are = room .steps-are }, (more-calm _ _ _ _ (omega (arith, l .inv .few, q .1 .1 .0)) (retry-goes _ _ _ _ _ _ _ _ _ _ _ _ _ _ (room .steps-are) (c .before .before .before .before .before .before .before .before .before .try-key .ensures) (l .inv .calm)), l .inv .inside))
+    (record { words-fit = search needs; bytes-fit = search needs; few-taken = omega (arith, l .inv .few, q .1 .1 .0); steps-are = room .steps-are }, (more-run-bound _ _ _ _ (omega (arith, l .inv .few, q .1 .1 .0)) (retry-goes _ _ _ _ _ _ _ _ _ _ _ _ _ _ (room .steps-are) (c .before .before .before .before .before .before .before .before .before .try-key .ensures) (l .inv .run-bound)), l .inv .inside))
 
 same-length : tie.Need-same-length Inv-loop μ-loop
 same-length c = omega (arith, c .before .before .before .before .before .before .before .before .before .before .before .before .before .before .before .before .before .before .before .loop .inv .words, c .before .before .before .before .before .before .before .before .before .before .before .before .before .before .try-key .kept, c .before .before .before .before .roll-back .kept)
@@ -78,7 +78,7 @@ roll-back-requires-2 c κs =
     let q = c .before .before .before .before .before .before .before .before .before .before .before .before .before .before .before .before .before .before .before .before .before .before .before .pre in
     let e = setting (a .head .headers) (a .cells) (a .script .now) (leasesOf (a .held .now)) in
     let room = q .0 .key .room in
-    (record { words-fit = search needs; bytes-fit = search needs; few-taken = omega (arith, l .inv .few, q .1 .1 .0); steps-are = room .steps-are }, (more-calm _ _ _ _ (omega (arith, l .inv .few, q .1 .1 .0)) (retry-goes _ _ _ _ _ _ _ _ _ _ _ _ _ _ (room .steps-are) (c .before .before .before .before .before .before .before .before .before .before .try-key .ensures) (l .inv .calm)), l .inv .inside))
+    (record { words-fit = search needs; bytes-fit = search needs; few-taken = omega (arith, l .inv .few, q .1 .1 .0); steps-are = room .steps-are }, (more-run-bound _ _ _ _ (omega (arith, l .inv .few, q .1 .1 .0)) (retry-goes _ _ _ _ _ _ _ _ _ _ _ _ _ _ (room .steps-are) (c .before .before .before .before .before .before .before .before .before .before .try-key .ensures) (l .inv .run-bound)), l .inv .inside))
 
 same-length-3 : tie.Need-same-length-3 Inv-loop μ-loop
 same-length-3 c = omega (arith, c .before .before .before .before .before .before .before .before .before .before .before .before .before .before .before .before .before .before .before .before .loop .inv .words, c .before .before .before .before .before .before .before .before .before .before .before .before .before .before .before .try-key .kept, c .before .before .before .before .roll-back2 .kept)
@@ -109,7 +109,7 @@ loop-again c =
     let room = q .0 .key .room in
     let g = c .before .outcome .given in
     record {
-      calm = more-calm _ _ _ _ (omega arith) (retry-goes _ _ _ _ _ _ _ _ _ _ _ _ _ _ (room .steps-are) (c .before .before .before .before .before .before .before .before .try-key .ensures) (l .inv .calm));
+      run-bound = more-run-bound _ _ _ _ (omega arith) (retry-goes _ _ _ _ _ _ _ _ _ _ _ _ _ _ (room .steps-are) (c .before .before .before .before .before .before .before .before .try-key .ensures) (l .inv .run-bound));
       few = omega (arith, c .before .before .before .before .before .before .before .before .before .before .before .before .loop-test .taken);
       words = omega (arith, l .inv .words, c .before .before .before .before .before .before .before .before .try-key .kept);
       bytes = omega (arith, l .inv .bytes, c .before .before .before .before .before .before .before .before .try-key .kept);

@@ -1,6 +1,6 @@
 -- `multilock::locks_once` meets its contract.
 use borrow.Author.Needs.{needs}
-use Rattle.bucket.specs.Fine.{start-calm}
+use Rattle.bucket.specs.Fine.{start-run-bound}
 use Rattle.multilock.proofs.locks_once.Statement.{statement}
 use Rattle.multilock.specs.Fine.{fine-bound, locksOnceOf}
 use Rattle.multilock.proofs.locks_once.Tie as tie
@@ -8,14 +8,14 @@ use Rattle.multilock.proofs.locks_once.Tie as tie
 mul-cells : tie.Need-mul-cells
 mul-cells c = search needs
 
-begin-requires : tie.Need-begin-requires
-begin-requires c κs = search needs
+starting-requires : tie.Need-starting-requires
+starting-requires c κs = search needs
 
 lock-keys-requires : tie.Need-lock-keys-requires
 lock-keys-requires c κs =
     let a = c .before .before .before .before .before .before .before .before .before .before .before .before .args in
     let f = c .before .before .before .before .before .before .before .before .before .before .before .before .pre in
-    (fine-bound (a .head) _ _ _ (a .place) _ _ _ f, (rw (c .before .before .before .begin .ensures) (start-calm (a .head) _ _ _ (a .place) (f .script-ok)), (f .few, (search needs, f .grants-are))))
+    (fine-bound (a .head) _ _ _ (a .place) _ _ _ f, (rw (c .before .before .before .starting .ensures) (start-run-bound (a .head) _ _ _ (a .place) (f .script-ok)), (f .few, (search needs, f .grants-are))))
 
 play-requires : tie.Need-play-requires
 play-requires c κs = search needs
@@ -31,14 +31,14 @@ same-length-3 c = search needs
 
 returns : tie.Need-returns
 unfolding locksOnceOf
-returns c = rw (← c .before .before .before .before .before .before .before .before .before .before .before .before .begin .ensures, ← c .before .before .before .before .before .before .before .before .lock-keys .ensures, ← c .play .ensures)
+returns c = rw (← c .before .before .before .before .before .before .before .before .before .before .before .before .starting .ensures, ← c .before .before .before .before .before .before .before .before .lock-keys .ensures, ← c .play .ensures)
 
 pub locks-once-spec : {M : Type 1} → statement M
 locks-once-spec =
     tie.close
     (tie.spec
     mul-cells
-    begin-requires
+    starting-requires
     lock-keys-requires
     play-requires
     same-length

@@ -6,8 +6,8 @@ use Rattle.multilock.proofs.release_check.Statement.{statement}
 use Rattle.multilock.specs.Release.{release-then}
 use Rattle.multilock.proofs.release_check.Tie as tie
 
-arena-check-requires : tie.Need-arena-check-requires
-arena-check-requires c κs = search needs
+arena-fault-requires : tie.Need-arena-fault-requires
+arena-fault-requires c κs = search needs
 
 enum-known-shape : tie.Need-enum-known-shape
 enum-known-shape c = search needs
@@ -15,22 +15,22 @@ enum-known-shape c = search needs
 enum-told : tie.Need-enum-told
 enum-told c = search needs
 
-release-lists-check-requires : tie.Need-release-lists-check-requires
-release-lists-check-requires c κs = let a = c .before .before .before .before .before .before .before .args in arena-shape (a .head) (a .table .now) (a .health .now) (sym (c .before .before .arena-check .ensures) ∙ c .enum-told .given .1)
+release-lists-fault-requires : tie.Need-release-lists-fault-requires
+release-lists-fault-requires c κs = let a = c .before .before .before .before .before .before .before .args in arena-shape (a .head) (a .table .now) (a .health .now) (sym (c .before .before .arena-fault .ensures) ∙ c .enum-told .given .1)
 
 returns : tie.Need-returns
-returns c = rw (release-then _ _ _ _ _ _, ← c .before .before .before .arena-check .ensures, c .before .shape .given .1)
+returns c = rw (release-then _ _ _ _ _ _, ← c .before .before .before .arena-fault .ensures, c .before .shape .given .1)
 
 returns-2 : tie.Need-returns-2
-returns-2 c = rw (release-then _ _ _ _ _ _, ← c .before .before .before .arena-check .ensures, c .before .enum-told .given .1, ← c .release-lists-check .ensures)
+returns-2 c = rw (release-then _ _ _ _ _ _, ← c .before .before .before .arena-fault .ensures, c .before .enum-told .given .1, ← c .release-lists-fault .ensures)
 
 pub release-check-spec : {M : Type 1} → statement M
 release-check-spec =
     tie.close
     (tie.spec
-    arena-check-requires
+    arena-fault-requires
     enum-known-shape
     enum-told
-    release-lists-check-requires
+    release-lists-fault-requires
     returns
     returns-2)

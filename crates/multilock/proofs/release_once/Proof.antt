@@ -1,8 +1,8 @@
 -- `multilock::release_once` meets its contract.
 use native.Mathlib.Omega.{arith}
 use borrow.Author.Needs.{needs}
-use Rattle.bucket.specs.Fine.{start-calm}
-use Rattle.bucket.specs.Laws.{more-calm}
+use Rattle.bucket.specs.Fine.{start-run-bound}
+use Rattle.bucket.specs.Laws.{more-run-bound}
 use Rattle.foreign.specs.Fine.{fine-room}
 use Rattle.multilock.proofs.release_once.Statement.{statement}
 use Rattle.multilock.specs.Release.{releaseOnceOf}
@@ -11,14 +11,14 @@ use Rattle.multilock.proofs.release_once.Tie as tie
 mul-cells : tie.Need-mul-cells
 mul-cells c = search needs
 
-begin-requires : tie.Need-begin-requires
-begin-requires c κs = search needs
+starting-requires : tie.Need-starting-requires
+starting-requires c κs = search needs
 
 give-back-requires : tie.Need-give-back-requires
 give-back-requires c κs =
     let a = c .before .before .before .before .before .before .before .before .args in
     let f = c .before .before .before .before .before .before .before .before .pre in
-    (fine-room (a .head) _ _ _ (a .place) 0 (f .script-ok) (omega arith), (rw (c .before .before .begin .ensures) (more-calm _ _ _ _ (omega arith) (start-calm (a .head) _ _ _ (a .place) (f .script-ok))), (f .few, f .inside)))
+    (fine-room (a .head) _ _ _ (a .place) 0 (f .script-ok) (omega arith), (rw (c .before .before .starting .ensures) (more-run-bound _ _ _ _ (omega arith) (start-run-bound (a .head) _ _ _ (a .place) (f .script-ok))), (f .few, f .inside)))
 
 play-requires : tie.Need-play-requires
 play-requires c κs = search needs
@@ -31,14 +31,14 @@ same-length-2 c = search needs
 
 returns : tie.Need-returns
 unfolding releaseOnceOf
-returns c = rw (← c .before .before .before .before .before .before .before .before .begin .ensures, ← c .before .before .before .before .before .give-back .ensures, ← c .play .ensures)
+returns c = rw (← c .before .before .before .before .before .before .before .before .starting .ensures, ← c .before .before .before .before .before .give-back .ensures, ← c .play .ensures)
 
 pub release-once-spec : {M : Type 1} → statement M
 release-once-spec =
     tie.close
     (tie.spec
     mul-cells
-    begin-requires
+    starting-requires
     give-back-requires
     play-requires
     same-length

@@ -1,7 +1,7 @@
 -- `multilock::roll_back` meets its contract.
 use borrow.Author.Needs.{needs}
 use Rattle.multilock.proofs.roll_back.Statement.{statement}
-use Rattle.multilock.specs.Locks.{length-pairs, rolledOf}
+use Rattle.multilock.specs.Locks.{length-pairs, rollBackOf}
 use Rattle.multilock.proofs.roll_back.Tie as tie
 
 give-pairs-requires : tie.Need-give-pairs-requires
@@ -14,7 +14,7 @@ same-length-2 : tie.Need-same-length-2
 same-length-2 c = search needs
 
 returns : tie.Need-returns
-unfolding rolledOf
+unfolding rollBackOf
 returns c = rw (length-pairs (c .before .before .before .before .before .before .before .before .before .before .before .args .n) 0 (c .before .before .before .before .before .before .before .before .before .before .before .args .taken), ← c .before .before .before .before .give-pairs .ensures)
 
 pub roll-back-spec : {M : Type 1} → statement M

@@ -15,8 +15,8 @@ abbrev μ-loop : tie.MeasureT-loop
 μ-loop input₀ table₀ health₀ lists₀ grants₀ out₀ now₀ turns₀ input table health lists grants out now turns =
     turns
 
-begin-requires : tie.Need-begin-requires Inv-loop μ-loop
-begin-requires c κs = search needs
+fresh-requires : tie.Need-fresh-requires Inv-loop μ-loop
+fresh-requires c κs = search needs
 
 going-on-requires : tie.Need-going-on-requires Inv-loop μ-loop
 going-on-requires c κs = search needs
@@ -66,7 +66,7 @@ converse-spec =
     (tie.spec
     Inv-loop
     μ-loop
-    begin-requires
+    fresh-requires
     going-on-requires
     loop-holds
     listen-requires

@@ -8,7 +8,7 @@ use Rattle.wave.specs.declared.Stage.the-variants.{Opening}
 use Rattle.wave.specs.declared.Verdict.the-variants.{Fine}
 use Rattle.wave.specs.Lines.{splitOf}
 use Rattle.wave.specs.Dump.{noBits}
-use Rattle.wave.specs.Reader.{verdictOf, wordsOf}
+use Rattle.wave.specs.Reader.{verdictOf, scriptWordsOf}
 use Rattle.print.specs.Print.{putOf}
 use Rattle.wave.specs.Stages.{Reach, reach-next, words-count}
 use Rattle.reader.specs.Laws.{scan-torn, scan-lost, scan-turn, words-turn, words-room, words-end, put-all, not-bad}
@@ -16,7 +16,7 @@ use Rattle.reader.proofs.fill.Statement.{statement}
 use Rattle.reader.proofs.fill.Tie as tie
 
 abbrev Inv-loop : tie.InvT-loop
-Inv-loop text n last out₀ bits₀ stage₀ at₀ k₀ used₀ out bits stage at k used = Reach stage × (k ≤ at + 1) × (at ≤ length text) × (length out ≡ length out₀) × (verdictOf k stage bits (splitOf (drop at text)) ≡ Fine n last) × (putOf out used (wordsOf stage bits (splitOf (drop at text))) ≡ putOf out₀ 0 (wordsOf Opening noBits (splitOf text)))
+Inv-loop text n last out₀ bits₀ stage₀ at₀ k₀ used₀ out bits stage at k used = Reach stage × (k ≤ at + 1) × (at ≤ length text) × (length out ≡ length out₀) × (verdictOf k stage bits (splitOf (drop at text)) ≡ Fine n last) × (putOf out used (scriptWordsOf stage bits (splitOf (drop at text))) ≡ putOf out₀ 0 (scriptWordsOf Opening noBits (splitOf text)))
 
 abbrev μ-loop : tie.MeasureT-loop
 μ-loop text n last out₀ bits₀ stage₀ at₀ k₀ used₀ out bits stage at k used = length text - at
@@ -75,20 +75,20 @@ put-words-requires c κs =
     let l = c .before .before .before .before .before .before .before .before .before .before .before .loop in
     let a = c .before .before .before .before .before .before .before .before .before .before .before .before .before .before .args in
     let e = c .before .before .before .before .before .before .before .before .before .end-of .ensures in
-    let room = words-room (a .text .now) (l .at) _ (l .stage) (l .bits) (l .out) (a .out .now) (l .used) 0 (wordsOf Opening noBits (splitOf (a .text .now))) (e .0) (omega (arith, e .1, c .before .before .before .before .before .before .before .before .if1 .left)) (l .inv .5) in
+    let room = words-room (a .text .now) (l .at) _ (l .stage) (l .bits) (l .out) (a .out .now) (l .used) 0 (scriptWordsOf Opening noBits (splitOf (a .text .now))) (e .0) (omega (arith, e .1, c .before .before .before .before .before .before .before .before .if1 .left)) (l .inv .5) in
     (l .inv .0, rw (← c .before .before .before .before .before .next .ensures) (sym (c .before .before .before .before .is-lost .ensures) ∙ c .before .before .before .if2 .left), omega (arith, room, l .inv .3, c .before .before .before .before .before .before .before .before .before .before .before .before .before .before .pre .1, words-count (splitOf (a .text .now)) (a .n) (a .last) noBits (c .before .before .before .before .before .before .before .before .before .before .before .before .before .before .pre .0)))
 
-sub-turn : tie.Need-sub-turn Inv-loop μ-loop
-sub-turn c = search needs
+sub-bits-after : tie.Need-sub-bits-after Inv-loop μ-loop
+sub-bits-after c = search needs
 
-part-turn-start : tie.Need-part-turn-start Inv-loop μ-loop
-part-turn-start c = omega (arith, c .before .before .before .before .before .before .before .before .before .before .before .before .before .end-of .ensures .1)
+part-bits-after-start : tie.Need-part-bits-after-start Inv-loop μ-loop
+part-bits-after-start c = omega (arith, c .before .before .before .before .before .before .before .before .before .before .before .before .before .end-of .ensures .1)
 
-part-turn-end : tie.Need-part-turn-end Inv-loop μ-loop
-part-turn-end c = omega (arith, c .before .before .before .before .before .before .before .before .before .before .before .before .before .end-of .ensures .1)
+part-bits-after-end : tie.Need-part-bits-after-end Inv-loop μ-loop
+part-bits-after-end c = omega (arith, c .before .before .before .before .before .before .before .before .before .before .before .before .before .end-of .ensures .1)
 
-turn-requires : tie.Need-turn-requires Inv-loop μ-loop
-turn-requires c κs = (c .before .before .before .before .before .before .before .before .before .before .before .before .before .before .before .before .loop .inv .0, rw (← c .before .before .before .before .before .before .before .before .before .before .next .ensures) (sym (c .before .before .before .before .before .before .before .before .before .is-lost .ensures) ∙ c .before .before .before .before .before .before .before .before .if2 .left))
+bits-after-requires : tie.Need-bits-after-requires Inv-loop μ-loop
+bits-after-requires c κs = (c .before .before .before .before .before .before .before .before .before .before .before .before .before .before .before .before .loop .inv .0, rw (← c .before .before .before .before .before .before .before .before .before .before .next .ensures) (sym (c .before .before .before .before .before .before .before .before .before .is-lost .ensures) ∙ c .before .before .before .before .before .before .before .before .if2 .left))
 
 add-at : tie.Need-add-at Inv-loop μ-loop
 add-at c = omega (arith, c .before .before .before .before .before .before .before .before .before .before .before .before .before .before .before .end-of .ensures .1, c .before .before .before .before .before .before .before .before .before .before .before .before .before .before .if1 .left)
@@ -110,8 +110,8 @@ loop-again c =
       omega (arith, l .inv .1, e .1),
       omega (arith, e .1, inside),
       omega (arith, c .before .before .before .before .before .put-words .kept, l .inv .3),
-      scan-turn (a .text .now) (l .at) _ (l .k) (l .stage) _ (l .bits) _ (e .0) (omega (arith, e .1, inside)) (c .before .before .before .before .before .before .before .before .before .before .before .next .ensures) live (c .turn .ensures) ∙ l .inv .4,
-      words-turn (a .text .now) (l .at) _ (l .stage) _ (l .bits) _ (l .out) _ (l .used) _ (e .0) (omega (arith, e .1, inside)) (c .before .before .before .before .before .before .before .before .before .before .before .next .ensures) (c .turn .ensures) (c .before .before .before .before .before .put-words .ensures) ∙ l .inv .5,
+      scan-turn (a .text .now) (l .at) _ (l .k) (l .stage) _ (l .bits) _ (e .0) (omega (arith, e .1, inside)) (c .before .before .before .before .before .before .before .before .before .before .before .next .ensures) live (c .bits-after .ensures) ∙ l .inv .4,
+      words-turn (a .text .now) (l .at) _ (l .stage) _ (l .bits) _ (l .out) _ (l .used) _ (e .0) (omega (arith, e .1, inside)) (c .before .before .before .before .before .before .before .before .before .before .before .next .ensures) (c .bits-after .ensures) (c .before .before .before .before .before .put-words .ensures) ∙ l .inv .5,
     )
 
 same-length-3 : tie.Need-same-length-3 Inv-loop μ-loop
@@ -144,10 +144,10 @@ fill-spec =
     part-put-words-start
     part-put-words-end
     put-words-requires
-    sub-turn
-    part-turn-start
-    part-turn-end
-    turn-requires
+    sub-bits-after
+    part-bits-after-start
+    part-bits-after-end
+    bits-after-requires
     add-at
     add-k
     loop-less

@@ -53,17 +53,17 @@ returns-2 c =
     let a = c .before .before .before .before .before .before .before .before .before .before .args in
     scan-lost (a .text .now) (l .at) _ (l .k) (l .stage) _ (l .bits) (c .before .before .before .before .before .before .end-of .ensures .0) (omega (arith, c .before .before .before .before .before .before .end-of .ensures .1, c .before .before .before .before .before .if1 .left)) (c .before .before .next .ensures) (sym (c .before .is-lost .ensures) ∙ c .if2 .taken) ∙ l .inv .3
 
-sub-turn : tie.Need-sub-turn Inv-loop μ-loop
-sub-turn c = search needs
+sub-bits-after : tie.Need-sub-bits-after Inv-loop μ-loop
+sub-bits-after c = search needs
 
-part-turn-start : tie.Need-part-turn-start Inv-loop μ-loop
-part-turn-start c = omega (arith, c .before .before .before .before .before .before .before .end-of .ensures .1)
+part-bits-after-start : tie.Need-part-bits-after-start Inv-loop μ-loop
+part-bits-after-start c = omega (arith, c .before .before .before .before .before .before .before .end-of .ensures .1)
 
-part-turn-end : tie.Need-part-turn-end Inv-loop μ-loop
-part-turn-end c = omega (arith, c .before .before .before .before .before .before .before .end-of .ensures .1)
+part-bits-after-end : tie.Need-part-bits-after-end Inv-loop μ-loop
+part-bits-after-end c = omega (arith, c .before .before .before .before .before .before .before .end-of .ensures .1)
 
-turn-requires : tie.Need-turn-requires Inv-loop μ-loop
-turn-requires c κs = (c .before .before .before .before .before .before .before .before .before .before .loop .inv .0, rw (← c .before .before .before .before .next .ensures) (sym (c .before .before .before .is-lost .ensures) ∙ c .before .before .if2 .left))
+bits-after-requires : tie.Need-bits-after-requires Inv-loop μ-loop
+bits-after-requires c κs = (c .before .before .before .before .before .before .before .before .before .before .loop .inv .0, rw (← c .before .before .before .before .next .ensures) (sym (c .before .before .before .is-lost .ensures) ∙ c .before .before .if2 .left))
 
 add-at : tie.Need-add-at Inv-loop μ-loop
 add-at c = omega (arith, c .before .before .before .before .before .before .before .before .before .end-of .ensures .1, c .before .before .before .before .before .before .before .before .if1 .left)
@@ -83,7 +83,7 @@ loop-again c =
       rw (c .before .before .before .before .before .next .ensures) (reach-next (l .stage) (l .bits) _ (l .inv .0)),
       omega (arith, l .inv .1, e .1),
       omega (arith, e .1, inside),
-      scan-turn (a .text .now) (l .at) _ (l .k) (l .stage) _ (l .bits) _ (e .0) (omega (arith, e .1, inside)) (c .before .before .before .before .before .next .ensures) (sym (c .before .before .before .before .is-lost .ensures) ∙ c .before .before .before .if2 .left) (c .turn .ensures) ∙ l .inv .3,
+      scan-turn (a .text .now) (l .at) _ (l .k) (l .stage) _ (l .bits) _ (e .0) (omega (arith, e .1, inside)) (c .before .before .before .before .before .next .ensures) (sym (c .before .before .before .before .is-lost .ensures) ∙ c .before .before .before .if2 .left) (c .bits-after .ensures) ∙ l .inv .3,
     )
 
 at-end-requires : tie.Need-at-end-requires Inv-loop μ-loop
@@ -110,10 +110,10 @@ scan-spec =
     next-requires
     is-lost-requires
     returns-2
-    sub-turn
-    part-turn-start
-    part-turn-end
-    turn-requires
+    sub-bits-after
+    part-bits-after-start
+    part-bits-after-end
+    bits-after-requires
     add-at
     add-k
     loop-less

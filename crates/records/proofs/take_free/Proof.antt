@@ -10,22 +10,22 @@ issue-requires c κs = search needs
 enum-known-serial : tie.Need-enum-known-serial
 enum-known-serial c = search needs
 
-attempt-requires : tie.Need-attempt-requires
-attempt-requires c κs = search needs
+take-reply-requires : tie.Need-take-reply-requires
+take-reply-requires c κs = search needs
 
 enum-told : tie.Need-enum-told
 enum-told c = search needs
 
-attempt-requires-2 : tie.Need-attempt-requires-2
-attempt-requires-2 c κs = search needs
+take-reply-requires-2 : tie.Need-take-reply-requires-2
+take-reply-requires-2 c κs = search needs
 
 returns : tie.Need-returns
 unfolding takeFreeOf
-returns c = rw (← c .before .before .before .before .before .issue .ensures, c .before .before .serial .given .1, ← c .attempt .ensures)
+returns c = rw (← c .before .before .before .before .before .issue .ensures, c .before .before .serial .given .1, ← c .take-reply .ensures)
 
 returns-2 : tie.Need-returns-2
 unfolding takeFreeOf
-returns-2 c = rw (← c .before .before .before .before .issue .ensures, c .before .enum-told .given .1, ← c .attempt2 .ensures)
+returns-2 c = rw (← c .before .before .before .before .issue .ensures, c .before .enum-told .given .1, ← c .take-reply2 .ensures)
 
 pub take-free-spec : {M : Type 1} → statement M
 take-free-spec =
@@ -33,8 +33,8 @@ take-free-spec =
     (tie.spec
     issue-requires
     enum-known-serial
-    attempt-requires
+    take-reply-requires
     enum-told
-    attempt-requires-2
+    take-reply-requires-2
     returns
     returns-2)

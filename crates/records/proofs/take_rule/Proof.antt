@@ -4,20 +4,20 @@ use Rattle.records.specs.Model.{takeRuleOf}
 use Rattle.records.proofs.take_rule.Statement.{statement}
 use Rattle.records.proofs.take_rule.Tie as tie
 
-said-requires : tie.Need-said-requires
-said-requires c κs = search needs
+state-of-requires : tie.Need-state-of-requires
+state-of-requires c κs = search needs
 
 enum-told : tie.Need-enum-told
 enum-told c = search needs
 
-attempt-requires : tie.Need-attempt-requires
-attempt-requires c κs = search needs
+take-reply-requires : tie.Need-take-reply-requires
+take-reply-requires c κs = search needs
 
 enum-told-2 : tie.Need-enum-told-2
 enum-told-2 c = search needs
 
-attempt-requires-2 : tie.Need-attempt-requires-2
-attempt-requires-2 c κs = search needs
+take-reply-requires-2 : tie.Need-take-reply-requires-2
+take-reply-requires-2 c κs = search needs
 
 enum-told-3 : tie.Need-enum-told-3
 enum-told-3 c = search needs
@@ -27,25 +27,25 @@ take-free-requires c κs = search needs
 
 returns : tie.Need-returns
 unfolding takeRuleOf
-returns c = rw (← c .before .before .before .said .ensures, c .before .enum-told .given .1, ← c .attempt .ensures)
+returns c = rw (← c .before .before .before .state-of .ensures, c .before .enum-told .given .1, ← c .take-reply .ensures)
 
 returns-2 : tie.Need-returns-2
 unfolding takeRuleOf
-returns-2 c = rw (← c .before .before .before .said .ensures, c .before .enum-told2 .given .1, ← c .attempt2 .ensures)
+returns-2 c = rw (← c .before .before .before .state-of .ensures, c .before .enum-told2 .given .1, ← c .take-reply2 .ensures)
 
 returns-3 : tie.Need-returns-3
 unfolding takeRuleOf
-returns-3 c = rw (← c .before .before .before .said .ensures, c .before .enum-told3 .given .1, ← c .take-free .ensures)
+returns-3 c = rw (← c .before .before .before .state-of .ensures, c .before .enum-told3 .given .1, ← c .take-free .ensures)
 
 pub take-rule-spec : {M : Type 1} → statement M
 take-rule-spec =
     tie.close
     (tie.spec
-    said-requires
+    state-of-requires
     enum-told
-    attempt-requires
+    take-reply-requires
     enum-told-2
-    attempt-requires-2
+    take-reply-requires-2
     enum-told-3
     take-free-requires
     returns

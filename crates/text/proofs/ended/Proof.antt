@@ -4,7 +4,7 @@ use mathlib.Core.Path.{_≡_}
 use native.Mathlib.Omega.{arith}
 use borrow.Author.Tests.{eq-eqb, ne-eqb}
 use borrow.Author.Needs.{needs}
-use Rattle.text.specs.Text.{endedOf}
+use Rattle.text.specs.Text.{endedNumberOf}
 use Rattle.text.proofs.ended.Statement.{statement}
 use Rattle.text.proofs.ended.Tie as tie
 
@@ -12,7 +12,7 @@ none-requires : tie.Need-none-requires
 none-requires c κs = search needs
 
 returns : tie.Need-returns
-unfolding endedOf
+unfolding endedNumberOf
 returns c = let a = c .before .before .before .args in
     let e : a .i - a .at ≡ 0 = omega arith in rw (eq-eqb _ _ e, ← c .none .ensures)
 
@@ -29,7 +29,7 @@ none-requires-2 : tie.Need-none-requires-2
 none-requires-2 c κs = search needs
 
 returns-2 : tie.Need-returns-2
-unfolding endedOf
+unfolding endedNumberOf
 returns-2 c = let a = c .before .before .before .before .before .before .args in
     let e : a .i - a .at ≡ 0 → ⊥ = omega arith in rw (ne-eqb _ _ e, ← c .before .before .padded .ensures, c .before .if2 .taken, ← c .none2 .ensures)
 
@@ -37,7 +37,7 @@ cast-t10 : tie.Need-cast-t10
 cast-t10 c = search needs
 
 returns-3 : tie.Need-returns-3
-unfolding endedOf
+unfolding endedNumberOf
 returns-3 c = let a = c .before .before .before .before .before .args in
     let e : a .i - a .at ≡ 0 → ⊥ = omega arith in rw (ne-eqb _ _ e, ← c .before .padded .ensures, c .if2 .left)
 
