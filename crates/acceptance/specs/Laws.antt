@@ -10,7 +10,7 @@ use lib.Dec.{eqb, ltb, leb}
 use lib.ListN.{length, getD, drop, set, replicate, length-set, length-append, length-drop, length-replicate, getD-replicate, List·getD-eq-default}
 use lib.Seq.{sets, set-out, getD-set-same, getD-set-other}
 use borrow.Author.Tests.{eqb-true, eqb-false, eq-eqb, ne-eqb, lt-ltb, le-ltb, ltb-true, ltb-false, leb-true}
-use Rattle.model.specs.Choice.{if_then_else_}
+use Rattle.choice.specs.Choice.{if_then_else_}
 use Rattle.text.specs.declared.Number.{Number}
 use Rattle.text.specs.Text.{readNumberOf}
 use Rattle.text.specs.Laws.{number-within}

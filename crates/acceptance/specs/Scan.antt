@@ -5,7 +5,7 @@ use mathlib.Core.List.{List, [], _∷_, _++_}
 use mathlib.Core.Bool.{true, false}
 use lib.Dec.{eqb, ltb}
 use lib.ListN.{length, getD, set}
-use Rattle.model.specs.Choice.{if_then_else_}
+use Rattle.choice.specs.Choice.{if_then_else_}
 use Rattle.trials.specs.declared.Trial.{Trial}
 use Rattle.trials.specs.declared.Line.{Line}
 use Rattle.acceptance.specs.declared.Sums.{Sums}

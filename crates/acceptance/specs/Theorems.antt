@@ -6,7 +6,7 @@ use native.Mathlib.Omega.{arith}
 use lib.ListN.{length, getD, set}
 use lib.Seq.{sets, getD-set-other}
 use borrow.Author.Tests.{le-ltb}
-use Rattle.laws.specs.Pick.{determined}
+use Rattle.choice.specs.Pick.{determined}
 use Rattle.trials.specs.declared.Reported.{Reported}
 use Rattle.trials.specs.Report.{answerOf, reportOf}
 

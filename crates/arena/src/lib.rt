@@ -1,19 +1,25 @@
 // The arena of document 01: a cell's three words, what they say, and preparing.
 // Functions with a `requires` are steps: calls have tested the shape, and a step tests nothing twice.
+// Steps are no calls of document 01, public ones neither: only the layers here call them (tests/layers.sh), and each
+// caller proves their `requires`.
 use model::Answer;
+use model::Check;
 use model::Counts;
 use model::Head;
 use model::Refusal;
 use model::Reply;
 use model::State;
 ghost use mathlib.Core.Path.{_≡_};
+ghost use mathlib.Core.List.{[], _∷_};
 ghost use Prim.Native.Nat.{_+_, _*_, _<_, _≤_};
 ghost use lib.ListN.{length, replicate};
-ghost use Rattle.model.specs.Arena.{leaseOf, bitAt, ownerAt, waitersAt, setCell, setWaiters, isFree, stateOf, stateAt, isLive};
+ghost use Rattle.model.specs.Arena.{leaseOf, bitAt, ownerAt, waitersAt, setCell};
+ghost use Rattle.model.specs.Arena.{setWaiters, isFree, stateOf, stateAt, isLive};
+ghost use Rattle.model.specs.Refusals.{first};
+ghost use Rattle.model.specs.Checks.{badShape, badHealth};
 ghost use Rattle.model.specs.Calls.{prepareOf, refused, replied};
 
 // Bit, owner and waiters of a cell.
-// A step, no call of document 01: only the layers here call it, and each proves its `requires`.
 pub fn bit_at(table: &[u32], cell: u32) -> u32
     requires { ⌜ 3 * cell + 2 < length (now table) ⌝ }
     ensures { λ r. ⌜ r ≡ bitAt (now (table .entry)) cell ⌝ }
@@ -21,7 +27,6 @@ pub fn bit_at(table: &[u32], cell: u32) -> u32
     table[3 * (cell as usize)]
 }
 
-// A step, no call of document 01: only the layers here call it, and each proves its `requires`.
 pub fn owner_at(table: &[u32], cell: u32) -> u32
     requires { ⌜ 3 * cell + 2 < length (now table) ⌝ }
     ensures { λ r. ⌜ r ≡ ownerAt (now (table .entry)) cell ⌝ }
@@ -29,7 +34,6 @@ pub fn owner_at(table: &[u32], cell: u32) -> u32
     table[3 * (cell as usize) + 1]
 }
 
-// A step, no call of document 01: only the layers here call it, and each proves its `requires`.
 pub fn waiters_at(table: &[u32], cell: u32) -> u32
     requires { ⌜ 3 * cell + 2 < length (now table) ⌝ }
     ensures { λ r. ⌜ r ≡ waitersAt (now (table .entry)) cell ⌝ }
@@ -38,7 +42,6 @@ pub fn waiters_at(table: &[u32], cell: u32) -> u32
 }
 
 // Another bit and owner for a cell; other waiters for a cell.
-// A step, no call of document 01: only the layers here call it, and each proves its `requires`.
 pub fn set_cell(table: &mut [u32], cell: u32, bit: u32, owner: u32)
     requires { ⌜ 3 * cell + 2 < length (now table) ⌝ }
     ensures { λ _. ⌜ now (table .exit) ≡ setCell (now (table .entry)) cell bit owner ⌝ }
@@ -49,7 +52,6 @@ pub fn set_cell(table: &mut [u32], cell: u32, bit: u32, owner: u32)
 }
 
 // A release: nobody owns the cell.
-// A step, no call of document 01: only the layers here call it, and each proves its `requires`.
 pub fn release(table: &mut [u32], cell: u32)
     requires { ⌜ 3 * cell + 2 < length (now table) ⌝ }
     ensures { λ _. ⌜ now (table .exit) ≡ setCell (now (table .entry)) cell 0 0 ⌝ }
@@ -57,7 +59,6 @@ pub fn release(table: &mut [u32], cell: u32)
     set_cell(table, cell, 0, 0)
 }
 
-// A step, no call of document 01: only the layers here call it, and each proves its `requires`.
 pub fn set_waiters(table: &mut [u32], cell: u32, number: u32)
     requires { ⌜ 3 * cell + 2 < length (now table) ⌝ }
     ensures { λ _. ⌜ now (table .exit) ≡ setWaiters (now (table .entry)) cell number ⌝ }
@@ -67,7 +68,6 @@ pub fn set_waiters(table: &mut [u32], cell: u32, number: u32)
 }
 
 // Whether a cell is free.
-// A step, no call of document 01: only the layers here call it, and each proves its `requires`.
 pub fn is_free(table: &[u32], cell: u32) -> bool
     requires { ⌜ 3 * cell + 2 < length (now table) ⌝ }
     ensures { λ r. ⌜ r ≡ isFree (bitAt (now (table .entry)) cell) (ownerAt (now (table .entry)) cell) ⌝ }
@@ -103,7 +103,6 @@ pub fn state_of(next: u32, bit: u32, owner: u32) -> State
 }
 
 // A cell's state.
-// A step, no call of document 01: only the layers here call it, and each proves its `requires`.
 pub fn state_at(next: u32, table: &[u32], cell: u32) -> State
     requires { ⌜ 3 * cell + 2 < length (now table) ⌝ }
     ensures { λ r. ⌜ r ≡ stateAt next (now (table .entry)) cell ⌝ }
@@ -114,7 +113,6 @@ pub fn state_at(next: u32, table: &[u32], cell: u32) -> State
 }
 
 // Whether a lease is live.
-// A step, no call of document 01: only the layers here call it, and each proves its `requires`.
 pub fn is_live(next: u32, cells: u32, table: &[u32], cell: u32, serial: u32) -> bool
     requires { ⌜ 3 * cells ≤ length (now table) ⌝ }
     ensures { λ r. ⌜ r ≡ isLive next cells (now (table .entry)) (leaseOf cell serial) ⌝ }
@@ -152,6 +150,19 @@ pub fn refuse(head: Head, refusal: Refusal) -> Reply
     reply(head, 0, Answer::Refused(refusal))
 }
 
+// 1, of head, table and health: the first check of preparing, of every call with a script and of the crew.
+pub fn arena_fault(head: Head, table: &[u32], health: &[u8]) -> Check
+    ensures { λ r. ⌜ r ≡ first (badShape head (now (table .entry)) ∷ badHealth head (now (health .entry)) ∷ []) ⌝ }
+{
+    if head.shape_fits(table.len()) {
+        if head.health_fits(health.len()) {
+            return Check::Fine;
+        }
+        return Check::Fault(Refusal::BadShape);
+    }
+    Check::Fault(Refusal::BadShape)
+}
+
 fn zero_words(words: &mut [u32])
     ensures { λ _. ⌜ now (words .exit) ≡ replicate (length (now (words .entry))) 0 ⌝ }
 {
@@ -172,7 +183,8 @@ fn zero_bytes(bytes: &mut [u8])
     }
 }
 
-// Sets every table word and health byte to 0, or refuses and changes nothing.
+// Sets every table word and health byte to 0, whatever stood there. A head or a length that keeps no rule of the arena
+// is refused with 1: no lent word changes, and the head handed back is three zeros.
 pub fn prepare(
     headers: u32,
     buckets: u32,
@@ -180,7 +192,8 @@ pub fn prepare(
     table: &mut [u32],
     health: &mut [u8],
 ) -> Reply
-    ensures { λ r. ⌜ (r, (now (table .exit), now (health .exit))) ≡ prepareOf headers buckets serial (now (table .entry)) (now (health .entry)) .seen ⌝ }
+    ensures { λ r. ⌜ (r, (now (table .exit), now (health .exit)))
+        ≡ prepareOf headers buckets serial (now (table .entry)) (now (health .entry)) .seen ⌝ }
 {
     let head = Head {
         headers,
@@ -192,13 +205,13 @@ pub fn prepare(
         buckets: 0,
         next: 0,
     };
-    if head.shape_fits(table.len()) {
-        if head.health_fits(health.len()) {
+    let check = arena_fault(head, table, health);
+    match check {
+        Check::Fault(refusal) => refuse(none, refusal),
+        Check::Fine => {
             zero_words(table);
             zero_bytes(health);
-            return reply(head, 0, Answer::Done);
+            reply(head, 0, Answer::Done)
         }
-        return refuse(none, Refusal::BadShape);
     }
-    refuse(none, Refusal::BadShape)
 }

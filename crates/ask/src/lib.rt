@@ -1,4 +1,5 @@
-// Each call of document 01, given the head in force, what is lent of the RAM, and the lists that it takes.
+// The bench console. Each call of document 01, given the head in force, what is lent of the RAM, and the lists that it
+// takes.
 use desk::CELLS;
 use desk::COUNTS;
 use desk::Desk;
@@ -195,7 +196,7 @@ fn release_all(desk: Desk, table: &mut [u32], health: &mut [u8], lists: &[u32]) 
     let head = desk.head;
     let script = part(lists, SCRIPT, desk.script);
     let leases = part(lists, LEASES, desk.leases);
-    multilock::release_all(head, table, health, script, desk.place, leases)
+    release::release_all(head, table, health, script, desk.place, leases)
 }
 
 fn acquire_index_locks(

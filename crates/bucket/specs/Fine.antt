@@ -1,21 +1,25 @@
 -- The checks that every call by key makes first, and what is known once they are fine.
-use Prim.Native.Nat.{ℕ, _/_, _≤_, _<_}
-use mathlib.Core.Path.{_≡_, refl}
+use Prim.Native.Nat.{ℕ, _≤_, _<_}
+use mathlib.Core.Path.{_≡_, refl, ap}
 use mathlib.Core.List.{List, [], _∷_}
 use native.Mathlib.Omega.{arith}
-use lib.ListN.{length}
+use lib.ListN.{getD, length}
 use borrow.Author.Tests.{leb-false}
-use Rattle.model.specs.Arena.{cellsOf, leasesOf}
-use Rattle.model.specs.Lock.{attemptOf, retryOf, answerOf, settled}
+use Rattle.model.specs.Arena.{leasesOf}
+use Rattle.model.specs.Lock.{findOf, attemptAt, attemptOf, retryOf, answerOf, settled}
 use Rattle.model.specs.Refusals.{Rule, first}
 use Rattle.model.specs.Checks.{badShape, badHealth, badRegistry, badScript, badHeld, badBinding, bucketRules}
 use Rattle.model.specs.Calls.{starting, given, played}
 use Rattle.model.specs.declared.Check.the-variants.{Fine}
+use Rattle.model.specs.declared.Found.{Found}
 use Rattle.model.specs.declared.Head.{Head}
 use Rattle.model.specs.declared.Played.{Played}
-use Rattle.laws.specs.Checks.{or-else, first-append, first-two, fine-rest, fine-append}
-use Rattle.foreign.specs.Fine.{ScriptFine, arena-fine, place-fine, fine-room, fine-flow-bound}
-use Rattle.bucket.specs.Model.{Key}
+use Rattle.model.specs.declared.Run.{Run}
+use Rattle.laws.specs.Checks.{or-else, first-append, first-two, fine-rest, fine-append, arena-fine}
+use Rattle.foreign.specs.declared.Scope.{Scope}
+use Rattle.foreign.specs.Model.{scopeOf, settingOf}
+use Rattle.foreign.specs.Fine.{ScriptFine, place-fine, fine-room, scope-flow-bound, scope-none}
+use Rattle.bucket.specs.Model.{KeyFits}
 use Rattle.bucket.specs.Laws.{RunBound}
 
 -- 1, 2 and 3 of a call by key
@@ -65,19 +69,36 @@ bucket-fine h t g registry script place held binding e =
     record { script-ok = key-fine h t g registry script place held (a .0); bound = leb-false _ _ (fine-rest _ _ (a .1) .0) }
 
 -- a call that has made no step is run-bound, and its key may be tried
-pub start-run-bound : (h : Head) (words bytes script place : ℕ) → ScriptFine h words bytes script place → RunBound (script / 3) 0 (starting h place)
-start-run-bound h words bytes script place f =
-    record { flow-bound = fine-flow-bound h words bytes script place f; few-attempts = omega arith; few-boundaries = omega arith; few-yields = omega arith }
+pub start-run-bound : (s : Scope) (h : Head) (words bytes script place : ℕ) → s ≡ scopeOf h script → ScriptFine h words bytes script place
+    → RunBound (s .steps) 0 (starting h place)
+start-run-bound s h words bytes script place e f =
+    record { flow-bound = scope-flow-bound s h words bytes script place 0 e f; few-attempts = omega arith; few-boundaries = omega arith; few-yields = omega arith }
 
-pub fine-key : (h : Head) (words bytes registry script place binding n : ℕ) → ScriptFine h words bytes script place → binding < registry → n ≤ 64
-    → Key h (cellsOf h) words bytes n (script / 3) script registry binding
-fine-key h words bytes registry script place binding n f b m =
-    record {
+pub fine-key : (s : Scope) (h : Head) (words bytes registry script place binding n : ℕ) → s ≡ scopeOf h script
+    → ScriptFine h words bytes script place → binding < registry → n ≤ 64 → KeyFits s words bytes n script registry binding
+fine-key s h words bytes registry script place binding n e f b m =
+    rw e
+    (record {
       room = fine-room h words bytes script place n f m;
       fit = record { bytes-fit = omega (arith, f .bytes-are); few-headers = f .shape .few-headers; few-buckets = f .shape .few-buckets };
       cells-are = refl;
       bound = b;
-    }
+    })
+
+-- what a call that has taken nothing gives its steps is what document 01 gives them
+module _ (s : Scope) (h : Head) (script held : List ℕ) (taken : List (List ℕ)) (registry : List ℕ) (binding bucket : ℕ) (r : Run) (t g : List ℕ) (e : s ≡ scopeOf h (length script)) where
+  pub once-given : (k : Found) → k ≡ findOf (s .headers) (s .buckets) g (getD registry binding 0 ∷ []) 0 bucket
+      → attemptAt k (settingOf s script held taken 0) r t g .seen ≡ attemptOf (given h script (leasesOf held)) (h .buckets) registry binding bucket r t g .seen
+  unfolding attemptOf findOf
+  once-given k f =
+      rw (f, scope-none s h script held taken e)
+      (ap (λ (x : Scope). attemptAt (findOf (x .headers) (x .buckets) g registry binding bucket) (given h script (leasesOf held)) r t g .seen) e)
+
+  pub retry-given : (left i : ℕ)
+      → retryOf left i (settingOf s script held taken 0) (s .buckets) registry binding bucket r t g .seen ≡ retryOf left i (given h script (leasesOf held)) (h .buckets) registry binding bucket r t g .seen
+  retry-given left i =
+      rw (scope-none s h script held taken e)
+      (ap (λ (x : Scope). retryOf left i (given h script (leasesOf held)) (x .buckets) registry binding bucket r t g .seen) e)
 
 -- the steps of the two calls, once their checks are fine
 unfoldable pub onceByKeyOf : Head → List ℕ → List ℕ → List ℕ → List ℕ → ℕ → List ℕ → ℕ → ℕ → Played × (List ℕ × List ℕ)

@@ -1,13 +1,13 @@
 -- Laws of attempts by key: one turn of the retry loop, and what a run's counts keep.
 use Prim.Native.Nat.{ℕ, suc, _+_, _*_, _-_, _/_, _%_, _≤_, _<_}
-use mathlib.Core.Path.{_≡_, refl, _∙_}
-use mathlib.Core.List.{List}
+use mathlib.Core.Path.{_≡_, refl, sym, _∙_}
+use mathlib.Core.List.{List, [], _∷_}
 use mathlib.Core.Bool.{Bool, true, false}
 use native.Mathlib.Omega.{arith}
 use native.Mathlib.Nat.{mul-le-mul}
 use lib.Dec.{eqb}
-use lib.ListN.{length}
-use Rattle.model.specs.Choice.{if_then_else_}
+use lib.ListN.{getD, length}
+use Rattle.choice.specs.Choice.{if_then_else_}
 use Rattle.model.specs.Log.{Made}
 use Rattle.model.specs.Arena.{waitersAt}
 use Rattle.model.specs.Foreign.{Setting, setting, stepsIn, boundaryOf}
@@ -22,10 +22,13 @@ use Rattle.model.specs.declared.Run.{Run}
 use Rattle.model.specs.declared.Take.{Take}
 use Rattle.model.specs.declared.Take.the-variants as taking
 use Rattle.model.specs.declared.Tried.{Tried}
-use Rattle.laws.specs.Pick.{if-both, seen-if}
+use Rattle.laws.specs.Keys.{find-inside}
+use Rattle.choice.specs.Pick.{if-both}
+use Rattle.laws.specs.Seen.{seen-if}
+use Rattle.foreign.specs.declared.Scope.{Scope}
 use Rattle.foreign.specs.Laws.{FlowBound, boundary-flow-bound}
 use Rattle.bucket.specs.Bounds.{callMost}
-use Rattle.bucket.specs.Model.{againOf}
+use Rattle.bucket.specs.Model.{Lands, againOf}
 use Rattle.lock.specs.Model.{boundariesFor, quietLockOf}
 use Rattle.lock.specs.Laws.{LockedBound, lock-locked-bound}
 
@@ -79,10 +82,9 @@ module _ (e : Setting) where
 
 -- as a caller has it: steps, and a promise
 module _ (headers cells steps : ℕ) (script : List ℕ) (ps : List Lease) (n : steps ≡ length script / 3) where
-  pub attempt-goes : (o : Tried × (List ℕ × List ℕ)) (buckets : ℕ) (registry : List ℕ) (binding bucket most : ℕ) (r : Run) (t g : List ℕ)
-      → o ≡ attemptOf (setting headers cells script ps) buckets registry binding bucket r t g .seen → RunBound steps most r → RunBound steps (most + 3) (o .0 .run)
-  attempt-goes o buckets registry binding bucket most r t g q b =
-      rw (q, n) (attempt-run-bound (setting headers cells script ps) buckets registry binding bucket most r t g (rw (← n) b))
+  pub attempt-goes : (o : Tried × (List ℕ × List ℕ)) (k : Found) (most : ℕ) (r : Run) (t g : List ℕ)
+      → o ≡ attemptAt k (setting headers cells script ps) r t g .seen → RunBound steps most r → RunBound steps (most + 3) (o .0 .run)
+  attempt-goes o k most r t g q b = rw (q, n) (attempt-at (setting headers cells script ps) k most r t g (rw (← n) b))
 
   pub pause-goes : (o : Run × (List ℕ × List ℕ)) (i most : ℕ) (r : Run) (t g : List ℕ)
       → o ≡ pauseOf (setting headers cells script ps) i r t g .seen → RunBound steps most r → RunBound steps (most + 2) (o .0)
@@ -164,3 +166,14 @@ pub record Retrying (e : Setting) (steps buckets : ℕ) (registry : List ℕ) (b
 
 pub small-product : (a m b : ℕ) → a < m → m ≤ 64 → b ≤ 1024 → a * b ≤ 65536
 small-product a m b l h k = let s : a ≤ 64 = omega arith in omega (arith, mul-le-mul s k)
+
+-- the header that a registry has for a binding may stand in a registry of its own
+pub again-header : (i : ℕ) (e : Setting) (buckets : ℕ) (registry : List ℕ) (binding bucket : ℕ) (r : Run) (t g : List ℕ)
+    → againOf i e buckets (getD registry binding 0 ∷ []) 0 bucket r t g ≡ againOf i e buckets registry binding bucket r t g
+unfolding againOf attemptOf findOf
+again-header i e buckets registry binding bucket r t g = refl
+
+-- the cell that is found of a key that fits is in range
+pub lands : (s : Scope) (k : Found) (g registry : List ℕ) (binding bucket : ℕ) → s .cells ≡ s .headers * s .buckets
+    → k ≡ findOf (s .headers) (s .buckets) g registry binding bucket → Lands (s .cells) k
+lands s k g registry binding bucket n e c q = rw n (find-inside _ _ _ _ _ _ c (sym e ∙ q))

@@ -1,32 +1,42 @@
 -- What the steps by key are given: an arena whose cells can be numbered, and a binding inside the registry.
-use Prim.Native.Nat.{ℕ, _≤_, _<_}
+use Prim.Native.Nat.{ℕ, _*_, _≤_, _<_}
 use mathlib.Core.Path.{_≡_}
-use Rattle.model.specs.Arena.{cellsOf}
 use mathlib.Core.List.{List}
-use Rattle.model.specs.Choice.{if_then_else_}
+use native.Mathlib.Omega.{arith}
+use Rattle.choice.specs.Choice.{if_then_else_}
 use Rattle.model.specs.Foreign.{Setting}
 use Rattle.model.specs.Lock.{triedOf, attemptOf, pauseOf, isBusy}
-use Rattle.model.specs.declared.Head.{Head}
+use Rattle.model.specs.declared.Found.{Found}
+use Rattle.model.specs.declared.Found.the-variants as found
 use Rattle.model.specs.declared.Outcome.the-variants as outcome
 use Rattle.model.specs.declared.Run.{Run}
 use Rattle.model.specs.declared.Tried.{Tried}
-use Rattle.foreign.specs.Model.{Room}
+use Rattle.foreign.specs.declared.Scope.{Scope}
+use Rattle.foreign.specs.Model.{RoomIn}
 
 pub record Fit (headers buckets bytes : ℕ) : Type 0 where
   pub bytes-fit : headers ≤ bytes
   pub few-headers : headers ≤ 64
   pub few-buckets : buckets ≤ 1024
 
-pub record Key (h : Head) (cells words bytes n steps script registry binding : ℕ) : Type 0 where
-  pub room : Room (h .headers) cells words bytes n steps script
-  pub fit : Fit (h .headers) (h .buckets) bytes
-  pub cells-are : cells ≡ cellsOf h
+pub record KeyFits (s : Scope) (words bytes n script registry binding : ℕ) : Type 0 where
+  pub room : RoomIn s words bytes n script
+  pub fit : Fit (s .headers) (s .buckets) bytes
+  pub cells-are : s .cells ≡ s .headers * s .buckets
   pub bound : binding < registry
 
 -- lengths do not change
-pub key-for : {h : Head} {cells words words₀ bytes bytes₀ n steps script registry binding : ℕ} → words ≡ words₀ → bytes ≡ bytes₀
-    → Key h cells words₀ bytes₀ n steps script registry binding → Key h cells words bytes n steps script registry binding
+pub key-for : {s : Scope} {words words₀ bytes bytes₀ n script registry binding : ℕ} → words ≡ words₀ → bytes ≡ bytes₀
+    → KeyFits s words₀ bytes₀ n script registry binding → KeyFits s words bytes n script registry binding
 key-for p q k = rw (p, q) k
+
+-- where a key fits, so does one of a registry of its own
+pub key-alone : {s : Scope} {words bytes n script registry binding : ℕ} → KeyFits s words bytes n script registry binding → KeyFits s words bytes n script 1 0
+key-alone k = record { room = k .room; fit = k .fit; cells-are = k .cells-are; bound = omega arith }
+
+-- the cell that a key was found to name is in range
+abbrev pub Lands : ℕ → Found → Type 0
+Lands cells k = (c : ℕ) → k ≡ found.At c → c < cells
 
 -- attempt number i and, if it was Busy, the pause after it
 unfoldable pub againOf : ℕ → Setting → ℕ → List ℕ → ℕ → ℕ → Run → List ℕ → List ℕ → Tried × (List ℕ × List ℕ)

@@ -1,5 +1,8 @@
 // Bucket resolution, one attempt by key, and the retry of 4,096 attempts.
 // Functions with a `requires` are steps: calls have tested the shape, and a step tests nothing twice.
+// Steps are no calls of document 01, public ones neither: only the layers here call them (tests/layers.sh), and each
+// caller proves their `requires`.
+use foreign::Scope;
 use model::Check;
 use model::Flow;
 use model::Found;
@@ -16,49 +19,57 @@ ghost use mathlib.Core.List.{[], _∷_};
 ghost use Prim.Native.Nat.{_+_, _*_, _<_, _≤_};
 ghost use lib.ListN.{length};
 ghost use Rattle.model.specs.Arena.{shapeFits};
-ghost use Rattle.model.specs.Foreign.{setting};
-ghost use Rattle.model.specs.Lock.{outcomeOf, runOf, triedOf, findOf, attemptOf, spinOf, pauseOf, isBusy, retryOf, settled};
+ghost use Rattle.model.specs.Lock.{outcomeOf, runOf, triedOf, findOf, attemptAt, spinOf, pauseOf, isBusy, retryOf};
+ghost use Rattle.model.specs.Lock.{settled};
 ghost use Rattle.model.specs.Refusals.{first};
 ghost use Rattle.model.specs.Checks.{badRegistry, badBinding, bucketRules};
 ghost use Rattle.model.specs.Calls.{starting, transactionalOf, acquireBucketOf};
 ghost use Rattle.bucket.specs.Fine.{keyRules, listRules, BucketFine, onceByKeyOf, retryByKeyOf};
 ghost use Rattle.model.specs.declared.Outcome.the-variants as outcome;
-ghost use Rattle.foreign.specs.Model.{guardsOf, Room};
+ghost use Rattle.foreign.specs.Model.{settingOf, RoomIn};
 ghost use Rattle.bucket.specs.Bounds.{callMost, tryMost};
 ghost use Rattle.bucket.specs.Laws.{RunBound};
-ghost use Rattle.bucket.specs.Model.{Fit, Key, againOf};
+ghost use Rattle.bucket.specs.Model.{Fit, KeyFits, Lands, againOf};
+
+// A key as a caller names it: a binding, which is a place in the registry, and a bucket.
+struct Key {
+    binding: u32,
+    bucket: u32,
+}
+
+// What a key stands for, as long as the registry is lent: the header that it has there, and the bucket.
+struct Target {
+    header: u32,
+    bucket: u32,
+}
 
 // ---- one attempt
 
-// A key's cell: header from the registry, then health, then bucket.
-fn find(
-    headers: u32,
-    buckets: u32,
-    health: &[u8],
-    registry: &[u32],
-    binding: u32,
-    bucket: u32,
-) -> Found
-    requires { ⌜ Fit headers buckets (length (now health)) × (binding < length (now registry)) ⌝ }
-    ensures { λ r. ⌜ r ≡ findOf headers buckets (now (health .entry)) (now (registry .entry)) binding bucket ⌝ }
+// A key's cell: its header is looked at, then the header's health, then the bucket.
+// The definition reads the header from a registry: here it is the only one there.
+fn find(scope: Scope, health: &[u8], target: Target) -> Found
+    requires { ⌜ Fit (scope .headers) (scope .buckets) (length (now health)) ⌝ }
+    ensures { λ r. ⌜ r
+        ≡ findOf (scope .headers) (scope .buckets) (now (health .entry)) (target .header ∷ []) 0 (target .bucket) ⌝ }
 {
-    let header = registry[binding as usize];
-    if headers <= header {
+    let header = target.header;
+    if scope.headers <= header {
         return Found::Fault(Refusal::BadHeader(header));
     }
     if health[header as usize] != 0 {
         return Found::Fault(Refusal::Poisoned(header));
     }
-    if buckets <= bucket {
-        return Found::Fault(Refusal::InvalidBucket(bucket));
+    if scope.buckets <= target.bucket {
+        return Found::Fault(Refusal::InvalidBucket(target.bucket));
     }
-    Found::At(header * buckets + bucket)
+    Found::At(header * scope.buckets + target.bucket)
 }
 
 // The run after an attempt that found no cell, and after one that tried it.
 fn missed(run: Run, refusal: Refusal) -> Tried
     requires { ⌜ run .attempts ≤ tryMost ⌝ }
-    ensures { λ r. ⌜ r ≡ triedOf (runOf (run .flow) (run .attempts + 1) (run .boundaries) (run .yields)) (outcome.Refused refusal) ⌝ }
+    ensures { λ r. ⌜ r
+        ≡ triedOf (runOf (run .flow) (run .attempts + 1) (run .boundaries) (run .yields)) (outcome.Refused refusal) ⌝ }
 {
     let flow = run.flow;
     Tried {
@@ -74,7 +85,9 @@ fn missed(run: Run, refusal: Refusal) -> Tried
 
 fn counted(run: Run, locked: Locked, cell: u32) -> Tried
     requires { ⌜ (run .attempts ≤ tryMost) × ((run .boundaries ≤ tryMost) × (locked .boundaries ≤ 3)) ⌝ }
-    ensures { λ r. ⌜ r ≡ triedOf (runOf (locked .flow) (run .attempts + 1) (run .boundaries + locked .boundaries) (run .yields)) (outcomeOf cell (locked .answer)) ⌝ }
+    ensures { λ r. ⌜ r
+        ≡ triedOf (runOf (locked .flow) (run .attempts + 1) (run .boundaries + locked .boundaries) (run .yields))
+        (outcomeOf cell (locked .answer)) ⌝ }
 {
     let flow = locked.flow;
     let answer = locked.answer;
@@ -90,103 +103,64 @@ fn counted(run: Run, locked: Locked, cell: u32) -> Tried
     }
 }
 
-// One attempt of a call that makes no other.
+// One attempt of a call that makes no other, at what its key was found to name.
 fn attempt_once(
-    head: Head,
-    cells: u32,
+    scope: Scope,
     run: Run,
     table: &mut [u32],
     health: &mut [u8],
     script: &[u32],
-    steps: usize,
     held: &[u32],
     taken: &[[u32; 2]; 64],
     n: usize,
-    registry: &[u32],
-    binding: u32,
-    bucket: u32,
+    found: Found,
 ) -> Tried
-    requires { ⌜ Key head cells (length (now table)) (length (now health)) n steps (length (now script)) (length (now registry)) binding × RunBound steps tryMost run ⌝ }
-    ensures { λ r. ⌜ (r, (now (table .exit), now (health .exit))) ≡ attemptOf (setting (head .headers) cells (now (script .entry)) (guardsOf (now (held .entry)) (now (taken .entry)) n)) (head .buckets) (now (registry .entry)) binding bucket run (now (table .entry)) (now (health .entry)) .seen ⌝ }
+    requires { ⌜ RoomIn scope (length (now table)) (length (now health)) n (length (now script))
+        × (RunBound (scope .steps) tryMost run × Lands (scope .cells) found) ⌝ }
+    ensures { λ r. ⌜ (r, (now (table .exit), now (health .exit)))
+        ≡ attemptAt found (settingOf scope (now (script .entry)) (now (held .entry)) (now (taken .entry)) n)
+        run (now (table .entry)) (now (health .entry)) .seen ⌝ }
 {
-    let found = find(
-        head.headers,
-        head.buckets,
-        health,
-        registry,
-        binding,
-        bucket,
-    );
     match found {
         Found::Fault(refusal) => missed(run, refusal),
         Found::At(cell) => {
             let flow = run.flow;
-            let locked = lock::lock(
-                head,
-                cells,
-                flow,
-                table,
-                health,
-                script,
-                steps,
-                held,
-                taken,
-                n,
-                cell,
-            );
+            let locked = lock::lock(scope, flow, table, health, script, held, taken, n, cell);
             counted(run, locked, cell)
         }
     }
 }
 
 // The same for the retry loop, which it is private to: past the script's end an attempt is a quiet one.
+// What a call of `lock` is given is copied where the call is made: a quiet attempt then stores no copy.
 fn attempt(
-    head: Head,
-    cells: u32,
+    scope: Scope,
     run: Run,
     table: &mut [u32],
     health: &mut [u8],
     script: &[u32],
-    steps: usize,
     held: &[u32],
     taken: &[[u32; 2]; 64],
     n: usize,
-    registry: &[u32],
-    binding: u32,
-    bucket: u32,
+    found: Found,
 ) -> Tried
-    requires { ⌜ Key head cells (length (now table)) (length (now health)) n steps (length (now script)) (length (now registry)) binding × RunBound steps tryMost run ⌝ }
-    ensures { λ r. ⌜ (r, (now (table .exit), now (health .exit))) ≡ attemptOf (setting (head .headers) cells (now (script .entry)) (guardsOf (now (held .entry)) (now (taken .entry)) n)) (head .buckets) (now (registry .entry)) binding bucket run (now (table .entry)) (now (health .entry)) .seen ⌝ }
+    requires { ⌜ RoomIn scope (length (now table)) (length (now health)) n (length (now script))
+        × (RunBound (scope .steps) tryMost run × Lands (scope .cells) found) ⌝ }
+    ensures { λ r. ⌜ (r, (now (table .exit), now (health .exit)))
+        ≡ attemptAt found (settingOf scope (now (script .entry)) (now (held .entry)) (now (taken .entry)) n)
+        run (now (table .entry)) (now (health .entry)) .seen ⌝ }
 {
-    let found = find(
-        head.headers,
-        head.buckets,
-        health,
-        registry,
-        binding,
-        bucket,
-    );
     match found {
         Found::Fault(refusal) => missed(run, refusal),
         Found::At(cell) => {
             let flow = run.flow;
-            if flow.place < steps {
-                let locked = lock::lock(
-                    head,
-                    cells,
-                    flow,
-                    table,
-                    health,
-                    script,
-                    steps,
-                    held,
-                    taken,
-                    n,
-                    cell,
-                );
+            if flow.place < scope.steps {
+                let here = scope;
+                let from = run.flow;
+                let locked = lock::lock(here, from, table, health, script, held, taken, n, cell);
                 return counted(run, locked, cell);
             }
-            let locked = lock::quiet_lock(head, flow, table, cell);
+            let locked = lock::quiet_lock(scope.head(flow.next), flow, table, cell);
             counted(run, locked, cell)
         }
     }
@@ -196,33 +170,23 @@ fn attempt(
 
 // After each Busy attempt: a boundary and a spin.
 fn spin(
-    headers: u32,
-    cells: u32,
+    scope: Scope,
     run: Run,
     table: &mut [u32],
     health: &mut [u8],
     script: &[u32],
-    steps: usize,
     held: &[u32],
     taken: &[[u32; 2]; 64],
     n: usize,
 ) -> Run
-    requires { ⌜ Room headers cells (length (now table)) (length (now health)) n steps (length (now script)) × RunBound steps (tryMost + 4) run ⌝ }
-    ensures { λ r. ⌜ (r, (now (table .exit), now (health .exit))) ≡ spinOf (setting headers cells (now (script .entry)) (guardsOf (now (held .entry)) (now (taken .entry)) n)) run (now (table .entry)) (now (health .entry)) .seen ⌝ }
+    requires { ⌜ RoomIn scope (length (now table)) (length (now health)) n (length (now script))
+        × RunBound (scope .steps) (tryMost + 4) run ⌝ }
+    ensures { λ r. ⌜ (r, (now (table .exit), now (health .exit)))
+        ≡ spinOf (settingOf scope (now (script .entry)) (now (held .entry)) (now (taken .entry)) n)
+        run (now (table .entry)) (now (health .entry)) .seen ⌝ }
 {
     let flow = run.flow;
-    let after = foreign::boundary(
-        headers,
-        cells,
-        flow,
-        table,
-        health,
-        script,
-        steps,
-        held,
-        taken,
-        n,
-    );
+    let after = foreign::boundary(scope, flow, table, health, script, held, taken, n);
     Run {
         flow: after,
         attempts: run.attempts,
@@ -234,65 +198,33 @@ fn spin(
 // After a Busy attempt whose number has remainder 63 by 64, a boundary and a yield come before that.
 fn pause(
     i: usize,
-    headers: u32,
-    cells: u32,
+    scope: Scope,
     run: Run,
     table: &mut [u32],
     health: &mut [u8],
     script: &[u32],
-    steps: usize,
     held: &[u32],
     taken: &[[u32; 2]; 64],
     n: usize,
 ) -> Run
-    requires { ⌜ Room headers cells (length (now table)) (length (now health)) n steps (length (now script)) × RunBound steps (tryMost + 3) run ⌝ }
-    ensures { λ r. ⌜ (r, (now (table .exit), now (health .exit))) ≡ pauseOf (setting headers cells (now (script .entry)) (guardsOf (now (held .entry)) (now (taken .entry)) n)) i run (now (table .entry)) (now (health .entry)) .seen ⌝ }
+    requires { ⌜ RoomIn scope (length (now table)) (length (now health)) n (length (now script))
+        × RunBound (scope .steps) (tryMost + 3) run ⌝ }
+    ensures { λ r. ⌜ (r, (now (table .exit), now (health .exit)))
+        ≡ pauseOf (settingOf scope (now (script .entry)) (now (held .entry)) (now (taken .entry)) n) i
+        run (now (table .entry)) (now (health .entry)) .seen ⌝ }
 {
     if i % 64 == 63 {
         let flow = run.flow;
-        let after = foreign::boundary(
-            headers,
-            cells,
-            flow,
-            table,
-            health,
-            script,
-            steps,
-            held,
-            taken,
-            n,
-        );
+        let after = foreign::boundary(scope, flow, table, health, script, held, taken, n);
         let yielded = Run {
             flow: after,
             attempts: run.attempts,
             boundaries: run.boundaries + 1,
             yields: run.yields + 1,
         };
-        return spin(
-            headers,
-            cells,
-            yielded,
-            table,
-            health,
-            script,
-            steps,
-            held,
-            taken,
-            n,
-        );
+        return spin(scope, yielded, table, health, script, held, taken, n);
     }
-    spin(
-        headers,
-        cells,
-        run,
-        table,
-        health,
-        script,
-        steps,
-        held,
-        taken,
-        n,
-    )
+    spin(scope, run, table, health, script, held, taken, n)
 }
 
 fn is_busy(outcome: Outcome) -> bool
@@ -308,54 +240,29 @@ fn is_busy(outcome: Outcome) -> bool
 // Attempt number i, and, if it was Busy, the pause after it.
 fn again(
     i: usize,
-    head: Head,
-    cells: u32,
+    scope: Scope,
     run: Run,
     table: &mut [u32],
     health: &mut [u8],
     script: &[u32],
-    steps: usize,
     held: &[u32],
     taken: &[[u32; 2]; 64],
     n: usize,
-    registry: &[u32],
-    binding: u32,
-    bucket: u32,
+    target: Target,
 ) -> Tried
-    requires { ⌜ Key head cells (length (now table)) (length (now health)) n steps (length (now script)) (length (now registry)) binding × RunBound steps tryMost run ⌝ }
-    ensures { λ r. ⌜ (r, (now (table .exit), now (health .exit))) ≡ againOf i (setting (head .headers) cells (now (script .entry)) (guardsOf (now (held .entry)) (now (taken .entry)) n)) (head .buckets) (now (registry .entry)) binding bucket run (now (table .entry)) (now (health .entry)) ⌝ }
+    requires { ⌜ KeyFits scope (length (now table)) (length (now health)) n (length (now script)) 1 0
+        × RunBound (scope .steps) tryMost run ⌝ }
+    ensures { λ r. ⌜ (r, (now (table .exit), now (health .exit)))
+        ≡ againOf i (settingOf scope (now (script .entry)) (now (held .entry)) (now (taken .entry)) n)
+        (scope .buckets) (target .header ∷ []) 0 (target .bucket)
+        run (now (table .entry)) (now (health .entry)) ⌝ }
 {
-    let tried = attempt(
-        head,
-        cells,
-        run,
-        table,
-        health,
-        script,
-        steps,
-        held,
-        taken,
-        n,
-        registry,
-        binding,
-        bucket,
-    );
+    let found = find(scope, health, target);
+    let tried = attempt(scope, run, table, health, script, held, taken, n, found);
     let after = tried.run;
     let outcome = tried.outcome;
     if is_busy(outcome) {
-        let paused = pause(
-            i,
-            head.headers,
-            cells,
-            after,
-            table,
-            health,
-            script,
-            steps,
-            held,
-            taken,
-            n,
-        );
+        let paused = pause(i, scope, after, table, health, script, held, taken, n);
         return Tried {
             run: paused,
             outcome: Outcome::Busy,
@@ -364,16 +271,14 @@ fn again(
     tried
 }
 
-// Attempts 0 to 4,095; a grant or a refusal ends it at once.
-// A step, no call of document 01: only the layers here call it, and each proves its `requires`.
+// Attempts 0 to 4,095; a grant or a refusal ends it at once. The key comes as two numbers: a call that stays a call
+// would store it as a struct first.
 pub fn retry(
-    head: Head,
-    cells: u32,
+    scope: Scope,
     start: Run,
     table: &mut [u32],
     health: &mut [u8],
     script: &[u32],
-    steps: usize,
     held: &[u32],
     taken: &[[u32; 2]; 64],
     n: usize,
@@ -381,28 +286,19 @@ pub fn retry(
     binding: u32,
     bucket: u32,
 ) -> Tried
-    requires { ⌜ Key head cells (length (now table)) (length (now health)) n steps (length (now script)) (length (now registry)) binding × RunBound steps callMost start ⌝ }
-    ensures { λ r. ⌜ (r, (now (table .exit), now (health .exit))) ≡ retryOf 4096 0 (setting (head .headers) cells (now (script .entry)) (guardsOf (now (held .entry)) (now (taken .entry)) n)) (head .buckets) (now (registry .entry)) binding bucket start (now (table .entry)) (now (health .entry)) .seen ⌝ }
+    requires { ⌜ KeyFits scope (length (now table)) (length (now health)) n (length (now script))
+        (length (now registry)) binding × RunBound (scope .steps) callMost start ⌝ }
+    ensures { λ r. ⌜ (r, (now (table .exit), now (health .exit)))
+        ≡ retryOf 4096 0 (settingOf scope (now (script .entry)) (now (held .entry)) (now (taken .entry)) n)
+        (scope .buckets) (now (registry .entry)) binding bucket
+        start (now (table .entry)) (now (health .entry)) .seen ⌝ }
 {
+    let header = registry[binding as usize];
+    let target = Target { header, bucket };
     let mut run = start;
     let mut i = 0;
     while i < 4096 {
-        let tried = again(
-            i,
-            head,
-            cells,
-            run,
-            table,
-            health,
-            script,
-            steps,
-            held,
-            taken,
-            n,
-            registry,
-            binding,
-            bucket,
-        );
+        let tried = again(i, scope, run, table, health, script, held, taken, n, target);
         let outcome = tried.outcome;
         if is_busy(outcome) {
             run = tried.run;
@@ -464,7 +360,9 @@ fn lists_fault(
     held: &[u32],
 ) -> Check
     requires { ⌜ shapeFits head (length (now table)) ≡ true ⌝ }
-    ensures { λ r. ⌜ r ≡ first (listRules head (now (table .entry)) (now (registry .entry)) (now (script .entry)) place (now (held .entry))) ⌝ }
+    ensures { λ r. ⌜ r
+        ≡ first (listRules head (now (table .entry))
+        (now (registry .entry)) (now (script .entry)) place (now (held .entry))) ⌝ }
 {
     let names = registry_fault(registry);
     match names {
@@ -483,9 +381,11 @@ pub fn key_fault(
     place: usize,
     held: &[u32],
 ) -> Check
-    ensures { λ r. ⌜ r ≡ first (keyRules head (now (table .entry)) (now (health .entry)) (now (registry .entry)) (now (script .entry)) place (now (held .entry))) ⌝ }
+    ensures { λ r. ⌜ r
+        ≡ first (keyRules head (now (table .entry)) (now (health .entry))
+        (now (registry .entry)) (now (script .entry)) place (now (held .entry))) ⌝ }
 {
-    let shape = foreign::arena_fault(head, table, health);
+    let shape = arena::arena_fault(head, table, health);
     match shape {
         Check::Fault(refusal) => Check::Fault(refusal),
         Check::Fine => lists_fault(head, table, registry, script, place, held),
@@ -512,7 +412,9 @@ fn bucket_check(
     held: &[u32],
     binding: u32,
 ) -> Check
-    ensures { λ r. ⌜ r ≡ first (bucketRules head (now (table .entry)) (now (health .entry)) (now (registry .entry)) (now (script .entry)) place (now (held .entry)) binding) ⌝ }
+    ensures { λ r. ⌜ r
+        ≡ first (bucketRules head (now (table .entry)) (now (health .entry))
+        (now (registry .entry)) (now (script .entry)) place (now (held .entry)) binding) ⌝ }
 {
     let key = key_fault(head, table, health, registry, script, place, held);
     match key {
@@ -530,31 +432,22 @@ fn once_by_key(
     script: &[u32],
     place: usize,
     held: &[u32],
-    binding: u32,
-    bucket: u32,
+    key: Key,
 ) -> Played
-    requires { ⌜ BucketFine head (length (now table)) (length (now health)) (length (now registry)) (length (now script)) place binding ⌝ }
-    ensures { λ r. ⌜ (r, (now (table .exit), now (health .exit))) ≡ onceByKeyOf head (now (table .entry)) (now (health .entry)) (now (registry .entry)) (now (script .entry)) place (now (held .entry)) binding bucket ⌝ }
+    requires { ⌜ BucketFine head (length (now table)) (length (now health)) (length (now registry))
+        (length (now script)) place (key .binding) ⌝ }
+    ensures { λ r. ⌜ (r, (now (table .exit), now (health .exit)))
+        ≡ onceByKeyOf head (now (table .entry)) (now (health .entry))
+        (now (registry .entry)) (now (script .entry)) place (now (held .entry)) (key .binding) (key .bucket) ⌝ }
 {
     let taken = [[0; 2]; 64];
-    let cells = head.headers * head.buckets;
-    let steps = script.len() / 3;
+    let scope = foreign::scope_of(head, script);
     let start = starting(head, place);
-    let tried = attempt_once(
-        head,
-        cells,
-        start,
-        table,
-        health,
-        script,
-        steps,
-        held,
-        &taken,
-        0,
-        registry,
-        binding,
-        bucket,
-    );
+    let header = registry[key.binding as usize];
+    let bucket = key.bucket;
+    let target = Target { header, bucket };
+    let found = find(scope, health, target);
+    let tried = attempt_once(scope, start, table, health, script, held, &taken, 0, found);
     let run = tried.run;
     let outcome = tried.outcome;
     foreign::play(head, run, lease::answer_of(outcome))
@@ -569,30 +462,29 @@ fn retry_by_key(
     script: &[u32],
     place: usize,
     held: &[u32],
-    binding: u32,
-    bucket: u32,
+    key: Key,
 ) -> Played
-    requires { ⌜ BucketFine head (length (now table)) (length (now health)) (length (now registry)) (length (now script)) place binding ⌝ }
-    ensures { λ r. ⌜ (r, (now (table .exit), now (health .exit))) ≡ retryByKeyOf head (now (table .entry)) (now (health .entry)) (now (registry .entry)) (now (script .entry)) place (now (held .entry)) binding bucket ⌝ }
+    requires { ⌜ BucketFine head (length (now table)) (length (now health)) (length (now registry))
+        (length (now script)) place (key .binding) ⌝ }
+    ensures { λ r. ⌜ (r, (now (table .exit), now (health .exit)))
+        ≡ retryByKeyOf head (now (table .entry)) (now (health .entry))
+        (now (registry .entry)) (now (script .entry)) place (now (held .entry)) (key .binding) (key .bucket) ⌝ }
 {
     let taken = [[0; 2]; 64];
-    let cells = head.headers * head.buckets;
-    let steps = script.len() / 3;
+    let scope = foreign::scope_of(head, script);
     let start = starting(head, place);
     let tried = retry(
-        head,
-        cells,
+        scope,
         start,
         table,
         health,
         script,
-        steps,
         held,
         &taken,
         0,
         registry,
-        binding,
-        bucket,
+        key.binding,
+        key.bucket,
     );
     let run = tried.run;
     let outcome = tried.outcome;
@@ -600,6 +492,8 @@ fn retry_by_key(
     foreign::play(head, run, lease::answer_of(last))
 }
 
+// One attempt by key: the header from the registry (6 if there is none), its health (7 if poisoned), the bucket (8 if
+// there is none), then `try_lock`. These three count the attempt and change nothing.
 pub fn transactional_try_lock_bucket(
     head: Head,
     table: &mut [u32],
@@ -611,25 +505,22 @@ pub fn transactional_try_lock_bucket(
     binding: u32,
     bucket: u32,
 ) -> Played
-    ensures { λ r. ⌜ (r, (now (table .exit), now (health .exit))) ≡ transactionalOf head (now (table .entry)) (now (health .entry)) (now (registry .entry)) (now (script .entry)) place (now (held .entry)) binding bucket .seen ⌝ }
+    ensures { λ r. ⌜ (r, (now (table .exit), now (health .exit)))
+        ≡ transactionalOf head (now (table .entry)) (now (health .entry))
+        (now (registry .entry)) (now (script .entry)) place (now (held .entry)) binding bucket .seen ⌝ }
 {
     let check = bucket_check(head, table, health, registry, script, place, held, binding);
     match check {
         Check::Fault(refusal) => foreign::unplay(head, place, refusal),
-        Check::Fine => once_by_key(
-            head,
-            table,
-            health,
-            registry,
-            script,
-            place,
-            held,
-            binding,
-            bucket,
-        ),
+        Check::Fine => {
+            let key = Key { binding, bucket };
+            once_by_key(head, table, health, registry, script, place, held, key)
+        }
     }
 }
 
+// Attempts 0 to 4,095 by key, with a boundary after each Busy one and a yield after every 64th. A grant or a refusal
+// ends it at once; 4,096 Busy attempts are refused with 11, and nothing is held.
 pub fn acquire_index_bucket(
     head: Head,
     table: &mut [u32],
@@ -641,21 +532,16 @@ pub fn acquire_index_bucket(
     binding: u32,
     bucket: u32,
 ) -> Played
-    ensures { λ r. ⌜ (r, (now (table .exit), now (health .exit))) ≡ acquireBucketOf head (now (table .entry)) (now (health .entry)) (now (registry .entry)) (now (script .entry)) place (now (held .entry)) binding bucket .seen ⌝ }
+    ensures { λ r. ⌜ (r, (now (table .exit), now (health .exit)))
+        ≡ acquireBucketOf head (now (table .entry)) (now (health .entry))
+        (now (registry .entry)) (now (script .entry)) place (now (held .entry)) binding bucket .seen ⌝ }
 {
     let check = bucket_check(head, table, health, registry, script, place, held, binding);
     match check {
         Check::Fault(refusal) => foreign::unplay(head, place, refusal),
-        Check::Fine => retry_by_key(
-            head,
-            table,
-            health,
-            registry,
-            script,
-            place,
-            held,
-            binding,
-            bucket,
-        ),
+        Check::Fine => {
+            let key = Key { binding, bucket };
+            retry_by_key(head, table, health, registry, script, place, held, key)
+        }
     }
 }

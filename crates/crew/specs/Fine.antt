@@ -10,7 +10,7 @@ use native.Mathlib.Decide.{ℕ-discrete}
 use lib.ListN.{length, getD, set, length-set}
 use lib.Seq.{getD-set-same, getD-set-other}
 use borrow.Author.Tests.{ltb-true, ltb-false, leb-false}
-use Rattle.model.specs.Choice.{if_then_else_}
+use Rattle.choice.specs.Choice.{if_then_else_}
 use Rattle.model.specs.Arena.{cellsOf}
 use Rattle.model.specs.Refusals.{first}
 use Rattle.model.specs.Checks.{badShape, badHealth}
@@ -18,9 +18,8 @@ use Rattle.model.specs.Crew.{startOf, badLimits, badLists, badTurns, crewRules}
 use Rattle.model.specs.declared.Check.the-variants.{Fine}
 use Rattle.model.specs.declared.Head.{Head}
 use Rattle.laws.specs.Shape.{Shaped}
-use Rattle.laws.specs.Checks.{or-else, first-append, first-two, fine-rest, fine-append}
+use Rattle.laws.specs.Checks.{or-else, first-append, first-two, fine-rest, fine-append, arena-fine}
 use Rattle.laws.specs.Crew.{start-fits, Limited, limits-fine, cell-inside}
-use Rattle.foreign.specs.Fine.{arena-fine}
 use Rattle.crew.specs.Model.{placeOf}
 use Rattle.crew.specs.Lists.{start-next}
 

@@ -4,7 +4,7 @@ use mathlib.Core.List.{List}
 use mathlib.Core.Bool.{Bool}
 use lib.Dec.{ltb, eqb}
 use lib.ListN.{getD, set, replicate}
-use Rattle.model.specs.Choice.{if_then_else_}
+use Rattle.choice.specs.Choice.{if_then_else_}
 use Rattle.model.specs.Arena.{spentTo, setCell}
 use Rattle.model.specs.Foreign.{flowOf}
 use Rattle.model.specs.Crew.{Crew, crewAt, idled, moved, turnsOf, takenOf, releasedOf}

@@ -7,7 +7,7 @@ use native.Mathlib.Omega.{arith}
 use lib.Dec.{ltb, leb, eqb}
 use lib.ListN.{length, getD, set, drop, drop-of-length-le, length-set}
 use borrow.Author.Tests.{le-leb, lt-leb}
-use Rattle.model.specs.Choice.{if_then_else_}
+use Rattle.choice.specs.Choice.{if_then_else_}
 use Rattle.model.specs.Log.{Made}
 use Rattle.model.specs.Arena.{waitersAt, stateAt, serialRemains}
 use Rattle.model.specs.Foreign.{setting, flowOf}
@@ -17,7 +17,7 @@ use Rattle.model.specs.declared.Locked.{Locked}
 use Rattle.model.specs.declared.State.{State}
 use Rattle.model.specs.declared.State.the-variants as state
 use Rattle.model.specs.declared.Took.{Took}
-use Rattle.laws.specs.Pick.{if-both}
+use Rattle.choice.specs.Pick.{if-both}
 use Rattle.laws.specs.Lists.{drop-one}
 use Rattle.lock.specs.Model.{quietTake, quietLockOf}
 use Rattle.lock.specs.Laws.{lock-quiet}

@@ -113,7 +113,8 @@ fn rises(cells: &[u32], start: usize, count: usize, inside: u32) -> bool
 // The first member whose list does not.
 fn lists_fault(inside: u32, counts: &[u32], cells: &[u32]) -> Check
     requires { ⌜ (length (now counts) ≤ 16) × (length (now cells) ≡ total (now counts)) ⌝ }
-    ensures { λ r. ⌜ r ≡ first (badLists (length (now (counts .entry))) 0 inside (now (counts .entry)) (now (cells .entry))) ⌝ }
+    ensures { λ r. ⌜ r
+        ≡ first (badLists (length (now (counts .entry))) 0 inside (now (counts .entry)) (now (cells .entry))) ⌝ }
 {
     let mut start: usize = 0;
     let mut m = 0;
@@ -146,7 +147,9 @@ fn turns_fault(members: usize, turns: &[u32]) -> Check
 // Lists, and then turns.
 fn names_fault(inside: u32, counts: &[u32], cells: &[u32], turns: &[u32]) -> Check
     requires { ⌜ (length (now counts) ≤ 16) × (length (now cells) ≡ total (now counts)) ⌝ }
-    ensures { λ r. ⌜ r ≡ first (badLists (length (now (counts .entry))) 0 inside (now (counts .entry)) (now (cells .entry)) ++ badTurns (length (now (counts .entry))) 0 (now (turns .entry))) ⌝ }
+    ensures { λ r. ⌜ r
+        ≡ first (badLists (length (now (counts .entry))) 0 inside (now (counts .entry)) (now (cells .entry))
+        ++ badTurns (length (now (counts .entry))) 0 (now (turns .entry))) ⌝ }
 {
     let lists = lists_fault(inside, counts, cells);
     match lists {
@@ -155,9 +158,12 @@ fn names_fault(inside: u32, counts: &[u32], cells: &[u32], turns: &[u32]) -> Che
     }
 }
 
-// 15.
+// 15: a limit, then a list, then a turn that keeps no rule; the first that applies.
 fn plan_fault(inside: u32, counts: &[u32], cells: &[u32], turns: &[u32]) -> Check
-    ensures { λ r. ⌜ r ≡ first (badLimits (now (counts .entry)) (now (cells .entry)) (now (turns .entry)) ∷ (badLists (length (now (counts .entry))) 0 inside (now (counts .entry)) (now (cells .entry)) ++ badTurns (length (now (counts .entry))) 0 (now (turns .entry)))) ⌝ }
+    ensures { λ r. ⌜ r
+        ≡ first (badLimits (now (counts .entry)) (now (cells .entry)) (now (turns .entry))
+        ∷ (badLists (length (now (counts .entry))) 0 inside (now (counts .entry)) (now (cells .entry))
+        ++ badTurns (length (now (counts .entry))) 0 (now (turns .entry)))) ⌝ }
 {
     let limits = limits_fault(counts, cells, turns);
     match limits {
@@ -175,9 +181,11 @@ fn crew_check(
     cells: &[u32],
     turns: &[u32],
 ) -> Check
-    ensures { λ r. ⌜ r ≡ first (crewRules head (now (table .entry)) (now (health .entry)) (now (counts .entry)) (now (cells .entry)) (now (turns .entry))) ⌝ }
+    ensures { λ r. ⌜ r
+        ≡ first (crewRules head (now (table .entry)) (now (health .entry))
+        (now (counts .entry)) (now (cells .entry)) (now (turns .entry))) ⌝ }
 {
-    let shape = foreign::arena_fault(head, table, health);
+    let shape = arena::arena_fault(head, table, health);
     match shape {
         Check::Fault(refusal) => Check::Fault(refusal),
         Check::Fine => plan_fault(head.headers * head.buckets, counts, cells, turns),
@@ -227,8 +235,10 @@ fn make_move(
     taking: bool,
     cell: u32,
 ) -> Move
-    requires { ⌜ (3 * cell + 2 < length (now table)) × ((1 ≤ head .buckets) × (cell / head .buckets < length (now health))) ⌝ }
-    ensures { λ r. ⌜ (r, now (table .exit)) ≡ makeMoveOf next (head .buckets) (now (table .entry)) (now (health .entry)) taking cell ⌝ }
+    requires { ⌜ (3 * cell + 2 < length (now table))
+        × ((1 ≤ head .buckets) × (cell / head .buckets < length (now health))) ⌝ }
+    ensures { λ r. ⌜ (r, now (table .exit))
+        ≡ makeMoveOf next (head .buckets) (now (table .entry)) (now (health .entry)) taking cell ⌝ }
 {
     if taking {
         let header = (cell / head.buckets) as usize;
@@ -271,8 +281,11 @@ fn work(
     starts: &[usize; 16],
     turns: &[u32],
 ) -> Worked
-    requires { ⌜ CrewFine head (length (now table)) (length (now health)) (now counts) (now cells) (now turns) × Begun (now counts) (now starts) ⌝ }
-    ensures { λ r. ⌜ (r, now (table .exit)) ≡ workOf head (now (table .entry)) (now (health .entry)) (now (counts .entry)) (now (cells .entry)) (now (turns .entry)) ⌝ }
+    requires { ⌜ CrewFine head (length (now table)) (length (now health)) (now counts) (now cells) (now turns)
+        × Begun (now counts) (now starts) ⌝ }
+    ensures { λ r. ⌜ (r, now (table .exit))
+        ≡ workOf head (now (table .entry)) (now (health .entry))
+        (now (counts .entry)) (now (cells .entry)) (now (turns .entry)) ⌝ }
 {
     let mut made = [0usize; 16];
     let mut next = head.next;
@@ -392,7 +405,9 @@ fn crew_run(
     turns: &[u32],
 ) -> CrewReply
     requires { ⌜ CrewFine head (length (now table)) (length (now health)) (now counts) (now cells) (now turns) ⌝ }
-    ensures { λ r. ⌜ (r, now (table .exit)) ≡ crewRunOf head (now (table .entry)) (now (health .entry)) (now (counts .entry)) (now (cells .entry)) (now (turns .entry)) ⌝ }
+    ensures { λ r. ⌜ (r, now (table .exit))
+        ≡ crewRunOf head (now (table .entry)) (now (health .entry))
+        (now (counts .entry)) (now (cells .entry)) (now (turns .entry)) ⌝ }
 {
     let starts = starts_of(counts);
     let worked = work(head, table, health, counts, cells, &starts, turns);
@@ -402,6 +417,8 @@ fn crew_run(
 // ---- the call
 
 // `counts` says how many cells each member wants, `cells` has their lists one behind the other, `turns` names members.
+// A list that does not rise, or a cell or a member that is not there, is refused with 15, and nobody has moved; turns
+// that run out leave a crew in the middle of its work, its cells held.
 pub fn crew(
     head: Head,
     table: &mut [u32],
@@ -410,7 +427,9 @@ pub fn crew(
     cells: &[u32],
     turns: &[u32],
 ) -> CrewReply
-    ensures { λ r. ⌜ (r, now (table .exit)) ≡ crewOf head (now (table .entry)) (now (health .entry)) (now (counts .entry)) (now (cells .entry)) (now (turns .entry)) .seen ⌝ }
+    ensures { λ r. ⌜ (r, now (table .exit))
+        ≡ crewOf head (now (table .entry)) (now (health .entry))
+        (now (counts .entry)) (now (cells .entry)) (now (turns .entry)) .seen ⌝ }
 {
     let check = crew_check(head, table, health, counts, cells, turns);
     match check {

@@ -32,7 +32,7 @@ use Rattle.model.specs.declared.Take.{Take}
 use Rattle.model.specs.declared.Take.the-variants as taking
 use Rattle.model.specs.declared.Took.{Took}
 use Rattle.model.specs.declared.Tried.{Tried}
-use Rattle.laws.specs.Pick.{if-both}
+use Rattle.choice.specs.Pick.{if-both}
 use Rattle.history.specs.World.{World}
 use Rattle.history.specs.Tests.{differ, if-cases, leases-words}
 use Rattle.history.specs.Steps.{With, worldAt, of-flow, of-locked, of-run, of-tried, of-took}

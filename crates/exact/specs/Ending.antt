@@ -23,7 +23,7 @@ use Rattle.model.specs.declared.Run.{Run}
 use Rattle.model.specs.declared.State.{State}
 use Rattle.model.specs.declared.State.the-variants as state
 use Rattle.model.specs.declared.Took.{Took}
-use Rattle.laws.specs.Pick.{if-both}
+use Rattle.choice.specs.Pick.{if-both}
 use Rattle.history.specs.World.{caller-releases}
 use Rattle.history.specs.Items.{perform}
 use Rattle.history.specs.Steps.{With}

@@ -14,7 +14,7 @@ use Rattle.model.specs.Calls.{given}
 use Rattle.model.specs.declared.Head.{Head}
 use Rattle.model.specs.declared.Lease.{Lease}
 use Rattle.model.specs.declared.Stepped.{Stepped}
-use Rattle.laws.specs.Pick.{both}
+use Rattle.choice.specs.Pick.{both}
 use Rattle.history.specs.World.{World, Legal, step}
 use Rattle.history.specs.Items.{foreign}
 use Rattle.history.specs.Tests.{differ, is-free-state, free-words, if-cases}

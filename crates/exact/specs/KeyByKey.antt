@@ -25,7 +25,7 @@ use Rattle.model.specs.declared.Refusal.{Refusal}
 use Rattle.model.specs.declared.Refusal.the-variants.{SerializationFailure}
 use Rattle.model.specs.declared.Run.{Run}
 use Rattle.model.specs.declared.Tried.{Tried}
-use Rattle.laws.specs.Pick.{neither}
+use Rattle.choice.specs.Pick.{neither}
 use Rattle.laws.specs.Shape.{shaped}
 use Rattle.history.specs.World.{World, Live}
 use Rattle.history.specs.Items.{Says, says, perform, acquire-bucket, acquire-locks, environment}

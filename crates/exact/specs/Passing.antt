@@ -16,7 +16,7 @@ use Rattle.model.specs.Lock.{bindingAt}
 use Rattle.model.specs.Checks.{notLive, badScript, bucketRules, scriptRules, badBindings, locksRules, badBinding, countIn, badHeldLength, isOdd}
 use Rattle.model.specs.declared.Head.{Head}
 use Rattle.model.specs.declared.Lease.{Lease}
-use Rattle.laws.specs.Pick.{neither}
+use Rattle.choice.specs.Pick.{neither}
 use Rattle.laws.specs.Shape.{shaped}
 use Rattle.laws.specs.Lists.{length-words}
 use Rattle.history.specs.World.{World, step, now}

@@ -7,7 +7,7 @@ use native.Mathlib.Nat.{suc-mul, zero-mul}
 use native.Mathlib.Omega.{arith}
 use lib.Dec.{eqb}
 use borrow.Author.Tests.{ltb-true, ltb-false, eqb-true, eqb-false, eq-eqb}
-use Rattle.model.specs.Choice.{if_then_else_}
+use Rattle.choice.specs.Choice.{if_then_else_}
 use Rattle.model.specs.Log.{Made, boundary-run}
 use Rattle.model.specs.Arena.{lastSerial, serialRemains, leaseOf, bitAt, ownerAt, waitersAt, setCell, stateAt}
 use Rattle.model.specs.Foreign.{Setting, protecting, stepsIn, flowOf, runStepsOf, boundaryOf}

@@ -7,7 +7,7 @@ use mathlib.Core.Logic.{_↔_}
 use native.Mathlib.Omega.{arith}
 use lib.Dec.{leb}
 use borrow.Author.Tests.{ltb-true, ltb-false, leb-true, leb-false}
-use Rattle.model.specs.Choice.{if_then_else_}
+use Rattle.choice.specs.Choice.{if_then_else_}
 use Rattle.model.specs.Log.{Made, attempt-begun, gives}
 use Rattle.model.specs.Arena.{lastSerial, serialRemains, spentTo, leaseOf, bitAt, ownerAt, stateAt}
 use Rattle.model.specs.Refusals.{first, judge}

@@ -1,22 +1,25 @@
 -- What a call with a script knows once its checks are fine.
 use Prim.Native.Nat.{ℕ, _-_, _/_, _%_, _≤_}
-use mathlib.Core.Path.{_≡_, refl}
+use mathlib.Core.Path.{_≡_, refl, ap, _∙_}
 use mathlib.Core.List.{List, [], _∷_, append-nil}
-use mathlib.Core.Bool.{true, not, _||_}
+use mathlib.Core.Bool.{not, _||_}
 use native.Mathlib.Omega.{arith}
 use lib.Dec.{ltb, eqb}
 use lib.ListN.{length}
-use borrow.Author.Tests.{ltb-false, not-false}
-use Rattle.model.specs.Arena.{cellsOf, leasesOf, shapeFits}
+use borrow.Author.Tests.{ltb-false}
+use Rattle.model.specs.Arena.{cellsOf, leasesOf}
 use Rattle.model.specs.Refusals.{Rule, first}
 use Rattle.model.specs.Checks.{badShape, badHealth, badScript, scriptRules}
 use Rattle.model.specs.Foreign.{stepsIn, flowOf}
 use Rattle.model.specs.declared.Check.the-variants.{Fine}
+use Rattle.model.specs.Calls.{given}
 use Rattle.model.specs.declared.Head.{Head}
-use Rattle.laws.specs.Pick.{neither}
-use Rattle.laws.specs.Shape.{Shaped, shaped, healthy}
-use Rattle.laws.specs.Checks.{or-else, first-append, fine-rest, fine-append}
-use Rattle.foreign.specs.Model.{pairsOf, guardsOf, Room}
+use Rattle.model.specs.declared.Lease.{Lease}
+use Rattle.foreign.specs.declared.Scope.{Scope}
+use Rattle.choice.specs.Pick.{neither}
+use Rattle.laws.specs.Shape.{Shaped}
+use Rattle.laws.specs.Checks.{or-else, first-append, fine-rest, fine-append, arena-fine}
+use Rattle.foreign.specs.Model.{pairsOf, guardsOf, Room, RoomIn, scopeOf, inScope, settingOf}
 use Rattle.foreign.specs.Laws.{FlowBound}
 
 pub record ScriptFine (h : Head) (words bytes script place : ℕ) : Type 0 where
@@ -25,16 +28,7 @@ pub record ScriptFine (h : Head) (words bytes script place : ℕ) : Type 0 where
   pub in-script : place ≤ script / 3
   pub few-steps : script / 3 ≤ 32768
 
--- the rules on shape, health and script, in whatever company
-pub arena-fine : (h : Head) (t g : List ℕ) → first (badShape h t ∷ badHealth h g ∷ []) ≡ Fine → Shaped h (length t) × (length g ≡ h .headers)
-arena-fine h t g e =
-    let a = fine-rest _ _ e in
-    let b = fine-rest _ _ (a .1) in
-    (shaped h (length t) (not-false _ (a .0)), healthy h (length g) (not-false _ (b .0)))
-
-pub arena-shape : (h : Head) (t g : List ℕ) → first (badShape h t ∷ badHealth h g ∷ []) ≡ Fine → shapeFits h (length t) ≡ true
-arena-shape h t g e = not-false _ (fine-rest _ _ e .0)
-
+-- the rule on the script, in whatever company
 pub place-fine : (script : List ℕ) (place : ℕ) → first (badScript script place ∷ []) ≡ Fine → (place ≤ stepsIn script) × (stepsIn script ≤ 32768)
 place-fine script place e =
     let a = neither (not (eqb (length script % 3) 0) || ltb 32768 (stepsIn script)) (ltb (stepsIn script) place) (fine-rest _ _ e .0) in
@@ -67,3 +61,22 @@ fine-room h words bytes script place n f b =
 
 pub fine-flow-bound : (h : Head) (words bytes script place : ℕ) → ScriptFine h words bytes script place → FlowBound (script / 3) (flowOf (h .next) place 0)
 fine-flow-bound h words bytes script place f = record { few = omega arith; in-script = f .in-script }
+
+-- ---- the same of the scope that `scope_of` makes
+
+module _ (s : Scope) (h : Head) (words bytes script place n : ℕ) (e : s ≡ scopeOf h script) (f : ScriptFine h words bytes script place) where
+  pub scope-room : n ≤ 64 → RoomIn s words bytes n script
+  scope-room b = rw e (fine-room h words bytes script place n f b)
+
+  pub scope-flow-bound : FlowBound (s .steps) (flowOf (h .next) place 0)
+  scope-flow-bound = rw e (fine-flow-bound h words bytes script place f)
+
+-- the setting that the steps get is the one of document 01
+pub scope-given : (s : Scope) (h : Head) (script : List ℕ) (protected : List Lease) → s ≡ scopeOf h (length script) → inScope s script protected ≡ given h script protected
+scope-given s h script protected e = ap (λ (x : Scope). inScope x script protected) e
+
+-- nothing taken yet
+pub scope-none : (s : Scope) (h : Head) (script held : List ℕ) (taken : List (List ℕ)) → s ≡ scopeOf h (length script)
+    → settingOf s script held taken 0 ≡ given h script (leasesOf held)
+scope-none s h script held taken e =
+    scope-given s h script (guardsOf held taken 0) e ∙ ap (given h script) (guards-none held taken)

@@ -8,7 +8,7 @@ use lib.Dec.{ltb, leb, eqb}
 use lib.ListN.{length, getD}
 use native.Mathlib.Decide.{ℕ-discrete}
 use borrow.Author.Tests.{leb-true, ne-eqb}
-use Rattle.model.specs.Choice.{if_then_else_}
+use Rattle.choice.specs.Choice.{if_then_else_}
 use Rattle.model.specs.Log.{Made}
 use Rattle.model.specs.Arena.{serialRemains, bitAt, ownerAt, leaseOf, leasesOf, sameLease, isIn, isLive, heldBy, stateAt, stateOf, isFree, isHeld}
 use Rattle.model.specs.Foreign.{Setting, setting, flowOf, stepReleaseOf, stepTakeOf, stepWaitersOf, stepHealthOf, stepOf, runStepsOf, boundaryOf, kindAt, placeAt, numberAt, stepsIn}
@@ -16,7 +16,8 @@ use Rattle.model.specs.declared.Flow.{Flow}
 use Rattle.model.specs.declared.Lease.{Lease}
 use Rattle.model.specs.declared.State.the-variants as state
 use Rattle.model.specs.declared.Stepped.{Stepped}
-use Rattle.laws.specs.Pick.{if-both, seen-if}
+use Rattle.choice.specs.Pick.{if-both}
+use Rattle.laws.specs.Seen.{seen-if}
 use Rattle.foreign.specs.Model.{pairsOf, guardsOf}
 
 -- ---- lists of leases

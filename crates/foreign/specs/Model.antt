@@ -3,14 +3,15 @@ use Prim.Native.Nat.{ℕ, zero, suc, _+_, _*_, _/_, _≤_}
 use mathlib.Core.Path.{_≡_}
 use mathlib.Core.List.{List, [], _∷_, _++_}
 use lib.ListN.{getD}
-use Rattle.model.specs.Arena.{leaseOf, leasesOf}
-use Rattle.model.specs.Foreign.{flowOf, boundaryOf}
+use Rattle.model.specs.Arena.{leaseOf, leasesOf, cellsOf}
+use Rattle.model.specs.Foreign.{Setting, setting, flowOf, boundaryOf}
 use Rattle.model.specs.Lock.{runOf}
 use Rattle.model.specs.Calls.{played, given}
 use Rattle.model.specs.declared.Answer.the-variants.{Done}
 use Rattle.model.specs.declared.Head.{Head}
 use Rattle.model.specs.declared.Lease.{Lease}
 use Rattle.model.specs.declared.Played.{Played}
+use Rattle.foreign.specs.declared.Scope.{Scope}
 
 -- `left` pairs of an array from place i on, as leases
 unfoldable pub pairsOf : ℕ → ℕ → List (List ℕ) → List Lease
@@ -27,6 +28,24 @@ pub record Room (headers cells words bytes n steps script : ℕ) : Type 0 where
   pub bytes-fit : headers ≤ bytes
   pub few-taken : n ≤ 64
   pub steps-are : steps ≡ script / 3
+
+-- ---- a scope: what the steps of a call are given and never change
+
+-- the scope of a call, by its head and the length of its script
+abbrev pub scopeOf : Head → ℕ → Scope
+scopeOf h script = record { headers = h .headers; buckets = h .buckets; cells = cellsOf h; steps = script / 3 }
+
+-- with a script and protected leases it is a setting
+abbrev pub inScope : Scope → List ℕ → List Lease → Setting
+inScope s script protected = setting (s .headers) (s .cells) script protected
+
+-- the same, with the protected leases as they are lent
+abbrev pub settingOf : Scope → List ℕ → List ℕ → List (List ℕ) → ℕ → Setting
+settingOf s script held taken n = inScope s script (guardsOf held taken n)
+
+-- what calls have tested before their steps
+abbrev pub RoomIn : Scope → ℕ → ℕ → ℕ → ℕ → Type 0
+RoomIn s words bytes n script = Room (s .headers) (s .cells) words bytes n (s .steps) script
 
 -- the boundary of `environment`, once its checks are fine
 unfoldable pub runOnceOf : Head → List ℕ → List ℕ → List ℕ → ℕ → List ℕ → Played × (List ℕ × List ℕ)

@@ -1,5 +1,7 @@
 // Foreign steps: a script's steps, a boundary, and the two calls that are one boundary.
 // Functions with a `requires` are steps: calls have tested the shape, and a step tests nothing twice.
+// Steps are no calls of document 01, public ones neither: only the layers here call them (tests/layers.sh), and each
+// caller proves their `requires`.
 use model::Answer;
 use model::Check;
 use model::Counts;
@@ -15,14 +17,50 @@ ghost use mathlib.Core.Bool.{true};
 ghost use mathlib.Core.List.{[], _∷_, _++_};
 ghost use Prim.Native.Nat.{_+_, _*_, _-_, _/_, _<_, _≤_};
 ghost use lib.ListN.{length};
-ghost use Rattle.model.specs.Arena.{shapeFits, isIn};
+ghost use Rattle.model.specs.Arena.{shapeFits, isIn, cellsOf, headOf};
 ghost use Rattle.model.specs.Refusals.{first};
-ghost use Rattle.model.specs.Checks.{badShape, badHealth, badScript, badHeld, scriptRules};
-ghost use Rattle.model.specs.Foreign.{setting, protecting, flowOf, stepsIn, stepTakeOf, stepReleaseOf, stepWaitersOf, stepHealthOf, stepOf, runStepsOf, boundaryOf};
+ghost use Rattle.model.specs.Checks.{badScript, badHeld, scriptRules};
+ghost use Rattle.model.specs.Foreign.{setting, protecting, flowOf, stepTakeOf, stepReleaseOf};
+ghost use Rattle.model.specs.Foreign.{stepWaitersOf, stepHealthOf, stepOf, runStepsOf, boundaryOf};
 ghost use Rattle.model.specs.Calls.{played, unplayed, environmentOf};
-ghost use Rattle.foreign.specs.Model.{pairsOf, guardsOf, Room, runOnceOf};
+ghost use Rattle.foreign.specs.Model.{pairsOf, guardsOf, Room, RoomIn, scopeOf, settingOf, runOnceOf};
 ghost use Rattle.foreign.specs.Laws.{FlowBound};
 ghost use Rattle.foreign.specs.Fine.{ScriptFine};
+
+// What the steps of a call are given and never change: the arena's sizes, its number of cells, and the number of steps
+// of the script.
+pub struct Scope {
+    pub headers: u32,
+    pub buckets: u32,
+    pub cells: u32,
+    pub steps: usize,
+}
+
+impl Scope {
+    // The head whose next serial is this one.
+    pub fn head(self, next: u32) -> Head
+        ensures { λ r. ⌜ r ≡ headOf (self .headers) (self .buckets) next ⌝ }
+    {
+        Head {
+            headers: self.headers,
+            buckets: self.buckets,
+            next,
+        }
+    }
+}
+
+// The scope of a call.
+pub fn scope_of(head: Head, script: &[u32]) -> Scope
+    requires { ⌜ cellsOf head ≤ 4096 ⌝ }
+    ensures { λ r. ⌜ r ≡ scopeOf head (length (now (script .entry))) ⌝ }
+{
+    Scope {
+        headers: head.headers,
+        buckets: head.buckets,
+        cells: head.headers * head.buckets,
+        steps: script.len() / 3,
+    }
+}
 
 // ---- one step
 
@@ -88,7 +126,9 @@ fn step_release(
     own: Lease,
 ) -> Stepped
     requires { ⌜ (3 * cells ≤ length (now table)) × (n ≤ 64) ⌝ }
-    ensures { λ r. ⌜ (r, now (table .exit)) ≡ stepReleaseOf cells (guardsOf (now (held .entry)) (now (taken .entry)) n ++ (own ∷ [])) next (now (table .entry)) (lease .cell) (lease .serial) .seen ⌝ }
+    ensures { λ r. ⌜ (r, now (table .exit))
+        ≡ stepReleaseOf cells (guardsOf (now (held .entry)) (now (taken .entry)) n ++ (own ∷ []))
+        next (now (table .entry)) (lease .cell) (lease .serial) .seen ⌝ }
 {
     if arena::is_live(next, cells, table, lease.cell, lease.serial) {
         if is_guarded(held, taken, n, own, lease) {
@@ -144,7 +184,9 @@ fn step(
     own: Lease,
 ) -> Stepped
     requires { ⌜ (3 * cells ≤ length (now table)) × ((headers ≤ length (now health)) × ((n ≤ 64) × (kind ≡ 5 → ⊥))) ⌝ }
-    ensures { λ r. ⌜ (r, (now (table .exit), now (health .exit))) ≡ stepOf (setting headers cells [] (guardsOf (now (held .entry)) (now (taken .entry)) n ++ (own ∷ []))) next (now (table .entry)) (now (health .entry)) kind place number .seen ⌝ }
+    ensures { λ r. ⌜ (r, (now (table .exit), now (health .exit)))
+        ≡ stepOf (setting headers cells [] (guardsOf (now (held .entry)) (now (taken .entry)) n ++ (own ∷ [])))
+        next (now (table .entry)) (now (health .entry)) kind place number .seen ⌝ }
 {
     if kind == 0 {
         return Stepped { next, dropped: 0 };
@@ -186,8 +228,12 @@ fn run_steps(
     n: usize,
     own: Lease,
 ) -> Flow
-    requires { ⌜ Room headers cells (length (now table)) (length (now health)) n steps (length (now script)) × FlowBound steps (flowOf start place before) ⌝ }
-    ensures { λ r. ⌜ (r, (now (table .exit), now (health .exit))) ≡ runStepsOf (steps - place) (setting headers cells (now (script .entry)) (guardsOf (now (held .entry)) (now (taken .entry)) n ++ (own ∷ []))) (flowOf start place before) (now (table .entry)) (now (health .entry)) .seen ⌝ }
+    requires { ⌜ Room headers cells (length (now table)) (length (now health)) n steps (length (now script))
+        × FlowBound steps (flowOf start place before) ⌝ }
+    ensures { λ r. ⌜ (r, (now (table .exit), now (health .exit)))
+        ≡ runStepsOf (steps - place) (setting headers cells (now (script .entry))
+        (guardsOf (now (held .entry)) (now (taken .entry)) n ++ (own ∷ [])))
+        (flowOf start place before) (now (table .entry)) (now (health .entry)) .seen ⌝ }
 {
     let mut next = start;
     let mut p = place;
@@ -228,34 +274,34 @@ fn run_steps(
 }
 
 // A boundary that protects the held list and the leases taken. Past the script's end it is quiet, and costs one test.
-// A step, no call of document 01: only the layers here call it, and each proves its `requires`.
 pub fn boundary(
-    headers: u32,
-    cells: u32,
+    scope: Scope,
     flow: Flow,
     table: &mut [u32],
     health: &mut [u8],
     script: &[u32],
-    steps: usize,
     held: &[u32],
     taken: &[[u32; 2]; 64],
     n: usize,
 ) -> Flow
-    requires { ⌜ Room headers cells (length (now table)) (length (now health)) n steps (length (now script)) × FlowBound steps flow ⌝ }
-    ensures { λ r. ⌜ (r, (now (table .exit), now (health .exit))) ≡ boundaryOf (setting headers cells (now (script .entry)) (guardsOf (now (held .entry)) (now (taken .entry)) n)) flow (now (table .entry)) (now (health .entry)) .seen ⌝ }
+    requires { ⌜ RoomIn scope (length (now table)) (length (now health)) n (length (now script))
+        × FlowBound (scope .steps) flow ⌝ }
+    ensures { λ r. ⌜ (r, (now (table .exit), now (health .exit)))
+        ≡ boundaryOf (settingOf scope (now (script .entry)) (now (held .entry)) (now (taken .entry)) n)
+        flow (now (table .entry)) (now (health .entry)) .seen ⌝ }
 {
-    if flow.place < steps {
+    if flow.place < scope.steps {
         let none = Lease { cell: 0, serial: 0 };
         return run_steps(
-            headers,
-            cells,
+            scope.headers,
+            scope.cells,
             flow.next,
             flow.place,
             flow.dropped,
             table,
             health,
             script,
-            steps,
+            scope.steps,
             held,
             taken,
             n,
@@ -270,34 +316,34 @@ pub fn boundary(
 }
 
 // The same, with a lease of the call's own protected too.
-// A step, no call of document 01: only the layers here call it, and each proves its `requires`.
 pub fn protecting_boundary(
-    headers: u32,
-    cells: u32,
+    scope: Scope,
     flow: Flow,
     table: &mut [u32],
     health: &mut [u8],
     script: &[u32],
-    steps: usize,
     held: &[u32],
     taken: &[[u32; 2]; 64],
     n: usize,
     own: Lease,
 ) -> Flow
-    requires { ⌜ Room headers cells (length (now table)) (length (now health)) n steps (length (now script)) × FlowBound steps flow ⌝ }
-    ensures { λ r. ⌜ (r, (now (table .exit), now (health .exit))) ≡ boundaryOf (protecting (setting headers cells (now (script .entry)) (guardsOf (now (held .entry)) (now (taken .entry)) n)) (own ∷ [])) flow (now (table .entry)) (now (health .entry)) .seen ⌝ }
+    requires { ⌜ RoomIn scope (length (now table)) (length (now health)) n (length (now script))
+        × FlowBound (scope .steps) flow ⌝ }
+    ensures { λ r. ⌜ (r, (now (table .exit), now (health .exit)))
+        ≡ boundaryOf (protecting (settingOf scope (now (script .entry)) (now (held .entry)) (now (taken .entry)) n)
+        (own ∷ [])) flow (now (table .entry)) (now (health .entry)) .seen ⌝ }
 {
-    if flow.place < steps {
+    if flow.place < scope.steps {
         return run_steps(
-            headers,
-            cells,
+            scope.headers,
+            scope.cells,
             flow.next,
             flow.place,
             flow.dropped,
             table,
             health,
             script,
-            steps,
+            scope.steps,
             held,
             taken,
             n,
@@ -313,20 +359,7 @@ pub fn protecting_boundary(
 
 // ---- the checks of calls with a script, in the order of document 01's table
 
-// 1, of head, table and health.
-pub fn arena_fault(head: Head, table: &[u32], health: &[u8]) -> Check
-    ensures { λ r. ⌜ r ≡ first (badShape head (now (table .entry)) ∷ badHealth head (now (health .entry)) ∷ []) ⌝ }
-{
-    if head.shape_fits(table.len()) {
-        if head.health_fits(health.len()) {
-            return Check::Fine;
-        }
-        return Check::Fault(Refusal::BadShape);
-    }
-    Check::Fault(Refusal::BadShape)
-}
-
-// 2.
+// 2: the script is not of whole steps or too long, or the place is past its end.
 pub fn script_fault(script: &[u32], place: usize) -> Check
     ensures { λ r. ⌜ r ≡ first (badScript (now (script .entry)) place ∷ []) ⌝ }
 {
@@ -344,10 +377,10 @@ pub fn script_fault(script: &[u32], place: usize) -> Check
 }
 
 // 2, and then 3.
-// A step, no call of document 01: only the layers here call it, and each proves its `requires`.
 pub fn lists_fault(head: Head, table: &[u32], script: &[u32], place: usize, held: &[u32]) -> Check
     requires { ⌜ shapeFits head (length (now table)) ≡ true ⌝ }
-    ensures { λ r. ⌜ r ≡ first (badScript (now (script .entry)) place ∷ badHeld head (now (table .entry)) (now (held .entry))) ⌝ }
+    ensures { λ r. ⌜ r
+        ≡ first (badScript (now (script .entry)) place ∷ badHeld head (now (table .entry)) (now (held .entry))) ⌝ }
 {
     let fault = script_fault(script, place);
     match fault {
@@ -364,9 +397,11 @@ pub fn script_check(
     place: usize,
     held: &[u32],
 ) -> Check
-    ensures { λ r. ⌜ r ≡ first (scriptRules head (now (table .entry)) (now (health .entry)) (now (script .entry)) place (now (held .entry))) ⌝ }
+    ensures { λ r. ⌜ r
+        ≡ first (scriptRules head (now (table .entry)) (now (health .entry))
+        (now (script .entry)) place (now (held .entry))) ⌝ }
 {
-    let shape = arena_fault(head, table, health);
+    let shape = arena::arena_fault(head, table, health);
     match shape {
         Check::Fault(refusal) => Check::Fault(refusal),
         Check::Fine => lists_fault(head, table, script, place, held),
@@ -411,7 +446,8 @@ pub fn unplay(head: Head, place: usize, refusal: Refusal) -> Played
 
 // ---- the calls
 
-// One boundary.
+// One boundary: the script is played from its place to the next pause or its end. A step that cannot be made is dropped
+// and counted; the script frees no lease of the held list. At the script's end nothing is played.
 pub fn environment(
     head: Head,
     table: &mut [u32],
@@ -420,7 +456,9 @@ pub fn environment(
     place: usize,
     held: &[u32],
 ) -> Played
-    ensures { λ r. ⌜ (r, (now (table .exit), now (health .exit))) ≡ environmentOf head (now (table .entry)) (now (health .entry)) (now (script .entry)) place (now (held .entry)) .seen ⌝ }
+    ensures { λ r. ⌜ (r, (now (table .exit), now (health .exit)))
+        ≡ environmentOf head (now (table .entry)) (now (health .entry))
+        (now (script .entry)) place (now (held .entry)) .seen ⌝ }
 {
     let check = script_check(head, table, health, script, place, held);
     match check {
@@ -429,7 +467,7 @@ pub fn environment(
     }
 }
 
-// The same: its held list is what it protects.
+// The same: its held list is what it protects. A held lease that is not live refuses the call with 3 and its position.
 pub fn environment_for_borrows(
     head: Head,
     table: &mut [u32],
@@ -438,7 +476,9 @@ pub fn environment_for_borrows(
     place: usize,
     held: &[u32],
 ) -> Played
-    ensures { λ r. ⌜ (r, (now (table .exit), now (health .exit))) ≡ environmentOf head (now (table .entry)) (now (health .entry)) (now (script .entry)) place (now (held .entry)) .seen ⌝ }
+    ensures { λ r. ⌜ (r, (now (table .exit), now (health .exit)))
+        ≡ environmentOf head (now (table .entry)) (now (health .entry))
+        (now (script .entry)) place (now (held .entry)) .seen ⌝ }
 {
     environment(head, table, health, script, place, held)
 }
@@ -453,26 +493,17 @@ fn run_once(
     held: &[u32],
 ) -> Played
     requires { ⌜ ScriptFine head (length (now table)) (length (now health)) (length (now script)) place ⌝ }
-    ensures { λ r. ⌜ (r, (now (table .exit), now (health .exit))) ≡ runOnceOf head (now (table .entry)) (now (health .entry)) (now (script .entry)) place (now (held .entry)) ⌝ }
+    ensures { λ r. ⌜ (r, (now (table .exit), now (health .exit)))
+        ≡ runOnceOf head (now (table .entry)) (now (health .entry)) (now (script .entry)) place (now (held .entry)) ⌝ }
 {
+    let scope = scope_of(head, script);
     let taken = [[0; 2]; 64];
     let flow = Flow {
         next: head.next,
         place,
         dropped: 0,
     };
-    let after = boundary(
-        head.headers,
-        head.headers * head.buckets,
-        flow,
-        table,
-        health,
-        script,
-        script.len() / 3,
-        held,
-        &taken,
-        0,
-    );
+    let after = boundary(scope, flow, table, health, script, held, &taken, 0);
     let run = Run {
         flow: after,
         attempts: 0,

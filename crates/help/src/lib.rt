@@ -1,4 +1,5 @@
-// What `help` prints, for people: the commands and calls, one a line, with what they take. The text is free.
+// The bench console. What `help` prints, for people: the commands and calls, one a line, with what they take. The text
+// is free.
 use text::put;
 
 fn talk_lines(out: &mut [u8], used: usize) -> usize {

@@ -27,7 +27,7 @@ use Rattle.model.specs.declared.Run.{Run}
 use Rattle.model.specs.declared.Take.{Take}
 use Rattle.model.specs.declared.Take.the-variants as taking
 use Rattle.model.specs.declared.Tried.{Tried}
-use Rattle.laws.specs.Pick.{if-both}
+use Rattle.choice.specs.Pick.{if-both}
 use Rattle.laws.specs.Lists.{length-words}
 use Rattle.history.specs.World.{World}
 use Rattle.history.specs.Items.{Call, try-acquire, drop-lease, read-permission, competing-acquire, release-then-handoff, foreign-release, drop-preserving, acquire-preserving, environment, try-lock, transactional, acquire-bucket, release-all, acquire-locks, crew, perform, asked, cellOf, keyCell}

@@ -27,7 +27,7 @@ use Rattle.model.specs.declared.Take.{Take}
 use Rattle.model.specs.declared.Take.the-variants as taking
 use Rattle.model.specs.declared.Took.{Took}
 use Rattle.model.specs.declared.Tried.{Tried}
-use Rattle.laws.specs.Pick.{if-both}
+use Rattle.choice.specs.Pick.{if-both}
 use Rattle.history.specs.World.{Kind, attempts, boundaries, yields, drops, number-of}
 
 pub number-append : (k : Kind) (xs ys : List Event) → number-of k (xs ++ ys) ≡ number-of k xs + number-of k ys

@@ -11,7 +11,7 @@ use Rattle.model.specs.Calls.{prepareOf}
 use Rattle.model.specs.declared.Answer.{Answer}
 use Rattle.model.specs.declared.Answer.the-variants.{Done, Cell, Granted, AllGranted, Busy, Refused, RefusedAt}
 use Rattle.model.specs.declared.Lease.{Lease}
-use Rattle.laws.specs.Pick.{both}
+use Rattle.choice.specs.Pick.{both}
 use Rattle.laws.specs.Shape.{Shaped, shaped}
 use Rattle.laws.specs.Lists.{zero-bit, zero-owner}
 use Rattle.laws.specs.Prepared.{Outcome, Came, was-done, was-refused, came, prepare-done}

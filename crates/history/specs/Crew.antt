@@ -20,7 +20,7 @@ use Rattle.model.specs.declared.Lease.{Lease}
 use Rattle.model.specs.declared.Locked.{Locked}
 use Rattle.model.specs.declared.Take.{Take}
 use Rattle.model.specs.declared.Take.the-variants as taking
-use Rattle.laws.specs.Pick.{if-both}
+use Rattle.choice.specs.Pick.{if-both}
 use Rattle.laws.specs.Lists.{zeros}
 use Rattle.laws.specs.Crew.{start-fits, limits-fine, cell-inside}
 use Rattle.history.specs.World.{World, worldOf, Live, Unreleased}

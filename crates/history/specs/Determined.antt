@@ -9,7 +9,7 @@ use Rattle.model.specs.declared.Head.{Head}
 use Rattle.model.specs.declared.Lease.{Lease}
 use Rattle.model.specs.declared.Played.{Played}
 use Rattle.model.specs.declared.Reply.{Reply}
-use Rattle.laws.specs.Pick.{determined}
+use Rattle.choice.specs.Pick.{determined}
 
 pub try-acquire-determined : (h : Head) (t : List ℕ) (c : ℕ) (a b : Reply × List ℕ) → a ≡ tryAcquireOf h t c .seen → b ≡ tryAcquireOf h t c .seen → a ≡ b
 try-acquire-determined h t c a b p q = determined p q

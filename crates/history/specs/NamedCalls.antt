@@ -17,7 +17,7 @@ use Rattle.model.specs.Calls.{given, starting, acquireOf}
 use Rattle.model.specs.declared.Head.{Head}
 use Rattle.model.specs.declared.Lease.{Lease}
 use Rattle.model.specs.declared.Stepped.{Stepped}
-use Rattle.laws.specs.Pick.{if-both}
+use Rattle.choice.specs.Pick.{if-both}
 use Rattle.history.specs.World.{World}
 use Rattle.history.specs.Items.{Call, try-acquire, drop-lease, read-permission, competing-acquire, release-then-handoff, foreign-release, drop-preserving, acquire-preserving, environment, try-lock, transactional, acquire-bucket, release-all, acquire-locks, crew, script-of, place-of, given-up, foreign, perform, Clear, rules}
 use Rattle.history.specs.Statements.{log-of, Named, Named-alone}

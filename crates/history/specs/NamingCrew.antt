@@ -16,7 +16,7 @@ use Rattle.model.specs.Lock.{lockOf}
 use Rattle.model.specs.Crew.{total, crewRules, startOf, countOf, Crew, crewAt, afterTry, tryTurnOf, releaseTurnOf, turnOf, turnsOf}
 use Rattle.model.specs.declared.Take.{Take}
 use Rattle.model.specs.declared.Take.the-variants as taking
-use Rattle.laws.specs.Pick.{if-both}
+use Rattle.choice.specs.Pick.{if-both}
 use Rattle.laws.specs.Lists.{zeros}
 use Rattle.laws.specs.Crew.{start-fits}
 use Rattle.history.specs.World.{World}

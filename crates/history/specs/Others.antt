@@ -20,7 +20,7 @@ use Rattle.model.specs.declared.State.{State}
 use Rattle.model.specs.declared.State.the-variants as state
 use Rattle.model.specs.declared.Stepped.{Stepped}
 use Rattle.model.specs.declared.Took.{Took}
-use Rattle.laws.specs.Pick.{both}
+use Rattle.choice.specs.Pick.{both}
 use Rattle.history.specs.World.{World, worldOf, cells, Free, Live, Legal, step, now, Lawful}
 use Rattle.history.specs.Items.{Says, says, try-acquire, drop-lease, perform, foreign, Item, preparation, Course, next-item, run, Call, cold, foreign-step, history-of, call, noted, saying, entryOf}
 use Rattle.history.specs.Statements.{answers, leaves, log-of}

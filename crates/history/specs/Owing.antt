@@ -28,7 +28,7 @@ use Rattle.model.specs.declared.Take.{Take}
 use Rattle.model.specs.declared.Take.the-variants as taking
 use Rattle.model.specs.declared.Took.{Took}
 use Rattle.model.specs.declared.Tried.{Tried}
-use Rattle.laws.specs.Pick.{if-both}
+use Rattle.choice.specs.Pick.{if-both}
 use Rattle.history.specs.Statements.{Hands-over}
 use Rattle.history.specs.Tests.{differ, In, in-first, in-cases, in-left, in-right, in-either, leases-words, if-cases}
 use Rattle.history.specs.Steps.{With}

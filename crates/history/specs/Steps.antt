@@ -28,7 +28,7 @@ use Rattle.model.specs.declared.Take.{Take}
 use Rattle.model.specs.declared.Take.the-variants as taking
 use Rattle.model.specs.declared.Took.{Took}
 use Rattle.model.specs.declared.Tried.{Tried}
-use Rattle.laws.specs.Pick.{both, if-both}
+use Rattle.choice.specs.Pick.{both, if-both}
 use Rattle.laws.specs.Keys.{find-inside}
 use Rattle.history.specs.World.{World, worldOf, Live}
 use Rattle.history.specs.Tests.{differ, In, in-first, in-left, in-right, is-free-state, if-cases}

@@ -8,12 +8,12 @@ use native.Mathlib.Omega.{arith}
 use lib.Dec.{ltb, leb, eqb}
 use lib.ListN.{length, getD, take}
 use borrow.Author.Tests.{ltb-true, leb-true, eqb-true, lt-ltb, le-leb, eq-eqb}
-use Rattle.model.specs.Choice.{if_then_else_}
+use Rattle.choice.specs.Choice.{if_then_else_}
 use Rattle.model.specs.Arena.{bitAt, ownerAt, isFree, isHeld, stateOf, stateAt, heldBy, isLive, leaseOf, sameLease, isIn, leasesOf, wordsOf}
 use Rattle.model.specs.declared.Lease.{Lease}
 use Rattle.model.specs.declared.State.{State}
 use Rattle.model.specs.declared.State.the-variants.{Free, Held, Damaged}
-use Rattle.laws.specs.Pick.{both}
+use Rattle.choice.specs.Pick.{both}
 
 -- two constructors of Bool
 pub differ : false ≡ true → ⊥

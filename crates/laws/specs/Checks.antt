@@ -9,7 +9,7 @@ use lib.Dec.{ltb}
 use lib.ListN.{length, getD, drop, length-drop}
 use lib.Seq.{drop-cons}
 use borrow.Author.Tests.{leb-false, ltb-true, not-false}
-use Rattle.model.specs.Choice.{if_then_else_}
+use Rattle.choice.specs.Choice.{if_then_else_}
 use Rattle.model.specs.Arena.{cellsOf, leaseOf, shapeFits, healthFits, isLive, leasesOf, sameLease, isIn, heldBy, stateAt}
 use Rattle.model.specs.Refusals.{Rule, refusalOf, first}
 use Rattle.model.specs.Checks.{badShape, badHealth, notLive, cellRules, leaseRules, heldCellRules, heldLeaseRules, badHeld}
@@ -18,8 +18,8 @@ use Rattle.model.specs.declared.Check.the-variants.{Fine, Fault}
 use Rattle.model.specs.declared.Head.{Head}
 use Rattle.model.specs.declared.Lease.{Lease}
 use Rattle.model.specs.declared.Refusal.the-variants as refusal
-use Rattle.laws.specs.Pick.{both}
-use Rattle.laws.specs.Shape.{Shaped, shaped}
+use Rattle.choice.specs.Pick.{both}
+use Rattle.laws.specs.Shape.{Shaped, shaped, healthy}
 
 -- ---- one rule behind the other
 
@@ -57,6 +57,16 @@ fine-rest x xs e = go (x .applies) refl e
     go : (b : Bool) → x .applies ≡ b → (if b then Fault (refusalOf (x .number) (x .carries)) else first xs) ≡ Fine → (x .applies ≡ false) × (first xs ≡ Fine)
     go true p q = let z : false ≡ true = cc in (cc, cc)
     go false p q = (p, q)
+
+-- what `arena_check` tells: the arena has its shape, and a health byte for each header
+pub arena-fine : (h : Head) (t g : List ℕ) → first (badShape h t ∷ badHealth h g ∷ []) ≡ Fine → Shaped h (length t) × (length g ≡ h .headers)
+arena-fine h t g e =
+    let a = fine-rest _ _ e in
+    let b = fine-rest _ _ (a .1) in
+    (shaped h (length t) (not-false _ (a .0)), healthy h (length g) (not-false _ (b .0)))
+
+pub arena-shape : (h : Head) (t g : List ℕ) → first (badShape h t ∷ badHealth h g ∷ []) ≡ Fine → shapeFits h (length t) ≡ true
+arena-shape h t g e = not-false _ (fine-rest _ _ e .0)
 
 pub fine-append : (xs ys : List Rule) → first (xs ++ ys) ≡ Fine → (first xs ≡ Fine) × (first ys ≡ Fine)
 fine-append xs ys e = go (first xs) refl (sym (first-append xs ys) ∙ e)

@@ -13,7 +13,7 @@ use Rattle.model.specs.Arena.{within}
 use Rattle.model.specs.Refusals.{first}
 use Rattle.model.specs.Crew.{total, startOf, countOf, listOf, allWithin, badLimits, risesFrom, badLists}
 use Rattle.model.specs.declared.Check.the-variants.{Fine}
-use Rattle.laws.specs.Pick.{both, neither}
+use Rattle.choice.specs.Pick.{both, neither}
 use Rattle.laws.specs.Checks.{fine-rest}
 
 -- ---- where the lists lie

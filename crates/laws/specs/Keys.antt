@@ -8,7 +8,7 @@ use native.Mathlib.Nat.{mul-le-mul-right, suc-mul}
 use lib.Dec.{leb, eqb}
 use lib.ListN.{getD}
 use borrow.Author.Tests.{leb-false}
-use Rattle.model.specs.Choice.{if_then_else_}
+use Rattle.choice.specs.Choice.{if_then_else_}
 use Rattle.model.specs.Arena.{cellNumber}
 use Rattle.model.specs.Lock.{findOf}
 use Rattle.model.specs.declared.Found.{Found}

@@ -1,4 +1,4 @@
-pub mod Pick
+pub mod Seen
 pub mod Shape
 pub mod Words
 pub mod Lists

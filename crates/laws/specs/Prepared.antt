@@ -5,7 +5,7 @@ use mathlib.Core.List.{List}
 use mathlib.Core.Bool.{Bool, true, false, _&&_}
 use mathlib.Core.Logic.{_↔_}
 use lib.ListN.{length, replicate}
-use Rattle.model.specs.Choice.{if_then_else_}
+use Rattle.choice.specs.Choice.{if_then_else_}
 use Rattle.model.specs.Arena.{headOf, headFits, shapeFits, healthFits}
 use Rattle.model.specs.Refusals.{first}
 use Rattle.model.specs.Checks.{prepareRules}
@@ -16,7 +16,7 @@ use Rattle.model.specs.declared.Head.{Head}
 use Rattle.model.specs.declared.Refusal.{Refusal}
 use Rattle.model.specs.declared.Refusal.the-variants.{BadShape}
 use Rattle.model.specs.declared.Reply.{Reply}
-use Rattle.laws.specs.Pick.{determined}
+use Rattle.choice.specs.Pick.{determined}
 use Rattle.laws.specs.Shape.{shaped, healthy}
 
 -- what comes of a preparation: its reply, the table, the health

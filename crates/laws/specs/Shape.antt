@@ -6,7 +6,7 @@ use lib.Dec.{leb, eqb}
 use borrow.Author.Tests.{leb-true, eqb-true}
 use Rattle.model.specs.Arena.{lastSerial, within, cellsOf, headFits, shapeFits, healthFits}
 use Rattle.model.specs.declared.Head.{Head}
-use Rattle.laws.specs.Pick.{both}
+use Rattle.choice.specs.Pick.{both}
 
 pub record Shaped (h : Head) (words : ℕ) : Type 0 where
   pub some-headers : 1 ≤ h .headers

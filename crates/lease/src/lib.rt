@@ -1,5 +1,7 @@
 // The calls of document 01 that take no script: by cell, and by lease.
 // Functions with a `requires` are steps: calls have tested the shape, and a step tests nothing twice.
+// Steps are no calls of document 01, public ones neither: only the layers here call them (tests/layers.sh), and each
+// caller proves their `requires`.
 use model::Answer;
 use model::Check;
 use model::Head;
@@ -18,8 +20,10 @@ ghost use lib.ListN.{length};
 ghost use Rattle.model.specs.Arena.{cellsOf, leaseOf, leasesOf, setCell, shapeFits, isLive, sameLease, isIn};
 ghost use Rattle.model.specs.Refusals.{first};
 ghost use Rattle.model.specs.Lock.{outcomeOf, answerOf};
-ghost use Rattle.model.specs.Checks.{cellRules, leaseRules, heldCellRules, heldLeaseRules, badHeld, notLive, badCell, notHeld, isProtected};
-ghost use Rattle.model.specs.Calls.{acquireOf, tryAcquireOf, dropLeaseOf, readPermissionOf, competingAcquireOf, releaseThenHandoffOf, foreignReleaseOf, acquirePreservingOf, dropPreservingOf};
+ghost use Rattle.model.specs.Checks.{cellRules, leaseRules, heldCellRules, heldLeaseRules, badHeld};
+ghost use Rattle.model.specs.Checks.{notLive, badCell, notHeld, isProtected};
+ghost use Rattle.model.specs.Calls.{acquireOf, tryAcquireOf, dropLeaseOf, readPermissionOf, competingAcquireOf};
+ghost use Rattle.model.specs.Calls.{releaseThenHandoffOf, foreignReleaseOf, acquirePreservingOf, dropPreservingOf};
 ghost use Rattle.lease.specs.Model.{claimAtOf, claimFreeOf, claimReplyOf};
 
 // What a compare-and-set hands back: the changed head, and its answer.
@@ -54,7 +58,6 @@ fn claim_free(head: Head, table: &mut [u32], cell: u32) -> Claim
 }
 
 // Of any cell in range.
-// A step, no call of document 01: only the layers here call it, and each proves its `requires`.
 pub fn claim_at(head: Head, table: &mut [u32], cell: u32) -> Claim
     requires { ⌜ 3 * cell + 2 < length (now table) ⌝ }
     ensures { λ r. ⌜ (r, now (table .exit)) ≡ claimAtOf head (now (table .entry)) cell ⌝ }
@@ -151,7 +154,6 @@ pub fn is_in(list: &[u32], lease: Lease) -> bool
 }
 
 // Whether a lease is live.
-// A step, no call of document 01: only the layers here call it, and each proves its `requires`.
 pub fn is_live(head: Head, table: &[u32], cell: u32, serial: u32) -> bool
     requires { ⌜ shapeFits head (length (now table)) ≡ true ⌝ }
     ensures { λ r. ⌜ r ≡ isLive (head .next) (cellsOf head) (now (table .entry)) (leaseOf cell serial) ⌝ }
@@ -176,7 +178,6 @@ fn live_fault(head: Head, table: &[u32], held: &[u32]) -> Check
 }
 
 // A held list: its length, and then each lease by position.
-// A step, no call of document 01: only the layers here call it, and each proves its `requires`.
 pub fn held_fault(head: Head, table: &[u32], held: &[u32]) -> Check
     requires { ⌜ shapeFits head (length (now table)) ≡ true ⌝ }
     ensures { λ r. ⌜ r ≡ first (badHeld head (now (table .entry)) (now (held .entry))) ⌝ }
@@ -192,7 +193,6 @@ pub fn held_fault(head: Head, table: &[u32], held: &[u32]) -> Check
 }
 
 // A cell number of a call by cell.
-// A step, no call of document 01: only the layers here call it, and each proves its `requires`.
 pub fn cell_fault(head: Head, cell: u32) -> Check
     requires { ⌜ cellsOf head ≤ 4096 ⌝ }
     ensures { λ r. ⌜ r ≡ first (badCell head cell ∷ []) ⌝ }
@@ -271,7 +271,8 @@ fn held_lease_check(head: Head, table: &[u32], held: &[u32], lease: Lease) -> Ch
 // 12, and then 13.
 fn drop_fault(head: Head, table: &[u32], held: &[u32], lease: Lease) -> Check
     requires { ⌜ shapeFits head (length (now table)) ≡ true ⌝ }
-    ensures { λ r. ⌜ r ≡ first (notHeld head (now (table .entry)) 0 lease ∷ isProtected (now (held .entry)) lease ∷ []) ⌝ }
+    ensures { λ r. ⌜ r
+        ≡ first (notHeld head (now (table .entry)) 0 lease ∷ isProtected (now (held .entry)) lease ∷ []) ⌝ }
 {
     let one = lease_fault(head, table, lease);
     match one {
@@ -282,6 +283,8 @@ fn drop_fault(head: Head, table: &[u32], held: &[u32], lease: Lease) -> Check
 
 // ---- the calls
 
+// One compare-and-set of a cell. A damaged cell is refused with 9, a held one answers Busy, and a free one with no
+// serial left is refused with 10; only a grant changes the table, and health and waiters are not read.
 pub fn try_acquire(head: Head, table: &mut [u32], cell: u32) -> Reply
     ensures { λ r. ⌜ (r, now (table .exit)) ≡ tryAcquireOf head (now (table .entry)) cell .seen ⌝ }
 {
@@ -292,7 +295,8 @@ pub fn try_acquire(head: Head, table: &mut [u32], cell: u32) -> Reply
     }
 }
 
-// One release, and no boundary.
+// One release, and no boundary; who waits for the cell stays noted. A lease that is not live, on a damaged cell too, is
+// refused with 12 and nothing changes.
 pub fn drop_lease(head: Head, table: &mut [u32], lease: Lease) -> Reply
     ensures { λ r. ⌜ (r, now (table .exit)) ≡ dropLeaseOf head (now (table .entry)) lease .seen ⌝ }
 {
@@ -306,7 +310,7 @@ pub fn drop_lease(head: Head, table: &mut [u32], lease: Lease) -> Reply
     }
 }
 
-// The lease's cell.
+// Answers the cell of a live lease and changes nothing; any other lease is refused with 12.
 pub fn read_permission(head: Head, table: &[u32], lease: Lease) -> Reply
     ensures { λ r. ⌜ r ≡ readPermissionOf head (now (table .entry)) lease .seen ⌝ }
 {
@@ -317,7 +321,8 @@ pub fn read_permission(head: Head, table: &[u32], lease: Lease) -> Reply
     }
 }
 
-// One compare-and-set of a live lease's cell: it is Busy and changes nothing.
+// One compare-and-set of a live lease's cell: it is Busy always, and changes nothing. A lease that is not live is
+// refused with 12 before the attempt.
 pub fn competing_acquire_is_excluded(head: Head, table: &mut [u32], lease: Lease) -> Reply
     ensures { λ r. ⌜ (r, now (table .exit)) ≡ competingAcquireOf head (now (table .entry)) lease .seen ⌝ }
 {
@@ -328,7 +333,8 @@ pub fn competing_acquire_is_excluded(head: Head, table: &mut [u32], lease: Lease
     }
 }
 
-// The lease released, and its cell taken anew; without a serial the release stands.
+// The lease released, and its cell taken anew. With no serial left it is refused with 10, and the release stands: the
+// cell is free. A lease that is not live is refused with 12 and keeps its cell.
 pub fn release_then_handoff(head: Head, table: &mut [u32], lease: Lease) -> Reply
     ensures { λ r. ⌜ (r, now (table .exit)) ≡ releaseThenHandoffOf head (now (table .entry)) lease .seen ⌝ }
 {
@@ -339,14 +345,16 @@ pub fn release_then_handoff(head: Head, table: &mut [u32], lease: Lease) -> Repl
     }
 }
 
-// A try_acquire that is Busy, a release, a try_acquire.
+// A try_acquire that is Busy, a foreign release, a try_acquire: two attempts. A lease that the held list has is refused
+// with 13 and keeps its cell; with no serial left the second attempt is refused with 10, and the cell is free.
 pub fn foreign_release_between_attempts(
     head: Head,
     table: &mut [u32],
     held: &[u32],
     lease: Lease,
 ) -> Reply
-    ensures { λ r. ⌜ (r, now (table .exit)) ≡ foreignReleaseOf head (now (table .entry)) (now (held .entry)) lease .seen ⌝ }
+    ensures { λ r. ⌜ (r, now (table .exit))
+        ≡ foreignReleaseOf head (now (table .entry)) (now (held .entry)) lease .seen ⌝ }
 {
     let check = held_lease_check(head, table, held, lease);
     match check {
@@ -359,9 +367,11 @@ pub fn foreign_release_between_attempts(
     }
 }
 
-// try_acquire after the held list's check.
+// try_acquire after the held list's check. A held lease that is not live refuses the call with 3 and its position; the
+// held leases stay live.
 pub fn acquire_preserving_borrows(head: Head, table: &mut [u32], held: &[u32], cell: u32) -> Reply
-    ensures { λ r. ⌜ (r, now (table .exit)) ≡ acquirePreservingOf head (now (table .entry)) (now (held .entry)) cell .seen ⌝ }
+    ensures { λ r. ⌜ (r, now (table .exit))
+        ≡ acquirePreservingOf head (now (table .entry)) (now (held .entry)) cell .seen ⌝ }
 {
     let check = held_cell_check(head, table, held, cell);
     match check {
@@ -370,9 +380,10 @@ pub fn acquire_preserving_borrows(head: Head, table: &mut [u32], held: &[u32], c
     }
 }
 
-// drop_lease, but not of a lease in the held list.
+// drop_lease, but not of a lease in the held list: that is refused with 13, and nothing changes.
 pub fn drop_preserving_borrows(head: Head, table: &mut [u32], held: &[u32], lease: Lease) -> Reply
-    ensures { λ r. ⌜ (r, now (table .exit)) ≡ dropPreservingOf head (now (table .entry)) (now (held .entry)) lease .seen ⌝ }
+    ensures { λ r. ⌜ (r, now (table .exit))
+        ≡ dropPreservingOf head (now (table .entry)) (now (held .entry)) lease .seen ⌝ }
 {
     let check = held_lease_check(head, table, held, lease);
     match check {

@@ -6,20 +6,19 @@ use mathlib.Core.Bool.{Bool, true, false}
 use native.Mathlib.Omega.{arith}
 use lib.Dec.{eqb}
 use borrow.Author.Tests.{eq-eqb, eqb-true}
-use Rattle.model.specs.Choice.{if_then_else_}
+use Rattle.choice.specs.Choice.{if_then_else_}
 use Rattle.model.specs.Log.{Made}
-use Rattle.model.specs.Arena.{leaseOf, waitersAt, spentTo, stateAt, serialRemains}
+use Rattle.model.specs.Arena.{leaseOf, waitersAt, headOf, stateAt, serialRemains}
 use Rattle.model.specs.Foreign.{Setting, protecting, flowOf, stepsIn, boundaryOf}
 use Rattle.model.specs.Lock.{takeIn, takeOf, tookOf, lateOf, afterTake, secondOf, lockOf, lockedOf}
 use Rattle.model.specs.declared.Flow.{Flow}
-use Rattle.model.specs.declared.Head.{Head}
 use Rattle.model.specs.declared.Locked.{Locked}
 use Rattle.model.specs.declared.State.{State}
 use Rattle.model.specs.declared.State.the-variants as state
 use Rattle.model.specs.declared.Take.{Take}
 use Rattle.model.specs.declared.Take.the-variants as taking
 use Rattle.model.specs.declared.Took.{Took}
-use Rattle.laws.specs.Pick.{if-both}
+use Rattle.choice.specs.Pick.{if-both}
 use Rattle.laws.specs.Words.{waiters-set-cell}
 use Rattle.lease.specs.Model.{claimAtOf}
 use Rattle.foreign.specs.Laws.{FlowBound, boundary-quiet, boundary-flow-bound}
@@ -119,7 +118,7 @@ pub lock-locked-bound : (o : Locked × (List ℕ × List ℕ)) (e : Setting) (f 
 lock-locked-bound o e f t g c q b = rw q (lock-kept e g c f t g b)
 
 -- the compare-and-set as the code makes it, on a whole head
-pub take-claim : (h : Head) (next : ℕ) (t : List ℕ) (c : ℕ)
-    → takeOf next t c .seen ≡ (tookOf (claimAtOf (spentTo h next) t c .0 .head .next) (claimAtOf (spentTo h next) t c .0 .answer), claimAtOf (spentTo h next) t c .1)
+pub take-claim : (headers buckets next : ℕ) (t : List ℕ) (c : ℕ)
+    → takeOf next t c .seen ≡ (tookOf (claimAtOf (headOf headers buckets next) t c .0 .head .next) (claimAtOf (headOf headers buckets next) t c .0 .answer), claimAtOf (headOf headers buckets next) t c .1)
 unfolding claimAtOf
-take-claim h next t c = refl
+take-claim headers buckets next t c = refl

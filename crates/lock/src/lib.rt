@@ -1,5 +1,8 @@
 // try_lock: three boundaries, the waiters read before and after, and a late release whose serial stays spent.
 // Functions with a `requires` are steps: calls have tested the shape, and a step tests nothing twice.
+// Steps are no calls of document 01, public ones neither: only the layers here call them (tests/layers.sh), and each
+// caller proves their `requires`.
+use foreign::Scope;
 use model::Check;
 use model::Flow;
 use model::Head;
@@ -14,54 +17,50 @@ ghost use lib.ListN.{length};
 ghost use Rattle.model.specs.Arena.{leasesOf};
 ghost use Rattle.model.specs.Refusals.{first};
 ghost use Rattle.model.specs.Checks.{lockRules};
-ghost use Rattle.model.specs.Foreign.{setting};
-ghost use Rattle.model.specs.Lock.{lateOf, secondOf, lockOf};
+ghost use Rattle.model.specs.Lock.{lockedOf, lateOf, secondOf, lockOf};
 ghost use Rattle.model.specs.Calls.{tryLockOf};
-ghost use Rattle.foreign.specs.Model.{guardsOf, Room};
+ghost use Rattle.foreign.specs.Model.{inScope, settingOf, RoomIn};
 ghost use Rattle.foreign.specs.Laws.{FlowBound};
 ghost use Rattle.lock.specs.Model.{quietLockOf, boundariesFor, lockOnceOf};
 ghost use Rattle.lock.specs.Fine.{LockFine};
 
 // The third boundary, and the second look at the waiters.
 fn late(
-    headers: u32,
-    cells: u32,
+    scope: Scope,
     flow: Flow,
     table: &mut [u32],
     health: &mut [u8],
     script: &[u32],
-    steps: usize,
     held: &[u32],
     taken: &[[u32; 2]; 64],
     n: usize,
-    cell: u32,
-    serial: u32,
+    own: Lease,
 ) -> Locked
-    requires { ⌜ Room headers cells (length (now table)) (length (now health)) n steps (length (now script)) × (FlowBound steps flow × (cell < cells)) ⌝ }
-    ensures { λ r. ⌜ (r, (now (table .exit), now (health .exit))) ≡ lateOf (setting headers cells (now (script .entry)) (guardsOf (now (held .entry)) (now (taken .entry)) n)) flow (now (table .entry)) (now (health .entry)) cell serial .seen ⌝ }
+    requires { ⌜ RoomIn scope (length (now table)) (length (now health)) n (length (now script))
+        × (FlowBound (scope .steps) flow × (own .cell < scope .cells)) ⌝ }
+    ensures { λ r. ⌜ (r, (now (table .exit), now (health .exit)))
+        ≡ lateOf (settingOf scope (now (script .entry)) (now (held .entry)) (now (taken .entry)) n)
+        flow (now (table .entry)) (now (health .entry)) (own .cell) (own .serial) .seen ⌝ }
 {
-    let own = Lease { cell, serial };
     let after = foreign::protecting_boundary(
-        headers,
-        cells,
+        scope,
         flow,
         table,
         health,
         script,
-        steps,
         held,
         taken,
         n,
         own,
     );
-    if arena::waiters_at(table, cell) == 0 {
+    if arena::waiters_at(table, own.cell) == 0 {
         return Locked {
             flow: after,
             boundaries: 3,
-            answer: Take::Granted(serial),
+            answer: Take::Granted(own.serial),
         };
     }
-    arena::release(table, cell);
+    arena::release(table, own.cell);
     Locked {
         flow: after,
         boundaries: 3,
@@ -69,37 +68,37 @@ fn late(
     }
 }
 
+// A try_lock whose compare-and-set gave no lease ends there, after two boundaries.
+fn stopped(flow: Flow, answer: Take) -> Locked
+    ensures { λ r. ⌜ r ≡ lockedOf flow 2 answer ⌝ }
+{
+    Locked {
+        flow,
+        boundaries: 2,
+        answer,
+    }
+}
+
 // The second boundary, and the compare-and-set.
 fn second(
-    head: Head,
-    cells: u32,
+    scope: Scope,
     flow: Flow,
     table: &mut [u32],
     health: &mut [u8],
     script: &[u32],
-    steps: usize,
     held: &[u32],
     taken: &[[u32; 2]; 64],
     n: usize,
     cell: u32,
 ) -> Locked
-    requires { ⌜ Room (head .headers) cells (length (now table)) (length (now health)) n steps (length (now script)) × (FlowBound steps flow × (cell < cells)) ⌝ }
-    ensures { λ r. ⌜ (r, (now (table .exit), now (health .exit))) ≡ secondOf (setting (head .headers) cells (now (script .entry)) (guardsOf (now (held .entry)) (now (taken .entry)) n)) flow (now (table .entry)) (now (health .entry)) cell .seen ⌝ }
+    requires { ⌜ RoomIn scope (length (now table)) (length (now health)) n (length (now script))
+        × (FlowBound (scope .steps) flow × (cell < scope .cells)) ⌝ }
+    ensures { λ r. ⌜ (r, (now (table .exit), now (health .exit)))
+        ≡ secondOf (settingOf scope (now (script .entry)) (now (held .entry)) (now (taken .entry)) n)
+        flow (now (table .entry)) (now (health .entry)) cell .seen ⌝ }
 {
-    let headers = head.headers;
-    let after = foreign::boundary(
-        headers,
-        cells,
-        flow,
-        table,
-        health,
-        script,
-        steps,
-        held,
-        taken,
-        n,
-    );
-    let claim = lease::claim_at(head.spent_to(after.next), table, cell);
+    let after = foreign::boundary(scope, flow, table, health, script, held, taken, n);
+    let claim = lease::claim_at(scope.head(after.next), table, cell);
     let spent = claim.head;
     let answer = claim.answer;
     let on = Flow {
@@ -108,82 +107,37 @@ fn second(
         dropped: after.dropped,
     };
     match answer {
-        Take::Granted(serial) => late(
-            headers,
-            cells,
-            on,
-            table,
-            health,
-            script,
-            steps,
-            held,
-            taken,
-            n,
-            cell,
-            serial,
-        ),
-        Take::Busy => Locked {
-            flow: on,
-            boundaries: 2,
-            answer: Take::Busy,
-        },
-        Take::Damaged => Locked {
-            flow: on,
-            boundaries: 2,
-            answer: Take::Damaged,
-        },
-        Take::Spent => Locked {
-            flow: on,
-            boundaries: 2,
-            answer: Take::Spent,
-        },
+        Take::Granted(serial) => {
+            let own = Lease { cell, serial };
+            late(scope, on, table, health, script, held, taken, n, own)
+        }
+        Take::Busy => stopped(on, Take::Busy),
+        Take::Damaged => stopped(on, Take::Damaged),
+        Take::Spent => stopped(on, Take::Spent),
     }
 }
 
 // One try_lock: the first boundary, and the first look at the waiters.
-// A step, no call of document 01: only the layers here call it, and each proves its `requires`.
 pub fn lock(
-    head: Head,
-    cells: u32,
+    scope: Scope,
     flow: Flow,
     table: &mut [u32],
     health: &mut [u8],
     script: &[u32],
-    steps: usize,
     held: &[u32],
     taken: &[[u32; 2]; 64],
     n: usize,
     cell: u32,
 ) -> Locked
-    requires { ⌜ Room (head .headers) cells (length (now table)) (length (now health)) n steps (length (now script)) × (FlowBound steps flow × (cell < cells)) ⌝ }
-    ensures { λ r. ⌜ (r, (now (table .exit), now (health .exit))) ≡ lockOf (setting (head .headers) cells (now (script .entry)) (guardsOf (now (held .entry)) (now (taken .entry)) n)) flow (now (table .entry)) (now (health .entry)) cell .seen ⌝ }
+    requires { ⌜ RoomIn scope (length (now table)) (length (now health)) n (length (now script))
+        × (FlowBound (scope .steps) flow × (cell < scope .cells)) ⌝ }
+    ensures { λ r. ⌜ (r, (now (table .exit), now (health .exit)))
+        ≡ lockOf (settingOf scope (now (script .entry)) (now (held .entry)) (now (taken .entry)) n)
+        flow (now (table .entry)) (now (health .entry)) cell .seen ⌝ }
 {
-    let after = foreign::boundary(
-        head.headers,
-        cells,
-        flow,
-        table,
-        health,
-        script,
-        steps,
-        held,
-        taken,
-        n,
-    );
+    let after = foreign::boundary(scope, flow, table, health, script, held, taken, n);
     if arena::waiters_at(table, cell) == 0 {
-        return second(
-            head,
-            cells,
-            after,
-            table,
-            health,
-            script,
-            steps,
-            held,
-            taken,
-            n,
-            cell,
-        );
+        return second(scope, after, table, health, script, held, taken, n, cell);
     }
     Locked {
         flow: Flow {
@@ -209,7 +163,6 @@ fn boundaries_for(answer: Take) -> usize
 }
 
 // One try_lock past the script's end, where every boundary is quiet.
-// A step, no call of document 01: only the layers here call it, and each proves its `requires`.
 pub fn quiet_lock(head: Head, flow: Flow, table: &mut [u32], cell: u32) -> Locked
     requires { ⌜ 3 * cell + 2 < length (now table) ⌝ }
     ensures { λ r. ⌜ (r, now (table .exit)) ≡ quietLockOf flow (now (table .entry)) cell ⌝ }
@@ -246,7 +199,9 @@ fn lock_check(
     held: &[u32],
     cell: u32,
 ) -> Check
-    ensures { λ r. ⌜ r ≡ first (lockRules head (now (table .entry)) (now (health .entry)) (now (script .entry)) place (now (held .entry)) cell) ⌝ }
+    ensures { λ r. ⌜ r
+        ≡ first (lockRules head (now (table .entry)) (now (health .entry))
+        (now (script .entry)) place (now (held .entry)) cell) ⌝ }
 {
     let lists = foreign::script_check(head, table, health, script, place, held);
     match lists {
@@ -258,36 +213,25 @@ fn lock_check(
 // The try_lock of a call that has taken nothing. Past the script's end it is the quiet one, and then no room for leases
 // is made.
 fn lock_alone(
-    head: Head,
-    cells: u32,
+    scope: Scope,
     flow: Flow,
     table: &mut [u32],
     health: &mut [u8],
     script: &[u32],
-    steps: usize,
     held: &[u32],
     cell: u32,
 ) -> Locked
-    requires { ⌜ Room (head .headers) cells (length (now table)) (length (now health)) 0 steps (length (now script)) × (FlowBound steps flow × (cell < cells)) ⌝ }
-    ensures { λ r. ⌜ (r, (now (table .exit), now (health .exit))) ≡ lockOf (setting (head .headers) cells (now (script .entry)) (leasesOf (now (held .entry)))) flow (now (table .entry)) (now (health .entry)) cell .seen ⌝ }
+    requires { ⌜ RoomIn scope (length (now table)) (length (now health)) 0 (length (now script))
+        × (FlowBound (scope .steps) flow × (cell < scope .cells)) ⌝ }
+    ensures { λ r. ⌜ (r, (now (table .exit), now (health .exit)))
+        ≡ lockOf (inScope scope (now (script .entry)) (leasesOf (now (held .entry))))
+        flow (now (table .entry)) (now (health .entry)) cell .seen ⌝ }
 {
-    if flow.place < steps {
+    if flow.place < scope.steps {
         let taken = [[0; 2]; 64];
-        return lock(
-            head,
-            cells,
-            flow,
-            table,
-            health,
-            script,
-            steps,
-            held,
-            &taken,
-            0,
-            cell,
-        );
+        return lock(scope, flow, table, health, script, held, &taken, 0, cell);
     }
-    quiet_lock(head, flow, table, cell)
+    quiet_lock(scope.head(flow.next), flow, table, cell)
 }
 
 // One try_lock of a call whose checks are fine.
@@ -301,16 +245,17 @@ fn lock_once(
     cell: u32,
 ) -> Played
     requires { ⌜ LockFine head (length (now table)) (length (now health)) (length (now script)) place cell ⌝ }
-    ensures { λ r. ⌜ (r, (now (table .exit), now (health .exit))) ≡ lockOnceOf head (now (table .entry)) (now (health .entry)) (now (script .entry)) place (now (held .entry)) cell ⌝ }
+    ensures { λ r. ⌜ (r, (now (table .exit), now (health .exit)))
+        ≡ lockOnceOf head (now (table .entry)) (now (health .entry))
+        (now (script .entry)) place (now (held .entry)) cell ⌝ }
 {
     let flow = Flow {
         next: head.next,
         place,
         dropped: 0,
     };
-    let cells = head.headers * head.buckets;
-    let steps = script.len() / 3;
-    let locked = lock_alone(head, cells, flow, table, health, script, steps, held, cell);
+    let scope = foreign::scope_of(head, script);
+    let locked = lock_alone(scope, flow, table, health, script, held, cell);
     let after = locked.flow;
     let answer = locked.answer;
     let run = Run {
@@ -323,6 +268,8 @@ fn lock_once(
     foreign::play(head, run, lease::answer_of(outcome))
 }
 
+// One attempt by cell, with up to three boundaries: Busy where somebody waits or holds. A lease that was taken and given
+// up because somebody waits is Busy too, its cell free, its serial spent. Health is not read.
 pub fn try_lock(
     head: Head,
     table: &mut [u32],
@@ -332,7 +279,9 @@ pub fn try_lock(
     held: &[u32],
     cell: u32,
 ) -> Played
-    ensures { λ r. ⌜ (r, (now (table .exit), now (health .exit))) ≡ tryLockOf head (now (table .entry)) (now (health .entry)) (now (script .entry)) place (now (held .entry)) cell .seen ⌝ }
+    ensures { λ r. ⌜ (r, (now (table .exit), now (health .exit)))
+        ≡ tryLockOf head (now (table .entry)) (now (health .entry))
+        (now (script .entry)) place (now (held .entry)) cell .seen ⌝ }
 {
     let check = lock_check(head, table, health, script, place, held, cell);
     match check {
@@ -341,7 +290,7 @@ pub fn try_lock(
     }
 }
 
-// The same: the leases of its held list stay live.
+// The same: the leases of its held list stay live, whatever the script says.
 pub fn other_mutex_preserves_leases(
     head: Head,
     table: &mut [u32],
@@ -351,7 +300,9 @@ pub fn other_mutex_preserves_leases(
     held: &[u32],
     cell: u32,
 ) -> Played
-    ensures { λ r. ⌜ (r, (now (table .exit), now (health .exit))) ≡ tryLockOf head (now (table .entry)) (now (health .entry)) (now (script .entry)) place (now (held .entry)) cell .seen ⌝ }
+    ensures { λ r. ⌜ (r, (now (table .exit), now (health .exit)))
+        ≡ tryLockOf head (now (table .entry)) (now (health .entry))
+        (now (script .entry)) place (now (held .entry)) cell .seen ⌝ }
 {
     try_lock(head, table, health, script, place, held, cell)
 }

@@ -1,7 +1,7 @@
 -- The characters of the console's `map` (docs/CONSOLE.md, "The arena at a glance").
 use Prim.Native.Nat.{ℕ}
 use lib.Dec.{eqb}
-use Rattle.model.specs.Choice.{if_then_else_}
+use Rattle.choice.specs.Choice.{if_then_else_}
 use Rattle.model.specs.declared.State.{State}
 use Rattle.model.specs.declared.State.the-variants.{Free, Held, Damaged}
 

@@ -1,4 +1,4 @@
-// The arena at a glance: a line for each header, a character for each cell.
+// The bench console. The arena at a glance: a line for each header, a character for each cell.
 use desk::Desk;
 use desk::within;
 use model::Head;
@@ -9,7 +9,7 @@ use text::put_form;
 ghost use mathlib.Core.Path.{_≡_};
 ghost use lib.Dec.{eqb};
 ghost use Rattle.model.specs.Arena.{stateOf};
-ghost use Rattle.model.specs.Choice.{if_then_else_};
+ghost use Rattle.choice.specs.Choice.{if_then_else_};
 ghost use Rattle.map.specs.Map.{signOf};
 
 // One character for a cell without waiters, another for one with.

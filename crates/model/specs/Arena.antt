@@ -4,7 +4,7 @@ use mathlib.Core.List.{List, [], _∷_}
 use mathlib.Core.Bool.{Bool, true, false, _&&_}
 use lib.Dec.{ltb, leb, eqb}
 use lib.ListN.{getD, set}
-use Rattle.model.specs.Choice.{if_then_else_}
+use Rattle.choice.specs.Choice.{if_then_else_}
 use Rattle.model.specs.declared.Head.{Head}
 use Rattle.model.specs.declared.Issue.{Issue}
 use Rattle.model.specs.declared.Lease.{Lease}

@@ -6,7 +6,7 @@ use mathlib.Core.List.{List, [], _∷_, _++_}
 use mathlib.Core.Bool.{Bool, true, _&&_, _||_}
 use lib.Dec.{eqb}
 use lib.ListN.{getD, replicate}
-use Rattle.model.specs.Choice.{if_then_else_}
+use Rattle.choice.specs.Choice.{if_then_else_}
 use Rattle.model.specs.Log.{Made}
 use Rattle.model.specs.Arena.{headOf, leaseOf, bitAt, ownerAt, waitersAt, setCell, setWaiters, isFree, isHeld, stateOf, stateAt, isLive, leasesOf, wordsOf, sameLease, isIn, headFits, shapeFits, healthFits, registryFits}
 use Rattle.model.specs.Refusals.{first}
@@ -42,6 +42,12 @@ abbrev fromReply : Made (Reply × List ℕ) → Out
 fromReply m =
     let r = m .seen .0 in
     record { answer = r .answer; head = r .head; at = 0; counts = r .counts; turns = (0, 0); table = m .seen .1; lease = valuesOf (r .answer) }
+
+-- a call that changes no word
+abbrev fromRead : Made Reply → Out
+fromRead m =
+    let r = m .seen in
+    record { answer = r .answer; head = r .head; at = 0; counts = r .counts; turns = (0, 0); table = []; lease = valuesOf (r .answer) }
 
 abbrev fromPlayed : Made (Played × (List ℕ × List ℕ)) → Out
 fromPlayed m =
@@ -241,9 +247,11 @@ further =
     ∷ (tryAcquire used 5 give (granted is 1 ∷ cell is 5 ∷ serial is 3 ∷ next is 4 ∷ bit 5 is 1 ∷ owner 5 is 3 ∷ []))
     ∷ (tryAcquire used 8 give (refusal is 8 ∷ carries is 8 ∷ attempts is 0 ∷ []))
     -- waiters are read before the cell
-    ∷ (fromPlayed (tryLockOf (bench 3) used healthy [] 0 [] 5) ∷ [] give (busy is 1 ∷ boundaries is 1 ∷ next is 3 ∷ []))
+    ∷ (fromPlayed (tryLockOf (bench 3) used healthy [] 0 [] 5) ∷ [] give (busy is 1 ∷ attempts is 1 ∷ boundaries is 1 ∷ next is 3 ∷ []))
     -- steps: a take, a release by another serial, a protected release, a release, health 2, kind 6, a place out of range; nothing behind the 5
     ∷ (play (1 ∷ 3 ∷ 7 ∷ 2 ∷ 2 ∷ 1 ∷ 2 ∷ 0 ∷ 1 ∷ 2 ∷ 2 ∷ 2 ∷ 4 ∷ 0 ∷ 2 ∷ 6 ∷ 0 ∷ 0 ∷ 3 ∷ 8 ∷ 1 ∷ 0 ∷ 9 ∷ 9 ∷ 5 ∷ 9 ∷ 9 ∷ 1 ∷ 4 ∷ 0 ∷ []) (0 ∷ 1 ∷ []) give (done is 1 ∷ dropped is 5 ∷ place is 9 ∷ boundaries is 1 ∷ next is 4 ∷ owner 3 is 3 ∷ bit 2 is 0 ∷ bit 0 is 1 ∷ bit 4 is 0 ∷ []))
+    -- a place past the script's end
+    ∷ (fromPlayed (environmentOf (bench 3) used healthy (5 ∷ 0 ∷ 0 ∷ []) 2 []) ∷ [] give (refusal is 2 ∷ place is 2 ∷ boundaries is 0 ∷ []))
     -- a list to release: in order of position, 12 before 14 at one place
     ∷ (releaseAll (0 ∷ 1 ∷ 0 ∷ 1 ∷ 7 ∷ 7 ∷ []) give (refusal is 14 ∷ carries is 1 ∷ bit 0 is 1 ∷ []))
     ∷ (releaseAll (0 ∷ 1 ∷ 7 ∷ 7 ∷ 0 ∷ 1 ∷ []) give (refusal is 12 ∷ carries is 1 ∷ bit 0 is 1 ∷ []))
@@ -251,7 +259,11 @@ further =
     -- a held list: odd carries its count, else the first lease not live
     ∷ (play [] (0 ∷ 1 ∷ 7 ∷ []) give (refusal is 3 ∷ carries is 1 ∷ boundaries is 0 ∷ []))
     ∷ (play [] (0 ∷ 1 ∷ 2 ∷ 1 ∷ 7 ∷ 7 ∷ []) give (refusal is 3 ∷ carries is 1 ∷ []))
+    -- a held list and a registry that are one too long
+    ∷ (play [] (replicate 130 7) give (refusal is 3 ∷ carries is 65 ∷ []))
+    ∷ (fromPlayed (acquireBucketOf (bench 3) used healthy (replicate 65 0) [] 0 [] 0 3) ∷ [] give (refusal is 1 ∷ attempts is 0 ∷ []))
     -- the small calls
+    ∷ (fromRead (readPermissionOf (bench 3) (setCell used 5 1 1) (leaseOf 5 1)) ∷ [] give (carries is 5 ∷ refusal is 0 ∷ attempts is 0 ∷ next is 3 ∷ []))
     ∷ (fromReply (competingAcquireOf (bench 3) used (leaseOf 2 2)) ∷ [] give (busy is 1 ∷ attempts is 1 ∷ owner 2 is 2 ∷ next is 3 ∷ []))
     ∷ (fromReply (releaseThenHandoffOf (bench 3) used (leaseOf 2 2)) ∷ [] give (granted is 1 ∷ cell is 2 ∷ serial is 3 ∷ attempts is 1 ∷ next is 4 ∷ owner 2 is 3 ∷ []))
     ∷ (fromReply (foreignReleaseOf (bench 3) used (0 ∷ 1 ∷ []) (leaseOf 2 2)) ∷ [] give (granted is 1 ∷ serial is 3 ∷ attempts is 2 ∷ next is 4 ∷ []))

@@ -4,7 +4,7 @@ use mathlib.Core.List.{List, _++_}
 use mathlib.Core.Bool.{not, _&&_}
 use lib.Dec.{ltb, leb, eqb}
 use lib.ListN.{length, getD, set}
-use Rattle.model.specs.Choice.{if_then_else_}
+use Rattle.choice.specs.Choice.{if_then_else_}
 use Rattle.model.specs.Log.{Made, by-script, boundary-run, step-dropped, took, released, waiters-set, health-set, gives, note, _>>=_, _>>_}
 use Rattle.model.specs.Arena.{serialRemains, bitAt, ownerAt, setCell, setWaiters, isFree, isLive, isIn, leaseOf}
 use Rattle.model.specs.declared.Flow.{Flow}

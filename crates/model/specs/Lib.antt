@@ -1,4 +1,3 @@
-pub mod Choice
 pub mod Log
 pub mod Arena
 pub mod Refusals

@@ -4,7 +4,7 @@ use mathlib.Core.List.{List, [], _∷_, _++_}
 use mathlib.Core.Bool.{Bool, true, false, not}
 use lib.Dec.{leb, eqb}
 use lib.ListN.{length, getD, take}
-use Rattle.model.specs.Choice.{if_then_else_}
+use Rattle.choice.specs.Choice.{if_then_else_}
 use Rattle.model.specs.Log.{Made, by-caller, attempt-begun, yielded, spun, took, released, gives, note, _>>=_, _>>_}
 use Rattle.model.specs.Arena.{serialRemains, cellNumber, waitersAt, setCell, stateAt, leaseOf, wordsOf}
 use Rattle.model.specs.Foreign.{Setting, protecting, flowOf, boundaryOf}

@@ -8,7 +8,7 @@ use native.Mathlib.Omega.{arith}
 use lib.Dec.{ltb, eqb}
 use lib.ListN.{length}
 use borrow.Author.Tests.{leb-false, ltb-false, eqb-true, not-false}
-use Rattle.model.specs.Arena.{cellsOf, leasesOf}
+use Rattle.model.specs.Arena.{leasesOf}
 use Rattle.model.specs.Refusals.{first}
 use Rattle.model.specs.Checks.{countIn, isOdd, badShape, badHealth, badRegistry, badScript, badHeld, tooManyKeys, badBinding, badBindings, locksRules}
 use Rattle.model.specs.Lock.{bindingAt, locksOf}
@@ -16,11 +16,15 @@ use Rattle.model.specs.Calls.{starting, given, played}
 use Rattle.model.specs.declared.Check.{Check}
 use Rattle.model.specs.declared.Check.the-variants.{Fine}
 use Rattle.model.specs.declared.Head.{Head}
+use Rattle.model.specs.declared.Lease.{Lease}
 use Rattle.model.specs.declared.Played.{Played}
-use Rattle.laws.specs.Pick.{neither}
+use Rattle.model.specs.declared.Run.{Run}
+use Rattle.choice.specs.Pick.{neither}
 use Rattle.laws.specs.Checks.{or-else, first-append, first-two, fine-rest, fine-append}
 use Rattle.foreign.specs.Fine.{ScriptFine}
 use Rattle.bucket.specs.Fine.{keyRules, key-fine, fine-key}
+use Rattle.foreign.specs.declared.Scope.{Scope}
+use Rattle.foreign.specs.Model.{scopeOf, inScope}
 use Rattle.multilock.specs.Locks.{Bound}
 
 -- ---- the bindings, one position at a time
@@ -80,13 +84,19 @@ locks-fine h t g registry script place held keys grants e =
       bound = λ i l. bindings-in (countIn keys) 0 registry keys (b .1) i (omega arith) (omega arith);
     }
 
-pub fine-bound : (h : Head) (words bytes script place : ℕ) (registry keys : List ℕ) (grants : ℕ) → LocksFine h words bytes script place registry keys grants
-    → Bound h (cellsOf h) words bytes (script / 3) script registry keys
-fine-bound h words bytes script place registry keys grants f =
-    record { key = fine-key h words bytes 1 script place 0 64 (f .script-ok) (omega arith) (omega arith); bound = f .bound }
+pub fine-bound : (s : Scope) (h : Head) (words bytes script place : ℕ) (registry keys : List ℕ) (grants : ℕ) → s ≡ scopeOf h script
+    → LocksFine h words bytes script place registry keys grants → Bound s words bytes script registry keys
+fine-bound s h words bytes script place registry keys grants e f =
+    record { key = fine-key s h words bytes 1 script place 0 64 e (f .script-ok) (omega arith) (omega arith); bound = f .bound }
 
 -- the steps, once the checks are fine
 unfoldable pub locksOnceOf : Head → List ℕ → List ℕ → List ℕ → List ℕ → ℕ → List ℕ → List ℕ → List ℕ → Played × (List ℕ × (List ℕ × List ℕ))
 locksOnceOf h t g registry script place held keys grants =
     let o = locksOf (countIn keys) 0 (given h script (leasesOf held)) (h .buckets) registry keys [] (starting h place) t g grants .seen in
     (played h (o .0 .run) (o .0 .answer), o .1)
+
+-- the same, by the scope that the steps are given
+pub locks-given : (s : Scope) (h : Head) (script : List ℕ) → s ≡ scopeOf h (length script)
+    → (n : ℕ) (ps : List Lease) (registry keys : List ℕ) (r : Run) (t g grants : List ℕ)
+    → locksOf n 0 (inScope s script ps) (s .buckets) registry keys [] r t g grants ≡ locksOf n 0 (given h script ps) (h .buckets) registry keys [] r t g grants
+locks-given s h script e n ps registry keys r t g grants = ap (λ (x : Scope). locksOf n 0 (inScope x script ps) (x .buckets) registry keys [] r t g grants) e

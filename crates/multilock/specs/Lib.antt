@@ -1,3 +1,2 @@
-pub mod Release
 pub mod Locks
 pub mod Fine

@@ -5,17 +5,16 @@ use mathlib.Core.List.{List, [], _∷_, _++_, append-assoc}
 use mathlib.Core.Logic.{_≢_}
 use native.Mathlib.Omega.{arith}
 use native.Mathlib.Decide.{ℕ-discrete}
-use lib.ListN.{length, getD, set, drop, length-append}
+use lib.ListN.{length, getD, set, take, drop, length-append}
 use lib.Seq.{getD-set-same, getD-set-other, set-at}
 use Rattle.model.specs.Log.{Made}
-use Rattle.model.specs.Arena.{leaseOf, wordsOf}
+use Rattle.model.specs.Arena.{leaseOf, leasesOf, wordsOf}
 use Rattle.model.specs.Foreign.{Setting, setting, protecting, stepsIn}
-use Rattle.model.specs.Lock.{outcomeOf, findOf, attemptAt, attemptOf, pauseOf, isBusy, retryOf, giveBackOf, endedOf, rollbackOf, afterKey, locksOf, bindingAt, bucketAt, Locks, lockOf}
+use Rattle.model.specs.Lock.{outcomeOf, findOf, attemptAt, attemptOf, pauseOf, isBusy, retryOf, giveBackOf, endedOf, rollbackOf, afterKey, locksOf, bindingAt, bucketAt, Locks, lockOf, leaseAt}
 use Rattle.model.specs.declared.Answer.the-variants as answer
 use Rattle.model.specs.declared.Ended.{Ended}
 use Rattle.model.specs.declared.Found.{Found}
 use Rattle.model.specs.declared.Found.the-variants as found
-use Rattle.model.specs.declared.Head.{Head}
 use Rattle.model.specs.declared.Lease.{Lease}
 use Rattle.model.specs.declared.Outcome.{Outcome}
 use Rattle.model.specs.declared.Outcome.the-variants as outcome
@@ -24,14 +23,16 @@ use Rattle.model.specs.declared.Run.{Run}
 use Rattle.model.specs.declared.Take.{Take}
 use Rattle.model.specs.declared.Take.the-variants as taking
 use Rattle.model.specs.declared.Tried.{Tried}
-use Rattle.foreign.specs.Model.{pairsOf}
-use Rattle.laws.specs.Pick.{if-both}
+use Rattle.foreign.specs.declared.Scope.{Scope}
+use Rattle.foreign.specs.Model.{pairsOf, guardsOf}
+use Rattle.choice.specs.Pick.{if-both}
 use Rattle.laws.specs.Lists.{length-words}
 use Rattle.laws.specs.Checks.{drop-two}
 use Rattle.laws.specs.Keys.{find-inside}
-use Rattle.bucket.specs.Model.{Key}
+use Rattle.bucket.specs.Model.{KeyFits}
 use Rattle.bucket.specs.Bounds.{keyMost}
 use Rattle.bucket.specs.Laws.{RunBound, more-run-bound, attempt-run-bound, pause-run-bound}
+use Rattle.release.specs.Release.{giveOneOf, give-back-at}
 
 -- ---- the array of pairs
 
@@ -42,6 +43,19 @@ pub length-pairs : (n i : ℕ) (a : List (List ℕ)) → length (pairsOf n i a) 
 unfolding pairsOf
 length-pairs zero i a = refl
 length-pairs (suc n) i a = ap suc (length-pairs n (i + 1) a)
+
+-- the first of them, and the one at a position
+take-pairs : (n m i : ℕ) (a : List (List ℕ)) → m ≤ n → take m (pairsOf n i a) ≡ pairsOf m i a
+unfolding pairsOf
+take-pairs n zero i a l = refl
+take-pairs zero (suc m) i a l = absurd (omega arith)
+take-pairs (suc n) (suc m) i a l = rw (take-pairs n m (i + 1) a (omega arith))
+
+pair-at : (n m i : ℕ) (a : List (List ℕ)) → m < n → leaseAt (pairsOf n i a) m ≡ pair a (i + m)
+unfolding pairsOf
+pair-at zero m i a l = absurd (omega arith)
+pair-at (suc n) zero i a l = let e : i + 0 ≡ i = omega arith in rw e
+pair-at (suc n) (suc m) i a l = let e : i + suc m ≡ i + 1 + m = omega arith in rw e (pair-at n m (i + 1) a (omega arith))
 
 -- one more at the end
 pub pairs-more : (n i : ℕ) (a : List (List ℕ)) → pairsOf (n + 1) i a ≡ pairsOf n i a ++ (pair a (i + n) ∷ [])
@@ -140,6 +154,20 @@ module _ (n p : ℕ) (e : Setting) (buckets : ℕ) (registry keys : List ℕ) (t
   unfolding locksOf
   locks-end l = let d : n - p ≡ 0 = omega arith in rw d
 
+-- ---- one turn of the rollback, as the code makes it
+
+-- the leases are the first n pairs of an array, behind a held list; the first m are lent as the protected ones
+pub give-pairs-at : (k m n headers cells : ℕ) (script held : List ℕ) (taken : List (List ℕ)) (r : Run) (t g : List ℕ) (o : Run × (List ℕ × List ℕ))
+    → k ≡ m + 1 → m < n
+    → o ≡ giveOneOf (setting headers cells script (guardsOf held taken m)) r t g (getD (getD taken m []) 0 0)
+    → giveBackOf k (setting headers cells script (leasesOf held)) (pairsOf n 0 taken) r t g .seen
+    ≡ giveBackOf m (setting headers cells script (leasesOf held)) (pairsOf n 0 taken) (o .0) (o .1 .0) (o .1 .1) .seen
+unfolding guardsOf
+give-pairs-at k m n headers cells script held taken r t g o l b q =
+    let z : 0 + m ≡ m = omega arith in
+    give-back-at k m (setting headers cells script (leasesOf held)) (pairsOf n 0 taken) r t g o l
+    (q ∙ rw (take-pairs n m 0 taken (omega arith), pair-at n m 0 taken b, z))
+
 -- a rollback, as the code has it: without the grant buffer, which it does not touch
 unfoldable pub rollBackOf : Setting → List Lease → Refusal → ℕ → Run → List ℕ → List ℕ → Ended × (List ℕ × List ℕ)
 rollBackOf e ls x p r t g = let k = giveBackOf (length ls) e ls r t g .seen in (endedOf (k .0) (answer.RefusedAt x p), k .1)
@@ -176,14 +204,14 @@ words-more i a b l =
     ∙ sym (rw (pairs-more i 0 a, z, words-append (pairsOf i 0 a) (pair a i ∷ []), append-assoc w (pair a i .cell ∷ pair a i .serial ∷ []) (drop (2 * (i + 1)) b), ← d)))
 
 -- what the keys are given: an arena whose cells can be numbered, and bindings inside the registry
-pub record Bound (h : Head) (cells words bytes steps script : ℕ) (registry keys : List ℕ) : Type 0 where
-  pub key : Key h cells words bytes 64 steps script 1 0
+pub record Bound (s : Scope) (words bytes script : ℕ) (registry keys : List ℕ) : Type 0 where
+  pub key : KeyFits s words bytes 64 script 1 0
   pub bound : (i : ℕ) → 2 * i + 1 < length keys → bindingAt keys i < length registry
 
 -- the key at a position
-pub bound-key : (h : Head) (cells words bytes steps script : ℕ) (registry keys : List ℕ) (p : ℕ) → p < 64 → 2 * p + 1 < length keys
-    → Bound h cells words bytes steps script registry keys → Key h cells words bytes p steps script (length registry) (bindingAt keys p)
-bound-key h cells words bytes steps script registry keys p l k b =
+pub bound-key : (s : Scope) (words bytes script : ℕ) (registry keys : List ℕ) (p : ℕ) → p < 64 → 2 * p + 1 < length keys
+    → Bound s words bytes script registry keys → KeyFits s words bytes p script (length registry) (bindingAt keys p)
+bound-key s words bytes script registry keys p l k b =
     record {
       room = record { words-fit = b .key .room .words-fit; bytes-fit = b .key .room .bytes-fit; few-taken = omega arith; steps-are = b .key .room .steps-are };
       fit = b .key .fit;
@@ -192,8 +220,8 @@ bound-key h cells words bytes steps script registry keys p l k b =
     }
 
 -- lengths do not change
-pub bound-for : {h : Head} {cells words words₀ bytes bytes₀ steps script : ℕ} {registry keys : List ℕ} → words ≡ words₀ → bytes ≡ bytes₀
-    → Bound h cells words₀ bytes₀ steps script registry keys → Bound h cells words bytes steps script registry keys
+pub bound-for : {s : Scope} {words words₀ bytes bytes₀ script : ℕ} {registry keys : List ℕ} → words ≡ words₀ → bytes ≡ bytes₀
+    → Bound s words₀ bytes₀ script registry keys → Bound s words bytes script registry keys
 bound-for p q b = rw (p, q) b
 
 -- a noted lease's cell is in range, with those before it

@@ -9,9 +9,9 @@ use lib.Dec.{eqb, leb}
 use lib.ListN.{length, getD, take, drop, replicate, length-append, length-replicate, List·getD-map, List·getD-eq-default}
 use lib.Seq.{take-append-seam}
 use borrow.Author.Tests.{leb-true}
-use Rattle.model.specs.Choice.{if_then_else_}
+use Rattle.choice.specs.Choice.{if_then_else_}
 use Rattle.model.specs.Names.{names, nameOf}
-use Rattle.laws.specs.Pick.{both}
+use Rattle.choice.specs.Pick.{both}
 use Rattle.text.specs.Text.{before}
 
 -- "padded byte strings": a name, and spaces up to 20 bytes

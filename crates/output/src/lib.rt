@@ -1,7 +1,7 @@
-// The room for output, and how it is written out. A function of the console puts text behind the first `used`
-// bytes of the room and says how many are used then. The room is written out when 9,000 bytes are used; between
-// two such places less than 7,000 are put, and the room has 16,384. So it is full only where output was lost, and
-// then it stays full.
+// The bench console. The room for output, and how it is written out. A function of the console puts text behind the
+// first `used` bytes of the room and says how many are used then. The room is written out when 9,000 bytes are used;
+// between two such places less than 7,000 are put, and the room has 16,384. So it is full only where output was lost,
+// and then it stays full.
 use desk::within_bytes;
 use text::put;
 ghost use Prim.Native.Nat.{_+_, _≤_};

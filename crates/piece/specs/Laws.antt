@@ -6,7 +6,7 @@ use mathlib.Core.Bool.{Bool, true, false}
 use native.Mathlib.Omega.{arith}
 use lib.Dec.{ltb}
 use borrow.Author.Tests.{ltb-true, lt-ltb}
-use Rattle.model.specs.Choice.{if_then_else_}
+use Rattle.choice.specs.Choice.{if_then_else_}
 use Rattle.piece.specs.declared.Piece.{Piece}
 use Rattle.piece.specs.Piece.{pieceOf, fresh, overLimit, overOf, endsOver, moreOf, afterOf, sum}
 

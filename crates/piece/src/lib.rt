@@ -1,4 +1,4 @@
-// A line that comes in pieces, and the limit of its length. docs/CONSOLE.md, "Lines", has the rule.
+// The bench console. A line that comes in pieces, and the limit of its length. docs/CONSOLE.md, "Lines", has the rule.
 ghost use mathlib.Core.Path.{_≡_};
 ghost use Prim.Native.Nat.{_+_, _<_, _^_};
 ghost use Rattle.piece.specs.Piece.{moreOf, overOf, fresh};

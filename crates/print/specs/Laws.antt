@@ -11,7 +11,7 @@ use lib.Dec.{eqb, ltb}
 use lib.ListN.{length, getD, drop, take, set, length-append, drop-of-length-le}
 use lib.Seq.{sets, drop-cons}
 use borrow.Author.Tests.{ltb-true, ltb-false}
-use Rattle.model.specs.Choice.{if_then_else_}
+use Rattle.choice.specs.Choice.{if_then_else_}
 use Rattle.io.specs.Digits.{glyph, digits, Fewest}
 use Rattle.print.specs.Print.{putOf, placesIn, placesOf, decimalOf, pieceOf, afterOf, formFrom, formOf}
 

@@ -9,7 +9,7 @@ use lib.Dec.{eqb}
 use lib.ListN.{length, getD, set, drop, drop-of-length-le}
 use lib.Seq.{drop-cons, getD-set-same, getD-set-other}
 use borrow.Author.Tests.{eqb-true, eqb-false}
-use Rattle.model.specs.Choice.{if_then_else_}
+use Rattle.choice.specs.Choice.{if_then_else_}
 use Rattle.model.specs.Log.{Actor, Event, took, released}
 use Rattle.model.specs.Crew.{startOf, countOf, listOf, Crew, turnOf, turnsOf}
 use Rattle.model.specs.declared.Head.{Head}

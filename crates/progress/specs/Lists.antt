@@ -12,7 +12,7 @@ use Rattle.model.specs.Refusals.{first}
 use Rattle.model.specs.Crew.{startOf, countOf, listOf, risesFrom, badLimits, badLists, badTurns, crewRules}
 use Rattle.model.specs.declared.Check.the-variants.{Fine}
 use Rattle.model.specs.declared.Head.{Head}
-use Rattle.laws.specs.Pick.{both}
+use Rattle.choice.specs.Pick.{both}
 use Rattle.laws.specs.Shape.{Shaped, shaped}
 use Rattle.laws.specs.Checks.{fine-rest, fine-append}
 use Rattle.laws.specs.Crew.{member, listed, list-long, limits-fine, lists-rise, cell-inside}

@@ -14,7 +14,7 @@ use Rattle.model.specs.Checks.{badShape, badHealth}
 use Rattle.model.specs.Crew.{total, countOf, allWithin, badLimits, badLists, badTurns, crewRules, crewOf, Crew}
 use Rattle.model.specs.declared.Check.the-variants.{Fine}
 use Rattle.model.specs.declared.Head.{Head}
-use Rattle.laws.specs.Pick.{neither}
+use Rattle.choice.specs.Pick.{neither}
 use Rattle.laws.specs.Checks.{first-skip, first-append, fine-rest, fine-append}
 use Rattle.progress.specs.Statements.{In, flat, start, after, Rounds, Open, Rounds-after}
 use Rattle.progress.specs.Turns.{turns-append, in-left}

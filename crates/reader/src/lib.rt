@@ -85,8 +85,10 @@ fn kind_for(bit: u8) -> u32
 
 // The words that a line adds.
 fn put_words(stage: Stage, bits: &[u8; 94], line: &[u8], out: &mut [u32], at: usize) -> usize
-    requires { ⌜ Reach stage × (isLost (nextOf stage (now bits) (now line)) ≡ false) × (at + length (scriptWordsAt stage (now bits) (now line) []) ≤ length (now out)) ⌝ }
-    ensures { λ r. ⌜ (r, now (out .exit)) ≡ putOf (now (out .entry)) at (scriptWordsAt stage (now (bits .entry)) (now (line .entry)) []) ⌝ }
+    requires { ⌜ Reach stage × (isLost (nextOf stage (now bits) (now line)) ≡ false) ×
+        (at + length (scriptWordsAt stage (now bits) (now line) []) ≤ length (now out)) ⌝ }
+    ensures { λ r. ⌜ (r, now (out .exit))
+        ≡ putOf (now (out .entry)) at (scriptWordsAt stage (now (bits .entry)) (now (line .entry)) []) ⌝ }
 {
     if stages::is_changing(stage) {
         let cell = stages::cell_in(line);
@@ -100,7 +102,8 @@ fn put_words(stage: Stage, bits: &[u8; 94], line: &[u8], out: &mut [u32], at: us
 // The words of a text that is fine.
 fn fill(text: &[u8], n: usize, last: usize, out: &mut [u32])
     requires { ⌜ (verdictOf 1 Opening noBits (splitOf (now text)) ≡ Fine n last) × (3 * last ≤ length (now out)) ⌝ }
-    ensures { λ r. ⌜ now (out .exit) ≡ sets (now (out .entry)) 0 (scriptWordsOf Opening noBits (splitOf (now (text .entry)))) ⌝ }
+    ensures { λ r. ⌜ now (out .exit)
+        ≡ sets (now (out .entry)) 0 (scriptWordsOf Opening noBits (splitOf (now (text .entry)))) ⌝ }
 {
     let mut bits = [0u8; 94];
     let mut stage = Stage::Opening;
@@ -127,7 +130,8 @@ fn fill(text: &[u8], n: usize, last: usize, out: &mut [u32])
 // The script of a text that is fine, if there is room for all of it.
 fn give(text: &[u8], n: usize, last: usize, out: &mut [u32]) -> Undumped
     requires { ⌜ verdictOf 1 Opening noBits (splitOf (now text)) ≡ Fine n last ⌝ }
-    ensures { λ r. ⌜ (r, now (out .exit)) ≡ answered (Reader·read n (scriptWordsOf Opening noBits (splitOf (now (text .entry))))) (now (out .entry)) ⌝ }
+    ensures { λ r. ⌜ (r, now (out .exit))
+        ≡ answered (Reader·read n (scriptWordsOf Opening noBits (splitOf (now (text .entry))))) (now (out .entry)) ⌝ }
 {
     if out.len() / 3 < last {
         return Undumped::NoRoom;

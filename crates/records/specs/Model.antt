@@ -4,7 +4,7 @@ use Prim.Native.Nat.{ℕ, _*_}
 use mathlib.Core.List.{List, [], _∷_}
 use lib.Dec.{leb}
 use lib.ListN.{length, getD, set}
-use Rattle.model.specs.Choice.{if_then_else_}
+use Rattle.choice.specs.Choice.{if_then_else_}
 use Rattle.model.specs.Arena.{shapeFits, stateOf, heldBy, issueOf}
 use Rattle.model.specs.Lock.{outcomeOf, answerOf}
 use Rattle.model.specs.Calls.{replied, refused}

@@ -15,7 +15,8 @@ ghost use mathlib.Core.Path.{_≡_};
 ghost use Prim.Native.Nat.{_*_};
 ghost use Rattle.model.specs.Arena.{shapeFits, stateOf, heldBy};
 ghost use Rattle.model.specs.Calls.{tryAcquireOf, dropLeaseOf};
-ghost use Rattle.records.specs.Model.{spelled, spotOf, takeSpotOf, dropSpotOf, takeReplyOf, takeFreeOf, takeRuleOf, dropRuleOf};
+ghost use Rattle.records.specs.Model.{spelled, spotOf, takeSpotOf, dropSpotOf, takeReplyOf, takeFreeOf};
+ghost use Rattle.records.specs.Model.{takeRuleOf, dropRuleOf};
 
 // A cell of the arena.
 pub struct Cell {
@@ -163,7 +164,7 @@ fn drop_rule(head: Head, c: Cell, lease: Lease) -> Changed
 
 // ---- the calls
 
-// One compare-and-set.
+// One compare-and-set, as `lease::try_acquire` over the table that the records spell; only a grant changes a record.
 pub fn try_acquire(head: Head, cells: &mut [Cell], cell: u32) -> Reply
     ensures { λ r. ⌜ (r, spelled (now (cells .exit))) ≡ tryAcquireOf head (spelled (now (cells .entry))) cell .seen ⌝ }
 {
@@ -178,7 +179,7 @@ pub fn try_acquire(head: Head, cells: &mut [Cell], cell: u32) -> Reply
     changed.reply
 }
 
-// One release, and no boundary.
+// One release, as `lease::drop_lease`; a lease that is not live is refused with 12, and no record changes.
 pub fn drop_lease(head: Head, cells: &mut [Cell], lease: Lease) -> Reply
     ensures { λ r. ⌜ (r, spelled (now (cells .exit))) ≡ dropLeaseOf head (spelled (now (cells .entry))) lease .seen ⌝ }
 {

@@ -1,4 +1,5 @@
-// A room of input: what a read brought is played as far as lines have ended, and the rest is kept for the next read.
+// The bench console. A room of input: what a read brought is played as far as lines have ended, and the rest is kept
+// for the next read.
 use talk::Heard;
 use talk::Talk;
 ghost use Prim.Native.Nat.{_+_, _≤_};

@@ -10,7 +10,7 @@ use lib.Dec.{eqb, ltb}
 use lib.ListN.{length, getD, set, replicate, List·getD-eq-default, getD-replicate, length-replicate, length-set}
 use lib.Seq.{set-getD, getD-set-same, getD-set-other}
 use borrow.Author.Tests.{eqb-true, eqb-false}
-use Rattle.model.specs.Choice.{if_then_else_}
+use Rattle.choice.specs.Choice.{if_then_else_}
 use Rattle.wave.specs.Dump.{noBits, turns, changesOf, flipOf}
 
 -- the bits after the first j steps; behind the last step they stay

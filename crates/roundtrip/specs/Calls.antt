@@ -8,8 +8,8 @@ use lib.Dec.{ltb}
 use lib.ListN.{length, getD, take, drop}
 use lib.Seq.{sets, sets-eq, take-at}
 use borrow.Author.Tests.{le-ltb, ltb-false}
-use Rattle.model.specs.Choice.{if_then_else_}
-use Rattle.laws.specs.Pick.{determined}
+use Rattle.choice.specs.Choice.{if_then_else_}
+use Rattle.choice.specs.Pick.{determined}
 use Rattle.wave.specs.declared.Dumped.{Dumped}
 use Rattle.wave.specs.declared.Dumped.the-variants as dumped
 use Rattle.wave.specs.declared.Undumped.{Undumped}

@@ -7,7 +7,7 @@ use native.Mathlib.Omega.{arith}
 use lib.Dec.{eqb, ltb, leb}
 use lib.ListN.{length, getD}
 use borrow.Author.Tests.{lt-ltb, ltb-true, ltb-false}
-use Rattle.model.specs.Choice.{if_then_else_}
+use Rattle.choice.specs.Choice.{if_then_else_}
 use Rattle.wave.specs.Lines.{Items, finish, torn, line, splitOf, same}
 use Rattle.roundtrip.specs.Texts.{itemsOf, textOf, same-true, text-split, text-items}
 use Rattle.wave.specs.Stages.{bad-not, nested, time-later, idle-length, onward}

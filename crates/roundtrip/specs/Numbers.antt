@@ -8,7 +8,7 @@ use native.Mathlib.Omega.{arith}
 use lib.Dec.{eqb, ltb}
 use lib.ListN.{getD}
 use borrow.Author.Tests.{ne-eqb, le-ltb}
-use Rattle.model.specs.Choice.{if_then_else_}
+use Rattle.choice.specs.Choice.{if_then_else_}
 use Rattle.io.specs.Digits.{digits}
 use Rattle.text.specs.Text.{digitsIn, valueFrom, noNumber, endedNumberOf, readNumberOf}
 use Rattle.print.specs.Back.{value-digits, count-digits, unpadded}

@@ -8,7 +8,7 @@ use native.Mathlib.Omega.{arith}
 use lib.Dec.{eqb, ltb}
 use lib.ListN.{length, getD}
 use borrow.Author.Tests.{eqb-true, ne-eqb, lt-ltb, le-ltb, le-leb}
-use Rattle.model.specs.Choice.{if_then_else_}
+use Rattle.choice.specs.Choice.{if_then_else_}
 use Rattle.io.specs.Digits.{glyph, digits}
 use Rattle.text.specs.declared.Number.{Number}
 use Rattle.wave.specs.Decimal.{decimalOf, placesOf}

@@ -5,8 +5,8 @@ use mathlib.Core.List.{List, [], _∷_, _++_}
 use mathlib.Core.Bool.{Bool, true, false, _&&_}
 use lib.Dec.{eqb}
 use borrow.Author.Tests.{eqb-true, eq-eqb}
-use Rattle.model.specs.Choice.{if_then_else_}
-use Rattle.laws.specs.Pick.{both}
+use Rattle.choice.specs.Choice.{if_then_else_}
+use Rattle.choice.specs.Pick.{both}
 use Rattle.wave.specs.Lines.{joined, Items, finish, torn, line, put, splitOf, same}
 
 -- whole lines

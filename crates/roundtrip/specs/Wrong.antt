@@ -5,7 +5,7 @@ use mathlib.Core.List.{List, [], _∷_}
 use mathlib.Core.Bool.{Bool, true, false}
 use native.Mathlib.Omega.{arith}
 use lib.Dec.{eqb}
-use Rattle.model.specs.Choice.{if_then_else_}
+use Rattle.choice.specs.Choice.{if_then_else_}
 use Rattle.wave.specs.Lines.{Items, finish, torn, line, put, splitOf}
 use Rattle.roundtrip.specs.Texts.{itemsOf, textOf, same-refl, split-joined, text-split}
 use Rattle.wave.specs.Stages.{bad-not, Reach, reach-next}

@@ -1,5 +1,5 @@
-// What the player prints of a call. A function puts text behind the first `used` bytes of the room for output and
-// says how many are used then.
+// The bench console. What the player prints of a call. A function puts text behind the first `used` bytes of the room
+// for output and says how many are used then.
 use desk::Told;
 use desk::within;
 use model::Answer;

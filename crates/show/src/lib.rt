@@ -1,4 +1,4 @@
-// What `show` prints: the arena, number by number.
+// The bench console. What `show` prints: the arena, number by number.
 use desk::Desk;
 use desk::within;
 use desk::within_bytes;

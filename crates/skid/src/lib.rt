@@ -6,13 +6,17 @@ use model::Head;
 use model::Lease;
 ghost use mathlib.Core.Path.{_≡_};
 ghost use Rattle.model.specs.Arena.{headOf, leaseOf};
-ghost use Rattle.model.specs.Calls.{prepareOf, tryAcquireOf, dropLeaseOf, readPermissionOf, competingAcquireOf, releaseThenHandoffOf, foreignReleaseOf, acquirePreservingOf, dropPreservingOf, environmentOf, tryLockOf, transactionalOf, acquireBucketOf, releaseAllOf, acquireLocksOf};
+ghost use Rattle.model.specs.Calls.{prepareOf, tryAcquireOf, dropLeaseOf, readPermissionOf, competingAcquireOf};
+ghost use Rattle.model.specs.Calls.{releaseThenHandoffOf, foreignReleaseOf, acquirePreservingOf, dropPreservingOf};
+ghost use Rattle.model.specs.Calls.{environmentOf, tryLockOf, transactionalOf, acquireBucketOf, releaseAllOf};
+ghost use Rattle.model.specs.Calls.{acquireLocksOf};
 ghost use Rattle.model.specs.Crew.{crewOf};
 ghost use Rattle.wave.specs.Calls.{writeOf, readIntoOf};
 ghost use Rattle.words.specs.Words.{replyWords, playedWords, crewWords, dumpedWords, undumpedWords, told};
 
 // ---- preparing
 
+// Refused with 1 it changes no lent word and replies a head of three zeros.
 #[no_mangle]
 pub extern "C" fn skid_prepare(
     headers: u32,
@@ -22,7 +26,8 @@ pub extern "C" fn skid_prepare(
     health: &mut [u8],
     reply: &mut [u64; 12],
 )
-    ensures { λ _. ⌜ (now (reply .exit), (now (table .exit), now (health .exit))) ≡ told replyWords (prepareOf headers buckets serial (now (table .entry)) (now (health .entry)) .seen) ⌝ }
+    ensures { λ _. ⌜ (now (reply .exit), (now (table .exit), now (health .exit)))
+        ≡ told replyWords (prepareOf headers buckets serial (now (table .entry)) (now (health .entry)) .seen) ⌝ }
 {
     let r = arena::prepare(headers, buckets, serial, table, health);
     *reply = words::reply_words(r);
@@ -30,6 +35,7 @@ pub extern "C" fn skid_prepare(
 
 // ---- calls without a script
 
+// Only a grant changes the table; a held cell is Busy, no refusal.
 #[no_mangle]
 pub extern "C" fn skid_try_acquire(
     headers: u32,
@@ -39,7 +45,8 @@ pub extern "C" fn skid_try_acquire(
     cell: u32,
     reply: &mut [u64; 12],
 )
-    ensures { λ _. ⌜ (now (reply .exit), now (table .exit)) ≡ told replyWords (tryAcquireOf (headOf headers buckets next) (now (table .entry)) cell .seen) ⌝ }
+    ensures { λ _. ⌜ (now (reply .exit), now (table .exit))
+        ≡ told replyWords (tryAcquireOf (headOf headers buckets next) (now (table .entry)) cell .seen) ⌝ }
 {
     let head = Head {
         headers,
@@ -50,6 +57,7 @@ pub extern "C" fn skid_try_acquire(
     *reply = words::reply_words(r);
 }
 
+// A lease that is not live is refused with 12, and nothing changes.
 #[no_mangle]
 pub extern "C" fn skid_drop_lease(
     headers: u32,
@@ -60,7 +68,9 @@ pub extern "C" fn skid_drop_lease(
     serial: u32,
     reply: &mut [u64; 12],
 )
-    ensures { λ _. ⌜ (now (reply .exit), now (table .exit)) ≡ told replyWords (dropLeaseOf (headOf headers buckets next) (now (table .entry)) (leaseOf cell serial) .seen) ⌝ }
+    ensures { λ _. ⌜ (now (reply .exit), now (table .exit))
+        ≡ told replyWords (dropLeaseOf (headOf headers buckets next) (now (table .entry)) (leaseOf cell serial)
+        .seen) ⌝ }
 {
     let head = Head {
         headers,
@@ -72,6 +82,7 @@ pub extern "C" fn skid_drop_lease(
     *reply = words::reply_words(r);
 }
 
+// Changes nothing; a lease that is not live is refused with 12.
 #[no_mangle]
 pub extern "C" fn skid_read_permission(
     headers: u32,
@@ -82,7 +93,9 @@ pub extern "C" fn skid_read_permission(
     serial: u32,
     reply: &mut [u64; 12],
 )
-    ensures { λ _. ⌜ now (reply .exit) ≡ replyWords (readPermissionOf (headOf headers buckets next) (now (table .entry)) (leaseOf cell serial) .seen) ⌝ }
+    ensures { λ _. ⌜ now (reply .exit)
+        ≡ replyWords (readPermissionOf (headOf headers buckets next) (now (table .entry)) (leaseOf cell serial)
+        .seen) ⌝ }
 {
     let head = Head {
         headers,
@@ -94,6 +107,7 @@ pub extern "C" fn skid_read_permission(
     *reply = words::reply_words(r);
 }
 
+// Busy for every live lease, and nothing changes.
 #[no_mangle]
 pub extern "C" fn skid_competing_acquire_is_excluded(
     headers: u32,
@@ -104,7 +118,9 @@ pub extern "C" fn skid_competing_acquire_is_excluded(
     serial: u32,
     reply: &mut [u64; 12],
 )
-    ensures { λ _. ⌜ (now (reply .exit), now (table .exit)) ≡ told replyWords (competingAcquireOf (headOf headers buckets next) (now (table .entry)) (leaseOf cell serial) .seen) ⌝ }
+    ensures { λ _. ⌜ (now (reply .exit), now (table .exit))
+        ≡ told replyWords (competingAcquireOf (headOf headers buckets next) (now (table .entry))
+        (leaseOf cell serial) .seen) ⌝ }
 {
     let head = Head {
         headers,
@@ -116,6 +132,7 @@ pub extern "C" fn skid_competing_acquire_is_excluded(
     *reply = words::reply_words(r);
 }
 
+// With no serial left the release stands, and the reply is 10.
 #[no_mangle]
 pub extern "C" fn skid_release_then_handoff(
     headers: u32,
@@ -126,7 +143,9 @@ pub extern "C" fn skid_release_then_handoff(
     serial: u32,
     reply: &mut [u64; 12],
 )
-    ensures { λ _. ⌜ (now (reply .exit), now (table .exit)) ≡ told replyWords (releaseThenHandoffOf (headOf headers buckets next) (now (table .entry)) (leaseOf cell serial) .seen) ⌝ }
+    ensures { λ _. ⌜ (now (reply .exit), now (table .exit))
+        ≡ told replyWords (releaseThenHandoffOf (headOf headers buckets next) (now (table .entry))
+        (leaseOf cell serial) .seen) ⌝ }
 {
     let head = Head {
         headers,
@@ -138,6 +157,7 @@ pub extern "C" fn skid_release_then_handoff(
     *reply = words::reply_words(r);
 }
 
+// A lease of the held list is refused with 13; with no serial left the cell is free.
 #[no_mangle]
 pub extern "C" fn skid_foreign_release_between_attempts(
     headers: u32,
@@ -149,7 +169,9 @@ pub extern "C" fn skid_foreign_release_between_attempts(
     serial: u32,
     reply: &mut [u64; 12],
 )
-    ensures { λ _. ⌜ (now (reply .exit), now (table .exit)) ≡ told replyWords (foreignReleaseOf (headOf headers buckets next) (now (table .entry)) (now (held .entry)) (leaseOf cell serial) .seen) ⌝ }
+    ensures { λ _. ⌜ (now (reply .exit), now (table .exit))
+        ≡ told replyWords (foreignReleaseOf (headOf headers buckets next) (now (table .entry))
+        (now (held .entry)) (leaseOf cell serial) .seen) ⌝ }
 {
     let head = Head {
         headers,
@@ -161,6 +183,7 @@ pub extern "C" fn skid_foreign_release_between_attempts(
     *reply = words::reply_words(r);
 }
 
+// A held lease that is not live is refused with 3 and its position.
 #[no_mangle]
 pub extern "C" fn skid_acquire_preserving_borrows(
     headers: u32,
@@ -171,7 +194,9 @@ pub extern "C" fn skid_acquire_preserving_borrows(
     cell: u32,
     reply: &mut [u64; 12],
 )
-    ensures { λ _. ⌜ (now (reply .exit), now (table .exit)) ≡ told replyWords (acquirePreservingOf (headOf headers buckets next) (now (table .entry)) (now (held .entry)) cell .seen) ⌝ }
+    ensures { λ _. ⌜ (now (reply .exit), now (table .exit))
+        ≡ told replyWords (acquirePreservingOf (headOf headers buckets next) (now (table .entry))
+        (now (held .entry)) cell .seen) ⌝ }
 {
     let head = Head {
         headers,
@@ -182,6 +207,7 @@ pub extern "C" fn skid_acquire_preserving_borrows(
     *reply = words::reply_words(r);
 }
 
+// A lease of the held list is refused with 13, and nothing changes.
 #[no_mangle]
 pub extern "C" fn skid_drop_preserving_borrows(
     headers: u32,
@@ -193,7 +219,9 @@ pub extern "C" fn skid_drop_preserving_borrows(
     serial: u32,
     reply: &mut [u64; 12],
 )
-    ensures { λ _. ⌜ (now (reply .exit), now (table .exit)) ≡ told replyWords (dropPreservingOf (headOf headers buckets next) (now (table .entry)) (now (held .entry)) (leaseOf cell serial) .seen) ⌝ }
+    ensures { λ _. ⌜ (now (reply .exit), now (table .exit))
+        ≡ told replyWords (dropPreservingOf (headOf headers buckets next) (now (table .entry))
+        (now (held .entry)) (leaseOf cell serial) .seen) ⌝ }
 {
     let head = Head {
         headers,
@@ -207,6 +235,7 @@ pub extern "C" fn skid_drop_preserving_borrows(
 
 // ---- calls with a script
 
+// The script frees no lease of the held list; what cannot be done is dropped and counted.
 #[no_mangle]
 pub extern "C" fn skid_environment(
     headers: u32,
@@ -219,7 +248,9 @@ pub extern "C" fn skid_environment(
     held: &[u32],
     reply: &mut [u64; 12],
 )
-    ensures { λ _. ⌜ (now (reply .exit), (now (table .exit), now (health .exit))) ≡ told playedWords (environmentOf (headOf headers buckets next) (now (table .entry)) (now (health .entry)) (now (script .entry)) place (now (held .entry)) .seen) ⌝ }
+    ensures { λ _. ⌜ (now (reply .exit), (now (table .exit), now (health .exit)))
+        ≡ told playedWords (environmentOf (headOf headers buckets next) (now (table .entry))
+        (now (health .entry)) (now (script .entry)) place (now (held .entry)) .seen) ⌝ }
 {
     let head = Head {
         headers,
@@ -232,6 +263,7 @@ pub extern "C" fn skid_environment(
 
 // The same call under its other name. It goes through the first, so that the inner call has one caller and is compiled
 // into it.
+// The same call by its other name.
 #[no_mangle]
 pub extern "C" fn skid_environment_for_borrows(
     headers: u32,
@@ -244,7 +276,9 @@ pub extern "C" fn skid_environment_for_borrows(
     held: &[u32],
     reply: &mut [u64; 12],
 )
-    ensures { λ _. ⌜ (now (reply .exit), (now (table .exit), now (health .exit))) ≡ told playedWords (environmentOf (headOf headers buckets next) (now (table .entry)) (now (health .entry)) (now (script .entry)) place (now (held .entry)) .seen) ⌝ }
+    ensures { λ _. ⌜ (now (reply .exit), (now (table .exit), now (health .exit)))
+        ≡ told playedWords (environmentOf (headOf headers buckets next) (now (table .entry))
+        (now (health .entry)) (now (script .entry)) place (now (held .entry)) .seen) ⌝ }
 {
     skid_environment(
         headers,
@@ -259,6 +293,7 @@ pub extern "C" fn skid_environment_for_borrows(
     )
 }
 
+// A lease given up because somebody waits leaves its cell free and its serial spent.
 #[no_mangle]
 pub extern "C" fn skid_try_lock(
     headers: u32,
@@ -272,7 +307,9 @@ pub extern "C" fn skid_try_lock(
     cell: u32,
     reply: &mut [u64; 12],
 )
-    ensures { λ _. ⌜ (now (reply .exit), (now (table .exit), now (health .exit))) ≡ told playedWords (tryLockOf (headOf headers buckets next) (now (table .entry)) (now (health .entry)) (now (script .entry)) place (now (held .entry)) cell .seen) ⌝ }
+    ensures { λ _. ⌜ (now (reply .exit), (now (table .exit), now (health .exit)))
+        ≡ told playedWords (tryLockOf (headOf headers buckets next) (now (table .entry)) (now (health .entry))
+        (now (script .entry)) place (now (held .entry)) cell .seen) ⌝ }
 {
     let head = Head {
         headers,
@@ -284,6 +321,7 @@ pub extern "C" fn skid_try_lock(
 }
 
 // So too.
+// The same call by its other name.
 #[no_mangle]
 pub extern "C" fn skid_other_mutex_preserves_leases(
     headers: u32,
@@ -297,7 +335,9 @@ pub extern "C" fn skid_other_mutex_preserves_leases(
     cell: u32,
     reply: &mut [u64; 12],
 )
-    ensures { λ _. ⌜ (now (reply .exit), (now (table .exit), now (health .exit))) ≡ told playedWords (tryLockOf (headOf headers buckets next) (now (table .entry)) (now (health .entry)) (now (script .entry)) place (now (held .entry)) cell .seen) ⌝ }
+    ensures { λ _. ⌜ (now (reply .exit), (now (table .exit), now (health .exit)))
+        ≡ told playedWords (tryLockOf (headOf headers buckets next) (now (table .entry)) (now (health .entry))
+        (now (script .entry)) place (now (held .entry)) cell .seen) ⌝ }
 {
     skid_try_lock(
         headers,
@@ -313,6 +353,7 @@ pub extern "C" fn skid_other_mutex_preserves_leases(
     )
 }
 
+// 6, 7 and 8 count the attempt and change nothing.
 #[no_mangle]
 pub extern "C" fn skid_transactional_try_lock_bucket(
     headers: u32,
@@ -328,7 +369,10 @@ pub extern "C" fn skid_transactional_try_lock_bucket(
     bucket: u32,
     reply: &mut [u64; 12],
 )
-    ensures { λ _. ⌜ (now (reply .exit), (now (table .exit), now (health .exit))) ≡ told playedWords (transactionalOf (headOf headers buckets next) (now (table .entry)) (now (health .entry)) (now (registry .entry)) (now (script .entry)) place (now (held .entry)) binding bucket .seen) ⌝ }
+    ensures { λ _. ⌜ (now (reply .exit), (now (table .exit), now (health .exit)))
+        ≡ told playedWords (transactionalOf (headOf headers buckets next) (now (table .entry))
+        (now (health .entry)) (now (registry .entry)) (now (script .entry)) place (now (held .entry)) binding
+        bucket .seen) ⌝ }
 {
     let head = Head {
         headers,
@@ -349,6 +393,7 @@ pub extern "C" fn skid_transactional_try_lock_bucket(
     *reply = words::played_words(r);
 }
 
+// 4,096 Busy attempts are refused with 11, and nothing is held.
 #[no_mangle]
 pub extern "C" fn skid_acquire_index_bucket(
     headers: u32,
@@ -364,7 +409,10 @@ pub extern "C" fn skid_acquire_index_bucket(
     bucket: u32,
     reply: &mut [u64; 12],
 )
-    ensures { λ _. ⌜ (now (reply .exit), (now (table .exit), now (health .exit))) ≡ told playedWords (acquireBucketOf (headOf headers buckets next) (now (table .entry)) (now (health .entry)) (now (registry .entry)) (now (script .entry)) place (now (held .entry)) binding bucket .seen) ⌝ }
+    ensures { λ _. ⌜ (now (reply .exit), (now (table .exit), now (health .exit)))
+        ≡ told playedWords (acquireBucketOf (headOf headers buckets next) (now (table .entry))
+        (now (health .entry)) (now (registry .entry)) (now (script .entry)) place (now (held .entry)) binding
+        bucket .seen) ⌝ }
 {
     let head = Head {
         headers,
@@ -385,6 +433,7 @@ pub extern "C" fn skid_acquire_index_bucket(
     *reply = words::played_words(r);
 }
 
+// Any lease that is not live, or stands twice, refuses the whole list, nothing released.
 #[no_mangle]
 pub extern "C" fn skid_release_all(
     headers: u32,
@@ -397,17 +446,20 @@ pub extern "C" fn skid_release_all(
     leases: &[u32],
     reply: &mut [u64; 12],
 )
-    ensures { λ _. ⌜ (now (reply .exit), (now (table .exit), now (health .exit))) ≡ told playedWords (releaseAllOf (headOf headers buckets next) (now (table .entry)) (now (health .entry)) (now (script .entry)) place (now (leases .entry)) .seen) ⌝ }
+    ensures { λ _. ⌜ (now (reply .exit), (now (table .exit), now (health .exit)))
+        ≡ told playedWords (releaseAllOf (headOf headers buckets next) (now (table .entry))
+        (now (health .entry)) (now (script .entry)) place (now (leases .entry)) .seen) ⌝ }
 {
     let head = Head {
         headers,
         buckets,
         next,
     };
-    let r = multilock::release_all(head, table, health, script, place, leases);
+    let r = release::release_all(head, table, health, script, place, leases);
     *reply = words::played_words(r);
 }
 
+// All keys or none; a refusal leaves the grant buffer as it was.
 #[no_mangle]
 pub extern "C" fn skid_acquire_index_locks(
     headers: u32,
@@ -423,7 +475,10 @@ pub extern "C" fn skid_acquire_index_locks(
     grants: &mut [u32],
     reply: &mut [u64; 12],
 )
-    ensures { λ _. ⌜ (now (reply .exit), (now (table .exit), (now (health .exit), now (grants .exit)))) ≡ told playedWords (acquireLocksOf (headOf headers buckets next) (now (table .entry)) (now (health .entry)) (now (registry .entry)) (now (script .entry)) place (now (held .entry)) (now (keys .entry)) (now (grants .entry)) .seen) ⌝ }
+    ensures { λ _. ⌜ (now (reply .exit), (now (table .exit), (now (health .exit), now (grants .exit))))
+        ≡ told playedWords (acquireLocksOf (headOf headers buckets next) (now (table .entry))
+        (now (health .entry)) (now (registry .entry)) (now (script .entry)) place (now (held .entry))
+        (now (keys .entry)) (now (grants .entry)) .seen) ⌝ }
 {
     let head = Head {
         headers,
@@ -446,6 +501,7 @@ pub extern "C" fn skid_acquire_index_locks(
 
 // ---- the crew
 
+// A refused crew has moved nobody; turns that run out leave its cells held.
 #[no_mangle]
 pub extern "C" fn skid_crew(
     headers: u32,
@@ -458,7 +514,9 @@ pub extern "C" fn skid_crew(
     turns: &[u32],
     reply: &mut [u64; 46],
 )
-    ensures { λ _. ⌜ (now (reply .exit), now (table .exit)) ≡ told crewWords (crewOf (headOf headers buckets next) (now (table .entry)) (now (health .entry)) (now (counts .entry)) (now (cells .entry)) (now (turns .entry)) .seen) ⌝ }
+    ensures { λ _. ⌜ (now (reply .exit), now (table .exit))
+        ≡ told crewWords (crewOf (headOf headers buckets next) (now (table .entry)) (now (health .entry))
+        (now (counts .entry)) (now (cells .entry)) (now (turns .entry)) .seen) ⌝ }
 {
     let head = Head {
         headers,
@@ -471,17 +529,21 @@ pub extern "C" fn skid_crew(
 
 // ---- the waveform of the cells (document 02, L11)
 
+// TooWide and NoRoom write nothing.
 #[no_mangle]
 pub extern "C" fn skid_write_dump(cells: u32, script: &[u32], text: &mut [u8], reply: &mut [u64; 3])
-    ensures { λ _. ⌜ (now (reply .exit), now (text .exit)) ≡ told dumpedWords (writeOf cells (now (script .entry)) (now (text .entry))) ⌝ }
+    ensures { λ _. ⌜ (now (reply .exit), now (text .exit))
+        ≡ told dumpedWords (writeOf cells (now (script .entry)) (now (text .entry))) ⌝ }
 {
     let r = writer::write(cells, script, text);
     *reply = words::dumped_words(r);
 }
 
+// A text that no writer made is refused with its first wrong line, before NoRoom; a refusal writes nothing.
 #[no_mangle]
 pub extern "C" fn skid_read_dump(text: &[u8], script: &mut [u32], reply: &mut [u64; 3])
-    ensures { λ _. ⌜ (now (reply .exit), now (script .exit)) ≡ told undumpedWords (readIntoOf (now (text .entry)) (now (script .entry))) ⌝ }
+    ensures { λ _. ⌜ (now (reply .exit), now (script .exit))
+        ≡ told undumpedWords (readIntoOf (now (text .entry)) (now (script .entry))) ⌝ }
 {
     let r = reader::read(text, script);
     *reply = words::undumped_words(r);

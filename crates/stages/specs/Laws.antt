@@ -10,7 +10,7 @@ use lib.Dec.{eqb, ltb}
 use lib.ListN.{length, getD, drop, take, length-append, drop-of-length-le}
 use lib.Seq.{sets, sets-eq, take-at, drop-cons}
 use borrow.Author.Tests.{ltb-true}
-use Rattle.model.specs.Choice.{if_then_else_}
+use Rattle.choice.specs.Choice.{if_then_else_}
 use Rattle.wave.specs.Lines.{joined, same}
 use Rattle.wave.specs.Dump.{turned}
 use Rattle.wave.specs.declared.Stage.{Stage}

@@ -6,7 +6,7 @@ ghost use mathlib.Core.Path.{_≡_};
 ghost use Prim.Native.Nat.{_+_, _<_, _≤_};
 ghost use mathlib.Core.Bool.{true, false};
 ghost use lib.Dec.{ltb};
-ghost use Rattle.model.specs.Choice.{if_then_else_};
+ghost use Rattle.choice.specs.Choice.{if_then_else_};
 ghost use Rattle.wave.specs.Lines.{same as Lines·same};
 ghost use Rattle.wave.specs.Dump.{timeLine, bitLine, varLine, upscope};
 ghost use Rattle.wave.specs.Reader.{timeIn, cellIn, afterVariable, afterValue, isTime, isChange, nextOf, bitsOf, atEnd};

@@ -6,7 +6,7 @@ use mathlib.Core.Bool.{true, false}
 use lib.Dec.{eqb, ltb}
 use lib.ListN.{length, drop, take}
 use lib.Seq.{sets}
-use Rattle.model.specs.Choice.{if_then_else_}
+use Rattle.choice.specs.Choice.{if_then_else_}
 use Rattle.text.specs.Text.{before, readNumberOf, counted, numbersFrom}
 use Rattle.text.specs.declared.Numbers.{Numbers}
 use Rattle.steps.specs.declared.Line.{Line}

@@ -124,7 +124,9 @@ fn store_step(line: &[u8], script: &mut [u32], used: usize) -> usize
 
 // The steps from a byte on, the first of them in line 2.
 fn store_steps(input: &[u8], start: usize, script: &mut [u32]) -> Stored
-    ensures { λ r. ⌜ (r, now (script .exit)) ≡ storeFrom (length (now (input .entry)) - start) 2 0 (now (script .entry)) (drop start (now (input .entry))) ⌝ }
+    ensures { λ r. ⌜ (r, now (script .exit))
+        ≡ storeFrom (length (now (input .entry)) - start) 2 0 (now (script .entry))
+        (drop start (now (input .entry))) ⌝ }
     ensures { λ r. ⌜ r .words ≤ length (now (script .exit)) ⌝ }
 {
     let mut at = start;

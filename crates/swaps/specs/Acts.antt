@@ -7,13 +7,13 @@ use mathlib.Core.Logic.{_≢_, inl, inr}
 use native.Mathlib.Omega.{arith}
 use lib.Dec.{ltb, leb, eqb}
 use borrow.Author.Tests.{ltb-true, ltb-false, leb-true, eqb-true, lt-ltb, le-ltb, eq-eqb}
-use Rattle.model.specs.Choice.{if_then_else_}
+use Rattle.choice.specs.Choice.{if_then_else_}
 use Rattle.model.specs.Log.{Made, Event, by-script, spun, step-dropped, took, released, waiters-set, health-set}
 use Rattle.model.specs.Arena.{serialRemains, lastSerial, spentTo, leaseOf, bitAt, ownerAt, isFree, isLive, isIn}
 use Rattle.model.specs.Foreign.{stepOf, stepTakeOf, stepReleaseOf, stepWaitersOf, stepHealthOf}
 use Rattle.model.specs.declared.Lease.{Lease}
 use Rattle.model.specs.declared.Stepped.{Stepped}
-use Rattle.laws.specs.Pick.{both}
+use Rattle.choice.specs.Pick.{both}
 use Rattle.laws.specs.Words.{bit-set-other, owner-set-other, bit-set-waiters, owner-set-waiters}
 use Rattle.history.specs.World.{World, worldOf, cells, Legal, step}
 use Rattle.history.specs.Tests.{is-free-state, free-words, if-cases}

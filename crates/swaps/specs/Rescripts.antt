@@ -19,7 +19,7 @@ use Rattle.model.specs.declared.Refusal.{Refusal}
 use Rattle.model.specs.declared.State.{State}
 use Rattle.model.specs.declared.State.the-variants as state
 use Rattle.model.specs.declared.Took.{Took}
-use Rattle.laws.specs.Pick.{if-both}
+use Rattle.choice.specs.Pick.{if-both}
 use Rattle.laws.specs.Words.{length-set-cell}
 use Rattle.history.specs.World.{World, worldOf, cells}
 use Rattle.history.specs.Items.{perform}

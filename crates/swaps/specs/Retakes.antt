@@ -8,7 +8,7 @@ use native.Mathlib.Decide.{ℕ-discrete, decLt}
 use native.Mathlib.Omega.{arith}
 use lib.Dec.{ltb, leb, eqb}
 use borrow.Author.Tests.{eqb-true, eq-eqb, ltb-true}
-use Rattle.model.specs.Choice.{if_then_else_}
+use Rattle.choice.specs.Choice.{if_then_else_}
 use Rattle.model.specs.Log.{Event, by-script, took, released}
 use Rattle.model.specs.Arena.{leaseOf, cellsOf, bitAt, ownerAt, isFree, isLive, isIn, sameLease, serialRemains}
 use Rattle.model.specs.declared.Head.{Head}

@@ -10,8 +10,8 @@ use lib.Dec.{eqb, ltb}
 use lib.ListN.{length, getD, drop, drop-of-length-le, length-drop}
 use lib.Seq.{drop-cons, drop-drop, getD-drop}
 use borrow.Author.Tests.{eqb-true, eqb-false, ne-eqb, lt-ltb, le-ltb, ltb-true, ltb-false}
-use Rattle.model.specs.Choice.{if_then_else_}
-use Rattle.laws.specs.Pick.{if-both}
+use Rattle.choice.specs.Choice.{if_then_else_}
+use Rattle.choice.specs.Pick.{if-both}
 use Rattle.text.specs.declared.Numbers.{Numbers}
 use Rattle.text.specs.Text.{before, isDigit, digitsIn, valueFrom, noNumber, endedNumberOf, readNumberOf, spacedOf, counted, withOf, numbersFrom}
 

@@ -1,12 +1,14 @@
 // What the console's lines are made of: bytes up to a stop, words, decimal numbers; and text put behind text.
-// Every function takes any bytes. docs/CONSOLE.md has the language.
+// Every function takes any bytes. docs/CONSOLE.md has the language. None is a call of document 01: the console, the
+// waveform and the report call them.
 ghost use mathlib.Core.Path.{_≡_};
 ghost use Prim.Native.Nat.{_+_, _-_, _^_, _≤_, _<_};
 ghost use mathlib.Core.Bool.{true, _&&_};
 ghost use lib.Dec.{eqb, ltb, leb};
 ghost use lib.ListN.{length, getD, drop};
 ghost use Rattle.io.specs.Counts.{Counts};
-ghost use Rattle.text.specs.Text.{before, isDigit, noNumber, endedNumberOf, readNumberOf, spacedOf, withOf, counted, numbersFrom};
+ghost use Rattle.text.specs.Text.{before, isDigit, noNumber, endedNumberOf, readNumberOf, spacedOf, withOf, counted};
+ghost use Rattle.text.specs.Text.{numbersFrom};
 
 // A number that was read: whether one stands there, its value, and how many digits it has.
 pub struct Number {
@@ -27,7 +29,6 @@ pub struct Numbers {
 // ---- splitting
 
 // Where the first `stop` from `at` on stands, or the end. A line ends at a line feed, a word at a space.
-// A step, no call of document 01: the console, the waveform and the report call it.
 pub fn end_of(bytes: &[u8], at: usize, stop: u8) -> usize
     requires { ⌜ at ≤ length (now bytes) ⌝ }
     ensures { λ r. ⌜ r ≡ at + before stop (drop at (now (bytes .entry))) ⌝ }
@@ -44,7 +45,6 @@ pub fn end_of(bytes: &[u8], at: usize, stop: u8) -> usize
 }
 
 // Whether a word is this name.
-// A step, no call of document 01: the console, the waveform and the report call it.
 pub fn same(word: &[u8], name: &[u8]) -> bool {
     if word.len() != name.len() {
         return false;
@@ -116,7 +116,6 @@ fn ended(line: &[u8], at: usize, i: usize, value: u64) -> Number
 }
 
 // The number that stands at `at`: the digits there, up to the first byte that is none.
-// A step, no call of document 01: the console, the waveform and the report call it.
 pub fn read_number(line: &[u8], at: usize) -> Number
     ensures { λ r. ⌜ r ≡ readNumberOf (drop at (now (line .entry))) ⌝ }
 {
@@ -203,7 +202,6 @@ fn spaced(line: &[u8], at: usize) -> Number
 }
 
 // The numbers from `at` to the end of the line, each behind one space; anything else there is not fine.
-// A step, no call of document 01: the console, the waveform and the report call it.
 pub fn read_numbers(line: &[u8], at: usize) -> Numbers
     ensures { λ r. ⌜ r ≡ numbersFrom (length (now (line .entry)) - at) (counted true) (drop at (now (line .entry))) ⌝ }
 {
@@ -222,7 +220,6 @@ pub fn read_numbers(line: &[u8], at: usize) -> Numbers
 }
 
 // Stores these numbers into a list from `start` on, as far as it reaches.
-// A step, no call of document 01: the console, the waveform and the report call it.
 pub fn store(line: &[u8], at: usize, list: &mut [u32], start: usize) {
     let mut i = at;
     let mut k = start;
@@ -241,7 +238,6 @@ pub fn store(line: &[u8], at: usize, list: &mut [u32], start: usize) {
 // ---- putting text behind text
 
 // Puts text behind the first `used` bytes, as far as the room reaches, and says how many are used then.
-// A step, no call of document 01: the console, the waveform and the report call it.
 pub fn put(out: &mut [u8], used: usize, text: &[u8]) -> usize
     ensures { λ r. ⌜ r ≤ length (now (out .exit)) ⌝ }
 {
@@ -260,14 +256,12 @@ pub fn put(out: &mut [u8], used: usize, text: &[u8]) -> usize
 }
 
 // Puts a number in decimal.
-// A step, no call of document 01: the console, the waveform and the report call it.
 pub fn put_number(out: &mut [u8], used: usize, n: usize) -> usize {
     let mut digits = [0u8; 20];
     let k = io::decimal(n as u64, &mut digits);
     put(out, used, &digits[..k])
 }
 
-// A step, no call of document 01: the console, the waveform and the report call it.
 pub fn put_byte(out: &mut [u8], used: usize, byte: u8) -> usize {
     let one = [byte];
     put(out, used, &one)
@@ -282,7 +276,6 @@ fn put_value(out: &mut [u8], used: usize, values: &[usize], k: usize) -> usize {
 }
 
 // Puts a form: its bytes as they are, but for each `#` the next value.
-// A step, no call of document 01: the console, the waveform and the report call it.
 pub fn put_form(out: &mut [u8], used: usize, form: &[u8], values: &[usize]) -> usize {
     let mut at = used;
     let mut k = 0;
@@ -313,7 +306,6 @@ fn next_word(words: &[u8], at: usize) -> usize
 }
 
 // Puts the n-th of these words, counted from 1, with a space in front.
-// A step, no call of document 01: the console, the waveform and the report call it.
 pub fn put_nth(out: &mut [u8], used: usize, words: &[u8], n: u32) -> usize {
     let mut at = 0;
     let mut i = 1;

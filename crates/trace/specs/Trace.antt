@@ -5,7 +5,7 @@ use mathlib.Core.Bool.{true}
 use lib.Dec.{eqb}
 use native.Mathlib.Omega.{arith}
 use borrow.Author.Tests.{eq-eqb, ne-eqb}
-use Rattle.model.specs.Choice.{if_then_else_}
+use Rattle.choice.specs.Choice.{if_then_else_}
 
 -- "for each cell of the lent table whose bit word is another than before the call .. `step 1 CELL 0` if it is now 1 and
 -- `step 2 CELL 0` if not": the kind of step, 0 for none.

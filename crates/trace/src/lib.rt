@@ -1,4 +1,4 @@
-// What `trace 1` prints behind a call: which bits of the lent table it changed, as steps.
+// The bench console. What `trace 1` prints behind a call: which bits of the lent table it changed, as steps.
 use desk::Desk;
 use desk::verbs::Verb;
 use desk::verbs::calls;

@@ -9,7 +9,7 @@ use lib.Dec.{ltb}
 use lib.ListN.{length, getD, drop, length-append}
 use lib.Seq.{drop-append-seam, getD-append-seam}
 use borrow.Author.Tests.{ne-eqb, lt-ltb, le-ltb, le-leb}
-use Rattle.model.specs.Choice.{if_then_else_}
+use Rattle.choice.specs.Choice.{if_then_else_}
 use Rattle.io.specs.Digits.{digits, Fewest}
 use Rattle.print.specs.Print.{placesOf, decimalOf}
 use Rattle.print.specs.Laws.{length-decimal, places-are}

@@ -12,7 +12,7 @@ use lib.Dec.{eqb, ltb, leb}
 use lib.ListN.{length, getD, drop, take, length-take}
 use lib.Seq.{length-take-le, take-all, take-nil, getD-take}
 use borrow.Author.Tests.{eq-eqb, ne-eqb, lt-ltb, lt-leb, leb-false}
-use Rattle.model.specs.Choice.{if_then_else_}
+use Rattle.choice.specs.Choice.{if_then_else_}
 use Rattle.text.specs.declared.Number.{Number}
 use Rattle.text.specs.Text.{isDigit, digitsIn, valueFrom, noNumber, endedNumberOf, readNumberOf}
 use Rattle.text.specs.Laws.{digit-is, number-within}

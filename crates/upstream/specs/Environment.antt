@@ -21,7 +21,7 @@ use Rattle.model.specs.declared.Lease.{Lease}
 use Rattle.model.specs.declared.Refusal.{Refusal}
 use Rattle.model.specs.declared.Refusal.the-variants.{BadHeld}
 use Rattle.model.specs.declared.Stepped.{Stepped}
-use Rattle.laws.specs.Pick.{both}
+use Rattle.choice.specs.Pick.{both}
 use Rattle.history.specs.Items.{environment, perform, Clear}
 use Rattle.history.specs.Statements.{leaves}
 use Rattle.history.specs.Judged.{clear-front, unchanged}

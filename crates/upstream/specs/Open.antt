@@ -9,7 +9,7 @@ use mathlib.Core.Logic.{inl, inr}
 use native.Mathlib.Omega.{arith}
 use lib.Dec.{eqb}
 use lib.ListN.{length, getD, replicate}
-use Rattle.model.specs.Choice.{if_then_else_}
+use Rattle.choice.specs.Choice.{if_then_else_}
 use Rattle.model.specs.Log.{by-caller, released}
 use Rattle.model.specs.Arena.{headOf, spentTo, leaseOf, leasesOf, bitAt, ownerAt, waitersAt, setCell, isIn, isFree, isHeld, stateOf, stateAt, isLive, headFits, shapeFits, healthFits, registryFits}
 use Rattle.model.specs.Answers.{kindOf}
@@ -32,7 +32,7 @@ use Rattle.laws.specs.Lists.{zero-bit, zero-owner}
 use Rattle.upstream.specs.Vocabulary.{Key, cell, Authority, lease-key, lease-serial, next-serial, dom, contains-key, cells, insert, Cells-are, Valid-cell, valid, authorized, Release, Gives-up, protected-valid, held-ids, leases-authorized, key-of}
 use Rattle.upstream.specs.Protocol.{Put, here, there, put, bit-of, owner-of, step-valid, step-keeps, step-frees}
 use Rattle.upstream.specs.Bridge.{authorized-live, by-name, by-place, Sized, put-cells, sized-now, event-step}
-use Rattle.laws.specs.Pick.{if-both}
+use Rattle.choice.specs.Pick.{if-both}
 use Rattle.upstream.specs.Met.{two-held}
 use Rattle.upstream.specs.TryLock.{try-lock-e1, try-lock-e2, try-lock-e3, try-lock-e4, try-lock-e5}
 use Rattle.upstream.specs.TryAcquire.{tried, tries-keeps, tries-keys, try-acquire-e1}

@@ -24,7 +24,7 @@ use Rattle.model.specs.declared.Run.{Run}
 use Rattle.model.specs.declared.Take.{Take}
 use Rattle.model.specs.declared.Take.the-variants as taking
 use Rattle.model.specs.declared.Tried.{Tried}
-use Rattle.laws.specs.Pick.{if-both}
+use Rattle.choice.specs.Pick.{if-both}
 use Rattle.history.specs.World as world
 use Rattle.history.specs.Tests.{differ, same-lease, In, in-first, in-cases, in-left, in-right, in-either}
 use Rattle.history.specs.Logs.{Kept}

@@ -7,7 +7,7 @@ use mathlib.Core.Bool.{true}
 use mathlib.Core.Logic.{_↔_, _⊎_, _≢_}
 use lib.Dec.{eqb}
 use lib.ListN.{length, getD}
-use Rattle.model.specs.Choice.{if_then_else_}
+use Rattle.choice.specs.Choice.{if_then_else_}
 use Rattle.model.specs.Arena.{cellsOf, cellNumber, bitAt, ownerAt, isIn}
 use Rattle.model.specs.Lock.{leaseAt, bindingAt, bucketAt}
 use Rattle.model.specs.Checks.{countIn}

@@ -8,7 +8,7 @@ use native.Mathlib.Omega.{arith}
 use lib.Dec.{ltb, leb}
 use lib.ListN.{length, getD}
 use borrow.Author.Tests.{ltb-true, leb-true}
-use Rattle.model.specs.Choice.{if_then_else_}
+use Rattle.choice.specs.Choice.{if_then_else_}
 use Rattle.wave.specs.Lines.{Items, finish, torn, line, same}
 use Rattle.wave.specs.Dump.{turns, changesOf, timescale, scopeLine, varLine, upscope, endLine, timeLine, bitLine}
 use Rattle.wave.specs.declared.Stage.{Stage}

@@ -9,7 +9,7 @@ use lib.ListN.{length, getD, take, drop, drop-of-length-le}
 use lib.Seq.{drop-cons}
 use Rattle.model.specs.Arena.{headOf, leaseOf}
 use Rattle.model.specs.Calls.{countsOf}
-use Rattle.model.specs.Choice.{if_then_else_}
+use Rattle.choice.specs.Choice.{if_then_else_}
 use Rattle.model.specs.Crew.{takenOf, releasedOf, crewRules, crewOf}
 use Rattle.model.specs.Log.{Made}
 use Rattle.model.specs.Order.{refusal-is}

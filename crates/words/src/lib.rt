@@ -11,7 +11,8 @@ use wave::Undumped;
 ghost use mathlib.Core.Path.{_≡_};
 ghost use Prim.Native.Nat.{_+_, _≤_};
 ghost use lib.Seq.{sets};
-ghost use Rattle.words.specs.Words.{answerWords, resultWords, replyWords, playedWords, eachOf, crewWords, dumpedWords, undumpedWords};
+ghost use Rattle.words.specs.Words.{answerWords, resultWords, replyWords, playedWords, eachOf, crewWords};
+ghost use Rattle.words.specs.Words.{dumpedWords, undumpedWords};
 
 // Words 8 to 11.
 fn answer_words(answer: Answer) -> [u64; 4]

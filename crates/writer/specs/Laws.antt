@@ -8,7 +8,7 @@ use lib.Dec.{eqb, ltb}
 use lib.ListN.{length, getD, drop, take, length-append, length-drop}
 use lib.Seq.{sets, drop-cons}
 use borrow.Author.Tests.{eqb-true}
-use Rattle.model.specs.Choice.{if_then_else_}
+use Rattle.choice.specs.Choice.{if_then_else_}
 use Rattle.io.specs.Digits.{digits, Fewest}
 use Rattle.print.specs.Print.{putOf}
 use Rattle.print.specs.Laws.{put-none, put-join, put-place, length-digits, fewest-one}

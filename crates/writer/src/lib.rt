@@ -141,7 +141,8 @@ fn flip(n: usize, bits: &mut [u8; 94], kind: u32, cell: usize) -> bool
 
 fn put_change(out: &mut [u8], at: usize, t: usize, bit: u8, cell: u8) -> usize
     requires { ⌜ (t < 100000) × (bit ≤ 1) × (cell < 94) × (at + placesOf t + 5 ≤ length (now out)) ⌝ }
-    ensures { λ r. ⌜ (r, now (out .exit)) ≡ putOf (now (out .entry)) at (joined (timeLine t ∷ bitLine bit cell ∷ [])) ⌝ }
+    ensures { λ r. ⌜ (r, now (out .exit))
+        ≡ putOf (now (out .entry)) at (joined (timeLine t ∷ bitLine bit cell ∷ [])) ⌝ }
 {
     let a = put_time(out, at, t);
     put_bit(out, a, bit, cell)
@@ -167,8 +168,10 @@ fn step(
     out: &mut [u8],
     at: usize,
 ) -> usize
-    requires { ⌜ (n ≤ 94) × (t < 100000) × (changesOf n (now bits) kind cell ≡ true → at + placesOf t + 5 ≤ length (now out)) ⌝ }
-    ensures { λ r. ⌜ (r, (now (bits .exit), now (out .exit))) ≡ stepOf n t (now (bits .entry)) kind cell (now (out .entry)) at ⌝ }
+    requires { ⌜ (n ≤ 94) × (t < 100000) × (changesOf n (now bits) kind cell ≡ true → at + placesOf t + 5 ≤
+        length (now out)) ⌝ }
+    ensures { λ r. ⌜ (r, (now (bits .exit), now (out .exit)))
+        ≡ stepOf n t (now (bits .entry)) kind cell (now (out .entry)) at ⌝ }
 {
     if flip(n, bits, kind, cell) {
         let bit = wanted(kind);
@@ -178,8 +181,10 @@ fn step(
 }
 
 fn put_body(n: usize, script: &[u32], out: &mut [u8], at: usize) -> usize
-    requires { ⌜ (n ≤ 94) × (length (now script) ≤ 98304) × (at + length (joined (bodyOf n 1 noBits (now script))) ≤ length (now out)) ⌝ }
-    ensures { λ r. ⌜ (r, now (out .exit)) ≡ putOf (now (out .entry)) at (joined (bodyOf n 1 noBits (now (script .entry)))) ⌝ }
+    requires { ⌜ (n ≤ 94) × (length (now script) ≤ 98304) ×
+        (at + length (joined (bodyOf n 1 noBits (now script))) ≤ length (now out)) ⌝ }
+    ensures { λ r. ⌜ (r, now (out .exit))
+        ≡ putOf (now (out .entry)) at (joined (bodyOf n 1 noBits (now (script .entry)))) ⌝ }
 {
     let mut bits = [0u8; 94];
     let mut used = at;

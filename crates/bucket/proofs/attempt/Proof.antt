@@ -1,18 +1,11 @@
 -- `bucket::attempt` meets its contract.
-use mathlib.Core.Path.{sym, _∙_}
 use native.Mathlib.Omega.{arith}
 use borrow.Author.Needs.{needs}
-use Rattle.model.specs.Foreign.{setting}
-use Rattle.model.specs.Lock.{attemptOf}
-use Rattle.bucket.proofs.attempt.Statement.{statement}
-use Rattle.laws.specs.Keys.{find-inside}
 use Rattle.bucket.specs.Laws.{locked-bound-of, quiet-few}
-use Rattle.foreign.specs.Model.{guardsOf}
+use Rattle.foreign.specs.Model.{settingOf}
 use Rattle.lock.specs.Laws.{lock-quiet}
+use Rattle.bucket.proofs.attempt.Statement.{statement}
 use Rattle.bucket.proofs.attempt.Tie as tie
-
-find-requires : tie.Need-find-requires
-find-requires c κs = search needs
 
 enum-known-found : tie.Need-enum-known-found
 enum-known-found c = search needs
@@ -24,14 +17,12 @@ enum-known-found-2 : tie.Need-enum-known-found-2
 enum-known-found-2 c = search needs
 
 lock-requires : tie.Need-lock-requires
-lock-requires c κs =
-    let key = c .before .before .before .before .before .before .before .before .before .before .before .before .before .before .before .pre .0 in
-    (key .room, (c .before .before .before .before .before .before .before .before .before .before .before .before .before .before .before .pre .1 .flow-bound, rw (key .cells-are) (find-inside _ _ _ _ _ _ _ (sym (c .before .before .before .before .before .before .before .before .find .ensures) ∙ c .before .before .before .before .before .before .found2 .given .1))))
+lock-requires c κs = (c .before .before .before .before .before .before .before .before .before .before .before .before .before .before .pre .0, (c .before .before .before .before .before .before .before .before .before .before .before .before .before .before .pre .1 .0 .flow-bound, c .before .before .before .before .before .before .before .before .before .before .before .before .before .before .pre .1 .1 _ (c .before .before .before .before .before .before .before .before .found2 .given .1)))
 
 counted-requires : tie.Need-counted-requires
 counted-requires c κs =
-    let run-bound = c .before .before .before .before .before .before .before .before .before .before .before .before .before .before .before .before .before .before .before .before .pre .1 in
-    let k = locked-bound-of _ _ _ _ _ (c .before .before .before .before .before .before .before .before .before .before .before .before .before .before .before .before .before .before .before .before .pre .0 .room .steps-are) _ _ _ _ _ (c .before .before .before .before .lock .ensures) (run-bound .flow-bound) in
+    let run-bound = c .before .before .before .before .before .before .before .before .before .before .before .before .before .before .before .before .before .before .before .pre .1 .0 in
+    let k = locked-bound-of _ _ _ _ _ (c .before .before .before .before .before .before .before .before .before .before .before .before .before .before .before .before .before .before .before .pre .0 .steps-are) _ _ _ _ _ (c .before .before .before .before .lock .ensures) (run-bound .flow-bound) in
     (run-bound .few-attempts, (run-bound .few-boundaries, k .few))
 
 same-length : tie.Need-same-length
@@ -41,45 +32,35 @@ same-length-2 : tie.Need-same-length-2
 same-length-2 c = search needs
 
 returns : tie.Need-returns
-unfolding attemptOf
-returns c = rw (← c .before .before .before .before .before .before .before .before .before .before .before .before .before .before .find .ensures, c .before .before .before .before .before .before .before .before .before .before .before .before .found2 .given .1, ← c .before .before .before .before .before .lock .ensures, ← c .counted .ensures)
+returns c = rw (c .before .before .before .before .before .before .before .before .before .before .before .before .before .before .found2 .given .1, ← c .before .before .before .before .before .lock .ensures, ← c .counted .ensures)
+
+head-requires : tie.Need-head-requires
+head-requires c κs = search needs
 
 quiet-lock-requires : tie.Need-quiet-lock-requires
-quiet-lock-requires c κs =
-    let key = c .before .before .before .before .before .before .before .before .before .before .before .before .before .before .pre .0 in
-    let i = find-inside _ _ _ _ _ _ _ (sym (c .before .before .before .before .before .before .before .find .ensures) ∙ c .before .before .before .before .before .found2 .given .1) in
-    omega (arith, key .room .words-fit, key .cells-are, i)
+quiet-lock-requires c κs = omega (arith, c .before .before .before .before .before .before .before .before .before .before .before .before .before .pre .0 .words-fit, c .before .before .before .before .before .before .before .before .before .before .before .before .before .pre .1 .1 _ (c .before .before .before .before .before .before .before .found2 .given .1))
 
 counted-requires-2 : tie.Need-counted-requires-2
 counted-requires-2 c κs =
-    let run-bound = c .before .before .before .before .before .before .before .before .before .before .before .before .before .before .before .before .before .pre .1 in
+    let run-bound = c .before .before .before .before .before .before .before .before .before .before .before .before .before .before .before .before .pre .1 .0 in
     (run-bound .few-attempts, (run-bound .few-boundaries, quiet-few _ _ _ _ (c .before .before .quiet-lock .ensures)))
+
+returns-2 : tie.Need-returns-2
+returns-2 c = rw (c .before .before .found .given .1, ← c .missed .ensures)
 
 same-length-3 : tie.Need-same-length-3
 same-length-3 c = search needs
 
-returns-2 : tie.Need-returns-2
-unfolding attemptOf
-returns-2 c = rw (← c .before .before .before .before .find .ensures, c .before .before .found .given .1, ← c .missed .ensures)
-
-same-length-4 : tie.Need-same-length-4
-same-length-4 c = search needs
-
-same-length-5 : tie.Need-same-length-5
-same-length-5 c = search needs
-
 returns-3 : tie.Need-returns-3
-unfolding attemptOf
 returns-3 c =
-    let a = c .before .before .before .before .before .before .before .before .before .before .before .before .before .before .before .before .before .before .args in
-    let e = setting (a .head .headers) (a .cells) (a .script .now) (guardsOf (a .held .now) (a .taken .now) (a .n)) in
-    rw (← c .before .before .before .before .before .before .before .before .before .before .before .find .ensures, c .before .before .before .before .before .before .before .before .before .found2 .given .1, lock-quiet e (a .health .now) _ (a .run .flow) (a .table .now) (omega (arith, c .before .before .before .before .before .if1 .left, c .before .before .before .before .before .before .before .before .before .before .before .before .before .before .before .before .before .before .pre .0 .room .steps-are)), ← c .before .before .before .quiet-lock .ensures, ← c .counted2 .ensures)
+    let a = c .before .before .before .before .before .before .before .before .before .before .before .before .before .before .before .before .before .args in
+    let e = settingOf (a .scope) (a .script .now) (a .held .now) (a .taken .now) (a .n) in
+    rw (c .before .before .before .before .before .before .before .before .before .before .before .found2 .given .1, lock-quiet e (a .health .now) _ (a .run .flow) (a .table .now) (omega (arith, c .before .before .before .before .before .before .if1 .left, c .before .before .before .before .before .before .before .before .before .before .before .before .before .before .before .before .before .pre .0 .steps-are)), ← c .before .before .before .quiet-lock .ensures, ← c .counted2 .ensures)
 
 pub attempt-spec : {M : Type 1} → statement M
 attempt-spec =
     tie.close
     (tie.spec
-    find-requires
     enum-known-found
     missed-requires
     enum-known-found-2
@@ -88,10 +69,9 @@ attempt-spec =
     same-length
     same-length-2
     returns
+    head-requires
     quiet-lock-requires
     counted-requires-2
-    same-length-3
     returns-2
-    same-length-4
-    same-length-5
+    same-length-3
     returns-3)

@@ -3,7 +3,7 @@ use mathlib.Core.Path.{sym, _∙_}
 use borrow.Author.Needs.{needs}
 use Rattle.bucket.proofs.key_fault.Statement.{statement}
 use Rattle.bucket.specs.Fine.{key-then}
-use Rattle.foreign.specs.Fine.{arena-shape}
+use Rattle.laws.specs.Checks.{arena-shape}
 use Rattle.bucket.proofs.key_fault.Tie as tie
 
 arena-fault-requires : tie.Need-arena-fault-requires

@@ -10,11 +10,11 @@ use Rattle.bucket.proofs.pause.Tie as tie
 boundary-requires : tie.Need-boundary-requires
 boundary-requires c κs = search needs
 
-add-t21 : tie.Need-add-t21
-add-t21 c = search needs
+add-t19 : tie.Need-add-t19
+add-t19 c = search needs
 
-add-t22 : tie.Need-add-t22
-add-t22 c = search needs
+add-t20 : tie.Need-add-t20
+add-t20 c = search needs
 
 spin-requires : tie.Need-spin-requires
 spin-requires c κs =
@@ -50,8 +50,8 @@ pause-spec =
     tie.close
     (tie.spec
     boundary-requires
-    add-t21
-    add-t22
+    add-t19
+    add-t20
     spin-requires
     same-length
     same-length-2

@@ -2,14 +2,14 @@
 use native.Mathlib.Omega.{arith}
 use lib.ListN.{replicate}
 use borrow.Author.Needs.{needs}
-use Rattle.bucket.proofs.retry_by_key.Statement.{statement}
-use Rattle.bucket.specs.Fine.{fine-key, start-run-bound, retryByKeyOf}
+use Rattle.model.specs.Calls.{starting}
+use Rattle.bucket.specs.Fine.{fine-key, start-run-bound, retry-given, retryByKeyOf}
 use Rattle.bucket.specs.Laws.{more-run-bound}
-use Rattle.foreign.specs.Fine.{guards-none}
+use Rattle.bucket.proofs.retry_by_key.Statement.{statement}
 use Rattle.bucket.proofs.retry_by_key.Tie as tie
 
-mul-cells : tie.Need-mul-cells
-mul-cells c = search needs
+scope-of-requires : tie.Need-scope-of-requires
+scope-of-requires c κs = search needs
 
 starting-requires : tie.Need-starting-requires
 starting-requires c κs = search needs
@@ -18,7 +18,8 @@ retry-requires : tie.Need-retry-requires
 retry-requires c κs =
     let a = c .before .before .before .before .before .before .before .before .before .before .args in
     let f = c .before .before .before .before .before .before .before .before .before .before .pre in
-    (fine-key (a .head) _ _ _ _ (a .place) (a .binding) 0 (f .script-ok) (f .bound) (omega arith), rw (c .before .before .before .starting .ensures) (more-run-bound _ _ _ _ (omega arith) (start-run-bound (a .head) _ _ _ (a .place) (f .script-ok))))
+    let k = fine-key _ (a .head) _ _ _ _ (a .place) (a .key .binding) 0 (c .before .before .before .before .scope-of .ensures) (f .script-ok) (f .bound) (omega arith) in
+    (k, rw (c .before .before .before .starting .ensures) (more-run-bound _ _ _ _ (omega arith) (start-run-bound _ (a .head) _ _ _ (a .place) (c .before .before .before .before .scope-of .ensures) (f .script-ok))))
 
 settle-requires : tie.Need-settle-requires
 settle-requires c κs = search needs
@@ -37,13 +38,15 @@ same-length-2 c = search needs
 
 returns : tie.Need-returns
 unfolding retryByKeyOf
-returns c = rw (← guards-none (c .before .before .before .before .before .before .before .before .before .before .before .before .before .before .before .before .before .before .before .args .held .now) (replicate 64 (replicate 2 0)), ← c .before .before .before .before .before .before .before .before .before .before .before .before .starting .ensures, ← c .before .before .before .before .before .before .before .before .retry .ensures, ← c .before .before .settle .ensures, ← c .before .answer-of .ensures, ← c .play .ensures)
+returns c =
+    let a = c .before .before .before .before .before .before .before .before .before .before .before .before .before .before .before .before .before .before .before .args in
+    rw (← retry-given _ (a .head) (a .script .now) (a .held .now) (replicate 64 (replicate 2 0)) (a .registry .now) (a .key .binding) (a .key .bucket) (starting (a .head) (a .place)) (a .table .now) (a .health .now) (c .before .before .before .before .before .before .before .before .before .before .before .before .before .scope-of .ensures) 4096 0, ← c .before .before .before .before .before .before .before .before .before .before .before .before .starting .ensures, ← c .before .before .before .before .before .before .before .before .retry .ensures, ← c .before .before .settle .ensures, ← c .before .answer-of .ensures, ← c .play .ensures)
 
 pub retry-by-key-spec : {M : Type 1} → statement M
 retry-by-key-spec =
     tie.close
     (tie.spec
-    mul-cells
+    scope-of-requires
     starting-requires
     retry-requires
     settle-requires

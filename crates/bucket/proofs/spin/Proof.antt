@@ -7,8 +7,8 @@ use Rattle.bucket.proofs.spin.Tie as tie
 boundary-requires : tie.Need-boundary-requires
 boundary-requires c κs = search needs
 
-add-t17 : tie.Need-add-t17
-add-t17 c = search needs
+add-t15 : tie.Need-add-t15
+add-t15 c = search needs
 
 same-length : tie.Need-same-length
 same-length c = search needs
@@ -21,4 +21,4 @@ unfolding spinOf
 returns c = rw (← c .before .before .before .before .before .boundary .ensures)
 
 pub spin-spec : {M : Type 1} → statement M
-spin-spec = tie.close (tie.spec boundary-requires add-t17 same-length same-length-2 returns)
+spin-spec = tie.close (tie.spec boundary-requires add-t15 same-length same-length-2 returns)

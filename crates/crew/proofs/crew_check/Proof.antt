@@ -4,7 +4,7 @@ use native.Mathlib.Omega.{arith}
 use borrow.Author.Needs.{needs}
 use Rattle.crew.proofs.crew_check.Statement.{statement}
 use Rattle.crew.specs.Fine.{crew-then}
-use Rattle.foreign.specs.Fine.{arena-fine}
+use Rattle.laws.specs.Checks.{arena-fine}
 use Rattle.crew.proofs.crew_check.Tie as tie
 
 arena-fault-requires : tie.Need-arena-fault-requires

@@ -3,7 +3,8 @@ use mathlib.Core.Path.{sym, _∙_}
 use borrow.Author.Needs.{needs}
 use Rattle.model.specs.Checks.{scriptRules}
 use Rattle.foreign.proofs.script_check.Statement.{statement}
-use Rattle.foreign.specs.Fine.{arena-shape, script-then}
+use Rattle.laws.specs.Checks.{arena-shape}
+use Rattle.foreign.specs.Fine.{script-then}
 use Rattle.foreign.proofs.script_check.Tie as tie
 
 arena-fault-requires : tie.Need-arena-fault-requires

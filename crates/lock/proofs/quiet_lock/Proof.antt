@@ -23,7 +23,7 @@ same-length c = search needs
 
 returns : tie.Need-returns
 unfolding quietLockOf
-returns c = rw (← c .before .before .before .before .before .before .before .before .waiters-at .ensures, eq-eqb _ _ (c .before .before .before .before .before .before .before .if1 .taken), take-claim (c .before .before .before .before .before .before .before .before .before .before .before .args .head) _ _ _, ← c .before .before .before .before .before .before .spent-to .ensures, ← c .before .before .before .before .claim-at .ensures, ← c .boundaries-for .ensures)
+returns c = rw (← c .before .before .before .before .before .before .before .before .waiters-at .ensures, eq-eqb _ _ (c .before .before .before .before .before .before .before .if1 .taken), take-claim (c .before .before .before .before .before .before .before .before .before .before .before .args .head .headers) (c .before .before .before .before .before .before .before .before .before .before .before .args .head .buckets) _ _ _, ← c .before .before .before .before .before .before .spent-to .ensures, ← c .before .before .before .before .claim-at .ensures, ← c .boundaries-for .ensures)
 
 same-length-2 : tie.Need-same-length-2
 same-length-2 c = search needs

@@ -2,15 +2,15 @@
 use borrow.Author.Needs.{needs}
 use Rattle.model.specs.Lock.{secondOf}
 use Rattle.foreign.specs.Laws.{FlowBound, boundary-goes}
-use Rattle.lock.proofs.second.Statement.{statement}
 use Rattle.lock.specs.Laws.{take-claim}
+use Rattle.lock.proofs.second.Statement.{statement}
 use Rattle.lock.proofs.second.Tie as tie
 
 boundary-requires : tie.Need-boundary-requires
 boundary-requires c κs = search needs
 
-spent-to-requires : tie.Need-spent-to-requires
-spent-to-requires c κs = search needs
+head-requires : tie.Need-head-requires
+head-requires c κs = search needs
 
 claim-at-requires : tie.Need-claim-at-requires
 claim-at-requires c κs = search needs
@@ -18,7 +18,7 @@ claim-at-requires c κs = search needs
 enum-known-answer : tie.Need-enum-known-answer
 enum-known-answer c = search needs
 
-flow-bound : (c : tie.After-boundary) → FlowBound (c .before .before .before .before .before .before .before .args .steps) (c .boundary .result)
+flow-bound : (c : tie.After-boundary) → FlowBound (c .before .before .before .before .before .before .before .args .scope .steps) (c .boundary .result)
 flow-bound c = boundary-goes _ _ _ _ _ _ _ _ _ (c .before .before .before .before .before .before .before .pre .0 .steps-are) (c .boundary .ensures) (c .before .before .before .before .before .before .before .pre .1 .0)
 
 late-requires : tie.Need-late-requires
@@ -30,11 +30,20 @@ late-requires c κs =
 enum-told : tie.Need-enum-told
 enum-told c = search needs
 
+stopped-requires : tie.Need-stopped-requires
+stopped-requires c κs = search needs
+
 enum-told-2 : tie.Need-enum-told-2
 enum-told-2 c = search needs
 
+stopped-requires-2 : tie.Need-stopped-requires-2
+stopped-requires-2 c κs = search needs
+
 enum-told-3 : tie.Need-enum-told-3
 enum-told-3 c = search needs
+
+stopped-requires-3 : tie.Need-stopped-requires-3
+stopped-requires-3 c κs = search needs
 
 same-length : tie.Need-same-length
 same-length c = search needs
@@ -44,7 +53,9 @@ same-length-2 c = search needs
 
 returns : tie.Need-returns
 unfolding secondOf
-returns c = rw (← c .before .before .before .before .before .before .before .before .before .before .before .before .before .before .before .before .before .before .before .before .boundary .ensures, take-claim (c .before .before .before .before .before .before .before .before .before .before .before .before .before .before .before .before .before .before .before .before .before .before .before .before .before .before .before .args .head) _ _ _, ← c .before .before .before .before .before .before .before .before .before .before .before .before .before .before .before .spent-to .ensures, ← c .before .before .before .before .before .before .before .before .before .before .before .before .before .claim-at .ensures, c .before .before .before .before .before .before .before .before .answer .given .1, ← c .before .before .before .before .late .ensures)
+returns c =
+    let a = c .before .before .before .before .before .before .before .before .before .before .before .before .before .before .before .before .before .before .before .before .before .before .before .before .before .before .before .args in
+    rw (← c .before .before .before .before .before .before .before .before .before .before .before .before .before .before .before .before .before .before .before .before .boundary .ensures, take-claim (a .scope .headers) (a .scope .buckets) _ _ _, ← c .before .before .before .before .before .before .before .before .before .before .before .before .before .before .before .head .ensures, ← c .before .before .before .before .before .before .before .before .before .before .before .before .before .claim-at .ensures, c .before .before .before .before .before .before .before .before .answer .given .1, ← c .before .before .before .before .late .ensures)
 
 same-length-3 : tie.Need-same-length-3
 same-length-3 c = search needs
@@ -54,7 +65,9 @@ same-length-4 c = search needs
 
 returns-2 : tie.Need-returns-2
 unfolding secondOf
-returns-2 c = rw (← c .before .before .before .before .before .before .before .before .before .before .before .before .boundary .ensures, take-claim (c .before .before .before .before .before .before .before .before .before .before .before .before .before .before .before .before .before .before .before .args .head) _ _ _, ← c .before .before .before .before .before .before .before .spent-to .ensures, ← c .before .before .before .before .before .claim-at .ensures, c .enum-told .given .1)
+returns-2 c =
+    let a = c .before .before .before .before .before .before .before .before .before .before .before .before .before .before .before .before .before .before .before .before .args in
+    rw (← c .before .before .before .before .before .before .before .before .before .before .before .before .before .boundary .ensures, take-claim (a .scope .headers) (a .scope .buckets) _ _ _, ← c .before .before .before .before .before .before .before .before .head .ensures, ← c .before .before .before .before .before .before .claim-at .ensures, c .before .enum-told .given .1, ← c .stopped .ensures)
 
 same-length-5 : tie.Need-same-length-5
 same-length-5 c = search needs
@@ -64,7 +77,9 @@ same-length-6 c = search needs
 
 returns-3 : tie.Need-returns-3
 unfolding secondOf
-returns-3 c = rw (← c .before .before .before .before .before .before .before .before .before .before .before .before .boundary .ensures, take-claim (c .before .before .before .before .before .before .before .before .before .before .before .before .before .before .before .before .before .before .before .args .head) _ _ _, ← c .before .before .before .before .before .before .before .spent-to .ensures, ← c .before .before .before .before .before .claim-at .ensures, c .enum-told2 .given .1)
+returns-3 c =
+    let a = c .before .before .before .before .before .before .before .before .before .before .before .before .before .before .before .before .before .before .before .before .args in
+    rw (← c .before .before .before .before .before .before .before .before .before .before .before .before .before .boundary .ensures, take-claim (a .scope .headers) (a .scope .buckets) _ _ _, ← c .before .before .before .before .before .before .before .before .head .ensures, ← c .before .before .before .before .before .before .claim-at .ensures, c .before .enum-told2 .given .1, ← c .stopped2 .ensures)
 
 same-length-7 : tie.Need-same-length-7
 same-length-7 c = search needs
@@ -74,20 +89,25 @@ same-length-8 c = search needs
 
 returns-4 : tie.Need-returns-4
 unfolding secondOf
-returns-4 c = rw (← c .before .before .before .before .before .before .before .before .before .before .before .before .boundary .ensures, take-claim (c .before .before .before .before .before .before .before .before .before .before .before .before .before .before .before .before .before .before .before .args .head) _ _ _, ← c .before .before .before .before .before .before .before .spent-to .ensures, ← c .before .before .before .before .before .claim-at .ensures, c .enum-told3 .given .1)
+returns-4 c =
+    let a = c .before .before .before .before .before .before .before .before .before .before .before .before .before .before .before .before .before .before .before .before .args in
+    rw (← c .before .before .before .before .before .before .before .before .before .before .before .before .before .boundary .ensures, take-claim (a .scope .headers) (a .scope .buckets) _ _ _, ← c .before .before .before .before .before .before .before .before .head .ensures, ← c .before .before .before .before .before .before .claim-at .ensures, c .before .enum-told3 .given .1, ← c .stopped3 .ensures)
 
 pub second-spec : {M : Type 1} → statement M
 second-spec =
     tie.close
     (tie.spec
     boundary-requires
-    spent-to-requires
+    head-requires
     claim-at-requires
     enum-known-answer
     late-requires
     enum-told
+    stopped-requires
     enum-told-2
+    stopped-requires-2
     enum-told-3
+    stopped-requires-3
     same-length
     same-length-2
     returns

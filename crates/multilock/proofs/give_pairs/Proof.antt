@@ -4,19 +4,19 @@ use mathlib.Core.Path.{refl, sym, _∙_}
 use native.Mathlib.Omega.{arith}
 use borrow.Author.Needs.{needs}
 use Rattle.model.specs.Arena.{leasesOf}
-use Rattle.model.specs.Foreign.{setting}
 use Rattle.bucket.specs.Laws.{more-run-bound}
-use Rattle.foreign.specs.Model.{pairsOf}
+use Rattle.foreign.specs.Model.{pairsOf, inScope}
 use Rattle.multilock.proofs.give_pairs.Statement.{statement}
-use Rattle.multilock.specs.Release.{Giving, give-one-goes, give-pairs-at, give-back-end}
+use Rattle.multilock.specs.Locks.{give-pairs-at}
+use Rattle.release.specs.Release.{Giving, give-one-goes, give-back-end}
 use Rattle.multilock.proofs.give_pairs.Tie as tie
 
 abbrev Inv-loop : tie.InvT-loop
-Inv-loop headers cells table₀ health₀ script steps held n taken run₀ k₀ table health run k =
-    Giving (setting headers cells script (leasesOf held)) steps (pairsOf n 0 taken) n run₀ table₀ health₀ k run table health
+Inv-loop scope table₀ health₀ script held n taken run₀ k₀ table health run k =
+    Giving (inScope scope script (leasesOf held)) (scope .steps) (pairsOf n 0 taken) n run₀ table₀ health₀ k run table health
 
 abbrev μ-loop : tie.MeasureT-loop
-μ-loop headers cells table₀ health₀ script steps held n taken run₀ k₀ table health run k = k
+μ-loop scope table₀ health₀ script held n taken run₀ k₀ table health run k = k
 
 loop-holds : tie.Need-loop-holds Inv-loop μ-loop
 loop-holds c = record { run-bound = more-run-bound _ _ _ _ (omega arith) (c .before .before .before .before .pre .1 .0); few = search needs; words = refl; bytes = refl; rest = refl }
@@ -50,11 +50,11 @@ loop-again c =
     let p = c .before .before .before .before .before .before .before .before .before .before .before .before .before .before .before .pre in
     let some = c .before .before .before .before .before .before .before .before .before .loop-test .taken in
     record {
-      run-bound = more-run-bound _ _ _ _ (omega (arith, l .inv .few, some)) (give-one-goes _ _ _ _ _ (p .0 .steps-are) _ _ _ _ _ _ (c .before .before .before .before .give-one .ensures) (l .inv .run-bound));
+      run-bound = more-run-bound _ _ _ _ (omega (arith, l .inv .few, some)) (give-one-goes (a .scope) _ _ (p .0 .steps-are) _ _ _ _ _ _ (c .before .before .before .before .give-one .ensures) (l .inv .run-bound));
       few = omega (arith, l .inv .few);
       words = search needs;
       bytes = search needs;
-      rest = sym (give-pairs-at (l .k) (l .k - 1) (a .n) (a .headers) (a .cells) (a .script .now) (a .held .now) (a .t9) (l .run) (l .table) (l .health) _ (omega (arith, some)) (omega (arith, l .inv .few, some)) (c .before .before .before .before .give-one .ensures)) ∙ l .inv .rest;
+      rest = sym (give-pairs-at (l .k) (l .k - 1) (a .n) (a .scope .headers) (a .scope .cells) (a .script .now) (a .held .now) (a .t7) (l .run) (l .table) (l .health) _ (omega (arith, some)) (omega (arith, l .inv .few, some)) (c .before .before .before .before .give-one .ensures)) ∙ l .inv .rest;
     }
 
 same-length : tie.Need-same-length Inv-loop μ-loop
@@ -67,7 +67,7 @@ returns : tie.Need-returns Inv-loop μ-loop
 returns c =
     let l = c .before .loop in
     let a = c .before .before .before .before .before .before .args in
-    rw (← l .inv .rest, give-back-end (l .k) (setting (a .headers) (a .cells) (a .script .now) (leasesOf (a .held .now))) (pairsOf (a .n) 0 (a .t9)) (l .run) (l .table) (l .health) (search needs))
+    rw (← l .inv .rest, give-back-end (l .k) (inScope (a .scope) (a .script .now) (leasesOf (a .held .now))) (pairsOf (a .n) 0 (a .t7)) (l .run) (l .table) (l .health) (search needs))
 
 pub give-pairs-spec : {M : Type 1} → statement M
 give-pairs-spec =

@@ -1,12 +1,14 @@
 -- `multilock::locks_once` meets its contract.
+use Rattle.model.specs.Arena.{leasesOf}
+use Rattle.model.specs.Calls.{starting}
 use borrow.Author.Needs.{needs}
 use Rattle.bucket.specs.Fine.{start-run-bound}
 use Rattle.multilock.proofs.locks_once.Statement.{statement}
-use Rattle.multilock.specs.Fine.{fine-bound, locksOnceOf}
+use Rattle.multilock.specs.Fine.{fine-bound, locks-given, locksOnceOf}
 use Rattle.multilock.proofs.locks_once.Tie as tie
 
-mul-cells : tie.Need-mul-cells
-mul-cells c = search needs
+scope-of-requires : tie.Need-scope-of-requires
+scope-of-requires c κs = search needs
 
 starting-requires : tie.Need-starting-requires
 starting-requires c κs = search needs
@@ -15,7 +17,7 @@ lock-keys-requires : tie.Need-lock-keys-requires
 lock-keys-requires c κs =
     let a = c .before .before .before .before .before .before .before .before .before .before .before .before .args in
     let f = c .before .before .before .before .before .before .before .before .before .before .before .before .pre in
-    (fine-bound (a .head) _ _ _ (a .place) _ _ _ f, (rw (c .before .before .before .starting .ensures) (start-run-bound (a .head) _ _ _ (a .place) (f .script-ok)), (f .few, (search needs, f .grants-are))))
+    (fine-bound _ (a .head) _ _ _ (a .place) _ _ _ (c .before .before .before .before .scope-of .ensures) f, (rw (c .before .before .before .starting .ensures) (start-run-bound _ (a .head) _ _ _ (a .place) (c .before .before .before .before .scope-of .ensures) (f .script-ok)), (f .few, (search needs, f .grants-are))))
 
 play-requires : tie.Need-play-requires
 play-requires c κs = search needs
@@ -31,13 +33,15 @@ same-length-3 c = search needs
 
 returns : tie.Need-returns
 unfolding locksOnceOf
-returns c = rw (← c .before .before .before .before .before .before .before .before .before .before .before .before .starting .ensures, ← c .before .before .before .before .before .before .before .before .lock-keys .ensures, ← c .play .ensures)
+returns c =
+    let a = c .before .before .before .before .before .before .before .before .before .before .before .before .before .before .before .before .before .before .before .before .before .args in
+    rw (← locks-given _ (a .head) (a .script .now) (c .before .before .before .before .before .before .before .before .before .before .before .before .before .scope-of .ensures) _ (leasesOf (a .held .now)) (a .registry .now) (a .keys .now) (starting (a .head) (a .place)) (a .table .now) (a .health .now) (a .grants .now), ← c .before .before .before .before .before .before .before .before .before .before .before .before .starting .ensures, ← c .before .before .before .before .before .before .before .before .lock-keys .ensures, ← c .play .ensures)
 
 pub locks-once-spec : {M : Type 1} → statement M
 locks-once-spec =
     tie.close
     (tie.spec
-    mul-cells
+    scope-of-requires
     starting-requires
     lock-keys-requires
     play-requires

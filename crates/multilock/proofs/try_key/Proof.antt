@@ -30,7 +30,7 @@ retry-requires : tie.Need-retry-requires
 retry-requires c κs =
     let a = c .before .before .before .before .before .before .before .before .before .before .args in
     let q = c .before .before .before .before .before .before .before .before .before .before .pre in
-    (bound-key (a .head) _ _ _ _ _ (a .registry .now) (a .keys .now) (a .p) (q .1 .1 .0) (q .1 .1 .1) (q .0), q .1 .0)
+    (bound-key (a .scope) _ _ _ (a .registry .now) (a .keys .now) (a .p) (q .1 .1 .0) (q .1 .1 .1) (q .0), q .1 .0)
 
 same-length : tie.Need-same-length
 same-length c = search needs

@@ -1,0 +1,1 @@
+// No code: a choice by a test, and its laws, for every crate above, in `specs/`.
