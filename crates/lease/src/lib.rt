@@ -389,7 +389,8 @@ pub fn drop_preserving_borrows(head: Head, table: &mut [u32], held: &[u32], leas
     match check {
         Check::Fault(refusal) => arena::refuse(head, refusal),
         Check::Fine => {
-            arena::release(table, lease.cell);
+            let cell = lease.cell;
+            arena::release(table, cell);
             arena::reply(head, 0, Answer::Done)
         }
     }

@@ -1,4 +1,5 @@
--- 000: `acquire_preserving_borrows`, `drop_preserving_borrows` and `foreign_release_between_attempts`: the calls with a held list and no script.
+-- 000: `acquire_preserving_borrows`, `drop_preserving_borrows` and `foreign_release_between_attempts`: the calls with a
+-- held list and no script.
 use Prim.Native.Nat.{ℕ, _≤_, _<_}
 use mathlib.Core.Path.{_≡_, refl, sym, ap, subst}
 use mathlib.Core.List.{List, [], _∷_}
@@ -26,6 +27,7 @@ use Rattle.upstream.specs.Vocabulary.{Key, cell, Authority, lease-key, l
 use Rattle.upstream.specs.Protocol.{step-grants, step-frees, bit-of}
 use Rattle.upstream.specs.Bridge.{live-cell, authorized-live, by-name, by-place, fits-sized, sized-now, refused, by-checks}
 use Rattle.upstream.specs.Refusing.{unauthorized, on-damaged, Fits, not-held, First-bad, held-refused, cell-refused, protected-refused}
+use Rattle.upstream.specs.Passing.{Short, held-cell-passes, held-lease-passes}
 use Rattle.upstream.specs.TryAcquire.{Tries, barred, acquired, tries-keys, tries-valid, tries-some, tries-held, tries-free, tries-spent, tries-damaged, tries-keeps, fine-fault}
 use Rattle.upstream.specs.DropLease.{Drops, drops, dropped, drops-valid, drops-stays, drops-keeps, drops-done}
 use Rattle.upstream.specs.DropLease as drop
@@ -82,9 +84,9 @@ module _ (w : Authority) (held : List ℕ) (c : Key) where
   acquire-preserving-borrows-e4 = tries-keys tried
 
   -- "gain 'and a serial remains', else SerialsSpent"
-  pub acquire-preserving-borrows-e5 : Checked₁ → valid w → contains-key w c → cells w c .bit ≡ 0
+  pub acquire-preserving-borrows-e5 : Fits w → Short held → valid w → contains-key w c → leases-authorized w (leasesOf held) → cells w c .bit ≡ 0
       → (next-serial w < lastSerial → result₁ ≡ Granted (leaseOf c (next-serial w))) × (lastSerial ≤ next-serial w → result₁ ≡ Refused (SerialsSpent c))
-  acquire-preserving-borrows-e5 f v i b = (tries-free tried f (v c i) b, tries-spent tried f (v c i) b)
+  acquire-preserving-borrows-e5 s k v i p b = let f = held-cell-passes w held c s k v i p in (tries-free tried f (v c i) b, tries-spent tried f (v c i) b)
 
   pub acquire-preserving-borrows-e6 : (l : Lease) → result₁ ≡ Granted l → lease-serial l ≡ next-serial w
   acquire-preserving-borrows-e6 l e = ap lease-serial (tries-some tried l e .0)
@@ -157,9 +159,9 @@ module _ (w : Authority) (held : List ℕ) (l : Lease) where
       go (drops x) = x .written .same-keys
       go (drop.barred r f) = refl
 
-  -- where the call is not refused
-  pub drop-preserving-borrows-e5 : Checked₂ → cells final₂ (lease-key l) .bit ≡ 0
-  drop-preserving-borrows-e5 f = bit-of (step-frees w final₂ (l .cell) (l .serial) (drops-done dropping f .1))
+  pub drop-preserving-borrows-e5 : Fits w → Short held → valid w → authorized w l → leases-authorized w (leasesOf held) → (held-ids (leasesOf held) l → ⊥)
+      → cells final₂ (lease-key l) .bit ≡ 0
+  drop-preserving-borrows-e5 s k v a p n = bit-of (step-frees w final₂ (l .cell) (l .serial) (drops-done dropping (held-lease-passes w held l s k v a p n) .1))
 
   pub drop-preserving-borrows-e6 : next-serial final₂ ≡ next-serial w
   drop-preserving-borrows-e6 = drops-stays dropping
@@ -218,10 +220,12 @@ module _ (w : Authority) (held : List ℕ) (l : Lease) where
   foreign-release-between-attempts-e1 = hands-valid handed
 
   -- the sure grant gains "and a serial remains", else SerialsSpent, and "the release stands and the cell is free"
-  pub foreign-release-between-attempts-e2 : Checked₃
+  pub foreign-release-between-attempts-e2 : Fits w → Short held → valid w → authorized w l → leases-authorized w (leasesOf held) → (held-ids (leasesOf held) l → ⊥)
       → (next-serial w < lastSerial → (result₃ ≡ Granted (leaseOf (lease-key l) (next-serial w))) × authorized final₃ (leaseOf (lease-key l) (next-serial w)))
       × (lastSerial ≤ next-serial w → (result₃ ≡ Refused (SerialsSpent (lease-key l))) × (cells final₃ (lease-key l) ≡ cell 0 0))
-  foreign-release-between-attempts-e2 f = (λ n. let e = hands-granted handed f n in (e, hands-some handed _ e .1), hands-spent handed f)
+  foreign-release-between-attempts-e2 s k v a p m =
+      let f = held-lease-passes w held l s k v a p m in
+      (λ n. let e = hands-granted handed f n in (e, hands-some handed _ e .1), hands-spent handed f)
 
   pub foreign-release-between-attempts-e3 : leases-authorized w (leasesOf held) → (held-ids (leasesOf held) l → ⊥) → leases-authorized final₃ (leasesOf held)
   foreign-release-between-attempts-e3 p n =

@@ -34,7 +34,7 @@ use Rattle.upstream.specs.Protocol.{Trace, ended, first as one}
 
 pub status-valid : (next : ℕ) (c : Cell) → Status (c .bit) (c .owner) next → Valid-cell next c
 status-valid next c (is-free p q) = record { bits = inl p; owned = (λ s. absurd (omega arith), λ b. absurd (omega arith)); below = λ s. absurd (omega arith) }
-status-valid next c (is-held p q r) = record { bits = inr p; owned = (λ s. p, λ b. q); below = λ s. r }
+status-valid next c (is-held p q r) = record { bits = inr p; owned = (λ s. p, λ b. q); below = λ s. omega arith }
 
 pub valid-status : (next : ℕ) (c : Cell) → Valid-cell next c → Status (c .bit) (c .owner) next
 valid-status next c v = go (v .bits) (c .owner) refl

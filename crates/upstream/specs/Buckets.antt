@@ -1,11 +1,10 @@
--- 000 and 001: resolving a key (`publication_header`, `poisoned`, `bucket`, `yield_now`), `transactional_try_lock_bucket` and `acquire_index_bucket`.
+-- 000 and 001: `transactional_try_lock_bucket`, `acquire_index_bucket`, and `poisoned` and `yield_now` in them.
 use Prim.Native.Nat.{ℕ, suc, _≤_, _<_}
-use mathlib.Core.Path.{_≡_, refl, ap, _∙_}
+use mathlib.Core.Path.{_≡_, ap, _∙_}
 use mathlib.Core.List.{List, [], _∷_}
 use mathlib.Core.Bool.{false}
-use mathlib.Core.Logic.{inl, inr}
+use mathlib.Core.Logic.{_↔_}
 use native.Mathlib.Omega.{arith}
-use native.Mathlib.Decide.{decLt}
 use borrow.Author.Tests.{not-false, le-leb}
 use lib.ListN.{length, getD}
 use Rattle.model.specs.Arena.{leasesOf, waitersAt}
@@ -24,7 +23,7 @@ use Rattle.model.specs.declared.Lease.{Lease}
 use Rattle.model.specs.declared.Outcome.{Outcome}
 use Rattle.model.specs.declared.Outcome.the-variants as outcome
 use Rattle.model.specs.declared.Refusal.{Refusal}
-use Rattle.model.specs.declared.Refusal.the-variants.{BadHeld, BadBinding, BadHeader, Poisoned, InvalidBucket, Damaged}
+use Rattle.model.specs.declared.Refusal.the-variants.{BadHeld, BadBinding, BadHeader, Poisoned, Damaged}
 use Rattle.model.specs.declared.Run.{Run}
 use Rattle.history.specs.World.{yields, number-of}
 use Rattle.history.specs.Items.{Call, transactional, acquire-bucket, perform, Clear, rules}
@@ -33,91 +32,16 @@ use Rattle.history.specs.Theorems.{counts-are}
 use Rattle.history.specs.Judged.{unchanged}
 use Rattle.history.specs.Steps.{of-flow}
 use Rattle.laws.specs.Keys.{place-inside}
-use Rattle.upstream.specs.Vocabulary.{Key, Authority, lease-key, dom, contains-key, cells, Valid-cell, valid, authorized, held-ids, leases-authorized, contains-place, key-of, bucket-request-valid, bucket-reply, physical, guards-place}
+use Rattle.upstream.specs.Vocabulary.{Key, Authority, lease-key, dom, contains-key, cells, Valid-cell, valid, authorized, held-ids, leases-authorized, key-of, physical, guards-place}
 use Rattle.upstream.specs.Protocol.{trace-valid, trace-keeps, trace-buries}
 use Rattle.upstream.specs.Bridge.{by-name, by-place, fits-sized, refused, first-after, by-checks}
 use Rattle.upstream.specs.Refusing.{First-bad, held-refused}
 use Rattle.upstream.specs.TryAcquire.{fine-fault}
-use Rattle.upstream.specs.Keys.{Finds, bad-header, poisoned, bad-bucket, at, finds, answer-granted, Granted-at, attempt-key, retry-key}
+use Rattle.upstream.specs.Keys.{answer-granted, settled-granted, Granted-at, attempt-key, retry-key}
+use Rattle.upstream.specs.Resolve.{find-6, find-7}
 use Rattle.upstream.specs.Scripts.{Ready, attempt-goes, retry-goes}
 use Rattle.upstream.specs.Environment.{Went, unmoved, held-live}
 use Rattle.upstream.specs.TryLock.{lock-damaged}
-
--- ---- resolving a key: `w` is the arena, whose health is read
-
-module _ (w : Authority) (registry : List ℕ) (binding bucket : ℕ) where
-  abbrev header : ℕ
-  header = getD registry binding 0
-
-  abbrev find : Found
-  find = findOf (w .head .headers) (w .head .buckets) (w .health) registry binding bucket
-
-  abbrev Find : Found → Type 0
-  Find = Finds (w .head .headers) (w .head .buckets) (w .health) registry binding bucket
-
-  found-find : Find find
-  found-find = finds (w .head .headers) (w .head .buckets) (w .health) registry binding bucket
-
-  -- the cell that is found
-  found-at : {x : Found} → Find x → (k : Key) → x ≡ found.At k → (k ≡ key-of w header bucket) × contains-place w header bucket
-  found-at (bad-header p) k e = let q : _≡_ {A = ℕ} 0 1 = cc in absurd (omega arith)
-  found-at (poisoned p q) k e = let z : _≡_ {A = ℕ} 0 1 = cc in absurd (omega arith)
-  found-at (bad-bucket p q s) k e = let z : _≡_ {A = ℕ} 0 1 = cc in absurd (omega arith)
-  found-at (at p q s) k e = (cc, (p, s))
-
-  -- result.unwrap() == self.registry()[binding as int]: the header that counts is the registry's
-  pub publication-header-e1 : (k : Key) → find ≡ found.At k → k ≡ key-of w (getD registry binding 0) bucket
-  publication-header-e1 k e = found-at found-find k e .0
-
-  -- a header that is not in the arena: 6, with the header
-  outside : {x : Found} → Find x → w .head .headers ≤ header → x ≡ found.Fault (BadHeader header)
-  outside (bad-header p) l = refl
-  outside (poisoned p q) l = absurd (omega arith)
-  outside (bad-bucket p q s) l = absurd (omega arith)
-  outside (at p q s) l = absurd (omega arith)
-
-  -- bucket_request_valid: the bucket is too large, or its cell is in the map; else the header is too large, 6
-  pub bucket-r1 : (bucket-request-valid (w .head .buckets) header bucket w → ⊥) → find ≡ found.Fault (BadHeader header)
-  bucket-r1 n = go (decLt header (w .head .headers)) (decLt bucket (w .head .buckets))
-    where
-      go : Dec (header < w .head .headers) → Dec (bucket < w .head .buckets) → find ≡ found.Fault (BadHeader header)
-      go (yes p) (yes q) = absurd (n (inr (p, q)))
-      go (yes p) (no q) = absurd (n (inl (omega arith)))
-      go (no p) q = outside found-find (omega arith)
-
-  -- self.poisoned(header): the health byte decides, 7 with the header
-  pub poisoned-n1 : header < w .head .headers → (getD (w .health) header 0 ≡ 0 → ⊥) → find ≡ found.Fault (Poisoned header)
-  poisoned-n1 l n = go found-find
-    where
-      go : {x : Found} → Find x → x ≡ found.Fault (Poisoned header)
-      go (bad-header p) = absurd (omega arith)
-      go (poisoned p q) = refl
-      go (bad-bucket p q s) = absurd (n q)
-      go (at p q s) = absurd (n q)
-
-  -- bucket_reply, once header and health are found good; else 8 with the caller's number
-  pub bucket-e1 : header < w .head .headers → getD (w .health) header 0 ≡ 0 → bucket-reply (w .head .buckets) header bucket w (λ k. find ≡ found.At k)
-  bucket-e1 l g = (
-    (λ x. found-at found-find (x .0) (x .1) .1 .1, λ b. inside found-find b),
-    λ k e.
-        let x = found-at found-find k e in
-        (x .0, rw (x .0) (place-inside (w .head .headers) (w .head .buckets) header bucket l (x .1 .1))),
-  )
-    where
-      inside : {x : Found} → Find x → bucket < w .head .buckets → (k : Key) × (x ≡ found.At k)
-      inside (bad-header p) b = absurd (omega arith)
-      inside (poisoned p q) b = absurd (q g)
-      inside (bad-bucket p q s) b = absurd (omega arith)
-      inside (at p q s) b = (_, refl)
-
-  pub bucket-refused : header < w .head .headers → getD (w .health) header 0 ≡ 0 → w .head .buckets ≤ bucket → find ≡ found.Fault (InvalidBucket bucket)
-  bucket-refused l g b = go found-find
-    where
-      go : {x : Found} → Find x → x ≡ found.Fault (InvalidBucket bucket)
-      go (bad-header p) = absurd (omega arith)
-      go (poisoned p q) = absurd (q g)
-      go (bad-bucket p q s) = refl
-      go (at p q s) = absurd (omega arith)
 
 -- ---- the calls
 
@@ -148,12 +72,6 @@ module _ (w : Authority) (registry script : List ℕ) (place : ℕ) (held : List
   abbrev find₁ : Found
   find₁ = findOf (w .head .headers) (w .head .buckets) (w .health) registry binding bucket
 
-  -- a settled outcome that is granted
-  unsettled : (o : Outcome) (l : Lease) → answerOf (settled o) ≡ Granted l → o ≡ outcome.Granted l
-  unsettled (outcome.Granted k) l e = answer-granted (outcome.Granted k) l e
-  unsettled outcome.Busy l e = absurd (omega (arith, ap kindOf e))
-  unsettled (outcome.Refused r) l e = answer-granted (outcome.Refused r) l e
-
   begins : valid w → Clear (rules w one) → Ready (held-ids (leasesOf held)) w
   unfolding bucketRules
   begins v k = record { sized = fits-sized w (not-false _ (k .0)); valid-now = v; safe = held-live w held _ (k .1 .1 .1 .1) }
@@ -171,7 +89,7 @@ module _ (w : Authority) (registry script : List ℕ) (place : ℕ) (held : List
       by-checks (λ m. Went w (leasesOf held) (m .seen .1 .answer) (m .seen .0)) w many (λ r e. unmoved r)
       (λ e k.
       let m = retry-goes (w .head) script attemptLimit 0 (leasesOf held) registry binding bucket begun (w .table) (w .health) (begins v k) in
-      record { trace = m .goes .trace; gain = λ l e. m .gain l (unsettled _ l e) })
+      record { trace = m .goes .trace; gain = λ l e. m .gain l (settled-granted _ l e) })
 
   -- and is on the key's cell, whatever the table holds
   abbrev OfKey : Lease → Type 0
@@ -185,7 +103,7 @@ module _ (w : Authority) (registry script : List ℕ) (place : ℕ) (held : List
   many-key : (l : Lease) → answers w many ≡ Granted l → OfKey l
   many-key l =
       by-checks (λ m. m .seen .1 .answer ≡ Granted l → OfKey l) w many (λ r e q. absurd (omega (arith, ap kindOf q)))
-      (λ e k q. retry-key setting (w .head .buckets) registry binding bucket attemptLimit 0 begun (w .table) (w .health) l (unsettled _ l q))
+      (λ e k q. retry-key setting (w .head .buckets) registry binding bucket attemptLimit 0 begun (w .table) (w .health) l (settled-granted _ l q))
 
   inside-arena : (l : Lease) → OfKey l → contains-key w (lease-key l)
   inside-arena l k = rw (k .cell-is) (place-inside (w .head .headers) (w .head .buckets) header₁ bucket (k .header-inside) (k .bucket-inside))
@@ -211,6 +129,13 @@ module _ (w : Authority) (registry script : List ℕ) (place : ℕ) (held : List
   bad-key : (x : Refusal) → find₁ ≡ found.Fault x → attempted ≡ outcome.Refused x
   unfolding attemptOf
   bad-key x e = ap (λ (f : Found). attemptAt f setting begun (w .table) (w .health) .seen .0 .outcome) e
+
+  -- self.poisoned(header): of a header in the arena the health byte decides what the key comes to, and 7 with the
+  -- header is the call's answer
+  pub poisoned-n1 : ((find₁ ≡ found.Fault (Poisoned header₁)) ↔ ((header₁ < w .head .headers) × (getD (w .health) header₁ 0 ≡ 0 → ⊥)))
+      × (Checked → find₁ ≡ found.Fault (Poisoned header₁) → (answers w one ≡ Refused (Poisoned header₁)) × (answers w many ≡ Refused (Poisoned header₁)))
+  poisoned-n1 =
+      (find-7 w registry binding bucket, λ f e. (one-refused f (Poisoned header₁) (bad-key (Poisoned header₁) e), many-refused f (Poisoned header₁) (bad-key (Poisoned header₁) e)))
 
   -- the cell is damaged when it comes to the compare-and-set of the first attempt
   abbrev Damaged-at : Key → Type 0
@@ -253,7 +178,7 @@ module _ (w : Authority) (registry script : List ℕ) (place : ℕ) (held : List
 
   -- physical_domain(driver, old(authority)): 6 with the header, where the key's header is not in the arena
   pub transactional-try-lock-bucket-r4 : Checked → w .head .headers ≤ header₁ → answers w one ≡ Refused (BadHeader header₁)
-  transactional-try-lock-bucket-r4 f l = one-refused f (BadHeader header₁) (bad-key (BadHeader header₁) (outside w registry binding bucket (found-find w registry binding bucket) l))
+  transactional-try-lock-bucket-r4 f l = one-refused f (BadHeader header₁) (bad-key (BadHeader header₁) (find-6 w registry binding bucket .1 l))
 
   pub transactional-try-lock-bucket-e1 : valid w → valid (leaves w one)
   transactional-try-lock-bucket-e1 v = trace-valid (one-went v .trace) v
@@ -282,7 +207,7 @@ module _ (w : Authority) (registry script : List ℕ) (place : ℕ) (held : List
   acquire-index-bucket-r3 i k b f = refused w many (BadHeld i) (unheld i k b f)
 
   pub acquire-index-bucket-r4 : Checked → w .head .headers ≤ header₁ → answers w many ≡ Refused (BadHeader header₁)
-  acquire-index-bucket-r4 f l = many-refused f (BadHeader header₁) (bad-key (BadHeader header₁) (outside w registry binding bucket (found-find w registry binding bucket) l))
+  acquire-index-bucket-r4 f l = many-refused f (BadHeader header₁) (bad-key (BadHeader header₁) (find-6 w registry binding bucket .1 l))
 
   pub acquire-index-bucket-e1 : valid w → valid (leaves w many)
   acquire-index-bucket-e1 v = trace-valid (many-went v .trace) v

@@ -19,8 +19,9 @@ use Rattle.history.specs.Judged.{unchanged}
 use Rattle.history.specs.Tests.{same-lease}
 use Rattle.upstream.specs.Vocabulary.{cell, Authority, lease-key, lease-serial, next-serial, contains-key, cells, insert, Cells-are, Valid-cell, valid, authorized, framed, Release, Gives-up, step}
 use Rattle.upstream.specs.Protocol.{insert-framed, step-valid, step-keeps, step-frees}
-use Rattle.upstream.specs.Bridge.{authorized-live, Sized, fits-sized, event-step, refused, by-checks}
-use Rattle.upstream.specs.Refusing.{unauthorized, on-damaged, Fits, lease-refused, lease-fine}
+use Rattle.upstream.specs.Bridge.{Sized, fits-sized, event-step, refused, by-checks}
+use Rattle.upstream.specs.Refusing.{unauthorized, on-damaged, Fits, lease-refused}
+use Rattle.upstream.specs.Passing.{lease-passes}
 use Rattle.upstream.specs.TryAcquire.{fine-fault}
 
 -- ---- what one release comes to, whatever the table holds; F says that no check of the call applies
@@ -75,7 +76,7 @@ module _ (w : Authority) (l : Lease) where
 
   -- upstream's premises are enough
   pub drop-lease-done : Fits w → valid w → authorized w l → (result ≡ Done) × Gives-up w final (l .cell) (l .serial)
-  drop-lease-done s v a = drops-done tried (lease-fine w l s (authorized-live w l v a))
+  drop-lease-done s v a = drops-done tried (lease-passes w l s v a)
 
   -- valid(old(authority)): 12, where the lease's cell is damaged
   pub drop-lease-r1 : Fits w → (Valid-cell (next-serial w) (cells w (lease-key l)) → ⊥) → perform w (drop-lease l) ≡ unchanged w (drop-lease l) (NotHeld 0)

@@ -1,18 +1,17 @@
--- 000: `Scheduler::interfere`, `environment` and `environment_for_borrows`: one boundary of the script, a trace of upstream's steps.
+-- 000: `Scheduler::interfere`, `environment` and `environment_for_borrows`: one boundary of the script, a trace of
+-- upstream's steps.
 use Prim.Native.Nat.{ℕ, zero, suc, _+_, _<_}
-use mathlib.Core.Path.{_≡_, refl, sym, ap, subst}
+use mathlib.Core.Path.{_≡_, sym, ap, subst}
 use mathlib.Core.List.{List, [], _∷_, _++_, append-nil}
-use mathlib.Core.Bool.{false, not, _&&_}
+use mathlib.Core.Bool.{false}
 use native.Mathlib.Omega.{arith}
 use borrow.Author.Tests.{not-false}
-use lib.Dec.{ltb}
 use lib.ListN.{length}
-use Rattle.model.specs.Log.{Made}
-use Rattle.model.specs.Arena.{serialRemains, leaseOf, leasesOf, bitAt, ownerAt, isFree, isLive, isIn}
+use Rattle.model.specs.Arena.{leasesOf}
 use Rattle.model.specs.Answers.{kindOf}
 use Rattle.model.specs.Refusals.{Rule, first}
 use Rattle.model.specs.Checks.{badShape, badHealth, badScript, badHeld, badHeldLength, notLive, scriptRules}
-use Rattle.model.specs.Foreign.{drops, stepTakeOf, stepReleaseOf, flowOf}
+use Rattle.model.specs.Foreign.{flowOf}
 use Rattle.model.specs.Lock.{leaseAt}
 use Rattle.model.specs.declared.Answer.{Answer}
 use Rattle.model.specs.declared.Answer.the-variants.{Granted, Refused}
@@ -20,16 +19,13 @@ use Rattle.model.specs.declared.Check.the-variants.{Fault}
 use Rattle.model.specs.declared.Lease.{Lease}
 use Rattle.model.specs.declared.Refusal.{Refusal}
 use Rattle.model.specs.declared.Refusal.the-variants.{BadHeld}
-use Rattle.model.specs.declared.Stepped.{Stepped}
-use Rattle.choice.specs.Pick.{both}
 use Rattle.history.specs.Items.{environment, perform, Clear}
 use Rattle.history.specs.Statements.{leaves}
 use Rattle.history.specs.Judged.{clear-front, unchanged}
-use Rattle.history.specs.Tests.{if-cases, free as is-free, free-words, is-free-state}
-use Rattle.upstream.specs.Vocabulary.{Key, Authority, Leases, next-serial, dom, cells, Valid-cell, valid, authorized, protected-valid, held-ids, leases-authorized, legal-environment, no-resurrection}
+use Rattle.upstream.specs.Vocabulary.{Authority, Leases, next-serial, dom, valid, authorized, protected-valid, held-ids, leases-authorized, legal-environment, no-resurrection}
 use Rattle.upstream.specs.Protocol.{Trace, ended, trace-valid, trace-keeps, trace-buries, trace-legal}
-use Rattle.upstream.specs.Bridge.{status-valid, live-authorized, by-name, by-place, fits-sized, refused, by-checks}
-use Rattle.upstream.specs.Refusing.{on-damaged, First-bad, held-refused}
+use Rattle.upstream.specs.Bridge.{live-authorized, by-name, by-place, fits-sized, refused, by-checks}
+use Rattle.upstream.specs.Refusing.{First-bad, held-refused}
 use Rattle.upstream.specs.Scripts.{boundary-goes}
 
 -- ---- what a call with a script comes to: a trace that releases no held lease; what it grants is authorized
@@ -50,25 +46,6 @@ live-at w n (l ∷ ls) c (suc i) k = live-at w (n + 1) ls (c .1) i (omega arith)
 
 pub held-live : (w : Authority) (held : List ℕ) (ys : List Rule) → Clear (badHeld (w .head) (w .table) held ++ ys) → protected-valid w (held-ids (leasesOf held))
 held-live w held ys c = by-name w (leasesOf held) (live-at w 0 (leasesOf held) (clear-front (notLive (w .head) (w .table) 0 (leasesOf held)) ys (c .1)))
-
--- ---- a foreign step that meets a damaged cell is dropped
-
-pub take-dropped : (w : Authority) (c : Key) → (Valid-cell (next-serial w) (cells w c) → ⊥) → stepTakeOf (dom w) (next-serial w) (w .table) c ≡ drops (next-serial w) (w .table)
-unfolding stepTakeOf
-take-dropped w c n =
-    if-cases (λ (m : Made (Stepped × List ℕ)). m ≡ drops (next-serial w) (w .table)) (ltb c (dom w) && isFree (bitAt (w .table) c) (ownerAt (w .table) c) && serialRemains (next-serial w))
-    (λ e.
-    let p = both (ltb c (dom w) && isFree (bitAt (w .table) c) (ownerAt (w .table) c)) (serialRemains (next-serial w)) e in
-    let q = both (ltb c (dom w)) (isFree (bitAt (w .table) c) (ownerAt (w .table) c)) (p .0) in
-    let x = free-words (next-serial w) (w .table) c (is-free-state (next-serial w) (w .table) c (q .1)) in
-    absurd (n (status-valid (next-serial w) (cells w c) (is-free (x .0) (x .1))))) (λ e. refl)
-
-pub release-dropped : (w : Authority) (ps : List Lease) (c : Key) (s : ℕ) → (Valid-cell (next-serial w) (cells w c) → ⊥)
-    → stepReleaseOf (dom w) ps (next-serial w) (w .table) c s ≡ drops (next-serial w) (w .table)
-unfolding stepReleaseOf
-release-dropped w ps c s n =
-    if-cases (λ (m : Made (Stepped × List ℕ)). m ≡ drops (next-serial w) (w .table)) (isLive (next-serial w) (dom w) (w .table) (leaseOf c s) && not (isIn (leaseOf c s) ps))
-    (λ e. absurd (on-damaged w (leaseOf c s) n (both (isLive (next-serial w) (dom w) (w .table) (leaseOf c s)) (not (isIn (leaseOf c s) ps)) e .0))) (λ e. refl)
 
 -- ---- the calls; both names are one definition
 
@@ -94,12 +71,6 @@ module _ (w : Authority) (script : List ℕ) (place : ℕ) (held : List ℕ) whe
   -- legal_environment(old(authority), final(authority), protected)
   pub interfere-e1 : valid w → legal-environment w final ids
   interfere-e1 v = trace-legal (went v)
-
-  -- valid(old(authority)): a step that meets a damaged cell is dropped, whatever the script
-  pub environment-r1 : (c s : ℕ) → (Valid-cell (next-serial w) (cells w c) → ⊥)
-      → (stepTakeOf (dom w) (next-serial w) (w .table) c ≡ drops (next-serial w) (w .table))
-      × (stepReleaseOf (dom w) (leasesOf held) (next-serial w) (w .table) c s ≡ drops (next-serial w) (w .table))
-  environment-r1 c s n = (take-dropped w c n, release-dropped w (leasesOf held) c s n)
 
   -- protected_valid(old(authority), protected), leases_authorized(old(authority), held@): 3, with the first position
   pub environment-r2 : (i : ℕ) → Clear (badShape (w .head) (w .table) ∷ badHealth (w .head) (w .health) ∷ badScript script place ∷ []) → badHeldLength held .applies ≡ false

@@ -1,11 +1,12 @@
--- 001: `Primitives::try_lock` and `acquire_index_locks`. A guard is a lease here: its cell tells header and bucket, and it is in the arena.
-use Prim.Native.Nat.{ℕ, zero, suc, _+_, _*_, _≤_, _<_}
+-- 001: `Primitives::try_lock` and `acquire_index_locks`. A guard is a lease here: its cell tells header and bucket, and
+-- it is in the arena.
+use Prim.Native.Nat.{ℕ, zero, suc, _+_, _*_, _/_, _%_, _≤_, _<_}
 use mathlib.Core.Path.{_≡_, refl, sym, ap, _∙_, subst}
 use mathlib.Core.List.{List, [], _∷_, _++_}
 use mathlib.Core.Bool.{false}
 use native.Mathlib.Omega.{arith}
 use native.Mathlib.Decide.{ℕ-discrete, decLt}
-use native.Mathlib.Nat.{mul-le-mul-right, suc-mul}
+use native.Mathlib.Nat.{mul-le-mul-right, suc-mul, div-add-mod', mod-lt}
 use borrow.Author.Tests.{le-leb, lt-leb}
 use lib.ListN.{length, getD, length-append, List·getD-append}
 use lib.Seq.{getD-append-seam}
@@ -33,7 +34,7 @@ use Rattle.laws.specs.Keys.{place-inside}
 use Rattle.upstream.specs.Vocabulary.{Key, Authority, Pair, Guard, lease-key, contains-key, key-at, guards-place, guards-match, all-guards-in, physical-members, guard-members}
 use Rattle.upstream.specs.Bridge.{refused, by-checks}
 use Rattle.upstream.specs.Keys.{Granted-at, retry-key}
-use Rattle.upstream.specs.TryLock.{granted-key, try-lock-e4}
+use Rattle.upstream.specs.TryLock.{granted-key}
 
 -- ---- a cell number tells header and bucket
 
@@ -51,11 +52,31 @@ pair-of b x p y q i j e = go (decLt x y) (decLt y x)
 
 -- ---- `try_lock`
 
+-- the slot that a cell number stands for: header and bucket
+abbrev pub slot-of : ℕ → Key → Pair
+slot-of buckets c = (c / buckets, c % buckets)
+
+-- it is a slot of the arena, and the only pair with that cell number
+pub slot-is : (headers buckets : ℕ) (c : Key) → c < headers * buckets → (cellNumber buckets (c / buckets) (c % buckets) ≡ c) × (c % buckets < buckets)
+slot-is headers buckets c i = (div-add-mod' c buckets, go buckets i)
+  where
+    go : (b : ℕ) → c < headers * b → c % b < b
+    go zero l = absurd (omega arith)
+    go (suc b) l = mod-lt c (omega arith)
+
+pub slot-only : (headers buckets : ℕ) (c : Key) (header bucket : ℕ) → c < headers * buckets → bucket < buckets → cellNumber buckets header bucket ≡ c → (header, bucket) ≡ slot-of buckets c
+slot-only headers buckets c header bucket i b e =
+    let s = slot-is headers buckets c i in
+    let p = pair-of buckets header bucket (c / buckets) (c % buckets) b (s .1) (e ∙ sym (s .0)) in
+    ap {B = Pair} (λ (z : ℕ). (z, bucket)) (p .0) ∙ ap {B = Pair} (λ (z : ℕ). (c / buckets, z)) (p .1)
+
 module _ (w : Authority) (script : List ℕ) (place : ℕ) (held : List ℕ) where
-  -- r.unwrap().physical == slot
-  pub guards-try-lock-e1 : (header bucket : ℕ) → bucket < w .head .buckets → (l : Guard)
-      → answers w (try-lock script place held (cellNumber (w .head .buckets) header bucket)) ≡ Granted l → guards-place (w .head .buckets) l (header, bucket)
-  guards-try-lock-e1 header bucket b l e = (try-lock-e4 w script place held (cellNumber (w .head .buckets) header bucket) l e, b)
+  -- r.unwrap().physical == slot, where the slot is that of the cell that is asked for
+  pub guards-try-lock-e1 : (c : Key) (l : Guard) → answers w (try-lock script place held c) ≡ Granted l → guards-place (w .head .buckets) l (slot-of (w .head .buckets) c)
+  guards-try-lock-e1 c l e =
+      let k = granted-key w script place held c l e in
+      let s = slot-is (w .head .headers) (w .head .buckets) c (k .1) in
+      (k .0 ∙ sym (s .0), s .1)
 
   -- r.unwrap().arena == self.arena(): its cell is in the arena
   pub guards-try-lock-e2 : (c : Key) (l : Guard) → answers w (try-lock script place held c) ≡ Granted l → contains-key w (lease-key l)
@@ -165,6 +186,15 @@ module _ (w : Authority) (registry script : List ℕ) (place : ℕ) (held keys g
   pub acquire-index-locks-e3 : answers w call ≡ AllGranted → (i : ℕ) → i < countIn keys → key-at keys i .1 < w .head .buckets
   acquire-index-locks-e3 q i l = all-match q .each i l .bucket-inside
 
-  -- so the guards are on the physical places of the keys, and on no others
+  -- so the guards are on the physical places of the keys, and (`members-only`) on no others
   pub members-match : answers w call ≡ AllGranted → (p : Pair) → physical-members registry keys p → guard-members (w .head .buckets) guards p
   members-match q p x = let m = acquire-index-locks-e1 q in (x .0, omega (arith, m .0, x .1), subst (guards-place (w .head .buckets) (leaseAt guards (x .0))) (sym (x .2)) (m .1 (x .0) (x .1)))
+
+  pub members-only : answers w call ≡ AllGranted → (p : Pair) → guard-members (w .head .buckets) guards p → physical-members registry keys p
+  members-only q p x =
+      let m = acquire-index-locks-e1 q in
+      let i = x .0 in
+      let k = m .1 i (omega (arith, m .0, x .1)) in
+      let h = getD registry (bindingAt keys i) 0 in
+      let e = pair-of (w .head .buckets) (p .0) (p .1) h (bucketAt keys i) (x .2 .1) (k .1) (sym (x .2 .0) ∙ k .0) in
+      (i, omega (arith, m .0, x .1), ap {B = Pair} (λ (z : ℕ). (z, p .1)) (e .0) ∙ ap {B = Pair} (λ (z : ℕ). (h, z)) (e .1))

@@ -12,7 +12,7 @@ use Rattle.model.specs.Log.{Made}
 use Rattle.model.specs.Arena.{cellNumber, leaseOf}
 use Rattle.model.specs.Foreign.{Setting}
 use Rattle.model.specs.Answers.{kindOf}
-use Rattle.model.specs.Lock.{lockOf, outcomeOf, answerOf, findOf, attemptAt, attemptOf, pauseOf, isBusy, retryOf}
+use Rattle.model.specs.Lock.{lockOf, outcomeOf, answerOf, findOf, attemptAt, attemptOf, pauseOf, isBusy, retryOf, settled}
 use Rattle.model.specs.declared.Found.{Found}
 use Rattle.model.specs.declared.Found.the-variants as found
 use Rattle.model.specs.declared.Lease.{Lease}
@@ -66,6 +66,11 @@ pub answer-granted : (o : Outcome) (l : Lease) → answerOf o ≡ Granted l → 
 answer-granted (outcome.Granted k) l e = let q : k ≡ l = cc in ap (λ (k : Lease). outcome.Granted k) q
 answer-granted outcome.Busy l e = absurd (omega (arith, ap kindOf e))
 answer-granted (outcome.Refused r) l e = absurd (omega (arith, ap kindOf e))
+
+pub settled-granted : (o : Outcome) (l : Lease) → answerOf (settled o) ≡ Granted l → o ≡ outcome.Granted l
+settled-granted (outcome.Granted k) l e = answer-granted (outcome.Granted k) l e
+settled-granted outcome.Busy l e = absurd (omega (arith, ap kindOf e))
+settled-granted (outcome.Refused r) l e = answer-granted (outcome.Refused r) l e
 
 -- ---- a lease on the key's cell
 

@@ -17,6 +17,7 @@ use Rattle.upstream.specs.Vocabulary.{Authority, valid, leases-authorize
 use Rattle.upstream.specs.Bridge.{status-valid}
 use Rattle.upstream.specs.Refusing.{Fits}
 use Rattle.upstream.specs.TryLock.{try-lock-r1}
+use Rattle.upstream.specs.Damage.{One-step}
 use Rattle.history.specs.Tests.{held}
 
 -- an arena of two cells, held by serials 1 and 2
@@ -59,3 +60,8 @@ one-damaged = worldOf (headOf 1 1 1) (1 ∷ 0 ∷ 0 ∷ []) (0 ∷ [])
 pub met-damaged : answers one-damaged (try-lock [] 0 [] 0) ≡ Refused (Damaged 0)
 unfolding first shapeFits headFits healthFits leasesOf notLive lockRules scriptRules boundaryOf runStepsOf waitersAt bitAt ownerAt
 met-damaged = try-lock-r1 one-damaged [] 0 [] 0 refl refl (λ v. omega (arith, v .owned .1 refl)) .0
+
+-- scripts of one step on that cell: no check of `environment` applies
+pub met-one-step : One-step one-damaged [] 1 0 0 × One-step one-damaged [] 2 0 1 × One-step one-damaged [] 3 0 7
+unfolding first shapeFits headFits healthFits leasesOf notLive scriptRules
+met-one-step = (refl, refl, refl)

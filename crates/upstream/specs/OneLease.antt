@@ -25,7 +25,8 @@ use Rattle.history.specs.Events.{lives}
 use Rattle.upstream.specs.Vocabulary.{Key, cell, Authority, lease-key, lease-serial, next-serial, cells, Cells-are, Valid-cell, valid, authorized, Release, Gives-up}
 use Rattle.upstream.specs.Protocol.{step-valid, step-frees, step-grants, bit-of}
 use Rattle.upstream.specs.Bridge.{authorized-live, fits-sized, sized-now, refused, by-checks}
-use Rattle.upstream.specs.Refusing.{unauthorized, on-damaged, Fits, lease-refused, lease-fine}
+use Rattle.upstream.specs.Refusing.{unauthorized, on-damaged, Fits, lease-refused}
+use Rattle.upstream.specs.Passing.{lease-passes}
 use Rattle.upstream.specs.TryAcquire.{Tries, barred, acquired, tries-valid, tries-keeps, tries-some, tries-none, tries-held, tries-free, tries-spent, observed, fine-fault}
 use Rattle.upstream.specs.DropLease.{Drops, drops, dropped, drops-keeps}
 
@@ -85,7 +86,7 @@ module _ (w : Authority) (l : Lease) where
   pub read-permission-e1 : Fits w → valid w → authorized w l → answers w (read-permission l) ≡ Cell (lease-key l)
   read-permission-e1 s v a =
       by-checks (λ m. m .seen .1 .answer ≡ Cell (lease-key l)) w (read-permission l)
-      (λ r e. absurd (fine-fault (lease-fine w l s (authorized-live w l v a)) e)) (λ e k. refl)
+      (λ r e. absurd (fine-fault (lease-passes w l s v a) e)) (λ e k. refl)
 
   pub read-permission-e2 : (k : Key) → answers w (read-permission l) ≡ Cell k → cells w k .bit ≡ 1
   unfolding leaseRules
@@ -105,7 +106,7 @@ module _ (w : Authority) (l : Lease) where
       (λ e k. acquired Checked-competing 1 w (l .cell) (fits-sized w (not-false _ (k .0))) (lives w l (not-false _ (k .1 .0)) .in-range))
 
   excluded : Fits w → valid w → authorized w l → (answers w (competing-acquire l) ≡ Busy) × (leaves w (competing-acquire l) ≡ w)
-  excluded s v a = tries-held competing (lease-fine w l s (authorized-live w l v a)) (v (l .cell) (a .inside)) (a .locked)
+  excluded s v a = tries-held competing (lease-passes w l s v a) (v (l .cell) (a .inside)) (a .locked)
 
   pub competing-acquire-is-excluded-r1 : Fits w → (Valid-cell (next-serial w) (cells w (lease-key l)) → ⊥)
       → perform w (competing-acquire l) ≡ unchanged w (competing-acquire l) (NotHeld 0)
@@ -163,7 +164,7 @@ module _ (w : Authority) (l : Lease) where
       → (next-serial w < lastSerial → (result ≡ Granted (leaseOf (lease-key l) (next-serial w))) × authorized final (leaseOf (lease-key l) (next-serial w)))
       × (lastSerial ≤ next-serial w → (result ≡ Refused (SerialsSpent (lease-key l))) × (cells final (lease-key l) ≡ cell 0 0))
   release-then-handoff-e2 s v a =
-      let f = lease-fine w l s (authorized-live w l v a) in
+      let f = lease-passes w l s v a in
       (λ n. let e = hands-granted handed f n in (e, hands-some handed _ e .1), hands-spent handed f)
 
   pub release-then-handoff-e3 : (k : Lease) → result ≡ Granted k → lease-key k ≡ lease-key l

@@ -8,28 +8,27 @@ use mathlib.Core.Bool.{false}
 use mathlib.Core.Logic.{inl, inr}
 use native.Mathlib.Omega.{arith}
 use lib.Dec.{eqb}
-use lib.ListN.{length, getD, replicate}
+use lib.ListN.{length, replicate}
 use Rattle.choice.specs.Choice.{if_then_else_}
 use Rattle.model.specs.Log.{by-caller, released}
-use Rattle.model.specs.Arena.{headOf, spentTo, leaseOf, leasesOf, bitAt, ownerAt, waitersAt, setCell, isIn, isFree, isHeld, stateOf, stateAt, isLive, headFits, shapeFits, healthFits, registryFits}
+use Rattle.model.specs.Arena.{headOf, spentTo, leaseOf, leasesOf, bitAt, ownerAt, waitersAt, setCell, isIn, isFree, isHeld, stateOf, stateAt, isLive, headFits, shapeFits, healthFits}
 use Rattle.model.specs.Answers.{kindOf}
 use Rattle.model.specs.Refusals.{first}
-use Rattle.model.specs.Checks.{notLive, cellRules, notReleasable, heldCellRules, heldLeaseRules, scriptRules, lockRules, bucketRules, releaseRules}
+use Rattle.model.specs.Checks.{notLive, cellRules, notReleasable, heldCellRules, heldLeaseRules, scriptRules, lockRules, releaseRules}
 use Rattle.model.specs.Foreign.{runStepsOf, boundaryOf}
-use Rattle.model.specs.Lock.{leaseAt, takeOf, lateOf, secondOf, lockOf, findOf, attemptOf, retryOf, giveBackOf}
-use Rattle.model.specs.Calls.{acquireOf, tryAcquireOf, acquirePreservingOf, dropPreservingOf, tryLockOf, acquireBucketOf, releaseAllOf}
+use Rattle.model.specs.Lock.{leaseAt, takeOf, lateOf, secondOf, lockOf, giveBackOf}
+use Rattle.model.specs.Calls.{acquireOf, tryAcquireOf, acquirePreservingOf, dropPreservingOf, tryLockOf, releaseAllOf}
 use Rattle.model.specs.declared.Answer.{Answer}
-use Rattle.model.specs.declared.Answer.the-variants.{Done, Granted, Busy, Refused}
+use Rattle.model.specs.declared.Answer.the-variants.{Done, Granted, Busy}
 use Rattle.model.specs.declared.Lease.{Lease}
-use Rattle.model.specs.declared.Refusal.the-variants.{SerializationFailure}
 use Rattle.history.specs.World as world
 use Rattle.history.specs.World.{worldOf}
-use Rattle.history.specs.Items.{try-acquire, acquire-preserving, drop-preserving, try-lock, acquire-bucket, release-all, perform}
+use Rattle.history.specs.Items.{try-acquire, acquire-preserving, drop-preserving, try-lock, release-all, perform}
 use Rattle.history.specs.Statements.{answers, leaves}
 use Rattle.history.specs.Tests.{In, if-cases, differ, same-lease}
 use Rattle.history.specs.Events.{lives}
 use Rattle.laws.specs.Lists.{zero-bit, zero-owner}
-use Rattle.upstream.specs.Vocabulary.{Key, cell, Authority, lease-key, lease-serial, next-serial, dom, contains-key, cells, insert, Cells-are, Valid-cell, valid, authorized, Release, Gives-up, protected-valid, held-ids, leases-authorized, key-of}
+use Rattle.upstream.specs.Vocabulary.{Key, cell, Authority, lease-key, lease-serial, next-serial, dom, contains-key, cells, insert, Cells-are, Valid-cell, valid, authorized, Release, Gives-up, protected-valid, held-ids, leases-authorized}
 use Rattle.upstream.specs.Protocol.{Put, here, there, put, bit-of, owner-of, step-valid, step-keeps, step-frees}
 use Rattle.upstream.specs.Bridge.{authorized-live, by-name, by-place, Sized, put-cells, sized-now, event-step}
 use Rattle.choice.specs.Pick.{if-both}
@@ -70,10 +69,10 @@ We-accept-lock f =
     → f w script place held c ≡ (answers w (try-lock script place held c), leaves w (try-lock script place held c))
 
 -- an arena of one cell, free; and one whose cell a foreign holder owns
-abbrev one-free : Authority
+abbrev pub one-free : Authority
 one-free = worldOf (headOf 1 1 1) (0 ∷ 0 ∷ 0 ∷ []) (0 ∷ [])
 
-abbrev one-held : Authority
+abbrev pub one-held : Authority
 one-held = worldOf (headOf 1 1 2) (1 ∷ 1 ∷ 0 ∷ []) (0 ∷ [])
 
 -- what ours answers there
@@ -82,7 +81,7 @@ unfolding perform tryLockOf lockRules scriptRules notLive first shapeFits headFi
     waitersAt bitAt ownerAt setCell stateAt stateOf isFree isHeld
 granted-there = refl
 
-busy-there : answers one-held (try-lock [] 0 [] 0) ≡ Busy
+pub busy-there : answers one-held (try-lock [] 0 [] 0) ≡ Busy
 unfolding perform tryLockOf lockRules scriptRules notLive first shapeFits headFits healthFits leasesOf boundaryOf runStepsOf lockOf secondOf takeOf lateOf
     waitersAt bitAt ownerAt setCell stateAt stateOf isFree isHeld
 busy-there = refl
@@ -146,7 +145,7 @@ accepted-keeps-when-none w script place held c a =
     (record { e1 = ours; e2 = kept; e3 = keys; e4 = try-lock-e4 w script place held c; e5 = try-lock-e5 w script place held c (a .is-valid) })
 
 -- a free cell with a waiter: ours leaves it free
-abbrev one-waited : Authority
+abbrev pub one-waited : Authority
 one-waited = worldOf (headOf 1 1 1) (0 ∷ 0 ∷ 1 ∷ []) (0 ∷ [])
 
 pub rejected-keeps-when-none : We-accept-lock keeps-when-none → ⊥
@@ -383,50 +382,3 @@ accepted-frees-all w leases v =
 pub rejected-frees-all : ((w : Authority) (leases : List ℕ) → frees-all w leases ≡ (answers w (release-all [] 0 leases), leaves w (release-all [] 0 leases))) → ⊥
 unfolding perform releaseAllOf releaseRules notReleasable first shapeFits headFits healthFits leasesOf isIn isLive giveBackOf boundaryOf runStepsOf bitAt ownerAt setCell stateAt stateOf isFree isHeld
 rejected-frees-all p = omega (arith, ap (λ (x : Answer × Authority). bitAt (x .1 .table) 0) (p two-held (1 ∷ 2 ∷ [])))
-
--- ---- "Errors, their numbers, 4,096, yields and waiters are in bodies only": an `acquire_index_bucket` that gives up at once
-
-pub record Ensured-bucket (w : Authority) (registry : List ℕ) (held : List Lease) (binding bucket : ℕ) (result : Answer) (v : Authority) : Type 0 where
-  pub e1 : valid v
-  pub e2 : leases-authorized v held
-  pub e3 : dom v ≡ dom w
-  pub e4 : (l : Lease) → result ≡ Granted l → authorized v l
-  pub e5 : (l : Lease) → result ≡ Granted l → lease-key l ≡ key-of w (getD registry binding 0) bucket
-
-abbrev pub gives-up : Authority → List ℕ → List ℕ → ℕ → ℕ → Answer × Authority
-gives-up w registry held binding bucket = (Refused SerializationFailure, w)
-
-pub accepted-gives-up : (w : Authority) (registry held : List ℕ) (binding bucket : ℕ) → valid w → leases-authorized w (leasesOf held)
-    → Ensured-bucket w registry (leasesOf held) binding bucket (gives-up w registry held binding bucket .0) (gives-up w registry held binding bucket .1)
-accepted-gives-up w registry held binding bucket v p =
-    record { e1 = v; e2 = p; e3 = refl; e4 = λ l e. absurd (omega (arith, ap kindOf e)); e5 = λ l e. absurd (omega (arith, ap kindOf e)) }
-
-pub rejected-gives-up : ((w : Authority) (registry held : List ℕ) (binding bucket : ℕ)
-    → gives-up w registry held binding bucket ≡ (answers w (acquire-bucket registry [] 0 held binding bucket), leaves w (acquire-bucket registry [] 0 held binding bucket))) → ⊥
-unfolding perform acquireBucketOf bucketRules notLive first shapeFits headFits healthFits registryFits leasesOf retryOf attemptOf findOf boundaryOf runStepsOf
-    lockOf secondOf takeOf lateOf waitersAt bitAt ownerAt setCell stateAt stateOf isFree isHeld
-rejected-gives-up p = omega (arith, ap (λ (x : Answer × Authority). kindOf (x .0)) (p one-free (0 ∷ []) [] 0 0))
-
--- ---- "`Guard` in 001 is a plain value: no exclusion, no release": a guard is handed out and nothing is taken
-
--- r.is_some() ==> r.unwrap().physical == slot && r.unwrap().arena == self.arena()
-pub record Ensured-guard (w : Authority) (slot : Key) (result : Answer) : Type 0 where
-  pub e1 : (l : Lease) → result ≡ Granted l → lease-key l ≡ slot
-  pub e2 : (l : Lease) → result ≡ Granted l → contains-key w (lease-key l)
-
-abbrev pub feigns : Lock-build
-feigns w script place held c = (Granted (leaseOf c 1), w)
-
-pub accepted-feigns : (w : Authority) (c : Key) → contains-key w c → Ensured-guard w c (feigns w [] 0 [] c .0)
-accepted-feigns w c i =
-    record {
-      e1 = λ l e. let k : leaseOf c 1 ≡ l = cc in ap lease-key (sym k);
-      e2 = λ l e. let k : leaseOf c 1 ≡ l = cc in subst (λ (x : Lease). contains-key w (lease-key x)) k i;
-    }
-
--- two callers get one guard
-pub nobody-excluded : (w : Authority) (c : Key) → feigns (feigns w [] 0 [] c .1) [] 0 [] c ≡ feigns w [] 0 [] c
-nobody-excluded w c = refl
-
-pub rejected-feigns : We-accept-lock feigns → ⊥
-rejected-feigns p = omega (arith, ap (λ (x : Answer × Authority). kindOf (x .0)) (p one-held [] 0 [] 0), ap kindOf busy-there)

@@ -1,5 +1,6 @@
--- What one of upstream's steps, and a trace of them, keeps: the facts that upstream's comments speak of ("This lemma checks all three event
--- kinds", "Induction over arbitrary finite legal atomic interleavings") and whose proofs its text does not have.
+-- What one of upstream's steps, and a trace of them, keeps: the facts that upstream's comments speak of ("This lemma
+-- checks all three event kinds", "Induction over arbitrary finite legal atomic interleavings") and whose proofs its
+-- text does not have.
 use Prim.Native.Nat.{ℕ, zero, suc, _+_, _≤_, _<_}
 use mathlib.Core.Path.{_≡_, refl, sym, ap, _∙_, subst}
 use mathlib.Core.List.{List, [], _∷_}
@@ -137,7 +138,7 @@ pub data Trace (protected : Leases) : Authority → Authority → Type 0 where
   first : (a b c : Authority) (e : Step) → step a b e → ((id : LeaseId) → protected id → releases e (id .cell) (id .serial) → ⊥) → Trace protected b c → Trace protected a c
 
 -- inside a list it does not matter what is read past its end
-in-list : (a b : Authority) (states : List Authority) (i : ℕ) → i < length states → getD states i a ≡ getD states i b
+pub in-list : (a b : Authority) (states : List Authority) (i : ℕ) → i < length states → getD states i a ≡ getD states i b
 in-list a b [] i l = absurd (omega arith)
 in-list a b (s ∷ states) zero l = refl
 in-list a b (s ∷ states) (suc i) l = in-list a b states i (omega arith)
@@ -199,16 +200,11 @@ module _ {protected : Leases} where
       (a ∷ [], [], record { lengths = refl; begins = refl; ends = refl; moves = λ i l. absurd (omega arith); spares = λ i id l. absurd (omega arith) })
   trace-legal (first a b c e x n t) = let r = trace-legal t in (a ∷ r .0, e ∷ r .1, longer a b c e x n (r .0) (r .1) (r .2))
 
-  -- and back: upstream's form is a trace
-  legal-trace : (events : List Step) (states : List Authority) (a b : Authority) → environment-trace a b protected states events → Trace protected a b
-  legal-trace [] [] a b r = absurd (omega (arith, r .lengths))
-  legal-trace [] (s ∷ states) a b r = subst (Trace protected a) (sym (r .begins) ∙ r .ends) (ended a)
-  legal-trace (e ∷ events) [] a b r = absurd (omega (arith, r .lengths))
-  legal-trace (e ∷ events) (s ∷ []) a b r = absurd (omega (arith, r .lengths))
-  legal-trace (e ∷ events) (s ∷ t ∷ states) a b r =
-      first a t b e (subst (λ z. step z t e) (r .begins) (r .moves 0 (omega arith))) (λ id p. r .spares 0 id (omega arith) p)
-      (legal-trace events (t ∷ states) t b
-      (record {
+  -- what follows the first event is a trace again
+  pub rest-of : (a b s t : Authority) (states : List Authority) (e : Step) (events : List Step)
+      → environment-trace a b protected (s ∷ t ∷ states) (e ∷ events) → environment-trace t b protected (t ∷ states) events
+  rest-of a b s t states e events r =
+      record {
         lengths = omega (arith, r .lengths);
         begins = refl;
         ends = in-list t a (t ∷ states) (length events) (omega (arith, r .lengths)) ∙ r .ends;
@@ -217,9 +213,23 @@ module _ {protected : Leases} where
             subst (λ z. step z (getD (t ∷ states) (i + 1) t) (getD events i Observe)) (in-list a t (t ∷ states) i (omega (arith, r .lengths)))
             (subst (λ z. step (getD (t ∷ states) i a) z (getD events i Observe)) (in-list a t (t ∷ states) (i + 1) (omega (arith, r .lengths))) (rw one at (r .moves (suc i) (omega arith))));
         spares = λ i id l. r .spares (suc i) id (omega arith);
-      }))
+      }
 
-  -- so whatever a legal environment does, `valid` and the protected leases stay, and no serial comes back: upstream's `environment` follows from
-  -- the contract of its `interfere`, of any scheduler
+  pub first-of : (a b s t : Authority) (states : List Authority) (e : Step) (events : List Step)
+      → environment-trace a b protected (s ∷ t ∷ states) (e ∷ events) → step a t e × ((id : LeaseId) → protected id → releases e (id .cell) (id .serial) → ⊥)
+  first-of a b s t states e events r = (subst (λ z. step z t e) (r .begins) (r .moves 0 (omega arith)), λ id p. r .spares 0 id (omega arith) p)
+
+  -- and back: upstream's form is a trace
+  pub legal-trace : (events : List Step) (states : List Authority) (a b : Authority) → environment-trace a b protected states events → Trace protected a b
+  legal-trace [] [] a b r = absurd (omega (arith, r .lengths))
+  legal-trace [] (s ∷ states) a b r = subst (Trace protected a) (sym (r .begins) ∙ r .ends) (ended a)
+  legal-trace (e ∷ events) [] a b r = absurd (omega (arith, r .lengths))
+  legal-trace (e ∷ events) (s ∷ []) a b r = absurd (omega (arith, r .lengths))
+  legal-trace (e ∷ events) (s ∷ t ∷ states) a b r =
+      let x = first-of a b s t states e events r in
+      first a t b e (x .0) (x .1) (legal-trace events (t ∷ states) t b (rest-of a b s t states e events r))
+
+  -- so whatever a legal environment does, `valid` and the protected leases stay, and no serial comes back: upstream's
+  -- `environment` follows from the contract of its `interfere`, of any scheduler
   pub legal-keeps : (a b : Authority) → legal-environment a b protected → valid a → protected-valid a protected → valid b × protected-valid b protected × no-resurrection a b
   legal-keeps a b x v p = let t = legal-trace (x .1) (x .0) a b (x .2) in (trace-valid t v, trace-keeps t p, trace-buries t)

@@ -11,7 +11,7 @@ use Rattle.model.specs.Arena.{cellsOf, isLive, isIn, leasesOf, shapeFits}
 use Rattle.model.specs.Refusals.{Rule, first}
 use Rattle.model.specs.Checks.{badShape, badHeld, badHeldLength, notLive, badCell, notHeld, isProtected, leaseRules}
 use Rattle.model.specs.Lock.{leaseAt}
-use Rattle.model.specs.declared.Check.the-variants.{Fine, Fault}
+use Rattle.model.specs.declared.Check.the-variants.{Fault}
 use Rattle.model.specs.declared.Lease.{Lease}
 use Rattle.model.specs.declared.Refusal.the-variants.{BadHeld, InvalidBucket, NotHeld, Protected}
 use Rattle.laws.specs.Checks.{first-hit, first-skip}
@@ -47,10 +47,6 @@ Fits w = shapeFits (w .head) (length (w .table)) ≡ true
 pub lease-refused : (w : Authority) (l : Lease) → Fits w → (Live w l → ⊥) → first (leaseRules (w .head) (w .table) l) ≡ Fault (NotHeld 0)
 unfolding leaseRules
 lease-refused w l s n = not-held (badShape (w .head) (w .table) ∷ []) w 0 l [] (ap not s, tt) n
-
-pub lease-fine : (w : Authority) (l : Lease) → Fits w → Live w l → first (leaseRules (w .head) (w .table) l) ≡ Fine
-unfolding leaseRules first
-lease-fine w l s v = rw (s, v)
 
 -- ---- 3: the first lease of the held list that is not authorized
 

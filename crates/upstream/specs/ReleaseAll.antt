@@ -2,7 +2,7 @@
 use Prim.Native.Nat.{ℕ, zero, suc, _+_, _≤_, _<_}
 use mathlib.Core.Path.{_≡_, sym, ap, _∙_, subst}
 use mathlib.Core.List.{List, [], _∷_, _++_, append-nil}
-use mathlib.Core.Bool.{true, not}
+use mathlib.Core.Bool.{true, false, not}
 use mathlib.Core.Logic.{_⊎_, inl, inr, _≢_}
 use native.Mathlib.Omega.{arith}
 use native.Mathlib.Decide.{ℕ-discrete}
@@ -11,13 +11,11 @@ use lib.ListN.{length, take}
 use lib.Seq.{append-snoc}
 use Rattle.model.specs.Log.{Event, by-caller, released}
 use Rattle.model.specs.Arena.{leasesOf, isIn, setCell}
-use Rattle.model.specs.Answers.{kindOf}
 use Rattle.model.specs.Refusals.{first}
 use Rattle.model.specs.Checks.{countIn, badShape, badHealth, badScript, tooManyLeases, notHeld, repeated, notReleasable, releaseRules}
 use Rattle.model.specs.Foreign.{boundaryOf}
 use Rattle.model.specs.Lock.{leaseAt, noLease, giveBackOf}
 use Rattle.model.specs.Calls.{given, starting}
-use Rattle.model.specs.declared.Answer.the-variants.{Done}
 use Rattle.model.specs.declared.Check.{Check}
 use Rattle.model.specs.declared.Check.the-variants.{Fault}
 use Rattle.model.specs.declared.Flow.{Flow}
@@ -31,7 +29,7 @@ use Rattle.laws.specs.Lists.{leases-few}
 use Rattle.history.specs.World as world
 use Rattle.history.specs.World.{Live}
 use Rattle.history.specs.Items.{release-all, perform, Clear}
-use Rattle.history.specs.Statements.{answers, leaves}
+use Rattle.history.specs.Statements.{leaves}
 use Rattle.history.specs.Judged.{unchanged}
 use Rattle.history.specs.Tests.{In, in-cases, in-take, same-lease, differ}
 use Rattle.history.specs.Steps.{worldAt, With, of-flow, of-run}
@@ -41,6 +39,8 @@ use Rattle.upstream.specs.Vocabulary.{Key, Authority, Leases, is-Some, l
 use Rattle.upstream.specs.Protocol.{Trace, ended, trace-valid, trace-buries, step-keeps, step-frees, owner-of}
 use Rattle.upstream.specs.Bridge.{authorized-live, Sized, fits-sized, sized-now, refused, by-checks}
 use Rattle.upstream.specs.Refusing.{unauthorized, on-damaged, is-dead}
+use Rattle.upstream.specs.Passing.{Scripted, release-passes}
+use Rattle.upstream.specs.TryAcquire.{fine-fault}
 use Rattle.upstream.specs.DropLease.{dropped}
 use Rattle.upstream.specs.Scripts.{Goes, stays, then, moved, fewer, Ready, ready, boundary-goes}
 
@@ -232,10 +232,10 @@ module _ (w : Authority) (script : List ℕ) (place : ℕ) (leases : List ℕ) w
   pub release-all-e2 : valid w → Asked → dom final ≡ dom w
   release-all-e2 v a = trace-buries (went v a) .same-keys
 
-  -- where the call is not refused
-  pub release-all-e3 : valid w → Asked → answers w (release-all script place leases) ≡ Done → (i : ℕ) → i < length ls → authorized final (leaseAt ls i) → ⊥
+  pub release-all-e3 : Scripted w script place → tooManyLeases leases .applies ≡ false → valid w → Asked
+      → (i : ℕ) → i < length ls → authorized final (leaseAt ls i) → ⊥
   unfolding releaseRules
-  release-all-e3 v a =
-      by-checks (λ m. m .seen .1 .answer ≡ Done → (i : ℕ) → i < length ls → authorized (m .seen .0) (leaseAt ls i) → ⊥) w (release-all script place leases)
-      (λ r e q. absurd (omega (arith, ap kindOf q)))
-      (λ e k q i l x. gone-all (fits-sized w (not-false _ (k .0))) v a .gone i (omega (arith, leases-few leases)) (x .mine))
+  release-all-e3 s m v a =
+      by-checks (λ m. (i : ℕ) → i < length ls → authorized (m .seen .0) (leaseAt ls i) → ⊥) w (release-all script place leases)
+      (λ r e. absurd (fine-fault (release-passes w script place leases s m v (a .0) (a .1)) e))
+      (λ e k i l x. gone-all (fits-sized w (not-false _ (k .0))) v a .gone i (omega (arith, leases-few leases)) (x .mine))

@@ -219,7 +219,7 @@ module _ (h : Head) (script : List ℕ) where
                 subst (authorized _) (sym (x .1)) (m .gain (l .serial) (x .0));
           }
 
-  spin-goes : (ps : List Lease) (r : Run) (t g : List ℕ) → Ready (In ps) (worldAt h (r .flow .next) t g)
+  pub spin-goes : (ps : List Lease) (r : Run) (t g : List ℕ) → Ready (In ps) (worldAt h (r .flow .next) t g)
       → Goes (In ps) (worldAt h (r .flow .next) t g) (of-run h (spinOf (given h script ps) r t g .seen))
   unfolding spinOf
   spin-goes ps r t g k = boundary-goes ps (r .flow) t g k

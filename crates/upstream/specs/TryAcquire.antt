@@ -3,7 +3,7 @@ use Prim.Native.Nat.{ℕ, _+_, _≤_, _<_}
 use mathlib.Core.Path.{_≡_, refl, ap, _∙_}
 use mathlib.Core.List.{List, [], _∷_}
 use mathlib.Core.Bool.{true, not}
-use mathlib.Core.Logic.{_↔_}
+use mathlib.Core.Logic.{_↔_, _⊎_, inl, inr}
 use native.Mathlib.Omega.{arith}
 use borrow.Author.Tests.{ltb-true, ltb-false, leb-false, le-leb, not-false}
 use lib.ListN.{length}
@@ -31,6 +31,8 @@ use Rattle.history.specs.Judged.{unchanged}
 use Rattle.upstream.specs.Vocabulary.{Key, cell, is-some, is-none, Authority, lease-key, lease-serial, next-serial, dom, contains-key, cells, insert, Cells-are, answers-none, Valid-cell, valid, authorized, framed, Acquire, Observe, Acquires, step}
 use Rattle.upstream.specs.Protocol.{insert-framed, step-valid, step-keeps, step-grants}
 use Rattle.upstream.specs.Bridge.{status-valid, valid-status, Sized, fits-sized, put-cells, refused, first-after, by-checks}
+use Rattle.upstream.specs.Refusing.{Fits}
+use Rattle.upstream.specs.Passing.{cell-passes}
 
 -- ---- what one `try_acquire` comes to, whatever the table holds; F says that no check of the call applies
 
@@ -152,12 +154,14 @@ module _ {F : Type 0} {w : Authority} {c : Key} where
   tries-held (spent i p q r) f v b = absurd (omega arith)
   tries-held (barred r n) f v b = absurd (n f)
 
-  pub tries-busy : {a : Answer} {v : Authority} → Tries F w c a v → a ≡ Busy → cells w c .bit ≡ 1
-  tries-busy (takes x k z) e = absurd (omega (arith, ap kindOf e))
-  tries-busy (busy i p q r) e = p
-  tries-busy (damaged i p) e = absurd (omega (arith, ap kindOf e))
-  tries-busy (spent i p q r) e = absurd (omega (arith, ap kindOf e))
-  tries-busy (barred r f) e = absurd (omega (arith, ap kindOf e))
+  -- an answer that is no grant tells the bit: Busy says 1, and 10 says 0
+  pub tries-tells : {a : Answer} {v : Authority} → Tries F w c a v → F → Valid-cell (next-serial w) (cells w c) → answers-none a
+      → ((a ≡ Busy) × (cells w c .bit ≡ 1)) ⊎ ((a ≡ Refused (SerialsSpent c)) × (cells w c .bit ≡ 0))
+  tries-tells (takes x k z) f v n = absurd (n _ refl)
+  tries-tells (busy i p q r) f v n = inl (refl, p)
+  tries-tells (damaged i p) f v n = absurd (p v)
+  tries-tells (spent i p q r) f v n = inr (refl, p)
+  tries-tells (barred r m) f v n = absurd (m f)
 
 pub observed : (w v : Authority) → v ≡ w → step w v Observe
 observed w v e = rw e (record { same = record { same-keys = refl; each = λ k i. refl }; stays = refl })
@@ -230,9 +234,9 @@ module _ (w : Authority) (c : Key) where
   try-acquire-e9 l e = ap lease-serial (tries-some tried l e .0)
 
   -- "gain 'and a serial remains', else SerialsSpent"
-  pub try-acquire-e10 : Checked → valid w → contains-key w c → cells w c .bit ≡ 0
+  pub try-acquire-e10 : Fits w → valid w → contains-key w c → cells w c .bit ≡ 0
       → (next-serial w < lastSerial → result ≡ Granted (leaseOf c (next-serial w))) × (lastSerial ≤ next-serial w → result ≡ Refused (SerialsSpent c))
-  try-acquire-e10 f v i b = (tries-free tried f (v c i) b, tries-spent tried f (v c i) b)
+  try-acquire-e10 s v i b = let f = cell-passes w c s i in (tries-free tried f (v c i) b, tries-spent tried f (v c i) b)
 
   pub try-acquire-e11 : next-serial w ≤ next-serial final
   try-acquire-e11 = go tried
@@ -253,13 +257,14 @@ module _ (w : Authority) (c : Key) where
   -- ---- `compare_exchange`: bit and owner are one write here
 
   -- result.is_ok() <==> bit == expected: and a serial remains
-  pub compare-exchange-e1 : Checked → valid w → contains-key w c
+  pub compare-exchange-e1 : Fits w → valid w → contains-key w c
       → (result ≡ Granted (leaseOf c (next-serial w))) ↔ ((cells w c .bit ≡ 0) × (next-serial w < lastSerial))
-  compare-exchange-e1 f v i = (λ e. let x = tries-some tried _ e in (x .1 .unlocked, x .2), λ p. tries-free tried f (v c i) (p .0) (p .1))
+  compare-exchange-e1 s v i = (λ e. let x = tries-some tried _ e in (x .1 .unlocked, x .2), λ p. tries-free tried (cell-passes w c s i) (v c i) (p .0) (p .1))
 
-  -- result.unwrap_err() == bit: Busy says that the bit is 1
-  pub compare-exchange-e3 : result ≡ Busy → cells w c .bit ≡ 1
-  compare-exchange-e3 = tries-busy tried
+  -- result.unwrap_err() == bit: an answer that is no grant is Busy, and the bit is 1, or 10, and the bit is 0
+  pub compare-exchange-e3 : Fits w → valid w → contains-key w c → answers-none result
+      → ((result ≡ Busy) × (cells w c .bit ≡ 1)) ⊎ ((result ≡ Refused (SerialsSpent c)) × (cells w c .bit ≡ 0))
+  compare-exchange-e3 s v i n = tries-tells tried (cell-passes w c s i) (v c i) n
 
   -- the bit is 1 on a grant and as it was else; the owner is written with it
   pub compare-exchange-e4 : ((l : Lease) → result ≡ Granted l → Cells-are w final (insert (cells w) c (cell 1 (lease-serial l)))) × (answers-none result → Cells-are w final (cells w))
