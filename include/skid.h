@@ -58,7 +58,7 @@ extern "C" {
 #endif
 
 /* The version of header and library together; CHANGELOG.md says what came with which. */
-#define SKID_VERSION "0.9.0"
+#define SKID_VERSION "0.10.0"
 
 /* ---- limits */
 
@@ -239,8 +239,8 @@ void skid_environment_for_borrows(uint32_t headers, uint32_t buckets, uint32_t n
                                   uint64_t reply[SKID_REPLY_WORDS]);
 
 /*
- * One try_lock of a cell: boundary, waiters, boundary, compare-and-set, boundary, waiters. Granted or Busy. A late Busy
- * releases the cell, and its serial stays spent.
+ * One try_lock of a cell: boundary, waiters, boundary, compare-and-set, boundary, the health of the cell's header,
+ * waiters. Granted or Busy, or refused. A late SKID_POISONED or Busy releases the cell, and its serial stays spent.
  */
 void skid_try_lock(uint32_t headers, uint32_t buckets, uint32_t next, uint32_t *table, size_t table_len,
                    uint8_t *health, size_t health_len, const uint32_t *script, size_t script_len, size_t place,
@@ -252,14 +252,20 @@ void skid_other_mutex_preserves_leases(uint32_t headers, uint32_t buckets, uint3
                                        size_t script_len, size_t place, const uint32_t *held, size_t held_len,
                                        uint32_t cell, uint64_t reply[SKID_REPLY_WORDS]);
 
-/* One attempt on a key: header from the registry, then its health, then the bucket, then a try_lock. */
+/*
+ * One attempt on a key: header from the registry, then its health, then the bucket, then a try_lock, which reads the
+ * health again. SKID_POISONED before the try_lock has taken nothing; after it the serial stays spent.
+ */
 void skid_transactional_try_lock_bucket(uint32_t headers, uint32_t buckets, uint32_t next, uint32_t *table,
                                         size_t table_len, uint8_t *health, size_t health_len, const uint32_t *registry,
                                         size_t registry_len, const uint32_t *script, size_t script_len, size_t place,
                                         const uint32_t *held, size_t held_len, uint32_t binding, uint32_t bucket,
                                         uint64_t reply[SKID_REPLY_WORDS]);
 
-/* Up to 4,096 attempts on a key, with boundaries, yields and spins between them. Granted or refused, never Busy. */
+/*
+ * Up to 4,096 attempts on a key, with boundaries, yields and spins between them. Granted or refused, never Busy. A
+ * refusal ends it at once, also SKID_POISONED after a try_lock's third boundary.
+ */
 void skid_acquire_index_bucket(uint32_t headers, uint32_t buckets, uint32_t next, uint32_t *table, size_t table_len,
                                uint8_t *health, size_t health_len, const uint32_t *registry, size_t registry_len,
                                const uint32_t *script, size_t script_len, size_t place, const uint32_t *held,

@@ -88,11 +88,11 @@ fine-key s h words bytes registry script place binding n e f b m =
 -- what a call that has taken nothing gives its steps is what document 01 gives them
 module _ (s : Scope) (h : Head) (script held : List ℕ) (taken : List (List ℕ)) (registry : List ℕ) (binding bucket : ℕ) (r : Run) (t g : List ℕ) (e : s ≡ scopeOf h (length script)) where
   pub once-given : (k : Found) → k ≡ findOf (s .headers) (s .buckets) g (getD registry binding 0 ∷ []) 0 bucket
-      → attemptAt k (settingOf s script held taken 0) r t g .seen ≡ attemptOf (given h script (leasesOf held)) (h .buckets) registry binding bucket r t g .seen
+      → attemptAt k (settingOf s script held taken 0) (s .buckets) r t g .seen ≡ attemptOf (given h script (leasesOf held)) (h .buckets) registry binding bucket r t g .seen
   unfolding attemptOf findOf
   once-given k f =
       rw (f, scope-none s h script held taken e)
-      (ap (λ (x : Scope). attemptAt (findOf (x .headers) (x .buckets) g registry binding bucket) (given h script (leasesOf held)) r t g .seen) e)
+      (ap (λ (x : Scope). attemptAt (findOf (x .headers) (x .buckets) g registry binding bucket) (given h script (leasesOf held)) (x .buckets) r t g .seen) e)
 
   pub retry-given : (left i : ℕ)
       → retryOf left i (settingOf s script held taken 0) (s .buckets) registry binding bucket r t g .seen ≡ retryOf left i (given h script (leasesOf held)) (h .buckets) registry binding bucket r t g .seen

@@ -22,7 +22,7 @@ use Rattle.model.specs.declared.Run.{Run}
 use Rattle.model.specs.declared.Take.{Take}
 use Rattle.model.specs.declared.Take.the-variants as taking
 use Rattle.model.specs.declared.Tried.{Tried}
-use Rattle.laws.specs.Keys.{find-inside}
+use Rattle.laws.specs.Keys.{find-inside, find-healthy}
 use Rattle.choice.specs.Pick.{if-both}
 use Rattle.laws.specs.Seen.{seen-if}
 use Rattle.foreign.specs.declared.Scope.{Scope}
@@ -52,17 +52,17 @@ module _ (e : Setting) where
   RunBoundTry most m = RunBound (stepsIn (e .script)) most (m .seen .0 .run)
 
   -- an attempt is one attempt and at most three boundaries
-  attempt-at : (k : Found) (most : ℕ) (r : Run) (t g : List ℕ) → RunBound (stepsIn (e .script)) most r → RunBoundTry (most + 3) (attemptAt k e r t g)
-  attempt-at (found.Fault x) most r t g b =
+  attempt-at : (k : Found) (buckets most : ℕ) (r : Run) (t g : List ℕ) → RunBound (stepsIn (e .script)) most r → RunBoundTry (most + 3) (attemptAt k e buckets r t g)
+  attempt-at (found.Fault x) buckets most r t g b =
       record { flow-bound = b .flow-bound; few-attempts = omega (arith, b .few-attempts); few-boundaries = omega (arith, b .few-boundaries); few-yields = omega (arith, b .few-yields) }
-  attempt-at (found.At c) most r t g b =
-      let k = lock-locked-bound _ e (r .flow) t g c refl (b .flow-bound) in
+  attempt-at (found.At c) buckets most r t g b =
+      let k = lock-locked-bound _ e buckets (r .flow) t g c refl (b .flow-bound) in
       record { flow-bound = k .flow-bound; few-attempts = omega (arith, b .few-attempts); few-boundaries = omega (arith, b .few-boundaries, k .few); few-yields = omega (arith, b .few-yields) }
 
   pub attempt-run-bound : (buckets : ℕ) (registry : List ℕ) (binding bucket most : ℕ) (r : Run) (t g : List ℕ) → RunBound (stepsIn (e .script)) most r
       → RunBoundTry (most + 3) (attemptOf e buckets registry binding bucket r t g)
   unfolding attemptOf
-  attempt-run-bound buckets registry binding bucket most r t g b = attempt-at (findOf (e .headers) buckets g registry binding bucket) most r t g b
+  attempt-run-bound buckets registry binding bucket most r t g b = attempt-at (findOf (e .headers) buckets g registry binding bucket) buckets most r t g b
 
   -- a pause is at most two boundaries and a yield
   spin-run-bound : (most : ℕ) (r : Run) (t g : List ℕ) → RunBound (stepsIn (e .script)) most r → RunBoundRun (most + 1) (spinOf e r t g)
@@ -82,17 +82,17 @@ module _ (e : Setting) where
 
 -- as a caller has it: steps, and a promise
 module _ (headers cells steps : ℕ) (script : List ℕ) (ps : List Lease) (n : steps ≡ length script / 3) where
-  pub attempt-goes : (o : Tried × (List ℕ × List ℕ)) (k : Found) (most : ℕ) (r : Run) (t g : List ℕ)
-      → o ≡ attemptAt k (setting headers cells script ps) r t g .seen → RunBound steps most r → RunBound steps (most + 3) (o .0 .run)
-  attempt-goes o k most r t g q b = rw (q, n) (attempt-at (setting headers cells script ps) k most r t g (rw (← n) b))
+  pub attempt-goes : (o : Tried × (List ℕ × List ℕ)) (k : Found) (buckets most : ℕ) (r : Run) (t g : List ℕ)
+      → o ≡ attemptAt k (setting headers cells script ps) buckets r t g .seen → RunBound steps most r → RunBound steps (most + 3) (o .0 .run)
+  attempt-goes o k buckets most r t g q b = rw (q, n) (attempt-at (setting headers cells script ps) k buckets most r t g (rw (← n) b))
 
   pub pause-goes : (o : Run × (List ℕ × List ℕ)) (i most : ℕ) (r : Run) (t g : List ℕ)
       → o ≡ pauseOf (setting headers cells script ps) i r t g .seen → RunBound steps most r → RunBound steps (most + 2) (o .0)
   pause-goes o i most r t g q b = rw (q, n) (pause-run-bound (setting headers cells script ps) i most r t g (rw (← n) b))
 
-  pub locked-bound-of : (o : Locked × (List ℕ × List ℕ)) (f : Flow) (t g : List ℕ) (c : ℕ)
-      → o ≡ lockOf (setting headers cells script ps) f t g c .seen → FlowBound steps f → LockedBound steps (o .0)
-  locked-bound-of o f t g c q b = rw n (lock-locked-bound o (setting headers cells script ps) f t g c q (rw (← n) b))
+  pub locked-bound-of : (o : Locked × (List ℕ × List ℕ)) (buckets : ℕ) (f : Flow) (t g : List ℕ) (c : ℕ)
+      → o ≡ lockOf (setting headers cells script ps) buckets f t g c .seen → FlowBound steps f → LockedBound steps (o .0)
+  locked-bound-of o buckets f t g c q b = rw n (lock-locked-bound o (setting headers cells script ps) buckets f t g c q (rw (← n) b))
 
 -- a quiet try_lock has at most three boundaries
 few-for : (a : Take) → boundariesFor a ≤ 3
@@ -173,7 +173,12 @@ pub again-header : (i : ℕ) (e : Setting) (buckets : ℕ) (registry : List ℕ)
 unfolding againOf attemptOf findOf
 again-header i e buckets registry binding bucket r t g = refl
 
--- the cell that is found of a key that fits is in range
+-- the cell that is found of a key that fits is there, and its header is healthy
 pub lands : (s : Scope) (k : Found) (g registry : List ℕ) (binding bucket : ℕ) → s .cells ≡ s .headers * s .buckets
-    → k ≡ findOf (s .headers) (s .buckets) g registry binding bucket → Lands (s .cells) k
-lands s k g registry binding bucket n e c q = rw n (find-inside _ _ _ _ _ _ c (sym e ∙ q))
+    → k ≡ findOf (s .headers) (s .buckets) g registry binding bucket → Lands s g k
+lands s k g registry binding bucket n e c q =
+    let f = sym e ∙ q in
+    record {
+      there = record { inside = rw n (find-inside _ _ _ _ _ _ c f); cells-are = n };
+      healthy = find-healthy _ _ _ _ _ _ c f;
+    }

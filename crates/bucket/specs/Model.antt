@@ -4,6 +4,7 @@ use mathlib.Core.Path.{_≡_}
 use mathlib.Core.List.{List}
 use native.Mathlib.Omega.{arith}
 use Rattle.choice.specs.Choice.{if_then_else_}
+use Rattle.model.specs.Arena.{headerOf}
 use Rattle.model.specs.Foreign.{Setting}
 use Rattle.model.specs.Lock.{triedOf, attemptOf, pauseOf, isBusy}
 use Rattle.model.specs.declared.Found.{Found}
@@ -13,6 +14,7 @@ use Rattle.model.specs.declared.Run.{Run}
 use Rattle.model.specs.declared.Tried.{Tried}
 use Rattle.foreign.specs.declared.Scope.{Scope}
 use Rattle.foreign.specs.Model.{RoomIn}
+use Rattle.lock.specs.Model.{CellIn}
 
 pub record Fit (headers buckets bytes : ℕ) : Type 0 where
   pub bytes-fit : headers ≤ bytes
@@ -34,9 +36,13 @@ key-for p q k = rw (p, q) k
 pub key-alone : {s : Scope} {words bytes n script registry binding : ℕ} → KeyFits s words bytes n script registry binding → KeyFits s words bytes n script 1 0
 key-alone k = record { room = k .room; fit = k .fit; cells-are = k .cells-are; bound = omega arith }
 
--- the cell that a key was found to name is in range
-abbrev pub Lands : ℕ → Found → Type 0
-Lands cells k = (c : ℕ) → k ≡ found.At c → c < cells
+-- the cell that a key was found to name is there, and its header was read healthy
+pub record Landed (s : Scope) (g : List ℕ) (c : ℕ) : Type 0 where
+  pub there : CellIn s c
+  pub healthy : getD g (headerOf (s .buckets) c) 0 ≡ 0
+
+abbrev pub Lands : Scope → List ℕ → Found → Type 0
+Lands s g k = (c : ℕ) → k ≡ found.At c → Landed s g c
 
 -- attempt number i and, if it was Busy, the pause after it
 unfoldable pub againOf : ℕ → Setting → ℕ → List ℕ → ℕ → ℕ → Run → List ℕ → List ℕ → Tried × (List ℕ × List ℕ)

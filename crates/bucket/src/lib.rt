@@ -19,7 +19,7 @@ ghost use mathlib.Core.List.{[], _∷_};
 ghost use Prim.Native.Nat.{_+_, _*_, _<_, _≤_};
 ghost use lib.ListN.{length};
 ghost use Rattle.model.specs.Arena.{shapeFits};
-ghost use Rattle.model.specs.Lock.{outcomeOf, runOf, triedOf, findOf, attemptAt, spinOf, pauseOf, isBusy, retryOf};
+ghost use Rattle.model.specs.Lock.{runOf, triedOf, findOf, attemptAt, spinOf, pauseOf, isBusy, retryOf};
 ghost use Rattle.model.specs.Lock.{settled};
 ghost use Rattle.model.specs.Refusals.{first};
 ghost use Rattle.model.specs.Checks.{badRegistry, badBinding, bucketRules};
@@ -83,15 +83,14 @@ fn missed(run: Run, refusal: Refusal) -> Tried
     }
 }
 
-fn counted(run: Run, locked: Locked, cell: u32) -> Tried
+fn counted(run: Run, locked: Locked) -> Tried
     requires { ⌜ (run .attempts ≤ tryMost) × ((run .boundaries ≤ tryMost) × (locked .boundaries ≤ 3)) ⌝ }
     ensures { λ r. ⌜ r
         ≡ triedOf (runOf (locked .flow) (run .attempts + 1) (run .boundaries + locked .boundaries) (run .yields))
-        (outcomeOf cell (locked .answer)) ⌝ }
+        (locked .answer) ⌝ }
 {
     let flow = locked.flow;
-    let answer = locked.answer;
-    let outcome = lease::outcome(cell, answer);
+    let outcome = locked.answer;
     Tried {
         run: Run {
             flow,
@@ -116,22 +115,23 @@ fn attempt_once(
     found: Found,
 ) -> Tried
     requires { ⌜ RoomIn scope (length (now table)) (length (now health)) n (length (now script))
-        × (RunBound (scope .steps) tryMost run × Lands (scope .cells) found) ⌝ }
+        × (RunBound (scope .steps) tryMost run × Lands scope (now health) found) ⌝ }
     ensures { λ r. ⌜ (r, (now (table .exit), now (health .exit)))
         ≡ attemptAt found (settingOf scope (now (script .entry)) (now (held .entry)) (now (taken .entry)) n)
-        run (now (table .entry)) (now (health .entry)) .seen ⌝ }
+        (scope .buckets) run (now (table .entry)) (now (health .entry)) .seen ⌝ }
 {
     match found {
         Found::Fault(refusal) => missed(run, refusal),
         Found::At(cell) => {
             let flow = run.flow;
             let locked = lock::lock(scope, flow, table, health, script, held, taken, n, cell);
-            counted(run, locked, cell)
+            counted(run, locked)
         }
     }
 }
 
-// The same for the retry loop, which it is private to: past the script's end an attempt is a quiet one.
+// The same for the retry loop, which it is private to: past the script's end an attempt is a quiet one. The header's
+// health was read just before, so the quiet lock of a healthy header is the one.
 // What a call of `lock` is given is copied where the call is made: a quiet attempt then stores no copy.
 fn attempt(
     scope: Scope,
@@ -145,10 +145,10 @@ fn attempt(
     found: Found,
 ) -> Tried
     requires { ⌜ RoomIn scope (length (now table)) (length (now health)) n (length (now script))
-        × (RunBound (scope .steps) tryMost run × Lands (scope .cells) found) ⌝ }
+        × (RunBound (scope .steps) tryMost run × Lands scope (now health) found) ⌝ }
     ensures { λ r. ⌜ (r, (now (table .exit), now (health .exit)))
         ≡ attemptAt found (settingOf scope (now (script .entry)) (now (held .entry)) (now (taken .entry)) n)
-        run (now (table .entry)) (now (health .entry)) .seen ⌝ }
+        (scope .buckets) run (now (table .entry)) (now (health .entry)) .seen ⌝ }
 {
     match found {
         Found::Fault(refusal) => missed(run, refusal),
@@ -158,10 +158,10 @@ fn attempt(
                 let here = scope;
                 let from = run.flow;
                 let locked = lock::lock(here, from, table, health, script, held, taken, n, cell);
-                return counted(run, locked, cell);
+                return counted(run, locked);
             }
             let locked = lock::quiet_lock(scope.head(flow.next), flow, table, cell);
-            counted(run, locked, cell)
+            counted(run, locked)
         }
     }
 }
@@ -493,7 +493,8 @@ fn retry_by_key(
 }
 
 // One attempt by key: the header from the registry (6 if there is none), its health (7 if poisoned), the bucket (8 if
-// there is none), then `try_lock`. These three count the attempt and change nothing.
+// there is none), then `try_lock`. These three count the attempt and change nothing. `try_lock` reads the health again
+// after its third boundary: 7 there gives the lease up, its cell free, its serial spent.
 pub fn transactional_try_lock_bucket(
     head: Head,
     table: &mut [u32],
@@ -520,7 +521,8 @@ pub fn transactional_try_lock_bucket(
 }
 
 // Attempts 0 to 4,095 by key, with a boundary after each Busy one and a yield after every 64th. A grant or a refusal
-// ends it at once; 4,096 Busy attempts are refused with 11, and nothing is held.
+// ends it at once, 7 after an attempt's third boundary too: the lease is given up and its serial stays spent. 4,096 Busy
+// attempts are refused with 11, and nothing is held.
 pub fn acquire_index_bucket(
     head: Head,
     table: &mut [u32],

@@ -1,6 +1,6 @@
 -- Wrong builds: answering functions of the calls' own types, each wrong in one thing. "Slips to be ruled out" and "Idle builds the promises must
--- reject" of document 01, and six slips of definitions that an earlier set of theorems let pass. `Falls` and `Crews` prove which theorem each
--- fails. Where nothing else is said a build does as ours does.
+-- reject" of document 01, slips that document 02, L3, invites, and six slips of definitions that an earlier set of
+-- theorems let pass. `Falls` and `Crews` prove which theorem each fails. Where nothing else is said a build does as ours does.
 use Prim.Native.Nat.{ℕ, zero, suc, _+_, _-_, _%_}
 use mathlib.Core.List.{List, [], _∷_, _++_}
 use lib.Dec.{leb, eqb}
@@ -8,6 +8,7 @@ use lib.ListN.{length, replicate}
 use Rattle.choice.specs.Choice.{if_then_else_}
 use Rattle.model.specs.Log.{Made, Event, by-caller, by-script, attempt-begun, boundary-run, yielded, spun, step-dropped, took, released, waiters-set, health-set, gives, note, _>>=_, _>>_}
 use Rattle.model.specs.Arena.{spentTo, leaseOf, leasesOf, ownerAt, setCell}
+use Rattle.model.specs.Answers.{refusalIn}
 use Rattle.model.specs.Foreign.{Setting, boundaryOf}
 use Rattle.model.specs.Lock.{runOf, attemptOf, attemptLimit, spinOf, isBusy, triedOf, answerOf, settled}
 use Rattle.model.specs.Calls.{countsOf, given, starting}
@@ -199,6 +200,30 @@ abbrev pub frees-by-cell : Build
 frees-by-cell =
     others (λ w l. record { seen = (worldOf (w .head) (setCell (w .table) (l .cell) 0 0) (w .health), says Done (countsOf 0 0 0 0) 0 []); log = released by-caller (l .cell) (l .serial) ∷ [] })
     our-key our-once our-locks
+
+-- ---- document 02, L3: "A header went bad before the grant, and the governor wrote into it."
+
+-- what is done otherwise where a call answers 7 after a take: `f` of the lease that it releases first
+abbrev pub at-seven : (Lease → Made (World × Says)) → List Lease → Made (World × Says) → Made (World × Says)
+at-seven f [] m = m
+at-seven f (l ∷ ls) m = if eqb (refusalIn (m .seen .1 .answer)) 7 then f l else m
+
+-- health read once: the lease is kept and granted
+abbrev pub reads-once : Build
+reads-once w k =
+    let m = perform w k in
+    let s = m .seen .1 in
+    at-seven (λ l. record { seen = (now w (skipping (m .log)), says (Granted l) (s .counts) (s .place) (s .grants)); log = skipping (m .log) }) (caller-releases (m .log)) m
+
+-- "refuse with 7", and the lease is not released
+abbrev pub keeps-at-seven : Build
+keeps-at-seven w k =
+    let m = perform w k in
+    at-seven (λ l. record { seen = (now w (skipping (m .log)), m .seen .1); log = skipping (m .log) }) (caller-releases (m .log)) m
+
+-- "the serial stays spent": it is given back
+abbrev pub serial-back-at-seven : Build
+serial-back-at-seven w k = let m = perform w k in at-seven (λ l. leaving (one-fewer (m .seen .0)) m) (caller-releases (m .log)) m
 
 -- ---- six slips of definitions that no theorem caught once
 

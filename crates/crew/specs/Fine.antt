@@ -4,7 +4,6 @@ use mathlib.Core.Path.{_≡_, refl, ap, subst, _∙_}
 use mathlib.Core.List.{List, [], _∷_, _++_}
 use mathlib.Core.Bool.{Bool, true, false}
 use native.Mathlib.Omega.{arith}
-use native.Mathlib.Nat.{div-lt-iff-lt-mul}
 use lib.Dec.{ltb}
 use native.Mathlib.Decide.{ℕ-discrete}
 use lib.ListN.{length, getD, set, length-set}
@@ -20,6 +19,7 @@ use Rattle.model.specs.declared.Head.{Head}
 use Rattle.laws.specs.Shape.{Shaped}
 use Rattle.laws.specs.Checks.{or-else, first-append, first-two, fine-rest, fine-append, arena-fine}
 use Rattle.laws.specs.Crew.{start-fits, Limited, limits-fine, cell-inside}
+use Rattle.lock.specs.Fine.{header-in}
 use Rattle.crew.specs.Model.{placeOf}
 use Rattle.crew.specs.Lists.{start-next}
 
@@ -77,10 +77,6 @@ crew-fine h t g counts cells turns e =
       inside = λ m j _ l. cell-inside (cellsOf h) counts cells (k .cells-are) (c .0) m j l;
       named = turns-name (length counts) 0 turns (c .1);
     }
-
--- a cell's header has a health byte
-pub header-in : (headers buckets c : ℕ) → 1 ≤ buckets → c < headers * buckets → c / buckets < headers
-header-in headers buckets c l k = div-lt-iff-lt-mul l .1 k
 
 -- where each member's list begins
 pub record Begun (counts starts : List ℕ) : Type 0 where
@@ -143,5 +139,5 @@ spot h words bytes counts cells turns m start n k f l s p u =
     record {
       in-run = omega (arith, r .1, f .limits .cells-are);
       cell-fits = omega (arith, f .shape .words-are);
-      header-fits = rw (f .bytes-are) (header-in (h .headers) (h .buckets) (getD cells k 0) (f .shape .some-buckets) low);
+      header-fits = rw (f .bytes-are) (header-in (h .headers) (h .buckets) (getD cells k 0) low);
     }

@@ -12,9 +12,9 @@ use Rattle.model.specs.declared.Answer.the-variants.{Done, Refused}
 use Rattle.model.specs.declared.CrewReply.{CrewReply}
 use Rattle.model.specs.declared.Head.{Head}
 use Rattle.model.specs.declared.Locked.{Locked}
+use Rattle.model.specs.declared.Outcome.{Outcome}
+use Rattle.model.specs.declared.Outcome.the-variants as outcome
 use Rattle.model.specs.declared.Refusal.{Refusal}
-use Rattle.model.specs.declared.Take.{Take}
-use Rattle.model.specs.declared.Take.the-variants as taking
 use Rattle.lock.specs.Model.{quietLockOf}
 use Rattle.crew.specs.declared.Move.{Move}
 use Rattle.crew.specs.declared.Move.the-variants as move
@@ -25,11 +25,10 @@ unfoldable pub placeOf : ℕ → ℕ → ℕ → ℕ
 placeOf start n count = if ltb n count then start + n else start + (2 * count - 1 - n)
 
 -- a grant moves; anything else is idle
-abbrev pub moveFor : Take → ℕ → Move
-moveFor (taking.Granted s) next = move.Took next s
-moveFor taking.Busy next = move.Idle
-moveFor taking.Damaged next = move.Idle
-moveFor taking.Spent next = move.Idle
+abbrev pub moveFor : Outcome → ℕ → Move
+moveFor (outcome.Granted l) next = move.Took next (l .serial)
+moveFor outcome.Busy next = move.Idle
+moveFor (outcome.Refused r) next = move.Idle
 
 abbrev pub moveBy : Locked × List ℕ → Move × List ℕ
 moveBy o = (moveFor (o .0 .answer) (o .0 .flow .next), o .1)

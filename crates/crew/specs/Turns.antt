@@ -6,7 +6,7 @@ use mathlib.Core.Bool.{Bool, true, false}
 use native.Mathlib.Omega.{arith}
 use lib.Dec.{ltb, leb, eqb}
 use lib.ListN.{length, getD, set, drop, drop-of-length-le, length-set}
-use borrow.Author.Tests.{le-leb, lt-leb}
+use borrow.Author.Tests.{le-leb, lt-leb, eqb-true}
 use Rattle.choice.specs.Choice.{if_then_else_}
 use Rattle.model.specs.Log.{Made}
 use Rattle.model.specs.Arena.{waitersAt, stateAt, serialRemains}
@@ -38,7 +38,7 @@ module _ (next : ℕ) (t made serials : List ℕ) (moving idle m k c : ℕ) wher
   Same o = afterTry (o .0 .answer) (o .0 .flow .next) (o .1) crew m k ≡ behind (moveBy o)
 
   abbrev SameTake : Made (Took × List ℕ) → Type 0
-  SameTake o = Same (quietTake (flowOf next 0 0) (o .seen))
+  SameTake o = Same (quietTake (flowOf next 0 0) c (o .seen))
 
   in-state : (s : State) → SameTake (takeIn s next t c)
   in-state state.Damaged = refl
@@ -54,7 +54,7 @@ module _ (next : ℕ) (t made serials : List ℕ) (moving idle m k c : ℕ) wher
   try-is headers buckets g = go (eqb (getD g (c / buckets) 0) 0) refl
     where
       go : (b : Bool) → eqb (getD g (c / buckets) 0) 0 ≡ b → tryTurnOf headers buckets g crew m k c .seen ≡ behind (makeMoveOf next buckets t g true c)
-      go true e = rw (e, lock-quiet (setting headers (headers * buckets) [] []) g c (flowOf next 0 0) t (omega arith)) quiet-same
+      go true e = rw (e, lock-quiet (setting headers (headers * buckets) [] []) buckets g c (eqb-true _ _ e) (flowOf next 0 0) t (omega arith)) quiet-same
       go false e = rw e
 
   give-is : (buckets : ℕ) (g : List ℕ) → releaseTurnOf crew m k c .seen ≡ behind (makeMoveOf next buckets t g false c)

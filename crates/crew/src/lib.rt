@@ -7,8 +7,8 @@ use model::Check;
 use model::CrewReply;
 use model::Flow;
 use model::Head;
+use model::Outcome;
 use model::Refusal;
-use model::Take;
 ghost use mathlib.Core.Path.{_≡_};
 ghost use mathlib.Core.List.{[], _∷_, _++_};
 ghost use Prim.Native.Nat.{_+_, _*_, _-_, _/_, _<_, _≤_, min};
@@ -205,7 +205,7 @@ fn place(start: usize, n: usize, count: usize) -> usize
     start + (2 * count - 1 - n)
 }
 
-// One try_lock with no script: it is the quiet one.
+// One try_lock with no script, on a cell whose header was read healthy: it is the quiet one.
 fn try_move(head: Head, next: u32, table: &mut [u32], cell: u32) -> Move
     requires { ⌜ 3 * cell + 2 < length (now table) ⌝ }
     ensures { λ r. ⌜ (r, now (table .exit)) ≡ tryMoveOf next (now (table .entry)) cell ⌝ }
@@ -219,10 +219,9 @@ fn try_move(head: Head, next: u32, table: &mut [u32], cell: u32) -> Move
     let after = locked.flow;
     let answer = locked.answer;
     match answer {
-        Take::Granted(serial) => Move::Took(after.next, serial),
-        Take::Busy => Move::Idle,
-        Take::Damaged => Move::Idle,
-        Take::Spent => Move::Idle,
+        Outcome::Granted(lease) => Move::Took(after.next, lease.serial),
+        Outcome::Busy => Move::Idle,
+        Outcome::Refused(_) => Move::Idle,
     }
 }
 

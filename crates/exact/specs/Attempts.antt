@@ -1,6 +1,6 @@
 -- Attempts, counted from outside, as statements for any script and any arena: how one attempt ends; that `acquire_index_bucket` is attempts and
 -- boundaries, and multi-lock such calls key by key; and what follows for the counts. `Theorems` has the proofs by name. What stands in quotes is
--- of document 01.
+-- of document 01 or 02.
 use Prim.Native.Nat.{ℕ, _+_, _/_, _≤_, _%_, _<_, _-_}
 use mathlib.Core.Path.{_≡_}
 use mathlib.Core.List.{List, _∷_, _++_, []}
@@ -18,7 +18,7 @@ use Rattle.model.specs.declared.Answer.the-variants.{Done, Refused, Busy, Refus
 use Rattle.model.specs.declared.Counts.{Counts}
 use Rattle.model.specs.declared.Lease.{Lease}
 use Rattle.model.specs.declared.Refusal.{Refusal}
-use Rattle.model.specs.declared.Refusal.the-variants.{SerializationFailure}
+use Rattle.model.specs.declared.Refusal.the-variants.{Poisoned, SerializationFailure}
 use Rattle.history.specs.World.{World, caller-releases}
 use Rattle.history.specs.Items.{Build, Says, acquire-bucket, acquire-locks, says, environment, transactional, drop-lease, Call}
 use Rattle.history.specs.Statements.{answer-in, world-in}
@@ -41,13 +41,16 @@ caller-takes (waiters-set c n ∷ es) = caller-takes es
 caller-takes (health-set i n ∷ es) = caller-takes es
 
 pub data Ends : Answer → (boundaries : ℕ) (taken released : List Lease) → Type 0 where
-  -- 6, 7, 8: the key names no cell of a healthy header
+  -- 6, 7, 8: the key names no cell of a header that is healthy at the first reading
   no-cell : (r : Refusal) → 6 ≤ numberOf r → numberOf r ≤ 8 → Ends (Refused r) 0 [] []
   -- "boundary; waiters not 0: Busy"
   waited : Ends Busy 1 [] []
   -- "boundary; try_acquire": held, damaged, or no serial
   held : Ends Busy 2 [] []
   not-takable : (r : Refusal) → 9 ≤ numberOf r → numberOf r ≤ 10 → Ends (Refused r) 2 [] []
+  -- document 02, L3: "Read it again after the third boundary, before the waiters. If poisoned, release the lease and
+  -- refuse with 7"
+  poisoned : (l : Lease) (header : ℕ) → Ends (Refused (Poisoned header)) 3 (l ∷ []) (l ∷ [])
   -- "boundary (protecting the new lease); waiters not 0: release it, Busy; else granted"
   late : (l : Lease) → Ends Busy 3 (l ∷ []) (l ∷ [])
   granted : (l : Lease) → Ends (Granted l) 3 (l ∷ []) []

@@ -23,7 +23,7 @@ use Rattle.history.specs.Items.{Says, perform, acquire-bucket, drop-lease, envi
 use Rattle.history.specs.Statements.{answer-in}
 use Rattle.history.specs.Judged.{performed}
 use Rattle.exact.specs.Script.{acquire-bucket-has}
-use Rattle.exact.specs.Attempts.{Ends, no-cell, waited, held, not-takable, late, granted, _and-then_, spin, yield, Pause, only-spins, also-yields, Attempts, all-busy, the-last, one-busy, locking, between, Gives-back, all-back, one-back, Key-by-key, all-locked, one-locked, one-refused, spins-in, Boundaries-add, Bucket-boundaries, rolled-back, Locks-boundaries}
+use Rattle.exact.specs.Attempts.{Ends, no-cell, waited, held, not-takable, poisoned, late, granted, _and-then_, spin, yield, Pause, only-spins, also-yields, Attempts, all-busy, the-last, one-busy, locking, between, Gives-back, all-back, one-back, Key-by-key, all-locked, one-locked, one-refused, spins-in, Boundaries-add, Bucket-boundaries, rolled-back, Locks-boundaries}
 use Rattle.exact.specs.Made.{made}
 use Rattle.exact.specs.Retried.{spins-append, boundary-still, attempt-one}
 use Rattle.exact.specs.Ending.{tried-ends}
@@ -68,6 +68,7 @@ ends-few (no-cell r i j) = omega arith
 ends-few waited = omega arith
 ends-few held = omega arith
 ends-few (not-takable r i j) = omega arith
+ends-few (poisoned l h) = omega arith
 ends-few (late l) = omega arith
 ends-few (granted l) = omega arith
 

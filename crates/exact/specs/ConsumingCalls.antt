@@ -8,7 +8,7 @@ use lib.Seq.{take-all}
 use Rattle.model.specs.Log.{Made}
 use Rattle.model.specs.Arena.{leasesOf}
 use Rattle.model.specs.Foreign.{flowOf}
-use Rattle.model.specs.Lock.{outcomeOf, answerOf, settled, lockOf, attemptOf, retryOf, attemptLimit, locksOf}
+use Rattle.model.specs.Lock.{answerOf, settled, lockOf, attemptOf, retryOf, attemptLimit, locksOf}
 use Rattle.model.specs.Checks.{countIn}
 use Rattle.model.specs.Calls.{given, starting}
 use Rattle.model.specs.declared.Answer.{Answer}
@@ -60,9 +60,9 @@ steps-consumed w (environment-has script place held) =
     simp append-nil (boundary-consumed (w .head) script (leasesOf held) (flowOf (w .head .next) place 0) (w .table) (w .health))
 steps-consumed w (try-lock-has script place held c) =
     let ps = leasesOf held in
-    let m = lockOf (given (w .head) script ps) (flowOf (w .head .next) place 0) (w .table) (w .health) c .seen in
-    rw (append-nil ps, ← (outcome-handed ps (outcomeOf c (m .0 .answer)) []))
-    (counts attempts-one (lock-consumed (w .head) script ps (flowOf (w .head .next) place 0) (w .table) (w .health) c))
+    let m = lockOf (given (w .head) script ps) (w .head .buckets) (flowOf (w .head .next) place 0) (w .table) (w .health) c .seen in
+    rw (append-nil ps, ← (outcome-handed ps (m .0 .answer) []))
+    (counts attempts-one (lock-consumed (w .head) script ps (w .head .buckets) (flowOf (w .head .next) place 0) (w .table) (w .health) c))
 steps-consumed w (transactional-has registry script place held binding bucket) =
     let ps = leasesOf held in
     let m = attemptOf (given (w .head) script ps) (w .head .buckets) registry binding bucket (starting (w .head) place) (w .table) (w .health) .seen in

@@ -9,7 +9,7 @@ use lib.ListN.{length, take}
 use lib.Seq.{take-suc, take-length}
 use borrow.Author.Tests.{eqb-true, eqb-false}
 use Rattle.model.specs.Log.{Made, Event, boundary-run}
-use Rattle.model.specs.Arena.{serialRemains, leaseOf, leasesOf, waitersAt, setCell, stateAt}
+use Rattle.model.specs.Arena.{serialRemains, headerOf, isPoisoned, leaseOf, leasesOf, waitersAt, setCell, stateAt}
 use Rattle.model.specs.Foreign.{stepsIn, kindAt, placeAt, numberAt, flowOf, stepOf, runStepsOf, boundaryOf}
 use Rattle.model.specs.Lock.{takeIn, takeOf, lateOf, afterTake, secondOf, lockOf, outcomeOf, runOf, findOf, attemptAt, attemptOf, spinOf, pauseOf, isBusy, retryOf, attemptLimit, noLease, leaseAt, giveBackOf, Locks, rollbackOf, afterKey, bindingAt, bucketAt, locksOf}
 use Rattle.model.specs.Calls.{given}
@@ -93,23 +93,24 @@ module _ (h : Head) (script : List ℕ) where
 
   -- ---- a lock
 
-  abbrev Locking : List Lease → List Lease → Flow → List ℕ → List ℕ → ℕ → Made (With Locked) → Type 0
-  Locking qs ps f t g c m = Goes qs f t g (held-after ps (outcomeOf c (m .seen .0 .answer))) (m .seen .0 .flow) (of-locked h (m .seen)) (m .log)
+  abbrev Locking : List Lease → List Lease → Flow → List ℕ → List ℕ → Made (With Locked) → Type 0
+  Locking qs ps f t g m = Goes qs f t g (held-after ps (m .seen .0 .answer)) (m .seen .0 .flow) (of-locked h (m .seen)) (m .log)
 
-  late-consumed : (ps : List Lease) (f : Flow) (t g : List ℕ) (c s : ℕ) → Locking (ps ++ (leaseOf c s ∷ [])) ps f t g c (lateOf (given h script ps) f t g c s)
+  late-consumed : (ps : List Lease) (buckets : ℕ) (f : Flow) (t g : List ℕ) (c s : ℕ) → Locking (ps ++ (leaseOf c s ∷ [])) ps f t g (lateOf (given h script ps) buckets f t g c s)
   unfolding lateOf
-  late-consumed ps f t g c s =
+  late-consumed ps buckets f t g c s =
       let qs = ps ++ (leaseOf c s ∷ []) in
       let m = boundaryOf (given h script qs) f t g .seen in
       follow (boundary-consumed qs f t g)
-      (if-both (Locking qs ps (m .0) (m .1 .0) (m .1 .1) c) (eqb (waitersAt (m .1 .0) c) 0) at-rest (gives-up (leaseOf c s) tt at-rest))
+      (if-both (Locking qs ps (m .0) (m .1 .0) (m .1 .1)) (isPoisoned (m .1 .1) (headerOf buckets c)) (gives-up (leaseOf c s) tt at-rest)
+      (if-both (Locking qs ps (m .0) (m .1 .0) (m .1 .1)) (eqb (waitersAt (m .1 .0) c) 0) at-rest (gives-up (leaseOf c s) tt at-rest)))
 
-  after-consumed : (ps : List Lease) (a : Take) (f : Flow) (t g : List ℕ) (c : ℕ)
-      → Locking (held-after ps (outcomeOf c a)) ps f t g c (afterTake a (given h script ps) f t g c)
-  after-consumed ps (taking.Granted s) f t g c = late-consumed ps f t g c s
-  after-consumed ps taking.Busy f t g c = at-rest
-  after-consumed ps taking.Damaged f t g c = at-rest
-  after-consumed ps taking.Spent f t g c = at-rest
+  after-consumed : (ps : List Lease) (buckets : ℕ) (a : Take) (f : Flow) (t g : List ℕ) (c : ℕ)
+      → Locking (held-after ps (outcomeOf c a)) ps f t g (afterTake a (given h script ps) buckets f t g c)
+  after-consumed ps buckets (taking.Granted s) f t g c = late-consumed ps buckets f t g c s
+  after-consumed ps buckets taking.Busy f t g c = at-rest
+  after-consumed ps buckets taking.Damaged f t g c = at-rest
+  after-consumed ps buckets taking.Spent f t g c = at-rest
 
   take-consumed : (ps : List Lease) (f : Flow) (t g : List ℕ) (c : ℕ)
       → let k = takeOf (f .next) t c in
@@ -125,34 +126,34 @@ module _ (h : Head) (script : List ℕ) where
       go (state.Held o) = at-rest
       go state.Free = if-both P (serialRemains (f .next)) (takes (leaseOf c (f .next)) tt at-rest) at-rest
 
-  second-consumed : (ps : List Lease) (f : Flow) (t g : List ℕ) (c : ℕ) → Locking ps ps f t g c (secondOf (given h script ps) f t g c)
+  second-consumed : (ps : List Lease) (buckets : ℕ) (f : Flow) (t g : List ℕ) (c : ℕ) → Locking ps ps f t g (secondOf (given h script ps) buckets f t g c)
   unfolding secondOf
-  second-consumed ps f t g c =
+  second-consumed ps buckets f t g c =
       let m = boundaryOf (given h script ps) f t g .seen in
       let k = takeOf (m .0 .next) (m .1 .0) c .seen in
       follow (boundary-consumed ps f t g) (follow (take-consumed ps (m .0) (m .1 .0) (m .1 .1) c)
-      (after-consumed ps (k .0 .answer) (flowOf (k .0 .next) (m .0 .place) (m .0 .dropped)) (k .1) (m .1 .1) c))
+      (after-consumed ps buckets (k .0 .answer) (flowOf (k .0 .next) (m .0 .place) (m .0 .dropped)) (k .1) (m .1 .1) c))
 
-  pub lock-consumed : (ps : List Lease) (f : Flow) (t g : List ℕ) (c : ℕ) → Locking ps ps f t g c (lockOf (given h script ps) f t g c)
+  pub lock-consumed : (ps : List Lease) (buckets : ℕ) (f : Flow) (t g : List ℕ) (c : ℕ) → Locking ps ps f t g (lockOf (given h script ps) buckets f t g c)
   unfolding lockOf
-  lock-consumed ps f t g c =
+  lock-consumed ps buckets f t g c =
       let m = boundaryOf (given h script ps) f t g .seen in
       follow (boundary-consumed ps f t g)
-      (if-both (Locking ps ps (m .0) (m .1 .0) (m .1 .1) c) (eqb (waitersAt (m .1 .0) c) 0) (second-consumed ps (m .0) (m .1 .0) (m .1 .1) c) at-rest)
+      (if-both (Locking ps ps (m .0) (m .1 .0) (m .1 .1)) (eqb (waitersAt (m .1 .0) c) 0) (second-consumed ps buckets (m .0) (m .1 .0) (m .1 .1) c) at-rest)
 
   -- ---- attempts by key
 
   abbrev Trying : List Lease → Run → List ℕ → List ℕ → Made (With Tried) → Type 0
   Trying ps r t g m = Goes ps (r .flow) t g (held-after ps (m .seen .0 .outcome)) (m .seen .0 .run .flow) (of-tried h (m .seen)) (m .log)
 
-  at-consumed : (ps : List Lease) (x : Found) (r : Run) (t g : List ℕ) → Trying ps r t g (attemptAt x (given h script ps) r t g)
-  at-consumed ps (found.Fault x) r t g = at-rest
-  at-consumed ps (found.At c) r t g = follow (lock-consumed ps (r .flow) t g c) at-rest
+  at-consumed : (ps : List Lease) (buckets : ℕ) (x : Found) (r : Run) (t g : List ℕ) → Trying ps r t g (attemptAt x (given h script ps) buckets r t g)
+  at-consumed ps buckets (found.Fault x) r t g = at-rest
+  at-consumed ps buckets (found.At c) r t g = follow (lock-consumed ps buckets (r .flow) t g c) at-rest
 
   pub attempt-consumed : (ps : List Lease) (buckets : ℕ) (registry : List ℕ) (binding bucket : ℕ) (r : Run) (t g : List ℕ)
       → Trying ps r t g (attemptOf (given h script ps) buckets registry binding bucket r t g)
   unfolding attemptOf
-  attempt-consumed ps buckets registry binding bucket r t g = counts attempts-one (at-consumed ps (findOf (h .headers) buckets g registry binding bucket) r t g)
+  attempt-consumed ps buckets registry binding bucket r t g = counts attempts-one (at-consumed ps buckets (findOf (h .headers) buckets g registry binding bucket) r t g)
 
   abbrev Running : List Lease → List Lease → Run → List ℕ → List ℕ → Made (With Run) → Type 0
   Running ps rs r t g m = Goes ps (r .flow) t g rs (m .seen .0 .flow) (of-run h (m .seen)) (m .log)

@@ -9,7 +9,7 @@ use lib.Dec.{eqb}
 use lib.ListN.{length, take}
 use Rattle.choice.specs.Choice.{if_then_else_}
 use Rattle.model.specs.Log.{Made, Event, by-caller, attempt-begun, yielded, released}
-use Rattle.model.specs.Arena.{leaseOf, setCell, waitersAt}
+use Rattle.model.specs.Arena.{headerOf, isPoisoned, leaseOf, setCell, waitersAt}
 use Rattle.model.specs.Foreign.{Setting, protecting, stepsIn, kindAt, placeAt, numberAt, flowOf, stepOf, runStepsOf, boundaryOf}
 use Rattle.model.specs.Lock.{takeOf, lockedOf, lateOf, afterTake, secondOf, lockOf, runOf, triedOf, findOf, attemptAt, attemptOf, spinOf, pauseOf, isBusy, retryOf, attemptLimit, leaseAt, giveBackOf, Locks, endedOf, rollbackOf, afterKey, bindingAt, bucketAt, locksOf}
 use Rattle.model.specs.declared.Counts.{Counts}
@@ -86,33 +86,39 @@ module _ (d : ℕ) where
 
   -- ---- a lock
 
-  late-on : (e : Setting) (f : Flow) (t g : List ℕ) (c s : ℕ) → lateOf e (on-flow d f) t g c s ≡ lock-on d (lateOf e f t g c s)
+  late-on : (e : Setting) (buckets : ℕ) (f : Flow) (t g : List ℕ) (c s : ℕ)
+      → lateOf e buckets (on-flow d f) t g c s ≡ lock-on d (lateOf e buckets f t g c s)
   unfolding lateOf
-  late-on e f t g c s =
+  late-on e buckets f t g c s =
       let q = protecting e (leaseOf c s ∷ []) in
-      rw (boundary-on q f t g) (ap (after (boundaryOf q f t g .log)) (if-on (shift d) (eqb (waitersAt (boundaryOf q f t g .seen .1 .0) c) 0) refl refl))
+      let m = boundaryOf q f t g in
+      rw (boundary-on q f t g) (ap (after (m .log)) (if-on (shift d) (isPoisoned (m .seen .1 .1) (headerOf buckets c)) refl
+      (if-on (shift d) (eqb (waitersAt (m .seen .1 .0) c) 0) refl refl)))
 
-  after-on : (a : Take) (e : Setting) (f : Flow) (t g : List ℕ) (c : ℕ) → afterTake a e (on-flow d f) t g c ≡ lock-on d (afterTake a e f t g c)
-  after-on (taking.Granted s) e f t g c = late-on e f t g c s
-  after-on taking.Busy e f t g c = refl
-  after-on taking.Damaged e f t g c = refl
-  after-on taking.Spent e f t g c = refl
+  after-on : (a : Take) (e : Setting) (buckets : ℕ) (f : Flow) (t g : List ℕ) (c : ℕ)
+      → afterTake a e buckets (on-flow d f) t g c ≡ lock-on d (afterTake a e buckets f t g c)
+  after-on (taking.Granted s) e buckets f t g c = late-on e buckets f t g c s
+  after-on taking.Busy e buckets f t g c = refl
+  after-on taking.Damaged e buckets f t g c = refl
+  after-on taking.Spent e buckets f t g c = refl
 
-  second-on : (e : Setting) (f : Flow) (t g : List ℕ) (c : ℕ) → secondOf e (on-flow d f) t g c ≡ lock-on d (secondOf e f t g c)
+  second-on : (e : Setting) (buckets : ℕ) (f : Flow) (t g : List ℕ) (c : ℕ)
+      → secondOf e buckets (on-flow d f) t g c ≡ lock-on d (secondOf e buckets f t g c)
   unfolding secondOf
-  second-on e f t g c =
+  second-on e buckets f t g c =
       let b = boundaryOf e f t g in
       let k = takeOf (b .seen .0 .next) (b .seen .1 .0) c in
       rw (boundary-on e f t g)
       (ap (λ (m : Made (With Locked)). after (b .log) (after (k .log) m))
-      (after-on (k .seen .0 .answer) e (flowOf (k .seen .0 .next) (b .seen .0 .place) (b .seen .0 .dropped)) (k .seen .1) (b .seen .1 .1) c))
+      (after-on (k .seen .0 .answer) e buckets (flowOf (k .seen .0 .next) (b .seen .0 .place) (b .seen .0 .dropped)) (k .seen .1) (b .seen .1 .1) c))
 
-  lock-counts : (e : Setting) (f : Flow) (t g : List ℕ) (c : ℕ) → lockOf e (on-flow d f) t g c ≡ lock-on d (lockOf e f t g c)
+  lock-counts : (e : Setting) (buckets : ℕ) (f : Flow) (t g : List ℕ) (c : ℕ)
+      → lockOf e buckets (on-flow d f) t g c ≡ lock-on d (lockOf e buckets f t g c)
   unfolding lockOf
-  lock-counts e f t g c =
+  lock-counts e buckets f t g c =
       let b = boundaryOf e f t g in
       rw (boundary-on e f t g)
-      (ap (after (b .log)) (if-on (shift d) (eqb (waitersAt (b .seen .1 .0) c) 0) (second-on e (b .seen .0) (b .seen .1 .0) (b .seen .1 .1) c) refl))
+      (ap (after (b .log)) (if-on (shift d) (eqb (waitersAt (b .seen .1 .0) c) 0) (second-on e buckets (b .seen .0) (b .seen .1 .0) (b .seen .1 .1) c) refl))
 
 -- every flow is one that has dropped nothing, counted on
 pub boundary-from : (e : Setting) (f : Flow) (t g : List ℕ) → boundaryOf e f t g ≡ flow-on (f .dropped) (boundaryOf e (flowOf (f .next) (f .place) 0) t g)
@@ -127,9 +133,9 @@ module _ (k : Counts) (e : Setting) where
     unfolding attemptOf
     attempt-on r t g = ap (after (attempt-begun ∷ [])) (go (findOf (e .headers) buckets g registry binding bucket))
       where
-        go : (x : Found) → attemptAt x e (on-run k r) t g ≡ tried-on k (attemptAt x e r t g)
+        go : (x : Found) → attemptAt x e buckets (on-run k r) t g ≡ tried-on k (attemptAt x e buckets r t g)
         go (found.Fault x) = rw (assoc (k .attempts) (r .attempts) 1)
-        go (found.At c) = rw (lock-counts (k .dropped) e (r .flow) t g c, assoc (k .attempts) (r .attempts) 1, assoc (k .boundaries) (r .boundaries) (lockOf e (r .flow) t g c .seen .0 .boundaries))
+        go (found.At c) = rw (lock-counts (k .dropped) e buckets (r .flow) t g c, assoc (k .attempts) (r .attempts) 1, assoc (k .boundaries) (r .boundaries) (lockOf e buckets (r .flow) t g c .seen .0 .boundaries))
 
   pub spin-on : (r : Run) (t g : List ℕ) → spinOf e (on-run k r) t g ≡ run-on k (spinOf e r t g)
   unfolding spinOf

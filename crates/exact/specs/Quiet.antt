@@ -1,15 +1,19 @@
 -- Where the script is at its end nothing happens between the steps of a call. Then a lock must lock: what each call answers, by a table.
 use Prim.Native.Nat.{ℕ, zero, suc, _+_, _*_, _-_, _/_, _%_, _≤_, _<_}
-use mathlib.Core.Path.{_≡_, refl, ap, _∙_}
+use mathlib.Core.Path.{_≡_, refl, sym, ap, _∙_}
 use mathlib.Core.List.{List, [], _∷_}
 use mathlib.Core.Bool.{Bool, true, false}
+use mathlib.Core.Logic.{_≢_}
 use native.Mathlib.Nat.{suc-mul, zero-mul}
 use native.Mathlib.Omega.{arith}
+use native.Mathlib.Decide.{ℕ-discrete}
 use lib.Dec.{eqb}
-use borrow.Author.Tests.{ltb-true, ltb-false, eqb-true, eqb-false, eq-eqb}
+use borrow.Author.Tests.{ltb-true, ltb-false, eqb-true, eqb-false, eq-eqb, ne-eqb}
 use Rattle.choice.specs.Choice.{if_then_else_}
+use lib.ListN.{getD, set}
+use lib.Seq.{set-set, set-getD}
 use Rattle.model.specs.Log.{Made, boundary-run}
-use Rattle.model.specs.Arena.{lastSerial, serialRemains, leaseOf, bitAt, ownerAt, waitersAt, setCell, stateAt}
+use Rattle.model.specs.Arena.{lastSerial, serialRemains, headerOf, leaseOf, bitAt, ownerAt, waitersAt, setCell, stateAt}
 use Rattle.model.specs.Foreign.{Setting, protecting, stepsIn, flowOf, runStepsOf, boundaryOf}
 use Rattle.model.specs.Lock.{takeIn, takeOf, lockedOf, lateOf, afterTake, secondOf, lockOf, runOf, triedOf, attemptOf, spinOf, pauseOf, retryOf}
 use Rattle.model.specs.declared.Flow.{Flow}
@@ -17,7 +21,7 @@ use Rattle.model.specs.declared.Locked.{Locked}
 use Rattle.model.specs.declared.Outcome.the-variants as outcome
 use Rattle.model.specs.declared.Run.{Run}
 use Rattle.model.specs.declared.State.{State}
-use Rattle.model.specs.declared.Take.the-variants as taking
+use Rattle.model.specs.declared.Refusal.the-variants as refusal
 use Rattle.model.specs.declared.Took.{Took}
 use Rattle.laws.specs.Words.{waiters-set-cell}
 use Rattle.history.specs.World.{one}
@@ -31,38 +35,72 @@ module _ (e : Setting) (f : Flow) (t g : List ℕ) where
   unfolding boundaryOf runStepsOf
   boundary-quiet l = let k : stepsIn (e .script) - f .place ≡ 0 = omega arith in rw k
 
--- what one quiet try_lock of cell c comes to: five rows
-pub data Quiet-lock (f : Flow) (t g : List ℕ) (c : ℕ) : With Locked → Type 0 where
-  was-waited : (waitersAt t c ≡ 0 → ⊥) → Quiet-lock f t g c (lockedOf f 1 taking.Busy, (t, g))
-  was-held : waitersAt t c ≡ 0 → bitAt t c ≡ 1 → 1 ≤ ownerAt t c → ownerAt t c < f .next → Quiet-lock f t g c (lockedOf f 2 taking.Busy, (t, g))
+-- what a cell was before it was taken
+set-swap : (l : List ℕ) (i j a b : ℕ) → i ≢ j → set (set l i a) j b ≡ set (set l j b) i a
+set-swap [] i j a b n = refl
+set-swap (x ∷ xs) zero zero a b n = absurd (n refl)
+set-swap (x ∷ xs) zero (suc j) a b n = refl
+set-swap (x ∷ xs) (suc i) zero a b n = refl
+set-swap (x ∷ xs) (suc i) (suc j) a b n = ap (λ (r : List ℕ). x ∷ r) (set-swap xs i j a b (λ e. n (ap (λ (z : ℕ). suc z) e)))
+
+pub taken-back : (t : List ℕ) (c s : ℕ) → bitAt t c ≡ 0 → ownerAt t c ≡ 0 → setCell (setCell t c 1 s) c 0 0 ≡ t
+unfolding setCell bitAt ownerAt
+taken-back t c s b o =
+    let i = 3 * c in
+    let j = 3 * c + 1 in
+    let was : set t i 0 ≡ t = ap (λ (z : ℕ). set t i z) (sym b) ∙ set-getD t i 0 in
+    let owned : set t j 0 ≡ t = ap (λ (z : ℕ). set t j z) (sym o) ∙ set-getD t j 0 in
+    ap (λ (r : List ℕ). set r j 0) (set-swap (set t i 1) j i s 0 (omega arith) ∙ ap (λ (r : List ℕ). set r j s) (set-set t i 1 0 ∙ was))
+    ∙ set-set t j s 0 ∙ owned
+
+-- what one quiet try_lock of cell c comes to: six rows
+pub data Quiet-lock (buckets : ℕ) (f : Flow) (t g : List ℕ) (c : ℕ) : With Locked → Type 0 where
+  was-waited : (waitersAt t c ≡ 0 → ⊥) → Quiet-lock buckets f t g c (lockedOf f 1 outcome.Busy, (t, g))
+  was-held : waitersAt t c ≡ 0 → bitAt t c ≡ 1 → 1 ≤ ownerAt t c → ownerAt t c < f .next → Quiet-lock buckets f t g c (lockedOf f 2 outcome.Busy, (t, g))
   was-damaged : waitersAt t c ≡ 0 → (bitAt t c ≡ 0 → ownerAt t c ≡ 0 → ⊥) → (bitAt t c ≡ 1 → 1 ≤ ownerAt t c → ownerAt t c < f .next → ⊥)
-      → Quiet-lock f t g c (lockedOf f 2 taking.Damaged, (t, g))
-  was-spent : waitersAt t c ≡ 0 → bitAt t c ≡ 0 → ownerAt t c ≡ 0 → lastSerial ≤ f .next → Quiet-lock f t g c (lockedOf f 2 taking.Spent, (t, g))
-  was-free : waitersAt t c ≡ 0 → bitAt t c ≡ 0 → ownerAt t c ≡ 0 → f .next < lastSerial
-      → Quiet-lock f t g c (lockedOf (flowOf (f .next + 1) (f .place) (f .dropped)) 3 (taking.Granted (f .next)), (setCell t c 1 (f .next), g))
+      → Quiet-lock buckets f t g c (lockedOf f 2 (outcome.Refused (refusal.Damaged c)), (t, g))
+  was-spent : waitersAt t c ≡ 0 → bitAt t c ≡ 0 → ownerAt t c ≡ 0 → lastSerial ≤ f .next
+      → Quiet-lock buckets f t g c (lockedOf f 2 (outcome.Refused (refusal.SerialsSpent c)), (t, g))
+  was-free : waitersAt t c ≡ 0 → bitAt t c ≡ 0 → ownerAt t c ≡ 0 → f .next < lastSerial → getD g (headerOf buckets c) 0 ≡ 0
+      → Quiet-lock buckets f t g c (lockedOf (flowOf (f .next + 1) (f .place) (f .dropped)) 3 (outcome.Granted (leaseOf c (f .next))), (setCell t c 1 (f .next), g))
+  was-sick : waitersAt t c ≡ 0 → bitAt t c ≡ 0 → ownerAt t c ≡ 0 → f .next < lastSerial → (getD g (headerOf buckets c) 0 ≡ 0 → ⊥)
+      → Quiet-lock buckets f t g c (lockedOf (flowOf (f .next + 1) (f .place) (f .dropped)) 3 (outcome.Refused (refusal.Poisoned (headerOf buckets c))), (t, g))
 
-module _ (e : Setting) (f : Flow) (t g : List ℕ) (c : ℕ) (quiet : stepsIn (e .script) ≤ f .place) where
-  late-quiet : (n : ℕ) (u : List ℕ) (s : ℕ) → waitersAt u c ≡ 0
-      → lateOf e (flowOf n (f .place) (f .dropped)) u g c s .seen ≡ (lockedOf (flowOf n (f .place) (f .dropped)) 3 (taking.Granted s), (u, g))
+module _ (e : Setting) (buckets : ℕ) (f : Flow) (t g : List ℕ) (c : ℕ) (quiet : stepsIn (e .script) ≤ f .place) where
+  late-quiet : (n : ℕ) (u : List ℕ) (s : ℕ) → waitersAt u c ≡ 0 → getD g (headerOf buckets c) 0 ≡ 0
+      → lateOf e buckets (flowOf n (f .place) (f .dropped)) u g c s .seen ≡ (lockedOf (flowOf n (f .place) (f .dropped)) 3 (outcome.Granted (leaseOf c s)), (u, g))
   unfolding lateOf
-  late-quiet n u s w = rw (boundary-quiet (protecting e (leaseOf c s ∷ [])) (flowOf n (f .place) (f .dropped)) u g quiet, eq-eqb (waitersAt u c) 0 w)
+  late-quiet n u s w h =
+      rw (boundary-quiet (protecting e (leaseOf c s ∷ [])) (flowOf n (f .place) (f .dropped)) u g quiet, eq-eqb (getD g (headerOf buckets c) 0) 0 h, eq-eqb (waitersAt u c) 0 w)
 
-  pub lock-quiet : Quiet-lock f t g c (lockOf e f t g c .seen)
+  late-sick : (n : ℕ) (u : List ℕ) (s : ℕ) → (getD g (headerOf buckets c) 0 ≡ 0 → ⊥)
+      → lateOf e buckets (flowOf n (f .place) (f .dropped)) u g c s .seen
+      ≡ (lockedOf (flowOf n (f .place) (f .dropped)) 3 (outcome.Refused (refusal.Poisoned (headerOf buckets c))), (setCell u c 0 0, g))
+  unfolding lateOf
+  late-sick n u s h =
+      rw (boundary-quiet (protecting e (leaseOf c s ∷ [])) (flowOf n (f .place) (f .dropped)) u g quiet, ne-eqb (getD g (headerOf buckets c) 0) 0 h)
+
+  pub lock-quiet : Quiet-lock buckets f t g c (lockOf e buckets f t g c .seen)
   unfolding lockOf secondOf takeOf stateAt
   lock-quiet = rw (boundary-quiet e f t g quiet, boundary-quiet e f t g quiet) (
-      if-cases (λ (m : Made (With Locked)). Quiet-lock f t g c (m .seen)) (eqb (waitersAt t c) 0)
+      if-cases (λ (m : Made (With Locked)). Quiet-lock buckets f t g c (m .seen)) (eqb (waitersAt t c) 0)
       (λ w. on (eqb-true _ _ w) (stands (f .next) (bitAt t c) (ownerAt t c)))
       (λ w. was-waited (eqb-false _ _ w)))
     where
       After : Made (Took × List ℕ) → Type 0
-      After k = Quiet-lock f t g c (afterTake (k .seen .0 .answer) e (flowOf (k .seen .0 .next) (f .place) (f .dropped)) (k .seen .1) g c .seen)
+      After k = Quiet-lock buckets f t g c (afterTake (k .seen .0 .answer) e buckets (flowOf (k .seen .0 .next) (f .place) (f .dropped)) (k .seen .1) g c .seen)
+
+      taken : waitersAt t c ≡ 0 → bitAt t c ≡ 0 → ownerAt t c ≡ 0 → f .next < lastSerial → Dec (getD g (headerOf buckets c) 0 ≡ 0)
+          → Quiet-lock buckets f t g c (lateOf e buckets (flowOf (f .next + 1) (f .place) (f .dropped)) (setCell t c 1 (f .next)) g c (f .next) .seen)
+      taken w p q r (yes h) = rw (late-quiet (f .next + 1) (setCell t c 1 (f .next)) (f .next) (waiters-set-cell t c 1 (f .next) c ∙ w) h) (was-free w p q r h)
+      taken w p q r (no h) = rw (late-sick (f .next + 1) (setCell t c 1 (f .next)) (f .next) h, taken-back t c (f .next) p q) (was-sick w p q r h)
 
       on : waitersAt t c ≡ 0 → {x : State} → Stands (f .next) (bitAt t c) (ownerAt t c) x → After (takeIn x (f .next) t c)
       on w (is-damaged p q) = was-damaged w p q
       on w (is-held p q r) = was-held w p q r
       on w (is-free p q) =
           if-cases After (serialRemains (f .next))
-          (λ r. rw (late-quiet (f .next + 1) (setCell t c 1 (f .next)) (f .next) (waiters-set-cell t c 1 (f .next) c ∙ w)) (was-free w p q (ltb-true _ _ r)))
+          (λ r. taken w p q (ltb-true _ _ r) (ℕ-discrete (getD g (headerOf buckets c) 0) 0))
           (λ r. was-spent w p q (ltb-false _ _ r))
 
 -- ---- Busy attempts in a row

@@ -3,15 +3,16 @@
 use Prim.Native.Nat.{ℕ, suc, _+_, _*_, _≤_, _<_}
 use mathlib.Core.Path.{_≡_, refl, sym, ap, _∙_, subst}
 use mathlib.Core.List.{List, []}
-use mathlib.Core.Bool.{false, not}
+use mathlib.Core.Bool.{false}
+use mathlib.Core.Logic.{_↔_}
 use native.Mathlib.Nat.{zero-add}
 use native.Mathlib.Omega.{arith}
-use lib.Dec.{leb, eqb}
+use lib.Dec.{leb}
 use lib.ListN.{getD}
 use borrow.Author.Tests.{leb-true, leb-false, eqb-true, eqb-false, not-true, not-false}
-use Rattle.model.specs.Arena.{spentTo, leasesOf}
+use Rattle.model.specs.Arena.{spentTo, headerOf, isPoisoned, leasesOf}
 use Rattle.model.specs.Foreign.{Setting, stepsIn, flowOf}
-use Rattle.model.specs.Lock.{lockedOf, lockOf, outcomeOf, answerOf, settled, runOf, triedOf, findOf, attemptAt, attemptOf, isBusy, retryOf}
+use Rattle.model.specs.Lock.{lockedOf, lockOf, answerOf, settled, runOf, triedOf, findOf, attemptAt, attemptOf, isBusy, retryOf}
 use Rattle.model.specs.Calls.{countsOf, given, starting}
 use Rattle.model.specs.declared.Answer.{Answer}
 use Rattle.model.specs.declared.Answer.the-variants.{Granted, Busy, Refused}
@@ -23,16 +24,16 @@ use Rattle.model.specs.declared.Locked.{Locked}
 use Rattle.model.specs.declared.Outcome.the-variants as outcome
 use Rattle.model.specs.declared.Refusal.the-variants.{BadHeader, Poisoned, InvalidBucket, Damaged, SerialsSpent, SerializationFailure}
 use Rattle.model.specs.declared.Run.{Run}
-use Rattle.model.specs.declared.Take.the-variants as taking
 use Rattle.model.specs.declared.Tried.{Tried}
-use Rattle.history.specs.World.{World, worldOf}
+use Rattle.laws.specs.Keys.{header-of-key}
+use Rattle.history.specs.World.{World, worldOf, Healthy}
 use Rattle.history.specs.Items.{Says, says, perform, cellOf}
 use Rattle.history.specs.Tests.{if-cases}
 use Rattle.history.specs.Steps.{With}
-use Rattle.exact.specs.Statements.{Acquire-bucket-exactly, Acquire-bucket-quiet, By-key, Names, Quietly, Transactional-quiet, Try-lock-exactly, Try-lock-quiet, bad-header, Locks-exactly, at-waited, busy-after, failed-after, is-poisoned, at-held, bad-bucket, at-damaged, names, at-spent, at-free}
+use Rattle.exact.specs.Statements.{By-cell, sick-cell, sound-cell, Ready, Acquire-bucket-exactly, Acquire-bucket-quiet, By-key, Names, Quietly, Transactional-quiet, Try-lock-exactly, Try-lock-quiet, bad-header, Locks-exactly, at-waited, busy-after, failed-after, is-poisoned, at-held, bad-bucket, at-damaged, names, at-spent, at-free}
 use Rattle.exact.specs.Script.{acquire-bucket-has, transactional-has, try-lock-has}
 use Rattle.exact.specs.Made.{made}
-use Rattle.exact.specs.Quiet.{Quiet-lock, was-waited, was-held, was-damaged, was-spent, was-free, lock-quiet, yieldsIn, yields-are, busy-retry}
+use Rattle.exact.specs.Quiet.{Quiet-lock, was-waited, was-held, was-damaged, was-spent, was-free, was-sick, lock-quiet, yieldsIn, yields-are, busy-retry}
 
 -- ---- proofs
 
@@ -41,22 +42,33 @@ abbrev said : World → With Tried → World × Says
 said w m = (worldOf (spentTo (w .head) (m .0 .run .flow .next)) (m .1 .0) (m .1 .1), says (answerOf (m .0 .outcome)) (countsOf (m .0 .run .attempts) (m .0 .run .boundaries) (m .0 .run .yields) (m .0 .run .flow .dropped)) (m .0 .run .flow .place) [])
 
 -- one quiet try_lock in a run with a attempts and x boundaries before
-abbrev after : ℕ → ℕ → ℕ → ℕ → With Locked → With Tried
-after c a x y k = (triedOf (runOf (k .0 .flow) (a + 1) (x + k .0 .boundaries) y) (outcomeOf c (k .0 .answer)), k .1)
+abbrev after : ℕ → ℕ → ℕ → With Locked → With Tried
+after a x y k = (triedOf (runOf (k .0 .flow) (a + 1) (x + k .0 .boundaries) y) (k .0 .answer), k .1)
 
-lock-row : (w : World) (place c : ℕ) {m : With Locked} → Quiet-lock (flowOf (w .head .next) place 0) (w .table) (w .health) c m
-    → Quietly w place (busy-after place 1) (busy-after place 2) c (said w (after c 0 0 0 m))
-lock-row w place c (was-waited n) = at-waited n
-lock-row w place c (was-held u p q r) = at-held u (p, q, r)
-lock-row w place c (was-damaged u p q) = at-damaged u ((λ x. p (x .0) (x .1)), (λ x. q (x .0) (x .1) (x .2)))
-lock-row w place c (was-spent u p q r) = at-spent u (p, q) r
-lock-row w place c (was-free u p q r) = at-free u (p, q) r
+-- what one quiet try_lock says
+abbrev Row-of : World → ℕ → ℕ → World × Says → Type 0
+Row-of w place c = Quietly w place (busy-after place 1) (busy-after place 2) c
+
+lock-row : (w : World) (place c : ℕ) {m : With Locked} → Quiet-lock (w .head .buckets) (flowOf (w .head .next) place 0) (w .table) (w .health) c m
+    → By-cell w c place (Row-of w place c) (said w (after 0 0 0 m))
+lock-row w place c (was-waited n) = sound-cell (λ r. absurd (n (r .0))) (at-waited n)
+lock-row w place c (was-held u p q r) = sound-cell (λ k. absurd (omega (arith, k .1 .0))) (at-held u (p, q, r))
+lock-row w place c (was-damaged u p q) =
+    sound-cell (λ k. absurd (p (k .1 .0) (k .1 .1))) (at-damaged u ((λ x. p (x .0) (x .1)), (λ x. q (x .0) (x .1) (x .2))))
+lock-row w place c (was-spent u p q r) = sound-cell (λ k. absurd (omega (arith, k .2))) (at-spent u (p, q) r)
+lock-row w place c (was-free u p q r h) = sound-cell (λ _. h) (at-free u (p, q) r)
+lock-row w place c (was-sick u p q r n) = sick-cell (u, (p, q), r) n
+
+-- on a healthy header
+sound-row : {w : World} {place c : ℕ} {x : World × Says} → Healthy w c → By-cell w c place (Row-of w place c) x → Row-of w place c x
+sound-row h (sick-cell r n) = absurd (n h)
+sound-row h (sound-cell n y) = y
 
 pub try-lock-quiet : Try-lock-quiet perform
 try-lock-quiet w script place held c fine end =
-    subst (Quietly w place (busy-after place 1) (busy-after place 2) c) (sym (ap (λ m. m .seen) (made w (try-lock-has script place held c) fine)))
-    (rw (zero-add (lockOf (given (w .head) script (leasesOf held)) (flowOf (w .head .next) place 0) (w .table) (w .health) c .seen .0 .boundaries))
-    at (lock-row w place c (lock-quiet (given (w .head) script (leasesOf held)) (flowOf (w .head .next) place 0) (w .table) (w .health) c end)))
+    subst (By-cell w c place (Row-of w place c)) (sym (ap (λ m. m .seen) (made w (try-lock-has script place held c) fine)))
+    (rw (zero-add (lockOf (given (w .head) script (leasesOf held)) (w .head .buckets) (flowOf (w .head .next) place 0) (w .table) (w .health) c .seen .0 .boundaries))
+    at (lock-row w place c (lock-quiet (given (w .head) script (leasesOf held)) (w .head .buckets) (flowOf (w .head .next) place 0) (w .table) (w .health) c end)))
 
 -- what a key names, in words
 pub data Keyed (headers buckets : ℕ) (g registry : List ℕ) (binding bucket : ℕ) : Found → Type 0 where
@@ -72,7 +84,7 @@ pub keyed : (headers buckets : ℕ) (g registry : List ℕ) (binding bucket : �
 unfolding findOf
 keyed headers buckets g registry binding bucket =
     if-cases P (leb headers header) (λ e. no-header (leb-true _ _ e)) (λ e.
-    if-cases P (not (eqb (getD g header 0) 0)) (λ p. sick (leb-false _ _ e) (eqb-false _ _ (not-true _ p))) (λ p.
+    if-cases P (isPoisoned g header) (λ p. sick (leb-false _ _ e) (eqb-false _ _ (not-true _ p))) (λ p.
     if-cases P (leb buckets bucket) (λ b. no-bucket (leb-false _ _ e) (eqb-true _ _ (not-false _ p)) (leb-true _ _ b))
     (λ b. at-cell (leb-false _ _ e) (eqb-true _ _ (not-false _ p)) (leb-false _ _ b))))
   where
@@ -81,6 +93,12 @@ keyed headers buckets g registry binding bucket =
 
     P : Found → Type 0
     P = Keyed headers buckets g registry binding bucket
+
+-- the cell of a key whose header is healthy
+key-healthy : (w : World) (registry : List ℕ) (binding bucket : ℕ) → getD (w .health) (getD registry binding 0) 0 ≡ 0 → bucket < w .head .buckets
+    → Healthy w (cellOf (w .head .buckets) registry binding bucket)
+key-healthy w registry binding bucket q r =
+    ap (λ (i : ℕ). getD (w .health) i 0) (header-of-key (w .head .buckets) (getD registry binding 0) bucket r) ∙ q
 
 pub transactional-quiet : Transactional-quiet perform
 unfolding attemptOf
@@ -92,12 +110,13 @@ transactional-quiet w registry script place held binding bucket fine end =
     Row = Quietly w place (busy-after place 1) (busy-after place 2)
 
     go : {x : Found} → Keyed (w .head .headers) (w .head .buckets) (w .health) registry binding bucket x
-        → By-key w registry binding bucket place Row (said w (attemptAt x (given (w .head) script (leasesOf held)) (starting (w .head) place) (w .table) (w .health) .seen))
+        → By-key w registry binding bucket place Row (said w (attemptAt x (given (w .head) script (leasesOf held)) (w .head .buckets) (starting (w .head) place) (w .table) (w .health) .seen))
     go (no-header p) = bad-header p
     go (sick p q) = is-poisoned p q
     go (no-bucket p q r) = bad-bucket p q r
     go (at-cell p q r) =
-        names p q r (lock-row w place _ (lock-quiet (given (w .head) script (leasesOf held)) (flowOf (w .head .next) place 0) (w .table) (w .health) _ end))
+        names p q r (sound-row (key-healthy w registry binding bucket q r)
+        (lock-row w place _ (lock-quiet (given (w .head) script (leasesOf held)) (w .head .buckets) (flowOf (w .head .next) place 0) (w .table) (w .health) _ end)))
 
 -- ---- retrying
 
@@ -109,7 +128,7 @@ module _ (e : Setting) (buckets : ℕ) (registry : List ℕ) (binding bucket : �
   retry-stops left i n = rw n
 
   pub attempt-as : {x : Found} → findOf (e .headers) buckets g registry binding bucket ≡ x
-      → attemptOf e buckets registry binding bucket r t g .seen ≡ attemptAt x e r t g .seen
+      → attemptOf e buckets registry binding bucket r t g .seen ≡ attemptAt x e buckets r t g .seen
   unfolding attemptOf
   attempt-as q = rw q
 
@@ -139,34 +158,36 @@ module _ (w : World) (registry script : List ℕ) (place : ℕ) (held : List ℕ
   abbrev Fits : With Tried → Type 0
   Fits m = By-key w registry binding bucket place Row (said-at-last w m)
 
-  stop : {x : Found} → found-is ≡ x → isBusy (attemptAt x around (runOf from 0 0 0) (w .table) (w .health) .seen .0 .outcome) ≡ false
-      → Fits (attemptAt x around (runOf from 0 0 0) (w .table) (w .health) .seen) → Fits retried
+  stop : {x : Found} → found-is ≡ x → isBusy (attemptAt x around (w .head .buckets) (runOf from 0 0 0) (w .table) (w .health) .seen .0 .outcome) ≡ false
+      → Fits (attemptAt x around (w .head .buckets) (runOf from 0 0 0) (w .table) (w .health) .seen) → Fits retried
   stop {x} q n y =
       let k = attempt-as around (w .head .buckets) registry binding bucket (runOf from 0 0 0) (w .table) (w .health) q in
       subst Fits (sym (retry-stops around (w .head .buckets) registry binding bucket (runOf from 0 0 0) (w .table) (w .health) 4095 0 (rw k n) ∙ k)) y
 
   module _ (c : ℕ) (q : found-is ≡ found.At c) where
     -- Busy again and again, with b boundaries each
-    again : (b : ℕ) → lockOf around from (w .table) (w .health) c .seen ≡ (lockedOf from b taking.Busy, (w .table, w .health))
+    again : (b : ℕ) → lockOf around (w .head .buckets) from (w .table) (w .health) c .seen ≡ (lockedOf from b outcome.Busy, (w .table, w .health))
         → Fits (triedOf (runOf from 4096 (4096 * (b + 1) + 64) 64) outcome.Busy, (w .table, w .health)) → Fits retried
     again b l y =
         subst Fits (sym (busy-retry around from (w .table) (w .health) end (w .head .buckets) registry binding bucket b
         (λ a x y. attempt-as around (w .head .buckets) registry binding bucket (runOf from a x y) (w .table) (w .health) q ∙ rw l) 4096 0 0 0 0)) (rw (sixty-four, zero-add (4096 * (b + 1))) y)
 
-    row : {m : With Locked} → Quiet-lock from (w .table) (w .health) c m → lockOf around from (w .table) (w .health) c .seen ≡ m
+    row : {m : With Locked} → Healthy w c → Quiet-lock (w .head .buckets) from (w .table) (w .health) c m → lockOf around (w .head .buckets) from (w .table) (w .health) c .seen ≡ m
         → ((x : World × Says) → Row c x → By-key w registry binding bucket place Row x) → Fits retried
-    row (was-waited n) l name = again 1 l (name _ (at-waited n))
-    row (was-held u x y z) l name = again 2 l (name _ (at-held u (x, y, z)))
-    row (was-damaged u x y) l name =
+    row h (was-waited n) l name = again 1 l (name _ (at-waited n))
+    row h (was-held u x y z) l name = again 2 l (name _ (at-held u (x, y, z)))
+    row h (was-damaged u x y) l name =
         stop q (rw l) (rw l (name _ (at-damaged u ((λ z. x (z .0) (z .1)), (λ z. y (z .0) (z .1) (z .2))))))
-    row (was-spent u x y z) l name = stop q (rw l) (rw l (name _ (at-spent u (x, y) z)))
-    row (was-free u x y z) l name = stop q (rw l) (rw l (name _ (at-free u (x, y) z)))
+    row h (was-spent u x y z) l name = stop q (rw l) (rw l (name _ (at-spent u (x, y) z)))
+    row h (was-free u x y z _) l name = stop q (rw l) (rw l (name _ (at-free u (x, y) z)))
+    row h (was-sick u x y z n) l name = absurd (n h)
 
   all-rows : {x : Found} → Keyed (w .head .headers) (w .head .buckets) (w .health) registry binding bucket x → found-is ≡ x → Fits retried
   all-rows (no-header p) q = stop q refl (bad-header p)
   all-rows (sick p r) q = stop q refl (is-poisoned p r)
   all-rows (no-bucket p r b) q = stop q refl (bad-bucket p r b)
-  all-rows (at-cell p r b) q = row _ q (lock-quiet around from (w .table) (w .health) _ end) refl (λ x y. names p r b y)
+  all-rows (at-cell p r b) q =
+      row _ q (key-healthy w registry binding bucket r b) (lock-quiet around (w .head .buckets) from (w .table) (w .health) _ end) refl (λ x y. names p r b y)
 
 pub acquire-bucket-quiet : Acquire-bucket-quiet perform
 acquire-bucket-quiet w registry script place held binding bucket fine end =
@@ -193,7 +214,7 @@ late-spent at-last e = let z : _≡_ {A = ℕ} 0 1 = cc in omega arith
 module _ {w : World} {place : ℕ} {waiting holding : Says} {c : ℕ} where
   -- the table says it exactly
   exactly : {x : World × Says} (busy : Answer) → Late busy → waiting .answer ≡ busy → holding .answer ≡ busy → Quietly w place waiting holding c x
-      → Locks-exactly w c busy (x .1 .answer)
+      → Locks-exactly w c (Ready w c) busy (x .1 .answer)
   exactly busy l p q (at-waited n) =
       record {
         granted = λ k. (λ e. absurd (late-granted l (sym p ∙ e)), λ r. absurd (n (r .0 .0)));
@@ -238,8 +259,45 @@ named-row n (is-poisoned p q) = absurd (q (n .1))
 named-row n (bad-bucket p q r) = absurd (omega (arith, n .2))
 named-row n (names p q r y) = y
 
+-- 7 is in no row of the cell's table
+late-poisoned : {a : Answer} {d : ℕ} → Late a → a ≡ Refused (Poisoned d) → ⊥
+late-poisoned at-once e = let z : _≡_ {A = ℕ} 0 1 = cc in omega arith
+late-poisoned at-last e = let z : _≡_ {A = ℕ} 0 1 = cc in omega arith
+
+never-7 : {w : World} {place : ℕ} {waiting holding : Says} {c header : ℕ} {x : World × Says} → Late (waiting .answer) → Late (holding .answer)
+    → Quietly w place waiting holding c x → x .1 .answer ≡ Refused (Poisoned header) → ⊥
+never-7 l k (at-waited n) e = late-poisoned l e
+never-7 l k (at-held u h) e = late-poisoned k e
+never-7 l k (at-damaged u d) e = let z : _≡_ {A = ℕ} 0 1 = cc in omega arith
+never-7 l k (at-spent u f r) e = let z : _≡_ {A = ℕ} 0 1 = cc in omega arith
+never-7 l k (at-free u f r) e = let z : _≡_ {A = ℕ} 0 1 = cc in omega arith
+
+module _ {w : World} {place c : ℕ} where
+  cell-exactly : {x : World × Says} → By-cell w c place (Row-of w place c) x
+      → Locks-exactly w c (Ready w c × Healthy w c) Busy (x .1 .answer)
+      × ((header : ℕ) → (x .1 .answer ≡ Refused (Poisoned header)) ↔ (Ready w c × (Healthy w c → ⊥) × (header ≡ headerOf (w .head .buckets) c)))
+  cell-exactly (sick-cell r n) = (
+    record {
+      granted = λ k. (λ e. let z : _≡_ {A = ℕ} 0 1 = cc in absurd (omega arith), λ s. absurd (n (s .0 .1)));
+      not-now = (λ e. let z : _≡_ {A = ℕ} 0 1 = cc in absurd (omega arith), λ s. absurd (omega (arith, r .1 .0, s (r .0) .0)));
+      damaged = (λ e. let z : _≡_ {A = ℕ} 0 1 = cc in absurd (omega arith), λ s. absurd (s .1 .0 (r .1)));
+      spent = (λ e. let z : _≡_ {A = ℕ} 0 1 = cc in absurd (omega arith), λ s. absurd (omega (arith, r .2, s .2)));
+    },
+    λ header. (λ e. (r, n, cc), λ s. ap (λ (i : ℕ). Refused (Poisoned i)) (sym (s .2))),
+  )
+  cell-exactly (sound-cell n y) =
+      let k = exactly Busy at-once refl refl y in (
+        record {
+          granted = λ l. (λ e. let z = k .granted l .0 e in ((z .0, n (z .0)), z .1), λ s. k .granted l .1 (s .0 .0, s .1));
+          not-now = k .not-now;
+          damaged = k .damaged;
+          spent = k .spent;
+        },
+        λ header. (λ e. absurd (never-7 at-once at-once y e), λ s. absurd (s .1 (n (s .0)))),
+      )
+
 pub try-lock-exactly : Try-lock-exactly perform
-try-lock-exactly w script place held c fine end = exactly Busy at-once refl refl (try-lock-quiet w script place held c fine end)
+try-lock-exactly w script place held c fine end = cell-exactly (try-lock-quiet w script place held c fine end)
 
 pub acquire-bucket-exactly : Acquire-bucket-exactly perform
 acquire-bucket-exactly w registry script place held binding bucket fine end n =

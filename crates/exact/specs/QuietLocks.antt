@@ -7,7 +7,7 @@ use native.Mathlib.Nat.{add-zero, zero-add, suc-add}
 use native.Mathlib.Omega.{arith}
 use lib.ListN.{getD}
 use Rattle.model.specs.Log.{Made}
-use Rattle.model.specs.Arena.{lastSerial, spentTo, leaseOf, leasesOf, wordsOf, bitAt, ownerAt, waitersAt, setCell}
+use Rattle.model.specs.Arena.{lastSerial, spentTo, headerOf, leaseOf, leasesOf, wordsOf, bitAt, ownerAt, waitersAt, setCell}
 use Rattle.model.specs.Foreign.{Setting, protecting, stepsIn, flowOf}
 use Rattle.model.specs.Lock.{lockedOf, lockOf, runOf, triedOf, findOf, attemptOf, retryOf, attemptLimit, bindingAt, bucketAt, endedOf, Locks, locksOf}
 use Rattle.model.specs.Checks.{countIn}
@@ -22,7 +22,7 @@ use Rattle.model.specs.declared.Lease.{Lease}
 use Rattle.model.specs.declared.Locked.{Locked}
 use Rattle.model.specs.declared.Outcome.the-variants as outcome
 use Rattle.model.specs.declared.Run.{Run}
-use Rattle.model.specs.declared.Take.the-variants as taking
+use Rattle.laws.specs.Keys.{find-healthy}
 use Rattle.laws.specs.Words.{waiters-set-cell, bit-set-other, owner-set-other}
 use Rattle.history.specs.World.{World, worldOf, now}
 use Rattle.history.specs.Items.{Says, says, perform, keyCell}
@@ -30,7 +30,7 @@ use Rattle.history.specs.Steps.{With, worldAt}
 use Rattle.exact.specs.Statements.{Locks-quiet, leases-from, takes-of}
 use Rattle.exact.specs.Script.{acquire-locks-has}
 use Rattle.exact.specs.Made.{made}
-use Rattle.exact.specs.Quiet.{Quiet-lock, was-waited, was-held, was-damaged, was-spent, was-free, lock-quiet}
+use Rattle.exact.specs.Quiet.{Quiet-lock, was-waited, was-held, was-damaged, was-spent, was-free, was-sick, lock-quiet}
 use Rattle.exact.specs.QuietCalls.{Keyed, no-header, sick, no-bucket, at-cell, keyed, retry-stops, attempt-as}
 
 -- ---- one key that is ready
@@ -55,16 +55,17 @@ module _ (e : Setting) (place : ℕ) (quiet : stepsIn (e .script) ≤ place) (d 
   abbrev flowing : ℕ → Flow
   flowing s = flowOf s place d
 
-  lock-ready : (s : ℕ) (t : List ℕ) (c : ℕ) → waitersAt t c ≡ 0 → bitAt t c ≡ 0 → ownerAt t c ≡ 0 → s < lastSerial
-      → lockOf e (flowing s) t g c .seen ≡ (lockedOf (flowing (s + 1)) 3 (taking.Granted s), (setCell t c 1 s, g))
-  lock-ready s t c u b o l = go (lock-quiet e (flowing s) t g c quiet)
+  lock-ready : (buckets s : ℕ) (t : List ℕ) (c : ℕ) → waitersAt t c ≡ 0 → bitAt t c ≡ 0 → ownerAt t c ≡ 0 → s < lastSerial → getD g (headerOf buckets c) 0 ≡ 0
+      → lockOf e buckets (flowing s) t g c .seen ≡ (lockedOf (flowing (s + 1)) 3 (outcome.Granted (leaseOf c s)), (setCell t c 1 s, g))
+  lock-ready buckets s t c u b o l h = go (lock-quiet e buckets (flowing s) t g c quiet)
     where
-      go : {m : With Locked} → Quiet-lock (flowing s) t g c m → m ≡ (lockedOf (flowing (s + 1)) 3 (taking.Granted s), (setCell t c 1 s, g))
+      go : {m : With Locked} → Quiet-lock buckets (flowing s) t g c m → m ≡ (lockedOf (flowing (s + 1)) 3 (outcome.Granted (leaseOf c s)), (setCell t c 1 s, g))
       go (was-waited n) = absurd (n u)
       go (was-held p q r x) = absurd (omega arith)
       go (was-damaged p q r) = absurd (q b o)
       go (was-spent p q r x) = absurd (omega arith)
-      go (was-free p q r x) = refl
+      go (was-free p q r x _) = refl
+      go (was-sick p q r x n) = absurd (n h)
 
   retry-ready : (buckets : ℕ) (registry : List ℕ) (binding bucket s : ℕ) (t : List ℕ) (c a x : ℕ)
       → findOf (e .headers) buckets g registry binding bucket ≡ found.At c
@@ -74,7 +75,7 @@ module _ (e : Setting) (place : ℕ) (quiet : stepsIn (e .script) ≤ place) (d 
   retry-ready buckets registry binding bucket s t c a x q u b o l =
       let k : attemptOf e buckets registry binding bucket (runOf (flowing s) a x y) t g .seen
       ≡ (triedOf (runOf (flowing (s + 1)) (a + 1) (x + 3) y) (outcome.Granted (leaseOf c s)), (setCell t c 1 s, g))
-      = attempt-as e buckets registry binding bucket (runOf (flowing s) a x y) t g q ∙ rw (lock-ready s t c u b o l) in
+      = attempt-as e buckets registry binding bucket (runOf (flowing s) a x y) t g q ∙ rw (lock-ready buckets s t c u b o l (find-healthy (e .headers) buckets g registry binding bucket c q)) in
       retry-stops e buckets registry binding bucket (runOf (flowing s) a x y) t g 4095 0 (rw k) ∙ k
 
 -- ---- keys in a row that are ready: multi-lock goes on behind them

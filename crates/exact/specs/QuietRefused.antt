@@ -7,12 +7,11 @@ use mathlib.Core.Bool.{false}
 use mathlib.Core.Logic.{_≢_}
 use native.Mathlib.Nat.{add-zero, zero-add}
 use native.Mathlib.Omega.{arith}
-use lib.ListN.{length, set, take, getD}
-use lib.Seq.{set-set, set-getD}
+use lib.ListN.{length, take, getD}
 use Rattle.model.specs.Log.{Made}
-use Rattle.model.specs.Arena.{spentTo, leaseOf, leasesOf, bitAt, ownerAt, setCell, cellsOf, lastSerial, stateAt}
+use Rattle.model.specs.Arena.{spentTo, headerOf, leaseOf, leasesOf, bitAt, ownerAt, setCell, cellsOf, lastSerial, stateAt}
 use Rattle.model.specs.Foreign.{Setting, protecting, stepsIn, flowOf}
-use Rattle.model.specs.Lock.{lockedOf, lockOf, outcomeOf, answerOf, settled, runOf, triedOf, findOf, attemptAt, isBusy, retryOf, attemptLimit, leaseAt, giveBackOf, rollbackOf, bindingAt, bucketAt, afterKey, endedOf, Locks, locksOf}
+use Rattle.model.specs.Lock.{lockedOf, lockOf, answerOf, settled, runOf, triedOf, findOf, attemptAt, isBusy, retryOf, attemptLimit, leaseAt, giveBackOf, rollbackOf, bindingAt, bucketAt, afterKey, endedOf, Locks, locksOf}
 use Rattle.model.specs.Checks.{countIn, locksRules}
 use Rattle.model.specs.Calls.{countsOf, given}
 use Rattle.model.specs.declared.Answer.{Answer}
@@ -28,11 +27,9 @@ use Rattle.model.specs.declared.Outcome.{Outcome}
 use Rattle.model.specs.declared.Outcome.the-variants as outcome
 use Rattle.model.specs.declared.Refusal.{Refusal}
 use Rattle.model.specs.declared.Refusal.the-variants.{SerializationFailure}
-use Rattle.model.specs.declared.Take.{Take}
-use Rattle.model.specs.declared.Take.the-variants as taking
 use Rattle.model.specs.declared.Tried.{Tried}
 use Rattle.laws.specs.Words.{bit-set-other, owner-set-other}
-use Rattle.laws.specs.Keys.{place-inside}
+use Rattle.laws.specs.Keys.{place-inside, find-healthy}
 use Rattle.history.specs.World.{World, worldOf, Unreleased, now, Lawful}
 use Rattle.history.specs.Items.{Says, says, acquire-bucket, acquire-locks, perform, keyCell, Call, Clear, rules}
 use Rattle.history.specs.Tests.{state-free, In}
@@ -43,38 +40,49 @@ use Rattle.exact.specs.Statements.{leases-from, Locks-refused-quiet, tak
 use Rattle.exact.specs.Script.{acquire-locks-has, acquire-bucket-has}
 use Rattle.exact.specs.Made.{made}
 use Rattle.exact.specs.Passing.{bucket-on, key-passes, in-script}
-use Rattle.exact.specs.Quiet.{boundary-quiet, Quiet-lock, was-waited, was-held, was-damaged, was-spent, was-free, lock-quiet, yieldsIn, yields-are, busy-retry}
+use Rattle.exact.specs.Quiet.{boundary-quiet, Quiet-lock, was-waited, was-held, was-damaged, was-spent, was-free, was-sick, taken-back, lock-quiet, yieldsIn, yields-are, busy-retry}
 use Rattle.exact.specs.QuietCalls.{retry-stops, attempt-as}
 use Rattle.exact.specs.QuietLocks.{set-all, ready-keys, find-named, now-takes, said}
 
 -- ---- a row of the table is the only one
 
-unique : {f : Flow} {t g : List ℕ} {c : ℕ} {m o : With Locked} → Quiet-lock f t g c m → Quiet-lock f t g c o → m ≡ o
+unique : {buckets : ℕ} {f : Flow} {t g : List ℕ} {c : ℕ} {m o : With Locked} → Quiet-lock buckets f t g c m → Quiet-lock buckets f t g c o → m ≡ o
 unique (was-waited n) (was-waited _) = refl
 unique (was-waited n) (was-held u p q r) = absurd (n u)
 unique (was-waited n) (was-damaged u p q) = absurd (n u)
 unique (was-waited n) (was-spent u p q r) = absurd (n u)
-unique (was-waited n) (was-free u p q r) = absurd (n u)
+unique (was-waited n) (was-free u p q r h) = absurd (n u)
+unique (was-waited n) (was-sick u p q r h) = absurd (n u)
 unique (was-held u p q r) (was-waited n) = absurd (n u)
 unique (was-held u p q r) (was-held _ _ _ _) = refl
 unique (was-held u p q r) (was-damaged _ x y) = absurd (y p q r)
 unique (was-held u p q r) (was-spent _ x y z) = absurd (omega arith)
-unique (was-held u p q r) (was-free _ x y z) = absurd (omega arith)
+unique (was-held u p q r) (was-free _ x y z h) = absurd (omega arith)
+unique (was-held u p q r) (was-sick _ x y z h) = absurd (omega arith)
 unique (was-damaged u p q) (was-waited n) = absurd (n u)
 unique (was-damaged u p q) (was-held _ x y z) = absurd (q x y z)
 unique (was-damaged u p q) (was-damaged _ _ _) = refl
 unique (was-damaged u p q) (was-spent _ x y z) = absurd (p x y)
-unique (was-damaged u p q) (was-free _ x y z) = absurd (p x y)
+unique (was-damaged u p q) (was-free _ x y z h) = absurd (p x y)
+unique (was-damaged u p q) (was-sick _ x y z h) = absurd (p x y)
 unique (was-spent u p q r) (was-waited n) = absurd (n u)
 unique (was-spent u p q r) (was-held _ x y z) = absurd (omega arith)
 unique (was-spent u p q r) (was-damaged _ x y) = absurd (x p q)
 unique (was-spent u p q r) (was-spent _ _ _ _) = refl
-unique (was-spent u p q r) (was-free _ x y z) = absurd (omega arith)
-unique (was-free u p q r) (was-waited n) = absurd (n u)
-unique (was-free u p q r) (was-held _ x y z) = absurd (omega arith)
-unique (was-free u p q r) (was-damaged _ x y) = absurd (x p q)
-unique (was-free u p q r) (was-spent _ x y z) = absurd (omega arith)
-unique (was-free u p q r) (was-free _ _ _ _) = refl
+unique (was-spent u p q r) (was-free _ x y z h) = absurd (omega arith)
+unique (was-spent u p q r) (was-sick _ x y z h) = absurd (omega arith)
+unique (was-free u p q r h) (was-waited n) = absurd (n u)
+unique (was-free u p q r h) (was-held _ x y z) = absurd (omega arith)
+unique (was-free u p q r h) (was-damaged _ x y) = absurd (x p q)
+unique (was-free u p q r h) (was-spent _ x y z) = absurd (omega arith)
+unique (was-free u p q r h) (was-free _ _ _ _ _) = refl
+unique (was-free u p q r h) (was-sick _ _ _ _ k) = absurd (k h)
+unique (was-sick u p q r h) (was-waited n) = absurd (n u)
+unique (was-sick u p q r h) (was-held _ x y z) = absurd (omega arith)
+unique (was-sick u p q r h) (was-damaged _ x y) = absurd (x p q)
+unique (was-sick u p q r h) (was-spent _ x y z) = absurd (omega arith)
+unique (was-sick u p q r h) (was-free _ _ _ _ k) = absurd (h k)
+unique (was-sick u p q r h) (was-sick _ _ _ _ _) = refl
 
 -- ---- a quiet retry counts from where it began, and reads nothing of the protected leases
 
@@ -83,21 +91,19 @@ abbrev counted-on : ℕ → ℕ → ℕ → With Tried → With Tried
 counted-on a x y m = (triedOf (runOf (m .0 .run .flow) (a + m .0 .run .attempts) (x + m .0 .run .boundaries) (y + m .0 .run .yields)) (m .0 .outcome), m .1)
 
 -- what a retry comes to whose first try_lock comes to m
-abbrev closed : ℕ → ℕ → ℕ → ℕ → With Locked → Take → With Tried
-closed a x y c m taking.Busy = (triedOf (runOf (m .0 .flow) (a + 4096) (x + (4096 * (m .0 .boundaries + 1) + 64)) (y + 64)) outcome.Busy, m .1)
-closed a x y c m taking.Damaged = (triedOf (runOf (m .0 .flow) (a + 1) (x + m .0 .boundaries) (y + 0)) (outcomeOf c taking.Damaged), m .1)
-closed a x y c m taking.Spent = (triedOf (runOf (m .0 .flow) (a + 1) (x + m .0 .boundaries) (y + 0)) (outcomeOf c taking.Spent), m .1)
-closed a x y c m (taking.Granted s) = (triedOf (runOf (m .0 .flow) (a + 1) (x + m .0 .boundaries) (y + 0)) (outcomeOf c (taking.Granted s)), m .1)
+abbrev closed : ℕ → ℕ → ℕ → With Locked → Outcome → With Tried
+closed a x y m outcome.Busy = (triedOf (runOf (m .0 .flow) (a + 4096) (x + (4096 * (m .0 .boundaries + 1) + 64)) (y + 64)) outcome.Busy, m .1)
+closed a x y m (outcome.Refused r) = (triedOf (runOf (m .0 .flow) (a + 1) (x + m .0 .boundaries) (y + 0)) (outcome.Refused r), m .1)
+closed a x y m (outcome.Granted l) = (triedOf (runOf (m .0 .flow) (a + 1) (x + m .0 .boundaries) (y + 0)) (outcome.Granted l), m .1)
 
 same-tried : {f : Flow} {o : Outcome} {k : List ℕ × List ℕ} {a a′ x x′ y y′ : ℕ} → a ≡ a′ → x ≡ x′ → y ≡ y′
     → _≡_ {A = With Tried} (triedOf (runOf f a x y) o, k) (triedOf (runOf f a′ x′ y′) o, k)
 same-tried p q r = cc
 
-closed-on : (a x y c : ℕ) (m : With Locked) (k : Take) → closed a x y c m k ≡ counted-on a x y (closed 0 0 0 c m k)
-closed-on a x y c m taking.Busy = same-tried (omega arith) (omega arith) (omega arith)
-closed-on a x y c m taking.Damaged = same-tried (omega arith) (omega arith) (omega arith)
-closed-on a x y c m taking.Spent = same-tried (omega arith) (omega arith) (omega arith)
-closed-on a x y c m (taking.Granted s) = same-tried (omega arith) (omega arith) (omega arith)
+closed-on : (a x y : ℕ) (m : With Locked) (k : Outcome) → closed a x y m k ≡ counted-on a x y (closed 0 0 0 m k)
+closed-on a x y m outcome.Busy = same-tried (omega arith) (omega arith) (omega arith)
+closed-on a x y m (outcome.Refused r) = same-tried (omega arith) (omega arith) (omega arith)
+closed-on a x y m (outcome.Granted l) = same-tried (omega arith) (omega arith) (omega arith)
 
 sixty-four : yieldsIn 4096 0 ≡ 64
 sixty-four = omega (arith, yields-are 4096 0)
@@ -107,25 +113,26 @@ module _ (f : Flow) (t g : List ℕ) (buckets : ℕ) (registry : List ℕ) (bind
     abbrev retried : With Tried
     retried = retryOf attemptLimit 0 e buckets registry binding bucket (runOf f a x y) t g .seen
 
-    stop : {z : Found} → findOf (e .headers) buckets g registry binding bucket ≡ z → isBusy (attemptAt z e (runOf f a x y) t g .seen .0 .outcome) ≡ false
-        → retried ≡ attemptAt z e (runOf f a x y) t g .seen
+    stop : {z : Found} → findOf (e .headers) buckets g registry binding bucket ≡ z → isBusy (attemptAt z e buckets (runOf f a x y) t g .seen .0 .outcome) ≡ false
+        → retried ≡ attemptAt z e buckets (runOf f a x y) t g .seen
     stop q n =
         let k = attempt-as e buckets registry binding bucket (runOf f a x y) t g q in
         retry-stops e buckets registry binding bucket (runOf f a x y) t g 4095 0 (rw k n) ∙ k
 
-    again : (c b : ℕ) → findOf (e .headers) buckets g registry binding bucket ≡ found.At c → lockOf e f t g c .seen ≡ (lockedOf f b taking.Busy, (t, g))
+    again : (c b : ℕ) → findOf (e .headers) buckets g registry binding bucket ≡ found.At c → lockOf e buckets f t g c .seen ≡ (lockedOf f b outcome.Busy, (t, g))
         → retried ≡ (triedOf (runOf f (a + 4096) (x + (4096 * (b + 1) + 64)) (y + 64)) outcome.Busy, (t, g))
     again c b q l =
         busy-retry e f t g quiet buckets registry binding bucket b (λ a x y. attempt-as e buckets registry binding bucket (runOf f a x y) t g q ∙ rw l) 4096 0 a x y
         ∙ same-tried refl (omega (arith, sixty-four)) (omega (arith, sixty-four))
 
-    at-cell : (c : ℕ) {m : With Locked} → findOf (e .headers) buckets g registry binding bucket ≡ found.At c → Quiet-lock f t g c m → lockOf e f t g c .seen ≡ m
-        → retried ≡ closed a x y c m (m .0 .answer)
+    at-cell : (c : ℕ) {m : With Locked} → findOf (e .headers) buckets g registry binding bucket ≡ found.At c → Quiet-lock buckets f t g c m → lockOf e buckets f t g c .seen ≡ m
+        → retried ≡ closed a x y m (m .0 .answer)
     at-cell c q (was-waited n) l = again c 1 q l
     at-cell c q (was-held u p r z) l = again c 2 q l
     at-cell c q (was-damaged u p r) l = stop q (rw l) ∙ rw l (same-tried refl refl (sym (add-zero y)))
     at-cell c q (was-spent u p r z) l = stop q (rw l) ∙ rw l (same-tried refl refl (sym (add-zero y)))
-    at-cell c q (was-free u p r z) l = stop q (rw l) ∙ rw l (same-tried refl refl (sym (add-zero y)))
+    at-cell c q (was-free u p r z h) l = stop q (rw l) ∙ rw l (same-tried refl refl (sym (add-zero y)))
+    at-cell c q (was-sick u p r z h) l = stop q (rw l) ∙ rw l (same-tried refl refl (sym (add-zero y)))
 
   retry-on : (e e′ : Setting) (q : stepsIn (e .script) ≤ f .place) (q′ : stepsIn (e′ .script) ≤ f .place) (a x y : ℕ) → e .headers ≡ e′ .headers
       → retried e q a x y ≡ counted-on a x y (retried e′ q′ 0 0 0)
@@ -135,10 +142,10 @@ module _ (f : Flow) (t g : List ℕ) (buckets : ℕ) (registry : List ℕ) (bind
           → retried e q a x y ≡ counted-on a x y (retried e′ q′ 0 0 0)
       go (found.Fault r) u v = stop e q a x y u refl ∙ same-tried refl (omega arith) (omega arith) ∙ ap (counted-on a x y) (sym (stop e′ q′ 0 0 0 v refl))
       go (found.At c) u v =
-          let k = lock-quiet e f t g c q in
-          let l = unique (lock-quiet e′ f t g c q′) k in
+          let k = lock-quiet e buckets f t g c q in
+          let l = unique (lock-quiet e′ buckets f t g c q′) k in
           at-cell e q a x y c u k refl
-          ∙ closed-on a x y c (lockOf e f t g c .seen) (lockOf e f t g c .seen .0 .answer)
+          ∙ closed-on a x y (lockOf e buckets f t g c .seen) (lockOf e buckets f t g c .seen .0 .answer)
           ∙ ap (counted-on a x y) (sym (at-cell e′ q′ 0 0 0 c v k l))
 
 -- ---- giving back where nothing happens between
@@ -155,24 +162,6 @@ back-quiet (suc n) e ls f a x y u g q =
     let k : x + 1 + n ≡ x + suc n = omega arith in
     let v = setCell u (leaseAt ls n .cell) 0 0 in
     rw (boundary-quiet (protecting e (take n ls)) f v g q, back-quiet n e ls f a (x + 1) y v g q, k)
-
--- what a cell was before it was taken
-set-swap : (l : List ℕ) (i j a b : ℕ) → i ≢ j → set (set l i a) j b ≡ set (set l j b) i a
-set-swap [] i j a b n = refl
-set-swap (x ∷ xs) zero zero a b n = absurd (n refl)
-set-swap (x ∷ xs) zero (suc j) a b n = refl
-set-swap (x ∷ xs) (suc i) zero a b n = refl
-set-swap (x ∷ xs) (suc i) (suc j) a b n = ap (λ (r : List ℕ). x ∷ r) (set-swap xs i j a b (λ e. n (ap (λ (z : ℕ). suc z) e)))
-
-taken-back : (t : List ℕ) (c s : ℕ) → bitAt t c ≡ 0 → ownerAt t c ≡ 0 → setCell (setCell t c 1 s) c 0 0 ≡ t
-unfolding setCell bitAt ownerAt
-taken-back t c s b o =
-    let i = 3 * c in
-    let j = 3 * c + 1 in
-    let was : set t i 0 ≡ t = ap (λ (z : ℕ). set t i z) (sym b) ∙ set-getD t i 0 in
-    let owned : set t j 0 ≡ t = ap (λ (z : ℕ). set t j z) (sym o) ∙ set-getD t j 0 in
-    ap (λ (r : List ℕ). set r j 0) (set-swap (set t i 1) j i s 0 (omega arith) ∙ ap (λ (r : List ℕ). set r j s) (set-set t i 1 0 ∙ was))
-    ∙ set-set t j s 0 ∙ owned
 
 -- ---- all leases of keys in a row are given back
 
@@ -254,18 +243,19 @@ module _ (f : Flow) (t g : List ℕ) (buckets : ℕ) (registry : List ℕ) (bind
   unmoved : Unmoved (retried f t g buckets registry binding bucket e quiet 0 0 0)
   unmoved = go (findOf (e .headers) buckets g registry binding bucket) refl
     where
-      row : (c : ℕ) {m : With Locked} → Quiet-lock f t g c m → Unmoved (closed 0 0 0 c m (m .0 .answer))
-      row c (was-waited n) k = (refl, refl)
-      row c (was-held u p q r) k = (refl, refl)
-      row c (was-damaged u p q) k = (refl, refl)
-      row c (was-spent u p q r) k = (refl, refl)
-      row c (was-free u p q r) k = absurd k
+      row : (c : ℕ) {m : With Locked} → getD g (headerOf buckets c) 0 ≡ 0 → Quiet-lock buckets f t g c m → Unmoved (closed 0 0 0 m (m .0 .answer))
+      row c h (was-waited n) k = (refl, refl)
+      row c h (was-held u p q r) k = (refl, refl)
+      row c h (was-damaged u p q) k = (refl, refl)
+      row c h (was-spent u p q r) k = (refl, refl)
+      row c h (was-free u p q r _) k = absurd k
+      row c h (was-sick u p q r n) k = absurd (n h)
 
       go : (z : Found) → findOf (e .headers) buckets g registry binding bucket ≡ z → Unmoved (retried f t g buckets registry binding bucket e quiet 0 0 0)
       go (found.Fault r) q = subst Unmoved (sym (stop f t g buckets registry binding bucket e quiet 0 0 0 q refl)) (λ _. (refl, refl))
       go (found.At c) q =
-          let k = lock-quiet e f t g c quiet in
-          subst Unmoved (sym (at-cell f t g buckets registry binding bucket e quiet 0 0 0 c q k refl)) (row c k)
+          let k = lock-quiet e buckets f t g c quiet in
+          subst Unmoved (sym (at-cell f t g buckets registry binding bucket e quiet 0 0 0 c q k refl)) (row c (find-healthy (e .headers) buckets g registry binding bucket c q) k)
 
 module _ (e : Setting) (f : Flow) (quiet : stepsIn (e .script) ≤ f .place) (taken : List Lease) (p : ℕ) (t g grants : List ℕ) where
   abbrev rolled-back : Refusal → ℕ → ℕ → ℕ → Ended × (List ℕ × (List ℕ × List ℕ))

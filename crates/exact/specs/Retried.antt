@@ -9,9 +9,9 @@ use lib.Dec.{ltb, leb, eqb}
 use lib.ListN.{length, getD, take}
 use borrow.Author.Tests.{eqb-true, eqb-false}
 use Rattle.model.specs.Log.{Made, Event, yielded, spun}
-use Rattle.model.specs.Arena.{serialRemains, leaseOf, leasesOf, bitAt, ownerAt, waitersAt, setCell, stateAt, isFree, isLive, isIn}
+use Rattle.model.specs.Arena.{serialRemains, headerOf, isPoisoned, leaseOf, leasesOf, bitAt, ownerAt, waitersAt, setCell, stateAt, isFree, isLive, isIn}
 use Rattle.model.specs.Foreign.{Setting, protecting, stepsIn, kindAt, placeAt, numberAt, flowOf, stepTakeOf, stepReleaseOf, stepWaitersOf, stepHealthOf, stepOf, runStepsOf, boundaryOf}
-use Rattle.model.specs.Lock.{takeIn, takeOf, lateOf, afterTake, secondOf, lockOf, outcomeOf, answerOf, settled, runOf, findOf, attemptAt, attemptOf, spinOf, pauseOf, isBusy, retryOf, attemptLimit, leaseAt, giveBackOf, Locks, rollbackOf, afterKey, bindingAt, bucketAt, locksOf}
+use Rattle.model.specs.Lock.{takeIn, takeOf, lateOf, afterTake, secondOf, lockOf, answerOf, settled, runOf, findOf, attemptAt, attemptOf, spinOf, pauseOf, isBusy, retryOf, attemptLimit, leaseAt, giveBackOf, Locks, rollbackOf, afterKey, bindingAt, bucketAt, locksOf}
 use Rattle.model.specs.Checks.{countIn}
 use Rattle.model.specs.Calls.{given, starting}
 use Rattle.model.specs.Crew.{total}
@@ -35,6 +35,7 @@ use Rattle.model.specs.declared.Take.the-variants as taking
 use Rattle.model.specs.declared.Took.{Took}
 use Rattle.model.specs.declared.Tried.{Tried}
 use Rattle.choice.specs.Pick.{if-both}
+use Rattle.laws.specs.Outcomes.{Comes, granted, busy, poisoned, damaged, spent, lock-comes}
 use Rattle.history.specs.World.{World}
 use Rattle.history.specs.Items.{Says, perform}
 use Rattle.history.specs.Tests.{differ, if-cases}
@@ -99,24 +100,26 @@ take-still next t c = go (stateAt next t c)
     go (state.Held o) = (record { none = refl })
     go state.Free = if-both (λ (m : Made (Took × List ℕ)). Still m) (serialRemains next) (record { none = refl }) (record { none = refl })
 
-module _ (e : Setting) where
+module _ (e : Setting) (buckets : ℕ) where
   abbrev Quiet : Made (With Locked) → Type 0
   Quiet m = Still m
 
-  late-still : (f : Flow) (t g : List ℕ) (c s : ℕ) → Quiet (lateOf e f t g c s)
+  late-still : (f : Flow) (t g : List ℕ) (c s : ℕ) → Quiet (lateOf e buckets f t g c s)
   unfolding lateOf spins-in
   late-still f t g c s =
       let q = protecting e (leaseOf c s ∷ []) in
-      two-still (boundary-still q f t g) (if-both Quiet (eqb (waitersAt (boundaryOf q f t g .seen .1 .0) c) 0) (record { none = refl }) (record { none = refl }))
+      let m = boundaryOf q f t g .seen in
+      two-still (boundary-still q f t g) (if-both Quiet (isPoisoned (m .1 .1) (headerOf buckets c)) (record { none = refl })
+      (if-both Quiet (eqb (waitersAt (m .1 .0) c) 0) (record { none = refl }) (record { none = refl })))
 
-  after-still : (a : Take) (f : Flow) (t g : List ℕ) (c : ℕ) → Quiet (afterTake a e f t g c)
+  after-still : (a : Take) (f : Flow) (t g : List ℕ) (c : ℕ) → Quiet (afterTake a e buckets f t g c)
   unfolding spins-in
   after-still (taking.Granted s) f t g c = late-still f t g c s
   after-still taking.Busy f t g c = (record { none = refl })
   after-still taking.Damaged f t g c = (record { none = refl })
   after-still taking.Spent f t g c = (record { none = refl })
 
-  second-still : (f : Flow) (t g : List ℕ) (c : ℕ) → Quiet (secondOf e f t g c)
+  second-still : (f : Flow) (t g : List ℕ) (c : ℕ) → Quiet (secondOf e buckets f t g c)
   unfolding secondOf
   second-still f t g c =
       let m = boundaryOf e f t g .seen in
@@ -124,7 +127,7 @@ module _ (e : Setting) where
       two-still (boundary-still e f t g) (two-still (take-still (m .0 .next) (m .1 .0) c)
       (after-still (k .0 .answer) (flowOf (k .0 .next) (m .0 .place) (m .0 .dropped)) (k .1) (m .1 .1) c))
 
-  lock-still : (f : Flow) (t g : List ℕ) (c : ℕ) → Quiet (lockOf e f t g c)
+  lock-still : (f : Flow) (t g : List ℕ) (c : ℕ) → Quiet (lockOf e buckets f t g c)
   unfolding lockOf spins-in
   lock-still f t g c =
       let m = boundaryOf e f t g .seen in
@@ -142,11 +145,12 @@ abbrev FaultElse : Found → Type 0
 FaultElse (found.Fault r) = r ≡ SerializationFailure → ⊥
 FaultElse (found.At c) = Unit {0}
 
-take-else : (c : ℕ) (x : Take) → Else (outcomeOf c x)
-take-else c (taking.Granted s) = tt
-take-else c taking.Busy = tt
-take-else c taking.Damaged = λ e. let z : _≡_ {A = ℕ} 0 1 = cc in omega arith
-take-else c taking.Spent = λ e. let z : _≡_ {A = ℕ} 0 1 = cc in omega arith
+lock-else : {buckets c : ℕ} {g : List ℕ} {o : Outcome} → Comes buckets c g o → Else o
+lock-else (granted s h) = tt
+lock-else busy = tt
+lock-else (poisoned h) = λ e. let z : _≡_ {A = ℕ} 0 1 = cc in omega arith
+lock-else damaged = λ e. let z : _≡_ {A = ℕ} 0 1 = cc in omega arith
+lock-else spent = λ e. let z : _≡_ {A = ℕ} 0 1 = cc in omega arith
 
 pub record One (r : Run) (m : Made (With Tried)) : Type 0 where
   pub no-spin : spins-in (m .log) ≡ 0
@@ -166,18 +170,18 @@ module _ (e : Setting) (buckets : ℕ) (registry : List ℕ) (binding bucket : �
       let header = getD registry binding 0 in
       let k = go (findOf (e .headers) buckets g registry binding bucket)
       (if-both FaultElse (leb (e .headers) header) (λ e. let z : _≡_ {A = ℕ} 0 1 = cc in omega arith)
-      (if-both FaultElse (not (eqb (getD g header 0) 0)) (λ e. let z : _≡_ {A = ℕ} 0 1 = cc in omega arith)
+      (if-both FaultElse (isPoisoned g header) (λ e. let z : _≡_ {A = ℕ} 0 1 = cc in omega arith)
       (if-both FaultElse (leb buckets bucket) (λ e. let z : _≡_ {A = ℕ} 0 1 = cc in omega arith) tt))) in
       record { no-spin = omega (arith, k .no-spin); one-attempt = k .one-attempt; no-yield = k .no-yield; other = k .other }
     where
-      go : (x : Found) → FaultElse x → One r (attemptAt x e r t g)
+      go : (x : Found) → FaultElse x → One r (attemptAt x e buckets r t g)
       go (found.Fault x) h = record { no-spin = refl; one-attempt = refl; no-yield = refl; other = h }
       go (found.At c) h =
           record {
-            no-spin = two-still (lock-still e (r .flow) t g c) (record { none = refl }) .none;
+            no-spin = two-still (lock-still e buckets (r .flow) t g c) (record { none = refl }) .none;
             one-attempt = refl;
             no-yield = refl;
-            other = take-else c (lockOf e (r .flow) t g c .seen .0 .answer);
+            other = lock-else (lock-comes e buckets c (r .flow) t g);
           }
 
 spin-run : (e : Setting) (r : Run) (t g : List ℕ) → (spinOf e r t g .seen .0 .attempts ≡ r .attempts) × (spinOf e r t g .seen .0 .yields ≡ r .yields)

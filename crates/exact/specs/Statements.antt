@@ -1,6 +1,6 @@
 -- When a call must do what, as statements: `try_acquire`, a lone foreign step, and every lock whose script is at its end, by an exactly-if or by
 -- a table that gives answer, counts, place and world in each case. `Script` and `Attempts` have the statements for any script, `Theorems` the
--- proofs by name. What stands in quotes is of document 01. A statement is one of any build, any function that answers calls; `Theorems` proves it
+-- proofs by name. What stands in quotes is of document 01 or 02. A statement is one of any build, any function that answers calls; `Theorems` proves it
 -- of ours. The arena need not be sound: its shape fits, or the call passes its checks, and that is all.
 use Prim.Native.Nat.{ℕ, _<_, _≤_, suc, _+_, zero, _*_, _-_}
 use mathlib.Core.Path.{_≡_}
@@ -9,7 +9,7 @@ use mathlib.Core.Bool.{false}
 use mathlib.Core.Logic.{_↔_}
 use lib.ListN.{getD}
 use Rattle.model.specs.Log.{Event, Made, took, by-caller, by-script, attempt-begun, released, waiters-set, health-set, yielded, spun, boundary-run, step-dropped}
-use Rattle.model.specs.Arena.{bitAt, waitersAt, lastSerial, isIn, leaseOf, spentTo, ownerAt, wordsOf}
+use Rattle.model.specs.Arena.{bitAt, headerOf, waitersAt, lastSerial, isIn, leaseOf, spentTo, ownerAt, wordsOf}
 use Rattle.model.specs.Foreign.{stepsIn}
 use Rattle.model.specs.Lock.{bindingAt, bucketAt}
 use Rattle.model.specs.Checks.{countIn}
@@ -19,7 +19,7 @@ use Rattle.model.specs.declared.Answer.the-variants.{Busy, Refused, Granted, Al
 use Rattle.model.specs.declared.Lease.{Lease}
 use Rattle.model.specs.declared.Refusal.{Refusal}
 use Rattle.model.specs.declared.Refusal.the-variants.{BadHeader, Damaged, InvalidBucket, SerializationFailure, SerialsSpent, Poisoned}
-use Rattle.history.specs.World.{World, Legal, cells, now, step, worldOf}
+use Rattle.history.specs.World.{World, Healthy, Legal, cells, now, step, worldOf}
 use Rattle.history.specs.Items.{Build, Says, Stepper, Call, acquire-bucket, acquire-locks, says, transactional, try-lock, keyCell, cellOf, try-acquire, Clear, rules}
 use Rattle.history.specs.Statements.{answer-in}
 use Rattle.history.specs.Callers.{Shape-fits}
@@ -141,7 +141,21 @@ pub data Quietly (w : World) (place : ℕ) (waiting holding : Says) (c : ℕ) : 
   at-free : Unwaited w c → Is-free w c → w .head .next < lastSerial
       → Quietly w place waiting holding c (step w (took by-caller c (w .head .next)), says (Granted (leaseOf c (w .head .next))) (countsOf 1 3 0 0) place [])
 
--- ---- the table of a key: the header that the registry gives, its health, the bucket; then the cell's table
+-- ---- the table of a call by cell: document 02, L3, "A call by cell reads the health of its cell's header there", which
+-- is after the third boundary. A cell that would be granted is then 7 if its header is poisoned: the table is as before,
+-- and the serial "stays spent". Else it is the cell's table
+
+-- a lock must lock here
+abbrev pub Ready : World → ℕ → Type 0
+Ready w c = Unwaited w c × Is-free w c × (w .head .next < lastSerial)
+
+pub data By-cell (w : World) (c place : ℕ) (Row : World × Says → Type 0) : World × Says → Type 0 where
+  sick-cell : Ready w c → (Healthy w c → ⊥)
+      → By-cell w c place Row (worldOf (spentTo (w .head) (w .head .next + 1)) (w .table) (w .health), says (Refused (Poisoned (headerOf (w .head .buckets) c))) (countsOf 1 3 0 0) place [])
+  sound-cell : {x : World × Says} → (Ready w c → Healthy w c) → Row x → By-cell w c place Row x
+
+-- ---- the table of a key: the header that the registry gives, its health, the bucket; then the cell's table. The header
+-- is healthy at the first reading then, and nothing happens before the second
 
 pub data By-key (w : World) (registry : List ℕ) (binding bucket place : ℕ) (Row : ℕ → World × Says → Type 0) : World × Says → Type 0 where
   bad-header : w .head .headers ≤ getD registry binding 0
@@ -166,7 +180,7 @@ Try-lock-quiet f =
     (w : World) (script : List ℕ) (place : ℕ) (held : List ℕ) (c : ℕ)
     → let k = try-lock script place held c in
     Passes w k → stepsIn script ≤ place
-    → Quietly w place (busy-after place 1) (busy-after place 2) c (f w k .seen)
+    → By-cell w c place (Quietly w place (busy-after place 1) (busy-after place 2) c) (f w k .seen)
 
 abbrev pub Transactional-quiet : Build → Type 0
 Transactional-quiet f =
@@ -185,27 +199,26 @@ Acquire-bucket-quiet f =
 
 -- ---- exactly-ifs, read off the tables
 
--- a lock must lock here
-abbrev pub Ready : World → ℕ → Type 0
-Ready w c = Unwaited w c × Is-free w c × (w .head .next < lastSerial)
-
 -- the key names a cell of a healthy header
 abbrev pub Names : World → List ℕ → ℕ → ℕ → Type 0
 Names w registry binding bucket =
     (getD registry binding 0 < w .head .headers) × (getD (w .health) (getD registry binding 0) 0 ≡ 0) × (bucket < w .head .buckets)
 
--- what an answer is, by the state of the cell
-pub record Locks-exactly (w : World) (c : ℕ) (busy : Answer) (a : Answer) : Type 0 where
-  pub granted : (l : Lease) → (a ≡ Granted l) ↔ (Ready w c × (l ≡ leaseOf c (w .head .next)))
+-- what an answer is, by the state of the cell; `Must` is what a grant asks
+pub record Locks-exactly (w : World) (c : ℕ) (Must : Type 0) (busy : Answer) (a : Answer) : Type 0 where
+  pub granted : (l : Lease) → (a ≡ Granted l) ↔ (Must × (l ≡ leaseOf c (w .head .next)))
   pub not-now : (a ≡ busy) ↔ (Unwaited w c → Is-held w c)
   pub damaged : (a ≡ Refused (Damaged c)) ↔ (Unwaited w c × Is-damaged w c)
   pub spent : (a ≡ Refused (SerialsSpent c)) ↔ (Unwaited w c × Is-free w c × (lastSerial ≤ w .head .next))
 
+-- granted exactly if the cell is ready and its header healthy; 7 exactly if it is ready and its header poisoned
 abbrev pub Try-lock-exactly : Build → Type 0
 Try-lock-exactly f =
     (w : World) (script : List ℕ) (place : ℕ) (held : List ℕ) (c : ℕ)
     → let k = try-lock script place held c in
-    Passes w k → stepsIn script ≤ place → Locks-exactly w c Busy (answer-in (f w k))
+    Passes w k → stepsIn script ≤ place
+    → Locks-exactly w c (Ready w c × Healthy w c) Busy (answer-in (f w k))
+    × ((header : ℕ) → (answer-in (f w k) ≡ Refused (Poisoned header)) ↔ (Ready w c × (Healthy w c → ⊥) × (header ≡ headerOf (w .head .buckets) c)))
 
 -- granted exactly if the cell is ready; 11 exactly if it is waited for or held
 abbrev pub Acquire-bucket-exactly : Build → Type 0
@@ -213,7 +226,7 @@ Acquire-bucket-exactly f =
     (w : World) (registry script : List ℕ) (place : ℕ) (held : List ℕ) (binding bucket : ℕ)
     → let k = acquire-bucket registry script place held binding bucket in
     Passes w k → stepsIn script ≤ place → Names w registry binding bucket
-    → Locks-exactly w (cellOf (w .head .buckets) registry binding bucket) (Refused SerializationFailure) (answer-in (f w k))
+    → let c = cellOf (w .head .buckets) registry binding bucket in Locks-exactly w c (Ready w c) (Refused SerializationFailure) (answer-in (f w k))
 
 -- ---- multi-lock, its script at its end: keys that name different ready cells are all granted, with the next serials in key order
 

@@ -1,20 +1,22 @@
--- What answers mean: statements about the leases that answers hand over, one call at a time and over a whole history. `World`, `Items` and
--- `Statements` have the words they are made of, `Theorems` the proofs by name. What stands in quotes is of the work order or of document 01.
-use Prim.Native.Nat.{ℕ, _<_}
+-- What answers mean: statements about the leases that answers hand over, one call at a time and over a whole history.
+-- `World`, `Items` and `Statements` have the words they are made of, `Theorems` the proofs by name. What stands in quotes
+-- is of the work order, or of document 01 or 02.
+use Prim.Native.Nat.{ℕ, _+_, _<_}
 use mathlib.Core.Path.{_≡_}
-use mathlib.Core.List.{List, _∷_, _++_}
+use mathlib.Core.List.{List, [], _∷_, _++_}
 use mathlib.Core.Logic.{_⊎_}
 use lib.ListN.{length}
-use Rattle.model.specs.Log.{Actor, Event, by-caller, took, released}
+use Rattle.model.specs.Log.{Actor, Event, by-caller, attempt-begun, took, released}
 use Rattle.model.specs.Arena.{leaseOf, leasesOf}
+use Rattle.model.specs.Answers.{refusalIn}
 use Rattle.model.specs.Lock.{leaseAt}
 use Rattle.model.specs.Checks.{countIn}
-use Rattle.model.specs.declared.Answer.the-variants.{AllGranted, Busy, Refused, RefusedAt}
+use Rattle.model.specs.declared.Answer.the-variants.{Granted, AllGranted, Busy, Refused, RefusedAt}
 use Rattle.model.specs.declared.Lease.{Lease}
 use Rattle.model.specs.declared.Refusal.{Refusal}
-use Rattle.history.specs.World.{World, Live, now, Unreleased}
-use Rattle.history.specs.Items.{Call, try-acquire, drop-lease, read-permission, competing-acquire, release-then-handoff, foreign-release, drop-preserving, acquire-preserving, environment, try-lock, transactional, acquire-bucket, release-all, acquire-locks, crew, asked, keyCell, Build, Entry, events-of, history-of}
-use Rattle.history.specs.Statements.{Through, answer-in, buffer-in, Hands-over, Gives}
+use Rattle.history.specs.World.{World, Live, Healthy, now, Unreleased, number-of, attempts, takes}
+use Rattle.history.specs.Items.{Call, try-acquire, drop-lease, read-permission, competing-acquire, release-then-handoff, foreign-release, drop-preserving, acquire-preserving, environment, try-lock, transactional, acquire-bucket, release-all, acquire-locks, crew, IsCrew, asked, keyCell, Build, Entry, events-of, history-of}
+use Rattle.history.specs.Statements.{Through, answer-in, buffer-in, world-in, Hands-over, Gives, Nothing-held}
 
 -- ---- one call, whatever the arena holds
 
@@ -73,6 +75,59 @@ Locks-refused f =
     let l = leaseOf (keyCell (w .head .buckets) registry keys p) s in
     Live w l → Unreleased l (m .log)
     → ((r : Refusal) × (answer-in m ≡ Refused r)) ⊎ ((r : Refusal) × (q : ℕ) × (answer-in m ≡ RefusedAt r q))
+
+-- ---- document 02, L3: "Read it again after the third boundary, before the waiters. If poisoned, release the lease and
+-- refuse with 7; the serial stays spent."
+
+-- the calls that read health after the lock, and grant one lease
+abbrev pub Reads-again : Call → Type 0
+Reads-again (try-acquire c) = ⊥
+Reads-again (drop-lease l) = ⊥
+Reads-again (read-permission l) = ⊥
+Reads-again (competing-acquire l) = ⊥
+Reads-again (release-then-handoff l) = ⊥
+Reads-again (foreign-release held l) = ⊥
+Reads-again (drop-preserving held l) = ⊥
+Reads-again (acquire-preserving held c) = ⊥
+Reads-again (environment script place held) = ⊥
+Reads-again (try-lock script place held c) = Unit {0}
+Reads-again (transactional registry script place held binding bucket) = Unit {0}
+Reads-again (acquire-bucket registry script place held binding bucket) = Unit {0}
+Reads-again (release-all script place leases) = ⊥
+Reads-again (acquire-locks registry script place held keys grants) = ⊥
+Reads-again (crew counts cells turns) = ⊥
+
+-- a lease that such a call grants is on a header that is healthy in the health that the call leaves
+abbrev pub Granted-healthy : Build → Type 0
+Granted-healthy f = (w : World) (k : Call) (l : Lease) → Reads-again k → answer-in (f w k) ≡ Granted l → Healthy (world-in (f w k)) (l .cell)
+
+-- the point of a multi-lock's log at which a key's lease is granted: it was taken before, no attempt has begun since, and
+-- there the log ends or the next key's first attempt begins
+pub record Grant-point (l : Lease) (before after : List Event) : Type 0 where
+  pub front : List Event
+  pub tail : List Event
+  pub taken : before ≡ front ++ (took by-caller (l .cell) (l .serial) ∷ tail)
+  pub same-attempt : number-of attempts tail ≡ 0
+  pub next-key : (after ≡ []) ⊎ ((es : List Event) × (after ≡ attempt-begun ∷ es))
+
+-- each lease in multi-lock's granted buffer is on a header that is healthy at the point of its grant, and the last key's in
+-- the health that the call leaves. No more is promised of the keys before the last: a boundary of a later key may poison
+-- their headers, and the call still grants (`Examples.poisoned-behind`)
+abbrev pub Locks-healthy : Build → Type 0
+Locks-healthy f =
+    (w : World) (registry script : List ℕ) (place : ℕ) (held keys grants : List ℕ) (p : ℕ)
+    → let m = f w (acquire-locks registry script place held keys grants) in
+    let l = leaseAt (leasesOf (buffer-in m)) p in
+    answer-in m ≡ AllGranted → p < countIn keys
+    → ((before after : List Event) × (m .log ≡ before ++ after) × Grant-point l before after × Healthy (now w before) (l .cell))
+    × (p + 1 ≡ countIn keys → Healthy (world-in m) (l .cell))
+
+-- after a 7, at whichever reading, the caller holds nothing new, and every serial that was spent stays spent. A crew never
+-- answers 7
+abbrev pub Poisoned-holds-nothing : Build → Type 0
+Poisoned-holds-nothing f =
+    (w : World) (k : Call) → (IsCrew k → ⊥) → refusalIn (answer-in (f w k)) ≡ 7
+    → Nothing-held k (f w k) × (world-in (f w k) .head .next ≡ w .head .next + number-of takes (f w k .log))
 
 -- ---- a history, with what each item said
 

@@ -3,14 +3,13 @@
 use Prim.Native.Nat.{ℕ, zero, suc, _+_, _*_, _-_, _<_}
 use mathlib.Core.Path.{_≡_, refl, sym, ap, _∙_}
 use mathlib.Core.List.{List, [], _∷_, _++_}
-use mathlib.Core.Bool.{not}
 use native.Mathlib.Decide.{ℕ-discrete}
 use native.Mathlib.Omega.{arith}
-use lib.Dec.{leb, eqb}
+use lib.Dec.{leb}
 use lib.ListN.{length, getD, length-append, List·getD-append}
 use lib.Seq.{getD-append-seam}
 use Rattle.model.specs.Log.{Made}
-use Rattle.model.specs.Arena.{leaseOf, leasesOf, setCell}
+use Rattle.model.specs.Arena.{isPoisoned, leaseOf, leasesOf, setCell}
 use Rattle.model.specs.Foreign.{Setting, protecting, flowOf}
 use Rattle.model.specs.Lock.{takeOf, lockOf, outcomeOf, answerOf, settled, findOf, attemptAt, attemptOf, pauseOf, isBusy, retryOf, attemptLimit, noLease, leaseAt, rollbackOf, afterKey, bindingAt, bucketAt, locksOf}
 use Rattle.model.specs.Checks.{countIn}
@@ -29,6 +28,7 @@ use Rattle.model.specs.declared.Take.the-variants as taking
 use Rattle.model.specs.declared.Tried.{Tried}
 use Rattle.choice.specs.Pick.{if-both}
 use Rattle.laws.specs.Lists.{length-words}
+use Rattle.laws.specs.Outcomes.{Comes, granted, busy, poisoned, damaged, spent, lock-comes}
 use Rattle.history.specs.World.{World}
 use Rattle.history.specs.Items.{Call, try-acquire, drop-lease, read-permission, competing-acquire, release-then-handoff, foreign-release, drop-preserving, acquire-preserving, environment, try-lock, transactional, acquire-bucket, release-all, acquire-locks, crew, perform, asked, cellOf, keyCell}
 use Rattle.history.specs.Statements.{answers, Buffer-is, Grant-is}
@@ -48,6 +48,13 @@ take-names c taking.Busy l e = let z : _≡_ {A = ℕ} 0 1 = cc in absurd (omega
 take-names c taking.Damaged l e = let z : _≡_ {A = ℕ} 0 1 = cc in absurd (omega arith)
 take-names c taking.Spent l e = let z : _≡_ {A = ℕ} 0 1 = cc in absurd (omega arith)
 
+lock-names : {buckets c : ℕ} {g : List ℕ} {o : Outcome} → Comes buckets c g o → Names c o
+lock-names {c = c} (granted s h) l e = let y : leaseOf c s ≡ l = cc in sym (ap (λ (k : Lease). k .cell) y)
+lock-names busy l e = let z : _≡_ {A = ℕ} 0 1 = cc in absurd (omega arith)
+lock-names (poisoned h) l e = let z : _≡_ {A = ℕ} 0 1 = cc in absurd (omega arith)
+lock-names damaged l e = let z : _≡_ {A = ℕ} 0 1 = cc in absurd (omega arith)
+lock-names spent l e = let z : _≡_ {A = ℕ} 0 1 = cc in absurd (omega arith)
+
 abbrev FoundAt : ℕ → Found → Type 0
 FoundAt c (found.Fault r) = Unit {0}
 FoundAt c (found.At d) = d ≡ c
@@ -61,11 +68,11 @@ module _ (e : Setting) (buckets : ℕ) (registry : List ℕ) (binding bucket : �
   attempt-names r t g =
       let header = getD registry binding 0 in
       go (findOf (e .headers) buckets g registry binding bucket)
-      (if-both (FoundAt own) (leb (e .headers) header) tt (if-both (FoundAt own) (not (eqb (getD g header 0) 0)) tt (if-both (FoundAt own) (leb buckets bucket) tt refl)))
+      (if-both (FoundAt own) (leb (e .headers) header) tt (if-both (FoundAt own) (isPoisoned g header) tt (if-both (FoundAt own) (leb buckets bucket) tt refl)))
     where
-      go : (x : Found) → FoundAt own x → Names own (attemptAt x e r t g .seen .0 .outcome)
+      go : (x : Found) → FoundAt own x → Names own (attemptAt x e buckets r t g .seen .0 .outcome)
       go (found.Fault x) h l a = let z : _≡_ {A = ℕ} 0 1 = cc in absurd (omega arith)
-      go (found.At c) h l a = take-names c (lockOf e (r .flow) t g c .seen .0 .answer) l a ∙ h
+      go (found.At c) h l a = lock-names (lock-comes e buckets c (r .flow) t g) l a ∙ h
 
   pub retry-names : (left i : ℕ) (r : Run) (t g : List ℕ) → Names own (retryOf left i e buckets registry binding bucket r t g .seen .0 .outcome)
   unfolding retryOf
@@ -120,8 +127,9 @@ steps-names w (drop-preserving held m) l a = let z : _≡_ {A = ℕ} 0 1 = cc in
 steps-names w (acquire-preserving held c) l a = acquire-names 1 (w .head) (w .table) c l a
 steps-names w (environment script place held) l a = let z : _≡_ {A = ℕ} 0 1 = cc in absurd (omega arith)
 steps-names w (try-lock script place held c) l a =
-    let x = lockOf (acting w (try-lock script place held c)) (flowOf (w .head .next) place 0) (w .table) (w .health) c .seen .0 .answer in
-    answer-names c (outcomeOf c x) (take-names c x) l a
+    let e = acting w (try-lock script place held c) in
+    let f = flowOf (w .head .next) place 0 in
+    answer-names c (lockOf e (w .head .buckets) f (w .table) (w .health) c .seen .0 .answer) (lock-names (lock-comes e (w .head .buckets) c f (w .table) (w .health))) l a
 steps-names w (transactional registry script place held binding bucket) l a =
     let e = acting w (transactional registry script place held binding bucket) in
     answer-names _ (attemptOf e (w .head .buckets) registry binding bucket (starting (w .head) place) (w .table) (w .health) .seen .0 .outcome)

@@ -12,14 +12,13 @@ use borrow.Author.Tests.{leb-false, not-false}
 use Rattle.model.specs.Log.{Made, by-caller, attempt-begun, released, Event}
 use Rattle.model.specs.Arena.{cellsOf, shapeFits, setCell, isLive, isIn, leasesOf}
 use Rattle.model.specs.Foreign.{flowOf}
-use Rattle.model.specs.Lock.{leaseAt, noLease, outcomeOf, answerOf, settled, attemptLimit}
+use Rattle.model.specs.Lock.{leaseAt, noLease, answerOf, settled, attemptLimit}
 use Rattle.model.specs.Checks.{countIn, badShape, badHeld, badCell, notReleasable, cellRules, leaseRules, heldCellRules, heldLeaseRules, scriptRules, lockRules, bucketRules, releaseRules, locksRules}
 use Rattle.model.specs.Calls.{starting, acquireOf}
 use Rattle.model.specs.Crew.{crewRules}
 use Rattle.model.specs.declared.Head.{Head}
 use Rattle.model.specs.declared.Lease.{Lease}
 use Rattle.model.specs.declared.Outcome.{Outcome}
-use Rattle.model.specs.declared.Take.{Take}
 use Rattle.laws.specs.Shape.{shaped}
 use Rattle.history.specs.World.{World, worldOf, cells, Live, Lawful, Unreleased, now}
 use Rattle.history.specs.Items.{Call, Says, try-acquire, drop-lease, read-permission, competing-acquire, release-then-handoff, foreign-release, drop-preserving, acquire-preserving, environment, try-lock, transactional, acquire-bucket, release-all, acquire-locks, crew, perform, held-of, Clear, rules}
@@ -28,7 +27,7 @@ use Rattle.history.specs.Tests.{differ, In, in-take}
 use Rattle.history.specs.Events.{Fit, lives, good}
 use Rattle.history.specs.Logs.{Kept, nothing, event, kept-fit, kept-live, weaken, chain, ended, lawful-split, unreleased-front, keep-now}
 use Rattle.history.specs.Judged.{clear-back, reply, seen-as, steps, performed}
-use Rattle.history.specs.Steps.{Gains, followed, Gained, gained, was-busy, was-damaged, was-spent, Won, won, none-yet, no-more, boundary-kept, take-kept, lock-kept, attempt-kept, retry-kept}
+use Rattle.history.specs.Steps.{Gains, followed, Won, won, won-of, none-yet, no-more, boundary-kept, take-kept, lock-kept, attempt-kept, retry-kept}
 use Rattle.history.specs.Many.{Held, give-back-kept, locks-kept}
 use Rattle.history.specs.Crew.{crew-kept}
 
@@ -73,12 +72,6 @@ words-leases (c ∷ s ∷ ws) = omega (arith, words-leases ws)
 
 -- ---- what is handed over is live
 
-pub live-gained : {n : ℕ} {v : World} {c : ℕ} {a : Take} → Gained n v c a → (l : Lease) → Hands-over (answerOf (outcomeOf c a)) [] l → Live v l
-live-gained {v = v} (gained s x i) l e = subst (Live v) e x
-live-gained was-busy l e = absurd e
-live-gained was-damaged l e = absurd e
-live-gained was-spent l e = absurd e
-
 pub live-won : {n : ℕ} {v : World} {o : Outcome} → Won n v o → (l : Lease) → Hands-over (answerOf o) [] l → Live v l
 live-won {v = v} (won k x i) l e = subst (Live v) e x
 live-won none-yet l e = absurd e
@@ -100,7 +93,7 @@ module _ (w : World) (good : Fit w) where
   unfolding acquireOf
   acquire-kept P n c l =
       let k = take-kept (w .head) [] P (w .head .next) (w .table) (w .health) c good l in
-      record { kept = chain good (event attempt-begun tt (λ l i v x. x)) (ended (k .kept)); gain = live-gained (k .gain) }
+      record { kept = chain good (event attempt-begun tt (λ l i v x. x)) (ended (k .kept)); gain = live-won (won-of (k .gain)) }
 
   -- a release that spares what is not the lease
   release-kept : (P : Lease → Type 0) (l : Lease) → Live w l → ((k : Lease) → P k → k ≡ l → ⊥)
@@ -145,7 +138,7 @@ steps-kept w (environment script place held) g k =
 steps-kept w (try-lock script place held c) g k =
     let inside = clear-back (scriptRules (w .head) (w .table) (w .health) script place held) (badCell (w .head) c ∷ []) k .0 in
     let m = lock-kept (w .head) script (leasesOf held) (flowOf (w .head .next) place 0) (w .table) (w .health) c g (leb-false (cells w) c inside) in
-    record { kept = chain g (event attempt-begun tt (λ l i v x. x)) (m .kept); gain = live-gained (m .gain) }
+    record { kept = chain g (event attempt-begun tt (λ l i v x. x)) (m .kept); gain = live-won (won-of (m .gain)) }
 steps-kept w (transactional registry script place held binding bucket) g k =
     let m = attempt-kept (w .head) script (leasesOf held) registry binding bucket (starting (w .head) place) (w .table) (w .health) g in
     record { kept = m .kept; gain = live-won (m .gain) }
@@ -167,7 +160,7 @@ steps-kept w (crew counts lists turns) g k =
     record { kept = crew-kept (w .head) (w .table) (w .health) counts lists turns g k; gain = λ l x. absurd x }
 
 -- the first check of every call is the shape
-clear-fit : (w : World) (k : Call) → Clear (rules w k) → Fit w
+pub clear-fit : (w : World) (k : Call) → Clear (rules w k) → Fit w
 unfolding cellRules leaseRules heldCellRules heldLeaseRules scriptRules lockRules bucketRules releaseRules locksRules crewRules
 clear-fit w k c = record { shape = shaped (w .head) (length (w .table)) (not-false (shapeFits (w .head) (length (w .table))) (first-clear k c)) }
   where

@@ -7,7 +7,7 @@ use native.Mathlib.Omega.{arith}
 use lib.Dec.{ltb, leb, eqb}
 use lib.ListN.{length, take}
 use Rattle.model.specs.Log.{Made, Event, attempt-begun, yielded, released, by-caller, note, _>>_}
-use Rattle.model.specs.Arena.{serialRemains, bitAt, ownerAt, waitersAt, setCell, stateAt, isFree, isLive, isIn, leaseOf}
+use Rattle.model.specs.Arena.{serialRemains, headerOf, isPoisoned, bitAt, ownerAt, waitersAt, setCell, stateAt, isFree, isLive, isIn, leaseOf}
 use Rattle.model.specs.Foreign.{Setting, protecting, stepsIn, kindAt, placeAt, numberAt, flowOf, stepTakeOf, stepReleaseOf, stepWaitersOf, stepHealthOf, stepOf, runStepsOf, boundaryOf}
 use Rattle.model.specs.Lock.{takeIn, takeOf, afterTake, lateOf, secondOf, lockOf, runOf, findOf, attemptAt, attemptOf, spinOf, pauseOf, isBusy, retryOf, leaseAt, giveBackOf, rollbackOf, afterKey, bindingAt, bucketAt, attemptLimit, Locks, locksOf}
 use Rattle.model.specs.Calls.{countsOf}
@@ -111,34 +111,35 @@ module _ (a b y : ℕ) where
   abbrev Locking : ℕ → ℕ → Made (Locked × (List ℕ × List ℕ)) → Type 0
   Locking done d m = Counted (countsOf a (b + done) y d) (countsOf a (b + m .seen .0 .boundaries) y (m .seen .0 .flow .dropped)) (m .log)
 
-  late-counted : (e : Setting) (f : Flow) (t g : List ℕ) (c s : ℕ) → Locking 2 (f .dropped) (lateOf e f t g c s)
+  late-counted : (e : Setting) (buckets : ℕ) (f : Flow) (t g : List ℕ) (c s : ℕ) → Locking 2 (f .dropped) (lateOf e buckets f t g c s)
   unfolding lateOf number-of
-  late-counted e f t g c s =
+  late-counted e buckets f t g c s =
       let m = boundaryOf (protecting e (leaseOf c s ∷ [])) f t g .seen in
       then-counted (boundary-counted (protecting e (leaseOf c s ∷ [])) f t g a (b + 2) (b + 3) y (omega arith))
-      (if-both (Locking 3 (m .0 .dropped)) (eqb (waitersAt (m .1 .0) c) 0) (omega arith) (omega arith))
+      (if-both (Locking 3 (m .0 .dropped)) (isPoisoned (m .1 .1) (headerOf buckets c)) (omega arith)
+      (if-both (Locking 3 (m .0 .dropped)) (eqb (waitersAt (m .1 .0) c) 0) (omega arith) (omega arith)))
 
-  second-counted : (e : Setting) (f : Flow) (t g : List ℕ) (c : ℕ) → Locking 1 (f .dropped) (secondOf e f t g c)
+  second-counted : (e : Setting) (buckets : ℕ) (f : Flow) (t g : List ℕ) (c : ℕ) → Locking 1 (f .dropped) (secondOf e buckets f t g c)
   unfolding secondOf
-  second-counted e f t g c =
+  second-counted e buckets f t g c =
       let m = boundaryOf e f t g .seen in
       let k = takeOf (m .0 .next) (m .1 .0) c .seen in
       then-counted (boundary-counted e f t g a (b + 1) (b + 2) y (omega arith))
       (then-counted (take-counted (countsOf a (b + 2) y (m .0 .dropped)) (m .0 .next) (m .1 .0) c)
       (go (flowOf (k .0 .next) (m .0 .place) (m .0 .dropped)) (k .1) (m .1 .1) (k .0 .answer)))
     where
-      go : (v : Flow) (t g : List ℕ) (x : Take) → Locking 2 (v .dropped) (afterTake x e v t g c)
-      go v t g (taking.Granted s) = late-counted e v t g c s
+      go : (v : Flow) (t g : List ℕ) (x : Take) → Locking 2 (v .dropped) (afterTake x e buckets v t g c)
+      go v t g (taking.Granted s) = late-counted e buckets v t g c s
       go v t g taking.Busy = none-counted (countsOf a (b + 2) y (v .dropped))
       go v t g taking.Damaged = none-counted (countsOf a (b + 2) y (v .dropped))
       go v t g taking.Spent = none-counted (countsOf a (b + 2) y (v .dropped))
 
-  pub lock-counted : (e : Setting) (f : Flow) (t g : List ℕ) (c : ℕ) → Locking 0 (f .dropped) (lockOf e f t g c)
+  pub lock-counted : (e : Setting) (buckets : ℕ) (f : Flow) (t g : List ℕ) (c : ℕ) → Locking 0 (f .dropped) (lockOf e buckets f t g c)
   unfolding lockOf
-  lock-counted e f t g c =
+  lock-counted e buckets f t g c =
       let m = boundaryOf e f t g .seen in
       then-counted (boundary-counted e f t g a (b + 0) (b + 1) y (omega arith))
-      (if-both (Locking 1 (m .0 .dropped)) (eqb (waitersAt (m .1 .0) c) 0) (second-counted e (m .0) (m .1 .0) (m .1 .1) c)
+      (if-both (Locking 1 (m .0 .dropped)) (eqb (waitersAt (m .1 .0) c) 0) (second-counted e buckets (m .0) (m .1 .0) (m .1 .1) c)
       (none-counted (countsOf a (b + 1) y (m .0 .dropped))))
 
 -- ---- attempts by key
@@ -159,11 +160,11 @@ module _ (e : Setting) where
       begun : Counts
       begun = countsOf (r .attempts + 1) (r .boundaries + 0) (r .yields) (r .flow .dropped)
 
-      go : (x : Found) → Tries r (note attempt-begun >> attemptAt x e r t g)
+      go : (x : Found) → Tries r (note attempt-begun >> attemptAt x e buckets r t g)
       go (found.Fault x) = omega arith
       go (found.At c) =
           then-counted {q = countsOf (r .attempts + 1) (r .boundaries + 0) (r .yields) (r .flow .dropped)} {xs = attempt-begun ∷ []} (omega arith)
-          (then-counted (lock-counted (r .attempts + 1) (r .boundaries) (r .yields) e (r .flow) t g c) (none-counted _))
+          (then-counted (lock-counted (r .attempts + 1) (r .boundaries) (r .yields) e buckets (r .flow) t g c) (none-counted _))
 
   spin-counted : (r : Run) (t g : List ℕ) → Runs r (spinOf e r t g)
   unfolding spinOf number-of

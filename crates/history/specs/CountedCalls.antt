@@ -47,7 +47,7 @@ steps-counted w (acquire-preserving held c) _ = acquire-counted 0 1 (w .head) (w
 steps-counted w (environment script place held) _ =
     boundary-counted (acting w (environment script place held)) (flowOf (w .head .next) place 0) (w .table) (w .health) 0 0 1 0 refl
 steps-counted w (try-lock script place held c) _ =
-    let k = lock-counted 1 0 0 (acting w (try-lock script place held c)) (flowOf (w .head .next) place 0) (w .table) (w .health) c in
+    let k = lock-counted 1 0 0 (acting w (try-lock script place held c)) (w .head .buckets) (flowOf (w .head .next) place 0) (w .table) (w .health) c in
     omega arith
 steps-counted w (transactional registry script place held binding bucket) _ =
     let k = transactional registry script place held binding bucket in

@@ -1,8 +1,7 @@
 -- The crew: whatever the turns, each lease that a member noted and has not released is live, and no two of them are the same.
-use Prim.Native.Nat.{ℕ, zero, suc, _+_, _*_, _-_, _/_, _≤_, _<_}
+use Prim.Native.Nat.{ℕ, zero, suc, _+_, _*_, _-_, _≤_, _<_}
 use mathlib.Core.Path.{_≡_, refl, sym, ap, _∙_, subst}
 use mathlib.Core.List.{List, [], _∷_, _++_}
-use mathlib.Core.Bool.{not}
 use native.Mathlib.Decide.{ℕ-discrete, decLt}
 use native.Mathlib.Omega.{arith}
 use lib.Dec.{ltb, leb, eqb}
@@ -10,7 +9,7 @@ use lib.ListN.{length, getD, set, replicate, length-set, length-replicate, List�
 use lib.Seq.{getD-set-same, getD-set-other}
 use borrow.Author.Tests.{ltb-true, ltb-false, leb-false}
 use Rattle.model.specs.Log.{Made, Event, by-caller, attempt-begun, boundary-run, released}
-use Rattle.model.specs.Arena.{cellsOf, leaseOf, setCell, waitersAt, isIn}
+use Rattle.model.specs.Arena.{cellsOf, headerOf, isPoisoned, leaseOf, setCell, waitersAt, isIn}
 use Rattle.model.specs.Foreign.{flowOf, runStepsOf, boundaryOf}
 use Rattle.model.specs.Lock.{takeOf, lateOf, afterTake, secondOf, lockOf}
 use Rattle.model.specs.Calls.{given}
@@ -18,6 +17,7 @@ use Rattle.model.specs.Crew.{total, startOf, countOf, badLimits, badLists, badT
 use Rattle.model.specs.declared.Head.{Head}
 use Rattle.model.specs.declared.Lease.{Lease}
 use Rattle.model.specs.declared.Locked.{Locked}
+use Rattle.model.specs.declared.Outcome.{Outcome}
 use Rattle.model.specs.declared.Take.{Take}
 use Rattle.model.specs.declared.Take.the-variants as taking
 use Rattle.choice.specs.Pick.{if-both}
@@ -29,7 +29,7 @@ use Rattle.history.specs.Tests.{differ, In, in-first, if-cases}
 use Rattle.history.specs.Events.{Fit, lives}
 use Rattle.history.specs.Logs.{Kept, nothing, event, kept-fit, kept-live, weaken, ended}
 use Rattle.history.specs.Judged.{clear-front, clear-fine}
-use Rattle.history.specs.Steps.{worldAt, Gains, followed, With, Gained, gained, was-busy, was-damaged, was-spent, lock-kept}
+use Rattle.history.specs.Steps.{worldAt, Gains, followed, With, Gained, gained, was-busy, was-refused, lock-kept}
 
 -- ---- the places of the lists
 
@@ -111,42 +111,44 @@ data Noted (counts cells made serials : List ℕ) (m x i j : ℕ) : Type 0 where
 
 module _ (h : Head) (n : ℕ) (t g : List ℕ) (c : ℕ) where
   -- what is protected makes no difference
-  late-same : (ps : List Lease) (k d : ℕ) (u : List ℕ) (s : ℕ) → lateOf (given h [] ps) (flowOf k 0 d) u g c s ≡ lateOf (given h [] []) (flowOf k 0 d) u g c s
+  late-same : (ps : List Lease) (k d : ℕ) (u : List ℕ) (s : ℕ) → lateOf (given h [] ps) (h .buckets) (flowOf k 0 d) u g c s ≡ lateOf (given h [] []) (h .buckets) (flowOf k 0 d) u g c s
   unfolding lateOf boundaryOf runStepsOf
   late-same ps k d u s = refl
 
-  after-same : (ps : List Lease) (a : Take) (k d : ℕ) (u : List ℕ) → afterTake a (given h [] ps) (flowOf k 0 d) u g c ≡ afterTake a (given h [] []) (flowOf k 0 d) u g c
+  after-same : (ps : List Lease) (a : Take) (k d : ℕ) (u : List ℕ) → afterTake a (given h [] ps) (h .buckets) (flowOf k 0 d) u g c ≡ afterTake a (given h [] []) (h .buckets) (flowOf k 0 d) u g c
   after-same ps (taking.Granted s) k d u = late-same ps k d u s
   after-same ps taking.Busy k d u = refl
   after-same ps taking.Damaged k d u = refl
   after-same ps taking.Spent k d u = refl
 
-  second-same : (ps : List Lease) → secondOf (given h [] ps) (flowOf n 0 0) t g c ≡ secondOf (given h [] []) (flowOf n 0 0) t g c
+  second-same : (ps : List Lease) → secondOf (given h [] ps) (h .buckets) (flowOf n 0 0) t g c ≡ secondOf (given h [] []) (h .buckets) (flowOf n 0 0) t g c
   unfolding secondOf boundaryOf runStepsOf
   second-same ps =
       let k = takeOf n t c in
       ap (λ (m : Made (With Locked)). record { seen = m .seen; log = (boundary-run ∷ []) ++ (k .log ++ m .log) })
       (after-same ps (k .seen .0 .answer) (k .seen .0 .next) 0 (k .seen .1))
 
-  lock-same : (ps : List Lease) → lockOf (given h [] ps) (flowOf n 0 0) t g c ≡ lockOf (given h [] []) (flowOf n 0 0) t g c
+  lock-same : (ps : List Lease) → lockOf (given h [] ps) (h .buckets) (flowOf n 0 0) t g c ≡ lockOf (given h [] []) (h .buckets) (flowOf n 0 0) t g c
   unfolding lockOf boundaryOf runStepsOf
   lock-same ps = rw (second-same ps)
 
-  same-health : lockOf (given h [] []) (flowOf n 0 0) t g c .seen .1 .1 ≡ g
+  same-health : lockOf (given h [] []) (h .buckets) (flowOf n 0 0) t g c .seen .1 .1 ≡ g
   unfolding lockOf secondOf lateOf boundaryOf runStepsOf
   same-health = if-both (λ (m : Made (With Locked)). m .seen .1 .1 ≡ g) (eqb (waitersAt t c) 0) (go (takeOf n t c .seen .0 .answer)) refl
     where
-      go : (a : Take) → afterTake a (given h [] []) (flowOf (takeOf n t c .seen .0 .next) 0 0) (takeOf n t c .seen .1) g c .seen .1 .1 ≡ g
-      go (taking.Granted s) = if-both (λ (m : Made (With Locked)). m .seen .1 .1 ≡ g) (eqb (waitersAt (takeOf n t c .seen .1) c) 0) refl refl
+      go : (a : Take) → afterTake a (given h [] []) (h .buckets) (flowOf (takeOf n t c .seen .0 .next) 0 0) (takeOf n t c .seen .1) g c .seen .1 .1 ≡ g
+      go (taking.Granted s) =
+          if-both (λ (m : Made (With Locked)). m .seen .1 .1 ≡ g) (isPoisoned g (headerOf (h .buckets) c)) refl
+          (if-both (λ (m : Made (With Locked)). m .seen .1 .1 ≡ g) (eqb (waitersAt (takeOf n t c .seen .1) c) 0) refl refl)
       go taking.Busy = refl
       go taking.Damaged = refl
       go taking.Spent = refl
 
   quiet-lock : Fit (worldAt h n t g) → c < cellsOf h
       → Gains (λ a. worldAt h (a .0 .flow .next) (a .1 .0) g) (λ a. Gained n (worldAt h (a .0 .flow .next) (a .1 .0) g) c (a .0 .answer)) (worldAt h n t g)
-      (λ _. Unit {0}) (lockOf (given h [] []) (flowOf n 0 0) t g c)
+      (λ _. Unit {0}) (lockOf (given h [] []) (h .buckets) (flowOf n 0 0) t g c)
   quiet-lock good l =
-      let m = lockOf (given h [] []) (flowOf n 0 0) t g c .seen in
+      let m = lockOf (given h [] []) (h .buckets) (flowOf n 0 0) t g c .seen in
       let k = lock-kept h [] [] (flowOf n 0 0) t g c good l in
       record {
         kept = record {
@@ -268,14 +270,13 @@ module _ (h : Head) (counts cells : List ℕ) (lim : Limits h counts cells) wher
     abbrev Turning : Crew → Made Crew → Type 0
     Turning w = Gains of-crew Steady (of-crew w) (In [])
 
-    after-try : (w : Crew) (m : ℕ) (next : ℕ) (u : List ℕ) (es : List Event) (a : Take) → Steady w → getD (w .made) m 0 < countOf counts m
+    after-try : (w : Crew) (m : ℕ) (next : ℕ) (u : List ℕ) (es : List Event) (a : Outcome) → Steady w → getD (w .made) m 0 < countOf counts m
         → Gained (w .next) (worldAt h next u g) (getD cells (startOf counts m + getD (w .made) m 0) 0) a → Kept (of-crew w) (λ _. Unit {0}) (worldAt h next u g) es
         → Turning w (record { seen = afterTry a next u w m (startOf counts m + getD (w .made) m 0); log = es })
     after-try w m next u es a s l (gained x v y) k =
         record { kept = weaken (λ _ _ _. tt) k; gain = taken-safe (of-crew w) (worldAt h next u g) es (w .made) (w .serials) m s x k l v y }
     after-try w m next u es a s l was-busy k = record { kept = weaken (λ _ _ _. tt) k; gain = still-safe k s }
-    after-try w m next u es a s l was-damaged k = record { kept = weaken (λ _ _ _. tt) k; gain = still-safe k s }
-    after-try w m next u es a s l was-spent k = record { kept = weaken (λ _ _ _. tt) k; gain = still-safe k s }
+    after-try w m next u es a s l (was-refused r) k = record { kept = weaken (λ _ _ _. tt) k; gain = still-safe k s }
 
     try-turn : (w : Crew) (m : ℕ) → Steady w → getD (w .made) m 0 < countOf counts m
         → let p = startOf counts m + getD (w .made) m 0 in Turning w (tryTurnOf (h .headers) (h .buckets) g w m p (getD cells p 0))
@@ -284,8 +285,8 @@ module _ (h : Head) (counts cells : List ℕ) (lim : Limits h counts cells) wher
         let p = startOf counts m + getD (w .made) m 0 in
         let c = getD cells p 0 in
         let k = quiet-lock h (w .next) (w .table) g c (s .good) (lim .inside m (getD (w .made) m 0) l) in
-        let o = lockOf (given h [] []) (flowOf (w .next) 0 0) (w .table) g c .seen in
-        if-both (Turning w) (not (eqb (getD g (c / h .buckets) 0) 0)) (record { kept = nothing; gain = s })
+        let o = lockOf (given h [] []) (h .buckets) (flowOf (w .next) 0 0) (w .table) g c .seen in
+        if-both (Turning w) (isPoisoned g (headerOf (h .buckets) c)) (record { kept = nothing; gain = s })
         (followed (s .good) (event attempt-begun tt (λ l i v x. x)) (after-try w m (o .0 .flow .next) (o .1 .0) _ (o .0 .answer) s l (k .gain) (ended (k .kept))))
 
     release-turn : (w : Crew) (m : ℕ) (z : ℕ) → Steady w → countOf counts m ≤ getD (w .made) m 0 → z + getD (w .made) m 0 + 1 ≡ 2 * countOf counts m

@@ -1,29 +1,30 @@
 -- Examples that meet the premises of each theorem, so that none speaks of nothing. By computation, on document 01's bench arena: H 2, B 4,
 -- registry 0, 1, 1, first serial 1.
-use Prim.Native.Nat.{ℕ, suc, zero, _≤_, _<_}
+use Prim.Native.Nat.{ℕ, suc, zero, _+_, _≤_, _<_}
 use mathlib.Core.Path.{_≡_, refl, sym, ap, _∙_, subst}
 use mathlib.Core.List.{List, [], _∷_, _++_}
 use mathlib.Core.Bool.{true}
 use mathlib.Core.Logic.{inl, inr}
 use native.Mathlib.Omega.{arith}
 use lib.ListN.{replicate}
-use Rattle.model.specs.Log.{Made, Event, by-caller, by-script, attempt-begun, boundary-run, took, released, waiters-set, Actor, step-dropped}
+use Rattle.model.specs.Log.{Made, Event, by-caller, by-script, attempt-begun, boundary-run, took, released, waiters-set, health-set, Actor, step-dropped}
 use Rattle.model.specs.Arena.{headOf, leaseOf, bitAt, ownerAt, waitersAt, setCell, setWaiters, isFree, isHeld, stateOf, stateAt, isLive, leasesOf, wordsOf, sameLease, isIn, headFits, shapeFits, healthFits, registryFits}
 use Rattle.model.specs.Refusals.{first}
+use Rattle.model.specs.Answers.{refusalIn}
 use Rattle.model.specs.Foreign.{stepTakeOf, stepReleaseOf, stepWaitersOf, stepHealthOf, stepOf, runStepsOf, boundaryOf}
-use Rattle.model.specs.Lock.{takeOf, lateOf, secondOf, lockOf, findOf, attemptOf, spinOf, pauseOf, retryOf, giveBackOf, rollbackOf, locksOf}
+use Rattle.model.specs.Lock.{takeOf, lateOf, secondOf, lockOf, findOf, attemptOf, spinOf, pauseOf, retryOf, giveBackOf, rollbackOf, leaseAt, locksOf}
 use Rattle.model.specs.Checks.{notLive, badBindings, notReleasable, prepareRules, cellRules, leaseRules, scriptRules, lockRules, bucketRules, releaseRules, locksRules}
 use Rattle.model.specs.Calls.{prepareOf, acquireOf, tryAcquireOf, dropLeaseOf, tryLockOf, acquireBucketOf, releaseAllOf, acquireLocksOf, environmentOf, countsOf}
 use Rattle.model.specs.Crew.{total, startOf, allWithin, risesFrom, badLists, badTurns, crewRules, crewOf}
 use Rattle.model.specs.declared.Answer.the-variants.{Done, Granted, AllGranted, Busy, Refused, RefusedAt}
 use Rattle.model.specs.declared.CrewReply.{CrewReply}
 use Rattle.model.specs.declared.Lease.{Lease}
-use Rattle.model.specs.declared.Refusal.the-variants.{InvalidBucket, NotHeld, BadCrew, Damaged, BadShape}
-use Rattle.history.specs.World.{World, worldOf, Live, now, Sound, Spent, Unreleased}
+use Rattle.model.specs.declared.Refusal.the-variants.{Poisoned, InvalidBucket, NotHeld, BadCrew, Damaged, BadShape}
+use Rattle.history.specs.World.{World, worldOf, Live, Healthy, now, Sound, Spent, Unreleased, number-of, takes}
 use Rattle.history.specs.Items.{Call, Says, acquire-bucket, try-lock, drop-lease, release-all, acquire-locks, environment, try-acquire, perform, foreign, Item, call, foreign-step, preparation, Course, courseOf, cold, next-item, run, preparing, held-of, Entry, noted, preparation-over, entryOf, events-of, saying, says}
 use Rattle.history.specs.Statements.{Ledger, answers, leaves, log-of, Hands-over, Rolled-back, buffer-in, Fails}
 use Rattle.history.specs.Callers.{singles}
-use Rattle.history.specs.Theorems.{demand-2, forgets, nothing-kept, held-live, changes-nothing, crew-refused, named, take-is-call, nothing-new, rollback-is, two-writers}
+use Rattle.history.specs.Theorems.{demand-2, forgets, nothing-kept, held-live, changes-nothing, crew-refused, named, take-is-call, nothing-new, rollback-is, two-writers, granted-healthy, locks-healthy, poisoned-holds-nothing}
 use Rattle.history.specs.Tests.{differ}
 use Rattle.history.specs.Events.{lives}
 
@@ -289,6 +290,72 @@ cold-rolled-back = nothing-new damaged cold-keys (λ z. z) (subst Fails (sym col
 -- one lease of one key was rolled back
 pub cold-leases : Rolled-back 4 registry (0 ∷ 0 ∷ 0 ∷ 1 ∷ []) 1 (log-of damaged cold-keys)
 cold-leases = rollback-is damaged registry [] 0 [] (0 ∷ 0 ∷ 0 ∷ 1 ∷ []) (9 ∷ 9 ∷ 9 ∷ 9 ∷ []) (Damaged 1) 1 cold-refused
+
+-- ---- document 02, L3, health read after the lock. Cell 6 is of header 1
+
+-- header 1 is poisoned, and mended in the first boundary: in time for a call by cell
+abbrev sick : World
+sick = worldOf (headOf 2 4 1) (replicate 24 0) (0 ∷ 1 ∷ [])
+
+abbrev mended : Call
+mended = try-lock (4 ∷ 1 ∷ 0 ∷ 5 ∷ 0 ∷ 0 ∷ []) 0 [] 6
+
+mended-granted : answers sick mended ≡ Granted (leaseOf 6 1)
+unfolding run next-item preparing perform foreign bitAt ownerAt waitersAt setCell setWaiters isFree isHeld stateOf stateAt isLive leasesOf wordsOf sameLease isIn headFits shapeFits healthFits registryFits first stepTakeOf stepReleaseOf stepWaitersOf stepHealthOf stepOf runStepsOf boundaryOf takeOf lateOf secondOf lockOf findOf attemptOf spinOf pauseOf retryOf giveBackOf rollbackOf locksOf notLive badBindings notReleasable prepareRules cellRules leaseRules scriptRules lockRules bucketRules releaseRules locksRules prepareOf acquireOf tryAcquireOf dropLeaseOf environmentOf tryLockOf acquireBucketOf releaseAllOf acquireLocksOf
+mended-granted = refl
+
+-- `granted-healthy`
+pub mended-healthy : Healthy (leaves sick mended) 6
+mended-healthy = granted-healthy sick mended (leaseOf 6 1) tt mended-granted
+
+-- `poisoned-holds-nothing`: the header is poisoned in the third boundary
+abbrev gone-bad : Call
+gone-bad = try-lock (5 ∷ 0 ∷ 0 ∷ 5 ∷ 0 ∷ 0 ∷ 4 ∷ 1 ∷ 1 ∷ []) 0 [] 6
+
+abbrev bad-end : List Event
+bad-end = boundary-run ∷ health-set 1 1 ∷ released by-caller 6 1 ∷ []
+
+pub gone-bad-is : (answers prepared gone-bad ≡ Refused (Poisoned 1)) × (log-of prepared gone-bad ≡ begun ++ (took by-caller 6 1 ∷ bad-end))
+unfolding run next-item preparing perform foreign bitAt ownerAt waitersAt setCell setWaiters isFree isHeld stateOf stateAt isLive leasesOf wordsOf sameLease isIn headFits shapeFits healthFits registryFits first stepTakeOf stepReleaseOf stepWaitersOf stepHealthOf stepOf runStepsOf boundaryOf takeOf lateOf secondOf lockOf findOf attemptOf spinOf pauseOf retryOf giveBackOf rollbackOf locksOf notLive badBindings notReleasable prepareRules cellRules leaseRules scriptRules lockRules bucketRules releaseRules locksRules prepareOf acquireOf tryAcquireOf dropLeaseOf environmentOf tryLockOf acquireBucketOf releaseAllOf acquireLocksOf
+gone-bad-is = (refl, refl)
+
+-- so nothing is held, and the serial stays spent
+pub gone-bad-leaves : (Live (leaves prepared gone-bad) (leaseOf 6 1) → ⊥) × (leaves prepared gone-bad .head .next ≡ 1 + number-of takes (log-of prepared gone-bad))
+gone-bad-leaves =
+    let k = poisoned-holds-nothing prepared gone-bad (λ z. z) (ap refusalIn (gone-bad-is .0)) in
+    (k .0 .1 6 1 begun bad-end (gone-bad-is .1) .1, k .1)
+
+-- `locks-healthy`, and what it does not say. Keys (0,2) and (1,2): the first is granted while its header 0 is healthy; the
+-- second key's first boundary poisons header 0. Health is read again for the key at hand alone, so the call grants both.
+-- The last key's header is healthy in what the call leaves, the first key's is not
+abbrev behind-keys : List ℕ
+behind-keys = 0 ∷ 2 ∷ 1 ∷ 2 ∷ []
+
+abbrev behind-script : List ℕ
+behind-script = 5 ∷ 0 ∷ 0 ∷ 5 ∷ 0 ∷ 0 ∷ 5 ∷ 0 ∷ 0 ∷ 4 ∷ 0 ∷ 1 ∷ []
+
+abbrev behind : Call
+behind = acquire-locks registry behind-script 0 [] behind-keys (9 ∷ 9 ∷ 9 ∷ 9 ∷ [])
+
+pub poisoned-behind : (answers prepared behind ≡ AllGranted) × (buffer-in (perform prepared behind) ≡ 2 ∷ 1 ∷ 6 ∷ 2 ∷ [])
+    × (leaves prepared behind .health ≡ 1 ∷ 0 ∷ [])
+unfolding run next-item preparing perform foreign bitAt ownerAt waitersAt setCell setWaiters isFree isHeld stateOf stateAt isLive leasesOf wordsOf sameLease isIn headFits shapeFits healthFits registryFits first stepTakeOf stepReleaseOf stepWaitersOf stepHealthOf stepOf runStepsOf boundaryOf takeOf lateOf secondOf lockOf findOf attemptOf spinOf pauseOf retryOf giveBackOf rollbackOf locksOf notLive badBindings notReleasable prepareRules cellRules leaseRules scriptRules lockRules bucketRules releaseRules locksRules prepareOf acquireOf tryAcquireOf dropLeaseOf environmentOf tryLockOf acquireBucketOf releaseAllOf acquireLocksOf
+poisoned-behind = (refl, refl, refl)
+
+-- a key's lease at its point, and the last key's at the end
+abbrev At-key : ℕ → Lease → Type 0
+At-key p l =
+    ((before after : List Event) × (log-of prepared behind ≡ before ++ after) × Healthy (now prepared before) (l .cell))
+    × (p + 1 ≡ 2 → Healthy (leaves prepared behind) (l .cell))
+
+at-key : (p : ℕ) (l : Lease) → leaseAt (leasesOf (buffer-in (perform prepared behind))) p ≡ l → p < 2 → At-key p l
+at-key p l e i =
+    let k = locks-healthy prepared registry behind-script 0 [] behind-keys (9 ∷ 9 ∷ 9 ∷ 9 ∷ []) p (poisoned-behind .0) i in
+    subst (At-key p) e ((k .0 .0, k .0 .1, k .0 .2, k .0 .4), k .1)
+
+pub behind-healthy : At-key 0 (leaseOf 2 1) × Healthy (leaves prepared behind) 6
+unfolding leasesOf
+behind-healthy = (at-key 0 (leaseOf 2 1) (rw (poisoned-behind .1)) (omega arith), at-key 1 (leaseOf 6 2) (rw (poisoned-behind .1)) (omega arith) .1 refl)
 
 -- ---- other callers: a foreign take of cell 3, and the call that it is; a boundary with a legal take and a dropped one, and the history that it is
 

@@ -10,7 +10,7 @@ use Rattle.model.specs.Log.{Made, by-caller, attempt-begun, released, gives, no
 use Rattle.model.specs.Arena.{spentTo, setCell, leasesOf}
 use Rattle.model.specs.Refusals.{Rule, refusalOf, first, judge}
 use Rattle.model.specs.Foreign.{Setting, flowOf, boundaryOf}
-use Rattle.model.specs.Lock.{lockOf, outcomeOf, answerOf, runOf, attemptOf, attemptLimit, retryOf, settled, giveBackOf, locksOf}
+use Rattle.model.specs.Lock.{lockOf, answerOf, runOf, attemptOf, attemptLimit, retryOf, settled, giveBackOf, locksOf}
 use Rattle.model.specs.Checks.{countIn}
 use Rattle.model.specs.Calls.{countsOf, given, starting, replied, played, refused, acquireOf, tryAcquireOf, dropLeaseOf, readPermissionOf, competingAcquireOf, releaseThenHandoffOf, foreignReleaseOf, acquirePreservingOf, dropPreservingOf, environmentOf, tryLockOf, transactionalOf, acquireBucketOf, releaseAllOf, acquireLocksOf}
 use Rattle.model.specs.Crew.{crewAt, turnsOf, crewOf}
@@ -115,8 +115,8 @@ steps w (environment script place held) =
     (boundaryOf (acting w (environment script place held)) (flowOf (w .head .next) place 0) (w .table) (w .health))
 steps w (try-lock script place held c) = do
   note attempt-begun
-  seen-as (λ m. play (played (w .head) (runOf (m .0 .flow) 1 (m .0 .boundaries) 0) (answerOf (outcomeOf c (m .0 .answer))), m .1))
-      (lockOf (acting w (try-lock script place held c)) (flowOf (w .head .next) place 0) (w .table) (w .health) c)
+  seen-as (λ m. play (played (w .head) (runOf (m .0 .flow) 1 (m .0 .boundaries) 0) (answerOf (m .0 .answer)), m .1))
+      (lockOf (acting w (try-lock script place held c)) (w .head .buckets) (flowOf (w .head .next) place 0) (w .table) (w .health) c)
 steps w (transactional registry script place held binding bucket) =
     seen-as (λ m. play (played (w .head) (m .0 .run) (answerOf (m .0 .outcome)), m .1))
     (attemptOf (acting w (transactional registry script place held binding bucket)) (w .head .buckets) registry binding bucket (starting (w .head) place) (w .table) (w .health))

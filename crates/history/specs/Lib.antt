@@ -22,6 +22,7 @@ pub mod Rollback
 pub mod ByKey
 pub mod Handed
 pub mod HandedCalls
+pub mod Healthy
 pub mod Writers
 pub mod Others
 pub mod Counted

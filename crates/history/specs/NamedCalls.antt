@@ -57,7 +57,7 @@ steps-told w (acquire-preserving held c) _ = acquire-told 1 (w .head) (w .table)
 steps-told w (environment script place held) _ =
     told (boundary-told (acting w (environment script place held)) place (flowOf (w .head .next) place 0) (w .table) (w .health) _ (omega arith))
 steps-told w (try-lock script place held c) _ =
-    more tt (told (lock-told (acting w (try-lock script place held c)) place (flowOf (w .head .next) place 0) (w .table) (w .health) c _ (omega arith)))
+    more tt (told (lock-told (acting w (try-lock script place held c)) (w .head .buckets) place (flowOf (w .head .next) place 0) (w .table) (w .health) c _ (omega arith)))
 steps-told w (transactional registry script place held binding bucket) _ =
     let k = transactional registry script place held binding bucket in
     told (attempt-told (acting w k) place (w .head .buckets) registry binding bucket (starting (w .head) place) (w .table) (w .health) (Mine k) (omega arith))

@@ -9,7 +9,7 @@ use lib.Dec.{ltb, leb, eqb}
 use lib.ListN.{length, take}
 use borrow.Author.Tests.{eqb-true}
 use Rattle.model.specs.Log.{Made, Event, by-caller, by-script, attempt-begun, boundary-run, yielded, spun, step-dropped, took, released, waiters-set, health-set}
-use Rattle.model.specs.Arena.{serialRemains, bitAt, ownerAt, waitersAt, setCell, stateAt, isFree, isLive, isIn, leaseOf}
+use Rattle.model.specs.Arena.{serialRemains, headerOf, isPoisoned, bitAt, ownerAt, waitersAt, setCell, stateAt, isFree, isLive, isIn, leaseOf}
 use Rattle.model.specs.Foreign.{Setting, protecting, stepsIn, kindAt, placeAt, numberAt, flowOf, stepTakeOf, stepReleaseOf, stepWaitersOf, stepHealthOf, stepOf, runStepsOf, boundaryOf}
 use Rattle.model.specs.Lock.{takeIn, takeOf, afterTake, lateOf, secondOf, lockOf, outcomeOf, runOf, findOf, attemptAt, attemptOf, spinOf, pauseOf, isBusy, retryOf, leaseAt, giveBackOf, rollbackOf, afterKey, bindingAt, bucketAt, attemptLimit, Locks, locksOf}
 use Rattle.model.specs.declared.Flow.{Flow}
@@ -158,38 +158,38 @@ boundary-told e low f t g A b = more tt (steps-told (stepsIn (e .script) - f .pl
 -- ---- a lock
 
 -- a grant was taken
-abbrev pub Taken : Take → ℕ → Post
-Taken (taking.Granted s) c A = A c s
-Taken taking.Busy c A = Unit {0}
-Taken taking.Damaged c A = Unit {0}
-Taken taking.Spent c A = Unit {0}
+abbrev pub Given : Outcome → Post
+Given (outcome.Granted l) A = A (l .cell) (l .serial)
+Given outcome.Busy A = Unit {0}
+Given (outcome.Refused r) A = Unit {0}
 
 pub take-told : (script : List ℕ) (low : ℕ) (A : Leases) (next : ℕ) (t : List ℕ) (c : ℕ)
-    → Told script low A (takeOf next t c .log) (Taken (takeOf next t c .seen .0 .answer) c)
+    → Told script low A (takeOf next t c .log) (Given (outcomeOf c (takeOf next t c .seen .0 .answer)))
 unfolding takeOf
 take-told script low A next t c = go (stateAt next t c)
   where
-    go : (x : State) → Told script low A (takeIn x next t c .log) (Taken (takeIn x next t c .seen .0 .answer) c)
+    go : (x : State) → Told script low A (takeIn x next t c .log) (Given (outcomeOf c (takeIn x next t c .seen .0 .answer)))
     go state.Damaged = none tt
     go (state.Held owner) = none tt
-    go state.Free = if-both (λ (m : Made (Took × List ℕ)). Told script low A (m .log) (Taken (m .seen .0 .answer) c)) (serialRemains next) (more tt (none (inr refl))) (none tt)
+    go state.Free = if-both (λ (m : Made (Took × List ℕ)). Told script low A (m .log) (Given (outcomeOf c (m .seen .0 .answer)))) (serialRemains next) (more tt (none (inr refl))) (none tt)
 
 -- what is known after a lock: of its grant, and of the place
-abbrev pub After : ℕ → ℕ → Locked → Post
-After low c l A = Taken (l .answer) c A × (low ≤ l .flow .place)
+abbrev pub After : ℕ → Locked → Post
+After low l A = Given (l .answer) A × (low ≤ l .flow .place)
 
-abbrev pub Locking : List ℕ → ℕ → ℕ → Leases → Made (Locked × (List ℕ × List ℕ)) → Type 0
-Locking script low c A m = Told script low A (m .log) (After low c (m .seen .0))
+abbrev pub Locking : List ℕ → ℕ → Leases → Made (Locked × (List ℕ × List ℕ)) → Type 0
+Locking script low A m = Told script low A (m .log) (After low (m .seen .0))
 
-module _ (e : Setting) (low : ℕ) where
-  late-told : (f : Flow) (t g : List ℕ) (c s : ℕ) (A : Leases) → low ≤ f .place → A c s → Locking (e .script) low c A (lateOf e f t g c s)
+module _ (e : Setting) (buckets low : ℕ) where
+  late-told : (f : Flow) (t g : List ℕ) (c s : ℕ) (A : Leases) → low ≤ f .place → A c s → Locking (e .script) low A (lateOf e buckets f t g c s)
   unfolding lateOf
   late-told f t g c s A b h =
       let m = boundaryOf (protecting e (leaseOf c s ∷ [])) f t g .seen in
       andthen (boundary-told (protecting e (leaseOf c s ∷ [])) low f t g A b)
-      (λ B i k. if-both (Locking (e .script) low c B) (eqb (waitersAt (m .1 .0) c) 0) (none (i c s h, k)) (more (i c s h) (none (tt, k))))
+      (λ B i k. if-both (Locking (e .script) low B) (isPoisoned (m .1 .1) (headerOf buckets c)) (more (i c s h) (none (tt, k)))
+      (if-both (Locking (e .script) low B) (eqb (waitersAt (m .1 .0) c) 0) (none (i c s h, k)) (more (i c s h) (none (tt, k)))))
 
-  second-told : (f : Flow) (t g : List ℕ) (c : ℕ) (A : Leases) → low ≤ f .place → Locking (e .script) low c A (secondOf e f t g c)
+  second-told : (f : Flow) (t g : List ℕ) (c : ℕ) (A : Leases) → low ≤ f .place → Locking (e .script) low A (secondOf e buckets f t g c)
   unfolding secondOf
   second-told f t g c A b =
       let m = boundaryOf e f t g .seen in
@@ -198,31 +198,20 @@ module _ (e : Setting) (low : ℕ) where
       (λ B i d. andthen (take-told (e .script) low B (m .0 .next) (m .1 .0) c)
       (λ C j h. go (flowOf (k .0 .next) (m .0 .place) (m .0 .dropped)) (k .1) (m .1 .1) (k .0 .answer) C d h))
     where
-      go : (v : Flow) (t g : List ℕ) (x : Take) (C : Leases) → low ≤ v .place → Taken x c C → Locking (e .script) low c C (afterTake x e v t g c)
+      go : (v : Flow) (t g : List ℕ) (x : Take) (C : Leases) → low ≤ v .place → Given (outcomeOf c x) C → Locking (e .script) low C (afterTake x e buckets v t g c)
       go v t g (taking.Granted s) C d h = late-told v t g c s C d h
       go v t g taking.Busy C d h = none (tt, d)
       go v t g taking.Damaged C d h = none (tt, d)
       go v t g taking.Spent C d h = none (tt, d)
 
-  pub lock-told : (f : Flow) (t g : List ℕ) (c : ℕ) (A : Leases) → low ≤ f .place → Locking (e .script) low c A (lockOf e f t g c)
+  pub lock-told : (f : Flow) (t g : List ℕ) (c : ℕ) (A : Leases) → low ≤ f .place → Locking (e .script) low A (lockOf e buckets f t g c)
   unfolding lockOf
   lock-told f t g c A b =
       let m = boundaryOf e f t g .seen in
       andthen (boundary-told e low f t g A b)
-      (λ B i k. if-both (Locking (e .script) low c B) (eqb (waitersAt (m .1 .0) c) 0) (second-told (m .0) (m .1 .0) (m .1 .1) c B k) (none (tt, k)))
+      (λ B i k. if-both (Locking (e .script) low B) (eqb (waitersAt (m .1 .0) c) 0) (second-told (m .0) (m .1 .0) (m .1 .1) c B k) (none (tt, k)))
 
 -- ---- attempts by key
-
-abbrev pub Given : Outcome → Post
-Given (outcome.Granted l) A = A (l .cell) (l .serial)
-Given outcome.Busy A = Unit {0}
-Given (outcome.Refused r) A = Unit {0}
-
-given-of : (c : ℕ) (x : Take) (A : Leases) → Taken x c A → Given (outcomeOf c x) A
-given-of c (taking.Granted s) A h = h
-given-of c taking.Busy A h = tt
-given-of c taking.Damaged A h = tt
-given-of c taking.Spent A h = tt
 
 abbrev Trying : List ℕ → ℕ → Leases → Made (Tried × (List ℕ × List ℕ)) → Type 0
 Trying script low A m = Told script low A (m .log) (λ B. Given (m .seen .0 .outcome) B × (low ≤ m .seen .0 .run .flow .place))
@@ -236,9 +225,9 @@ module _ (e : Setting) (low : ℕ) where
   unfolding attemptOf
   attempt-told buckets registry binding bucket r t g A b = more tt (go (findOf (e .headers) buckets g registry binding bucket) (and-took A attempt-begun))
     where
-      go : (x : Found) (B : Leases) → Trying (e .script) low B (attemptAt x e r t g)
+      go : (x : Found) (B : Leases) → Trying (e .script) low B (attemptAt x e buckets r t g)
       go (found.Fault x) B = none (tt, b)
-      go (found.At c) B = andthen (lock-told e low (r .flow) t g c B b) (λ C i h. none (given-of c (lockOf e (r .flow) t g c .seen .0 .answer) C (h .0), h .1))
+      go (found.At c) B = andthen (lock-told e buckets low (r .flow) t g c B b) (λ C i h. none h)
 
   spin-told : (r : Run) (t g : List ℕ) (A : Leases) → low ≤ r .flow .place → Running (e .script) low A (spinOf e r t g)
   unfolding spinOf

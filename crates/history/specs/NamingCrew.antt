@@ -1,22 +1,22 @@
 -- The crew's releases: each names the serial that was noted at that place of the lists when it was taken.
-use Prim.Native.Nat.{ℕ, zero, suc, _+_, _*_, _-_, _/_, _≤_, _<_}
+use Prim.Native.Nat.{ℕ, zero, suc, _+_, _*_, _-_, _≤_, _<_}
 use mathlib.Core.Path.{_≡_, refl, ap, _∙_}
 use mathlib.Core.List.{List, [], _∷_}
-use mathlib.Core.Bool.{not}
 use mathlib.Core.Logic.{_≢_, _⊎_, inl, inr}
 use native.Mathlib.Decide.{ℕ-discrete}
 use native.Mathlib.Omega.{arith}
-use lib.Dec.{ltb, leb, eqb}
+use lib.Dec.{ltb, leb}
 use lib.ListN.{length, getD, set, replicate, length-set}
 use lib.Seq.{getD-set-same, getD-set-other}
 use borrow.Author.Tests.{ltb-true, ltb-false, leb-false}
 use Rattle.model.specs.Log.{Made}
+use Rattle.model.specs.Arena.{headerOf, isPoisoned}
 use Rattle.model.specs.Foreign.{setting, flowOf}
 use Rattle.model.specs.Lock.{lockOf}
 use Rattle.model.specs.Crew.{total, crewRules, startOf, countOf, Crew, crewAt, afterTry, tryTurnOf, releaseTurnOf, turnOf, turnsOf}
-use Rattle.model.specs.declared.Take.{Take}
-use Rattle.model.specs.declared.Take.the-variants as taking
 use Rattle.choice.specs.Pick.{if-both}
+use Rattle.model.specs.declared.Outcome.{Outcome}
+use Rattle.laws.specs.Outcomes.{Comes, granted, busy, poisoned, damaged, spent, lock-comes}
 use Rattle.laws.specs.Lists.{zeros}
 use Rattle.laws.specs.Crew.{start-fits}
 use Rattle.history.specs.World.{World}
@@ -24,7 +24,7 @@ use Rattle.history.specs.Items.{crew, Clear}
 use Rattle.history.specs.Tests.{if-cases}
 use Rattle.history.specs.Judged.{steps}
 use Rattle.history.specs.Crew.{limits, Holds}
-use Rattle.history.specs.Naming.{Leases, Sub, Told, any, none, more, andthen, told, Taken, lock-told}
+use Rattle.history.specs.Naming.{Leases, Sub, Told, any, none, more, andthen, told, Given, lock-told}
 
 -- a list after one place was written, perhaps past its end
 set-at : (l : List ℕ) (i j v : ℕ) → (getD (set l i v) j 0 ≡ getD l j 0) ⊎ ((j ≡ i) × (getD (set l i v) j 0 ≡ v))
@@ -94,16 +94,18 @@ module _ (counts cells : List ℕ) where
     try-told w m n A is less k =
         let c = getD cells (startOf counts m + n) 0 in
         let e = setting headers (headers * buckets) [] [] in
-        let l = lockOf e (flowOf (w .next) 0 0) (w .table) g c .seen in
-        if-both (Turned A) (not (eqb (getD g (c / buckets) 0) 0)) (none k)
-        (more tt (andthen (lock-told e 0 (flowOf (w .next) 0 0) (w .table) g c _ (omega arith))
-        (λ B i h. none (go (l .0 .flow .next) (l .1 .0) B (wider (λ c s a. i c s (inl a)) k) (l .0 .answer) (h .0)))))
+        let l = lockOf e buckets (flowOf (w .next) 0 0) (w .table) g c .seen in
+        if-both (Turned A) (isPoisoned g (headerOf buckets c)) (none k)
+        (more tt (andthen (lock-told e buckets 0 (flowOf (w .next) 0 0) (w .table) g c _ (omega arith))
+        (λ B i h. none (go (l .0 .flow .next) (l .1 .0) B (wider (λ c s a. i c s (inl a)) k) (lock-comes e buckets c (flowOf (w .next) 0 0) (w .table) g) (h .0)))))
       where
-        go : (next : ℕ) (t : List ℕ) (B : Leases) → Keeps w B → (x : Take) → Taken x (getD cells (startOf counts m + n) 0) B → Keeps (afterTry x next t w m (startOf counts m + n)) B
-        go next t B h (taking.Granted s) a = rw (← is) (took-noted (w .made) (w .serials) m n s B few is less h a)
-        go next t B h taking.Busy a = h
-        go next t B h taking.Damaged a = h
-        go next t B h taking.Spent a = h
+        go : {x : List ℕ} {o : Outcome} (next : ℕ) (t : List ℕ) (B : Leases) → Keeps w B
+            → Comes buckets (getD cells (startOf counts m + n) 0) x o → Given o B → Keeps (afterTry o next t w m (startOf counts m + n)) B
+        go next t B h (granted s z) a = rw (← is) (took-noted (w .made) (w .serials) m n s B few is less h a)
+        go next t B h busy a = h
+        go next t B h (poisoned z) a = h
+        go next t B h damaged a = h
+        go next t B h spent a = h
 
     release-told : (w : Crew) (m n : ℕ) (A : Leases) → n ≡ getD (w .made) m 0 → countOf counts m ≤ n → n < 2 * countOf counts m → Keeps w A
         → let j = startOf counts m + (2 * countOf counts m - 1 - n) in Turned A (releaseTurnOf w m j (getD cells j 0))

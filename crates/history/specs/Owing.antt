@@ -9,7 +9,7 @@ use lib.Dec.{ltb, leb, eqb}
 use lib.ListN.{length, take}
 use lib.Seq.{take-suc, take-length}
 use Rattle.model.specs.Log.{Made, Event, by-caller, by-script, attempt-begun, boundary-run, yielded, spun, step-dropped, took, released, waiters-set, health-set}
-use Rattle.model.specs.Arena.{serialRemains, leaseOf, bitAt, ownerAt, waitersAt, setCell, isFree, isLive, isIn, stateAt}
+use Rattle.model.specs.Arena.{serialRemains, headerOf, isPoisoned, leaseOf, bitAt, ownerAt, waitersAt, setCell, isFree, isLive, isIn, stateAt}
 use Rattle.model.specs.Foreign.{Setting, protecting, stepsIn, kindAt, placeAt, numberAt, stepTakeOf, stepReleaseOf, stepWaitersOf, stepHealthOf, stepOf, runStepsOf, boundaryOf, flowOf}
 use Rattle.model.specs.Lock.{takeIn, takeOf, lateOf, afterTake, secondOf, lockOf, outcomeOf, findOf, attemptAt, attemptOf, spinOf, pauseOf, isBusy, retryOf, runOf, attemptLimit, noLease, leaseAt, giveBackOf, Locks, rollbackOf, afterKey, bindingAt, bucketAt, locksOf}
 use Rattle.model.specs.declared.Flow.{Flow}
@@ -189,8 +189,8 @@ no-grant e = let z : _≡_ {A = ℕ} 0 1 = cc in omega arith
 pub no-refused : {r : Refusal} {l : Lease} → outcome.Refused r ≡ outcome.Granted l → ⊥
 no-refused e = let z : _≡_ {A = ℕ} 0 1 = cc in omega arith
 
-abbrev of-locked : ℕ → With Locked → Lease → Type 0
-of-locked c a = of-take c (a .0 .answer)
+abbrev of-locked : With Locked → Lease → Type 0
+of-locked a = Given (a .0 .answer)
 
 abbrev of-tried : With Tried → Lease → Type 0
 of-tried a = Given (a .0 .outcome)
@@ -198,17 +198,19 @@ of-tried a = Given (a .0 .outcome)
 abbrev pub of-ended : Locks → Lease → Type 0
 of-ended a = Hands-over (a .0 .answer) (a .1 .1 .1)
 
-module _ (e : Setting) where
-  late-hands : (f : Flow) (t g : List ℕ) (c s : ℕ) → Hands (of-locked c) (λ l. leaseOf c s ≡ l) (lateOf e f t g c s)
+module _ (e : Setting) (buckets : ℕ) where
+  late-hands : (f : Flow) (t g : List ℕ) (c s : ℕ) → Hands of-locked (λ l. leaseOf c s ≡ l) (lateOf e buckets f t g c s)
   unfolding lateOf
   late-hands f t g c s =
       let m = boundaryOf (protecting e (leaseOf c s ∷ [])) f t g .seen in
       after-quiet (boundary-silent (protecting e (leaseOf c s ∷ [])) f t g)
-      (if-both (Hands (of-locked c) (λ l. leaseOf c s ≡ l)) (eqb (waitersAt (m .1 .0) c) 0)
+      (if-both (Hands of-locked (λ l. leaseOf c s ≡ l)) (isPoisoned (m .1 .1) (headerOf buckets c))
+      (record { settles = more (released by-caller c s) tt none; passes = λ l x. inr (subst (λ k. Frees k (released by-caller c s ∷ [])) x (freed-here [])) })
+      (if-both (Hands of-locked (λ l. leaseOf c s ≡ l)) (eqb (waitersAt (m .1 .0) c) 0)
       (record { settles = none; passes = λ l x. inl (ap {B = Outcome} (λ k. outcome.Granted k) x) })
-      (record { settles = more (released by-caller c s) tt none; passes = λ l x. inr (subst (λ k. Frees k (released by-caller c s ∷ [])) x (freed-here [])) }))
+      (record { settles = more (released by-caller c s) tt none; passes = λ l x. inr (subst (λ k. Frees k (released by-caller c s ∷ [])) x (freed-here [])) })))
 
-  after-hands : (a : Take) (f : Flow) (t g : List ℕ) (c : ℕ) → Hands (of-locked c) (of-take c a) (afterTake a e f t g c)
+  after-hands : (a : Take) (f : Flow) (t g : List ℕ) (c : ℕ) → Hands of-locked (of-take c a) (afterTake a e buckets f t g c)
   after-hands (taking.Granted s) f t g c =
       let k = late-hands f t g c s in
       record { settles = k .settles; passes = λ l x. k .passes l (let y : leaseOf c s ≡ l = cc in y) }
@@ -216,7 +218,7 @@ module _ (e : Setting) where
   after-hands taking.Damaged f t g c = record { settles = none; passes = λ l x. inl x }
   after-hands taking.Spent f t g c = record { settles = none; passes = λ l x. inl x }
 
-  second-hands : (f : Flow) (t g : List ℕ) (c : ℕ) → Hands (of-locked c) Nobody (secondOf e f t g c)
+  second-hands : (f : Flow) (t g : List ℕ) (c : ℕ) → Hands of-locked Nobody (secondOf e buckets f t g c)
   unfolding secondOf
   second-hands f t g c =
       let m = boundaryOf e f t g .seen in
@@ -224,24 +226,25 @@ module _ (e : Setting) where
       after-quiet (boundary-silent e f t g)
       (hand (take-hands (m .0 .next) (m .1 .0) c) (λ l x. absurd x) (after-hands (k .0 .answer) (flowOf (k .0 .next) (m .0 .place) (m .0 .dropped)) (k .1) (m .1 .1) c))
 
-  pub lock-hands : (f : Flow) (t g : List ℕ) (c : ℕ) → Hands (of-locked c) Nobody (lockOf e f t g c)
+  pub lock-hands : (f : Flow) (t g : List ℕ) (c : ℕ) → Hands of-locked Nobody (lockOf e buckets f t g c)
   unfolding lockOf
   lock-hands f t g c =
       let m = boundaryOf e f t g .seen in
       after-quiet (boundary-silent e f t g)
-      (if-both (Hands (of-locked c) Nobody) (eqb (waitersAt (m .1 .0) c) 0) (second-hands (m .0) (m .1 .0) (m .1 .1) c)
+      (if-both (Hands of-locked Nobody) (eqb (waitersAt (m .1 .0) c) 0) (second-hands (m .0) (m .1 .0) (m .1 .1) c)
       (record { settles = none; passes = λ l x. absurd x }))
 
-  attempt-at-hands : (x : Found) (r : Run) (t g : List ℕ) → Hands of-tried Nobody (attemptAt x e r t g)
+  attempt-at-hands : (x : Found) (r : Run) (t g : List ℕ) → Hands of-tried Nobody (attemptAt x e buckets r t g)
   attempt-at-hands (found.Fault x) r t g = record { settles = none; passes = λ l x. absurd x }
   attempt-at-hands (found.At c) r t g =
       record { settles = join (lock-hands (r .flow) t g c .settles) none (λ l x. inl x); passes = λ l x. absurd x }
 
+module _ (e : Setting) where
   pub attempt-hands : (buckets : ℕ) (registry : List ℕ) (binding bucket : ℕ) (r : Run) (t g : List ℕ)
       → Hands of-tried Nobody (attemptOf e buckets registry binding bucket r t g)
   unfolding attemptOf
   attempt-hands buckets registry binding bucket r t g =
-      after-quiet (more attempt-begun tt none) (attempt-at-hands (findOf (e .headers) buckets g registry binding bucket) r t g)
+      after-quiet (more attempt-begun tt none) (attempt-at-hands e buckets (findOf (e .headers) buckets g registry binding bucket) r t g)
 
   spin-silent : (r : Run) (t g : List ℕ) → Silent (spinOf e r t g)
   unfolding spinOf

@@ -2,13 +2,12 @@
 use Prim.Native.Nat.{ℕ, zero, suc, _+_, _≤_}
 use mathlib.Core.Path.{_≡_, ap}
 use mathlib.Core.List.{List, [], _∷_, _++_}
-use mathlib.Core.Bool.{not}
 use mathlib.Core.Logic.{_⊎_, inl, inr}
 use native.Mathlib.Omega.{arith}
-use lib.Dec.{leb, eqb}
+use lib.Dec.{leb}
 use lib.ListN.{getD}
 use Rattle.model.specs.Log.{Made}
-use Rattle.model.specs.Arena.{setCell}
+use Rattle.model.specs.Arena.{isPoisoned, setCell}
 use Rattle.model.specs.Refusals.{numberOf}
 use Rattle.model.specs.Foreign.{Setting, protecting, flowOf}
 use Rattle.model.specs.Lock.{takeOf, lockOf, outcomeOf, answerOf, findOf, attemptAt, attemptOf, pauseOf, isBusy, retryOf, settled, attemptLimit, rollbackOf, afterKey, bindingAt, bucketAt, Locks, locksOf}
@@ -30,6 +29,7 @@ use Rattle.model.specs.declared.Take.{Take}
 use Rattle.model.specs.declared.Take.the-variants as taking
 use Rattle.model.specs.declared.Tried.{Tried}
 use Rattle.choice.specs.Pick.{if-both}
+use Rattle.laws.specs.Outcomes.{Comes, granted, busy, poisoned, damaged, spent, lock-comes}
 use Rattle.history.specs.World.{World}
 use Rattle.history.specs.Items.{Call, try-acquire, drop-lease, read-permission, competing-acquire, release-then-handoff, foreign-release, drop-preserving, acquire-preserving, environment, try-lock, transactional, acquire-bucket, release-all, acquire-locks, crew, ByCell, perform}
 use Rattle.history.specs.Statements.{Early, Changes-nothing, Crew-refused, nobody-moved}
@@ -37,92 +37,108 @@ use Rattle.history.specs.Judged.{judged, acting, unchanged, steps, perfo
 
 -- ---- which refusals steps answer
 
-abbrev Late : ℕ → Refusal → Type 0
-Late low r = (low ≤ numberOf r) × (numberOf r ≤ 11)
+-- 6 to 11
+abbrev Late : Refusal → Type 0
+Late r = (6 ≤ numberOf r) × (numberOf r ≤ 11)
 
-abbrev OfOutcome : ℕ → Outcome → Type 0
-OfOutcome low (outcome.Granted l) = Unit {0}
-OfOutcome low outcome.Busy = Unit {0}
-OfOutcome low (outcome.Refused r) = Late low r
+-- by cell, where 8 comes before any step: 7, 9 or 10
+abbrev Late-by-cell : Refusal → Type 0
+Late-by-cell r = Late r × (numberOf r ≡ 8 → ⊥)
 
-abbrev OfAnswer : ℕ → Answer → Type 0
-OfAnswer low answer.Done = Unit {0}
-OfAnswer low (answer.Cell c) = Unit {0}
-OfAnswer low (answer.Granted l) = Unit {0}
-OfAnswer low answer.AllGranted = Unit {0}
-OfAnswer low answer.Busy = Unit {0}
-OfAnswer low (answer.Refused r) = Late low r
-OfAnswer low (answer.RefusedAt r p) = Unit {0}
+abbrev OfOutcome : (Refusal → Type 0) → Outcome → Type 0
+OfOutcome P (outcome.Granted l) = Unit {0}
+OfOutcome P outcome.Busy = Unit {0}
+OfOutcome P (outcome.Refused r) = P r
 
-answer-late : (low : ℕ) (o : Outcome) → OfOutcome low o → OfAnswer low (answerOf o)
-answer-late low (outcome.Granted l) h = tt
-answer-late low outcome.Busy h = tt
-answer-late low (outcome.Refused r) h = h
+abbrev OfAnswer : (Refusal → Type 0) → Answer → Type 0
+OfAnswer P answer.Done = Unit {0}
+OfAnswer P (answer.Cell c) = Unit {0}
+OfAnswer P (answer.Granted l) = Unit {0}
+OfAnswer P answer.AllGranted = Unit {0}
+OfAnswer P answer.Busy = Unit {0}
+OfAnswer P (answer.Refused r) = P r
+OfAnswer P (answer.RefusedAt r p) = Unit {0}
 
--- by cell: 9 or 10
-take-late : (low : ℕ) → low ≤ 9 → (c : ℕ) (x : Take) → OfOutcome low (outcomeOf c x)
-take-late low h c (taking.Granted s) = tt
-take-late low h c taking.Busy = tt
-take-late low h c taking.Damaged = omega arith
-take-late low h c taking.Spent = omega arith
+answer-late : (P : Refusal → Type 0) (o : Outcome) → OfOutcome P o → OfAnswer P (answerOf o)
+answer-late P (outcome.Granted l) h = tt
+answer-late P outcome.Busy h = tt
+answer-late P (outcome.Refused r) h = h
 
-acquire-late : (n : ℕ) (h : Head) (t : List ℕ) (c : ℕ) → OfAnswer 9 (acquireOf n h t c .seen .0 .answer)
+take-late : (c : ℕ) (x : Take) → OfOutcome Late-by-cell (outcomeOf c x)
+take-late c (taking.Granted s) = tt
+take-late c taking.Busy = tt
+take-late c taking.Damaged = ((omega arith, omega arith), λ q. omega arith)
+take-late c taking.Spent = ((omega arith, omega arith), λ q. omega arith)
+
+lock-late : {buckets c : ℕ} {g : List ℕ} {o : Outcome} → Comes buckets c g o → OfOutcome Late-by-cell o
+lock-late (granted s h) = tt
+lock-late busy = tt
+lock-late (poisoned h) = ((omega arith, omega arith), λ q. omega arith)
+lock-late damaged = ((omega arith, omega arith), λ q. omega arith)
+lock-late spent = ((omega arith, omega arith), λ q. omega arith)
+
+acquire-late : (n : ℕ) (h : Head) (t : List ℕ) (c : ℕ) → OfAnswer Late-by-cell (acquireOf n h t c .seen .0 .answer)
 unfolding acquireOf
-acquire-late n h t c = let x = takeOf (h .next) t c .seen .0 .answer in answer-late 9 (outcomeOf c x) (take-late 9 (omega arith) c x)
+acquire-late n h t c = let x = takeOf (h .next) t c .seen .0 .answer in answer-late Late-by-cell (outcomeOf c x) (take-late c x)
 
--- by key: 6 to 11
+-- by key
 abbrev OfFound : Found → Type 0
-OfFound (found.Fault r) = Late 6 r
+OfFound (found.Fault r) = Late r
 OfFound (found.At c) = Unit {0}
 
+of-late : (o : Outcome) → OfOutcome Late-by-cell o → OfOutcome Late o
+of-late (outcome.Granted l) h = tt
+of-late outcome.Busy h = tt
+of-late (outcome.Refused r) h = h .0
+
 module _ (e : Setting) (buckets : ℕ) (registry : List ℕ) (binding bucket : ℕ) where
-  attempt-late : (r : Run) (t g : List ℕ) → OfOutcome 6 (attemptOf e buckets registry binding bucket r t g .seen .0 .outcome)
+  attempt-late : (r : Run) (t g : List ℕ) → OfOutcome Late (attemptOf e buckets registry binding bucket r t g .seen .0 .outcome)
   unfolding attemptOf findOf
   attempt-late r t g =
       let header = getD registry binding 0 in
       go (findOf (e .headers) buckets g registry binding bucket)
       (if-both OfFound (leb (e .headers) header) (omega arith)
-      (if-both OfFound (not (eqb (getD g header 0) 0)) (omega arith) (if-both OfFound (leb buckets bucket) (omega arith) tt)))
+      (if-both OfFound (isPoisoned g header) (omega arith) (if-both OfFound (leb buckets bucket) (omega arith) tt)))
     where
-      go : (x : Found) → OfFound x → OfOutcome 6 (attemptAt x e r t g .seen .0 .outcome)
+      go : (x : Found) → OfFound x → OfOutcome Late (attemptAt x e buckets r t g .seen .0 .outcome)
       go (found.Fault x) h = h
-      go (found.At c) h = take-late 6 (omega arith) c (lockOf e (r .flow) t g c .seen .0 .answer)
+      go (found.At c) h = of-late (lockOf e buckets (r .flow) t g c .seen .0 .answer) (lock-late (lock-comes e buckets c (r .flow) t g))
 
-  retry-late : (left i : ℕ) (r : Run) (t g : List ℕ) → OfOutcome 6 (retryOf left i e buckets registry binding bucket r t g .seen .0 .outcome)
+  retry-late : (left i : ℕ) (r : Run) (t g : List ℕ) → OfOutcome Late (retryOf left i e buckets registry binding bucket r t g .seen .0 .outcome)
   unfolding retryOf
   retry-late zero i r t g = tt
   retry-late (suc left) i r t g =
       let m = attemptOf e buckets registry binding bucket r t g .seen in
       let p = pauseOf e i (m .0 .run) (m .1 .0) (m .1 .1) .seen in
-      if-both (λ (x : Made (Tried × (List ℕ × List ℕ))). OfOutcome 6 (x .seen .0 .outcome)) (isBusy (m .0 .outcome))
+      if-both (λ (x : Made (Tried × (List ℕ × List ℕ))). OfOutcome Late (x .seen .0 .outcome)) (isBusy (m .0 .outcome))
       (retry-late left (i + 1) (p .0) (p .1 .0) (p .1 .1)) (attempt-late r t g)
 
-settled-late : (o : Outcome) → OfOutcome 6 o → OfOutcome 6 (settled o)
+settled-late : (o : Outcome) → OfOutcome Late o → OfOutcome Late (settled o)
 settled-late (outcome.Granted l) h = tt
 settled-late outcome.Busy h = omega arith
 settled-late (outcome.Refused r) h = h
 
 -- multi-lock names the key's position: these are other answers
-locks-late : (low left p : ℕ) (e : Setting) (buckets : ℕ) (registry keys : List ℕ) (taken : List Lease) (r : Run) (t g grants : List ℕ)
-    → OfAnswer low (locksOf left p e buckets registry keys taken r t g grants .seen .0 .answer)
+locks-late : (P : Refusal → Type 0) (left p : ℕ) (e : Setting) (buckets : ℕ) (registry keys : List ℕ) (taken : List Lease) (r : Run) (t g grants : List ℕ)
+    → OfAnswer P (locksOf left p e buckets registry keys taken r t g grants .seen .0 .answer)
 unfolding locksOf rollbackOf
-locks-late low zero p e buckets registry keys taken r t g grants = tt
-locks-late low (suc left) p e buckets registry keys taken r t g grants =
+locks-late P zero p e buckets registry keys taken r t g grants = tt
+locks-late P (suc left) p e buckets registry keys taken r t g grants =
     let m = retryOf attemptLimit 0 (protecting e taken) buckets registry (bindingAt keys p) (bucketAt keys p) r t g .seen in
     go (m .0 .run) (m .1 .0) (m .1 .1) (m .0 .outcome) (λ l. locksOf left (p + 1) e buckets registry keys (taken ++ (l ∷ [])) (m .0 .run) (m .1 .0) (m .1 .1) grants)
-    (λ l. locks-late low left (p + 1) e buckets registry keys (taken ++ (l ∷ [])) (m .0 .run) (m .1 .0) (m .1 .1) grants)
+    (λ l. locks-late P left (p + 1) e buckets registry keys (taken ++ (l ∷ [])) (m .0 .run) (m .1 .0) (m .1 .1) grants)
   where
-    go : (k : Run) (u w : List ℕ) (x : Outcome) (more : Lease → Made Locks) → ((l : Lease) → OfAnswer low (more l .seen .0 .answer))
-        → OfAnswer low (afterKey x e taken p k u w grants more .seen .0 .answer)
+    go : (k : Run) (u w : List ℕ) (x : Outcome) (more : Lease → Made Locks) → ((l : Lease) → OfAnswer P (more l .seen .0 .answer))
+        → OfAnswer P (afterKey x e taken p k u w grants more .seen .0 .answer)
     go k u w (outcome.Granted l) more h = h l
     go k u w outcome.Busy more h = tt
     go k u w (outcome.Refused x) more h = tt
 
 -- ---- the calls
 
--- 9 to 11; where no cell is given, 6 to 11
+-- 6 to 11, and not 8 where a cell is given
 abbrev Bounded : Call → Answer → Type 0
-Bounded k a = OfAnswer 9 a ⊎ ((ByCell k → ⊥) × OfAnswer 6 a)
+Bounded k a = OfAnswer Late-by-cell a ⊎ ((ByCell k → ⊥) × OfAnswer Late a)
 
 steps-late : (w : World) (k : Call) → Bounded k (steps w k .seen .1 .answer)
 steps-late w (try-acquire c) = inl (acquire-late 1 (w .head) (w .table) c)
@@ -137,21 +153,22 @@ steps-late w (drop-preserving held l) = inl tt
 steps-late w (acquire-preserving held c) = inl (acquire-late 1 (w .head) (w .table) c)
 steps-late w (environment script place held) = inl tt
 steps-late w (try-lock script place held c) =
-    let x = lockOf (acting w (try-lock script place held c)) (flowOf (w .head .next) place 0) (w .table) (w .health) c .seen .0 .answer in
-    inl (answer-late 9 (outcomeOf c x) (take-late 9 (omega arith) c x))
+    let e = acting w (try-lock script place held c) in
+    let f = flowOf (w .head .next) place 0 in
+    inl (answer-late Late-by-cell (lockOf e (w .head .buckets) f (w .table) (w .health) c .seen .0 .answer) (lock-late (lock-comes e (w .head .buckets) c f (w .table) (w .health))))
 steps-late w (transactional registry script place held binding bucket) =
     let e = acting w (transactional registry script place held binding bucket) in
     let o = attemptOf e (w .head .buckets) registry binding bucket (starting (w .head) place) (w .table) (w .health) .seen .0 .outcome in
-    inr (λ z. z, answer-late 6 o (attempt-late e (w .head .buckets) registry binding bucket (starting (w .head) place) (w .table) (w .health)))
+    inr (λ z. z, answer-late Late o (attempt-late e (w .head .buckets) registry binding bucket (starting (w .head) place) (w .table) (w .health)))
 steps-late w (acquire-bucket registry script place held binding bucket) =
     let e = acting w (acquire-bucket registry script place held binding bucket) in
     let o = retryOf attemptLimit 0 e (w .head .buckets) registry binding bucket (starting (w .head) place) (w .table) (w .health) .seen .0 .outcome in
     let late = retry-late e (w .head .buckets) registry binding bucket attemptLimit 0 (starting (w .head) place) (w .table) (w .health) in
-    inr (λ z. z, answer-late 6 (settled o) (settled-late o late))
+    inr (λ z. z, answer-late Late (settled o) (settled-late o late))
 steps-late w (release-all script place leases) = inl tt
 steps-late w (acquire-locks registry script place held keys grants) =
     let e = acting w (acquire-locks registry script place held keys grants) in
-    inl (locks-late 9 (countIn keys) 0 e (w .head .buckets) registry keys [] (starting (w .head) place) (w .table) (w .health) grants)
+    inl (locks-late Late-by-cell (countIn keys) 0 e (w .head .buckets) registry keys [] (starting (w .head) place) (w .table) (w .health) grants)
 steps-late w (crew counts cells turns) = inl tt
 
 -- so no steps answer it, and checks leave all as it was
@@ -160,7 +177,7 @@ never k a r b q = go (rw q at b)
   where
     go : Bounded k (answer.Refused r) → Early k r → ⊥
     go (inl l) (inl x) = omega arith
-    go (inl l) (inr (inl x)) = omega arith
+    go (inl l) (inr (inl x)) = l .1 (x .0)
     go (inl l) (inr (inr x)) = omega arith
     go (inr l) (inl x) = omega arith
     go (inr l) (inr (inl x)) = l .0 (x .1)

@@ -99,7 +99,7 @@ steps-settles w (acquire-preserving held c) n k = acquire-settles (w .head) (w .
 steps-settles w (environment script place held) n k =
     quiet (boundary-silent (acting w (environment script place held)) (flowOf (w .head .next) place 0) (w .table) (w .health))
 steps-settles w (try-lock script place held c) n k =
-    more attempt-begun tt (loosen (given-over _) (lock-hands (acting w (try-lock script place held c)) (flowOf (w .head .next) place 0) (w .table) (w .health) c .settles))
+    more attempt-begun tt (loosen (given-over _) (lock-hands (acting w (try-lock script place held c)) (w .head .buckets) (flowOf (w .head .next) place 0) (w .table) (w .health) c .settles))
 steps-settles w (transactional registry script place held binding bucket) n k =
     let e = acting w (transactional registry script place held binding bucket) in
     loosen (given-over _) (attempt-hands e (w .head .buckets) registry binding bucket (starting (w .head) place) (w .table) (w .health) .settles)

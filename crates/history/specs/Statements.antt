@@ -188,12 +188,15 @@ Fails Busy = Unit {0}
 Fails (Refused r) = Unit {0}
 Fails (RefusedAt r p) = Unit {0}
 
+-- the buffer is as it was given, and all that the caller took it released, so that it is not live
+abbrev pub Nothing-held : Call → Made (World × Says) → Type 0
+Nothing-held k m =
+    (buffer-in m ≡ buffer k)
+    × ((c s : ℕ) (before after : List Event) → m .log ≡ before ++ (took by-caller c s ∷ after)
+    → Given-back c s after × (Live (world-in m) (leaseOf c s) → ⊥))
+
 abbrev pub Nothing-new : Build → Type 0
-Nothing-new f =
-    (w : World) (k : Call) → (IsCrew k → ⊥) → Fails (answer-in (f w k))
-    → (buffer-in (f w k) ≡ buffer k)
-    × ((c s : ℕ) (before after : List Event) → f w k .log ≡ before ++ (took by-caller c s ∷ after)
-    → Given-back c s after × (Live (world-in (f w k)) (leaseOf c s) → ⊥))
+Nothing-new f = (w : World) (k : Call) → (IsCrew k → ⊥) → Fails (answer-in (f w k)) → Nothing-held k (f w k)
 
 -- ---- giving back: "last first"
 

@@ -7,7 +7,7 @@ use native.Mathlib.Omega.{arith}
 use lib.Dec.{ltb, leb, eqb}
 use borrow.Author.Tests.{ltb-true, leb-true, not-true}
 use Rattle.model.specs.Log.{Made, Event, by-caller, by-script, attempt-begun, boundary-run, yielded, spun, step-dropped, took, released, waiters-set, health-set}
-use Rattle.model.specs.Arena.{serialRemains, cellsOf, spentTo, leaseOf, bitAt, ownerAt, waitersAt, isFree, isLive, isIn, stateAt}
+use Rattle.model.specs.Arena.{serialRemains, cellsOf, spentTo, leaseOf, headerOf, isPoisoned, bitAt, ownerAt, waitersAt, isFree, isLive, isIn, stateAt}
 use Rattle.model.specs.Foreign.{stepsIn, kindAt, placeAt, numberAt, stepTakeOf, stepReleaseOf, stepWaitersOf, stepHealthOf, stepOf, runStepsOf, boundaryOf, flowOf}
 use Rattle.model.specs.Lock.{takeIn, takeOf, lateOf, afterTake, secondOf, lockOf, outcomeOf, findOf, attemptAt, attemptOf, spinOf, pauseOf, isBusy, retryOf, runOf}
 use Rattle.model.specs.Calls.{given}
@@ -77,28 +77,26 @@ of-took h g a = worldAt h (a .0 .next) (a .1) g
 
 -- ---- what is gained: a lease that is live, whose serial was not yet issued when n was the next
 
-pub data Gained (n : ℕ) (v : World) (c : ℕ) : Take → Type 0 where
-  gained : (s : ℕ) → Live v (leaseOf c s) → n ≤ s → Gained n v c (taking.Granted s)
-  was-busy : Gained n v c taking.Busy
-  was-damaged : Gained n v c taking.Damaged
-  was-spent : Gained n v c taking.Spent
+-- of cell c; of any cell
+pub data Gained (n : ℕ) (v : World) (c : ℕ) : Outcome → Type 0 where
+  gained : (s : ℕ) → Live v (leaseOf c s) → n ≤ s → Gained n v c (outcome.Granted (leaseOf c s))
+  was-busy : Gained n v c outcome.Busy
+  was-refused : (r : Refusal) → Gained n v c (outcome.Refused r)
 
 pub data Won (n : ℕ) (v : World) : Outcome → Type 0 where
   won : (l : Lease) → Live v l → n ≤ l .serial → Won n v (outcome.Granted l)
   none-yet : Won n v outcome.Busy
   no-more : (r : Refusal) → Won n v (outcome.Refused r)
 
-won-of : {n : ℕ} {v : World} {c : ℕ} {a : Take} → Gained n v c a → Won n v (outcomeOf c a)
+pub won-of : {n : ℕ} {v : World} {c : ℕ} {o : Outcome} → Gained n v c o → Won n v o
 won-of {c = c} (gained s x l) = won (leaseOf c s) x l
 won-of was-busy = none-yet
-won-of was-damaged = no-more _
-won-of was-spent = no-more _
+won-of (was-refused r) = no-more r
 
-gained-from : {n m : ℕ} {v : World} {c : ℕ} {a : Take} → m ≤ n → Gained n v c a → Gained m v c a
+gained-from : {n m : ℕ} {v : World} {c : ℕ} {o : Outcome} → m ≤ n → Gained n v c o → Gained m v c o
 gained-from k (gained s x l) = gained s x (omega arith)
 gained-from k was-busy = was-busy
-gained-from k was-damaged = was-damaged
-gained-from k was-spent = was-spent
+gained-from k (was-refused r) = was-refused r
 
 won-from : {n m : ℕ} {v : World} {o : Outcome} → m ≤ n → Won n v o → Won m v o
 won-from k (won l x i) = won l x (omega arith)
@@ -189,27 +187,28 @@ module _ (h : Head) (script : List ℕ) where
   -- ---- a lock
 
   pub take-kept : (P : Lease → Type 0) (n : ℕ) (t g : List ℕ) (c : ℕ) → Fit (worldAt h n t g) → c < cellsOf h
-      → Gains (of-took h g) (λ a. Gained n (of-took h g a) c (a .0 .answer)) (worldAt h n t g) P (takeOf n t c)
+      → Gains (of-took h g) (λ a. Gained n (of-took h g a) c (outcomeOf c (a .0 .answer))) (worldAt h n t g) P (takeOf n t c)
   unfolding takeOf
   take-kept P n t g c good l = go (stateAt n t c) refl
     where
-      go : (s : State) → stateAt n t c ≡ s → Gains (of-took h g) (λ a. Gained n (of-took h g a) c (a .0 .answer)) (worldAt h n t g) P (takeIn s n t c)
-      go state.Damaged e = record { kept = nothing; gain = was-damaged }
+      go : (s : State) → stateAt n t c ≡ s
+          → Gains (of-took h g) (λ a. Gained n (of-took h g a) c (outcomeOf c (a .0 .answer))) (worldAt h n t g) P (takeIn s n t c)
+      go state.Damaged e = record { kept = nothing; gain = was-refused _ }
       go (state.Held o) e = record { kept = nothing; gain = was-busy }
       go state.Free e =
-          if-cases (Gains (of-took h g) (λ a. Gained n (of-took h g a) c (a .0 .answer)) (worldAt h n t g) P) (serialRemains n)
+          if-cases (Gains (of-took h g) (λ a. Gained n (of-took h g a) c (outcomeOf c (a .0 .answer))) (worldAt h n t g) P) (serialRemains n)
           (λ r.
           record {
             kept = event (took by-caller c n) ((l, e), (refl, ltb-true _ _ r)) (λ l i v x. x);
             gain = gained n (taken-live (worldAt h n t g) by-caller c good l) (omega arith);
           })
-          (λ r. record { kept = nothing; gain = was-spent })
+          (λ r. record { kept = nothing; gain = was-refused _ })
 
   abbrev Locking : ℕ → World → (Lease → Type 0) → ℕ → Made (With Locked) → Type 0
   Locking n w P c = Gains (of-locked h) (λ a. Gained n (of-locked h a) c (a .0 .answer)) w P
 
   late-kept : (ps : List Lease) (f : Flow) (t g : List ℕ) (c s n : ℕ) → Fit (worldAt h (f .next) t g) → Live (worldAt h (f .next) t g) (leaseOf c s) → n ≤ s
-      → Locking n (worldAt h (f .next) t g) (λ l. In ps l × (l ≡ leaseOf c s → ⊥)) c (lateOf (given h script ps) f t g c s)
+      → Locking n (worldAt h (f .next) t g) (λ l. In ps l × (l ≡ leaseOf c s → ⊥)) c (lateOf (given h script ps) (h .buckets) f t g c s)
   unfolding lateOf
   late-kept ps f t g c s n good v l =
       let new = leaseOf c s in
@@ -218,20 +217,23 @@ module _ (h : Head) (script : List ℕ) where
       let still = kept-live good b new (in-right new ps (new ∷ []) (in-first new [])) v in
       let P : Lease → Type 0 = λ (l : Lease). In ps l × (l ≡ leaseOf c s → ⊥) in
       followed good (weaken (λ k p _. in-left k ps (new ∷ []) (p .0)) b)
+      (if-both (Locking n (of-flow h (m .seen)) P c) (isPoisoned (m .seen .1 .1) (headerOf (h .buckets) c))
+      (record { kept = event (released by-caller c s) still (λ k p _ x. p .1 x); gain = was-refused _ })
       (if-both (Locking n (of-flow h (m .seen)) P c) (eqb (waitersAt (m .seen .1 .0) c) 0) (record { kept = nothing; gain = gained s still l })
-      (record { kept = event (released by-caller c s) still (λ k p _ x. p .1 x); gain = was-busy }))
+      (record { kept = event (released by-caller c s) still (λ k p _ x. p .1 x); gain = was-busy })))
 
-  after-kept : (ps : List Lease) (a : Take) (f : Flow) (t g : List ℕ) (c n m : ℕ) → Fit (worldAt h (f .next) t g) → Gained n (worldAt h (f .next) t g) c a → m ≤ n
-      → Locking m (worldAt h (f .next) t g) (λ l. In ps l × (l .serial < m)) c (afterTake a (given h script ps) f t g c)
-  after-kept ps a f t g c n m good (gained s x i) l =
+  after-kept : (ps : List Lease) (a : Take) (f : Flow) (t g : List ℕ) (c n m : ℕ) → Fit (worldAt h (f .next) t g)
+      → Gained n (worldAt h (f .next) t g) c (outcomeOf c a) → m ≤ n
+      → Locking m (worldAt h (f .next) t g) (λ l. In ps l × (l .serial < m)) c (afterTake a (given h script ps) (h .buckets) f t g c)
+  after-kept ps (taking.Granted s) f t g c n m good (gained u x i) l =
       let r = late-kept ps f t g c s m good x (omega arith) in
       record { kept = weaken (λ k p _. (p .0, λ e. omega (arith, ap (λ (z : Lease). z .serial) e, p .1))) (r .kept); gain = r .gain }
-  after-kept ps a f t g c n m good was-busy l = record { kept = nothing; gain = was-busy }
-  after-kept ps a f t g c n m good was-damaged l = record { kept = nothing; gain = was-damaged }
-  after-kept ps a f t g c n m good was-spent l = record { kept = nothing; gain = was-spent }
+  after-kept ps taking.Busy f t g c n m good y l = record { kept = nothing; gain = was-busy }
+  after-kept ps taking.Damaged f t g c n m good y l = record { kept = nothing; gain = was-refused _ }
+  after-kept ps taking.Spent f t g c n m good y l = record { kept = nothing; gain = was-refused _ }
 
   second-kept : (ps : List Lease) (f : Flow) (t g : List ℕ) (c : ℕ) → Fit (worldAt h (f .next) t g) → c < cellsOf h
-      → Locking (f .next) (worldAt h (f .next) t g) (In ps) c (secondOf (given h script ps) f t g c)
+      → Locking (f .next) (worldAt h (f .next) t g) (In ps) c (secondOf (given h script ps) (h .buckets) f t g c)
   unfolding secondOf
   second-kept ps f t g c good l =
       let P : Lease → Type 0 = λ (l : Lease). In ps l × (l .serial < f .next) in
@@ -248,7 +250,7 @@ module _ (h : Head) (script : List ℕ) where
       }
 
   pub lock-kept : (ps : List Lease) (f : Flow) (t g : List ℕ) (c : ℕ) → Fit (worldAt h (f .next) t g) → c < cellsOf h
-      → Locking (f .next) (worldAt h (f .next) t g) (In ps) c (lockOf (given h script ps) f t g c)
+      → Locking (f .next) (worldAt h (f .next) t g) (In ps) c (lockOf (given h script ps) (h .buckets) f t g c)
   unfolding lockOf
   lock-kept ps f t g c good l =
       let m = boundaryOf (given h script ps) f t g in
@@ -268,7 +270,7 @@ module _ (h : Head) (script : List ℕ) where
   starts r t g = worldAt h (r .flow .next) t g
 
   attempt-at : (ps : List Lease) (x : Found) (r : Run) (t g : List ℕ) → Fit (starts r t g) → ((c : ℕ) → x ≡ found.At c → c < cellsOf h)
-      → Trying (r .flow .next) (starts r t g) ps (attemptAt x (given h script ps) r t g)
+      → Trying (r .flow .next) (starts r t g) ps (attemptAt x (given h script ps) (h .buckets) r t g)
   attempt-at ps (found.Fault x) r t g good l = record { kept = nothing; gain = no-more x }
   attempt-at ps (found.At c) r t g good l =
       let k = lock-kept ps (r .flow) t g c good (l c refl) in

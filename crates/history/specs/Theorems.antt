@@ -2,7 +2,7 @@
 use Rattle.model.specs.Crew.{crewOf}
 use Rattle.history.specs.Items.{perform, foreign}
 use Rattle.history.specs.Statements.{Demand-2, Forgets, Refused-stays, Lawful-always, Counts-are, Changes-nothing, Crew-refused, Grant-is, Buffer-is, Given-live, Nothing-kept, Nothing-new, Falling-all, Rollback-is, Named, Named-alone, Held-live}
-use Rattle.history.specs.Answers.{Handed-over, Serials-rise, Not-over-live, Busy-or-refused, Locks-refused, Never-twice, Once-each, Two-writers, None-takes, Alone-until-released, Takes-parted}
+use Rattle.history.specs.Answers.{Handed-over, Granted-healthy, Locks-healthy, Poisoned-holds-nothing, Serials-rise, Not-over-live, Busy-or-refused, Locks-refused, Never-twice, Once-each, Two-writers, None-takes, Alone-until-released, Takes-parted}
 use Rattle.history.specs.Callers.{Takes-alike, Take-is-call, Releases-alike, Release-is-call, By-single-calls, Histories-single}
 use Rattle.history.specs.Calls.{call-kept, calls-spare-held}
 use Rattle.history.specs.Courses as courses
@@ -10,6 +10,7 @@ use Rattle.history.specs.Returns.{calls-keep-nothing, calls-leave-nothin
 use Rattle.history.specs.Rollback.{releases-fall, locks-roll-back}
 use Rattle.history.specs.ByKey.{grants-name, buffers-name}
 use Rattle.history.specs.HandedCalls as handed
+use Rattle.history.specs.Healthy as healthy
 use Rattle.history.specs.Writers as writers
 use Rattle.history.specs.Others as others
 use Rattle.history.specs.CountedCalls.{calls-counted}
@@ -75,6 +76,15 @@ held-live = calls-spare-held
 
 pub handed-over : Handed-over perform
 handed-over = handed.calls-hand-over
+
+pub granted-healthy : Granted-healthy perform
+granted-healthy = healthy.grants-healthy
+
+pub locks-healthy : Locks-healthy perform
+locks-healthy = healthy.locks-grant-healthy
+
+pub poisoned-holds-nothing : Poisoned-holds-nothing perform
+poisoned-holds-nothing = healthy.sevens-hold-nothing
 
 pub serials-rise : Serials-rise perform
 serials-rise = handed.serials-rise

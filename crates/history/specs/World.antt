@@ -4,9 +4,9 @@ use mathlib.Core.Path.{_≡_}
 use mathlib.Core.List.{List, [], _∷_}
 use mathlib.Core.Bool.{Bool, true, false}
 use lib.Dec.{eqb}
-use lib.ListN.{length, set}
+use lib.ListN.{length, getD, set}
 use Rattle.model.specs.Log.{Event, by-caller, by-script, attempt-begun, boundary-run, yielded, spun, step-dropped, took, released, waiters-set, health-set}
-use Rattle.model.specs.Arena.{lastSerial, cellsOf, spentTo, leaseOf, bitAt, setCell, setWaiters, stateAt, isLive, shapeFits, healthFits}
+use Rattle.model.specs.Arena.{lastSerial, cellsOf, spentTo, leaseOf, headerOf, bitAt, setCell, setWaiters, stateAt, isLive, shapeFits, healthFits}
 use Rattle.model.specs.declared.Head.{Head}
 use Rattle.model.specs.declared.Lease.{Lease}
 use Rattle.model.specs.declared.State.the-variants as state
@@ -28,6 +28,10 @@ Free w c = (c < cells w) × (stateAt (w .head .next) (w .table) c ≡ state.Free
 
 abbrev pub Live : World → Lease → Type 0
 Live w l = isLive (w .head .next) (cells w) (w .table) l ≡ true
+
+-- "0 is healthy": the health byte of a cell's header
+abbrev pub Healthy : World → ℕ → Type 0
+Healthy w c = getD (w .health) (headerOf (w .head .buckets) c) 0 ≡ 0
 
 -- ---- events
 

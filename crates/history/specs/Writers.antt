@@ -310,7 +310,7 @@ steps-one w (drop-preserving held l) a = absurd a
 steps-one w (acquire-preserving held c) a = acquire-one 1 (w .head) (w .table) c
 steps-one w (environment script place held) a = absurd a
 steps-one w (try-lock script place held c) a =
-    one-of (outcomeOf c (lockOf (acting w (try-lock script place held c)) (flowOf (w .head .next) place 0) (w .table) (w .health) c .seen .0 .answer))
+    one-of (lockOf (acting w (try-lock script place held c)) (w .head .buckets) (flowOf (w .head .next) place 0) (w .table) (w .health) c .seen .0 .answer)
 steps-one w (transactional registry script place held binding bucket) a =
     let e = acting w (transactional registry script place held binding bucket) in
     one-of (attemptOf e (w .head .buckets) registry binding bucket (starting (w .head) place) (w .table) (w .health) .seen .0 .outcome)

@@ -5,5 +5,6 @@ pub mod Lists
 pub mod Fill
 pub mod Checks
 pub mod Keys
+pub mod Outcomes
 pub mod Crew
 pub mod Prepared

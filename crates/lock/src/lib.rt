@@ -1,4 +1,5 @@
-// try_lock: three boundaries, the waiters read before and after, and a late release whose serial stays spent.
+// try_lock: three boundaries, the waiters read before and after, the health after, and a late release whose serial stays
+// spent.
 // Functions with a `requires` are steps: calls have tested the shape, and a step tests nothing twice.
 // Steps are no calls of document 01, public ones neither: only the layers here call them (tests/layers.sh), and each
 // caller proves their `requires`.
@@ -8,7 +9,9 @@ use model::Flow;
 use model::Head;
 use model::Lease;
 use model::Locked;
+use model::Outcome;
 use model::Played;
+use model::Refusal;
 use model::Run;
 use model::Take;
 ghost use mathlib.Core.Path.{_≡_};
@@ -21,10 +24,23 @@ ghost use Rattle.model.specs.Lock.{lockedOf, lateOf, secondOf, lockOf};
 ghost use Rattle.model.specs.Calls.{tryLockOf};
 ghost use Rattle.foreign.specs.Model.{inScope, settingOf, RoomIn};
 ghost use Rattle.foreign.specs.Laws.{FlowBound};
-ghost use Rattle.lock.specs.Model.{quietLockOf, boundariesFor, lockOnceOf};
+ghost use Rattle.lock.specs.Model.{CellIn, gaveUp, quietLockOf, boundariesFor, lockOnceOf};
 ghost use Rattle.lock.specs.Fine.{LockFine};
 
-// The third boundary, and the second look at the waiters.
+// The new lease released after the third boundary. Its serial stays spent.
+fn give_up(flow: Flow, table: &mut [u32], cell: u32, answer: Outcome) -> Locked
+    requires { ⌜ 3 * cell + 2 < length (now table) ⌝ }
+    ensures { λ r. ⌜ (r, now (table .exit)) ≡ gaveUp flow (now (table .entry)) cell answer ⌝ }
+{
+    arena::release(table, cell);
+    Locked {
+        flow,
+        boundaries: 3,
+        answer,
+    }
+}
+
+// The third boundary, then the health of the cell's header, then the second look at the waiters.
 fn late(
     scope: Scope,
     flow: Flow,
@@ -37,10 +53,10 @@ fn late(
     own: Lease,
 ) -> Locked
     requires { ⌜ RoomIn scope (length (now table)) (length (now health)) n (length (now script))
-        × (FlowBound (scope .steps) flow × (own .cell < scope .cells)) ⌝ }
+        × (FlowBound (scope .steps) flow × CellIn scope (own .cell)) ⌝ }
     ensures { λ r. ⌜ (r, (now (table .exit), now (health .exit)))
         ≡ lateOf (settingOf scope (now (script .entry)) (now (held .entry)) (now (taken .entry)) n)
-        flow (now (table .entry)) (now (health .entry)) (own .cell) (own .serial) .seen ⌝ }
+        (scope .buckets) flow (now (table .entry)) (now (health .entry)) (own .cell) (own .serial) .seen ⌝ }
 {
     let after = foreign::protecting_boundary(
         scope,
@@ -53,23 +69,27 @@ fn late(
         n,
         own,
     );
+    let header = own.cell / scope.buckets;
+    if health[header as usize] != 0 {
+        return give_up(
+            after,
+            table,
+            own.cell,
+            Outcome::Refused(Refusal::Poisoned(header)),
+        );
+    }
     if arena::waiters_at(table, own.cell) == 0 {
         return Locked {
             flow: after,
             boundaries: 3,
-            answer: Take::Granted(own.serial),
+            answer: Outcome::Granted(own),
         };
     }
-    arena::release(table, own.cell);
-    Locked {
-        flow: after,
-        boundaries: 3,
-        answer: Take::Busy,
-    }
+    give_up(after, table, own.cell, Outcome::Busy)
 }
 
 // A try_lock whose compare-and-set gave no lease ends there, after two boundaries.
-fn stopped(flow: Flow, answer: Take) -> Locked
+fn stopped(flow: Flow, answer: Outcome) -> Locked
     ensures { λ r. ⌜ r ≡ lockedOf flow 2 answer ⌝ }
 {
     Locked {
@@ -92,10 +112,10 @@ fn second(
     cell: u32,
 ) -> Locked
     requires { ⌜ RoomIn scope (length (now table)) (length (now health)) n (length (now script))
-        × (FlowBound (scope .steps) flow × (cell < scope .cells)) ⌝ }
+        × (FlowBound (scope .steps) flow × CellIn scope cell) ⌝ }
     ensures { λ r. ⌜ (r, (now (table .exit), now (health .exit)))
         ≡ secondOf (settingOf scope (now (script .entry)) (now (held .entry)) (now (taken .entry)) n)
-        flow (now (table .entry)) (now (health .entry)) cell .seen ⌝ }
+        (scope .buckets) flow (now (table .entry)) (now (health .entry)) cell .seen ⌝ }
 {
     let after = foreign::boundary(scope, flow, table, health, script, held, taken, n);
     let claim = lease::claim_at(scope.head(after.next), table, cell);
@@ -111,9 +131,9 @@ fn second(
             let own = Lease { cell, serial };
             late(scope, on, table, health, script, held, taken, n, own)
         }
-        Take::Busy => stopped(on, Take::Busy),
-        Take::Damaged => stopped(on, Take::Damaged),
-        Take::Spent => stopped(on, Take::Spent),
+        Take::Busy => stopped(on, Outcome::Busy),
+        Take::Damaged => stopped(on, Outcome::Refused(Refusal::Damaged(cell))),
+        Take::Spent => stopped(on, Outcome::Refused(Refusal::SerialsSpent(cell))),
     }
 }
 
@@ -130,10 +150,10 @@ pub fn lock(
     cell: u32,
 ) -> Locked
     requires { ⌜ RoomIn scope (length (now table)) (length (now health)) n (length (now script))
-        × (FlowBound (scope .steps) flow × (cell < scope .cells)) ⌝ }
+        × (FlowBound (scope .steps) flow × CellIn scope cell) ⌝ }
     ensures { λ r. ⌜ (r, (now (table .exit), now (health .exit)))
         ≡ lockOf (settingOf scope (now (script .entry)) (now (held .entry)) (now (taken .entry)) n)
-        flow (now (table .entry)) (now (health .entry)) cell .seen ⌝ }
+        (scope .buckets) flow (now (table .entry)) (now (health .entry)) cell .seen ⌝ }
 {
     let after = foreign::boundary(scope, flow, table, health, script, held, taken, n);
     if arena::waiters_at(table, cell) == 0 {
@@ -146,7 +166,7 @@ pub fn lock(
             dropped: after.dropped,
         },
         boundaries: 1,
-        answer: Take::Busy,
+        answer: Outcome::Busy,
     }
 }
 
@@ -162,7 +182,8 @@ fn boundaries_for(answer: Take) -> usize
     }
 }
 
-// One try_lock past the script's end, where every boundary is quiet.
+// One try_lock past the script's end, where every boundary is quiet, of a cell whose header is healthy: it still is after
+// the third.
 pub fn quiet_lock(head: Head, flow: Flow, table: &mut [u32], cell: u32) -> Locked
     requires { ⌜ 3 * cell + 2 < length (now table) ⌝ }
     ensures { λ r. ⌜ (r, now (table .exit)) ≡ quietLockOf flow (now (table .entry)) cell ⌝ }
@@ -178,13 +199,13 @@ pub fn quiet_lock(head: Head, flow: Flow, table: &mut [u32], cell: u32) -> Locke
                 dropped: flow.dropped,
             },
             boundaries: boundaries_for(answer),
-            answer,
+            answer: lease::outcome(cell, answer),
         };
     }
     Locked {
         flow,
         boundaries: 1,
-        answer: Take::Busy,
+        answer: Outcome::Busy,
     }
 }
 
@@ -210,8 +231,8 @@ fn lock_check(
     }
 }
 
-// The try_lock of a call that has taken nothing. Past the script's end it is the quiet one, and then no room for leases
-// is made.
+// The try_lock of a call that has taken nothing. Past the script's end it is the quiet one where the cell's header is
+// healthy, and then no room for leases is made.
 fn lock_alone(
     scope: Scope,
     flow: Flow,
@@ -222,16 +243,19 @@ fn lock_alone(
     cell: u32,
 ) -> Locked
     requires { ⌜ RoomIn scope (length (now table)) (length (now health)) 0 (length (now script))
-        × (FlowBound (scope .steps) flow × (cell < scope .cells)) ⌝ }
+        × (FlowBound (scope .steps) flow × CellIn scope cell) ⌝ }
     ensures { λ r. ⌜ (r, (now (table .exit), now (health .exit)))
         ≡ lockOf (inScope scope (now (script .entry)) (leasesOf (now (held .entry))))
-        flow (now (table .entry)) (now (health .entry)) cell .seen ⌝ }
+        (scope .buckets) flow (now (table .entry)) (now (health .entry)) cell .seen ⌝ }
 {
-    if flow.place < scope.steps {
-        let taken = [[0; 2]; 64];
-        return lock(scope, flow, table, health, script, held, &taken, 0, cell);
+    if scope.steps <= flow.place {
+        let header = cell / scope.buckets;
+        if health[header as usize] == 0 {
+            return quiet_lock(scope.head(flow.next), flow, table, cell);
+        }
     }
-    quiet_lock(scope.head(flow.next), flow, table, cell)
+    let taken = [[0; 2]; 64];
+    lock(scope, flow, table, health, script, held, &taken, 0, cell)
 }
 
 // One try_lock of a call whose checks are fine.
@@ -264,12 +288,12 @@ fn lock_once(
         boundaries: locked.boundaries,
         yields: 0,
     };
-    let outcome = lease::outcome(cell, answer);
-    foreign::play(head, run, lease::answer_of(outcome))
+    foreign::play(head, run, lease::answer_of(answer))
 }
 
-// One attempt by cell, with up to three boundaries: Busy where somebody waits or holds. A lease that was taken and given
-// up because somebody waits is Busy too, its cell free, its serial spent. Health is not read.
+// One attempt by cell, with up to three boundaries: Busy where somebody waits or holds. After the third boundary the
+// health of the cell's header is read: 7 if it is poisoned, the lease given up, its cell free, its serial spent. A lease
+// given up because somebody waits then is Busy, its cell free, its serial spent too.
 pub fn try_lock(
     head: Head,
     table: &mut [u32],
@@ -290,7 +314,7 @@ pub fn try_lock(
     }
 }
 
-// The same: the leases of its held list stay live, whatever the script says.
+// The same, 7 with it: the leases of its held list stay live, whatever the script says.
 pub fn other_mutex_preserves_leases(
     head: Head,
     table: &mut [u32],

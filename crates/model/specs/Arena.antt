@@ -1,7 +1,7 @@
 -- Document 01, "The arena".
-use Prim.Native.Nat.{ℕ, _+_, _*_}
+use Prim.Native.Nat.{ℕ, _+_, _*_, _/_}
 use mathlib.Core.List.{List, [], _∷_}
-use mathlib.Core.Bool.{Bool, true, false, _&&_}
+use mathlib.Core.Bool.{Bool, true, false, not, _&&_}
 use lib.Dec.{ltb, leb, eqb}
 use lib.ListN.{getD, set}
 use Rattle.choice.specs.Choice.{if_then_else_}
@@ -66,6 +66,14 @@ issueOf h =
 -- "Cell number = header x B + bucket."
 abbrev pub cellNumber : ℕ → ℕ → ℕ → ℕ
 cellNumber buckets header bucket = header * buckets + bucket
+
+-- the same read the other way: the header of a cell
+abbrev pub headerOf : ℕ → ℕ → ℕ
+headerOf buckets c = c / buckets
+
+-- "0 is healthy, every other byte is poisoned."
+abbrev pub isPoisoned : List ℕ → ℕ → Bool
+isPoisoned g header = not (eqb (getD g header 0) 0)
 
 -- "bit, owner, waiters for each cell"
 unfoldable pub bitAt : List ℕ → ℕ → ℕ

@@ -136,8 +136,8 @@ unfoldable pub tryLockOf : Head → List ℕ → List ℕ → List ℕ → ℕ �
 tryLockOf h t g script place held c =
     judge (first (lockRules h t g script place held c)) (λ r. gives (unplayed h place r, (t, g))) do
       note attempt-begun
-      (k, a) ← lockOf (given h script (leasesOf held)) (flowOf (h .next) place 0) t g c
-      gives (played h (runOf (k .flow) 1 (k .boundaries) 0) (answerOf (outcomeOf c (k .answer))), a)
+      (k, a) ← lockOf (given h script (leasesOf held)) (h .buckets) (flowOf (h .next) place 0) t g c
+      gives (played h (runOf (k .flow) 1 (k .boundaries) 0) (answerOf (k .answer)), a)
 
 unfoldable pub transactionalOf : Head → List ℕ → List ℕ → List ℕ → List ℕ → ℕ → List ℕ → ℕ → ℕ → Made (Played × (List ℕ × List ℕ))
 transactionalOf h t g registry script place held binding bucket =

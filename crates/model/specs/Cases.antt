@@ -1,5 +1,5 @@
 -- Document 01, "Bench cases": the sentences marked *, as one computed list of (call, what must come out). `further` is a list of our own in
--- the same form, for slips that no marked sentence meets.
+-- the same form, for slips that no marked sentence meets; `secondReading` has the sentences of document 02, L3.
 use Prim.Native.Nat.{ℕ}
 use mathlib.Core.Path.{_≡_, refl}
 use mathlib.Core.List.{List, [], _∷_, _++_}
@@ -172,9 +172,12 @@ byKeyAgain n t g script held binding bucket =
     ∷ []
 
 -- and, where one attempt decides, `transactional_try_lock_bucket`
+abbrev byKeyOnce : ℕ → List ℕ → List ℕ → List ℕ → ℕ → ℕ → List Out
+byKeyOnce n t g script binding bucket =
+    fromPlayed (transactionalOf (bench n) t g registry script 0 [] binding bucket) ∷ byKeyAgain n t g script [] binding bucket
+
 abbrev byKey : ℕ → List ℕ → List ℕ → ℕ → ℕ → List Out
-byKey n t g binding bucket =
-    fromPlayed (transactionalOf (bench n) t g registry [] 0 [] binding bucket) ∷ byKeyAgain n t g [] [] binding bucket
+byKey n t g binding bucket = byKeyOnce n t g [] binding bucket
 
 abbrev byKeys : List ℕ → List ℕ → List ℕ → List Out
 byKeys t keys grants = fromLocks (acquireLocksOf (bench 1) t healthy registry [] 0 [] keys grants) ∷ []
@@ -278,7 +281,61 @@ further =
     ∷ (crew (1 ∷ 1 ∷ []) (2 ∷ 5 ∷ []) (1 ∷ 0 ∷ 2 ∷ []) give (refusal is 15 ∷ carries is 2 ∷ bit 2 is 0 ∷ []))
     ∷ []
 
+-- ---- document 02, L3: health is read again after the third boundary. Cell 6 is of header 1, by division by B alone
+
+-- steps of a script: the end of a boundary; header 1 poisoned, mended; cell 6 waited for; lease (6, 1) released
+abbrev end : List ℕ
+end = 5 ∷ 0 ∷ 0 ∷ []
+
+abbrev poison : List ℕ
+poison = 4 ∷ 1 ∷ 1 ∷ []
+
+abbrev mend : List ℕ
+mend = 4 ∷ 1 ∷ 0 ∷ []
+
+abbrev wait : List ℕ
+wait = 3 ∷ 6 ∷ 1 ∷ []
+
+abbrev free : List ℕ
+free = 2 ∷ 6 ∷ 1 ∷ []
+
+-- one cell by a call by cell, in a health
+abbrev tryLockIn : List ℕ → List ℕ → ℕ → List Out
+tryLockIn g script c = fromPlayed (tryLockOf (bench 1) prepared g script 0 [] c) ∷ []
+
+-- header 1 poisoned
+abbrev sick : List ℕ
+sick = 0 ∷ 1 ∷ []
+
+abbrev pub secondReading : List Case
+secondReading =
+    -- poisoned in the third boundary. "If poisoned, release the lease and refuse with 7; the serial stays spent."
+    -- "boundaries may now be 3"
+    (byKeyOnce 1 prepared healthy (end ++ end ++ poison ++ end) 1 2 give (refusal is 7 ∷ carries is 1 ∷ attempts is 1 ∷ boundaries is 3 ∷ next is 2 ∷ bit 6 is 0 ∷ owner 6 is 0 ∷ []))
+    -- "A call by cell reads the health of its cell's header there."
+    ∷ (tryLockIn healthy (end ++ end ++ poison ++ end) 6 give (refusal is 7 ∷ carries is 1 ∷ attempts is 1 ∷ boundaries is 3 ∷ place is 4 ∷ next is 2 ∷ bit 6 is 0 ∷ owner 6 is 0 ∷ []))
+    -- another header's health is not read
+    ∷ (tryLockIn healthy (end ++ end ++ poison ++ end) 3 ++ byKeyOnce 1 prepared healthy (end ++ end ++ poison ++ end) 0 3 give (granted is 1 ∷ next is 2 ∷ owner 3 is 1 ∷ []))
+    -- "before the waiters": poisoned and waited for at once is 7
+    ∷ (tryLockIn healthy (end ++ end ++ poison ++ wait ++ end) 6 ++ byKeyOnce 1 prepared healthy (end ++ end ++ wait ++ poison ++ end) 1 2 give (refusal is 7 ∷ carries is 1 ∷ boundaries is 3 ∷ next is 2 ∷ bit 6 is 0 ∷ []))
+    -- poisoned in the third boundary of a retry's second attempt, in its first boundary, and before it: 7 at once
+    ∷ (byKeyAgain 2 (setCell prepared 6 1 1) healthy (end ++ end ++ free ++ end ++ end ++ end ++ poison) [] 1 2 give (refusal is 7 ∷ carries is 1 ∷ attempts is 2 ∷ boundaries is 6 ∷ next is 3 ∷ bit 6 is 0 ∷ []))
+    ∷ (byKeyAgain 2 (setCell prepared 6 1 1) healthy (end ++ end ++ free ++ end ++ poison) [] 1 2 give (refusal is 7 ∷ carries is 1 ∷ attempts is 2 ∷ boundaries is 6 ∷ next is 3 ∷ bit 6 is 0 ∷ []))
+    ∷ (byKeyAgain 2 (setCell prepared 6 1 1) healthy (end ++ end ++ free ++ poison) [] 1 2 give (refusal is 7 ∷ carries is 1 ∷ attempts is 2 ∷ boundaries is 3 ∷ next is 2 ∷ bit 6 is 0 ∷ []))
+    -- at the second key of multi-lock: the lease of the first is given back too, and both serials stay spent
+    ∷ (fromLocks (acquireLocksOf (bench 1) prepared healthy registry (end ++ end ++ end ++ end ++ end ++ poison) 0 [] (0 ∷ 2 ∷ 1 ∷ 2 ∷ []) (9 ∷ 8 ∷ 9 ∷ 9 ∷ [])) ∷ [] give (refusal is 7 ∷ carries is 1 ∷ position is 1 ∷ attempts is 2 ∷ boundaries is 7 ∷ next is 3 ∷ bit 2 is 0 ∷ bit 6 is 0 ∷ cell is 9 ∷ serial is 8 ∷ []))
+    -- a header poisoned all along: a call by cell takes and runs all three boundaries, one by key reads it first
+    ∷ (tryLockIn sick [] 6 give (refusal is 7 ∷ carries is 1 ∷ attempts is 1 ∷ boundaries is 3 ∷ next is 2 ∷ bit 6 is 0 ∷ owner 6 is 0 ∷ []))
+    ∷ (byKey 1 prepared sick 1 2 give (refusal is 7 ∷ carries is 1 ∷ attempts is 1 ∷ boundaries is 0 ∷ next is 1 ∷ []))
+    -- mended in the first boundary: too late for the first reading of a call by key, in time for a call by cell
+    ∷ (byKeyOnce 1 prepared sick (mend ++ end) 1 2 give (refusal is 7 ∷ boundaries is 0 ∷ place is 0 ∷ next is 1 ∷ []))
+    ∷ (tryLockIn sick (mend ++ end) 6 give (granted is 1 ∷ cell is 6 ∷ serial is 1 ∷ boundaries is 3 ∷ next is 2 ∷ owner 6 is 1 ∷ []))
+    -- a Busy before the take ends the attempt before the reading: held after two boundaries, waited for after one
+    ∷ (fromPlayed (tryLockOf (bench 3) used (1 ∷ 1 ∷ []) [] 0 [] 2) ∷ [] give (busy is 1 ∷ boundaries is 2 ∷ next is 3 ∷ []))
+    ∷ (fromPlayed (tryLockOf (bench 3) used (1 ∷ 1 ∷ []) [] 0 [] 5) ∷ [] give (busy is 1 ∷ boundaries is 1 ∷ next is 3 ∷ []))
+    ∷ []
+
 -- every figure of every case holds of the definitions
-pub cases-hold : (every cases ≡ true) × (every further ≡ true)
+pub cases-hold : (every cases ≡ true) × (every further ≡ true) × (every secondReading ≡ true)
 unfolding bitAt ownerAt waitersAt setCell setWaiters isFree isHeld stateOf stateAt isLive leasesOf wordsOf sameLease isIn headFits shapeFits healthFits registryFits first stepTakeOf stepReleaseOf stepWaitersOf stepHealthOf stepOf runStepsOf boundaryOf takeOf lateOf secondOf lockOf findOf attemptOf spinOf pauseOf retryOf giveBackOf rollbackOf locksOf notLive badBindings notReleasable prepareRules cellRules leaseRules heldCellRules heldLeaseRules scriptRules lockRules bucketRules releaseRules locksRules prepareOf acquireOf tryAcquireOf dropLeaseOf readPermissionOf competingAcquireOf releaseThenHandoffOf foreignReleaseOf acquirePreservingOf dropPreservingOf environmentOf tryLockOf transactionalOf acquireBucketOf releaseAllOf acquireLocksOf total startOf allWithin risesFrom badLists badTurns crewRules tryTurnOf releaseTurnOf turnOf turnsOf takenOf releasedOf crewOf
-cases-hold = (refl, refl)
+cases-hold = (refl, refl, refl)

@@ -1,13 +1,13 @@
 -- Document 01, "The crew". The members' lists are lent as two runs: `counts`, how many cells each member wants, and `cells`, their
 -- lists one behind the other.
-use Prim.Native.Nat.{ℕ, zero, suc, _+_, _*_, _-_, _/_, min}
+use Prim.Native.Nat.{ℕ, zero, suc, _+_, _*_, _-_, min}
 use mathlib.Core.List.{List, [], _∷_, _++_}
 use mathlib.Core.Bool.{Bool, true, not, _&&_, _||_}
 use lib.Dec.{ltb, leb, eqb}
 use lib.ListN.{length, getD, set, take, drop, replicate}
 use Rattle.choice.specs.Choice.{if_then_else_}
 use Rattle.model.specs.Log.{Made, by-caller, attempt-begun, released, gives, note, _>>=_, _>>_}
-use Rattle.model.specs.Arena.{within, cellsOf, spentTo, setCell}
+use Rattle.model.specs.Arena.{within, cellsOf, spentTo, headerOf, isPoisoned, setCell}
 use Rattle.model.specs.Refusals.{Rule, refuse_carrying_when_, first, judge}
 use Rattle.model.specs.Checks.{badShape, badHealth}
 use Rattle.model.specs.Foreign.{setting, flowOf}
@@ -15,8 +15,8 @@ use Rattle.model.specs.Lock.{lockOf}
 use Rattle.model.specs.declared.Answer.the-variants.{Done, Refused}
 use Rattle.model.specs.declared.CrewReply.{CrewReply}
 use Rattle.model.specs.declared.Head.{Head}
-use Rattle.model.specs.declared.Take.{Take}
-use Rattle.model.specs.declared.Take.the-variants as taking
+use Rattle.model.specs.declared.Outcome.{Outcome}
+use Rattle.model.specs.declared.Outcome.the-variants as outcome
 
 -- ---- the lists
 
@@ -90,19 +90,18 @@ abbrev pub moved : List ℕ → ℕ → List ℕ
 moved made m = set made m (getD made m 0 + 1)
 
 -- "Anything but a grant or release is an idle turn"
-abbrev pub afterTry : Take → ℕ → List ℕ → Crew → ℕ → ℕ → Crew
-afterTry (taking.Granted s) next t w m k = crewAt next t (moved (w .made) m) (set (w .serials) k s) (w .moving + 1) (w .idle)
-afterTry taking.Busy next t w m k = idled next t w
-afterTry taking.Damaged next t w m k = idled next t w
-afterTry taking.Spent next t w m k = idled next t w
+abbrev pub afterTry : Outcome → ℕ → List ℕ → Crew → ℕ → ℕ → Crew
+afterTry (outcome.Granted l) next t w m k = crewAt next t (moved (w .made) m) (set (w .serials) k (l .serial)) (w .moving + 1) (w .idle)
+afterTry outcome.Busy next t w m k = idled next t w
+afterTry (outcome.Refused r) next t w m k = idled next t w
 
 -- "a member that has not yet held all its cells does one try_lock with no script on its next cell, after a health reading of that cell's header"
 unfoldable pub tryTurnOf : ℕ → ℕ → List ℕ → Crew → ℕ → ℕ → ℕ → Made Crew
 tryTurnOf headers buckets g w m k c =
-    if not (eqb (getD g (c / buckets) 0) 0) then gives (idled (w .next) (w .table) w)
+    if isPoisoned g (headerOf buckets c) then gives (idled (w .next) (w .table) w)
     else do
       note attempt-begun
-      (l, (u, x)) ← lockOf (setting headers (headers * buckets) [] []) (flowOf (w .next) 0 0) (w .table) g c
+      (l, (u, x)) ← lockOf (setting headers (headers * buckets) [] []) buckets (flowOf (w .next) 0 0) (w .table) g c
       gives (afterTry (l .answer) (l .flow .next) u w m k)
 
 -- "one that has held all releases the last it still holds and takes no more"

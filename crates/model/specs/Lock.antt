@@ -1,12 +1,13 @@
--- Document 01, "The steps of a lock". They test nothing that a call has tested; the calls are in `Calls`.
+-- Document 01, "The steps of a lock", with document 02, L3. They test nothing that a call has tested; the calls are in
+-- `Calls`.
 use Prim.Native.Nat.{ℕ, zero, suc, _+_, _*_, _%_}
 use mathlib.Core.List.{List, [], _∷_, _++_}
-use mathlib.Core.Bool.{Bool, true, false, not}
+use mathlib.Core.Bool.{Bool, true, false}
 use lib.Dec.{leb, eqb}
 use lib.ListN.{length, getD, take}
 use Rattle.choice.specs.Choice.{if_then_else_}
 use Rattle.model.specs.Log.{Made, by-caller, attempt-begun, yielded, spun, took, released, gives, note, _>>=_, _>>_}
-use Rattle.model.specs.Arena.{serialRemains, cellNumber, waitersAt, setCell, stateAt, leaseOf, wordsOf}
+use Rattle.model.specs.Arena.{serialRemains, cellNumber, headerOf, isPoisoned, waitersAt, setCell, stateAt, leaseOf, wordsOf}
 use Rattle.model.specs.Foreign.{Setting, protecting, flowOf, boundaryOf}
 use Rattle.model.specs.declared.Answer.{Answer}
 use Rattle.model.specs.declared.Answer.the-variants as answer
@@ -46,47 +47,54 @@ takeIn state.Free next t c =
 unfoldable pub takeOf : ℕ → List ℕ → ℕ → Made (Took × List ℕ)
 takeOf next t c = takeIn (stateAt next t c) next t c
 
--- ---- `try_lock`, a definition for each stage, each ending in the next
-
-abbrev pub lockedOf : Flow → ℕ → Take → Locked
-lockedOf f boundaries a = record { flow = f; boundaries = boundaries; answer = a }
-
--- "boundary (protecting the new lease); waiters not 0: release it, Busy; else granted. The serial of a lease so released stays spent."
-unfoldable pub lateOf : Setting → Flow → List ℕ → List ℕ → ℕ → ℕ → Made (Locked × (List ℕ × List ℕ))
-lateOf e f t g c s = do
-  (k, (u, w)) ← boundaryOf (protecting e (leaseOf c s ∷ [])) f t g
-  if eqb (waitersAt u c) 0 then gives (lockedOf k 3 (taking.Granted s), (u, w))
-      else do
-        note (released by-caller c s)
-        gives (lockedOf k 3 taking.Busy, (setCell u c 0 0, w))
-
--- after try_acquire: a grant goes on, anything else ends the try_lock after two boundaries
-abbrev pub afterTake : Take → Setting → Flow → List ℕ → List ℕ → ℕ → Made (Locked × (List ℕ × List ℕ))
-afterTake (taking.Granted s) e f t g c = lateOf e f t g c s
-afterTake taking.Busy e f t g c = gives (lockedOf f 2 taking.Busy, (t, g))
-afterTake taking.Damaged e f t g c = gives (lockedOf f 2 taking.Damaged, (t, g))
-afterTake taking.Spent e f t g c = gives (lockedOf f 2 taking.Spent, (t, g))
-
--- "boundary; try_acquire"
-unfoldable pub secondOf : Setting → Flow → List ℕ → List ℕ → ℕ → Made (Locked × (List ℕ × List ℕ))
-secondOf e f t g c = do
-  (k, (u, w)) ← boundaryOf e f t g
-  (a, v) ← takeOf (k .next) u c
-  afterTake (a .answer) e (flowOf (a .next) (k .place) (k .dropped)) v w c
-
--- "boundary; waiters not 0: Busy"
-unfoldable pub lockOf : Setting → Flow → List ℕ → List ℕ → ℕ → Made (Locked × (List ℕ × List ℕ))
-lockOf e f t g c = do
-  (k, (u, w)) ← boundaryOf e f t g
-  if eqb (waitersAt u c) 0 then secondOf e k u w c
-      else gives (lockedOf k 1 taking.Busy, (u, w))
-
--- what an attempt on a cell comes to; 9 and 10 carry the cell
+-- what a compare-and-set on a cell comes to; 9 and 10 carry the cell
 abbrev pub outcomeOf : ℕ → Take → Outcome
 outcomeOf c (taking.Granted s) = outcome.Granted (leaseOf c s)
 outcomeOf c taking.Busy = outcome.Busy
 outcomeOf c taking.Damaged = outcome.Refused (refusal.Damaged c)
 outcomeOf c taking.Spent = outcome.Refused (refusal.SerialsSpent c)
+
+-- ---- `try_lock`, a definition for each stage, each ending in the next
+
+abbrev pub lockedOf : Flow → ℕ → Outcome → Locked
+lockedOf f boundaries o = record { flow = f; boundaries = boundaries; answer = o }
+
+-- the new lease released after the third boundary. "The serial of a lease so released stays spent."
+abbrev pub giveUpOf : Outcome → Flow → List ℕ → List ℕ → ℕ → ℕ → Made (Locked × (List ℕ × List ℕ))
+giveUpOf o f t g c s = do
+  note (released by-caller c s)
+  gives (lockedOf f 3 o, (setCell t c 0 0, g))
+
+-- "boundary (protecting the new lease); waiters not 0: release it, Busy; else granted." Document 02, L3, of health:
+-- "Read it again after the third boundary, before the waiters. If poisoned, release the lease and refuse with 7; the
+-- serial stays spent." "A call by cell reads the health of its cell's header there."
+unfoldable pub lateOf : Setting → ℕ → Flow → List ℕ → List ℕ → ℕ → ℕ → Made (Locked × (List ℕ × List ℕ))
+lateOf e buckets f t g c s = do
+  (k, (u, w)) ← boundaryOf (protecting e (leaseOf c s ∷ [])) f t g
+  if isPoisoned w (headerOf buckets c) then giveUpOf (outcome.Refused (refusal.Poisoned (headerOf buckets c))) k u w c s
+      else if eqb (waitersAt u c) 0 then gives (lockedOf k 3 (outcome.Granted (leaseOf c s)), (u, w))
+      else giveUpOf outcome.Busy k u w c s
+
+-- after try_acquire: a grant goes on, anything else ends the try_lock after two boundaries
+abbrev pub afterTake : Take → Setting → ℕ → Flow → List ℕ → List ℕ → ℕ → Made (Locked × (List ℕ × List ℕ))
+afterTake (taking.Granted s) e buckets f t g c = lateOf e buckets f t g c s
+afterTake taking.Busy e buckets f t g c = gives (lockedOf f 2 (outcomeOf c taking.Busy), (t, g))
+afterTake taking.Damaged e buckets f t g c = gives (lockedOf f 2 (outcomeOf c taking.Damaged), (t, g))
+afterTake taking.Spent e buckets f t g c = gives (lockedOf f 2 (outcomeOf c taking.Spent), (t, g))
+
+-- "boundary; try_acquire"
+unfoldable pub secondOf : Setting → ℕ → Flow → List ℕ → List ℕ → ℕ → Made (Locked × (List ℕ × List ℕ))
+secondOf e buckets f t g c = do
+  (k, (u, w)) ← boundaryOf e f t g
+  (a, v) ← takeOf (k .next) u c
+  afterTake (a .answer) e buckets (flowOf (a .next) (k .place) (k .dropped)) v w c
+
+-- "boundary; waiters not 0: Busy"
+unfoldable pub lockOf : Setting → ℕ → Flow → List ℕ → List ℕ → ℕ → Made (Locked × (List ℕ × List ℕ))
+lockOf e buckets f t g c = do
+  (k, (u, w)) ← boundaryOf e f t g
+  if eqb (waitersAt u c) 0 then secondOf e buckets k u w c
+      else gives (lockedOf k 1 outcome.Busy, (u, w))
 
 abbrev pub answerOf : Outcome → Answer
 answerOf (outcome.Granted l) = answer.Granted l
@@ -106,21 +114,21 @@ unfoldable pub findOf : ℕ → ℕ → List ℕ → List ℕ → ℕ → ℕ �
 findOf headers buckets g registry binding bucket =
     let header = getD registry binding 0 in
     if leb headers header then found.Fault (refusal.BadHeader header)
-    else if not (eqb (getD g header 0) 0) then found.Fault (refusal.Poisoned header)
+    else if isPoisoned g header then found.Fault (refusal.Poisoned header)
     else if leb buckets bucket then found.Fault (refusal.InvalidBucket bucket)
     else found.At (cellNumber buckets header bucket)
 
 -- "then `try_lock`"; "An attempt begins at the header reading"
-abbrev pub attemptAt : Found → Setting → Run → List ℕ → List ℕ → Made (Tried × (List ℕ × List ℕ))
-attemptAt (found.Fault x) e r t g = gives (triedOf (runOf (r .flow) (r .attempts + 1) (r .boundaries) (r .yields)) (outcome.Refused x), (t, g))
-attemptAt (found.At c) e r t g = do
-  (k, a) ← lockOf e (r .flow) t g c
-  gives (triedOf (runOf (k .flow) (r .attempts + 1) (r .boundaries + k .boundaries) (r .yields)) (outcomeOf c (k .answer)), a)
+abbrev pub attemptAt : Found → Setting → ℕ → Run → List ℕ → List ℕ → Made (Tried × (List ℕ × List ℕ))
+attemptAt (found.Fault x) e buckets r t g = gives (triedOf (runOf (r .flow) (r .attempts + 1) (r .boundaries) (r .yields)) (outcome.Refused x), (t, g))
+attemptAt (found.At c) e buckets r t g = do
+  (k, a) ← lockOf e buckets (r .flow) t g c
+  gives (triedOf (runOf (k .flow) (r .attempts + 1) (r .boundaries + k .boundaries) (r .yields)) (k .answer), a)
 
 unfoldable pub attemptOf : Setting → ℕ → List ℕ → ℕ → ℕ → Run → List ℕ → List ℕ → Made (Tried × (List ℕ × List ℕ))
 attemptOf e buckets registry binding bucket r t g = do
   note attempt-begun
-  attemptAt (findOf (e .headers) buckets g registry binding bucket) e r t g
+  attemptAt (findOf (e .headers) buckets g registry binding bucket) e buckets r t g
 
 -- ---- `acquire_index_bucket`: attempts 0 to 4,095
 

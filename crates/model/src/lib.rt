@@ -133,24 +133,24 @@ pub struct Took {
     pub answer: Take,
 }
 
-// One try_lock: the flow after it, its boundaries, its answer.
+// What an attempt comes to.
+pub enum Outcome {
+    Granted(Lease),
+    Busy,
+    Refused(Refusal),
+}
+
+// One try_lock: the flow after it, its boundaries, what it comes to.
 pub struct Locked {
     pub flow: Flow,
     pub boundaries: usize,
-    pub answer: Take,
+    pub answer: Outcome,
 }
 
 // A key resolved: its cell, or why there is none.
 pub enum Found {
     At(u32),
     Fault(Refusal),
-}
-
-// What an attempt comes to.
-pub enum Outcome {
-    Granted(Lease),
-    Busy,
-    Refused(Refusal),
 }
 
 // What attempts change besides table and health.

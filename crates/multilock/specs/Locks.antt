@@ -10,7 +10,7 @@ use lib.Seq.{getD-set-same, getD-set-other, set-at}
 use Rattle.model.specs.Log.{Made}
 use Rattle.model.specs.Arena.{leaseOf, leasesOf, wordsOf}
 use Rattle.model.specs.Foreign.{Setting, setting, protecting, stepsIn}
-use Rattle.model.specs.Lock.{outcomeOf, findOf, attemptAt, attemptOf, pauseOf, isBusy, retryOf, giveBackOf, endedOf, rollbackOf, afterKey, locksOf, bindingAt, bucketAt, Locks, lockOf, leaseAt}
+use Rattle.model.specs.Lock.{findOf, attemptAt, attemptOf, pauseOf, isBusy, retryOf, giveBackOf, endedOf, rollbackOf, afterKey, locksOf, bindingAt, bucketAt, Locks, leaseAt}
 use Rattle.model.specs.declared.Answer.the-variants as answer
 use Rattle.model.specs.declared.Ended.{Ended}
 use Rattle.model.specs.declared.Found.{Found}
@@ -20,8 +20,6 @@ use Rattle.model.specs.declared.Outcome.{Outcome}
 use Rattle.model.specs.declared.Outcome.the-variants as outcome
 use Rattle.model.specs.declared.Refusal.{Refusal}
 use Rattle.model.specs.declared.Run.{Run}
-use Rattle.model.specs.declared.Take.{Take}
-use Rattle.model.specs.declared.Take.the-variants as taking
 use Rattle.model.specs.declared.Tried.{Tried}
 use Rattle.foreign.specs.declared.Scope.{Scope}
 use Rattle.foreign.specs.Model.{pairsOf, guardsOf}
@@ -29,6 +27,7 @@ use Rattle.choice.specs.Pick.{if-both}
 use Rattle.laws.specs.Lists.{length-words}
 use Rattle.laws.specs.Checks.{drop-two}
 use Rattle.laws.specs.Keys.{find-inside}
+use Rattle.laws.specs.Outcomes.{Comes, granted, busy, poisoned, damaged, spent, lock-comes}
 use Rattle.bucket.specs.Model.{KeyFits}
 use Rattle.bucket.specs.Bounds.{keyMost}
 use Rattle.bucket.specs.Laws.{RunBound, more-run-bound, attempt-run-bound, pause-run-bound}
@@ -100,18 +99,19 @@ module _ (e : Setting) (buckets : ℕ) (registry : List ℕ) (binding bucket : �
   abbrev Within : Outcome → Type 0
   Within k = (l : Lease) → k ≡ outcome.Granted l → l .cell < e .headers * buckets
 
-  within-at : (c : ℕ) (a : Take) → c < e .headers * buckets → Within (outcomeOf c a)
-  within-at c (taking.Granted s) h l q = let z : leaseOf c s ≡ l = cc in omega (arith, ap (λ (k : Lease). k .cell) z)
-  within-at c taking.Busy h l q = let z : outcome.Busy ≡ outcome.Granted l = q in absurd (no-way z)
+  within-at : (c : ℕ) (g : List ℕ) (o : Outcome) → Comes buckets c g o → c < e .headers * buckets → Within o
+  within-at c g o (granted s k) h l q = let z : leaseOf c s ≡ l = cc in omega (arith, ap (λ (k : Lease). k .cell) z)
+  within-at c g o busy h l q = let z : outcome.Busy ≡ outcome.Granted l = q in absurd (no-way z)
     where
       no-way : outcome.Busy ≡ outcome.Granted l → ⊥
       no-way z = let y : _≡_ {A = ℕ} 0 1 = cc in omega arith
-  within-at c taking.Damaged h l q = let y : _≡_ {A = ℕ} 0 1 = cc in absurd (omega arith)
-  within-at c taking.Spent h l q = let y : _≡_ {A = ℕ} 0 1 = cc in absurd (omega arith)
+  within-at c g o (poisoned k) h l q = let y : _≡_ {A = ℕ} 0 1 = cc in absurd (omega arith)
+  within-at c g o damaged h l q = let y : _≡_ {A = ℕ} 0 1 = cc in absurd (omega arith)
+  within-at c g o spent h l q = let y : _≡_ {A = ℕ} 0 1 = cc in absurd (omega arith)
 
-  within-attempt : (k : Found) (r : Run) (t g : List ℕ) → ((c : ℕ) → k ≡ found.At c → c < e .headers * buckets) → Within (attemptAt k e r t g .seen .0 .outcome)
+  within-attempt : (k : Found) (r : Run) (t g : List ℕ) → ((c : ℕ) → k ≡ found.At c → c < e .headers * buckets) → Within (attemptAt k e buckets r t g .seen .0 .outcome)
   within-attempt (found.Fault x) r t g h l q = let y : _≡_ {A = ℕ} 0 1 = cc in absurd (omega arith)
-  within-attempt (found.At c) r t g h l q = within-at c (lockOf e (r .flow) t g c .seen .0 .answer) (h c refl) l q
+  within-attempt (found.At c) r t g h l q = within-at c _ _ (lock-comes e buckets c (r .flow) t g) (h c refl) l q
 
   retry-within : (left i : ℕ) (r : Run) (t g : List ℕ) → Within (retryOf left i e buckets registry binding bucket r t g .seen .0 .outcome)
   unfolding retryOf attemptOf

@@ -4,6 +4,7 @@ pub mod Examples
 pub mod Sum
 pub mod Lists
 pub mod Turns
+pub mod AsBefore
 pub mod Steady
 pub mod Rounds
 pub mod Seen

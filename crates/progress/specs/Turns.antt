@@ -72,7 +72,7 @@ module _ (buckets : ℕ) (g counts cells : List ℕ) where
     abbrev attempt : Made Crew
     attempt = tryTurnOf headers buckets g w m (startOf counts m + getD (w .made) m 0) c
 
-    -- with no script every boundary is quiet, and the second look at the waiters sees what the first saw
+    -- with no script every boundary is quiet, and the second looks at health and waiters see what the first saw
     tried : getD (w .made) m 0 < countOf counts m → Comes attempt
     unfolding tryTurnOf lockOf secondOf takeOf lateOf boundaryOf runStepsOf number-of
     tried less = go (eqb (getD g (c / buckets) 0) 0) (eqb (waitersAt (w .table) c) 0) (stateAt (w .next) (w .table) c) (ltb (w .next) lastSerial) refl refl refl refl
@@ -85,7 +85,7 @@ module _ (buckets : ℕ) (g counts cells : List ℕ) where
         go true true (state.Held o) r p q x y = rw (p, q, x) (idled (blocked less (λ ok. let z : _≡_ {A = ℕ} 0 1 = cc (ok .is-free) in omega arith)) refl (refl, refl))
         go true true state.Free false p q x y = rw (p, q, x, y) (idled (blocked less (λ ok. no y (lt-ltb _ _ (ok .serial)))) refl (refl, refl))
         go true true state.Free true p q x y =
-            rw (p, q, x, y, waiters-set-cell (w .table) c 1 (w .next) c, q)
+            rw (p, q, x, y, p, waiters-set-cell (w .table) c 1 (w .next) c, q)
             (grabbed less (record { healthy = eqb-true _ _ p; unwaited = eqb-true _ _ q; is-free = x; serial = ltb-true _ _ y }) refl
             (attempt-begun ∷ boundary-run ∷ boundary-run ∷ [], boundary-run ∷ [], refl, (refl, refl), (refl, refl)))
 

@@ -293,7 +293,8 @@ pub extern "C" fn skid_environment_for_borrows(
     )
 }
 
-// A lease given up because somebody waits leaves its cell free and its serial spent.
+// After the third boundary the health of the cell's header is read, then the waiters. A lease given up then, with 7 or
+// because somebody waits, leaves its cell free and its serial spent.
 #[no_mangle]
 pub extern "C" fn skid_try_lock(
     headers: u32,
@@ -353,7 +354,8 @@ pub extern "C" fn skid_other_mutex_preserves_leases(
     )
 }
 
-// 6, 7 and 8 count the attempt and change nothing.
+// 6, 7 and 8 before the try_lock count the attempt and change nothing. 7 after its third boundary gives the lease up: its
+// cell is free, its serial spent.
 #[no_mangle]
 pub extern "C" fn skid_transactional_try_lock_bucket(
     headers: u32,
@@ -393,7 +395,7 @@ pub extern "C" fn skid_transactional_try_lock_bucket(
     *reply = words::played_words(r);
 }
 
-// 4,096 Busy attempts are refused with 11, and nothing is held.
+// 7 ends it in each attempt's two readings of the health. 4,096 Busy attempts are refused with 11, and nothing is held.
 #[no_mangle]
 pub extern "C" fn skid_acquire_index_bucket(
     headers: u32,

@@ -88,7 +88,7 @@ module _ {h : Head} {a b : List ℕ} {Good : Ran → Type 0} (tw : Twins h a b G
   try-lock-alike : (held : List ℕ) (c : ℕ) → tryLockOf h t g b place held c .seen ≡ tryLockOf h t g a place held c .seen
   unfolding tryLockOf lockRules scriptRules
   try-lock-alike held c =
-      let r = lock-alike tw (leasesOf held) (flowOf (h .next) place 0) t g c x in
+      let r = lock-alike tw (leasesOf held) (h .buckets) (flowOf (h .next) place 0) t g c x in
       rw e (judged-two (Seen-alike Reply) (first (lockRules h t g a place held c)) (λ _. refl) (rw (r .equal)))
 
   transactional-alike : (registry held : List ℕ) (binding bucket : ℕ)

@@ -7,7 +7,7 @@ use lib.Dec.{eqb}
 use lib.ListN.{length, take}
 use Rattle.choice.specs.Choice.{if_then_else_}
 use Rattle.model.specs.Log.{Made}
-use Rattle.model.specs.Arena.{waitersAt, setCell, leaseOf}
+use Rattle.model.specs.Arena.{headerOf, isPoisoned, waitersAt, setCell, leaseOf}
 use Rattle.model.specs.Foreign.{flowOf, boundaryOf}
 use Rattle.model.specs.Lock.{takeOf, afterTake, lateOf, secondOf, lockOf, runOf, findOf, attemptAt, attemptOf, spinOf, pauseOf, isBusy, retryOf, leaseAt, giveBackOf, rollbackOf, afterKey, bindingAt, bucketAt, attemptLimit, Locks, locksOf}
 use Rattle.model.specs.Calls.{given}
@@ -44,38 +44,42 @@ module _ {h : Head} {a b : List ℕ} {Good : Ran → Type 0} (tw : Twins h a b G
   abbrev Locking : Made (Locked × (List ℕ × List ℕ)) → Made (Locked × (List ℕ × List ℕ)) → Type 0
   Locking m n = Same (λ (o : Locked × (List ℕ × List ℕ)). Good (o .0 .flow, o .1)) (m .seen) (n .seen)
 
-  late-alike : (ps : List Lease) (f : Flow) (t g : List ℕ) (c s : ℕ) → Good (f, (t, g)) → Locking (lateOf (given h a ps) f t g c s) (lateOf (given h b ps) f t g c s)
+  late-alike : (ps : List Lease) (buckets : ℕ) (f : Flow) (t g : List ℕ) (c s : ℕ) → Good (f, (t, g))
+      → Locking (lateOf (given h a ps) buckets f t g c s) (lateOf (given h b ps) buckets f t g c s)
   unfolding lateOf
-  late-alike ps f t g c s x =
+  late-alike ps buckets f t g c s x =
       let qs = ps ++ (leaseOf c s ∷ []) in
       let m = boundaryOf (given h a qs) f t g .seen in
       let r = tw .boundaries qs f t g x in
       rw (r .equal)
+      (if-two Locking (isPoisoned (m .1 .1) (headerOf buckets c)) (record { equal = refl; good = tw .frees (m .0) (m .1 .0) (m .1 .1) c (r .good) })
       (if-two Locking (eqb (waitersAt (m .1 .0) c) 0) (record { equal = refl; good = r .good })
-      (record { equal = refl; good = tw .frees (m .0) (m .1 .0) (m .1 .1) c (r .good) }))
+      (record { equal = refl; good = tw .frees (m .0) (m .1 .0) (m .1 .1) c (r .good) })))
 
-  second-alike : (ps : List Lease) (f : Flow) (t g : List ℕ) (c : ℕ) → Good (f, (t, g)) → Locking (secondOf (given h a ps) f t g c) (secondOf (given h b ps) f t g c)
+  second-alike : (ps : List Lease) (buckets : ℕ) (f : Flow) (t g : List ℕ) (c : ℕ) → Good (f, (t, g))
+      → Locking (secondOf (given h a ps) buckets f t g c) (secondOf (given h b ps) buckets f t g c)
   unfolding secondOf
-  second-alike ps f t g c x =
+  second-alike ps buckets f t g c x =
       let m = boundaryOf (given h a ps) f t g .seen in
       let o = takeOf (m .0 .next) (m .1 .0) c .seen in
       let r = tw .boundaries ps f t g x in
       rw (r .equal)
       (go (o .0 .answer) (flowOf (o .0 .next) (m .0 .place) (m .0 .dropped)) (o .1) (m .1 .1) (tw .takes (m .0) (m .1 .0) (m .1 .1) c (r .good)))
     where
-      go : (y : Take) (f : Flow) (t g : List ℕ) → Good (f, (t, g)) → Locking (afterTake y (given h a ps) f t g c) (afterTake y (given h b ps) f t g c)
-      go (taking.Granted s) f t g x = late-alike ps f t g c s x
+      go : (y : Take) (f : Flow) (t g : List ℕ) → Good (f, (t, g)) → Locking (afterTake y (given h a ps) buckets f t g c) (afterTake y (given h b ps) buckets f t g c)
+      go (taking.Granted s) f t g x = late-alike ps buckets f t g c s x
       go taking.Busy f t g x = record { equal = refl; good = x }
       go taking.Damaged f t g x = record { equal = refl; good = x }
       go taking.Spent f t g x = record { equal = refl; good = x }
 
-  pub lock-alike : (ps : List Lease) (f : Flow) (t g : List ℕ) (c : ℕ) → Good (f, (t, g)) → Locking (lockOf (given h a ps) f t g c) (lockOf (given h b ps) f t g c)
+  pub lock-alike : (ps : List Lease) (buckets : ℕ) (f : Flow) (t g : List ℕ) (c : ℕ) → Good (f, (t, g))
+      → Locking (lockOf (given h a ps) buckets f t g c) (lockOf (given h b ps) buckets f t g c)
   unfolding lockOf
-  lock-alike ps f t g c x =
+  lock-alike ps buckets f t g c x =
       let m = boundaryOf (given h a ps) f t g .seen in
       let r = tw .boundaries ps f t g x in
       rw (r .equal)
-      (if-two Locking (eqb (waitersAt (m .1 .0) c) 0) (second-alike ps (m .0) (m .1 .0) (m .1 .1) c (r .good)) (record { equal = refl; good = r .good }))
+      (if-two Locking (eqb (waitersAt (m .1 .0) c) 0) (second-alike ps buckets (m .0) (m .1 .0) (m .1 .1) c (r .good)) (record { equal = refl; good = r .good }))
 
   -- ---- attempts by key
 
@@ -91,9 +95,9 @@ module _ {h : Head} {a b : List ℕ} {Good : Ran → Type 0} (tw : Twins h a b G
     unfolding attemptOf
     attempt-alike r t g x = go (findOf (h .headers) buckets g registry binding bucket)
       where
-        go : (y : Found) → Trying (attemptAt y (given h a ps) r t g) (attemptAt y (given h b ps) r t g)
+        go : (y : Found) → Trying (attemptAt y (given h a ps) buckets r t g) (attemptAt y (given h b ps) buckets r t g)
         go (found.Fault y) = record { equal = refl; good = x }
-        go (found.At c) = let k = lock-alike ps (r .flow) t g c x in rw (k .equal) (record { equal = refl; good = k .good })
+        go (found.At c) = let k = lock-alike ps buckets (r .flow) t g c x in rw (k .equal) (record { equal = refl; good = k .good })
 
     spin-alike : (r : Run) (t g : List ℕ) → Good (r .flow, (t, g)) → Running (spinOf (given h a ps) r t g) (spinOf (given h b ps) r t g)
     unfolding spinOf

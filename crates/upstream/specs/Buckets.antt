@@ -12,7 +12,7 @@ use Rattle.model.specs.Answers.{kindOf}
 use Rattle.model.specs.Refusals.{Rule, first}
 use Rattle.model.specs.Checks.{badShape, badHealth, badRegistry, badScript, badHeld, badHeldLength, badBinding, bucketRules}
 use Rattle.model.specs.Foreign.{Setting, boundaryOf}
-use Rattle.model.specs.Lock.{findOf, outcomeOf, answerOf, settled, attemptAt, attemptOf, attemptLimit, retryOf}
+use Rattle.model.specs.Lock.{findOf, answerOf, settled, attemptAt, attemptOf, attemptLimit, retryOf}
 use Rattle.model.specs.Calls.{given, starting}
 use Rattle.model.specs.declared.Answer.the-variants.{Granted, Refused}
 use Rattle.model.specs.declared.Check.the-variants.{Fine, Fault}
@@ -128,7 +128,7 @@ module _ (w : Authority) (registry script : List ℕ) (place : ℕ) (held : List
 
   bad-key : (x : Refusal) → find₁ ≡ found.Fault x → attempted ≡ outcome.Refused x
   unfolding attemptOf
-  bad-key x e = ap (λ (f : Found). attemptAt f setting begun (w .table) (w .health) .seen .0 .outcome) e
+  bad-key x e = ap (λ (f : Found). attemptAt f setting (w .head .buckets) begun (w .table) (w .health) .seen .0 .outcome) e
 
   -- self.poisoned(header): of a header in the arena the health byte decides what the key comes to, and 7 with the
   -- header is the call's answer
@@ -147,8 +147,8 @@ module _ (w : Authority) (registry script : List ℕ) (place : ℕ) (held : List
   damaged-key : (c : Key) → find₁ ≡ found.At c → Damaged-at c → attempted ≡ outcome.Refused (Damaged c)
   unfolding attemptOf
   damaged-key c e d =
-      ap (λ (f : Found). attemptAt f setting begun (w .table) (w .health) .seen .0 .outcome) e
-      ∙ ap (outcomeOf c) (lock-damaged setting (begun .flow) (w .table) (w .health) c (d .0) (d .1) .0)
+      ap (λ (f : Found). attemptAt f setting (w .head .buckets) begun (w .table) (w .health) .seen .0 .outcome) e
+      ∙ lock-damaged setting (w .head .buckets) (begun .flow) (w .table) (w .health) c (d .0) (d .1) .0
 
   -- ---- `transactional_try_lock_bucket`
 

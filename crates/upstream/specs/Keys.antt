@@ -12,7 +12,7 @@ use Rattle.model.specs.Log.{Made}
 use Rattle.model.specs.Arena.{cellNumber, leaseOf}
 use Rattle.model.specs.Foreign.{Setting}
 use Rattle.model.specs.Answers.{kindOf}
-use Rattle.model.specs.Lock.{lockOf, outcomeOf, answerOf, findOf, attemptAt, attemptOf, pauseOf, isBusy, retryOf, settled}
+use Rattle.model.specs.Lock.{answerOf, findOf, attemptAt, attemptOf, pauseOf, isBusy, retryOf, settled}
 use Rattle.model.specs.declared.Found.{Found}
 use Rattle.model.specs.declared.Found.the-variants as found
 use Rattle.model.specs.declared.Lease.{Lease}
@@ -21,10 +21,10 @@ use Rattle.model.specs.declared.Outcome.{Outcome}
 use Rattle.model.specs.declared.Outcome.the-variants as outcome
 use Rattle.model.specs.declared.Refusal.the-variants.{BadHeader, Poisoned, InvalidBucket}
 use Rattle.model.specs.declared.Run.{Run}
-use Rattle.model.specs.declared.Take.{Take}
-use Rattle.model.specs.declared.Take.the-variants as taking
 use Rattle.model.specs.declared.Tried.{Tried}
 use Rattle.choice.specs.Pick.{if-both}
+use Rattle.laws.specs.Outcomes as locked
+use Rattle.laws.specs.Outcomes.{Comes, lock-comes}
 use Rattle.history.specs.Tests.{differ, if-cases}
 use Rattle.history.specs.Steps.{With}
 
@@ -52,14 +52,13 @@ finds headers buckets g registry binding bucket =
     P : Found → Type 0
     P f = Finds headers buckets g registry binding bucket f
 
--- a take that granted this lease
-pub granted-lease : (c : ℕ) (a : Take) (l : Lease) → outcomeOf c a ≡ outcome.Granted l → (a ≡ taking.Granted (l .serial)) × (l ≡ leaseOf c (l .serial))
-granted-lease c (taking.Granted s) l e =
-    let q : leaseOf c s ≡ l = cc in
-    (ap {B = Take} (λ (k : Lease). taking.Granted (k .serial)) q, sym q ∙ ap (λ (k : Lease). leaseOf c (k .serial)) q)
-granted-lease c taking.Busy l e = let q : _≡_ {A = ℕ} 0 1 = cc in absurd (omega arith)
-granted-lease c taking.Damaged l e = let q : _≡_ {A = ℕ} 0 1 = cc in absurd (omega arith)
-granted-lease c taking.Spent l e = let q : _≡_ {A = ℕ} 0 1 = cc in absurd (omega arith)
+-- the cell of a lease that a lock granted
+pub granted-cell : {buckets c : ℕ} {g : List ℕ} {o : Outcome} → Comes buckets c g o → (l : Lease) → o ≡ outcome.Granted l → l .cell ≡ c
+granted-cell {c = c} (locked.granted s h) l e = let q : leaseOf c s ≡ l = cc in sym (ap (λ (k : Lease). k .cell) q)
+granted-cell locked.busy l e = let q : _≡_ {A = ℕ} 0 1 = cc in absurd (omega arith)
+granted-cell (locked.poisoned h) l e = let q : _≡_ {A = ℕ} 0 1 = cc in absurd (omega arith)
+granted-cell locked.damaged l e = let q : _≡_ {A = ℕ} 0 1 = cc in absurd (omega arith)
+granted-cell locked.spent l e = let q : _≡_ {A = ℕ} 0 1 = cc in absurd (omega arith)
 
 -- an answer that grants this lease
 pub answer-granted : (o : Outcome) (l : Lease) → answerOf o ≡ Granted l → o ≡ outcome.Granted l
@@ -87,14 +86,13 @@ module _ (e : Setting) (buckets : ℕ) (registry : List ℕ) (binding bucket : �
   unfolding attemptOf
   attempt-key r t g = go (finds (e .headers) buckets g registry binding bucket)
     where
-      go : {x : Found} → Finds (e .headers) buckets g registry binding bucket x → Keyed (attemptAt x e r t g .seen)
+      go : {x : Found} → Finds (e .headers) buckets g registry binding bucket x → Keyed (attemptAt x e buckets r t g .seen)
       go (bad-header p) l q = let z : _≡_ {A = ℕ} 0 1 = cc in absurd (omega arith)
       go (poisoned p s) l q = let z : _≡_ {A = ℕ} 0 1 = cc in absurd (omega arith)
       go (bad-bucket p s k) l q = let z : _≡_ {A = ℕ} 0 1 = cc in absurd (omega arith)
       go (at p s k) l q =
           let c = cellNumber buckets (getD registry binding 0) bucket in
-          let x = granted-lease c (lockOf e (r .flow) t g c .seen .0 .answer) l q in
-          record { header-inside = p; bucket-inside = k; cell-is = ap (λ (k : Lease). k .cell) (x .1) }
+          record { header-inside = p; bucket-inside = k; cell-is = granted-cell (lock-comes e buckets c (r .flow) t g) l q }
 
   pub retry-key : (left i : ℕ) (r : Run) (t g : List ℕ) → Keyed (retryOf left i e buckets registry binding bucket r t g .seen)
   unfolding retryOf

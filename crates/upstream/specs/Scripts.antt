@@ -8,7 +8,7 @@ use native.Mathlib.Omega.{arith}
 use lib.Dec.{eqb}
 use lib.ListN.{getD}
 use Rattle.model.specs.Log.{Made, Event, by-caller, released}
-use Rattle.model.specs.Arena.{lastSerial, cellsOf, cellNumber, leaseOf, waitersAt, isIn}
+use Rattle.model.specs.Arena.{lastSerial, cellsOf, cellNumber, headerOf, isPoisoned, leaseOf, waitersAt, isIn}
 use Rattle.model.specs.Answers.{kindOf}
 use Rattle.model.specs.Foreign.{stepsIn, kindAt, placeAt, numberAt, runStepsOf, boundaryOf, flowOf}
 use Rattle.model.specs.Lock.{takeOf, lateOf, afterTake, secondOf, lockOf, outcomeOf, answerOf, attemptAt, attemptOf, spinOf, pauseOf, isBusy, retryOf, runOf}
@@ -30,10 +30,10 @@ use Rattle.history.specs.Tests.{differ, same-lease, In, in-first, in-cases, in-
 use Rattle.history.specs.Logs.{Kept}
 use Rattle.history.specs.Steps.{worldAt, With, of-flow, of-locked, of-run, of-tried, step-kept}
 use Rattle.laws.specs.Keys.{place-inside}
-use Rattle.upstream.specs.Vocabulary.{Key, Authority, Acquires, Leases, next-serial, cells, valid, authorized, Step, Acquire, Release, step, releases, protected-valid}
+use Rattle.upstream.specs.Vocabulary.{Authority, Acquires, Leases, next-serial, cells, valid, authorized, Step, Acquire, Release, step, releases, protected-valid}
 use Rattle.upstream.specs.Protocol.{Trace, ended, first, join, trace-valid, trace-keeps, loosen, step-grants}
 use Rattle.upstream.specs.Bridge.{authorized-live, Sized, sized-now, lawful-trace, event-step}
-use Rattle.upstream.specs.Keys.{Finds, bad-header, poisoned, bad-bucket, at, finds, granted-lease}
+use Rattle.upstream.specs.Keys.{Finds, bad-header, poisoned, bad-bucket, at, finds}
 use Rattle.upstream.specs.TryAcquire.{Tries, acquired, tries-some, tries-none, tries-sized}
 
 -- ---- a way from one state to another
@@ -92,26 +92,22 @@ module _ (h : Head) (script : List ℕ) where
 
   -- ---- a lock: where it goes, and that what it grants is authorized
 
-  pub record Locks (P : Leases) (c : Key) (w : Authority) (a : With Locked) : Type 0 where
+  pub record Locks (P : Leases) (w : Authority) (a : With Locked) : Type 0 where
     pub goes : Goes P w (of-locked h a)
-    pub gain : (s : ℕ) → a .0 .answer ≡ taking.Granted s → authorized (of-locked h a) (leaseOf c s)
+    pub gain : (l : Lease) → a .0 .answer ≡ outcome.Granted l → authorized (of-locked h a) l
 
   -- the same of a definition of the model
-  abbrev Locking : Leases → Key → Authority → Made (With Locked) → Type 0
-  Locking P c w m = Locks P c w (m .seen)
+  abbrev Locking : Leases → Authority → Made (With Locked) → Type 0
+  Locking P w m = Locks P w (m .seen)
 
   late-goes : (ps : List Lease) (f : Flow) (t g : List ℕ) (c s : ℕ) → Ready (In ps) (worldAt h (f .next) t g) → authorized (worldAt h (f .next) t g) (leaseOf c s)
-      → ((l : Lease) → In ps l → l ≡ leaseOf c s → ⊥) → Locks (In ps) c (worldAt h (f .next) t g) (lateOf (given h script ps) f t g c s .seen)
+      → ((l : Lease) → In ps l → l ≡ leaseOf c s → ⊥) → Locks (In ps) (worldAt h (f .next) t g) (lateOf (given h script ps) (h .buckets) f t g c s .seen)
   unfolding lateOf isIn
   late-goes ps f t g c s r a apart =
-      if-both (Locking (In ps) c w) (eqb (waitersAt (m .1 .0) c) 0)
-      (record { goes = fewer (λ l i. in-left l ps (new ∷ []) i) b; gain = λ x e. let q : s ≡ x = cc in rw (← q) still })
-      (record {
-        goes = then (fewer (λ l i. in-left l ps (new ∷ []) i) b)
-            (moved (of-flow h m) (world.step (of-flow h m) event) (Release c s) (event-step (of-flow h m) event (b .sized) (authorized-live (of-flow h m) new (r′ .valid-now) still))
-            (λ l i x. apart l i (same-lease l new (sym (x .0)) (sym (x .1)))) (sized-now (of-flow h m) (event ∷ []) (b .sized)));
-        gain = λ x e. let q : _≡_ {A = ℕ} 0 1 = cc in absurd (omega arith);
-      })
+      if-both (Locking (In ps) w) (isPoisoned (m .1 .1) (headerOf (h .buckets) c)) (record { goes = back; gain = λ x e. let q : _≡_ {A = ℕ} 0 1 = cc in absurd (omega arith) })
+      (if-both (Locking (In ps) w) (eqb (waitersAt (m .1 .0) c) 0)
+      (record { goes = fewer (λ l i. in-left l ps (new ∷ []) i) b; gain = λ x e. let q : new ≡ x = cc in subst (authorized (of-flow h m)) q still })
+      (record { goes = back; gain = λ x e. let q : _≡_ {A = ℕ} 0 1 = cc in absurd (omega arith) }))
     where
       w : Authority
       w = worldAt h (f .next) t g
@@ -141,10 +137,17 @@ module _ (h : Head) (script : List ℕ) where
       still : authorized (of-flow h m) new
       still = r′ .safe new (in-right new ps (new ∷ []) (in-first new []))
 
+      -- the new lease given back
+      back : Goes (In ps) w (world.step (of-flow h m) event)
+      back =
+          then (fewer (λ l i. in-left l ps (new ∷ []) i) b)
+          (moved (of-flow h m) (world.step (of-flow h m) event) (Release c s) (event-step (of-flow h m) event (b .sized) (authorized-live (of-flow h m) new (r′ .valid-now) still))
+          (λ l i x. apart l i (same-lease l new (sym (x .0)) (sym (x .1)))) (sized-now (of-flow h m) (event ∷ []) (b .sized)))
+
   -- after the compare-and-set: `u` is the state before it
   after-goes : (ps : List Lease) (u : Authority) (a : Take) (f : Flow) (t g : List ℕ) (c : ℕ) → Ready (In ps) u
       → Tries (Unit {0}) u c (answerOf (outcomeOf c a)) (worldAt h (f .next) t g)
-      → Locks (In ps) c u (afterTake a (given h script ps) f t g c .seen)
+      → Locks (In ps) u (afterTake a (given h script ps) (h .buckets) f t g c .seen)
   after-goes ps u (taking.Granted s) f t g c r x =
       record { goes = then one (late .goes); gain = late .gain }
     where
@@ -157,7 +160,7 @@ module _ (h : Head) (script : List ℕ) where
       one : Goes (In ps) u w
       one = moved u w (Acquire c (next-serial u)) (grant .1) (λ l i x. x) (tries-sized x (r .sized))
 
-      late : Locks (In ps) c w (lateOf (given h script ps) f t g c s .seen)
+      late : Locks (In ps) w (lateOf (given h script ps) (h .buckets) f t g c s .seen)
       late =
           late-goes ps f t g c s (ready r one) (subst (authorized w) (sym (grant .0)) (step-grants u w c (next-serial u) (grant .1)))
           (λ l i e. omega (arith, r .safe l i .locked, ap (λ (k : Lease). cells u (k .cell) .bit) e, grant .1 .unlocked))
@@ -169,7 +172,7 @@ module _ (h : Head) (script : List ℕ) where
       record { goes = subst (Goes (In ps) u) (sym (tries-none x (λ l e. omega (arith, ap kindOf e)))) (stays (r .sized)); gain = λ s e. let q : _≡_ {A = ℕ} 0 1 = cc in absurd (omega arith) }
 
   second-goes : (ps : List Lease) (f : Flow) (t g : List ℕ) (c : ℕ) → Ready (In ps) (worldAt h (f .next) t g) → c < cellsOf h
-      → Locks (In ps) c (worldAt h (f .next) t g) (secondOf (given h script ps) f t g c .seen)
+      → Locks (In ps) (worldAt h (f .next) t g) (secondOf (given h script ps) (h .buckets) f t g c .seen)
   unfolding secondOf acquireOf
   second-goes ps f t g c r i =
       let m = boundaryOf (given h script ps) f t g .seen in
@@ -181,12 +184,12 @@ module _ (h : Head) (script : List ℕ) where
       record { goes = then b (l .goes); gain = l .gain }
 
   pub lock-goes : (ps : List Lease) (f : Flow) (t g : List ℕ) (c : ℕ) → Ready (In ps) (worldAt h (f .next) t g) → c < cellsOf h
-      → Locks (In ps) c (worldAt h (f .next) t g) (lockOf (given h script ps) f t g c .seen)
+      → Locks (In ps) (worldAt h (f .next) t g) (lockOf (given h script ps) (h .buckets) f t g c .seen)
   unfolding lockOf
   lock-goes ps f t g c r i =
       let m = boundaryOf (given h script ps) f t g .seen in
       let b = boundary-goes ps f t g r in
-      if-both (Locking (In ps) c (worldAt h (f .next) t g)) (eqb (waitersAt (m .1 .0) c) 0)
+      if-both (Locking (In ps) (worldAt h (f .next) t g)) (eqb (waitersAt (m .1 .0) c) 0)
       (let l = second-goes ps (m .0) (m .1 .0) (m .1 .1) c (ready r b) i in record { goes = then b (l .goes); gain = l .gain })
       (record { goes = b; gain = λ s e. let q : _≡_ {A = ℕ} 0 1 = cc in absurd (omega arith) })
 
@@ -201,23 +204,18 @@ module _ (h : Head) (script : List ℕ) where
   unfolding attemptOf
   attempt-goes ps registry binding bucket r t g k = go (finds (h .headers) (h .buckets) g registry binding bucket)
     where
-      none : {x : _} → Attempts (In ps) (worldAt h (r .flow .next) t g) (attemptAt (found.Fault x) (given h script ps) r t g .seen)
+      none : {x : _} → Attempts (In ps) (worldAt h (r .flow .next) t g) (attemptAt (found.Fault x) (given h script ps) (h .buckets) r t g .seen)
       none = record { goes = stays (k .sized); gain = λ l e. let q : _≡_ {A = ℕ} 0 1 = cc in absurd (omega arith) }
 
       go : {x : Found} → Finds (h .headers) (h .buckets) g registry binding bucket x
-          → Attempts (In ps) (worldAt h (r .flow .next) t g) (attemptAt x (given h script ps) r t g .seen)
+          → Attempts (In ps) (worldAt h (r .flow .next) t g) (attemptAt x (given h script ps) (h .buckets) r t g .seen)
       go (bad-header p) = none
       go (poisoned p q) = none
       go (bad-bucket p q s) = none
       go (at p q s) =
           let c = cellNumber (h .buckets) (getD registry binding 0) bucket in
           let m = lock-goes ps (r .flow) t g c k (place-inside (h .headers) (h .buckets) (getD registry binding 0) bucket p s) in
-          record {
-            goes = m .goes;
-            gain = λ l e.
-                let x = granted-lease c (lockOf (given h script ps) (r .flow) t g c .seen .0 .answer) l e in
-                subst (authorized _) (sym (x .1)) (m .gain (l .serial) (x .0));
-          }
+          record { goes = m .goes; gain = m .gain }
 
   pub spin-goes : (ps : List Lease) (r : Run) (t g : List ℕ) → Ready (In ps) (worldAt h (r .flow .next) t g)
       → Goes (In ps) (worldAt h (r .flow .next) t g) (of-run h (spinOf (given h script ps) r t g .seen))

@@ -1,16 +1,16 @@
 -- 000: `try_lock` and `other_mutex_preserves_leases`, which are one definition here.
 use Prim.Native.Nat.{ℕ}
-use mathlib.Core.Path.{_≡_, refl, sym, ap, subst}
+use mathlib.Core.Path.{_≡_, refl, ap}
 use mathlib.Core.List.{List, [], _∷_}
 use mathlib.Core.Bool.{false}
 use native.Mathlib.Omega.{arith}
 use borrow.Author.Tests.{not-false, leb-false, eq-eqb}
-use Rattle.model.specs.Arena.{leaseOf, leasesOf, bitAt, ownerAt, waitersAt, stateOf, stateAt}
+use Rattle.model.specs.Arena.{leasesOf, bitAt, ownerAt, waitersAt, stateOf, stateAt}
 use Rattle.model.specs.Answers.{kindOf}
 use Rattle.model.specs.Refusals.{Rule, first}
 use Rattle.model.specs.Checks.{badShape, badHealth, badScript, badHeld, badHeldLength, scriptRules, lockRules}
 use Rattle.model.specs.Foreign.{Setting, flowOf, boundaryOf}
-use Rattle.model.specs.Lock.{lockOf, secondOf, takeOf, outcomeOf, answerOf}
+use Rattle.model.specs.Lock.{lockOf, secondOf, takeOf, answerOf}
 use Rattle.model.specs.Calls.{given}
 use Rattle.model.specs.declared.Answer.{Answer}
 use Rattle.model.specs.declared.Answer.the-variants.{Granted, Refused}
@@ -20,8 +20,8 @@ use Rattle.model.specs.declared.Lease.{Lease}
 use Rattle.model.specs.declared.Refusal.the-variants.{BadHeld, InvalidBucket, Damaged}
 use Rattle.model.specs.declared.State.{State}
 use Rattle.model.specs.declared.State.the-variants as state
-use Rattle.model.specs.declared.Take.{Take}
-use Rattle.model.specs.declared.Take.the-variants as taking
+use Rattle.model.specs.declared.Outcome.the-variants as outcome
+use Rattle.laws.specs.Outcomes.{lock-comes}
 use Rattle.history.specs.Items.{try-lock, perform, Clear, rules}
 use Rattle.history.specs.Statements.{answers, leaves}
 use Rattle.history.specs.Judged.{clear-back, unchanged}
@@ -32,7 +32,7 @@ use Rattle.upstream.specs.Protocol.{trace-valid, trace-keeps, trace-buri
 use Rattle.upstream.specs.Bridge.{status-valid, by-name, by-place, fits-sized, refused, by-checks}
 use Rattle.upstream.specs.Refusing.{First-bad, held-refused, cell-refused}
 use Rattle.upstream.specs.TryAcquire.{fine-fault}
-use Rattle.upstream.specs.Keys.{granted-lease, answer-granted}
+use Rattle.upstream.specs.Keys.{granted-cell, answer-granted}
 use Rattle.upstream.specs.Scripts.{lock-goes}
 use Rattle.upstream.specs.Environment.{Went, unmoved, held-live}
 
@@ -46,13 +46,13 @@ not-valid next b o n = go (stands next b o)
     go (is-damaged p q) = refl
 
 -- a lock whose cell is damaged when it comes to the compare-and-set: 9, and all as the boundaries left it
-pub lock-damaged : (e : Setting) (f : Flow) (t g : List ℕ) (c : Key)
+pub lock-damaged : (e : Setting) (buckets : ℕ) (f : Flow) (t g : List ℕ) (c : Key)
     → let one = boundaryOf e f t g .seen in
     let two = boundaryOf e (one .0) (one .1 .0) (one .1 .1) .seen in
     waitersAt (one .1 .0) c ≡ 0 → (Valid-cell (two .0 .next) (cell (bitAt (two .1 .0) c) (ownerAt (two .1 .0) c)) → ⊥)
-    → (lockOf e f t g c .seen .0 .answer ≡ taking.Damaged) × (lockOf e f t g c .seen .1 ≡ two .1) × (lockOf e f t g c .seen .0 .flow ≡ two .0)
+    → let m = lockOf e buckets f t g c .seen in (m .0 .answer ≡ outcome.Refused (Damaged c)) × (m .1 ≡ two .1) × (m .0 .flow ≡ two .0)
 unfolding lockOf secondOf takeOf stateAt
-lock-damaged e f t g c q n =
+lock-damaged e buckets f t g c q n =
     let one = boundaryOf e f t g .seen in
     let two = boundaryOf e (one .0) (one .1 .0) (one .1 .1) .seen in
     let s = not-valid (two .0 .next) (bitAt (two .1 .0) c) (ownerAt (two .1 .0) c) n in
@@ -71,16 +71,13 @@ module _ (w : Authority) (script : List ℕ) (place : ℕ) (held : List ℕ) (c 
   abbrev Before : List Rule
   Before = badShape (w .head) (w .table) ∷ badHealth (w .head) (w .health) ∷ badScript script place ∷ badHeld (w .head) (w .table) held
 
-  granted : (a : Take) (l : Lease) → answerOf (outcomeOf c a) ≡ Granted l → (a ≡ taking.Granted (l .serial)) × (l ≡ leaseOf c (l .serial))
-  granted a l e = granted-lease c a l (answer-granted (outcomeOf c a) l e)
-
   -- what is granted is the cell that was asked for, and it is in the arena, whatever the table holds
   pub granted-key : (l : Lease) → result ≡ Granted l → (lease-key l ≡ c) × contains-key w c
   unfolding lockRules scriptRules
   granted-key l =
       by-checks (λ m. m .seen .1 .answer ≡ Granted l → (lease-key l ≡ c) × contains-key w c) w (try-lock script place held c) (λ r e q. absurd (omega (arith, ap kindOf q)))
       (λ e k q. (
-        ap lease-key (granted (lockOf (given (w .head) script (leasesOf held)) (flowOf (next-serial w) place 0) (w .table) (w .health) c .seen .0 .answer) l q .1),
+        granted-cell (lock-comes (given (w .head) script (leasesOf held)) (w .head .buckets) c (flowOf (next-serial w) place 0) (w .table) (w .health)) l (answer-granted _ l q),
         leb-false _ _ (clear-back Before _ k .0),
       ))
 
@@ -91,12 +88,7 @@ module _ (w : Authority) (script : List ℕ) (place : ℕ) (held : List ℕ) (c 
       (λ e k.
       let m = lock-goes (w .head) script (leasesOf held) (flowOf (next-serial w) place 0) (w .table) (w .health) c
       (record { sized = fits-sized w (not-false _ (k .0)); valid-now = v; safe = held-live w held _ (k .1 .1 .1) }) (leb-false _ _ (clear-back Before _ k .0)) in
-      record {
-        trace = m .goes .trace;
-        gain = λ l e.
-            let x = granted (lockOf (given (w .head) script (leasesOf held)) (flowOf (next-serial w) place 0) (w .table) (w .health) c .seen .0 .answer) l e in
-            subst (authorized _) (sym (x .1)) (m .gain (l .serial) (x .0));
-      })
+      record { trace = m .goes .trace; gain = λ l e. m .gain l (answer-granted _ l e) })
 
   -- valid(old(authority)): 9, where the cell is damaged when it comes to the compare-and-set
   pub try-lock-r1 : first (rules w (try-lock script place held c)) ≡ Fine
@@ -111,8 +103,8 @@ module _ (w : Authority) (script : List ℕ) (place : ℕ) (held : List ℕ) (c 
       let two = boundaryOf given-all (one .0) (one .1 .0) (one .1 .1) .seen in
       by-checks (λ m. (m .seen .1 .answer ≡ Refused (Damaged c)) × (m .seen .0 ≡ of-flow (w .head) two)) w (try-lock script place held c) (λ r e. absurd (fine-fault f e))
       (λ e k.
-      let x = lock-damaged given-all (flowOf (next-serial w) place 0) (w .table) (w .health) c q n in
-      (ap (λ (a : Take). answerOf (outcomeOf c a)) (x .0), cc))
+      let x = lock-damaged given-all (w .head .buckets) (flowOf (next-serial w) place 0) (w .table) (w .health) c q n in
+      (ap answerOf (x .0), cc))
 
   -- cells(old(authority)).contains_key(key): 8
   pub try-lock-r2 : Clear Before → (contains-key w c → ⊥) → perform w (try-lock script place held c) ≡ unchanged w (try-lock script place held c) (InvalidBucket c)

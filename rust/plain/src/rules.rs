@@ -1,4 +1,5 @@
-//! Document 01: the arena, foreign steps, the steps of a lock, the crew, the refusals.
+//! Document 01: the arena, foreign steps, the steps of a lock, the crew, the refusals; with document 02's L3, the
+//! health that is read after the lock too.
 //!
 //! One public function for each call, over lent slices. A call checks what it takes in the order of the table
 //! of refusals, and then runs its steps; no argument makes it panic.
@@ -232,6 +233,11 @@ impl<'a> Arena<'a> {
         Ok(Arena { head, cells, table })
     }
 
+    /// Cell number = header x B + bucket.
+    fn header_of(&self, cell: u32) -> u32 {
+        cell / self.head.buckets
+    }
+
     /// A cell is free: bit 0, owner 0.
     fn is_free(&self, cell: u32) -> bool {
         self.table[bit(cell)] == 0 && self.table[owner(cell)] == 0
@@ -455,8 +461,9 @@ impl<'a> Run<'a> {
 
     // ---- The steps of a lock
 
-    /// Boundary, look at the waiters, boundary, try_acquire, boundary (protecting the new lease), look again.
-    /// The cell is in range.
+    /// Boundary, look at the waiters, boundary, try_acquire, boundary (protecting the new lease), look at the
+    /// health of the cell's header, look at the waiters again. The serial of a lease given up here stays spent. The
+    /// cell is in range.
     fn try_lock(&mut self, cell: u32) -> Attempt {
         self.boundary();
         if self.arena.table[waiters(cell)] != 0 {
@@ -469,6 +476,11 @@ impl<'a> Run<'a> {
         self.taken[self.count] = [lease.cell, lease.serial];
         self.count += 1;
         self.boundary();
+        let header = self.arena.header_of(cell);
+        if self.health[header as usize] != 0 {
+            self.release_last();
+            return Err(Refusal::Poisoned(header));
+        }
         if self.arena.table[waiters(cell)] != 0 {
             self.release_last();
             return Ok(None);
@@ -482,8 +494,8 @@ impl<'a> Run<'a> {
         self.arena.release(self.taken[self.count][0]);
     }
 
-    /// Header from the registry, then its health, then the bucket, then `try_lock`. The binding is in the
-    /// registry.
+    /// Header from the registry, then its health, then the bucket, then `try_lock`, which reads that health again.
+    /// The binding is in the registry.
     fn try_bucket(&mut self, binding: u32, bucket: u32) -> Attempt {
         self.counts.attempts += 1;
         let Head {
@@ -974,9 +986,10 @@ fn crew_turn(
     let taken = run.taken[member] as usize;
     let released = run.released[member] as usize;
     if taken < list.len() {
-        // one try_lock with no script, after a health reading: nothing can change between its two looks
+        // one try_lock with no script, after a health reading: nothing can change between that reading and the one
+        // in it, nor between its two looks at the waiters
         let cell = list[taken];
-        let healthy = health[(cell / arena.head.buckets) as usize] == 0;
+        let healthy = health[arena.header_of(cell) as usize] == 0;
         let granted = healthy
             && arena.table[waiters(cell)] == 0
             && matches!(arena.try_acquire(cell), Ok(Some(_)));

@@ -1,5 +1,5 @@
-//! The random histories reach every call, and with every call each answer that it can give; and echo, map and
-//! trace in all their cases.
+//! The random histories reach every call, and with every call each answer that it can give; the two readings of
+//! health in all their cases; and echo, map and trace in all theirs.
 
 use plain::console::{Console, Line};
 use plain::rules;
@@ -21,8 +21,11 @@ const ANSWERS: [(&str, &str); 18] = [
     ("drop_preserving_borrows", "done 1 3 12 13"),
     ("environment", "done 1 2 3"),
     ("environment_for_borrows", "done 1 2 3"),
-    ("try_lock", "granted busy 1 2 3 8 9 10"),
-    ("other_mutex_preserves_leases", "granted busy 1 2 3 8 9 10"),
+    ("try_lock", "granted busy 1 2 3 7 8 9 10"),
+    (
+        "other_mutex_preserves_leases",
+        "granted busy 1 2 3 7 8 9 10",
+    ),
     (
         "transactional_try_lock_bucket",
         "granted busy 1 2 3 5 6 7 8 9 10",
@@ -86,6 +89,114 @@ fn every_answer_of_every_call() {
     assert!(not_understood > CALLS / 100);
     // calls with 4,096 attempts are dear: at most one in forty
     assert!(failures * 40 <= calls, "{failures} of {calls}");
+}
+
+/// The number behind a word of what a call printed.
+fn behind(out: &str, word: &str) -> Option<u32> {
+    let mut words = out.split([' ', '\n']);
+    words.find(|&one| one == word)?;
+    words.next()?.parse().ok()
+}
+
+/// Which reading of health a lock met, and how: for a refusal by 7, and for a grant by cell under a header that was
+/// poisoned before. None where the counts do not tell, or health was nothing to it.
+fn health_case(health: &[u8], console: &Console, line: &str, out: &str) -> Option<String> {
+    let poisoned = out.starts_with("refused 7 ");
+    let call = line.split(' ').next()?;
+    let attempts = behind(out, "attempts")?;
+    let boundaries = behind(out, "boundaries")?;
+    let case = match call {
+        "try_lock" | "other_mutex_preserves_leases" => {
+            let cell = behind(line, call)?;
+            let header = cell.checked_div(console.head.buckets)?;
+            let before = *health.get(header as usize)? != 0;
+            match (poisoned, before) {
+                (true, _) => {
+                    assert_eq!((attempts, boundaries), (1, 3), "{line}: {out}");
+                    assert_eq!(behind(out, "Poisoned"), Some(header), "{line}: {out}");
+                    let waited = console.table[3 * cell as usize + 2] != 0;
+                    let when = if before { "before" } else { "meanwhile" };
+                    format!("{when}{}", if waited { ", waited for" } else { "" })
+                }
+                (false, true) if out.starts_with("granted ") => "mended in time".to_string(),
+                _ => return None,
+            }
+        }
+        "transactional_try_lock_bucket" | "acquire_index_bucket" if poisoned => {
+            match (attempts, boundaries) {
+                (1, 0) => "first reading".to_string(),
+                (1, 3) => "second reading".to_string(),
+                // a Busy attempt has one to three boundaries, and one with its spin
+                (2, 2..=4) => "first reading of attempt 1".to_string(),
+                (2, 5..=7) => "second reading of attempt 1".to_string(),
+                (1 | 2, _) => panic!("{line}: {out}"),
+                _ => return None,
+            }
+        }
+        "acquire_index_locks" if poisoned => {
+            let position = behind(out, "at")?;
+            let above = if position > 0 { "above" } else { "at" };
+            // each key before it got at once, and given back with a boundary
+            match boundaries.checked_sub(4 * position) {
+                Some(0) if attempts == position + 1 => format!("first reading {above} 0"),
+                Some(3) if attempts == position + 1 => format!("second reading {above} 0"),
+                _ => return None,
+            }
+        }
+        _ => return None,
+    };
+    Some(format!("{call}: {case}"))
+}
+
+#[test]
+fn every_case_of_health() {
+    let mut seen = BTreeSet::new();
+    for seed in [1, 2] {
+        let mut console = Console::new();
+        for line in history(seed).split(|&byte| byte == b'\n') {
+            let (health, mut out) = (console.health.clone(), Vec::new());
+            let kind = console
+                .line(line, &mut out)
+                .expect("a vector takes every byte");
+            if kind == Line::Call {
+                let line = String::from_utf8_lossy(line);
+                let out = String::from_utf8_lossy(&out);
+                seen.extend(health_case(&health, &console, &line, &out));
+            }
+        }
+    }
+    let by_cell = [
+        "before",
+        "before, waited for",
+        "meanwhile",
+        "meanwhile, waited for",
+        "mended in time",
+    ];
+    let by_key = ["first reading", "second reading"];
+    let retrying = [
+        "first reading",
+        "second reading",
+        "first reading of attempt 1",
+        "second reading of attempt 1",
+    ];
+    let locks = [
+        "first reading at 0",
+        "first reading above 0",
+        "second reading at 0",
+        "second reading above 0",
+    ];
+    let calls: [(&str, &[&str]); 5] = [
+        ("try_lock", &by_cell),
+        ("other_mutex_preserves_leases", &by_cell),
+        ("transactional_try_lock_bucket", &by_key),
+        ("acquire_index_bucket", &retrying),
+        ("acquire_index_locks", &locks),
+    ];
+    let expected: BTreeSet<String> = calls
+        .iter()
+        .flat_map(|(call, cases)| cases.iter().map(move |case| format!("{call}: {case}")))
+        .collect();
+    assert_eq!(seen, expected);
 }
 
 #[test]

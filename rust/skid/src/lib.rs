@@ -547,8 +547,8 @@ impl<'a> Arena<'a> {
         self.played(script, words)
     }
 
-    /// Boundary, waiters, boundary, compare-and-set, boundary, waiters. A late Busy releases the cell, and its serial
-    /// stays spent.
+    /// Boundary, waiters, boundary, compare-and-set, boundary, the health of the cell's header, waiters. A late
+    /// [`Refusal::Poisoned`] or Busy releases the cell, and its serial stays spent.
     pub fn try_lock(&mut self, script: &mut Script, held: &[Lease], cell: u32) -> Played {
         let words = sys::try_lock(
             self.head,
@@ -581,7 +581,8 @@ impl<'a> Arena<'a> {
         self.played(script, words)
     }
 
-    /// One attempt on a key: header from the registry, then its health, then the bucket, then a try_lock.
+    /// One attempt on a key: header from the registry, then its health, then the bucket, then a try_lock, which reads
+    /// the health again. [`Refusal::Poisoned`] before the try_lock has taken nothing; after it the serial stays spent.
     pub fn transactional_try_lock_bucket(
         &mut self,
         registry: &[u32],
@@ -602,7 +603,8 @@ impl<'a> Arena<'a> {
         self.played(script, words)
     }
 
-    /// Up to 4,096 attempts on a key, with boundaries, yields and spins between them. Granted or refused, never Busy.
+    /// Up to 4,096 attempts on a key, with boundaries, yields and spins between them. Granted or refused, never Busy. A
+    /// refusal ends it at once, also [`Refusal::Poisoned`] after a try_lock's third boundary.
     pub fn acquire_index_bucket(
         &mut self,
         registry: &[u32],

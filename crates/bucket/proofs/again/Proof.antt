@@ -22,7 +22,7 @@ pause-requires : tie.Need-pause-requires
 pause-requires c κs =
     let a = c .before .before .before .before .before .before .before .before .before .before .before .before .before .before .before .before .before .before .args in
     let room = c .before .before .before .before .before .before .before .before .before .before .before .before .before .before .before .before .before .before .pre .0 .room in
-    (record { words-fit = search needs; bytes-fit = search needs; few-taken = room .few-taken; steps-are = room .steps-are }, more-run-bound _ _ _ _ (omega arith) (attempt-goes _ _ _ _ _ (room .steps-are) _ (c .before .before .before .before .before .before .before .before .before .before .before .before .find .result) _ (a .run) (a .table .now) (a .health .now) (c .before .before .before .before .before .before .before .before .before .attempt .ensures) (c .before .before .before .before .before .before .before .before .before .before .before .before .before .before .before .before .before .before .pre .1)))
+    (record { words-fit = search needs; bytes-fit = search needs; few-taken = room .few-taken; steps-are = room .steps-are }, more-run-bound _ _ _ _ (omega arith) (attempt-goes _ _ _ _ _ (room .steps-are) _ (c .before .before .before .before .before .before .before .before .before .before .before .before .find .result) _ _ (a .run) (a .table .now) (a .health .now) (c .before .before .before .before .before .before .before .before .before .attempt .ensures) (c .before .before .before .before .before .before .before .before .before .before .before .before .before .before .before .before .before .before .pre .1)))
 
 same-length : tie.Need-same-length
 same-length c = search needs

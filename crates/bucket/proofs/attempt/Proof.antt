@@ -17,12 +17,12 @@ enum-known-found-2 : tie.Need-enum-known-found-2
 enum-known-found-2 c = search needs
 
 lock-requires : tie.Need-lock-requires
-lock-requires c κs = (c .before .before .before .before .before .before .before .before .before .before .before .before .before .before .pre .0, (c .before .before .before .before .before .before .before .before .before .before .before .before .before .before .pre .1 .0 .flow-bound, c .before .before .before .before .before .before .before .before .before .before .before .before .before .before .pre .1 .1 _ (c .before .before .before .before .before .before .before .before .found2 .given .1)))
+lock-requires c κs = (c .before .before .before .before .before .before .before .before .before .before .before .before .before .before .pre .0, (c .before .before .before .before .before .before .before .before .before .before .before .before .before .before .pre .1 .0 .flow-bound, c .before .before .before .before .before .before .before .before .before .before .before .before .before .before .pre .1 .1 _ (c .before .before .before .before .before .before .before .before .found2 .given .1) .there))
 
 counted-requires : tie.Need-counted-requires
 counted-requires c κs =
     let run-bound = c .before .before .before .before .before .before .before .before .before .before .before .before .before .before .before .before .before .before .before .pre .1 .0 in
-    let k = locked-bound-of _ _ _ _ _ (c .before .before .before .before .before .before .before .before .before .before .before .before .before .before .before .before .before .before .before .pre .0 .steps-are) _ _ _ _ _ (c .before .before .before .before .lock .ensures) (run-bound .flow-bound) in
+    let k = locked-bound-of _ _ _ _ _ (c .before .before .before .before .before .before .before .before .before .before .before .before .before .before .before .before .before .before .before .pre .0 .steps-are) _ _ _ _ _ _ (c .before .before .before .before .lock .ensures) (run-bound .flow-bound) in
     (run-bound .few-attempts, (run-bound .few-boundaries, k .few))
 
 same-length : tie.Need-same-length
@@ -38,7 +38,7 @@ head-requires : tie.Need-head-requires
 head-requires c κs = search needs
 
 quiet-lock-requires : tie.Need-quiet-lock-requires
-quiet-lock-requires c κs = omega (arith, c .before .before .before .before .before .before .before .before .before .before .before .before .before .pre .0 .words-fit, c .before .before .before .before .before .before .before .before .before .before .before .before .before .pre .1 .1 _ (c .before .before .before .before .before .before .before .found2 .given .1))
+quiet-lock-requires c κs = omega (arith, c .before .before .before .before .before .before .before .before .before .before .before .before .before .pre .0 .words-fit, c .before .before .before .before .before .before .before .before .before .before .before .before .before .pre .1 .1 _ (c .before .before .before .before .before .before .before .found2 .given .1) .there .inside)
 
 counted-requires-2 : tie.Need-counted-requires-2
 counted-requires-2 c κs =
@@ -55,7 +55,8 @@ returns-3 : tie.Need-returns-3
 returns-3 c =
     let a = c .before .before .before .before .before .before .before .before .before .before .before .before .before .before .before .before .before .args in
     let e = settingOf (a .scope) (a .script .now) (a .held .now) (a .taken .now) (a .n) in
-    rw (c .before .before .before .before .before .before .before .before .before .before .before .found2 .given .1, lock-quiet e (a .health .now) _ (a .run .flow) (a .table .now) (omega (arith, c .before .before .before .before .before .before .if1 .left, c .before .before .before .before .before .before .before .before .before .before .before .before .before .before .before .before .before .pre .0 .steps-are)), ← c .before .before .before .quiet-lock .ensures, ← c .counted2 .ensures)
+    let f = c .before .before .before .before .before .before .before .before .before .before .before .found2 .given .1 in
+    rw (f, lock-quiet e (a .scope .buckets) (a .health .now) _ (c .before .before .before .before .before .before .before .before .before .before .before .before .before .before .before .before .before .pre .1 .1 _ f .healthy) (a .run .flow) (a .table .now) (omega (arith, c .before .before .before .before .before .before .if1 .left, c .before .before .before .before .before .before .before .before .before .before .before .before .before .before .before .before .before .pre .0 .steps-are)), ← c .before .before .before .quiet-lock .ensures, ← c .counted2 .ensures)
 
 pub attempt-spec : {M : Type 1} → statement M
 attempt-spec =

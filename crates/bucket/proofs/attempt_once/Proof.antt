@@ -14,12 +14,12 @@ enum-known-found-2 : tie.Need-enum-known-found-2
 enum-known-found-2 c = search needs
 
 lock-requires : tie.Need-lock-requires
-lock-requires c κs = (c .before .before .before .before .before .before .before .before .before .before .pre .0, (c .before .before .before .before .before .before .before .before .before .before .pre .1 .0 .flow-bound, c .before .before .before .before .before .before .before .before .before .before .pre .1 .1 _ (c .before .before .before .before .found2 .given .1)))
+lock-requires c κs = (c .before .before .before .before .before .before .before .before .before .before .pre .0, (c .before .before .before .before .before .before .before .before .before .before .pre .1 .0 .flow-bound, c .before .before .before .before .before .before .before .before .before .before .pre .1 .1 _ (c .before .before .before .before .found2 .given .1) .there))
 
 counted-requires : tie.Need-counted-requires
 counted-requires c κs =
     let run-bound = c .before .before .before .before .before .before .before .before .before .before .before .before .before .before .before .pre .1 .0 in
-    let k = locked-bound-of _ _ _ _ _ (c .before .before .before .before .before .before .before .before .before .before .before .before .before .before .before .pre .0 .steps-are) _ _ _ _ _ (c .before .before .before .before .lock .ensures) (run-bound .flow-bound) in
+    let k = locked-bound-of _ _ _ _ _ (c .before .before .before .before .before .before .before .before .before .before .before .before .before .before .before .pre .0 .steps-are) _ _ _ _ _ _ (c .before .before .before .before .lock .ensures) (run-bound .flow-bound) in
     (run-bound .few-attempts, (run-bound .few-boundaries, k .few))
 
 returns : tie.Need-returns

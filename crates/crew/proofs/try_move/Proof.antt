@@ -16,9 +16,6 @@ enum-told c = search needs
 enum-told-2 : tie.Need-enum-told-2
 enum-told-2 c = search needs
 
-enum-told-3 : tie.Need-enum-told-3
-enum-told-3 c = search needs
-
 same-length : tie.Need-same-length
 same-length c = search needs
 
@@ -40,13 +37,6 @@ returns-3 : tie.Need-returns-3
 unfolding tryMoveOf
 returns-3 c = rw (← c .before .before .before .before .before .quiet-lock .ensures, c .enum-told2 .given .1)
 
-same-length-4 : tie.Need-same-length-4
-same-length-4 c = search needs
-
-returns-4 : tie.Need-returns-4
-unfolding tryMoveOf
-returns-4 c = rw (← c .before .before .before .before .before .quiet-lock .ensures, c .enum-told3 .given .1)
-
 pub try-move-spec : {M : Type 1} → statement M
 try-move-spec =
     tie.close
@@ -55,12 +45,9 @@ try-move-spec =
     enum-known-answer
     enum-told
     enum-told-2
-    enum-told-3
     same-length
     returns
     same-length-2
     returns-2
     same-length-3
-    returns-3
-    same-length-4
-    returns-4)
+    returns-3)

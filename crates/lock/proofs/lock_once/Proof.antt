@@ -1,6 +1,9 @@
 -- `lock::lock_once` meets its contract.
 use native.Mathlib.Omega.{arith}
-use Rattle.foreign.specs.Fine.{scope-room, scope-flow-bound, scope-given}
+use Rattle.model.specs.Arena.{leasesOf}
+use Rattle.model.specs.Foreign.{flowOf}
+use Rattle.foreign.specs.Fine.{scope-room, scope-flow-bound}
+use Rattle.lock.specs.Fine.{scope-cell, scope-lock}
 use Rattle.lock.specs.Model.{lockOnceOf}
 use borrow.Author.Needs.{needs}
 use Rattle.lock.proofs.lock_once.Statement.{statement}
@@ -11,10 +14,7 @@ scope-of-requires c κs = search needs
 
 lock-alone-requires : tie.Need-lock-alone-requires
 lock-alone-requires c κs = let e = c .before .before .scope-of .ensures in let f = c .before .before .before .before .before .before .before .pre in
-    (scope-room _ _ _ _ _ _ _ e (f .script-ok) (omega arith), (scope-flow-bound _ _ _ _ _ _ 0 e (f .script-ok), rw e (f .inside)))
-
-outcome-requires : tie.Need-outcome-requires
-outcome-requires c κs = search needs
+    (scope-room _ _ _ _ _ _ _ e (f .script-ok) (omega arith), (scope-flow-bound _ _ _ _ _ _ 0 e (f .script-ok), scope-cell _ (c .before .before .before .before .before .before .before .args .head) _ _ e (f .inside)))
 
 answer-of-requires : tie.Need-answer-of-requires
 answer-of-requires c κs = search needs
@@ -30,7 +30,9 @@ same-length-2 c = search needs
 
 returns : tie.Need-returns
 unfolding lockOnceOf
-returns c = rw (← scope-given _ (c .before .before .before .before .before .before .before .before .before .before .before .before .before .before .before .before .args .head) (c .before .before .before .before .before .before .before .before .before .before .before .before .before .before .before .before .args .script .now) _ (c .before .before .before .before .before .before .before .before .before .before .before .scope-of .ensures), ← c .before .before .before .before .before .before .before .before .lock-alone .ensures, ← c .before .before .outcome .ensures, ← c .before .answer-of .ensures, ← c .play .ensures)
+returns c =
+    let a = c .before .before .before .before .before .before .before .before .before .before .before .before .before .before .before .args in
+    rw (← scope-lock _ (a .head) (a .script .now) (leasesOf (a .held .now)) (flowOf (a .head .next) (a .place) 0) (a .table .now) (a .health .now) (a .cell) (c .before .before .before .before .before .before .before .before .before .before .scope-of .ensures), ← c .before .before .before .before .before .before .before .lock-alone .ensures, ← c .before .answer-of .ensures, ← c .play .ensures)
 
 pub lock-once-spec : {M : Type 1} → statement M
 lock-once-spec =
@@ -38,7 +40,6 @@ lock-once-spec =
     (tie.spec
     scope-of-requires
     lock-alone-requires
-    outcome-requires
     answer-of-requires
     play-requires
     same-length

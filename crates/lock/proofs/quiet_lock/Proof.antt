@@ -18,12 +18,15 @@ claim-at-requires c κs = search needs
 boundaries-for-requires : tie.Need-boundaries-for-requires
 boundaries-for-requires c κs = search needs
 
+outcome-requires : tie.Need-outcome-requires
+outcome-requires c κs = search needs
+
 same-length : tie.Need-same-length
 same-length c = search needs
 
 returns : tie.Need-returns
 unfolding quietLockOf
-returns c = rw (← c .before .before .before .before .before .before .before .before .waiters-at .ensures, eq-eqb _ _ (c .before .before .before .before .before .before .before .if1 .taken), take-claim (c .before .before .before .before .before .before .before .before .before .before .before .args .head .headers) (c .before .before .before .before .before .before .before .before .before .before .before .args .head .buckets) _ _ _, ← c .before .before .before .before .before .before .spent-to .ensures, ← c .before .before .before .before .claim-at .ensures, ← c .boundaries-for .ensures)
+returns c = rw (← c .before .before .before .before .before .before .before .before .before .waiters-at .ensures, eq-eqb _ _ (c .before .before .before .before .before .before .before .before .if1 .taken), take-claim (c .before .before .before .before .before .before .before .before .before .before .before .before .args .head .headers) (c .before .before .before .before .before .before .before .before .before .before .before .before .args .head .buckets) _ _ _, ← c .before .before .before .before .before .before .before .spent-to .ensures, ← c .before .before .before .before .before .claim-at .ensures, ← c .before .boundaries-for .ensures, ← c .outcome .ensures)
 
 same-length-2 : tie.Need-same-length-2
 same-length-2 c = search needs
@@ -40,6 +43,7 @@ quiet-lock-spec =
     spent-to-requires
     claim-at-requires
     boundaries-for-requires
+    outcome-requires
     same-length
     returns
     same-length-2

@@ -535,6 +535,13 @@ impl Writer {
         }
     }
 
+    /// A poisoned header is mended, most of the time.
+    fn heal(&mut self, header: u32) {
+        if self.console.health[header as usize] != 0 && !self.dice.once_in(6) {
+            self.write("byte", &[header, 0]);
+        }
+    }
+
     /// Another head for some calls.
     fn other_head(&mut self) {
         let rules::Head {
@@ -703,13 +710,20 @@ impl Writer {
         self.write("script", &script);
     }
 
-    /// A script under which a cell that a foreign holder has is let go after some boundaries.
+    /// A script under which a cell that a foreign holder has is let go after some boundaries; now and then its header
+    /// is poisoned soon after, while the cell is being taken or before.
     fn patient_script(&mut self, lease: [u32; 2]) {
         let mut script = Vec::new();
         for _ in 0..self.dice.below(40) {
             script.extend([5, 0, 0]);
         }
         script.extend([2, lease[0], lease[1], 5, 0, 0]);
+        if self.dice.once_in(3) {
+            for _ in 0..self.dice.below(5) {
+                script.extend([5, 0, 0]);
+            }
+            script.extend([4, lease[0] / self.buckets(), 1, 5, 0, 0]);
+        }
         let steps = self.dice.below(6);
         script.extend(self.steps(steps));
         self.write("script", &script);
@@ -742,6 +756,54 @@ impl Writer {
                 _ => [4, cell / self.buckets(), 1],
             });
         }
+        self.write("script", &script);
+    }
+
+    /// A script that takes each cell as soon as `release_all` has given it up, and now and then another.
+    fn greedy_script(&mut self) {
+        let leases = self.console.leases.chunks_exact(2);
+        let cells: Vec<u32> = leases.rev().map(|lease| lease[0]).collect();
+        let mut script = Vec::new();
+        for cell in cells {
+            script.extend([1, cell, 0]);
+            if self.dice.once_in(3) {
+                script.extend([1, self.cell(), 0]);
+            }
+            script.extend([5, 0, 0]);
+        }
+        self.write("script", &script);
+    }
+
+    /// A script that sets the health of a cell's header behind so many boundaries, and a few more: mostly two, so that
+    /// it is in the third boundary of a lock. With it others may wait, and a lease be reached for that is new then.
+    fn health_script(&mut self, cell: u32, boundaries: usize, health: u32) {
+        let header = cell / self.buckets();
+        let more = self.dice.pick(&[0, 1, 2, 2, 2, 2, 3]);
+        let mut script = [5, 0, 0].repeat(boundaries + more);
+        script.extend([4, header, health]);
+        match self.dice.below(8) {
+            0..=2 => script.extend([3, cell, 1]),
+            3 => script.extend([4, header, 1 - health]),
+            4 => script.extend([2, cell, self.next()]),
+            5 => script.extend(self.step()),
+            _ => {}
+        }
+        script.extend([5, 0, 0]);
+        let steps = self.dice.below(4);
+        script.extend(self.steps(steps));
+        self.write("script", &script);
+    }
+
+    /// A script under which the first attempt at a free cell is Busy, since others wait until it is over, and the
+    /// header is poisoned before the second attempt or in it.
+    fn second_attempt_script(&mut self, cell: u32) {
+        let header = cell / self.buckets();
+        // seen before the cell is taken, or after
+        let boundaries = self.dice.pick(&[0, 2]);
+        let mut script = [5, 0, 0].repeat(boundaries);
+        script.extend([3, cell, 1, 5, 0, 0, 3, cell, 0]);
+        script.extend([5, 0, 0].repeat(self.dice.below(4)));
+        script.extend([4, header, 1]);
         self.write("script", &script);
     }
 
@@ -835,18 +897,20 @@ impl Writer {
         [binding, bucket]
     }
 
+    /// The cell of a key whose binding, header and bucket are good.
+    fn cell_of(&self, [binding, bucket]: [u32; 2]) -> Option<u32> {
+        let header = *self.console.registry.get(binding as usize)?;
+        let good = header < self.headers() && bucket < self.buckets();
+        good.then(|| header * self.buckets() + bucket)
+    }
+
     /// A key of a free cell, if one is found in a few throws.
     fn free_key(&mut self) -> [u32; 2] {
         for _ in 0..6 {
-            let [binding, bucket] = self.key();
-            let header = self.console.registry.get(binding as usize).copied();
-            let free = header.is_some_and(|header| {
-                header < self.headers()
-                    && bucket < self.buckets()
-                    && self.words(header * self.buckets() + bucket) == [0, 0, 0]
-            });
-            if free {
-                return [binding, bucket];
+            let key = self.key();
+            let cell = self.cell_of(key);
+            if cell.is_some_and(|cell| self.words(cell) == [0, 0, 0]) {
+                return key;
             }
         }
         self.key()
@@ -1017,7 +1081,7 @@ impl Writer {
         }
         let [cell, serial] = self.lease();
         let [binding, bucket] = self.key();
-        match self.dice.below(64) {
+        match self.dice.below(68) {
             0..=3 => self.call_by_cell("try_acquire"),
             4..=7 => self.write("drop_lease", &[cell, serial]),
             8..=9 => self.write("read_permission", &[cell, serial]),
@@ -1039,14 +1103,18 @@ impl Writer {
             48 => self.acquire_patiently(),
             49..=53 => {
                 self.leases();
+                if self.dice.once_in(8) {
+                    self.greedy_script();
+                }
                 self.write("release_all", &[]);
             }
             54..=60 => self.acquire_all(),
             61..=62 => self.crew(),
-            _ => {
+            63 => {
                 self.members();
                 self.crew();
             }
+            _ => self.lock_poisoned(),
         }
     }
 
@@ -1087,6 +1155,73 @@ impl Writer {
             self.leases();
             self.write("release_all", &[]);
         }
+    }
+
+    /// A lock of a free cell whose header is poisoned, before the call or in one of its boundaries.
+    fn lock_poisoned(&mut self) {
+        let key = self.free_key();
+        let Some(cell) = self.cell_of(key) else {
+            return;
+        };
+        let header = cell / self.buckets();
+        self.heal(header);
+        let by_cell = self
+            .dice
+            .pick(&["try_lock", "other_mutex_preserves_leases"]);
+        match self.dice.below(10) {
+            // poisoned before, and mended in time, poisoned again, or left so
+            0..=2 => {
+                let byte = self.dice.pick(&[1, 2, 128, 255]);
+                self.write("byte", &[header, byte]);
+                match self.dice.below(3) {
+                    0 => {}
+                    health => self.health_script(cell, 0, health as u32 - 1),
+                }
+                self.write(by_cell, &[cell]);
+            }
+            3..=4 => {
+                self.health_script(cell, 0, 1);
+                self.write(by_cell, &[cell]);
+            }
+            5 => {
+                self.health_script(cell, 0, 1);
+                self.write("transactional_try_lock_bucket", &key);
+            }
+            6 => {
+                self.health_script(cell, 0, 1);
+                self.acquire(key[0], key[1]);
+            }
+            7 => {
+                self.second_attempt_script(cell);
+                self.acquire(key[0], key[1]);
+            }
+            _ => self.lock_poisoned_keys(),
+        }
+        if self.dice.once_in(2) {
+            self.write("byte", &[header, 0]);
+        }
+    }
+
+    /// Multi-lock under a script that poisons the header of one of its keys when that key's turn has come, if those
+    /// before it were got at once.
+    fn lock_poisoned_keys(&mut self) {
+        self.keys();
+        let keys = self.console.keys.chunks_exact(2);
+        let cells: Vec<(usize, u32)> = keys
+            .enumerate()
+            .filter_map(|(position, key)| Some((position, self.cell_of([key[0], key[1]])?)))
+            .collect();
+        for &(_, cell) in &cells {
+            self.heal(cell / self.buckets());
+        }
+        let later = &cells[cells.len().min(1)..];
+        if !later.is_empty() && !self.dice.once_in(4) {
+            let (position, cell) = self.dice.pick(later);
+            self.health_script(cell, 3 * position, 1);
+        } else if let Some(&(position, cell)) = cells.first() {
+            self.health_script(cell, 3 * position, 1);
+        }
+        self.write_retrying("acquire_index_locks", &[]);
     }
 
     fn crew(&mut self) {

@@ -1,0 +1,64 @@
+-- What a lock comes to.
+use Prim.Native.Nat.{ℕ}
+use mathlib.Core.Path.{_≡_, refl}
+use mathlib.Core.List.{List, [], _∷_}
+use mathlib.Core.Bool.{Bool, true, false, not}
+use lib.Dec.{eqb}
+use lib.ListN.{getD}
+use borrow.Author.Tests.{eqb-true, eqb-false}
+use Rattle.choice.specs.Choice.{if_then_else_}
+use Rattle.model.specs.Log.{Made, gives}
+use Rattle.model.specs.Arena.{headerOf, leaseOf, waitersAt}
+use Rattle.model.specs.Foreign.{Setting, protecting, boundaryOf, flowOf}
+use Rattle.model.specs.Lock.{takeOf, lockedOf, giveUpOf, lateOf, afterTake, secondOf, lockOf}
+use Rattle.model.specs.declared.Flow.{Flow}
+use Rattle.model.specs.declared.Locked.{Locked}
+use Rattle.model.specs.declared.Outcome.{Outcome}
+use Rattle.model.specs.declared.Outcome.the-variants as outcome
+use Rattle.model.specs.declared.Refusal.the-variants as refusal
+use Rattle.model.specs.declared.Take.{Take}
+use Rattle.model.specs.declared.Take.the-variants as taking
+use Rattle.choice.specs.Pick.{if-both}
+
+-- a lock of cell c that leaves the health g: a grant is of that cell, and its header is healthy then; 7 carries its
+-- header, which is not; 9 and 10 carry the cell
+pub data Comes (buckets c : ℕ) (g : List ℕ) : Outcome → Type 0 where
+  granted : (s : ℕ) → getD g (headerOf buckets c) 0 ≡ 0 → Comes buckets c g (outcome.Granted (leaseOf c s))
+  busy : Comes buckets c g outcome.Busy
+  poisoned : (getD g (headerOf buckets c) 0 ≡ 0 → ⊥) → Comes buckets c g (outcome.Refused (refusal.Poisoned (headerOf buckets c)))
+  damaged : Comes buckets c g (outcome.Refused (refusal.Damaged c))
+  spent : Comes buckets c g (outcome.Refused (refusal.SerialsSpent c))
+
+module _ (e : Setting) (buckets c : ℕ) where
+  abbrev Locking : Made (Locked × (List ℕ × List ℕ)) → Type 0
+  Locking m = Comes buckets c (m .seen .1 .1) (m .seen .0 .answer)
+
+  late-comes : (f : Flow) (t g : List ℕ) (s : ℕ) → Locking (lateOf e buckets f t g c s)
+  unfolding lateOf
+  late-comes f t g s =
+      let m = boundaryOf (protecting e (leaseOf c s ∷ [])) f t g .seen in
+      go (m .0) (m .1 .0) (m .1 .1) (eqb (getD (m .1 .1) (headerOf buckets c) 0) 0) refl
+    where
+      go : (k : Flow) (u w : List ℕ) (x : Bool) → eqb (getD w (headerOf buckets c) 0) 0 ≡ x
+          → Locking (if not x then giveUpOf (outcome.Refused (refusal.Poisoned (headerOf buckets c))) k u w c s else if eqb (waitersAt u c) 0 then gives (lockedOf k 3 (outcome.Granted (leaseOf c s)), (u, w)) else giveUpOf outcome.Busy k u w c s)
+      go k u w true q = if-both Locking (eqb (waitersAt u c) 0) (granted s (eqb-true _ _ q)) busy
+      go k u w false q = poisoned (eqb-false _ _ q)
+
+  after-comes : (a : Take) (f : Flow) (t g : List ℕ) → Locking (afterTake a e buckets f t g c)
+  after-comes (taking.Granted s) f t g = late-comes f t g s
+  after-comes taking.Busy f t g = busy
+  after-comes taking.Damaged f t g = damaged
+  after-comes taking.Spent f t g = spent
+
+  second-comes : (f : Flow) (t g : List ℕ) → Locking (secondOf e buckets f t g c)
+  unfolding secondOf
+  second-comes f t g =
+      let m = boundaryOf e f t g .seen in
+      let k = takeOf (m .0 .next) (m .1 .0) c .seen in
+      after-comes (k .0 .answer) (flowOf (k .0 .next) (m .0 .place) (m .0 .dropped)) (k .1) (m .1 .1)
+
+  pub lock-comes : (f : Flow) (t g : List ℕ) → Locking (lockOf e buckets f t g c)
+  unfolding lockOf
+  lock-comes f t g =
+      let m = boundaryOf e f t g .seen in
+      if-both Locking (eqb (waitersAt (m .1 .0) c) 0) (second-comes (m .0) (m .1 .0) (m .1 .1)) busy
