@@ -17,7 +17,7 @@ ghost use mathlib.Core.Bool.{true};
 ghost use mathlib.Core.List.{[], _∷_, _++_};
 ghost use Prim.Native.Nat.{_+_, _*_, _-_, _/_, _<_, _≤_};
 ghost use lib.ListN.{length};
-ghost use Rattle.model.specs.Arena.{shapeFits, isIn, cellsOf, headOf};
+ghost use Rattle.model.specs.Arena.{shapeFits, isIn, cellsOf, headOf, leasesOf};
 ghost use Rattle.model.specs.Refusals.{first};
 ghost use Rattle.model.specs.Checks.{badScript, badHeld, scriptRules};
 ghost use Rattle.model.specs.Foreign.{setting, protecting, flowOf, stepTakeOf, stepReleaseOf};
@@ -25,6 +25,7 @@ ghost use Rattle.model.specs.Foreign.{stepWaitersOf, stepHealthOf, stepOf, runS
 ghost use Rattle.model.specs.Calls.{played, unplayed, environmentOf};
 ghost use Rattle.foreign.specs.Model.{pairsOf, guardsOf, Room, RoomIn, scopeOf, settingOf, runOnceOf};
 ghost use Rattle.foreign.specs.Laws.{FlowBound};
+ghost use Rattle.foreign.specs.Marks.{Marked};
 ghost use Rattle.foreign.specs.Fine.{ScriptFine};
 
 // What the steps of a call are given and never change: the arena's sizes, its number of cells, and the number of steps
@@ -79,12 +80,50 @@ fn is_in_pairs(taken: &[[u32; 2]; 64], n: usize, lease: Lease) -> bool
     false
 }
 
+// For each remainder of a cell number by 256: 0 where no listed lease has it, else one more than the position of the
+// first that has. Noted from the end, so that the first stays; a list past a byte's numbers is marked as a whole.
+fn marks_of(held: &[u32]) -> [u8; 256]
+    ensures { λ r. ⌜ Marked r (now (held .entry)) ⌝ }
+{
+    if 255 < held.len() / 2 {
+        return [1; 256];
+    }
+    let mut marks = [0; 256];
+    let mut i = held.len() / 2;
+    while 0 < i {
+        i -= 1;
+        let at = (held[2 * i] % 256) as usize;
+        marks[at] = (i + 1) as u8;
+    }
+    marks
+}
+
+// Whether a lease is held: without a mark it is not, and no lease is looked at; else up to the first match.
+fn is_held(held: &[u32], marks: &[u8; 256], lease: Lease) -> bool
+    requires { ⌜ Marked (now marks) (now held) ⌝ }
+    ensures { λ r. ⌜ r ≡ isIn lease (leasesOf (now (held .entry))) ⌝ }
+{
+    let at = (lease.cell % 256) as usize;
+    let mark = marks[at];
+    if mark == 0 {
+        return false;
+    }
+    lease::is_in_from(held, (mark - 1) as usize, lease)
+}
+
 // Whether a lease is protected: held, taken by this call, or the call's own new one.
-fn is_guarded(held: &[u32], taken: &[[u32; 2]; 64], n: usize, own: Lease, lease: Lease) -> bool
-    requires { ⌜ n ≤ 64 ⌝ }
+fn is_guarded(
+    held: &[u32],
+    marks: &[u8; 256],
+    taken: &[[u32; 2]; 64],
+    n: usize,
+    own: Lease,
+    lease: Lease,
+) -> bool
+    requires { ⌜ (n ≤ 64) × Marked (now marks) (now held) ⌝ }
     ensures { λ r. ⌜ r ≡ isIn lease (guardsOf (now (held .entry)) (now (taken .entry)) n ++ (own ∷ [])) ⌝ }
 {
-    if lease::is_in(held, lease) {
+    if is_held(held, marks, lease) {
         return true;
     }
     if is_in_pairs(taken, n, lease) {
@@ -121,17 +160,18 @@ fn step_release(
     table: &mut [u32],
     lease: Lease,
     held: &[u32],
+    marks: &[u8; 256],
     taken: &[[u32; 2]; 64],
     n: usize,
     own: Lease,
 ) -> Stepped
-    requires { ⌜ (3 * cells ≤ length (now table)) × (n ≤ 64) ⌝ }
+    requires { ⌜ (3 * cells ≤ length (now table)) × ((n ≤ 64) × Marked (now marks) (now held)) ⌝ }
     ensures { λ r. ⌜ (r, now (table .exit))
         ≡ stepReleaseOf cells (guardsOf (now (held .entry)) (now (taken .entry)) n ++ (own ∷ []))
         next (now (table .entry)) (lease .cell) (lease .serial) .seen ⌝ }
 {
     if arena::is_live(next, cells, table, lease.cell, lease.serial) {
-        if is_guarded(held, taken, n, own, lease) {
+        if is_guarded(held, marks, taken, n, own, lease) {
             return Stepped { next, dropped: 1 };
         }
         arena::release(table, lease.cell);
@@ -179,11 +219,13 @@ fn step(
     place: u32,
     number: u32,
     held: &[u32],
+    marks: &[u8; 256],
     taken: &[[u32; 2]; 64],
     n: usize,
     own: Lease,
 ) -> Stepped
-    requires { ⌜ (3 * cells ≤ length (now table)) × ((headers ≤ length (now health)) × ((n ≤ 64) × (kind ≡ 5 → ⊥))) ⌝ }
+    requires { ⌜ (3 * cells ≤ length (now table)) × ((headers ≤ length (now health))
+        × ((n ≤ 64) × ((kind ≡ 5 → ⊥) × Marked (now marks) (now held)))) ⌝ }
     ensures { λ r. ⌜ (r, (now (table .exit), now (health .exit)))
         ≡ stepOf (setting headers cells [] (guardsOf (now (held .entry)) (now (taken .entry)) n ++ (own ∷ [])))
         next (now (table .entry)) (now (health .entry)) kind place number .seen ⌝ }
@@ -199,7 +241,7 @@ fn step(
             cell: place,
             serial: number,
         };
-        return step_release(cells, next, table, lease, held, taken, n, own);
+        return step_release(cells, next, table, lease, held, marks, taken, n, own);
     }
     if kind == 3 {
         return step_waiters(cells, next, table, place, number);
@@ -211,6 +253,35 @@ fn step(
 }
 
 // ---- a boundary
+
+// Whether the run from a place meets a release before it ends. Only time hangs on it, no answer.
+fn meets_release(script: &[u32], place: usize, steps: usize) -> bool
+    requires { ⌜ steps ≡ length (now script) / 3 ⌝ }
+{
+    let mut p = place;
+    while p < steps {
+        let kind = script[3 * p];
+        if kind == 2 {
+            return true;
+        }
+        if kind == 5 {
+            return false;
+        }
+        p += 1;
+    }
+    false
+}
+
+// The marks for a boundary's run, noted only where a release will ask for them.
+fn marks_for(script: &[u32], place: usize, steps: usize, held: &[u32]) -> [u8; 256]
+    requires { ⌜ steps ≡ length (now script) / 3 ⌝ }
+    ensures { λ r. ⌜ Marked r (now (held .entry)) ⌝ }
+{
+    if meets_release(script, place, steps) {
+        return marks_of(held);
+    }
+    [1; 256]
+}
 
 // The steps from a place on, up to and including the next 5, or to the script's end.
 fn run_steps(
@@ -224,12 +295,13 @@ fn run_steps(
     script: &[u32],
     steps: usize,
     held: &[u32],
+    marks: &[u8; 256],
     taken: &[[u32; 2]; 64],
     n: usize,
     own: Lease,
 ) -> Flow
     requires { ⌜ Room headers cells (length (now table)) (length (now health)) n steps (length (now script))
-        × FlowBound steps (flowOf start place before) ⌝ }
+        × (FlowBound steps (flowOf start place before) × Marked (now marks) (now held)) ⌝ }
     ensures { λ r. ⌜ (r, (now (table .exit), now (health .exit)))
         ≡ runStepsOf (steps - place) (setting headers cells (now (script .entry))
         (guardsOf (now (held .entry)) (now (taken .entry)) n ++ (own ∷ [])))
@@ -258,6 +330,7 @@ fn run_steps(
             script[at + 1],
             script[at + 2],
             held,
+            marks,
             taken,
             n,
             own,
@@ -292,6 +365,7 @@ pub fn boundary(
 {
     if flow.place < scope.steps {
         let none = Lease { cell: 0, serial: 0 };
+        let marks = marks_for(script, flow.place, scope.steps, held);
         return run_steps(
             scope.headers,
             scope.cells,
@@ -303,6 +377,7 @@ pub fn boundary(
             script,
             scope.steps,
             held,
+            &marks,
             taken,
             n,
             none,
@@ -334,6 +409,7 @@ pub fn protecting_boundary(
         (own ∷ [])) flow (now (table .entry)) (now (health .entry)) .seen ⌝ }
 {
     if flow.place < scope.steps {
+        let marks = marks_for(script, flow.place, scope.steps, held);
         return run_steps(
             scope.headers,
             scope.cells,
@@ -345,6 +421,7 @@ pub fn protecting_boundary(
             script,
             scope.steps,
             held,
+            &marks,
             taken,
             n,
             own,

@@ -12,15 +12,15 @@ use Rattle.foreign.specs.Model.{guardsOf}
 use Rattle.foreign.proofs.run_steps.Tie as tie
 
 abbrev Inv-loop : tie.InvT-loop
-Inv-loop headers cells start place before table₀ health₀ script steps held taken n own next₀ p₀ dropped₀ table health next p dropped =
+Inv-loop headers cells start place before table₀ health₀ script steps held marks taken n own next₀ p₀ dropped₀ table health next p dropped =
     Walk (setting headers cells script (guardsOf held taken n ++ (own ∷ []))) steps (flowOf start place before) table₀ health₀ (flowOf next p dropped) table health
 
 abbrev μ-loop : tie.MeasureT-loop
-μ-loop headers cells start place before table₀ health₀ script steps held taken n own next₀ p₀ dropped₀ table health next p dropped =
+μ-loop headers cells start place before table₀ health₀ script steps held marks taken n own next₀ p₀ dropped₀ table health next p dropped =
     steps - p
 
 loop-holds : tie.Need-loop-holds Inv-loop μ-loop
-loop-holds c = record { flow-bound = c .before .before .before .before .pre .1; words = refl; bytes = refl; rest = refl }
+loop-holds c = record { flow-bound = c .before .before .before .before .pre .1 .0; words = refl; bytes = refl; rest = refl }
 
 mul-at : tie.Need-mul-at Inv-loop μ-loop
 mul-at c = search needs
@@ -31,8 +31,8 @@ mul-kind c = search needs
 shared-slice-read-kind : tie.Need-shared-slice-read-kind Inv-loop μ-loop
 shared-slice-read-kind c = search needs
 
-add-t24 : tie.Need-add-t24 Inv-loop μ-loop
-add-t24 c = search needs
+add-t25 : tie.Need-add-t25 Inv-loop μ-loop
+add-t25 c = search needs
 
 same-length : tie.Need-same-length Inv-loop μ-loop
 same-length c = search needs
@@ -64,7 +64,7 @@ shared-slice-read-step-2 : tie.Need-shared-slice-read-step-2 Inv-loop μ-loop
 shared-slice-read-step-2 c = search needs
 
 step-requires : tie.Need-step-requires Inv-loop μ-loop
-step-requires c κs = search needs
+step-requires c κs = (search needs, (search needs, (search needs, (search needs, c .before .before .before .before .before .before .before .before .before .before .before .before .pre .1 .1))))
 
 add-dropped : tie.Need-add-dropped Inv-loop μ-loop
 add-dropped c = let d = step-drops _ _ _ _ _ _ _ _ (c .before .before .before .before .before .step .ensures) in omega arith
@@ -108,7 +108,7 @@ run-steps-spec =
     mul-at
     mul-kind
     shared-slice-read-kind
-    add-t24
+    add-t25
     same-length
     same-length-2
     returns

@@ -51,7 +51,7 @@ returns-5 c = rw (ne-eqb _ _ (c .before .before .before .before .before .before 
 
 returns-6 : tie.Need-returns-6
 unfolding stepOf
-returns-6 c = rw (ne-eqb _ _ (c .before .before .before .before .if1 .left), ne-eqb _ _ (c .before .before .before .if2 .left), ne-eqb _ _ (c .before .before .if3 .left), ne-eqb _ _ (c .before .if4 .left), ne-eqb _ _ (c .if5 .left), ne-eqb (c .before .before .before .before .before .before .before .before .args .kind) 5 (c .before .before .before .before .before .before .before .before .pre .1 .1 .1))
+returns-6 c = rw (ne-eqb _ _ (c .before .before .before .before .if1 .left), ne-eqb _ _ (c .before .before .before .if2 .left), ne-eqb _ _ (c .before .before .if3 .left), ne-eqb _ _ (c .before .if4 .left), ne-eqb _ _ (c .if5 .left), ne-eqb (c .before .before .before .before .before .before .before .before .args .kind) 5 (c .before .before .before .before .before .before .before .before .pre .1 .1 .1 .0))
 
 pub step-spec : {M : Type 1} → statement M
 step-spec =
