@@ -11,7 +11,7 @@ use lib.Dec.{eqb}
 use lib.ListN.{length, getD, set, drop, replicate, getD-replicate}
 use lib.Seq.{getD-set-same, getD-set-other}
 use borrow.Author.Tests.{ne-eqb}
-use Rattle.model.specs.Choice.{if_then_else_}
+use Rattle.choice.specs.Choice.{if_then_else_}
 use Rattle.model.specs.Arena.{leaseOf, leasesOf, sameLease, isIn}
 use Rattle.model.specs.declared.Lease.{Lease}
 use Rattle.laws.specs.Checks.{is-in-at, is-in-end}
