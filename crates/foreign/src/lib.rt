@@ -208,6 +208,37 @@ fn step_health(headers: u32, next: u32, health: &mut [u8], header: u32, number: 
     Stepped { next, dropped: 1 }
 }
 
+// One step that neither ends the boundary nor releases a lease.
+fn other_step(
+    headers: u32,
+    cells: u32,
+    next: u32,
+    table: &mut [u32],
+    health: &mut [u8],
+    kind: u32,
+    place: u32,
+    number: u32,
+) -> Stepped
+    requires { ⌜ (3 * cells ≤ length (now table)) × ((headers ≤ length (now health))
+        × ((kind ≡ 2 → ⊥) × (kind ≡ 5 → ⊥))) ⌝ }
+    ensures { λ r. ⌜ (r, (now (table .exit), now (health .exit)))
+        ≡ stepOf (setting headers cells [] []) next (now (table .entry)) (now (health .entry)) kind place number .seen ⌝ }
+{
+    if kind == 0 {
+        return Stepped { next, dropped: 0 };
+    }
+    if kind == 1 {
+        return step_take(cells, next, table, place);
+    }
+    if kind == 3 {
+        return step_waiters(cells, next, table, place, number);
+    }
+    if kind == 4 {
+        return step_health(headers, next, health, place, number);
+    }
+    Stepped { next, dropped: 1 }
+}
+
 // One step that does not end the boundary.
 fn step(
     headers: u32,
@@ -230,12 +261,6 @@ fn step(
         ≡ stepOf (setting headers cells [] (guardsOf (now (held .entry)) (now (taken .entry)) n ++ (own ∷ [])))
         next (now (table .entry)) (now (health .entry)) kind place number .seen ⌝ }
 {
-    if kind == 0 {
-        return Stepped { next, dropped: 0 };
-    }
-    if kind == 1 {
-        return step_take(cells, next, table, place);
-    }
     if kind == 2 {
         let lease = Lease {
             cell: place,
@@ -243,48 +268,13 @@ fn step(
         };
         return step_release(cells, next, table, lease, held, marks, taken, n, own);
     }
-    if kind == 3 {
-        return step_waiters(cells, next, table, place, number);
-    }
-    if kind == 4 {
-        return step_health(headers, next, health, place, number);
-    }
-    Stepped { next, dropped: 1 }
+    other_step(headers, cells, next, table, health, kind, place, number)
 }
 
 // ---- a boundary
 
-// Whether the run from a place meets a release before it ends. Only time hangs on it, no answer.
-fn meets_release(script: &[u32], place: usize, steps: usize) -> bool
-    requires { ⌜ steps ≡ length (now script) / 3 ⌝ }
-{
-    let mut p = place;
-    while p < steps {
-        let kind = script[3 * p];
-        if kind == 2 {
-            return true;
-        }
-        if kind == 5 {
-            return false;
-        }
-        p += 1;
-    }
-    false
-}
-
-// The marks for a boundary's run, noted only where a release will ask for them.
-fn marks_for(script: &[u32], place: usize, steps: usize, held: &[u32]) -> [u8; 256]
-    requires { ⌜ steps ≡ length (now script) / 3 ⌝ }
-    ensures { λ r. ⌜ Marked r (now (held .entry)) ⌝ }
-{
-    if meets_release(script, place, steps) {
-        return marks_of(held);
-    }
-    [1; 256]
-}
-
-// The steps from a place on, up to and including the next 5, or to the script's end.
-fn run_steps(
+// The steps from a place on, up to and including the next 5, or to the script's end, with marks on the held list.
+fn run_marked(
     headers: u32,
     cells: u32,
     start: u32,
@@ -295,18 +285,18 @@ fn run_steps(
     script: &[u32],
     steps: usize,
     held: &[u32],
-    marks: &[u8; 256],
     taken: &[[u32; 2]; 64],
     n: usize,
     own: Lease,
 ) -> Flow
     requires { ⌜ Room headers cells (length (now table)) (length (now health)) n steps (length (now script))
-        × (FlowBound steps (flowOf start place before) × Marked (now marks) (now held)) ⌝ }
+        × FlowBound steps (flowOf start place before) ⌝ }
     ensures { λ r. ⌜ (r, (now (table .exit), now (health .exit)))
         ≡ runStepsOf (steps - place) (setting headers cells (now (script .entry))
         (guardsOf (now (held .entry)) (now (taken .entry)) n ++ (own ∷ [])))
         (flowOf start place before) (now (table .entry)) (now (health .entry)) .seen ⌝ }
 {
+    let marks = marks_of(held);
     let mut next = start;
     let mut p = place;
     let mut dropped = before;
@@ -330,10 +320,84 @@ fn run_steps(
             script[at + 1],
             script[at + 2],
             held,
-            marks,
+            &marks,
             taken,
             n,
             own,
+        );
+        next = s.next;
+        dropped += s.dropped;
+        p += 1;
+    }
+    Flow {
+        next,
+        place: p,
+        dropped,
+    }
+}
+
+// The same. Marks are noted once, where a release first asks for them.
+fn run_steps(
+    headers: u32,
+    cells: u32,
+    start: u32,
+    place: usize,
+    before: usize,
+    table: &mut [u32],
+    health: &mut [u8],
+    script: &[u32],
+    steps: usize,
+    held: &[u32],
+    taken: &[[u32; 2]; 64],
+    n: usize,
+    own: Lease,
+) -> Flow
+    requires { ⌜ Room headers cells (length (now table)) (length (now health)) n steps (length (now script))
+        × FlowBound steps (flowOf start place before) ⌝ }
+    ensures { λ r. ⌜ (r, (now (table .exit), now (health .exit)))
+        ≡ runStepsOf (steps - place) (setting headers cells (now (script .entry))
+        (guardsOf (now (held .entry)) (now (taken .entry)) n ++ (own ∷ [])))
+        (flowOf start place before) (now (table .entry)) (now (health .entry)) .seen ⌝ }
+{
+    let mut next = start;
+    let mut p = place;
+    let mut dropped = before;
+    while p < steps {
+        let at = 3 * p;
+        let kind = script[at];
+        if kind == 5 {
+            return Flow {
+                next,
+                place: p + 1,
+                dropped,
+            };
+        }
+        if kind == 2 {
+            return run_marked(
+                headers,
+                cells,
+                next,
+                p,
+                dropped,
+                table,
+                health,
+                script,
+                steps,
+                held,
+                taken,
+                n,
+                own,
+            );
+        }
+        let s = other_step(
+            headers,
+            cells,
+            next,
+            table,
+            health,
+            kind,
+            script[at + 1],
+            script[at + 2],
         );
         next = s.next;
         dropped += s.dropped;
@@ -365,7 +429,6 @@ pub fn boundary(
 {
     if flow.place < scope.steps {
         let none = Lease { cell: 0, serial: 0 };
-        let marks = marks_for(script, flow.place, scope.steps, held);
         return run_steps(
             scope.headers,
             scope.cells,
@@ -377,7 +440,6 @@ pub fn boundary(
             script,
             scope.steps,
             held,
-            &marks,
             taken,
             n,
             none,
@@ -409,7 +471,6 @@ pub fn protecting_boundary(
         (own ∷ [])) flow (now (table .entry)) (now (health .entry)) .seen ⌝ }
 {
     if flow.place < scope.steps {
-        let marks = marks_for(script, flow.place, scope.steps, held);
         return run_steps(
             scope.headers,
             scope.cells,
@@ -421,7 +482,6 @@ pub fn protecting_boundary(
             script,
             scope.steps,
             held,
-            &marks,
             taken,
             n,
             own,

@@ -12,9 +12,6 @@ use Rattle.foreign.specs.Laws.{steps-zero, boundary-quiet}
 use Rattle.foreign.specs.Model.{guardsOf, settingOf}
 use Rattle.foreign.proofs.boundary.Tie as tie
 
-marks-for-requires : tie.Need-marks-for-requires
-marks-for-requires c κs = search needs
-
 run-steps-requires : tie.Need-run-steps-requires
 run-steps-requires c κs = search needs
 
@@ -26,7 +23,7 @@ same-length-2 c = search needs
 
 returns : tie.Need-returns
 unfolding boundaryOf
-returns c = let a = c .before .before .before .before .before .before .before .before .before .before .before .before .before .before .before .before .args in let room = c .before .before .before .before .before .before .before .before .before .before .before .before .before .before .before .before .pre .0 in
+returns c = let a = c .before .before .before .before .before .before .before .before .before .before .before .before .before .before .args in let room = c .before .before .before .before .before .before .before .before .before .before .before .before .before .before .pre .0 in
     rw (← room .steps-are) (c .before .before .before .before .run-steps .ensures ∙ ap (λ (m : Made (Flow × (List ℕ × List ℕ))). m .seen) (steps-zero (a .scope .headers) (a .scope .cells) (a .script .now) (guardsOf (a .held .now) (a .taken .now) (a .n)) (a .scope .steps - a .flow .place) (a .flow) (a .table .now) (a .health .now)))
 
 returns-2 : tie.Need-returns-2
@@ -34,4 +31,4 @@ returns-2 c = let a = c .before .before .before .before .before .before .before 
     rw (boundary-quiet (settingOf (a .scope) (a .script .now) (a .held .now) (a .taken .now) (a .n)) (a .flow) (a .table .now) (a .health .now) (omega (arith, room .steps-are)))
 
 pub boundary-spec : {M : Type 1} → statement M
-boundary-spec = tie.close (tie.spec marks-for-requires run-steps-requires same-length same-length-2 returns returns-2)
+boundary-spec = tie.close (tie.spec run-steps-requires same-length same-length-2 returns returns-2)

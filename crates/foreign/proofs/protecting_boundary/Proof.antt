@@ -8,9 +8,6 @@ use Rattle.foreign.specs.Laws.{boundary-quiet}
 use Rattle.foreign.specs.Model.{settingOf}
 use Rattle.foreign.proofs.protecting_boundary.Tie as tie
 
-marks-for-requires : tie.Need-marks-for-requires
-marks-for-requires c κs = search needs
-
 run-steps-requires : tie.Need-run-steps-requires
 run-steps-requires c κs = search needs
 
@@ -22,7 +19,7 @@ same-length-2 c = search needs
 
 returns : tie.Need-returns
 unfolding boundaryOf
-returns c = let room = c .before .before .before .before .before .before .before .before .before .before .before .before .before .before .before .before .pre .0 in
+returns c = let room = c .before .before .before .before .before .before .before .before .before .before .before .before .before .before .pre .0 in
     rw (← room .steps-are) (c .before .before .before .before .run-steps .ensures)
 
 returns-2 : tie.Need-returns-2
@@ -30,4 +27,4 @@ returns-2 c = let a = c .before .before .before .before .before .before .before 
     rw (boundary-quiet (protecting (settingOf (a .scope) (a .script .now) (a .held .now) (a .taken .now) (a .n)) (a .own ∷ [])) (a .flow) (a .table .now) (a .health .now) (omega (arith, room .steps-are)))
 
 pub protecting-boundary-spec : {M : Type 1} → statement M
-protecting-boundary-spec = tie.close (tie.spec marks-for-requires run-steps-requires same-length same-length-2 returns returns-2)
+protecting-boundary-spec = tie.close (tie.spec run-steps-requires same-length same-length-2 returns returns-2)
