@@ -12,6 +12,7 @@ mkdir -p "$out"
 # A case, and how often it is repeated to count its instructions.
 cases="refusal 100
 script 50
+held 20
 crew 50
 try_lock 20000
 bucket 20000
@@ -154,6 +155,8 @@ $(date -u +%Y-%m-%d), $(uname -m), $("${rustc[@]}" --version), $(rt version)
 
 - refusal: \`acquire_index_bucket\` of a held cell, no script: 4,096 attempts, refusal 11.
 - script: the same with a script of 32,768 steps, played to its end: set the waiters of another cell, set, end of boundary.
+- held: \`environment\` over 32,768 steps, 64 leases held: half release held ones, first, middle and last, and are dropped;
+  half take and release cells that nobody protects.
 - crew: \`crew\` of 16 members with the same 16 cells, 65,536 turns in turn. The \`prepare\` before each is subtracted.
 - try_lock: \`try_lock\` of a free cell, no script, and \`drop_lease\` of it: two calls.
 - bucket: \`acquire_index_bucket\` of a free key, no script, and \`drop_lease\` of it: two calls.

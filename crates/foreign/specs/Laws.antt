@@ -3,6 +3,7 @@ use Prim.Native.Nat.{ℕ, zero, suc, _+_, _-_, _/_, _≤_, _<_}
 use mathlib.Core.Path.{_≡_, refl, sym, ap, subst, _∙_}
 use mathlib.Core.List.{List, [], _∷_, _++_, append-assoc}
 use mathlib.Core.Bool.{Bool, true, false, not, _&&_}
+use mathlib.Core.Logic.{_≢_}
 use native.Mathlib.Omega.{arith}
 use lib.Dec.{ltb, leb, eqb}
 use lib.ListN.{length, getD}
@@ -148,6 +149,12 @@ module _ (headers cells : ℕ) (script : List ℕ) (ps : List Lease) (f : Flow) 
   steps-turn steps l n =
       steps-at (setting headers cells script ps) f t g steps l
       ∙ rw n (ap (λ (o : Stepped × (List ℕ × List ℕ)). runStepsOf (steps - (f .place + 1)) (setting headers cells script ps) (flowOf (o .0 .next) (f .place + 1) (f .dropped + o .0 .dropped)) (o .1 .0) (o .1 .1) .seen) same-step)
+
+-- only a release asks what is protected
+pub step-unguarded : (headers cells : ℕ) (ps : List Lease) (next : ℕ) (t g : List ℕ) (kind place number : ℕ) → kind ≢ 2
+    → stepOf (setting headers cells [] ps) next t g kind place number .seen ≡ stepOf (setting headers cells [] []) next t g kind place number .seen
+unfolding stepOf
+step-unguarded headers cells ps next t g kind place number n = rw (ne-eqb kind 2 n)
 
 -- ---- counts: a step drops at most one, and drops stay flow-bound by steps
 

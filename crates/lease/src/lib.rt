@@ -16,7 +16,7 @@ ghost use mathlib.Core.Path.{_≡_};
 ghost use mathlib.Core.Bool.{true};
 ghost use mathlib.Core.List.{[], _∷_};
 ghost use Prim.Native.Nat.{_+_, _*_, _<_, _≤_};
-ghost use lib.ListN.{length};
+ghost use lib.ListN.{length, drop};
 ghost use Rattle.model.specs.Arena.{cellsOf, leaseOf, leasesOf, setCell, shapeFits, isLive, sameLease, isIn};
 ghost use Rattle.model.specs.Refusals.{first};
 ghost use Rattle.model.specs.Lock.{outcomeOf, answerOf};
@@ -139,11 +139,11 @@ pub fn same_lease(cell: u32, serial: u32, lease: Lease) -> bool
     false
 }
 
-// Whether a lease stands in a list; the scan ends at the first match.
-pub fn is_in(list: &[u32], lease: Lease) -> bool
-    ensures { λ r. ⌜ r ≡ isIn lease (leasesOf (now (list .entry))) ⌝ }
+// Whether a lease stands in a list from a position on; the scan ends at the first match.
+pub fn is_in_from(list: &[u32], from: usize, lease: Lease) -> bool
+    ensures { λ r. ⌜ r ≡ isIn lease (leasesOf (drop (2 * from) (now (list .entry)))) ⌝ }
 {
-    let mut i = 0;
+    let mut i = from;
     while i < list.len() / 2 {
         if same_lease(list[2 * i], list[2 * i + 1], lease) {
             return true;
@@ -151,6 +151,13 @@ pub fn is_in(list: &[u32], lease: Lease) -> bool
         i += 1;
     }
     false
+}
+
+// Whether a lease stands in a list.
+pub fn is_in(list: &[u32], lease: Lease) -> bool
+    ensures { λ r. ⌜ r ≡ isIn lease (leasesOf (now (list .entry))) ⌝ }
+{
+    is_in_from(list, 0, lease)
 }
 
 // Whether a lease is live.

@@ -124,6 +124,44 @@ impl Case for Scripted {
     }
 }
 
+/// `environment` of one boundary of 32,768 steps, where a held list protects cells 0 to 63 of 1,024, live from serial 1
+/// on. Every second step releases a held lease, the list's first, middle and last in turn, and is dropped. Between them
+/// a cell that nobody protects is taken, and then released: the 960 others in turn, a fifth of which have a held cell's
+/// remainder by 256. A run leaves the table as it was.
+struct Held;
+
+impl Case for Held {
+    fn desk<S: Side>() -> Desk {
+        let mut desk = Desk::new(16, 64);
+        S::prepare(&mut desk, |_| ());
+        desk.script = (0..64).flat_map(|cell| [1, cell, 0]).collect();
+        desk.head.next = S::environment(&mut desk, S::next);
+        desk.held = (0..64).flat_map(|cell| [cell, cell + 1]).collect();
+        let held = |release: u32| {
+            let cell = [0, 32, 63][release as usize % 3];
+            [2, cell, cell + 1]
+        };
+        desk.script = (0..32_768 / 4)
+            .flat_map(|take| {
+                let cell = 64 + take % 960;
+                [
+                    held(2 * take),
+                    [1, cell, 0],
+                    held(2 * take + 1),
+                    [2, cell, desk.head.next + take],
+                ]
+            })
+            .flatten()
+            .collect();
+        desk
+    }
+
+    #[inline(always)]
+    fn run<S: Side>(desk: &mut Desk, watch: &mut impl Watch) {
+        S::environment(desk.hidden(), |r| watch.see(r, S::played_words));
+    }
+}
+
 /// `prepare` of 16 x 16 cells, and the crew's 65,536 turns: 16 members, in turn, each with the same 16 cells.
 struct Crew;
 
@@ -299,6 +337,7 @@ fn on<S: Side>(case: &str, how: &[&str]) -> Option<String> {
     match case {
         "refusal" => asked::<Refused, S>(how),
         "script" => asked::<Scripted, S>(how),
+        "held" => asked::<Held, S>(how),
         "crew" => asked::<Crew, S>(how),
         "crew-prepare" => asked::<CrewPrepare, S>(how),
         "try_lock" => asked::<TryLock, S>(how),
@@ -324,7 +363,7 @@ fn main() -> ExitCode {
         }
         None => {
             eprintln!("speed proved|plain CASE REPEATS [each], or speed proved|plain CASE time");
-            eprintln!("CASE: refusal script crew crew-prepare try_lock bucket locks prepare");
+            eprintln!("CASE: refusal script held crew crew-prepare try_lock bucket locks prepare");
             ExitCode::from(2)
         }
     }

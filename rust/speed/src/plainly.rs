@@ -81,6 +81,20 @@ impl Side for Plain {
     }
 
     #[inline(always)]
+    fn environment<T>(desk: &mut Desk, seen: impl FnOnce(&ScriptReply) -> T) -> T {
+        let head = head_of(desk);
+        let reply = rules::environment(
+            head,
+            &mut desk.table,
+            &mut desk.health,
+            &desk.script,
+            0,
+            &desk.held,
+        );
+        seen(&reply)
+    }
+
+    #[inline(always)]
     fn try_lock<T>(desk: &mut Desk, seen: impl FnOnce(&ScriptReply) -> T) -> T {
         let head = head_of(desk);
         let reply = rules::try_lock(

@@ -30,6 +30,21 @@ extern "C" {
         serial: u32,
         reply: *mut Reply,
     );
+    fn skid_environment(
+        headers: u32,
+        buckets: u32,
+        next: u32,
+        table: *mut u32,
+        table_len: usize,
+        health: *mut u8,
+        health_len: usize,
+        script: *const u32,
+        script_len: usize,
+        place: usize,
+        held: *const u32,
+        held_len: usize,
+        reply: *mut Reply,
+    );
     fn skid_try_lock(
         headers: u32,
         buckets: u32,
@@ -158,6 +173,29 @@ impl Side for Proved {
                 desk.table.len(),
                 desk.cell,
                 desk.serial,
+                reply.as_mut_ptr(),
+            );
+            seen(reply.assume_init_ref())
+        }
+    }
+
+    #[inline(always)]
+    fn environment<T>(desk: &mut Desk, seen: impl FnOnce(&Reply) -> T) -> T {
+        let mut reply = MaybeUninit::uninit();
+        unsafe {
+            skid_environment(
+                desk.head.headers,
+                desk.head.buckets,
+                desk.head.next,
+                desk.table.as_mut_ptr(),
+                desk.table.len(),
+                desk.health.as_mut_ptr(),
+                desk.health.len(),
+                desk.script.as_ptr(),
+                desk.script.len(),
+                0,
+                desk.held.as_ptr(),
+                desk.held.len(),
                 reply.as_mut_ptr(),
             );
             seen(reply.assume_init_ref())

@@ -14,6 +14,7 @@ pub trait Side {
 
     fn prepare<T>(desk: &mut Desk, seen: impl FnOnce(&Self::Reply) -> T) -> T;
     fn drop_lease<T>(desk: &mut Desk, seen: impl FnOnce(&Self::Reply) -> T) -> T;
+    fn environment<T>(desk: &mut Desk, seen: impl FnOnce(&Self::Played) -> T) -> T;
     fn try_lock<T>(desk: &mut Desk, seen: impl FnOnce(&Self::Played) -> T) -> T;
     fn acquire_index_bucket<T>(desk: &mut Desk, seen: impl FnOnce(&Self::Played) -> T) -> T;
     fn acquire_index_locks<T>(desk: &mut Desk, seen: impl FnOnce(&Self::Played) -> T) -> T;

@@ -4,25 +4,25 @@ use Rattle.foreign.proofs.is_guarded.Statement.{statement}
 use Rattle.foreign.specs.Laws.{guarded-is}
 use Rattle.foreign.proofs.is_guarded.Tie as tie
 
-is-in-requires : tie.Need-is-in-requires
-is-in-requires c κs = search needs
+is-held-requires : tie.Need-is-held-requires
+is-held-requires c κs = search needs
 
 returns : tie.Need-returns
-returns c = rw (guarded-is _ _ _ _ _, ← c .before .is-in .ensures, c .if1 .taken)
+returns c = rw (guarded-is _ _ _ _ _, ← c .before .is-held .ensures, c .if1 .taken)
 
 is-in-pairs-requires : tie.Need-is-in-pairs-requires
 is-in-pairs-requires c κs = search needs
 
 returns-2 : tie.Need-returns-2
-returns-2 c = rw (guarded-is _ _ _ _ _, ← c .before .before .before .is-in .ensures, c .before .before .if1 .left, ← c .before .is-in-pairs .ensures, c .if2 .taken)
+returns-2 c = rw (guarded-is _ _ _ _ _, ← c .before .before .before .is-held .ensures, c .before .before .if1 .left, ← c .before .is-in-pairs .ensures, c .if2 .taken)
 
 same-lease-requires : tie.Need-same-lease-requires
 same-lease-requires c κs = search needs
 
 returns-3 : tie.Need-returns-3
-returns-3 c = rw (guarded-is _ _ _ _ _, ← c .before .before .before .before .is-in .ensures, c .before .before .before .if1 .left, ← c .before .before .is-in-pairs .ensures, c .before .if2 .left, ← c .same-lease .ensures)
+returns-3 c = rw (guarded-is _ _ _ _ _, ← c .before .before .before .before .is-held .ensures, c .before .before .before .if1 .left, ← c .before .before .is-in-pairs .ensures, c .before .if2 .left, ← c .same-lease .ensures)
 
 pub is-guarded-spec : {M : Type 1} → statement M
 is-guarded-spec =
     tie.close
-    (tie.spec is-in-requires returns is-in-pairs-requires returns-2 same-lease-requires returns-3)
+    (tie.spec is-held-requires returns is-in-pairs-requires returns-2 same-lease-requires returns-3)

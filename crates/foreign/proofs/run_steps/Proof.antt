@@ -7,7 +7,7 @@ use borrow.Author.Needs.{needs}
 use borrow.Author.Tests.{eq-eqb, ne-eqb}
 use Rattle.model.specs.Foreign.{setting, flowOf}
 use Rattle.foreign.proofs.run_steps.Statement.{statement}
-use Rattle.foreign.specs.Laws.{Walk, steps-at, steps-end, steps-turn, step-drops}
+use Rattle.foreign.specs.Laws.{Walk, steps-at, steps-end, steps-turn, step-unguarded, step-drops}
 use Rattle.foreign.specs.Model.{guardsOf}
 use Rattle.foreign.proofs.run_steps.Tie as tie
 
@@ -45,47 +45,8 @@ returns c = let l = c .before .before .before .loop in let a = c .before .before
     let e = setting (a .headers) (a .cells) (a .script .now) (guardsOf (a .held .now) (a .taken .now) (a .n) ++ (a .own ∷ [])) in
     rw (← l .inv .rest, steps-at e (flowOf (l .next) (l .p) (l .dropped)) (l .table) (l .health) (a .steps) (search needs), eq-eqb _ _ (c .if1 .taken))
 
-add-step : tie.Need-add-step Inv-loop μ-loop
-add-step c = search needs
-
-mul-step : tie.Need-mul-step Inv-loop μ-loop
-mul-step c = search needs
-
-shared-slice-read-step : tie.Need-shared-slice-read-step Inv-loop μ-loop
-shared-slice-read-step c = search needs
-
-add-step-2 : tie.Need-add-step-2 Inv-loop μ-loop
-add-step-2 c = search needs
-
-mul-step-2 : tie.Need-mul-step-2 Inv-loop μ-loop
-mul-step-2 c = search needs
-
-shared-slice-read-step-2 : tie.Need-shared-slice-read-step-2 Inv-loop μ-loop
-shared-slice-read-step-2 c = search needs
-
-step-requires : tie.Need-step-requires Inv-loop μ-loop
-step-requires c κs = search needs
-
-add-dropped : tie.Need-add-dropped Inv-loop μ-loop
-add-dropped c = let d = step-drops _ _ _ _ _ _ _ _ (c .before .before .before .before .before .step .ensures) in omega arith
-
-add-p : tie.Need-add-p Inv-loop μ-loop
-add-p c = search needs
-
-loop-less : tie.Need-loop-less Inv-loop μ-loop
-loop-less c = search needs
-
-loop-again : tie.Need-loop-again Inv-loop μ-loop
-loop-again c = let l = c .before .before .before .before .before .before .before .before .before .before .before .before .before .loop in let a = c .before .before .before .before .before .before .before .before .before .before .before .before .before .before .before .before .before .before .args in
-    let e = setting (a .headers) (a .cells) (a .script .now) (guardsOf (a .held .now) (a .taken .now) (a .n) ++ (a .own ∷ [])) in
-    let d = step-drops _ _ _ _ _ _ _ _ (c .before .before .before .before .before .step .ensures) in
-    record {
-      flow-bound = record { few = omega arith; in-script = omega arith };
-      words = search needs;
-      bytes = search needs;
-      rest =
-          rw (← l .inv .rest, steps-turn (a .headers) (a .cells) (a .script .now) (guardsOf (a .held .now) (a .taken .now) (a .n) ++ (a .own ∷ [])) (flowOf (l .next) (l .p) (l .dropped)) (l .table) (l .health) (a .steps) (search needs) (ne-eqb _ _ (c .before .before .before .before .before .before .before .before .before .before .if1 .left)), ← c .before .before .before .before .before .step .ensures);
-    }
+run-marked-requires : tie.Need-run-marked-requires Inv-loop μ-loop
+run-marked-requires c κs = search needs
 
 same-length-3 : tie.Need-same-length-3 Inv-loop μ-loop
 same-length-3 c = search needs
@@ -94,7 +55,58 @@ same-length-4 : tie.Need-same-length-4 Inv-loop μ-loop
 same-length-4 c = search needs
 
 returns-2 : tie.Need-returns-2 Inv-loop μ-loop
-returns-2 c = let l = c .before .loop in let a = c .before .before .before .before .before .before .args in
+returns-2 c = rw (← c .before .before .before .before .before .before .before .before .before .before .before .loop .inv .rest) (c .before .before .before .before .run-marked .ensures)
+
+add-other-step : tie.Need-add-other-step Inv-loop μ-loop
+add-other-step c = search needs
+
+mul-other-step : tie.Need-mul-other-step Inv-loop μ-loop
+mul-other-step c = search needs
+
+shared-slice-read-other-step : tie.Need-shared-slice-read-other-step Inv-loop μ-loop
+shared-slice-read-other-step c = search needs
+
+add-other-step-2 : tie.Need-add-other-step-2 Inv-loop μ-loop
+add-other-step-2 c = search needs
+
+mul-other-step-2 : tie.Need-mul-other-step-2 Inv-loop μ-loop
+mul-other-step-2 c = search needs
+
+shared-slice-read-other-step-2 : tie.Need-shared-slice-read-other-step-2 Inv-loop μ-loop
+shared-slice-read-other-step-2 c = search needs
+
+other-step-requires : tie.Need-other-step-requires Inv-loop μ-loop
+other-step-requires c κs = search needs
+
+add-dropped : tie.Need-add-dropped Inv-loop μ-loop
+add-dropped c = let d = step-drops _ _ _ _ _ _ _ _ (c .before .before .before .before .before .other-step .ensures) in omega arith
+
+add-p : tie.Need-add-p Inv-loop μ-loop
+add-p c = search needs
+
+loop-less : tie.Need-loop-less Inv-loop μ-loop
+loop-less c = search needs
+
+loop-again : tie.Need-loop-again Inv-loop μ-loop
+loop-again c = let l = c .before .before .before .before .before .before .before .before .before .before .before .before .before .before .loop in let a = c .before .before .before .before .before .before .before .before .before .before .before .before .before .before .before .before .before .before .before .args in
+    let e = setting (a .headers) (a .cells) (a .script .now) (guardsOf (a .held .now) (a .taken .now) (a .n) ++ (a .own ∷ [])) in
+    let d = step-drops _ _ _ _ _ _ _ _ (c .before .before .before .before .before .other-step .ensures) in
+    record {
+      flow-bound = record { few = omega arith; in-script = omega arith };
+      words = search needs;
+      bytes = search needs;
+      rest =
+          rw (← l .inv .rest, steps-turn (a .headers) (a .cells) (a .script .now) (guardsOf (a .held .now) (a .taken .now) (a .n) ++ (a .own ∷ [])) (flowOf (l .next) (l .p) (l .dropped)) (l .table) (l .health) (a .steps) (search needs) (ne-eqb _ _ (c .before .before .before .before .before .before .before .before .before .before .before .if1 .left)), step-unguarded (a .headers) (a .cells) (guardsOf (a .held .now) (a .taken .now) (a .n) ++ (a .own ∷ [])) (l .next) (l .table) (l .health) _ _ _ (c .before .before .before .before .before .before .before .before .before .before .if2 .left), ← c .before .before .before .before .before .other-step .ensures);
+    }
+
+same-length-5 : tie.Need-same-length-5 Inv-loop μ-loop
+same-length-5 c = search needs
+
+same-length-6 : tie.Need-same-length-6 Inv-loop μ-loop
+same-length-6 c = search needs
+
+returns-3 : tie.Need-returns-3 Inv-loop μ-loop
+returns-3 c = let l = c .before .loop in let a = c .before .before .before .before .before .before .args in
     let e = setting (a .headers) (a .cells) (a .script .now) (guardsOf (a .held .now) (a .taken .now) (a .n) ++ (a .own ∷ [])) in
     rw (← l .inv .rest, steps-end e (flowOf (l .next) (l .p) (l .dropped)) (l .table) (l .health) (a .steps) (search needs))
 
@@ -112,17 +124,21 @@ run-steps-spec =
     same-length
     same-length-2
     returns
-    add-step
-    mul-step
-    shared-slice-read-step
-    add-step-2
-    mul-step-2
-    shared-slice-read-step-2
-    step-requires
+    run-marked-requires
+    same-length-3
+    same-length-4
+    returns-2
+    add-other-step
+    mul-other-step
+    shared-slice-read-other-step
+    add-other-step-2
+    mul-other-step-2
+    shared-slice-read-other-step-2
+    other-step-requires
     add-dropped
     add-p
     loop-less
     loop-again
-    same-length-3
-    same-length-4
-    returns-2)
+    same-length-5
+    same-length-6
+    returns-3)

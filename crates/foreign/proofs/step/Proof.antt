@@ -1,73 +1,46 @@
 -- `foreign::step` meets its contract.
+use mathlib.Core.List.{[], _∷_, _++_}
+use native.Mathlib.Omega.{arith}
 use borrow.Author.Needs.{needs}
 use borrow.Author.Tests.{eq-eqb, ne-eqb}
 use Rattle.model.specs.Foreign.{stepOf}
+use Rattle.foreign.specs.Laws.{step-unguarded}
+use Rattle.foreign.specs.Model.{guardsOf}
 use Rattle.foreign.proofs.step.Statement.{statement}
 use Rattle.foreign.proofs.step.Tie as tie
-
-returns : tie.Need-returns
-unfolding stepOf
-returns c = rw (eq-eqb _ _ (c .if1 .taken))
-
-step-take-requires : tie.Need-step-take-requires
-step-take-requires c κs = search needs
-
-same-length : tie.Need-same-length
-same-length c = search needs
-
-returns-2 : tie.Need-returns-2
-unfolding stepOf
-returns-2 c = rw (ne-eqb _ _ (c .before .before .before .before .before .if1 .left), eq-eqb _ _ (c .before .before .before .before .if2 .taken), ← c .before .before .step-take .ensures)
 
 step-release-requires : tie.Need-step-release-requires
 step-release-requires c κs = search needs
 
+same-length : tie.Need-same-length
+same-length c = search needs
+
+returns : tie.Need-returns
+unfolding stepOf
+returns c = let a = c .before .before .before .before .before .before .before .before .args in let two = c .before .before .before .before .if1 .taken in
+    rw (ne-eqb (a .kind) 0 (λ e. absurd (omega (arith, e, two))), ne-eqb (a .kind) 1 (λ e. absurd (omega (arith, e, two))), eq-eqb _ _ two, ← c .before .before .step-release .ensures)
+
+other-step-requires : tie.Need-other-step-requires
+other-step-requires c κs = search needs
+
 same-length-2 : tie.Need-same-length-2
 same-length-2 c = search needs
-
-returns-3 : tie.Need-returns-3
-unfolding stepOf
-returns-3 c = rw (ne-eqb _ _ (c .before .before .before .before .before .before .if1 .left), ne-eqb _ _ (c .before .before .before .before .before .if2 .left), eq-eqb _ _ (c .before .before .before .before .if3 .taken), ← c .before .before .step-release .ensures)
-
-step-waiters-requires : tie.Need-step-waiters-requires
-step-waiters-requires c κs = search needs
 
 same-length-3 : tie.Need-same-length-3
 same-length-3 c = search needs
 
-returns-4 : tie.Need-returns-4
-unfolding stepOf
-returns-4 c = rw (ne-eqb _ _ (c .before .before .before .before .before .before .before .if1 .left), ne-eqb _ _ (c .before .before .before .before .before .before .if2 .left), ne-eqb _ _ (c .before .before .before .before .before .if3 .left), eq-eqb _ _ (c .before .before .before .before .if4 .taken), ← c .before .before .step-waiters .ensures)
-
-step-health-requires : tie.Need-step-health-requires
-step-health-requires c κs = search needs
-
-same-length-4 : tie.Need-same-length-4
-same-length-4 c = search needs
-
-returns-5 : tie.Need-returns-5
-unfolding stepOf
-returns-5 c = rw (ne-eqb _ _ (c .before .before .before .before .before .before .before .before .if1 .left), ne-eqb _ _ (c .before .before .before .before .before .before .before .if2 .left), ne-eqb _ _ (c .before .before .before .before .before .before .if3 .left), ne-eqb _ _ (c .before .before .before .before .before .if4 .left), eq-eqb _ _ (c .before .before .before .before .if5 .taken), ← c .before .before .step-health .ensures)
-
-returns-6 : tie.Need-returns-6
-unfolding stepOf
-returns-6 c = rw (ne-eqb _ _ (c .before .before .before .before .if1 .left), ne-eqb _ _ (c .before .before .before .if2 .left), ne-eqb _ _ (c .before .before .if3 .left), ne-eqb _ _ (c .before .if4 .left), ne-eqb _ _ (c .if5 .left), ne-eqb (c .before .before .before .before .before .before .before .before .args .kind) 5 (c .before .before .before .before .before .before .before .before .pre .1 .1 .1))
+returns-2 : tie.Need-returns-2
+returns-2 c = let a = c .before .before .before .before .before .before .before .before .before .before .before .args in
+    rw (step-unguarded (a .headers) (a .cells) (guardsOf (a .held .now) (a .taken .now) (a .n) ++ (a .own ∷ [])) (a .next) (a .table .now) (a .health .now) (a .kind) (a .place) (a .number) (c .before .before .before .before .before .before .before .if1 .left)) (c .before .before .before .before .other-step .ensures)
 
 pub step-spec : {M : Type 1} → statement M
 step-spec =
     tie.close
     (tie.spec
-    returns
-    step-take-requires
-    same-length
-    returns-2
     step-release-requires
+    same-length
+    returns
+    other-step-requires
     same-length-2
-    returns-3
-    step-waiters-requires
     same-length-3
-    returns-4
-    step-health-requires
-    same-length-4
-    returns-5
-    returns-6)
+    returns-2)
