@@ -1,0 +1,141 @@
+// One attempt by key: the cell that the key names, and the lock of it.
+// Functions with a `requires` are steps: calls have tested the shape, and a step tests nothing twice.
+use crate::Target;
+use foreign::Scope;
+use model::Found;
+use model::Locked;
+use model::Outcome;
+use model::Refusal;
+use model::Run;
+use model::Tried;
+ghost use mathlib.Core.Path.{_≡_};
+ghost use mathlib.Core.List.{[], _∷_};
+ghost use Prim.Native.Nat.{_+_, _*_, _<_, _≤_};
+ghost use lib.ListN.{length};
+ghost use Rattle.model.specs.Lock.{runOf, triedOf, findOf, attemptAt};
+ghost use Rattle.model.specs.declared.Outcome.the-variants as outcome;
+ghost use Rattle.foreign.specs.Model.{settingOf, RoomIn};
+ghost use Rattle.bucket.specs.Bounds.{tryMost};
+ghost use Rattle.bucket.specs.Laws.{RunBound};
+ghost use Rattle.bucket.specs.Model.{Fit, Lands};
+
+// A key's cell: its header is looked at, then the header's health, then the bucket.
+// The definition reads the header from a registry: here it is the only one there.
+pub fn find(scope: Scope, health: &[u8], target: Target) -> Found
+    requires { ⌜ Fit (scope .headers) (scope .buckets) (length (now health)) ⌝ }
+    ensures { λ r. ⌜ r
+        ≡ findOf (scope .headers) (scope .buckets) (now (health .entry)) (target .header ∷ []) 0 (target .bucket) ⌝ }
+{
+    let header = target.header;
+    if scope.headers <= header {
+        return Found::Fault(Refusal::BadHeader(header));
+    }
+    if health[header as usize] != 0 {
+        return Found::Fault(Refusal::Poisoned(header));
+    }
+    if scope.buckets <= target.bucket {
+        return Found::Fault(Refusal::InvalidBucket(target.bucket));
+    }
+    Found::At(header * scope.buckets + target.bucket)
+}
+
+// The run after an attempt that found no cell, and after one that tried it.
+pub fn missed(run: Run, refusal: Refusal) -> Tried
+    requires { ⌜ run .attempts ≤ tryMost ⌝ }
+    ensures { λ r. ⌜ r
+        ≡ triedOf (runOf (run .flow) (run .attempts + 1) (run .boundaries) (run .yields)) (outcome.Refused refusal) ⌝ }
+{
+    let flow = run.flow;
+    Tried {
+        run: Run {
+            flow,
+            attempts: run.attempts + 1,
+            boundaries: run.boundaries,
+            yields: run.yields,
+        },
+        outcome: Outcome::Refused(refusal),
+    }
+}
+
+pub fn counted(run: Run, locked: Locked) -> Tried
+    requires { ⌜ (run .attempts ≤ tryMost) × ((run .boundaries ≤ tryMost) × (locked .boundaries ≤ 3)) ⌝ }
+    ensures { λ r. ⌜ r
+        ≡ triedOf (runOf (locked .flow) (run .attempts + 1) (run .boundaries + locked .boundaries) (run .yields))
+        (locked .answer) ⌝ }
+{
+    let flow = locked.flow;
+    let outcome = locked.answer;
+    Tried {
+        run: Run {
+            flow,
+            attempts: run.attempts + 1,
+            boundaries: run.boundaries + locked.boundaries,
+            yields: run.yields,
+        },
+        outcome,
+    }
+}
+
+// One attempt of a call that makes no other, at what its key was found to name.
+pub fn attempt_once(
+    scope: Scope,
+    run: Run,
+    table: &mut [u32],
+    health: &mut [u8],
+    script: &[u32],
+    held: &[u32],
+    taken: &[[u32; 2]; 64],
+    n: usize,
+    found: Found,
+) -> Tried
+    requires { ⌜ RoomIn scope (length (now table)) (length (now health)) n (length (now script))
+        × (RunBound (scope .steps) tryMost run × Lands scope (now health) found) ⌝ }
+    ensures { λ r. ⌜ (r, (now (table .exit), now (health .exit)))
+        ≡ attemptAt found (settingOf scope (now (script .entry)) (now (held .entry)) (now (taken .entry)) n)
+        (scope .buckets) run (now (table .entry)) (now (health .entry)) .seen ⌝ }
+{
+    match found {
+        Found::Fault(refusal) => missed(run, refusal),
+        Found::At(cell) => {
+            let flow = run.flow;
+            let locked = lock::lock(scope, flow, table, health, script, held, taken, n, cell);
+            counted(run, locked)
+        }
+    }
+}
+
+// The same for the retry loop, which it is private to: past the script's end an attempt is a quiet one. The header's
+// health was read just before, so the quiet lock of a healthy header is the one.
+// What a call of `lock` is given is copied where the call is made: a quiet attempt then stores no copy.
+pub fn attempt(
+    scope: Scope,
+    run: Run,
+    table: &mut [u32],
+    health: &mut [u8],
+    script: &[u32],
+    held: &[u32],
+    taken: &[[u32; 2]; 64],
+    n: usize,
+    found: Found,
+) -> Tried
+    requires { ⌜ RoomIn scope (length (now table)) (length (now health)) n (length (now script))
+        × (RunBound (scope .steps) tryMost run × Lands scope (now health) found) ⌝ }
+    ensures { λ r. ⌜ (r, (now (table .exit), now (health .exit)))
+        ≡ attemptAt found (settingOf scope (now (script .entry)) (now (held .entry)) (now (taken .entry)) n)
+        (scope .buckets) run (now (table .entry)) (now (health .entry)) .seen ⌝ }
+{
+    match found {
+        Found::Fault(refusal) => missed(run, refusal),
+        Found::At(cell) => {
+            let flow = run.flow;
+            if flow.place < scope.steps {
+                let here = scope;
+                let from = run.flow;
+                let locked = lock::lock(here, from, table, health, script, held, taken, n, cell);
+                return counted(run, locked);
+            }
+            let locked = lock::quiet_lock(scope.head(flow.next), flow, table, cell);
+            counted(run, locked)
+        }
+    }
+}

@@ -1,0 +1,165 @@
+// The retry: attempts 0 to 4,095, and the pause after each Busy one.
+// Functions with a `requires` are steps: calls have tested the shape, and a step tests nothing twice.
+use crate::Target;
+use crate::attempts::attempt;
+use crate::attempts::find;
+use foreign::Scope;
+use model::Outcome;
+use model::Run;
+use model::Tried;
+ghost use mathlib.Core.Path.{_≡_};
+ghost use mathlib.Core.Bool.{true};
+ghost use mathlib.Core.List.{[], _∷_};
+ghost use Prim.Native.Nat.{_+_, _<_};
+ghost use lib.ListN.{length};
+ghost use Rattle.model.specs.Lock.{spinOf, pauseOf, isBusy, retryOf};
+ghost use Rattle.model.specs.Refusals.{first};
+ghost use Rattle.foreign.specs.Model.{settingOf, RoomIn};
+ghost use Rattle.bucket.specs.Bounds.{callMost, tryMost};
+ghost use Rattle.bucket.specs.Laws.{RunBound};
+ghost use Rattle.bucket.specs.Model.{KeyFits, againOf};
+
+// After each Busy attempt: a boundary and a spin.
+pub fn spin(
+    scope: Scope,
+    run: Run,
+    table: &mut [u32],
+    health: &mut [u8],
+    script: &[u32],
+    held: &[u32],
+    taken: &[[u32; 2]; 64],
+    n: usize,
+) -> Run
+    requires { ⌜ RoomIn scope (length (now table)) (length (now health)) n (length (now script))
+        × RunBound (scope .steps) (tryMost + 4) run ⌝ }
+    ensures { λ r. ⌜ (r, (now (table .exit), now (health .exit)))
+        ≡ spinOf (settingOf scope (now (script .entry)) (now (held .entry)) (now (taken .entry)) n)
+        run (now (table .entry)) (now (health .entry)) .seen ⌝ }
+{
+    let flow = run.flow;
+    let after = foreign::boundary(scope, flow, table, health, script, held, taken, n);
+    Run {
+        flow: after,
+        attempts: run.attempts,
+        boundaries: run.boundaries + 1,
+        yields: run.yields,
+    }
+}
+
+// After a Busy attempt whose number has remainder 63 by 64, a boundary and a yield come before that.
+pub fn pause(
+    i: usize,
+    scope: Scope,
+    run: Run,
+    table: &mut [u32],
+    health: &mut [u8],
+    script: &[u32],
+    held: &[u32],
+    taken: &[[u32; 2]; 64],
+    n: usize,
+) -> Run
+    requires { ⌜ RoomIn scope (length (now table)) (length (now health)) n (length (now script))
+        × RunBound (scope .steps) (tryMost + 3) run ⌝ }
+    ensures { λ r. ⌜ (r, (now (table .exit), now (health .exit)))
+        ≡ pauseOf (settingOf scope (now (script .entry)) (now (held .entry)) (now (taken .entry)) n) i
+        run (now (table .entry)) (now (health .entry)) .seen ⌝ }
+{
+    if i % 64 == 63 {
+        let flow = run.flow;
+        let after = foreign::boundary(scope, flow, table, health, script, held, taken, n);
+        let yielded = Run {
+            flow: after,
+            attempts: run.attempts,
+            boundaries: run.boundaries + 1,
+            yields: run.yields + 1,
+        };
+        return spin(scope, yielded, table, health, script, held, taken, n);
+    }
+    spin(scope, run, table, health, script, held, taken, n)
+}
+
+pub fn is_busy(outcome: Outcome) -> bool
+    ensures { λ r. ⌜ r ≡ isBusy outcome ⌝ }
+{
+    match outcome {
+        Outcome::Granted(_) => false,
+        Outcome::Busy => true,
+        Outcome::Refused(_) => false,
+    }
+}
+
+// Attempt number i, and, if it was Busy, the pause after it.
+pub fn again(
+    i: usize,
+    scope: Scope,
+    run: Run,
+    table: &mut [u32],
+    health: &mut [u8],
+    script: &[u32],
+    held: &[u32],
+    taken: &[[u32; 2]; 64],
+    n: usize,
+    target: Target,
+) -> Tried
+    requires { ⌜ KeyFits scope (length (now table)) (length (now health)) n (length (now script)) 1 0
+        × RunBound (scope .steps) tryMost run ⌝ }
+    ensures { λ r. ⌜ (r, (now (table .exit), now (health .exit)))
+        ≡ againOf i (settingOf scope (now (script .entry)) (now (held .entry)) (now (taken .entry)) n)
+        (scope .buckets) (target .header ∷ []) 0 (target .bucket)
+        run (now (table .entry)) (now (health .entry)) ⌝ }
+{
+    let found = find(scope, health, target);
+    let tried = attempt(scope, run, table, health, script, held, taken, n, found);
+    let after = tried.run;
+    let outcome = tried.outcome;
+    if is_busy(outcome) {
+        let paused = pause(i, scope, after, table, health, script, held, taken, n);
+        return Tried {
+            run: paused,
+            outcome: Outcome::Busy,
+        };
+    }
+    tried
+}
+
+// Attempts 0 to 4,095; a grant or a refusal ends it at once. The key comes as two numbers: a call that stays a call
+// would store it as a struct first.
+pub fn retry(
+    scope: Scope,
+    start: Run,
+    table: &mut [u32],
+    health: &mut [u8],
+    script: &[u32],
+    held: &[u32],
+    taken: &[[u32; 2]; 64],
+    n: usize,
+    registry: &[u32],
+    binding: u32,
+    bucket: u32,
+) -> Tried
+    requires { ⌜ KeyFits scope (length (now table)) (length (now health)) n (length (now script))
+        (length (now registry)) binding × RunBound (scope .steps) callMost start ⌝ }
+    ensures { λ r. ⌜ (r, (now (table .exit), now (health .exit)))
+        ≡ retryOf 4096 0 (settingOf scope (now (script .entry)) (now (held .entry)) (now (taken .entry)) n)
+        (scope .buckets) (now (registry .entry)) binding bucket
+        start (now (table .entry)) (now (health .entry)) .seen ⌝ }
+{
+    let header = registry[binding as usize];
+    let target = Target { header, bucket };
+    let mut run = start;
+    let mut i = 0;
+    while i < 4096 {
+        let tried = again(i, scope, run, table, health, script, held, taken, n, target);
+        let outcome = tried.outcome;
+        if is_busy(outcome) {
+            run = tried.run;
+        } else {
+            return tried;
+        }
+        i += 1;
+    }
+    Tried {
+        run,
+        outcome: Outcome::Busy,
+    }
+}

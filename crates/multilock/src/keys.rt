@@ -1,0 +1,132 @@
+// The keys in the order given, and the grant buffer.
+// Functions with a `requires` are steps: calls have tested the shape, and a step tests nothing twice.
+use crate::rollback::roll_back;
+use foreign::Scope;
+use model::Answer;
+use model::Ended;
+use model::Outcome;
+use model::Refusal;
+use model::Run;
+use model::Tried;
+ghost use mathlib.Core.Path.{_≡_};
+ghost use mathlib.Core.List.{[]};
+ghost use Prim.Native.Nat.{_+_, _*_, _<_, _≤_};
+ghost use lib.ListN.{length};
+ghost use Rattle.model.specs.Arena.{leasesOf, wordsOf};
+ghost use Rattle.model.specs.Foreign.{protecting};
+ghost use Rattle.model.specs.Lock.{retryOf, bindingAt, bucketAt, locksOf};
+ghost use Rattle.foreign.specs.Model.{pairsOf, inScope};
+ghost use Rattle.bucket.specs.Bounds.{callMost};
+ghost use Rattle.bucket.specs.Laws.{RunBound};
+ghost use Rattle.multilock.specs.Locks.{Bound};
+
+// The buffer holds cell and serial for each key, in key order.
+pub fn grant(taken: [[u32; 2]; 64], n: usize, grants: &mut [u32])
+    requires { ⌜ (n ≤ 64) × (length (now grants) ≡ 2 * n) ⌝ }
+    ensures { λ _. ⌜ now (grants .exit) ≡ wordsOf (pairsOf n 0 taken) ⌝ }
+{
+    let mut i = 0;
+    while i < n {
+        grants[2 * i] = taken[i][0];
+        grants[2 * i + 1] = taken[i][1];
+        i += 1;
+    }
+}
+
+// All attempts for the key at position p, with the leases taken so far protected.
+pub fn try_key(
+    scope: Scope,
+    run: Run,
+    table: &mut [u32],
+    health: &mut [u8],
+    script: &[u32],
+    held: &[u32],
+    taken: &[[u32; 2]; 64],
+    p: usize,
+    registry: &[u32],
+    keys: &[u32],
+) -> Tried
+    requires { ⌜ Bound scope (length (now table)) (length (now health)) (length (now script)) (now registry) (now keys)
+        × (RunBound (scope .steps) callMost run × ((p < 64) × (2 * p + 1 < length (now keys)))) ⌝ }
+    ensures { λ r. ⌜ (r, (now (table .exit), now (health .exit)))
+        ≡ retryOf 4096 0 (protecting (inScope scope (now (script .entry)) (leasesOf (now (held .entry))))
+        (pairsOf p 0 (now (taken .entry)))) (scope .buckets) (now (registry .entry))
+        (bindingAt (now (keys .entry)) p) (bucketAt (now (keys .entry)) p)
+        run (now (table .entry)) (now (health .entry)) .seen ⌝ }
+{
+    let binding = keys[2 * p];
+    let bucket = keys[2 * p + 1];
+    bucket::retries::retry(
+        scope,
+        run,
+        table,
+        health,
+        script,
+        held,
+        taken,
+        p,
+        registry,
+        binding,
+        bucket,
+    )
+}
+
+// The keys in the order given; all of them, or none.
+pub fn lock_keys(
+    scope: Scope,
+    start: Run,
+    table: &mut [u32],
+    health: &mut [u8],
+    script: &[u32],
+    held: &[u32],
+    registry: &[u32],
+    keys: &[u32],
+    n: usize,
+    grants: &mut [u32],
+) -> Ended
+    requires { ⌜ Bound scope (length (now table)) (length (now health)) (length (now script)) (now registry) (now keys)
+        × (RunBound (scope .steps) 0 start × ((n ≤ 64) × ((2 * n ≤ length (now keys)) × (length (now grants) ≡ 2 * n)))) ⌝ }
+    ensures { λ r. ⌜ (r, (now (table .exit), (now (health .exit), now (grants .exit))))
+        ≡ locksOf n 0 (inScope scope (now (script .entry)) (leasesOf (now (held .entry)))) (scope .buckets)
+        (now (registry .entry)) (now (keys .entry)) []
+        start (now (table .entry)) (now (health .entry)) (now (grants .entry)) .seen ⌝ }
+{
+    let mut taken = [[0; 2]; 64];
+    let mut run = start;
+    let mut p = 0;
+    while p < n {
+        let tried = try_key(
+            scope,
+            run,
+            table,
+            health,
+            script,
+            held,
+            &taken,
+            p,
+            registry,
+            keys,
+        );
+        let after = tried.run;
+        let outcome = tried.outcome;
+        match outcome {
+            Outcome::Granted(lease) => {
+                taken[p] = [lease.cell, lease.serial];
+                run = after;
+            }
+            Outcome::Busy => {
+                let busy = Refusal::SerializationFailure;
+                return roll_back(scope, after, table, health, script, held, taken, p, busy);
+            }
+            Outcome::Refused(refusal) => {
+                return roll_back(scope, after, table, health, script, held, taken, p, refusal);
+            }
+        }
+        p += 1;
+    }
+    grant(taken, n, grants);
+    Ended {
+        run,
+        answer: Answer::AllGranted,
+    }
+}
