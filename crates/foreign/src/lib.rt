@@ -222,7 +222,8 @@ fn other_step(
     requires { ⌜ (3 * cells ≤ length (now table)) × ((headers ≤ length (now health))
         × ((kind ≡ 2 → ⊥) × (kind ≡ 5 → ⊥))) ⌝ }
     ensures { λ r. ⌜ (r, (now (table .exit), now (health .exit)))
-        ≡ stepOf (setting headers cells [] []) next (now (table .entry)) (now (health .entry)) kind place number .seen ⌝ }
+        ≡ stepOf (setting headers cells [] []) next (now (table .entry)) (now (health .entry)) kind place number
+        .seen ⌝ }
 {
     if kind == 0 {
         return Stepped { next, dropped: 0 };

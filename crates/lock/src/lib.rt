@@ -1,5 +1,5 @@
-// try_lock: three boundaries, the waiters read before and after, the health after, and a late release whose serial stays
-// spent.
+// try_lock: three boundaries, the waiters read before and after, the health after, and a late release whose serial
+// stays spent.
 // Functions with a `requires` are steps: calls have tested the shape, and a step tests nothing twice.
 // Steps are no calls of document 01, public ones neither: only the layers here call them (tests/layers.sh), and each
 // caller proves their `requires`.
@@ -182,8 +182,8 @@ fn boundaries_for(answer: Take) -> usize
     }
 }
 
-// One try_lock past the script's end, where every boundary is quiet, of a cell whose header is healthy: it still is after
-// the third.
+// One try_lock past the script's end, where every boundary is quiet, of a cell whose header is healthy: it still is
+// after the third.
 pub fn quiet_lock(head: Head, flow: Flow, table: &mut [u32], cell: u32) -> Locked
     requires { ⌜ 3 * cell + 2 < length (now table) ⌝ }
     ensures { λ r. ⌜ (r, now (table .exit)) ≡ quietLockOf flow (now (table .entry)) cell ⌝ }
@@ -292,8 +292,8 @@ fn lock_once(
 }
 
 // One attempt by cell, with up to three boundaries: Busy where somebody waits or holds. After the third boundary the
-// health of the cell's header is read: 7 if it is poisoned, the lease given up, its cell free, its serial spent. A lease
-// given up because somebody waits then is Busy, its cell free, its serial spent too.
+// health of the cell's header is read: 7 if it is poisoned, the lease given up, its cell free, its serial spent. A
+// lease given up because somebody waits then is Busy, its cell free, its serial spent too.
 pub fn try_lock(
     head: Head,
     table: &mut [u32],

@@ -85,7 +85,8 @@ pub fn lock_keys(
     grants: &mut [u32],
 ) -> Ended
     requires { ⌜ Bound scope (length (now table)) (length (now health)) (length (now script)) (now registry) (now keys)
-        × (RunBound (scope .steps) 0 start × ((n ≤ 64) × ((2 * n ≤ length (now keys)) × (length (now grants) ≡ 2 * n)))) ⌝ }
+        × (RunBound (scope .steps) 0 start × ((n ≤ 64) × ((2 * n ≤ length (now keys))
+        × (length (now grants) ≡ 2 * n)))) ⌝ }
     ensures { λ r. ⌜ (r, (now (table .exit), (now (health .exit), now (grants .exit))))
         ≡ locksOf n 0 (inScope scope (now (script .entry)) (leasesOf (now (held .entry)))) (scope .buckets)
         (now (registry .entry)) (now (keys .entry)) []

@@ -354,8 +354,8 @@ pub extern "C" fn skid_other_mutex_preserves_leases(
     )
 }
 
-// 6, 7 and 8 before the try_lock count the attempt and change nothing. 7 after its third boundary gives the lease up: its
-// cell is free, its serial spent.
+// 6, 7 and 8 before the try_lock count the attempt and change nothing. 7 after its third boundary gives the lease up:
+// its cell is free, its serial spent.
 #[no_mangle]
 pub extern "C" fn skid_transactional_try_lock_bucket(
     headers: u32,

@@ -7,7 +7,8 @@ ghost use mathlib.Core.Bool.{true, _&&_};
 ghost use lib.Dec.{eqb, ltb, leb};
 ghost use lib.ListN.{length, getD, drop};
 ghost use Rattle.io.specs.Counts.{Counts};
-ghost use Rattle.text.specs.Text.{before, isDigit, noNumber, endedNumberOf, readNumberOf, spacedOf, withOf, counted};
+ghost use Rattle.text.specs.Text.{before, isDigit, noNumber, endedNumberOf, readNumberOf, spacedOf, withOf};
+ghost use Rattle.text.specs.Text.{counted};
 ghost use Rattle.text.specs.Text.{numbersFrom};
 
 // A number that was read: whether one stands there, its value, and how many digits it has.
