@@ -26,7 +26,7 @@ use Rattle.choice.specs.Pick.{if-both}
 use Rattle.laws.specs.Words.{waiters-set-cell}
 use Rattle.lease.specs.Model.{claimAtOf}
 use Rattle.foreign.specs.Laws.{FlowBound, boundary-quiet, boundary-flow-bound}
-use Rattle.lock.specs.Model.{boundariesFor, quietTake, quietLockOf, gaveUp}
+use Rattle.lock.specs.Model.{boundariesFor, quietTake, quietLockOf, quietBy, quietTakeOf, lockedBy, gaveUp}
 
 -- ---- past the script's end
 
@@ -77,6 +77,16 @@ module _ (e : Setting) (buckets : ℕ) (g : List ℕ) (c : ℕ) (healthy : getD 
           ≡ beside (if b then quietTake f c (takeOf (f .next) t c .seen) else (lockedOf f 1 outcome.Busy, t))
       go true w = second-quiet f t l (eqb-true _ _ w)
       go false w = refl
+
+-- the quiet one, by its compare-and-set
+pub quiet-is : (f : Flow) (t : List ℕ) (c : ℕ) → quietLockOf f t c ≡ lockedBy c (quietTakeOf f t c)
+unfolding quietLockOf quietTakeOf
+quiet-is f t c = go (eqb (waitersAt t c) 0)
+  where
+    go : (b : Bool) → (if b then quietTake f c (takeOf (f .next) t c .seen) else (lockedOf f 1 outcome.Busy, t))
+        ≡ lockedBy c (if b then quietBy f (takeOf (f .next) t c .seen) else (record { flow = f; boundaries = 1; answer = taking.Busy }, t))
+    go true = refl
+    go false = refl
 
 -- ---- what a try_lock keeps: drops stay flow-bound by steps, and it has at most three boundaries
 

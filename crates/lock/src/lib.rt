@@ -24,7 +24,7 @@ ghost use Rattle.model.specs.Lock.{lockedOf, lateOf, secondOf, lockOf};
 ghost use Rattle.model.specs.Calls.{tryLockOf};
 ghost use Rattle.foreign.specs.Model.{inScope, settingOf, RoomIn};
 ghost use Rattle.foreign.specs.Laws.{FlowBound};
-ghost use Rattle.lock.specs.Model.{CellIn, gaveUp, quietLockOf, boundariesFor, lockOnceOf};
+ghost use Rattle.lock.specs.Model.{CellIn, gaveUp, quietTakeOf, quietLockOf, boundariesFor, lockOnceOf};
 ghost use Rattle.lock.specs.Fine.{LockFine};
 
 // The new lease released after the third boundary. Its serial stays spent.
@@ -182,30 +182,52 @@ fn boundaries_for(answer: Take) -> usize
     }
 }
 
+// What one try_lock comes to where every boundary is quiet: its compare-and-set, and what it counts.
+pub struct Quiet {
+    pub flow: Flow,
+    pub boundaries: usize,
+    pub answer: Take,
+}
+
 // One try_lock past the script's end, where every boundary is quiet, of a cell whose header is healthy: it still is
-// after the third.
-pub fn quiet_lock(head: Head, flow: Flow, table: &mut [u32], cell: u32) -> Locked
+// after the third. The answer is that of its compare-and-set, two numbers where an outcome is five.
+pub fn quiet_take(head: Head, flow: Flow, table: &mut [u32], cell: u32) -> Quiet
     requires { ⌜ 3 * cell + 2 < length (now table) ⌝ }
-    ensures { λ r. ⌜ (r, now (table .exit)) ≡ quietLockOf flow (now (table .entry)) cell ⌝ }
+    ensures { λ r. ⌜ (r, now (table .exit)) ≡ quietTakeOf flow (now (table .entry)) cell ⌝ }
 {
     if arena::waiters_at(table, cell) == 0 {
         let claim = lease::claim_at(head.spent_to(flow.next), table, cell);
         let spent = claim.head;
         let answer = claim.answer;
-        return Locked {
+        return Quiet {
             flow: Flow {
                 next: spent.next,
                 place: flow.place,
                 dropped: flow.dropped,
             },
             boundaries: boundaries_for(answer),
-            answer: lease::outcome(cell, answer),
+            answer,
         };
     }
-    Locked {
+    Quiet {
         flow,
         boundaries: 1,
-        answer: Outcome::Busy,
+        answer: Take::Busy,
+    }
+}
+
+// The same, as a lock answers.
+pub fn quiet_lock(head: Head, flow: Flow, table: &mut [u32], cell: u32) -> Locked
+    requires { ⌜ 3 * cell + 2 < length (now table) ⌝ }
+    ensures { λ r. ⌜ (r, now (table .exit)) ≡ quietLockOf flow (now (table .entry)) cell ⌝ }
+{
+    let quiet = quiet_take(head, flow, table, cell);
+    let after = quiet.flow;
+    let answer = quiet.answer;
+    Locked {
+        flow: after,
+        boundaries: quiet.boundaries,
+        answer: lease::outcome(cell, answer),
     }
 }
 

@@ -1,22 +1,11 @@
 -- `lock::quiet_lock` meets its contract.
 use borrow.Author.Needs.{needs}
-use borrow.Author.Tests.{eq-eqb, ne-eqb}
 use Rattle.lock.proofs.quiet_lock.Statement.{statement}
-use Rattle.lock.specs.Laws.{take-claim}
-use Rattle.lock.specs.Model.{quietLockOf}
+use Rattle.lock.specs.Laws.{quiet-is}
 use Rattle.lock.proofs.quiet_lock.Tie as tie
 
-waiters-at-requires : tie.Need-waiters-at-requires
-waiters-at-requires c κs = search needs
-
-spent-to-requires : tie.Need-spent-to-requires
-spent-to-requires c κs = search needs
-
-claim-at-requires : tie.Need-claim-at-requires
-claim-at-requires c κs = search needs
-
-boundaries-for-requires : tie.Need-boundaries-for-requires
-boundaries-for-requires c κs = search needs
+quiet-take-requires : tie.Need-quiet-take-requires
+quiet-take-requires c κs = search needs
 
 outcome-requires : tie.Need-outcome-requires
 outcome-requires c κs = search needs
@@ -25,26 +14,7 @@ same-length : tie.Need-same-length
 same-length c = search needs
 
 returns : tie.Need-returns
-unfolding quietLockOf
-returns c = rw (← c .before .before .before .before .before .before .before .before .before .waiters-at .ensures, eq-eqb _ _ (c .before .before .before .before .before .before .before .before .if1 .taken), take-claim (c .before .before .before .before .before .before .before .before .before .before .before .before .args .head .headers) (c .before .before .before .before .before .before .before .before .before .before .before .before .args .head .buckets) _ _ _, ← c .before .before .before .before .before .before .before .spent-to .ensures, ← c .before .before .before .before .before .claim-at .ensures, ← c .before .boundaries-for .ensures, ← c .outcome .ensures)
-
-same-length-2 : tie.Need-same-length-2
-same-length-2 c = search needs
-
-returns-2 : tie.Need-returns-2
-unfolding quietLockOf
-returns-2 c = rw (← c .before .waiters-at .ensures, ne-eqb _ _ (c .if1 .left))
+returns c = rw (quiet-is _ _ _, ← c .before .before .before .before .quiet-take .ensures, ← c .outcome .ensures)
 
 pub quiet-lock-spec : {M : Type 1} → statement M
-quiet-lock-spec =
-    tie.close
-    (tie.spec
-    waiters-at-requires
-    spent-to-requires
-    claim-at-requires
-    boundaries-for-requires
-    outcome-requires
-    same-length
-    returns
-    same-length-2
-    returns-2)
+quiet-lock-spec = tie.close (tie.spec quiet-take-requires outcome-requires same-length returns)
