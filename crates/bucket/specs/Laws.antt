@@ -29,7 +29,8 @@ use Rattle.foreign.specs.declared.Scope.{Scope}
 use Rattle.foreign.specs.Laws.{FlowBound, boundary-flow-bound}
 use Rattle.bucket.specs.Bounds.{callMost}
 use Rattle.bucket.specs.Model.{Lands, againOf}
-use Rattle.lock.specs.Model.{boundariesFor, quietLockOf}
+use Rattle.lock.specs.declared.Quiet.{Quiet}
+use Rattle.lock.specs.Model.{boundariesFor, quietTakeOf}
 use Rattle.lock.specs.Laws.{LockedBound, lock-locked-bound}
 
 -- ---- counts: few enough that no sum wraps
@@ -101,10 +102,10 @@ few-for taking.Busy = omega arith
 few-for taking.Damaged = omega arith
 few-for taking.Spent = omega arith
 
-pub quiet-few : (o : Locked × List ℕ) (f : Flow) (t : List ℕ) (c : ℕ) → o ≡ quietLockOf f t c → o .0 .boundaries ≤ 3
-unfolding quietLockOf
+pub quiet-few : (o : Quiet × List ℕ) (f : Flow) (t : List ℕ) (c : ℕ) → o ≡ quietTakeOf f t c → o .0 .boundaries ≤ 3
+unfolding quietTakeOf
 quiet-few o f t c q =
-    rw q (if-both (λ (k : Locked × List ℕ). k .0 .boundaries ≤ 3) (eqb (waitersAt t c) 0) (few-for (takeOf (f .next) t c .seen .0 .answer)) (omega arith))
+    rw q (if-both (λ (k : Quiet × List ℕ). k .0 .boundaries ≤ 3) (eqb (waitersAt t c) 0) (few-for (takeOf (f .next) t c .seen .0 .answer)) (omega arith))
 
 -- ---- one turn of the retry loop, and its end
 

@@ -134,8 +134,18 @@ pub fn attempt(
                 let locked = lock::lock(here, from, table, health, script, held, taken, n, cell);
                 return counted(run, locked);
             }
-            let locked = lock::quiet_lock(scope.head(flow.next), flow, table, cell);
-            counted(run, locked)
+            let quiet = lock::quiet_take(scope.head(flow.next), flow, table, cell);
+            let after = quiet.flow;
+            let answer = quiet.answer;
+            Tried {
+                run: Run {
+                    flow: after,
+                    attempts: run.attempts + 1,
+                    boundaries: run.boundaries + quiet.boundaries,
+                    yields: run.yields,
+                },
+                outcome: lease::outcome(cell, answer),
+            }
         }
     }
 }

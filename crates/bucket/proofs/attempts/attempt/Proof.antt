@@ -3,7 +3,7 @@ use native.Mathlib.Omega.{arith}
 use borrow.Author.Needs.{needs}
 use Rattle.bucket.specs.Laws.{locked-bound-of, quiet-few}
 use Rattle.foreign.specs.Model.{settingOf}
-use Rattle.lock.specs.Laws.{lock-quiet}
+use Rattle.lock.specs.Laws.{lock-quiet, quiet-is}
 use Rattle.bucket.proofs.attempts.attempt.Statement.{statement}
 use Rattle.bucket.proofs.attempts.attempt.Tie as tie
 
@@ -37,13 +37,21 @@ returns c = rw (c .before .before .before .before .before .before .before .befor
 head-requires : tie.Need-head-requires
 head-requires c κs = search needs
 
-quiet-lock-requires : tie.Need-quiet-lock-requires
-quiet-lock-requires c κs = omega (arith, c .before .before .before .before .before .before .before .before .before .before .before .before .before .pre .0 .words-fit, c .before .before .before .before .before .before .before .before .before .before .before .before .before .pre .1 .1 _ (c .before .before .before .before .before .before .before .found2 .given .1) .there .inside)
+quiet-take-requires : tie.Need-quiet-take-requires
+quiet-take-requires c κs = omega (arith, c .before .before .before .before .before .before .before .before .before .before .before .before .before .pre .0 .words-fit, c .before .before .before .before .before .before .before .before .before .before .before .before .before .pre .1 .1 _ (c .before .before .before .before .before .before .before .found2 .given .1) .there .inside)
 
-counted-requires-2 : tie.Need-counted-requires-2
-counted-requires-2 c κs =
-    let run-bound = c .before .before .before .before .before .before .before .before .before .before .before .before .before .before .before .before .pre .1 .0 in
-    (run-bound .few-attempts, (run-bound .few-boundaries, quiet-few _ _ _ _ (c .before .before .quiet-lock .ensures)))
+add-t28 : tie.Need-add-t28
+add-t28 c =
+    let run-bound = c .before .before .before .before .before .before .before .before .before .before .before .before .before .before .before .before .before .before .pre .1 .0 in
+    omega (arith, run-bound .few-attempts)
+
+add-t29 : tie.Need-add-t29
+add-t29 c =
+    let run-bound = c .before .before .before .before .before .before .before .before .before .before .before .before .before .before .before .before .before .before .before .before .pre .1 .0 in
+    omega (arith, run-bound .few-boundaries, quiet-few _ _ _ _ (c .before .before .before .before .before .before .quiet-take .ensures))
+
+outcome-requires : tie.Need-outcome-requires
+outcome-requires c κs = search needs
 
 returns-2 : tie.Need-returns-2
 returns-2 c = rw (c .before .before .found .given .1, ← c .missed .ensures)
@@ -53,10 +61,10 @@ same-length-3 c = search needs
 
 returns-3 : tie.Need-returns-3
 returns-3 c =
-    let a = c .before .before .before .before .before .before .before .before .before .before .before .before .before .before .before .before .before .args in
+    let a = c .before .before .before .before .before .before .before .before .before .before .before .before .before .before .before .before .before .before .before .before .before .args in
     let e = settingOf (a .scope) (a .script .now) (a .held .now) (a .taken .now) (a .n) in
-    let f = c .before .before .before .before .before .before .before .before .before .before .before .found2 .given .1 in
-    rw (f, lock-quiet e (a .scope .buckets) (a .health .now) _ (c .before .before .before .before .before .before .before .before .before .before .before .before .before .before .before .before .before .pre .1 .1 _ f .healthy) (a .run .flow) (a .table .now) (omega (arith, c .before .before .before .before .before .before .if1 .left, c .before .before .before .before .before .before .before .before .before .before .before .before .before .before .before .before .before .pre .0 .steps-are)), ← c .before .before .before .quiet-lock .ensures, ← c .counted2 .ensures)
+    let f = c .before .before .before .before .before .before .before .before .before .before .before .before .before .before .before .found2 .given .1 in
+    rw (f, lock-quiet e (a .scope .buckets) (a .health .now) _ (c .before .before .before .before .before .before .before .before .before .before .before .before .before .before .before .before .before .before .before .before .before .pre .1 .1 _ f .healthy) (a .run .flow) (a .table .now) (omega (arith, c .before .before .before .before .before .before .before .before .before .before .if1 .left, c .before .before .before .before .before .before .before .before .before .before .before .before .before .before .before .before .before .before .before .before .before .pre .0 .steps-are)), quiet-is _ _ _, ← c .before .before .before .before .before .before .before .quiet-take .ensures, ← c .outcome .ensures)
 
 pub attempt-spec : {M : Type 1} → statement M
 attempt-spec =
@@ -71,8 +79,10 @@ attempt-spec =
     same-length-2
     returns
     head-requires
-    quiet-lock-requires
-    counted-requires-2
+    quiet-take-requires
+    add-t28
+    add-t29
+    outcome-requires
     returns-2
     same-length-3
     returns-3)
