@@ -1,7 +1,7 @@
 #!/usr/bin/env bash
 # Which crate may name which (CONTRIBUTING.md), held to crates.txt. The step crates have functions that ask something of their callers
 # (`requires`); only the crates listed here may name them, so a reader knows where every such call is. Exported calls ask nothing: C and
-# Rust callers prove nothing. Ends with 1 and says what is wrong.
+# Rust callers prove nothing. And no source line has over 120 columns. Ends with 1 and says what is wrong.
 set -euo pipefail
 cd "$(dirname "$0")/.."
 
@@ -42,6 +42,9 @@ done
 for file in crates/"$exports"/src/*.rt; do
     ! grep -Hn 'requires' "$file" || complain "$file: an exported call has no requires"
 done
+if LC_ALL=C.UTF-8 grep -nE '^.{121}' crates/*/src/*.rt; then
+    complain "a source line has over 120 columns"
+fi
 
 [ "$wrong" -ne 0 ] || echo "layers: $crates crates; steps with a requires are named by $(wc -w <<<"$callers") of them, exported calls have none"
 exit "$wrong"
