@@ -72,7 +72,7 @@ done
 { echo 12; plain "$room/day" | sed -n 's/^step //p'; } >"$room/history"
 bash bench/wave.sh bench/skid-day.txt 12 >"$room/dump.vcd" || { echo "bench/wave.sh ended with status $?"; exit 1; }
 compare 'the day on the skid'
-[ "$(wc -l <"$room/seen")" -gt 40 ] || { echo "the day on the skid has only $(wc -l <"$room/seen") values"; exit 1; }
+[ "$(wc -l <"$room/seen")" -ge 40 ] || { echo "the day on the skid has only $(wc -l <"$room/seen") values"; exit 1; }
 [ "$viewed" -gt 10 ] || { echo "only $viewed dumps were viewed"; exit 1; }
 
 # ---- bench/wave.sh
