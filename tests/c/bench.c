@@ -469,7 +469,7 @@ static void without_script(void) {
 
 static void with_script(void) {
     static const uint32_t script[12] = {0, 0, 0, 2, 3, 1, 9, 9, 9, 4, 1, 1};
-    static const uint32_t held[2] = {3, 1}, leases[4] = {3, 1, 4, 2};
+    static const uint32_t held[2] = {3, 1}, leases[4] = {3, 1, 4, 3};
     prepare(1);
     skid_try_acquire(HEAD, TABLE, 3, blank());
     called();
@@ -486,10 +486,18 @@ static void with_script(void) {
     words(5, 0, 0, 0, SKID_REFUSED, SKID_BAD_SCRIPT, 0, 0);
     end(&edges);
 
-    name("other_mutex_preserves_leases");
+    name("other_mutex_preserves_leases of a poisoned header: read after the lock, the serial stays spent");
     skid_other_mutex_preserves_leases(HEAD, TABLE, HEALTH, NONE, 0, LIST(held), 4, blank());
     called();
-    words(0, 1, 3, 0, SKID_GRANTED, 4, 2, 0);
+    at_next(3);
+    words(0, 1, 3, 0, SKID_REFUSED, SKID_POISONED, 1, 0);
+    end(&edges);
+
+    name("other_mutex_preserves_leases, the header mended");
+    health.bytes[1] = 0;
+    skid_other_mutex_preserves_leases(HEAD, TABLE, HEALTH, NONE, 0, LIST(held), 4, blank());
+    called();
+    words(0, 1, 3, 0, SKID_GRANTED, 4, 3, 0);
     end(&edges);
 
     name("release_all");

@@ -457,8 +457,14 @@ fn with_script(b: &mut Bench) {
         b.check("answer", played.answer, Answer::Refused(Refusal::BadScript));
         b.check("place", played.place, 5);
         let played = arena.other_mutex_preserves_leases(&mut Script::quiet(), &[three], 4);
-        b.check("answer", played.answer, granted(4, 2));
-        let leases = [three, Lease { cell: 4, serial: 2 }];
+        b.check("answer", played.answer, Answer::Refused(Refusal::Poisoned(1)));
+        b.check("boundaries", played.counts.boundaries, 3);
+        let mended = [Step::health(1, false)];
+        let played = arena.environment(&mut Script::starting_at(&mended, 0), &[three]);
+        b.check("answer", played.answer, Answer::Done);
+        let played = arena.other_mutex_preserves_leases(&mut Script::quiet(), &[three], 4);
+        b.check("answer", played.answer, granted(4, 3));
+        let leases = [three, Lease { cell: 4, serial: 3 }];
         let played = arena.release_all(&mut Script::quiet(), &[leases[0], leases[1], leases[0]]);
         b.check(
             "answer",
