@@ -457,7 +457,11 @@ fn with_script(b: &mut Bench) {
         b.check("answer", played.answer, Answer::Refused(Refusal::BadScript));
         b.check("place", played.place, 5);
         let played = arena.other_mutex_preserves_leases(&mut Script::quiet(), &[three], 4);
-        b.check("answer", played.answer, Answer::Refused(Refusal::Poisoned(1)));
+        b.check(
+            "answer",
+            played.answer,
+            Answer::Refused(Refusal::Poisoned(1)),
+        );
         b.check("boundaries", played.counts.boundaries, 3);
         let mended = [Step::health(1, false)];
         let played = arena.environment(&mut Script::starting_at(&mended, 0), &[three]);
