@@ -1,5 +1,6 @@
 // One attempt by key: the cell that the key names, and the lock of it.
 // Functions with a `requires` are steps: calls have tested the shape, and a step tests nothing twice.
+// Nothing here is reached from outside the crate.
 use crate::Target;
 use foreign::Scope;
 use model::Found;
@@ -40,7 +41,7 @@ pub fn find(scope: Scope, health: &[u8], target: Target) -> Found
 }
 
 // The run after an attempt that found no cell, and after one that tried it.
-pub fn missed(run: Run, refusal: Refusal) -> Tried
+fn missed(run: Run, refusal: Refusal) -> Tried
     requires { ⌜ run .attempts ≤ tryMost ⌝ }
     ensures { λ r. ⌜ r
         ≡ triedOf (runOf (run .flow) (run .attempts + 1) (run .boundaries) (run .yields)) (outcome.Refused refusal) ⌝ }
@@ -57,7 +58,7 @@ pub fn missed(run: Run, refusal: Refusal) -> Tried
     }
 }
 
-pub fn counted(run: Run, locked: Locked) -> Tried
+fn counted(run: Run, locked: Locked) -> Tried
     requires { ⌜ (run .attempts ≤ tryMost) × ((run .boundaries ≤ tryMost) × (locked .boundaries ≤ 3)) ⌝ }
     ensures { λ r. ⌜ r
         ≡ triedOf (runOf (locked .flow) (run .attempts + 1) (run .boundaries + locked .boundaries) (run .yields))

@@ -1,5 +1,7 @@
 // The checks of calls by key, in the order of document 01's table.
 // Functions with a `requires` are steps: calls have tested the shape, and a step tests nothing twice.
+// Steps are no calls of document 01, public ones neither: only the layers here call them (tests/layers.sh), and each
+// caller proves their `requires`.
 use model::Check;
 use model::Head;
 use model::Refusal;
@@ -13,7 +15,7 @@ ghost use Rattle.model.specs.Refusals.{first};
 ghost use Rattle.model.specs.Checks.{badRegistry, badBinding, bucketRules};
 ghost use Rattle.bucket.specs.Fine.{keyRules, listRules};
 
-pub fn registry_fault(registry: &[u32]) -> Check
+fn registry_fault(registry: &[u32]) -> Check
     ensures { λ r. ⌜ r ≡ first (badRegistry (now (registry .entry)) ∷ []) ⌝ }
 {
     if registry.len() <= 64 {
@@ -22,7 +24,7 @@ pub fn registry_fault(registry: &[u32]) -> Check
     Check::Fault(Refusal::BadShape)
 }
 
-pub fn lists_fault(
+fn lists_fault(
     head: Head,
     table: &[u32],
     registry: &[u32],

@@ -2,7 +2,7 @@
 // Functions with a `requires` are steps: calls have tested the shape, and a step tests nothing twice.
 // Steps are no calls of document 01, public ones neither: only the layers here call them (tests/layers.sh), and each
 // caller proves their `requires`.
-pub mod attempts;
+mod attempts;
 pub mod checks;
 pub mod retries;
 

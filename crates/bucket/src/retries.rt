@@ -1,5 +1,7 @@
 // The retry: attempts 0 to 4,095, and the pause after each Busy one.
 // Functions with a `requires` are steps: calls have tested the shape, and a step tests nothing twice.
+// Steps are no calls of document 01, public ones neither: only the layers here call them (tests/layers.sh), and each
+// caller proves their `requires`.
 use crate::Target;
 use crate::attempts::attempt;
 use crate::attempts::find;
@@ -20,7 +22,7 @@ ghost use Rattle.bucket.specs.Laws.{RunBound};
 ghost use Rattle.bucket.specs.Model.{KeyFits, againOf};
 
 // After each Busy attempt: a boundary and a spin.
-pub fn spin(
+fn spin(
     scope: Scope,
     run: Run,
     table: &mut [u32],
@@ -47,7 +49,7 @@ pub fn spin(
 }
 
 // After a Busy attempt whose number has remainder 63 by 64, a boundary and a yield come before that.
-pub fn pause(
+fn pause(
     i: usize,
     scope: Scope,
     run: Run,
@@ -78,7 +80,7 @@ pub fn pause(
     spin(scope, run, table, health, script, held, taken, n)
 }
 
-pub fn is_busy(outcome: Outcome) -> bool
+fn is_busy(outcome: Outcome) -> bool
     ensures { λ r. ⌜ r ≡ isBusy outcome ⌝ }
 {
     match outcome {
@@ -89,7 +91,7 @@ pub fn is_busy(outcome: Outcome) -> bool
 }
 
 // Attempt number i, and, if it was Busy, the pause after it.
-pub fn again(
+fn again(
     i: usize,
     scope: Scope,
     run: Run,

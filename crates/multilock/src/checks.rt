@@ -1,4 +1,5 @@
 // The checks of multi-lock, in the order of document 01's table.
+// Nothing here is reached from outside the crate.
 use model::Check;
 use model::Head;
 use model::Refusal;
@@ -10,7 +11,7 @@ ghost use Rattle.model.specs.Checks.{countIn, tooManyKeys, badBindings, locksRu
 ghost use Rattle.laws.specs.Checks.{or-else};
 
 // 4: keys odd, too many, or a buffer that is not two words a key.
-pub fn keys_fault(held: &[u32], keys: &[u32], grants: &[u32]) -> Check
+fn keys_fault(held: &[u32], keys: &[u32], grants: &[u32]) -> Check
     ensures { λ r. ⌜ r ≡ first (tooManyKeys (now (held .entry)) (now (keys .entry)) (now (grants .entry)) ∷ []) ⌝ }
 {
     let n = keys.len() / 2;
@@ -27,7 +28,7 @@ pub fn keys_fault(held: &[u32], keys: &[u32], grants: &[u32]) -> Check
 }
 
 // 5: the first key whose binding is past the registry.
-pub fn bindings_fault(registry: &[u32], keys: &[u32]) -> Check
+fn bindings_fault(registry: &[u32], keys: &[u32]) -> Check
     ensures { λ r. ⌜ r
         ≡ first (badBindings (countIn (now (keys .entry))) 0 (now (registry .entry)) (now (keys .entry))) ⌝ }
 {
@@ -47,7 +48,7 @@ pub fn bindings_fault(registry: &[u32], keys: &[u32]) -> Check
 }
 
 // 4, and then 5.
-pub fn all_keys_fault(registry: &[u32], held: &[u32], keys: &[u32], grants: &[u32]) -> Check
+fn all_keys_fault(registry: &[u32], held: &[u32], keys: &[u32], grants: &[u32]) -> Check
     ensures { λ r. ⌜ r
         ≡ or-else (first (tooManyKeys (now (held .entry)) (now (keys .entry)) (now (grants .entry)) ∷ []))
         (first (badBindings (countIn (now (keys .entry))) 0 (now (registry .entry)) (now (keys .entry)))) ⌝ }

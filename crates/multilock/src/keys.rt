@@ -1,5 +1,6 @@
 // The keys in the order given, and the grant buffer.
 // Functions with a `requires` are steps: calls have tested the shape, and a step tests nothing twice.
+// Nothing here is reached from outside the crate.
 use crate::rollback::roll_back;
 use foreign::Scope;
 use model::Answer;
@@ -21,7 +22,7 @@ ghost use Rattle.bucket.specs.Laws.{RunBound};
 ghost use Rattle.multilock.specs.Locks.{Bound};
 
 // The buffer holds cell and serial for each key, in key order.
-pub fn grant(taken: [[u32; 2]; 64], n: usize, grants: &mut [u32])
+fn grant(taken: [[u32; 2]; 64], n: usize, grants: &mut [u32])
     requires { ⌜ (n ≤ 64) × (length (now grants) ≡ 2 * n) ⌝ }
     ensures { λ _. ⌜ now (grants .exit) ≡ wordsOf (pairsOf n 0 taken) ⌝ }
 {
@@ -34,7 +35,7 @@ pub fn grant(taken: [[u32; 2]; 64], n: usize, grants: &mut [u32])
 }
 
 // All attempts for the key at position p, with the leases taken so far protected.
-pub fn try_key(
+fn try_key(
     scope: Scope,
     run: Run,
     table: &mut [u32],

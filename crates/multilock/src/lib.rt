@@ -2,9 +2,9 @@
 // The leases taken so far stand in an array of sixty-four pairs, passed by value with a count; a refusal rolls it back
 // from the end.
 // Functions with a `requires` are steps: calls have tested the shape, and a step tests nothing twice.
-pub mod checks;
-pub mod keys;
-pub mod rollback;
+mod checks;
+mod keys;
+mod rollback;
 
 use checks::locks_check;
 use keys::lock_keys;

@@ -1,5 +1,6 @@
 // The rollback: what was taken is given back, last first.
 // Functions with a `requires` are steps: calls have tested the shape, and a step tests nothing twice.
+// Nothing here is reached from outside the crate.
 use foreign::Scope;
 use model::Answer;
 use model::Ended;
@@ -18,7 +19,7 @@ ghost use Rattle.bucket.specs.Laws.{RunBound};
 ghost use Rattle.multilock.specs.Locks.{rollBackOf};
 
 // Last first; the pairs before the one released stay protected.
-pub fn give_pairs(
+fn give_pairs(
     scope: Scope,
     start: Run,
     table: &mut [u32],

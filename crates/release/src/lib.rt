@@ -1,6 +1,8 @@
 // Giving back: `release_all`, last first with a boundary after each release, and its steps, on which multi-lock's
 // rollback stands too.
 // Functions with a `requires` are steps: calls have tested the shape, and a step tests nothing twice.
+// Steps are no calls of document 01, public ones neither: only the layers here call them (tests/layers.sh), and each
+// caller proves their `requires`.
 use foreign::Scope;
 use model::Answer;
 use model::Check;
