@@ -10,7 +10,7 @@ use Rattle.model.specs.Log.{Made, Event, by-caller, by-script, attempt-begun, b
 use Rattle.model.specs.Arena.{spentTo, leaseOf, leasesOf, ownerAt, setCell}
 use Rattle.model.specs.Answers.{refusalIn}
 use Rattle.model.specs.Foreign.{Setting, boundaryOf}
-use Rattle.model.specs.Lock.{runOf, attemptOf, attemptLimit, spinOf, isBusy, triedOf, answerOf, settled}
+use Rattle.model.specs.Lock.{runOf, attemptOf, attemptLimit, noneYet, spinOf, isBusy, triedOf, answerOf, settled}
 use Rattle.model.specs.Calls.{countsOf, given, starting}
 use Rattle.model.specs.Crew.{total, crewOf}
 use Rattle.model.specs.declared.Answer.{Answer}
@@ -84,8 +84,8 @@ abbrev pub one-fewer : World → World
 one-fewer w = worldOf (spentTo (w .head) (w .head .next - 1)) (w .table) (w .health)
 
 abbrev pub if-late : Answer → List Lease → World → World
-if-late Busy (l ∷ ls) w = one-fewer w
-if-late Busy [] w = w
+if-late (Busy why) (l ∷ ls) w = one-fewer w
+if-late (Busy why) [] w = w
 if-late Done ls w = w
 if-late (Cell c) ls w = w
 if-late (Granted l) ls w = w
@@ -116,7 +116,7 @@ skipped w m Done = m
 skipped w m (Cell c) = m
 skipped w m (Granted l) = m
 skipped w m AllGranted = m
-skipped w m Busy = m
+skipped w m (Busy why) = m
 skipped w m (Refused r) = m
 
 abbrev pub rollback-skips : Build
@@ -142,7 +142,7 @@ retryAt remainder (suc left) i e buckets registry binding bucket r t g = do
 
 abbrev pub retries-at : ℕ → World → (registry script : List ℕ) (place : ℕ) (held : List ℕ) (binding bucket : ℕ) → Made (World × Says)
 retries-at remainder w registry script place held binding bucket = do
-  (k, (t, g)) ← retryAt remainder attemptLimit 0 (given (w .head) script (leasesOf held)) (w .head .buckets) registry binding bucket (starting (w .head) place) (w .table) (w .health)
+  (k, (t, g)) ← retryAt remainder attemptLimit 0 noneYet (given (w .head) script (leasesOf held)) (w .head .buckets) registry binding bucket (starting (w .head) place) (w .table) (w .health)
   gives (
     worldOf (spentTo (w .head) (k .run .flow .next)) t g,
     says (answerOf (settled (k .outcome))) (countsOf (k .run .attempts) (k .run .boundaries) (k .run .yields) (k .run .flow .dropped)) (k .run .flow .place) [],
@@ -233,7 +233,7 @@ granting l Done = Done
 granting l (Cell c) = Cell c
 granting l (Granted k) = Granted k
 granting l AllGranted = AllGranted
-granting l Busy = Granted l
+granting l (Busy why) = Granted l
 granting l (Refused r) = Refused r
 granting l (RefusedAt r p) = RefusedAt r p
 
@@ -263,7 +263,7 @@ ten Done = Done
 ten (Cell c) = Cell c
 ten (Granted k) = Granted k
 ten AllGranted = AllGranted
-ten Busy = Busy
+ten (Busy why) = Busy
 ten (Refused r) = Refused (spent-for-failed r)
 ten (RefusedAt r p) = RefusedAt r p
 

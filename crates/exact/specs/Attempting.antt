@@ -11,7 +11,7 @@ use borrow.Author.Tests.{eqb-true, eqb-false}
 use Rattle.model.specs.Log.{Made, yielded, note, _>>=_, _>>_, spun}
 use Rattle.model.specs.Arena.{leasesOf}
 use Rattle.model.specs.Foreign.{Setting, flowOf, boundaryOf}
-use Rattle.model.specs.Lock.{answerOf, settled, runOf, triedOf, attemptOf, spinOf, pauseOf, isBusy, retryOf, attemptLimit}
+use Rattle.model.specs.Lock.{answerOf, settled, runOf, triedOf, attemptOf, spinOf, pauseOf, isBusy, retryOf, attemptLimit, noneYet}
 use Rattle.model.specs.Checks.{bucketRules}
 use Rattle.model.specs.Calls.{countsOf, given}
 use Rattle.model.specs.declared.Answer.the-variants.{Done, Busy, Refused}
@@ -19,6 +19,7 @@ use Rattle.model.specs.declared.Counts.{Counts}
 use Rattle.model.specs.declared.Head.{Head}
 use Rattle.model.specs.declared.Outcome.{Outcome}
 use Rattle.model.specs.declared.Outcome.the-variants as outcome
+use Rattle.model.specs.declared.Reason.{Reason}
 use Rattle.model.specs.declared.Run.{Run}
 use Rattle.model.specs.declared.Tried.{Tried}
 use Rattle.history.specs.World.{World}
@@ -67,17 +68,17 @@ at-last h m =
 
 busy-is : (o : Outcome) → isBusy o ≡ true → answerOf o ≡ Busy
 busy-is (outcome.Granted l) e = absurd (differ e)
-busy-is outcome.Busy e = refl
+busy-is (outcome.Busy why) e = refl
 busy-is (outcome.Refused r) e = absurd (differ e)
 
 not-busy : (o : Outcome) → isBusy o ≡ false → answerOf o ≡ Busy → ⊥
 not-busy (outcome.Granted l) e q = let z : _≡_ {A = ℕ} 0 1 = cc in omega arith
-not-busy outcome.Busy e q = differ (sym e)
+not-busy (outcome.Busy why) e q = differ (sym e)
 not-busy (outcome.Refused r) e q = let z : _≡_ {A = ℕ} 0 1 = cc in omega arith
 
 same-settled : (o : Outcome) → isBusy o ≡ false → settled o ≡ o
 same-settled (outcome.Granted l) e = refl
-same-settled outcome.Busy e = absurd (differ (sym e))
+same-settled (outcome.Busy why) e = absurd (differ (sym e))
 same-settled (outcome.Refused r) e = refl
 
 module _ (h : Head) (registry script held : List ℕ) (binding bucket : ℕ) where
@@ -104,10 +105,10 @@ module _ (h : Head) (registry script held : List ℕ) (binding bucket : ℕ) whe
   pause-from : (i : ℕ) (r : Run) (t g : List ℕ) → pauseOf e i r t g ≡ run-on (counted r) (pauseOf e i (nil (r .flow .next) (r .flow .place)) t g)
   pause-from i r t g = rw (from-nil r) at (pause-on (counted r) e i (nil (r .flow .next) (r .flow .place)) t g)
 
-  retry-from : (left i : ℕ) (r : Run) (t g : List ℕ)
-      → retryOf left i e (h .buckets) registry binding bucket r t g
-      ≡ tried-on (counted r) (retryOf left i e (h .buckets) registry binding bucket (nil (r .flow .next) (r .flow .place)) t g)
-  retry-from left i r t g = rw (from-nil r) at (retry-on (counted r) e (h .buckets) registry binding bucket left i (nil (r .flow .next) (r .flow .place)) t g)
+  retry-from : (left i : ℕ) (last : Reason) (r : Run) (t g : List ℕ)
+      → retryOf left i last e (h .buckets) registry binding bucket r t g
+      ≡ tried-on (counted r) (retryOf left i last e (h .buckets) registry binding bucket (nil (r .flow .next) (r .flow .place)) t g)
+  retry-from left i last r t g = rw (from-nil r) at (retry-on (counted r) e (h .buckets) registry binding bucket left i (nil (r .flow .next) (r .flow .place)) t g)
 
   -- a pause and what follows it, from a run that counts: the same from runs that have counted nothing, added up
   abbrev pausing : ℕ → Run → List ℕ → List ℕ → Made (With Run)
@@ -121,17 +122,17 @@ module _ (h : Head) (registry script held : List ℕ) (binding bucket : ℕ) whe
       ≡ (pausing i r t g >>= λ x. tried-on (counted r) (tried-on (counted (x .0)) (resting left i x)))
   both-from left i r t g =
       let b = pausing i r t g .seen in
-      rw (pause-from i r t g, retry-on (counted r) e (h .buckets) registry binding bucket left (i + 1) (b .0) (b .1 .0) (b .1 .1), retry-from left (i + 1) (b .0) (b .1 .0) (b .1 .1))
+      rw (pause-from i r t g, retry-on (counted r) e (h .buckets) registry binding bucket left (i + 1) (b .0) (b .1 .0) (b .1 .1), retry-from left (i + 1) _ (b .0) (b .1 .0) (b .1 .1))
 
   abbrev Tries : ℕ → ℕ → List ℕ → List ℕ → ℕ → Made (World × Says) → Type 0
   Tries n p t g i = Attempts (attempting registry script held binding bucket) (bounding script held) i (worldAt h n t g) p
 
-  retry-is : (left i n p : ℕ) (t g : List ℕ) → i + left ≡ 4096 → Tries n p t g i (at-last h (retryOf left i e (h .buckets) registry binding bucket (nil n p) t g))
+  retry-is : (left i n p : ℕ) (t g : List ℕ) → i + left ≡ 4096 → Tries n p t g i (at-last h (retryOf left i last e (h .buckets) registry binding bucket (nil n p) t g))
   unfolding retryOf
-  retry-is zero i n p t g l =
+  retry-is zero i last n p t g l =
       let z : i ≡ 4096 = omega arith in
       subst (λ x. Tries n p t g x (at-last h (record { seen = (triedOf (nil n p) outcome.Busy, (t, g)); log = [] }))) (sym z) all-busy
-  retry-is (suc left) i n p t g l =
+  retry-is (suc left) i last n p t g l =
       let m = attemptOf e (h .buckets) registry binding bucket (nil n p) t g in
       let r = m .seen .0 .run in
       let b = pauseOf e i (nil (r .flow .next) (r .flow .place)) (m .seen .1 .0) (m .seen .1 .1) in
@@ -141,7 +142,7 @@ module _ (h : Head) (registry script held : List ℕ) (binding bucket : ℕ) whe
       (λ c.
       subst (λ (o : Made (With Tried)). Tries n p t g i (at-last h (record { seen = o .seen; log = m .log ++ o .log }))) (sym (both-from left i r (m .seen .1 .0) (m .seen .1 .1)))
       (one-busy j (busy-is (m .seen .0 .outcome) c) (pause-is i (r .flow .next) (r .flow .place) (m .seen .1 .0) (m .seen .1 .1))
-      (retry-is left (i + 1) (s .flow .next) (s .flow .place) (b .seen .1 .0) (b .seen .1 .1) (omega arith))))
+      (retry-is left (i + 1) _ (s .flow .next) (s .flow .place) (b .seen .1 .0) (b .seen .1 .1) (omega arith))))
       (λ c. rw (append-nil (m .log), same-settled (m .seen .0 .outcome) c) (the-last j (not-busy (m .seen .0 .outcome) c)))
 
 pub by-steps : (w : World) (registry script : List ℕ) (place : ℕ) (held : List ℕ) (binding bucket : ℕ)
@@ -149,7 +150,7 @@ pub by-steps : (w : World) (registry script : List ℕ) (place : ℕ) (held : Li
     Passes w k → Attempts (attempting registry script held binding bucket) (bounding script held) 0 w place (perform w k)
 by-steps w registry script place held binding bucket fine =
     subst (Attempts (attempting registry script held binding bucket) (bounding script held) 0 w place) (sym (made w (acquire-bucket-has registry script place held binding bucket) fine))
-    (retry-is (w .head) registry script held binding bucket attemptLimit 0 (w .head .next) place (w .table) (w .health) (omega arith))
+    (retry-is (w .head) registry script held binding bucket attemptLimit 0 noneYet (w .head .next) place (w .table) (w .health) (omega arith))
 
 -- ---- from steps to calls
 

@@ -233,7 +233,7 @@ rolled-back Done = 0
 rolled-back (Cell c) = 0
 rolled-back (Granted l) = 0
 rolled-back AllGranted = 0
-rolled-back Busy = 0
+rolled-back (Busy why) = 0
 rolled-back (Refused r) = 0
 rolled-back (RefusedAt r p) = p
 

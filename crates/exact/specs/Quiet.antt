@@ -150,7 +150,7 @@ module _ (e : Setting) (f : Flow) (t g : List ℕ) (quiet : stepsIn (e .script) 
   module _ (buckets : ℕ) (registry : List ℕ) (binding bucket b : ℕ)
       (busy : (a x y : ℕ) → attemptOf e buckets registry binding bucket (runOf f a x y) t g .seen ≡ (triedOf (runOf f (a + 1) (x + b) y) outcome.Busy, (t, g))) where
     pub busy-retry : (left i a x y : ℕ)
-        → retryOf left i e buckets registry binding bucket (runOf f a x y) t g .seen
+        → retryOf left i last e buckets registry binding bucket (runOf f a x y) t g .seen
         ≡ (triedOf (runOf f (a + left) (x + left * (b + 1) + yieldsIn left i) (y + yieldsIn left i)) outcome.Busy, (t, g))
     unfolding retryOf yieldsIn
     busy-retry zero i a x y = ap (λ (r : Run). (triedOf r outcome.Busy, (t, g))) (same-run (omega arith) (omega (arith, zero-mul (b + 1))) (omega arith))

@@ -12,7 +12,7 @@ use lib.ListN.{getD}
 use borrow.Author.Tests.{leb-true, leb-false, eqb-true, eqb-false, not-true, not-false}
 use Rattle.model.specs.Arena.{spentTo, headerOf, isPoisoned, leasesOf}
 use Rattle.model.specs.Foreign.{Setting, stepsIn, flowOf}
-use Rattle.model.specs.Lock.{lockedOf, lockOf, answerOf, settled, runOf, triedOf, findOf, attemptAt, attemptOf, isBusy, retryOf}
+use Rattle.model.specs.Lock.{lockedOf, lockOf, answerOf, settled, runOf, triedOf, findOf, attemptAt, attemptOf, isBusy, noneYet, retryOf}
 use Rattle.model.specs.Calls.{countsOf, given, starting}
 use Rattle.model.specs.declared.Answer.{Answer}
 use Rattle.model.specs.declared.Answer.the-variants.{Granted, Busy, Refused}
@@ -22,6 +22,7 @@ use Rattle.model.specs.declared.Found.the-variants as found
 use Rattle.model.specs.declared.Lease.{Lease}
 use Rattle.model.specs.declared.Locked.{Locked}
 use Rattle.model.specs.declared.Outcome.the-variants as outcome
+use Rattle.model.specs.declared.Reason.{Reason}
 use Rattle.model.specs.declared.Refusal.the-variants.{BadHeader, Poisoned, InvalidBucket, Damaged, SerialsSpent, SerializationFailure}
 use Rattle.model.specs.declared.Run.{Run}
 use Rattle.model.specs.declared.Tried.{Tried}
@@ -122,10 +123,10 @@ transactional-quiet w registry script place held binding bucket fine end =
 
 -- an attempt that is not Busy ends the retry
 module _ (e : Setting) (buckets : ℕ) (registry : List ℕ) (binding bucket : ℕ) (r : Run) (t g : List ℕ) where
-  pub retry-stops : (left i : ℕ) → isBusy (attemptOf e buckets registry binding bucket r t g .seen .0 .outcome) ≡ false
-      → retryOf (suc left) i e buckets registry binding bucket r t g .seen ≡ attemptOf e buckets registry binding bucket r t g .seen
+  pub retry-stops : (left i : ℕ) (last : Reason) → isBusy (attemptOf e buckets registry binding bucket r t g .seen .0 .outcome) ≡ false
+      → retryOf (suc left) i last e buckets registry binding bucket r t g .seen ≡ attemptOf e buckets registry binding bucket r t g .seen
   unfolding retryOf
-  retry-stops left i n = rw n
+  retry-stops left i last n = rw n
 
   pub attempt-as : {x : Found} → findOf (e .headers) buckets g registry binding bucket ≡ x
       → attemptOf e buckets registry binding bucket r t g .seen ≡ attemptAt x e buckets r t g .seen
@@ -150,7 +151,7 @@ module _ (w : World) (registry script : List ℕ) (place : ℕ) (held : List ℕ
   found-is = findOf (w .head .headers) (w .head .buckets) (w .health) registry binding bucket
 
   abbrev retried : With Tried
-  retried = retryOf 4096 0 around (w .head .buckets) registry binding bucket (runOf from 0 0 0) (w .table) (w .health) .seen
+  retried = retryOf 4096 0 noneYet around (w .head .buckets) registry binding bucket (runOf from 0 0 0) (w .table) (w .health) .seen
 
   abbrev Row : ℕ → World × Says → Type 0
   Row = Quietly w place (failed-after place 8256) (failed-after place 12352)

@@ -11,7 +11,7 @@ use borrow.Author.Tests.{eqb-true, eqb-false}
 use Rattle.model.specs.Log.{Made, Event, yielded, spun}
 use Rattle.model.specs.Arena.{serialRemains, headerOf, isPoisoned, leaseOf, leasesOf, bitAt, ownerAt, waitersAt, setCell, stateAt, isFree, isLive, isIn}
 use Rattle.model.specs.Foreign.{Setting, protecting, stepsIn, kindAt, placeAt, numberAt, flowOf, stepTakeOf, stepReleaseOf, stepWaitersOf, stepHealthOf, stepOf, runStepsOf, boundaryOf}
-use Rattle.model.specs.Lock.{takeIn, takeOf, lateOf, afterTake, secondOf, lockOf, answerOf, settled, runOf, findOf, attemptAt, attemptOf, spinOf, pauseOf, isBusy, retryOf, attemptLimit, leaseAt, giveBackOf, Locks, rollbackOf, afterKey, bindingAt, bucketAt, locksOf}
+use Rattle.model.specs.Lock.{takeIn, takeOf, lateOf, afterTake, secondOf, lockOf, answerOf, settled, runOf, findOf, attemptAt, attemptOf, spinOf, pauseOf, isBusy, retryOf, attemptLimit, noneYet, leaseAt, giveBackOf, Locks, rollbackOf, afterKey, bindingAt, bucketAt, locksOf}
 use Rattle.model.specs.Checks.{countIn}
 use Rattle.model.specs.Calls.{given, starting}
 use Rattle.model.specs.Crew.{total}
@@ -24,6 +24,7 @@ use Rattle.model.specs.declared.Lease.{Lease}
 use Rattle.model.specs.declared.Locked.{Locked}
 use Rattle.model.specs.declared.Outcome.{Outcome}
 use Rattle.model.specs.declared.Outcome.the-variants as outcome
+use Rattle.model.specs.declared.Reason.{Reason}
 use Rattle.model.specs.declared.Refusal.{Refusal}
 use Rattle.model.specs.declared.Refusal.the-variants.{SerializationFailure}
 use Rattle.model.specs.declared.Run.{Run}
@@ -115,7 +116,7 @@ module _ (e : Setting) (buckets : ℕ) where
   after-still : (a : Take) (f : Flow) (t g : List ℕ) (c : ℕ) → Quiet (afterTake a e buckets f t g c)
   unfolding spins-in
   after-still (taking.Granted s) f t g c = late-still f t g c s
-  after-still taking.Busy f t g c = (record { none = refl })
+  after-still (taking.Busy owner) f t g c = (record { none = refl })
   after-still taking.Damaged f t g c = (record { none = refl })
   after-still taking.Spent f t g c = (record { none = refl })
 
@@ -138,7 +139,7 @@ module _ (e : Setting) (buckets : ℕ) where
 -- not 11
 abbrev pub Else : Outcome → Type 0
 Else (outcome.Granted l) = Unit {0}
-Else outcome.Busy = Unit {0}
+Else (outcome.Busy why) = Unit {0}
 Else (outcome.Refused r) = r ≡ SerializationFailure → ⊥
 
 abbrev FaultElse : Found → Type 0
@@ -221,10 +222,10 @@ record Ran (left i : ℕ) (r : Run) (m : Made (With Tried)) : Type 0 where
   fewer : isBusy (m .seen .0 .outcome) ≡ false → (spins-in (m .log) < left) × (m .seen .0 .run .attempts ≡ r .attempts + spins-in (m .log) + 1)
 
 module _ (e : Setting) (buckets : ℕ) (registry : List ℕ) (binding bucket : ℕ) where
-  retry-ran : (left i : ℕ) (r : Run) (t g : List ℕ) → Ran left i r (retryOf left i e buckets registry binding bucket r t g)
+  retry-ran : (left i : ℕ) (last : Reason) (r : Run) (t g : List ℕ) → Ran left i r (retryOf left i last e buckets registry binding bucket r t g)
   unfolding retryOf spins-in
-  retry-ran zero i r t g = record { yields-at = omega arith; other = tt; all = λ _. (refl, omega arith); fewer = λ q. absurd (differ (sym q)) }
-  retry-ran (suc left) i r t g =
+  retry-ran zero i last r t g = record { yields-at = omega arith; other = tt; all = λ _. (refl, omega arith); fewer = λ q. absurd (differ (sym q)) }
+  retry-ran (suc left) i last r t g =
       let a = attemptOf e buckets registry binding bucket r t g in
       let m = a .seen in
       let b = pauseOf e i (m .0 .run) (m .1 .0) (m .1 .1) in
@@ -232,7 +233,7 @@ module _ (e : Setting) (buckets : ℕ) (registry : List ℕ) (binding bucket : �
       let rest = retryOf left (i + 1) e buckets registry binding bucket (p .0) (p .1 .0) (p .1 .1) in
       let x = attempt-one e buckets registry binding bucket r t g in
       let y = pause-one e i (m .0 .run) (m .1 .0) (m .1 .1) in
-      let z = retry-ran left (i + 1) (p .0) (p .1 .0) (p .1 .1) in
+      let z = retry-ran left (i + 1) _ (p .0) (p .1 .0) (p .1 .1) in
       if-cases (λ (o : Made (With Tried)). Ran (suc left) i r (record { seen = o .seen; log = a .log ++ o .log })) (isBusy (m .0 .outcome))
       (λ c.
       let s : spins-in (a .log ++ (b .log ++ rest .log)) ≡ 1 + spins-in (rest .log)
@@ -254,8 +255,8 @@ module _ (e : Setting) (buckets : ℕ) (registry : List ℕ) (binding bucket : �
 
 pub bucket-retries : Bucket-retries perform
 bucket-retries w registry script place held binding bucket fine =
-    let m = retryOf attemptLimit 0 (given (w .head) script (leasesOf held)) (w .head .buckets) registry binding bucket (starting (w .head) place) (w .table) (w .health) in
-    let z = retry-ran (given (w .head) script (leasesOf held)) (w .head .buckets) registry binding bucket attemptLimit 0 (starting (w .head) place) (w .table) (w .health) in
+    let m = retryOf attemptLimit 0 noneYet (given (w .head) script (leasesOf held)) (w .head .buckets) registry binding bucket (starting (w .head) place) (w .table) (w .health) in
+    let z = retry-ran (given (w .head) script (leasesOf held)) (w .head .buckets) registry binding bucket attemptLimit 0 noneYet (starting (w .head) place) (w .table) (w .health) in
     subst (λ (x : Made (World × Says)). Retries (x .seen .1 .answer) (x .seen .1 .counts .attempts) (x .seen .1 .counts .yields) (spins-in (x .log)))
     (sym (made w (acquire-bucket-has registry script place held binding bucket) fine))
     (go (m .seen .0 .outcome) (m .seen .0 .run .attempts) (m .seen .0 .run .yields) (spins-in (m .log)) (omega (arith, z .yields-at)) (z .other)
@@ -352,8 +353,8 @@ module _ (e : Setting) (buckets : ℕ) (registry keys grants : List ℕ) where
   unfolding locksOf rollbackOf spins-in
   locks-sums zero p taken r t g = (0, omega arith, none-failed 0 AllGranted (λ q e. let z : _≡_ {A = ℕ} 0 1 = cc in omega arith))
   locks-sums (suc left) p taken r t g =
-      let m = retryOf attemptLimit 0 (protecting e taken) buckets registry (bindingAt keys p) (bucketAt keys p) r t g in
-      let k = retry-ran (protecting e taken) buckets registry (bindingAt keys p) (bucketAt keys p) attemptLimit 0 r t g in
+      let m = retryOf attemptLimit 0 noneYet (protecting e taken) buckets registry (bindingAt keys p) (bucketAt keys p) r t g in
+      let k = retry-ran (protecting e taken) buckets registry (bindingAt keys p) (bucketAt keys p) attemptLimit 0 noneYet r t g in
       go (m .seen .0 .outcome) (m .seen .0 .run) (m .seen .1 .0) (m .seen .1 .1) (m .log) (omega (arith, k .yields-at)) (k .other) (λ q. k .all q .0) (λ q. k .fewer q .0)
       (λ l. locksOf left (p + 1) e buckets registry keys (taken ++ (l ∷ [])) (m .seen .0 .run) (m .seen .1 .0) (m .seen .1 .1) grants)
       (λ l. locks-sums left (p + 1) (taken ++ (l ∷ [])) (m .seen .0 .run) (m .seen .1 .0) (m .seen .1 .1))

@@ -19,6 +19,7 @@ use Rattle.model.specs.Crew.{total, startOf, allWithin, risesFrom, badLists, ba
 use Rattle.model.specs.declared.Answer.the-variants.{Done, Granted, AllGranted, Busy, Refused, RefusedAt}
 use Rattle.model.specs.declared.CrewReply.{CrewReply}
 use Rattle.model.specs.declared.Lease.{Lease}
+use Rattle.model.specs.declared.Reason.the-variants as reason
 use Rattle.model.specs.declared.Refusal.the-variants.{Poisoned, InvalidBucket, NotHeld, BadCrew, Damaged, BadShape}
 use Rattle.history.specs.World.{World, worldOf, Live, Healthy, now, Sound, Spent, Unreleased, number-of, takes}
 use Rattle.history.specs.Items.{Call, Says, acquire-bucket, try-lock, drop-lease, release-all, acquire-locks, environment, try-acquire, perform, foreign, Item, call, foreign-step, preparation, Course, courseOf, cold, next-item, run, preparing, held-of, Entry, noted, preparation-over, entryOf, events-of, saying, says}
@@ -87,7 +88,7 @@ prepared = worldOf (headOf 2 4 1) (replicate 24 0) (replicate 2 0)
 abbrev entries : List Entry
 entries =
     entryOf granting (says (Granted (leaseOf 2 2)) (countsOf 1 3 0 0) 2 [])
-    ∷ entryOf late-busy (says Busy (countsOf 1 3 0 0) 4 [])
+    ∷ entryOf late-busy (says (Busy (reason.After 3)) (countsOf 1 3 0 0) 4 [])
     ∷ entryOf [] (saying (Refused (NotHeld 0)))
     ∷ entryOf given-back (saying Done)
     ∷ entryOf ending (says Done (countsOf 0 1 0 0) 0 [])
@@ -258,7 +259,7 @@ abbrev first-grant : Entry
 first-grant = entryOf (attempt-begun ∷ took by-caller 2 1 ∷ []) (says (Granted (leaseOf 2 1)) (countsOf 1 0 0 0) 0 [])
 
 abbrev meanwhile : List Entry
-meanwhile = entryOf (attempt-begun ∷ []) (says Busy (countsOf 1 0 0 0) 0 []) ∷ entryOf (released by-caller 2 1 ∷ []) (saying Done) ∷ []
+meanwhile = entryOf (attempt-begun ∷ []) (says (Busy (reason.Held 1)) (countsOf 1 0 0 0) 0 []) ∷ entryOf (released by-caller 2 1 ∷ []) (saying Done) ∷ []
 
 abbrev second-grant : Entry
 second-grant = entryOf (attempt-begun ∷ took by-caller 2 2 ∷ []) (says (Granted (leaseOf 2 2)) (countsOf 1 0 0 0) 0 [])

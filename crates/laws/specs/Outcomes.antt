@@ -75,7 +75,7 @@ retry-first left i last other e buckets registry binding bucket r t g =
     let m = attemptOf e buckets registry binding bucket r t g in
     let p = pauseOf e i (m .seen .0 .run) (m .seen .1 .0) (m .seen .1 .1) in
     let more : Reason → Made (Tried × (List ℕ × List ℕ)) =
-        λ why. (p >>= λ (q : Run × (List ℕ × List ℕ)). retryOf left (i + 1) why e buckets registry binding bucket (q .0) (q .1 .0) (q .1 .1)) in
+    λ why. (p >>= λ (q : Run × (List ℕ × List ℕ)). retryOf left (i + 1) why e buckets registry binding bucket (q .0) (q .1 .0) (q .1 .1)) in
     ap (λ (x : Made (Tried × (List ℕ × List ℕ))). record { seen = x .seen; log = m .log ++ x .log }) (own (m .seen .0 .outcome) more (gives (m .seen)))
   where
     own : {A : Type 0} (o : Outcome) (more : Reason → A) (done : A)

@@ -31,7 +31,7 @@ late-before e f t g c s = do
 
 abbrev after-before : Take → Setting → Flow → List ℕ → List ℕ → ℕ → Made (With Locked)
 after-before (taking.Granted s) e f t g c = late-before e f t g c s
-after-before taking.Busy e f t g c = gives (lockedOf f 2 (outcomeOf c taking.Busy), (t, g))
+after-before (taking.Busy owner) e f t g c = gives (lockedOf f 2 (outcomeOf c taking.Busy), (t, g))
 after-before taking.Damaged e f t g c = gives (lockedOf f 2 (outcomeOf c taking.Damaged), (t, g))
 after-before taking.Spent e f t g c = gives (lockedOf f 2 (outcomeOf c taking.Spent), (t, g))
 
@@ -68,7 +68,7 @@ module _ (headers cells buckets n : ℕ) (t g : List ℕ) (c : ℕ) (healthy : g
 
   after-same : (a : Take) (k d : ℕ) (u : List ℕ) → afterTake a e buckets (flowOf k 0 d) u g c ≡ after-before a e (flowOf k 0 d) u g c
   after-same (taking.Granted s) k d u = late-same k d u s
-  after-same taking.Busy k d u = refl
+  after-same (taking.Busy owner) k d u = refl
   after-same taking.Damaged k d u = refl
   after-same taking.Spent k d u = refl
 

@@ -113,7 +113,7 @@ renumbered Done = Done
 renumbered (Cell c) = Cell c
 renumbered (Granted l) = Granted l
 renumbered AllGranted = AllGranted
-renumbered Busy = Busy
+renumbered (Busy why) = Busy
 renumbered (Refused r) = Refused BadShape
 renumbered (RefusedAt r p) = RefusedAt BadShape p
 
@@ -122,7 +122,7 @@ renumbered-granted Done l e = e
 renumbered-granted (Cell c) l e = e
 renumbered-granted (Granted k) l e = e
 renumbered-granted AllGranted l e = e
-renumbered-granted Busy l e = e
+renumbered-granted (Busy why) l e = e
 renumbered-granted (Refused r) l e = absurd (omega (arith, ap kindOf e))
 renumbered-granted (RefusedAt r p) l e = absurd (omega (arith, ap kindOf e))
 
