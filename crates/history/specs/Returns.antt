@@ -39,7 +39,7 @@ dead w (e ∷ es) l f k i n v =
     dead (step w e) es l (fit-step w e f (k .0)) (k .1) (omega (arith, next-step w e)) (λ x. n (live-before w e l f (k .0) x i)) v
 
 -- a cell that was released is free
-released-dead : (w : World) (l : Lease) → Fit w → Live w l → Live (step w (released by-caller (l .cell) (l .serial))) l → ⊥
+pub released-dead : (w : World) (l : Lease) → Fit w → Live w l → Live (step w (released by-caller (l .cell) (l .serial))) l → ⊥
 released-dead w l f v u =
     go (see (w .table) (l .cell) 0 0 (l .cell) (omega (arith, at w f (l .cell) (lives w l v .in-range)))) (lives (step w (released by-caller (l .cell) (l .serial))) l u)
   where
