@@ -233,5 +233,5 @@ module _ (h : Head) (script : List ℕ) where
         go : (k : Run) (u w : List ℕ) (o : Outcome) (more : Lease → Made Locks) → ((l : Lease) → Ending (ps ++ (taken ++ (l ∷ []))) ps k u w (more l))
             → Ending (held-after (ps ++ taken) o) ps k u w (afterKey o (given h script ps) taken p k u w grants more)
         go k u w (outcome.Granted l) more y = rw (append-assoc ps taken (l ∷ [])) (y l)
-        go k u w (outcome.Busy why) more y = rollback-consumed taken SerializationFailure p k u w
+        go k u w (outcome.Busy why) more y = rollback-consumed taken (SerializationFailure why) p k u w
         go k u w (outcome.Refused x) more y = rollback-consumed taken x p k u w

@@ -204,5 +204,5 @@ module _ (k : Counts) (e : Setting) where
           → afterKey o e taken p (on-run k s) u v grants (λ l. locksOf left (p + 1) e buckets registry keys (taken ++ (l ∷ [])) (on-run k s) u v grants)
           ≡ locks-on k (afterKey o e taken p s u v grants (λ l. locksOf left (p + 1) e buckets registry keys (taken ++ (l ∷ [])) s u v grants))
       go (outcome.Granted l) s u v more = more l
-      go (outcome.Busy why) s u v more = rollback-on taken SerializationFailure p s u v grants
+      go (outcome.Busy why) s u v more = rollback-on taken (SerializationFailure why) p s u v grants
       go (outcome.Refused x) s u v more = rollback-on taken x p s u v grants

@@ -247,7 +247,7 @@ module _ (h : Head) (registry script held keys grants : List ℕ) where
         subst (λ (k : Made Locks). Goes p taken w place (then-locks m k))
         (sym (keys-from e left (p + 1) (h .buckets) registry keys (taken ++ (l ∷ [])) (m .seen .0 .run) (m .seen .1 .0) (m .seen .1 .1) grants))
         (locked-as l b fine is (ap (λ (z : Outcome). answerOf (settled z)) q) (on l x i))
-    after-key left o q none-yet on = rolls-back SerializationFailure (ap (λ (z : Outcome). answerOf (settled z)) q)
+    after-key left o q (none-yet {why = why}) on = rolls-back (SerializationFailure why) (ap (λ (z : Outcome). answerOf (settled z)) q)
     after-key left o q (no-more r) on = rolls-back r (ap (λ (z : Outcome). answerOf (settled z)) q)
 
   locks-are : {first : ℕ} → Older first → (left p n place : ℕ) (t g : List ℕ) (taken : List Lease) → p + left ≡ countIn keys → length taken ≡ p → first ≤ n

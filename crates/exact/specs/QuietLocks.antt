@@ -76,7 +76,7 @@ module _ (e : Setting) (place : ℕ) (quiet : stepsIn (e .script) ≤ place) (d 
       let k : attemptOf e buckets registry binding bucket (runOf (flowing s) a x y) t g .seen
       ≡ (triedOf (runOf (flowing (s + 1)) (a + 1) (x + 3) y) (outcome.Granted (leaseOf c s)), (setCell t c 1 s, g))
       = attempt-as e buckets registry binding bucket (runOf (flowing s) a x y) t g q ∙ rw (lock-ready buckets s t c u b o l (find-healthy (e .headers) buckets g registry binding bucket c q)) in
-      retry-stops e buckets registry binding bucket (runOf (flowing s) a x y) t g 4095 0 (rw k) ∙ k
+      retry-stops e buckets registry binding bucket (runOf (flowing s) a x y) t g 4095 0 noneYet (rw k) ∙ k
 
 -- ---- keys in a row that are ready: multi-lock goes on behind them
 

@@ -26,10 +26,13 @@ use Rattle.model.specs.declared.Locked.{Locked}
 use Rattle.model.specs.declared.Outcome.{Outcome}
 use Rattle.model.specs.declared.Outcome.the-variants as outcome
 use Rattle.model.specs.declared.Refusal.{Refusal}
+use Rattle.model.specs.declared.Reason.{Reason}
+use Rattle.model.specs.declared.Reason.the-variants as reason
 use Rattle.model.specs.declared.Refusal.the-variants.{SerializationFailure}
 use Rattle.model.specs.declared.Tried.{Tried}
 use Rattle.laws.specs.Words.{bit-set-other, owner-set-other}
 use Rattle.laws.specs.Keys.{place-inside, find-healthy}
+use Rattle.laws.specs.Outcomes.{retry-first}
 use Rattle.history.specs.World.{World, worldOf, Unreleased, now, Lawful}
 use Rattle.history.specs.Items.{Says, says, acquire-bucket, acquire-locks, perform, keyCell, Call, Clear, rules}
 use Rattle.history.specs.Tests.{state-free, In}
@@ -92,7 +95,7 @@ counted-on a x y m = (triedOf (runOf (m .0 .run .flow) (a + m .0 .run .attempts)
 
 -- what a retry comes to whose first try_lock comes to m
 abbrev closed : ℕ → ℕ → ℕ → With Locked → Outcome → With Tried
-closed a x y m (outcome.Busy why) = (triedOf (runOf (m .0 .flow) (a + 4096) (x + (4096 * (m .0 .boundaries + 1) + 64)) (y + 64)) outcome.Busy, m .1)
+closed a x y m (outcome.Busy why) = (triedOf (runOf (m .0 .flow) (a + 4096) (x + (4096 * (m .0 .boundaries + 1) + 64)) (y + 64)) (outcome.Busy why), m .1)
 closed a x y m (outcome.Refused r) = (triedOf (runOf (m .0 .flow) (a + 1) (x + m .0 .boundaries) (y + 0)) (outcome.Refused r), m .1)
 closed a x y m (outcome.Granted l) = (triedOf (runOf (m .0 .flow) (a + 1) (x + m .0 .boundaries) (y + 0)) (outcome.Granted l), m .1)
 
@@ -117,18 +120,19 @@ module _ (f : Flow) (t g : List ℕ) (buckets : ℕ) (registry : List ℕ) (bind
         → retried ≡ attemptAt z e buckets (runOf f a x y) t g .seen
     stop q n =
         let k = attempt-as e buckets registry binding bucket (runOf f a x y) t g q in
-        retry-stops e buckets registry binding bucket (runOf f a x y) t g 4095 0 (rw k n) ∙ k
+        retry-stops e buckets registry binding bucket (runOf f a x y) t g 4095 0 noneYet (rw k n) ∙ k
 
-    again : (c b : ℕ) → findOf (e .headers) buckets g registry binding bucket ≡ found.At c → lockOf e buckets f t g c .seen ≡ (lockedOf f b outcome.Busy, (t, g))
-        → retried ≡ (triedOf (runOf f (a + 4096) (x + (4096 * (b + 1) + 64)) (y + 64)) outcome.Busy, (t, g))
-    again c b q l =
-        busy-retry e f t g quiet buckets registry binding bucket b (λ a x y. attempt-as e buckets registry binding bucket (runOf f a x y) t g q ∙ rw l) 4096 0 a x y
+    again : (c b : ℕ) (why : Reason) → findOf (e .headers) buckets g registry binding bucket ≡ found.At c → lockOf e buckets f t g c .seen ≡ (lockedOf f b (outcome.Busy why), (t, g))
+        → retried ≡ (triedOf (runOf f (a + 4096) (x + (4096 * (b + 1) + 64)) (y + 64)) (outcome.Busy why), (t, g))
+    again c b why q l =
+        ap (λ m. m .seen) (retry-first 4095 0 noneYet why e buckets registry binding bucket (runOf f a x y) t g)
+        ∙ busy-retry e f t g quiet buckets registry binding bucket b why (λ a x y. attempt-as e buckets registry binding bucket (runOf f a x y) t g q ∙ rw l) 4096 0 a x y
         ∙ same-tried refl (omega (arith, sixty-four)) (omega (arith, sixty-four))
 
     at-cell : (c : ℕ) {m : With Locked} → findOf (e .headers) buckets g registry binding bucket ≡ found.At c → Quiet-lock buckets f t g c m → lockOf e buckets f t g c .seen ≡ m
         → retried ≡ closed a x y m (m .0 .answer)
-    at-cell c q (was-waited n) l = again c 1 q l
-    at-cell c q (was-held u p r z) l = again c 2 q l
+    at-cell c q (was-waited n) l = again c 1 reason.Before q l
+    at-cell c q (was-held u p r z) l = again c 2 (reason.Held (ownerAt t c)) q l
     at-cell c q (was-damaged u p r) l = stop q (rw l) ∙ rw l (same-tried refl refl (sym (add-zero y)))
     at-cell c q (was-spent u p r z) l = stop q (rw l) ∙ rw l (same-tried refl refl (sym (add-zero y)))
     at-cell c q (was-free u p r z h) l = stop q (rw l) ∙ rw l (same-tried refl refl (sym (add-zero y)))
@@ -268,7 +272,7 @@ module _ (e : Setting) (f : Flow) (quiet : stepsIn (e .script) ≤ f .place) (ta
   after-refused : (o : Outcome) (r : Refusal) (more : Lease → Made Locks) (a x y : ℕ) → answerOf (settled o) ≡ Refused r
       → afterKey o e taken p (runOf f a x y) t g grants more .seen ≡ rolled-back r a x y
   after-refused (outcome.Granted l) r more a x y q = let z : _≡_ {A = ℕ} 0 1 = cc in absurd (omega arith)
-  after-refused (outcome.Busy why) r more a x y q = let z : SerializationFailure ≡ r = cc in roll SerializationFailure a x y ∙ ap (λ (k : Refusal). rolled-back k a x y) z
+  after-refused (outcome.Busy why) r more a x y q = let z : SerializationFailure why ≡ r = cc in roll (SerializationFailure why) a x y ∙ ap (λ (k : Refusal). rolled-back k a x y) z
   after-refused (outcome.Refused k) r more a x y q = let z : k ≡ r = cc in roll k a x y ∙ ap (λ (k : Refusal). rolled-back k a x y) z
 
   -- a key whose retry is m, counted on
