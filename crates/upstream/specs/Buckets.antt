@@ -114,7 +114,7 @@ module _ (w : Authority) (registry script : List ℕ) (place : ℕ) (held : List
   attempted = attemptOf setting (w .head .buckets) registry binding bucket begun (w .table) (w .health) .seen .0 .outcome
 
   at-once : (left : ℕ) (x : Refusal) → attempted ≡ outcome.Refused x
-      → retryOf (suc left) 0 setting (w .head .buckets) registry binding bucket begun (w .table) (w .health) .seen .0 .outcome ≡ outcome.Refused x
+      → retryOf (suc left) 0 noneYet setting (w .head .buckets) registry binding bucket begun (w .table) (w .health) .seen .0 .outcome ≡ outcome.Refused x
   unfolding retryOf
   at-once left x e = rw e e
 

@@ -56,7 +56,7 @@ finds headers buckets g registry binding bucket =
 -- the cell of a lease that a lock granted
 pub granted-cell : {buckets c : ℕ} {g : List ℕ} {o : Outcome} → Comes buckets c g o → (l : Lease) → o ≡ outcome.Granted l → l .cell ≡ c
 granted-cell {c = c} (locked.granted s h) l e = let q : leaseOf c s ≡ l = cc in sym (ap (λ (k : Lease). k .cell) q)
-granted-cell locked.busy l e = let q : _≡_ {A = ℕ} 0 1 = cc in absurd (omega arith)
+granted-cell (locked.busy why) l e = let q : _≡_ {A = ℕ} 0 1 = cc in absurd (omega arith)
 granted-cell (locked.poisoned h) l e = let q : _≡_ {A = ℕ} 0 1 = cc in absurd (omega arith)
 granted-cell locked.damaged l e = let q : _≡_ {A = ℕ} 0 1 = cc in absurd (omega arith)
 granted-cell locked.spent l e = let q : _≡_ {A = ℕ} 0 1 = cc in absurd (omega arith)

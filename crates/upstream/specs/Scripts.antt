@@ -165,7 +165,7 @@ module _ (h : Head) (script : List ℕ) where
       late =
           late-goes ps f t g c s (ready r one) (subst (authorized w) (sym (grant .0)) (step-grants u w c (next-serial u) (grant .1)))
           (λ l i e. omega (arith, r .safe l i .locked, ap (λ (k : Lease). cells u (k .cell) .bit) e, grant .1 .unlocked))
-  after-goes ps u taking.Busy f t g c r x =
+  after-goes ps u (taking.Busy owner) f t g c r x =
       record { goes = subst (Goes (In ps) u) (sym (tries-none x (λ l e. omega (arith, ap kindOf e)))) (stays (r .sized)); gain = λ s e. let q : _≡_ {A = ℕ} 0 1 = cc in absurd (omega arith) }
   after-goes ps u taking.Damaged f t g c r x =
       record { goes = subst (Goes (In ps) u) (sym (tries-none x (λ l e. omega (arith, ap kindOf e)))) (stays (r .sized)); gain = λ s e. let q : _≡_ {A = ℕ} 0 1 = cc in absurd (omega arith) }
