@@ -1,7 +1,7 @@
 -- Builds that give a wrong reason fail a theorem: the like of `Falls`, for document 02, L1. No attempt but the first two is computed: that the others
 -- go on as the second is an induction over the attempts.
 use Prim.Native.Nat.{ℕ, _+_, _<_}
-use mathlib.Core.Path.{_≡_, refl, sym, ap, subst, _∙_}
+use mathlib.Core.Path.{_≡_, refl, sym, ap, _∙_}
 use mathlib.Core.List.{List, [], _∷_}
 use native.Mathlib.Decide.{decLt}
 use native.Mathlib.Omega.{arith}
@@ -19,7 +19,7 @@ use Rattle.model.specs.declared.Reason.{Reason}
 use Rattle.model.specs.declared.Reason.the-variants as reason
 use Rattle.model.specs.declared.Refusal.the-variants.{SerializationFailure}
 use Rattle.history.specs.World.{World, worldOf}
-use Rattle.history.specs.Items.{Call, Says, says, try-acquire, environment, try-lock, transactional, acquire-bucket, perform}
+use Rattle.history.specs.Items.{Call, Says, says, environment, try-lock, transactional, acquire-bucket, perform}
 use Rattle.history.specs.Statements.{answer-in, world-in}
 use Rattle.exact.specs.Statements.{Passes, Try-acquire-exactly, Try-lock-exactly}
 use Rattle.exact.specs.Script.{place-in}
@@ -27,7 +27,7 @@ use Rattle.exact.specs.Attempts.{Pause, only-spins, also-yields, Attempts, all-
 use Rattle.exact.specs.Cases.{passes}
 use Rattle.exact.specs.Theorems.{bucket-attempts}
 use Rattle.builds.specs.Wrong.{exchanges-reasons, names-next, first-reason, reworded, busy-by}
-use Rattle.builds.specs.Falls.{registry, held, start}
+use Rattle.builds.specs.Falls.{registry, held}
 
 -- ---- before and after exchanged: waiters of cell 2 stay 1
 
