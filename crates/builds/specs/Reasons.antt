@@ -177,7 +177,7 @@ first-reason-falls h =
     apart (all-end refl (record { world-is = refl; place-is = refl }) (h both registry script 0 [] 0 2 reason.Before asks says-first))
 
 -- it does not meet its description by attempts either
-pub first-reason-attempts-fall : Bucket-attempts first-reason → ⊥
-first-reason-attempts-fall h =
+pub first-reason-attempts-falls : Bucket-attempts first-reason → ⊥
+first-reason-attempts-falls h =
     let e = sym says-first ∙ all-held refl (record { world-is = refl; place-is = refl }) (h both registry script 0 [] 0 2 noneYet asks) in
     apart cc
