@@ -7,6 +7,7 @@ use model::Check;
 use model::Head;
 use model::Lease;
 use model::Outcome;
+use model::Reason;
 use model::Refusal;
 use model::Reply;
 use model::Serial;
@@ -68,9 +69,9 @@ pub fn claim_at(head: Head, table: &mut [u32], cell: u32) -> Claim
             head,
             answer: Take::Damaged,
         },
-        State::Held(_) => Claim {
+        State::Held(owner) => Claim {
             head,
-            answer: Take::Busy,
+            answer: Take::Busy(owner),
         },
         State::Free => claim_free(head, table, cell),
     }
@@ -82,7 +83,7 @@ pub fn outcome(cell: u32, answer: Take) -> Outcome
 {
     match answer {
         Take::Granted(serial) => Outcome::Granted(Lease { cell, serial }),
-        Take::Busy => Outcome::Busy,
+        Take::Busy(owner) => Outcome::Busy(Reason::Held(owner)),
         Take::Damaged => Outcome::Refused(Refusal::Damaged(cell)),
         Take::Spent => Outcome::Refused(Refusal::SerialsSpent(cell)),
     }
@@ -93,7 +94,7 @@ pub fn answer_of(outcome: Outcome) -> Answer
 {
     match outcome {
         Outcome::Granted(lease) => Answer::Granted(lease),
-        Outcome::Busy => Answer::Busy,
+        Outcome::Busy(why) => Answer::Busy(why),
         Outcome::Refused(refusal) => Answer::Refused(refusal),
     }
 }
