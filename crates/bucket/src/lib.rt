@@ -14,6 +14,7 @@ use model::Flow;
 use model::Head;
 use model::Outcome;
 use model::Played;
+use model::Reason;
 use model::Refusal;
 use model::Run;
 use retries::retry;
@@ -35,6 +36,14 @@ struct Target {
     bucket: u32,
 }
 
+// An attempt of the retry loop. Why it was Busy stands beside what it came to: the loop tests the one and keeps the
+// other, and both stay in few words.
+struct Trial {
+    run: Run,
+    outcome: Outcome,
+    why: Reason,
+}
+
 // ---- the calls
 
 // A run that has made no step.
@@ -53,13 +62,13 @@ pub fn starting(head: Head, place: usize) -> Run
     }
 }
 
-// After 4,096 Busy attempts: SerializationFailure.
+// After 4,096 Busy attempts: SerializationFailure, with the reason of the last.
 pub fn settle(outcome: Outcome) -> Outcome
     ensures { λ r. ⌜ r ≡ settled outcome ⌝ }
 {
     match outcome {
         Outcome::Granted(lease) => Outcome::Granted(lease),
-        Outcome::Busy => Outcome::Refused(Refusal::SerializationFailure),
+        Outcome::Busy(why) => Outcome::Refused(Refusal::SerializationFailure(why)),
         Outcome::Refused(refusal) => Outcome::Refused(refusal),
     }
 }
