@@ -7,20 +7,24 @@ use mathlib.Core.Bool.{Bool, true, _&&_, _||_}
 use lib.Dec.{eqb}
 use lib.ListN.{getD, replicate}
 use Rattle.choice.specs.Choice.{if_then_else_}
-use Rattle.model.specs.Log.{Made}
+use Rattle.model.specs.Log.{Made, gives}
 use Rattle.model.specs.Arena.{headOf, leaseOf, bitAt, ownerAt, waitersAt, setCell, setWaiters, isFree, isHeld, stateOf, stateAt, isLive, leasesOf, wordsOf, sameLease, isIn, headFits, shapeFits, healthFits, registryFits}
 use Rattle.model.specs.Refusals.{first}
 use Rattle.model.specs.Answers.{refusalIn, kindOf, valuesOf, reasonIn}
 use Rattle.model.specs.Foreign.{stepTakeOf, stepReleaseOf, stepWaitersOf, stepHealthOf, stepOf, runStepsOf, boundaryOf}
-use Rattle.model.specs.Lock.{answerOf, takeOf, lateOf, secondOf, lockOf, findOf, attemptOf, spinOf, pauseOf, noneYet, retryOf, settled, giveBackOf, rollbackOf, locksOf}
+use Rattle.model.specs.Lock.{answerOf, takeOf, lateOf, secondOf, lockOf, findOf, attemptOf, spinOf, pauseOf, noneYet, retryOf, settled, giveBackOf, endedOf, rollbackOf, afterKey, locksOf}
 use Rattle.model.specs.Checks.{notLive, badBindings, notReleasable, prepareRules, cellRules, leaseRules, heldCellRules, heldLeaseRules, scriptRules, lockRules, bucketRules, releaseRules, locksRules}
 use Rattle.model.specs.Calls.{played, starting, given, prepareOf, acquireOf, tryAcquireOf, dropLeaseOf, readPermissionOf, competingAcquireOf, releaseThenHandoffOf, foreignReleaseOf, acquirePreservingOf, dropPreservingOf, environmentOf, tryLockOf, transactionalOf, acquireBucketOf, releaseAllOf, acquireLocksOf}
 use Rattle.model.specs.Crew.{total, startOf, allWithin, risesFrom, badLists, badTurns, crewRules, tryTurnOf, releaseTurnOf, turnOf, turnsOf, takenOf, releasedOf, crewOf}
 use Rattle.model.specs.declared.Answer.{Answer}
+use Rattle.model.specs.declared.Answer.the-variants as answer
 use Rattle.model.specs.declared.Counts.{Counts}
 use Rattle.model.specs.declared.CrewReply.{CrewReply}
 use Rattle.model.specs.declared.Head.{Head}
+use Rattle.model.specs.declared.Outcome.the-variants as outcome
 use Rattle.model.specs.declared.Played.{Played}
+use Rattle.model.specs.declared.Reason.{Reason}
+use Rattle.model.specs.declared.Reason.the-variants as reason
 use Rattle.model.specs.declared.Reply.{Reply}
 
 -- ---- what came out of a call
@@ -364,6 +368,12 @@ retried left n t script =
     let m = retryOf left 0 noneYet (given (bench n) script []) 4 registry 0 2 (starting (bench n) 0) t healthy in
     fromPlayed (record { seen = (played (bench n) (m .seen .0 .run) (answerOf (settled (m .seen .0 .outcome))), m .seen .1); log = m .log }) ∷ []
 
+-- multi-lock at its key number 1, with cell 0 taken as its first: after attempts that were all Busy, the last for this reason
+abbrev keyBusy : Reason → List Out
+keyBusy why =
+    let m = afterKey (outcome.Busy why) (given (bench 3) [] []) (leaseOf 0 1 ∷ []) 1 (starting (bench 3) 0) used healthy (9 ∷ 8 ∷ 9 ∷ 9 ∷ []) (λ l. gives (endedOf (starting (bench 3) 0) answer.Done, (used, (healthy, [])))) in
+    fromLocks (record { seen = (played (bench 3) (m .seen .0 .run) (m .seen .0 .answer), m .seen .1); log = m .log }) ∷ []
+
 abbrev pub reasons : List Case
 reasons =
     -- "held, with the owner's serial": the one that the compare-and-set saw, not the one that stood there before the boundaries
@@ -387,6 +397,9 @@ reasons =
     -- a grant or another refusal after Busy attempts gives no reason
     ∷ (retried 2 2 (setCell prepared 2 1 1) (end ++ end ++ drop ++ end) ++ byKeyAgain 2 (setCell prepared 2 1 1) healthy (end ++ end ++ drop ++ end) [] 0 2 give (granted is 1 ∷ why is 0 ∷ by is 0 ∷ attempts is 2 ∷ []))
     ∷ (byKeyAgain 2 (setCell prepared 6 1 1) healthy (end ++ end ++ free ++ poison) [] 1 2 give (refusal is 7 ∷ why is 0 ∷ by is 0 ∷ attempts is 2 ∷ []))
+    -- multi-lock's 11 gives the reason of the key that it stops at
+    ∷ (keyBusy (reason.Held 2) give (refusal is 11 ∷ carries is 4096 ∷ position is 1 ∷ why is 1 ∷ by is 2 ∷ bit 0 is 0 ∷ []))
+    ∷ (keyBusy (reason.After 4) give (refusal is 11 ∷ position is 1 ∷ why is 3 ∷ by is 4 ∷ bit 0 is 0 ∷ []))
     ∷ []
 
 -- every figure of every case holds of the definitions
