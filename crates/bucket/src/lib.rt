@@ -172,7 +172,7 @@ pub fn transactional_try_lock_bucket(
 
 // Attempts 0 to 4,095 by key, with a boundary after each Busy one and a yield after every 64th. A grant or a refusal
 // ends it at once, 7 after an attempt's third boundary too: the lease is given up and its serial stays spent. 4,096
-// Busy attempts are refused with 11, and nothing is held.
+// Busy attempts are refused with 11 and the reason of the last, and nothing is held.
 pub fn acquire_index_bucket(
     head: Head,
     table: &mut [u32],

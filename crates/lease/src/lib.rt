@@ -291,8 +291,9 @@ fn drop_fault(head: Head, table: &[u32], held: &[u32], lease: Lease) -> Check
 
 // ---- the calls
 
-// One compare-and-set of a cell. A damaged cell is refused with 9, a held one answers Busy, and a free one with no
-// serial left is refused with 10; only a grant changes the table, and health and waiters are not read.
+// One compare-and-set of a cell. A damaged cell is refused with 9, a held one answers Busy with its owner's serial, and
+// a free one with no serial left is refused with 10; only a grant changes the table, and health and waiters are not
+// read.
 pub fn try_acquire(head: Head, table: &mut [u32], cell: u32) -> Reply
     ensures { λ r. ⌜ (r, now (table .exit)) ≡ tryAcquireOf head (now (table .entry)) cell .seen ⌝ }
 {
@@ -329,8 +330,8 @@ pub fn read_permission(head: Head, table: &[u32], lease: Lease) -> Reply
     }
 }
 
-// One compare-and-set of a live lease's cell: it is Busy always, and changes nothing. A lease that is not live is
-// refused with 12 before the attempt.
+// One compare-and-set of a live lease's cell: it is Busy always, held by the lease's serial, and changes nothing. A
+// lease that is not live is refused with 12 before the attempt.
 pub fn competing_acquire_is_excluded(head: Head, table: &mut [u32], lease: Lease) -> Reply
     ensures { λ r. ⌜ (r, now (table .exit)) ≡ competingAcquireOf head (now (table .entry)) lease .seen ⌝ }
 {

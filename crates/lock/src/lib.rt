@@ -87,12 +87,8 @@ fn late(
             answer: Outcome::Granted(own),
         };
     }
-    give_up(
-        after,
-        table,
-        own.cell,
-        Outcome::Busy(Reason::After(own.serial)),
-    )
+    let busy = Outcome::Busy(Reason::After(own.serial));
+    give_up(after, table, own.cell, busy)
 }
 
 // A try_lock whose compare-and-set gave no lease ends there, after two boundaries.
@@ -355,9 +351,10 @@ fn lock_once(
     foreign::play(head, run, lease::answer_of(answer))
 }
 
-// One attempt by cell, with up to three boundaries: Busy where somebody waits or holds. After the third boundary the
-// health of the cell's header is read: 7 if it is poisoned, the lease given up, its cell free, its serial spent. A
-// lease given up because somebody waits then is Busy, its cell free, its serial spent too.
+// One attempt by cell, with up to three boundaries: Busy where somebody waits, or holds it, then with the owner's
+// serial. After the third boundary the health of the cell's header is read: 7 if it is poisoned, the lease given up,
+// its cell free, its serial spent. A lease given up because somebody waits then is Busy with its serial, which is spent
+// too, and its cell is free.
 pub fn try_lock(
     head: Head,
     table: &mut [u32],
