@@ -16,7 +16,7 @@ ghost use mathlib.Core.Bool.{true};
 ghost use mathlib.Core.List.{[], _∷_};
 ghost use Prim.Native.Nat.{_+_, _<_};
 ghost use lib.ListN.{length};
-ghost use Rattle.model.specs.Lock.{spinOf, pauseOf, isBusy, noneYet, retryOf};
+ghost use Rattle.model.specs.Lock.{triedOf, spinOf, pauseOf, isBusy, noneYet, retryOf};
 ghost use Rattle.model.specs.Refusals.{first};
 ghost use Rattle.foreign.specs.Model.{settingOf, RoomIn};
 ghost use Rattle.bucket.specs.Bounds.{callMost, tryMost};
@@ -128,6 +128,15 @@ fn again(
     trial
 }
 
+// The attempt that concluded it: it was not Busy, so there is no reason beside it.
+fn concluded(trial: Trial) -> Tried
+    ensures { λ r. ⌜ r ≡ triedOf (trial .run) (trial .outcome) ⌝ }
+{
+    let run = trial.run;
+    let outcome = trial.outcome;
+    Tried { run, outcome }
+}
+
 // Attempts 0 to 4,095; a grant or a refusal ends it at once. After them all it is Busy, for the reason of the last.
 // The key comes as two numbers: a call that stays a call would store it as a struct first.
 pub fn retry(
@@ -162,13 +171,10 @@ pub fn retry(
             run = trial.run;
             last = trial.why;
         } else {
-            let on = trial.run;
-            return Tried { run: on, outcome };
+            return concluded(trial);
         }
         i += 1;
     }
-    Tried {
-        run,
-        outcome: Outcome::Busy(last),
-    }
+    let outcome = Outcome::Busy(last);
+    Tried { run, outcome }
 }

@@ -34,6 +34,9 @@ again-requires c κs =
 is-busy-requires : tie.Need-is-busy-requires Inv-loop μ-loop
 is-busy-requires c κs = search needs
 
+concluded-requires : tie.Need-concluded-requires Inv-loop μ-loop
+concluded-requires c κs = search needs
+
 same-length : tie.Need-same-length Inv-loop μ-loop
 same-length c = search needs
 
@@ -45,7 +48,7 @@ returns c =
     let l = c .before .before .before .before .before .before .before .before .before .before .before .loop in
     let a = c .before .before .before .before .before .before .before .before .before .before .before .before .before .before .before .before .before .before .args in
     let e = settingOf (a .scope) (a .script .now) (a .held .now) (a .taken .now) (a .n) in
-    rw (← l .inv .rest, retry-at 4096 (l .i) (l .last) e (a .scope .buckets) (a .registry .now) (a .binding) (a .bucket) (l .run) (l .table) (l .health) _ (c .before .before .before .before .before .before .before .again .ensures ∙ again-header (l .i) e (a .scope .buckets) (a .registry .now) (a .binding) (a .bucket) (l .run) (l .table) (l .health)) (search needs), ← c .before .before .is-busy .ensures, c .before .if1 .left)
+    rw (← l .inv .rest, retry-at 4096 (l .i) (l .last) e (a .scope .buckets) (a .registry .now) (a .binding) (a .bucket) (l .run) (l .table) (l .health) _ (c .before .before .before .before .before .before .before .again .ensures ∙ again-header (l .i) e (a .scope .buckets) (a .registry .now) (a .binding) (a .bucket) (l .run) (l .table) (l .health)) (search needs), ← c .before .before .is-busy .ensures, c .before .if1 .left, ← c .concluded .ensures)
 
 add-i : tie.Need-add-i Inv-loop μ-loop
 add-i c = search needs
@@ -90,6 +93,7 @@ retry-spec =
     loop-holds
     again-requires
     is-busy-requires
+    concluded-requires
     same-length
     same-length-2
     returns
