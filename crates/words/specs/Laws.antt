@@ -10,11 +10,12 @@ use Rattle.model.specs.declared.Answer.the-variants.{Done, Cell, Granted, AllGr
 use Rattle.model.specs.declared.Counts.{Counts}
 use Rattle.model.specs.declared.CrewReply.{CrewReply}
 use Rattle.model.specs.declared.Head.{Head}
-use Rattle.words.specs.Words.{answerWords, resultWords, eachOf, crewWords}
+use Rattle.words.specs.Words.{busyWords, answerWords, resultWords, eachOf, crewWords}
 
 pub six : (a : Answer)
     → getD (answerWords a) 0 0 ∷ getD (answerWords a) 1 0 ∷ getD (answerWords a) 2 0 ∷ getD (answerWords a) 3 0 ∷ getD (answerWords a) 4 0 ∷ getD (answerWords a) 5 0 ∷ []
     ≡ answerWords a
+unfolding busyWords
 six Done = refl
 six (Cell c) = refl
 six (Granted l) = refl

@@ -28,7 +28,7 @@ use Rattle.wave.specs.declared.Dumped.the-variants as dumped
 use Rattle.wave.specs.declared.Undumped.{Undumped}
 use Rattle.wave.specs.declared.Undumped.the-variants as undumped
 use Rattle.words.specs.Laws.{six}
-use Rattle.words.specs.Words.{answerWords, replyWords, playedWords, eachOf, crewWords, dumpedWords, undumpedWords, told}
+use Rattle.words.specs.Words.{busyWords, answerWords, replyWords, playedWords, eachOf, crewWords, dumpedWords, undumpedWords, told}
 
 -- ---- the way back
 
@@ -46,6 +46,7 @@ answerIn ws =
     else RefusedAt (refusalWith why (getD ws 1 0) (getD ws 2 0)) (getD ws 3 0)
 
 pub answer-back : (a : Answer) → answerIn (answerWords a) ≡ a
+unfolding busyWords
 answer-back Done = refl
 answer-back (Cell c) = refl
 answer-back (Granted l) = refl

@@ -18,17 +18,23 @@ use Rattle.wave.specs.declared.Dumped.the-variants as dumped
 use Rattle.wave.specs.declared.Undumped.{Undumped}
 use Rattle.wave.specs.declared.Undumped.the-variants as undumped
 
--- words 8 to 13: the kind of the answer; the cell, or the refusal's number; the serial, or what the refusal carries; the key's position;
--- the number of the reason why it was Busy, 0 for none; the reason's serial, 0 for none
+-- Busy, by the number of its reason and the serial that goes with it: "held, with the owner's serial"; "waiters seen before the
+-- compare-and-set"; "waiters seen after it. The last one also gives the serial that was spent."
+unfoldable pub busyWords : ℕ → ℕ → List ℕ
+busyWords number s = 4 ∷ 0 ∷ 0 ∷ 0 ∷ number ∷ s ∷ []
+
+-- a refusal; "refusal 11 carries that reason besides 4,096"
 abbrev pub refusalWords : ℕ → Refusal → ℕ → List ℕ
 refusalWords kind r position = kind ∷ numberOf r ∷ carriedOf r ∷ position ∷ getD (refusalReason r) 0 0 ∷ getD (refusalReason r) 1 0 ∷ []
 
+-- words 8 to 13: the kind of the answer; the cell, or the refusal's number; the serial, or what the refusal carries; the key's position;
+-- the number of the reason why it was Busy, 0 for none; the reason's serial, 0 for none
 abbrev pub answerWords : Answer → List ℕ
 answerWords Done = 0 ∷ 0 ∷ 0 ∷ 0 ∷ 0 ∷ 0 ∷ []
 answerWords (Cell c) = 1 ∷ c ∷ 0 ∷ 0 ∷ 0 ∷ 0 ∷ []
 answerWords (Granted l) = 2 ∷ l .cell ∷ l .serial ∷ 0 ∷ 0 ∷ 0 ∷ []
 answerWords AllGranted = 3 ∷ 0 ∷ 0 ∷ 0 ∷ 0 ∷ 0 ∷ []
-answerWords (Busy why) = 4 ∷ 0 ∷ 0 ∷ 0 ∷ reasonNumber why ∷ reasonSerial why ∷ []
+answerWords (Busy why) = busyWords (reasonNumber why) (reasonSerial why)
 answerWords (Refused r) = refusalWords 5 r 0
 answerWords (RefusedAt r p) = refusalWords 6 r p
 

@@ -13,7 +13,7 @@ ghost use mathlib.Core.Path.{_≡_};
 ghost use Prim.Native.Nat.{_+_, _≤_};
 ghost use lib.Seq.{sets};
 ghost use Rattle.model.specs.Refusals.{refusalReason};
-ghost use Rattle.words.specs.Words.{refusalWords, answerWords, resultWords, replyWords, playedWords};
+ghost use Rattle.words.specs.Words.{busyWords, refusalWords, answerWords, resultWords, replyWords, playedWords};
 ghost use Rattle.words.specs.Words.{eachOf, crewWords, dumpedWords, undumpedWords};
 
 // Words 12 and 13 of a refusal: only 11 gives a reason.
@@ -54,6 +54,13 @@ fn refusal_words(kind: u64, refusal: Refusal, position: usize) -> [u64; 6]
     ]
 }
 
+// Words 8 to 13 of Busy.
+fn busy_words(reason: u32, serial: u32) -> [u64; 6]
+    ensures { λ r. ⌜ r ≡ busyWords reason serial ⌝ }
+{
+    [4, 0, 0, 0, reason as u64, serial as u64]
+}
+
 // Words 8 to 13.
 fn answer_words(answer: Answer) -> [u64; 6]
     ensures { λ r. ⌜ r ≡ answerWords answer ⌝ }
@@ -63,7 +70,7 @@ fn answer_words(answer: Answer) -> [u64; 6]
         Answer::Cell(cell) => [1, cell as u64, 0, 0, 0, 0],
         Answer::Granted(lease) => [2, lease.cell as u64, lease.serial as u64, 0, 0, 0],
         Answer::AllGranted => [3, 0, 0, 0, 0, 0],
-        Answer::Busy(why) => [4, 0, 0, 0, why.number() as u64, why.serial() as u64],
+        Answer::Busy(why) => busy_words(why.number(), why.serial()),
         Answer::Refused(refusal) => refusal_words(5, refusal, 0),
         Answer::RefusedAt(refusal, key) => refusal_words(6, refusal, key),
     }

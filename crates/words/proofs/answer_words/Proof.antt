@@ -30,14 +30,11 @@ enum-known-answer-3 c = search needs
 number-requires : tie.Need-number-requires
 number-requires c κs = search needs
 
-cast-t13 : tie.Need-cast-t13
-cast-t13 c = search needs
-
 serial-requires : tie.Need-serial-requires
 serial-requires c κs = search needs
 
-cast-t15 : tie.Need-cast-t15
-cast-t15 c = search needs
+busy-words-requires : tie.Need-busy-words-requires
+busy-words-requires c κs = search needs
 
 enum-known-answer-4 : tie.Need-enum-known-answer-4
 enum-known-answer-4 c = search needs
@@ -64,7 +61,7 @@ returns-4 : tie.Need-returns-4
 returns-4 c = search needs
 
 returns-5 : tie.Need-returns-5
-returns-5 c = rw (c .before .before .before .answer3 .given .1, ← c .before .number .ensures, ← c .serial .ensures)
+returns-5 c = rw (c .before .before .before .before .answer3 .given .1, ← c .before .before .number .ensures, ← c .before .serial .ensures, ← c .busy-words .ensures)
 
 returns-6 : tie.Need-returns-6
 returns-6 c = rw (c .before .before .answer4 .given .1, ← c .refusal-words .ensures)
@@ -85,9 +82,8 @@ answer-words-spec =
     enum-told-2
     enum-known-answer-3
     number-requires
-    cast-t13
     serial-requires
-    cast-t15
+    busy-words-requires
     enum-known-answer-4
     refusal-words-requires
     enum-known-answer-5
