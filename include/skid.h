@@ -58,7 +58,7 @@ extern "C" {
 #endif
 
 /* The version of header and library together; CHANGELOG.md says what came with which. */
-#define SKID_VERSION "0.10.0"
+#define SKID_VERSION "0.11.0"
 
 /* ---- limits */
 
