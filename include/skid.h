@@ -58,7 +58,7 @@ extern "C" {
 #endif
 
 /* The version of header and library together; CHANGELOG.md says what came with which. */
-#define SKID_VERSION "0.10.0"
+#define SKID_VERSION "0.11.0"
 
 /* ---- limits */
 
@@ -91,8 +91,8 @@ enum skid_step {
 
 /* ---- the reply */
 
-#define SKID_REPLY_WORDS 12
-#define SKID_CREW_WORDS 46
+#define SKID_REPLY_WORDS 14
+#define SKID_CREW_WORDS 48
 #define SKID_WAVE_WORDS 3
 
 /* Which word is what. */
@@ -104,24 +104,26 @@ enum skid_reply {
     SKID_ATTEMPTS = 4, /* attempts begun */
     SKID_BOUNDARIES = 5,
     SKID_YIELDS = 6,
-    SKID_DROPPED = 7,   /* foreign steps dropped */
-    SKID_KIND = 8,      /* of the answer: enum skid_kind */
-    SKID_CELL = 9,      /* kinds 1 and 2: the cell; else 0, but for a refusal */
-    SKID_REFUSAL = 9,   /* kinds 5 and 6: the refusal's number, enum skid_refusal */
-    SKID_SERIAL = 10,   /* kind 2: the serial; else 0, but for a refusal */
-    SKID_CARRIED = 10,  /* kinds 5 and 6: what the refusal carries */
-    SKID_POSITION = 11  /* kind 6: the key's position; else 0 */
+    SKID_DROPPED = 7,       /* foreign steps dropped */
+    SKID_KIND = 8,          /* of the answer: enum skid_kind */
+    SKID_CELL = 9,          /* kinds 1 and 2: the cell; else 0, but for a refusal */
+    SKID_REFUSAL = 9,       /* kinds 5 and 6: the refusal's number, enum skid_refusal */
+    SKID_SERIAL = 10,       /* kind 2: the serial; else 0, but for a refusal */
+    SKID_CARRIED = 10,      /* kinds 5 and 6: what the refusal carries */
+    SKID_POSITION = 11,     /* kind 6: the key's position; else 0 */
+    SKID_REASON = 12,       /* kind 4, and SKID_SERIALIZATION_FAILURE: why it was Busy, enum skid_reason; else 0 */
+    SKID_REASON_SERIAL = 13 /* the reason's serial; 0 if it has none */
 };
 
-/* The crew's reply: words 0 to 2 and 8 to 11 as above, words 3 to 7 are 0. */
+/* The crew's reply: words 0 to 2 and 8 to 11 as above, words 3 to 7, 12 and 13 are 0. */
 enum skid_crew_reply {
-    SKID_MOVING = 12,  /* turns that took or released */
-    SKID_IDLE = 13,    /* turns that did neither */
-    SKID_TAKEN = 14,   /* words 14 to 29: cells taken by members 0 to 15 */
-    SKID_RELEASED = 30 /* words 30 to 45: cells released by members 0 to 15 */
+    SKID_MOVING = 14,  /* turns that took or released */
+    SKID_IDLE = 15,    /* turns that did neither */
+    SKID_TAKEN = 16,   /* words 16 to 31: cells taken by members 0 to 15 */
+    SKID_RELEASED = 32 /* words 32 to 47: cells released by members 0 to 15 */
 };
 
-/* The kinds of answers. Busy is no refusal. */
+/* The kinds of answers. Busy is no refusal; it says why, in SKID_REASON. */
 enum skid_kind {
     SKID_DONE = 0,
     SKID_A_CELL = 1,      /* skid_read_permission: the lease's cell */
@@ -130,6 +132,18 @@ enum skid_kind {
     SKID_BUSY = 4,
     SKID_REFUSED = 5,
     SKID_REFUSED_AT = 6 /* multi-lock: a refusal at a key */
+};
+
+/*
+ * Why it was Busy (document 02, L1), with the serial that goes with it. A try_lock looks at the waiters first, so a
+ * held cell that somebody waits for says BEFORE there. SKID_SERIALIZATION_FAILURE has the reason of its last attempt.
+ * A grant has none, and neither has any other refusal.
+ */
+enum skid_reason {
+    SKID_REASON_NONE = 0,   /* 0 */
+    SKID_REASON_HELD = 1,   /* the cell is held: its owner's serial */
+    SKID_REASON_BEFORE = 2, /* 0: somebody waited for the cell, seen before the compare-and-set */
+    SKID_REASON_AFTER = 3   /* somebody waited for it, seen after: the serial that was spent */
 };
 
 /*
@@ -149,7 +163,7 @@ enum skid_refusal {
     SKID_INVALID_BUCKET = 8,         /* the bucket, at least B; by cell: the cell, at least H x B */
     SKID_DAMAGED = 9,                /* the cell */
     SKID_SERIALS_SPENT = 10,         /* the cell */
-    SKID_SERIALIZATION_FAILURE = 11, /* 4096 */
+    SKID_SERIALIZATION_FAILURE = 11, /* 4096; and the last attempt's reason, in SKID_REASON */
     SKID_NOT_HELD = 12,              /* the position of a lease that is not live; 0 for one lease */
     SKID_PROTECTED = 13,             /* 0: the lease is live and in the held list */
     SKID_REPEATED = 14,              /* the position of the later of two equal live leases in the list */
@@ -186,7 +200,7 @@ void skid_prepare(uint32_t headers, uint32_t buckets, uint32_t serial, uint32_t 
 
 /* ---- calls without a script. Each changes no word but those of the named cell. */
 
-/* One compare-and-set of a cell: granted, or Busy if it is held. */
+/* One compare-and-set of a cell: granted, or Busy if it is held, with its owner's serial. */
 void skid_try_acquire(uint32_t headers, uint32_t buckets, uint32_t next, uint32_t *table, size_t table_len,
                       uint32_t cell, uint64_t reply[SKID_REPLY_WORDS]);
 
@@ -198,7 +212,7 @@ void skid_drop_lease(uint32_t headers, uint32_t buckets, uint32_t next, uint32_t
 void skid_read_permission(uint32_t headers, uint32_t buckets, uint32_t next, const uint32_t *table, size_t table_len,
                           uint32_t cell, uint32_t serial, uint64_t reply[SKID_REPLY_WORDS]);
 
-/* One compare-and-set of a live lease's cell: it is Busy and changes nothing. */
+/* One compare-and-set of a live lease's cell: it is Busy, held by the lease's serial, and changes nothing. */
 void skid_competing_acquire_is_excluded(uint32_t headers, uint32_t buckets, uint32_t next, uint32_t *table,
                                         size_t table_len, uint32_t cell, uint32_t serial,
                                         uint64_t reply[SKID_REPLY_WORDS]);
@@ -240,7 +254,8 @@ void skid_environment_for_borrows(uint32_t headers, uint32_t buckets, uint32_t n
 
 /*
  * One try_lock of a cell: boundary, waiters, boundary, compare-and-set, boundary, the health of the cell's header,
- * waiters. Granted or Busy, or refused. A late SKID_POISONED or Busy releases the cell, and its serial stays spent.
+ * waiters. Granted or Busy, or refused. A late SKID_POISONED or Busy releases the cell, and its serial stays spent;
+ * Busy gives it as the reason's serial.
  */
 void skid_try_lock(uint32_t headers, uint32_t buckets, uint32_t next, uint32_t *table, size_t table_len,
                    uint8_t *health, size_t health_len, const uint32_t *script, size_t script_len, size_t place,
@@ -264,7 +279,8 @@ void skid_transactional_try_lock_bucket(uint32_t headers, uint32_t buckets, uint
 
 /*
  * Up to 4,096 attempts on a key, with boundaries, yields and spins between them. Granted or refused, never Busy. A
- * refusal ends it at once, also SKID_POISONED after a try_lock's third boundary.
+ * refusal ends it at once, also SKID_POISONED after a try_lock's third boundary. After 4,096 Busy attempts it is
+ * SKID_SERIALIZATION_FAILURE, with the last one's reason.
  */
 void skid_acquire_index_bucket(uint32_t headers, uint32_t buckets, uint32_t next, uint32_t *table, size_t table_len,
                                uint8_t *health, size_t health_len, const uint32_t *registry, size_t registry_len,
@@ -279,7 +295,8 @@ void skid_release_all(uint32_t headers, uint32_t buckets, uint32_t next, uint32_
 /*
  * Multi-lock: the keys in the order given, each as skid_acquire_index_bucket takes it. All granted, and `grants` holds
  * cell and serial for each key, in key order; or refused at a key, all taken leases released as in skid_release_all,
- * and `grants` unchanged. `grants_len` is `keys_len`.
+ * and `grants` unchanged. The reason of SKID_SERIALIZATION_FAILURE is that of the refused key. `grants_len` is
+ * `keys_len`.
  */
 void skid_acquire_index_locks(uint32_t headers, uint32_t buckets, uint32_t next, uint32_t *table, size_t table_len,
                               uint8_t *health, size_t health_len, const uint32_t *registry, size_t registry_len,

@@ -130,16 +130,32 @@ static void prepare(uint32_t serial) {
 
 static uint64_t word(int i) { return reply.words[i]; }
 
+/* Why it was Busy. */
+static void reason(uint64_t why, uint64_t serial) {
+    check("reason", word(SKID_REASON), why);
+    check("its serial", word(SKID_REASON_SERIAL), serial);
+}
+
 static void granted(uint32_t cell, uint32_t serial) {
     check("kind", word(SKID_KIND), SKID_GRANTED);
     check("cell", word(SKID_CELL), cell);
     check("serial", word(SKID_SERIAL), serial);
+    reason(SKID_REASON_NONE, 0);
 }
 
 static void refused(uint64_t number, uint64_t carried) {
     check("kind", word(SKID_KIND), SKID_REFUSED);
     check("refusal", word(SKID_REFUSAL), number);
     check("carrying", word(SKID_CARRIED), carried);
+    if (number != SKID_SERIALIZATION_FAILURE) {
+        reason(SKID_REASON_NONE, 0);
+    }
+}
+
+/* Refusal 11, with the reason of the last attempt. */
+static void failed(uint64_t why, uint64_t serial) {
+    refused(SKID_SERIALIZATION_FAILURE, 4096);
+    reason(why, serial);
 }
 
 static void at_next(uint32_t want) { check("next", word(SKID_NEXT), want); }
@@ -196,6 +212,7 @@ static void key(void) {
     skid_acquire_index_locks(HEAD, TABLE, HEALTH, REGISTRY, NONE, 0, NONE, LIST(keys), LIST(grants), blank());
     called();
     check("kind", word(SKID_KIND), SKID_ALL_GRANTED);
+    reason(SKID_REASON_NONE, 0);
     check("cell", grants[0], 2);
     check("serial", grants[1], 1);
     at_next(2);
@@ -210,7 +227,7 @@ static void again(void) {
     prepare(1);
     acquire(NONE, NONE, 2);
     acquire(NONE, LIST(held), 2);
-    refused(SKID_SERIALIZATION_FAILURE, 4096);
+    failed(SKID_REASON_HELD, 1);
     check("boundaries", word(SKID_BOUNDARIES), 12352);
     check("yields", word(SKID_YIELDS), 64);
     at_next(2);
@@ -222,7 +239,7 @@ static void waiters(void) {
     prepare(1);
     step(SKID_STEP_WAITERS, 2, 1);
     acquire(NONE, NONE, 2);
-    refused(SKID_SERIALIZATION_FAILURE, 4096);
+    failed(SKID_REASON_BEFORE, 0);
     check("boundaries", word(SKID_BOUNDARIES), 8256);
     check("yields", word(SKID_YIELDS), 64);
     at_next(1);
@@ -236,6 +253,7 @@ static void late_waiters(void) {
     skid_try_lock(HEAD, TABLE, HEALTH, LIST(script), 0, NONE, 2, blank());
     called();
     check("kind", word(SKID_KIND), SKID_BUSY);
+    reason(SKID_REASON_AFTER, 1);
     check("boundaries", word(SKID_BOUNDARIES), 3);
     check("place", word(SKID_PLACE), 4);
     at_next(2);
@@ -283,7 +301,7 @@ static void serials(void) {
 
     name("spent and held");
     acquire(NONE, LIST(held), 2);
-    refused(SKID_SERIALIZATION_FAILURE, 4096);
+    failed(SKID_REASON_HELD, 4294967294u);
     end(&cases);
 }
 
@@ -303,7 +321,7 @@ static void foreign_release(void) {
     prepare(1);
     step(SKID_STEP_TAKE, 2, 0);
     acquire(LIST(script), LIST(held), 2);
-    refused(SKID_SERIALIZATION_FAILURE, 4096);
+    failed(SKID_REASON_HELD, 1);
     check("dropped", word(SKID_DROPPED), 1);
     end(&cases);
 }
@@ -318,6 +336,7 @@ static void keys(void) {
     check("kind", word(SKID_KIND), SKID_REFUSED_AT);
     check("refusal", word(SKID_REFUSAL), SKID_SERIALIZATION_FAILURE);
     check("position", word(SKID_POSITION), 1);
+    reason(SKID_REASON_HELD, 1);
     check("attempts", word(SKID_ATTEMPTS), 4097);
     check("boundaries", word(SKID_BOUNDARIES), 12356);
     check("yields", word(SKID_YIELDS), 64);
@@ -357,7 +376,7 @@ static void crews(void) {
             bad = 1;
         }
     }
-    for (i = 3; i < 8; i++) {
+    for (i = 3; i < SKID_MOVING; i++) {
         if (crew.words[i] != 0) {
             printf("WORD %d, ", i);
             bad = 1;
@@ -390,6 +409,9 @@ static void words(uint64_t place, uint64_t attempts, uint64_t boundaries, uint64
     check("word 9", word(9), a);
     check("word 10", word(10), b);
     check("word 11", word(11), position);
+    if (kind != SKID_BUSY) {
+        reason(SKID_REASON_NONE, 0);
+    }
 }
 
 static void without_script(void) {
@@ -418,6 +440,7 @@ static void without_script(void) {
     skid_competing_acquire_is_excluded(HEAD, TABLE, 5, 1, blank());
     called();
     words(0, 1, 0, 0, SKID_BUSY, 0, 0, 0);
+    reason(SKID_REASON_HELD, 1);
     end(&edges);
 
     name("acquire_preserving_borrows");

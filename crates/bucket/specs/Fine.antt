@@ -6,7 +6,7 @@ use native.Mathlib.Omega.{arith}
 use lib.ListN.{getD, length}
 use borrow.Author.Tests.{leb-false}
 use Rattle.model.specs.Arena.{leasesOf}
-use Rattle.model.specs.Lock.{findOf, attemptAt, attemptOf, retryOf, answerOf, settled}
+use Rattle.model.specs.Lock.{findOf, attemptAt, attemptOf, noneYet, retryOf, answerOf, settled}
 use Rattle.model.specs.Refusals.{Rule, first}
 use Rattle.model.specs.Checks.{badShape, badHealth, badRegistry, badScript, badHeld, badBinding, bucketRules}
 use Rattle.model.specs.Calls.{starting, given, played}
@@ -14,6 +14,7 @@ use Rattle.model.specs.declared.Check.the-variants.{Fine}
 use Rattle.model.specs.declared.Found.{Found}
 use Rattle.model.specs.declared.Head.{Head}
 use Rattle.model.specs.declared.Played.{Played}
+use Rattle.model.specs.declared.Reason.{Reason}
 use Rattle.model.specs.declared.Run.{Run}
 use Rattle.laws.specs.Checks.{or-else, first-append, first-two, fine-rest, fine-append, arena-fine}
 use Rattle.foreign.specs.declared.Scope.{Scope}
@@ -94,11 +95,11 @@ module _ (s : Scope) (h : Head) (script held : List ℕ) (taken : List (List ℕ
       rw (f, scope-none s h script held taken e)
       (ap (λ (x : Scope). attemptAt (findOf (x .headers) (x .buckets) g registry binding bucket) (given h script (leasesOf held)) (x .buckets) r t g .seen) e)
 
-  pub retry-given : (left i : ℕ)
-      → retryOf left i (settingOf s script held taken 0) (s .buckets) registry binding bucket r t g .seen ≡ retryOf left i (given h script (leasesOf held)) (h .buckets) registry binding bucket r t g .seen
-  retry-given left i =
+  pub retry-given : (left i : ℕ) (last : Reason)
+      → retryOf left i last (settingOf s script held taken 0) (s .buckets) registry binding bucket r t g .seen ≡ retryOf left i last (given h script (leasesOf held)) (h .buckets) registry binding bucket r t g .seen
+  retry-given left i last =
       rw (scope-none s h script held taken e)
-      (ap (λ (x : Scope). retryOf left i (given h script (leasesOf held)) (x .buckets) registry binding bucket r t g .seen) e)
+      (ap (λ (x : Scope). retryOf left i last (given h script (leasesOf held)) (x .buckets) registry binding bucket r t g .seen) e)
 
 -- the steps of the two calls, once their checks are fine
 unfoldable pub onceByKeyOf : Head → List ℕ → List ℕ → List ℕ → List ℕ → ℕ → List ℕ → ℕ → ℕ → Played × (List ℕ × List ℕ)
@@ -108,5 +109,5 @@ onceByKeyOf h t g registry script place held binding bucket =
 
 unfoldable pub retryByKeyOf : Head → List ℕ → List ℕ → List ℕ → List ℕ → ℕ → List ℕ → ℕ → ℕ → Played × (List ℕ × List ℕ)
 retryByKeyOf h t g registry script place held binding bucket =
-    let o = retryOf 4096 0 (given h script (leasesOf held)) (h .buckets) registry binding bucket (starting h place) t g .seen in
+    let o = retryOf 4096 0 noneYet (given h script (leasesOf held)) (h .buckets) registry binding bucket (starting h place) t g .seen in
     (played h (o .0 .run) (answerOf (settled (o .0 .outcome))), o .1)

@@ -11,13 +11,15 @@ use Rattle.choice.specs.Choice.{if_then_else_}
 use Rattle.model.specs.Log.{Made}
 use Rattle.model.specs.Arena.{waitersAt}
 use Rattle.model.specs.Foreign.{Setting, setting, stepsIn, boundaryOf}
-use Rattle.model.specs.Lock.{takeOf, lockOf, runOf, triedOf, findOf, attemptAt, attemptOf, spinOf, pauseOf, isBusy, retryOf}
+use Rattle.model.specs.Lock.{takeOf, lockOf, runOf, triedOf, findOf, attemptAt, attemptOf, spinOf, pauseOf, isBusy, lastOf, noneYet, retryOf}
 use Rattle.model.specs.declared.Flow.{Flow}
 use Rattle.model.specs.declared.Found.{Found}
 use Rattle.model.specs.declared.Found.the-variants as found
 use Rattle.model.specs.declared.Lease.{Lease}
 use Rattle.model.specs.declared.Locked.{Locked}
+use Rattle.model.specs.declared.Outcome.{Outcome}
 use Rattle.model.specs.declared.Outcome.the-variants as outcome
+use Rattle.model.specs.declared.Reason.{Reason}
 use Rattle.model.specs.declared.Run.{Run}
 use Rattle.model.specs.declared.Take.{Take}
 use Rattle.model.specs.declared.Take.the-variants as taking
@@ -28,7 +30,8 @@ use Rattle.laws.specs.Seen.{seen-if}
 use Rattle.foreign.specs.declared.Scope.{Scope}
 use Rattle.foreign.specs.Laws.{FlowBound, boundary-flow-bound}
 use Rattle.bucket.specs.Bounds.{callMost}
-use Rattle.bucket.specs.Model.{Lands, againOf}
+use Rattle.bucket.specs.Model.{Lands, bareOf, trialWith, asideOf, trialOf, againOf}
+use Rattle.bucket.specs.declared.Trial.{Trial}
 use Rattle.lock.specs.declared.Quiet.{Quiet}
 use Rattle.lock.specs.Model.{boundariesFor, quietTakeOf}
 use Rattle.lock.specs.Laws.{LockedBound, lock-locked-bound}
@@ -83,8 +86,9 @@ module _ (e : Setting) where
 
 -- as a caller has it: steps, and a promise
 module _ (headers cells steps : ℕ) (script : List ℕ) (ps : List Lease) (n : steps ≡ length script / 3) where
-  pub attempt-goes : (o : Tried × (List ℕ × List ℕ)) (k : Found) (buckets most : ℕ) (r : Run) (t g : List ℕ)
-      → o ≡ attemptAt k (setting headers cells script ps) buckets r t g .seen → RunBound steps most r → RunBound steps (most + 3) (o .0 .run)
+  pub attempt-goes : (o : Trial × (List ℕ × List ℕ)) (k : Found) (buckets most : ℕ) (r : Run) (t g : List ℕ)
+      → o ≡ trialOf (attemptAt k (setting headers cells script ps) buckets r t g .seen) → RunBound steps most r → RunBound steps (most + 3) (o .0 .run)
+  unfolding trialOf asideOf
   attempt-goes o k buckets most r t g q b = rw (q, n) (attempt-at (setting headers cells script ps) k buckets most r t g (rw (← n) b))
 
   pub pause-goes : (o : Run × (List ℕ × List ℕ)) (i most : ℕ) (r : Run) (t g : List ℕ)
@@ -98,7 +102,7 @@ module _ (headers cells steps : ℕ) (script : List ℕ) (ps : List Lease) (n : 
 -- a quiet try_lock has at most three boundaries
 few-for : (a : Take) → boundariesFor a ≤ 3
 few-for (taking.Granted s) = omega arith
-few-for taking.Busy = omega arith
+few-for (taking.Busy owner) = omega arith
 few-for taking.Damaged = omega arith
 few-for taking.Spent = omega arith
 
@@ -109,61 +113,64 @@ quiet-few o f t c q =
 
 -- ---- one turn of the retry loop, and its end
 
-module _ (n i : ℕ) (e : Setting) (buckets : ℕ) (registry : List ℕ) (binding bucket : ℕ) (r : Run) (t g : List ℕ) where
+-- a turn whose attempt came to x: with the reason set aside it goes on, and ends, as it is defined
+abbrev turnBy : {A : Type 0} → Outcome → Run → A → Run × A → Trial × A
+turnBy x r a p = if isBusy (bareOf x) then (trialWith (p .0) (bareOf x) (lastOf noneYet x), p .1) else (trialWith r (bareOf x) (lastOf noneYet x), a)
+
+turned : {A : Type 0} (last : Reason) (x : Outcome) (r : Run) (a : A) (p : Run × A) (more : Reason → Run × A → Tried × A)
+    → (if isBusy x then more (lastOf last x) p else (triedOf r x, a))
+    ≡ (if isBusy (turnBy x r a p .0 .outcome) then more (turnBy x r a p .0 .why) (turnBy x r a p .0 .run, turnBy x r a p .1) else (triedOf (turnBy x r a p .0 .run) (turnBy x r a p .0 .outcome), turnBy x r a p .1))
+turned last (outcome.Granted l) r a p more = refl
+turned last (outcome.Busy why) r a p more = refl
+turned last (outcome.Refused x) r a p more = refl
+
+module _ (n i : ℕ) (last : Reason) (e : Setting) (buckets : ℕ) (registry : List ℕ) (binding bucket : ℕ) (r : Run) (t g : List ℕ) where
   abbrev tried : Tried × (List ℕ × List ℕ)
   tried = attemptOf e buckets registry binding bucket r t g .seen
 
   abbrev paused : Run × (List ℕ × List ℕ)
   paused = pauseOf e i (tried .0 .run) (tried .1 .0) (tried .1 .1) .seen
 
-  abbrev more : Run × (List ℕ × List ℕ) → Tried × (List ℕ × List ℕ)
-  more o = retryOf (n - (i + 1)) (i + 1) e buckets registry binding bucket (o .0) (o .1 .0) (o .1 .1) .seen
+  abbrev more : Reason → Run × (List ℕ × List ℕ) → Tried × (List ℕ × List ℕ)
+  more why o = retryOf (n - (i + 1)) (i + 1) why e buckets registry binding bucket (o .0) (o .1 .0) (o .1 .1) .seen
 
-  retry-once : i < n → retryOf (n - i) i e buckets registry binding bucket r t g .seen ≡ (if isBusy (tried .0 .outcome) then more paused else tried)
+  retry-once : i < n → retryOf (n - i) i last e buckets registry binding bucket r t g .seen ≡ (if isBusy (tried .0 .outcome) then more (lastOf last (tried .0 .outcome)) paused else tried)
   unfolding retryOf
   retry-once l = let k : n - i ≡ suc (n - (i + 1)) = omega arith in rw k (seen-if (isBusy (tried .0 .outcome)) _ _)
 
-  pub retry-at : (o : Tried × (List ℕ × List ℕ)) → o ≡ againOf i e buckets registry binding bucket r t g → i < n
-      → retryOf (n - i) i e buckets registry binding bucket r t g .seen ≡ (if isBusy (o .0 .outcome) then more (o .0 .run, o .1) else o)
-  unfolding againOf
-  retry-at o q l = retry-once l ∙ rw q (go (isBusy (tried .0 .outcome)) refl)
-    where
-      go : (b : Bool) → isBusy (tried .0 .outcome) ≡ b
-          → (if b then more paused else tried)
-          ≡ (if isBusy ((if b then (triedOf (paused .0) outcome.Busy, paused .1) else tried) .0 .outcome)
-          then more ((if b then (triedOf (paused .0) outcome.Busy, paused .1) else tried) .0 .run, (if b then (triedOf (paused .0) outcome.Busy, paused .1) else tried) .1)
-          else (if b then (triedOf (paused .0) outcome.Busy, paused .1) else tried))
-      go true w = refl
-      go false w = rw w
+  pub retry-at : (o : Trial × (List ℕ × List ℕ)) → o ≡ againOf i e buckets registry binding bucket r t g → i < n
+      → retryOf (n - i) i last e buckets registry binding bucket r t g .seen ≡ (if isBusy (o .0 .outcome) then more (o .0 .why) (o .0 .run, o .1) else (triedOf (o .0 .run) (o .0 .outcome), o .1))
+  unfolding againOf trialOf asideOf
+  retry-at o q l = retry-once l ∙ rw q (turned last (tried .0 .outcome) (tried .0 .run) (tried .1) paused more)
 
-  pub retry-end : n ≤ i → retryOf (n - i) i e buckets registry binding bucket r t g .seen ≡ (triedOf r outcome.Busy, (t, g))
+  pub retry-end : n ≤ i → retryOf (n - i) i last e buckets registry binding bucket r t g .seen ≡ (triedOf r (outcome.Busy last), (t, g))
   unfolding retryOf
   retry-end l = let k : n - i ≡ 0 = omega arith in rw k
 
 -- a turn is one attempt and at most five boundaries
 turn-run-bound : (e : Setting) (i buckets : ℕ) (registry : List ℕ) (binding bucket most : ℕ) (r : Run) (t g : List ℕ) → RunBound (stepsIn (e .script)) most r
     → RunBound (stepsIn (e .script)) (most + 5) (againOf i e buckets registry binding bucket r t g .0 .run)
-unfolding againOf
+unfolding againOf trialOf asideOf
 turn-run-bound e i buckets registry binding bucket most r t g b =
-    let o = attemptOf e buckets registry binding bucket r t g .seen in
+    let o = trialOf (attemptOf e buckets registry binding bucket r t g .seen) in
     let c = attempt-run-bound e buckets registry binding bucket most r t g b in
-    if-both (λ (k : Tried × (List ℕ × List ℕ)). RunBound (stepsIn (e .script)) (most + 5) (k .0 .run)) (isBusy (o .0 .outcome))
+    if-both (λ (k : Trial × (List ℕ × List ℕ)). RunBound (stepsIn (e .script)) (most + 5) (k .0 .run)) (isBusy (o .0 .outcome))
     (more-run-bound _ (most + 3 + 2) (most + 5) _ (omega arith) (pause-run-bound e i (most + 3) (o .0 .run) (o .1 .0) (o .1 .1) c))
     (more-run-bound _ (most + 3) (most + 5) _ (omega arith) c)
 
 pub turn-goes : (headers cells steps : ℕ) (script : List ℕ) (ps : List Lease) → steps ≡ length script / 3
-    → (o : Tried × (List ℕ × List ℕ)) (i buckets : ℕ) (registry : List ℕ) (binding bucket most : ℕ) (r : Run) (t g : List ℕ)
+    → (o : Trial × (List ℕ × List ℕ)) (i buckets : ℕ) (registry : List ℕ) (binding bucket most : ℕ) (r : Run) (t g : List ℕ)
     → o ≡ againOf i (setting headers cells script ps) buckets registry binding bucket r t g → RunBound steps most r → RunBound steps (most + 5) (o .0 .run)
 turn-goes headers cells steps script ps n o i buckets registry binding bucket most r t g q b =
     rw (q, n) (turn-run-bound (setting headers cells script ps) i buckets registry binding bucket most r t g (rw (← n) b))
 
 -- where the retry loop stands, before attempt number i: what remains from here is what the whole comes to
-pub record Retrying (e : Setting) (steps buckets : ℕ) (registry : List ℕ) (binding bucket : ℕ) (r₀ : Run) (t₀ g₀ : List ℕ) (i : ℕ) (r : Run) (t g : List ℕ) : Type 0 where
+pub record Retrying (e : Setting) (steps buckets : ℕ) (registry : List ℕ) (binding bucket : ℕ) (r₀ : Run) (t₀ g₀ : List ℕ) (i : ℕ) (last : Reason) (r : Run) (t g : List ℕ) : Type 0 where
   pub run-bound : RunBound steps (callMost + 5 * i) r
   pub few : i ≤ 4096
   pub words : length t ≡ length t₀
   pub bytes : length g ≡ length g₀
-  pub rest : retryOf (4096 - i) i e buckets registry binding bucket r t g .seen ≡ retryOf 4096 0 e buckets registry binding bucket r₀ t₀ g₀ .seen
+  pub rest : retryOf (4096 - i) i last e buckets registry binding bucket r t g .seen ≡ retryOf 4096 0 noneYet e buckets registry binding bucket r₀ t₀ g₀ .seen
 
 pub small-product : (a m b : ℕ) → a < m → m ≤ 64 → b ≤ 1024 → a * b ≤ 65536
 small-product a m b l h k = let s : a ≤ 64 = omega arith in omega (arith, mul-le-mul s k)

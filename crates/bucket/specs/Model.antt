@@ -7,15 +7,18 @@ use lib.ListN.{getD}
 use Rattle.choice.specs.Choice.{if_then_else_}
 use Rattle.model.specs.Arena.{headerOf}
 use Rattle.model.specs.Foreign.{Setting}
-use Rattle.model.specs.Lock.{triedOf, attemptOf, pauseOf, isBusy}
+use Rattle.model.specs.Lock.{attemptOf, pauseOf, isBusy, lastOf, noneYet}
 use Rattle.model.specs.declared.Found.{Found}
 use Rattle.model.specs.declared.Found.the-variants as found
+use Rattle.model.specs.declared.Outcome.{Outcome}
 use Rattle.model.specs.declared.Outcome.the-variants as outcome
+use Rattle.model.specs.declared.Reason.{Reason}
 use Rattle.model.specs.declared.Run.{Run}
 use Rattle.model.specs.declared.Tried.{Tried}
 use Rattle.foreign.specs.declared.Scope.{Scope}
 use Rattle.foreign.specs.Model.{RoomIn}
 use Rattle.lock.specs.Model.{CellIn}
+use Rattle.bucket.specs.declared.Trial.{Trial}
 
 pub record Fit (headers buckets bytes : ℕ) : Type 0 where
   pub bytes-fit : headers ≤ bytes
@@ -45,9 +48,25 @@ pub record Landed (s : Scope) (g : List ℕ) (c : ℕ) : Type 0 where
 abbrev pub Lands : Scope → List ℕ → Found → Type 0
 Lands s g k = (c : ℕ) → k ≡ found.At c → Landed s g c
 
+-- an outcome without its reason
+abbrev pub bareOf : Outcome → Outcome
+bareOf (outcome.Granted l) = outcome.Granted l
+bareOf (outcome.Busy why) = outcome.Busy noneYet
+bareOf (outcome.Refused x) = outcome.Refused x
+
+-- an attempt of the retry loop: the reason beside the outcome
+abbrev pub trialWith : Run → Outcome → Reason → Trial
+trialWith r o why = record { run = r; outcome = o; why = why }
+
+unfoldable pub asideOf : Tried → Trial
+asideOf k = trialWith (k .run) (bareOf (k .outcome)) (lastOf noneYet (k .outcome))
+
+unfoldable pub trialOf : Tried × (List ℕ × List ℕ) → Trial × (List ℕ × List ℕ)
+trialOf k = (asideOf (k .0), k .1)
+
 -- attempt number i and, if it was Busy, the pause after it
-unfoldable pub againOf : ℕ → Setting → ℕ → List ℕ → ℕ → ℕ → Run → List ℕ → List ℕ → Tried × (List ℕ × List ℕ)
+unfoldable pub againOf : ℕ → Setting → ℕ → List ℕ → ℕ → ℕ → Run → List ℕ → List ℕ → Trial × (List ℕ × List ℕ)
 againOf i e buckets registry binding bucket r t g =
-    let o = attemptOf e buckets registry binding bucket r t g .seen in
+    let o = trialOf (attemptOf e buckets registry binding bucket r t g .seen) in
     let p = pauseOf e i (o .0 .run) (o .1 .0) (o .1 .1) .seen in
-    if isBusy (o .0 .outcome) then (triedOf (p .0) outcome.Busy, p .1) else o
+    if isBusy (o .0 .outcome) then (trialWith (p .0) (o .0 .outcome) (o .0 .why), p .1) else o

@@ -2,10 +2,12 @@
 // Functions with a `requires` are steps: calls have tested the shape, and a step tests nothing twice.
 // Nothing here is reached from outside the crate.
 use crate::Target;
+use crate::Trial;
 use foreign::Scope;
 use model::Found;
 use model::Locked;
 use model::Outcome;
+use model::Reason;
 use model::Refusal;
 use model::Run;
 use model::Tried;
@@ -13,12 +15,12 @@ ghost use mathlib.Core.Path.{_≡_};
 ghost use mathlib.Core.List.{[], _∷_};
 ghost use Prim.Native.Nat.{_+_, _*_, _<_, _≤_};
 ghost use lib.ListN.{length};
-ghost use Rattle.model.specs.Lock.{runOf, triedOf, findOf, attemptAt};
+ghost use Rattle.model.specs.Lock.{runOf, triedOf, findOf, attemptAt, lastOf};
 ghost use Rattle.model.specs.declared.Outcome.the-variants as outcome;
 ghost use Rattle.foreign.specs.Model.{settingOf, RoomIn};
 ghost use Rattle.bucket.specs.Bounds.{tryMost};
 ghost use Rattle.bucket.specs.Laws.{RunBound};
-ghost use Rattle.bucket.specs.Model.{Fit, Lands};
+ghost use Rattle.bucket.specs.Model.{Fit, Lands, bareOf, asideOf, trialOf};
 
 // A key's cell: its header is looked at, then the header's health, then the bucket.
 // The definition reads the header from a registry: here it is the only one there.
@@ -105,6 +107,41 @@ pub fn attempt_once(
     }
 }
 
+// An outcome without its reason: Busy is always the same.
+fn bare(outcome: Outcome) -> Outcome
+    ensures { λ r. ⌜ r ≡ bareOf outcome ⌝ }
+{
+    match outcome {
+        Outcome::Granted(lease) => Outcome::Granted(lease),
+        Outcome::Busy(_) => Outcome::Busy(Reason::Before),
+        Outcome::Refused(refusal) => Outcome::Refused(refusal),
+    }
+}
+
+// The reason of the last Busy attempt, after one more that came to this.
+fn last_of(last: Reason, outcome: Outcome) -> Reason
+    ensures { λ r. ⌜ r ≡ lastOf last outcome ⌝ }
+{
+    match outcome {
+        Outcome::Granted(_) => last,
+        Outcome::Busy(why) => why,
+        Outcome::Refused(_) => last,
+    }
+}
+
+// The reason set aside. Each result of `attempt` is set aside where it is made: it never is one outcome first.
+fn aside(tried: Tried) -> Trial
+    ensures { λ r. ⌜ r ≡ asideOf tried ⌝ }
+{
+    let run = tried.run;
+    let outcome = tried.outcome;
+    Trial {
+        run,
+        outcome: bare(outcome),
+        why: last_of(Reason::Before, outcome),
+    }
+}
+
 // The same for the retry loop, which it is private to: past the script's end an attempt is a quiet one. The header's
 // health was read just before, so the quiet lock of a healthy header is the one.
 // What a call of `lock` is given is copied where the call is made: a quiet attempt then stores no copy.
@@ -118,35 +155,35 @@ pub fn attempt(
     taken: &[[u32; 2]; 64],
     n: usize,
     found: Found,
-) -> Tried
+) -> Trial
     requires { ⌜ RoomIn scope (length (now table)) (length (now health)) n (length (now script))
         × (RunBound (scope .steps) tryMost run × Lands scope (now health) found) ⌝ }
     ensures { λ r. ⌜ (r, (now (table .exit), now (health .exit)))
-        ≡ attemptAt found (settingOf scope (now (script .entry)) (now (held .entry)) (now (taken .entry)) n)
-        (scope .buckets) run (now (table .entry)) (now (health .entry)) .seen ⌝ }
+        ≡ trialOf (attemptAt found (settingOf scope (now (script .entry)) (now (held .entry)) (now (taken .entry)) n)
+        (scope .buckets) run (now (table .entry)) (now (health .entry)) .seen) ⌝ }
 {
     match found {
-        Found::Fault(refusal) => missed(run, refusal),
+        Found::Fault(refusal) => aside(missed(run, refusal)),
         Found::At(cell) => {
             let flow = run.flow;
             if flow.place < scope.steps {
                 let here = scope;
                 let from = run.flow;
                 let locked = lock::lock(here, from, table, health, script, held, taken, n, cell);
-                return counted(run, locked);
+                return aside(counted(run, locked));
             }
             let quiet = lock::quiet_take(scope.head(flow.next), flow, table, cell);
             let after = quiet.flow;
             let answer = quiet.answer;
-            Tried {
+            aside(Tried {
                 run: Run {
                     flow: after,
                     attempts: run.attempts + 1,
                     boundaries: run.boundaries + quiet.boundaries,
                     yields: run.yields,
                 },
-                outcome: lease::outcome(cell, answer),
-            }
+                outcome: lock::quiet_outcome(cell, answer),
+            })
         }
     }
 }

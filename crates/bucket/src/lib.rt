@@ -14,6 +14,7 @@ use model::Flow;
 use model::Head;
 use model::Outcome;
 use model::Played;
+use model::Reason;
 use model::Refusal;
 use model::Run;
 use retries::retry;
@@ -35,6 +36,14 @@ struct Target {
     bucket: u32,
 }
 
+// An attempt of the retry loop. Why it was Busy stands beside what it came to: the loop tests the one and keeps the
+// other, and both stay in few words.
+struct Trial {
+    run: Run,
+    outcome: Outcome,
+    why: Reason,
+}
+
 // ---- the calls
 
 // A run that has made no step.
@@ -53,13 +62,13 @@ pub fn starting(head: Head, place: usize) -> Run
     }
 }
 
-// After 4,096 Busy attempts: SerializationFailure.
+// After 4,096 Busy attempts: SerializationFailure, with the reason of the last.
 pub fn settle(outcome: Outcome) -> Outcome
     ensures { λ r. ⌜ r ≡ settled outcome ⌝ }
 {
     match outcome {
         Outcome::Granted(lease) => Outcome::Granted(lease),
-        Outcome::Busy => Outcome::Refused(Refusal::SerializationFailure),
+        Outcome::Busy(why) => Outcome::Refused(Refusal::SerializationFailure(why)),
         Outcome::Refused(refusal) => Outcome::Refused(refusal),
     }
 }
@@ -163,7 +172,7 @@ pub fn transactional_try_lock_bucket(
 
 // Attempts 0 to 4,095 by key, with a boundary after each Busy one and a yield after every 64th. A grant or a refusal
 // ends it at once, 7 after an attempt's third boundary too: the lease is given up and its serial stays spent. 4,096
-// Busy attempts are refused with 11, and nothing is held.
+// Busy attempts are refused with 11 and the reason of the last, and nothing is held.
 pub fn acquire_index_bucket(
     head: Head,
     table: &mut [u32],

@@ -3,10 +3,12 @@
 // Steps are no calls of document 01, public ones neither: only the layers here call them (tests/layers.sh), and each
 // caller proves their `requires`.
 use crate::Target;
+use crate::Trial;
 use crate::attempts::attempt;
 use crate::attempts::find;
 use foreign::Scope;
 use model::Outcome;
+use model::Reason;
 use model::Run;
 use model::Tried;
 ghost use mathlib.Core.Path.{_≡_};
@@ -14,7 +16,7 @@ ghost use mathlib.Core.Bool.{true};
 ghost use mathlib.Core.List.{[], _∷_};
 ghost use Prim.Native.Nat.{_+_, _<_};
 ghost use lib.ListN.{length};
-ghost use Rattle.model.specs.Lock.{spinOf, pauseOf, isBusy, retryOf};
+ghost use Rattle.model.specs.Lock.{triedOf, spinOf, pauseOf, isBusy, noneYet, retryOf};
 ghost use Rattle.model.specs.Refusals.{first};
 ghost use Rattle.foreign.specs.Model.{settingOf, RoomIn};
 ghost use Rattle.bucket.specs.Bounds.{callMost, tryMost};
@@ -85,7 +87,7 @@ fn is_busy(outcome: Outcome) -> bool
 {
     match outcome {
         Outcome::Granted(_) => false,
-        Outcome::Busy => true,
+        Outcome::Busy(_) => true,
         Outcome::Refused(_) => false,
     }
 }
@@ -102,7 +104,7 @@ fn again(
     taken: &[[u32; 2]; 64],
     n: usize,
     target: Target,
-) -> Tried
+) -> Trial
     requires { ⌜ KeyFits scope (length (now table)) (length (now health)) n (length (now script)) 1 0
         × RunBound (scope .steps) tryMost run ⌝ }
     ensures { λ r. ⌜ (r, (now (table .exit), now (health .exit)))
@@ -111,21 +113,32 @@ fn again(
         run (now (table .entry)) (now (health .entry)) ⌝ }
 {
     let found = find(scope, health, target);
-    let tried = attempt(scope, run, table, health, script, held, taken, n, found);
-    let after = tried.run;
-    let outcome = tried.outcome;
+    let trial = attempt(scope, run, table, health, script, held, taken, n, found);
+    let after = trial.run;
+    let outcome = trial.outcome;
+    let why = trial.why;
     if is_busy(outcome) {
         let paused = pause(i, scope, after, table, health, script, held, taken, n);
-        return Tried {
+        return Trial {
             run: paused,
-            outcome: Outcome::Busy,
+            outcome,
+            why,
         };
     }
-    tried
+    trial
 }
 
-// Attempts 0 to 4,095; a grant or a refusal ends it at once. The key comes as two numbers: a call that stays a call
-// would store it as a struct first.
+// The attempt that concluded it: it was not Busy, so there is no reason beside it.
+fn concluded(trial: Trial) -> Tried
+    ensures { λ r. ⌜ r ≡ triedOf (trial .run) (trial .outcome) ⌝ }
+{
+    let run = trial.run;
+    let outcome = trial.outcome;
+    Tried { run, outcome }
+}
+
+// Attempts 0 to 4,095; a grant or a refusal ends it at once. After them all it is Busy, for the reason of the last.
+// The key comes as two numbers: a call that stays a call would store it as a struct first.
 pub fn retry(
     scope: Scope,
     start: Run,
@@ -142,26 +155,26 @@ pub fn retry(
     requires { ⌜ KeyFits scope (length (now table)) (length (now health)) n (length (now script))
         (length (now registry)) binding × RunBound (scope .steps) callMost start ⌝ }
     ensures { λ r. ⌜ (r, (now (table .exit), now (health .exit)))
-        ≡ retryOf 4096 0 (settingOf scope (now (script .entry)) (now (held .entry)) (now (taken .entry)) n)
+        ≡ retryOf 4096 0 noneYet (settingOf scope (now (script .entry)) (now (held .entry)) (now (taken .entry)) n)
         (scope .buckets) (now (registry .entry)) binding bucket
         start (now (table .entry)) (now (health .entry)) .seen ⌝ }
 {
     let header = registry[binding as usize];
     let target = Target { header, bucket };
     let mut run = start;
+    let mut last = Reason::Before;
     let mut i = 0;
     while i < 4096 {
-        let tried = again(i, scope, run, table, health, script, held, taken, n, target);
-        let outcome = tried.outcome;
+        let trial = again(i, scope, run, table, health, script, held, taken, n, target);
+        let outcome = trial.outcome;
         if is_busy(outcome) {
-            run = tried.run;
+            run = trial.run;
+            last = trial.why;
         } else {
-            return tried;
+            return concluded(trial);
         }
         i += 1;
     }
-    Tried {
-        run,
-        outcome: Outcome::Busy,
-    }
+    let outcome = Outcome::Busy(last);
+    Tried { run, outcome }
 }

@@ -1,3 +1,4 @@
 pub mod Wrong
 pub mod Falls
+pub mod Reasons
 pub mod Crews

@@ -1,6 +1,6 @@
 -- Wrong builds: answering functions of the calls' own types, each wrong in one thing. "Slips to be ruled out" and "Idle builds the promises must
--- reject" of document 01, slips that document 02, L3, invites, and six slips of definitions that an earlier set of
--- theorems let pass. `Falls` and `Crews` prove which theorem each fails. Where nothing else is said a build does as ours does.
+-- reject" of document 01, slips that document 02, L1 and L3, invite, and six slips of definitions that an earlier set of
+-- theorems let pass. `Falls`, `Reasons` and `Crews` prove which theorem each fails. Where nothing else is said a build does as ours does.
 use Prim.Native.Nat.{ℕ, zero, suc, _+_, _-_, _%_}
 use mathlib.Core.List.{List, [], _∷_, _++_}
 use lib.Dec.{leb, eqb}
@@ -10,7 +10,7 @@ use Rattle.model.specs.Log.{Made, Event, by-caller, by-script, attempt-begun, b
 use Rattle.model.specs.Arena.{spentTo, leaseOf, leasesOf, ownerAt, setCell}
 use Rattle.model.specs.Answers.{refusalIn}
 use Rattle.model.specs.Foreign.{Setting, boundaryOf}
-use Rattle.model.specs.Lock.{runOf, attemptOf, attemptLimit, spinOf, isBusy, triedOf, answerOf, settled}
+use Rattle.model.specs.Lock.{runOf, attemptOf, attemptLimit, noneYet, spinOf, isBusy, lastOf, triedOf, answerOf, settled}
 use Rattle.model.specs.Calls.{countsOf, given, starting}
 use Rattle.model.specs.Crew.{total, crewOf}
 use Rattle.model.specs.declared.Answer.{Answer}
@@ -19,13 +19,15 @@ use Rattle.model.specs.declared.Counts.{Counts}
 use Rattle.model.specs.declared.CrewReply.{CrewReply}
 use Rattle.model.specs.declared.Lease.{Lease}
 use Rattle.model.specs.declared.Outcome.the-variants as outcome
+use Rattle.model.specs.declared.Reason.{Reason}
+use Rattle.model.specs.declared.Reason.the-variants as reason
 use Rattle.model.specs.declared.Refusal.{Refusal}
 use Rattle.model.specs.declared.Refusal.the-variants as refusal
 use Rattle.model.specs.declared.Run.{Run}
 use Rattle.model.specs.declared.Tried.{Tried}
 use Rattle.history.specs.World.{World, worldOf, now, caller-releases}
 use Rattle.history.specs.Items.{try-acquire, drop-lease, read-permission, competing-acquire, release-then-handoff, foreign-release, drop-preserving, acquire-preserving, environment, try-lock, transactional, acquire-bucket, release-all, acquire-locks, crew, asked, cellOf, place-of, Says, says, perform, foreign, Build, Stepper}
-use Rattle.history.specs.Statements.{Crew-build}
+use Rattle.history.specs.Statements.{Crew-build, answer-in}
 
 -- ---- the same with another answer, and the like
 
@@ -49,7 +51,7 @@ only-refuses w k = record { seen = (w, says (Refused refusal.BadShape) (countsOf
 
 -- "or is always Busy"
 abbrev pub always-busy : Build
-always-busy w k = record { seen = (w, says Busy (countsOf 1 0 0 0) (place-of k) []); log = attempt-begun ∷ [] }
+always-busy w k = record { seen = (w, says (Busy reason.Before) (countsOf 1 0 0 0) (place-of k) []); log = attempt-begun ∷ [] }
 
 -- "One grant for all"
 abbrev pub one-for-all : Build
@@ -84,8 +86,8 @@ abbrev pub one-fewer : World → World
 one-fewer w = worldOf (spentTo (w .head) (w .head .next - 1)) (w .table) (w .health)
 
 abbrev pub if-late : Answer → List Lease → World → World
-if-late Busy (l ∷ ls) w = one-fewer w
-if-late Busy [] w = w
+if-late (Busy why) (l ∷ ls) w = one-fewer w
+if-late (Busy why) [] w = w
 if-late Done ls w = w
 if-late (Cell c) ls w = w
 if-late (Granted l) ls w = w
@@ -116,7 +118,7 @@ skipped w m Done = m
 skipped w m (Cell c) = m
 skipped w m (Granted l) = m
 skipped w m AllGranted = m
-skipped w m Busy = m
+skipped w m (Busy why) = m
 skipped w m (Refused r) = m
 
 abbrev pub rollback-skips : Build
@@ -131,18 +133,18 @@ pauseAt remainder e i r t g =
       spinOf e (runOf f (r .attempts) (r .boundaries + 1) (r .yields + 1)) u w)
     else spinOf e r t g
 
-unfoldable pub retryAt : ℕ → ℕ → ℕ → Setting → ℕ → List ℕ → ℕ → ℕ → Run → List ℕ → List ℕ → Made (Tried × (List ℕ × List ℕ))
-retryAt remainder zero i e buckets registry binding bucket r t g = gives (triedOf r outcome.Busy, (t, g))
-retryAt remainder (suc left) i e buckets registry binding bucket r t g = do
+unfoldable pub retryAt : ℕ → ℕ → ℕ → Reason → Setting → ℕ → List ℕ → ℕ → ℕ → Run → List ℕ → List ℕ → Made (Tried × (List ℕ × List ℕ))
+retryAt remainder zero i last e buckets registry binding bucket r t g = gives (triedOf r (outcome.Busy last), (t, g))
+retryAt remainder (suc left) i last e buckets registry binding bucket r t g = do
   (k, (u, w)) ← attemptOf e buckets registry binding bucket r t g
   if isBusy (k .outcome) then (do
     (p, (v, x)) ← pauseAt remainder e i (k .run) u w
-    retryAt remainder left (i + 1) e buckets registry binding bucket p v x)
+    retryAt remainder left (i + 1) (lastOf last (k .outcome)) e buckets registry binding bucket p v x)
       else gives (k, (u, w))
 
 abbrev pub retries-at : ℕ → World → (registry script : List ℕ) (place : ℕ) (held : List ℕ) (binding bucket : ℕ) → Made (World × Says)
 retries-at remainder w registry script place held binding bucket = do
-  (k, (t, g)) ← retryAt remainder attemptLimit 0 (given (w .head) script (leasesOf held)) (w .head .buckets) registry binding bucket (starting (w .head) place) (w .table) (w .health)
+  (k, (t, g)) ← retryAt remainder attemptLimit 0 noneYet (given (w .head) script (leasesOf held)) (w .head .buckets) registry binding bucket (starting (w .head) place) (w .table) (w .health)
   gives (
     worldOf (spentTo (w .head) (k .run .flow .next)) t g,
     says (answerOf (settled (k .outcome))) (countsOf (k .run .attempts) (k .run .boundaries) (k .run .yields) (k .run .flow .dropped)) (k .run .flow .place) [],
@@ -225,6 +227,70 @@ keeps-at-seven w k =
 abbrev pub serial-back-at-seven : Build
 serial-back-at-seven w k = let m = perform w k in at-seven (λ l. leaving (one-fewer (m .seen .0)) m) (caller-releases (m .log)) m
 
+-- ---- document 02, L1: "held, with the owner's serial; waiters seen before the compare-and-set; waiters seen after it."
+
+-- another refusal in place of 11
+abbrev pub instead-of-failed : (Reason → Refusal) → Refusal → Refusal
+instead-of-failed f refusal.BadShape = refusal.BadShape
+instead-of-failed f refusal.BadScript = refusal.BadScript
+instead-of-failed f (refusal.BadHeld i) = refusal.BadHeld i
+instead-of-failed f refusal.TooMany = refusal.TooMany
+instead-of-failed f (refusal.BadBinding i) = refusal.BadBinding i
+instead-of-failed f (refusal.BadHeader i) = refusal.BadHeader i
+instead-of-failed f (refusal.Poisoned i) = refusal.Poisoned i
+instead-of-failed f (refusal.InvalidBucket i) = refusal.InvalidBucket i
+instead-of-failed f (refusal.Damaged c) = refusal.Damaged c
+instead-of-failed f (refusal.SerialsSpent c) = refusal.SerialsSpent c
+instead-of-failed f (refusal.SerializationFailure why) = f why
+instead-of-failed f (refusal.NotHeld i) = refusal.NotHeld i
+instead-of-failed f refusal.Protected = refusal.Protected
+instead-of-failed f (refusal.Repeated i) = refusal.Repeated i
+instead-of-failed f (refusal.BadCrew i) = refusal.BadCrew i
+
+-- another reason, of Busy and of 11
+abbrev pub reworded : (Reason → Reason) → Answer → Answer
+reworded f Done = Done
+reworded f (Cell c) = Cell c
+reworded f (Granted l) = Granted l
+reworded f AllGranted = AllGranted
+reworded f (Busy why) = Busy (f why)
+reworded f (Refused r) = Refused (instead-of-failed (λ why. refusal.SerializationFailure (f why)) r)
+reworded f (RefusedAt r p) = RefusedAt (instead-of-failed (λ why. refusal.SerializationFailure (f why)) r) p
+
+-- before and after exchanged: where no serial was spent it gives the next one
+abbrev pub exchanged : ℕ → Reason → Reason
+exchanged next (reason.Held s) = reason.Held s
+exchanged next reason.Before = reason.After next
+exchanged next (reason.After s) = reason.Before
+
+abbrev pub exchanges-reasons : Build
+exchanges-reasons w k = answering (λ s. reworded (exchanged (w .head .next)) (s .answer)) (perform w k)
+
+-- the caller's next serial in place of the owner's
+abbrev pub held-by : ℕ → Reason → Reason
+held-by next (reason.Held s) = reason.Held next
+held-by next reason.Before = reason.Before
+held-by next (reason.After s) = reason.After s
+
+abbrev pub names-next : Build
+names-next w k = answering (λ s. reworded (held-by (w .head .next)) (s .answer)) (perform w k)
+
+-- "the reason of the last Busy attempt": 11 gives that of the first, which is what `transactional_try_lock_bucket` answers at the same place
+abbrev pub busy-by : Answer → Reason → Reason
+busy-by Done why = why
+busy-by (Cell c) why = why
+busy-by (Granted l) why = why
+busy-by AllGranted why = why
+busy-by (Busy first) why = first
+busy-by (Refused r) why = why
+busy-by (RefusedAt r p) why = why
+
+abbrev pub first-reason : Build
+first-reason =
+    others our-drop
+    (λ w registry script place held binding bucket. answering (λ s. reworded (busy-by (answer-in (our-once w registry script place held binding bucket))) (s .answer)) (our-key w registry script place held binding bucket))
+    our-once our-locks
+
 -- ---- six slips of definitions that no theorem caught once
 
 -- a `try_lock` of a held cell answers Granted with the present owner's lease
@@ -233,7 +299,7 @@ granting l Done = Done
 granting l (Cell c) = Cell c
 granting l (Granted k) = Granted k
 granting l AllGranted = AllGranted
-granting l Busy = Granted l
+granting l (Busy why) = Granted l
 granting l (Refused r) = Refused r
 granting l (RefusedAt r p) = RefusedAt r p
 
@@ -241,30 +307,13 @@ abbrev pub owners-lease : Build
 owners-lease w k = answering (λ s. granting (leaseOf (asked w k) (ownerAt (w .table) (asked w k))) (s .answer)) (perform w k)
 
 -- `acquire_index_bucket` answers 10 in place of 11
-abbrev pub spent-for-failed : Refusal → Refusal
-spent-for-failed refusal.BadShape = refusal.BadShape
-spent-for-failed refusal.BadScript = refusal.BadScript
-spent-for-failed (refusal.BadHeld i) = refusal.BadHeld i
-spent-for-failed refusal.TooMany = refusal.TooMany
-spent-for-failed (refusal.BadBinding i) = refusal.BadBinding i
-spent-for-failed (refusal.BadHeader i) = refusal.BadHeader i
-spent-for-failed (refusal.Poisoned i) = refusal.Poisoned i
-spent-for-failed (refusal.InvalidBucket i) = refusal.InvalidBucket i
-spent-for-failed (refusal.Damaged c) = refusal.Damaged c
-spent-for-failed (refusal.SerialsSpent c) = refusal.SerialsSpent c
-spent-for-failed refusal.SerializationFailure = refusal.SerialsSpent 0
-spent-for-failed (refusal.NotHeld i) = refusal.NotHeld i
-spent-for-failed refusal.Protected = refusal.Protected
-spent-for-failed (refusal.Repeated i) = refusal.Repeated i
-spent-for-failed (refusal.BadCrew i) = refusal.BadCrew i
-
 abbrev pub ten : Answer → Answer
 ten Done = Done
 ten (Cell c) = Cell c
 ten (Granted k) = Granted k
 ten AllGranted = AllGranted
-ten Busy = Busy
-ten (Refused r) = Refused (spent-for-failed r)
+ten (Busy why) = Busy why
+ten (Refused r) = Refused (instead-of-failed (λ why. refusal.SerialsSpent 0) r)
 ten (RefusedAt r p) = RefusedAt r p
 
 abbrev pub ten-for-eleven : Build

@@ -27,7 +27,7 @@ placeOf start n count = if ltb n count then start + n else start + (2 * count - 
 -- a grant moves; anything else is idle
 abbrev pub moveFor : Outcome → ℕ → Move
 moveFor (outcome.Granted l) next = move.Took next (l .serial)
-moveFor outcome.Busy next = move.Idle
+moveFor (outcome.Busy why) next = move.Idle
 moveFor (outcome.Refused r) next = move.Idle
 
 abbrev pub moveBy : Locked × List ℕ → Move × List ℕ

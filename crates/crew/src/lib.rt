@@ -220,7 +220,7 @@ fn try_move(head: Head, next: u32, table: &mut [u32], cell: u32) -> Move
     let answer = locked.answer;
     match answer {
         Outcome::Granted(lease) => Move::Took(after.next, lease.serial),
-        Outcome::Busy => Move::Idle,
+        Outcome::Busy(_) => Move::Idle,
         Outcome::Refused(_) => Move::Idle,
     }
 }

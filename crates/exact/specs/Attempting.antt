@@ -11,7 +11,7 @@ use borrow.Author.Tests.{eqb-true, eqb-false}
 use Rattle.model.specs.Log.{Made, yielded, note, _>>=_, _>>_, spun}
 use Rattle.model.specs.Arena.{leasesOf}
 use Rattle.model.specs.Foreign.{Setting, flowOf, boundaryOf}
-use Rattle.model.specs.Lock.{answerOf, settled, runOf, triedOf, attemptOf, spinOf, pauseOf, isBusy, retryOf, attemptLimit}
+use Rattle.model.specs.Lock.{answerOf, settled, runOf, triedOf, attemptOf, spinOf, pauseOf, isBusy, lastOf, retryOf, attemptLimit, noneYet}
 use Rattle.model.specs.Checks.{bucketRules}
 use Rattle.model.specs.Calls.{countsOf, given}
 use Rattle.model.specs.declared.Answer.the-variants.{Done, Busy, Refused}
@@ -19,8 +19,10 @@ use Rattle.model.specs.declared.Counts.{Counts}
 use Rattle.model.specs.declared.Head.{Head}
 use Rattle.model.specs.declared.Outcome.{Outcome}
 use Rattle.model.specs.declared.Outcome.the-variants as outcome
+use Rattle.model.specs.declared.Reason.{Reason}
 use Rattle.model.specs.declared.Run.{Run}
 use Rattle.model.specs.declared.Tried.{Tried}
+use Rattle.laws.specs.Outcomes.{retry-first}
 use Rattle.history.specs.World.{World}
 use Rattle.history.specs.Items.{Says, says, perform, acquire-bucket, environment, transactional}
 use Rattle.history.specs.Statements.{world-in, answer-in}
@@ -65,19 +67,19 @@ abbrev pub at-last : Head → Made (With Tried) → Made (World × Says)
 at-last h m =
     record { seen = (of-tried h (m .seen), says (answerOf (settled (m .seen .0 .outcome))) (counted (m .seen .0 .run)) (m .seen .0 .run .flow .place) []); log = m .log }
 
-busy-is : (o : Outcome) → isBusy o ≡ true → answerOf o ≡ Busy
-busy-is (outcome.Granted l) e = absurd (differ e)
-busy-is outcome.Busy e = refl
-busy-is (outcome.Refused r) e = absurd (differ e)
+busy-is : (last : Reason) (o : Outcome) → isBusy o ≡ true → answerOf o ≡ Busy (lastOf last o)
+busy-is last (outcome.Granted l) e = absurd (differ e)
+busy-is last (outcome.Busy why) e = refl
+busy-is last (outcome.Refused r) e = absurd (differ e)
 
-not-busy : (o : Outcome) → isBusy o ≡ false → answerOf o ≡ Busy → ⊥
-not-busy (outcome.Granted l) e q = let z : _≡_ {A = ℕ} 0 1 = cc in omega arith
-not-busy outcome.Busy e q = differ (sym e)
-not-busy (outcome.Refused r) e q = let z : _≡_ {A = ℕ} 0 1 = cc in omega arith
+not-busy : (o : Outcome) → isBusy o ≡ false → (other : Reason) → answerOf o ≡ Busy other → ⊥
+not-busy (outcome.Granted l) e other q = let z : _≡_ {A = ℕ} 0 1 = cc in omega arith
+not-busy (outcome.Busy why) e other q = differ (sym e)
+not-busy (outcome.Refused r) e other q = let z : _≡_ {A = ℕ} 0 1 = cc in omega arith
 
 same-settled : (o : Outcome) → isBusy o ≡ false → settled o ≡ o
 same-settled (outcome.Granted l) e = refl
-same-settled outcome.Busy e = absurd (differ (sym e))
+same-settled (outcome.Busy why) e = absurd (differ (sym e))
 same-settled (outcome.Refused r) e = refl
 
 module _ (h : Head) (registry script held : List ℕ) (binding bucket : ℕ) where
@@ -104,52 +106,57 @@ module _ (h : Head) (registry script held : List ℕ) (binding bucket : ℕ) whe
   pause-from : (i : ℕ) (r : Run) (t g : List ℕ) → pauseOf e i r t g ≡ run-on (counted r) (pauseOf e i (nil (r .flow .next) (r .flow .place)) t g)
   pause-from i r t g = rw (from-nil r) at (pause-on (counted r) e i (nil (r .flow .next) (r .flow .place)) t g)
 
-  retry-from : (left i : ℕ) (r : Run) (t g : List ℕ)
-      → retryOf left i e (h .buckets) registry binding bucket r t g
-      ≡ tried-on (counted r) (retryOf left i e (h .buckets) registry binding bucket (nil (r .flow .next) (r .flow .place)) t g)
-  retry-from left i r t g = rw (from-nil r) at (retry-on (counted r) e (h .buckets) registry binding bucket left i (nil (r .flow .next) (r .flow .place)) t g)
+  retry-from : (left i : ℕ) (last : Reason) (r : Run) (t g : List ℕ)
+      → retryOf left i last e (h .buckets) registry binding bucket r t g
+      ≡ tried-on (counted r) (retryOf left i last e (h .buckets) registry binding bucket (nil (r .flow .next) (r .flow .place)) t g)
+  retry-from left i last r t g = rw (from-nil r) at (retry-on (counted r) e (h .buckets) registry binding bucket left i last (nil (r .flow .next) (r .flow .place)) t g)
 
   -- a pause and what follows it, from a run that counts: the same from runs that have counted nothing, added up
   abbrev pausing : ℕ → Run → List ℕ → List ℕ → Made (With Run)
   pausing i r t g = pauseOf e i (nil (r .flow .next) (r .flow .place)) t g
 
-  abbrev resting : ℕ → ℕ → With Run → Made (With Tried)
-  resting left i x = retryOf left (i + 1) e (h .buckets) registry binding bucket (nil (x .0 .flow .next) (x .0 .flow .place)) (x .1 .0) (x .1 .1)
+  abbrev resting : ℕ → ℕ → Reason → With Run → Made (With Tried)
+  resting left i last x = retryOf left (i + 1) last e (h .buckets) registry binding bucket (nil (x .0 .flow .next) (x .0 .flow .place)) (x .1 .0) (x .1 .1)
 
-  both-from : (left i : ℕ) (r : Run) (t g : List ℕ)
-      → (pauseOf e i r t g >>= λ x. retryOf left (i + 1) e (h .buckets) registry binding bucket (x .0) (x .1 .0) (x .1 .1))
-      ≡ (pausing i r t g >>= λ x. tried-on (counted r) (tried-on (counted (x .0)) (resting left i x)))
-  both-from left i r t g =
+  both-from : (left i : ℕ) (last : Reason) (r : Run) (t g : List ℕ)
+      → (pauseOf e i r t g >>= λ x. retryOf left (i + 1) last e (h .buckets) registry binding bucket (x .0) (x .1 .0) (x .1 .1))
+      ≡ (pausing i r t g >>= λ x. tried-on (counted r) (tried-on (counted (x .0)) (resting left i last x)))
+  both-from left i last r t g =
       let b = pausing i r t g .seen in
-      rw (pause-from i r t g, retry-on (counted r) e (h .buckets) registry binding bucket left (i + 1) (b .0) (b .1 .0) (b .1 .1), retry-from left (i + 1) (b .0) (b .1 .0) (b .1 .1))
+      rw (pause-from i r t g, retry-on (counted r) e (h .buckets) registry binding bucket left (i + 1) last (b .0) (b .1 .0) (b .1 .1), retry-from left (i + 1) last (b .0) (b .1 .0) (b .1 .1))
 
-  abbrev Tries : ℕ → ℕ → List ℕ → List ℕ → ℕ → Made (World × Says) → Type 0
-  Tries n p t g i = Attempts (attempting registry script held binding bucket) (bounding script held) i (worldAt h n t g) p
+  abbrev Tries : ℕ → ℕ → List ℕ → List ℕ → ℕ → Reason → Made (World × Says) → Type 0
+  Tries n p t g i last = Attempts (attempting registry script held binding bucket) (bounding script held) i last (worldAt h n t g) p
 
-  retry-is : (left i n p : ℕ) (t g : List ℕ) → i + left ≡ 4096 → Tries n p t g i (at-last h (retryOf left i e (h .buckets) registry binding bucket (nil n p) t g))
+  retry-is : (left i : ℕ) (last : Reason) (n p : ℕ) (t g : List ℕ) → i + left ≡ 4096
+      → Tries n p t g i last (at-last h (retryOf left i last e (h .buckets) registry binding bucket (nil n p) t g))
   unfolding retryOf
-  retry-is zero i n p t g l =
+  retry-is zero i last n p t g l =
       let z : i ≡ 4096 = omega arith in
-      subst (λ x. Tries n p t g x (at-last h (record { seen = (triedOf (nil n p) outcome.Busy, (t, g)); log = [] }))) (sym z) all-busy
-  retry-is (suc left) i n p t g l =
+      subst (λ x. Tries n p t g x last (at-last h (record { seen = (triedOf (nil n p) (outcome.Busy last), (t, g)); log = [] }))) (sym z) all-busy
+  retry-is (suc left) i last n p t g l =
       let m = attemptOf e (h .buckets) registry binding bucket (nil n p) t g in
       let r = m .seen .0 .run in
       let b = pauseOf e i (nil (r .flow .next) (r .flow .place)) (m .seen .1 .0) (m .seen .1 .1) in
       let s = b .seen .0 in
       let j : i < 4096 = omega arith in
-      if-cases (λ (o : Made (With Tried)). Tries n p t g i (at-last h (record { seen = o .seen; log = m .log ++ o .log }))) (isBusy (m .seen .0 .outcome))
+      if-cases (λ (o : Made (With Tried)). Tries n p t g i last (at-last h (record { seen = o .seen; log = m .log ++ o .log }))) (isBusy (m .seen .0 .outcome))
       (λ c.
-      subst (λ (o : Made (With Tried)). Tries n p t g i (at-last h (record { seen = o .seen; log = m .log ++ o .log }))) (sym (both-from left i r (m .seen .1 .0) (m .seen .1 .1)))
-      (one-busy j (busy-is (m .seen .0 .outcome) c) (pause-is i (r .flow .next) (r .flow .place) (m .seen .1 .0) (m .seen .1 .1))
-      (retry-is left (i + 1) (s .flow .next) (s .flow .place) (b .seen .1 .0) (b .seen .1 .1) (omega arith))))
+      subst (λ (o : Made (With Tried)). Tries n p t g i last (at-last h (record { seen = o .seen; log = m .log ++ o .log }))) (sym (both-from left i (lastOf last (m .seen .0 .outcome)) r (m .seen .1 .0) (m .seen .1 .1)))
+      (one-busy (lastOf last (m .seen .0 .outcome)) j (busy-is last (m .seen .0 .outcome) c) (pause-is i (r .flow .next) (r .flow .place) (m .seen .1 .0) (m .seen .1 .1))
+      (retry-is left (i + 1) _ (s .flow .next) (s .flow .place) (b .seen .1 .0) (b .seen .1 .1) (omega arith))))
       (λ c. rw (append-nil (m .log), same-settled (m .seen .0 .outcome) c) (the-last j (not-busy (m .seen .0 .outcome) c)))
 
-pub by-steps : (w : World) (registry script : List ℕ) (place : ℕ) (held : List ℕ) (binding bucket : ℕ)
+pub by-steps : (w : World) (registry script : List ℕ) (place : ℕ) (held : List ℕ) (binding bucket : ℕ) (last : Reason)
     → let k = acquire-bucket registry script place held binding bucket in
-    Passes w k → Attempts (attempting registry script held binding bucket) (bounding script held) 0 w place (perform w k)
-by-steps w registry script place held binding bucket fine =
-    subst (Attempts (attempting registry script held binding bucket) (bounding script held) 0 w place) (sym (made w (acquire-bucket-has registry script place held binding bucket) fine))
-    (retry-is (w .head) registry script held binding bucket attemptLimit 0 (w .head .next) place (w .table) (w .health) (omega arith))
+    Passes w k → Attempts (attempting registry script held binding bucket) (bounding script held) 0 last w place (perform w k)
+by-steps w registry script place held binding bucket last fine =
+    let h = w .head in
+    let e = given h script (leasesOf held) in
+    subst (Attempts (attempting registry script held binding bucket) (bounding script held) 0 last w place)
+    (ap (at-last h) (retry-first 4095 0 last noneYet e (h .buckets) registry binding bucket (nil (h .next) place) (w .table) (w .health))
+    ∙ sym (made w (acquire-bucket-has registry script place held binding bucket) fine))
+    (retry-is (w .head) registry script held binding bucket attemptLimit 0 last (w .head .next) place (w .table) (w .health) (omega arith))
 
 -- ---- from steps to calls
 
@@ -178,24 +185,25 @@ module _ (attempt between attempt′ between′ : World → ℕ → Made (World 
       ∙ ap (λ (y : Made (World × Says)). x and-then y) (spin-same (world-in x) (place-in x) k′) in
       (subst (Pause attempt′ between′ i w p) both (also-yields n), between-ok (world-in x) (place-in x) k′)
 
-  attempts-same : {i : ℕ} {w : World} {p : ℕ} {m : Made (World × Says)} → Ok w p → Attempts attempt between i w p m → Attempts attempt′ between′ i w p m
+  attempts-same : {i : ℕ} {last : Reason} {w : World} {p : ℕ} {m : Made (World × Says)} → Ok w p → Attempts attempt between i last w p m
+      → Attempts attempt′ between′ i last w p m
   attempts-same k all-busy = all-busy
-  attempts-same {i} {w} {p} k (the-last l n) =
-      subst (λ (x : Made (World × Says)). (answer-in x ≡ Busy → ⊥) → Attempts attempt′ between′ i w p x) (same-attempt w p k) (the-last l) n
-  attempts-same {i} {w} {p} k (one-busy {m = m} {n = n} l b x rest) =
+  attempts-same {i} {last} {w} {p} k (the-last l n) =
+      subst (λ (x : Made (World × Says)). ((why : Reason) → answer-in x ≡ Busy why → ⊥) → Attempts attempt′ between′ i last w p x) (same-attempt w p k) (the-last l) n
+  attempts-same {i} {last} {w} {p} k (one-busy {m = m} {n = n} why l b x rest) =
       let y = pause-same (attempt-ok w p k) x in
-      subst (λ (a : Made (World × Says)). answer-in a ≡ Busy → Pause attempt′ between′ i (world-in a) (place-in a) m → Attempts attempt′ between′ i w p (a and-then (m and-then n)))
-      (same-attempt w p k) (λ c z. one-busy l c z (attempts-same (y .1) rest)) b (y .0)
+      subst (λ (a : Made (World × Says)). answer-in a ≡ Busy why → Pause attempt′ between′ i (world-in a) (place-in a) m → Attempts attempt′ between′ i last w p (a and-then (m and-then n)))
+      (same-attempt w p k) (λ c z. one-busy why l c z (attempts-same (y .1) rest)) b (y .0)
 
 module _ (registry script held : List ℕ) (binding bucket : ℕ) where
-  abbrev calling : World → ℕ → Made (World × Says)
+  abbrev pub calling : World → ℕ → Made (World × Says)
   calling w p = perform w (transactional registry script p held binding bucket)
 
-  abbrev waiting : World → ℕ → Made (World × Says)
+  abbrev pub waiting : World → ℕ → Made (World × Says)
   waiting w p = perform w (environment script p held)
 
   -- the checks of an attempt pass here
-  abbrev Fine-at : World → ℕ → Type 0
+  abbrev pub Fine-at : World → ℕ → Type 0
   Fine-at w p = Passes w (transactional registry script p held binding bucket)
 
   boundary-fine : (w : World) (p : ℕ) → Fine-at w p → Passes w (environment script p held)
@@ -208,12 +216,12 @@ module _ (registry script held : List ℕ) (binding bucket : ℕ) where
   waiting-is : (w : World) (p : ℕ) → Fine-at w p → waiting w p ≡ bounding script held w p
   waiting-is w p k = made w (environment-has script p held) (boundary-fine w p k)
 
-  calling-fine : (w : World) (p : ℕ) → Fine-at w p → Fine-at (world-in (calling w p)) (place-in (calling w p))
+  pub calling-fine : (w : World) (p : ℕ) → Fine-at w p → Fine-at (world-in (calling w p)) (place-in (calling w p))
   calling-fine w p k =
       let c = transactional registry script p held binding bucket in
       bucket-on held (call-kept w c .kept) registry script p (place-in (calling w p)) binding (place-goes w c (transactional-has registry script p held binding bucket) k .1) k
 
-  waiting-fine : (w : World) (p : ℕ) → Fine-at w p → Fine-at (world-in (waiting w p)) (place-in (waiting w p))
+  pub waiting-fine : (w : World) (p : ℕ) → Fine-at w p → Fine-at (world-in (waiting w p)) (place-in (waiting w p))
   waiting-fine w p k =
       let c = environment script p held in
       bucket-on held (call-kept w c .kept) registry script p (place-in (waiting w p)) binding (place-goes w c (environment-has script p held) (boundary-fine w p k) .1) k
@@ -223,9 +231,9 @@ module _ (registry script held : List ℕ) (binding bucket : ℕ) where
   Fine-after m = Fine-at (world-in m) (place-in m)
 
 pub bucket-attempts : Bucket-attempts perform
-bucket-attempts w registry script place held binding bucket fine =
+bucket-attempts w registry script place held binding bucket last fine =
     attempts-same (attempting registry script held binding bucket) (bounding script held) (calling registry script held binding bucket) (waiting registry script held binding bucket)
     (Fine-at registry script held binding bucket) (calling-is registry script held binding bucket) (waiting-is registry script held binding bucket)
     (λ v p k. subst (Fine-after registry script held binding bucket) (calling-is registry script held binding bucket v p k) (calling-fine registry script held binding bucket v p k))
     (λ v p k. subst (Fine-after registry script held binding bucket) (waiting-is registry script held binding bucket v p k) (waiting-fine registry script held binding bucket v p k))
-    fine (by-steps w registry script place held binding bucket fine)
+    fine (by-steps w registry script place held binding bucket last fine)

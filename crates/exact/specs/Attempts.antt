@@ -17,6 +17,8 @@ use Rattle.model.specs.declared.Answer.{Answer}
 use Rattle.model.specs.declared.Answer.the-variants.{Done, Refused, Busy, RefusedAt, Cell, Granted, AllGranted}
 use Rattle.model.specs.declared.Counts.{Counts}
 use Rattle.model.specs.declared.Lease.{Lease}
+use Rattle.model.specs.declared.Reason.{Reason}
+use Rattle.model.specs.declared.Reason.the-variants as reason
 use Rattle.model.specs.declared.Refusal.{Refusal}
 use Rattle.model.specs.declared.Refusal.the-variants.{Poisoned, SerializationFailure}
 use Rattle.history.specs.World.{World, caller-releases}
@@ -43,16 +45,17 @@ caller-takes (health-set i n ∷ es) = caller-takes es
 pub data Ends : Answer → (boundaries : ℕ) (taken released : List Lease) → Type 0 where
   -- 6, 7, 8: the key names no cell of a header that is healthy at the first reading
   no-cell : (r : Refusal) → 6 ≤ numberOf r → numberOf r ≤ 8 → Ends (Refused r) 0 [] []
-  -- "boundary; waiters not 0: Busy"
-  waited : Ends Busy 1 [] []
-  -- "boundary; try_acquire": held, damaged, or no serial
-  held : Ends Busy 2 [] []
+  -- "boundary; waiters not 0: Busy". Document 02, L1: "waiters seen before the compare-and-set"
+  waited : Ends (Busy reason.Before) 1 [] []
+  -- "boundary; try_acquire": held, damaged, or no serial. "held, with the owner's serial"
+  held : (s : ℕ) → Ends (Busy (reason.Held s)) 2 [] []
   not-takable : (r : Refusal) → 9 ≤ numberOf r → numberOf r ≤ 10 → Ends (Refused r) 2 [] []
   -- document 02, L3: "Read it again after the third boundary, before the waiters. If poisoned, release the lease and
   -- refuse with 7"
   poisoned : (l : Lease) (header : ℕ) → Ends (Refused (Poisoned header)) 3 (l ∷ []) (l ∷ [])
-  -- "boundary (protecting the new lease); waiters not 0: release it, Busy; else granted"
-  late : (l : Lease) → Ends Busy 3 (l ∷ []) (l ∷ [])
+  -- "boundary (protecting the new lease); waiters not 0: release it, Busy; else granted". "waiters seen after it. The last one also gives
+  -- the serial that was spent"
+  late : (l : Lease) → Ends (Busy (reason.After (l .serial))) 3 (l ∷ []) (l ∷ [])
   granted : (l : Lease) → Ends (Granted l) 3 (l ∷ []) []
 
 abbrev pub Ending : Made (World × Says) → Type 0
@@ -93,22 +96,40 @@ module _ (attempt between : World → (place : ℕ) → Made (World × Says)) wh
     only-spins : (i % 64 ≡ 63 → ⊥) → Pause i w p (spin w p)
     also-yields : i % 64 ≡ 63 → Pause i w p (yield w p and-then spin (world-in (yield w p)) (place-in (yield w p)))
 
-  -- attempts from number i on
-  pub data Attempts : (i : ℕ) (w : World) (p : ℕ) → Made (World × Says) → Type 0 where
-    -- "After 4,096: SerializationFailure."
-    all-busy : {w : World} {p : ℕ} → Attempts 4096 w p (record { seen = (w, says (Refused SerializationFailure) (countsOf 0 0 0 0) p []); log = [] })
+  -- attempts from number i on, `last` being the reason of the last Busy attempt before them. Document 02, L1: "Every call above passes the reason of
+  -- the last Busy attempt on"
+  pub data Attempts : (i : ℕ) (last : Reason) (w : World) (p : ℕ) → Made (World × Says) → Type 0 where
+    -- "After 4,096: SerializationFailure." "refusal 11 carries that reason"
+    all-busy : {last : Reason} {w : World} {p : ℕ} → Attempts 4096 last w p (record { seen = (w, says (Refused (SerializationFailure last)) (countsOf 0 0 0 0) p []); log = [] })
     -- an attempt that is not Busy is the last
-    the-last : {i : ℕ} {w : World} {p : ℕ} → i < 4096 → (answer-in (attempt w p) ≡ Busy → ⊥) → Attempts i w p (attempt w p)
-    one-busy : {i : ℕ} {w : World} {p : ℕ} {m n : Made (World × Says)} → i < 4096 → answer-in (attempt w p) ≡ Busy
-        → Pause i (world-in (attempt w p)) (place-in (attempt w p)) m → Attempts (i + 1) (world-in m) (place-in m) n
-        → Attempts i w p (attempt w p and-then (m and-then n))
+    the-last : {i : ℕ} {last : Reason} {w : World} {p : ℕ} → i < 4096 → ((why : Reason) → answer-in (attempt w p) ≡ Busy why → ⊥)
+        → Attempts i last w p (attempt w p)
+    one-busy : {i : ℕ} {last : Reason} {w : World} {p : ℕ} {m n : Made (World × Says)} (why : Reason) → i < 4096 → answer-in (attempt w p) ≡ Busy why
+        → Pause i (world-in (attempt w p)) (place-in (attempt w p)) m → Attempts (i + 1) why (world-in m) (place-in m) n
+        → Attempts i last w p (attempt w p and-then (m and-then n))
 
+-- whatever stands for the reason before the first attempt: it is never given
 abbrev pub Bucket-attempts : Build → Type 0
 Bucket-attempts f =
-    (w : World) (registry script : List ℕ) (place : ℕ) (held : List ℕ) (binding bucket : ℕ)
+    (w : World) (registry script : List ℕ) (place : ℕ) (held : List ℕ) (binding bucket : ℕ) (last : Reason)
     → let k = acquire-bucket registry script place held binding bucket in
     Passes w k
-    → Attempts (λ v p. f v (transactional registry script p held binding bucket)) (λ v p. f v (environment script p held)) 0 w place (f w k)
+    → Attempts (λ v p. f v (transactional registry script p held binding bucket)) (λ v p. f v (environment script p held)) 0 last w place (f w k)
+
+-- document 02, L1: "the reason of the last Busy attempt", and "refusal 11 carries that reason": attempts from number i on, a pause after each but the
+-- last, and the last, number 4,095, answers Busy with this reason
+module _ (attempt between : World → (place : ℕ) → Made (World × Says)) where
+  pub data Ends-busy : (i : ℕ) (w : World) (p : ℕ) (why : Reason) → Type 0 where
+    last-busy : {w : World} {p : ℕ} {why : Reason} → answer-in (attempt w p) ≡ Busy why → Ends-busy 4095 w p why
+    then-more : {i : ℕ} {w : World} {p : ℕ} {why : Reason} {m : Made (World × Says)} (this : Reason) → answer-in (attempt w p) ≡ Busy this
+        → Pause attempt between i (world-in (attempt w p)) (place-in (attempt w p)) m → Ends-busy (i + 1) (world-in m) (place-in m) why → Ends-busy i w p why
+
+abbrev pub Reason-of-last : Build → Type 0
+Reason-of-last f =
+    (w : World) (registry script : List ℕ) (place : ℕ) (held : List ℕ) (binding bucket : ℕ) (why : Reason)
+    → let k = acquire-bucket registry script place held binding bucket in
+    Passes w k → answer-in (f w k) ≡ Refused (SerializationFailure why)
+    → Ends-busy (λ v p. f v (transactional registry script p held binding bucket)) (λ v p. f v (environment script p held)) 0 w place why
 
 -- ---- multi-lock is `acquire_index_bucket` key by key, each holding what was taken before; and, refused, `drop_lease` and `environment` for each
 -- lease taken, the last first
@@ -175,12 +196,16 @@ unfoldable pub spins-in : List Event → ℕ
 spins-in [] = 0
 spins-in (e ∷ es) = is-spin e + spins-in es
 
+-- 11, for whatever reason
+abbrev pub Failed : Answer → Type 0
+Failed a = (why : Reason) × (a ≡ Refused (SerializationFailure why))
+
 pub record Retries (a : Answer) (attempts yields busy : ℕ) : Type 0 where
   pub yields-are : yields ≡ busy / 64
   -- 11: every attempt was Busy, and there were 4,096; any other answer: all but the last were, and there were at most 4,096
-  pub failed : (a ≡ Refused SerializationFailure) ↔ (busy ≡ 4096)
-  pub all-busy : a ≡ Refused SerializationFailure → attempts ≡ busy
-  pub last-not : (a ≡ Refused SerializationFailure → ⊥) → (attempts ≡ busy + 1) × (attempts ≤ 4096)
+  pub failed : Failed a ↔ (busy ≡ 4096)
+  pub all-busy : Failed a → attempts ≡ busy
+  pub last-not : (Failed a → ⊥) → (attempts ≡ busy + 1) × (attempts ≤ 4096)
 
 abbrev pub Bucket-retries : Build → Type 0
 Bucket-retries f =
@@ -198,14 +223,18 @@ pub data Some-4096 : List ℕ → Type 0 where
   this-key : {ns : List ℕ} → Some-4096 (4096 ∷ ns)
   a-later : {n : ℕ} {ns : List ℕ} → Some-4096 ns → Some-4096 (n ∷ ns)
 
+-- 11 at a key, for whatever reason
+abbrev pub Failed-at : Answer → Type 0
+Failed-at a = (why : Reason) × (p : ℕ) × (a ≡ RefusedAt (SerializationFailure why) p)
+
 pub record Keys-retried (keys : ℕ) (a : Answer) (yields busy : ℕ) : Type 0 where
   -- the Busy attempts of each key that was tried, in key order
   pub of-key : List ℕ
   pub few : length of-key ≤ keys
   pub busy-are : busy ≡ total of-key
   pub yields-are : yields ≡ total-64 of-key
-  pub failed : (p : ℕ) → a ≡ RefusedAt SerializationFailure p → Some-4096 of-key
-  pub fails : Some-4096 of-key → (p : ℕ) × (a ≡ RefusedAt SerializationFailure p)
+  pub failed : Failed-at a → Some-4096 of-key
+  pub fails : Some-4096 of-key → Failed-at a
 
 abbrev pub Locks-retry : Build → Type 0
 Locks-retry f =
@@ -233,7 +262,7 @@ rolled-back Done = 0
 rolled-back (Cell c) = 0
 rolled-back (Granted l) = 0
 rolled-back AllGranted = 0
-rolled-back Busy = 0
+rolled-back (Busy why) = 0
 rolled-back (Refused r) = 0
 rolled-back (RefusedAt r p) = p
 

@@ -11,12 +11,13 @@ use lib.Seq.{getD-append-add}
 use Rattle.model.specs.Log.{Made, spun, yielded}
 use Rattle.model.specs.Arena.{leasesOf, wordsOf}
 use Rattle.model.specs.Foreign.{flowOf}
-use Rattle.model.specs.Lock.{bindingAt, bucketAt}
+use Rattle.model.specs.Lock.{noneYet, bindingAt, bucketAt}
 use Rattle.model.specs.Calls.{countsOf, given, starting}
 use Rattle.model.specs.Crew.{total}
 use Rattle.model.specs.declared.Answer.{Answer}
 use Rattle.model.specs.declared.Answer.the-variants.{Done}
 use Rattle.model.specs.declared.Lease.{Lease}
+use Rattle.model.specs.declared.Reason.{Reason}
 use Rattle.laws.specs.Crew.{total-append}
 use Rattle.history.specs.World.{World}
 use Rattle.history.specs.Items.{Says, perform, acquire-bucket, drop-lease, environment}
@@ -66,7 +67,7 @@ adds-then m n a b =
 ends-few : {a : Answer} {n : ℕ} {ts rs : List Lease} → Ends a n ts rs → n ≤ 3
 ends-few (no-cell r i j) = omega arith
 ends-few waited = omega arith
-ends-few held = omega arith
+ends-few (held s) = omega arith
 ends-few (not-takable r i j) = omega arith
 ends-few (poisoned l h) = omega arith
 ends-few (late l) = omega arith
@@ -121,11 +122,11 @@ module _ (attempt between : World → ℕ → Made (World × Says)) (tries : (w 
       let y = yield attempt between w p in
       adds-then y (spin attempt between (y .seen .0) (y .seen .1 .place)) (yield-adds w p) (spin-adds (y .seen .0) (y .seen .1 .place))
 
-  attempts-add : {i : ℕ} {w : World} {p : ℕ} {m : Made (World × Says)} → Attempts attempt between i w p m → Adds 0 m
+  attempts-add : {i : ℕ} {last : Reason} {w : World} {p : ℕ} {m : Made (World × Says)} → Attempts attempt between i last w p m → Adds 0 m
   unfolding spins-in
   attempts-add all-busy = adds-none
   attempts-add {w = w} {p = p} (the-last l n) = attempt-adds (tries w p)
-  attempts-add {w = w} {p = p} (one-busy {m = m} {n = n} l b x rest) =
+  attempts-add {w = w} {p = p} (one-busy {m = m} {n = n} why l b x rest) =
       adds-then (attempt w p) (m and-then n) (attempt-adds (tries w p)) (adds-then m n (pause-adds x) (attempts-add rest))
 
 module _ (registry script words : List ℕ) (binding bucket : ℕ) where
@@ -148,7 +149,7 @@ boundary-counts script words w p =
 pub bucket-boundaries : Bucket-boundaries perform
 bucket-boundaries w registry script place words binding bucket fine =
     attempts-add (attempting registry script words binding bucket) (bounding script words) (attempt-counts registry script words binding bucket) (boundary-counts script words)
-    (by-steps w registry script place words binding bucket fine)
+    (by-steps w registry script place words binding bucket noneYet fine)
 
 -- ---- keys
 

@@ -13,6 +13,7 @@ use Rattle.model.specs.Checks.{notLive, badBindings, bucketRules, locksRules}
 use Rattle.model.specs.Calls.{countsOf}
 use Rattle.model.specs.declared.Answer.the-variants.{Granted, Refused, RefusedAt}
 use Rattle.model.specs.declared.Check.the-variants.{Fine}
+use Rattle.model.specs.declared.Reason.the-variants as reason
 use Rattle.model.specs.declared.Refusal.the-variants.{SerialsSpent, SerializationFailure}
 use Rattle.history.specs.World.{World, worldOf, step}
 use Rattle.history.specs.Items.{Call, Says, says, acquire-bucket, acquire-locks, keyCell, perform, rules}
@@ -23,7 +24,7 @@ use Rattle.exact.specs.QuietCalls.{named-row}
 
 -- ---- which row it is
 
-module _ {w : World} {place : ℕ} {waiting holding : Says} {c : ℕ} where
+module _ {w : World} {place : ℕ} {waiting : Says} {holding : ℕ → Says} {c : ℕ} where
   waited-row : {x : World × Says} → (Unwaited w c → ⊥) → Quietly w place waiting holding c x → x ≡ (w, waiting)
   waited-row n (at-waited m) = refl
   waited-row n (at-held u h) = absurd (n u)
@@ -31,7 +32,7 @@ module _ {w : World} {place : ℕ} {waiting holding : Says} {c : ℕ} where
   waited-row n (at-spent u f s) = absurd (n u)
   waited-row n (at-free u f s) = absurd (n u)
 
-  held-row : {x : World × Says} → Unwaited w c → Is-held w c → Quietly w place waiting holding c x → x ≡ (w, holding)
+  held-row : {x : World × Says} → Unwaited w c → Is-held w c → Quietly w place waiting holding c x → x ≡ (w, holding (ownerAt (w .table) c))
   held-row u h (at-waited m) = absurd (m u)
   held-row u h (at-held v k) = refl
   held-row u h (at-damaged v d) = absurd (d .1 h)
@@ -77,21 +78,22 @@ first-key =
     free-row refl (refl, refl) (omega arith) (named-row (omega arith, refl, omega arith)
     (acquire-bucket-quiet (arena 1 (replicate 24 0)) registry [] 0 [] 0 2 (passes (arena 1 (replicate 24 0)) (acquire-bucket registry [] 0 [] 0 2) refl) (omega arith)))
 
--- "Again, lease 1 held: refusal 11, boundaries 12,352, yields 64, next 2."
+-- "Again, lease 1 held: refusal 11, boundaries 12,352, yields 64, next 2." Document 02, L1: "Cases of document 01 that said Busy now name one of the
+-- three." Here: "held, with the owner's serial", which is 1
 abbrev taken : World
 taken = arena 2 (setCell (replicate 24 0) 2 1 1)
 
-pub again : perform taken (key 2 (2 ∷ 1 ∷ [])) .seen ≡ (taken, says (Refused SerializationFailure) (countsOf 4096 12352 64 0) 0 [])
+pub again : perform taken (key 2 (2 ∷ 1 ∷ [])) .seen ≡ (taken, says (Refused (SerializationFailure (reason.Held 1))) (countsOf 4096 12352 64 0) 0 [])
 unfolding bitAt ownerAt waitersAt setCell isFree isHeld stateOf stateAt isLive leasesOf headFits shapeFits healthFits registryFits first notLive bucketRules
 again =
     held-row refl (refl, omega arith, omega arith) (named-row (omega arith, refl, omega arith)
     (acquire-bucket-quiet taken registry [] 0 (2 ∷ 1 ∷ []) 0 2 (passes taken (acquire-bucket registry [] 0 (2 ∷ 1 ∷ []) 0 2) refl) (omega arith)))
 
--- "Waiters of cell 2 stay 1: 11, boundaries 8,256, yields 64, next 1."
+-- "Waiters of cell 2 stay 1: 11, boundaries 8,256, yields 64, next 1." The reason: "waiters seen before the compare-and-set"
 abbrev waited : World
 waited = arena 1 (setWaiters (replicate 24 0) 2 1)
 
-pub waiters-stay : perform waited (key 2 []) .seen ≡ (waited, says (Refused SerializationFailure) (countsOf 4096 8256 64 0) 0 [])
+pub waiters-stay : perform waited (key 2 []) .seen ≡ (waited, says (Refused (SerializationFailure reason.Before)) (countsOf 4096 8256 64 0) 0 [])
 unfolding waitersAt setWaiters leasesOf headFits shapeFits healthFits registryFits first notLive bucketRules
 waiters-stay =
     waited-row (λ e. absurd (omega (arith, e))) (named-row (omega arith, refl, omega arith)
@@ -108,13 +110,14 @@ none-remains =
 abbrev spent-held : World
 spent-held = arena 4_294_967_295 (setCell (replicate 24 0) 2 1 1)
 
-pub spent-and-held : perform spent-held (key 2 []) .seen ≡ (spent-held, says (Refused SerializationFailure) (countsOf 4096 12352 64 0) 0 [])
+pub spent-and-held : perform spent-held (key 2 []) .seen ≡ (spent-held, says (Refused (SerializationFailure (reason.Held 1))) (countsOf 4096 12352 64 0) 0 [])
 unfolding bitAt ownerAt waitersAt setCell leasesOf headFits shapeFits healthFits registryFits first notLive bucketRules
 spent-and-held =
     held-row refl (refl, omega arith, omega arith) (named-row (omega arith, refl, omega arith)
     (acquire-bucket-quiet spent-held registry [] 0 [] 0 2 (passes spent-held (acquire-bucket registry [] 0 [] 0 2) refl) (omega arith)))
 
--- "Keys (1,0),(2,0): 11 at position 1, attempts 4,097, boundaries 12,356, yields 64, next 2, all free."
+-- "Keys (1,0),(2,0): 11 at position 1, attempts 4,097, boundaries 12,356, yields 64, next 2, all free." The reason: held by serial 1, which this call
+-- took for its first key
 abbrev start : World
 start = arena 1 (replicate 24 0)
 
@@ -125,18 +128,18 @@ both-keys = 1 ∷ 0 ∷ 2 ∷ 0 ∷ []
 abbrev between : World
 between = arena 2 (setCell (replicate 24 0) 4 1 1)
 
-second-key : perform between (acquire-bucket registry [] 0 [] 2 0) .seen ≡ (between, says (Refused SerializationFailure) (countsOf 4096 12352 64 0) 0 [])
+second-key : perform between (acquire-bucket registry [] 0 [] 2 0) .seen ≡ (between, says (Refused (SerializationFailure (reason.Held 1))) (countsOf 4096 12352 64 0) 0 [])
 unfolding bitAt ownerAt waitersAt setCell leasesOf headFits shapeFits healthFits registryFits first notLive bucketRules
 second-key =
     held-row refl (refl, omega arith, omega arith) (named-row (omega arith, refl, omega arith)
     (acquire-bucket-quiet between registry [] 0 [] 2 0 (passes between (acquire-bucket registry [] 0 [] 2 0) refl) (omega arith)))
 
 pub one-cell-twice : perform start (acquire-locks registry [] 0 [] both-keys (9 ∷ 9 ∷ 9 ∷ 9 ∷ [])) .seen
-    ≡ (arena 2 (replicate 24 0), says (RefusedAt SerializationFailure 1) (countsOf 4097 12356 64 0) 0 (9 ∷ 9 ∷ 9 ∷ 9 ∷ []))
+    ≡ (arena 2 (replicate 24 0), says (RefusedAt (SerializationFailure (reason.Held 1)) 1) (countsOf 4097 12356 64 0) 0 (9 ∷ 9 ∷ 9 ∷ 9 ∷ []))
 unfolding bitAt ownerAt waitersAt leasesOf leases-from headFits shapeFits healthFits registryFits first notLive badBindings locksRules
 one-cell-twice =
     subst Row second-key
-    (locks-refused-quiet start registry [] 0 [] both-keys (9 ∷ 9 ∷ 9 ∷ 9 ∷ []) 1 SerializationFailure (passes start (acquire-locks registry [] 0 [] both-keys (9 ∷ 9 ∷ 9 ∷ 9 ∷ [])) refl) (omega arith) (omega arith)
+    (locks-refused-quiet start registry [] 0 [] both-keys (9 ∷ 9 ∷ 9 ∷ 9 ∷ []) 1 (SerializationFailure (reason.Held 1)) (passes start (acquire-locks registry [] 0 [] both-keys (9 ∷ 9 ∷ 9 ∷ 9 ∷ [])) refl) (omega arith) (omega arith)
     first-ready (λ p q i j _. omega arith) (omega arith)) refl
   where
     first-ready : (p : ℕ) → p < 1 → Names start registry (bindingAt both-keys p) (bucketAt both-keys p) × Unwaited start (keyCell 4 registry both-keys p) × Is-free start (keyCell 4 registry both-keys p)
@@ -145,6 +148,6 @@ one-cell-twice =
 
     Row : World × Says → Type 0
     Row o =
-        o .1 .answer ≡ Refused SerializationFailure
+        o .1 .answer ≡ Refused (SerializationFailure (reason.Held 1))
         → perform start (acquire-locks registry [] 0 [] both-keys (9 ∷ 9 ∷ 9 ∷ 9 ∷ [])) .seen
-        ≡ (arena 2 (replicate 24 0), says (RefusedAt SerializationFailure 1) (countsOf (1 + o .1 .counts .attempts) (4 * 1 + o .1 .counts .boundaries) (o .1 .counts .yields) 0) 0 (9 ∷ 9 ∷ 9 ∷ 9 ∷ []))
+        ≡ (arena 2 (replicate 24 0), says (RefusedAt (SerializationFailure (reason.Held 1)) 1) (countsOf (1 + o .1 .counts .attempts) (4 * 1 + o .1 .counts .boundaries) (o .1 .counts .yields) 0) 0 (9 ∷ 9 ∷ 9 ∷ 9 ∷ []))

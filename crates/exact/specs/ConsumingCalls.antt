@@ -8,7 +8,7 @@ use lib.Seq.{take-all}
 use Rattle.model.specs.Log.{Made}
 use Rattle.model.specs.Arena.{leasesOf}
 use Rattle.model.specs.Foreign.{flowOf}
-use Rattle.model.specs.Lock.{answerOf, settled, lockOf, attemptOf, retryOf, attemptLimit, locksOf}
+use Rattle.model.specs.Lock.{answerOf, settled, lockOf, attemptOf, retryOf, attemptLimit, noneYet, locksOf}
 use Rattle.model.specs.Checks.{countIn}
 use Rattle.model.specs.Calls.{given, starting}
 use Rattle.model.specs.declared.Answer.{Answer}
@@ -32,12 +32,12 @@ use Rattle.exact.specs.ConsumingSteps.{held-after, granted-after, bounda
 -- what an outcome adds is what its answer hands over
 outcome-handed : (ps : List Lease) (o : Outcome) (b : List ℕ) → held-after ps o ≡ ps ++ handed (answerOf o) b
 outcome-handed ps (outcome.Granted l) b = refl
-outcome-handed ps outcome.Busy b = sym (append-nil ps)
+outcome-handed ps (outcome.Busy why) b = sym (append-nil ps)
 outcome-handed ps (outcome.Refused r) b = sym (append-nil ps)
 
 settled-handed : (ps : List Lease) (o : Outcome) (b : List ℕ) → held-after ps o ≡ ps ++ handed (answerOf (settled o)) b
 settled-handed ps (outcome.Granted l) b = refl
-settled-handed ps outcome.Busy b = sym (append-nil ps)
+settled-handed ps (outcome.Busy why) b = sym (append-nil ps)
 settled-handed ps (outcome.Refused r) b = sym (append-nil ps)
 
 granted-handed : (ps : List Lease) (a : Answer) (b : List ℕ) → granted-after ps a b ≡ ps ++ handed a b
@@ -45,7 +45,7 @@ granted-handed ps Done b = sym (append-nil ps)
 granted-handed ps (Cell c) b = sym (append-nil ps)
 granted-handed ps (Granted l) b = refl
 granted-handed ps AllGranted b = refl
-granted-handed ps Busy b = sym (append-nil ps)
+granted-handed ps (Busy why) b = sym (append-nil ps)
 granted-handed ps (Refused r) b = sym (append-nil ps)
 granted-handed ps (RefusedAt r p) b = sym (append-nil ps)
 
@@ -70,9 +70,9 @@ steps-consumed w (transactional-has registry script place held binding bucket) =
     (attempt-consumed (w .head) script ps (w .head .buckets) registry binding bucket (starting (w .head) place) (w .table) (w .health))
 steps-consumed w (acquire-bucket-has registry script place held binding bucket) =
     let ps = leasesOf held in
-    let m = retryOf attemptLimit 0 (given (w .head) script ps) (w .head .buckets) registry binding bucket (starting (w .head) place) (w .table) (w .health) .seen in
+    let m = retryOf attemptLimit 0 noneYet (given (w .head) script ps) (w .head .buckets) registry binding bucket (starting (w .head) place) (w .table) (w .health) .seen in
     rw (append-nil ps, ← (settled-handed ps (m .0 .outcome) []))
-    (retry-consumed (w .head) script attemptLimit 0 ps (w .head .buckets) registry binding bucket (starting (w .head) place) (w .table) (w .health))
+    (retry-consumed (w .head) script attemptLimit 0 noneYet ps (w .head .buckets) registry binding bucket (starting (w .head) place) (w .table) (w .health))
 steps-consumed w (release-all-has script place leases) =
     let ls = leasesOf leases in
     rw (take-all (countIn leases) ls (omega (arith, leases-few leases)))

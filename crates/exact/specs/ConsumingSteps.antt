@@ -11,7 +11,7 @@ use borrow.Author.Tests.{eqb-true, eqb-false}
 use Rattle.model.specs.Log.{Made, Event, boundary-run}
 use Rattle.model.specs.Arena.{serialRemains, headerOf, isPoisoned, leaseOf, leasesOf, waitersAt, setCell, stateAt}
 use Rattle.model.specs.Foreign.{stepsIn, kindAt, placeAt, numberAt, flowOf, stepOf, runStepsOf, boundaryOf}
-use Rattle.model.specs.Lock.{takeIn, takeOf, lateOf, afterTake, secondOf, lockOf, outcomeOf, runOf, findOf, attemptAt, attemptOf, spinOf, pauseOf, isBusy, retryOf, attemptLimit, noLease, leaseAt, giveBackOf, Locks, rollbackOf, afterKey, bindingAt, bucketAt, locksOf}
+use Rattle.model.specs.Lock.{takeIn, takeOf, lateOf, afterTake, secondOf, lockOf, outcomeOf, runOf, findOf, attemptAt, attemptOf, spinOf, pauseOf, isBusy, retryOf, attemptLimit, noneYet, noLease, leaseAt, giveBackOf, Locks, rollbackOf, afterKey, bindingAt, bucketAt, locksOf}
 use Rattle.model.specs.Calls.{given}
 use Rattle.model.specs.declared.Answer.{Answer}
 use Rattle.model.specs.declared.Answer.the-variants.{Done, Cell, Granted, AllGranted, Busy, Refused, RefusedAt}
@@ -23,6 +23,7 @@ use Rattle.model.specs.declared.Lease.{Lease}
 use Rattle.model.specs.declared.Locked.{Locked}
 use Rattle.model.specs.declared.Outcome.{Outcome}
 use Rattle.model.specs.declared.Outcome.the-variants as outcome
+use Rattle.model.specs.declared.Reason.{Reason}
 use Rattle.model.specs.declared.Refusal.{Refusal}
 use Rattle.model.specs.declared.Refusal.the-variants.{SerializationFailure}
 use Rattle.model.specs.declared.Run.{Run}
@@ -47,7 +48,7 @@ Any w e = Unit {0}
 -- what an outcome adds to the protected leases
 abbrev pub held-after : List Lease → Outcome → List Lease
 held-after ps (outcome.Granted l) = ps ++ (l ∷ [])
-held-after ps outcome.Busy = ps
+held-after ps (outcome.Busy why) = ps
 held-after ps (outcome.Refused r) = ps
 
 -- what multi-lock holds afterwards
@@ -56,7 +57,7 @@ granted-after ps Done b = ps
 granted-after ps (Cell c) b = ps
 granted-after ps (Granted l) b = ps ++ (l ∷ [])
 granted-after ps AllGranted b = ps ++ leasesOf b
-granted-after ps Busy b = ps
+granted-after ps (Busy why) b = ps
 granted-after ps (Refused r) b = ps
 granted-after ps (RefusedAt r p) b = ps
 
@@ -108,7 +109,7 @@ module _ (h : Head) (script : List ℕ) where
   after-consumed : (ps : List Lease) (buckets : ℕ) (a : Take) (f : Flow) (t g : List ℕ) (c : ℕ)
       → Locking (held-after ps (outcomeOf c a)) ps f t g (afterTake a (given h script ps) buckets f t g c)
   after-consumed ps buckets (taking.Granted s) f t g c = late-consumed ps buckets f t g c s
-  after-consumed ps buckets taking.Busy f t g c = at-rest
+  after-consumed ps buckets (taking.Busy owner) f t g c = at-rest
   after-consumed ps buckets taking.Damaged f t g c = at-rest
   after-consumed ps buckets taking.Spent f t g c = at-rest
 
@@ -174,14 +175,14 @@ module _ (h : Head) (script : List ℕ) where
   -- a Busy outcome adds nothing
   none-held : (ps : List Lease) (o : Outcome) → isBusy o ≡ true → held-after ps o ≡ ps
   none-held ps (outcome.Granted l) e = absurd (differ e)
-  none-held ps outcome.Busy e = refl
+  none-held ps (outcome.Busy why) e = refl
   none-held ps (outcome.Refused r) e = absurd (differ e)
 
-  pub retry-consumed : (left i : ℕ) (ps : List Lease) (buckets : ℕ) (registry : List ℕ) (binding bucket : ℕ) (r : Run) (t g : List ℕ)
-      → Trying ps r t g (retryOf left i (given h script ps) buckets registry binding bucket r t g)
+  pub retry-consumed : (left i : ℕ) (last : Reason) (ps : List Lease) (buckets : ℕ) (registry : List ℕ) (binding bucket : ℕ) (r : Run) (t g : List ℕ)
+      → Trying ps r t g (retryOf left i last (given h script ps) buckets registry binding bucket r t g)
   unfolding retryOf
-  retry-consumed zero i ps buckets registry binding bucket r t g = at-rest
-  retry-consumed (suc left) i ps buckets registry binding bucket r t g =
+  retry-consumed zero i last ps buckets registry binding bucket r t g = at-rest
+  retry-consumed (suc left) i last ps buckets registry binding bucket r t g =
       let m = attemptOf (given h script ps) buckets registry binding bucket r t g .seen in
       let p = pauseOf (given h script ps) i (m .0 .run) (m .1 .0) (m .1 .1) .seen in
       let qs = held-after ps (m .0 .outcome) in
@@ -189,7 +190,7 @@ module _ (h : Head) (script : List ℕ) where
       (if-cases (λ (x : Made (With Tried)). Goes qs (m .0 .run .flow) (m .1 .0) (m .1 .1) (held-after ps (x .seen .0 .outcome)) (x .seen .0 .run .flow) (of-tried h (x .seen)) (x .log))
       (isBusy (m .0 .outcome))
       (λ b. rw (none-held ps (m .0 .outcome) b)
-      (follow (pause-consumed ps i (m .0 .run) (m .1 .0) (m .1 .1)) (retry-consumed left (i + 1) ps buckets registry binding bucket (p .0) (p .1 .0) (p .1 .1))))
+      (follow (pause-consumed ps i (m .0 .run) (m .1 .0) (m .1 .1)) (retry-consumed left (i + 1) _ ps buckets registry binding bucket (p .0) (p .1 .0) (p .1 .1))))
       (λ _. at-rest))
 
   -- ---- giving back, and multi-lock
@@ -224,13 +225,13 @@ module _ (h : Head) (script : List ℕ) where
     unfolding locksOf
     locks-consumed zero p taken r t g = rw (leases-words taken) at-rest
     locks-consumed (suc left) p taken r t g =
-        let m = retryOf attemptLimit 0 (given h script (ps ++ taken)) buckets registry (bindingAt keys p) (bucketAt keys p) r t g .seen in
-        follow (retry-consumed attemptLimit 0 (ps ++ taken) buckets registry (bindingAt keys p) (bucketAt keys p) r t g)
+        let m = retryOf attemptLimit 0 noneYet (given h script (ps ++ taken)) buckets registry (bindingAt keys p) (bucketAt keys p) r t g .seen in
+        follow (retry-consumed attemptLimit 0 noneYet (ps ++ taken) buckets registry (bindingAt keys p) (bucketAt keys p) r t g)
         (go (m .0 .run) (m .1 .0) (m .1 .1) (m .0 .outcome) (λ l. locksOf left (p + 1) (given h script ps) buckets registry keys (taken ++ (l ∷ [])) (m .0 .run) (m .1 .0) (m .1 .1) grants)
         (λ l. locks-consumed left (p + 1) (taken ++ (l ∷ [])) (m .0 .run) (m .1 .0) (m .1 .1)))
       where
         go : (k : Run) (u w : List ℕ) (o : Outcome) (more : Lease → Made Locks) → ((l : Lease) → Ending (ps ++ (taken ++ (l ∷ []))) ps k u w (more l))
             → Ending (held-after (ps ++ taken) o) ps k u w (afterKey o (given h script ps) taken p k u w grants more)
         go k u w (outcome.Granted l) more y = rw (append-assoc ps taken (l ∷ [])) (y l)
-        go k u w outcome.Busy more y = rollback-consumed taken SerializationFailure p k u w
+        go k u w (outcome.Busy why) more y = rollback-consumed taken (SerializationFailure why) p k u w
         go k u w (outcome.Refused x) more y = rollback-consumed taken x p k u w

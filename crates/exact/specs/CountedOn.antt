@@ -11,7 +11,7 @@ use Rattle.choice.specs.Choice.{if_then_else_}
 use Rattle.model.specs.Log.{Made, Event, by-caller, attempt-begun, yielded, released}
 use Rattle.model.specs.Arena.{headerOf, isPoisoned, leaseOf, setCell, waitersAt}
 use Rattle.model.specs.Foreign.{Setting, protecting, stepsIn, kindAt, placeAt, numberAt, flowOf, stepOf, runStepsOf, boundaryOf}
-use Rattle.model.specs.Lock.{takeOf, lockedOf, lateOf, afterTake, secondOf, lockOf, runOf, triedOf, findOf, attemptAt, attemptOf, spinOf, pauseOf, isBusy, retryOf, attemptLimit, leaseAt, giveBackOf, Locks, endedOf, rollbackOf, afterKey, bindingAt, bucketAt, locksOf}
+use Rattle.model.specs.Lock.{takeOf, lockedOf, lateOf, afterTake, secondOf, lockOf, runOf, triedOf, findOf, attemptAt, attemptOf, spinOf, pauseOf, isBusy, retryOf, attemptLimit, noneYet, leaseAt, giveBackOf, Locks, endedOf, rollbackOf, afterKey, bindingAt, bucketAt, locksOf}
 use Rattle.model.specs.declared.Counts.{Counts}
 use Rattle.model.specs.declared.Flow.{Flow}
 use Rattle.model.specs.declared.Found.{Found}
@@ -20,6 +20,7 @@ use Rattle.model.specs.declared.Lease.{Lease}
 use Rattle.model.specs.declared.Locked.{Locked}
 use Rattle.model.specs.declared.Outcome.{Outcome}
 use Rattle.model.specs.declared.Outcome.the-variants as outcome
+use Rattle.model.specs.declared.Reason.{Reason}
 use Rattle.model.specs.declared.Refusal.{Refusal}
 use Rattle.model.specs.declared.Refusal.the-variants.{SerializationFailure}
 use Rattle.model.specs.declared.Run.{Run}
@@ -98,7 +99,7 @@ module _ (d : ℕ) where
   after-on : (a : Take) (e : Setting) (buckets : ℕ) (f : Flow) (t g : List ℕ) (c : ℕ)
       → afterTake a e buckets (on-flow d f) t g c ≡ lock-on d (afterTake a e buckets f t g c)
   after-on (taking.Granted s) e buckets f t g c = late-on e buckets f t g c s
-  after-on taking.Busy e buckets f t g c = refl
+  after-on (taking.Busy owner) e buckets f t g c = refl
   after-on taking.Damaged e buckets f t g c = refl
   after-on taking.Spent e buckets f t g c = refl
 
@@ -151,16 +152,16 @@ module _ (k : Counts) (e : Setting) where
       (spin-on r t g))
 
   module _ (buckets : ℕ) (registry : List ℕ) (binding bucket : ℕ) where
-    pub retry-on : (left i : ℕ) (r : Run) (t g : List ℕ)
-        → retryOf left i e buckets registry binding bucket (on-run k r) t g ≡ tried-on k (retryOf left i e buckets registry binding bucket r t g)
+    pub retry-on : (left i : ℕ) (last : Reason) (r : Run) (t g : List ℕ)
+        → retryOf left i last e buckets registry binding bucket (on-run k r) t g ≡ tried-on k (retryOf left i last e buckets registry binding bucket r t g)
     unfolding retryOf
-    retry-on zero i r t g = refl
-    retry-on (suc left) i r t g =
+    retry-on zero i last r t g = refl
+    retry-on (suc left) i last r t g =
         let a = attemptOf e buckets registry binding bucket r t g in
         let b = pauseOf e i (a .seen .0 .run) (a .seen .1 .0) (a .seen .1 .1) in
         rw (attempt-on buckets registry binding bucket r t g)
         (ap (after (a .log)) (if-on (λ (m : With Tried). (triedOf (on-run k (m .0 .run)) (m .0 .outcome), m .1)) (isBusy (a .seen .0 .outcome))
-        (rw (pause-on i (a .seen .0 .run) (a .seen .1 .0) (a .seen .1 .1)) (ap (after (b .log)) (retry-on left (i + 1) (b .seen .0) (b .seen .1 .0) (b .seen .1 .1))))
+        (rw (pause-on i (a .seen .0 .run) (a .seen .1 .0) (a .seen .1 .1)) (ap (after (b .log)) (retry-on left (i + 1) _ (b .seen .0) (b .seen .1 .0) (b .seen .1 .1))))
         refl))
 
 -- ---- giving back, and multi-lock
@@ -190,10 +191,10 @@ module _ (k : Counts) (e : Setting) where
   unfolding locksOf
   keys-on zero p buckets registry keys taken r t g grants = refl
   keys-on (suc left) p buckets registry keys taken r t g grants =
-      let m = retryOf attemptLimit 0 (protecting e taken) buckets registry (bindingAt keys p) (bucketAt keys p) r t g in
+      let m = retryOf attemptLimit 0 noneYet (protecting e taken) buckets registry (bindingAt keys p) (bucketAt keys p) r t g in
       let u = m .seen .1 .0 in
       let v = m .seen .1 .1 in
-      rw (retry-on k (protecting e taken) buckets registry (bindingAt keys p) (bucketAt keys p) attemptLimit 0 r t g)
+      rw (retry-on k (protecting e taken) buckets registry (bindingAt keys p) (bucketAt keys p) attemptLimit 0 noneYet r t g)
       (ap (after (m .log)) (go (m .seen .0 .outcome) (m .seen .0 .run) u v
       (λ l. keys-on left (p + 1) buckets registry keys (taken ++ (l ∷ [])) (m .seen .0 .run) u v grants)))
     where
@@ -203,5 +204,5 @@ module _ (k : Counts) (e : Setting) where
           → afterKey o e taken p (on-run k s) u v grants (λ l. locksOf left (p + 1) e buckets registry keys (taken ++ (l ∷ [])) (on-run k s) u v grants)
           ≡ locks-on k (afterKey o e taken p s u v grants (λ l. locksOf left (p + 1) e buckets registry keys (taken ++ (l ∷ [])) s u v grants))
       go (outcome.Granted l) s u v more = more l
-      go outcome.Busy s u v more = rollback-on taken SerializationFailure p s u v grants
+      go (outcome.Busy why) s u v more = rollback-on taken (SerializationFailure why) p s u v grants
       go (outcome.Refused x) s u v more = rollback-on taken x p s u v grants

@@ -78,7 +78,7 @@ module _ (e : Setting) (buckets : ℕ) where
       Locks-so (record { seen = m .seen; log = k .log ++ m .log })
   unfolding caller-takes caller-releases
   take-ends state.Damaged n place dropped t g c = not-takable (Damaged c) (omega arith) (omega arith)
-  take-ends (state.Held o) n place dropped t g c = held
+  take-ends (state.Held o) n place dropped t g c = held o
   take-ends state.Free n place dropped t g c =
       if-both (λ (k : Made (Took × List ℕ)). let m = afterTake (k .seen .0 .answer) e buckets (flowOf (k .seen .0 .next) place dropped) (k .seen .1) g c in Locks-so (record { seen = m .seen; log = k .log ++ m .log }))
       (serialRemains n) (late-ends _ _ _ c n) (not-takable (SerialsSpent c) (omega arith) (omega arith))

@@ -13,7 +13,7 @@ use borrow.Author.Tests.{ltb-false, not-false}
 use Rattle.model.specs.Log.{Made, Event, by-caller, released}
 use Rattle.model.specs.Arena.{leasesOf, wordsOf, setCell}
 use Rattle.model.specs.Foreign.{Setting, protecting, stepsIn, flowOf, boundaryOf}
-use Rattle.model.specs.Lock.{noLease, leaseAt, attemptLimit, retryOf, giveBackOf, Locks, endedOf, rollbackOf, afterKey, bindingAt, bucketAt, locksOf, settled, answerOf, runOf}
+use Rattle.model.specs.Lock.{noLease, leaseAt, attemptLimit, noneYet, retryOf, giveBackOf, Locks, endedOf, rollbackOf, afterKey, bindingAt, bucketAt, locksOf, settled, answerOf, runOf}
 use Rattle.model.specs.Checks.{countIn, isOdd, locksRules, leaseRules, notLive}
 use Rattle.model.specs.Calls.{countsOf, given}
 use Rattle.model.specs.declared.Answer.the-variants.{Done, Granted, Refused, RefusedAt}
@@ -247,7 +247,7 @@ module _ (h : Head) (registry script held keys grants : List ℕ) where
         subst (λ (k : Made Locks). Goes p taken w place (then-locks m k))
         (sym (keys-from e left (p + 1) (h .buckets) registry keys (taken ++ (l ∷ [])) (m .seen .0 .run) (m .seen .1 .0) (m .seen .1 .1) grants))
         (locked-as l b fine is (ap (λ (z : Outcome). answerOf (settled z)) q) (on l x i))
-    after-key left o q none-yet on = rolls-back SerializationFailure (ap (λ (z : Outcome). answerOf (settled z)) q)
+    after-key left o q (none-yet {why = why}) on = rolls-back (SerializationFailure why) (ap (λ (z : Outcome). answerOf (settled z)) q)
     after-key left o q (no-more r) on = rolls-back r (ap (λ (z : Outcome). answerOf (settled z)) q)
 
   locks-are : {first : ℕ} → Older first → (left p n place : ℕ) (t g : List ℕ) (taken : List Lease) → p + left ≡ countIn keys → length taken ≡ p → first ≤ n
@@ -258,16 +258,16 @@ module _ (h : Head) (registry script held keys grants : List ℕ) where
   locks-are {first} old (suc left) p n place t g taken l k f st =
       let v = worldAt h n t g in
       let b : p < countIn keys = omega arith in
-      let m = retryOf attemptLimit 0 (protecting e taken) (h .buckets) registry (bindingAt keys p) (bucketAt keys p) (nil n place) t g in
+      let m = retryOf attemptLimit 0 noneYet (protecting e taken) (h .buckets) registry (bindingAt keys p) (bucketAt keys p) (nil n place) t g in
       let s = m .seen .0 .run .flow in
-      let kept = retry-kept h script attemptLimit 0 (leasesOf held ++ taken) registry (bindingAt keys p) (bucketAt keys p) (nil n place) t g (shape-stands st) in
+      let kept = retry-kept h script attemptLimit 0 noneYet (leasesOf held ++ taken) registry (bindingAt keys p) (bucketAt keys p) (nil n place) t g (shape-stands st) in
       let call = acquire-bucket registry script place (held ++ wordsOf taken) (bindingAt keys p) (bucketAt keys p) in
       let has = acquire-bucket-has registry script place (held ++ wordsOf taken) (bindingAt keys p) (bucketAt keys p) in
       let fine : Passes v call =
       subst (λ (ls : List Lease). Passes v (acquire-bucket registry script place (held ++ wordsOf ls) (bindingAt keys p) (bucketAt keys p))) (take-length taken) (key-fine st p b) in
       let is : locks-it p taken v place ≡ at-last h m =
       made v has fine
-      ∙ ap (λ (ps : List Lease). at-last h (retryOf attemptLimit 0 (given h script ps) (h .buckets) registry (bindingAt keys p) (bucketAt keys p) (nil n place) t g))
+      ∙ ap (λ (ps : List Lease). at-last h (retryOf attemptLimit 0 noneYet (given h script ps) (h .buckets) registry (bindingAt keys p) (bucketAt keys p) (nil n place) t g))
       (leases-append held taken (two-words st)) in
       let within = subst (λ (x : Made (World × Says)). place-in x ≤ stepsIn script) is (place-goes v call has fine .1) in
       let still : (i : ℕ) → i < length taken → Live (of-tried h (m .seen)) (leaseAt taken i) = λ i j.

@@ -19,6 +19,7 @@ pub mod Retried
 pub mod CountedOn
 pub mod Ending
 pub mod Attempting
+pub mod LastReason
 pub mod KeyByKey
 pub mod Boundaries
 pub mod Bits

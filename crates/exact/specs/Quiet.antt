@@ -19,6 +19,8 @@ use Rattle.model.specs.Lock.{takeIn, takeOf, lockedOf, lateOf, afterTake, secon
 use Rattle.model.specs.declared.Flow.{Flow}
 use Rattle.model.specs.declared.Locked.{Locked}
 use Rattle.model.specs.declared.Outcome.the-variants as outcome
+use Rattle.model.specs.declared.Reason.{Reason}
+use Rattle.model.specs.declared.Reason.the-variants as reason
 use Rattle.model.specs.declared.Run.{Run}
 use Rattle.model.specs.declared.State.{State}
 use Rattle.model.specs.declared.Refusal.the-variants as refusal
@@ -55,8 +57,9 @@ taken-back t c s b o =
 
 -- what one quiet try_lock of cell c comes to: six rows
 pub data Quiet-lock (buckets : ℕ) (f : Flow) (t g : List ℕ) (c : ℕ) : With Locked → Type 0 where
-  was-waited : (waitersAt t c ≡ 0 → ⊥) → Quiet-lock buckets f t g c (lockedOf f 1 outcome.Busy, (t, g))
-  was-held : waitersAt t c ≡ 0 → bitAt t c ≡ 1 → 1 ≤ ownerAt t c → ownerAt t c < f .next → Quiet-lock buckets f t g c (lockedOf f 2 outcome.Busy, (t, g))
+  was-waited : (waitersAt t c ≡ 0 → ⊥) → Quiet-lock buckets f t g c (lockedOf f 1 (outcome.Busy reason.Before), (t, g))
+  was-held : waitersAt t c ≡ 0 → bitAt t c ≡ 1 → 1 ≤ ownerAt t c → ownerAt t c < f .next
+      → Quiet-lock buckets f t g c (lockedOf f 2 (outcome.Busy (reason.Held (ownerAt t c))), (t, g))
   was-damaged : waitersAt t c ≡ 0 → (bitAt t c ≡ 0 → ownerAt t c ≡ 0 → ⊥) → (bitAt t c ≡ 1 → 1 ≤ ownerAt t c → ownerAt t c < f .next → ⊥)
       → Quiet-lock buckets f t g c (lockedOf f 2 (outcome.Refused (refusal.Damaged c)), (t, g))
   was-spent : waitersAt t c ≡ 0 → bitAt t c ≡ 0 → ownerAt t c ≡ 0 → lastSerial ≤ f .next
@@ -146,14 +149,14 @@ module _ (e : Setting) (f : Flow) (t g : List ℕ) (quiet : stepsIn (e .script) 
       go true m o p q = p
       go false m o p q = q
 
-  -- attempts that are all Busy, with b boundaries each, and change nothing: each has a boundary for its spin too, and each yield one more
-  module _ (buckets : ℕ) (registry : List ℕ) (binding bucket b : ℕ)
-      (busy : (a x y : ℕ) → attemptOf e buckets registry binding bucket (runOf f a x y) t g .seen ≡ (triedOf (runOf f (a + 1) (x + b) y) outcome.Busy, (t, g))) where
+  -- attempts that are all Busy for one reason, with b boundaries each, and change nothing: each has a boundary for its spin too, and each yield one more
+  module _ (buckets : ℕ) (registry : List ℕ) (binding bucket b : ℕ) (why : Reason)
+      (busy : (a x y : ℕ) → attemptOf e buckets registry binding bucket (runOf f a x y) t g .seen ≡ (triedOf (runOf f (a + 1) (x + b) y) (outcome.Busy why), (t, g))) where
     pub busy-retry : (left i a x y : ℕ)
-        → retryOf left i e buckets registry binding bucket (runOf f a x y) t g .seen
-        ≡ (triedOf (runOf f (a + left) (x + left * (b + 1) + yieldsIn left i) (y + yieldsIn left i)) outcome.Busy, (t, g))
+        → retryOf left i why e buckets registry binding bucket (runOf f a x y) t g .seen
+        ≡ (triedOf (runOf f (a + left) (x + left * (b + 1) + yieldsIn left i) (y + yieldsIn left i)) (outcome.Busy why), (t, g))
     unfolding retryOf yieldsIn
-    busy-retry zero i a x y = ap (λ (r : Run). (triedOf r outcome.Busy, (t, g))) (same-run (omega arith) (omega (arith, zero-mul (b + 1))) (omega arith))
+    busy-retry zero i a x y = ap (λ (r : Run). (triedOf r (outcome.Busy why), (t, g))) (same-run (omega arith) (omega (arith, zero-mul (b + 1))) (omega arith))
     busy-retry (suc left) i a x y =
         rw (busy a x y, pause-quiet i (a + 1) (x + b) y, busy-retry left (i + 1) (a + 1) (x + b + 1 + one (eqb (i % 64) 63)) (y + one (eqb (i % 64) 63)))
-        (ap (λ (r : Run). (triedOf r outcome.Busy, (t, g))) (same-run (omega arith) (omega (arith, suc-mul left (b + 1))) (omega arith)))
+        (ap (λ (r : Run). (triedOf r (outcome.Busy why), (t, g))) (same-run (omega arith) (omega (arith, suc-mul left (b + 1))) (omega arith)))

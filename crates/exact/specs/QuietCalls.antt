@@ -10,9 +10,9 @@ use native.Mathlib.Omega.{arith}
 use lib.Dec.{leb}
 use lib.ListN.{getD}
 use borrow.Author.Tests.{leb-true, leb-false, eqb-true, eqb-false, not-true, not-false}
-use Rattle.model.specs.Arena.{spentTo, headerOf, isPoisoned, leasesOf}
+use Rattle.model.specs.Arena.{spentTo, headerOf, isPoisoned, leasesOf, ownerAt}
 use Rattle.model.specs.Foreign.{Setting, stepsIn, flowOf}
-use Rattle.model.specs.Lock.{lockedOf, lockOf, answerOf, settled, runOf, triedOf, findOf, attemptAt, attemptOf, isBusy, retryOf}
+use Rattle.model.specs.Lock.{lockedOf, lockOf, answerOf, settled, runOf, triedOf, findOf, attemptAt, attemptOf, isBusy, noneYet, retryOf}
 use Rattle.model.specs.Calls.{countsOf, given, starting}
 use Rattle.model.specs.declared.Answer.{Answer}
 use Rattle.model.specs.declared.Answer.the-variants.{Granted, Busy, Refused}
@@ -22,10 +22,13 @@ use Rattle.model.specs.declared.Found.the-variants as found
 use Rattle.model.specs.declared.Lease.{Lease}
 use Rattle.model.specs.declared.Locked.{Locked}
 use Rattle.model.specs.declared.Outcome.the-variants as outcome
+use Rattle.model.specs.declared.Reason.{Reason}
+use Rattle.model.specs.declared.Reason.the-variants as reason
 use Rattle.model.specs.declared.Refusal.the-variants.{BadHeader, Poisoned, InvalidBucket, Damaged, SerialsSpent, SerializationFailure}
 use Rattle.model.specs.declared.Run.{Run}
 use Rattle.model.specs.declared.Tried.{Tried}
 use Rattle.laws.specs.Keys.{header-of-key}
+use Rattle.laws.specs.Outcomes.{retry-first}
 use Rattle.history.specs.World.{World, worldOf, Healthy}
 use Rattle.history.specs.Items.{Says, says, perform, cellOf}
 use Rattle.history.specs.Tests.{if-cases}
@@ -47,7 +50,7 @@ after a x y k = (triedOf (runOf (k .0 .flow) (a + 1) (x + k .0 .boundaries) y) (
 
 -- what one quiet try_lock says
 abbrev Row-of : World → ℕ → ℕ → World × Says → Type 0
-Row-of w place c = Quietly w place (busy-after place 1) (busy-after place 2) c
+Row-of w place c = Quietly w place (busy-after reason.Before place 1) (λ s. busy-after (reason.Held s) place 2) c
 
 lock-row : (w : World) (place c : ℕ) {m : With Locked} → Quiet-lock (w .head .buckets) (flowOf (w .head .next) place 0) (w .table) (w .health) c m
     → By-cell w c place (Row-of w place c) (said w (after 0 0 0 m))
@@ -107,7 +110,7 @@ transactional-quiet w registry script place held binding bucket fine end =
     (go (keyed (w .head .headers) (w .head .buckets) (w .health) registry binding bucket))
   where
     Row : ℕ → World × Says → Type 0
-    Row = Quietly w place (busy-after place 1) (busy-after place 2)
+    Row = Quietly w place (busy-after reason.Before place 1) (λ s. busy-after (reason.Held s) place 2)
 
     go : {x : Found} → Keyed (w .head .headers) (w .head .buckets) (w .health) registry binding bucket x
         → By-key w registry binding bucket place Row (said w (attemptAt x (given (w .head) script (leasesOf held)) (w .head .buckets) (starting (w .head) place) (w .table) (w .health) .seen))
@@ -122,10 +125,10 @@ transactional-quiet w registry script place held binding bucket fine end =
 
 -- an attempt that is not Busy ends the retry
 module _ (e : Setting) (buckets : ℕ) (registry : List ℕ) (binding bucket : ℕ) (r : Run) (t g : List ℕ) where
-  pub retry-stops : (left i : ℕ) → isBusy (attemptOf e buckets registry binding bucket r t g .seen .0 .outcome) ≡ false
-      → retryOf (suc left) i e buckets registry binding bucket r t g .seen ≡ attemptOf e buckets registry binding bucket r t g .seen
+  pub retry-stops : (left i : ℕ) (last : Reason) → isBusy (attemptOf e buckets registry binding bucket r t g .seen .0 .outcome) ≡ false
+      → retryOf (suc left) i last e buckets registry binding bucket r t g .seen ≡ attemptOf e buckets registry binding bucket r t g .seen
   unfolding retryOf
-  retry-stops left i n = rw n
+  retry-stops left i last n = rw n
 
   pub attempt-as : {x : Found} → findOf (e .headers) buckets g registry binding bucket ≡ x
       → attemptOf e buckets registry binding bucket r t g .seen ≡ attemptAt x e buckets r t g .seen
@@ -150,10 +153,10 @@ module _ (w : World) (registry script : List ℕ) (place : ℕ) (held : List ℕ
   found-is = findOf (w .head .headers) (w .head .buckets) (w .health) registry binding bucket
 
   abbrev retried : With Tried
-  retried = retryOf 4096 0 around (w .head .buckets) registry binding bucket (runOf from 0 0 0) (w .table) (w .health) .seen
+  retried = retryOf 4096 0 noneYet around (w .head .buckets) registry binding bucket (runOf from 0 0 0) (w .table) (w .health) .seen
 
   abbrev Row : ℕ → World × Says → Type 0
-  Row = Quietly w place (failed-after place 8256) (failed-after place 12352)
+  Row = Quietly w place (failed-after reason.Before place 8256) (λ s. failed-after (reason.Held s) place 12352)
 
   abbrev Fits : With Tried → Type 0
   Fits m = By-key w registry binding bucket place Row (said-at-last w m)
@@ -162,20 +165,21 @@ module _ (w : World) (registry script : List ℕ) (place : ℕ) (held : List ℕ
       → Fits (attemptAt x around (w .head .buckets) (runOf from 0 0 0) (w .table) (w .health) .seen) → Fits retried
   stop {x} q n y =
       let k = attempt-as around (w .head .buckets) registry binding bucket (runOf from 0 0 0) (w .table) (w .health) q in
-      subst Fits (sym (retry-stops around (w .head .buckets) registry binding bucket (runOf from 0 0 0) (w .table) (w .health) 4095 0 (rw k n) ∙ k)) y
+      subst Fits (sym (retry-stops around (w .head .buckets) registry binding bucket (runOf from 0 0 0) (w .table) (w .health) 4095 0 noneYet (rw k n) ∙ k)) y
 
   module _ (c : ℕ) (q : found-is ≡ found.At c) where
-    -- Busy again and again, with b boundaries each
-    again : (b : ℕ) → lockOf around (w .head .buckets) from (w .table) (w .health) c .seen ≡ (lockedOf from b outcome.Busy, (w .table, w .health))
-        → Fits (triedOf (runOf from 4096 (4096 * (b + 1) + 64) 64) outcome.Busy, (w .table, w .health)) → Fits retried
-    again b l y =
-        subst Fits (sym (busy-retry around from (w .table) (w .health) end (w .head .buckets) registry binding bucket b
+    -- Busy again and again for one reason, with b boundaries each
+    again : (b : ℕ) (why : Reason) → lockOf around (w .head .buckets) from (w .table) (w .health) c .seen ≡ (lockedOf from b (outcome.Busy why), (w .table, w .health))
+        → Fits (triedOf (runOf from 4096 (4096 * (b + 1) + 64) 64) (outcome.Busy why), (w .table, w .health)) → Fits retried
+    again b why l y =
+        subst Fits (sym (ap (λ m. m .seen) (retry-first 4095 0 noneYet why around (w .head .buckets) registry binding bucket (runOf from 0 0 0) (w .table) (w .health))
+        ∙ busy-retry around from (w .table) (w .health) end (w .head .buckets) registry binding bucket b why
         (λ a x y. attempt-as around (w .head .buckets) registry binding bucket (runOf from a x y) (w .table) (w .health) q ∙ rw l) 4096 0 0 0 0)) (rw (sixty-four, zero-add (4096 * (b + 1))) y)
 
     row : {m : With Locked} → Healthy w c → Quiet-lock (w .head .buckets) from (w .table) (w .health) c m → lockOf around (w .head .buckets) from (w .table) (w .health) c .seen ≡ m
         → ((x : World × Says) → Row c x → By-key w registry binding bucket place Row x) → Fits retried
-    row h (was-waited n) l name = again 1 l (name _ (at-waited n))
-    row h (was-held u x y z) l name = again 2 l (name _ (at-held u (x, y, z)))
+    row h (was-waited n) l name = again 1 reason.Before l (name _ (at-waited n))
+    row h (was-held u x y z) l name = again 2 _ l (name _ (at-held u (x, y, z)))
     row h (was-damaged u x y) l name =
         stop q (rw l) (rw l (name _ (at-damaged u ((λ z. x (z .0) (z .1)), (λ z. y (z .0) (z .1) (z .2))))))
     row h (was-spent u x y z) l name = stop q (rw l) (rw l (name _ (at-spent u (x, y) z)))
@@ -196,60 +200,93 @@ acquire-bucket-quiet w registry script place held binding bucket fine end =
 
 -- the answers of a Busy row are Busy, or 11
 data Late : Answer → Type 0 where
-  at-once : Late Busy
-  at-last : Late (Refused SerializationFailure)
+  at-once : (why : Reason) → Late (Busy why)
+  at-last : (why : Reason) → Late (Refused (SerializationFailure why))
 
 late-granted : {a : Answer} {l : Lease} → Late a → a ≡ Granted l → ⊥
-late-granted at-once e = let z : _≡_ {A = ℕ} 0 1 = cc in omega arith
-late-granted at-last e = let z : _≡_ {A = ℕ} 0 1 = cc in omega arith
+late-granted (at-once why) e = let z : _≡_ {A = ℕ} 0 1 = cc in omega arith
+late-granted (at-last why) e = let z : _≡_ {A = ℕ} 0 1 = cc in omega arith
 
 late-damaged : {a : Answer} {d : ℕ} → Late a → a ≡ Refused (Damaged d) → ⊥
-late-damaged at-once e = let z : _≡_ {A = ℕ} 0 1 = cc in omega arith
-late-damaged at-last e = let z : _≡_ {A = ℕ} 0 1 = cc in omega arith
+late-damaged (at-once why) e = let z : _≡_ {A = ℕ} 0 1 = cc in omega arith
+late-damaged (at-last why) e = let z : _≡_ {A = ℕ} 0 1 = cc in omega arith
 
 late-spent : {a : Answer} {d : ℕ} → Late a → a ≡ Refused (SerialsSpent d) → ⊥
-late-spent at-once e = let z : _≡_ {A = ℕ} 0 1 = cc in omega arith
-late-spent at-last e = let z : _≡_ {A = ℕ} 0 1 = cc in omega arith
+late-spent (at-once why) e = let z : _≡_ {A = ℕ} 0 1 = cc in omega arith
+late-spent (at-last why) e = let z : _≡_ {A = ℕ} 0 1 = cc in omega arith
 
-module _ {w : World} {place : ℕ} {waiting holding : Says} {c : ℕ} where
+-- the three reasons differ
+apart-held : {s : ℕ} → reason.Before ≡ reason.Held s → ⊥
+apart-held e = let z : _≡_ {A = ℕ} 0 1 = cc in omega arith
+
+apart-before : {s : ℕ} → reason.Before ≡ reason.After s → ⊥
+apart-before e = let z : _≡_ {A = ℕ} 0 1 = cc in omega arith
+
+apart-after : {s o : ℕ} → reason.Held s ≡ reason.After o → ⊥
+apart-after e = let z : _≡_ {A = ℕ} 0 1 = cc in omega arith
+
+-- what is said for a reason is late, and tells which reason
+record Tells (busy : Reason → Answer) : Type 0 where
+  late : (why : Reason) → Late (busy why)
+  tells : (a b : Reason) → busy a ≡ busy b → a ≡ b
+
+module _ {w : World} {place : ℕ} {waiting : Says} {holding : ℕ → Says} {c : ℕ} where
   -- the table says it exactly
-  exactly : {x : World × Says} (busy : Answer) → Late busy → waiting .answer ≡ busy → holding .answer ≡ busy → Quietly w place waiting holding c x
-      → Locks-exactly w c (Ready w c) busy (x .1 .answer)
+  exactly : {x : World × Says} (busy : Reason → Answer) → Tells busy → waiting .answer ≡ busy reason.Before → ((s : ℕ) → holding s .answer ≡ busy (reason.Held s))
+      → Quietly w place waiting holding c x → Locks-exactly w c (Ready w c) busy (x .1 .answer)
   exactly busy l p q (at-waited n) =
       record {
-        granted = λ k. (λ e. absurd (late-granted l (sym p ∙ e)), λ r. absurd (n (r .0 .0)));
-        not-now = (λ _ u. absurd (n u), λ _. p);
-        damaged = (λ e. absurd (late-damaged l (sym p ∙ e)), λ r. absurd (n (r .0)));
-        spent = (λ e. absurd (late-spent l (sym p ∙ e)), λ r. absurd (n (r .0)));
+        granted = λ k. (λ e. absurd (late-granted (l .late reason.Before) (sym p ∙ e)), λ r. absurd (n (r .0 .0)));
+        waited = (λ _. n, λ _. p);
+        held = λ s. (λ e. let z = l .tells reason.Before (reason.Held s) (sym p ∙ e) in absurd (apart-held z), λ r. absurd (n (r .0)));
+        not-after = λ s e. apart-before (l .tells reason.Before (reason.After s) (sym p ∙ e));
+        damaged = (λ e. absurd (late-damaged (l .late reason.Before) (sym p ∙ e)), λ r. absurd (n (r .0)));
+        spent = (λ e. absurd (late-spent (l .late reason.Before) (sym p ∙ e)), λ r. absurd (n (r .0)));
       }
   exactly busy l p q (at-held u h) =
+      let o = ownerAt (w .table) c in
+      let late = l .late (reason.Held o) in
       record {
-        granted = λ k. (λ e. absurd (late-granted l (sym q ∙ e)), λ r. absurd (omega (arith, h .0, r .0 .1 .0)));
-        not-now = (λ _ _. h, λ _. q);
-        damaged = (λ e. absurd (late-damaged l (sym q ∙ e)), λ r. absurd (r .1 .1 h));
-        spent = (λ e. absurd (late-spent l (sym q ∙ e)), λ r. absurd (omega (arith, h .0, r .1 .0)));
+        granted = λ k. (λ e. absurd (late-granted late (sym (q o) ∙ e)), λ r. absurd (omega (arith, h .0, r .0 .1 .0)));
+        waited = (λ e. let z = l .tells (reason.Held o) reason.Before (sym (q o) ∙ e) in absurd (apart-held (sym z)), λ n. absurd (n u));
+        held = λ s. (λ e. let z = l .tells (reason.Held o) (reason.Held s) (sym (q o) ∙ e) in (u, h, cc), λ r. q o ∙ ap (λ (y : ℕ). busy (reason.Held y)) (sym (r .2)));
+        not-after = λ s e. apart-after (l .tells (reason.Held o) (reason.After s) (sym (q o) ∙ e));
+        damaged = (λ e. absurd (late-damaged late (sym (q o) ∙ e)), λ r. absurd (r .1 .1 h));
+        spent = (λ e. absurd (late-spent late (sym (q o) ∙ e)), λ r. absurd (omega (arith, h .0, r .1 .0)));
       }
   exactly busy l p q (at-damaged u d) =
       record {
         granted = λ k. (λ e. let z : _≡_ {A = ℕ} 0 1 = cc in absurd (omega arith), λ r. absurd (d .0 (r .0 .1)));
-        not-now = (λ e. absurd (late-damaged l (sym e)), λ r. absurd (d .1 (r u)));
+        waited = (λ e. absurd (late-damaged (l .late reason.Before) (sym e)), λ n. absurd (n u));
+        held = λ s. (λ e. absurd (late-damaged (l .late (reason.Held s)) (sym e)), λ r. absurd (d .1 (r .1)));
+        not-after = λ s e. late-damaged (l .late (reason.After s)) (sym e);
         damaged = (λ e. (u, d), λ _. refl);
         spent = (λ e. let z : _≡_ {A = ℕ} 0 1 = cc in absurd (omega arith), λ r. absurd (d .0 (r .1)));
       }
   exactly busy l p q (at-spent u f r) =
       record {
         granted = λ k. (λ e. let z : _≡_ {A = ℕ} 0 1 = cc in absurd (omega arith), λ s. absurd (omega (arith, s .0 .2)));
-        not-now = (λ e. absurd (late-spent l (sym e)), λ s. absurd (omega (arith, f .0, s u .0)));
+        waited = (λ e. absurd (late-spent (l .late reason.Before) (sym e)), λ n. absurd (n u));
+        held = λ s. (λ e. absurd (late-spent (l .late (reason.Held s)) (sym e)), λ k. absurd (omega (arith, f .0, k .1 .0)));
+        not-after = λ s e. late-spent (l .late (reason.After s)) (sym e);
         damaged = (λ e. let z : _≡_ {A = ℕ} 0 1 = cc in absurd (omega arith), λ s. absurd (s .1 .0 f));
         spent = (λ e. (u, f, r), λ _. refl);
       }
   exactly busy l p q (at-free u f r) =
       record {
         granted = λ k. (λ e. ((u, f, r), cc), λ s. ap (λ (y : Lease). Granted y) (sym (s .1)));
-        not-now = (λ e. absurd (late-granted l (sym e)), λ s. absurd (omega (arith, f .0, s u .0)));
+        waited = (λ e. absurd (late-granted (l .late reason.Before) (sym e)), λ n. absurd (n u));
+        held = λ s. (λ e. absurd (late-granted (l .late (reason.Held s)) (sym e)), λ k. absurd (omega (arith, f .0, k .1 .0)));
+        not-after = λ s e. late-granted (l .late (reason.After s)) (sym e);
         damaged = (λ e. let z : _≡_ {A = ℕ} 0 1 = cc in absurd (omega arith), λ s. absurd (s .1 .0 f));
         spent = (λ e. let z : _≡_ {A = ℕ} 0 1 = cc in absurd (omega arith), λ s. absurd (omega (arith, s .2)));
       }
+
+tells-busy : Tells (λ why. Busy why)
+tells-busy = record { late = λ why. at-once why; tells = λ a b e. cc }
+
+tells-failed : Tells (λ why. Refused (SerializationFailure why))
+tells-failed = record { late = λ why. at-last why; tells = λ a b e. cc }
 
 -- a key that names a cell has that cell's row
 pub named-row : {w : World} {registry : List ℕ} {binding bucket place : ℕ} {Row : ℕ → World × Says → Type 0} {x : World × Says}
@@ -261,39 +298,43 @@ named-row n (names p q r y) = y
 
 -- 7 is in no row of the cell's table
 late-poisoned : {a : Answer} {d : ℕ} → Late a → a ≡ Refused (Poisoned d) → ⊥
-late-poisoned at-once e = let z : _≡_ {A = ℕ} 0 1 = cc in omega arith
-late-poisoned at-last e = let z : _≡_ {A = ℕ} 0 1 = cc in omega arith
+late-poisoned (at-once why) e = let z : _≡_ {A = ℕ} 0 1 = cc in omega arith
+late-poisoned (at-last why) e = let z : _≡_ {A = ℕ} 0 1 = cc in omega arith
 
-never-7 : {w : World} {place : ℕ} {waiting holding : Says} {c header : ℕ} {x : World × Says} → Late (waiting .answer) → Late (holding .answer)
+never-7 : {w : World} {place : ℕ} {waiting : Says} {holding : ℕ → Says} {c header : ℕ} {x : World × Says} → Late (waiting .answer) → ((s : ℕ) → Late (holding s .answer))
     → Quietly w place waiting holding c x → x .1 .answer ≡ Refused (Poisoned header) → ⊥
 never-7 l k (at-waited n) e = late-poisoned l e
-never-7 l k (at-held u h) e = late-poisoned k e
+never-7 {w = w} {c = c} l k (at-held u h) e = late-poisoned (k (ownerAt (w .table) c)) e
 never-7 l k (at-damaged u d) e = let z : _≡_ {A = ℕ} 0 1 = cc in omega arith
 never-7 l k (at-spent u f r) e = let z : _≡_ {A = ℕ} 0 1 = cc in omega arith
 never-7 l k (at-free u f r) e = let z : _≡_ {A = ℕ} 0 1 = cc in omega arith
 
 module _ {w : World} {place c : ℕ} where
   cell-exactly : {x : World × Says} → By-cell w c place (Row-of w place c) x
-      → Locks-exactly w c (Ready w c × Healthy w c) Busy (x .1 .answer)
+      → Locks-exactly w c (Ready w c × Healthy w c) (λ why. Busy why) (x .1 .answer)
       × ((header : ℕ) → (x .1 .answer ≡ Refused (Poisoned header)) ↔ (Ready w c × (Healthy w c → ⊥) × (header ≡ headerOf (w .head .buckets) c)))
   cell-exactly (sick-cell r n) = (
     record {
       granted = λ k. (λ e. let z : _≡_ {A = ℕ} 0 1 = cc in absurd (omega arith), λ s. absurd (n (s .0 .1)));
-      not-now = (λ e. let z : _≡_ {A = ℕ} 0 1 = cc in absurd (omega arith), λ s. absurd (omega (arith, r .1 .0, s (r .0) .0)));
+      waited = (λ e. let z : _≡_ {A = ℕ} 0 1 = cc in absurd (omega arith), λ s. absurd (s (r .0)));
+      held = λ o. (λ e. let z : _≡_ {A = ℕ} 0 1 = cc in absurd (omega arith), λ s. absurd (omega (arith, r .1 .0, s .1 .0)));
+      not-after = λ o e. let z : _≡_ {A = ℕ} 0 1 = cc in omega arith;
       damaged = (λ e. let z : _≡_ {A = ℕ} 0 1 = cc in absurd (omega arith), λ s. absurd (s .1 .0 (r .1)));
       spent = (λ e. let z : _≡_ {A = ℕ} 0 1 = cc in absurd (omega arith), λ s. absurd (omega (arith, r .2, s .2)));
     },
     λ header. (λ e. (r, n, cc), λ s. ap (λ (i : ℕ). Refused (Poisoned i)) (sym (s .2))),
   )
   cell-exactly (sound-cell n y) =
-      let k = exactly Busy at-once refl refl y in (
+      let k = exactly (λ why. Busy why) tells-busy refl (λ s. refl) y in (
         record {
           granted = λ l. (λ e. let z = k .granted l .0 e in ((z .0, n (z .0)), z .1), λ s. k .granted l .1 (s .0 .0, s .1));
-          not-now = k .not-now;
+          waited = k .waited;
+          held = k .held;
+          not-after = k .not-after;
           damaged = k .damaged;
           spent = k .spent;
         },
-        λ header. (λ e. absurd (never-7 at-once at-once y e), λ s. absurd (s .1 (n (s .0)))),
+        λ header. (λ e. absurd (never-7 (at-once reason.Before) (λ s. at-once (reason.Held s)) y e), λ s. absurd (s .1 (n (s .0)))),
       )
 
 pub try-lock-exactly : Try-lock-exactly perform
@@ -301,4 +342,4 @@ try-lock-exactly w script place held c fine end = cell-exactly (try-lock-quiet w
 
 pub acquire-bucket-exactly : Acquire-bucket-exactly perform
 acquire-bucket-exactly w registry script place held binding bucket fine end n =
-    exactly (Refused SerializationFailure) at-last refl refl (named-row n (acquire-bucket-quiet w registry script place held binding bucket fine end))
+    exactly (λ why. Refused (SerializationFailure why)) tells-failed refl (λ s. refl) (named-row n (acquire-bucket-quiet w registry script place held binding bucket fine end))

@@ -9,7 +9,7 @@ use lib.ListN.{getD}
 use Rattle.model.specs.Log.{Made}
 use Rattle.model.specs.Arena.{lastSerial, spentTo, headerOf, leaseOf, leasesOf, wordsOf, bitAt, ownerAt, waitersAt, setCell}
 use Rattle.model.specs.Foreign.{Setting, protecting, stepsIn, flowOf}
-use Rattle.model.specs.Lock.{lockedOf, lockOf, runOf, triedOf, findOf, attemptOf, retryOf, attemptLimit, bindingAt, bucketAt, endedOf, Locks, locksOf}
+use Rattle.model.specs.Lock.{lockedOf, lockOf, runOf, triedOf, findOf, attemptOf, retryOf, attemptLimit, noneYet, bindingAt, bucketAt, endedOf, Locks, locksOf}
 use Rattle.model.specs.Checks.{countIn}
 use Rattle.model.specs.Calls.{countsOf, given}
 use Rattle.model.specs.declared.Answer.the-variants.{AllGranted}
@@ -70,13 +70,13 @@ module _ (e : Setting) (place : ℕ) (quiet : stepsIn (e .script) ≤ place) (d 
   retry-ready : (buckets : ℕ) (registry : List ℕ) (binding bucket s : ℕ) (t : List ℕ) (c a x : ℕ)
       → findOf (e .headers) buckets g registry binding bucket ≡ found.At c
       → waitersAt t c ≡ 0 → bitAt t c ≡ 0 → ownerAt t c ≡ 0 → s < lastSerial
-      → retryOf attemptLimit 0 e buckets registry binding bucket (runOf (flowing s) a x y) t g .seen
+      → retryOf attemptLimit 0 noneYet e buckets registry binding bucket (runOf (flowing s) a x y) t g .seen
       ≡ (triedOf (runOf (flowing (s + 1)) (a + 1) (x + 3) y) (outcome.Granted (leaseOf c s)), (setCell t c 1 s, g))
   retry-ready buckets registry binding bucket s t c a x q u b o l =
       let k : attemptOf e buckets registry binding bucket (runOf (flowing s) a x y) t g .seen
       ≡ (triedOf (runOf (flowing (s + 1)) (a + 1) (x + 3) y) (outcome.Granted (leaseOf c s)), (setCell t c 1 s, g))
       = attempt-as e buckets registry binding bucket (runOf (flowing s) a x y) t g q ∙ rw (lock-ready buckets s t c u b o l (find-healthy (e .headers) buckets g registry binding bucket c q)) in
-      retry-stops e buckets registry binding bucket (runOf (flowing s) a x y) t g 4095 0 (rw k) ∙ k
+      retry-stops e buckets registry binding bucket (runOf (flowing s) a x y) t g 4095 0 noneYet (rw k) ∙ k
 
 -- ---- keys in a row that are ready: multi-lock goes on behind them
 

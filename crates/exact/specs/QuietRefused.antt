@@ -11,7 +11,7 @@ use lib.ListN.{length, take, getD}
 use Rattle.model.specs.Log.{Made}
 use Rattle.model.specs.Arena.{spentTo, headerOf, leaseOf, leasesOf, bitAt, ownerAt, setCell, cellsOf, lastSerial, stateAt}
 use Rattle.model.specs.Foreign.{Setting, protecting, stepsIn, flowOf}
-use Rattle.model.specs.Lock.{lockedOf, lockOf, answerOf, settled, runOf, triedOf, findOf, attemptAt, isBusy, retryOf, attemptLimit, leaseAt, giveBackOf, rollbackOf, bindingAt, bucketAt, afterKey, endedOf, Locks, locksOf}
+use Rattle.model.specs.Lock.{lockedOf, lockOf, answerOf, settled, runOf, triedOf, findOf, attemptAt, isBusy, retryOf, attemptLimit, noneYet, leaseAt, giveBackOf, rollbackOf, bindingAt, bucketAt, afterKey, endedOf, Locks, locksOf}
 use Rattle.model.specs.Checks.{countIn, locksRules}
 use Rattle.model.specs.Calls.{countsOf, given}
 use Rattle.model.specs.declared.Answer.{Answer}
@@ -26,10 +26,13 @@ use Rattle.model.specs.declared.Locked.{Locked}
 use Rattle.model.specs.declared.Outcome.{Outcome}
 use Rattle.model.specs.declared.Outcome.the-variants as outcome
 use Rattle.model.specs.declared.Refusal.{Refusal}
+use Rattle.model.specs.declared.Reason.{Reason}
+use Rattle.model.specs.declared.Reason.the-variants as reason
 use Rattle.model.specs.declared.Refusal.the-variants.{SerializationFailure}
 use Rattle.model.specs.declared.Tried.{Tried}
 use Rattle.laws.specs.Words.{bit-set-other, owner-set-other}
 use Rattle.laws.specs.Keys.{place-inside, find-healthy}
+use Rattle.laws.specs.Outcomes.{retry-first}
 use Rattle.history.specs.World.{World, worldOf, Unreleased, now, Lawful}
 use Rattle.history.specs.Items.{Says, says, acquire-bucket, acquire-locks, perform, keyCell, Call, Clear, rules}
 use Rattle.history.specs.Tests.{state-free, In}
@@ -92,7 +95,7 @@ counted-on a x y m = (triedOf (runOf (m .0 .run .flow) (a + m .0 .run .attempts)
 
 -- what a retry comes to whose first try_lock comes to m
 abbrev closed : ℕ → ℕ → ℕ → With Locked → Outcome → With Tried
-closed a x y m outcome.Busy = (triedOf (runOf (m .0 .flow) (a + 4096) (x + (4096 * (m .0 .boundaries + 1) + 64)) (y + 64)) outcome.Busy, m .1)
+closed a x y m (outcome.Busy why) = (triedOf (runOf (m .0 .flow) (a + 4096) (x + (4096 * (m .0 .boundaries + 1) + 64)) (y + 64)) (outcome.Busy why), m .1)
 closed a x y m (outcome.Refused r) = (triedOf (runOf (m .0 .flow) (a + 1) (x + m .0 .boundaries) (y + 0)) (outcome.Refused r), m .1)
 closed a x y m (outcome.Granted l) = (triedOf (runOf (m .0 .flow) (a + 1) (x + m .0 .boundaries) (y + 0)) (outcome.Granted l), m .1)
 
@@ -101,7 +104,7 @@ same-tried : {f : Flow} {o : Outcome} {k : List ℕ × List ℕ} {a a′ x x′ 
 same-tried p q r = cc
 
 closed-on : (a x y : ℕ) (m : With Locked) (k : Outcome) → closed a x y m k ≡ counted-on a x y (closed 0 0 0 m k)
-closed-on a x y m outcome.Busy = same-tried (omega arith) (omega arith) (omega arith)
+closed-on a x y m (outcome.Busy why) = same-tried (omega arith) (omega arith) (omega arith)
 closed-on a x y m (outcome.Refused r) = same-tried (omega arith) (omega arith) (omega arith)
 closed-on a x y m (outcome.Granted l) = same-tried (omega arith) (omega arith) (omega arith)
 
@@ -111,24 +114,25 @@ sixty-four = omega (arith, yields-are 4096 0)
 module _ (f : Flow) (t g : List ℕ) (buckets : ℕ) (registry : List ℕ) (binding bucket : ℕ) where
   module _ (e : Setting) (quiet : stepsIn (e .script) ≤ f .place) (a x y : ℕ) where
     abbrev retried : With Tried
-    retried = retryOf attemptLimit 0 e buckets registry binding bucket (runOf f a x y) t g .seen
+    retried = retryOf attemptLimit 0 noneYet e buckets registry binding bucket (runOf f a x y) t g .seen
 
     stop : {z : Found} → findOf (e .headers) buckets g registry binding bucket ≡ z → isBusy (attemptAt z e buckets (runOf f a x y) t g .seen .0 .outcome) ≡ false
         → retried ≡ attemptAt z e buckets (runOf f a x y) t g .seen
     stop q n =
         let k = attempt-as e buckets registry binding bucket (runOf f a x y) t g q in
-        retry-stops e buckets registry binding bucket (runOf f a x y) t g 4095 0 (rw k n) ∙ k
+        retry-stops e buckets registry binding bucket (runOf f a x y) t g 4095 0 noneYet (rw k n) ∙ k
 
-    again : (c b : ℕ) → findOf (e .headers) buckets g registry binding bucket ≡ found.At c → lockOf e buckets f t g c .seen ≡ (lockedOf f b outcome.Busy, (t, g))
-        → retried ≡ (triedOf (runOf f (a + 4096) (x + (4096 * (b + 1) + 64)) (y + 64)) outcome.Busy, (t, g))
-    again c b q l =
-        busy-retry e f t g quiet buckets registry binding bucket b (λ a x y. attempt-as e buckets registry binding bucket (runOf f a x y) t g q ∙ rw l) 4096 0 a x y
+    again : (c b : ℕ) (why : Reason) → findOf (e .headers) buckets g registry binding bucket ≡ found.At c → lockOf e buckets f t g c .seen ≡ (lockedOf f b (outcome.Busy why), (t, g))
+        → retried ≡ (triedOf (runOf f (a + 4096) (x + (4096 * (b + 1) + 64)) (y + 64)) (outcome.Busy why), (t, g))
+    again c b why q l =
+        ap (λ m. m .seen) (retry-first 4095 0 noneYet why e buckets registry binding bucket (runOf f a x y) t g)
+        ∙ busy-retry e f t g quiet buckets registry binding bucket b why (λ a x y. attempt-as e buckets registry binding bucket (runOf f a x y) t g q ∙ rw l) 4096 0 a x y
         ∙ same-tried refl (omega (arith, sixty-four)) (omega (arith, sixty-four))
 
     at-cell : (c : ℕ) {m : With Locked} → findOf (e .headers) buckets g registry binding bucket ≡ found.At c → Quiet-lock buckets f t g c m → lockOf e buckets f t g c .seen ≡ m
         → retried ≡ closed a x y m (m .0 .answer)
-    at-cell c q (was-waited n) l = again c 1 q l
-    at-cell c q (was-held u p r z) l = again c 2 q l
+    at-cell c q (was-waited n) l = again c 1 reason.Before q l
+    at-cell c q (was-held u p r z) l = again c 2 (reason.Held (ownerAt t c)) q l
     at-cell c q (was-damaged u p r) l = stop q (rw l) ∙ rw l (same-tried refl refl (sym (add-zero y)))
     at-cell c q (was-spent u p r z) l = stop q (rw l) ∙ rw l (same-tried refl refl (sym (add-zero y)))
     at-cell c q (was-free u p r z h) l = stop q (rw l) ∙ rw l (same-tried refl refl (sym (add-zero y)))
@@ -227,12 +231,12 @@ module _ (cell : ℕ → ℕ) where
 
 abbrev NotGranted : Outcome → Type 0
 NotGranted (outcome.Granted l) = ⊥
-NotGranted outcome.Busy = Unit {0}
+NotGranted (outcome.Busy why) = Unit {0}
 NotGranted (outcome.Refused r) = Unit {0}
 
 refused-not : (o : Outcome) (r : Refusal) → answerOf (settled o) ≡ Refused r → NotGranted o
 refused-not (outcome.Granted l) r e = let z : _≡_ {A = ℕ} 0 1 = cc in absurd (omega arith)
-refused-not outcome.Busy r e = tt
+refused-not (outcome.Busy why) r e = tt
 refused-not (outcome.Refused x) r e = tt
 
 -- a quiet retry that is not granted changes nothing
@@ -268,12 +272,12 @@ module _ (e : Setting) (f : Flow) (quiet : stepsIn (e .script) ≤ f .place) (ta
   after-refused : (o : Outcome) (r : Refusal) (more : Lease → Made Locks) (a x y : ℕ) → answerOf (settled o) ≡ Refused r
       → afterKey o e taken p (runOf f a x y) t g grants more .seen ≡ rolled-back r a x y
   after-refused (outcome.Granted l) r more a x y q = let z : _≡_ {A = ℕ} 0 1 = cc in absurd (omega arith)
-  after-refused outcome.Busy r more a x y q = let z : SerializationFailure ≡ r = cc in roll SerializationFailure a x y ∙ ap (λ (k : Refusal). rolled-back k a x y) z
+  after-refused (outcome.Busy why) r more a x y q = let z : SerializationFailure why ≡ r = cc in roll (SerializationFailure why) a x y ∙ ap (λ (k : Refusal). rolled-back k a x y) z
   after-refused (outcome.Refused k) r more a x y q = let z : k ≡ r = cc in roll k a x y ∙ ap (λ (k : Refusal). rolled-back k a x y) z
 
   -- a key whose retry is m, counted on
   refused-here : (left buckets : ℕ) (registry keys : List ℕ) (r : Refusal) (a x : ℕ) (m : With Tried)
-      → retryOf attemptLimit 0 (protecting e taken) buckets registry (bindingAt keys p) (bucketAt keys p) (runOf f a x 0) t g .seen ≡ counted-on a x 0 m
+      → retryOf attemptLimit 0 noneYet (protecting e taken) buckets registry (bindingAt keys p) (bucketAt keys p) (runOf f a x 0) t g .seen ≡ counted-on a x 0 m
       → (m .0 .run .flow ≡ f) × (m .1 ≡ (t, g)) → answerOf (settled (m .0 .outcome)) ≡ Refused r
       → locksOf (suc left) p e buckets registry keys taken (runOf f a x 0) t g grants .seen
       ≡ rolled-back r (a + m .0 .run .attempts) (x + m .0 .run .boundaries) (0 + m .0 .run .yields)

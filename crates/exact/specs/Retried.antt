@@ -11,12 +11,12 @@ use borrow.Author.Tests.{eqb-true, eqb-false}
 use Rattle.model.specs.Log.{Made, Event, yielded, spun}
 use Rattle.model.specs.Arena.{serialRemains, headerOf, isPoisoned, leaseOf, leasesOf, bitAt, ownerAt, waitersAt, setCell, stateAt, isFree, isLive, isIn}
 use Rattle.model.specs.Foreign.{Setting, protecting, stepsIn, kindAt, placeAt, numberAt, flowOf, stepTakeOf, stepReleaseOf, stepWaitersOf, stepHealthOf, stepOf, runStepsOf, boundaryOf}
-use Rattle.model.specs.Lock.{takeIn, takeOf, lateOf, afterTake, secondOf, lockOf, answerOf, settled, runOf, findOf, attemptAt, attemptOf, spinOf, pauseOf, isBusy, retryOf, attemptLimit, leaseAt, giveBackOf, Locks, rollbackOf, afterKey, bindingAt, bucketAt, locksOf}
+use Rattle.model.specs.Lock.{takeIn, takeOf, lateOf, afterTake, secondOf, lockOf, answerOf, settled, runOf, findOf, attemptAt, attemptOf, spinOf, pauseOf, isBusy, lastOf, retryOf, attemptLimit, noneYet, leaseAt, giveBackOf, Locks, rollbackOf, afterKey, bindingAt, bucketAt, locksOf}
 use Rattle.model.specs.Checks.{countIn}
 use Rattle.model.specs.Calls.{given, starting}
 use Rattle.model.specs.Crew.{total}
 use Rattle.model.specs.declared.Answer.{Answer}
-use Rattle.model.specs.declared.Answer.the-variants.{AllGranted, Refused, RefusedAt}
+use Rattle.model.specs.declared.Answer.the-variants.{Granted, AllGranted, Refused, RefusedAt}
 use Rattle.model.specs.declared.Flow.{Flow}
 use Rattle.model.specs.declared.Found.{Found}
 use Rattle.model.specs.declared.Found.the-variants as found
@@ -24,6 +24,7 @@ use Rattle.model.specs.declared.Lease.{Lease}
 use Rattle.model.specs.declared.Locked.{Locked}
 use Rattle.model.specs.declared.Outcome.{Outcome}
 use Rattle.model.specs.declared.Outcome.the-variants as outcome
+use Rattle.model.specs.declared.Reason.{Reason}
 use Rattle.model.specs.declared.Refusal.{Refusal}
 use Rattle.model.specs.declared.Refusal.the-variants.{SerializationFailure}
 use Rattle.model.specs.declared.Run.{Run}
@@ -41,7 +42,7 @@ use Rattle.history.specs.Items.{Says, perform}
 use Rattle.history.specs.Tests.{differ, if-cases}
 use Rattle.history.specs.Steps.{With}
 use Rattle.exact.specs.Script.{acquire-bucket-has, acquire-locks-has}
-use Rattle.exact.specs.Attempts.{Bucket-retries, Keys-retried, Locks-retry, Retries, total-64, Some-4096, a-later, this-key, spins-in}
+use Rattle.exact.specs.Attempts.{Bucket-retries, Failed, Failed-at, Keys-retried, Locks-retry, Retries, total-64, Some-4096, a-later, this-key, spins-in}
 use Rattle.exact.specs.Made.{made}
 
 -- ---- no spin in a lock
@@ -115,7 +116,7 @@ module _ (e : Setting) (buckets : ℕ) where
   after-still : (a : Take) (f : Flow) (t g : List ℕ) (c : ℕ) → Quiet (afterTake a e buckets f t g c)
   unfolding spins-in
   after-still (taking.Granted s) f t g c = late-still f t g c s
-  after-still taking.Busy f t g c = (record { none = refl })
+  after-still (taking.Busy owner) f t g c = (record { none = refl })
   after-still taking.Damaged f t g c = (record { none = refl })
   after-still taking.Spent f t g c = (record { none = refl })
 
@@ -138,19 +139,19 @@ module _ (e : Setting) (buckets : ℕ) where
 -- not 11
 abbrev pub Else : Outcome → Type 0
 Else (outcome.Granted l) = Unit {0}
-Else outcome.Busy = Unit {0}
-Else (outcome.Refused r) = r ≡ SerializationFailure → ⊥
+Else (outcome.Busy why) = Unit {0}
+Else (outcome.Refused r) = (why : Reason) → r ≡ SerializationFailure why → ⊥
 
 abbrev FaultElse : Found → Type 0
-FaultElse (found.Fault r) = r ≡ SerializationFailure → ⊥
+FaultElse (found.Fault r) = (why : Reason) → r ≡ SerializationFailure why → ⊥
 FaultElse (found.At c) = Unit {0}
 
 lock-else : {buckets c : ℕ} {g : List ℕ} {o : Outcome} → Comes buckets c g o → Else o
 lock-else (granted s h) = tt
-lock-else busy = tt
-lock-else (poisoned h) = λ e. let z : _≡_ {A = ℕ} 0 1 = cc in omega arith
-lock-else damaged = λ e. let z : _≡_ {A = ℕ} 0 1 = cc in omega arith
-lock-else spent = λ e. let z : _≡_ {A = ℕ} 0 1 = cc in omega arith
+lock-else (busy why) = tt
+lock-else (poisoned h) = λ _ e. let z : _≡_ {A = ℕ} 0 1 = cc in omega arith
+lock-else damaged = λ _ e. let z : _≡_ {A = ℕ} 0 1 = cc in omega arith
+lock-else spent = λ _ e. let z : _≡_ {A = ℕ} 0 1 = cc in omega arith
 
 pub record One (r : Run) (m : Made (With Tried)) : Type 0 where
   pub no-spin : spins-in (m .log) ≡ 0
@@ -169,9 +170,9 @@ module _ (e : Setting) (buckets : ℕ) (registry : List ℕ) (binding bucket : �
   attempt-one r t g =
       let header = getD registry binding 0 in
       let k = go (findOf (e .headers) buckets g registry binding bucket)
-      (if-both FaultElse (leb (e .headers) header) (λ e. let z : _≡_ {A = ℕ} 0 1 = cc in omega arith)
-      (if-both FaultElse (isPoisoned g header) (λ e. let z : _≡_ {A = ℕ} 0 1 = cc in omega arith)
-      (if-both FaultElse (leb buckets bucket) (λ e. let z : _≡_ {A = ℕ} 0 1 = cc in omega arith) tt))) in
+      (if-both FaultElse (leb (e .headers) header) (λ _ e. let z : _≡_ {A = ℕ} 0 1 = cc in omega arith)
+      (if-both FaultElse (isPoisoned g header) (λ _ e. let z : _≡_ {A = ℕ} 0 1 = cc in omega arith)
+      (if-both FaultElse (leb buckets bucket) (λ _ e. let z : _≡_ {A = ℕ} 0 1 = cc in omega arith) tt))) in
       record { no-spin = omega (arith, k .no-spin); one-attempt = k .one-attempt; no-yield = k .no-yield; other = k .other }
     where
       go : (x : Found) → FaultElse x → One r (attemptAt x e buckets r t g)
@@ -221,18 +222,18 @@ record Ran (left i : ℕ) (r : Run) (m : Made (With Tried)) : Type 0 where
   fewer : isBusy (m .seen .0 .outcome) ≡ false → (spins-in (m .log) < left) × (m .seen .0 .run .attempts ≡ r .attempts + spins-in (m .log) + 1)
 
 module _ (e : Setting) (buckets : ℕ) (registry : List ℕ) (binding bucket : ℕ) where
-  retry-ran : (left i : ℕ) (r : Run) (t g : List ℕ) → Ran left i r (retryOf left i e buckets registry binding bucket r t g)
+  retry-ran : (left i : ℕ) (last : Reason) (r : Run) (t g : List ℕ) → Ran left i r (retryOf left i last e buckets registry binding bucket r t g)
   unfolding retryOf spins-in
-  retry-ran zero i r t g = record { yields-at = omega arith; other = tt; all = λ _. (refl, omega arith); fewer = λ q. absurd (differ (sym q)) }
-  retry-ran (suc left) i r t g =
+  retry-ran zero i last r t g = record { yields-at = omega arith; other = tt; all = λ _. (refl, omega arith); fewer = λ q. absurd (differ (sym q)) }
+  retry-ran (suc left) i last r t g =
       let a = attemptOf e buckets registry binding bucket r t g in
       let m = a .seen in
       let b = pauseOf e i (m .0 .run) (m .1 .0) (m .1 .1) in
       let p = b .seen in
-      let rest = retryOf left (i + 1) e buckets registry binding bucket (p .0) (p .1 .0) (p .1 .1) in
+      let rest = retryOf left (i + 1) (lastOf last (m .0 .outcome)) e buckets registry binding bucket (p .0) (p .1 .0) (p .1 .1) in
       let x = attempt-one e buckets registry binding bucket r t g in
       let y = pause-one e i (m .0 .run) (m .1 .0) (m .1 .1) in
-      let z = retry-ran left (i + 1) (p .0) (p .1 .0) (p .1 .1) in
+      let z = retry-ran left (i + 1) (lastOf last (m .0 .outcome)) (p .0) (p .1 .0) (p .1 .1) in
       if-cases (λ (o : Made (With Tried)). Ran (suc left) i r (record { seen = o .seen; log = a .log ++ o .log })) (isBusy (m .0 .outcome))
       (λ c.
       let s : spins-in (a .log ++ (b .log ++ rest .log)) ≡ 1 + spins-in (rest .log)
@@ -252,10 +253,17 @@ module _ (e : Setting) (buckets : ℕ) (registry : List ℕ) (binding bucket : �
         fewer = λ q. (omega (arith, s), omega (arith, s, x .one-attempt));
       })
 
+-- a grant is not 11, nor is another refusal
+granted-fails : {l : Lease} → Failed (Granted l) → ⊥
+granted-fails (why, e) = let z : _≡_ {A = ℕ} 0 1 = cc in omega arith
+
+else-fails : {r : Refusal} → ((why : Reason) → r ≡ SerializationFailure why → ⊥) → Failed (Refused r) → ⊥
+else-fails {r} n (why, e) = let z : r ≡ SerializationFailure why = cc in n why z
+
 pub bucket-retries : Bucket-retries perform
 bucket-retries w registry script place held binding bucket fine =
-    let m = retryOf attemptLimit 0 (given (w .head) script (leasesOf held)) (w .head .buckets) registry binding bucket (starting (w .head) place) (w .table) (w .health) in
-    let z = retry-ran (given (w .head) script (leasesOf held)) (w .head .buckets) registry binding bucket attemptLimit 0 (starting (w .head) place) (w .table) (w .health) in
+    let m = retryOf attemptLimit 0 noneYet (given (w .head) script (leasesOf held)) (w .head .buckets) registry binding bucket (starting (w .head) place) (w .table) (w .health) in
+    let z = retry-ran (given (w .head) script (leasesOf held)) (w .head .buckets) registry binding bucket attemptLimit 0 noneYet (starting (w .head) place) (w .table) (w .health) in
     subst (λ (x : Made (World × Says)). Retries (x .seen .1 .answer) (x .seen .1 .counts .attempts) (x .seen .1 .counts .yields) (spins-in (x .log)))
     (sym (made w (acquire-bucket-has registry script place held binding bucket) fine))
     (go (m .seen .0 .outcome) (m .seen .0 .run .attempts) (m .seen .0 .run .yields) (spins-in (m .log)) (omega (arith, z .yields-at)) (z .other)
@@ -266,17 +274,22 @@ bucket-retries w registry script place held binding bucket fine =
     go (outcome.Granted l) a y b yi el all few =
         record {
           yields-are = yi;
-          failed = (λ e. let z : _≡_ {A = ℕ} 0 1 = cc in absurd (omega arith), λ e. absurd (omega (arith, few refl .0)));
-          all-busy = λ e. let z : _≡_ {A = ℕ} 0 1 = cc in absurd (omega arith);
+          failed = (λ e. absurd (granted-fails e), λ e. absurd (omega (arith, few refl .0)));
+          all-busy = λ e. absurd (granted-fails e);
           last-not = λ _. (few refl .1, omega (arith, few refl .0, few refl .1));
         }
-    go outcome.Busy a y b yi el all few =
-        record { yields-are = yi; failed = (λ _. all refl .0, λ _. refl); all-busy = λ _. omega (arith, all refl .0, all refl .1); last-not = λ n. absurd (n refl) }
+    go (outcome.Busy why) a y b yi el all few =
+        record {
+          yields-are = yi;
+          failed = (λ _. all refl .0, λ _. (why, refl));
+          all-busy = λ _. omega (arith, all refl .0, all refl .1);
+          last-not = λ n. absurd (n (why, refl));
+        }
     go (outcome.Refused r) a y b yi el all few =
         record {
           yields-are = yi;
-          failed = (λ e. absurd (el (let z : r ≡ SerializationFailure = cc in z)), λ e. absurd (omega (arith, few refl .0)));
-          all-busy = λ e. absurd (el (let z : r ≡ SerializationFailure = cc in z));
+          failed = (λ e. absurd (else-fails el e), λ e. absurd (omega (arith, few refl .0)));
+          all-busy = λ e. absurd (else-fails el e);
           last-not = λ _. (few refl .1, omega (arith, few refl .0, few refl .1));
         }
 
@@ -304,9 +317,9 @@ none-of : {ns : List ℕ} → Some-4096 ns → ns ≡ [] → ⊥
 none-of this-key e = let z : _≡_ {A = ℕ} 0 1 = cc in omega arith
 none-of (a-later s) e = let z : _≡_ {A = ℕ} 0 1 = cc in omega arith
 
-none-failed : (keys : ℕ) (a : Answer) → ((p : ℕ) → a ≡ RefusedAt SerializationFailure p → ⊥) → Keys-retried keys a 0 0
+none-failed : (keys : ℕ) (a : Answer) → (Failed-at a → ⊥) → Keys-retried keys a 0 0
 unfolding total total-64
-none-failed keys a n = record { of-key = []; few = omega arith; busy-are = refl; yields-are = refl; failed = λ p e. absurd (n p e); fails = λ s. absurd (none-of s refl) }
+none-failed keys a n = record { of-key = []; few = omega arith; busy-are = refl; yields-are = refl; failed = λ e. absurd (n e); fails = λ s. absurd (none-of s refl) }
 
 -- one key more in front
 one-key : (keys b z s : ℕ) (a : Answer) → b < 4096 → Keys-retried keys a z s → Keys-retried (suc keys) a (b / 64 + z) (b + s)
@@ -317,7 +330,7 @@ one-key keys b z s a l k =
       few = omega (arith, k .few);
       busy-are = omega (arith, k .busy-are);
       yields-are = omega (arith, k .yields-are);
-      failed = λ p e. a-later (k .failed p e);
+      failed = λ e. a-later (k .failed e);
       fails = λ x. k .fails (rest x refl);
     }
   where
@@ -326,7 +339,8 @@ one-key keys b z s a l k =
     rest (a-later {ns = ns} x) e = let z : ns ≡ k .of-key = cc in subst Some-4096 z x
 
 -- the last key: Busy to the end, or refused before
-last-key : (keys b : ℕ) (x : Refusal) (p : ℕ) → (x ≡ SerializationFailure → b ≡ 4096) → (b ≡ 4096 → x ≡ SerializationFailure)
+last-key : (keys b : ℕ) (x : Refusal) (p : ℕ) → ((why : Reason) → x ≡ SerializationFailure why → b ≡ 4096)
+    → (b ≡ 4096 → (why : Reason) × (x ≡ SerializationFailure why))
     → Keys-retried (suc keys) (RefusedAt x p) (b / 64) b
 unfolding total total-64
 last-key keys b x p f g =
@@ -335,8 +349,8 @@ last-key keys b x p f g =
       few = omega arith;
       busy-are = omega arith;
       yields-are = omega arith;
-      failed = λ q e. let z : x ≡ SerializationFailure = cc in subst (λ n. Some-4096 (n ∷ [])) (sym (f z)) this-key;
-      fails = λ s. (p, ap (λ (y : Refusal). RefusedAt y p) (g (only s refl)));
+      failed = λ (why, q, e). let z : x ≡ SerializationFailure why = cc in subst (λ n. Some-4096 (n ∷ [])) (sym (f why z)) this-key;
+      fails = λ s. let z = g (only s refl) in (z .0, p, ap (λ (y : Refusal). RefusedAt y p) (z .1));
     }
   where
     only : {ns : List ℕ} → Some-4096 ns → ns ≡ b ∷ [] → b ≡ 4096
@@ -350,10 +364,10 @@ same-tally p q k = rw (← p, ← q) k
 module _ (e : Setting) (buckets : ℕ) (registry keys grants : List ℕ) where
   locks-sums : (left p : ℕ) (taken : List Lease) (r : Run) (t g : List ℕ) → Sums left (r .yields) (locksOf left p e buckets registry keys taken r t g grants)
   unfolding locksOf rollbackOf spins-in
-  locks-sums zero p taken r t g = (0, omega arith, none-failed 0 AllGranted (λ q e. let z : _≡_ {A = ℕ} 0 1 = cc in omega arith))
+  locks-sums zero p taken r t g = (0, omega arith, none-failed 0 AllGranted (λ (why, q, e). let z : _≡_ {A = ℕ} 0 1 = cc in omega arith))
   locks-sums (suc left) p taken r t g =
-      let m = retryOf attemptLimit 0 (protecting e taken) buckets registry (bindingAt keys p) (bucketAt keys p) r t g in
-      let k = retry-ran (protecting e taken) buckets registry (bindingAt keys p) (bucketAt keys p) attemptLimit 0 r t g in
+      let m = retryOf attemptLimit 0 noneYet (protecting e taken) buckets registry (bindingAt keys p) (bucketAt keys p) r t g in
+      let k = retry-ran (protecting e taken) buckets registry (bindingAt keys p) (bucketAt keys p) attemptLimit 0 noneYet r t g in
       go (m .seen .0 .outcome) (m .seen .0 .run) (m .seen .1 .0) (m .seen .1 .1) (m .log) (omega (arith, k .yields-at)) (k .other) (λ q. k .all q .0) (λ q. k .fewer q .0)
       (λ l. locksOf left (p + 1) e buckets registry keys (taken ++ (l ∷ [])) (m .seen .0 .run) (m .seen .1 .0) (m .seen .1 .1) grants)
       (λ l. locks-sums left (p + 1) (taken ++ (l ∷ [])) (m .seen .0 .run) (m .seen .1 .0) (m .seen .1 .1))
@@ -365,13 +379,13 @@ module _ (e : Setting) (buckets : ℕ) (registry keys grants : List ℕ) where
       go (outcome.Granted l) k u w es y el all few more on =
           let s = on l in
           (spins-in es / 64 + s .0, omega (arith, s .1), same-tally refl (sym (spins-append es (more l .log))) (one-key left (spins-in es) (s .0) (spins-in (more l .log)) (more l .seen .0 .answer) (few refl) (s .2)))
-      go outcome.Busy k u w es y el all few more on =
+      go (outcome.Busy why) k u w es y el all few more on =
           let b = back-still (length taken) e taken k u w in
           let c = two-still {ys = []} (b .calm) (record { none = refl }) .none in (
             spins-in es / 64,
             omega (arith, b .same),
             same-tally refl (omega (arith, spins-append es (giveBackOf (length taken) e taken k u w .log ++ []), c))
-                (last-key left (spins-in es) SerializationFailure p (λ _. all refl) (λ _. refl)),
+                (last-key left (spins-in es) (SerializationFailure why) p (λ _ _. all refl) (λ _. (why, refl))),
           )
       go (outcome.Refused x) k u w es y el all few more on =
           let b = back-still (length taken) e taken k u w in
@@ -379,7 +393,7 @@ module _ (e : Setting) (buckets : ℕ) (registry keys grants : List ℕ) where
             spins-in es / 64,
             omega (arith, b .same),
             same-tally refl (omega (arith, spins-append es (giveBackOf (length taken) e taken k u w .log ++ []), c))
-                (last-key left (spins-in es) x p (λ q. absurd (el q)) (λ q. absurd (omega (arith, few refl)))),
+                (last-key left (spins-in es) x p (λ why q. absurd (el why q)) (λ q. absurd (omega (arith, few refl)))),
           )
 
 pub locks-retry : Locks-retry perform

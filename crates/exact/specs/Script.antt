@@ -70,7 +70,7 @@ handed Done b = []
 handed (Cell c) b = []
 handed (Granted l) b = l ∷ []
 handed AllGranted b = leasesOf b
-handed Busy b = []
+handed (Busy why) b = []
 handed (Refused r) b = []
 handed (RefusedAt r p) b = []
 

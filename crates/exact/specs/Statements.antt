@@ -17,6 +17,8 @@ use Rattle.model.specs.Calls.{countsOf}
 use Rattle.model.specs.declared.Answer.{Answer}
 use Rattle.model.specs.declared.Answer.the-variants.{Busy, Refused, Granted, AllGranted, RefusedAt}
 use Rattle.model.specs.declared.Lease.{Lease}
+use Rattle.model.specs.declared.Reason.{Reason}
+use Rattle.model.specs.declared.Reason.the-variants as reason
 use Rattle.model.specs.declared.Refusal.{Refusal}
 use Rattle.model.specs.declared.Refusal.the-variants.{BadHeader, Damaged, InvalidBucket, SerializationFailure, SerialsSpent, Poisoned}
 use Rattle.history.specs.World.{World, Healthy, Legal, cells, now, step, worldOf}
@@ -59,14 +61,15 @@ no-cell w c = record { seen = (w, says (Refused (InvalidBucket c)) (countsOf 0 0
 pub data Tries (w : World) (c : ℕ) : Made (World × Says) → Type 0 where
   outside : cells w ≤ c → Tries w c (no-cell w c)
   damaged : c < cells w → Is-damaged w c → Tries w c (stays w (Refused (Damaged c)))
-  held : c < cells w → Is-held w c → Tries w c (stays w Busy)
+  -- document 02, L1: "held, with the owner's serial"
+  held : c < cells w → Is-held w c → Tries w c (stays w (Busy (reason.Held (ownerAt (w .table) c))))
   spent : c < cells w → Is-free w c → lastSerial ≤ w .head .next → Tries w c (stays w (Refused (SerialsSpent c)))
   free : c < cells w → Is-free w c → w .head .next < lastSerial → Tries w c (takes-it w c)
 
 -- an exactly-if for each answer
 pub record Answered (f : Build) (w : World) (c : ℕ) : Type 0 where
   pub granted : (l : Lease) → (answer-in (f w (try-acquire c)) ≡ Granted l) ↔ ((c < cells w) × Is-free w c × (w .head .next < lastSerial) × (l ≡ leaseOf c (w .head .next)))
-  pub busy : (answer-in (f w (try-acquire c)) ≡ Busy) ↔ ((c < cells w) × Is-held w c)
+  pub busy : (why : Reason) → (answer-in (f w (try-acquire c)) ≡ Busy why) ↔ ((c < cells w) × Is-held w c × (why ≡ reason.Held (ownerAt (w .table) c)))
   pub damaged : (d : ℕ) → (answer-in (f w (try-acquire c)) ≡ Refused (Damaged d)) ↔ ((c < cells w) × Is-damaged w c × (d ≡ c))
   pub spent : (d : ℕ) → (answer-in (f w (try-acquire c)) ≡ Refused (SerialsSpent d)) ↔ ((c < cells w) × Is-free w c × (lastSerial ≤ w .head .next) × (d ≡ c))
   pub outside : (d : ℕ) → (answer-in (f w (try-acquire c)) ≡ Refused (InvalidBucket d)) ↔ ((cells w ≤ c) × (d ≡ c))
@@ -127,14 +130,14 @@ pub record Lone-exactly (f : Stepper) (w : World) (c n : ℕ) : Type 0 where
 abbrev pub Foreign-exactly : Stepper → Type 0
 Foreign-exactly f = (w : World) (c n : ℕ) → Lone-exactly f w c n
 
--- ---- the table of a cell. A Busy attempt says one thing where waiters stand, another where the cell is held
+-- ---- the table of a cell. A Busy attempt says one thing where waiters stand, another where the cell is held, by its owner's serial
 
 abbrev pub Unwaited : World → ℕ → Type 0
 Unwaited w c = waitersAt (w .table) c ≡ 0
 
-pub data Quietly (w : World) (place : ℕ) (waiting holding : Says) (c : ℕ) : World × Says → Type 0 where
+pub data Quietly (w : World) (place : ℕ) (waiting : Says) (holding : ℕ → Says) (c : ℕ) : World × Says → Type 0 where
   at-waited : (Unwaited w c → ⊥) → Quietly w place waiting holding c (w, waiting)
-  at-held : Unwaited w c → Is-held w c → Quietly w place waiting holding c (w, holding)
+  at-held : Unwaited w c → Is-held w c → Quietly w place waiting holding c (w, holding (ownerAt (w .table) c))
   at-damaged : Unwaited w c → Is-damaged w c → Quietly w place waiting holding c (w, says (Refused (Damaged c)) (countsOf 1 2 0 0) place [])
   at-spent : Unwaited w c → Is-free w c → lastSerial ≤ w .head .next
       → Quietly w place waiting holding c (w, says (Refused (SerialsSpent c)) (countsOf 1 2 0 0) place [])
@@ -167,27 +170,28 @@ pub data By-key (w : World) (registry : List ℕ) (binding bucket place : ℕ) (
   names : {x : World × Says} → getD registry binding 0 < w .head .headers → getD (w .health) (getD registry binding 0) 0 ≡ 0 → bucket < w .head .buckets
       → Row (cellOf (w .head .buckets) registry binding bucket) x → By-key w registry binding bucket place Row x
 
--- ---- what the calls say where the cell is waited for, and where it is held
+-- ---- what the calls say where the cell is waited for, and where it is held. Document 02, L1: "held, with the owner's serial; waiters seen before
+-- the compare-and-set"; "refusal 11 carries that reason besides 4,096"
 
-abbrev pub busy-after : ℕ → ℕ → Says
-busy-after place boundaries = says Busy (countsOf 1 boundaries 0 0) place []
+abbrev pub busy-after : Reason → ℕ → ℕ → Says
+busy-after why place boundaries = says (Busy why) (countsOf 1 boundaries 0 0) place []
 
-abbrev pub failed-after : ℕ → ℕ → Says
-failed-after place boundaries = says (Refused SerializationFailure) (countsOf 4096 boundaries 64 0) place []
+abbrev pub failed-after : Reason → ℕ → ℕ → Says
+failed-after why place boundaries = says (Refused (SerializationFailure why)) (countsOf 4096 boundaries 64 0) place []
 
 abbrev pub Try-lock-quiet : Build → Type 0
 Try-lock-quiet f =
     (w : World) (script : List ℕ) (place : ℕ) (held : List ℕ) (c : ℕ)
     → let k = try-lock script place held c in
     Passes w k → stepsIn script ≤ place
-    → By-cell w c place (Quietly w place (busy-after place 1) (busy-after place 2) c) (f w k .seen)
+    → By-cell w c place (Quietly w place (busy-after reason.Before place 1) (λ s. busy-after (reason.Held s) place 2) c) (f w k .seen)
 
 abbrev pub Transactional-quiet : Build → Type 0
 Transactional-quiet f =
     (w : World) (registry script : List ℕ) (place : ℕ) (held : List ℕ) (binding bucket : ℕ)
     → let k = transactional registry script place held binding bucket in
     Passes w k → stepsIn script ≤ place
-    → By-key w registry binding bucket place (Quietly w place (busy-after place 1) (busy-after place 2)) (f w k .seen)
+    → By-key w registry binding bucket place (Quietly w place (busy-after reason.Before place 1) (λ s. busy-after (reason.Held s) place 2)) (f w k .seen)
 
 -- waited for: 4,096 attempts with 1 boundary and 1 spin each, and 64 yields; held: 2 boundaries and 1 spin each
 abbrev pub Acquire-bucket-quiet : Build → Type 0
@@ -195,7 +199,7 @@ Acquire-bucket-quiet f =
     (w : World) (registry script : List ℕ) (place : ℕ) (held : List ℕ) (binding bucket : ℕ)
     → let k = acquire-bucket registry script place held binding bucket in
     Passes w k → stepsIn script ≤ place
-    → By-key w registry binding bucket place (Quietly w place (failed-after place 8256) (failed-after place 12352)) (f w k .seen)
+    → By-key w registry binding bucket place (Quietly w place (failed-after reason.Before place 8256) (λ s. failed-after (reason.Held s) place 12352)) (f w k .seen)
 
 -- ---- exactly-ifs, read off the tables
 
@@ -204,10 +208,13 @@ abbrev pub Names : World → List ℕ → ℕ → ℕ → Type 0
 Names w registry binding bucket =
     (getD registry binding 0 < w .head .headers) × (getD (w .health) (getD registry binding 0) 0 ≡ 0) × (bucket < w .head .buckets)
 
--- what an answer is, by the state of the cell; `Must` is what a grant asks
-pub record Locks-exactly (w : World) (c : ℕ) (Must : Type 0) (busy : Answer) (a : Answer) : Type 0 where
+-- what an answer is, by the state of the cell; `Must` is what a grant asks, `busy` what is said for a reason. The script is at its end: nothing sets
+-- waiters behind the compare-and-set
+pub record Locks-exactly (w : World) (c : ℕ) (Must : Type 0) (busy : Reason → Answer) (a : Answer) : Type 0 where
   pub granted : (l : Lease) → (a ≡ Granted l) ↔ (Must × (l ≡ leaseOf c (w .head .next)))
-  pub not-now : (a ≡ busy) ↔ (Unwaited w c → Is-held w c)
+  pub waited : (a ≡ busy reason.Before) ↔ (Unwaited w c → ⊥)
+  pub held : (s : ℕ) → (a ≡ busy (reason.Held s)) ↔ (Unwaited w c × Is-held w c × (s ≡ ownerAt (w .table) c))
+  pub not-after : (s : ℕ) → a ≡ busy (reason.After s) → ⊥
   pub damaged : (a ≡ Refused (Damaged c)) ↔ (Unwaited w c × Is-damaged w c)
   pub spent : (a ≡ Refused (SerialsSpent c)) ↔ (Unwaited w c × Is-free w c × (lastSerial ≤ w .head .next))
 
@@ -217,16 +224,16 @@ Try-lock-exactly f =
     (w : World) (script : List ℕ) (place : ℕ) (held : List ℕ) (c : ℕ)
     → let k = try-lock script place held c in
     Passes w k → stepsIn script ≤ place
-    → Locks-exactly w c (Ready w c × Healthy w c) Busy (answer-in (f w k))
+    → Locks-exactly w c (Ready w c × Healthy w c) (λ why. Busy why) (answer-in (f w k))
     × ((header : ℕ) → (answer-in (f w k) ≡ Refused (Poisoned header)) ↔ (Ready w c × (Healthy w c → ⊥) × (header ≡ headerOf (w .head .buckets) c)))
 
--- granted exactly if the cell is ready; 11 exactly if it is waited for or held
+-- granted exactly if the cell is ready; 11 exactly if it is waited for or held, with that as its reason
 abbrev pub Acquire-bucket-exactly : Build → Type 0
 Acquire-bucket-exactly f =
     (w : World) (registry script : List ℕ) (place : ℕ) (held : List ℕ) (binding bucket : ℕ)
     → let k = acquire-bucket registry script place held binding bucket in
     Passes w k → stepsIn script ≤ place → Names w registry binding bucket
-    → let c = cellOf (w .head .buckets) registry binding bucket in Locks-exactly w c (Ready w c) (Refused SerializationFailure) (answer-in (f w k))
+    → let c = cellOf (w .head .buckets) registry binding bucket in Locks-exactly w c (Ready w c) (λ why. Refused (SerializationFailure why)) (answer-in (f w k))
 
 -- ---- multi-lock, its script at its end: keys that name different ready cells are all granted, with the next serials in key order
 

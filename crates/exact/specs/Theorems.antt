@@ -2,7 +2,7 @@
 use Rattle.history.specs.Items.{perform, foreign}
 use Rattle.exact.specs.Statements.{Try-acquire-exactly, Foreign-exactly, Try-lock-quiet, Transactional-quiet, Acquire-bucket-quiet, Try-lock-exactly, Acquire-bucket-exactly, Locks-quiet, Locks-refused-quiet}
 use Rattle.exact.specs.Script.{Script-consumed, Place-goes, Each-has-its-turn, By-script-only, Dropped-are}
-use Rattle.exact.specs.Attempts.{Attempt-ends, Bucket-attempts, Locks-as-calls, Bucket-retries, Locks-retry, Bucket-boundaries, Locks-boundaries}
+use Rattle.exact.specs.Attempts.{Attempt-ends, Bucket-attempts, Reason-of-last, Locks-as-calls, Bucket-retries, Locks-retry, Bucket-boundaries, Locks-boundaries}
 use Rattle.exact.specs.TryAcquire as acquiring
 use Rattle.exact.specs.ForeignSteps as stepping
 use Rattle.exact.specs.QuietCalls as quiet
@@ -13,6 +13,7 @@ use Rattle.exact.specs.ScriptFacts as facts
 use Rattle.exact.specs.Retried as retried
 use Rattle.exact.specs.Ending as ending
 use Rattle.exact.specs.Attempting as attempting
+use Rattle.exact.specs.LastReason as last-reason
 use Rattle.exact.specs.KeyByKey as by-key
 use Rattle.exact.specs.Boundaries as bounding
 use Rattle.exact.specs.Bits as bits
@@ -72,6 +73,9 @@ attempt-ends = ending.attempt-ends
 
 pub bucket-attempts : Bucket-attempts perform
 bucket-attempts = attempting.bucket-attempts
+
+pub reason-of-last : Reason-of-last perform
+reason-of-last = last-reason.reason-of-last
 
 pub locks-as-calls : Locks-as-calls perform
 locks-as-calls = by-key.locks-as-calls

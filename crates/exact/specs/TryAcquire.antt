@@ -18,6 +18,8 @@ use Rattle.model.specs.declared.Answer.the-variants.{Granted, Busy, Refused}
 use Rattle.model.specs.declared.Check.{Check}
 use Rattle.model.specs.declared.Check.the-variants.{Fine, Fault}
 use Rattle.model.specs.declared.Lease.{Lease}
+use Rattle.model.specs.declared.Reason.{Reason}
+use Rattle.model.specs.declared.Reason.the-variants as reason
 use Rattle.model.specs.declared.Refusal.the-variants.{InvalidBucket, Damaged, SerialsSpent}
 use Rattle.model.specs.declared.State.{State}
 use Rattle.model.specs.declared.Took.{Took}
@@ -64,12 +66,12 @@ module _ {w : World} {c : ℕ} where
   granted′ l (spent i x r) = (λ e. let z : _≡_ {A = ℕ} 0 1 = cc in absurd (omega arith), λ p. absurd (omega (arith, p .2)))
   granted′ l (free i x r) = (λ e. (i, x, r, cc), λ p. ap (λ (y : Lease). Granted y) (sym (p .3)))
 
-  busy′ : {m : Made (World × Says)} → Tries w c m → (m .seen .1 .answer ≡ Busy) ↔ ((c < cells w) × Is-held w c)
-  busy′ (outside i) = (λ e. let z : _≡_ {A = ℕ} 0 1 = cc in absurd (omega arith), λ p. absurd (omega (arith, p .0)))
-  busy′ (damaged i x) = (λ e. let z : _≡_ {A = ℕ} 0 1 = cc in absurd (omega arith), λ p. absurd (x .1 (p .1)))
-  busy′ (held i x) = (λ e. (i, x), λ p. refl)
-  busy′ (spent i x r) = (λ e. let z : _≡_ {A = ℕ} 0 1 = cc in absurd (omega arith), λ p. absurd (omega (arith, x .0, p .1 .0)))
-  busy′ (free i x r) = (λ e. let z : _≡_ {A = ℕ} 0 1 = cc in absurd (omega arith), λ p. absurd (omega (arith, x .0, p .1 .0)))
+  busy′ : {m : Made (World × Says)} → (why : Reason) → Tries w c m → (m .seen .1 .answer ≡ Busy why) ↔ ((c < cells w) × Is-held w c × (why ≡ reason.Held (ownerAt (w .table) c)))
+  busy′ why (outside i) = (λ e. let z : _≡_ {A = ℕ} 0 1 = cc in absurd (omega arith), λ p. absurd (omega (arith, p .0)))
+  busy′ why (damaged i x) = (λ e. let z : _≡_ {A = ℕ} 0 1 = cc in absurd (omega arith), λ p. absurd (x .1 (p .1)))
+  busy′ why (held i x) = (λ e. (i, x, cc), λ p. ap (λ (y : Reason). Busy y) (sym (p .2)))
+  busy′ why (spent i x r) = (λ e. let z : _≡_ {A = ℕ} 0 1 = cc in absurd (omega arith), λ p. absurd (omega (arith, x .0, p .1 .0)))
+  busy′ why (free i x r) = (λ e. let z : _≡_ {A = ℕ} 0 1 = cc in absurd (omega arith), λ p. absurd (omega (arith, x .0, p .1 .0)))
 
   damaged′ : {m : Made (World × Says)} → (d : ℕ) → Tries w c m → (m .seen .1 .answer ≡ Refused (Damaged d)) ↔ ((c < cells w) × Is-damaged w c × (d ≡ c))
   damaged′ d (outside i) = (λ e. let z : _≡_ {A = ℕ} 0 1 = cc in absurd (omega arith), λ p. absurd (omega (arith, p .0)))
@@ -96,7 +98,7 @@ pub try-acquire-exactly : Try-acquire-exactly perform
 try-acquire-exactly w c s =
     record {
       granted = λ l. granted′ l (tries w c s);
-      busy = busy′ (tries w c s);
+      busy = λ why. busy′ why (tries w c s);
       damaged = λ d. damaged′ d (tries w c s);
       spent = λ d. spent′ d (tries w c s);
       outside = λ d. outside′ d (tries w c s);

@@ -13,6 +13,7 @@ use Rattle.model.specs.Lock.{leaseAt}
 use Rattle.model.specs.Checks.{countIn}
 use Rattle.model.specs.declared.Answer.the-variants.{Granted, AllGranted, Busy, Refused, RefusedAt}
 use Rattle.model.specs.declared.Lease.{Lease}
+use Rattle.model.specs.declared.Reason.{Reason}
 use Rattle.model.specs.declared.Refusal.{Refusal}
 use Rattle.history.specs.World.{World, Live, Healthy, now, Unreleased, number-of, attempts, takes}
 use Rattle.history.specs.Items.{Call, try-acquire, drop-lease, read-permission, competing-acquire, release-then-handoff, foreign-release, drop-preserving, acquire-preserving, environment, try-lock, transactional, acquire-bucket, release-all, acquire-locks, crew, IsCrew, asked, keyCell, Build, Entry, events-of, history-of}
@@ -65,7 +66,7 @@ Busy-or-refused f =
     (w : World) (k : Call) (s : ℕ) → Asks-one k
     → let l = leaseOf (asked w k) s in
     Live w l → Unreleased l (f w k .log)
-    → (answer-in (f w k) ≡ Busy) ⊎ ((r : Refusal) × (answer-in (f w k) ≡ Refused r))
+    → ((why : Reason) × (answer-in (f w k) ≡ Busy why)) ⊎ ((r : Refusal) × (answer-in (f w k) ≡ Refused r))
 
 -- and a multi-lock with a key of that cell is refused
 abbrev pub Locks-refused : Build → Type 0

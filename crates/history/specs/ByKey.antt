@@ -11,7 +11,7 @@ use lib.Seq.{getD-append-seam}
 use Rattle.model.specs.Log.{Made}
 use Rattle.model.specs.Arena.{isPoisoned, leaseOf, leasesOf, setCell}
 use Rattle.model.specs.Foreign.{Setting, protecting, flowOf}
-use Rattle.model.specs.Lock.{takeOf, lockOf, outcomeOf, answerOf, settled, findOf, attemptAt, attemptOf, pauseOf, isBusy, retryOf, attemptLimit, noLease, leaseAt, rollbackOf, afterKey, bindingAt, bucketAt, locksOf}
+use Rattle.model.specs.Lock.{takeOf, lockOf, outcomeOf, answerOf, settled, findOf, attemptAt, attemptOf, pauseOf, isBusy, retryOf, attemptLimit, noneYet, noLease, leaseAt, rollbackOf, afterKey, bindingAt, bucketAt, locksOf}
 use Rattle.model.specs.Checks.{countIn}
 use Rattle.model.specs.Calls.{starting, acquireOf}
 use Rattle.model.specs.declared.Answer.the-variants.{AllGranted, Granted, Refused}
@@ -22,6 +22,7 @@ use Rattle.model.specs.declared.Head.{Head}
 use Rattle.model.specs.declared.Lease.{Lease}
 use Rattle.model.specs.declared.Outcome.{Outcome}
 use Rattle.model.specs.declared.Outcome.the-variants as outcome
+use Rattle.model.specs.declared.Reason.{Reason}
 use Rattle.model.specs.declared.Run.{Run}
 use Rattle.model.specs.declared.Take.{Take}
 use Rattle.model.specs.declared.Take.the-variants as taking
@@ -44,13 +45,13 @@ Names c o = (l : Lease) → o ≡ outcome.Granted l → l .cell ≡ c
 
 take-names : (c : ℕ) (x : Take) → Names c (outcomeOf c x)
 take-names c (taking.Granted s) l e = let y : leaseOf c s ≡ l = cc in sym (ap (λ (k : Lease). k .cell) y)
-take-names c taking.Busy l e = let z : _≡_ {A = ℕ} 0 1 = cc in absurd (omega arith)
+take-names c (taking.Busy owner) l e = let z : _≡_ {A = ℕ} 0 1 = cc in absurd (omega arith)
 take-names c taking.Damaged l e = let z : _≡_ {A = ℕ} 0 1 = cc in absurd (omega arith)
 take-names c taking.Spent l e = let z : _≡_ {A = ℕ} 0 1 = cc in absurd (omega arith)
 
 lock-names : {buckets c : ℕ} {g : List ℕ} {o : Outcome} → Comes buckets c g o → Names c o
 lock-names {c = c} (granted s h) l e = let y : leaseOf c s ≡ l = cc in sym (ap (λ (k : Lease). k .cell) y)
-lock-names busy l e = let z : _≡_ {A = ℕ} 0 1 = cc in absurd (omega arith)
+lock-names (busy why) l e = let z : _≡_ {A = ℕ} 0 1 = cc in absurd (omega arith)
 lock-names (poisoned h) l e = let z : _≡_ {A = ℕ} 0 1 = cc in absurd (omega arith)
 lock-names damaged l e = let z : _≡_ {A = ℕ} 0 1 = cc in absurd (omega arith)
 lock-names spent l e = let z : _≡_ {A = ℕ} 0 1 = cc in absurd (omega arith)
@@ -74,23 +75,23 @@ module _ (e : Setting) (buckets : ℕ) (registry : List ℕ) (binding bucket : �
       go (found.Fault x) h l a = let z : _≡_ {A = ℕ} 0 1 = cc in absurd (omega arith)
       go (found.At c) h l a = lock-names (lock-comes e buckets c (r .flow) t g) l a ∙ h
 
-  pub retry-names : (left i : ℕ) (r : Run) (t g : List ℕ) → Names own (retryOf left i e buckets registry binding bucket r t g .seen .0 .outcome)
+  pub retry-names : (left i : ℕ) (last : Reason) (r : Run) (t g : List ℕ) → Names own (retryOf left i last e buckets registry binding bucket r t g .seen .0 .outcome)
   unfolding retryOf
-  retry-names zero i r t g = λ l a. let z : _≡_ {A = ℕ} 0 1 = cc in absurd (omega arith)
-  retry-names (suc left) i r t g =
+  retry-names zero i last r t g = λ l a. let z : _≡_ {A = ℕ} 0 1 = cc in absurd (omega arith)
+  retry-names (suc left) i last r t g =
       let m = attemptOf e buckets registry binding bucket r t g .seen in
       let p = pauseOf e i (m .0 .run) (m .1 .0) (m .1 .1) .seen in
       if-both (λ (x : Made (With Tried)). Names own (x .seen .0 .outcome)) (isBusy (m .0 .outcome))
-      (retry-names left (i + 1) (p .0) (p .1 .0) (p .1 .1)) (attempt-names r t g)
+      (retry-names left (i + 1) _ (p .0) (p .1 .0) (p .1 .1)) (attempt-names r t g)
 
 answer-names : (c : ℕ) (o : Outcome) → Names c o → (l : Lease) → answerOf o ≡ Granted l → l .cell ≡ c
 answer-names c (outcome.Granted k) n l a = let y : k ≡ l = cc in n l (ap {B = Outcome} (λ x. outcome.Granted x) y)
-answer-names c outcome.Busy n l a = let z : _≡_ {A = ℕ} 0 1 = cc in absurd (omega arith)
+answer-names c (outcome.Busy why) n l a = let z : _≡_ {A = ℕ} 0 1 = cc in absurd (omega arith)
 answer-names c (outcome.Refused r) n l a = let z : _≡_ {A = ℕ} 0 1 = cc in absurd (omega arith)
 
 settled-names : (c : ℕ) (o : Outcome) → Names c o → (l : Lease) → answerOf (settled o) ≡ Granted l → l .cell ≡ c
 settled-names c (outcome.Granted k) n l a = let y : k ≡ l = cc in n l (ap {B = Outcome} (λ x. outcome.Granted x) y)
-settled-names c outcome.Busy n l a = let z : _≡_ {A = ℕ} 0 1 = cc in absurd (omega arith)
+settled-names c (outcome.Busy why) n l a = let z : _≡_ {A = ℕ} 0 1 = cc in absurd (omega arith)
 settled-names c (outcome.Refused r) n l a = let z : _≡_ {A = ℕ} 0 1 = cc in absurd (omega arith)
 
 acquire-names : (n : ℕ) (h : Head) (t : List ℕ) (c : ℕ) (l : Lease) → acquireOf n h t c .seen .0 .answer ≡ Granted l → l .cell ≡ c
@@ -103,7 +104,7 @@ locks-all : (left p : ℕ) (e : Setting) (buckets : ℕ) (registry keys : List �
 unfolding locksOf rollbackOf
 locks-all zero p e buckets registry keys taken r t g grants l a = let y : AllGranted ≡ Granted l = a in let z : _≡_ {A = ℕ} 0 1 = cc in omega arith
 locks-all (suc left) p e buckets registry keys taken r t g grants l a =
-    let m = retryOf attemptLimit 0 (protecting e taken) buckets registry (bindingAt keys p) (bucketAt keys p) r t g .seen in
+    let m = retryOf attemptLimit 0 noneYet (protecting e taken) buckets registry (bindingAt keys p) (bucketAt keys p) r t g .seen in
     go (m .0 .outcome) (m .0 .run) (m .1 .0) (m .1 .1)
     (λ k. locks-all left (p + 1) e buckets registry keys (taken ++ (k ∷ [])) (m .0 .run) (m .1 .0) (m .1 .1) grants l) a
   where
@@ -111,7 +112,7 @@ locks-all (suc left) p e buckets registry keys taken r t g grants l a =
         → ((k : Lease) → locksOf left (p + 1) e buckets registry keys (taken ++ (k ∷ [])) s u y grants .seen .0 .answer ≡ Granted l → ⊥)
         → afterKey o e taken p s u y grants (λ k. locksOf left (p + 1) e buckets registry keys (taken ++ (k ∷ [])) s u y grants) .seen .0 .answer ≡ Granted l → ⊥
     go (outcome.Granted k) s u y on = on k
-    go outcome.Busy s u y on = λ a. let z : _≡_ {A = ℕ} 0 1 = cc in omega arith
+    go (outcome.Busy why) s u y on = λ a. let z : _≡_ {A = ℕ} 0 1 = cc in omega arith
     go (outcome.Refused x) s u y on = λ a. let z : _≡_ {A = ℕ} 0 1 = cc in omega arith
 
 steps-names : (w : World) (k : Call) (l : Lease) → steps w k .seen .1 .answer ≡ Granted l → l .cell ≡ asked w k
@@ -136,8 +137,8 @@ steps-names w (transactional registry script place held binding bucket) l a =
     (attempt-names e (w .head .buckets) registry binding bucket (starting (w .head) place) (w .table) (w .health)) l a
 steps-names w (acquire-bucket registry script place held binding bucket) l a =
     let e = acting w (acquire-bucket registry script place held binding bucket) in
-    settled-names _ (retryOf attemptLimit 0 e (w .head .buckets) registry binding bucket (starting (w .head) place) (w .table) (w .health) .seen .0 .outcome)
-    (retry-names e (w .head .buckets) registry binding bucket attemptLimit 0 (starting (w .head) place) (w .table) (w .health)) l a
+    settled-names _ (retryOf attemptLimit 0 noneYet e (w .head .buckets) registry binding bucket (starting (w .head) place) (w .table) (w .health) .seen .0 .outcome)
+    (retry-names e (w .head .buckets) registry binding bucket attemptLimit 0 noneYet (starting (w .head) place) (w .table) (w .health)) l a
 steps-names w (release-all script place leases) l a = let z : _≡_ {A = ℕ} 0 1 = cc in absurd (omega arith)
 steps-names w (acquire-locks registry script place held keys grants) l a =
     let e = acting w (acquire-locks registry script place held keys grants) in
@@ -175,8 +176,8 @@ module _ (buckets : ℕ) (registry keys : List ℕ) where
   locks-filled total zero p h e taken r t g grants n all a =
       record { long = omega (arith, length-words taken); filled = λ i k. rw (leases-words taken) (all i (omega arith)) }
   locks-filled total (suc left) p h e taken r t g grants n all a =
-      let m = retryOf attemptLimit 0 (protecting e taken) buckets registry (bindingAt keys p) (bucketAt keys p) r t g .seen in
-      go (m .0 .outcome) (m .0 .run) (m .1 .0) (m .1 .1) (retry-names (protecting e taken) buckets registry (bindingAt keys p) (bucketAt keys p) attemptLimit 0 r t g)
+      let m = retryOf attemptLimit 0 noneYet (protecting e taken) buckets registry (bindingAt keys p) (bucketAt keys p) r t g .seen in
+      go (m .0 .outcome) (m .0 .run) (m .1 .0) (m .1 .1) (retry-names (protecting e taken) buckets registry (bindingAt keys p) (bucketAt keys p) attemptLimit 0 noneYet r t g)
       (λ l c. locks-filled total left (p + 1) (omega arith) e (taken ++ (l ∷ [])) (m .0 .run) (m .1 .0) (m .1 .1) grants (omega (arith, length-append taken (l ∷ []))) (one-more p taken l n all c)) a
     where
       go : (o : Outcome) (s : Run) (u y : List ℕ) → Names (keyCell buckets registry keys p) o
@@ -185,7 +186,7 @@ module _ (buckets : ℕ) (registry keys : List ℕ) where
           → let m = afterKey o e taken p s u y grants (λ l. locksOf left (p + 1) e buckets registry keys (taken ++ (l ∷ [])) s u y grants) .seen in
           m .0 .answer ≡ AllGranted → Filled total (m .1 .1 .1)
       go (outcome.Granted l) s u y c on = on l (c l refl)
-      go outcome.Busy s u y c on = λ a. let z : _≡_ {A = ℕ} 0 1 = cc in absurd (omega arith)
+      go (outcome.Busy why) s u y c on = λ a. let z : _≡_ {A = ℕ} 0 1 = cc in absurd (omega arith)
       go (outcome.Refused x) s u y c on = λ a. let z : _≡_ {A = ℕ} 0 1 = cc in absurd (omega arith)
 
 pub buffers-name : Buffer-is perform

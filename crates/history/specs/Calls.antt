@@ -12,7 +12,7 @@ use borrow.Author.Tests.{leb-false, not-false}
 use Rattle.model.specs.Log.{Made, by-caller, attempt-begun, released, Event}
 use Rattle.model.specs.Arena.{cellsOf, shapeFits, setCell, isLive, isIn, leasesOf}
 use Rattle.model.specs.Foreign.{flowOf}
-use Rattle.model.specs.Lock.{leaseAt, noLease, answerOf, settled, attemptLimit}
+use Rattle.model.specs.Lock.{leaseAt, noLease, answerOf, settled, attemptLimit, noneYet}
 use Rattle.model.specs.Checks.{countIn, badShape, badHeld, badCell, notReleasable, cellRules, leaseRules, heldCellRules, heldLeaseRules, scriptRules, lockRules, bucketRules, releaseRules, locksRules}
 use Rattle.model.specs.Calls.{starting, acquireOf}
 use Rattle.model.specs.Crew.{crewRules}
@@ -143,7 +143,7 @@ steps-kept w (transactional registry script place held binding bucket) g k =
     let m = attempt-kept (w .head) script (leasesOf held) registry binding bucket (starting (w .head) place) (w .table) (w .health) g in
     record { kept = m .kept; gain = live-won (m .gain) }
 steps-kept w (acquire-bucket registry script place held binding bucket) g k =
-    let m = retry-kept (w .head) script attemptLimit 0 (leasesOf held) registry binding bucket (starting (w .head) place) (w .table) (w .health) g in
+    let m = retry-kept (w .head) script attemptLimit 0 noneYet (leasesOf held) registry binding bucket (starting (w .head) place) (w .table) (w .health) g in
     record { kept = m .kept; gain = live-settled (m .gain) }
 steps-kept w (release-all script place leases) g k =
     let held = releasable (w .head) (w .table) (w .health) (countIn leases) (leasesOf leases) (omega (arith, words-leases leases)) (k .1 .1 .1 .1) in

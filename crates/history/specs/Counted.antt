@@ -9,7 +9,7 @@ use lib.ListN.{length, take}
 use Rattle.model.specs.Log.{Made, Event, attempt-begun, yielded, released, by-caller, note, _>>_}
 use Rattle.model.specs.Arena.{serialRemains, headerOf, isPoisoned, bitAt, ownerAt, waitersAt, setCell, stateAt, isFree, isLive, isIn, leaseOf}
 use Rattle.model.specs.Foreign.{Setting, protecting, stepsIn, kindAt, placeAt, numberAt, flowOf, stepTakeOf, stepReleaseOf, stepWaitersOf, stepHealthOf, stepOf, runStepsOf, boundaryOf}
-use Rattle.model.specs.Lock.{takeIn, takeOf, afterTake, lateOf, secondOf, lockOf, runOf, findOf, attemptAt, attemptOf, spinOf, pauseOf, isBusy, retryOf, leaseAt, giveBackOf, rollbackOf, afterKey, bindingAt, bucketAt, attemptLimit, Locks, locksOf}
+use Rattle.model.specs.Lock.{takeIn, takeOf, afterTake, lateOf, secondOf, lockOf, runOf, findOf, attemptAt, attemptOf, spinOf, pauseOf, isBusy, retryOf, leaseAt, giveBackOf, rollbackOf, afterKey, bindingAt, bucketAt, attemptLimit, noneYet, Locks, locksOf}
 use Rattle.model.specs.Calls.{countsOf}
 use Rattle.model.specs.declared.Counts.{Counts}
 use Rattle.model.specs.declared.Flow.{Flow}
@@ -19,6 +19,7 @@ use Rattle.model.specs.declared.Lease.{Lease}
 use Rattle.model.specs.declared.Locked.{Locked}
 use Rattle.model.specs.declared.Outcome.{Outcome}
 use Rattle.model.specs.declared.Outcome.the-variants as outcome
+use Rattle.model.specs.declared.Reason.{Reason}
 use Rattle.model.specs.declared.Run.{Run}
 use Rattle.model.specs.declared.State.{State}
 use Rattle.model.specs.declared.State.the-variants as state
@@ -130,7 +131,7 @@ module _ (a b y : ℕ) where
     where
       go : (v : Flow) (t g : List ℕ) (x : Take) → Locking 2 (v .dropped) (afterTake x e buckets v t g c)
       go v t g (taking.Granted s) = late-counted e buckets v t g c s
-      go v t g taking.Busy = none-counted (countsOf a (b + 2) y (v .dropped))
+      go v t g (taking.Busy owner) = none-counted (countsOf a (b + 2) y (v .dropped))
       go v t g taking.Damaged = none-counted (countsOf a (b + 2) y (v .dropped))
       go v t g taking.Spent = none-counted (countsOf a (b + 2) y (v .dropped))
 
@@ -182,15 +183,15 @@ module _ (e : Setting) where
       (spin-counted r t g)
 
   module _ (buckets : ℕ) (registry : List ℕ) (binding bucket : ℕ) where
-    pub retry-counted : (left i : ℕ) (r : Run) (t g : List ℕ) → Tries r (retryOf left i e buckets registry binding bucket r t g)
+    pub retry-counted : (left i : ℕ) (last : Reason) (r : Run) (t g : List ℕ) → Tries r (retryOf left i last e buckets registry binding bucket r t g)
     unfolding retryOf
-    retry-counted zero i r t g = none-counted (counts r)
-    retry-counted (suc left) i r t g =
+    retry-counted zero i last r t g = none-counted (counts r)
+    retry-counted (suc left) i last r t g =
         let m = attemptOf e buckets registry binding bucket r t g .seen in
         let p = pauseOf e i (m .0 .run) (m .1 .0) (m .1 .1) .seen in
         then-counted (attempt-counted buckets registry binding bucket r t g)
         (if-both (Tries (m .0 .run)) (isBusy (m .0 .outcome))
-        (then-counted (pause-counted i (m .0 .run) (m .1 .0) (m .1 .1)) (retry-counted left (i + 1) (p .0) (p .1 .0) (p .1 .1)))
+        (then-counted (pause-counted i (m .0 .run) (m .1 .0) (m .1 .1)) (retry-counted left (i + 1) _ (p .0) (p .1 .0) (p .1 .1)))
         (none-counted (counts (m .0 .run))))
 
 -- ---- giving back, and multi-lock
@@ -214,12 +215,12 @@ module _ (e : Setting) (buckets : ℕ) (registry keys grants : List ℕ) where
   unfolding locksOf rollbackOf
   locks-counted zero p taken r t g = none-counted (counts r)
   locks-counted (suc left) p taken r t g =
-      let m = retryOf attemptLimit 0 (protecting e taken) buckets registry (bindingAt keys p) (bucketAt keys p) r t g .seen in
-      then-counted (retry-counted (protecting e taken) buckets registry (bindingAt keys p) (bucketAt keys p) attemptLimit 0 r t g)
+      let m = retryOf attemptLimit 0 noneYet (protecting e taken) buckets registry (bindingAt keys p) (bucketAt keys p) r t g .seen in
+      then-counted (retry-counted (protecting e taken) buckets registry (bindingAt keys p) (bucketAt keys p) attemptLimit 0 noneYet r t g)
       (go (m .0 .run) (m .1 .0) (m .1 .1) (m .0 .outcome) (λ l. locksOf left (p + 1) e buckets registry keys (taken ++ (l ∷ [])) (m .0 .run) (m .1 .0) (m .1 .1) grants)
       (λ l. locks-counted left (p + 1) (taken ++ (l ∷ [])) (m .0 .run) (m .1 .0) (m .1 .1)))
     where
       go : (k : Run) (u w : List ℕ) (x : Outcome) (more : Lease → Made Locks) → ((l : Lease) → Ends k (more l)) → Ends k (afterKey x e taken p k u w grants more)
       go k u w (outcome.Granted l) more h = h l
-      go k u w outcome.Busy more h = then-counted (back-counted (length taken) e taken k u w) (none-counted _)
+      go k u w (outcome.Busy why) more h = then-counted (back-counted (length taken) e taken k u w) (none-counted _)
       go k u w (outcome.Refused x) more h = then-counted (back-counted (length taken) e taken k u w) (none-counted _)

@@ -6,7 +6,7 @@ use native.Mathlib.Omega.{arith}
 use Rattle.model.specs.Log.{Made, by-caller, attempt-begun, released}
 use Rattle.model.specs.Arena.{leasesOf, setCell}
 use Rattle.model.specs.Foreign.{flowOf}
-use Rattle.model.specs.Lock.{attemptLimit}
+use Rattle.model.specs.Lock.{attemptLimit, noneYet}
 use Rattle.model.specs.Checks.{countIn}
 use Rattle.model.specs.Calls.{countsOf, starting, acquireOf}
 use Rattle.model.specs.declared.Counts.{Counts}
@@ -54,7 +54,7 @@ steps-counted w (transactional registry script place held binding bucket) _ =
     attempt-counted (acting w k) (w .head .buckets) registry binding bucket (starting (w .head) place) (w .table) (w .health)
 steps-counted w (acquire-bucket registry script place held binding bucket) _ =
     let k = acquire-bucket registry script place held binding bucket in
-    retry-counted (acting w k) (w .head .buckets) registry binding bucket attemptLimit 0 (starting (w .head) place) (w .table) (w .health)
+    retry-counted (acting w k) (w .head .buckets) registry binding bucket attemptLimit 0 noneYet (starting (w .head) place) (w .table) (w .health)
 steps-counted w (release-all script place leases) _ =
     back-counted (countIn leases) (acting w (release-all script place leases)) (leasesOf leases) (starting (w .head) place) (w .table) (w .health)
 steps-counted w (acquire-locks registry script place held keys grants) _ =

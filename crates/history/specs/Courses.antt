@@ -233,6 +233,6 @@ refused-stays k headers buckets serial n =
     kept (Cell c) w v n = refl
     kept (Granted l) w v n = refl
     kept AllGranted w v n = refl
-    kept Busy w v n = refl
+    kept (Busy why) w v n = refl
     kept (Refused r) w v n = refl
     kept (RefusedAt r p) w v n = refl

@@ -117,7 +117,7 @@ module _ (h : Head) (n : ℕ) (t g : List ℕ) (c : ℕ) where
 
   after-same : (ps : List Lease) (a : Take) (k d : ℕ) (u : List ℕ) → afterTake a (given h [] ps) (h .buckets) (flowOf k 0 d) u g c ≡ afterTake a (given h [] []) (h .buckets) (flowOf k 0 d) u g c
   after-same ps (taking.Granted s) k d u = late-same ps k d u s
-  after-same ps taking.Busy k d u = refl
+  after-same ps (taking.Busy owner) k d u = refl
   after-same ps taking.Damaged k d u = refl
   after-same ps taking.Spent k d u = refl
 
@@ -140,7 +140,7 @@ module _ (h : Head) (n : ℕ) (t g : List ℕ) (c : ℕ) where
       go (taking.Granted s) =
           if-both (λ (m : Made (With Locked)). m .seen .1 .1 ≡ g) (isPoisoned g (headerOf (h .buckets) c)) refl
           (if-both (λ (m : Made (With Locked)). m .seen .1 .1 ≡ g) (eqb (waitersAt (takeOf n t c .seen .1) c) 0) refl refl)
-      go taking.Busy = refl
+      go (taking.Busy owner) = refl
       go taking.Damaged = refl
       go taking.Spent = refl
 

@@ -14,17 +14,19 @@ use Rattle.model.specs.Answers.{refusalIn}
 use Rattle.model.specs.Foreign.{stepTakeOf, stepReleaseOf, stepWaitersOf, stepHealthOf, stepOf, runStepsOf, boundaryOf}
 use Rattle.model.specs.Lock.{takeOf, lateOf, secondOf, lockOf, findOf, attemptOf, spinOf, pauseOf, retryOf, giveBackOf, rollbackOf, leaseAt, locksOf}
 use Rattle.model.specs.Checks.{notLive, badBindings, notReleasable, prepareRules, cellRules, leaseRules, scriptRules, lockRules, bucketRules, releaseRules, locksRules}
-use Rattle.model.specs.Calls.{prepareOf, acquireOf, tryAcquireOf, dropLeaseOf, tryLockOf, acquireBucketOf, releaseAllOf, acquireLocksOf, environmentOf, countsOf}
+use Rattle.model.specs.Calls.{prepareOf, acquireOf, tryAcquireOf, dropLeaseOf, competingAcquireOf, tryLockOf, acquireBucketOf, releaseAllOf, acquireLocksOf, environmentOf, countsOf}
 use Rattle.model.specs.Crew.{total, startOf, allWithin, risesFrom, badLists, badTurns, crewRules, crewOf}
 use Rattle.model.specs.declared.Answer.the-variants.{Done, Granted, AllGranted, Busy, Refused, RefusedAt}
 use Rattle.model.specs.declared.CrewReply.{CrewReply}
 use Rattle.model.specs.declared.Lease.{Lease}
+use Rattle.model.specs.declared.Reason.the-variants as reason
 use Rattle.model.specs.declared.Refusal.the-variants.{Poisoned, InvalidBucket, NotHeld, BadCrew, Damaged, BadShape}
 use Rattle.history.specs.World.{World, worldOf, Live, Healthy, now, Sound, Spent, Unreleased, number-of, takes}
-use Rattle.history.specs.Items.{Call, Says, acquire-bucket, try-lock, drop-lease, release-all, acquire-locks, environment, try-acquire, perform, foreign, Item, call, foreign-step, preparation, Course, courseOf, cold, next-item, run, preparing, held-of, Entry, noted, preparation-over, entryOf, events-of, saying, says}
+use Rattle.history.specs.Items.{Call, Says, acquire-bucket, try-lock, drop-lease, competing-acquire, release-all, acquire-locks, environment, try-acquire, perform, foreign, Item, call, foreign-step, preparation, Course, courseOf, cold, next-item, run, preparing, held-of, Entry, noted, preparation-over, entryOf, events-of, saying, says}
 use Rattle.history.specs.Statements.{Ledger, answers, leaves, log-of, Hands-over, Rolled-back, buffer-in, Fails}
+use Rattle.history.specs.Reasons.{Takes-nothing}
 use Rattle.history.specs.Callers.{singles}
-use Rattle.history.specs.Theorems.{demand-2, forgets, nothing-kept, held-live, changes-nothing, crew-refused, named, take-is-call, nothing-new, rollback-is, two-writers, granted-healthy, locks-healthy, poisoned-holds-nothing}
+use Rattle.history.specs.Theorems.{demand-2, forgets, nothing-kept, held-live, changes-nothing, crew-refused, named, take-is-call, nothing-new, rollback-is, two-writers, granted-healthy, holder-lives, early-takes-nothing, late-is-spent, locks-healthy, poisoned-holds-nothing}
 use Rattle.history.specs.Tests.{differ}
 use Rattle.history.specs.Events.{lives}
 
@@ -87,7 +89,7 @@ prepared = worldOf (headOf 2 4 1) (replicate 24 0) (replicate 2 0)
 abbrev entries : List Entry
 entries =
     entryOf granting (says (Granted (leaseOf 2 2)) (countsOf 1 3 0 0) 2 [])
-    ∷ entryOf late-busy (says Busy (countsOf 1 3 0 0) 4 [])
+    ∷ entryOf late-busy (says (Busy (reason.After 3)) (countsOf 1 3 0 0) 4 [])
     ∷ entryOf [] (saying (Refused (NotHeld 0)))
     ∷ entryOf given-back (saying Done)
     ∷ entryOf ending (says Done (countsOf 0 1 0 0) 0 [])
@@ -249,6 +251,31 @@ pub lease-held : (isIn lease (held-of late) ≡ true) × Live granted lease × (
 unfolding run next-item preparing perform foreign bitAt ownerAt waitersAt setCell setWaiters isFree isHeld stateOf stateAt isLive leasesOf wordsOf sameLease isIn headFits shapeFits healthFits registryFits first stepTakeOf stepReleaseOf stepWaitersOf stepHealthOf stepOf runStepsOf boundaryOf takeOf lateOf secondOf lockOf findOf attemptOf spinOf pauseOf retryOf giveBackOf rollbackOf locksOf notLive badBindings notReleasable prepareRules cellRules leaseRules scriptRules lockRules bucketRules releaseRules locksRules prepareOf acquireOf tryAcquireOf dropLeaseOf environmentOf tryLockOf acquireBucketOf releaseAllOf acquireLocksOf
 lease-held = (refl, refl, refl, held-live granted late lease late-busy [] refl refl refl)
 
+-- ---- why it is Busy: cell 2 held by serial 2, waiters of cell 3 seen before, waiters of cell 3 seen after
+
+abbrev meets-holder : Call
+meets-holder = try-lock [] 0 [] 2
+
+abbrev meets-waiters : Call
+meets-waiters = try-lock (3 ∷ 3 ∷ 1 ∷ 5 ∷ 0 ∷ 0 ∷ []) 0 [] 3
+
+pub three-reasons : (answers granted meets-holder ≡ Busy (reason.Held 2)) × (answers granted meets-waiters ≡ Busy reason.Before) × (answers granted late ≡ Busy (reason.After 3))
+unfolding run next-item preparing perform foreign bitAt ownerAt waitersAt setCell setWaiters isFree isHeld stateOf stateAt isLive leasesOf wordsOf sameLease isIn headFits shapeFits healthFits registryFits first stepTakeOf stepReleaseOf stepWaitersOf stepHealthOf stepOf runStepsOf boundaryOf takeOf lateOf secondOf lockOf findOf attemptOf spinOf pauseOf retryOf giveBackOf rollbackOf locksOf notLive badBindings notReleasable prepareRules cellRules leaseRules scriptRules lockRules bucketRules releaseRules locksRules prepareOf acquireOf tryAcquireOf dropLeaseOf environmentOf tryLockOf acquireBucketOf releaseAllOf acquireLocksOf
+three-reasons = (refl, refl, refl)
+
+-- `holder-lives`, `early-takes-nothing`, `late-is-spent`: the holder's lease is live, the call that met waiters took nothing, and serial 3 owns nothing
+pub reasons-met : Live (leaves granted meets-holder) (leaseOf 2 2) × Takes-nothing (log-of granted meets-waiters) × Spent (leaves granted late) 3
+reasons-met = (
+  holder-lives granted meets-holder 2 tt (three-reasons .0),
+  early-takes-nothing granted meets-waiters tt .0 (three-reasons .1),
+  late-is-spent granted late 3 tt (both-sound .1) (three-reasons .2),
+)
+
+-- `own-serial`
+pub own-named : answers granted (competing-acquire lease) ≡ Busy (reason.Held 2)
+unfolding run next-item preparing perform foreign bitAt ownerAt waitersAt setCell setWaiters isFree isHeld stateOf stateAt isLive leasesOf wordsOf sameLease isIn headFits shapeFits healthFits registryFits first stepTakeOf stepReleaseOf stepWaitersOf stepHealthOf stepOf runStepsOf boundaryOf competingAcquireOf takeOf lateOf secondOf lockOf findOf attemptOf spinOf pauseOf retryOf giveBackOf rollbackOf locksOf notLive badBindings notReleasable prepareRules cellRules leaseRules scriptRules lockRules bucketRules releaseRules locksRules prepareOf acquireOf tryAcquireOf dropLeaseOf environmentOf tryLockOf acquireBucketOf releaseAllOf acquireLocksOf
+own-named = refl
+
 -- ---- `two-writers`: cell 2 is granted, Busy, given back, granted again
 
 abbrev valve : List Item
@@ -258,7 +285,7 @@ abbrev first-grant : Entry
 first-grant = entryOf (attempt-begun ∷ took by-caller 2 1 ∷ []) (says (Granted (leaseOf 2 1)) (countsOf 1 0 0 0) 0 [])
 
 abbrev meanwhile : List Entry
-meanwhile = entryOf (attempt-begun ∷ []) (says Busy (countsOf 1 0 0 0) 0 []) ∷ entryOf (released by-caller 2 1 ∷ []) (saying Done) ∷ []
+meanwhile = entryOf (attempt-begun ∷ []) (says (Busy (reason.Held 1)) (countsOf 1 0 0 0) 0 []) ∷ entryOf (released by-caller 2 1 ∷ []) (saying Done) ∷ []
 
 abbrev second-grant : Entry
 second-grant = entryOf (attempt-begun ∷ took by-caller 2 2 ∷ []) (says (Granted (leaseOf 2 2)) (countsOf 1 0 0 0) 0 [])

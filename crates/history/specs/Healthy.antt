@@ -12,7 +12,7 @@ use Rattle.model.specs.Log.{Made, Event, by-caller, attempt-begun, took}
 use Rattle.model.specs.Arena.{headerOf, leaseOf, leasesOf}
 use Rattle.model.specs.Answers.{refusalIn}
 use Rattle.model.specs.Foreign.{Setting, protecting, flowOf}
-use Rattle.model.specs.Lock.{lockOf, answerOf, settled, findOf, attemptAt, attemptOf, pauseOf, isBusy, retryOf, attemptLimit, noLease, leaseAt, rollbackOf, afterKey, bindingAt, bucketAt, Locks, locksOf}
+use Rattle.model.specs.Lock.{lockOf, answerOf, settled, findOf, attemptAt, attemptOf, pauseOf, isBusy, retryOf, attemptLimit, noneYet, noLease, leaseAt, rollbackOf, afterKey, bindingAt, bucketAt, Locks, locksOf}
 use Rattle.model.specs.Checks.{countIn}
 use Rattle.model.specs.Calls.{given, starting}
 use Rattle.model.specs.declared.Answer.{Answer}
@@ -24,6 +24,7 @@ use Rattle.model.specs.declared.Head.{Head}
 use Rattle.model.specs.declared.Lease.{Lease}
 use Rattle.model.specs.declared.Outcome.{Outcome}
 use Rattle.model.specs.declared.Outcome.the-variants as outcome
+use Rattle.model.specs.declared.Reason.{Reason}
 use Rattle.model.specs.declared.Run.{Run}
 use Rattle.model.specs.declared.Tried.{Tried}
 use Rattle.choice.specs.Pick.{if-both}
@@ -67,7 +68,7 @@ comes-healthy : {buckets c : ℕ} {g : List ℕ} {o : Outcome} → Comes buckets
 comes-healthy {buckets} {c} {g} (granted s h) l e =
     let y : leaseOf c s ≡ l = cc in
     subst (λ (k : Lease). getD g (headerOf buckets (k .cell)) 0 ≡ 0) y h
-comes-healthy busy l e = absurd (no-grant e)
+comes-healthy (busy why) l e = absurd (no-grant e)
 comes-healthy (poisoned h) l e = absurd (no-refused e)
 comes-healthy damaged l e = absurd (no-refused e)
 comes-healthy spent l e = absurd (no-refused e)
@@ -109,32 +110,32 @@ module _ (e : Setting) (buckets : ℕ) (registry : List ℕ) (binding bucket : �
           let m = lockOf e buckets (r .flow) t g c in
           subst (Granted-so buckets (m .seen .1 .1) l) (sym (append-nil (m .log))) (lock-so e buckets (r .flow) t g c l q)
 
-  retry-so : (left i : ℕ) (r : Run) (t g : List ℕ) → Tried-so buckets (retryOf left i e buckets registry binding bucket r t g)
+  retry-so : (left i : ℕ) (last : Reason) (r : Run) (t g : List ℕ) → Tried-so buckets (retryOf left i last e buckets registry binding bucket r t g)
   unfolding retryOf
-  retry-so zero i r t g = λ l q. absurd (no-grant q)
-  retry-so (suc left) i r t g =
+  retry-so zero i last r t g = λ l q. absurd (no-grant q)
+  retry-so (suc left) i last r t g =
       let m = attemptOf e buckets registry binding bucket r t g in
       let p = pauseOf e i (m .seen .0 .run) (m .seen .1 .0) (m .seen .1 .1) in
-      let again = retry-so left (i + 1) (p .seen .0) (p .seen .1 .0) (p .seen .1 .1) in
+      let again = retry-so left (i + 1) _ (p .seen .0) (p .seen .1 .0) (p .seen .1 .1) in
       if-both (λ (x : Made (With Tried)). Tried-so buckets (record { seen = x .seen; log = m .log ++ x .log })) (isBusy (m .seen .0 .outcome))
       (λ l q. so-behind (m .log) (so-behind (p .log) (again l q)))
       (λ l q. subst (Granted-so buckets (m .seen .1 .1) l) (sym (append-nil (m .log))) (attempt-so r t g l q))
 
   -- a retry begins with an attempt
-  retry-begins : (left i : ℕ) (r : Run) (t g : List ℕ) → (es : List Event) × (retryOf (suc left) i e buckets registry binding bucket r t g .log ≡ attempt-begun ∷ es)
+  retry-begins : (left i : ℕ) (last : Reason) (r : Run) (t g : List ℕ) → (es : List Event) × (retryOf (suc left) i last e buckets registry binding bucket r t g .log ≡ attempt-begun ∷ es)
   unfolding retryOf attemptOf
-  retry-begins left i r t g = (_, refl)
+  retry-begins left i last r t g = (_, refl)
 
 -- ---- the calls that grant one lease
 
 of-answer : (o : Outcome) (l : Lease) → answerOf o ≡ Granted l → Given o l
 of-answer (outcome.Granted k) l e = let y : k ≡ l = cc in ap {B = Outcome} (λ x. outcome.Granted x) y
-of-answer outcome.Busy l e = let z : _≡_ {A = ℕ} 0 1 = cc in absurd (omega arith)
+of-answer (outcome.Busy why) l e = let z : _≡_ {A = ℕ} 0 1 = cc in absurd (omega arith)
 of-answer (outcome.Refused r) l e = let z : _≡_ {A = ℕ} 0 1 = cc in absurd (omega arith)
 
 of-settled : (o : Outcome) (l : Lease) → answerOf (settled o) ≡ Granted l → Given o l
 of-settled (outcome.Granted k) l e = let y : k ≡ l = cc in ap {B = Outcome} (λ x. outcome.Granted x) y
-of-settled outcome.Busy l e = let z : _≡_ {A = ℕ} 0 1 = cc in absurd (omega arith)
+of-settled (outcome.Busy why) l e = let z : _≡_ {A = ℕ} 0 1 = cc in absurd (omega arith)
 of-settled (outcome.Refused r) l e = let z : _≡_ {A = ℕ} 0 1 = cc in absurd (omega arith)
 
 steps-healthy : (w : World) (k : Call) (l : Lease) → Reads-again k → steps w k .seen .1 .answer ≡ Granted l → Healthy (steps w k .seen .0) (l .cell)
@@ -155,7 +156,7 @@ steps-healthy w (transactional registry script place held binding bucket) l y a 
     attempt-so e (w .head .buckets) registry binding bucket (starting (w .head) place) (w .table) (w .health) l (of-answer _ l a) .healthy
 steps-healthy w (acquire-bucket registry script place held binding bucket) l y a =
     let e = acting w (acquire-bucket registry script place held binding bucket) in
-    retry-so e (w .head .buckets) registry binding bucket attemptLimit 0 (starting (w .head) place) (w .table) (w .health) l (of-settled _ l a) .healthy
+    retry-so e (w .head .buckets) registry binding bucket attemptLimit 0 noneYet (starting (w .head) place) (w .table) (w .health) l (of-settled _ l a) .healthy
 steps-healthy w (release-all script place leases) l y a = absurd y
 steps-healthy w (acquire-locks registry script place held keys grants) l y a = absurd y
 steps-healthy w (crew counts cells turns) l y a = absurd y
@@ -176,7 +177,7 @@ module _ (e : Setting) (buckets : ℕ) (registry keys grants : List ℕ) where
   unfolding locksOf rollbackOf
   locks-extend zero p taken r t g i k a = rw (leases-words taken)
   locks-extend (suc left) p taken r t g i k a =
-      let m = retryOf attemptLimit 0 (protecting e taken) buckets registry (bindingAt keys p) (bucketAt keys p) r t g .seen in
+      let m = retryOf attemptLimit 0 noneYet (protecting e taken) buckets registry (bindingAt keys p) (bucketAt keys p) r t g .seen in
       go (m .0 .outcome) (m .0 .run) (m .1 .0) (m .1 .1)
       (λ l b. locks-extend left (p + 1) (taken ++ (l ∷ [])) (m .0 .run) (m .1 .0) (m .1 .1) i (omega (arith, length-append taken (l ∷ []))) b ∙ List·getD-append taken (l ∷ []) noLease i k) a
     where
@@ -186,7 +187,7 @@ module _ (e : Setting) (buckets : ℕ) (registry keys grants : List ℕ) where
           → let m = afterKey o e taken p s u y grants (λ l. locksOf left (p + 1) e buckets registry keys (taken ++ (l ∷ [])) s u y grants) .seen in
           m .0 .answer ≡ AllGranted → leaseAt (leasesOf (m .1 .1 .1)) i ≡ leaseAt taken i
       go (outcome.Granted l) s u y on = on l
-      go outcome.Busy s u y on = λ a. let z : _≡_ {A = ℕ} 0 1 = cc in absurd (omega arith)
+      go (outcome.Busy why) s u y on = λ a. let z : _≡_ {A = ℕ} 0 1 = cc in absurd (omega arith)
       go (outcome.Refused x) s u y on = λ a. let z : _≡_ {A = ℕ} 0 1 = cc in absurd (omega arith)
 
   -- no key left: no event; else the first event is an attempt
@@ -195,7 +196,7 @@ module _ (e : Setting) (buckets : ℕ) (registry keys grants : List ℕ) where
   unfolding locksOf
   locks-begin zero p taken r t g = inl refl
   locks-begin (suc left) p taken r t g =
-      let k = retry-begins (protecting e taken) buckets registry (bindingAt keys p) (bucketAt keys p) 4095 0 r t g in
+      let k = retry-begins (protecting e taken) buckets registry (bindingAt keys p) (bucketAt keys p) 4095 0 noneYet r t g in
       inr (begins-then k _)
 
   locks-end : (left p : ℕ) (taken : List Lease) (r : Run) (t g : List ℕ) → left ≡ 0 → locksOf left p e buckets registry keys taken r t g grants .log ≡ []
@@ -243,10 +244,10 @@ module _ (h : Head) (script : List ℕ) (ps : List Lease) (registry keys grants 
   unfolding locksOf rollbackOf
   locks-points zero p taken r t g good n a i low high = absurd (omega arith)
   locks-points (suc left) p taken r t g good n a i low high =
-      let m = retryOf attemptLimit 0 (protecting e taken) (h .buckets) registry (bindingAt keys p) (bucketAt keys p) r t g in
-      let k = retry-kept h script attemptLimit 0 (ps ++ taken) registry (bindingAt keys p) (bucketAt keys p) r t g good .kept in
+      let m = retryOf attemptLimit 0 noneYet (protecting e taken) (h .buckets) registry (bindingAt keys p) (bucketAt keys p) r t g in
+      let k = retry-kept h script attemptLimit 0 noneYet (ps ++ taken) registry (bindingAt keys p) (bucketAt keys p) r t g good .kept in
       go (m .seen .0 .outcome) (m .seen .0 .run) (m .seen .1 .0) (m .seen .1 .1) (m .log) (k .leads) (kept-fit good k)
-      (retry-so (protecting e taken) (h .buckets) registry (bindingAt keys p) (bucketAt keys p) attemptLimit 0 r t g)
+      (retry-so (protecting e taken) (h .buckets) registry (bindingAt keys p) (bucketAt keys p) attemptLimit 0 noneYet r t g)
       (λ l b j x y. locks-points left (p + 1) (taken ++ (l ∷ [])) (m .seen .0 .run) (m .seen .1 .0) (m .seen .1 .1) (kept-fit good k) (omega (arith, length-append taken (l ∷ []))) b j x y) a
     where
       go : (o : Outcome) (s : Run) (u y : List ℕ) (log : List Event) → starts s u y ≡ now (starts r t g) log → Fit (starts s u y)
@@ -255,7 +256,7 @@ module _ (h : Head) (script : List ℕ) (ps : List Lease) (registry keys grants 
           m .seen .0 .answer ≡ AllGranted → (j : ℕ) → p + 1 ≤ j → j < p + 1 + left → Point (starts s u y) (m .log) (j + 1 ≡ p + 1 + left) (leaseAt (leasesOf (m .seen .1 .1 .1)) j))
           → let m = afterKey o e taken p s u y grants (λ l. locksOf left (p + 1) e (h .buckets) registry keys (taken ++ (l ∷ [])) s u y grants) in
           m .seen .0 .answer ≡ AllGranted → Point (starts r t g) (log ++ m .log) (i + 1 ≡ p + suc left) (leaseAt (leasesOf (m .seen .1 .1 .1)) i)
-      go outcome.Busy s u y log q f so on a = let z : _≡_ {A = ℕ} 0 1 = cc in absurd (omega arith)
+      go (outcome.Busy why) s u y log q f so on a = let z : _≡_ {A = ℕ} 0 1 = cc in absurd (omega arith)
       go (outcome.Refused x) s u y log q f so on a = let z : _≡_ {A = ℕ} 0 1 = cc in absurd (omega arith)
       go (outcome.Granted l) s u y log q f so on a = here (ℕ-discrete i p)
         where
@@ -309,7 +310,7 @@ poisoned-fails Done x = absurd (omega arith)
 poisoned-fails (Cell c) x = absurd (omega arith)
 poisoned-fails (Granted l) x = absurd (omega arith)
 poisoned-fails AllGranted x = absurd (omega arith)
-poisoned-fails Busy x = tt
+poisoned-fails (Busy why) x = tt
 poisoned-fails (Refused r) x = tt
 poisoned-fails (RefusedAt r p) x = tt
 

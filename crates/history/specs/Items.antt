@@ -346,7 +346,7 @@ prepared-by Done w v k = cold w
 prepared-by (Cell c) w v k = noted k [] (saying (Cell c)) v
 prepared-by (Granted l) w v k = noted k [] (saying (Granted l)) v
 prepared-by AllGranted w v k = noted k [] (saying AllGranted) v
-prepared-by Busy w v k = noted k [] (saying Busy) v
+prepared-by (Busy why) w v k = noted k [] (saying (Busy why)) v
 prepared-by (Refused r) w v k = noted k [] (saying (Refused r)) v
 prepared-by (RefusedAt r p) w v k = noted k [] (saying (RefusedAt r p)) v
 

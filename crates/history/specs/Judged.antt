@@ -10,7 +10,7 @@ use Rattle.model.specs.Log.{Made, by-caller, attempt-begun, released, gives, no
 use Rattle.model.specs.Arena.{spentTo, setCell, leasesOf}
 use Rattle.model.specs.Refusals.{Rule, refusalOf, first, judge}
 use Rattle.model.specs.Foreign.{Setting, flowOf, boundaryOf}
-use Rattle.model.specs.Lock.{lockOf, answerOf, runOf, attemptOf, attemptLimit, retryOf, settled, giveBackOf, locksOf}
+use Rattle.model.specs.Lock.{lockOf, answerOf, runOf, attemptOf, attemptLimit, noneYet, retryOf, settled, giveBackOf, locksOf}
 use Rattle.model.specs.Checks.{countIn}
 use Rattle.model.specs.Calls.{countsOf, given, starting, replied, played, refused, acquireOf, tryAcquireOf, dropLeaseOf, readPermissionOf, competingAcquireOf, releaseThenHandoffOf, foreignReleaseOf, acquirePreservingOf, dropPreservingOf, environmentOf, tryLockOf, transactionalOf, acquireBucketOf, releaseAllOf, acquireLocksOf}
 use Rattle.model.specs.Crew.{crewAt, turnsOf, crewOf}
@@ -122,7 +122,7 @@ steps w (transactional registry script place held binding bucket) =
     (attemptOf (acting w (transactional registry script place held binding bucket)) (w .head .buckets) registry binding bucket (starting (w .head) place) (w .table) (w .health))
 steps w (acquire-bucket registry script place held binding bucket) =
     seen-as (λ m. play (played (w .head) (m .0 .run) (answerOf (settled (m .0 .outcome))), m .1))
-    (retryOf attemptLimit 0 (acting w (acquire-bucket registry script place held binding bucket)) (w .head .buckets) registry binding bucket (starting (w .head) place) (w .table) (w .health))
+    (retryOf attemptLimit 0 noneYet (acting w (acquire-bucket registry script place held binding bucket)) (w .head .buckets) registry binding bucket (starting (w .head) place) (w .table) (w .health))
 steps w (release-all script place leases) =
     seen-as (λ m. play (played (w .head) (m .0) answer.Done, m .1))
     (giveBackOf (countIn leases) (acting w (release-all script place leases)) (leasesOf leases) (starting (w .head) place) (w .table) (w .health))

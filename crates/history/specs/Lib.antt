@@ -2,6 +2,7 @@ pub mod World
 pub mod Items
 pub mod Statements
 pub mod Answers
+pub mod Reasons
 pub mod Callers
 pub mod Theorems
 pub mod Promises
@@ -27,6 +28,8 @@ pub mod Writers
 pub mod Others
 pub mod Counted
 pub mod CountedCalls
+pub mod Why
+pub mod Whys
 pub mod Refused
 pub mod Naming
 pub mod NamingCrew

@@ -9,7 +9,7 @@ use lib.Seq.{take-length, getD-append-seam}
 use Rattle.model.specs.Log.{by-caller, released}
 use Rattle.model.specs.Arena.{setCell}
 use Rattle.model.specs.Foreign.{boundaryOf}
-use Rattle.model.specs.Lock.{runOf, noLease, leaseAt, giveBackOf, Locks, rollbackOf, afterKey, attemptLimit, bindingAt, bucketAt, retryOf, locksOf}
+use Rattle.model.specs.Lock.{runOf, noLease, leaseAt, giveBackOf, Locks, rollbackOf, afterKey, attemptLimit, noneYet, bindingAt, bucketAt, retryOf, locksOf}
 use Rattle.model.specs.Calls.{given}
 use Rattle.model.specs.declared.Head.{Head}
 use Rattle.model.specs.declared.Lease.{Lease}
@@ -144,8 +144,8 @@ module _ (h : Head) (script : List ℕ) where
             subst (Live (starts r t g)) (sym (x .2)) (held .are-held .all-live (x .0) (x .1));
       }
   locks-kept (suc left) p ps taken registry keys r t g grants first good f held =
-      let k = retry-kept h script attemptLimit 0 (ps ++ taken) registry (bindingAt keys p) (bucketAt keys p) r t g good in
-      let m = retryOf attemptLimit 0 (given h script (ps ++ taken)) (h .buckets) registry (bindingAt keys p) (bucketAt keys p) r t g .seen in
+      let k = retry-kept h script attemptLimit 0 noneYet (ps ++ taken) registry (bindingAt keys p) (bucketAt keys p) r t g good in
+      let m = retryOf attemptLimit 0 noneYet (given h script (ps ++ taken)) (h .buckets) registry (bindingAt keys p) (bucketAt keys p) r t g .seen in
       let still : (i : ℕ) → i < length taken → Live (of-tried h m) (leaseAt taken i) = λ i j.
       kept-live good (k .kept) (leaseAt taken i)
       (in-right (leaseAt taken i) ps taken (subst (λ x. In x (leaseAt taken i)) (take-length taken) (in-take taken (length taken) i noLease j j)))

@@ -11,7 +11,7 @@ use borrow.Author.Tests.{eqb-true}
 use Rattle.model.specs.Log.{Made, Actor, Event, by-script, attempt-begun, boundary-run, yielded, spun, step-dropped, took, released, waiters-set, health-set}
 use Rattle.model.specs.Arena.{leaseOf, leasesOf, isIn, setCell, serialRemains, bitAt, ownerAt, isFree, isLive}
 use Rattle.model.specs.Foreign.{Setting, flowOf, stepTakeOf, stepReleaseOf, stepWaitersOf, stepHealthOf, stepOf}
-use Rattle.model.specs.Lock.{noLease, leaseAt, attemptLimit}
+use Rattle.model.specs.Lock.{noLease, leaseAt, attemptLimit, noneYet}
 use Rattle.model.specs.Checks.{countIn}
 use Rattle.model.specs.Calls.{given, starting, acquireOf}
 use Rattle.model.specs.declared.Head.{Head}
@@ -63,7 +63,7 @@ steps-told w (transactional registry script place held binding bucket) _ =
     told (attempt-told (acting w k) place (w .head .buckets) registry binding bucket (starting (w .head) place) (w .table) (w .health) (Mine k) (omega arith))
 steps-told w (acquire-bucket registry script place held binding bucket) _ =
     let k = acquire-bucket registry script place held binding bucket in
-    told (retry-told (acting w k) place (w .head .buckets) registry binding bucket attemptLimit 0 (starting (w .head) place) (w .table) (w .health) (Mine k) (omega arith))
+    told (retry-told (acting w k) place (w .head .buckets) registry binding bucket attemptLimit 0 noneYet (starting (w .head) place) (w .table) (w .health) (Mine k) (omega arith))
 steps-told w (release-all script place leases) _ =
     back-told (countIn leases) (acting w (release-all script place leases)) place (leasesOf leases) (starting (w .head) place) (w .table) (w .health) _ (omega arith)
     (λ i h. in-at (leasesOf leases) i (omega (arith, words-leases leases)))

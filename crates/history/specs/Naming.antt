@@ -11,7 +11,7 @@ use borrow.Author.Tests.{eqb-true}
 use Rattle.model.specs.Log.{Made, Event, by-caller, by-script, attempt-begun, boundary-run, yielded, spun, step-dropped, took, released, waiters-set, health-set}
 use Rattle.model.specs.Arena.{serialRemains, headerOf, isPoisoned, bitAt, ownerAt, waitersAt, setCell, stateAt, isFree, isLive, isIn, leaseOf}
 use Rattle.model.specs.Foreign.{Setting, protecting, stepsIn, kindAt, placeAt, numberAt, flowOf, stepTakeOf, stepReleaseOf, stepWaitersOf, stepHealthOf, stepOf, runStepsOf, boundaryOf}
-use Rattle.model.specs.Lock.{takeIn, takeOf, afterTake, lateOf, secondOf, lockOf, outcomeOf, runOf, findOf, attemptAt, attemptOf, spinOf, pauseOf, isBusy, retryOf, leaseAt, giveBackOf, rollbackOf, afterKey, bindingAt, bucketAt, attemptLimit, Locks, locksOf}
+use Rattle.model.specs.Lock.{takeIn, takeOf, afterTake, lateOf, secondOf, lockOf, outcomeOf, runOf, findOf, attemptAt, attemptOf, spinOf, pauseOf, isBusy, retryOf, leaseAt, giveBackOf, rollbackOf, afterKey, bindingAt, bucketAt, attemptLimit, noneYet, Locks, locksOf}
 use Rattle.model.specs.declared.Flow.{Flow}
 use Rattle.model.specs.declared.Found.{Found}
 use Rattle.model.specs.declared.Found.the-variants as found
@@ -19,6 +19,7 @@ use Rattle.model.specs.declared.Lease.{Lease}
 use Rattle.model.specs.declared.Locked.{Locked}
 use Rattle.model.specs.declared.Outcome.{Outcome}
 use Rattle.model.specs.declared.Outcome.the-variants as outcome
+use Rattle.model.specs.declared.Reason.{Reason}
 use Rattle.model.specs.declared.Run.{Run}
 use Rattle.model.specs.declared.State.{State}
 use Rattle.model.specs.declared.State.the-variants as state
@@ -160,7 +161,7 @@ boundary-told e low f t g A b = more tt (steps-told (stepsIn (e .script) - f .pl
 -- a grant was taken
 abbrev pub Given : Outcome → Post
 Given (outcome.Granted l) A = A (l .cell) (l .serial)
-Given outcome.Busy A = Unit {0}
+Given (outcome.Busy why) A = Unit {0}
 Given (outcome.Refused r) A = Unit {0}
 
 pub take-told : (script : List ℕ) (low : ℕ) (A : Leases) (next : ℕ) (t : List ℕ) (c : ℕ)
@@ -200,7 +201,7 @@ module _ (e : Setting) (buckets low : ℕ) where
     where
       go : (v : Flow) (t g : List ℕ) (x : Take) (C : Leases) → low ≤ v .place → Given (outcomeOf c x) C → Locking (e .script) low C (afterTake x e buckets v t g c)
       go v t g (taking.Granted s) C d h = late-told v t g c s C d h
-      go v t g taking.Busy C d h = none (tt, d)
+      go v t g (taking.Busy owner) C d h = none (tt, d)
       go v t g taking.Damaged C d h = none (tt, d)
       go v t g taking.Spent C d h = none (tt, d)
 
@@ -242,16 +243,16 @@ module _ (e : Setting) (low : ℕ) where
       (andthen (boundary-told e low (r .flow) t g A b) (λ B i d. more tt (spin-told k (m .1 .0) (m .1 .1) (and-took B yielded) d)))
       (spin-told r t g A b)
 
-  pub retry-told : (buckets : ℕ) (registry : List ℕ) (binding bucket left i : ℕ) (r : Run) (t g : List ℕ) (A : Leases) → low ≤ r .flow .place
-      → Trying (e .script) low A (retryOf left i e buckets registry binding bucket r t g)
+  pub retry-told : (buckets : ℕ) (registry : List ℕ) (binding bucket left i : ℕ) (last : Reason) (r : Run) (t g : List ℕ) (A : Leases) → low ≤ r .flow .place
+      → Trying (e .script) low A (retryOf left i last e buckets registry binding bucket r t g)
   unfolding retryOf
-  retry-told buckets registry binding bucket zero i r t g A b = none (tt, b)
-  retry-told buckets registry binding bucket (suc left) i r t g A b =
+  retry-told buckets registry binding bucket zero i last r t g A b = none (tt, b)
+  retry-told buckets registry binding bucket (suc left) i last r t g A b =
       let m = attemptOf e buckets registry binding bucket r t g .seen in
       let p = pauseOf e i (m .0 .run) (m .1 .0) (m .1 .1) .seen in
       andthen (attempt-told buckets registry binding bucket r t g A b)
       (λ B _ h. if-both (Trying (e .script) low B) (isBusy (m .0 .outcome))
-      (andthen (pause-told i (m .0 .run) (m .1 .0) (m .1 .1) B (h .1)) (λ C j d. retry-told buckets registry binding bucket left (i + 1) (p .0) (p .1 .0) (p .1 .1) C d))
+      (andthen (pause-told i (m .0 .run) (m .1 .0) (m .1 .1) B (h .1)) (λ C j d. retry-told buckets registry binding bucket left (i + 1) _ (p .0) (p .1 .0) (p .1 .1) C d))
       (none h))
 
 -- ---- giving back, and multi-lock
@@ -283,8 +284,8 @@ module _ (e : Setting) (low buckets : ℕ) (registry keys grants : List ℕ) whe
   unfolding locksOf rollbackOf
   locks-told zero p taken r t g A b h = none tt
   locks-told (suc left) p taken r t g A b h =
-      let m = retryOf attemptLimit 0 (protecting e taken) buckets registry (bindingAt keys p) (bucketAt keys p) r t g .seen in
-      andthen (retry-told (protecting e taken) low buckets registry (bindingAt keys p) (bucketAt keys p) attemptLimit 0 r t g A b)
+      let m = retryOf attemptLimit 0 noneYet (protecting e taken) buckets registry (bindingAt keys p) (bucketAt keys p) r t g .seen in
+      andthen (retry-told (protecting e taken) low buckets registry (bindingAt keys p) (bucketAt keys p) attemptLimit 0 noneYet r t g A b)
       (λ B i k. go (m .0 .run) (m .1 .0) (m .1 .1) B (λ j q. i _ _ (h j q)) (m .0 .outcome)
       (λ l. locksOf left (p + 1) e buckets registry keys (taken ++ (l ∷ [])) (m .0 .run) (m .1 .0) (m .1 .1) grants)
       (λ l x. locks-told left (p + 1) (taken ++ (l ∷ [])) (m .0 .run) (m .1 .0) (m .1 .1) B (k .1) x) (k .0) (k .1))
@@ -293,5 +294,5 @@ module _ (e : Setting) (low buckets : ℕ) (registry keys grants : List ℕ) whe
           → ((l : Lease) → First (length (taken ++ (l ∷ []))) (taken ++ (l ∷ [])) B → Told (e .script) low B (more l .log) any)
           → Given x B → low ≤ k .flow .place → Told (e .script) low B (afterKey x e taken p k u w grants more .log) any
       go k u w B h (outcome.Granted l) next f a d = f l (one-more B taken l h a)
-      go k u w B h outcome.Busy next f a d = handed (back-told (length taken) e low taken k u w B d h)
+      go k u w B h (outcome.Busy why) next f a d = handed (back-told (length taken) e low taken k u w B d h)
       go k u w B h (outcome.Refused x) next f a d = handed (back-told (length taken) e low taken k u w B d h)

@@ -102,7 +102,7 @@ module _ (counts cells : List ℕ) where
         go : {x : List ℕ} {o : Outcome} (next : ℕ) (t : List ℕ) (B : Leases) → Keeps w B
             → Comes buckets (getD cells (startOf counts m + n) 0) x o → Given o B → Keeps (afterTry o next t w m (startOf counts m + n)) B
         go next t B h (granted s z) a = rw (← is) (took-noted (w .made) (w .serials) m n s B few is less h a)
-        go next t B h busy a = h
+        go next t B h (busy why) a = h
         go next t B h (poisoned z) a = h
         go next t B h damaged a = h
         go next t B h spent a = h

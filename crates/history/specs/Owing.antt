@@ -11,7 +11,7 @@ use lib.Seq.{take-suc, take-length}
 use Rattle.model.specs.Log.{Made, Event, by-caller, by-script, attempt-begun, boundary-run, yielded, spun, step-dropped, took, released, waiters-set, health-set}
 use Rattle.model.specs.Arena.{serialRemains, headerOf, isPoisoned, leaseOf, bitAt, ownerAt, waitersAt, setCell, isFree, isLive, isIn, stateAt}
 use Rattle.model.specs.Foreign.{Setting, protecting, stepsIn, kindAt, placeAt, numberAt, stepTakeOf, stepReleaseOf, stepWaitersOf, stepHealthOf, stepOf, runStepsOf, boundaryOf, flowOf}
-use Rattle.model.specs.Lock.{takeIn, takeOf, lateOf, afterTake, secondOf, lockOf, outcomeOf, findOf, attemptAt, attemptOf, spinOf, pauseOf, isBusy, retryOf, runOf, attemptLimit, noLease, leaseAt, giveBackOf, Locks, rollbackOf, afterKey, bindingAt, bucketAt, locksOf}
+use Rattle.model.specs.Lock.{takeIn, takeOf, lateOf, afterTake, secondOf, lockOf, outcomeOf, findOf, attemptAt, attemptOf, spinOf, pauseOf, isBusy, retryOf, runOf, attemptLimit, noneYet, noLease, leaseAt, giveBackOf, Locks, rollbackOf, afterKey, bindingAt, bucketAt, locksOf}
 use Rattle.model.specs.declared.Flow.{Flow}
 use Rattle.model.specs.declared.Found.{Found}
 use Rattle.model.specs.declared.Found.the-variants as found
@@ -19,6 +19,7 @@ use Rattle.model.specs.declared.Lease.{Lease}
 use Rattle.model.specs.declared.Locked.{Locked}
 use Rattle.model.specs.declared.Outcome.{Outcome}
 use Rattle.model.specs.declared.Outcome.the-variants as outcome
+use Rattle.model.specs.declared.Reason.{Reason}
 use Rattle.model.specs.declared.Refusal.{Refusal}
 use Rattle.model.specs.declared.Run.{Run}
 use Rattle.model.specs.declared.State.{State}
@@ -183,7 +184,7 @@ take-hands n t c = go (stateAt n t c)
     go state.Free = if-both P (serialRemains n) (more (took by-caller c n) (inl refl) none) none
 
 -- an outcome that is no grant
-pub no-grant : {l : Lease} → outcome.Busy ≡ outcome.Granted l → ⊥
+pub no-grant : {why : Reason} {l : Lease} → outcome.Busy why ≡ outcome.Granted l → ⊥
 no-grant e = let z : _≡_ {A = ℕ} 0 1 = cc in omega arith
 
 pub no-refused : {r : Refusal} {l : Lease} → outcome.Refused r ≡ outcome.Granted l → ⊥
@@ -214,7 +215,7 @@ module _ (e : Setting) (buckets : ℕ) where
   after-hands (taking.Granted s) f t g c =
       let k = late-hands f t g c s in
       record { settles = k .settles; passes = λ l x. k .passes l (let y : leaseOf c s ≡ l = cc in y) }
-  after-hands taking.Busy f t g c = record { settles = none; passes = λ l x. inl x }
+  after-hands (taking.Busy owner) f t g c = record { settles = none; passes = λ l x. inl x }
   after-hands taking.Damaged f t g c = record { settles = none; passes = λ l x. inl x }
   after-hands taking.Spent f t g c = record { settles = none; passes = λ l x. inl x }
 
@@ -262,14 +263,14 @@ module _ (e : Setting) where
       P : Made (With Run) → Type 0
       P m = Silent m
 
-  pub retry-hands : (left i buckets : ℕ) (registry : List ℕ) (binding bucket : ℕ) (r : Run) (t g : List ℕ)
-      → Hands of-tried Nobody (retryOf left i e buckets registry binding bucket r t g)
+  pub retry-hands : (left i : ℕ) (last : Reason) (buckets : ℕ) (registry : List ℕ) (binding bucket : ℕ) (r : Run) (t g : List ℕ)
+      → Hands of-tried Nobody (retryOf left i last e buckets registry binding bucket r t g)
   unfolding retryOf
-  retry-hands zero i buckets registry binding bucket r t g = record { settles = none; passes = λ l x. absurd x }
-  retry-hands (suc left) i buckets registry binding bucket r t g =
+  retry-hands zero i last buckets registry binding bucket r t g = record { settles = none; passes = λ l x. absurd x }
+  retry-hands (suc left) i last buckets registry binding bucket r t g =
       let m = attemptOf e buckets registry binding bucket r t g .seen in
       let p = pauseOf e i (m .0 .run) (m .1 .0) (m .1 .1) .seen in
-      let again = retry-hands left (i + 1) buckets registry binding bucket (p .0) (p .1 .0) (p .1 .1) in
+      let again = retry-hands left (i + 1) _ buckets registry binding bucket (p .0) (p .1 .0) (p .1 .1) in
       hand (attempt-hands buckets registry binding bucket r t g .settles) (λ l x. absurd x)
       (if-cases (Hands of-tried (of-tried m)) (isBusy (m .0 .outcome))
       (λ b. busy (m .0 .outcome) b (after-quiet (pause-silent i (m .0 .run) (m .1 .0) (m .1 .1)) again))
@@ -278,7 +279,7 @@ module _ (e : Setting) where
       -- a Busy attempt hands nothing on
       busy : {m : Made (With Tried)} (o : Outcome) → isBusy o ≡ true → Hands of-tried Nobody m → Hands of-tried (Given o) m
       busy (outcome.Granted l) b k = absurd (differ b)
-      busy outcome.Busy b k = record { settles = k .settles; passes = λ l x. absurd (no-grant x) }
+      busy (outcome.Busy why) b k = record { settles = k .settles; passes = λ l x. absurd (no-grant x) }
       busy (outcome.Refused r) b k = absurd (differ b)
 
   -- ---- `release_all` and multi-lock
@@ -313,8 +314,8 @@ module _ (e : Setting) where
   unfolding locksOf
   locks-hands zero p buckets registry keys taken r t g grants = record { settles = none; passes = λ l i. inl (rw (leases-words taken) i) }
   locks-hands (suc left) p buckets registry keys taken r t g grants =
-      let k = retry-hands (protecting e taken) attemptLimit 0 buckets registry (bindingAt keys p) (bucketAt keys p) r t g in
-      let m = retryOf attemptLimit 0 (protecting e taken) buckets registry (bindingAt keys p) (bucketAt keys p) r t g .seen in
+      let k = retry-hands (protecting e taken) attemptLimit 0 noneYet buckets registry (bindingAt keys p) (bucketAt keys p) r t g in
+      let m = retryOf attemptLimit 0 noneYet (protecting e taken) buckets registry (bindingAt keys p) (bucketAt keys p) r t g .seen in
       hand {K = λ l. In taken l ⊎ Given (m .0 .outcome) l} (loosen (λ l x. inr x) (k .settles)) (λ l i. inl (inl i))
       (go (m .0 .outcome) (m .0 .run) (m .1 .0) (m .1 .1)
       (λ l. locks-hands left (p + 1) buckets registry keys (taken ++ (l ∷ [])) (m .0 .run) (m .1 .0) (m .1 .1) grants))
@@ -331,7 +332,7 @@ module _ (e : Setting) where
               | inr q ↦ on k .passes l (in-right l taken (k ∷ []) (let y : k ≡ l = cc in subst (In (k ∷ [])) y (in-first k [])))
             ];
           }
-      go outcome.Busy s u x on =
+      go (outcome.Busy why) s u x on =
           let b = rollback-hands e taken _ p s u x grants in
           record { settles = b .settles; passes = λ l. elim [ inl i ↦ b .passes l i | inr q ↦ absurd (no-grant q) ] }
       go (outcome.Refused y) s u x on =

@@ -10,7 +10,7 @@ use Rattle.model.specs.Log.{Made}
 use Rattle.model.specs.Arena.{isPoisoned, setCell}
 use Rattle.model.specs.Refusals.{numberOf}
 use Rattle.model.specs.Foreign.{Setting, protecting, flowOf}
-use Rattle.model.specs.Lock.{takeOf, lockOf, outcomeOf, answerOf, findOf, attemptAt, attemptOf, pauseOf, isBusy, retryOf, settled, attemptLimit, rollbackOf, afterKey, bindingAt, bucketAt, Locks, locksOf}
+use Rattle.model.specs.Lock.{takeOf, lockOf, outcomeOf, answerOf, findOf, attemptAt, attemptOf, pauseOf, isBusy, retryOf, settled, attemptLimit, noneYet, rollbackOf, afterKey, bindingAt, bucketAt, Locks, locksOf}
 use Rattle.model.specs.Checks.{countIn}
 use Rattle.model.specs.Calls.{starting, acquireOf}
 use Rattle.model.specs.Crew.{crewRules, crewOf}
@@ -23,6 +23,7 @@ use Rattle.model.specs.declared.Head.{Head}
 use Rattle.model.specs.declared.Lease.{Lease}
 use Rattle.model.specs.declared.Outcome.{Outcome}
 use Rattle.model.specs.declared.Outcome.the-variants as outcome
+use Rattle.model.specs.declared.Reason.{Reason}
 use Rattle.model.specs.declared.Refusal.{Refusal}
 use Rattle.model.specs.declared.Run.{Run}
 use Rattle.model.specs.declared.Take.{Take}
@@ -47,7 +48,7 @@ Late-by-cell r = Late r × (numberOf r ≡ 8 → ⊥)
 
 abbrev OfOutcome : (Refusal → Type 0) → Outcome → Type 0
 OfOutcome P (outcome.Granted l) = Unit {0}
-OfOutcome P outcome.Busy = Unit {0}
+OfOutcome P (outcome.Busy why) = Unit {0}
 OfOutcome P (outcome.Refused r) = P r
 
 abbrev OfAnswer : (Refusal → Type 0) → Answer → Type 0
@@ -55,24 +56,24 @@ OfAnswer P answer.Done = Unit {0}
 OfAnswer P (answer.Cell c) = Unit {0}
 OfAnswer P (answer.Granted l) = Unit {0}
 OfAnswer P answer.AllGranted = Unit {0}
-OfAnswer P answer.Busy = Unit {0}
+OfAnswer P (answer.Busy why) = Unit {0}
 OfAnswer P (answer.Refused r) = P r
 OfAnswer P (answer.RefusedAt r p) = Unit {0}
 
 answer-late : (P : Refusal → Type 0) (o : Outcome) → OfOutcome P o → OfAnswer P (answerOf o)
 answer-late P (outcome.Granted l) h = tt
-answer-late P outcome.Busy h = tt
+answer-late P (outcome.Busy why) h = tt
 answer-late P (outcome.Refused r) h = h
 
 take-late : (c : ℕ) (x : Take) → OfOutcome Late-by-cell (outcomeOf c x)
 take-late c (taking.Granted s) = tt
-take-late c taking.Busy = tt
+take-late c (taking.Busy owner) = tt
 take-late c taking.Damaged = ((omega arith, omega arith), λ q. omega arith)
 take-late c taking.Spent = ((omega arith, omega arith), λ q. omega arith)
 
 lock-late : {buckets c : ℕ} {g : List ℕ} {o : Outcome} → Comes buckets c g o → OfOutcome Late-by-cell o
 lock-late (granted s h) = tt
-lock-late busy = tt
+lock-late (busy why) = tt
 lock-late (poisoned h) = ((omega arith, omega arith), λ q. omega arith)
 lock-late damaged = ((omega arith, omega arith), λ q. omega arith)
 lock-late spent = ((omega arith, omega arith), λ q. omega arith)
@@ -88,7 +89,7 @@ OfFound (found.At c) = Unit {0}
 
 of-late : (o : Outcome) → OfOutcome Late-by-cell o → OfOutcome Late o
 of-late (outcome.Granted l) h = tt
-of-late outcome.Busy h = tt
+of-late (outcome.Busy why) h = tt
 of-late (outcome.Refused r) h = h .0
 
 module _ (e : Setting) (buckets : ℕ) (registry : List ℕ) (binding bucket : ℕ) where
@@ -104,18 +105,18 @@ module _ (e : Setting) (buckets : ℕ) (registry : List ℕ) (binding bucket : �
       go (found.Fault x) h = h
       go (found.At c) h = of-late (lockOf e buckets (r .flow) t g c .seen .0 .answer) (lock-late (lock-comes e buckets c (r .flow) t g))
 
-  retry-late : (left i : ℕ) (r : Run) (t g : List ℕ) → OfOutcome Late (retryOf left i e buckets registry binding bucket r t g .seen .0 .outcome)
+  retry-late : (left i : ℕ) (last : Reason) (r : Run) (t g : List ℕ) → OfOutcome Late (retryOf left i last e buckets registry binding bucket r t g .seen .0 .outcome)
   unfolding retryOf
-  retry-late zero i r t g = tt
-  retry-late (suc left) i r t g =
+  retry-late zero i last r t g = tt
+  retry-late (suc left) i last r t g =
       let m = attemptOf e buckets registry binding bucket r t g .seen in
       let p = pauseOf e i (m .0 .run) (m .1 .0) (m .1 .1) .seen in
       if-both (λ (x : Made (Tried × (List ℕ × List ℕ))). OfOutcome Late (x .seen .0 .outcome)) (isBusy (m .0 .outcome))
-      (retry-late left (i + 1) (p .0) (p .1 .0) (p .1 .1)) (attempt-late r t g)
+      (retry-late left (i + 1) _ (p .0) (p .1 .0) (p .1 .1)) (attempt-late r t g)
 
 settled-late : (o : Outcome) → OfOutcome Late o → OfOutcome Late (settled o)
 settled-late (outcome.Granted l) h = tt
-settled-late outcome.Busy h = omega arith
+settled-late (outcome.Busy why) h = omega arith
 settled-late (outcome.Refused r) h = h
 
 -- multi-lock names the key's position: these are other answers
@@ -124,14 +125,14 @@ locks-late : (P : Refusal → Type 0) (left p : ℕ) (e : Setting) (buckets : �
 unfolding locksOf rollbackOf
 locks-late P zero p e buckets registry keys taken r t g grants = tt
 locks-late P (suc left) p e buckets registry keys taken r t g grants =
-    let m = retryOf attemptLimit 0 (protecting e taken) buckets registry (bindingAt keys p) (bucketAt keys p) r t g .seen in
+    let m = retryOf attemptLimit 0 noneYet (protecting e taken) buckets registry (bindingAt keys p) (bucketAt keys p) r t g .seen in
     go (m .0 .run) (m .1 .0) (m .1 .1) (m .0 .outcome) (λ l. locksOf left (p + 1) e buckets registry keys (taken ++ (l ∷ [])) (m .0 .run) (m .1 .0) (m .1 .1) grants)
     (λ l. locks-late P left (p + 1) e buckets registry keys (taken ++ (l ∷ [])) (m .0 .run) (m .1 .0) (m .1 .1) grants)
   where
     go : (k : Run) (u w : List ℕ) (x : Outcome) (more : Lease → Made Locks) → ((l : Lease) → OfAnswer P (more l .seen .0 .answer))
         → OfAnswer P (afterKey x e taken p k u w grants more .seen .0 .answer)
     go k u w (outcome.Granted l) more h = h l
-    go k u w outcome.Busy more h = tt
+    go k u w (outcome.Busy why) more h = tt
     go k u w (outcome.Refused x) more h = tt
 
 -- ---- the calls
@@ -162,8 +163,8 @@ steps-late w (transactional registry script place held binding bucket) =
     inr (λ z. z, answer-late Late o (attempt-late e (w .head .buckets) registry binding bucket (starting (w .head) place) (w .table) (w .health)))
 steps-late w (acquire-bucket registry script place held binding bucket) =
     let e = acting w (acquire-bucket registry script place held binding bucket) in
-    let o = retryOf attemptLimit 0 e (w .head .buckets) registry binding bucket (starting (w .head) place) (w .table) (w .health) .seen .0 .outcome in
-    let late = retry-late e (w .head .buckets) registry binding bucket attemptLimit 0 (starting (w .head) place) (w .table) (w .health) in
+    let o = retryOf attemptLimit 0 noneYet e (w .head .buckets) registry binding bucket (starting (w .head) place) (w .table) (w .health) .seen .0 .outcome in
+    let late = retry-late e (w .head .buckets) registry binding bucket attemptLimit 0 noneYet (starting (w .head) place) (w .table) (w .health) in
     inr (λ z. z, answer-late Late (settled o) (settled-late o late))
 steps-late w (release-all script place leases) = inl tt
 steps-late w (acquire-locks registry script place held keys grants) =

@@ -9,7 +9,7 @@ use borrow.Author.Tests.{not-false}
 use Rattle.model.specs.Log.{Made, Event, by-caller, attempt-begun, took, released}
 use Rattle.model.specs.Arena.{cellsOf, bitAt, ownerAt, isLive, stateAt, setCell, leasesOf, leaseOf}
 use Rattle.model.specs.Foreign.{Setting, protecting, flowOf}
-use Rattle.model.specs.Lock.{takeOf, outcomeOf, answerOf, settled, attemptLimit, retryOf, bindingAt, bucketAt, rollbackOf, afterKey, locksOf}
+use Rattle.model.specs.Lock.{takeOf, outcomeOf, answerOf, settled, attemptLimit, noneYet, retryOf, bindingAt, bucketAt, rollbackOf, afterKey, locksOf}
 use Rattle.model.specs.Checks.{countIn, badShape, badHeld, heldLeaseRules}
 use Rattle.model.specs.Calls.{starting, acquireOf}
 use Rattle.model.specs.declared.Answer.{Answer}
@@ -39,7 +39,7 @@ dead w (e ∷ es) l f k i n v =
     dead (step w e) es l (fit-step w e f (k .0)) (k .1) (omega (arith, next-step w e)) (λ x. n (live-before w e l f (k .0) x i)) v
 
 -- a cell that was released is free
-released-dead : (w : World) (l : Lease) → Fit w → Live w l → Live (step w (released by-caller (l .cell) (l .serial))) l → ⊥
+pub released-dead : (w : World) (l : Lease) → Fit w → Live w l → Live (step w (released by-caller (l .cell) (l .serial))) l → ⊥
 released-dead w l f v u =
     go (see (w .table) (l .cell) 0 0 (l .cell) (omega (arith, at w f (l .cell) (lives w l v .in-range)))) (lives (step w (released by-caller (l .cell) (l .serial))) l u)
   where
@@ -57,12 +57,12 @@ gone w es f k (freed-later e {es = xs} g) v = gone (step w e) xs (fit-step w e f
 
 given-over : (o : Outcome) (l : Lease) → Given o l → Hands-over (answerOf o) [] l
 given-over (outcome.Granted k) l e = cc
-given-over outcome.Busy l e = let z : _≡_ {A = ℕ} 0 1 = cc in absurd (omega arith)
+given-over (outcome.Busy why) l e = let z : _≡_ {A = ℕ} 0 1 = cc in absurd (omega arith)
 given-over (outcome.Refused r) l e = let z : _≡_ {A = ℕ} 0 1 = cc in absurd (omega arith)
 
 given-settled : (o : Outcome) (l : Lease) → Given o l → Hands-over (answerOf (settled o)) [] l
 given-settled (outcome.Granted k) l e = cc
-given-settled outcome.Busy l e = let z : _≡_ {A = ℕ} 0 1 = cc in absurd (omega arith)
+given-settled (outcome.Busy why) l e = let z : _≡_ {A = ℕ} 0 1 = cc in absurd (omega arith)
 given-settled (outcome.Refused r) l e = let z : _≡_ {A = ℕ} 0 1 = cc in absurd (omega arith)
 
 module _ (h : Head) (t : List ℕ) where
@@ -105,7 +105,7 @@ steps-settles w (transactional registry script place held binding bucket) n k =
     loosen (given-over _) (attempt-hands e (w .head .buckets) registry binding bucket (starting (w .head) place) (w .table) (w .health) .settles)
 steps-settles w (acquire-bucket registry script place held binding bucket) n k =
     let e = acting w (acquire-bucket registry script place held binding bucket) in
-    loosen (given-settled _) (retry-hands e attemptLimit 0 (w .head .buckets) registry binding bucket (starting (w .head) place) (w .table) (w .health) .settles)
+    loosen (given-settled _) (retry-hands e attemptLimit 0 noneYet (w .head .buckets) registry binding bucket (starting (w .head) place) (w .table) (w .health) .settles)
 steps-settles w (release-all script place leases) n k =
     give-back-hands (acting w (release-all script place leases)) (countIn leases) (leasesOf leases) (starting (w .head) place) (w .table) (w .health)
     (omega (arith, words-leases leases)) .settles
@@ -149,7 +149,7 @@ locks-buffer : (left p : ℕ) (e : Setting) (buckets : ℕ) (registry keys : Lis
 unfolding locksOf rollbackOf
 locks-buffer zero p e buckets registry keys taken r t g grants n = absurd (n refl)
 locks-buffer (suc left) p e buckets registry keys taken r t g grants n =
-    let m = retryOf attemptLimit 0 (protecting e taken) buckets registry (bindingAt keys p) (bucketAt keys p) r t g .seen in
+    let m = retryOf attemptLimit 0 noneYet (protecting e taken) buckets registry (bindingAt keys p) (bucketAt keys p) r t g .seen in
     go (m .0 .outcome) (m .0 .run) (m .1 .0) (m .1 .1)
     (λ l. locks-buffer left (p + 1) e buckets registry keys (taken ++ (l ∷ [])) (m .0 .run) (m .1 .0) (m .1 .1) grants) n
   where
@@ -158,7 +158,7 @@ locks-buffer (suc left) p e buckets registry keys taken r t g grants n =
         → let m = afterKey o e taken p s u y grants (λ l. locksOf left (p + 1) e buckets registry keys (taken ++ (l ∷ [])) s u y grants) in
         (m .seen .0 .answer ≡ AllGranted → ⊥) → m .seen .1 .1 .1 ≡ grants
     go (outcome.Granted l) s u y on = on l
-    go outcome.Busy s u y on = λ _. refl
+    go (outcome.Busy why) s u y on = λ _. refl
     go (outcome.Refused z) s u y on = λ _. refl
 
 steps-buffer : (w : World) (k : Call) → (steps w k .seen .1 .answer ≡ AllGranted → ⊥) → steps w k .seen .1 .grants ≡ buffer k
@@ -192,7 +192,7 @@ fails-hands-none Done b l f h = f
 fails-hands-none (Cell c) b l f h = f
 fails-hands-none (Granted k) b l f h = f
 fails-hands-none AllGranted b l f h = f
-fails-hands-none Busy b l f h = h
+fails-hands-none (Busy why) b l f h = h
 fails-hands-none (Refused r) b l f h = h
 fails-hands-none (RefusedAt r p) b l f h = h
 

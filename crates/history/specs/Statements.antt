@@ -153,7 +153,7 @@ Hands-over Done grants l = ⊥
 Hands-over (Cell c) grants l = ⊥
 Hands-over (Granted m) grants l = m ≡ l
 Hands-over AllGranted grants l = isIn l (leasesOf grants) ≡ true
-Hands-over Busy grants l = ⊥
+Hands-over (Busy why) grants l = ⊥
 Hands-over (Refused r) grants l = ⊥
 Hands-over (RefusedAt r p) grants l = ⊥
 
@@ -184,7 +184,7 @@ Fails Done = ⊥
 Fails (Cell c) = ⊥
 Fails (Granted l) = ⊥
 Fails AllGranted = ⊥
-Fails Busy = Unit {0}
+Fails (Busy why) = Unit {0}
 Fails (Refused r) = Unit {0}
 Fails (RefusedAt r p) = Unit {0}
 

@@ -19,6 +19,7 @@ use Rattle.model.specs.declared.Lease.{Lease}
 use Rattle.model.specs.declared.Locked.{Locked}
 use Rattle.model.specs.declared.Outcome.{Outcome}
 use Rattle.model.specs.declared.Outcome.the-variants as outcome
+use Rattle.model.specs.declared.Reason.{Reason}
 use Rattle.model.specs.declared.Refusal.{Refusal}
 use Rattle.model.specs.declared.Run.{Run}
 use Rattle.model.specs.declared.State.{State}
@@ -80,12 +81,12 @@ of-took h g a = worldAt h (a .0 .next) (a .1) g
 -- of cell c; of any cell
 pub data Gained (n : ℕ) (v : World) (c : ℕ) : Outcome → Type 0 where
   gained : (s : ℕ) → Live v (leaseOf c s) → n ≤ s → Gained n v c (outcome.Granted (leaseOf c s))
-  was-busy : Gained n v c outcome.Busy
+  was-busy : {why : Reason} → Gained n v c (outcome.Busy why)
   was-refused : (r : Refusal) → Gained n v c (outcome.Refused r)
 
 pub data Won (n : ℕ) (v : World) : Outcome → Type 0 where
   won : (l : Lease) → Live v l → n ≤ l .serial → Won n v (outcome.Granted l)
-  none-yet : Won n v outcome.Busy
+  none-yet : {why : Reason} → Won n v (outcome.Busy why)
   no-more : (r : Refusal) → Won n v (outcome.Refused r)
 
 pub won-of : {n : ℕ} {v : World} {c : ℕ} {o : Outcome} → Gained n v c o → Won n v o
@@ -228,7 +229,7 @@ module _ (h : Head) (script : List ℕ) where
   after-kept ps (taking.Granted s) f t g c n m good (gained u x i) l =
       let r = late-kept ps f t g c s m good x (omega arith) in
       record { kept = weaken (λ k p _. (p .0, λ e. omega (arith, ap (λ (z : Lease). z .serial) e, p .1))) (r .kept); gain = r .gain }
-  after-kept ps taking.Busy f t g c n m good y l = record { kept = nothing; gain = was-busy }
+  after-kept ps (taking.Busy owner) f t g c n m good y l = record { kept = nothing; gain = was-busy }
   after-kept ps taking.Damaged f t g c n m good y l = record { kept = nothing; gain = was-refused _ }
   after-kept ps taking.Spent f t g c n m good y l = record { kept = nothing; gain = was-refused _ }
 
@@ -301,17 +302,17 @@ module _ (h : Head) (script : List ℕ) where
       if-both (Running (starts r t g) ps) (eqb (i % 64) 63)
       (record { kept = chain good b (chain (kept-fit good b) (event yielded tt (λ l i v x. x)) (s .kept)) }) (spin-kept ps r t g good)
 
-  pub retry-kept : (left i : ℕ) (ps : List Lease) (registry : List ℕ) (binding bucket : ℕ) (r : Run) (t g : List ℕ) → Fit (starts r t g)
-      → Trying (r .flow .next) (starts r t g) ps (retryOf left i (given h script ps) (h .buckets) registry binding bucket r t g)
+  pub retry-kept : (left i : ℕ) (last : Reason) (ps : List Lease) (registry : List ℕ) (binding bucket : ℕ) (r : Run) (t g : List ℕ) → Fit (starts r t g)
+      → Trying (r .flow .next) (starts r t g) ps (retryOf left i last (given h script ps) (h .buckets) registry binding bucket r t g)
   unfolding retryOf
-  retry-kept zero i ps registry binding bucket r t g good = record { kept = nothing; gain = none-yet }
-  retry-kept (suc left) i ps registry binding bucket r t g good =
+  retry-kept zero i last ps registry binding bucket r t g good = record { kept = nothing; gain = none-yet }
+  retry-kept (suc left) i last ps registry binding bucket r t g good =
       let m = attemptOf (given h script ps) (h .buckets) registry binding bucket r t g in
       let a = attempt-kept ps registry binding bucket r t g good in
       let good′ = kept-fit good (a .kept) in
       let p = pause-kept ps i (m .seen .0 .run) (m .seen .1 .0) (m .seen .1 .1) good′ in
       let q = pauseOf (given h script ps) i (m .seen .0 .run) (m .seen .1 .0) (m .seen .1 .1) .seen in
-      let again = retry-kept left (i + 1) ps registry binding bucket (q .0) (q .1 .0) (q .1 .1) (kept-fit good′ (p .kept)) in
+      let again = retry-kept left (i + 1) _ ps registry binding bucket (q .0) (q .1 .0) (q .1 .1) (kept-fit good′ (p .kept)) in
       followed good (a .kept)
       (if-both (Trying (r .flow .next) (of-tried h (m .seen)) ps) (isBusy (m .seen .0 .outcome))
       (record {

@@ -3,6 +3,7 @@ use Rattle.model.specs.Crew.{crewOf}
 use Rattle.history.specs.Items.{perform, foreign}
 use Rattle.history.specs.Statements.{Demand-2, Forgets, Refused-stays, Lawful-always, Counts-are, Changes-nothing, Crew-refused, Grant-is, Buffer-is, Given-live, Nothing-kept, Nothing-new, Falling-all, Rollback-is, Named, Named-alone, Held-live}
 use Rattle.history.specs.Answers.{Handed-over, Granted-healthy, Locks-healthy, Poisoned-holds-nothing, Serials-rise, Not-over-live, Busy-or-refused, Locks-refused, Never-twice, Once-each, Two-writers, None-takes, Alone-until-released, Takes-parted}
+use Rattle.history.specs.Reasons.{Reasons-are, Early-takes-nothing, Holder-lives, Late-is-spent, Own-serial}
 use Rattle.history.specs.Callers.{Takes-alike, Take-is-call, Releases-alike, Release-is-call, By-single-calls, Histories-single}
 use Rattle.history.specs.Calls.{call-kept, calls-spare-held}
 use Rattle.history.specs.Courses as courses
@@ -11,6 +12,7 @@ use Rattle.history.specs.Rollback.{releases-fall, locks-roll-back}
 use Rattle.history.specs.ByKey.{grants-name, buffers-name}
 use Rattle.history.specs.HandedCalls as handed
 use Rattle.history.specs.Healthy as healthy
+use Rattle.history.specs.Whys as whys
 use Rattle.history.specs.Writers as writers
 use Rattle.history.specs.Others as others
 use Rattle.history.specs.CountedCalls.{calls-counted}
@@ -85,6 +87,21 @@ locks-healthy = healthy.locks-grant-healthy
 
 pub poisoned-holds-nothing : Poisoned-holds-nothing perform
 poisoned-holds-nothing = healthy.sevens-hold-nothing
+
+pub reasons-are : Reasons-are perform
+reasons-are = whys.reasons-are
+
+pub early-takes-nothing : Early-takes-nothing perform
+early-takes-nothing = whys.early-takes-nothing
+
+pub holder-lives : Holder-lives perform
+holder-lives = whys.holder-lives
+
+pub late-is-spent : Late-is-spent perform
+late-is-spent = whys.late-is-spent
+
+pub own-serial : Own-serial perform
+own-serial = whys.own-serial
 
 pub serials-rise : Serials-rise perform
 serials-rise = handed.serials-rise

@@ -10,7 +10,7 @@ use lib.Seq.{take-length}
 use Rattle.model.specs.Log.{Actor, Event, by-caller, attempt-begun, boundary-run, yielded, spun, step-dropped, took, released, waiters-set, health-set}
 use Rattle.model.specs.Arena.{leaseOf, leasesOf, setCell}
 use Rattle.model.specs.Foreign.{Setting, protecting, flowOf}
-use Rattle.model.specs.Lock.{takeOf, lockOf, outcomeOf, answerOf, attemptOf, retryOf, attemptLimit, settled, leaseAt, noLease, rollbackOf, afterKey, bindingAt, bucketAt, locksOf}
+use Rattle.model.specs.Lock.{takeOf, lockOf, outcomeOf, answerOf, attemptOf, retryOf, attemptLimit, noneYet, settled, leaseAt, noLease, rollbackOf, afterKey, bindingAt, bucketAt, locksOf}
 use Rattle.model.specs.Checks.{countIn}
 use Rattle.model.specs.Calls.{starting, acquireOf, prepareOf}
 use Rattle.model.specs.declared.Answer.{Answer}
@@ -19,6 +19,7 @@ use Rattle.model.specs.declared.Head.{Head}
 use Rattle.model.specs.declared.Lease.{Lease}
 use Rattle.model.specs.declared.Outcome.{Outcome}
 use Rattle.model.specs.declared.Outcome.the-variants as outcome
+use Rattle.model.specs.declared.Reason.{Reason}
 use Rattle.model.specs.declared.Refusal.{Refusal}
 use Rattle.model.specs.declared.Run.{Run}
 use Rattle.laws.specs.Prepared.{Outcome as Prepared, Came, was-done, was-refused, came}
@@ -107,7 +108,7 @@ prepared-fair Done w v d h s = tt
 prepared-fair (Cell c) w v d h s = one-more d _ s (λ l x. absurd (h l x))
 prepared-fair (Granted k) w v d h s = one-more d _ s (λ l x. absurd (h l x))
 prepared-fair AllGranted w v d h s = one-more d _ s (λ l x. absurd (h l x))
-prepared-fair Busy w v d h s = one-more d _ s (λ l x. absurd (h l x))
+prepared-fair (Busy why) w v d h s = one-more d _ s (λ l x. absurd (h l x))
 prepared-fair (Refused r) w v d h s = one-more d _ s (λ l x. absurd (h l x))
 prepared-fair (RefusedAt r p) w v d h s = one-more d _ s (λ l x. absurd (h l x))
 
@@ -279,18 +280,18 @@ One Done = ⊥
 One (Cell c) = ⊥
 One (Granted l) = Unit {0}
 One AllGranted = ⊥
-One Busy = Unit {0}
+One (Busy why) = Unit {0}
 One (Refused r) = Unit {0}
 One (RefusedAt r p) = ⊥
 
 one-of : (o : Outcome) → One (answerOf o)
 one-of (outcome.Granted l) = tt
-one-of outcome.Busy = tt
+one-of (outcome.Busy why) = tt
 one-of (outcome.Refused r) = tt
 
 one-settled : (o : Outcome) → One (answerOf (settled o))
 one-settled (outcome.Granted l) = tt
-one-settled outcome.Busy = tt
+one-settled (outcome.Busy why) = tt
 one-settled (outcome.Refused r) = tt
 
 acquire-one : (n : ℕ) (h : Head) (t : List ℕ) (c : ℕ) → One (acquireOf n h t c .seen .0 .answer)
@@ -316,7 +317,7 @@ steps-one w (transactional registry script place held binding bucket) a =
     one-of (attemptOf e (w .head .buckets) registry binding bucket (starting (w .head) place) (w .table) (w .health) .seen .0 .outcome)
 steps-one w (acquire-bucket registry script place held binding bucket) a =
     let e = acting w (acquire-bucket registry script place held binding bucket) in
-    one-settled (retryOf attemptLimit 0 e (w .head .buckets) registry binding bucket (starting (w .head) place) (w .table) (w .health) .seen .0 .outcome)
+    one-settled (retryOf attemptLimit 0 noneYet e (w .head .buckets) registry binding bucket (starting (w .head) place) (w .table) (w .health) .seen .0 .outcome)
 steps-one w (release-all script place leases) a = absurd a
 steps-one w (acquire-locks registry script place held keys grants) a = absurd a
 steps-one w (crew counts cells turns) a = absurd a
@@ -324,7 +325,7 @@ steps-one w (crew counts cells turns) a = absurd a
 pub busy-or-refused : Busy-or-refused perform
 busy-or-refused w k s a v u = go (answers w k) refl (performed (λ m. One (m .seen .1 .answer)) w k (λ r. tt) (λ _. steps-one w k a))
   where
-    go : (x : Answer) → answers w k ≡ x → One x → (answers w k ≡ Busy) ⊎ ((r : Refusal) × (answers w k ≡ Refused r))
+    go : (x : Answer) → answers w k ≡ x → One x → ((why : Reason) × (answers w k ≡ Busy why)) ⊎ ((r : Refusal) × (answers w k ≡ Refused r))
     go Done e o = absurd o
     go (Cell c) e o = absurd o
     go (Granted l) e o =
@@ -332,7 +333,7 @@ busy-or-refused w k s a v u = go (answers w k) refl (performed (λ m. One (m .se
         let m = leaseOf (asked w k) (l .serial) in
         absurd (none-handed w k (asked w k) s (l .serial) v u (subst (λ x. Hands-over x (buffer-in (perform w k)) m) (sym e) (same-lease l m c refl)))
     go AllGranted e o = absurd o
-    go Busy e o = inl e
+    go (Busy why) e o = inl (why, e)
     go (Refused r) e o = inr (r, e)
     go (RefusedAt r p) e o = absurd o
 
@@ -342,7 +343,7 @@ All-or-refused Done = ⊥
 All-or-refused (Cell c) = ⊥
 All-or-refused (Granted l) = ⊥
 All-or-refused AllGranted = Unit {0}
-All-or-refused Busy = ⊥
+All-or-refused (Busy why) = ⊥
 All-or-refused (Refused r) = Unit {0}
 All-or-refused (RefusedAt r p) = Unit {0}
 
@@ -351,14 +352,14 @@ locks-answer : (left p : ℕ) (e : Setting) (buckets : ℕ) (registry keys : Lis
 unfolding locksOf rollbackOf
 locks-answer zero p e buckets registry keys taken r t g grants = tt
 locks-answer (suc left) p e buckets registry keys taken r t g grants =
-    let m = retryOf attemptLimit 0 (protecting e taken) buckets registry (bindingAt keys p) (bucketAt keys p) r t g .seen in
+    let m = retryOf attemptLimit 0 noneYet (protecting e taken) buckets registry (bindingAt keys p) (bucketAt keys p) r t g .seen in
     go (m .0 .outcome) (m .0 .run) (m .1 .0) (m .1 .1) (λ l. locks-answer left (p + 1) e buckets registry keys (taken ++ (l ∷ [])) (m .0 .run) (m .1 .0) (m .1 .1) grants)
   where
     go : (o : Outcome) (s : Run) (u y : List ℕ)
         → ((l : Lease) → All-or-refused (locksOf left (p + 1) e buckets registry keys (taken ++ (l ∷ [])) s u y grants .seen .0 .answer))
         → All-or-refused (afterKey o e taken p s u y grants (λ l. locksOf left (p + 1) e buckets registry keys (taken ++ (l ∷ [])) s u y grants) .seen .0 .answer)
     go (outcome.Granted l) s u y on = on l
-    go outcome.Busy s u y on = tt
+    go (outcome.Busy why) s u y on = tt
     go (outcome.Refused x) s u y on = tt
 
 pub locks-refused : Locks-refused perform
@@ -388,6 +389,6 @@ locks-refused w registry script place held keys grants p s i v u =
         let m = leaseOf c (l .serial) in
         let here : In ls m = subst (In ls) (same-lease l m (b .1 p i) refl) stands in
         absurd (none-handed w k c s (l .serial) v u (subst (λ x. Hands-over x (buffer-in (perform w k)) m) (sym e) here))
-    go Busy e o = absurd o
+    go (Busy why) e o = absurd o
     go (Refused r) e o = inl (r, e)
     go (RefusedAt r q) e o = inr (r, q, e)

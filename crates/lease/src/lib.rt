@@ -7,6 +7,7 @@ use model::Check;
 use model::Head;
 use model::Lease;
 use model::Outcome;
+use model::Reason;
 use model::Refusal;
 use model::Reply;
 use model::Serial;
@@ -68,9 +69,9 @@ pub fn claim_at(head: Head, table: &mut [u32], cell: u32) -> Claim
             head,
             answer: Take::Damaged,
         },
-        State::Held(_) => Claim {
+        State::Held(owner) => Claim {
             head,
-            answer: Take::Busy,
+            answer: Take::Busy(owner),
         },
         State::Free => claim_free(head, table, cell),
     }
@@ -82,7 +83,7 @@ pub fn outcome(cell: u32, answer: Take) -> Outcome
 {
     match answer {
         Take::Granted(serial) => Outcome::Granted(Lease { cell, serial }),
-        Take::Busy => Outcome::Busy,
+        Take::Busy(owner) => Outcome::Busy(Reason::Held(owner)),
         Take::Damaged => Outcome::Refused(Refusal::Damaged(cell)),
         Take::Spent => Outcome::Refused(Refusal::SerialsSpent(cell)),
     }
@@ -93,7 +94,7 @@ pub fn answer_of(outcome: Outcome) -> Answer
 {
     match outcome {
         Outcome::Granted(lease) => Answer::Granted(lease),
-        Outcome::Busy => Answer::Busy,
+        Outcome::Busy(why) => Answer::Busy(why),
         Outcome::Refused(refusal) => Answer::Refused(refusal),
     }
 }
@@ -290,8 +291,9 @@ fn drop_fault(head: Head, table: &[u32], held: &[u32], lease: Lease) -> Check
 
 // ---- the calls
 
-// One compare-and-set of a cell. A damaged cell is refused with 9, a held one answers Busy, and a free one with no
-// serial left is refused with 10; only a grant changes the table, and health and waiters are not read.
+// One compare-and-set of a cell. A damaged cell is refused with 9, a held one answers Busy with its owner's serial, and
+// a free one with no serial left is refused with 10; only a grant changes the table, and health and waiters are not
+// read.
 pub fn try_acquire(head: Head, table: &mut [u32], cell: u32) -> Reply
     ensures { λ r. ⌜ (r, now (table .exit)) ≡ tryAcquireOf head (now (table .entry)) cell .seen ⌝ }
 {
@@ -328,8 +330,8 @@ pub fn read_permission(head: Head, table: &[u32], lease: Lease) -> Reply
     }
 }
 
-// One compare-and-set of a live lease's cell: it is Busy always, and changes nothing. A lease that is not live is
-// refused with 12 before the attempt.
+// One compare-and-set of a live lease's cell: it is Busy always, held by the lease's serial, and changes nothing. A
+// lease that is not live is refused with 12 before the attempt.
 pub fn competing_acquire_is_excluded(head: Head, table: &mut [u32], lease: Lease) -> Reply
     ensures { λ r. ⌜ (r, now (table .exit)) ≡ competingAcquireOf head (now (table .entry)) lease .seen ⌝ }
 {

@@ -17,6 +17,7 @@ use Rattle.model.specs.declared.Flow.{Flow}
 use Rattle.model.specs.declared.Locked.{Locked}
 use Rattle.model.specs.declared.Outcome.{Outcome}
 use Rattle.model.specs.declared.Outcome.the-variants as outcome
+use Rattle.model.specs.declared.Reason.the-variants as reason
 use Rattle.model.specs.declared.State.{State}
 use Rattle.model.specs.declared.State.the-variants as state
 use Rattle.model.specs.declared.Take.{Take}
@@ -26,7 +27,8 @@ use Rattle.choice.specs.Pick.{if-both}
 use Rattle.laws.specs.Words.{waiters-set-cell}
 use Rattle.lease.specs.Model.{claimAtOf}
 use Rattle.foreign.specs.Laws.{FlowBound, boundary-quiet, boundary-flow-bound}
-use Rattle.lock.specs.Model.{boundariesFor, quietTake, quietLockOf, quietBy, quietTakeOf, lockedBy, gaveUp}
+use Rattle.lock.specs.Model.{boundariesFor, quietTake, quietLockOf, unwaitedOf, quietOutcomeOf, quietBy, quietTakeOf, lockedBy, gaveUp}
+use Rattle.lock.specs.declared.Quietly.the-variants as quietly
 
 -- ---- past the script's end
 
@@ -53,7 +55,7 @@ module _ (e : Setting) (buckets : ℕ) (g : List ℕ) (c : ℕ) (healthy : getD 
   after-quiet : (a : Take) (f : Flow) (t : List ℕ) → stepsIn (e .script) ≤ f .place → waitersAt t c ≡ 0
       → afterTake a e buckets f t g c .seen ≡ (lockedOf f (boundariesFor a) (outcomeOf c a), (t, g))
   after-quiet (taking.Granted s) f t l w = late-quiet f t s l w
-  after-quiet taking.Busy f t l w = refl
+  after-quiet (taking.Busy owner) f t l w = refl
   after-quiet taking.Damaged f t l w = refl
   after-quiet taking.Spent f t l w = refl
 
@@ -73,19 +75,28 @@ module _ (e : Setting) (buckets : ℕ) (g : List ℕ) (c : ℕ) (healthy : getD 
   lock-quiet f t l = rw (boundary-quiet e f t g l) (go (eqb (waitersAt t c) 0) refl)
     where
       go : (b : Bool) → eqb (waitersAt t c) 0 ≡ b
-          → (if b then secondOf e buckets f t g c else record { seen = (lockedOf f 1 outcome.Busy, (t, g)); log = [] }) .seen
-          ≡ beside (if b then quietTake f c (takeOf (f .next) t c .seen) else (lockedOf f 1 outcome.Busy, t))
+          → (if b then secondOf e buckets f t g c else record { seen = (lockedOf f 1 (outcome.Busy reason.Before), (t, g)); log = [] }) .seen
+          ≡ beside (if b then quietTake f c (takeOf (f .next) t c .seen) else (lockedOf f 1 (outcome.Busy reason.Before), t))
       go true w = second-quiet f t l (eqb-true _ _ w)
       go false w = refl
 
--- the quiet one, by its compare-and-set
+-- a compare-and-set comes to the same, by its own answer and by the quiet one's
+unwaited-is : (c : ℕ) (a : Take) → outcomeOf c a ≡ quietOutcomeOf c (unwaitedOf a)
+unwaited-is c (taking.Granted s) = refl
+unwaited-is c (taking.Busy owner) = refl
+unwaited-is c taking.Damaged = refl
+unwaited-is c taking.Spent = refl
+
+-- the quiet one, by its answer in two numbers
 pub quiet-is : (f : Flow) (t : List ℕ) (c : ℕ) → quietLockOf f t c ≡ lockedBy c (quietTakeOf f t c)
 unfolding quietLockOf quietTakeOf
 quiet-is f t c = go (eqb (waitersAt t c) 0)
   where
-    go : (b : Bool) → (if b then quietTake f c (takeOf (f .next) t c .seen) else (lockedOf f 1 outcome.Busy, t))
-        ≡ lockedBy c (if b then quietBy f (takeOf (f .next) t c .seen) else (record { flow = f; boundaries = 1; answer = taking.Busy }, t))
-    go true = refl
+    go : (b : Bool) → (if b then quietTake f c (takeOf (f .next) t c .seen) else (lockedOf f 1 (outcome.Busy reason.Before), t))
+        ≡ lockedBy c (if b then quietBy f (takeOf (f .next) t c .seen) else (record { flow = f; boundaries = 1; answer = quietly.Waited }, t))
+    go true =
+        let k = takeOf (f .next) t c .seen in
+        ap (λ (o : Outcome). (lockedOf (flowOf (k .0 .next) (f .place) (f .dropped)) (boundariesFor (k .0 .answer)) o, k .1)) (unwaited-is c (k .0 .answer))
     go false = refl
 
 -- ---- what a try_lock keeps: drops stay flow-bound by steps, and it has at most three boundaries
@@ -109,7 +120,7 @@ module _ (e : Setting) (buckets c : ℕ) where
 
   after-kept : (a : Take) (f : Flow) (t g : List ℕ) → FlowBound (stepsIn (e .script)) f → Kept (afterTake a e buckets f t g c)
   after-kept (taking.Granted s) f t g b = late-kept f t g s b
-  after-kept taking.Busy f t g b = record { flow-bound = b; few = omega arith }
+  after-kept (taking.Busy owner) f t g b = record { flow-bound = b; few = omega arith }
   after-kept taking.Damaged f t g b = record { flow-bound = b; few = omega arith }
   after-kept taking.Spent f t g b = record { flow-bound = b; few = omega arith }
 

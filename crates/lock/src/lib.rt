@@ -11,6 +11,7 @@ use model::Lease;
 use model::Locked;
 use model::Outcome;
 use model::Played;
+use model::Reason;
 use model::Refusal;
 use model::Run;
 use model::Take;
@@ -24,7 +25,8 @@ ghost use Rattle.model.specs.Lock.{lockedOf, lateOf, secondOf, lockOf};
 ghost use Rattle.model.specs.Calls.{tryLockOf};
 ghost use Rattle.foreign.specs.Model.{inScope, settingOf, RoomIn};
 ghost use Rattle.foreign.specs.Laws.{FlowBound};
-ghost use Rattle.lock.specs.Model.{CellIn, gaveUp, quietTakeOf, quietLockOf, boundariesFor, lockOnceOf};
+ghost use Rattle.lock.specs.Model.{CellIn, gaveUp, boundariesFor, lockOnceOf};
+ghost use Rattle.lock.specs.Model.{unwaitedOf, quietOutcomeOf, quietTakeOf, quietLockOf};
 ghost use Rattle.lock.specs.Fine.{LockFine};
 
 // The new lease released after the third boundary. Its serial stays spent.
@@ -85,7 +87,8 @@ fn late(
             answer: Outcome::Granted(own),
         };
     }
-    give_up(after, table, own.cell, Outcome::Busy)
+    let busy = Outcome::Busy(Reason::After(own.serial));
+    give_up(after, table, own.cell, busy)
 }
 
 // A try_lock whose compare-and-set gave no lease ends there, after two boundaries.
@@ -131,7 +134,7 @@ fn second(
             let own = Lease { cell, serial };
             late(scope, on, table, health, script, held, taken, n, own)
         }
-        Take::Busy => stopped(on, Outcome::Busy),
+        Take::Busy(owner) => stopped(on, Outcome::Busy(Reason::Held(owner))),
         Take::Damaged => stopped(on, Outcome::Refused(Refusal::Damaged(cell))),
         Take::Spent => stopped(on, Outcome::Refused(Refusal::SerialsSpent(cell))),
     }
@@ -166,7 +169,7 @@ pub fn lock(
             dropped: after.dropped,
         },
         boundaries: 1,
-        answer: Outcome::Busy,
+        answer: Outcome::Busy(Reason::Before),
     }
 }
 
@@ -176,21 +179,56 @@ fn boundaries_for(answer: Take) -> usize
 {
     match answer {
         Take::Granted(_) => 3,
-        Take::Busy => 2,
+        Take::Busy(_) => 2,
         Take::Damaged => 2,
         Take::Spent => 2,
     }
 }
 
-// What one try_lock comes to where every boundary is quiet: its compare-and-set, and what it counts.
+// What one try_lock answers where every boundary is quiet: its compare-and-set's answer, held by this serial, or that
+// somebody waits and there was none.
+pub enum Quietly {
+    Granted(u32),
+    Held(u32),
+    Waited,
+    Damaged,
+    Spent,
+}
+
+// That, and what it counts.
 pub struct Quiet {
     pub flow: Flow,
     pub boundaries: usize,
-    pub answer: Take,
+    pub answer: Quietly,
+}
+
+// Where nobody waits it is the compare-and-set's answer.
+fn unwaited(answer: Take) -> Quietly
+    ensures { λ r. ⌜ r ≡ unwaitedOf answer ⌝ }
+{
+    match answer {
+        Take::Granted(serial) => Quietly::Granted(serial),
+        Take::Busy(owner) => Quietly::Held(owner),
+        Take::Damaged => Quietly::Damaged,
+        Take::Spent => Quietly::Spent,
+    }
+}
+
+// What an attempt on a cell comes to that answers so.
+pub fn quiet_outcome(cell: u32, answer: Quietly) -> Outcome
+    ensures { λ r. ⌜ r ≡ quietOutcomeOf cell answer ⌝ }
+{
+    match answer {
+        Quietly::Granted(serial) => Outcome::Granted(Lease { cell, serial }),
+        Quietly::Held(owner) => Outcome::Busy(Reason::Held(owner)),
+        Quietly::Waited => Outcome::Busy(Reason::Before),
+        Quietly::Damaged => Outcome::Refused(Refusal::Damaged(cell)),
+        Quietly::Spent => Outcome::Refused(Refusal::SerialsSpent(cell)),
+    }
 }
 
 // One try_lock past the script's end, where every boundary is quiet, of a cell whose header is healthy: it still is
-// after the third. The answer is that of its compare-and-set, two numbers where an outcome is five.
+// after the third. The answer is two numbers, where an outcome is five.
 pub fn quiet_take(head: Head, flow: Flow, table: &mut [u32], cell: u32) -> Quiet
     requires { ⌜ 3 * cell + 2 < length (now table) ⌝ }
     ensures { λ r. ⌜ (r, now (table .exit)) ≡ quietTakeOf flow (now (table .entry)) cell ⌝ }
@@ -206,13 +244,13 @@ pub fn quiet_take(head: Head, flow: Flow, table: &mut [u32], cell: u32) -> Quiet
                 dropped: flow.dropped,
             },
             boundaries: boundaries_for(answer),
-            answer,
+            answer: unwaited(answer),
         };
     }
     Quiet {
         flow,
         boundaries: 1,
-        answer: Take::Busy,
+        answer: Quietly::Waited,
     }
 }
 
@@ -227,7 +265,7 @@ pub fn quiet_lock(head: Head, flow: Flow, table: &mut [u32], cell: u32) -> Locke
     Locked {
         flow: after,
         boundaries: quiet.boundaries,
-        answer: lease::outcome(cell, answer),
+        answer: quiet_outcome(cell, answer),
     }
 }
 
@@ -313,9 +351,10 @@ fn lock_once(
     foreign::play(head, run, lease::answer_of(answer))
 }
 
-// One attempt by cell, with up to three boundaries: Busy where somebody waits or holds. After the third boundary the
-// health of the cell's header is read: 7 if it is poisoned, the lease given up, its cell free, its serial spent. A
-// lease given up because somebody waits then is Busy, its cell free, its serial spent too.
+// One attempt by cell, with up to three boundaries: Busy where somebody waits, or holds it, then with the owner's
+// serial. After the third boundary the health of the cell's header is read: 7 if it is poisoned, the lease given up,
+// its cell free, its serial spent. A lease given up because somebody waits then is Busy with its serial, which is spent
+// too, and its cell is free.
 pub fn try_lock(
     head: Head,
     table: &mut [u32],

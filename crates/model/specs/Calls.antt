@@ -8,7 +8,7 @@ use Rattle.model.specs.Arena.{cellsOf, headOf, spentTo, setCell, leasesO
 use Rattle.model.specs.Refusals.{first, judge}
 use Rattle.model.specs.Checks.{countIn, prepareRules, cellRules, leaseRules, heldCellRules, heldLeaseRules, scriptRules, lockRules, bucketRules, releaseRules, locksRules}
 use Rattle.model.specs.Foreign.{Setting, setting, flowOf, boundaryOf}
-use Rattle.model.specs.Lock.{takeOf, lockOf, outcomeOf, answerOf, runOf, attemptOf, attemptLimit, retryOf, settled, giveBackOf, locksOf}
+use Rattle.model.specs.Lock.{takeOf, lockOf, outcomeOf, answerOf, runOf, attemptOf, attemptLimit, noneYet, retryOf, settled, giveBackOf, locksOf}
 use Rattle.model.specs.declared.Answer.{Answer}
 use Rattle.model.specs.declared.Answer.the-variants.{Done, Cell, Refused}
 use Rattle.model.specs.declared.Counts.{Counts}
@@ -149,7 +149,7 @@ transactionalOf h t g registry script place held binding bucket =
 unfoldable pub acquireBucketOf : Head → List ℕ → List ℕ → List ℕ → List ℕ → ℕ → List ℕ → ℕ → ℕ → Made (Played × (List ℕ × List ℕ))
 acquireBucketOf h t g registry script place held binding bucket =
     judge (first (bucketRules h t g registry script place held binding)) (λ r. gives (unplayed h place r, (t, g))) do
-      (k, a) ← retryOf attemptLimit 0 (given h script (leasesOf held)) (h .buckets) registry binding bucket (starting h place) t g
+      (k, a) ← retryOf attemptLimit 0 noneYet (given h script (leasesOf held)) (h .buckets) registry binding bucket (starting h place) t g
       gives (played h (k .run) (answerOf (settled (k .outcome))), a)
 
 -- "in `release_all` those it was given" are protected, each until it is released

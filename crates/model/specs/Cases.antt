@@ -1,5 +1,5 @@
 -- Document 01, "Bench cases": the sentences marked *, as one computed list of (call, what must come out). `further` is a list of our own in
--- the same form, for slips that no marked sentence meets; `secondReading` has the sentences of document 02, L3.
+-- the same form, for slips that no marked sentence meets; `secondReading` has the sentences of document 02, L3, and `reasons` those of L1.
 use Prim.Native.Nat.{ℕ}
 use mathlib.Core.Path.{_≡_, refl}
 use mathlib.Core.List.{List, [], _∷_, _++_}
@@ -7,20 +7,24 @@ use mathlib.Core.Bool.{Bool, true, _&&_, _||_}
 use lib.Dec.{eqb}
 use lib.ListN.{getD, replicate}
 use Rattle.choice.specs.Choice.{if_then_else_}
-use Rattle.model.specs.Log.{Made}
+use Rattle.model.specs.Log.{Made, gives}
 use Rattle.model.specs.Arena.{headOf, leaseOf, bitAt, ownerAt, waitersAt, setCell, setWaiters, isFree, isHeld, stateOf, stateAt, isLive, leasesOf, wordsOf, sameLease, isIn, headFits, shapeFits, healthFits, registryFits}
 use Rattle.model.specs.Refusals.{first}
-use Rattle.model.specs.Answers.{refusalIn, kindOf, valuesOf}
+use Rattle.model.specs.Answers.{refusalIn, kindOf, valuesOf, reasonIn}
 use Rattle.model.specs.Foreign.{stepTakeOf, stepReleaseOf, stepWaitersOf, stepHealthOf, stepOf, runStepsOf, boundaryOf}
-use Rattle.model.specs.Lock.{takeOf, lateOf, secondOf, lockOf, findOf, attemptOf, spinOf, pauseOf, retryOf, giveBackOf, rollbackOf, locksOf}
+use Rattle.model.specs.Lock.{answerOf, takeOf, lateOf, secondOf, lockOf, findOf, attemptOf, spinOf, pauseOf, noneYet, retryOf, settled, giveBackOf, endedOf, rollbackOf, afterKey, locksOf}
 use Rattle.model.specs.Checks.{notLive, badBindings, notReleasable, prepareRules, cellRules, leaseRules, heldCellRules, heldLeaseRules, scriptRules, lockRules, bucketRules, releaseRules, locksRules}
-use Rattle.model.specs.Calls.{prepareOf, acquireOf, tryAcquireOf, dropLeaseOf, readPermissionOf, competingAcquireOf, releaseThenHandoffOf, foreignReleaseOf, acquirePreservingOf, dropPreservingOf, environmentOf, tryLockOf, transactionalOf, acquireBucketOf, releaseAllOf, acquireLocksOf}
+use Rattle.model.specs.Calls.{played, starting, given, prepareOf, acquireOf, tryAcquireOf, dropLeaseOf, readPermissionOf, competingAcquireOf, releaseThenHandoffOf, foreignReleaseOf, acquirePreservingOf, dropPreservingOf, environmentOf, tryLockOf, transactionalOf, acquireBucketOf, releaseAllOf, acquireLocksOf}
 use Rattle.model.specs.Crew.{total, startOf, allWithin, risesFrom, badLists, badTurns, crewRules, tryTurnOf, releaseTurnOf, turnOf, turnsOf, takenOf, releasedOf, crewOf}
 use Rattle.model.specs.declared.Answer.{Answer}
+use Rattle.model.specs.declared.Answer.the-variants as answer
 use Rattle.model.specs.declared.Counts.{Counts}
 use Rattle.model.specs.declared.CrewReply.{CrewReply}
 use Rattle.model.specs.declared.Head.{Head}
+use Rattle.model.specs.declared.Outcome.the-variants as outcome
 use Rattle.model.specs.declared.Played.{Played}
+use Rattle.model.specs.declared.Reason.{Reason}
+use Rattle.model.specs.declared.Reason.the-variants as reason
 use Rattle.model.specs.declared.Reply.{Reply}
 
 -- ---- what came out of a call
@@ -96,6 +100,13 @@ carries o = getD (valuesOf (o .answer)) 0 0
 
 abbrev position : Out → ℕ
 position o = getD (valuesOf (o .answer)) 1 0
+
+-- the reason: 1 held, 2 waiters before, 3 waiters after; and the serial that it gives
+abbrev why : Out → ℕ
+why o = getD (reasonIn (o .answer)) 0 0
+
+abbrev by : Out → ℕ
+by o = getD (reasonIn (o .answer)) 1 0
 
 abbrev next : Out → ℕ
 next o = o .head .next
@@ -194,8 +205,9 @@ abbrev pub cases : List Case
 cases =
     -- "Key (0,2): cell 2, serial 1, next 2, attempts 1, boundaries 3."
     (byKey 1 prepared healthy 0 2 give (granted is 1 ∷ cell is 2 ∷ serial is 1 ∷ next is 2 ∷ attempts is 1 ∷ boundaries is 3 ∷ []))
-    -- "`try_lock` of cell 2, script 5; 5; set waiters of 2 to 1; 5: Busy, boundaries 3, place 4, next 2, cell free."
-    ∷ (tryLock (5 ∷ 0 ∷ 0 ∷ 5 ∷ 0 ∷ 0 ∷ 3 ∷ 2 ∷ 1 ∷ 5 ∷ 0 ∷ 0 ∷ []) 2 give (busy is 1 ∷ boundaries is 3 ∷ place is 4 ∷ next is 2 ∷ bit 2 is 0 ∷ owner 2 is 0 ∷ []))
+    -- "`try_lock` of cell 2, script 5; 5; set waiters of 2 to 1; 5: Busy, boundaries 3, place 4, next 2, cell free." Document 02, L1: after, with
+    -- the serial 1 that was spent
+    ∷ (tryLock (5 ∷ 0 ∷ 0 ∷ 5 ∷ 0 ∷ 0 ∷ 3 ∷ 2 ∷ 1 ∷ 5 ∷ 0 ∷ 0 ∷ []) 2 give (busy is 1 ∷ why is 3 ∷ by is 1 ∷ boundaries is 3 ∷ place is 4 ∷ next is 2 ∷ bit 2 is 0 ∷ owner 2 is 0 ∷ []))
     -- "Bucket 4: refusal 8 carrying 4, boundaries 0."
     ∷ (byKey 1 prepared healthy 0 4 give (refusal is 8 ∷ carries is 4 ∷ boundaries is 0 ∷ []))
     -- "Bucket 3: cell 3."
@@ -246,11 +258,11 @@ further =
     -- damaged in each way: owner next, owner without a bit, a bit without an owner, a bit of 2
     ∷ (tryAcquire (setCell used 3 1 3) 3 ++ tryAcquire (setCell used 3 0 1) 3 ++ tryAcquire (setCell used 3 1 0) 3 ++ tryAcquire (setCell used 3 2 1) 3 give (refusal is 9 ∷ carries is 3 ∷ attempts is 1 ∷ next is 3 ∷ []))
     -- held, not by the newest serial only; free although waited for; out of range
-    ∷ (tryAcquire used 0 give (busy is 1 ∷ attempts is 1 ∷ next is 3 ∷ owner 0 is 1 ∷ []))
+    ∷ (tryAcquire used 0 give (busy is 1 ∷ why is 1 ∷ by is 1 ∷ attempts is 1 ∷ next is 3 ∷ owner 0 is 1 ∷ []))
     ∷ (tryAcquire used 5 give (granted is 1 ∷ cell is 5 ∷ serial is 3 ∷ next is 4 ∷ bit 5 is 1 ∷ owner 5 is 3 ∷ []))
     ∷ (tryAcquire used 8 give (refusal is 8 ∷ carries is 8 ∷ attempts is 0 ∷ []))
     -- waiters are read before the cell
-    ∷ (fromPlayed (tryLockOf (bench 3) used healthy [] 0 [] 5) ∷ [] give (busy is 1 ∷ attempts is 1 ∷ boundaries is 1 ∷ next is 3 ∷ []))
+    ∷ (fromPlayed (tryLockOf (bench 3) used healthy [] 0 [] 5) ∷ [] give (busy is 1 ∷ why is 2 ∷ by is 0 ∷ attempts is 1 ∷ boundaries is 1 ∷ next is 3 ∷ []))
     -- steps: a take, a release by another serial, a protected release, a release, health 2, kind 6, a place out of range; nothing behind the 5
     ∷ (play (1 ∷ 3 ∷ 7 ∷ 2 ∷ 2 ∷ 1 ∷ 2 ∷ 0 ∷ 1 ∷ 2 ∷ 2 ∷ 2 ∷ 4 ∷ 0 ∷ 2 ∷ 6 ∷ 0 ∷ 0 ∷ 3 ∷ 8 ∷ 1 ∷ 0 ∷ 9 ∷ 9 ∷ 5 ∷ 9 ∷ 9 ∷ 1 ∷ 4 ∷ 0 ∷ []) (0 ∷ 1 ∷ []) give (done is 1 ∷ dropped is 5 ∷ place is 9 ∷ boundaries is 1 ∷ next is 4 ∷ owner 3 is 3 ∷ bit 2 is 0 ∷ bit 0 is 1 ∷ bit 4 is 0 ∷ []))
     -- a place past the script's end
@@ -267,7 +279,7 @@ further =
     ∷ (fromPlayed (acquireBucketOf (bench 3) used healthy (replicate 65 0) [] 0 [] 0 3) ∷ [] give (refusal is 1 ∷ attempts is 0 ∷ []))
     -- the small calls
     ∷ (fromRead (readPermissionOf (bench 3) (setCell used 5 1 1) (leaseOf 5 1)) ∷ [] give (carries is 5 ∷ refusal is 0 ∷ attempts is 0 ∷ next is 3 ∷ []))
-    ∷ (fromReply (competingAcquireOf (bench 3) used (leaseOf 2 2)) ∷ [] give (busy is 1 ∷ attempts is 1 ∷ owner 2 is 2 ∷ next is 3 ∷ []))
+    ∷ (fromReply (competingAcquireOf (bench 3) used (leaseOf 2 2)) ∷ [] give (busy is 1 ∷ why is 1 ∷ by is 2 ∷ attempts is 1 ∷ owner 2 is 2 ∷ next is 3 ∷ []))
     ∷ (fromReply (releaseThenHandoffOf (bench 3) used (leaseOf 2 2)) ∷ [] give (granted is 1 ∷ cell is 2 ∷ serial is 3 ∷ attempts is 1 ∷ next is 4 ∷ owner 2 is 3 ∷ []))
     ∷ (fromReply (foreignReleaseOf (bench 3) used (0 ∷ 1 ∷ []) (leaseOf 2 2)) ∷ [] give (granted is 1 ∷ serial is 3 ∷ attempts is 2 ∷ next is 4 ∷ []))
     ∷ (fromReply (foreignReleaseOf (bench 3) used (2 ∷ 2 ∷ []) (leaseOf 2 2)) ∷ fromReply (dropPreservingOf (bench 3) used (2 ∷ 2 ∷ []) (leaseOf 2 2)) ∷ [] give (refusal is 13 ∷ carries is 0 ∷ attempts is 0 ∷ owner 2 is 2 ∷ []))
@@ -331,11 +343,66 @@ secondReading =
     ∷ (byKeyOnce 1 prepared sick (mend ++ end) 1 2 give (refusal is 7 ∷ boundaries is 0 ∷ place is 0 ∷ next is 1 ∷ []))
     ∷ (tryLockIn sick (mend ++ end) 6 give (granted is 1 ∷ cell is 6 ∷ serial is 1 ∷ boundaries is 3 ∷ next is 2 ∷ owner 6 is 1 ∷ []))
     -- a Busy before the take ends the attempt before the reading: held after two boundaries, waited for after one
-    ∷ (fromPlayed (tryLockOf (bench 3) used (1 ∷ 1 ∷ []) [] 0 [] 2) ∷ [] give (busy is 1 ∷ boundaries is 2 ∷ next is 3 ∷ []))
-    ∷ (fromPlayed (tryLockOf (bench 3) used (1 ∷ 1 ∷ []) [] 0 [] 5) ∷ [] give (busy is 1 ∷ boundaries is 1 ∷ next is 3 ∷ []))
+    ∷ (fromPlayed (tryLockOf (bench 3) used (1 ∷ 1 ∷ []) [] 0 [] 2) ∷ [] give (busy is 1 ∷ why is 1 ∷ by is 2 ∷ boundaries is 2 ∷ next is 3 ∷ []))
+    ∷ (fromPlayed (tryLockOf (bench 3) used (1 ∷ 1 ∷ []) [] 0 [] 5) ∷ [] give (busy is 1 ∷ why is 2 ∷ boundaries is 1 ∷ next is 3 ∷ []))
+    ∷ []
+
+-- ---- document 02, L1: why it is Busy. Cells 0 and 2 are held by serials 1 and 2 in `used`
+
+-- steps: cell 2 taken; its lease (2, 1) released; its waiters 1 and 0
+abbrev take : List ℕ
+take = 1 ∷ 2 ∷ 0 ∷ []
+
+abbrev drop : List ℕ
+drop = 2 ∷ 2 ∷ 1 ∷ []
+
+abbrev come : List ℕ
+come = 3 ∷ 2 ∷ 1 ∷ []
+
+abbrev leave : List ℕ
+leave = 3 ∷ 2 ∷ 0 ∷ []
+
+-- the retry of `acquire_index_bucket` on cell 2, cut to so few attempts that it can be computed; the last reason is passed on as after 4,096
+abbrev retried : ℕ → ℕ → List ℕ → List ℕ → List Out
+retried left n t script =
+    let m = retryOf left 0 noneYet (given (bench n) script []) 4 registry 0 2 (starting (bench n) 0) t healthy in
+    fromPlayed (record { seen = (played (bench n) (m .seen .0 .run) (answerOf (settled (m .seen .0 .outcome))), m .seen .1); log = m .log }) ∷ []
+
+-- multi-lock at its key number 1, with cell 0 taken as its first: after attempts that were all Busy, the last for this reason
+abbrev keyBusy : Reason → List Out
+keyBusy why =
+    let m = afterKey (outcome.Busy why) (given (bench 3) [] []) (leaseOf 0 1 ∷ []) 1 (starting (bench 3) 0) used healthy (9 ∷ 8 ∷ 9 ∷ 9 ∷ []) (λ l. gives (endedOf (starting (bench 3) 0) answer.Done, (used, (healthy, [])))) in
+    fromLocks (record { seen = (played (bench 3) (m .seen .0 .run) (m .seen .0 .answer), m .seen .1); log = m .log }) ∷ []
+
+abbrev pub reasons : List Case
+reasons =
+    -- "held, with the owner's serial": the one that the compare-and-set saw, not the one that stood there before the boundaries
+    (tryLockIn healthy (take ++ end) 2 ++ tryLockIn healthy (end ++ take ++ end) 2 give (busy is 1 ∷ why is 1 ∷ by is 1 ∷ boundaries is 2 ∷ next is 2 ∷ owner 2 is 1 ∷ []))
+    ∷ (tryLockIn healthy (take ++ end ++ drop ++ take ++ end) 2 give (busy is 1 ∷ why is 1 ∷ by is 2 ∷ next is 3 ∷ owner 2 is 2 ∷ []))
+    -- "waiters seen before the compare-and-set": they are looked at first, so a held cell with waiters says so too
+    ∷ (tryLockIn healthy (come ++ end) 2 ++ tryLockIn healthy (take ++ come ++ end) 2 give (busy is 1 ∷ why is 2 ∷ by is 0 ∷ boundaries is 1 ∷ []))
+    -- come in the second boundary, they are seen only after it
+    ∷ (tryLockIn healthy (end ++ come ++ end) 2 give (busy is 1 ∷ why is 3 ∷ by is 1 ∷ boundaries is 3 ∷ next is 2 ∷ bit 2 is 0 ∷ []))
+    -- "waiters seen after it. The last one also gives the serial that was spent": of this call, not the first of the arena
+    ∷ (fromPlayed (tryLockOf (bench 3) used healthy (end ++ end ++ wait ++ end) 0 [] 6) ∷ [] give (busy is 1 ∷ why is 3 ∷ by is 3 ∷ next is 4 ∷ bit 6 is 0 ∷ []))
+    -- the same by key
+    ∷ (fromPlayed (transactionalOf (bench 3) used healthy registry [] 0 [] 0 2) ∷ [] give (busy is 1 ∷ why is 1 ∷ by is 2 ∷ boundaries is 2 ∷ []))
+    ∷ (fromPlayed (transactionalOf (bench 3) used healthy registry (end ++ end ++ wait ++ end) 0 [] 1 2) ∷ [] give (busy is 1 ∷ why is 3 ∷ by is 3 ∷ boundaries is 3 ∷ []))
+    -- a compare-and-set by itself
+    ∷ (fromReply (acquirePreservingOf (bench 3) used (0 ∷ 1 ∷ []) 2) ∷ [] give (busy is 1 ∷ why is 1 ∷ by is 2 ∷ []))
+    -- "the reason of the last Busy attempt": held, then waited for; waited for, then held; waited for, then taken too late
+    ∷ (retried 2 2 (setCell prepared 2 1 1) (end ++ end ++ come ++ end) give (refusal is 11 ∷ carries is 4096 ∷ why is 2 ∷ by is 0 ∷ attempts is 2 ∷ boundaries is 5 ∷ []))
+    ∷ (retried 2 2 (setCell prepared 2 1 1) (come ++ end ++ leave ++ end) give (refusal is 11 ∷ why is 1 ∷ by is 1 ∷ attempts is 2 ∷ boundaries is 5 ∷ []))
+    ∷ (retried 2 1 prepared (come ++ end ++ leave ++ end ++ end ++ end ++ come ++ end) give (refusal is 11 ∷ why is 3 ∷ by is 1 ∷ attempts is 2 ∷ next is 2 ∷ bit 2 is 0 ∷ []))
+    -- a grant or another refusal after Busy attempts gives no reason
+    ∷ (retried 2 2 (setCell prepared 2 1 1) (end ++ end ++ drop ++ end) ++ byKeyAgain 2 (setCell prepared 2 1 1) healthy (end ++ end ++ drop ++ end) [] 0 2 give (granted is 1 ∷ why is 0 ∷ by is 0 ∷ attempts is 2 ∷ []))
+    ∷ (byKeyAgain 2 (setCell prepared 6 1 1) healthy (end ++ end ++ free ++ poison) [] 1 2 give (refusal is 7 ∷ why is 0 ∷ by is 0 ∷ attempts is 2 ∷ []))
+    -- multi-lock's 11 gives the reason of the key that it stops at
+    ∷ (keyBusy (reason.Held 2) give (refusal is 11 ∷ carries is 4096 ∷ position is 1 ∷ why is 1 ∷ by is 2 ∷ bit 0 is 0 ∷ []))
+    ∷ (keyBusy (reason.After 4) give (refusal is 11 ∷ position is 1 ∷ why is 3 ∷ by is 4 ∷ bit 0 is 0 ∷ []))
     ∷ []
 
 -- every figure of every case holds of the definitions
-pub cases-hold : (every cases ≡ true) × (every further ≡ true) × (every secondReading ≡ true)
+pub cases-hold : (every cases ≡ true) × (every further ≡ true) × (every secondReading ≡ true) × (every reasons ≡ true)
 unfolding bitAt ownerAt waitersAt setCell setWaiters isFree isHeld stateOf stateAt isLive leasesOf wordsOf sameLease isIn headFits shapeFits healthFits registryFits first stepTakeOf stepReleaseOf stepWaitersOf stepHealthOf stepOf runStepsOf boundaryOf takeOf lateOf secondOf lockOf findOf attemptOf spinOf pauseOf retryOf giveBackOf rollbackOf locksOf notLive badBindings notReleasable prepareRules cellRules leaseRules heldCellRules heldLeaseRules scriptRules lockRules bucketRules releaseRules locksRules prepareOf acquireOf tryAcquireOf dropLeaseOf readPermissionOf competingAcquireOf releaseThenHandoffOf foreignReleaseOf acquirePreservingOf dropPreservingOf environmentOf tryLockOf transactionalOf acquireBucketOf releaseAllOf acquireLocksOf total startOf allWithin risesFrom badLists badTurns crewRules tryTurnOf releaseTurnOf turnOf turnsOf takenOf releasedOf crewOf
-cases-hold = (refl, refl, refl)
+cases-hold = (refl, refl, refl, refl)

@@ -92,7 +92,7 @@ moved made m = set made m (getD made m 0 + 1)
 -- "Anything but a grant or release is an idle turn"
 abbrev pub afterTry : Outcome → ℕ → List ℕ → Crew → ℕ → ℕ → Crew
 afterTry (outcome.Granted l) next t w m k = crewAt next t (moved (w .made) m) (set (w .serials) k (l .serial)) (w .moving + 1) (w .idle)
-afterTry outcome.Busy next t w m k = idled next t w
+afterTry (outcome.Busy why) next t w m k = idled next t w
 afterTry (outcome.Refused r) next t w m k = idled next t w
 
 -- "a member that has not yet held all its cells does one try_lock with no script on its next cell, after a health reading of that cell's header"

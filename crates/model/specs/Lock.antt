@@ -1,4 +1,4 @@
--- Document 01, "The steps of a lock", with document 02, L3. They test nothing that a call has tested; the calls are in
+-- Document 01, "The steps of a lock", with document 02, L1 and L3. They test nothing that a call has tested; the calls are in
 -- `Calls`.
 use Prim.Native.Nat.{ℕ, zero, suc, _+_, _*_, _%_}
 use mathlib.Core.List.{List, [], _∷_, _++_}
@@ -19,6 +19,8 @@ use Rattle.model.specs.declared.Lease.{Lease}
 use Rattle.model.specs.declared.Locked.{Locked}
 use Rattle.model.specs.declared.Outcome.{Outcome}
 use Rattle.model.specs.declared.Outcome.the-variants as outcome
+use Rattle.model.specs.declared.Reason.{Reason}
+use Rattle.model.specs.declared.Reason.the-variants as reason
 use Rattle.model.specs.declared.Refusal.{Refusal}
 use Rattle.model.specs.declared.Refusal.the-variants as refusal
 use Rattle.model.specs.declared.Run.{Run}
@@ -35,9 +37,10 @@ abbrev pub tookOf : ℕ → Take → Took
 tookOf next a = record { next = next; answer = a }
 
 -- "in order, damaged: Damaged; held: Busy; no serial: SerialsSpent; else the cell gets bit 1 and the next serial, and next rises by 1."
+-- Document 02, L1: "held, with the owner's serial"
 abbrev pub takeIn : State → ℕ → List ℕ → ℕ → Made (Took × List ℕ)
 takeIn state.Damaged next t c = gives (tookOf next taking.Damaged, t)
-takeIn (state.Held owner) next t c = gives (tookOf next taking.Busy, t)
+takeIn (state.Held owner) next t c = gives (tookOf next (taking.Busy owner), t)
 takeIn state.Free next t c =
     if serialRemains next then (do
       note (took by-caller c next)
@@ -50,7 +53,7 @@ takeOf next t c = takeIn (stateAt next t c) next t c
 -- what a compare-and-set on a cell comes to; 9 and 10 carry the cell
 abbrev pub outcomeOf : ℕ → Take → Outcome
 outcomeOf c (taking.Granted s) = outcome.Granted (leaseOf c s)
-outcomeOf c taking.Busy = outcome.Busy
+outcomeOf c (taking.Busy owner) = outcome.Busy (reason.Held owner)
 outcomeOf c taking.Damaged = outcome.Refused (refusal.Damaged c)
 outcomeOf c taking.Spent = outcome.Refused (refusal.SerialsSpent c)
 
@@ -67,18 +70,19 @@ giveUpOf o f t g c s = do
 
 -- "boundary (protecting the new lease); waiters not 0: release it, Busy; else granted." Document 02, L3, of health:
 -- "Read it again after the third boundary, before the waiters. If poisoned, release the lease and refuse with 7; the
--- serial stays spent." "A call by cell reads the health of its cell's header there."
+-- serial stays spent." "A call by cell reads the health of its cell's header there." L1: "waiters seen after it. The last one also gives the serial
+-- that was spent."
 unfoldable pub lateOf : Setting → ℕ → Flow → List ℕ → List ℕ → ℕ → ℕ → Made (Locked × (List ℕ × List ℕ))
 lateOf e buckets f t g c s = do
   (k, (u, w)) ← boundaryOf (protecting e (leaseOf c s ∷ [])) f t g
   if isPoisoned w (headerOf buckets c) then giveUpOf (outcome.Refused (refusal.Poisoned (headerOf buckets c))) k u w c s
       else if eqb (waitersAt u c) 0 then gives (lockedOf k 3 (outcome.Granted (leaseOf c s)), (u, w))
-      else giveUpOf outcome.Busy k u w c s
+      else giveUpOf (outcome.Busy (reason.After s)) k u w c s
 
 -- after try_acquire: a grant goes on, anything else ends the try_lock after two boundaries
 abbrev pub afterTake : Take → Setting → ℕ → Flow → List ℕ → List ℕ → ℕ → Made (Locked × (List ℕ × List ℕ))
 afterTake (taking.Granted s) e buckets f t g c = lateOf e buckets f t g c s
-afterTake taking.Busy e buckets f t g c = gives (lockedOf f 2 (outcomeOf c taking.Busy), (t, g))
+afterTake (taking.Busy owner) e buckets f t g c = gives (lockedOf f 2 (outcomeOf c (taking.Busy owner)), (t, g))
 afterTake taking.Damaged e buckets f t g c = gives (lockedOf f 2 (outcomeOf c taking.Damaged), (t, g))
 afterTake taking.Spent e buckets f t g c = gives (lockedOf f 2 (outcomeOf c taking.Spent), (t, g))
 
@@ -89,16 +93,16 @@ secondOf e buckets f t g c = do
   (a, v) ← takeOf (k .next) u c
   afterTake (a .answer) e buckets (flowOf (a .next) (k .place) (k .dropped)) v w c
 
--- "boundary; waiters not 0: Busy"
+-- "boundary; waiters not 0: Busy". Document 02, L1: "waiters seen before the compare-and-set"
 unfoldable pub lockOf : Setting → ℕ → Flow → List ℕ → List ℕ → ℕ → Made (Locked × (List ℕ × List ℕ))
 lockOf e buckets f t g c = do
   (k, (u, w)) ← boundaryOf e f t g
   if eqb (waitersAt u c) 0 then secondOf e buckets k u w c
-      else gives (lockedOf k 1 outcome.Busy, (u, w))
+      else gives (lockedOf k 1 (outcome.Busy reason.Before), (u, w))
 
 abbrev pub answerOf : Outcome → Answer
 answerOf (outcome.Granted l) = answer.Granted l
-answerOf outcome.Busy = answer.Busy
+answerOf (outcome.Busy why) = answer.Busy why
 answerOf (outcome.Refused r) = answer.Refused r
 
 -- ---- `transactional_try_lock_bucket`: one attempt by key
@@ -150,26 +154,36 @@ pauseOf e i r t g =
 
 abbrev pub isBusy : Outcome → Bool
 isBusy (outcome.Granted l) = false
-isBusy outcome.Busy = true
+isBusy (outcome.Busy why) = true
 isBusy (outcome.Refused r) = false
 
--- `left` attempts from number i on. "A refusal ends it at once"; when none is left, the last was Busy
-unfoldable pub retryOf : ℕ → ℕ → Setting → ℕ → List ℕ → ℕ → ℕ → Run → List ℕ → List ℕ → Made (Tried × (List ℕ × List ℕ))
-retryOf zero i e buckets registry binding bucket r t g = gives (triedOf r outcome.Busy, (t, g))
-retryOf (suc left) i e buckets registry binding bucket r t g = do
+-- document 02, L1: "the reason of the last Busy attempt": this attempt's, if it was Busy, else the one before
+abbrev pub lastOf : Reason → Outcome → Reason
+lastOf last (outcome.Granted l) = last
+lastOf last (outcome.Busy why) = why
+lastOf last (outcome.Refused r) = last
+
+-- `left` attempts from number i on, `last` being the reason of the last Busy one. "A refusal ends it at once"; when none is left, the last was Busy
+unfoldable pub retryOf : ℕ → ℕ → Reason → Setting → ℕ → List ℕ → ℕ → ℕ → Run → List ℕ → List ℕ → Made (Tried × (List ℕ × List ℕ))
+retryOf zero i last e buckets registry binding bucket r t g = gives (triedOf r (outcome.Busy last), (t, g))
+retryOf (suc left) i last e buckets registry binding bucket r t g = do
   (k, (u, w)) ← attemptOf e buckets registry binding bucket r t g
   if isBusy (k .outcome) then (do
     (p, (v, x)) ← pauseOf e i (k .run) u w
-    retryOf left (i + 1) e buckets registry binding bucket p v x)
+    retryOf left (i + 1) (lastOf last (k .outcome)) e buckets registry binding bucket p v x)
       else gives (k, (u, w))
 
 abbrev pub attemptLimit : ℕ
 attemptLimit = 4096
 
--- "After 4,096: SerializationFailure."
+-- before the first attempt there is no last one; with attempts to come, what stands here is never given (laws, `retry-first`)
+abbrev pub noneYet : Reason
+noneYet = reason.Before
+
+-- "After 4,096: SerializationFailure." Document 02, L1: "refusal 11 carries that reason", of the last Busy attempt
 abbrev pub settled : Outcome → Outcome
 settled (outcome.Granted l) = outcome.Granted l
-settled outcome.Busy = outcome.Refused refusal.SerializationFailure
+settled (outcome.Busy why) = outcome.Refused (refusal.SerializationFailure why)
 settled (outcome.Refused r) = outcome.Refused r
 
 -- ---- `release_all`, and multi-lock's rollback
@@ -206,7 +220,7 @@ rollbackOf e taken x p r t g grants = do
 -- after one key: a lease goes on to the next key, a refusal rolls back
 abbrev pub afterKey : Outcome → Setting → List Lease → ℕ → Run → List ℕ → List ℕ → List ℕ → (Lease → Made Locks) → Made Locks
 afterKey (outcome.Granted l) e taken p r t g grants more = more l
-afterKey outcome.Busy e taken p r t g grants more = rollbackOf e taken refusal.SerializationFailure p r t g grants
+afterKey (outcome.Busy why) e taken p r t g grants more = rollbackOf e taken (refusal.SerializationFailure why) p r t g grants
 afterKey (outcome.Refused x) e taken p r t g grants more = rollbackOf e taken x p r t g grants
 
 -- "keys are binding and bucket"
@@ -221,5 +235,5 @@ bucketAt keys p = getD keys (2 * p + 1) 0
 unfoldable pub locksOf : ℕ → ℕ → Setting → ℕ → List ℕ → List ℕ → List Lease → Run → List ℕ → List ℕ → List ℕ → Made Locks
 locksOf zero p e buckets registry keys taken r t g grants = gives (endedOf r answer.AllGranted, (t, (g, wordsOf taken)))
 locksOf (suc left) p e buckets registry keys taken r t g grants = do
-  (k, (u, w)) ← retryOf attemptLimit 0 (protecting e taken) buckets registry (bindingAt keys p) (bucketAt keys p) r t g
+  (k, (u, w)) ← retryOf attemptLimit 0 noneYet (protecting e taken) buckets registry (bindingAt keys p) (bucketAt keys p) r t g
   afterKey (k .outcome) e taken p (k .run) u w grants λ l. locksOf left (p + 1) e buckets registry keys (taken ++ (l ∷ [])) (k .run) u w grants

@@ -3,13 +3,15 @@
 use Prim.Native.Nat.{ℕ, zero, suc, _+_}
 use mathlib.Core.Path.{_≡_, refl, ap}
 use mathlib.Core.List.{List, [], _∷_, _++_, map}
-use lib.ListN.{length, replicate}
+use lib.ListN.{length, getD, replicate}
 use Rattle.model.specs.Arena.{leasesOf}
-use Rattle.model.specs.Refusals.{Rule, refusalOf, numberOf, carriedOf}
+use Rattle.model.specs.Refusals.{Rule, reasonNumber, reasonSerial, reasonOf, refusalWith, numberOf, carriedOf, refusalReason}
 use Rattle.model.specs.Checks.{countIn, notLive, badBindings, notReleasable, prepareRules, cellRules, leaseRules, heldCellRules, heldLeaseRules, scriptRules, lockRules, bucketRules, releaseRules, locksRules}
 use Rattle.model.specs.Crew.{badLists, badTurns, crewRules}
 use Rattle.model.specs.declared.Head.{Head}
 use Rattle.model.specs.declared.Lease.{Lease}
+use Rattle.model.specs.declared.Reason.{Reason}
+use Rattle.model.specs.declared.Reason.the-variants as reason
 use Rattle.model.specs.declared.Refusal.{Refusal}
 use Rattle.model.specs.declared.Refusal.the-variants.{BadShape, BadScript, BadHeld, TooMany, BadBinding, BadHeader, Poisoned, InvalidBucket, Damaged, SerialsSpent, SerializationFailure, NotHeld, Protected, Repeated, BadCrew}
 
@@ -17,14 +19,20 @@ abbrev numbers : List ℕ
 numbers = 1 ∷ 2 ∷ 3 ∷ 4 ∷ 5 ∷ 6 ∷ 7 ∷ 8 ∷ 9 ∷ 10 ∷ 11 ∷ 12 ∷ 13 ∷ 14 ∷ 15 ∷ []
 
 -- the columns "no." and "carries"
-pub numbers-are : (k : ℕ) → map (λ n. numberOf (refusalOf n k)) numbers ≡ numbers
-numbers-are k = refl
+pub numbers-are : (k : ℕ) (why : Reason) → map (λ n. numberOf (refusalWith why n k)) numbers ≡ numbers
+numbers-are k why = refl
 
-pub carries-are : (k : ℕ) → map (λ n. carriedOf (refusalOf n k)) numbers ≡ 0 ∷ 0 ∷ k ∷ 0 ∷ k ∷ k ∷ k ∷ k ∷ k ∷ k ∷ 4096 ∷ k ∷ 0 ∷ k ∷ k ∷ []
-carries-are k = refl
+pub carries-are : (k : ℕ) (why : Reason) → map (λ n. carriedOf (refusalWith why n k)) numbers ≡ 0 ∷ 0 ∷ k ∷ 0 ∷ k ∷ k ∷ k ∷ k ∷ k ∷ k ∷ 4096 ∷ k ∷ 0 ∷ k ∷ k ∷ []
+carries-are k why = refl
 
--- number and carried value tell a refusal
-pub refusal-is : (r : Refusal) → refusalOf (numberOf r) (carriedOf r) ≡ r
+-- number and serial tell a reason
+pub reason-is : (why : Reason) → reasonOf (reasonNumber why) (reasonSerial why) ≡ why
+reason-is (reason.Held s) = refl
+reason-is reason.Before = refl
+reason-is (reason.After s) = refl
+
+-- number, carried value and the reason's two numbers tell a refusal
+pub refusal-is : (r : Refusal) → refusalWith (reasonOf (getD (refusalReason r) 0 0) (getD (refusalReason r) 1 0)) (numberOf r) (carriedOf r) ≡ r
 refusal-is BadShape = refl
 refusal-is BadScript = refl
 refusal-is (BadHeld k) = refl
@@ -35,7 +43,7 @@ refusal-is (Poisoned k) = refl
 refusal-is (InvalidBucket k) = refl
 refusal-is (Damaged k) = refl
 refusal-is (SerialsSpent k) = refl
-refusal-is SerializationFailure = refl
+refusal-is (SerializationFailure why) = ap SerializationFailure (reason-is why)
 refusal-is (NotHeld k) = refl
 refusal-is Protected = refl
 refusal-is (Repeated k) = refl

@@ -6,12 +6,35 @@ use lib.Dec.{eqb}
 use Rattle.choice.specs.Choice.{if_then_else_}
 use Rattle.model.specs.declared.Check.{Check}
 use Rattle.model.specs.declared.Check.the-variants.{Fine, Fault}
+use Rattle.model.specs.declared.Reason.{Reason}
+use Rattle.model.specs.declared.Reason.the-variants as reason
 use Rattle.model.specs.declared.Refusal.{Refusal}
 use Rattle.model.specs.declared.Refusal.the-variants.{BadShape, BadScript, BadHeld, TooMany, BadBinding, BadHeader, Poisoned, InvalidBucket, Damaged, SerialsSpent, SerializationFailure, NotHeld, Protected, Repeated, BadCrew}
 
--- the columns "no." and "carries": the refusal of a number, carrying k
-abbrev pub refusalOf : ℕ → ℕ → Refusal
-refusalOf number k =
+-- ---- document 02, L1: "Split the word: held, with the owner's serial; waiters seen before the compare-and-set; waiters seen after it. The last
+-- one also gives the serial that was spent."
+
+-- a reason's number
+abbrev pub reasonNumber : Reason → ℕ
+reasonNumber (reason.Held s) = 1
+reasonNumber reason.Before = 2
+reasonNumber (reason.After s) = 3
+
+-- the serial that it gives, 0 for none
+abbrev pub reasonSerial : Reason → ℕ
+reasonSerial (reason.Held s) = s
+reasonSerial reason.Before = 0
+reasonSerial (reason.After s) = s
+
+-- the same, read the other way
+abbrev pub reasonOf : ℕ → ℕ → Reason
+reasonOf number s = if eqb number 1 then reason.Held s else if eqb number 2 then reason.Before else reason.After s
+
+-- ---- the table
+
+-- the columns "no." and "carries": the refusal of a number, carrying k; "refusal 11 carries that reason besides 4,096"
+abbrev pub refusalWith : Reason → ℕ → ℕ → Refusal
+refusalWith why number k =
     if eqb number 1 then BadShape
     else if eqb number 2 then BadScript
     else if eqb number 3 then BadHeld k
@@ -22,7 +45,7 @@ refusalOf number k =
     else if eqb number 8 then InvalidBucket k
     else if eqb number 9 then Damaged k
     else if eqb number 10 then SerialsSpent k
-    else if eqb number 11 then SerializationFailure
+    else if eqb number 11 then SerializationFailure why
     else if eqb number 12 then NotHeld k
     else if eqb number 13 then Protected
     else if eqb number 14 then Repeated k
@@ -40,7 +63,7 @@ numberOf (Poisoned k) = 7
 numberOf (InvalidBucket k) = 8
 numberOf (Damaged k) = 9
 numberOf (SerialsSpent k) = 10
-numberOf SerializationFailure = 11
+numberOf (SerializationFailure why) = 11
 numberOf (NotHeld k) = 12
 numberOf Protected = 13
 numberOf (Repeated k) = 14
@@ -57,11 +80,29 @@ carriedOf (Poisoned k) = k
 carriedOf (InvalidBucket k) = k
 carriedOf (Damaged k) = k
 carriedOf (SerialsSpent k) = k
-carriedOf SerializationFailure = 4096
+carriedOf (SerializationFailure why) = 4096
 carriedOf (NotHeld k) = k
 carriedOf Protected = 0
 carriedOf (Repeated k) = k
 carriedOf (BadCrew k) = k
+
+-- the number of the reason that a refusal gives, and its serial: only 11 gives one, the others 0 and 0
+abbrev pub refusalReason : Refusal → List ℕ
+refusalReason BadShape = 0 ∷ 0 ∷ []
+refusalReason BadScript = 0 ∷ 0 ∷ []
+refusalReason (BadHeld k) = 0 ∷ 0 ∷ []
+refusalReason TooMany = 0 ∷ 0 ∷ []
+refusalReason (BadBinding k) = 0 ∷ 0 ∷ []
+refusalReason (BadHeader k) = 0 ∷ 0 ∷ []
+refusalReason (Poisoned k) = 0 ∷ 0 ∷ []
+refusalReason (InvalidBucket k) = 0 ∷ 0 ∷ []
+refusalReason (Damaged k) = 0 ∷ 0 ∷ []
+refusalReason (SerialsSpent k) = 0 ∷ 0 ∷ []
+refusalReason (SerializationFailure why) = reasonNumber why ∷ reasonSerial why ∷ []
+refusalReason (NotHeld k) = 0 ∷ 0 ∷ []
+refusalReason Protected = 0 ∷ 0 ∷ []
+refusalReason (Repeated k) = 0 ∷ 0 ∷ []
+refusalReason (BadCrew k) = 0 ∷ 0 ∷ []
 
 -- the column "when": a check is a number, what it carries, and the test that makes it apply
 pub record Rule : Type 0 where
@@ -72,6 +113,10 @@ pub record Rule : Type 0 where
 infix 6 refuse_carrying_when_
 abbrev pub refuse_carrying_when_ : ℕ → ℕ → Bool → Rule
 refuse n carrying k when b = record { number = n; carries = k; applies = b }
+
+-- the refusal of a check. No check refuses with 11, which alone has a reason
+abbrev pub refusalOf : ℕ → ℕ → Refusal
+refusalOf number k = refusalWith reason.Before number k
 
 -- "Checks in this order; the first that applies is given, and only then."
 unfoldable pub first : List Rule → Check

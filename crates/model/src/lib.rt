@@ -1,7 +1,7 @@
 // The types that document 01's answers are made of. What they mean is in specs/: document 01 itself, as definitions.
 ghost use mathlib.Core.Path.{_≡_};
 ghost use Rattle.model.specs.Arena.{serialRemains, shapeFits, healthFits, issueOf, spentTo};
-ghost use Rattle.model.specs.Refusals.{numberOf, carriedOf};
+ghost use Rattle.model.specs.Refusals.{reasonNumber, reasonSerial, numberOf, carriedOf};
 
 // The head: header slots H, buckets per header B, and the next serial. It is handed over and given back by value.
 pub struct Head {
@@ -35,7 +35,16 @@ pub struct Issue {
     pub serial: Serial,
 }
 
-// The fifteen refusals, with what each carries (11 carries 4,096, which is the same for all).
+// Why it is Busy: the cell is held, by this serial; somebody waited before the compare-and-set; somebody waited after
+// it, and this serial was spent.
+pub enum Reason {
+    Held(u32),
+    Before,
+    After(u32),
+}
+
+// The fifteen refusals, with what each carries (11 carries 4,096, which is the same for all, and the reason of the last
+// attempt).
 pub enum Refusal {
     BadShape,
     BadScript,
@@ -47,7 +56,7 @@ pub enum Refusal {
     InvalidBucket(u32),
     Damaged(u32),
     SerialsSpent(u32),
-    SerializationFailure,
+    SerializationFailure(Reason),
     NotHeld(usize),
     Protected,
     Repeated(usize),
@@ -66,7 +75,7 @@ pub enum Answer {
     Cell(u32),
     Granted(Lease),
     AllGranted,
-    Busy,
+    Busy(Reason),
     Refused(Refusal),
     RefusedAt(Refusal, usize),
 }
@@ -119,10 +128,10 @@ pub struct Stepped {
     pub dropped: usize,
 }
 
-// What one compare-and-set answers.
+// What one compare-and-set answers; Busy comes with the serial that holds the cell.
 pub enum Take {
     Granted(u32),
-    Busy,
+    Busy(u32),
     Damaged,
     Spent,
 }
@@ -136,7 +145,7 @@ pub struct Took {
 // What an attempt comes to.
 pub enum Outcome {
     Granted(Lease),
-    Busy,
+    Busy(Reason),
     Refused(Refusal),
 }
 
@@ -247,6 +256,30 @@ impl Head {
     }
 }
 
+impl Reason {
+    // Its number, for callers in C or Rust and for the pages.
+    pub fn number(self) -> u32
+        ensures { λ r. ⌜ r ≡ reasonNumber self ⌝ }
+    {
+        match self {
+            Reason::Held(_) => 1,
+            Reason::Before => 2,
+            Reason::After(_) => 3,
+        }
+    }
+
+    // The serial that goes with it, 0 if none does.
+    pub fn serial(self) -> u32
+        ensures { λ r. ⌜ r ≡ reasonSerial self ⌝ }
+    {
+        match self {
+            Reason::Held(serial) => serial,
+            Reason::Before => 0,
+            Reason::After(serial) => serial,
+        }
+    }
+}
+
 impl Refusal {
     // Document 01's number.
     pub fn number(self) -> u32
@@ -263,7 +296,7 @@ impl Refusal {
             Refusal::InvalidBucket(_) => 8,
             Refusal::Damaged(_) => 9,
             Refusal::SerialsSpent(_) => 10,
-            Refusal::SerializationFailure => 11,
+            Refusal::SerializationFailure(_) => 11,
             Refusal::NotHeld(_) => 12,
             Refusal::Protected => 13,
             Refusal::Repeated(_) => 14,
@@ -286,7 +319,7 @@ impl Refusal {
             Refusal::InvalidBucket(n) => n as usize,
             Refusal::Damaged(n) => n as usize,
             Refusal::SerialsSpent(n) => n as usize,
-            Refusal::SerializationFailure => 4096,
+            Refusal::SerializationFailure(_) => 4096,
             Refusal::NotHeld(n) => n,
             Refusal::Protected => 0,
             Refusal::Repeated(n) => n,

@@ -10,7 +10,7 @@ use lib.Seq.{getD-set-same, getD-set-other, set-at}
 use Rattle.model.specs.Log.{Made}
 use Rattle.model.specs.Arena.{leaseOf, leasesOf, wordsOf}
 use Rattle.model.specs.Foreign.{Setting, setting, protecting, stepsIn}
-use Rattle.model.specs.Lock.{findOf, attemptAt, attemptOf, pauseOf, isBusy, retryOf, giveBackOf, endedOf, rollbackOf, afterKey, locksOf, bindingAt, bucketAt, Locks, leaseAt}
+use Rattle.model.specs.Lock.{findOf, attemptAt, attemptOf, pauseOf, isBusy, lastOf, noneYet, retryOf, giveBackOf, endedOf, rollbackOf, afterKey, locksOf, bindingAt, bucketAt, Locks, leaseAt}
 use Rattle.model.specs.declared.Answer.the-variants as answer
 use Rattle.model.specs.declared.Ended.{Ended}
 use Rattle.model.specs.declared.Found.{Found}
@@ -18,6 +18,7 @@ use Rattle.model.specs.declared.Found.the-variants as found
 use Rattle.model.specs.declared.Lease.{Lease}
 use Rattle.model.specs.declared.Outcome.{Outcome}
 use Rattle.model.specs.declared.Outcome.the-variants as outcome
+use Rattle.model.specs.declared.Reason.{Reason}
 use Rattle.model.specs.declared.Refusal.{Refusal}
 use Rattle.model.specs.declared.Run.{Run}
 use Rattle.model.specs.declared.Tried.{Tried}
@@ -82,17 +83,17 @@ pairs-push p a c s l =
 -- ---- what a retry keeps, and where its grant lies
 
 module _ (e : Setting) (buckets : ℕ) (registry : List ℕ) (binding bucket : ℕ) where
-  retry-run-bound : (left i most : ℕ) (r : Run) (t g : List ℕ) → RunBound (stepsIn (e .script)) most r
-      → RunBound (stepsIn (e .script)) (most + 5 * left) (retryOf left i e buckets registry binding bucket r t g .seen .0 .run)
+  retry-run-bound : (left i : ℕ) (last : Reason) (most : ℕ) (r : Run) (t g : List ℕ) → RunBound (stepsIn (e .script)) most r
+      → RunBound (stepsIn (e .script)) (most + 5 * left) (retryOf left i last e buckets registry binding bucket r t g .seen .0 .run)
   unfolding retryOf
-  retry-run-bound zero i most r t g b = more-run-bound _ most (most + 5 * 0) _ (omega arith) b
-  retry-run-bound (suc left) i most r t g b =
+  retry-run-bound zero i last most r t g b = more-run-bound _ most (most + 5 * 0) _ (omega arith) b
+  retry-run-bound (suc left) i last most r t g b =
       let o = attemptOf e buckets registry binding bucket r t g .seen in
       let c = attempt-run-bound e buckets registry binding bucket most r t g b in
       let p = pauseOf e i (o .0 .run) (o .1 .0) (o .1 .1) .seen in
       let d = pause-run-bound e i (most + 3) (o .0 .run) (o .1 .0) (o .1 .1) c in
       if-both (λ (m : Made (Tried × (List ℕ × List ℕ))). RunBound (stepsIn (e .script)) (most + 5 * suc left) (m .seen .0 .run)) (isBusy (o .0 .outcome))
-      (more-run-bound _ (most + 3 + 2 + 5 * left) (most + 5 * suc left) _ (omega arith) (retry-run-bound left (i + 1) (most + 3 + 2) (p .0) (p .1 .0) (p .1 .1) d))
+      (more-run-bound _ (most + 3 + 2 + 5 * left) (most + 5 * suc left) _ (omega arith) (retry-run-bound left (i + 1) (lastOf last (o .0 .outcome)) (most + 3 + 2) (p .0) (p .1 .0) (p .1 .1) d))
       (more-run-bound _ (most + 3) (most + 5 * suc left) _ (omega arith) c)
 
   -- a granted lease's cell is in range
@@ -101,10 +102,7 @@ module _ (e : Setting) (buckets : ℕ) (registry : List ℕ) (binding bucket : �
 
   within-at : (c : ℕ) (g : List ℕ) (o : Outcome) → Comes buckets c g o → c < e .headers * buckets → Within o
   within-at c g o (granted s k) h l q = let z : leaseOf c s ≡ l = cc in omega (arith, ap (λ (k : Lease). k .cell) z)
-  within-at c g o busy h l q = let z : outcome.Busy ≡ outcome.Granted l = q in absurd (no-way z)
-    where
-      no-way : outcome.Busy ≡ outcome.Granted l → ⊥
-      no-way z = let y : _≡_ {A = ℕ} 0 1 = cc in omega arith
+  within-at c g o (busy why) h l q = let y : _≡_ {A = ℕ} 0 1 = cc in absurd (omega arith)
   within-at c g o (poisoned k) h l q = let y : _≡_ {A = ℕ} 0 1 = cc in absurd (omega arith)
   within-at c g o damaged h l q = let y : _≡_ {A = ℕ} 0 1 = cc in absurd (omega arith)
   within-at c g o spent h l q = let y : _≡_ {A = ℕ} 0 1 = cc in absurd (omega arith)
@@ -113,32 +111,32 @@ module _ (e : Setting) (buckets : ℕ) (registry : List ℕ) (binding bucket : �
   within-attempt (found.Fault x) r t g h l q = let y : _≡_ {A = ℕ} 0 1 = cc in absurd (omega arith)
   within-attempt (found.At c) r t g h l q = within-at c _ _ (lock-comes e buckets c (r .flow) t g) (h c refl) l q
 
-  retry-within : (left i : ℕ) (r : Run) (t g : List ℕ) → Within (retryOf left i e buckets registry binding bucket r t g .seen .0 .outcome)
+  retry-within : (left i : ℕ) (last : Reason) (r : Run) (t g : List ℕ) → Within (retryOf left i last e buckets registry binding bucket r t g .seen .0 .outcome)
   unfolding retryOf attemptOf
-  retry-within zero i r t g = λ l q. let y : _≡_ {A = ℕ} 0 1 = cc in absurd (omega arith)
-  retry-within (suc left) i r t g =
+  retry-within zero i last r t g = λ l q. let y : _≡_ {A = ℕ} 0 1 = cc in absurd (omega arith)
+  retry-within (suc left) i last r t g =
       let o = attemptOf e buckets registry binding bucket r t g .seen in
       let p = pauseOf e i (o .0 .run) (o .1 .0) (o .1 .1) .seen in
       if-both (λ (m : Made (Tried × (List ℕ × List ℕ))). Within (m .seen .0 .outcome)) (isBusy (o .0 .outcome))
-      (retry-within left (i + 1) (p .0) (p .1 .0) (p .1 .1))
+      (retry-within left (i + 1) (lastOf last (o .0 .outcome)) (p .0) (p .1 .0) (p .1 .1))
       (within-attempt (findOf (e .headers) buckets g registry binding bucket) r t g (find-inside (e .headers) buckets g registry binding bucket))
 
 -- as the code has them
 pub retry-goes : (o : Tried × (List ℕ × List ℕ)) (headers cells steps : ℕ) (script : List ℕ) (ps : List Lease) (buckets : ℕ) (registry : List ℕ) (binding bucket most : ℕ) (r : Run) (t g : List ℕ)
-    → steps ≡ length script / 3 → o ≡ retryOf 4096 0 (setting headers cells script ps) buckets registry binding bucket r t g .seen → RunBound steps most r → RunBound steps (most + keyMost) (o .0 .run)
+    → steps ≡ length script / 3 → o ≡ retryOf 4096 0 noneYet (setting headers cells script ps) buckets registry binding bucket r t g .seen → RunBound steps most r → RunBound steps (most + keyMost) (o .0 .run)
 retry-goes o headers cells steps script ps buckets registry binding bucket most r t g n q b =
-    rw (q, n) (retry-run-bound (setting headers cells script ps) buckets registry binding bucket 4096 0 most r t g (rw n at b))
+    rw (q, n) (retry-run-bound (setting headers cells script ps) buckets registry binding bucket 4096 0 noneYet most r t g (rw n at b))
 
 pub grant-inside : (o : Tried × (List ℕ × List ℕ)) (headers cells : ℕ) (script : List ℕ) (ps : List Lease) (buckets : ℕ) (registry : List ℕ) (binding bucket : ℕ) (r : Run) (t g : List ℕ) (l : Lease)
-    → o ≡ retryOf 4096 0 (setting headers cells script ps) buckets registry binding bucket r t g .seen → o .0 .outcome ≡ outcome.Granted l → l .cell < headers * buckets
+    → o ≡ retryOf 4096 0 noneYet (setting headers cells script ps) buckets registry binding bucket r t g .seen → o .0 .outcome ≡ outcome.Granted l → l .cell < headers * buckets
 grant-inside o headers cells script ps buckets registry binding bucket r t g l q h =
-    retry-within (setting headers cells script ps) buckets registry binding bucket 4096 0 r t g l (sym (ap (λ (k : Tried × (List ℕ × List ℕ)). k .0 .outcome) q) ∙ h)
+    retry-within (setting headers cells script ps) buckets registry binding bucket 4096 0 noneYet r t g l (sym (ap (λ (k : Tried × (List ℕ × List ℕ)). k .0 .outcome) q) ∙ h)
 
 -- ---- one key
 
 module _ (n p : ℕ) (e : Setting) (buckets : ℕ) (registry keys : List ℕ) (taken : List Lease) (r : Run) (t g grants : List ℕ) where
   abbrev tried : Tried × (List ℕ × List ℕ)
-  tried = retryOf 4096 0 (protecting e taken) buckets registry (bindingAt keys p) (bucketAt keys p) r t g .seen
+  tried = retryOf 4096 0 noneYet (protecting e taken) buckets registry (bindingAt keys p) (bucketAt keys p) r t g .seen
 
   -- what comes of the key, by what its retry came to
   abbrev next-key : Outcome → Tried × (List ℕ × List ℕ) → Made Locks

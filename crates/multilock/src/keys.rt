@@ -15,7 +15,7 @@ ghost use Prim.Native.Nat.{_+_, _*_, _<_, _≤_};
 ghost use lib.ListN.{length};
 ghost use Rattle.model.specs.Arena.{leasesOf, wordsOf};
 ghost use Rattle.model.specs.Foreign.{protecting};
-ghost use Rattle.model.specs.Lock.{retryOf, bindingAt, bucketAt, locksOf};
+ghost use Rattle.model.specs.Lock.{noneYet, retryOf, bindingAt, bucketAt, locksOf};
 ghost use Rattle.foreign.specs.Model.{pairsOf, inScope};
 ghost use Rattle.bucket.specs.Bounds.{callMost};
 ghost use Rattle.bucket.specs.Laws.{RunBound};
@@ -50,7 +50,7 @@ fn try_key(
     requires { ⌜ Bound scope (length (now table)) (length (now health)) (length (now script)) (now registry) (now keys)
         × (RunBound (scope .steps) callMost run × ((p < 64) × (2 * p + 1 < length (now keys)))) ⌝ }
     ensures { λ r. ⌜ (r, (now (table .exit), now (health .exit)))
-        ≡ retryOf 4096 0 (protecting (inScope scope (now (script .entry)) (leasesOf (now (held .entry))))
+        ≡ retryOf 4096 0 noneYet (protecting (inScope scope (now (script .entry)) (leasesOf (now (held .entry))))
         (pairsOf p 0 (now (taken .entry)))) (scope .buckets) (now (registry .entry))
         (bindingAt (now (keys .entry)) p) (bucketAt (now (keys .entry)) p)
         run (now (table .entry)) (now (health .entry)) .seen ⌝ }
@@ -116,8 +116,8 @@ pub fn lock_keys(
                 taken[p] = [lease.cell, lease.serial];
                 run = after;
             }
-            Outcome::Busy => {
-                let busy = Refusal::SerializationFailure;
+            Outcome::Busy(why) => {
+                let busy = Refusal::SerializationFailure(why);
                 return roll_back(scope, after, table, health, script, held, taken, p, busy);
             }
             Outcome::Refused(refusal) => {

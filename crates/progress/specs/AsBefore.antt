@@ -1,6 +1,6 @@
 -- Document 02, L3, leaves the crew as it was: a turn's try_lock has no script, so the health read after the third boundary
 -- is the health that the turn has read first, and that was 0. Here stand the steps of a lock as document 01 has them,
--- without the second reading, only to be compared with.
+-- without the second reading, only to be compared with; a Busy there has its reason too.
 use Prim.Native.Nat.{ℕ, _+_, _*_}
 use mathlib.Core.Path.{_≡_, refl, ap}
 use mathlib.Core.List.{List, [], _∷_, _++_}
@@ -16,6 +16,7 @@ use Rattle.model.specs.Crew.{Crew, idled, afterTry, tryTurnOf}
 use Rattle.model.specs.declared.Flow.{Flow}
 use Rattle.model.specs.declared.Locked.{Locked}
 use Rattle.model.specs.declared.Outcome.the-variants as outcome
+use Rattle.model.specs.declared.Reason.the-variants as reason
 use Rattle.model.specs.declared.Take.{Take}
 use Rattle.model.specs.declared.Take.the-variants as taking
 use Rattle.history.specs.Tests.{if-cases}
@@ -27,11 +28,11 @@ abbrev late-before : Setting → Flow → List ℕ → List ℕ → ℕ → ℕ 
 late-before e f t g c s = do
   (k, (u, w)) ← boundaryOf (protecting e (leaseOf c s ∷ [])) f t g
   if eqb (waitersAt u c) 0 then gives (lockedOf k 3 (outcome.Granted (leaseOf c s)), (u, w))
-      else giveUpOf outcome.Busy k u w c s
+      else giveUpOf (outcome.Busy (reason.After s)) k u w c s
 
 abbrev after-before : Take → Setting → Flow → List ℕ → List ℕ → ℕ → Made (With Locked)
 after-before (taking.Granted s) e f t g c = late-before e f t g c s
-after-before taking.Busy e f t g c = gives (lockedOf f 2 (outcomeOf c taking.Busy), (t, g))
+after-before (taking.Busy owner) e f t g c = gives (lockedOf f 2 (outcomeOf c (taking.Busy owner)), (t, g))
 after-before taking.Damaged e f t g c = gives (lockedOf f 2 (outcomeOf c taking.Damaged), (t, g))
 after-before taking.Spent e f t g c = gives (lockedOf f 2 (outcomeOf c taking.Spent), (t, g))
 
@@ -45,7 +46,7 @@ abbrev pub lock-before : Setting → Flow → List ℕ → List ℕ → ℕ → 
 lock-before e f t g c = do
   (k, (u, w)) ← boundaryOf e f t g
   if eqb (waitersAt u c) 0 then second-before e k u w c
-      else gives (lockedOf k 1 outcome.Busy, (u, w))
+      else gives (lockedOf k 1 (outcome.Busy reason.Before), (u, w))
 
 -- a turn of the crew with them
 abbrev pub turn-before : ℕ → ℕ → List ℕ → Crew → ℕ → ℕ → ℕ → Made Crew
@@ -68,7 +69,7 @@ module _ (headers cells buckets n : ℕ) (t g : List ℕ) (c : ℕ) (healthy : g
 
   after-same : (a : Take) (k d : ℕ) (u : List ℕ) → afterTake a e buckets (flowOf k 0 d) u g c ≡ after-before a e (flowOf k 0 d) u g c
   after-same (taking.Granted s) k d u = late-same k d u s
-  after-same taking.Busy k d u = refl
+  after-same (taking.Busy owner) k d u = refl
   after-same taking.Damaged k d u = refl
   after-same taking.Spent k d u = refl
 

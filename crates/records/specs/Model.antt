@@ -71,7 +71,7 @@ takeFreeOf h c n = serve (issueOf h .serial) (issueOf h .head) c n
 
 abbrev pub takeBy : State → Head → Cell → ℕ → Changed
 takeBy state.Damaged h c n = changed c (takeReplyOf h n taking.Damaged)
-takeBy (state.Held owner) h c n = changed c (takeReplyOf h n taking.Busy)
+takeBy (state.Held owner) h c n = changed c (takeReplyOf h n (taking.Busy owner))
 takeBy state.Free h c n = takeFreeOf h c n
 
 -- one compare-and-set of record c, which stands for cell n

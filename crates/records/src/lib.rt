@@ -125,8 +125,8 @@ fn take_rule(head: Head, c: Cell, cell: u32) -> Changed
             let reply = take_reply(head, cell, Take::Damaged);
             Changed { cell: c, reply }
         }
-        State::Held(_) => {
-            let reply = take_reply(head, cell, Take::Busy);
+        State::Held(owner) => {
+            let reply = take_reply(head, cell, Take::Busy(owner));
             Changed { cell: c, reply }
         }
         State::Free => take_free(head, c, cell),

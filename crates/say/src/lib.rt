@@ -6,6 +6,7 @@ use model::Answer;
 use model::Counts;
 use model::CrewReply;
 use model::Lease;
+use model::Reason;
 use model::Refusal;
 use text::put;
 use text::put_form;
@@ -19,12 +20,25 @@ fn name(number: u32, out: &mut [u8], used: usize) -> usize {
     text::put_nth(out, used, &row, 1)
 }
 
-// `refused NUMBER NAME CARRIES`.
+// `refused NUMBER NAME CARRIES`, and for 11 the reason behind it.
 fn refused(refusal: Refusal, out: &mut [u8], used: usize) -> usize {
     let number = refusal.number();
     let a = number_after(b"refused #", number as usize, out, used);
     let b = name(number, out, a);
-    number_after(b" #", refusal.carried(), out, b)
+    let c = number_after(b" #", refusal.carried(), out, b);
+    match refusal {
+        Refusal::SerializationFailure(why) => reason(why, out, c),
+        _ => c,
+    }
+}
+
+// Why it was Busy: ` held SERIAL`, ` before` or ` after SERIAL`.
+fn reason(why: Reason, out: &mut [u8], used: usize) -> usize {
+    match why {
+        Reason::Held(serial) => number_after(b" held #", serial as usize, out, used),
+        Reason::Before => put(out, used, b" before"),
+        Reason::After(serial) => number_after(b" after #", serial as usize, out, used),
+    }
 }
 
 fn number_after(form: &[u8], number: usize, out: &mut [u8], used: usize) -> usize {
@@ -54,8 +68,9 @@ fn all_granted(out: &mut [u8], used: usize) -> usize {
     put(out, used, b"granted")
 }
 
-fn busy(out: &mut [u8], used: usize) -> usize {
-    put(out, used, b"busy")
+fn busy(why: Reason, out: &mut [u8], used: usize) -> usize {
+    let a = put(out, used, b"busy");
+    reason(why, out, a)
 }
 
 fn answer(answer: Answer, out: &mut [u8], used: usize) -> usize {
@@ -64,7 +79,7 @@ fn answer(answer: Answer, out: &mut [u8], used: usize) -> usize {
         Answer::Cell(at) => cell(at, out, used),
         Answer::Granted(lease) => granted(lease, out, used),
         Answer::AllGranted => all_granted(out, used),
-        Answer::Busy => busy(out, used),
+        Answer::Busy(why) => busy(why, out, used),
         Answer::Refused(refusal) => refused(refusal, out, used),
         Answer::RefusedAt(refusal, position) => refused_at(refusal, position, out, used),
     }

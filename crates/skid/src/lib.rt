@@ -24,7 +24,7 @@ pub extern "C" fn skid_prepare(
     serial: u32,
     table: &mut [u32],
     health: &mut [u8],
-    reply: &mut [u64; 12],
+    reply: &mut [u64; 14],
 )
     ensures { λ _. ⌜ (now (reply .exit), (now (table .exit), now (health .exit)))
         ≡ told replyWords (prepareOf headers buckets serial (now (table .entry)) (now (health .entry)) .seen) ⌝ }
@@ -35,7 +35,7 @@ pub extern "C" fn skid_prepare(
 
 // ---- calls without a script
 
-// Only a grant changes the table; a held cell is Busy, no refusal.
+// Only a grant changes the table; a held cell is Busy with its owner's serial, no refusal.
 #[no_mangle]
 pub extern "C" fn skid_try_acquire(
     headers: u32,
@@ -43,7 +43,7 @@ pub extern "C" fn skid_try_acquire(
     next: u32,
     table: &mut [u32],
     cell: u32,
-    reply: &mut [u64; 12],
+    reply: &mut [u64; 14],
 )
     ensures { λ _. ⌜ (now (reply .exit), now (table .exit))
         ≡ told replyWords (tryAcquireOf (headOf headers buckets next) (now (table .entry)) cell .seen) ⌝ }
@@ -66,7 +66,7 @@ pub extern "C" fn skid_drop_lease(
     table: &mut [u32],
     cell: u32,
     serial: u32,
-    reply: &mut [u64; 12],
+    reply: &mut [u64; 14],
 )
     ensures { λ _. ⌜ (now (reply .exit), now (table .exit))
         ≡ told replyWords (dropLeaseOf (headOf headers buckets next) (now (table .entry)) (leaseOf cell serial)
@@ -91,7 +91,7 @@ pub extern "C" fn skid_read_permission(
     table: &[u32],
     cell: u32,
     serial: u32,
-    reply: &mut [u64; 12],
+    reply: &mut [u64; 14],
 )
     ensures { λ _. ⌜ now (reply .exit)
         ≡ replyWords (readPermissionOf (headOf headers buckets next) (now (table .entry)) (leaseOf cell serial)
@@ -107,7 +107,7 @@ pub extern "C" fn skid_read_permission(
     *reply = words::reply_words(r);
 }
 
-// Busy for every live lease, and nothing changes.
+// Busy with its own serial for every live lease, and nothing changes.
 #[no_mangle]
 pub extern "C" fn skid_competing_acquire_is_excluded(
     headers: u32,
@@ -116,7 +116,7 @@ pub extern "C" fn skid_competing_acquire_is_excluded(
     table: &mut [u32],
     cell: u32,
     serial: u32,
-    reply: &mut [u64; 12],
+    reply: &mut [u64; 14],
 )
     ensures { λ _. ⌜ (now (reply .exit), now (table .exit))
         ≡ told replyWords (competingAcquireOf (headOf headers buckets next) (now (table .entry))
@@ -141,7 +141,7 @@ pub extern "C" fn skid_release_then_handoff(
     table: &mut [u32],
     cell: u32,
     serial: u32,
-    reply: &mut [u64; 12],
+    reply: &mut [u64; 14],
 )
     ensures { λ _. ⌜ (now (reply .exit), now (table .exit))
         ≡ told replyWords (releaseThenHandoffOf (headOf headers buckets next) (now (table .entry))
@@ -167,7 +167,7 @@ pub extern "C" fn skid_foreign_release_between_attempts(
     held: &[u32],
     cell: u32,
     serial: u32,
-    reply: &mut [u64; 12],
+    reply: &mut [u64; 14],
 )
     ensures { λ _. ⌜ (now (reply .exit), now (table .exit))
         ≡ told replyWords (foreignReleaseOf (headOf headers buckets next) (now (table .entry))
@@ -192,7 +192,7 @@ pub extern "C" fn skid_acquire_preserving_borrows(
     table: &mut [u32],
     held: &[u32],
     cell: u32,
-    reply: &mut [u64; 12],
+    reply: &mut [u64; 14],
 )
     ensures { λ _. ⌜ (now (reply .exit), now (table .exit))
         ≡ told replyWords (acquirePreservingOf (headOf headers buckets next) (now (table .entry))
@@ -217,7 +217,7 @@ pub extern "C" fn skid_drop_preserving_borrows(
     held: &[u32],
     cell: u32,
     serial: u32,
-    reply: &mut [u64; 12],
+    reply: &mut [u64; 14],
 )
     ensures { λ _. ⌜ (now (reply .exit), now (table .exit))
         ≡ told replyWords (dropPreservingOf (headOf headers buckets next) (now (table .entry))
@@ -246,7 +246,7 @@ pub extern "C" fn skid_environment(
     script: &[u32],
     place: usize,
     held: &[u32],
-    reply: &mut [u64; 12],
+    reply: &mut [u64; 14],
 )
     ensures { λ _. ⌜ (now (reply .exit), (now (table .exit), now (health .exit)))
         ≡ told playedWords (environmentOf (headOf headers buckets next) (now (table .entry))
@@ -274,7 +274,7 @@ pub extern "C" fn skid_environment_for_borrows(
     script: &[u32],
     place: usize,
     held: &[u32],
-    reply: &mut [u64; 12],
+    reply: &mut [u64; 14],
 )
     ensures { λ _. ⌜ (now (reply .exit), (now (table .exit), now (health .exit)))
         ≡ told playedWords (environmentOf (headOf headers buckets next) (now (table .entry))
@@ -294,7 +294,7 @@ pub extern "C" fn skid_environment_for_borrows(
 }
 
 // After the third boundary the health of the cell's header is read, then the waiters. A lease given up then, with 7 or
-// because somebody waits, leaves its cell free and its serial spent.
+// because somebody waits, leaves its cell free and its serial spent; Busy then gives that serial.
 #[no_mangle]
 pub extern "C" fn skid_try_lock(
     headers: u32,
@@ -306,7 +306,7 @@ pub extern "C" fn skid_try_lock(
     place: usize,
     held: &[u32],
     cell: u32,
-    reply: &mut [u64; 12],
+    reply: &mut [u64; 14],
 )
     ensures { λ _. ⌜ (now (reply .exit), (now (table .exit), now (health .exit)))
         ≡ told playedWords (tryLockOf (headOf headers buckets next) (now (table .entry)) (now (health .entry))
@@ -334,7 +334,7 @@ pub extern "C" fn skid_other_mutex_preserves_leases(
     place: usize,
     held: &[u32],
     cell: u32,
-    reply: &mut [u64; 12],
+    reply: &mut [u64; 14],
 )
     ensures { λ _. ⌜ (now (reply .exit), (now (table .exit), now (health .exit)))
         ≡ told playedWords (tryLockOf (headOf headers buckets next) (now (table .entry)) (now (health .entry))
@@ -369,7 +369,7 @@ pub extern "C" fn skid_transactional_try_lock_bucket(
     held: &[u32],
     binding: u32,
     bucket: u32,
-    reply: &mut [u64; 12],
+    reply: &mut [u64; 14],
 )
     ensures { λ _. ⌜ (now (reply .exit), (now (table .exit), now (health .exit)))
         ≡ told playedWords (transactionalOf (headOf headers buckets next) (now (table .entry))
@@ -395,7 +395,8 @@ pub extern "C" fn skid_transactional_try_lock_bucket(
     *reply = words::played_words(r);
 }
 
-// 7 ends it in each attempt's two readings of the health. 4,096 Busy attempts are refused with 11, and nothing is held.
+// 7 ends it in each attempt's two readings of the health. 4,096 Busy attempts are refused with 11 and the last one's
+// reason, and nothing is held.
 #[no_mangle]
 pub extern "C" fn skid_acquire_index_bucket(
     headers: u32,
@@ -409,7 +410,7 @@ pub extern "C" fn skid_acquire_index_bucket(
     held: &[u32],
     binding: u32,
     bucket: u32,
-    reply: &mut [u64; 12],
+    reply: &mut [u64; 14],
 )
     ensures { λ _. ⌜ (now (reply .exit), (now (table .exit), now (health .exit)))
         ≡ told playedWords (acquireBucketOf (headOf headers buckets next) (now (table .entry))
@@ -446,7 +447,7 @@ pub extern "C" fn skid_release_all(
     script: &[u32],
     place: usize,
     leases: &[u32],
-    reply: &mut [u64; 12],
+    reply: &mut [u64; 14],
 )
     ensures { λ _. ⌜ (now (reply .exit), (now (table .exit), now (health .exit)))
         ≡ told playedWords (releaseAllOf (headOf headers buckets next) (now (table .entry))
@@ -475,7 +476,7 @@ pub extern "C" fn skid_acquire_index_locks(
     held: &[u32],
     keys: &[u32],
     grants: &mut [u32],
-    reply: &mut [u64; 12],
+    reply: &mut [u64; 14],
 )
     ensures { λ _. ⌜ (now (reply .exit), (now (table .exit), (now (health .exit), now (grants .exit))))
         ≡ told playedWords (acquireLocksOf (headOf headers buckets next) (now (table .entry))
@@ -514,7 +515,7 @@ pub extern "C" fn skid_crew(
     counts: &[u32],
     cells: &[u32],
     turns: &[u32],
-    reply: &mut [u64; 46],
+    reply: &mut [u64; 48],
 )
     ensures { λ _. ⌜ (now (reply .exit), now (table .exit))
         ≡ told crewWords (crewOf (headOf headers buckets next) (now (table .entry)) (now (health .entry))

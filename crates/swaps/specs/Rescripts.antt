@@ -8,7 +8,7 @@ use Rattle.model.specs.Log.{Made}
 use Rattle.model.specs.Arena.{spentTo, serialRemains, stateAt, leasesOf}
 use Rattle.model.specs.Refusals.{first, judge}
 use Rattle.model.specs.Foreign.{flowOf}
-use Rattle.model.specs.Lock.{takeIn, takeOf, attemptLimit}
+use Rattle.model.specs.Lock.{takeIn, takeOf, attemptLimit, noneYet}
 use Rattle.model.specs.Checks.{countIn, scriptRules, lockRules, bucketRules, releaseRules, locksRules}
 use Rattle.model.specs.Calls.{starting, environmentOf, tryLockOf, transactionalOf, acquireBucketOf, releaseAllOf, acquireLocksOf}
 use Rattle.model.specs.declared.Check.{Check}
@@ -102,7 +102,7 @@ module _ {h : Head} {a b : List ℕ} {Good : Ran → Type 0} (tw : Twins h a b G
       → acquireBucketOf h t g registry b place held binding bucket .seen ≡ acquireBucketOf h t g registry a place held binding bucket .seen
   unfolding acquireBucketOf bucketRules
   acquire-bucket-alike registry held binding bucket =
-      let r = retry-alike tw (leasesOf held) (h .buckets) registry binding bucket attemptLimit 0 (starting h place) t g x in
+      let r = retry-alike tw (leasesOf held) (h .buckets) registry binding bucket attemptLimit 0 noneYet (starting h place) t g x in
       rw e (judged-two (Seen-alike Reply) (first (bucketRules h t g registry a place held binding)) (λ _. refl) (rw (r .equal)))
 
   release-all-alike : (leases : List ℕ) → releaseAllOf h t g b place leases .seen ≡ releaseAllOf h t g a place leases .seen

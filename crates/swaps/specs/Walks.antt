@@ -9,7 +9,7 @@ use Rattle.choice.specs.Choice.{if_then_else_}
 use Rattle.model.specs.Log.{Made}
 use Rattle.model.specs.Arena.{headerOf, isPoisoned, waitersAt, setCell, leaseOf}
 use Rattle.model.specs.Foreign.{flowOf, boundaryOf}
-use Rattle.model.specs.Lock.{takeOf, afterTake, lateOf, secondOf, lockOf, runOf, findOf, attemptAt, attemptOf, spinOf, pauseOf, isBusy, retryOf, leaseAt, giveBackOf, rollbackOf, afterKey, bindingAt, bucketAt, attemptLimit, Locks, locksOf}
+use Rattle.model.specs.Lock.{takeOf, afterTake, lateOf, secondOf, lockOf, runOf, findOf, attemptAt, attemptOf, spinOf, pauseOf, isBusy, retryOf, leaseAt, giveBackOf, rollbackOf, afterKey, bindingAt, bucketAt, attemptLimit, noneYet, Locks, locksOf}
 use Rattle.model.specs.Calls.{given}
 use Rattle.model.specs.declared.Flow.{Flow}
 use Rattle.model.specs.declared.Found.{Found}
@@ -19,6 +19,7 @@ use Rattle.model.specs.declared.Lease.{Lease}
 use Rattle.model.specs.declared.Locked.{Locked}
 use Rattle.model.specs.declared.Outcome.{Outcome}
 use Rattle.model.specs.declared.Outcome.the-variants as outcome
+use Rattle.model.specs.declared.Reason.{Reason}
 use Rattle.model.specs.declared.Run.{Run}
 use Rattle.model.specs.declared.Take.{Take}
 use Rattle.model.specs.declared.Take.the-variants as taking
@@ -68,7 +69,7 @@ module _ {h : Head} {a b : List ℕ} {Good : Ran → Type 0} (tw : Twins h a b G
     where
       go : (y : Take) (f : Flow) (t g : List ℕ) → Good (f, (t, g)) → Locking (afterTake y (given h a ps) buckets f t g c) (afterTake y (given h b ps) buckets f t g c)
       go (taking.Granted s) f t g x = late-alike ps buckets f t g c s x
-      go taking.Busy f t g x = record { equal = refl; good = x }
+      go (taking.Busy owner) f t g x = record { equal = refl; good = x }
       go taking.Damaged f t g x = record { equal = refl; good = x }
       go taking.Spent f t g x = record { equal = refl; good = x }
 
@@ -111,17 +112,17 @@ module _ {h : Head} {a b : List ℕ} {Good : Ran → Type 0} (tw : Twins h a b G
         rw (k .equal)
         (if-two Running (eqb (i % 64) 63) (spin-alike (runOf (m .0) (r .attempts) (r .boundaries + 1) (r .yields + 1)) (m .1 .0) (m .1 .1) (k .good)) (spin-alike r t g x))
 
-    pub retry-alike : (left i : ℕ) (r : Run) (t g : List ℕ) → Good (r .flow, (t, g))
-        → Trying (retryOf left i (given h a ps) buckets registry binding bucket r t g) (retryOf left i (given h b ps) buckets registry binding bucket r t g)
+    pub retry-alike : (left i : ℕ) (last : Reason) (r : Run) (t g : List ℕ) → Good (r .flow, (t, g))
+        → Trying (retryOf left i last (given h a ps) buckets registry binding bucket r t g) (retryOf left i last (given h b ps) buckets registry binding bucket r t g)
     unfolding retryOf
-    retry-alike zero i r t g x = record { equal = refl; good = x }
-    retry-alike (suc left) i r t g x =
+    retry-alike zero i last r t g x = record { equal = refl; good = x }
+    retry-alike (suc left) i last r t g x =
         let m = attemptOf (given h a ps) buckets registry binding bucket r t g .seen in
         let p = pauseOf (given h a ps) i (m .0 .run) (m .1 .0) (m .1 .1) .seen in
         let k = attempt-alike r t g x in
         let l = pause-alike i (m .0 .run) (m .1 .0) (m .1 .1) (k .good) in
         rw (k .equal, l .equal)
-        (if-two Trying (isBusy (m .0 .outcome)) (retry-alike left (i + 1) (p .0) (p .1 .0) (p .1 .1) (l .good)) (record { equal = refl; good = k .good }))
+        (if-two Trying (isBusy (m .0 .outcome)) (retry-alike left (i + 1) _ (p .0) (p .1 .0) (p .1 .1) (l .good)) (record { equal = refl; good = k .good }))
 
   -- ---- giving back, and multi-lock
 
@@ -141,8 +142,8 @@ module _ {h : Head} {a b : List ℕ} {Good : Ran → Type 0} (tw : Twins h a b G
     unfolding locksOf rollbackOf
     locks-alike zero p taken r t g x = refl
     locks-alike (suc left) p taken r t g x =
-        let m = retryOf attemptLimit 0 (given h a (ps ++ taken)) buckets registry (bindingAt keys p) (bucketAt keys p) r t g .seen in
-        let k = retry-alike (ps ++ taken) buckets registry (bindingAt keys p) (bucketAt keys p) attemptLimit 0 r t g x in
+        let m = retryOf attemptLimit 0 noneYet (given h a (ps ++ taken)) buckets registry (bindingAt keys p) (bucketAt keys p) r t g .seen in
+        let k = retry-alike (ps ++ taken) buckets registry (bindingAt keys p) (bucketAt keys p) attemptLimit 0 noneYet r t g x in
         rw (k .equal)
         (go (m .0 .run) (m .1 .0) (m .1 .1) (m .0 .outcome)
         (λ l. locksOf left (p + 1) (given h a ps) buckets registry keys (taken ++ (l ∷ [])) (m .0 .run) (m .1 .0) (m .1 .1) grants)
@@ -152,5 +153,5 @@ module _ {h : Head} {a b : List ℕ} {Good : Ran → Type 0} (tw : Twins h a b G
         go : (k : Run) (u w : List ℕ) (y : Outcome) (more more′ : Lease → Made Locks) → ((l : Lease) → more′ l .seen ≡ more l .seen) → Good (k .flow, (u, w))
             → afterKey y (given h b ps) taken p k u w grants more′ .seen ≡ afterKey y (given h a ps) taken p k u w grants more .seen
         go k u w (outcome.Granted l) more more′ f x = f l
-        go k u w outcome.Busy more more′ f x = let r = back-alike (length taken) ps taken k u w x in rw (r .equal)
+        go k u w (outcome.Busy why) more more′ f x = let r = back-alike (length taken) ps taken k u w x in rw (r .equal)
         go k u w (outcome.Refused y) more more′ f x = let r = back-alike (length taken) ps taken k u w x in rw (r .equal)

@@ -12,7 +12,7 @@ use Rattle.model.specs.Answers.{kindOf}
 use Rattle.model.specs.Refusals.{Rule, first}
 use Rattle.model.specs.Checks.{badShape, badHealth, badRegistry, badScript, badHeld, badHeldLength, badBinding, bucketRules}
 use Rattle.model.specs.Foreign.{Setting, boundaryOf}
-use Rattle.model.specs.Lock.{findOf, answerOf, settled, attemptAt, attemptOf, attemptLimit, retryOf}
+use Rattle.model.specs.Lock.{findOf, answerOf, settled, attemptAt, attemptOf, attemptLimit, noneYet, retryOf}
 use Rattle.model.specs.Calls.{given, starting}
 use Rattle.model.specs.declared.Answer.the-variants.{Granted, Refused}
 use Rattle.model.specs.declared.Check.the-variants.{Fine, Fault}
@@ -88,7 +88,7 @@ module _ (w : Authority) (registry script : List ℕ) (place : ℕ) (held : List
   many-went v =
       by-checks (λ m. Went w (leasesOf held) (m .seen .1 .answer) (m .seen .0)) w many (λ r e. unmoved r)
       (λ e k.
-      let m = retry-goes (w .head) script attemptLimit 0 (leasesOf held) registry binding bucket begun (w .table) (w .health) (begins v k) in
+      let m = retry-goes (w .head) script attemptLimit 0 noneYet (leasesOf held) registry binding bucket begun (w .table) (w .health) (begins v k) in
       record { trace = m .goes .trace; gain = λ l e. m .gain l (settled-granted _ l e) })
 
   -- and is on the key's cell, whatever the table holds
@@ -103,7 +103,7 @@ module _ (w : Authority) (registry script : List ℕ) (place : ℕ) (held : List
   many-key : (l : Lease) → answers w many ≡ Granted l → OfKey l
   many-key l =
       by-checks (λ m. m .seen .1 .answer ≡ Granted l → OfKey l) w many (λ r e q. absurd (omega (arith, ap kindOf q)))
-      (λ e k q. retry-key setting (w .head .buckets) registry binding bucket attemptLimit 0 begun (w .table) (w .health) l (settled-granted _ l q))
+      (λ e k q. retry-key setting (w .head .buckets) registry binding bucket attemptLimit 0 noneYet begun (w .table) (w .health) l (settled-granted _ l q))
 
   inside-arena : (l : Lease) → OfKey l → contains-key w (lease-key l)
   inside-arena l k = rw (k .cell-is) (place-inside (w .head .headers) (w .head .buckets) header₁ bucket (k .header-inside) (k .bucket-inside))
@@ -114,7 +114,7 @@ module _ (w : Authority) (registry script : List ℕ) (place : ℕ) (held : List
   attempted = attemptOf setting (w .head .buckets) registry binding bucket begun (w .table) (w .health) .seen .0 .outcome
 
   at-once : (left : ℕ) (x : Refusal) → attempted ≡ outcome.Refused x
-      → retryOf (suc left) 0 setting (w .head .buckets) registry binding bucket begun (w .table) (w .health) .seen .0 .outcome ≡ outcome.Refused x
+      → retryOf (suc left) 0 noneYet setting (w .head .buckets) registry binding bucket begun (w .table) (w .health) .seen .0 .outcome ≡ outcome.Refused x
   unfolding retryOf
   at-once left x e = rw e e
 

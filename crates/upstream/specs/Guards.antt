@@ -15,7 +15,7 @@ use Rattle.model.specs.Answers.{kindOf}
 use Rattle.model.specs.Refusals.{Rule, first}
 use Rattle.model.specs.Checks.{countIn, badShape, badHealth, badRegistry, badScript, badHeld, tooManyKeys, badBinding, badBindings, locksRules}
 use Rattle.model.specs.Foreign.{Setting, protecting}
-use Rattle.model.specs.Lock.{noLease, leaseAt, bindingAt, bucketAt, attemptLimit, retryOf, rollbackOf, afterKey, locksOf, Locks}
+use Rattle.model.specs.Lock.{noLease, leaseAt, bindingAt, bucketAt, attemptLimit, noneYet, retryOf, rollbackOf, afterKey, locksOf, Locks}
 use Rattle.model.specs.Calls.{given, starting}
 use Rattle.model.specs.declared.Answer.the-variants.{Granted, AllGranted}
 use Rattle.model.specs.declared.Check.{Check}
@@ -113,8 +113,8 @@ module _ (e : Setting) (buckets : ℕ) (registry keys grants : List ℕ) where
   unfolding locksOf rollbackOf
   locks-match zero p n taken r t g s m = λ q. (taken, refl, subst (λ k. Matches (e .headers) buckets registry keys k taken) (let z : p ≡ n = omega arith in z) m)
   locks-match (suc left) p n taken r t g s m =
-      let k = retryOf attemptLimit 0 (protecting e taken) buckets registry (bindingAt keys p) (bucketAt keys p) r t g .seen in
-      go (k .0 .outcome) (k .0 .run) (k .1 .0) (k .1 .1) (retry-key (protecting e taken) buckets registry (bindingAt keys p) (bucketAt keys p) attemptLimit 0 r t g)
+      let k = retryOf attemptLimit 0 noneYet (protecting e taken) buckets registry (bindingAt keys p) (bucketAt keys p) r t g .seen in
+      go (k .0 .outcome) (k .0 .run) (k .1 .0) (k .1 .1) (retry-key (protecting e taken) buckets registry (bindingAt keys p) (bucketAt keys p) attemptLimit 0 noneYet r t g)
       (λ l x. locks-match left (p + 1) n (taken ++ (l ∷ [])) (k .0 .run) (k .1 .0) (k .1 .1) (omega arith) (matched p taken l m x))
     where
       go : (o : Outcome) (run : Run) (u v : List ℕ)
@@ -123,7 +123,7 @@ module _ (e : Setting) (buckets : ℕ) (registry keys grants : List ℕ) where
           → Good n (locksOf left (p + 1) e buckets registry keys (taken ++ (l ∷ [])) run u v grants .seen))
           → Good n (afterKey o e taken p run u v grants (λ l. locksOf left (p + 1) e buckets registry keys (taken ++ (l ∷ [])) run u v grants) .seen)
       go (outcome.Granted l) run u v k on = on l (k l refl)
-      go outcome.Busy run u v k on = λ q. absurd (omega (arith, ap kindOf q))
+      go (outcome.Busy why) run u v k on = λ q. absurd (omega (arith, ap kindOf q))
       go (outcome.Refused x) run u v k on = λ q. absurd (omega (arith, ap kindOf q))
 
 -- a binding past the registry: 5 with the first position

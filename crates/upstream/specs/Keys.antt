@@ -19,6 +19,7 @@ use Rattle.model.specs.declared.Lease.{Lease}
 use Rattle.model.specs.declared.Answer.the-variants.{Granted}
 use Rattle.model.specs.declared.Outcome.{Outcome}
 use Rattle.model.specs.declared.Outcome.the-variants as outcome
+use Rattle.model.specs.declared.Reason.{Reason}
 use Rattle.model.specs.declared.Refusal.the-variants.{BadHeader, Poisoned, InvalidBucket}
 use Rattle.model.specs.declared.Run.{Run}
 use Rattle.model.specs.declared.Tried.{Tried}
@@ -55,7 +56,7 @@ finds headers buckets g registry binding bucket =
 -- the cell of a lease that a lock granted
 pub granted-cell : {buckets c : ℕ} {g : List ℕ} {o : Outcome} → Comes buckets c g o → (l : Lease) → o ≡ outcome.Granted l → l .cell ≡ c
 granted-cell {c = c} (locked.granted s h) l e = let q : leaseOf c s ≡ l = cc in sym (ap (λ (k : Lease). k .cell) q)
-granted-cell locked.busy l e = let q : _≡_ {A = ℕ} 0 1 = cc in absurd (omega arith)
+granted-cell (locked.busy why) l e = let q : _≡_ {A = ℕ} 0 1 = cc in absurd (omega arith)
 granted-cell (locked.poisoned h) l e = let q : _≡_ {A = ℕ} 0 1 = cc in absurd (omega arith)
 granted-cell locked.damaged l e = let q : _≡_ {A = ℕ} 0 1 = cc in absurd (omega arith)
 granted-cell locked.spent l e = let q : _≡_ {A = ℕ} 0 1 = cc in absurd (omega arith)
@@ -63,12 +64,12 @@ granted-cell locked.spent l e = let q : _≡_ {A = ℕ} 0 1 = cc in absurd (omeg
 -- an answer that grants this lease
 pub answer-granted : (o : Outcome) (l : Lease) → answerOf o ≡ Granted l → o ≡ outcome.Granted l
 answer-granted (outcome.Granted k) l e = let q : k ≡ l = cc in ap (λ (k : Lease). outcome.Granted k) q
-answer-granted outcome.Busy l e = absurd (omega (arith, ap kindOf e))
+answer-granted (outcome.Busy why) l e = absurd (omega (arith, ap kindOf e))
 answer-granted (outcome.Refused r) l e = absurd (omega (arith, ap kindOf e))
 
 pub settled-granted : (o : Outcome) (l : Lease) → answerOf (settled o) ≡ Granted l → o ≡ outcome.Granted l
 settled-granted (outcome.Granted k) l e = answer-granted (outcome.Granted k) l e
-settled-granted outcome.Busy l e = absurd (omega (arith, ap kindOf e))
+settled-granted (outcome.Busy why) l e = absurd (omega (arith, ap kindOf e))
 settled-granted (outcome.Refused r) l e = answer-granted (outcome.Refused r) l e
 
 -- ---- a lease on the key's cell
@@ -94,10 +95,10 @@ module _ (e : Setting) (buckets : ℕ) (registry : List ℕ) (binding bucket : �
           let c = cellNumber buckets (getD registry binding 0) bucket in
           record { header-inside = p; bucket-inside = k; cell-is = granted-cell (lock-comes e buckets c (r .flow) t g) l q }
 
-  pub retry-key : (left i : ℕ) (r : Run) (t g : List ℕ) → Keyed (retryOf left i e buckets registry binding bucket r t g .seen)
+  pub retry-key : (left i : ℕ) (last : Reason) (r : Run) (t g : List ℕ) → Keyed (retryOf left i last e buckets registry binding bucket r t g .seen)
   unfolding retryOf
-  retry-key zero i r t g = λ l q. let z : _≡_ {A = ℕ} 0 1 = cc in absurd (omega arith)
-  retry-key (suc left) i r t g =
+  retry-key zero i last r t g = λ l q. let z : _≡_ {A = ℕ} 0 1 = cc in absurd (omega arith)
+  retry-key (suc left) i last r t g =
       let m = attemptOf e buckets registry binding bucket r t g .seen in
       let p = pauseOf e i (m .0 .run) (m .1 .0) (m .1 .1) .seen in
-      if-both (λ (x : Made (With Tried)). Keyed (x .seen)) (isBusy (m .0 .outcome)) (retry-key left (i + 1) (p .0) (p .1 .0) (p .1 .1)) (attempt-key r t g)
+      if-both (λ (x : Made (With Tried)). Keyed (x .seen)) (isBusy (m .0 .outcome)) (retry-key left (i + 1) _ (p .0) (p .1 .0) (p .1 .1)) (attempt-key r t g)

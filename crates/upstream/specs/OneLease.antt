@@ -1,5 +1,5 @@
 -- 000: `read_permission`, `competing_acquire_is_excluded` and `release_then_handoff`: the calls on one lease.
-use Prim.Native.Nat.{_≤_, _<_}
+use Prim.Native.Nat.{ℕ, _≤_, _<_}
 use mathlib.Core.Path.{_≡_, refl, sym, ap, _∙_, subst}
 use mathlib.Core.List.{[], _∷_}
 use mathlib.Core.Logic.{inl}
@@ -14,6 +14,7 @@ use Rattle.model.specs.declared.Answer.{Answer}
 use Rattle.model.specs.declared.Answer.the-variants.{Done, Cell, Granted, Busy, Refused}
 use Rattle.model.specs.declared.Check.the-variants.{Fine}
 use Rattle.model.specs.declared.Lease.{Lease}
+use Rattle.model.specs.declared.Reason.the-variants as reason
 use Rattle.model.specs.declared.Refusal.{Refusal}
 use Rattle.model.specs.declared.Refusal.the-variants.{NotHeld, SerialsSpent}
 use Rattle.history.specs.World as world
@@ -105,8 +106,10 @@ module _ (w : Authority) (l : Lease) where
       by-checks (λ m. Tries Checked-competing w (l .cell) (m .seen .1 .answer) (m .seen .0)) w (competing-acquire l) (λ r e. barred r (λ f. fine-fault f e))
       (λ e k. acquired Checked-competing 1 w (l .cell) (fits-sized w (not-false _ (k .0))) (lives w l (not-false _ (k .1 .0)) .in-range))
 
-  excluded : Fits w → valid w → authorized w l → (answers w (competing-acquire l) ≡ Busy) × (leaves w (competing-acquire l) ≡ w)
-  excluded s v a = tries-held competing (lease-passes w l s v a) (v (l .cell) (a .inside)) (a .locked)
+  excluded : Fits w → valid w → authorized w l → (answers w (competing-acquire l) ≡ Busy (reason.Held (lease-serial l))) × (leaves w (competing-acquire l) ≡ w)
+  excluded s v a =
+      let x = tries-held competing (lease-passes w l s v a) (v (l .cell) (a .inside)) (a .locked) in
+      (x .0 ∙ ap (λ (s : ℕ). Busy (reason.Held s)) (a .mine .1), x .1)
 
   pub competing-acquire-is-excluded-r1 : Fits w → (Valid-cell (next-serial w) (cells w (lease-key l)) → ⊥)
       → perform w (competing-acquire l) ≡ unchanged w (competing-acquire l) (NotHeld 0)
@@ -115,8 +118,8 @@ module _ (w : Authority) (l : Lease) where
   pub competing-acquire-is-excluded-r2 : Fits w → (authorized w l → ⊥) → perform w (competing-acquire l) ≡ unchanged w (competing-acquire l) (NotHeld 0)
   competing-acquire-is-excluded-r2 s n = refused w (competing-acquire l) (NotHeld 0) (lease-refused w l s (unauthorized w l n))
 
-  -- rejected: Busy
-  pub competing-acquire-is-excluded-e1 : Fits w → valid w → authorized w l → answers w (competing-acquire l) ≡ Busy
+  -- rejected: Busy. Document 02, L1: "held, with the owner's serial", which is the given lease's own
+  pub competing-acquire-is-excluded-e1 : Fits w → valid w → authorized w l → answers w (competing-acquire l) ≡ Busy (reason.Held (lease-serial l))
   competing-acquire-is-excluded-e1 s v a = excluded s v a .0
 
   pub competing-acquire-is-excluded-e2 : valid w → valid (leaves w (competing-acquire l))

@@ -20,6 +20,7 @@ use Rattle.model.specs.Lock.{leaseAt, takeOf, lateOf, secondOf, lockOf, giveBac
 use Rattle.model.specs.Calls.{acquireOf, tryAcquireOf, acquirePreservingOf, dropPreservingOf, tryLockOf, releaseAllOf}
 use Rattle.model.specs.declared.Answer.{Answer}
 use Rattle.model.specs.declared.Answer.the-variants.{Done, Granted, Busy}
+use Rattle.model.specs.declared.Reason.the-variants as reason
 use Rattle.model.specs.declared.Lease.{Lease}
 use Rattle.history.specs.World as world
 use Rattle.history.specs.World.{worldOf}
@@ -81,7 +82,7 @@ unfolding perform tryLockOf lockRules scriptRules notLive first shapeFits headFi
     waitersAt bitAt ownerAt setCell stateAt stateOf isFree isHeld
 granted-there = refl
 
-pub busy-there : answers one-held (try-lock [] 0 [] 0) ≡ Busy
+pub busy-there : answers one-held (try-lock [] 0 [] 0) ≡ Busy (reason.Held 1)
 unfolding perform tryLockOf lockRules scriptRules notLive first shapeFits headFits healthFits leasesOf boundaryOf runStepsOf lockOf secondOf takeOf lateOf
     waitersAt bitAt ownerAt setCell stateAt stateOf isFree isHeld
 busy-there = refl
@@ -89,7 +90,7 @@ busy-there = refl
 -- ---- "`try_lock` may always be None"
 
 abbrev pub never-locks : Lock-build
-never-locks w script place held c = (Busy, w)
+never-locks w script place held c = (Busy reason.Before, w)
 
 pub accepted-never-locks : Upstream-accepts-lock never-locks
 accepted-never-locks w script place held c a =
@@ -101,7 +102,7 @@ rejected-never-locks p = omega (arith, ap (λ (x : Answer × Authority). kindOf 
 -- ---- "may keep the cell when None": one compare-and-set, and the answer None whatever comes of it
 
 abbrev pub takes-and-keeps : Lock-build
-takes-and-keeps w script place held c = (Busy, leaves w (try-acquire c))
+takes-and-keeps w script place held c = (Busy reason.Before, leaves w (try-acquire c))
 
 pub accepted-takes-and-keeps : Upstream-accepts-lock takes-and-keeps
 accepted-takes-and-keeps w script place held c a =
@@ -161,7 +162,7 @@ overwritten w c = worldOf (spentTo (w .head) (next-serial w + 1)) (setCell (w .t
 
 abbrev pub steals : Lock-build
 steals w script place held c =
-    if isIn (leaseOf c (ownerAt (w .table) c)) (leasesOf held) then (Busy, w)
+    if isIn (leaseOf c (ownerAt (w .table) c)) (leasesOf held) then (Busy (reason.Held (ownerAt (w .table) c)), w)
     else (Granted (leaseOf c (next-serial w)), overwritten w c)
 
 module _ (w : Authority) (c : Key) (z : Sized w) (v : valid w) (i : contains-key w c) where

@@ -14,13 +14,14 @@ use Rattle.model.specs.Answers.{kindOf, refusalIn}
 use Rattle.model.specs.Refusals.{first}
 use Rattle.model.specs.Checks.{notLive, cellRules, scriptRules, lockRules, bucketRules}
 use Rattle.model.specs.Foreign.{Setting, stepReleaseOf, stepOf, runStepsOf, boundaryOf}
-use Rattle.model.specs.Lock.{takeOf, lateOf, secondOf, lockOf, answerOf, findOf, triedOf, attemptOf, attemptLimit, spinOf, pauseOf, isBusy, retryOf, settled}
+use Rattle.model.specs.Lock.{takeOf, lateOf, secondOf, lockOf, answerOf, findOf, triedOf, attemptOf, attemptLimit, spinOf, pauseOf, isBusy, lastOf, noneYet, retryOf, settled}
 use Rattle.model.specs.Calls.{countsOf, given, starting, acquireOf, tryAcquireOf, tryLockOf, acquireBucketOf}
 use Rattle.model.specs.declared.Answer.{Answer}
 use Rattle.model.specs.declared.Answer.the-variants.{Done, Cell, Granted, AllGranted, Busy, Refused, RefusedAt}
 use Rattle.model.specs.declared.Head.{Head}
 use Rattle.model.specs.declared.Lease.{Lease}
 use Rattle.model.specs.declared.Outcome.the-variants as outcome
+use Rattle.model.specs.declared.Reason.{Reason}
 use Rattle.model.specs.declared.Refusal.the-variants.{BadShape, SerializationFailure}
 use Rattle.model.specs.declared.Run.{Run}
 use Rattle.model.specs.declared.Tried.{Tried}
@@ -95,7 +96,7 @@ We-accept-bucket f =
 -- ---- 4,096 attempts: one that gives up at once
 
 abbrev pub gives-up : Bucket-build
-gives-up w registry script place held binding bucket = (w, says (Refused SerializationFailure) (countsOf 0 0 0 0) place [])
+gives-up w registry script place held binding bucket = (w, says (Refused (SerializationFailure noneYet)) (countsOf 0 0 0 0) place [])
 
 pub accepted-gives-up : Upstream-accepts-bucket gives-up
 accepted-gives-up w registry script place held binding bucket a =
@@ -113,7 +114,7 @@ renumbered Done = Done
 renumbered (Cell c) = Cell c
 renumbered (Granted l) = Granted l
 renumbered AllGranted = AllGranted
-renumbered Busy = Busy
+renumbered (Busy why) = Busy why
 renumbered (Refused r) = Refused BadShape
 renumbered (RefusedAt r p) = RefusedAt BadShape p
 
@@ -122,7 +123,7 @@ renumbered-granted Done l e = e
 renumbered-granted (Cell c) l e = e
 renumbered-granted (Granted k) l e = e
 renumbered-granted AllGranted l e = e
-renumbered-granted Busy l e = e
+renumbered-granted (Busy why) l e = e
 renumbered-granted (Refused r) l e = absurd (omega (arith, ap kindOf e))
 renumbered-granted (RefusedAt r p) l e = absurd (omega (arith, ap kindOf e))
 
@@ -148,56 +149,56 @@ rejected-renumbers p = omega (arith, ap (λ (x : Authority × Says). refusalIn (
 
 -- ---- yields: `retryOf` of the model, with a spin after every Busy attempt and no yield
 
-unfoldable pub spinningOf : ℕ → Setting → ℕ → List ℕ → ℕ → ℕ → Run → List ℕ → List ℕ → Made (Tried × (List ℕ × List ℕ))
-spinningOf zero e buckets registry binding bucket r t g = gives (triedOf r outcome.Busy, (t, g))
-spinningOf (suc left) e buckets registry binding bucket r t g = do
+unfoldable pub spinningOf : ℕ → Reason → Setting → ℕ → List ℕ → ℕ → ℕ → Run → List ℕ → List ℕ → Made (Tried × (List ℕ × List ℕ))
+spinningOf zero last e buckets registry binding bucket r t g = gives (triedOf r (outcome.Busy last), (t, g))
+spinningOf (suc left) last e buckets registry binding bucket r t g = do
   (k, (u, w)) ← attemptOf e buckets registry binding bucket r t g
   if isBusy (k .outcome) then (do
     (p, (v, x)) ← spinOf e (k .run) u w
-    spinningOf left e buckets registry binding bucket p v x)
+    spinningOf left (lastOf last (k .outcome)) e buckets registry binding bucket p v x)
       else gives (k, (u, w))
 
 abbrev pub never-yields : Bucket-build
 never-yields w registry script place held binding bucket =
-    let k = spinningOf attemptLimit (given (w .head) script (leasesOf held)) (w .head .buckets) registry binding bucket (starting (w .head) place) (w .table) (w .health) .seen in
+    let k = spinningOf attemptLimit noneYet (given (w .head) script (leasesOf held)) (w .head .buckets) registry binding bucket (starting (w .head) place) (w .table) (w .health) .seen in
     let r = k .0 .run in
     (of-tried (w .head) k, says (answerOf (settled (k .0 .outcome))) (countsOf (r .attempts) (r .boundaries) (r .yields) (r .flow .dropped)) (r .flow .place) [])
 
 module _ (h : Head) (script : List ℕ) (ps : List Lease) (registry : List ℕ) (binding bucket : ℕ) where
-  spinning-goes : (left : ℕ) (r : Run) (t g : List ℕ) → Ready (In ps) (worldAt h (r .flow .next) t g)
-      → Attempts h script (In ps) (worldAt h (r .flow .next) t g) (spinningOf left (given h script ps) (h .buckets) registry binding bucket r t g .seen)
+  spinning-goes : (left : ℕ) (last : Reason) (r : Run) (t g : List ℕ) → Ready (In ps) (worldAt h (r .flow .next) t g)
+      → Attempts h script (In ps) (worldAt h (r .flow .next) t g) (spinningOf left last (given h script ps) (h .buckets) registry binding bucket r t g .seen)
   unfolding spinningOf
-  spinning-goes zero r t g k = record { goes = stays (k .sized); gain = λ l e. let q : _≡_ {A = ℕ} 0 1 = cc in absurd (omega arith) }
-  spinning-goes (suc left) r t g k =
+  spinning-goes zero last r t g k = record { goes = stays (k .sized); gain = λ l e. let q : _≡_ {A = ℕ} 0 1 = cc in absurd (omega arith) }
+  spinning-goes (suc left) last r t g k =
       let m = attemptOf (given h script ps) (h .buckets) registry binding bucket r t g .seen in
       let a = attempt-goes h script ps registry binding bucket r t g k in
       let p = spinOf (given h script ps) (m .0 .run) (m .1 .0) (m .1 .1) .seen in
       let b = spin-goes h script ps (m .0 .run) (m .1 .0) (m .1 .1) (ready k (a .goes)) in
-      let again = spinning-goes left (p .0) (p .1 .0) (p .1 .1) (ready (ready k (a .goes)) b) in
+      let again = spinning-goes left (lastOf last (m .0 .outcome)) (p .0) (p .1 .0) (p .1 .1) (ready (ready k (a .goes)) b) in
       if-both (λ (x : Made (With Tried)). Attempts h script (In ps) (worldAt h (r .flow .next) t g) (x .seen)) (isBusy (m .0 .outcome))
       (record { goes = (then) (a .goes) ((then) b (again .goes)); gain = again .gain }) (record { goes = a .goes; gain = a .gain })
 
-  spinning-key : (left : ℕ) (r : Run) (t g : List ℕ) (l : Lease) → spinningOf left (given h script ps) (h .buckets) registry binding bucket r t g .seen .0 .outcome ≡ outcome.Granted l
+  spinning-key : (left : ℕ) (last : Reason) (r : Run) (t g : List ℕ) (l : Lease) → spinningOf left last (given h script ps) (h .buckets) registry binding bucket r t g .seen .0 .outcome ≡ outcome.Granted l
       → Granted-at (h .headers) (h .buckets) registry binding bucket l
   unfolding spinningOf
-  spinning-key zero r t g l = λ q. let z : _≡_ {A = ℕ} 0 1 = cc in absurd (omega arith)
-  spinning-key (suc left) r t g l =
+  spinning-key zero last r t g l = λ q. let z : _≡_ {A = ℕ} 0 1 = cc in absurd (omega arith)
+  spinning-key (suc left) last r t g l =
       let m = attemptOf (given h script ps) (h .buckets) registry binding bucket r t g .seen in
       let p = spinOf (given h script ps) (m .0 .run) (m .1 .0) (m .1 .1) .seen in
       if-both (λ (x : Made (With Tried)). x .seen .0 .outcome ≡ outcome.Granted l → Granted-at (h .headers) (h .buckets) registry binding bucket l) (isBusy (m .0 .outcome))
-      (spinning-key left (p .0) (p .1 .0) (p .1 .1) l) (attempt-key (given h script ps) (h .buckets) registry binding bucket r t g l)
+      (spinning-key left (lastOf last (m .0 .outcome)) (p .0) (p .1 .0) (p .1 .1) l) (attempt-key (given h script ps) (h .buckets) registry binding bucket r t g l)
 
 pub accepted-never-yields : Upstream-accepts-bucket never-yields
 accepted-never-yields w registry script place held binding bucket a =
     let s = starting (w .head) place in
-    let m = spinning-goes (w .head) script (leasesOf held) registry binding bucket attemptLimit s (w .table) (w .health)
+    let m = spinning-goes (w .head) script (leasesOf held) registry binding bucket attemptLimit noneYet s (w .table) (w .health)
     (record { sized = fits-sized w (not-false _ (a .formed .0)); valid-now = a .is-valid; safe = by-name w (leasesOf held) (a .borrowed) }) in
     record {
       e1 = trace-valid (m .goes .trace) (a .is-valid);
       e2 = by-place _ (leasesOf held) (trace-keeps (m .goes .trace) (by-name w (leasesOf held) (a .borrowed)));
       e3 = trace-buries (m .goes .trace) .same-keys;
       e4 = λ l e. m .gain l (settled-granted _ l e);
-      e5 = λ l e. spinning-key (w .head) script (leasesOf held) registry binding bucket attemptLimit s (w .table) (w .health) l (settled-granted _ l e) .cell-is;
+      e5 = λ l e. spinning-key (w .head) script (leasesOf held) registry binding bucket attemptLimit noneYet s (w .table) (w .health) l (settled-granted _ l e) .cell-is;
     }
 
 -- 64 Busy attempts of three boundaries each, and one more for the yield; then the script releases the cell. Ours has

@@ -20,6 +20,7 @@ use Rattle.model.specs.declared.Head.{Head}
 use Rattle.model.specs.declared.Lease.{Lease}
 use Rattle.model.specs.declared.Locked.{Locked}
 use Rattle.model.specs.declared.Outcome.the-variants as outcome
+use Rattle.model.specs.declared.Reason.{Reason}
 use Rattle.model.specs.declared.Run.{Run}
 use Rattle.model.specs.declared.Take.{Take}
 use Rattle.model.specs.declared.Take.the-variants as taking
@@ -164,7 +165,7 @@ module _ (h : Head) (script : List ℕ) where
       late =
           late-goes ps f t g c s (ready r one) (subst (authorized w) (sym (grant .0)) (step-grants u w c (next-serial u) (grant .1)))
           (λ l i e. omega (arith, r .safe l i .locked, ap (λ (k : Lease). cells u (k .cell) .bit) e, grant .1 .unlocked))
-  after-goes ps u taking.Busy f t g c r x =
+  after-goes ps u (taking.Busy owner) f t g c r x =
       record { goes = subst (Goes (In ps) u) (sym (tries-none x (λ l e. omega (arith, ap kindOf e)))) (stays (r .sized)); gain = λ s e. let q : _≡_ {A = ℕ} 0 1 = cc in absurd (omega arith) }
   after-goes ps u taking.Damaged f t g c r x =
       record { goes = subst (Goes (In ps) u) (sym (tries-none x (λ l e. omega (arith, ap kindOf e)))) (stays (r .sized)); gain = λ s e. let q : _≡_ {A = ℕ} 0 1 = cc in absurd (omega arith) }
@@ -232,16 +233,16 @@ module _ (h : Head) (script : List ℕ) where
       (then b (spin-goes ps (runOf (m .0) (r .attempts) (r .boundaries + 1) (r .yields + 1)) (m .1 .0) (m .1 .1) (ready k b)))
       (spin-goes ps r t g k)
 
-  pub retry-goes : (left i : ℕ) (ps : List Lease) (registry : List ℕ) (binding bucket : ℕ) (r : Run) (t g : List ℕ) → Ready (In ps) (worldAt h (r .flow .next) t g)
-      → Attempts (In ps) (worldAt h (r .flow .next) t g) (retryOf left i (given h script ps) (h .buckets) registry binding bucket r t g .seen)
+  pub retry-goes : (left i : ℕ) (last : Reason) (ps : List Lease) (registry : List ℕ) (binding bucket : ℕ) (r : Run) (t g : List ℕ) → Ready (In ps) (worldAt h (r .flow .next) t g)
+      → Attempts (In ps) (worldAt h (r .flow .next) t g) (retryOf left i last (given h script ps) (h .buckets) registry binding bucket r t g .seen)
   unfolding retryOf
-  retry-goes zero i ps registry binding bucket r t g k = record { goes = stays (k .sized); gain = λ l e. let q : _≡_ {A = ℕ} 0 1 = cc in absurd (omega arith) }
-  retry-goes (suc left) i ps registry binding bucket r t g k =
+  retry-goes zero i last ps registry binding bucket r t g k = record { goes = stays (k .sized); gain = λ l e. let q : _≡_ {A = ℕ} 0 1 = cc in absurd (omega arith) }
+  retry-goes (suc left) i last ps registry binding bucket r t g k =
       let m = attemptOf (given h script ps) (h .buckets) registry binding bucket r t g .seen in
       let a = attempt-goes ps registry binding bucket r t g k in
       let p = pauseOf (given h script ps) i (m .0 .run) (m .1 .0) (m .1 .1) .seen in
       let b = pause-goes ps i (m .0 .run) (m .1 .0) (m .1 .1) (ready k (a .goes)) in
-      let again = retry-goes left (i + 1) ps registry binding bucket (p .0) (p .1 .0) (p .1 .1) (ready (ready k (a .goes)) b) in
+      let again = retry-goes left (i + 1) _ ps registry binding bucket (p .0) (p .1 .0) (p .1 .1) (ready (ready k (a .goes)) b) in
       if-both (λ (x : Made (With Tried)). Attempts (In ps) (worldAt h (r .flow .next) t g) (x .seen)) (isBusy (m .0 .outcome))
       (record { goes = then (a .goes) (then b (again .goes)); gain = again .gain })
       (record { goes = a .goes; gain = a .gain })

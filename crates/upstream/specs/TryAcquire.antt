@@ -18,6 +18,8 @@ use Rattle.model.specs.declared.Answer.{Answer}
 use Rattle.model.specs.declared.Answer.the-variants.{Granted, Busy, Refused}
 use Rattle.model.specs.declared.Check.the-variants.{Fine, Fault}
 use Rattle.model.specs.declared.Lease.{Lease}
+use Rattle.model.specs.declared.Reason.{Reason}
+use Rattle.model.specs.declared.Reason.the-variants as reason
 use Rattle.model.specs.declared.Refusal.{Refusal}
 use Rattle.model.specs.declared.Refusal.the-variants.{InvalidBucket, Damaged, SerialsSpent}
 use Rattle.model.specs.declared.State.{State}
@@ -38,7 +40,8 @@ use Rattle.upstream.specs.Passing.{cell-passes}
 
 pub data Tries (F : Type 0) (w : Authority) (c : Key) : Answer → Authority → Type 0 where
   takes : {v : Authority} → Acquires w v c (next-serial w) → next-serial w < lastSerial → Sized v → Tries F w c (Granted (leaseOf c (next-serial w))) v
-  busy : contains-key w c → cells w c .bit ≡ 1 → is-some (cells w c .owner) → cells w c .owner < next-serial w → Tries F w c Busy w
+  busy : contains-key w c → cells w c .bit ≡ 1 → is-some (cells w c .owner) → cells w c .owner < next-serial w
+      → Tries F w c (Busy (reason.Held (cells w c .owner))) w
   damaged : contains-key w c → (Valid-cell (next-serial w) (cells w c) → ⊥) → Tries F w c (Refused (Damaged c)) w
   spent : contains-key w c → cells w c .bit ≡ 0 → is-none (cells w c .owner) → lastSerial ≤ next-serial w → Tries F w c (Refused (SerialsSpent c)) w
   barred : (r : Refusal) → (F → ⊥) → Tries F w c (Refused r) w
@@ -146,8 +149,9 @@ module _ {F : Type 0} {w : Authority} {c : Key} where
   tries-damaged (spent i p q r) f n = absurd (n (status-valid _ (cells w c) (free p q)))
   tries-damaged (barred r m) f n = absurd (m f)
 
-  -- a held cell is Busy, and nothing changes
-  pub tries-held : {a : Answer} {v : Authority} → Tries F w c a v → F → Valid-cell (next-serial w) (cells w c) → cells w c .bit ≡ 1 → (a ≡ Busy) × (v ≡ w)
+  -- a held cell is Busy with its owner's serial, and nothing changes
+  pub tries-held : {a : Answer} {v : Authority} → Tries F w c a v → F → Valid-cell (next-serial w) (cells w c) → cells w c .bit ≡ 1
+      → (a ≡ Busy (reason.Held (cells w c .owner))) × (v ≡ w)
   tries-held (takes x k z) f v b = absurd (omega (arith, x .unlocked))
   tries-held (busy i p q r) f v b = (refl, refl)
   tries-held (damaged i p) f v b = absurd (p v)
@@ -156,9 +160,9 @@ module _ {F : Type 0} {w : Authority} {c : Key} where
 
   -- an answer that is no grant tells the bit: Busy says 1, and 10 says 0
   pub tries-tells : {a : Answer} {v : Authority} → Tries F w c a v → F → Valid-cell (next-serial w) (cells w c) → answers-none a
-      → ((a ≡ Busy) × (cells w c .bit ≡ 1)) ⊎ ((a ≡ Refused (SerialsSpent c)) × (cells w c .bit ≡ 0))
+      → ((why : Reason) × (a ≡ Busy why) × (cells w c .bit ≡ 1)) ⊎ ((a ≡ Refused (SerialsSpent c)) × (cells w c .bit ≡ 0))
   tries-tells (takes x k z) f v n = absurd (n _ refl)
-  tries-tells (busy i p q r) f v n = inl (refl, p)
+  tries-tells (busy i p q r) f v n = inl (_, refl, p)
   tries-tells (damaged i p) f v n = absurd (p v)
   tries-tells (spent i p q r) f v n = inr (refl, p)
   tries-tells (barred r m) f v n = absurd (m f)
@@ -261,9 +265,9 @@ module _ (w : Authority) (c : Key) where
       → (result ≡ Granted (leaseOf c (next-serial w))) ↔ ((cells w c .bit ≡ 0) × (next-serial w < lastSerial))
   compare-exchange-e1 s v i = (λ e. let x = tries-some tried _ e in (x .1 .unlocked, x .2), λ p. tries-free tried (cell-passes w c s i) (v c i) (p .0) (p .1))
 
-  -- result.unwrap_err() == bit: an answer that is no grant is Busy, and the bit is 1, or 10, and the bit is 0
+  -- result.unwrap_err() == bit: an answer that is no grant is Busy for some reason, and the bit is 1, or 10, and the bit is 0
   pub compare-exchange-e3 : Fits w → valid w → contains-key w c → answers-none result
-      → ((result ≡ Busy) × (cells w c .bit ≡ 1)) ⊎ ((result ≡ Refused (SerialsSpent c)) × (cells w c .bit ≡ 0))
+      → ((why : Reason) × (result ≡ Busy why) × (cells w c .bit ≡ 1)) ⊎ ((result ≡ Refused (SerialsSpent c)) × (cells w c .bit ≡ 0))
   compare-exchange-e3 s v i n = tries-tells tried (cell-passes w c s i) (v c i) n
 
   -- the bit is 1 on a grant and as it was else; the owner is written with it

@@ -1,4 +1,4 @@
--- Laws for the code: an answer's four words one by one, and the crew's counts stored in a loop.
+-- Laws for the code: an answer's six words one by one, and the crew's counts stored in a loop.
 use Prim.Native.Nat.{ℕ, suc, _+_, _-_, _<_, _≤_}
 use mathlib.Core.Path.{_≡_, refl, ap}
 use mathlib.Core.List.{List, [], _∷_, _++_}
@@ -10,22 +10,25 @@ use Rattle.model.specs.declared.Answer.the-variants.{Done, Cell, Granted, AllGr
 use Rattle.model.specs.declared.Counts.{Counts}
 use Rattle.model.specs.declared.CrewReply.{CrewReply}
 use Rattle.model.specs.declared.Head.{Head}
-use Rattle.words.specs.Words.{answerWords, resultWords, eachOf, crewWords}
+use Rattle.words.specs.Words.{busyWords, answerWords, resultWords, eachOf, crewWords}
 
-pub four : (a : Answer) → getD (answerWords a) 0 0 ∷ getD (answerWords a) 1 0 ∷ getD (answerWords a) 2 0 ∷ getD (answerWords a) 3 0 ∷ [] ≡ answerWords a
-four Done = refl
-four (Cell c) = refl
-four (Granted l) = refl
-four AllGranted = refl
-four Busy = refl
-four (Refused r) = refl
-four (RefusedAt r p) = refl
+pub six : (a : Answer)
+    → getD (answerWords a) 0 0 ∷ getD (answerWords a) 1 0 ∷ getD (answerWords a) 2 0 ∷ getD (answerWords a) 3 0 ∷ getD (answerWords a) 4 0 ∷ getD (answerWords a) 5 0 ∷ []
+    ≡ answerWords a
+unfolding busyWords
+six Done = refl
+six (Cell c) = refl
+six (Granted l) = refl
+six AllGranted = refl
+six (Busy why) = refl
+six (Refused r) = refl
+six (RefusedAt r p) = refl
 
--- twelve words, the last four of them read from the answer's
+-- fourteen words, the last six of them read from the answer's
 pub laid : (h : Head) (place : ℕ) (k : Counts) (a : Answer) (ws : List ℕ) → ws ≡ answerWords a
-    → h .headers ∷ h .buckets ∷ h .next ∷ place ∷ k .attempts ∷ k .boundaries ∷ k .yields ∷ k .dropped ∷ getD ws 0 0 ∷ getD ws 1 0 ∷ getD ws 2 0 ∷ getD ws 3 0 ∷ []
+    → h .headers ∷ h .buckets ∷ h .next ∷ place ∷ k .attempts ∷ k .boundaries ∷ k .yields ∷ k .dropped ∷ getD ws 0 0 ∷ getD ws 1 0 ∷ getD ws 2 0 ∷ getD ws 3 0 ∷ getD ws 4 0 ∷ getD ws 5 0 ∷ []
     ≡ resultWords h place k a
-laid h place k a ws e = rw e (ap (λ (r : List ℕ). h .headers ∷ h .buckets ∷ h .next ∷ place ∷ k .attempts ∷ k .boundaries ∷ k .yields ∷ k .dropped ∷ r) (four a))
+laid h place k a ws e = rw e (ap (λ (r : List ℕ). h .headers ∷ h .buckets ∷ h .next ∷ place ∷ k .attempts ∷ k .boundaries ∷ k .yields ∷ k .dropped ∷ r) (six a))
 
 -- one turn and the end of the loop that stores the counts of the members
 pub put-at : (at i : ℕ) (ns ws : List ℕ) → i < 16
@@ -44,14 +47,14 @@ put-end at i ns ws l = let e : 16 - i ≡ 0 = omega arith in rw e
 pub crew-laid : (r : CrewReply) (ws : List ℕ) → ws ≡ answerWords (r .answer)
     → sets
     (sets
-    (set (set (set (set (set (set (set (set (set (replicate 46 0) 0 (r .head .headers)) 1 (r .head .buckets)) 2 (r .head .next)) 8 (getD ws 0 0)) 9 (getD ws 1 0)) 10 (getD ws 2 0)) 11 (getD ws 3 0)) 12 (r .moving)) 13 (r .idle))
-    14
+    (set (set (set (set (set (set (set (set (set (set (set (replicate 48 0) 0 (r .head .headers)) 1 (r .head .buckets)) 2 (r .head .next)) 8 (getD ws 0 0)) 9 (getD ws 1 0)) 10 (getD ws 2 0)) 11 (getD ws 3 0)) 12 (getD ws 4 0)) 13 (getD ws 5 0)) 14 (r .moving)) 15 (r .idle))
+    16
     (eachOf 16 0 (r .taken)))
-    30
+    32
     (eachOf 16 0 (r .released))
     ≡ crewWords r
 unfolding eachOf crewWords
 crew-laid r ws e =
     rw e
     (ap (λ (a : List ℕ). r .head .headers ∷ r .head .buckets ∷ r .head .next ∷ 0 ∷ 0 ∷ 0 ∷ 0 ∷ 0 ∷ (a ++ (r .moving ∷ r .idle ∷ (eachOf 16 0 (r .taken) ++ eachOf 16 0 (r .released)))))
-    (four (r .answer)))
+    (six (r .answer)))

@@ -12,8 +12,8 @@ use Rattle.model.specs.Calls.{countsOf}
 use Rattle.choice.specs.Choice.{if_then_else_}
 use Rattle.model.specs.Crew.{takenOf, releasedOf, crewRules, crewOf}
 use Rattle.model.specs.Log.{Made}
-use Rattle.model.specs.Order.{refusal-is}
-use Rattle.model.specs.Refusals.{refusalOf, first, judge}
+use Rattle.model.specs.Order.{reason-is, refusal-is}
+use Rattle.model.specs.Refusals.{reasonOf, refusalWith, first, judge}
 use Rattle.model.specs.declared.Answer.{Answer}
 use Rattle.model.specs.declared.Answer.the-variants.{Done, Cell, Granted, AllGranted, Busy, Refused, RefusedAt}
 use Rattle.model.specs.declared.Check.{Check}
@@ -27,33 +27,35 @@ use Rattle.wave.specs.declared.Dumped.{Dumped}
 use Rattle.wave.specs.declared.Dumped.the-variants as dumped
 use Rattle.wave.specs.declared.Undumped.{Undumped}
 use Rattle.wave.specs.declared.Undumped.the-variants as undumped
-use Rattle.words.specs.Laws.{four}
-use Rattle.words.specs.Words.{answerWords, replyWords, playedWords, eachOf, crewWords, dumpedWords, undumpedWords, told}
+use Rattle.words.specs.Laws.{six}
+use Rattle.words.specs.Words.{busyWords, answerWords, replyWords, playedWords, eachOf, crewWords, dumpedWords, undumpedWords, told}
 
 -- ---- the way back
 
--- the answer that four words tell
+-- the answer that six words tell
 abbrev pub answerIn : List ℕ → Answer
 answerIn ws =
     let kind = getD ws 0 0 in
+    let why = reasonOf (getD ws 4 0) (getD ws 5 0) in
     if eqb kind 0 then Done
     else if eqb kind 1 then Cell (getD ws 1 0)
     else if eqb kind 2 then Granted (leaseOf (getD ws 1 0) (getD ws 2 0))
     else if eqb kind 3 then AllGranted
-    else if eqb kind 4 then Busy
-    else if eqb kind 5 then Refused (refusalOf (getD ws 1 0) (getD ws 2 0))
-    else RefusedAt (refusalOf (getD ws 1 0) (getD ws 2 0)) (getD ws 3 0)
+    else if eqb kind 4 then Busy why
+    else if eqb kind 5 then Refused (refusalWith why (getD ws 1 0) (getD ws 2 0))
+    else RefusedAt (refusalWith why (getD ws 1 0) (getD ws 2 0)) (getD ws 3 0)
 
 pub answer-back : (a : Answer) → answerIn (answerWords a) ≡ a
+unfolding busyWords
 answer-back Done = refl
 answer-back (Cell c) = refl
 answer-back (Granted l) = refl
 answer-back AllGranted = refl
-answer-back Busy = refl
+answer-back (Busy why) = ap Busy (reason-is why)
 answer-back (Refused r) = ap Refused (refusal-is r)
 answer-back (RefusedAt r p) = ap (λ (x : Refusal). RefusedAt x p) (refusal-is r)
 
--- the reply that twelve words tell
+-- the reply that fourteen words tell
 abbrev pub playedIn : List ℕ → Played
 playedIn ws =
     record {
@@ -66,16 +68,16 @@ playedIn ws =
 abbrev pub replyIn : List ℕ → Reply
 replyIn ws = record { head = playedIn ws .head; counts = playedIn ws .counts; answer = playedIn ws .answer }
 
--- the crew's reply that forty-six words tell
+-- the crew's reply that forty-eight words tell
 abbrev pub crewIn : List ℕ → CrewReply
 crewIn ws =
     record {
       head = playedIn ws .head;
-      moving = getD ws 12 0;
-      idle = getD ws 13 0;
-      taken = take 16 (drop 14 ws);
-      released = drop 30 ws;
-      answer = answerIn (take 4 (drop 8 ws));
+      moving = getD ws 14 0;
+      idle = getD ws 15 0;
+      taken = take 16 (drop 16 ws);
+      released = drop 32 ws;
+      answer = answerIn (take 6 (drop 8 ws));
     }
 
 played-back : (r : Played) → playedIn (playedWords r) ≡ r
@@ -117,7 +119,7 @@ each-rest (suc n) i l e = ap (λ (r : List ℕ). getD l i 0 ∷ r) (each-rest n 
 crew-back : (r : CrewReply) → Sixteen r → crewIn (crewWords r) ≡ r
 unfolding crewWords eachOf
 crew-back r x =
-    ap (λ (ws : List ℕ). crewIn (r .head .headers ∷ r .head .buckets ∷ r .head .next ∷ 0 ∷ 0 ∷ 0 ∷ 0 ∷ 0 ∷ (ws ++ (r .moving ∷ r .idle ∷ (eachOf 16 0 (r .taken) ++ eachOf 16 0 (r .released)))))) (sym (four (r .answer)))
+    ap (λ (ws : List ℕ). crewIn (r .head .headers ∷ r .head .buckets ∷ r .head .next ∷ 0 ∷ 0 ∷ 0 ∷ 0 ∷ 0 ∷ (ws ++ (r .moving ∷ r .idle ∷ (eachOf 16 0 (r .taken) ++ eachOf 16 0 (r .released)))))) (sym (six (r .answer)))
     ∙ ap (λ (a : Answer). record { head = r .head; moving = r .moving; idle = r .idle; taken = eachOf 16 0 (r .taken); released = eachOf 16 0 (r .released); answer = a }) (answer-back (r .answer))
     ∙ ap (λ (l : List ℕ). record { head = r .head; moving = r .moving; idle = r .idle; taken = l; released = eachOf 16 0 (r .released); answer = r .answer }) (each-rest 16 0 (r .taken) (x .taken))
     ∙ ap (λ (l : List ℕ). record { head = r .head; moving = r .moving; idle = r .idle; taken = r .taken; released = l; answer = r .answer }) (each-rest 16 0 (r .released) (x .released))

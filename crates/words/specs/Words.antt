@@ -3,13 +3,14 @@ use Prim.Native.Nat.{ℕ, zero, suc, _+_}
 use mathlib.Core.List.{List, [], _∷_, _++_}
 use lib.ListN.{getD}
 use Rattle.model.specs.Calls.{countsOf}
-use Rattle.model.specs.Refusals.{numberOf, carriedOf}
+use Rattle.model.specs.Refusals.{reasonNumber, reasonSerial, numberOf, carriedOf, refusalReason}
 use Rattle.model.specs.declared.Answer.{Answer}
 use Rattle.model.specs.declared.Answer.the-variants.{Done, Cell, Granted, AllGranted, Busy, Refused, RefusedAt}
 use Rattle.model.specs.declared.Counts.{Counts}
 use Rattle.model.specs.declared.CrewReply.{CrewReply}
 use Rattle.model.specs.declared.Head.{Head}
 use Rattle.model.specs.declared.Played.{Played}
+use Rattle.model.specs.declared.Refusal.{Refusal}
 use Rattle.model.specs.declared.Reply.{Reply}
 use Rattle.wave.specs.Answers.{dumpedNumber}
 use Rattle.wave.specs.declared.Dumped.{Dumped}
@@ -17,15 +18,25 @@ use Rattle.wave.specs.declared.Dumped.the-variants as dumped
 use Rattle.wave.specs.declared.Undumped.{Undumped}
 use Rattle.wave.specs.declared.Undumped.the-variants as undumped
 
--- words 8 to 11: the kind of the answer; the cell, or the refusal's number; the serial, or what the refusal carries; the key's position
+-- Busy, by the number of its reason and the serial that goes with it: "held, with the owner's serial"; "waiters seen before the
+-- compare-and-set"; "waiters seen after it. The last one also gives the serial that was spent."
+unfoldable pub busyWords : ℕ → ℕ → List ℕ
+busyWords number s = 4 ∷ 0 ∷ 0 ∷ 0 ∷ number ∷ s ∷ []
+
+-- a refusal; "refusal 11 carries that reason besides 4,096"
+abbrev pub refusalWords : ℕ → Refusal → ℕ → List ℕ
+refusalWords kind r position = kind ∷ numberOf r ∷ carriedOf r ∷ position ∷ getD (refusalReason r) 0 0 ∷ getD (refusalReason r) 1 0 ∷ []
+
+-- words 8 to 13: the kind of the answer; the cell, or the refusal's number; the serial, or what the refusal carries; the key's position;
+-- the number of the reason why it was Busy, 0 for none; the reason's serial, 0 for none
 abbrev pub answerWords : Answer → List ℕ
-answerWords Done = 0 ∷ 0 ∷ 0 ∷ 0 ∷ []
-answerWords (Cell c) = 1 ∷ c ∷ 0 ∷ 0 ∷ []
-answerWords (Granted l) = 2 ∷ l .cell ∷ l .serial ∷ 0 ∷ []
-answerWords AllGranted = 3 ∷ 0 ∷ 0 ∷ 0 ∷ []
-answerWords Busy = 4 ∷ 0 ∷ 0 ∷ 0 ∷ []
-answerWords (Refused r) = 5 ∷ numberOf r ∷ carriedOf r ∷ 0 ∷ []
-answerWords (RefusedAt r p) = 6 ∷ numberOf r ∷ carriedOf r ∷ p ∷ []
+answerWords Done = 0 ∷ 0 ∷ 0 ∷ 0 ∷ 0 ∷ 0 ∷ []
+answerWords (Cell c) = 1 ∷ c ∷ 0 ∷ 0 ∷ 0 ∷ 0 ∷ []
+answerWords (Granted l) = 2 ∷ l .cell ∷ l .serial ∷ 0 ∷ 0 ∷ 0 ∷ []
+answerWords AllGranted = 3 ∷ 0 ∷ 0 ∷ 0 ∷ 0 ∷ 0 ∷ []
+answerWords (Busy why) = busyWords (reasonNumber why) (reasonSerial why)
+answerWords (Refused r) = refusalWords 5 r 0
+answerWords (RefusedAt r p) = refusalWords 6 r p
 
 -- words 0 to 2 the head, 3 the place, 4 to 7 the counts, and then the answer
 abbrev pub resultWords : Head → ℕ → Counts → Answer → List ℕ
@@ -44,8 +55,8 @@ unfoldable pub eachOf : ℕ → ℕ → List ℕ → List ℕ
 eachOf zero m l = []
 eachOf (suc left) m l = getD l m 0 ∷ eachOf left (m + 1) l
 
--- of the crew: no place and no counts; words 12 and 13 the moving and the idle turns, 14 to 29 what members 0 to 15 took, 30 to 45 what
--- they released
+-- of the crew: no place, no counts and no reason; words 14 and 15 the moving and the idle turns, 16 to 31 what members 0 to 15 took, 32 to
+-- 47 what they released
 unfoldable pub crewWords : CrewReply → List ℕ
 crewWords r = resultWords (r .head) 0 (countsOf 0 0 0 0) (r .answer) ++ (r .moving ∷ r .idle ∷ (eachOf 16 0 (r .taken) ++ eachOf 16 0 (r .released)))
 

@@ -1,41 +1,83 @@
-// A reply as words, for callers in C or Rust: twelve of them, the crew's forty-six, or the waveform's three.
+// A reply as words, for callers in C or Rust: fourteen of them, the crew's forty-eight, or the waveform's three.
 // specs/Words.antt lays them out, and specs/Tells.antt proves that they lose nothing.
 use model::Answer;
 use model::Counts;
 use model::CrewReply;
 use model::Head;
 use model::Played;
+use model::Refusal;
 use model::Reply;
 use wave::Dumped;
 use wave::Undumped;
 ghost use mathlib.Core.Path.{_≡_};
 ghost use Prim.Native.Nat.{_+_, _≤_};
 ghost use lib.Seq.{sets};
-ghost use Rattle.words.specs.Words.{answerWords, resultWords, replyWords, playedWords, eachOf, crewWords};
-ghost use Rattle.words.specs.Words.{dumpedWords, undumpedWords};
+ghost use Rattle.model.specs.Refusals.{refusalReason};
+ghost use Rattle.words.specs.Words.{busyWords, refusalWords, answerWords, resultWords, replyWords, playedWords};
+ghost use Rattle.words.specs.Words.{eachOf, crewWords, dumpedWords, undumpedWords};
 
-// Words 8 to 11.
-fn answer_words(answer: Answer) -> [u64; 4]
-    ensures { λ r. ⌜ r ≡ answerWords answer ⌝ }
+// Words 12 and 13 of a refusal: only 11 gives a reason.
+fn reason_words(refusal: Refusal) -> [u64; 2]
+    ensures { λ r. ⌜ r ≡ refusalReason refusal ⌝ }
 {
-    match answer {
-        Answer::Done => [0, 0, 0, 0],
-        Answer::Cell(cell) => [1, cell as u64, 0, 0],
-        Answer::Granted(lease) => [2, lease.cell as u64, lease.serial as u64, 0],
-        Answer::AllGranted => [3, 0, 0, 0],
-        Answer::Busy => [4, 0, 0, 0],
-        Answer::Refused(refusal) => [5, refusal.number() as u64, refusal.carried() as u64, 0],
-        Answer::RefusedAt(refusal, key) => [
-            6,
-            refusal.number() as u64,
-            refusal.carried() as u64,
-            key as u64,
-        ],
+    match refusal {
+        Refusal::BadShape => [0, 0],
+        Refusal::BadScript => [0, 0],
+        Refusal::BadHeld(_) => [0, 0],
+        Refusal::TooMany => [0, 0],
+        Refusal::BadBinding(_) => [0, 0],
+        Refusal::BadHeader(_) => [0, 0],
+        Refusal::Poisoned(_) => [0, 0],
+        Refusal::InvalidBucket(_) => [0, 0],
+        Refusal::Damaged(_) => [0, 0],
+        Refusal::SerialsSpent(_) => [0, 0],
+        Refusal::SerializationFailure(why) => [why.number() as u64, why.serial() as u64],
+        Refusal::NotHeld(_) => [0, 0],
+        Refusal::Protected => [0, 0],
+        Refusal::Repeated(_) => [0, 0],
+        Refusal::BadCrew(_) => [0, 0],
     }
 }
 
-// All twelve.
-fn words(head: Head, place: usize, counts: Counts, answer: Answer) -> [u64; 12]
+// Words 8 to 13 of a refusal.
+fn refusal_words(kind: u64, refusal: Refusal, position: usize) -> [u64; 6]
+    ensures { λ r. ⌜ r ≡ refusalWords kind refusal position ⌝ }
+{
+    let why = reason_words(refusal);
+    [
+        kind,
+        refusal.number() as u64,
+        refusal.carried() as u64,
+        position as u64,
+        why[0],
+        why[1],
+    ]
+}
+
+// Words 8 to 13 of Busy.
+fn busy_words(reason: u32, serial: u32) -> [u64; 6]
+    ensures { λ r. ⌜ r ≡ busyWords reason serial ⌝ }
+{
+    [4, 0, 0, 0, reason as u64, serial as u64]
+}
+
+// Words 8 to 13.
+fn answer_words(answer: Answer) -> [u64; 6]
+    ensures { λ r. ⌜ r ≡ answerWords answer ⌝ }
+{
+    match answer {
+        Answer::Done => [0, 0, 0, 0, 0, 0],
+        Answer::Cell(cell) => [1, cell as u64, 0, 0, 0, 0],
+        Answer::Granted(lease) => [2, lease.cell as u64, lease.serial as u64, 0, 0, 0],
+        Answer::AllGranted => [3, 0, 0, 0, 0, 0],
+        Answer::Busy(why) => busy_words(why.number(), why.serial()),
+        Answer::Refused(refusal) => refusal_words(5, refusal, 0),
+        Answer::RefusedAt(refusal, key) => refusal_words(6, refusal, key),
+    }
+}
+
+// All fourteen.
+fn words(head: Head, place: usize, counts: Counts, answer: Answer) -> [u64; 14]
     ensures { λ r. ⌜ r ≡ resultWords head place counts answer ⌝ }
 {
     let said = answer_words(answer);
@@ -52,11 +94,13 @@ fn words(head: Head, place: usize, counts: Counts, answer: Answer) -> [u64; 12]
         said[1],
         said[2],
         said[3],
+        said[4],
+        said[5],
     ]
 }
 
 // Of a call without a script: place 0.
-pub fn reply_words(r: Reply) -> [u64; 12]
+pub fn reply_words(r: Reply) -> [u64; 14]
     ensures { λ w. ⌜ w ≡ replyWords r ⌝ }
 {
     let head = r.head;
@@ -66,7 +110,7 @@ pub fn reply_words(r: Reply) -> [u64; 12]
 }
 
 // Of a call with a script.
-pub fn played_words(r: Played) -> [u64; 12]
+pub fn played_words(r: Played) -> [u64; 14]
     ensures { λ w. ⌜ w ≡ playedWords r ⌝ }
 {
     let head = r.head;
@@ -76,8 +120,8 @@ pub fn played_words(r: Played) -> [u64; 12]
 }
 
 // Counts of the crew's members, put into its words from a place on.
-fn put_counts(words: &mut [u64; 46], at: usize, counts: &[usize; 16])
-    requires { ⌜ at + 16 ≤ 46 ⌝ }
+fn put_counts(words: &mut [u64; 48], at: usize, counts: &[usize; 16])
+    requires { ⌜ at + 16 ≤ 48 ⌝ }
     ensures { λ _. ⌜ now (words .exit) ≡ sets (now (words .entry)) at (eachOf 16 0 (now (counts .entry))) ⌝ }
 {
     let mut i: usize = 0;
@@ -88,7 +132,7 @@ fn put_counts(words: &mut [u64; 46], at: usize, counts: &[usize; 16])
 }
 
 // Of the crew.
-pub fn crew_words(r: CrewReply) -> [u64; 46]
+pub fn crew_words(r: CrewReply) -> [u64; 48]
     ensures { λ w. ⌜ w ≡ crewWords r ⌝ }
 {
     let head = r.head;
@@ -96,7 +140,7 @@ pub fn crew_words(r: CrewReply) -> [u64; 46]
     let taken = r.taken;
     let released = r.released;
     let said = answer_words(answer);
-    let mut words = [0u64; 46];
+    let mut words = [0u64; 48];
     words[0] = head.headers as u64;
     words[1] = head.buckets as u64;
     words[2] = head.next as u64;
@@ -104,10 +148,12 @@ pub fn crew_words(r: CrewReply) -> [u64; 46]
     words[9] = said[1];
     words[10] = said[2];
     words[11] = said[3];
-    words[12] = r.moving as u64;
-    words[13] = r.idle as u64;
-    put_counts(&mut words, 14, &taken);
-    put_counts(&mut words, 30, &released);
+    words[12] = said[4];
+    words[13] = said[5];
+    words[14] = r.moving as u64;
+    words[15] = r.idle as u64;
+    put_counts(&mut words, 16, &taken);
+    put_counts(&mut words, 32, &released);
     words
 }
 

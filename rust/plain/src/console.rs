@@ -1,6 +1,6 @@
 //! The bench console's language: lines that set up the player's own RAM and lists, and lines that make calls.
 
-use crate::rules::{self, Answer, Counts, CrewReply, Head, Lease, Reply, ScriptReply};
+use crate::rules::{self, Answer, Counts, CrewReply, Head, Lease, Reason, Reply, ScriptReply};
 use std::io::{self, BufRead, ErrorKind, Write};
 
 /// The longest line that can be understood, in bytes, without its line feed.
@@ -539,15 +539,24 @@ impl Console {
             Answer::AllGranted => write!(out, "granted")?,
             Answer::Done => write!(out, "done")?,
             Answer::Cell(cell) => write!(out, "cell {cell}")?,
-            Answer::Busy => write!(out, "busy")?,
-            Answer::Refused(refusal) | Answer::RefusedAt(refusal, _) => write!(
-                out,
-                "refused {} {} {}",
-                refusal.number(),
-                refusal.name(),
-                refusal.carries()
-            )?,
+            Answer::Busy(reason) => {
+                write!(out, "busy")?;
+                print_reason(reason, out)?;
+            }
+            Answer::Refused(refusal) | Answer::RefusedAt(refusal, _) => {
+                write!(
+                    out,
+                    "refused {} {} {}",
+                    refusal.number(),
+                    refusal.name(),
+                    refusal.carries()
+                )?;
+                if let Some(reason) = refusal.reason() {
+                    print_reason(reason, out)?;
+                }
+            }
         }
+        // in multi-lock the position stands behind the reason
         if let Answer::RefusedAt(_, position) = answer {
             write!(out, " at {position}")?;
         }
@@ -561,6 +570,15 @@ impl Console {
             counts.yields,
             counts.dropped
         )
+    }
+}
+
+/// What stands behind `busy`, and behind the 4096 of refusal 11.
+fn print_reason(reason: Reason, out: &mut impl Write) -> io::Result<()> {
+    match reason {
+        Reason::Held(serial) => write!(out, " held {serial}"),
+        Reason::Before => write!(out, " before"),
+        Reason::After(serial) => write!(out, " after {serial}"),
     }
 }
 

@@ -281,7 +281,7 @@ greatest 16
     /// The console's names of document 01's refusals.
     #[test]
     fn the_names_are_the_console_s() {
-        use crate::rules::Refusal;
+        use crate::rules::{Reason, Refusal};
         let refusals = [
             Refusal::BadShape,
             Refusal::BadScript,
@@ -293,7 +293,7 @@ greatest 16
             Refusal::InvalidBucket(0),
             Refusal::Damaged(0),
             Refusal::SerialsSpent(0),
-            Refusal::SerializationFailure,
+            Refusal::SerializationFailure(Reason::Before),
             Refusal::NotHeld(0),
             Refusal::Protected,
             Refusal::Repeated(0),

@@ -1,5 +1,5 @@
-//! Document 01: the arena, foreign steps, the steps of a lock, the crew, the refusals; with document 02's L3, the
-//! health that is read after the lock too.
+//! Document 01: the arena, foreign steps, the steps of a lock, the crew, the refusals; with document 02's L1, the
+//! reasons of a Busy, and L3, the health that is read after the lock too.
 //!
 //! One public function for each call, over lent slices. A call checks what it takes in the order of the table
 //! of refusals, and then runs its steps; no argument makes it panic.
@@ -40,6 +40,15 @@ pub struct Lease {
     pub serial: u32,
 }
 
+/// Why an attempt is Busy: "held, with the owner's serial; waiters seen before the compare-and-set; waiters seen after
+/// it. The last one also gives the serial that was spent."
+#[derive(Clone, Copy, Debug, PartialEq, Eq)]
+pub enum Reason {
+    Held(u32),
+    Before,
+    After(u32),
+}
+
 /// The fifteen refusals, each with what it carries where that is not fixed.
 #[derive(Clone, Copy, Debug, PartialEq, Eq)]
 pub enum Refusal {
@@ -53,7 +62,8 @@ pub enum Refusal {
     InvalidBucket(u32),
     Damaged(u32),
     SerialsSpent(u32),
-    SerializationFailure,
+    /// It carries the reason of the last Busy attempt besides 4,096.
+    SerializationFailure(Reason),
     NotHeld(u32),
     Protected,
     Repeated(u32),
@@ -73,7 +83,7 @@ impl Refusal {
             Refusal::InvalidBucket(_) => 8,
             Refusal::Damaged(_) => 9,
             Refusal::SerialsSpent(_) => 10,
-            Refusal::SerializationFailure => 11,
+            Refusal::SerializationFailure(_) => 11,
             Refusal::NotHeld(_) => 12,
             Refusal::Protected => 13,
             Refusal::Repeated(_) => 14,
@@ -93,7 +103,7 @@ impl Refusal {
             Refusal::InvalidBucket(_) => "InvalidBucket",
             Refusal::Damaged(_) => "Damaged",
             Refusal::SerialsSpent(_) => "SerialsSpent",
-            Refusal::SerializationFailure => "SerializationFailure",
+            Refusal::SerializationFailure(_) => "SerializationFailure",
             Refusal::NotHeld(_) => "NotHeld",
             Refusal::Protected => "Protected",
             Refusal::Repeated(_) => "Repeated",
@@ -104,7 +114,7 @@ impl Refusal {
     pub fn carries(self) -> u32 {
         match self {
             Refusal::BadShape | Refusal::BadScript | Refusal::TooMany | Refusal::Protected => 0,
-            Refusal::SerializationFailure => ATTEMPTS,
+            Refusal::SerializationFailure(_) => ATTEMPTS,
             Refusal::BadHeld(n)
             | Refusal::BadBinding(n)
             | Refusal::BadHeader(n)
@@ -117,6 +127,14 @@ impl Refusal {
             | Refusal::BadCrew(n) => n,
         }
     }
+
+    /// "refusal 11 carries that reason besides 4,096"; no other refusal has one.
+    pub fn reason(self) -> Option<Reason> {
+        match self {
+            Refusal::SerializationFailure(reason) => Some(reason),
+            _ => None,
+        }
+    }
 }
 
 #[derive(Clone, Copy, Debug, PartialEq, Eq)]
@@ -126,7 +144,7 @@ pub enum Answer {
     AllGranted,
     Done,
     Cell(u32),
-    Busy,
+    Busy(Reason),
     Refused(Refusal),
     /// Multi-lock's refusals 6 to 11, with the key's position.
     RefusedAt(Refusal, u32),
@@ -174,13 +192,20 @@ pub struct CrewRun {
     pub idle: u32,
 }
 
-/// How an attempt ends: granted, Busy (`None`), or refused.
-type Attempt = Result<Option<Lease>, Refusal>;
+/// How an attempt ends that is not refused.
+#[derive(Clone, Copy, Debug, PartialEq, Eq)]
+enum Tried {
+    Granted(Lease),
+    Busy(Reason),
+}
+
+/// How an attempt ends.
+type Attempt = Result<Tried, Refusal>;
 
 fn answer_of(attempt: Attempt) -> Answer {
     match attempt {
-        Ok(Some(lease)) => Answer::Granted(lease),
-        Ok(None) => Answer::Busy,
+        Ok(Tried::Granted(lease)) => Answer::Granted(lease),
+        Ok(Tried::Busy(reason)) => Answer::Busy(reason),
         Err(refusal) => Answer::Refused(refusal),
     }
 }
@@ -271,16 +296,16 @@ impl<'a> Arena<'a> {
         self.table[owner(cell)] = 0;
     }
 
-    /// In order, damaged: Damaged; held: Busy; no serial: SerialsSpent; else it is taken.
+    /// In order, damaged: Damaged; held: Busy, with the owner's serial; no serial: SerialsSpent; else it is taken.
     fn try_acquire(&mut self, cell: u32) -> Attempt {
         if self.is_held(cell) {
-            Ok(None)
+            Ok(Tried::Busy(Reason::Held(self.table[owner(cell)])))
         } else if !self.is_free(cell) {
             Err(Refusal::Damaged(cell))
         } else if self.head.next == NO_SERIAL {
             Err(Refusal::SerialsSpent(cell))
         } else {
-            Ok(Some(self.take(cell)))
+            Ok(Tried::Granted(self.take(cell)))
         }
     }
 
@@ -462,16 +487,17 @@ impl<'a> Run<'a> {
     // ---- The steps of a lock
 
     /// Boundary, look at the waiters, boundary, try_acquire, boundary (protecting the new lease), look at the
-    /// health of the cell's header, look at the waiters again. The serial of a lease given up here stays spent. The
-    /// cell is in range.
+    /// health of the cell's header, look at the waiters again. The serial of a lease given up here stays spent, and
+    /// where others wait the reason gives it. The cell is in range.
     fn try_lock(&mut self, cell: u32) -> Attempt {
         self.boundary();
         if self.arena.table[waiters(cell)] != 0 {
-            return Ok(None);
+            return Ok(Tried::Busy(Reason::Before));
         }
         self.boundary();
-        let Some(lease) = self.arena.try_acquire(cell)? else {
-            return Ok(None);
+        let lease = match self.arena.try_acquire(cell)? {
+            Tried::Granted(lease) => lease,
+            busy => return Ok(busy),
         };
         self.taken[self.count] = [lease.cell, lease.serial];
         self.count += 1;
@@ -483,9 +509,9 @@ impl<'a> Run<'a> {
         }
         if self.arena.table[waiters(cell)] != 0 {
             self.release_last();
-            return Ok(None);
+            return Ok(Tried::Busy(Reason::After(lease.serial)));
         }
-        Ok(Some(lease))
+        Ok(Tried::Granted(lease))
     }
 
     /// Gives up the last lease that this call has taken. It was protected, so it is live.
@@ -515,19 +541,25 @@ impl<'a> Run<'a> {
     }
 
     /// Up to 4,096 attempts. After a Busy one whose number has remainder 63 by 64, a boundary and a yield; then,
-    /// after each Busy one, a boundary and a spin. A spin is not counted.
+    /// after each Busy one, a boundary and a spin. A spin is not counted. The reason of the last Busy attempt is passed
+    /// on.
     fn acquire_bucket(&mut self, binding: u32, bucket: u32) -> Result<Lease, Refusal> {
-        for attempt in 0..ATTEMPTS {
-            if let Some(lease) = self.try_bucket(binding, bucket)? {
-                return Ok(lease);
-            }
+        let mut attempt = 0;
+        loop {
+            let reason = match self.try_bucket(binding, bucket)? {
+                Tried::Granted(lease) => return Ok(lease),
+                Tried::Busy(reason) => reason,
+            };
             if attempt % YIELD_EVERY == YIELD_EVERY - 1 {
                 self.boundary();
                 self.counts.yields += 1;
             }
             self.boundary();
+            attempt += 1;
+            if attempt == ATTEMPTS {
+                return Err(Refusal::SerializationFailure(reason));
+            }
         }
-        Err(Refusal::SerializationFailure)
     }
 
     /// Keys in the order given. On a refusal all taken leases are released, last first, a boundary after each.
@@ -671,7 +703,7 @@ pub fn read_permission(head: Head, table: &mut [u32], lease: Lease) -> Reply {
     })
 }
 
-/// One `try_acquire` of a live lease's cell, which is Busy and changes nothing.
+/// One `try_acquire` of a live lease's cell, which is Busy, held by that lease's serial, and changes nothing.
 pub fn competing_acquire_is_excluded(head: Head, table: &mut [u32], lease: Lease) -> Reply {
     Reply::of(head, || {
         let mut arena = Arena::new(head, table)?;
@@ -704,7 +736,7 @@ pub fn foreign_release_between_attempts(
         arena.check_held(held)?;
         arena.check_live(lease)?;
         check_unprotected(held, lease)?;
-        // the lease is live, so this one is Busy
+        // the lease is live, so this one is Busy; a grant has no reason, so it is not passed on
         let _busy = arena.try_acquire(lease.cell);
         arena.release(lease.cell);
         let attempt = arena.try_acquire(lease.cell);
@@ -838,7 +870,7 @@ pub fn acquire_index_bucket(
             head, table, health, registry, script, place, held, &mut taken,
         )?;
         run.check_bindings(&[binding, bucket])?;
-        let answer = answer_of(run.acquire_bucket(binding, bucket).map(Some));
+        let answer = answer_of(run.acquire_bucket(binding, bucket).map(Tried::Granted));
         Ok(run.reply(answer))
     })
 }
@@ -992,7 +1024,7 @@ fn crew_turn(
         let healthy = health[arena.header_of(cell) as usize] == 0;
         let granted = healthy
             && arena.table[waiters(cell)] == 0
-            && matches!(arena.try_acquire(cell), Ok(Some(_)));
+            && matches!(arena.try_acquire(cell), Ok(Tried::Granted(_)));
         run.taken[member] += u32::from(granted);
         granted
     } else if released < taken {

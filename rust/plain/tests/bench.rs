@@ -1,4 +1,5 @@
-//! The bench cases of document 01, in the console's language. What is expected was worked out from the document.
+//! The bench cases of document 01, in the console's language, with the reasons that request L1 of document 02 gives them.
+//! What is expected was worked out from the documents.
 
 /// Arena: H 2, B 4, registry 0, 1, 1, first serial 1.
 const ARENA: &str = "prepare 2 4 1\nregistry 0 1 1";
@@ -55,7 +56,7 @@ fn again_with_the_lease_held() {
         ],
         &[
             first,
-            &format!("refused 11 SerializationFailure 4096 {counts}"),
+            &format!("refused 11 SerializationFailure 4096 held 1 {counts}"),
             "head 2 4 2",
             "cell 2 1 1 0",
         ],
@@ -70,7 +71,7 @@ fn again_with_the_lease_held() {
         ],
         &[
             first,
-            &format!("refused 11 SerializationFailure 4096 at 0 {counts}"),
+            &format!("refused 11 SerializationFailure 4096 held 1 at 0 {counts}"),
             "grants 9 9",
         ],
     );
@@ -82,7 +83,7 @@ fn waiters_stay() {
     bench(
         &["word 8 1", "acquire_index_bucket 0 2", "show"],
         &[
-            &format!("refused 11 SerializationFailure 4096 {counts}"),
+            &format!("refused 11 SerializationFailure 4096 before {counts}"),
             "head 2 4 1",
             "cell 2 0 0 1",
         ],
@@ -99,7 +100,7 @@ fn late_busy() {
                 "show",
             ],
             &[
-                "busy next 2 place 4 attempts 1 boundaries 3 yields 0 dropped 0",
+                "busy after 1 next 2 place 4 attempts 1 boundaries 3 yields 0 dropped 0",
                 "head 2 4 2",
                 "cell 2 0 0 1",
             ],
@@ -196,7 +197,7 @@ fn spent_and_held() {
         ],
         &[
             "granted 2 4294967294 next 4294967295 place 0 attempts 1 boundaries 3 yields 0 dropped 0",
-            "refused 11 SerializationFailure 4096 next 4294967295 place 0 attempts 4096 boundaries 12352 yields 64 dropped 0",
+            "refused 11 SerializationFailure 4096 held 4294967294 next 4294967295 place 0 attempts 4096 boundaries 12352 yields 64 dropped 0",
         ],
     );
 }
@@ -222,7 +223,7 @@ fn foreign_release() {
         ],
         &[
             foreign,
-            "refused 11 SerializationFailure 4096 next 2 place 4 attempts 4096 boundaries 12352 yields 64 dropped 1",
+            "refused 11 SerializationFailure 4096 held 1 next 2 place 4 attempts 4096 boundaries 12352 yields 64 dropped 1",
             "head 2 4 2",
             "cell 2 1 1 0",
         ],
@@ -234,7 +235,7 @@ fn two_keys_of_one_cell() {
     bench(
         &["keys 1 0 2 0", "grants 4", "acquire_index_locks", "show"],
         &[
-            "refused 11 SerializationFailure 4096 at 1 next 2 place 0 attempts 4097 boundaries 12356 yields 64 dropped 0",
+            "refused 11 SerializationFailure 4096 held 1 at 1 next 2 place 0 attempts 4097 boundaries 12356 yields 64 dropped 0",
             "grants 9 9 9 9",
             "head 2 4 2",
         ],
@@ -281,7 +282,7 @@ fn the_console_s_example() {
     let lines = "prepare 2 4 1\nregistry 0 1 1\nacquire_index_bucket 0 2\nheld 2 1\nacquire_index_bucket 0 2\nshow";
     let expected = "done next 1 place 0 attempts 0 boundaries 0 yields 0 dropped 0
 granted 2 1 next 2 place 0 attempts 1 boundaries 3 yields 0 dropped 0
-refused 11 SerializationFailure 4096 next 2 place 0 attempts 4096 boundaries 12352 yields 64 dropped 0
+refused 11 SerializationFailure 4096 held 1 next 2 place 0 attempts 4096 boundaries 12352 yields 64 dropped 0
 head 2 4 2
 cell 2 1 1 0
 ";

@@ -1,5 +1,6 @@
-//! The random histories reach every call, and with every call each answer that it can give; the two readings of
-//! health in all their cases; and echo, map and trace in all theirs.
+//! The random histories reach every call, and with every call each answer that it can give; the reasons of a Busy, also
+//! where they change between attempts; the two readings of health in all their cases; and echo, map and trace in all
+//! theirs.
 
 use plain::console::{Console, Line};
 use plain::rules;
@@ -8,31 +9,38 @@ use std::process::Command;
 
 const CALLS: usize = 10_000;
 
-/// What each call can answer: the refusals by number, in the order of document 01's table.
+/// What each call can answer: a Busy by its reason, the refusals by number, in the order of document 01's table, and 11
+/// with its reason.
 const ANSWERS: [(&str, &str); 18] = [
     ("prepare", "done 1"),
-    ("try_acquire", "granted busy 1 8 9 10"),
+    ("try_acquire", "granted held 1 8 9 10"),
     ("drop_lease", "done 1 12"),
     ("read_permission", "cell 1 12"),
-    ("competing_acquire_is_excluded", "busy 1 12"),
+    ("competing_acquire_is_excluded", "held 1 12"),
     ("release_then_handoff", "granted 1 10 12"),
     ("foreign_release_between_attempts", "granted 1 3 10 12 13"),
-    ("acquire_preserving_borrows", "granted busy 1 3 8 9 10"),
+    ("acquire_preserving_borrows", "granted held 1 3 8 9 10"),
     ("drop_preserving_borrows", "done 1 3 12 13"),
     ("environment", "done 1 2 3"),
     ("environment_for_borrows", "done 1 2 3"),
-    ("try_lock", "granted busy 1 2 3 7 8 9 10"),
+    ("try_lock", "granted held before after 1 2 3 7 8 9 10"),
     (
         "other_mutex_preserves_leases",
-        "granted busy 1 2 3 7 8 9 10",
+        "granted held before after 1 2 3 7 8 9 10",
     ),
     (
         "transactional_try_lock_bucket",
-        "granted busy 1 2 3 5 6 7 8 9 10",
+        "granted held before after 1 2 3 5 6 7 8 9 10",
     ),
-    ("acquire_index_bucket", "granted 1 2 3 5 6 7 8 9 10 11"),
+    (
+        "acquire_index_bucket",
+        "granted 1 2 3 5 6 7 8 9 10 11held 11before 11after",
+    ),
     ("release_all", "done 1 2 4 12 14"),
-    ("acquire_index_locks", "granted 1 2 3 4 5 6 7 8 9 10 11"),
+    (
+        "acquire_index_locks",
+        "granted 1 2 3 4 5 6 7 8 9 10 11held 11before 11after",
+    ),
     ("crew", "crew 1 15"),
 ];
 
@@ -43,6 +51,20 @@ fn history(seed: u64) -> Vec<u8> {
         .expect("histories runs");
     assert!(output.status.success());
     output.stdout
+}
+
+/// A word of a line.
+fn word(line: &str, at: usize) -> &str {
+    line.split([' ', '\n']).nth(at).unwrap_or("")
+}
+
+/// What a call answered, as `ANSWERS` has it.
+fn answer_of(out: &str) -> String {
+    match (word(out, 0), word(out, 1)) {
+        ("refused", "11") => format!("11{}", word(out, 4)),
+        ("refused" | "busy", answer) => answer.to_string(),
+        (answer, _) => answer.to_string(),
+    }
 }
 
 #[test]
@@ -65,14 +87,10 @@ fn every_answer_of_every_call() {
                 Line::Call => {
                     let line = String::from_utf8_lossy(line).into_owned();
                     let out = String::from_utf8_lossy(&out).into_owned();
-                    let word = |text: &str, at| text.split(' ').nth(at).unwrap_or("").to_string();
-                    let mut answer = word(&out, 0);
-                    if answer == "refused" {
-                        answer = word(&out, 1);
-                    }
                     own_calls += 1;
-                    failures += usize::from(answer == "11");
-                    seen.entry(word(&line, 0)).or_default().insert(answer);
+                    failures += usize::from(out.starts_with("refused 11 "));
+                    let call = word(&line, 0).to_string();
+                    seen.entry(call).or_default().insert(answer_of(&out));
                 }
                 Line::Command | Line::Skipped => {}
             }
@@ -89,6 +107,63 @@ fn every_answer_of_every_call() {
     assert!(not_understood > CALLS / 100);
     // calls with 4,096 attempts are dear: at most one in forty
     assert!(failures * 40 <= calls, "{failures} of {calls}");
+}
+
+/// How the first and the last attempt of an `acquire_index_bucket` that failed were Busy, or of a multi-lock that failed
+/// at its first key. `console` is what it was given.
+fn change_of_reason(console: &Console, line: &str, out: &str) -> Option<String> {
+    let [binding, bucket] = match word(line, 0) {
+        "acquire_index_bucket" => [word(line, 1).to_string(), word(line, 2).to_string()],
+        "acquire_index_locks" if behind(out, "at") == Some(0) => {
+            [console.keys[0].to_string(), console.keys[1].to_string()]
+        }
+        _ => return None,
+    };
+    let first = format!("transactional_try_lock_bucket {binding} {bucket}");
+    let mut first_out = Vec::new();
+    console
+        .clone()
+        .line(first.as_bytes(), &mut first_out)
+        .expect("a vector takes every byte");
+    let first = String::from_utf8_lossy(&first_out).into_owned();
+    let (from, to) = (word(&first, 1), word(out, 4));
+    // held by two owners is a change too
+    let other = from == "held" && to == "held" && word(&first, 2) != word(out, 5);
+    Some(format!(
+        "{from} to {}{to}",
+        if other { "other " } else { "" }
+    ))
+}
+
+/// "the reason of the last Busy attempt": histories in which it is another than that of the first.
+#[test]
+fn every_change_of_reason() {
+    let mut seen = BTreeSet::new();
+    for seed in [1, 2] {
+        let mut console = Console::new();
+        for line in history(seed).split(|&byte| byte == b'\n') {
+            let (before, mut out) = (console.clone(), Vec::new());
+            console
+                .line(line, &mut out)
+                .expect("a vector takes every byte");
+            if out.starts_with(b"refused 11 ") {
+                let line = String::from_utf8_lossy(line);
+                let out = String::from_utf8_lossy(&out);
+                seen.extend(change_of_reason(&before, &line, &out));
+            }
+        }
+    }
+    let expected = [
+        "held to held",
+        "held to other held",
+        "held to before",
+        "before to held",
+        "before to before",
+        "before to after",
+        "after to held",
+        "after to before",
+    ];
+    assert_eq!(seen, expected.map(String::from).into());
 }
 
 /// The number behind a word of what a call printed.
@@ -218,7 +293,7 @@ fn map_cases(console: &Console, map: &str, cases: &mut BTreeSet<String>) {
             headers, buckets, ..
         } = console.head;
         let (words, bytes) = console.lent(console.head);
-        let right_words = words as u64 == 3 * u64::from(headers) * u64::from(buckets);
+        let right_words = words as u128 == 3 * u128::from(headers) * u128::from(buckets);
         let right_bytes = bytes as u64 == u64::from(headers);
         let good_head = (1..=64).contains(&headers)
             && (1..=1024).contains(&buckets)

@@ -129,11 +129,11 @@ fn other_ends_come_first() {
         let poisoned = "byte 1 1";
         bench(
             &[poisoned, "word 20 1", &call],
-            &["busy next 1 place 0 attempts 1 boundaries 1 yields 0 dropped 0"],
+            &["busy before next 1 place 0 attempts 1 boundaries 1 yields 0 dropped 0"],
         );
         bench(
             &[poisoned, "head 2 4 2", "word 18 1", "word 19 1", &call],
-            &["busy next 2 place 0 attempts 1 boundaries 2 yields 0 dropped 0"],
+            &["busy held 1 next 2 place 0 attempts 1 boundaries 2 yields 0 dropped 0"],
         );
         bench(
             &[poisoned, "word 18 1", &call],

@@ -24,7 +24,7 @@ fn a_day() {
         format!(
             "done next 1 place 0 {COUNTS}\n\
              granted 2 1 next 2 place 0 attempts 1 boundaries 0 yields 0 dropped 0\nstep 1 2 0\n\
-             busy next 2 place 0 attempts 1 boundaries 0 yields 0 dropped 0\nstep 0 0 0\n\
+             busy held 1 next 2 place 0 attempts 1 boundaries 0 yields 0 dropped 0\nstep 0 0 0\n\
              head 2 4 2\ncell 2 1 1 0\n\
              done next 2 place 0 {COUNTS}\nstep 2 2 0\n\
              granted 2 2 next 3 place 0 attempts 1 boundaries 0 yields 0 dropped 0\n"

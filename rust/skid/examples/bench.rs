@@ -1,7 +1,8 @@
 //! Document 01's bench cases, through the crate `skid`, and edges of the calls. A line for each case; exit 1 if a
 //! figure is not document 01's.
 use skid::{
-    Answer, Arena, Counts, Head, Key, Lease, Played, Refusal, Reply, Script, Step, NO_SERIAL,
+    Answer, Arena, Counts, Head, Key, Lease, Played, Reason, Refusal, Reply, Script, Step,
+    NO_SERIAL,
 };
 use std::fmt::Debug;
 use std::process::exit;
@@ -87,6 +88,11 @@ fn granted(cell: u32, serial: u32) -> Answer {
     Answer::Granted(Lease { cell, serial })
 }
 
+/// Refusal 11, with the reason of the last attempt.
+fn failed(why: Reason) -> Answer {
+    Answer::Refused(Refusal::SerializationFailure(why))
+}
+
 /// The arena of the bench, H 2 and B 4, prepared over rubbish, between guards.
 fn with_arena(serial: u32, run: impl FnOnce(&mut Arena)) {
     let mut table = [0x5a5a_5a5a; 26];
@@ -151,11 +157,7 @@ fn again(b: &mut Bench) {
         let first = acquire(arena, &[], &[], 2);
         b.check("answer", first.answer, granted(2, 1));
         let played = acquire(arena, &[], &[Lease { cell: 2, serial: 1 }], 2);
-        b.check(
-            "answer",
-            played.answer,
-            Answer::Refused(Refusal::SerializationFailure),
-        );
+        b.check("answer", played.answer, failed(Reason::Held(1)));
         b.check("boundaries", played.counts.boundaries, 12352);
         b.check("yields", played.counts.yields, 64);
         b.check("next", played.head.next, 2);
@@ -166,11 +168,7 @@ fn waiters(b: &mut Bench) {
     with_arena(1, |arena| {
         foreign(arena, Step::waiters(2, 1));
         let played = acquire(arena, &[], &[], 2);
-        b.check(
-            "answer",
-            played.answer,
-            Answer::Refused(Refusal::SerializationFailure),
-        );
+        b.check("answer", played.answer, failed(Reason::Before));
         b.check("boundaries", played.counts.boundaries, 8256);
         b.check("yields", played.counts.yields, 64);
         b.check("next", played.head.next, 1);
@@ -182,7 +180,7 @@ fn late_waiters(b: &mut Bench) {
         let steps = [Step::END, Step::END, Step::waiters(2, 1), Step::END];
         let mut script = Script::new(&steps);
         let played = arena.try_lock(&mut script, &[], 2);
-        b.check("answer", played.answer, Answer::Busy);
+        b.check("answer", played.answer, Answer::Busy(Reason::After(1)));
         b.check("boundaries", played.counts.boundaries, 3);
         b.check("place", (played.place, script.place()), (4, 4));
         b.check("next", played.head.next, 2);
@@ -257,11 +255,7 @@ fn spent_and_held(b: &mut Bench) {
             }],
             2,
         );
-        b.check(
-            "answer",
-            played.answer,
-            Answer::Refused(Refusal::SerializationFailure),
-        );
+        b.check("answer", played.answer, failed(Reason::Held(NO_SERIAL - 1)));
     });
 }
 
@@ -286,11 +280,7 @@ fn foreign_release(b: &mut Bench) {
 
 fn release_of_held(b: &mut Bench) {
     releasing(b, &[Lease { cell: 2, serial: 1 }], |b, played| {
-        b.check(
-            "answer",
-            played.answer,
-            Answer::Refused(Refusal::SerializationFailure),
-        );
+        b.check("answer", played.answer, failed(Reason::Held(1)));
         b.check("dropped", played.counts.dropped, 1);
     });
 }
@@ -313,7 +303,7 @@ fn two_keys(b: &mut Bench) {
         b.check(
             "answer",
             played.answer,
-            Answer::RefusedAt(Refusal::SerializationFailure, 1),
+            Answer::RefusedAt(Refusal::SerializationFailure(Reason::Held(1)), 1),
         );
         b.check("attempts", played.counts.attempts, 4097);
         b.check("boundaries", played.counts.boundaries, 12356);
@@ -388,7 +378,7 @@ fn without_script(b: &mut Bench) {
             arena.competing_acquire_is_excluded(five),
             2,
             1,
-            Answer::Busy,
+            Answer::Busy(Reason::Held(1)),
         );
         b.replied(
             arena.acquire_preserving_borrows(&[five], 6),

@@ -186,6 +186,30 @@ pub struct Counts {
     pub dropped: usize,
 }
 
+/// Why it is Busy. In a try_lock the waiters are looked at first, so a held cell that somebody waits for is `Before`
+/// there.
+#[derive(Clone, Copy, Debug, PartialEq, Eq)]
+pub enum Reason {
+    /// The cell is held, by this serial.
+    Held(u32),
+    /// Somebody waited for the cell, seen before the compare-and-set.
+    Before,
+    /// Somebody waited for it, seen after the compare-and-set; this serial was spent.
+    After(u32),
+}
+
+impl Reason {
+    /// The reason that words 12 and 13 of a reply tell. Where there is one, the library gives no number but 1 to 3.
+    const fn of(w: &[u64; sys::REPLY]) -> Reason {
+        let serial = w[13] as u32;
+        match w[12] {
+            1 => Reason::Held(serial),
+            2 => Reason::Before,
+            _ => Reason::After(serial),
+        }
+    }
+}
+
 /// The fifteen refusals, with what each carries.
 #[derive(Clone, Copy, Debug, PartialEq, Eq)]
 pub enum Refusal {
@@ -209,8 +233,8 @@ pub enum Refusal {
     Damaged(u32),
     /// 10: this cell is free, and no serial remains.
     SerialsSpent(u32),
-    /// 11: 4,096 attempts were Busy.
-    SerializationFailure,
+    /// 11: 4,096 attempts were Busy, the last one for this reason.
+    SerializationFailure(Reason),
     /// 12: a lease to release or read is not live; its position, 0 for one.
     NotHeld(usize),
     /// 13: the lease is live and in the held list.
@@ -235,7 +259,7 @@ impl Refusal {
             Refusal::InvalidBucket(_) => 8,
             Refusal::Damaged(_) => 9,
             Refusal::SerialsSpent(_) => 10,
-            Refusal::SerializationFailure => 11,
+            Refusal::SerializationFailure(_) => 11,
             Refusal::NotHeld(_) => 12,
             Refusal::Protected => 13,
             Refusal::Repeated(_) => 14,
@@ -243,12 +267,12 @@ impl Refusal {
         }
     }
 
-    /// The refusal of a number, with what it carries. The library gives no number but 1 to 15, and carries in 6 to 10
-    /// what fits a `u32`.
-    const fn of(number: u64, carried: u64) -> Refusal {
-        let n = carried as usize;
-        let k = carried as u32;
-        match number {
+    /// The refusal that words 9, 10, 12 and 13 of a reply tell: its number, what it carries, the reason of 11. The
+    /// library gives no number but 1 to 15, and carries in 6 to 10 what fits a `u32`.
+    const fn of(w: &[u64; sys::REPLY]) -> Refusal {
+        let n = w[10] as usize;
+        let k = w[10] as u32;
+        match w[9] {
             1 => Refusal::BadShape,
             2 => Refusal::BadScript,
             3 => Refusal::BadHeld(n),
@@ -259,7 +283,7 @@ impl Refusal {
             8 => Refusal::InvalidBucket(k),
             9 => Refusal::Damaged(k),
             10 => Refusal::SerialsSpent(k),
-            11 => Refusal::SerializationFailure,
+            11 => Refusal::SerializationFailure(Reason::of(w)),
             12 => Refusal::NotHeld(n),
             13 => Refusal::Protected,
             14 => Refusal::Repeated(n),
@@ -280,7 +304,7 @@ pub enum Answer {
     /// A lease for each key, in the grant buffer.
     AllGranted,
     /// Another holds the cell, or waits for it.
-    Busy,
+    Busy(Reason),
     /// Refused.
     Refused(Refusal),
     /// Refused at a key, by its position; the leases taken before are released.
@@ -288,7 +312,7 @@ pub enum Answer {
 }
 
 impl Answer {
-    /// The answer that words 8 to 11 of a reply tell. The library gives no kind but 0 to 6.
+    /// The answer that words 8 to 13 of a reply tell. The library gives no kind but 0 to 6.
     const fn of(w: &[u64; sys::REPLY]) -> Answer {
         match w[8] {
             0 => Answer::Done,
@@ -298,9 +322,9 @@ impl Answer {
                 serial: w[10] as u32,
             }),
             3 => Answer::AllGranted,
-            4 => Answer::Busy,
-            5 => Answer::Refused(Refusal::of(w[9], w[10])),
-            _ => Answer::RefusedAt(Refusal::of(w[9], w[10]), w[11] as usize),
+            4 => Answer::Busy(Reason::of(w)),
+            5 => Answer::Refused(Refusal::of(w)),
+            _ => Answer::RefusedAt(Refusal::of(w), w[11] as usize),
         }
     }
 }
@@ -388,13 +412,13 @@ fn crew_of(w: &[u64; sys::CREW]) -> CrewReply {
     front.copy_from_slice(&w[..sys::REPLY]);
     let (mut taken, mut released) = ([0; 16], [0; 16]);
     for m in 0..16 {
-        taken[m] = w[14 + m] as usize;
-        released[m] = w[30 + m] as usize;
+        taken[m] = w[16 + m] as usize;
+        released[m] = w[32 + m] as usize;
     }
     CrewReply {
         head: head_of(&front),
-        moving: w[12] as usize,
-        idle: w[13] as usize,
+        moving: w[14] as usize,
+        idle: w[15] as usize,
         taken,
         released,
         answer: Answer::of(&front),
@@ -471,7 +495,7 @@ impl<'a> Arena<'a> {
 
     // ---- calls without a script
 
-    /// One compare-and-set of a cell: granted, Busy if it is held, or refused.
+    /// One compare-and-set of a cell: granted, Busy if it is held (with its owner's serial), or refused.
     pub fn try_acquire(&mut self, cell: u32) -> Reply {
         let words = sys::try_acquire(self.head, self.table, cell);
         self.replied(words)
@@ -488,7 +512,7 @@ impl<'a> Arena<'a> {
         reply_of(&sys::read_permission(self.head, self.table, lease))
     }
 
-    /// One compare-and-set of a live lease's cell: it is Busy and changes nothing.
+    /// One compare-and-set of a live lease's cell: it is Busy, held by the lease's serial, and changes nothing.
     pub fn competing_acquire_is_excluded(&mut self, lease: Lease) -> Reply {
         let words = sys::competing_acquire_is_excluded(self.head, self.table, lease);
         self.replied(words)
@@ -548,7 +572,7 @@ impl<'a> Arena<'a> {
     }
 
     /// Boundary, waiters, boundary, compare-and-set, boundary, the health of the cell's header, waiters. A late
-    /// [`Refusal::Poisoned`] or Busy releases the cell, and its serial stays spent.
+    /// [`Refusal::Poisoned`] or Busy releases the cell, and its serial stays spent ([`Reason::After`] gives it).
     pub fn try_lock(&mut self, script: &mut Script, held: &[Lease], cell: u32) -> Played {
         let words = sys::try_lock(
             self.head,
@@ -604,7 +628,8 @@ impl<'a> Arena<'a> {
     }
 
     /// Up to 4,096 attempts on a key, with boundaries, yields and spins between them. Granted or refused, never Busy. A
-    /// refusal ends it at once, also [`Refusal::Poisoned`] after a try_lock's third boundary.
+    /// refusal ends it at once, also [`Refusal::Poisoned`] after a try_lock's third boundary. After 4,096 Busy attempts
+    /// it is [`Refusal::SerializationFailure`], with the last one's reason.
     pub fn acquire_index_bucket(
         &mut self,
         registry: &[u32],

@@ -11,9 +11,9 @@ use crate::{Head, Key, Lease, Step};
 use core::mem::{align_of, size_of};
 
 /// Words of a reply.
-pub(crate) const REPLY: usize = 12;
+pub(crate) const REPLY: usize = 14;
 /// Words of the crew's.
-pub(crate) const CREW: usize = 46;
+pub(crate) const CREW: usize = 48;
 /// Words of the waveform's.
 pub(crate) const WAVE: usize = 3;
 /// What a reply holds before a call. The library writes every word; one that it left out would show.

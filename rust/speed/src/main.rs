@@ -301,7 +301,7 @@ fn line<C: Case, S: Side>(repeats: u64, each: bool) -> String {
     sum.add(desk.table);
     sum.add(desk.health);
     sum.add(desk.grants);
-    let last: Vec<String> = sum.last[..12].iter().map(u64::to_string).collect();
+    let last: Vec<String> = sum.last[..14].iter().map(u64::to_string).collect();
     format!("{:016x} {}", sum.sum, last.join(" "))
 }
 

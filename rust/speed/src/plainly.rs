@@ -2,7 +2,9 @@
 
 use crate::desk::Desk;
 use crate::side::{Side, Words};
-use plain::rules::{self, Answer, Counts, CrewReply, Head, Lease, Refusal, Reply, ScriptReply};
+use plain::rules::{
+    self, Answer, Counts, CrewReply, Head, Lease, Reason, Refusal, Reply, ScriptReply,
+};
 
 pub struct Plain;
 
@@ -15,22 +17,39 @@ fn head_of(desk: &Desk) -> Head {
     }
 }
 
-fn refusal_words(kind: u64, refusal: Refusal, position: u64) -> [u64; 4] {
+fn reason_words(reason: Option<Reason>) -> [u64; 2] {
+    match reason {
+        None => [0, 0],
+        Some(Reason::Held(serial)) => [1, serial.into()],
+        Some(Reason::Before) => [2, 0],
+        Some(Reason::After(serial)) => [3, serial.into()],
+    }
+}
+
+fn refusal_words(kind: u64, refusal: Refusal, position: u64) -> [u64; 6] {
+    let [reason, serial] = reason_words(refusal.reason());
     [
         kind,
         refusal.number().into(),
         refusal.carries().into(),
         position,
+        reason,
+        serial,
     ]
 }
 
-fn answer_words(answer: Answer) -> [u64; 4] {
+fn busy_words(reason: Reason) -> [u64; 6] {
+    let [reason, serial] = reason_words(Some(reason));
+    [4, 0, 0, 0, reason, serial]
+}
+
+fn answer_words(answer: Answer) -> [u64; 6] {
     match answer {
-        Answer::Done => [0, 0, 0, 0],
-        Answer::Cell(cell) => [1, cell.into(), 0, 0],
-        Answer::Granted(lease) => [2, lease.cell.into(), lease.serial.into(), 0],
-        Answer::AllGranted => [3, 0, 0, 0],
-        Answer::Busy => [4, 0, 0, 0],
+        Answer::Done => [0, 0, 0, 0, 0, 0],
+        Answer::Cell(cell) => [1, cell.into(), 0, 0, 0, 0],
+        Answer::Granted(lease) => [2, lease.cell.into(), lease.serial.into(), 0, 0, 0],
+        Answer::AllGranted => [3, 0, 0, 0, 0, 0],
+        Answer::Busy(reason) => busy_words(reason),
         Answer::Refused(refusal) => refusal_words(5, refusal, 0),
         Answer::RefusedAt(refusal, position) => refusal_words(6, refusal, position.into()),
     }
@@ -204,7 +223,7 @@ impl Side for Plain {
             }
             Err(refusal) => {
                 let mut words = words(crew.head, 0, none, Answer::Refused(refusal));
-                words.resize(46, 0);
+                words.resize(48, 0);
                 words
             }
         }

@@ -6,8 +6,8 @@ use crate::side::{Side, Words};
 use core::mem::MaybeUninit;
 use skid as _;
 
-type Reply = [u64; 12];
-type Crew = [u64; 46];
+type Reply = [u64; 14];
+type Crew = [u64; 48];
 
 extern "C" {
     fn skid_prepare(

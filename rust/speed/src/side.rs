@@ -3,7 +3,7 @@
 
 use crate::desk::Desk;
 
-/// The words of a reply, as include/skid.h lays them out; the crew's are 46.
+/// The words of a reply, as include/skid.h lays them out; the crew's are 48.
 pub type Words = Vec<u64>;
 
 pub trait Side {

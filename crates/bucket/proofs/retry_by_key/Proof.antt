@@ -2,6 +2,7 @@
 use native.Mathlib.Omega.{arith}
 use lib.ListN.{replicate}
 use borrow.Author.Needs.{needs}
+use Rattle.model.specs.Lock.{noneYet}
 use Rattle.model.specs.Calls.{starting}
 use Rattle.bucket.specs.Fine.{fine-key, start-run-bound, retry-given, retryByKeyOf}
 use Rattle.bucket.specs.Laws.{more-run-bound}
@@ -40,7 +41,7 @@ returns : tie.Need-returns
 unfolding retryByKeyOf
 returns c =
     let a = c .before .before .before .before .before .before .before .before .before .before .before .before .before .before .before .before .before .before .before .args in
-    rw (← retry-given _ (a .head) (a .script .now) (a .held .now) (replicate 64 (replicate 2 0)) (a .registry .now) (a .key .binding) (a .key .bucket) (starting (a .head) (a .place)) (a .table .now) (a .health .now) (c .before .before .before .before .before .before .before .before .before .before .before .before .before .scope-of .ensures) 4096 0, ← c .before .before .before .before .before .before .before .before .before .before .before .before .starting .ensures, ← c .before .before .before .before .before .before .before .before .retry .ensures, ← c .before .before .settle .ensures, ← c .before .answer-of .ensures, ← c .play .ensures)
+    rw (← retry-given _ (a .head) (a .script .now) (a .held .now) (replicate 64 (replicate 2 0)) (a .registry .now) (a .key .binding) (a .key .bucket) (starting (a .head) (a .place)) (a .table .now) (a .health .now) (c .before .before .before .before .before .before .before .before .before .before .before .before .before .scope-of .ensures) 4096 0 noneYet, ← c .before .before .before .before .before .before .before .before .before .before .before .before .starting .ensures, ← c .before .before .before .before .before .before .before .before .retry .ensures, ← c .before .before .settle .ensures, ← c .before .answer-of .ensures, ← c .play .ensures)
 
 pub retry-by-key-spec : {M : Type 1} → statement M
 retry-by-key-spec =

@@ -6,22 +6,20 @@ use Rattle.bucket.proofs.settle.Tie as tie
 enum-known-outcome : tie.Need-enum-known-outcome
 enum-known-outcome c = search needs
 
-enum-told : tie.Need-enum-told
-enum-told c = search needs
-
 enum-known-outcome-2 : tie.Need-enum-known-outcome-2
 enum-known-outcome-2 c = search needs
+
+enum-known-outcome-3 : tie.Need-enum-known-outcome-3
+enum-known-outcome-3 c = search needs
 
 returns : tie.Need-returns
 returns c = rw (c .before .outcome .given .1)
 
 returns-2 : tie.Need-returns-2
-returns-2 c = rw (c .enum-told .given .1)
+returns-2 c = rw (c .before .outcome2 .given .1)
 
 returns-3 : tie.Need-returns-3
-returns-3 c = rw (c .before .outcome2 .given .1)
+returns-3 c = rw (c .before .outcome3 .given .1)
 
 pub settle-spec : {M : Type 1} → statement M
-settle-spec =
-    tie.close
-    (tie.spec enum-known-outcome enum-told enum-known-outcome-2 returns returns-2 returns-3)
+settle-spec = tie.close (tie.spec enum-known-outcome enum-known-outcome-2 enum-known-outcome-3 returns returns-2 returns-3)

@@ -12,11 +12,11 @@ state-at-requires c κs = search needs
 enum-told : tie.Need-enum-told
 enum-told c = search needs
 
+enum-known-state : tie.Need-enum-known-state
+enum-known-state c = search needs
+
 enum-told-2 : tie.Need-enum-told-2
 enum-told-2 c = search needs
-
-enum-told-3 : tie.Need-enum-told-3
-enum-told-3 c = search needs
 
 claim-free-requires : tie.Need-claim-free-requires
 claim-free-requires c κs = search needs
@@ -33,7 +33,7 @@ same-length-2 c = search needs
 
 returns-2 : tie.Need-returns-2
 unfolding claimAtOf takeOf
-returns-2 c = rw (← c .before .before .state-at .ensures, c .enum-told2 .given .1)
+returns-2 c = rw (← c .before .before .before .state-at .ensures, c .before .state .given .1)
 
 same-length-3 : tie.Need-same-length-3
 same-length-3 c = search needs
@@ -41,7 +41,7 @@ same-length-3 c = search needs
 returns-3 : tie.Need-returns-3
 returns-3 c =
     let a = c .before .before .before .before .before .before .before .before .before .args in
-    rw (claim-free (a .head) (a .table .now) (a .cell) (sym (c .before .before .before .before .before .before .state-at .ensures) ∙ c .before .before .before .before .enum-told3 .given .1)) (c .before .before .claim-free .ensures)
+    rw (claim-free (a .head) (a .table .now) (a .cell) (sym (c .before .before .before .before .before .before .state-at .ensures) ∙ c .before .before .before .before .enum-told2 .given .1)) (c .before .before .claim-free .ensures)
 
 pub claim-at-spec : {M : Type 1} → statement M
 claim-at-spec =
@@ -49,8 +49,8 @@ claim-at-spec =
     (tie.spec
     state-at-requires
     enum-told
+    enum-known-state
     enum-told-2
-    enum-told-3
     claim-free-requires
     same-length
     returns

@@ -7,14 +7,14 @@ use Rattle.lock.proofs.quiet_lock.Tie as tie
 quiet-take-requires : tie.Need-quiet-take-requires
 quiet-take-requires c κs = search needs
 
-outcome-requires : tie.Need-outcome-requires
-outcome-requires c κs = search needs
+quiet-outcome-requires : tie.Need-quiet-outcome-requires
+quiet-outcome-requires c κs = search needs
 
 same-length : tie.Need-same-length
 same-length c = search needs
 
 returns : tie.Need-returns
-returns c = rw (quiet-is _ _ _, ← c .before .before .before .before .quiet-take .ensures, ← c .outcome .ensures)
+returns c = rw (quiet-is _ _ _, ← c .before .before .before .before .quiet-take .ensures, ← c .quiet-outcome .ensures)
 
 pub quiet-lock-spec : {M : Type 1} → statement M
-quiet-lock-spec = tie.close (tie.spec quiet-take-requires outcome-requires same-length returns)
+quiet-lock-spec = tie.close (tie.spec quiet-take-requires quiet-outcome-requires same-length returns)

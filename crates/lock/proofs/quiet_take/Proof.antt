@@ -18,12 +18,17 @@ claim-at-requires c κs = search needs
 boundaries-for-requires : tie.Need-boundaries-for-requires
 boundaries-for-requires c κs = search needs
 
+unwaited-requires : tie.Need-unwaited-requires
+unwaited-requires c κs = search needs
+
 same-length : tie.Need-same-length
 same-length c = search needs
 
 returns : tie.Need-returns
 unfolding quietTakeOf
-returns c = rw (← c .before .before .before .before .before .before .before .before .waiters-at .ensures, eq-eqb _ _ (c .before .before .before .before .before .before .before .if1 .taken), take-claim (c .before .before .before .before .before .before .before .before .before .before .before .args .head .headers) (c .before .before .before .before .before .before .before .before .before .before .before .args .head .buckets) _ _ _, ← c .before .before .before .before .before .before .spent-to .ensures, ← c .before .before .before .before .claim-at .ensures, ← c .boundaries-for .ensures)
+returns c =
+    let a = c .before .before .before .before .before .before .before .before .before .before .before .before .args in
+    rw (← c .before .before .before .before .before .before .before .before .before .waiters-at .ensures, eq-eqb _ _ (c .before .before .before .before .before .before .before .before .if1 .taken), take-claim (a .head .headers) (a .head .buckets) _ _ _, ← c .before .before .before .before .before .before .before .spent-to .ensures, ← c .before .before .before .before .before .claim-at .ensures, ← c .before .boundaries-for .ensures, ← c .unwaited .ensures)
 
 same-length-2 : tie.Need-same-length-2
 same-length-2 c = search needs
@@ -40,6 +45,7 @@ quiet-take-spec =
     spent-to-requires
     claim-at-requires
     boundaries-for-requires
+    unwaited-requires
     same-length
     returns
     same-length-2

@@ -27,20 +27,20 @@ late-requires c κs =
     let p = flow-bound (c .before .before .before .before .before .before .before .before .before .before .before .before .before .before .before) in
     (record { words-fit = search needs; bytes-fit = search needs; few-taken = room .few-taken; steps-are = room .steps-are }, (record { few = p .few; in-script = p .in-script }, c .before .before .before .before .before .before .before .before .before .before .before .before .before .before .before .before .before .before .before .before .before .before .pre .1 .1))
 
-enum-told : tie.Need-enum-told
-enum-told c = search needs
+enum-known-answer-2 : tie.Need-enum-known-answer-2
+enum-known-answer-2 c = search needs
 
 stopped-requires : tie.Need-stopped-requires
 stopped-requires c κs = search needs
 
-enum-told-2 : tie.Need-enum-told-2
-enum-told-2 c = search needs
+enum-told : tie.Need-enum-told
+enum-told c = search needs
 
 stopped-requires-2 : tie.Need-stopped-requires-2
 stopped-requires-2 c κs = search needs
 
-enum-told-3 : tie.Need-enum-told-3
-enum-told-3 c = search needs
+enum-told-2 : tie.Need-enum-told-2
+enum-told-2 c = search needs
 
 stopped-requires-3 : tie.Need-stopped-requires-3
 stopped-requires-3 c κs = search needs
@@ -66,8 +66,8 @@ same-length-4 c = search needs
 returns-2 : tie.Need-returns-2
 unfolding secondOf
 returns-2 c =
-    let a = c .before .before .before .before .before .before .before .before .before .before .before .before .before .before .before .before .before .before .before .before .args in
-    rw (← c .before .before .before .before .before .before .before .before .before .before .before .before .before .boundary .ensures, take-claim (a .scope .headers) (a .scope .buckets) _ _ _, ← c .before .before .before .before .before .before .before .before .head .ensures, ← c .before .before .before .before .before .before .claim-at .ensures, c .before .enum-told .given .1, ← c .stopped .ensures)
+    let a = c .before .before .before .before .before .before .before .before .before .before .before .before .before .before .before .before .before .before .before .before .before .args in
+    rw (← c .before .before .before .before .before .before .before .before .before .before .before .before .before .before .boundary .ensures, take-claim (a .scope .headers) (a .scope .buckets) _ _ _, ← c .before .before .before .before .before .before .before .before .before .head .ensures, ← c .before .before .before .before .before .before .before .claim-at .ensures, c .before .before .answer2 .given .1, ← c .stopped .ensures)
 
 same-length-5 : tie.Need-same-length-5
 same-length-5 c = search needs
@@ -79,7 +79,7 @@ returns-3 : tie.Need-returns-3
 unfolding secondOf
 returns-3 c =
     let a = c .before .before .before .before .before .before .before .before .before .before .before .before .before .before .before .before .before .before .before .before .args in
-    rw (← c .before .before .before .before .before .before .before .before .before .before .before .before .before .boundary .ensures, take-claim (a .scope .headers) (a .scope .buckets) _ _ _, ← c .before .before .before .before .before .before .before .before .head .ensures, ← c .before .before .before .before .before .before .claim-at .ensures, c .before .enum-told2 .given .1, ← c .stopped2 .ensures)
+    rw (← c .before .before .before .before .before .before .before .before .before .before .before .before .before .boundary .ensures, take-claim (a .scope .headers) (a .scope .buckets) _ _ _, ← c .before .before .before .before .before .before .before .before .head .ensures, ← c .before .before .before .before .before .before .claim-at .ensures, c .before .enum-told .given .1, ← c .stopped2 .ensures)
 
 same-length-7 : tie.Need-same-length-7
 same-length-7 c = search needs
@@ -91,7 +91,7 @@ returns-4 : tie.Need-returns-4
 unfolding secondOf
 returns-4 c =
     let a = c .before .before .before .before .before .before .before .before .before .before .before .before .before .before .before .before .before .before .before .before .args in
-    rw (← c .before .before .before .before .before .before .before .before .before .before .before .before .before .boundary .ensures, take-claim (a .scope .headers) (a .scope .buckets) _ _ _, ← c .before .before .before .before .before .before .before .before .head .ensures, ← c .before .before .before .before .before .before .claim-at .ensures, c .before .enum-told3 .given .1, ← c .stopped3 .ensures)
+    rw (← c .before .before .before .before .before .before .before .before .before .before .before .before .before .boundary .ensures, take-claim (a .scope .headers) (a .scope .buckets) _ _ _, ← c .before .before .before .before .before .before .before .before .head .ensures, ← c .before .before .before .before .before .before .claim-at .ensures, c .before .enum-told2 .given .1, ← c .stopped3 .ensures)
 
 pub second-spec : {M : Type 1} → statement M
 second-spec =
@@ -102,11 +102,11 @@ second-spec =
     claim-at-requires
     enum-known-answer
     late-requires
-    enum-told
+    enum-known-answer-2
     stopped-requires
-    enum-told-2
+    enum-told
     stopped-requires-2
-    enum-told-3
+    enum-told-2
     stopped-requires-3
     same-length
     same-length-2

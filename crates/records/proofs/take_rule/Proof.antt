@@ -13,14 +13,14 @@ enum-told c = search needs
 take-reply-requires : tie.Need-take-reply-requires
 take-reply-requires c κs = search needs
 
-enum-told-2 : tie.Need-enum-told-2
-enum-told-2 c = search needs
+enum-known-state : tie.Need-enum-known-state
+enum-known-state c = search needs
 
 take-reply-requires-2 : tie.Need-take-reply-requires-2
 take-reply-requires-2 c κs = search needs
 
-enum-told-3 : tie.Need-enum-told-3
-enum-told-3 c = search needs
+enum-told-2 : tie.Need-enum-told-2
+enum-told-2 c = search needs
 
 take-free-requires : tie.Need-take-free-requires
 take-free-requires c κs = search needs
@@ -31,11 +31,11 @@ returns c = rw (← c .before .before .before .state-of .ensures, c .before .enu
 
 returns-2 : tie.Need-returns-2
 unfolding takeRuleOf
-returns-2 c = rw (← c .before .before .before .state-of .ensures, c .before .enum-told2 .given .1, ← c .take-reply2 .ensures)
+returns-2 c = rw (← c .before .before .before .before .state-of .ensures, c .before .before .state .given .1, ← c .take-reply2 .ensures)
 
 returns-3 : tie.Need-returns-3
 unfolding takeRuleOf
-returns-3 c = rw (← c .before .before .before .state-of .ensures, c .before .enum-told3 .given .1, ← c .take-free .ensures)
+returns-3 c = rw (← c .before .before .before .state-of .ensures, c .before .enum-told2 .given .1, ← c .take-free .ensures)
 
 pub take-rule-spec : {M : Type 1} → statement M
 take-rule-spec =
@@ -44,9 +44,9 @@ take-rule-spec =
     state-of-requires
     enum-told
     take-reply-requires
-    enum-told-2
+    enum-known-state
     take-reply-requires-2
-    enum-told-3
+    enum-told-2
     take-free-requires
     returns
     returns-2

@@ -9,23 +9,20 @@ enum-told c = search needs
 enum-known-answer : tie.Need-enum-known-answer
 enum-known-answer c = search needs
 
-cast-t8 : tie.Need-cast-t8
-cast-t8 c = search needs
+cast-t9 : tie.Need-cast-t9
+cast-t9 c = search needs
 
 enum-known-answer-2 : tie.Need-enum-known-answer-2
 enum-known-answer-2 c = search needs
 
-cast-t9 : tie.Need-cast-t9
-cast-t9 c = search needs
-
 cast-t10 : tie.Need-cast-t10
 cast-t10 c = search needs
 
+cast-t11 : tie.Need-cast-t11
+cast-t11 c = search needs
+
 enum-told-2 : tie.Need-enum-told-2
 enum-told-2 c = search needs
-
-enum-told-3 : tie.Need-enum-told-3
-enum-told-3 c = search needs
 
 enum-known-answer-3 : tie.Need-enum-known-answer-3
 enum-known-answer-3 c = search needs
@@ -33,23 +30,23 @@ enum-known-answer-3 c = search needs
 number-requires : tie.Need-number-requires
 number-requires c κs = search needs
 
-cast-t12 : tie.Need-cast-t12
-cast-t12 c = search needs
+serial-requires : tie.Need-serial-requires
+serial-requires c κs = search needs
 
-carried-requires : tie.Need-carried-requires
-carried-requires c κs = search needs
+busy-words-requires : tie.Need-busy-words-requires
+busy-words-requires c κs = search needs
 
 enum-known-answer-4 : tie.Need-enum-known-answer-4
 enum-known-answer-4 c = search needs
 
-number-requires-2 : tie.Need-number-requires-2
-number-requires-2 c κs = search needs
+refusal-words-requires : tie.Need-refusal-words-requires
+refusal-words-requires c κs = search needs
 
-cast-t16 : tie.Need-cast-t16
-cast-t16 c = search needs
+enum-known-answer-5 : tie.Need-enum-known-answer-5
+enum-known-answer-5 c = search needs
 
-carried-requires-2 : tie.Need-carried-requires-2
-carried-requires-2 c κs = search needs
+refusal-words-requires-2 : tie.Need-refusal-words-requires-2
+refusal-words-requires-2 c κs = search needs
 
 returns : tie.Need-returns
 returns c = search needs
@@ -64,13 +61,13 @@ returns-4 : tie.Need-returns-4
 returns-4 c = search needs
 
 returns-5 : tie.Need-returns-5
-returns-5 c = search needs
+returns-5 c = rw (c .before .before .before .before .answer3 .given .1, ← c .before .before .number .ensures, ← c .before .serial .ensures, ← c .busy-words .ensures)
 
 returns-6 : tie.Need-returns-6
-returns-6 c = rw (c .before .before .before .answer3 .given .1, ← c .before .number .ensures, ← c .carried .ensures)
+returns-6 c = rw (c .before .before .answer4 .given .1, ← c .refusal-words .ensures)
 
 returns-7 : tie.Need-returns-7
-returns-7 c = rw (c .before .before .before .answer4 .given .1, ← c .before .number2 .ensures, ← c .carried2 .ensures)
+returns-7 c = rw (c .before .before .answer5 .given .1, ← c .refusal-words2 .ensures)
 
 pub answer-words-spec : {M : Type 1} → statement M
 answer-words-spec =
@@ -78,20 +75,19 @@ answer-words-spec =
     (tie.spec
     enum-told
     enum-known-answer
-    cast-t8
-    enum-known-answer-2
     cast-t9
+    enum-known-answer-2
     cast-t10
+    cast-t11
     enum-told-2
-    enum-told-3
     enum-known-answer-3
     number-requires
-    cast-t12
-    carried-requires
+    serial-requires
+    busy-words-requires
     enum-known-answer-4
-    number-requires-2
-    cast-t16
-    carried-requires-2
+    refusal-words-requires
+    enum-known-answer-5
+    refusal-words-requires-2
     returns
     returns-2
     returns-3

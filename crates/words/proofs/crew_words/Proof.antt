@@ -1,4 +1,4 @@
--- `words::crew_words` meets its contract. Nine stores in a run of zeros, and then two loops.
+-- `words::crew_words` meets its contract. Eleven stores in a run of zeros, and then two loops.
 use Prim.Native.Nat.{ℕ}
 use mathlib.Core.Path.{ap, _∙_}
 use mathlib.Core.List.{List}
@@ -54,11 +54,23 @@ array-read-words-4 c = search needs
 array-write-words-7 : tie.Need-array-write-words-7
 array-write-words-7 c = search needs
 
+array-read-words-5 : tie.Need-array-read-words-5
+array-read-words-5 c = search needs
+
 array-write-words-8 : tie.Need-array-write-words-8
 array-write-words-8 c = search needs
 
+array-read-words-6 : tie.Need-array-read-words-6
+array-read-words-6 c = search needs
+
 array-write-words-9 : tie.Need-array-write-words-9
 array-write-words-9 c = search needs
+
+array-write-words-10 : tie.Need-array-write-words-10
+array-write-words-10 c = search needs
+
+array-write-words-11 : tie.Need-array-write-words-11
+array-write-words-11 c = search needs
 
 put-counts-requires : tie.Need-put-counts-requires
 put-counts-requires c κs = search needs
@@ -70,7 +82,7 @@ returns : tie.Need-returns
 returns c =
     let r = c .before .before .before .before .before .before .before .before .before .before .before .before .before .args .r in
     c .put-counts2 .ensures
-    ∙ ap (λ (ws : List ℕ). sets ws 30 (eachOf 16 0 (r .released))) (c .before .before .before .put-counts .ensures)
+    ∙ ap (λ (ws : List ℕ). sets ws 32 (eachOf 16 0 (r .released))) (c .before .before .before .put-counts .ensures)
     ∙ crew-laid r (c .before .before .before .before .before .before .before .before .before .answer-words .result) (c .before .before .before .before .before .before .before .before .before .answer-words .ensures)
 
 pub crew-words-spec : {M : Type 1} → statement M
@@ -92,8 +104,12 @@ crew-words-spec =
     array-write-words-6
     array-read-words-4
     array-write-words-7
+    array-read-words-5
     array-write-words-8
+    array-read-words-6
     array-write-words-9
+    array-write-words-10
+    array-write-words-11
     put-counts-requires
     put-counts-requires-2
     returns)

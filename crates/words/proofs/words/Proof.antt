@@ -1,4 +1,4 @@
--- `words::words` meets its contract. The last four words are read from those of the answer.
+-- `words::words` meets its contract. The last six words are read from those of the answer.
 use Rattle.words.specs.Laws.{laid}
 use borrow.Author.Needs.{needs}
 use Rattle.words.proofs.words.Statement.{statement}
@@ -28,6 +28,12 @@ array-read-t23 c = search needs
 array-read-t26 : tie.Need-array-read-t26
 array-read-t26 c = search needs
 
+array-read-t29 : tie.Need-array-read-t29
+array-read-t29 c = search needs
+
+array-read-t32 : tie.Need-array-read-t32
+array-read-t32 c = search needs
+
 returns : tie.Need-returns
 returns c = let a = c .before .before .before .before .args in laid (a .head) (a .place) (a .counts) (a .answer) (c .before .before .before .answer-words .result) (c .before .before .before .answer-words .ensures)
 
@@ -43,4 +49,6 @@ words-spec =
     array-read-t20
     array-read-t23
     array-read-t26
+    array-read-t29
+    array-read-t32
     returns)

@@ -136,8 +136,9 @@ struct Writer {
     console: Console,
     text: Vec<u8>,
     calls: usize,
-    /// Calls with 4,096 attempts or more.
+    /// Calls with 4,096 attempts or more; those of `write_restless` apart.
     failures: usize,
+    restless: usize,
     /// The last line written, for bad copies of it.
     last: Vec<u8>,
 }
@@ -150,6 +151,7 @@ impl Writer {
             text: Vec::new(),
             calls: 0,
             failures: 0,
+            restless: 0,
             last: Vec::new(),
         }
     }
@@ -173,6 +175,7 @@ impl Writer {
             if self.calls >= long {
                 long += 3_000;
                 self.long();
+                self.fail_late();
             }
             if self.dice.once_in(6) {
                 self.show();
@@ -209,16 +212,32 @@ impl Writer {
     /// Writes a call unless it would have 4,096 attempts and such calls are many already. True: it was written.
     fn write_retrying(&mut self, word: &str, numbers: &[u32]) -> bool {
         let line = line_of(word, numbers);
-        if self.failures * 50 >= self.calls {
-            let mut trial = self.console.clone();
-            let mut answer = Vec::new();
-            let played = trial.line(&line, &mut answer);
-            if played.is_err() || answer.starts_with(b"refused 11 ") {
-                return false;
-            }
+        if self.failures * 60 >= self.calls && self.would_fail(&line) {
+            return false;
         }
         self.line(&line);
         true
+    }
+
+    /// The same for a call under a restless script, counted apart, so that neither kind takes the other's room.
+    fn write_restless(&mut self, word: &str, numbers: &[u32]) -> bool {
+        let line = line_of(word, numbers);
+        if self.restless * 200 >= self.calls && self.would_fail(&line) {
+            return false;
+        }
+        let failures = self.failures;
+        self.line(&line);
+        self.restless += self.failures - failures;
+        self.failures = failures;
+        true
+    }
+
+    /// Whether a call would have 4,096 attempts.
+    fn would_fail(&self, line: &[u8]) -> bool {
+        let mut trial = self.console.clone();
+        let mut answer = Vec::new();
+        let played = trial.line(line, &mut answer);
+        played.is_err() || answer.starts_with(b"refused 11 ")
     }
 
     /// `show`, of big arenas now and then.
@@ -807,6 +826,42 @@ impl Writer {
         self.write("script", &script);
     }
 
+    /// A script under which others begin to wait for a cell behind some boundaries: mostly two, so that it is in the
+    /// third boundary of a lock, and its serial is spent. With it the new lease may be reached for.
+    fn waiting_script(&mut self, cell: u32) {
+        let boundaries = self.dice.pick(&[0, 1, 2, 2, 2, 2, 3]);
+        let mut script = [5, 0, 0].repeat(boundaries);
+        script.extend([3, cell, self.dice.pick(&[1, 1, 2, u32::MAX])]);
+        if self.dice.once_in(3) {
+            script.extend([2, cell, self.next()]);
+        }
+        script.extend([5, 0, 0]);
+        let steps = self.dice.below(3);
+        script.extend(self.steps(steps));
+        self.write("script", &script);
+    }
+
+    /// A script under which a cell is taken, let go and waited for by turns, so that the attempts of one call are Busy
+    /// for changing reasons; in the end it is held or waited for, and stays so.
+    fn restless_script(&mut self, cell: u32) {
+        let mut script = Vec::new();
+        for _ in 0..self.dice.below(6) + 1 {
+            let serial = self.next().wrapping_add(self.dice.number(3));
+            script.extend(match self.dice.below(6) {
+                0..=1 => [1, cell, 0],
+                2..=3 => [2, cell, serial],
+                4 => [3, cell, 1],
+                _ => [3, cell, 0],
+            });
+            script.extend([5, 0, 0].repeat(self.dice.below(4)));
+        }
+        match self.dice.once_in(2) {
+            true => script.extend([3, cell, 1]),
+            false => script.extend([3, cell, 0, 1, cell, 0]),
+        }
+        self.write("script", &script);
+    }
+
     fn place(&mut self) {
         let steps = (self.console.script.len() / 3) as u32;
         let place = match self.dice.below(6) {
@@ -1081,7 +1136,7 @@ impl Writer {
         }
         let [cell, serial] = self.lease();
         let [binding, bucket] = self.key();
-        match self.dice.below(68) {
+        match self.dice.below(71) {
             0..=3 => self.call_by_cell("try_acquire"),
             4..=7 => self.write("drop_lease", &[cell, serial]),
             8..=9 => self.write("read_permission", &[cell, serial]),
@@ -1114,7 +1169,8 @@ impl Writer {
                 self.members();
                 self.crew();
             }
-            _ => self.lock_poisoned(),
+            64..=67 => self.lock_poisoned(),
+            _ => self.lock_waited_for(),
         }
     }
 
@@ -1224,6 +1280,45 @@ impl Writer {
         self.write_retrying("acquire_index_locks", &[]);
     }
 
+    /// A lock of a free cell that others wait for or take meanwhile.
+    fn lock_waited_for(&mut self) {
+        let key = self.free_key();
+        let Some(cell) = self.cell_of(key) else {
+            return;
+        };
+        self.heal(cell / self.buckets());
+        let by_cell = self
+            .dice
+            .pick(&["try_lock", "other_mutex_preserves_leases"]);
+        match self.dice.below(8) {
+            0..=1 => {
+                self.waiting_script(cell);
+                self.write(by_cell, &[cell]);
+            }
+            2..=3 => {
+                self.waiting_script(cell);
+                self.write("transactional_try_lock_bucket", &key);
+            }
+            4 => {
+                self.waiting_script(cell);
+                self.write_restless("acquire_index_bucket", &key);
+            }
+            5..=6 => {
+                self.restless_script(cell);
+                self.write_restless("acquire_index_bucket", &key);
+            }
+            _ => {
+                self.write("keys", &key);
+                self.write("grants", &[2]);
+                self.restless_script(cell);
+                self.write_restless("acquire_index_locks", &[]);
+            }
+        }
+        if self.dice.once_in(2) {
+            self.write("word", &[3 * cell + 2, 0]);
+        }
+    }
+
     fn crew(&mut self) {
         if self.console.members.is_empty() || self.dice.once_in(3) {
             self.members();
@@ -1303,6 +1398,40 @@ impl Writer {
             _ => line.insert(at, byte),
         }
         self.line(&line);
+    }
+
+    /// Calls whose last attempt of all takes its cell, and is Busy since others wait again then: others wait through the
+    /// 4,095 attempts before it, each with its boundary and the spin's, and 63 of them with the yield's. Bucket 0 is got at
+    /// once, and has three boundaries.
+    fn fail_late(&mut self) {
+        self.arena();
+        let [headers, buckets] = [self.dice.number(4) + 1, self.dice.number(4) + 2];
+        let first = self.dice.pick(&[1, 1, 7, u32::MAX - 9]);
+        self.write("prepare", &[headers, buckets, first]);
+        self.write("registry", &[headers - 1]);
+        self.write("held", &[]);
+        let zero = (headers - 1) * buckets;
+        let cell = zero + 1;
+        self.write("word", &[3 * cell + 2, 1]);
+        // not waited for from that attempt's first boundary on, or from the spin before it
+        let early = self.dice.below(2);
+        let mut script = [5, 0, 0].repeat(3 + 2 * 4095 + 63 - early);
+        script.extend([3, cell, 0, 5, 0, 0]);
+        script.extend([5, 0, 0].repeat(1 + early));
+        script.extend([3, cell, 1, 2, cell, self.next(), 5, 0, 0]);
+        self.write("script", &script);
+        self.write("place", &[3]);
+        self.write("acquire_index_bucket", &[0, 1]);
+        self.write("keys", &[0, 1]);
+        self.write("grants", &[2]);
+        self.write("place", &[3]);
+        self.write("acquire_index_locks", &[]);
+        self.write("keys", &[0, 0, 0, 1]);
+        self.write("grants", &[4]);
+        self.write("place", &[0]);
+        self.write("acquire_index_locks", &[]);
+        self.write("show", &[]);
+        self.script();
     }
 
     /// A line near the greatest lengths, and calls that meet it.

@@ -10,11 +10,11 @@ use Rattle.bucket.proofs.retries.retry.Statement.{statement}
 use Rattle.bucket.proofs.retries.retry.Tie as tie
 
 abbrev Inv-loop : tie.InvT-loop
-Inv-loop scope table₀ health₀ script held taken n registry binding bucket header target run₀ i₀ table health run i =
-    Retrying (settingOf scope script held taken n) (scope .steps) (scope .buckets) registry binding bucket run₀ table₀ health₀ i run table health
+Inv-loop scope table₀ health₀ script held taken n registry binding bucket header target run₀ last₀ i₀ table health run last i =
+    Retrying (settingOf scope script held taken n) (scope .steps) (scope .buckets) registry binding bucket run₀ table₀ health₀ i last run table health
 
 abbrev μ-loop : tie.MeasureT-loop
-μ-loop scope table₀ health₀ script held taken n registry binding bucket header target run₀ i₀ table health run i =
+μ-loop scope table₀ health₀ script held taken n registry binding bucket header target run₀ last₀ i₀ table health run last i =
     4096 - i
 
 mul-header : tie.Need-mul-header Inv-loop μ-loop
@@ -34,6 +34,9 @@ again-requires c κs =
 is-busy-requires : tie.Need-is-busy-requires Inv-loop μ-loop
 is-busy-requires c κs = search needs
 
+concluded-requires : tie.Need-concluded-requires Inv-loop μ-loop
+concluded-requires c κs = search needs
+
 same-length : tie.Need-same-length Inv-loop μ-loop
 same-length c = search needs
 
@@ -42,10 +45,10 @@ same-length-2 c = search needs
 
 returns : tie.Need-returns Inv-loop μ-loop
 returns c =
-    let l = c .before .before .before .before .before .before .before .before .before .before .loop in
-    let a = c .before .before .before .before .before .before .before .before .before .before .before .before .before .before .before .before .before .args in
+    let l = c .before .before .before .before .before .before .before .before .before .before .before .loop in
+    let a = c .before .before .before .before .before .before .before .before .before .before .before .before .before .before .before .before .before .before .args in
     let e = settingOf (a .scope) (a .script .now) (a .held .now) (a .taken .now) (a .n) in
-    rw (← l .inv .rest, retry-at 4096 (l .i) e (a .scope .buckets) (a .registry .now) (a .binding) (a .bucket) (l .run) (l .table) (l .health) _ (c .before .before .before .before .before .before .again .ensures ∙ again-header (l .i) e (a .scope .buckets) (a .registry .now) (a .binding) (a .bucket) (l .run) (l .table) (l .health)) (search needs), ← c .before .is-busy .ensures, c .if1 .left)
+    rw (← l .inv .rest, retry-at 4096 (l .i) (l .last) e (a .scope .buckets) (a .registry .now) (a .binding) (a .bucket) (l .run) (l .table) (l .health) _ (c .before .before .before .before .before .before .before .again .ensures ∙ again-header (l .i) e (a .scope .buckets) (a .registry .now) (a .binding) (a .bucket) (l .run) (l .table) (l .health)) (search needs), ← c .before .before .is-busy .ensures, c .before .if1 .left, ← c .concluded .ensures)
 
 add-i : tie.Need-add-i Inv-loop μ-loop
 add-i c = search needs
@@ -63,7 +66,7 @@ loop-again c =
       few = search needs;
       words = search needs;
       bytes = search needs;
-      rest = rw (← l .inv .rest, retry-at 4096 (l .i) e (a .scope .buckets) (a .registry .now) (a .binding) (a .bucket) (l .run) (l .table) (l .health) _ (c .before .before .before .before .before .before .before .again .ensures ∙ again-header (l .i) e (a .scope .buckets) (a .registry .now) (a .binding) (a .bucket) (l .run) (l .table) (l .health)) (search needs), ← c .before .before .is-busy .ensures, c .before .if1 .taken);
+      rest = rw (← l .inv .rest, retry-at 4096 (l .i) (l .last) e (a .scope .buckets) (a .registry .now) (a .binding) (a .bucket) (l .run) (l .table) (l .health) _ (c .before .before .before .before .before .before .before .again .ensures ∙ again-header (l .i) e (a .scope .buckets) (a .registry .now) (a .binding) (a .bucket) (l .run) (l .table) (l .health)) (search needs), ← c .before .before .is-busy .ensures, c .before .if1 .taken);
     }
 
 same-length-3 : tie.Need-same-length-3 Inv-loop μ-loop
@@ -77,7 +80,7 @@ returns-2 c =
     let l = c .before .loop in
     let a = c .before .before .before .before .before .before .before .before .args in
     let e = settingOf (a .scope) (a .script .now) (a .held .now) (a .taken .now) (a .n) in
-    rw (← l .inv .rest, retry-end 4096 (l .i) e (a .scope .buckets) (a .registry .now) (a .binding) (a .bucket) (l .run) (l .table) (l .health) (search needs))
+    rw (← l .inv .rest, retry-end 4096 (l .i) (l .last) e (a .scope .buckets) (a .registry .now) (a .binding) (a .bucket) (l .run) (l .table) (l .health) (search needs))
 
 pub retry-spec : {M : Type 1} → statement M
 retry-spec =
@@ -90,6 +93,7 @@ retry-spec =
     loop-holds
     again-requires
     is-busy-requires
+    concluded-requires
     same-length
     same-length-2
     returns

@@ -9,7 +9,6 @@ use Rattle.bucket.specs.Laws.{more-run-bound}
 use Rattle.foreign.specs.Model.{pairsOf, inScope}
 use Rattle.multilock.proofs.keys.lock_keys.Statement.{statement}
 use Rattle.multilock.specs.Locks.{Keying, bound-for, retry-goes, locks-at, locks-end, rolled, pairs-push, inside-push, grant-inside}
-use Rattle.model.specs.declared.Outcome.the-variants as outcome
 use Rattle.multilock.proofs.keys.lock_keys.Tie as tie
 
 abbrev Inv-loop : tie.InvT-loop
@@ -41,34 +40,34 @@ mul-taken c = omega (arith, c .before .before .before .before .before .before .b
 array-set-from-taken : tie.Need-array-set-from-taken Inv-loop μ-loop
 array-set-from-taken c = omega (arith, c .before .before .before .before .before .before .before .before .before .before .before .before .loop-test .taken, c .before .before .before .before .before .before .before .before .before .before .before .before .before .before .before .before .before .before .before .before .before .pre .1 .1 .0)
 
-enum-told : tie.Need-enum-told Inv-loop μ-loop
-enum-told c = search needs
+enum-known-outcome-2 : tie.Need-enum-known-outcome-2 Inv-loop μ-loop
+enum-known-outcome-2 c = search needs
 
 roll-back-requires : tie.Need-roll-back-requires Inv-loop μ-loop
 roll-back-requires c κs =
-    let l = c .before .before .before .before .before .before .before .before .before .before .before .before .before .before .loop in
-    let a = c .before .before .before .before .before .before .before .before .before .before .before .before .before .before .before .before .before .before .before .before .before .before .args in
-    let q = c .before .before .before .before .before .before .before .before .before .before .before .before .before .before .before .before .before .before .before .before .before .before .pre in
+    let l = c .before .before .before .before .before .before .before .before .before .before .before .before .before .before .before .loop in
+    let a = c .before .before .before .before .before .before .before .before .before .before .before .before .before .before .before .before .before .before .before .before .before .before .before .args in
+    let q = c .before .before .before .before .before .before .before .before .before .before .before .before .before .before .before .before .before .before .before .before .before .before .before .pre in
     let e = inScope (a .scope) (a .script .now) (leasesOf (a .held .now)) in
     let room = q .0 .key .room in
-    (record { words-fit = search needs; bytes-fit = search needs; few-taken = omega (arith, l .inv .few, q .1 .1 .0); steps-are = room .steps-are }, (more-run-bound _ _ _ _ (omega (arith, l .inv .few, q .1 .1 .0)) (retry-goes _ _ _ _ _ _ _ _ _ _ _ _ _ _ (room .steps-are) (c .before .before .before .before .before .before .before .before .before .try-key .ensures) (l .inv .run-bound)), l .inv .inside))
+    (record { words-fit = search needs; bytes-fit = search needs; few-taken = omega (arith, l .inv .few, q .1 .1 .0); steps-are = room .steps-are }, (more-run-bound _ _ _ _ (omega (arith, l .inv .few, q .1 .1 .0)) (retry-goes _ _ _ _ _ _ _ _ _ _ _ _ _ _ (room .steps-are) (c .before .before .before .before .before .before .before .before .before .before .try-key .ensures) (l .inv .run-bound)), l .inv .inside))
 
 same-length : tie.Need-same-length Inv-loop μ-loop
-same-length c = omega (arith, c .before .before .before .before .before .before .before .before .before .before .before .before .before .before .before .before .before .before .before .loop .inv .words, c .before .before .before .before .before .before .before .before .before .before .before .before .before .before .try-key .kept, c .before .before .before .before .roll-back .kept)
+same-length c = omega (arith, c .before .before .before .before .before .before .before .before .before .before .before .before .before .before .before .before .before .before .before .before .loop .inv .words, c .before .before .before .before .before .before .before .before .before .before .before .before .before .before .before .try-key .kept, c .before .before .before .before .roll-back .kept)
 
 same-length-2 : tie.Need-same-length-2 Inv-loop μ-loop
-same-length-2 c = omega (arith, c .before .before .before .before .before .before .before .before .before .before .before .before .before .before .before .before .before .before .before .loop .inv .bytes, c .before .before .before .before .before .before .before .before .before .before .before .before .before .before .try-key .kept, c .before .before .before .before .roll-back .kept)
+same-length-2 c = omega (arith, c .before .before .before .before .before .before .before .before .before .before .before .before .before .before .before .before .before .before .before .before .loop .inv .bytes, c .before .before .before .before .before .before .before .before .before .before .before .before .before .before .before .try-key .kept, c .before .before .before .before .roll-back .kept)
 
 returns : tie.Need-returns Inv-loop μ-loop
 returns c =
-    let l = c .before .before .before .before .before .before .before .before .before .before .before .before .before .before .before .before .before .before .before .loop in
-    let a = c .before .before .before .before .before .before .before .before .before .before .before .before .before .before .before .before .before .before .before .before .before .before .before .before .before .before .before .args in
-    let q = c .before .before .before .before .before .before .before .before .before .before .before .before .before .before .before .before .before .before .before .before .before .before .before .before .before .before .before .pre in
+    let l = c .before .before .before .before .before .before .before .before .before .before .before .before .before .before .before .before .before .before .before .before .loop in
+    let a = c .before .before .before .before .before .before .before .before .before .before .before .before .before .before .before .before .before .before .before .before .before .before .before .before .before .before .before .before .args in
+    let q = c .before .before .before .before .before .before .before .before .before .before .before .before .before .before .before .before .before .before .before .before .before .before .before .before .before .before .before .before .pre in
     let e = inScope (a .scope) (a .script .now) (leasesOf (a .held .now)) in
-    rw (← l .inv .rest, locks-at (a .n) (l .p) e (a .scope .buckets) (a .registry .now) (a .keys .now) (pairsOf (l .p) 0 (l .taken)) (l .run) (l .table) (l .health) (a .grants .now) _ (outcome.Busy) (c .before .before .before .before .before .before .before .before .before .before .before .before .before .before .try-key .ensures) (c .before .before .before .before .before .before .before .enum-told .given .1) (omega (arith, c .before .before .before .before .before .before .before .before .before .before .before .before .before .before .before .before .before .before .loop-test .taken)), rolled _ _ _ _ _ _ _ _, ← c .before .before .before .before .roll-back .ensures)
+    rw (← l .inv .rest, locks-at (a .n) (l .p) e (a .scope .buckets) (a .registry .now) (a .keys .now) (pairsOf (l .p) 0 (l .taken)) (l .run) (l .table) (l .health) (a .grants .now) _ (_) (c .before .before .before .before .before .before .before .before .before .before .before .before .before .before .before .try-key .ensures) (c .before .before .before .before .before .before .before .before .outcome2 .given .1) (omega (arith, c .before .before .before .before .before .before .before .before .before .before .before .before .before .before .before .before .before .before .before .loop-test .taken)), rolled _ _ _ _ _ _ _ _, ← c .before .before .before .before .roll-back .ensures)
 
-enum-known-outcome-2 : tie.Need-enum-known-outcome-2 Inv-loop μ-loop
-enum-known-outcome-2 c = search needs
+enum-known-outcome-3 : tie.Need-enum-known-outcome-3 Inv-loop μ-loop
+enum-known-outcome-3 c = search needs
 
 roll-back-requires-2 : tie.Need-roll-back-requires-2 Inv-loop μ-loop
 roll-back-requires-2 c κs =
@@ -91,7 +90,7 @@ returns-2 c =
     let a = c .before .before .before .before .before .before .before .before .before .before .before .before .before .before .before .before .before .before .before .before .before .before .before .before .before .before .before .before .args in
     let q = c .before .before .before .before .before .before .before .before .before .before .before .before .before .before .before .before .before .before .before .before .before .before .before .before .before .before .before .before .pre in
     let e = inScope (a .scope) (a .script .now) (leasesOf (a .held .now)) in
-    rw (← l .inv .rest, locks-at (a .n) (l .p) e (a .scope .buckets) (a .registry .now) (a .keys .now) (pairsOf (l .p) 0 (l .taken)) (l .run) (l .table) (l .health) (a .grants .now) _ (_) (c .before .before .before .before .before .before .before .before .before .before .before .before .before .before .before .try-key .ensures) (c .before .before .before .before .before .before .before .before .outcome2 .given .1) (omega (arith, c .before .before .before .before .before .before .before .before .before .before .before .before .before .before .before .before .before .before .before .loop-test .taken)), rolled _ _ _ _ _ _ _ _, ← c .before .before .before .before .roll-back2 .ensures)
+    rw (← l .inv .rest, locks-at (a .n) (l .p) e (a .scope .buckets) (a .registry .now) (a .keys .now) (pairsOf (l .p) 0 (l .taken)) (l .run) (l .table) (l .health) (a .grants .now) _ (_) (c .before .before .before .before .before .before .before .before .before .before .before .before .before .before .before .try-key .ensures) (c .before .before .before .before .before .before .before .before .outcome3 .given .1) (omega (arith, c .before .before .before .before .before .before .before .before .before .before .before .before .before .before .before .before .before .before .before .loop-test .taken)), rolled _ _ _ _ _ _ _ _, ← c .before .before .before .before .roll-back2 .ensures)
 
 add-p : tie.Need-add-p Inv-loop μ-loop
 add-p c = omega (arith, c .before .before .before .before .before .before .before .before .before .before .before .before .loop-test .taken, c .before .before .before .before .before .before .before .before .before .before .before .before .before .before .before .before .before .before .before .before .before .pre .1 .1 .0)
@@ -149,12 +148,12 @@ lock-keys-spec =
     enum-known-outcome
     mul-taken
     array-set-from-taken
-    enum-told
+    enum-known-outcome-2
     roll-back-requires
     same-length
     same-length-2
     returns
-    enum-known-outcome-2
+    enum-known-outcome-3
     roll-back-requires-2
     same-length-3
     same-length-4
