@@ -1,0 +1,104 @@
+-- A run of stores, byte by byte: what stands inside it, and what stands outside.
+use mathlib.Core.Path.{_≡_, refl, sym, ap, _∙_, subst}
+use Prim.Native.Nat.{ℕ, zero, suc, _+_, _≤_, _<_}
+use native.Mathlib.Omega.{arith}
+use mathlib.Core.List.{List, [], _∷_}
+use lib.ListN.{length, getD, set, length-set}
+use lib.Seq.{sets, getD-set-same, getD-set-other}
+use Rattle.slots.specs.Layout.{fiveAt, lineAt}
+
+pub sets-below : (xs b : List ℕ) (p j : ℕ) → j < p → getD (sets b p xs) j 0 ≡ getD b j 0
+sets-below [] b p j h = refl
+sets-below (x ∷ xs) b p j h = sets-below xs (set b p x) (suc p) j (omega arith) ∙ getD-set-other b p j x 0 (omega arith)
+
+pub sets-above : (xs b : List ℕ) (p j : ℕ) → p + length xs ≤ j → getD (sets b p xs) j 0 ≡ getD b j 0
+sets-above [] b p j h = refl
+sets-above (x ∷ xs) b p j h = sets-above xs (set b p x) (suc p) j (omega arith) ∙ getD-set-other b p j x 0 (omega arith)
+
+pub sets-in : (xs b : List ℕ) (p i j : ℕ) → j ≡ p + i → i < length xs → p + length xs ≤ length b → getD (sets b p xs) j 0 ≡ getD xs i 0
+sets-in [] b p i j e h l = absurd (omega arith)
+sets-in (x ∷ xs) b p zero j e h l =
+    let at : j ≡ p = omega arith in
+    rw at (sets-below xs (set b p x) (suc p) p (omega arith) ∙ getD-set-same b p x 0 (omega arith))
+sets-in (x ∷ xs) b p (suc i) j e h l =
+    sets-in xs (set b p x) (suc p) i j (omega arith) (omega arith) (omega (arith, length-set b p x))
+
+-- ---- the two parts of a slot, whole
+
+pub five-in : (b : List ℕ) (p x0 x1 x2 x3 x4 : ℕ) → p + 5 ≤ length b
+    → fiveAt (sets b p (x0 ∷ x1 ∷ x2 ∷ x3 ∷ x4 ∷ [])) p ≡ x0 ∷ x1 ∷ x2 ∷ x3 ∷ x4 ∷ []
+unfolding fiveAt
+five-in b p x0 x1 x2 x3 x4 l =
+    let xs = x0 ∷ x1 ∷ x2 ∷ x3 ∷ x4 ∷ [] in
+    rw (
+      sets-in xs b p 0 p (omega arith) (omega arith) (omega arith),
+      sets-in xs b p 1 (p + 1) refl (omega arith) (omega arith),
+      sets-in xs b p 2 (p + 2) refl (omega arith) (omega arith),
+      sets-in xs b p 3 (p + 3) refl (omega arith) (omega arith),
+      sets-in xs b p 4 (p + 4) refl (omega arith) (omega arith),
+    )
+
+pub line-in : (b : List ℕ) (p x0 x1 x2 x3 x4 x5 x6 x7 : ℕ) → p + 8 ≤ length b
+    → lineAt (sets b p (x0 ∷ x1 ∷ x2 ∷ x3 ∷ x4 ∷ x5 ∷ x6 ∷ x7 ∷ [])) p ≡ x0 ∷ x1 ∷ x2 ∷ x3 ∷ x4 ∷ x5 ∷ x6 ∷ x7 ∷ []
+unfolding lineAt
+line-in b p x0 x1 x2 x3 x4 x5 x6 x7 l =
+    let xs = x0 ∷ x1 ∷ x2 ∷ x3 ∷ x4 ∷ x5 ∷ x6 ∷ x7 ∷ [] in
+    rw (
+      sets-in xs b p 0 p (omega arith) (omega arith) (omega arith),
+      sets-in xs b p 1 (p + 1) refl (omega arith) (omega arith),
+      sets-in xs b p 2 (p + 2) refl (omega arith) (omega arith),
+      sets-in xs b p 3 (p + 3) refl (omega arith) (omega arith),
+      sets-in xs b p 4 (p + 4) refl (omega arith) (omega arith),
+      sets-in xs b p 5 (p + 5) refl (omega arith) (omega arith),
+      sets-in xs b p 6 (p + 6) refl (omega arith) (omega arith),
+      sets-in xs b p 7 (p + 7) refl (omega arith) (omega arith),
+    )
+
+-- a part is the same in two books that agree on its bytes
+pub five-same : (b c : List ℕ) (p : ℕ) → ((j : ℕ) → p ≤ j → j < p + 5 → getD b j 0 ≡ getD c j 0) → fiveAt b p ≡ fiveAt c p
+unfolding fiveAt
+five-same b c p h =
+    rw (h p (omega arith) (omega arith), h (p + 1) (omega arith) (omega arith), h (p + 2) (omega arith) (omega arith), h (p + 3) (omega arith) (omega arith), h (p + 4) (omega arith) (omega arith))
+
+pub line-same : (b c : List ℕ) (p : ℕ) → ((j : ℕ) → p ≤ j → j < p + 8 → getD b j 0 ≡ getD c j 0) → lineAt b p ≡ lineAt c p
+unfolding lineAt
+line-same b c p h =
+    rw (h p (omega arith) (omega arith), h (p + 1) (omega arith) (omega arith), h (p + 2) (omega arith) (omega arith), h (p + 3) (omega arith) (omega arith), h (p + 4) (omega arith) (omega arith), h (p + 5) (omega arith) (omega arith), h (p + 6) (omega arith) (omega arith), h (p + 7) (omega arith) (omega arith))
+
+-- ---- what straight-line code leaves: stores each at its own index
+
+pub five-stores : (b : List ℕ) (p : ℕ) (xs : List ℕ) → length xs ≡ 5
+    → set (set (set (set (set b p (getD xs 0 0)) (p + 1) (getD xs 1 0)) (p + 2) (getD xs 2 0)) (p + 3) (getD xs 3 0)) (p + 4) (getD xs 4 0) ≡ sets b p xs
+five-stores b p [] e = absurd (omega arith)
+five-stores b p (x0 ∷ []) e = absurd (omega arith)
+five-stores b p (x0 ∷ x1 ∷ []) e = absurd (omega arith)
+five-stores b p (x0 ∷ x1 ∷ x2 ∷ []) e = absurd (omega arith)
+five-stores b p (x0 ∷ x1 ∷ x2 ∷ x3 ∷ []) e = absurd (omega arith)
+five-stores b p (x0 ∷ x1 ∷ x2 ∷ x3 ∷ x4 ∷ []) e =
+    let e1 : p + 1 ≡ suc p = omega arith in
+    let e2 : p + 2 ≡ suc (suc p) = omega arith in
+    let e3 : p + 3 ≡ suc (suc (suc p)) = omega arith in
+    let e4 : p + 4 ≡ suc (suc (suc (suc p))) = omega arith in
+    rw (e1, e2, e3, e4)
+five-stores b p (x0 ∷ x1 ∷ x2 ∷ x3 ∷ x4 ∷ x5 ∷ xs) e = absurd (omega arith)
+
+pub eight-stores : (b : List ℕ) (p : ℕ) (xs : List ℕ) → length xs ≡ 8
+    → set (set (set (set (set (set (set (set b p (getD xs 0 0)) (p + 1) (getD xs 1 0)) (p + 2) (getD xs 2 0)) (p + 3) (getD xs 3 0)) (p + 4) (getD xs 4 0)) (p + 5) (getD xs 5 0)) (p + 6) (getD xs 6 0)) (p + 7) (getD xs 7 0) ≡ sets b p xs
+eight-stores b p [] e = absurd (omega arith)
+eight-stores b p (x0 ∷ []) e = absurd (omega arith)
+eight-stores b p (x0 ∷ x1 ∷ []) e = absurd (omega arith)
+eight-stores b p (x0 ∷ x1 ∷ x2 ∷ []) e = absurd (omega arith)
+eight-stores b p (x0 ∷ x1 ∷ x2 ∷ x3 ∷ []) e = absurd (omega arith)
+eight-stores b p (x0 ∷ x1 ∷ x2 ∷ x3 ∷ x4 ∷ []) e = absurd (omega arith)
+eight-stores b p (x0 ∷ x1 ∷ x2 ∷ x3 ∷ x4 ∷ x5 ∷ []) e = absurd (omega arith)
+eight-stores b p (x0 ∷ x1 ∷ x2 ∷ x3 ∷ x4 ∷ x5 ∷ x6 ∷ []) e = absurd (omega arith)
+eight-stores b p (x0 ∷ x1 ∷ x2 ∷ x3 ∷ x4 ∷ x5 ∷ x6 ∷ x7 ∷ []) e =
+    let e1 : p + 1 ≡ suc p = omega arith in
+    let e2 : p + 2 ≡ suc (suc p) = omega arith in
+    let e3 : p + 3 ≡ suc (suc (suc p)) = omega arith in
+    let e4 : p + 4 ≡ suc (suc (suc (suc p))) = omega arith in
+    let e5 : p + 5 ≡ suc (suc (suc (suc (suc p)))) = omega arith in
+    let e6 : p + 6 ≡ suc (suc (suc (suc (suc (suc p))))) = omega arith in
+    let e7 : p + 7 ≡ suc (suc (suc (suc (suc (suc (suc p)))))) = omega arith in
+    rw (e1, e2, e3, e4, e5, e6, e7)
+eight-stores b p (x0 ∷ x1 ∷ x2 ∷ x3 ∷ x4 ∷ x5 ∷ x6 ∷ x7 ∷ x8 ∷ xs) e = absurd (omega arith)
