@@ -1,11 +1,11 @@
 -- Bodies, computed: each sentence of document 02, L2, on a setpoint and its bytes has a case.
 use mathlib.Core.Path.{_≡_, refl}
-use mathlib.Core.List.{List, [], _∷_}
+use mathlib.Core.List.{[], _∷_}
 use mathlib.Core.Bool.{true, false}
 use lib.Ieee.{binary32, ofBits, toBits, nan, inf}
 use Rattle.setpoint.specs.Codec.{isFinite, bytesOf, bodyOf, encodeOf, settingOf, joinOf, decodeOf}
 use Rattle.setpoint.specs.declared.Setpoint.the-variants.{Pressure, Speed, Valve}
-use Rattle.setpoint.specs.declared.Encoded.the-variants.{Written, NotFinite}
+use Rattle.setpoint.specs.declared.Encoded.the-variants.{NotFinite}
 use Rattle.setpoint.specs.declared.Decoded.the-variants.{Setting, Damaged}
 
 -- 1.5 bar

@@ -6,8 +6,7 @@ use native.Mathlib.Omega.{arith}
 use mathlib.Core.List.{List, [], _∷_}
 use mathlib.Core.Bool.{Bool, true, false}
 use lib.Dec.{T, eqb}
-use lib.ListN.{getD}
-use lib.Ieee.{Float, binary32, fits, ofBits}
+use lib.Ieee.{binary32, fits, ofBits}
 use lib.Ieee.Bits.{ofBits-fits}
 use borrow.Author.Tests.{eqb-true}
 use Rattle.choice.specs.Choice.{if_then_else_}

@@ -1,22 +1,21 @@
 -- Lists of the book's rules: how `firstFault` goes on, and what it means that all is fine.
-use Prim.Native.Nat.{ℕ, _+_, _*_, _≤_, _<_, min}
-use mathlib.Core.Path.{_≡_, refl, sym, ap, _∙_}
+use Prim.Native.Nat.{ℕ, _+_, _*_, _≤_, _<_}
+use mathlib.Core.Path.{_≡_, refl, sym}
 use mathlib.Core.List.{List, [], _∷_, _++_}
-use mathlib.Core.Bool.{Bool, true, false, not, _&&_, _||_}
+use mathlib.Core.Bool.{Bool, true, false, _&&_}
 use mathlib.Core.Logic.{_≢_}
-use native.Mathlib.Omega.{arith}
 use lib.Dec.{ltb, leb, eqb}
 use lib.ListN.{length}
-use borrow.Author.Tests.{leb-true, leb-false, ltb-false, eqb-true, eqb-false, eq-eqb, not-false, lt-leb, le-ltb}
+use borrow.Author.Tests.{leb-false, ltb-false, eqb-true, eqb-false, eq-eqb, not-false, lt-leb, le-ltb}
 use Rattle.choice.specs.Choice.{if_then_else_}
 use Rattle.choice.specs.Pick.{both, neither}
-use Rattle.model.specs.Arena.{within, lastSerial, cellsOf, headFits, shapeFits, isLive}
+use Rattle.model.specs.Arena.{cellsOf, headFits, shapeFits, isLive}
 use Rattle.model.specs.declared.Head.{Head}
 use Rattle.model.specs.declared.Lease.{Lease}
 use Rattle.setpoint.specs.Codec.{hasBody}
 use Rattle.setpoint.specs.declared.Setpoint.{Setpoint}
 use Rattle.slots.specs.Layout.{slotsOf, bytesFor}
-use Rattle.slots.specs.Rules.{BookRule, firstFault, badHead, badTable, badSlot, badBook, notHolder, notFinite, damaged, spent, isBadBook, isBadSlot, isHolder, isRubbish, isUnwritten, versionIn, lastVersion, bookRules, claimRules, overRules, slotRules, seenRules}
+use Rattle.slots.specs.Rules.{BookRule, firstFault, isBadBook, isBadSlot, isHolder, isRubbish, versionIn, lastVersion, claimRules, overRules}
 use Rattle.slots.specs.declared.BookCheck.{BookCheck}
 use Rattle.slots.specs.declared.BookCheck.the-variants.{Fine, Fault}
 use Rattle.slots.specs.declared.Reading.{Reading}
@@ -63,7 +62,6 @@ shape-head h words e = both (headFits h) (eqb words (3 * cellsOf h)) e .0
 -- ---- what a call knows once its checks are fine
 
 pub record BookFine (n size : ℕ) : Type 0 where
-  pub few : n ≤ 64
   pub room : bytesFor n ≤ size
   pub limit : size ≤ 32768
 
@@ -71,17 +69,17 @@ pub record SlotFine (n size slot : ℕ) : Type 0 where
   pub book : BookFine n size
   pub inside : slot < n
 
-pub book-fine : (h : Head) (size : ℕ) → isBadBook (slotsOf h) size ≡ false → BookFine (slotsOf h) size
+pub book-fine : (n size : ℕ) → isBadBook n size ≡ false → BookFine n size
 unfolding isBadBook
-book-fine h size e =
-    let a = neither (ltb size (bytesFor (slotsOf h))) (ltb 32768 size) e in
-    record { few = omega arith; room = ltb-false _ _ (a .0); limit = ltb-false _ _ (a .1) }
+book-fine n size e =
+    let a = neither (ltb size (bytesFor n)) (ltb 32768 size) e in
+    record { room = ltb-false _ _ (a .0); limit = ltb-false _ _ (a .1) }
 
-pub slot-fine : (h : Head) (size slot : ℕ) → isBadSlot (slotsOf h) size slot ≡ false → SlotFine (slotsOf h) size slot
+pub slot-fine : (n size slot : ℕ) → isBadSlot n size slot ≡ false → SlotFine n size slot
 unfolding isBadSlot
-slot-fine h size slot e =
-    let a = neither (isBadBook (slotsOf h) size) (leb (slotsOf h) slot) e in
-    record { book = book-fine h size (a .0); inside = leb-false _ _ (a .1) }
+slot-fine n size slot e =
+    let a = neither (isBadBook n size) (leb n slot) e in
+    record { book = book-fine n size (a .0); inside = leb-false _ _ (a .1) }
 
 -- and the other way
 pub fine-book : (n size : ℕ) → bytesFor n ≤ size → size ≤ 32768 → isBadBook n size ≡ false
@@ -107,7 +105,7 @@ claim-fine h t size slot l s e =
     let c = no-fault _ _ (b .1) in
     let d = no-fault _ _ (c .1) in
     let v = both (isLive (h .next) (cellsOf h) t l) (eqb (l .cell) slot) (not-false _ (c .0)) in
-    record { shape = not-false _ (a .0); slot-is = slot-fine h size slot (b .0); live = v .0; own = eqb-true _ _ (v .1); whole = not-false _ (d .0) }
+    record { shape = not-false _ (a .0); slot-is = slot-fine (slotsOf h) size slot (b .0); live = v .0; own = eqb-true _ _ (v .1); whole = not-false _ (d .0) }
 
 pub record OverFine (r : Reading) : Type 0 where
   pub sound : isRubbish r ≡ false

@@ -1,6 +1,6 @@
 -- What a slot's numbers mean, as three cases with the facts of each.
 use Prim.Native.Nat.{ℕ, _≤_}
-use mathlib.Core.Path.{_≡_, refl, sym, ap, _∙_, subst}
+use mathlib.Core.Path.{_≡_, refl, sym, ap, _∙_}
 use mathlib.Core.Bool.{Bool, true, false, _&&_}
 use native.Mathlib.Omega.{arith}
 use lib.Dec.{eqb}
@@ -8,7 +8,7 @@ use borrow.Author.Tests.{eqb-true, eqb-false, eq-eqb}
 use Rattle.choice.specs.Choice.{if_then_else_}
 use Rattle.choice.specs.Pick.{both}
 use Rattle.setpoint.specs.Codec.{hasBody, settingOf}
-use Rattle.setpoint.specs.RoundTrip.{wholeIn, setting-whole}
+use Rattle.setpoint.specs.RoundTrip.{setting-whole}
 use Rattle.setpoint.specs.declared.Decoded.{Decoded}
 use Rattle.setpoint.specs.declared.Decoded.the-variants as decoded
 use Rattle.setpoint.specs.declared.Setpoint.{Setpoint}

@@ -6,3 +6,4 @@ pub mod Stores
 pub mod Judged
 pub mod Reads
 pub mod Fine
+pub mod Outcomes
