@@ -2,11 +2,11 @@
 use Prim.Native.Nat.{ℕ, _+_, _*_, _≤_, _<_}
 use mathlib.Core.Path.{_≡_, refl, sym}
 use mathlib.Core.List.{List, [], _∷_, _++_}
-use mathlib.Core.Bool.{Bool, true, false, _&&_}
+use mathlib.Core.Bool.{Bool, true, false, _&&_, _||_}
 use mathlib.Core.Logic.{_≢_}
 use lib.Dec.{ltb, leb, eqb}
 use lib.ListN.{length}
-use borrow.Author.Tests.{leb-false, ltb-false, eqb-true, eqb-false, eq-eqb, not-false, lt-leb, le-ltb}
+use borrow.Author.Tests.{leb-false, ltb-false, eqb-true, eqb-false, eq-eqb, not-false, lt-leb, le-ltb, le-leb}
 use Rattle.choice.specs.Choice.{if_then_else_}
 use Rattle.choice.specs.Pick.{both, neither}
 use Rattle.model.specs.Arena.{cellsOf, headFits, shapeFits, isLive}
@@ -89,6 +89,14 @@ fine-book n size l m = rw (le-ltb size (bytesFor n) l, le-ltb 32768 size m)
 pub fine-slot : (n size slot : ℕ) → bytesFor n ≤ size → size ≤ 32768 → slot < n → isBadSlot n size slot ≡ false
 unfolding isBadSlot
 fine-slot n size slot l m i = rw (fine-book n size l m, lt-leb n slot i)
+
+pub past-slots : (n size slot : ℕ) → n ≤ slot → isBadSlot n size slot ≡ true
+unfolding isBadSlot
+past-slots n size slot l = rw (le-leb n slot l) (go (isBadBook n size))
+  where
+    go : (b : Bool) → (b || true) ≡ true
+    go true = refl
+    go false = refl
 
 pub record ClaimFine (h : Head) (t : List ℕ) (size slot : ℕ) (l : Lease) (s : Setpoint) : Type 0 where
   pub shape : shapeFits h (length t) ≡ true

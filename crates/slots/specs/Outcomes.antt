@@ -1,5 +1,5 @@
 -- What comes of each call, as cases with the facts of each.
-use Prim.Native.Nat.{ℕ, _+_}
+use Prim.Native.Nat.{ℕ, _+_, _<_}
 use mathlib.Core.Path.{_≡_, refl, sym, ap, _∙_}
 use mathlib.Core.List.{List, [], _∷_}
 use mathlib.Core.Bool.{Bool, true, false, not}
@@ -41,6 +41,18 @@ preparing-is h b = go (headFits h) (isBadBook (slotsOf h) (length b)) refl refl
     go true false e f = was-prepared e (book-fine (slotsOf h) (length b) f)
     go false y e f = not-prepared BadShape
 
+-- whether it is done goes by the length alone
+pub prepare-alike : (h : Head) (b c : List ℕ) → length b ≡ length c → prepareBookOf h b .0 ≡ prepareBookOf h c .0
+unfolding prepareBookOf
+prepare-alike h b c e = go (firstFault (bookRules h (length b))) ∙ ap (λ (m : ℕ). answered (firstFault (bookRules h m)) c) e
+  where
+    answered : BookCheck → List ℕ → BookAnswer
+    answered x d = judgeBook {A = BookAnswer × List ℕ} x (λ r. (Refused r, d)) (Done, replicate (length d) 0) .0
+
+    go : (x : BookCheck) → answered x b ≡ answered x c
+    go Fine = refl
+    go (Fault r) = refl
+
 -- ---- writing
 
 module _ (h : Head) (t b : List ℕ) (slot : ℕ) (l : Lease) (s : Setpoint) where
@@ -49,7 +61,7 @@ module _ (h : Head) (t b : List ℕ) (slot : ℕ) (l : Lease) (s : Setpoint) whe
 
   pub data Wrote : BookAnswer × List ℕ → Type 0 where
     was-written : ClaimFine h t (length b) slot l s → OverFine said → Wrote (Written (versionIn said + 1), putOf (slotsOf h) b slot s (versionIn said + 1))
-    not-written : (r : BookRefusal) → (r ≡ DamagedBook → isRubbish said ≡ true) → Wrote (Refused r, b)
+    not-written : (r : BookRefusal) → (r ≡ DamagedBook → (slot < slotsOf h) × (isRubbish said ≡ true)) → Wrote (Refused r, b)
 
   -- which refusals the two lists give
   claims-sound : firstFault (claimRules h t (length b) slot l s) ≡ Fault DamagedBook → ⊥
@@ -82,7 +94,7 @@ module _ (h : Head) (t b : List ℕ) (slot : ℕ) (l : Lease) (s : Setpoint) whe
       go : (x y : BookCheck) → firstFault (claimRules h t (length b) slot l s) ≡ x → firstFault (overRules said) ≡ y
           → Wrote (judgeBook (or-then x y) (λ r. (Refused r, b)) (writtenOver (slotsOf h) b slot s said))
       go Fine Fine e f = was-written (claim-fine h t (length b) slot l s e) (over-fine said f)
-      go Fine (Fault r) e f = not-written r (λ d. over-damaged (f ∙ ap Fault d))
+      go Fine (Fault r) e f = not-written r (λ d. (claim-fine h t (length b) slot l s e .slot-is .inside, over-damaged (f ∙ ap Fault d)))
       go (Fault r) y e f = not-written r (λ d. absurd (claims-sound (e ∙ ap Fault d)))
 
 -- ---- reading

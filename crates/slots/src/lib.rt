@@ -1,5 +1,5 @@
-// The setpoint book (document 02, L2): the answers of its calls, and what a slot's bytes say. What they mean is in specs/:
-// L2 itself, as definitions, with computed cases, and laws about them for the calls and the theory alike.
+// The setpoint book (document 02, L2): the answers of its calls, and what a slot's bytes say. What they mean is in
+// specs/: L2 itself, as definitions, with computed cases, and laws about them for the calls and the theory alike.
 use setpoint::Setpoint;
 
 // The refusals of the book's calls. BadShape is document 01's number 1 and NotHeld its 12; the others have no number.

@@ -1,0 +1,4 @@
+pub mod Items
+pub mod Statements
+pub mod Heads
+pub mod Runs
