@@ -1,7 +1,7 @@
 -- What comes of each call, as cases with the facts of each.
 use Prim.Native.Nat.{ℕ, _+_, _<_}
-use mathlib.Core.Path.{_≡_, refl, sym, ap, _∙_}
-use mathlib.Core.List.{List, [], _∷_}
+use mathlib.Core.Path.{_≡_, refl, ap, _∙_}
+use mathlib.Core.List.{List}
 use mathlib.Core.Bool.{Bool, true, false, not}
 use native.Mathlib.Omega.{arith}
 use lib.Dec.{eqb}
@@ -13,11 +13,11 @@ use Rattle.model.specs.declared.Lease.{Lease}
 use Rattle.setpoint.specs.Codec.{hasBody}
 use Rattle.setpoint.specs.declared.Setpoint.{Setpoint}
 use Rattle.slots.specs.Layout.{slotsOf, readOf, putOf}
-use Rattle.slots.specs.Rules.{firstFault, judgeBook, isBadBook, isBadSlot, isHolder, isRubbish, isUnwritten, versionIn, lastVersion, bookRules, claimRules, overRules, slotRules, seenRules, writeRules}
+use Rattle.slots.specs.Rules.{firstFault, judgeBook, isBadBook, isBadSlot, isHolder, isRubbish, isUnwritten, versionIn, lastVersion, bookRules, claimRules, overRules, slotRules, seenRules}
 use Rattle.slots.specs.Calls.{prepareBookOf, writtenOver, writeSetpointOf, toldOf, readSetpointOf}
 use Rattle.slots.specs.Fine.{BookFine, book-fine, ClaimFine, claim-fine, OverFine, over-fine, or-then, faults-append}
 use Rattle.slots.specs.declared.BookAnswer.{BookAnswer}
-use Rattle.slots.specs.declared.BookAnswer.the-variants.{Done, Written, Setting, Refused}
+use Rattle.slots.specs.declared.BookAnswer.the-variants.{Done, Written, Refused}
 use Rattle.slots.specs.declared.BookCheck.{BookCheck}
 use Rattle.slots.specs.declared.BookCheck.the-variants.{Fine, Fault}
 use Rattle.slots.specs.declared.BookRefusal.{BookRefusal}

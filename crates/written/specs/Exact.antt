@@ -1,7 +1,7 @@
 -- A read is exactly one of three, by the slot's thirteen bytes.
-use Prim.Native.Nat.{ℕ, _+_, _*_, _/_, _%_, _≤_, _<_}
+use Prim.Native.Nat.{ℕ, _+_, _/_, _%_, _<_}
 use mathlib.Core.Path.{_≡_, refl, sym, ap, _∙_, subst}
-use mathlib.Core.Logic.{_⊎_, inl, inr, _↔_}
+use mathlib.Core.Logic.{inl, inr}
 use mathlib.Core.List.{List, [], _∷_}
 use mathlib.Core.Bool.{true, false}
 use native.Mathlib.Omega.{arith}
@@ -9,22 +9,20 @@ use lib.ListN.{length, getD, replicate}
 use Rattle.laws.specs.Lists.{zeros}
 use Rattle.model.specs.Arena.{headFits}
 use Rattle.model.specs.declared.Head.{Head}
-use Rattle.setpoint.specs.Codec.{kindOf, wordOf, bytesOf, bodyOf, joinOf}
+use Rattle.setpoint.specs.Codec.{bytesOf, bodyOf, joinOf}
 use Rattle.setpoint.specs.RoundTrip.{Means, setting-means, low-join, join-small}
 use Rattle.setpoint.specs.declared.Setpoint.{Setpoint}
-use Rattle.slots.specs.Layout.{slotsOf, lineFrom, bodyFrom, lineAt, fiveAt, lineOf, slotAt, readingOf, readOf, putOf}
+use Rattle.slots.specs.Layout.{slotsOf, lineFrom, bodyFrom, lineAt, fiveAt, lineOf, slotAt, readOf, putOf}
 use Rattle.slots.specs.Rules.{isBadSlot}
 use Rattle.slots.specs.Calls.{toldOf, readSetpointOf}
 use Rattle.slots.specs.Fine.{slot-fine, SlotFine}
 use Rattle.slots.specs.Stores.{each-of-eight, each-of-five, line-each, five-each}
 use Rattle.slots.specs.Judged.{Zeros, Filled, Judged, is-held, is-zeros, is-rubbish, judged}
-use Rattle.slots.specs.Reads.{Own, Agree, put-line, put-body, read-after-write, read-same, read-prepared}
+use Rattle.slots.specs.Reads.{put-line, put-body, read-after-write, read-same, read-prepared}
 use Rattle.slots.specs.Outcomes.{reading-is}
-use Rattle.slots.specs.declared.BookAnswer.{BookAnswer}
 use Rattle.slots.specs.declared.BookAnswer.the-variants.{Setting, Refused}
 use Rattle.slots.specs.declared.BookRefusal.the-variants.{DamagedBook, NeverWritten}
 use Rattle.slots.specs.declared.Reading.{Reading}
-use Rattle.slots.specs.declared.Reading.the-variants.{Holds, Blank, Rubbish}
 use Rattle.slots.specs.declared.Slot.{Slot}
 use Rattle.written.specs.Statements.{Reads-exactly, As-written, All-zero}
 
@@ -98,11 +96,16 @@ module _ (h : Head) (b : List ℕ) (slot : ℕ) (bytes : (j : ℕ) → getD b j 
     filled =
         let v = numbers .version in
         let c = putOf n b slot s v in
-        let long = here .book .room in
-        (means .held, means .whole, f .version, (λ j o.
-        elim o [
-        inl x ↦ line-each b c p (line-is ∙ sym (put-line n b slot v s (here .inside) long)) j (x .0) (x .1)
-        | inr x ↦ five-each b c q (body-is ∙ sym (put-body n b slot v s (here .inside) long)) j (x .0) (x .1) ]))
+        let long = here .book .room in (
+          means .held,
+          means .whole,
+          f .version,
+          (λ j o.
+              elim o [
+                | inl x ↦ line-each b c p (line-is ∙ sym (put-line n b slot v s (here .inside) long)) j (x .0) (x .1)
+                | inr x ↦ five-each b c q (body-is ∙ sym (put-body n b slot v s (here .inside) long)) j (x .0) (x .1)
+              ]),
+        )
 
   -- ---- and the three answers
 
@@ -125,8 +128,9 @@ module _ (h : Head) (b : List ℕ) (slot : ℕ) (bytes : (j : ℕ) → getD b j 
       let v = none-of (getD b (p + 4) 0) (getD b (p + 5) 0) (getD b (p + 6) 0) (getD b (p + 7) 0) (z .version) in
       let w = none-of (getD b (q + 1) 0) (getD b (q + 2) 0) (getD b (q + 3) 0) (getD b (q + 4) 0) (z .word) in
       elim o [
-      inl x ↦ each-of-eight (λ (i : ℕ). getD b i 0 ≡ 0) p (place .0) (place .1) (long .0) (long .1) (v .0) (v .1) (v .2) (v .3) j (x .0) (x .1)
-      | inr x ↦ each-of-five (λ (i : ℕ). getD b i 0 ≡ 0) q (z .kind) (w .0) (w .1) (w .2) (w .3) j (x .0) (x .1) ]
+        | inl x ↦ each-of-eight (λ (i : ℕ). getD b i 0 ≡ 0) p (place .0) (place .1) (long .0) (long .1) (v .0) (v .1) (v .2) (v .3) j (x .0) (x .1)
+        | inr x ↦ each-of-five (λ (i : ℕ). getD b i 0 ≡ 0) q (z .kind) (w .0) (w .1) (w .2) (w .3) j (x .0) (x .1)
+      ]
 
   judged-here : Judged q numbers (readOf n b slot)
   unfolding readOf
@@ -166,9 +170,12 @@ nevers-apart : Refused NeverWritten ≡ Refused DamagedBook → ⊥
 nevers-apart e = let z : _≡_ {A = ℕ} 0 1 = cc in omega arith
 
 pub reads-exactly : Reads-exactly
-reads-exactly h b slot bytes fits fine =
-    (λ s v. (settings h b slot bytes fits fine s v, written-reads h b slot bytes fits fine s v),
-    (nevers h b slot bytes fits fine, zeros-read h b slot bytes fits fine),
-    (λ e.
-    (λ z. nevers-apart (sym (zeros-read h b slot bytes fits fine z) ∙ e), λ s v a. settings-apart s v (sym (written-reads h b slot bytes fits fine s v a) ∙ e)),
-    λ x. damages h b slot bytes fits fine (x .0) (x .1)))
+reads-exactly h b slot bytes fits fine = (
+  λ s v. (settings h b slot bytes fits fine s v, written-reads h b slot bytes fits fine s v),
+  (nevers h b slot bytes fits fine, zeros-read h b slot bytes fits fine),
+  (
+    λ e.
+        (λ z. nevers-apart (sym (zeros-read h b slot bytes fits fine z) ∙ e), λ s v a. settings-apart s v (sym (written-reads h b slot bytes fits fine s v a) ∙ e)),
+    λ x. damages h b slot bytes fits fine (x .0) (x .1),
+  ),
+)

@@ -1,8 +1,7 @@
 -- What a history with a book is made of: the items of a history, and the book's calls; the book is one more lent run, handed on.
-use Prim.Native.Nat.{ℕ, zero, suc, _+_, _<_}
+use Prim.Native.Nat.{ℕ, _+_}
 use mathlib.Core.Path.{_≡_}
 use mathlib.Core.List.{List, [], _∷_}
-use mathlib.Core.Bool.{Bool}
 use lib.Dec.{eqb}
 use Rattle.choice.specs.Choice.{if_then_else_}
 use Rattle.model.specs.declared.Head.{Head}

@@ -3,26 +3,22 @@ use Prim.Native.Nat.{ℕ}
 use mathlib.Core.Path.{_≡_, refl, sym, ap, _∙_, subst}
 use mathlib.Core.Logic.{_≢_, _⊎_, inl, inr}
 use mathlib.Core.List.{List, [], _∷_, _++_, append-nil, append-assoc}
-use mathlib.Core.Bool.{Bool, true, false}
 use native.Mathlib.Omega.{arith}
-use Rattle.model.specs.Arena.{leaseOf, ownerAt, sameLease}
-use Rattle.model.specs.Log.{Actor, Event, attempt-begun, boundary-run, yielded, spun, step-dropped, took, released, waiters-set, health-set}
+use Rattle.model.specs.Arena.{ownerAt}
+use Rattle.model.specs.Log.{Actor, Event, released}
 use Rattle.model.specs.declared.Answer.{Answer}
 use Rattle.model.specs.declared.Answer.the-variants as answer
 use Rattle.model.specs.declared.Lease.{Lease}
-use Rattle.setpoint.specs.declared.Setpoint.{Setpoint}
-use Rattle.slots.specs.Calls.{writeSetpointOf}
 use Rattle.slots.specs.Outcomes.{Wrote, was-written, not-written, writing-is}
 use Rattle.slots.specs.declared.BookAnswer.{BookAnswer}
 use Rattle.slots.specs.declared.BookAnswer.the-variants.{Written}
 use Rattle.history.specs.World.{World, Live, now, Releases, Unreleased}
-use Rattle.history.specs.Items.{Item, call, foreign-step, preparation, preparation-over, Entry, Course, courseOf, cold, noted, saying, events-of, history-of, prepared-by, preparing, next-item, run}
-use Rattle.history.specs.Statements.{Ledger}
-use Rattle.history.specs.Tests.{same-lease, same-true, same-refl, differ}
+use Rattle.history.specs.Items.{call, foreign-step, preparation, preparation-over, Entry, Course, courseOf, cold, events-of, history-of, prepared-by, preparing, next-item, run}
+use Rattle.history.specs.Tests.{same-lease}
 use Rattle.history.specs.Events.{lives}
 use Rattle.history.specs.Writers.{looked}
 use Rattle.history.specs.Courses.{Stretch, run-stretch, ledger, begun, events-append}
-use Rattle.written.specs.Items.{BookItem, arena-item, prepare-book, write-setpoint, read-setpoint, Shift, shiftOf, world-of, writing, next-shift, run-shift}
+use Rattle.written.specs.Items.{BookItem, arena-item, prepare-book, write-setpoint, read-setpoint, Shift, shiftOf, world-of, next-shift, run-shift}
 use Rattle.written.specs.Statements.{Written-by-holder, One-writer, Goes-on, One-stretch, Writers-parted}
 
 -- ---- the holder

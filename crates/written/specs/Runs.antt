@@ -1,5 +1,5 @@
 -- Over a run of items, from a done preparation of the book: what each slot says is what its last done write put there.
-use Prim.Native.Nat.{ℕ, zero, suc, _+_, _≤_, _<_}
+use Prim.Native.Nat.{ℕ, _+_, _≤_, _<_}
 use mathlib.Core.Path.{_≡_, refl, sym, ap, _∙_, subst}
 use mathlib.Core.Logic.{_≢_, _⊎_, inl, inr, _↔_}
 use mathlib.Core.List.{List, [], _∷_}
@@ -16,21 +16,19 @@ use Rattle.setpoint.specs.Codec.{hasBody}
 use Rattle.setpoint.specs.RoundTrip.{Held}
 use Rattle.setpoint.specs.declared.Setpoint.{Setpoint}
 use Rattle.slots.specs.Layout.{slotsOf, bytesFor, readOf, putOf}
-use Rattle.slots.specs.Rules.{isBadSlot, isRubbish, versionIn, slotRules}
+use Rattle.slots.specs.Rules.{isRubbish, versionIn, slotRules}
 use Rattle.history.specs.Tests.{differ}
-use Rattle.slots.specs.Calls.{prepareBookOf, writeSetpointOf, toldOf, readSetpointOf}
+use Rattle.slots.specs.Calls.{toldOf, readSetpointOf}
 use Rattle.slots.specs.Fine.{fine-slot, past-slots, BookFine}
 use Rattle.slots.specs.Reads.{Agree, put-long, put-other, read-after-write, read-other, read-prepared, read-same}
 use Rattle.slots.specs.Outcomes.{Prepared, was-prepared, not-prepared, preparing-is, Wrote, was-written, not-written, writing-is, reading-is, no-such-slot, prepare-alike}
 use Rattle.slots.specs.declared.BookAnswer.{BookAnswer}
 use Rattle.slots.specs.declared.BookAnswer.the-variants.{Done, Written, Setting, Refused}
-use Rattle.slots.specs.declared.BookRefusal.{BookRefusal}
 use Rattle.slots.specs.declared.BookRefusal.the-variants.{BadSlot, DamagedBook, NeverWritten}
 use Rattle.slots.specs.declared.Reading.{Reading}
-use Rattle.slots.specs.declared.Reading.the-variants.{Holds, Blank, Rubbish}
-use Rattle.history.specs.Items.{Course}
+use Rattle.slots.specs.declared.Reading.the-variants.{Holds, Blank}
 use Rattle.written.specs.Items.{BookItem, arena-item, prepare-book, write-setpoint, read-setpoint, BookEntry, prepared, wrote, was-read, Shift, shiftOf, world-of, head-of, slots-in, preparing-book, writing, reading, next-shift, run-shift, Last, none, the, last-after, number-after, last-write, writes, told, Same-slots, Typed, All-typed}
-use Rattle.written.specs.Statements.{Prepared-reads-nothing, Forgets-older-bytes, From-prepared, Reads-last-write, Never-exactly, Never-damaged, Own-bytes-only, Rewrites, Damage-stays-there}
+use Rattle.written.specs.Statements.{Prepared-reads-nothing, Forgets-older-bytes, From-prepared, Reads-last-write, Never-exactly, Never-damaged, Own-bytes-only, Damage-stays-there}
 use Rattle.written.specs.Heads.{Fits, item-fits}
 
 -- ---- what a slot is to say
@@ -263,9 +261,10 @@ never-exactly = from-prepared (λ v. (slot : ℕ) → slot < slots-in v → (rea
   where
     exactly : (v : Shift) → Kept (slots-in v) (head-of v) (v .book) (v .entries)
         → (slot : ℕ) → slot < slots-in v → (reading v slot ≡ Refused NeverWritten) ↔ (writes slot (v .entries) ≡ 0)
-    exactly v k slot i =
-        (λ e. counted slot (v .entries) (told-none (last-write slot (v .entries)) (writes slot (v .entries)) (sym (read-kept v k slot i) ∙ e)),
-        λ e. read-kept v k slot i ∙ ap (λ (a : Last). told a (writes slot (v .entries))) (some-last slot (v .entries) e))
+    exactly v k slot i = (
+      λ e. counted slot (v .entries) (told-none (last-write slot (v .entries)) (writes slot (v .entries)) (sym (read-kept v k slot i) ∙ e)),
+      λ e. read-kept v k slot i ∙ ap (λ (a : Last). told a (writes slot (v .entries))) (some-last slot (v .entries) e),
+    )
 
 pub prepared-reads-nothing : Prepared-reads-nothing
 unfolding last-write

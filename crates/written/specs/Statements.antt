@@ -16,13 +16,13 @@ use Rattle.setpoint.specs.RoundTrip.{Held}
 use Rattle.setpoint.specs.declared.Setpoint.{Setpoint}
 use Rattle.slots.specs.Layout.{slotsOf, putOf}
 use Rattle.slots.specs.Rules.{isBadSlot}
-use Rattle.slots.specs.Calls.{prepareBookOf, writeSetpointOf, readSetpointOf}
+use Rattle.slots.specs.Calls.{writeSetpointOf, readSetpointOf}
 use Rattle.slots.specs.Reads.{Own, Agree}
 use Rattle.slots.specs.declared.BookAnswer.the-variants.{Done, Written, Setting, Refused}
 use Rattle.slots.specs.declared.BookRefusal.the-variants.{DamagedBook, NeverWritten}
 use Rattle.history.specs.World.{World, Live}
-use Rattle.history.specs.Items.{Item, call, foreign-step, preparation, preparation-over, Course, cold, history-of, preparing}
-use Rattle.written.specs.Items.{BookItem, arena-item, prepare-book, write-setpoint, read-setpoint, BookEntry, Shift, shiftOf, world-of, head-of, slots-in, preparing-book, writing, reading, next-shift, run-shift, Last, last-write, writes, told, Same-slots, All-typed}
+use Rattle.history.specs.Items.{call, foreign-step, preparation, preparation-over, Course, cold, history-of, preparing}
+use Rattle.written.specs.Items.{BookItem, arena-item, prepare-book, write-setpoint, read-setpoint, BookEntry, Shift, shiftOf, world-of, slots-in, preparing-book, writing, reading, next-shift, run-shift, last-write, writes, told, Same-slots, All-typed}
 
 -- ---- "Preparing the book writes all of it, so what is read never depends on older bytes."
 
