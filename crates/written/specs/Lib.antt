@@ -1,6 +1,7 @@
 pub mod Items
 pub mod Statements
 pub mod Theorems
+pub mod Promises
 pub mod Heads
 pub mod Runs
 pub mod Exact
