@@ -13,7 +13,6 @@ use lib.ListN.{getD, replicate, set}
 use lib.Seq.{getD-set-other}
 use borrow.Author.Tests.{ltb-true}
 use Rattle.choice.specs.Pick.{both}
-use Rattle.model.specs.Log.{Actor, Event, released}
 use Rattle.model.specs.Arena.{headOf, leaseOf, bitAt, ownerAt, setCell, isFree, isHeld, stateOf, stateAt, isLive, headFits, shapeFits, healthFits}
 use Rattle.model.specs.Refusals.{first}
 use Rattle.model.specs.Lock.{takeOf}
@@ -31,9 +30,9 @@ use Rattle.slots.specs.Reads.{Agree}
 use Rattle.slots.specs.declared.BookAnswer.the-variants.{Done, Written, Setting, Refused}
 use Rattle.slots.specs.declared.BookRefusal.the-variants.{NotHeld, DamagedBook, NeverWritten}
 use Rattle.history.specs.World.{World, worldOf}
-use Rattle.history.specs.Items.{call, try-acquire, drop-lease, preparation, preparation-over, perform, cold, next-item, preparing, history-of}
+use Rattle.history.specs.Items.{call, try-acquire, drop-lease, preparation, preparation-over, perform, cold, next-item, preparing}
 use Rattle.written.specs.Items.{BookItem, arena-item, prepare-book, write-setpoint, read-setpoint, BookEntry, prepared, wrote, was-read, Shift, shiftOf, slots-in, preparing-book, writing, reading, next-shift, run-shift, last-write, writes, told, Same-slots, All-typed}
-use Rattle.written.specs.Statements.{As-written, All-zero}
+use Rattle.written.specs.Statements.{Released-between, As-written, All-zero}
 use Rattle.written.specs.Theorems.{prepared-reads-nothing, reads-last-write, never-exactly, forgets-older-bytes, never-damaged, written-by-holder, one-writer, writers-parted, own-bytes-only, damage-stays-there, reads-exactly}
 
 -- ---- a day
@@ -188,9 +187,7 @@ holder = (
 differ-leases : one-lease ≢ other-lease
 differ-leases e = let z : _≡_ {A = ℕ} 1 2 = ap (λ (l : Lease). l .serial) e in omega arith
 
-pub given-back-between : (a : Actor) × (front back : List Event)
-    × (history-of (run-shift first-write (write-setpoint 1 one-lease bar ∷ change) .course)
-    ≡ history-of (first-write .course) ++ (front ++ (released a 1 1 ∷ back)))
+pub given-back-between : Released-between (first-write .course) (run-shift first-write (write-setpoint 1 one-lease bar ∷ change) .course) one-lease
 given-back-between =
     writers-parted rubbish old 1 2 1 (prepare-book ∷ arena-item (call (try-acquire 1)) ∷ []) change 1 one-lease other-lease bar (Valve true) 1 2
     boot-done first-done second-done differ-leases (tt, (tt, (tt, tt)))

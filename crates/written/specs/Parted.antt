@@ -19,7 +19,7 @@ use Rattle.history.specs.Events.{lives}
 use Rattle.history.specs.Writers.{looked}
 use Rattle.history.specs.Courses.{Stretch, run-stretch, ledger, begun, events-append}
 use Rattle.written.specs.Items.{BookItem, arena-item, prepare-book, write-setpoint, read-setpoint, Shift, shiftOf, world-of, next-shift, run-shift}
-use Rattle.written.specs.Statements.{Written-by-holder, One-writer, Goes-on, One-stretch, Writers-parted}
+use Rattle.written.specs.Statements.{Written-by-holder, One-writer, Goes-on, One-stretch, Released-between, Writers-parted}
 
 -- ---- the holder
 
@@ -150,7 +150,7 @@ writers-parted rubbish book headers buckets serial before between slot l k p q u
   where
     go : (one two : Shift) (m : Longer (one .course) (two .course)) → Stretch (one .course) → Stretch (two .course)
         → Live (world-of one) l × (l .cell ≡ slot) → Live (world-of two) k × (k .cell ≡ slot) → Unreleased l (m .more) ⊎ Release l (m .more)
-        → (a : Actor) × (front back : List Event) × (history-of (two .course) ≡ history-of (one .course) ++ (front ++ (released a (l .cell) (l .serial) ∷ back)))
+        → Released-between (one .course) (two .course) l
     go one two m early late f h (inr r) =
         (r .0, r .1, r .2, m .history-is ∙ ap (λ (es : List Event). history-of (one .course) ++ es) (r .3))
     go one two m early late f h (inl c) =

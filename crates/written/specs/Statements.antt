@@ -90,9 +90,13 @@ abbrev pub One-stretch : Shift → List BookItem → Type 0
 One-stretch s [] = Unit {0}
 One-stretch s (i ∷ is) = Goes-on s i × One-stretch (next-shift s i) is
 
+-- the history of the second is that of the first and some events more, and a release of the lease, naming its cell and serial, is among these
+abbrev pub Released-between : Course → Course → Lease → Type 0
+Released-between k d l =
+    (a : Actor) × (front back : List Event) × (history-of d ≡ history-of k ++ (front ++ (released a (l .cell) (l .serial) ∷ back)))
+
 -- "two writers drive one valve": of two done writes on one slot in one stretch since a preparation of the arena, with different leases, the
--- first lease was released between them. The history of the second is that of the first and some events more; a release of the first lease,
--- naming its cell and serial, is among these
+-- first lease was released between them
 abbrev pub Writers-parted : Type 0
 Writers-parted =
     (rubbish : World) (book : List ℕ) (headers buckets serial : ℕ) (before between : List BookItem) (slot : ℕ) (l k : Lease) (p q : Setpoint) (u v : ℕ)
@@ -100,8 +104,7 @@ Writers-parted =
     → let one = run-shift (shiftOf (cold rubbish) book []) (arena-item (preparation headers buckets serial) ∷ before) in
     let two = run-shift one (write-setpoint slot l p ∷ between) in
     writing one slot l p .0 ≡ Written u → writing two slot k q .0 ≡ Written v → l ≢ k → One-stretch (next-shift one (write-setpoint slot l p)) between
-    → (a : Actor) × (front back : List Event)
-    × (history-of (two .course) ≡ history-of (one .course) ++ (front ++ (released a (l .cell) (l .serial) ∷ back)))
+    → Released-between (one .course) (two .course) l
 
 -- ---- a slot's thirteen bytes
 
