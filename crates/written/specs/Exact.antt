@@ -99,7 +99,7 @@ module _ (h : Head) (b : List ℕ) (slot : ℕ) (bytes : (j : ℕ) → getD b j 
         let long = here .book .room in (
           means .held,
           means .whole,
-          f .version,
+          omega (arith, f .version),
           (λ j o.
               elim o [
                 | inl x ↦ line-each b c p (line-is ∙ sym (put-line n b slot v s (here .inside) long)) j (x .0) (x .1)
