@@ -18,8 +18,9 @@ ghost use lib.Seq.{sets};
 ghost use Rattle.model.specs.Arena.{headFits, shapeFits};
 ghost use Rattle.setpoint.specs.Codec.{hasBody};
 ghost use Rattle.slots.specs.Layout.{slotsOf, bytesFor, slotAt, isBlank, readingOf, readOf, lineOf, putOf};
-ghost use Rattle.slots.specs.Rules.{firstFault, isBadBook, isBadSlot, isHolder, claimRules};
-ghost use Rattle.slots.specs.Calls.{prepareBookOf, writeSetpointOf, readSetpointOf};
+ghost use Rattle.slots.specs.Rules.{firstFault, isBadBook, isBadSlot, isHolder, versionIn};
+ghost use Rattle.slots.specs.Rules.{claimRules, overRules};
+ghost use Rattle.slots.specs.Calls.{prepareBookOf, writeSetpointOf, toldOf, readSetpointOf};
 ghost use Rattle.book.specs.Model.{writeOverOf};
 
 // The last version. A slot that has reached it is written no more.
@@ -270,6 +271,33 @@ fn claim_check(
     BookCheck::Fault(BookRefusal::BadShape)
 }
 
+// The checks of a write on what its slot says: DamagedBook, VersionsSpent.
+fn over_check(old: Reading) -> BookCheck
+    ensures { λ r. ⌜ r ≡ firstFault (overRules old) ⌝ }
+{
+    match old {
+        Reading::Holds(_, v) => {
+            if v == LAST_VERSION {
+                return BookCheck::Fault(BookRefusal::VersionsSpent);
+            }
+            return BookCheck::Fine;
+        }
+        Reading::Blank => BookCheck::Fine,
+        Reading::Rubbish => BookCheck::Fault(BookRefusal::DamagedBook),
+    }
+}
+
+// The version that a slot has: 0 where it was never written.
+fn version_in(old: Reading) -> u32
+    ensures { λ r. ⌜ r ≡ versionIn old ⌝ }
+{
+    match old {
+        Reading::Holds(_, v) => v,
+        Reading::Blank => 0,
+        Reading::Rubbish => 0,
+    }
+}
+
 // Over what the slot says: refused, or one version more.
 fn write_over(n: usize, book: &mut [u8], slot: usize, s: Setpoint) -> BookAnswer
     requires { ⌜ n ≤ 64 ⌝ }
@@ -279,20 +307,13 @@ fn write_over(n: usize, book: &mut [u8], slot: usize, s: Setpoint) -> BookAnswer
     ensures { λ r. ⌜ (r, now (book .exit)) ≡ writeOverOf n (now (book .entry)) slot s ⌝ }
 {
     let old = read(n, book, slot);
-    match old {
-        Reading::Holds(_, v) => {
-            if v == LAST_VERSION {
-                return BookAnswer::Refused(BookRefusal::VersionsSpent);
-            }
-            put(n, book, slot, s, v + 1);
-            return BookAnswer::Written(v + 1);
-        }
-        Reading::Blank => {
-            put(n, book, slot, s, 1);
-            return BookAnswer::Written(1);
-        }
-        Reading::Rubbish => {
-            return BookAnswer::Refused(BookRefusal::DamagedBook);
+    let check = over_check(old);
+    match check {
+        BookCheck::Fault(refusal) => BookAnswer::Refused(refusal),
+        BookCheck::Fine => {
+            let version = version_in(old) + 1;
+            put(n, book, slot, s, version);
+            BookAnswer::Written(version)
         }
     }
 }
@@ -317,6 +338,19 @@ pub fn write_setpoint(
     }
 }
 
+// ---- reading
+
+// The answer of a read, by what the slot says.
+fn told(found: Reading) -> BookAnswer
+    ensures { λ r. ⌜ r ≡ toldOf found ⌝ }
+{
+    match found {
+        Reading::Holds(s, v) => BookAnswer::Setting(s, v),
+        Reading::Blank => BookAnswer::Refused(BookRefusal::NeverWritten),
+        Reading::Rubbish => BookAnswer::Refused(BookRefusal::DamagedBook),
+    }
+}
+
 // The setpoint of a slot and its version; NeverWritten or DamagedBook by the slot's own bytes alone. It takes no table:
 // a read needs no lease.
 pub fn read_setpoint(head: Head, book: &[u8], slot: u32) -> BookAnswer
@@ -328,11 +362,7 @@ pub fn read_setpoint(head: Head, book: &[u8], slot: u32) -> BookAnswer
             return BookAnswer::Refused(BookRefusal::BadSlot);
         }
         let found = read(n, book, slot as usize);
-        return match found {
-            Reading::Holds(s, v) => BookAnswer::Setting(s, v),
-            Reading::Blank => BookAnswer::Refused(BookRefusal::NeverWritten),
-            Reading::Rubbish => BookAnswer::Refused(BookRefusal::DamagedBook),
-        };
+        return told(found);
     }
     BookAnswer::Refused(BookRefusal::BadShape)
 }

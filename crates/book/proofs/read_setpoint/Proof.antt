@@ -1,7 +1,8 @@
 -- `book::read_setpoint` meets its contract.
+use Rattle.slots.specs.Outcomes.{reading-is}
 use Rattle.slots.specs.Fine.{slot-fine}
 use mathlib.Core.Path.{sym, _∙_}
-use Rattle.slots.specs.Rules.{firstFault, seenRules, slotRules}
+use Rattle.slots.specs.Rules.{firstFault, slotRules}
 use Rattle.slots.specs.Calls.{readSetpointOf}
 use borrow.Author.Needs.{needs}
 use Rattle.book.proofs.read_setpoint.Statement.{statement}
@@ -17,36 +18,24 @@ is-bad-slot-requires : tie.Need-is-bad-slot-requires
 is-bad-slot-requires c κs = search needs
 
 returns : tie.Need-returns
-unfolding readSetpointOf slotRules seenRules firstFault
+unfolding readSetpointOf slotRules firstFault
 returns c = rw (← c .before .before .before .before .head-fits .ensures, c .before .before .before .if1 .taken, ← c .before .before .slots .ensures, ← c .before .is-bad-slot .ensures, c .if2 .taken)
 
 read-requires : tie.Need-read-requires
 read-requires c κs = let f = slot-fine _ _ _ (sym (c .before .is-bad-slot .ensures) ∙ c .if2 .left) in (search needs, (f .inside, f .book .room))
 
-enum-known-found : tie.Need-enum-known-found
-enum-known-found c = search needs
-
-enum-told : tie.Need-enum-told
-enum-told c = search needs
-
-enum-told-2 : tie.Need-enum-told-2
-enum-told-2 c = search needs
+told-requires : tie.Need-told-requires
+told-requires c κs = search needs
 
 returns-2 : tie.Need-returns-2
-unfolding readSetpointOf slotRules seenRules firstFault
-returns-2 c = rw (← c .before .before .before .before .before .before .before .before .head-fits .ensures, c .before .before .before .before .before .before .before .if1 .taken, ← c .before .before .before .before .before .before .slots .ensures, ← c .before .before .before .before .before .is-bad-slot .ensures, c .before .before .before .before .if2 .left, ← c .before .before .before .read .ensures, c .before .found .given .1)
+returns-2 c =
+    let fits = sym (c .before .before .before .before .before .before .head-fits .ensures) ∙ c .before .before .before .before .before .if1 .taken in
+    let fine = sym (c .before .before .before .is-bad-slot .ensures) ∙ c .before .before .if2 .left in
+    rw (reading-is _ _ _ fits (rw (c .before .before .before .before .slots .ensures) at fine), ← c .before .before .before .before .slots .ensures, ← c .before .read .ensures, ← c .told .ensures)
 
 returns-3 : tie.Need-returns-3
-unfolding readSetpointOf slotRules seenRules firstFault
-returns-3 c = rw (← c .before .before .before .before .before .before .before .head-fits .ensures, c .before .before .before .before .before .before .if1 .taken, ← c .before .before .before .before .before .slots .ensures, ← c .before .before .before .before .is-bad-slot .ensures, c .before .before .before .if2 .left, ← c .before .before .read .ensures, c .enum-told .given .1)
-
-returns-4 : tie.Need-returns-4
-unfolding readSetpointOf slotRules seenRules firstFault
-returns-4 c = rw (← c .before .before .before .before .before .before .before .head-fits .ensures, c .before .before .before .before .before .before .if1 .taken, ← c .before .before .before .before .before .slots .ensures, ← c .before .before .before .before .is-bad-slot .ensures, c .before .before .before .if2 .left, ← c .before .before .read .ensures, c .enum-told2 .given .1)
-
-returns-5 : tie.Need-returns-5
-unfolding readSetpointOf slotRules seenRules firstFault
-returns-5 c = rw (← c .before .head-fits .ensures, c .if1 .left)
+unfolding readSetpointOf slotRules firstFault
+returns-3 c = rw (← c .before .head-fits .ensures, c .if1 .left)
 
 pub read-setpoint-spec : {M : Type 1} → statement M
 read-setpoint-spec =
@@ -57,10 +46,6 @@ read-setpoint-spec =
     is-bad-slot-requires
     returns
     read-requires
-    enum-known-found
-    enum-told
-    enum-told-2
+    told-requires
     returns-2
-    returns-3
-    returns-4
-    returns-5)
+    returns-3)

@@ -1,6 +1,7 @@
 -- `book::write_over` meets its contract.
-use borrow.Author.Tests.{eq-eqb, ne-eqb}
-use Rattle.slots.specs.Rules.{firstFault, overRules}
+use Rattle.slots.specs.Fine.{over-fine}
+use native.Mathlib.Omega.{arith}
+use mathlib.Core.Path.{sym, _∙_}
 use Rattle.book.specs.Model.{writeOverOf}
 use borrow.Author.Needs.{needs}
 use Rattle.book.proofs.write_over.Statement.{statement}
@@ -9,72 +10,52 @@ use Rattle.book.proofs.write_over.Tie as tie
 read-requires : tie.Need-read-requires
 read-requires c κs = search needs
 
-enum-known-old : tie.Need-enum-known-old
-enum-known-old c = search needs
+over-check-requires : tie.Need-over-check-requires
+over-check-requires c κs = search needs
+
+enum-known-check : tie.Need-enum-known-check
+enum-known-check c = search needs
+
+enum-told : tie.Need-enum-told
+enum-told c = search needs
+
+version-in-requires : tie.Need-version-in-requires
+version-in-requires c κs = search needs
+
+add-version : tie.Need-add-version
+add-version c =
+    let f = over-fine _ (sym (c .before .before .before .over-check .ensures) ∙ c .before .enum-told .given .1) in
+    omega (arith, f .remains, c .version-in .ensures)
+
+put-requires : tie.Need-put-requires
+put-requires c κs = search needs
 
 same-length : tie.Need-same-length
 same-length c = search needs
 
 returns : tie.Need-returns
-unfolding writeOverOf overRules firstFault
-returns c = rw (← c .before .before .before .before .read .ensures, c .before .before .old .given .1, eq-eqb _ _ (c .if1 .taken))
-
-add-put : tie.Need-add-put
-add-put c = search needs
-
-put-requires : tie.Need-put-requires
-put-requires c κs = search needs
-
-add-t14 : tie.Need-add-t14
-add-t14 c = search needs
+unfolding writeOverOf
+returns c = rw (← c .before .before .before .before .read .ensures, ← c .before .before .before .over-check .ensures, c .before .check .given .1)
 
 same-length-2 : tie.Need-same-length-2
 same-length-2 c = search needs
 
 returns-2 : tie.Need-returns-2
-unfolding writeOverOf overRules firstFault
-returns-2 c = rw (← c .before .before .before .before .before .before .before .before .read .ensures, c .before .before .before .before .before .before .old .given .1, ne-eqb _ _ (c .before .before .before .before .if1 .left), ← c .before .before .put .ensures)
-
-enum-told : tie.Need-enum-told
-enum-told c = search needs
-
-put-requires-2 : tie.Need-put-requires-2
-put-requires-2 c κs = search needs
-
-same-length-3 : tie.Need-same-length-3
-same-length-3 c = search needs
-
-returns-3 : tie.Need-returns-3
-unfolding writeOverOf overRules firstFault
-returns-3 c = rw (← c .before .before .before .before .before .before .read .ensures, c .before .before .before .before .enum-told .given .1, ← c .before .before .put2 .ensures)
-
-enum-told-2 : tie.Need-enum-told-2
-enum-told-2 c = search needs
-
-same-length-4 : tie.Need-same-length-4
-same-length-4 c = search needs
-
-returns-4 : tie.Need-returns-4
-unfolding writeOverOf overRules firstFault
-returns-4 c = rw (← c .before .before .read .ensures, c .enum-told2 .given .1)
+unfolding writeOverOf
+returns-2 c = rw (← c .before .before .before .before .before .before .before .before .read .ensures, ← c .before .before .before .before .before .before .before .over-check .ensures, c .before .before .before .before .before .enum-told .given .1, ← c .before .before .before .before .version-in .ensures, ← c .before .before .put .ensures)
 
 pub write-over-spec : {M : Type 1} → statement M
 write-over-spec =
     tie.close
     (tie.spec
     read-requires
-    enum-known-old
+    over-check-requires
+    enum-known-check
+    enum-told
+    version-in-requires
+    add-version
+    put-requires
     same-length
     returns
-    add-put
-    put-requires
-    add-t14
     same-length-2
-    returns-2
-    enum-told
-    put-requires-2
-    same-length-3
-    returns-3
-    enum-told-2
-    same-length-4
-    returns-4)
+    returns-2)
