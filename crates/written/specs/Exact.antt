@@ -169,7 +169,7 @@ settings-apart s v e = let z : _≡_ {A = ℕ} 0 1 = cc in omega arith
 nevers-apart : Refused NeverWritten ≡ Refused DamagedBook → ⊥
 nevers-apart e = let z : _≡_ {A = ℕ} 0 1 = cc in omega arith
 
-pub reads-exactly : Reads-exactly
+pub reads-exactly : Reads-exactly readSetpointOf
 reads-exactly h b slot bytes fits fine = (
   λ s v. (settings h b slot bytes fits fine s v, written-reads h b slot bytes fits fine s v),
   (nevers h b slot bytes fits fine, zeros-read h b slot bytes fits fine),

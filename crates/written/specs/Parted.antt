@@ -9,6 +9,7 @@ use Rattle.model.specs.Log.{Actor, Event, released}
 use Rattle.model.specs.declared.Answer.{Answer}
 use Rattle.model.specs.declared.Answer.the-variants as answer
 use Rattle.model.specs.declared.Lease.{Lease}
+use Rattle.slots.specs.Calls.{writeSetpointOf}
 use Rattle.slots.specs.Outcomes.{Wrote, was-written, not-written, writing-is}
 use Rattle.slots.specs.declared.BookAnswer.{BookAnswer}
 use Rattle.slots.specs.declared.BookAnswer.the-variants.{Written}
@@ -23,7 +24,7 @@ use Rattle.written.specs.Statements.{Written-by-holder, One-writer, Goes
 
 -- ---- the holder
 
-pub written-by-holder : Written-by-holder
+pub written-by-holder : Written-by-holder writeSetpointOf
 written-by-holder w b slot l p v e = go (writing-is (w .head) (w .table) b slot l p) e
   where
     go : {o : BookAnswer × List ℕ} → Wrote (w .head) (w .table) b slot l p o → o .0 ≡ Written v → Live w l × (l .cell ≡ slot)
@@ -37,7 +38,7 @@ one-holder w l k x y e =
     let b = lives w k y in
     same-lease l k e (sym (a .owner-is) ∙ ap (λ (c : ℕ). ownerAt (w .table) c) e ∙ b .owner-is)
 
-pub one-writer : One-writer
+pub one-writer : One-writer writeSetpointOf
 one-writer w b c slot l k p q u v x y =
     let f = written-by-holder w b slot l p u x in
     let g = written-by-holder w c slot k q v y in

@@ -346,6 +346,6 @@ own-bytes-only s (write-setpoint t k p) slot l = go (writing-is (head-of s) (wor
     go (not-written r f) = inr (λ j o. refl)
 own-bytes-only s (read-setpoint t) slot l = inr (λ j o. refl)
 
-pub damage-stays-there : Damage-stays-there
+pub damage-stays-there : Damage-stays-there readSetpointOf
 unfolding readSetpointOf slotRules
 damage-stays-there h b c slot e a = rw (e, read-same (slotsOf h) b c slot a)

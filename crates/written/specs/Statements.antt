@@ -18,11 +18,20 @@ use Rattle.slots.specs.Layout.{slotsOf, putOf}
 use Rattle.slots.specs.Rules.{isBadSlot}
 use Rattle.slots.specs.Calls.{writeSetpointOf, readSetpointOf}
 use Rattle.slots.specs.Reads.{Own, Agree}
+use Rattle.slots.specs.declared.BookAnswer.{BookAnswer}
 use Rattle.slots.specs.declared.BookAnswer.the-variants.{Done, Written, Setting, Refused}
 use Rattle.slots.specs.declared.BookRefusal.the-variants.{DamagedBook, NeverWritten}
 use Rattle.history.specs.World.{World, Live}
 use Rattle.history.specs.Items.{call, foreign-step, preparation, preparation-over, Course, cold, history-of, preparing}
 use Rattle.written.specs.Items.{BookItem, arena-item, prepare-book, write-setpoint, read-setpoint, BookEntry, Shift, shiftOf, world-of, slots-in, preparing-book, writing, reading, next-shift, run-shift, last-write, writes, told, Same-slots, All-typed}
+
+-- what answers a write, and what answers a read; `writeSetpointOf` and `readSetpointOf` are ours. A statement about one call is one of any such
+-- function, so that a wrong one can be seen to fail it
+abbrev pub Writer : Type 0
+Writer = Head → (table book : List ℕ) → ℕ → Lease → Setpoint → BookAnswer × List ℕ
+
+abbrev pub Reader : Type 0
+Reader = Head → (book : List ℕ) → ℕ → BookAnswer
 
 -- ---- "Preparing the book writes all of it, so what is read never depends on older bytes."
 
@@ -65,16 +74,16 @@ Never-damaged =
 -- ---- "Writing needs a live lease on the slot's cell"
 
 -- a write that is done named a lease that is live there, on the slot's own cell
-abbrev pub Written-by-holder : Type 0
-Written-by-holder =
-    (w : World) (b : List ℕ) (slot : ℕ) (l : Lease) (p : Setpoint) (v : ℕ) → writeSetpointOf (w .head) (w .table) b slot l p .0 ≡ Written v
+abbrev pub Written-by-holder : Writer → Type 0
+Written-by-holder f =
+    (w : World) (b : List ℕ) (slot : ℕ) (l : Lease) (p : Setpoint) (v : ℕ) → f (w .head) (w .table) b slot l p .0 ≡ Written v
     → Live w l × (l .cell ≡ slot)
 
 -- in any world two leases with which a write on one slot is done are the same lease
-abbrev pub One-writer : Type 0
-One-writer =
+abbrev pub One-writer : Writer → Type 0
+One-writer f =
     (w : World) (b c : List ℕ) (slot : ℕ) (l k : Lease) (p q : Setpoint) (u v : ℕ)
-    → writeSetpointOf (w .head) (w .table) b slot l p .0 ≡ Written u → writeSetpointOf (w .head) (w .table) c slot k q .0 ≡ Written v → l ≡ k
+    → f (w .head) (w .table) b slot l p .0 ≡ Written u → f (w .head) (w .table) c slot k q .0 ≡ Written v → l ≡ k
 
 -- the item begins no new stretch: it is no done preparation of the arena
 abbrev pub Goes-on : Shift → BookItem → Type 0
@@ -122,9 +131,9 @@ Own-bytes-only =
     → Rewrites s i slot ⊎ Agree (slots-in s) slot (next-shift s i .book) (s .book)
 
 -- two books of one length that agree on a slot's thirteen bytes read the same there
-abbrev pub Damage-stays-there : Type 0
-Damage-stays-there =
-    (h : Head) (b c : List ℕ) (slot : ℕ) → length b ≡ length c → Agree (slotsOf h) slot b c → readSetpointOf h b slot ≡ readSetpointOf h c slot
+abbrev pub Damage-stays-there : Reader → Type 0
+Damage-stays-there f =
+    (h : Head) (b c : List ℕ) (slot : ℕ) → length b ≡ length c → Agree (slotsOf h) slot b c → f h b slot ≡ f h c slot
 
 -- the slot's bytes are those that a write of that setpoint and version puts there
 abbrev pub As-written : Head → List ℕ → ℕ → Setpoint → ℕ → Type 0
@@ -136,9 +145,9 @@ All-zero h b slot = (j : ℕ) → Own (slotsOf h) slot j → getD b j 0 ≡ 0
 
 -- a read that passes the first two checks, of a book of bytes, is exactly one of three, by the slot's thirteen bytes: "A line or body that fits
 -- no rule reads as DamagedBook"
-abbrev pub Reads-exactly : Type 0
-Reads-exactly =
+abbrev pub Reads-exactly : Reader → Type 0
+Reads-exactly f =
     (h : Head) (b : List ℕ) (slot : ℕ) → ((j : ℕ) → getD b j 0 < 256) → headFits h ≡ true → isBadSlot (slotsOf h) (length b) slot ≡ false
-    → ((p : Setpoint) (v : ℕ) → (readSetpointOf h b slot ≡ Setting p v) ↔ As-written h b slot p v)
-    × ((readSetpointOf h b slot ≡ Refused NeverWritten) ↔ All-zero h b slot)
-    × ((readSetpointOf h b slot ≡ Refused DamagedBook) ↔ ((All-zero h b slot → ⊥) × ((p : Setpoint) (v : ℕ) → As-written h b slot p v → ⊥)))
+    → ((p : Setpoint) (v : ℕ) → (f h b slot ≡ Setting p v) ↔ As-written h b slot p v)
+    × ((f h b slot ≡ Refused NeverWritten) ↔ All-zero h b slot)
+    × ((f h b slot ≡ Refused DamagedBook) ↔ ((All-zero h b slot → ⊥) × ((p : Setpoint) (v : ℕ) → As-written h b slot p v → ⊥)))

@@ -1,4 +1,5 @@
 -- The statements of `Statements`, each proved; the proofs are in the files behind.
+use Rattle.slots.specs.Calls.{writeSetpointOf, readSetpointOf}
 use Rattle.written.specs.Statements.{Prepared-reads-nothing, Forgets-older-bytes, Reads-last-write, Never-exactly, Never-damaged, Written-by-holder, One-writer, Writers-parted, Own-bytes-only, Damage-stays-there, Reads-exactly}
 use Rattle.written.specs.Runs as runs
 use Rattle.written.specs.Exact as exact
@@ -23,10 +24,10 @@ never-damaged = runs.never-damaged
 
 -- ---- who writes
 
-pub written-by-holder : Written-by-holder
+pub written-by-holder : Written-by-holder writeSetpointOf
 written-by-holder = parted.written-by-holder
 
-pub one-writer : One-writer
+pub one-writer : One-writer writeSetpointOf
 one-writer = parted.one-writer
 
 pub writers-parted : Writers-parted
@@ -37,8 +38,8 @@ writers-parted = parted.writers-parted
 pub own-bytes-only : Own-bytes-only
 own-bytes-only = runs.own-bytes-only
 
-pub damage-stays-there : Damage-stays-there
+pub damage-stays-there : Damage-stays-there readSetpointOf
 damage-stays-there = runs.damage-stays-there
 
-pub reads-exactly : Reads-exactly
+pub reads-exactly : Reads-exactly readSetpointOf
 reads-exactly = exact.reads-exactly
