@@ -190,30 +190,16 @@ fn line(place: u32, version: u32) -> [u8; 8]
     ]
 }
 
-// Eight bytes to a place; five bytes to a place.
-fn put_line(book: &mut [u8], at: usize, bytes: [u8; 8])
-    requires { ⌜ at + 8 ≤ length (now book) ⌝ }
-    ensures { λ _. ⌜ now (book .exit) ≡ sets (now (book .entry)) at bytes ⌝ }
+// Bytes to a place.
+fn put_bytes(book: &mut [u8], at: usize, bytes: &[u8])
+    requires { ⌜ at + length (now bytes) ≤ length (now book) ⌝ }
+    ensures { λ _. ⌜ now (book .exit) ≡ sets (now (book .entry)) at (now (bytes .entry)) ⌝ }
 {
-    book[at] = bytes[0];
-    book[at + 1] = bytes[1];
-    book[at + 2] = bytes[2];
-    book[at + 3] = bytes[3];
-    book[at + 4] = bytes[4];
-    book[at + 5] = bytes[5];
-    book[at + 6] = bytes[6];
-    book[at + 7] = bytes[7];
-}
-
-fn put_body(book: &mut [u8], at: usize, body: [u8; 5])
-    requires { ⌜ at + 5 ≤ length (now book) ⌝ }
-    ensures { λ _. ⌜ now (book .exit) ≡ sets (now (book .entry)) at body ⌝ }
-{
-    book[at] = body[0];
-    book[at + 1] = body[1];
-    book[at + 2] = body[2];
-    book[at + 3] = body[3];
-    book[at + 4] = body[4];
+    let mut i = 0;
+    while i < bytes.len() {
+        book[at + i] = bytes[i];
+        i += 1;
+    }
 }
 
 // A setpoint and its version into a slot of n.
@@ -227,8 +213,8 @@ fn put(n: usize, book: &mut [u8], slot: usize, s: Setpoint, version: u32)
     let at = 8 * n + 5 * slot;
     let bytes = line(at as u32, version);
     let body = setpoint::bytes(setpoint::kind(s), setpoint::word(s));
-    put_line(book, 8 * slot, bytes);
-    put_body(book, at, body);
+    put_bytes(book, 8 * slot, &bytes);
+    put_bytes(book, at, &body);
 }
 
 // ---- writing

@@ -3,8 +3,8 @@ use mathlib.Core.Path.{_≡_, refl, ap, _∙_, subst}
 use Prim.Native.Nat.{ℕ, zero, suc, _+_, _-_, _≤_, _<_}
 use native.Mathlib.Omega.{arith}
 use mathlib.Core.List.{List, [], _∷_}
-use lib.ListN.{length, getD, set, length-set}
-use lib.Seq.{sets, getD-set-same, getD-set-other}
+use lib.ListN.{length, getD, set, drop, length-set, drop-of-length-le}
+use lib.Seq.{sets, drop-cons, getD-set-same, getD-set-other}
 use Rattle.slots.specs.Layout.{fiveAt, lineAt}
 
 pub sets-below : (xs b : List ℕ) (p j : ℕ) → j < p → getD (sets b p xs) j 0 ≡ getD b j 0
@@ -107,40 +107,18 @@ five-each b c p e = each-of-five (λ (j : ℕ). getD b j 0 ≡ getD c j 0) p (at
     at : (i : ℕ) → getD (fiveAt b p) i 0 ≡ getD (fiveAt c p) i 0
     at i = ap (λ (l : List ℕ). getD l i 0) e
 
--- ---- what straight-line code leaves: stores each at its own index
+-- ---- a store at a time: what is still to be stored from index i on
 
-pub five-stores : (b : List ℕ) (p : ℕ) (xs : List ℕ) → length xs ≡ 5
-    → set (set (set (set (set b p (getD xs 0 0)) (p + 1) (getD xs 1 0)) (p + 2) (getD xs 2 0)) (p + 3) (getD xs 3 0)) (p + 4) (getD xs 4 0) ≡ sets b p xs
-five-stores b p [] e = absurd (omega arith)
-five-stores b p (x0 ∷ []) e = absurd (omega arith)
-five-stores b p (x0 ∷ x1 ∷ []) e = absurd (omega arith)
-five-stores b p (x0 ∷ x1 ∷ x2 ∷ []) e = absurd (omega arith)
-five-stores b p (x0 ∷ x1 ∷ x2 ∷ x3 ∷ []) e = absurd (omega arith)
-five-stores b p (x0 ∷ x1 ∷ x2 ∷ x3 ∷ x4 ∷ []) e =
-    let e1 : p + 1 ≡ suc p = omega arith in
-    let e2 : p + 2 ≡ suc (suc p) = omega arith in
-    let e3 : p + 3 ≡ suc (suc (suc p)) = omega arith in
-    let e4 : p + 4 ≡ suc (suc (suc (suc p))) = omega arith in
-    rw (e1, e2, e3, e4)
-five-stores b p (x0 ∷ x1 ∷ x2 ∷ x3 ∷ x4 ∷ x5 ∷ xs) e = absurd (omega arith)
+pub stores-more : (b xs : List ℕ) (p i : ℕ) → i < length xs → sets b (p + i) (drop i xs) ≡ sets (set b (p + i) (getD xs i 0)) (p + (i + 1)) (drop (i + 1) xs)
+stores-more b xs p i l =
+    let e : suc (p + i) ≡ p + (i + 1) = omega arith in
+    let f : suc i ≡ i + 1 = omega arith in
+    ap (sets b (p + i)) (drop-cons xs i 0 l)
+    ∙ ap (λ (q : ℕ). sets (set b (p + i) (getD xs i 0)) q (drop (suc i) xs)) e
+    ∙ ap (λ (k : ℕ). sets (set b (p + i) (getD xs i 0)) (p + (i + 1)) (drop k xs)) f
 
-pub eight-stores : (b : List ℕ) (p : ℕ) (xs : List ℕ) → length xs ≡ 8
-    → set (set (set (set (set (set (set (set b p (getD xs 0 0)) (p + 1) (getD xs 1 0)) (p + 2) (getD xs 2 0)) (p + 3) (getD xs 3 0)) (p + 4) (getD xs 4 0)) (p + 5) (getD xs 5 0)) (p + 6) (getD xs 6 0)) (p + 7) (getD xs 7 0) ≡ sets b p xs
-eight-stores b p [] e = absurd (omega arith)
-eight-stores b p (x0 ∷ []) e = absurd (omega arith)
-eight-stores b p (x0 ∷ x1 ∷ []) e = absurd (omega arith)
-eight-stores b p (x0 ∷ x1 ∷ x2 ∷ []) e = absurd (omega arith)
-eight-stores b p (x0 ∷ x1 ∷ x2 ∷ x3 ∷ []) e = absurd (omega arith)
-eight-stores b p (x0 ∷ x1 ∷ x2 ∷ x3 ∷ x4 ∷ []) e = absurd (omega arith)
-eight-stores b p (x0 ∷ x1 ∷ x2 ∷ x3 ∷ x4 ∷ x5 ∷ []) e = absurd (omega arith)
-eight-stores b p (x0 ∷ x1 ∷ x2 ∷ x3 ∷ x4 ∷ x5 ∷ x6 ∷ []) e = absurd (omega arith)
-eight-stores b p (x0 ∷ x1 ∷ x2 ∷ x3 ∷ x4 ∷ x5 ∷ x6 ∷ x7 ∷ []) e =
-    let e1 : p + 1 ≡ suc p = omega arith in
-    let e2 : p + 2 ≡ suc (suc p) = omega arith in
-    let e3 : p + 3 ≡ suc (suc (suc p)) = omega arith in
-    let e4 : p + 4 ≡ suc (suc (suc (suc p))) = omega arith in
-    let e5 : p + 5 ≡ suc (suc (suc (suc (suc p)))) = omega arith in
-    let e6 : p + 6 ≡ suc (suc (suc (suc (suc (suc p))))) = omega arith in
-    let e7 : p + 7 ≡ suc (suc (suc (suc (suc (suc (suc p)))))) = omega arith in
-    rw (e1, e2, e3, e4, e5, e6, e7)
-eight-stores b p (x0 ∷ x1 ∷ x2 ∷ x3 ∷ x4 ∷ x5 ∷ x6 ∷ x7 ∷ x8 ∷ xs) e = absurd (omega arith)
+pub stores-end : (b xs : List ℕ) (p i : ℕ) → length xs ≤ i → sets b (p + i) (drop i xs) ≡ b
+stores-end b xs p i l = ap (sets b (p + i)) (drop-of-length-le xs l)
+
+pub stores-start : (b xs : List ℕ) (p : ℕ) → sets b (p + 0) (drop 0 xs) ≡ sets b p xs
+stores-start b xs p = let e : p + 0 ≡ p = omega arith in ap (λ (q : ℕ). sets b q xs) e

@@ -1,6 +1,6 @@
 -- `book::put` meets its contract.
-use Rattle.setpoint.specs.Codec.{bodyOf}
 use Rattle.slots.specs.Layout.{putOf}
+use Rattle.setpoint.specs.Codec.{bodyOf}
 use borrow.Author.Needs.{needs}
 use Rattle.book.proofs.put.Statement.{statement}
 use Rattle.book.proofs.put.Tie as tie
@@ -29,21 +29,27 @@ word-requires c κs = search needs
 bytes-requires : tie.Need-bytes-requires
 bytes-requires c κs = search needs
 
-mul-put-line : tie.Need-mul-put-line
-mul-put-line c = search needs
+mul-put-bytes : tie.Need-mul-put-bytes
+mul-put-bytes c = search needs
 
-put-line-requires : tie.Need-put-line-requires
-put-line-requires c κs = search needs
+slice-aggregate-put-bytes : tie.Need-slice-aggregate-put-bytes
+slice-aggregate-put-bytes c = search needs
 
-put-body-requires : tie.Need-put-body-requires
-put-body-requires c κs = search needs
+put-bytes-requires : tie.Need-put-bytes-requires
+put-bytes-requires c κs = search needs
+
+slice-aggregate-put-bytes-2 : tie.Need-slice-aggregate-put-bytes-2
+slice-aggregate-put-bytes-2 c = search needs
+
+put-bytes-requires-2 : tie.Need-put-bytes-requires-2
+put-bytes-requires-2 c κs = search needs
 
 same-length : tie.Need-same-length
 same-length c = search needs
 
 returns : tie.Need-returns
 unfolding putOf bodyOf
-returns c = rw (← c .before .before .before .before .before .before .before .before .before .before .before .line .ensures, ← c .before .before .before .before .before .before .before .before .before .before .kind .ensures, ← c .before .before .before .before .before .before .before .before .before .word .ensures, ← c .before .before .before .before .before .before .before .before .bytes .ensures, ← c .before .before .before .before .before .before .put-line .ensures, ← c .before .before .put-body .ensures)
+returns c = rw (← c .before .before .before .before .before .before .before .before .before .before .before .before .before .line .ensures, ← c .before .before .before .before .before .before .before .before .before .before .before .before .kind .ensures, ← c .before .before .before .before .before .before .before .before .before .before .before .word .ensures, ← c .before .before .before .before .before .before .before .before .before .before .bytes .ensures, ← c .before .before .before .before .before .before .before .put-bytes .ensures, ← c .before .before .put-bytes2 .ensures)
 
 pub put-spec : {M : Type 1} → statement M
 put-spec =
@@ -57,8 +63,10 @@ put-spec =
     kind-requires
     word-requires
     bytes-requires
-    mul-put-line
-    put-line-requires
-    put-body-requires
+    mul-put-bytes
+    slice-aggregate-put-bytes
+    put-bytes-requires
+    slice-aggregate-put-bytes-2
+    put-bytes-requires-2
     same-length
     returns)
