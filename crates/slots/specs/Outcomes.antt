@@ -13,11 +13,12 @@ use Rattle.model.specs.declared.Lease.{Lease}
 use Rattle.setpoint.specs.Codec.{hasBody}
 use Rattle.setpoint.specs.declared.Setpoint.{Setpoint}
 use Rattle.slots.specs.Layout.{slotsOf, readOf, putOf}
-use Rattle.slots.specs.Rules.{firstFault, judgeBook, isBadBook, isBadSlot, isHolder, isRubbish, isUnwritten, versionIn, lastVersion, bookRules, claimRules, overRules, slotRules, seenRules}
+use Rattle.slots.specs.Rules.{firstFault, judgeBook, isBadBook, isBadSlot, isHolder, isRubbish, isUnwritten, versionIn, lastVersion, bookRules, claimRules, overRules, slotRules, seenRules, readRules}
 use Rattle.slots.specs.Calls.{prepareBookOf, writtenOver, writeSetpointOf, toldOf, readSetpointOf}
+use Rattle.slots.specs.Judged.{bodyIn, reading-whole}
 use Rattle.slots.specs.Fine.{BookFine, book-fine, ClaimFine, claim-fine, OverFine, over-fine, or-then, faults-append}
 use Rattle.slots.specs.declared.BookAnswer.{BookAnswer}
-use Rattle.slots.specs.declared.BookAnswer.the-variants.{Done, Written, Refused}
+use Rattle.slots.specs.declared.BookAnswer.the-variants.{Done, Written, Setting, Refused}
 use Rattle.slots.specs.declared.BookCheck.{BookCheck}
 use Rattle.slots.specs.declared.BookCheck.the-variants.{Fine, Fault}
 use Rattle.slots.specs.declared.BookRefusal.{BookRefusal}
@@ -114,3 +115,21 @@ pub no-such-slot : (h : Head) (b : List ℕ) (slot : ℕ) → headFits h ≡ tru
     → readSetpointOf h b slot ≡ Refused BadSlot
 unfolding readSetpointOf slotRules seenRules firstFault
 no-such-slot h b slot e f = rw (e, f)
+
+-- what a read tells has a body: a face may take its word
+abbrev pub bodyTold : BookAnswer → Bool
+bodyTold Done = true
+bodyTold (Written v) = true
+bodyTold (Setting s v) = hasBody s
+bodyTold (Refused r) = true
+
+pub told-whole : (a : BookAnswer) (h : Head) (b : List ℕ) (slot : ℕ) → a ≡ readSetpointOf h b slot → bodyTold a ≡ true
+unfolding readSetpointOf readOf
+told-whole a h b slot e =
+    ap bodyTold e ∙ go (firstFault (readRules h b slot)) (readOf (slotsOf h) b slot) (reading-whole (readOf (slotsOf h) b slot) _ _ refl)
+  where
+    go : (c : BookCheck) (r : Reading) → bodyIn r ≡ true → bodyTold (judgeBook c Refused (toldOf r)) ≡ true
+    go Fine (Holds s v) w = w
+    go Fine Blank w = refl
+    go Fine Rubbish w = refl
+    go (Fault x) r w = refl
