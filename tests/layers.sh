@@ -5,9 +5,9 @@
 set -euo pipefail
 cd "$(dirname "$0")/.."
 
-base='choice model laws'
-theory='history exact progress upstream builds swaps'
-steps='arena lease foreign lock bucket release multilock crew'
+base='choice model laws setpoint slots'
+theory='history exact progress upstream builds swaps written'
+steps='arena lease foreign lock bucket release multilock crew book'
 callers="$steps records skid ask map" # the calls themselves, and the faces that make them
 exports=skid
 
@@ -26,9 +26,9 @@ while IFS=: read -r name needs; do
     crates=$((crates + 1))
     for needed in $needs; do
         if among "$name" "$base $theory"; then
-            among "$needed" "$base $theory" || complain "$name names $needed: theory names theory, choice, model and laws"
+            among "$needed" "$base $theory" || complain "$name names $needed: theory names theory and the base: $base"
         elif among "$name" "$steps"; then
-            among "$needed" "$base $steps" || complain "$name names $needed: the calls name calls, choice, model and laws"
+            among "$needed" "$base $steps" || complain "$name names $needed: the calls name calls and the base: $base"
         else
             ! among "$needed" "$theory" || complain "$name names $needed: a face names no theory"
         fi

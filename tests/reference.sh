@@ -19,6 +19,9 @@ quoting=(
     crates/history/specs/{Statements,Answers}.antt
     crates/exact/specs/{Statements,Script,Attempts}.antt
     crates/progress/specs/Statements.antt
+    crates/setpoint/specs/Codec.antt
+    crates/slots/specs/{Layout,Rules,Calls,Cases}.antt
+    crates/written/specs/Statements.antt
 )
 
 # names_of PAGE..: the names File.name on it

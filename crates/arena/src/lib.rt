@@ -173,7 +173,8 @@ fn zero_words(words: &mut [u32])
     }
 }
 
-fn zero_bytes(bytes: &mut [u8])
+// Every byte 0: preparing the health here, and the book of setpoints in `book`.
+pub fn zero_bytes(bytes: &mut [u8])
     ensures { λ _. ⌜ now (bytes .exit) ≡ replicate (length (now (bytes .entry))) 0 ⌝ }
 {
     let mut i = 0;

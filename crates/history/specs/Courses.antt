@@ -26,7 +26,7 @@ use Rattle.history.specs.Calls.{call-kept}
 
 -- ---- a lone foreign step
 
-foreign-kept : (w : World) (kind place number : ℕ) → Kept w (In []) (foreign w kind place number .seen) (foreign w kind place number .log)
+pub foreign-kept : (w : World) (kind place number : ℕ) → Kept w (In []) (foreign w kind place number .seen) (foreign w kind place number .log)
 unfolding foreign
 foreign-kept w kind place number = ended (step-kept (w .head) [] [] (w .head .next) (w .table) (w .health) kind place number .kept)
 

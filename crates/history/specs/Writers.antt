@@ -41,7 +41,7 @@ use Rattle.history.specs.HandedCalls.{call-came}
 -- ---- one log: between a live lease and the next take of its cell stands a release of it
 
 -- an event releases this lease, or not
-looked : (l : Lease) (e : Event) → (Releases l e → ⊥) ⊎ ((a : Actor) × (e ≡ released a (l .cell) (l .serial)))
+pub looked : (l : Lease) (e : Event) → (Releases l e → ⊥) ⊎ ((a : Actor) × (e ≡ released a (l .cell) (l .serial)))
 looked l attempt-begun = inl (λ x. x)
 looked l boundary-run = inl (λ x. x)
 looked l yielded = inl (λ x. x)

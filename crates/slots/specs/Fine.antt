@@ -1,0 +1,127 @@
+-- Lists of the book's rules: how `firstFault` goes on, and what it means that all is fine.
+use Prim.Native.Nat.{ℕ, _+_, _*_, _≤_, _<_}
+use mathlib.Core.Path.{_≡_, refl, sym}
+use mathlib.Core.List.{List, [], _∷_, _++_}
+use mathlib.Core.Bool.{Bool, true, false, _&&_, _||_}
+use mathlib.Core.Logic.{_≢_}
+use lib.Dec.{ltb, leb, eqb}
+use lib.ListN.{length}
+use borrow.Author.Tests.{leb-false, ltb-false, eqb-true, eqb-false, eq-eqb, not-false, lt-leb, le-ltb, le-leb}
+use Rattle.choice.specs.Choice.{if_then_else_}
+use Rattle.choice.specs.Pick.{both, neither}
+use Rattle.model.specs.Arena.{cellsOf, headFits, shapeFits, isLive}
+use Rattle.model.specs.declared.Head.{Head}
+use Rattle.model.specs.declared.Lease.{Lease}
+use Rattle.setpoint.specs.Codec.{hasBody}
+use Rattle.setpoint.specs.declared.Setpoint.{Setpoint}
+use Rattle.slots.specs.Layout.{slotsOf, bytesFor}
+use Rattle.slots.specs.Rules.{BookRule, firstFault, isBadBook, isBadSlot, isHolder, isRubbish, versionIn, lastVersion, claimRules, overRules}
+use Rattle.slots.specs.declared.BookCheck.{BookCheck}
+use Rattle.slots.specs.declared.BookCheck.the-variants.{Fine, Fault}
+use Rattle.slots.specs.declared.Reading.{Reading}
+
+-- ---- one rule behind the other
+
+abbrev pub or-then : BookCheck → BookCheck → BookCheck
+or-then Fine d = d
+or-then (Fault r) d = Fault r
+
+pub faults-append : (xs ys : List BookRule) → firstFault (xs ++ ys) ≡ or-then (firstFault xs) (firstFault ys)
+unfolding firstFault
+faults-append [] ys = refl
+faults-append (x ∷ xs) ys = go (x .applies) (faults-append xs ys)
+  where
+    go : (b : Bool) → firstFault (xs ++ ys) ≡ or-then (firstFault xs) (firstFault ys)
+        → (if b then Fault (x .refusal) else firstFault (xs ++ ys)) ≡ or-then (if b then Fault (x .refusal) else firstFault xs) (firstFault ys)
+    go true e = refl
+    go false e = e
+
+pub no-fault : (x : BookRule) (xs : List BookRule) → firstFault (x ∷ xs) ≡ Fine → (x .applies ≡ false) × (firstFault xs ≡ Fine)
+unfolding firstFault
+no-fault x xs e = go (x .applies) refl e
+  where
+    go : (b : Bool) → x .applies ≡ b → (if b then Fault (x .refusal) else firstFault xs) ≡ Fine → (x .applies ≡ false) × (firstFault xs ≡ Fine)
+    go true p q = let z : false ≡ true = cc in (cc, cc)
+    go false p q = (p, q)
+
+-- ---- the head alone
+
+-- what a read and a preparation test of the head is what a table of its own length would be given
+pub head-alone : (h : Head) → headFits h ≡ shapeFits h (3 * cellsOf h)
+unfolding shapeFits
+head-alone h = rw (eq-eqb (3 * cellsOf h) (3 * cellsOf h) refl) (sym (and-true (headFits h)))
+  where
+    and-true : (b : Bool) → (b && true) ≡ b
+    and-true true = refl
+    and-true false = refl
+
+pub shape-head : (h : Head) (words : ℕ) → shapeFits h words ≡ true → headFits h ≡ true
+unfolding shapeFits
+shape-head h words e = both (headFits h) (eqb words (3 * cellsOf h)) e .0
+
+-- ---- what a call knows once its checks are fine
+
+pub record BookFine (n size : ℕ) : Type 0 where
+  pub room : bytesFor n ≤ size
+  pub limit : size ≤ 32768
+
+pub record SlotFine (n size slot : ℕ) : Type 0 where
+  pub book : BookFine n size
+  pub inside : slot < n
+
+pub book-fine : (n size : ℕ) → isBadBook n size ≡ false → BookFine n size
+unfolding isBadBook
+book-fine n size e =
+    let a = neither (ltb size (bytesFor n)) (ltb 32768 size) e in
+    record { room = ltb-false _ _ (a .0); limit = ltb-false _ _ (a .1) }
+
+pub slot-fine : (n size slot : ℕ) → isBadSlot n size slot ≡ false → SlotFine n size slot
+unfolding isBadSlot
+slot-fine n size slot e =
+    let a = neither (isBadBook n size) (leb n slot) e in
+    record { book = book-fine n size (a .0); inside = leb-false _ _ (a .1) }
+
+-- and the other way
+pub fine-book : (n size : ℕ) → bytesFor n ≤ size → size ≤ 32768 → isBadBook n size ≡ false
+unfolding isBadBook
+fine-book n size l m = rw (le-ltb size (bytesFor n) l, le-ltb 32768 size m)
+
+pub fine-slot : (n size slot : ℕ) → bytesFor n ≤ size → size ≤ 32768 → slot < n → isBadSlot n size slot ≡ false
+unfolding isBadSlot
+fine-slot n size slot l m i = rw (fine-book n size l m, lt-leb n slot i)
+
+pub past-slots : (n size slot : ℕ) → n ≤ slot → isBadSlot n size slot ≡ true
+unfolding isBadSlot
+past-slots n size slot l = rw (le-leb n slot l) (go (isBadBook n size))
+  where
+    go : (b : Bool) → (b || true) ≡ true
+    go true = refl
+    go false = refl
+
+pub record ClaimFine (h : Head) (t : List ℕ) (size slot : ℕ) (l : Lease) (s : Setpoint) : Type 0 where
+  pub shape : shapeFits h (length t) ≡ true
+  pub slot-is : SlotFine (slotsOf h) size slot
+  pub live : isLive (h .next) (cellsOf h) t l ≡ true
+  pub own : l .cell ≡ slot
+  pub whole : hasBody s ≡ true
+
+pub claim-fine : (h : Head) (t : List ℕ) (size slot : ℕ) (l : Lease) (s : Setpoint) → firstFault (claimRules h t size slot l s) ≡ Fine → ClaimFine h t size slot l s
+unfolding claimRules isHolder
+claim-fine h t size slot l s e =
+    let a = no-fault _ _ e in
+    let b = no-fault _ _ (a .1) in
+    let c = no-fault _ _ (b .1) in
+    let d = no-fault _ _ (c .1) in
+    let v = both (isLive (h .next) (cellsOf h) t l) (eqb (l .cell) slot) (not-false _ (c .0)) in
+    record { shape = not-false _ (a .0); slot-is = slot-fine (slotsOf h) size slot (b .0); live = v .0; own = eqb-true _ _ (v .1); whole = not-false _ (d .0) }
+
+pub record OverFine (r : Reading) : Type 0 where
+  pub sound : isRubbish r ≡ false
+  pub remains : versionIn r ≢ lastVersion
+
+pub over-fine : (r : Reading) → firstFault (overRules r) ≡ Fine → OverFine r
+unfolding overRules
+over-fine r e =
+    let a = no-fault _ _ e in
+    let b = no-fault _ _ (a .1) in
+    record { sound = a .0; remains = eqb-false _ _ (b .0) }

@@ -1,0 +1,9 @@
+pub mod Items
+pub mod Statements
+pub mod Theorems
+pub mod Promises
+pub mod Heads
+pub mod Runs
+pub mod Exact
+pub mod Parted
+pub mod Examples

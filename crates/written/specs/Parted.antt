@@ -1,0 +1,158 @@
+-- Who writes: the holder of the slot's cell, one at a time; and of two done writes with different leases the first lease was released between.
+use Prim.Native.Nat.{ℕ}
+use mathlib.Core.Path.{_≡_, refl, sym, ap, _∙_, subst}
+use mathlib.Core.Logic.{_≢_, _⊎_, inl, inr}
+use mathlib.Core.List.{List, [], _∷_, _++_, append-nil, append-assoc}
+use native.Mathlib.Omega.{arith}
+use Rattle.model.specs.Arena.{ownerAt}
+use Rattle.model.specs.Log.{Actor, Event, released}
+use Rattle.model.specs.declared.Answer.{Answer}
+use Rattle.model.specs.declared.Answer.the-variants as answer
+use Rattle.model.specs.declared.Lease.{Lease}
+use Rattle.slots.specs.Calls.{writeSetpointOf}
+use Rattle.slots.specs.Outcomes.{Wrote, was-written, not-written, writing-is}
+use Rattle.slots.specs.declared.BookAnswer.{BookAnswer}
+use Rattle.slots.specs.declared.BookAnswer.the-variants.{Written}
+use Rattle.history.specs.World.{World, Live, now, Releases, Unreleased}
+use Rattle.history.specs.Items.{call, foreign-step, preparation, preparation-over, Entry, Course, courseOf, cold, events-of, history-of, prepared-by, preparing, next-item, run}
+use Rattle.history.specs.Tests.{same-lease}
+use Rattle.history.specs.Events.{lives}
+use Rattle.history.specs.Writers.{looked}
+use Rattle.history.specs.Courses.{Stretch, run-stretch, ledger, begun, events-append}
+use Rattle.written.specs.Items.{BookItem, arena-item, prepare-book, write-setpoint, read-setpoint, Shift, shiftOf, world-of, next-shift, run-shift}
+use Rattle.written.specs.Statements.{Written-by-holder, One-writer, Goes-on, One-stretch, Released-between, Writers-parted}
+
+-- ---- the holder
+
+pub written-by-holder : Written-by-holder writeSetpointOf
+written-by-holder w b slot l p v e = go (writing-is (w .head) (w .table) b slot l p) e
+  where
+    go : {o : BookAnswer × List ℕ} → Wrote (w .head) (w .table) b slot l p o → o .0 ≡ Written v → Live w l × (l .cell ≡ slot)
+    go (was-written c f) x = (c .live, c .own)
+    go (not-written r f) x = let z : _≡_ {A = ℕ} 0 1 = cc in absurd (omega arith)
+
+-- two live leases on one cell are one
+one-holder : (w : World) (l k : Lease) → Live w l → Live w k → l .cell ≡ k .cell → l ≡ k
+one-holder w l k x y e =
+    let a = lives w l x in
+    let b = lives w k y in
+    same-lease l k e (sym (a .owner-is) ∙ ap (λ (c : ℕ). ownerAt (w .table) c) e ∙ b .owner-is)
+
+pub one-writer : One-writer writeSetpointOf
+one-writer w b c slot l k p q u v x y =
+    let f = written-by-holder w b slot l p u x in
+    let g = written-by-holder w c slot k q v y in
+    one-holder w l k (f .0) (g .0) (f .1 ∙ sym (g .1))
+
+-- ---- a log releases a lease, or it does not
+
+abbrev Release : Lease → List Event → Type 0
+Release l es = (a : Actor) × (front back : List Event) × (es ≡ front ++ (released a (l .cell) (l .serial) ∷ back))
+
+released-or-not : (l : Lease) (es : List Event) → Unreleased l es ⊎ Release l es
+released-or-not l [] = inl tt
+released-or-not l (e ∷ es) = go (looked l e) (released-or-not l es)
+  where
+    go : (Releases l e → ⊥) ⊎ ((a : Actor) × (e ≡ released a (l .cell) (l .serial))) → Unreleased l es ⊎ Release l es
+        → Unreleased l (e ∷ es) ⊎ Release l (e ∷ es)
+    go (inr r) x = inr (r .0, [], es, ap (λ (y : Event). y ∷ es) (r .1))
+    go (inl n) (inl u) = inl (n, u)
+    go (inl n) (inr r) = inr (r .0, e ∷ r .1, r .2, ap (λ (y : List Event). e ∷ y) (r .3))
+
+-- ---- items that go on in one stretch: the same first world, and more events behind those before
+
+pub record Longer (k d : Course) : Type 0 where
+  pub more : List Event
+  pub origin-is : d .origin ≡ k .origin
+  pub history-is : history-of d ≡ history-of k ++ more
+
+same : (k : Course) → Longer k k
+same k = record { more = []; origin-is = refl; history-is = sym (append-nil (history-of k)) }
+
+further : (k d e : Course) → Longer k d → Longer d e → Longer k e
+further k d e x y =
+    record {
+      more = x .more ++ y .more;
+      origin-is = y .origin-is ∙ x .origin-is;
+      history-is = y .history-is ∙ ap (λ (h : List Event). h ++ y .more) (x .history-is) ∙ append-assoc (history-of k) (x .more) (y .more);
+    }
+
+one-more : (k : Course) (e : Entry) (w : World) → Longer k (courseOf (k .origin) (k .entries ++ (e ∷ [])) w)
+one-more k e w = record { more = events-of (e ∷ []); origin-is = refl; history-is = events-append (k .entries) (e ∷ []) }
+
+-- a preparation that is not done
+refused-more : (a : Answer) (w v : World) (k : Course) → a ≢ answer.Done → Longer k (prepared-by a w v k)
+refused-more answer.Done w v k n = absurd (n refl)
+refused-more (answer.Cell c) w v k n = one-more k _ v
+refused-more (answer.Granted l) w v k n = one-more k _ v
+refused-more answer.AllGranted w v k n = one-more k _ v
+refused-more (answer.Busy why) w v k n = one-more k _ v
+refused-more (answer.Refused r) w v k n = one-more k _ v
+refused-more (answer.RefusedAt r p) w v k n = one-more k _ v
+
+item-more : (s : Shift) (i : BookItem) → Goes-on s i → Longer (s .course) (next-shift s i .course)
+unfolding next-shift next-item
+item-more s (arena-item (call c)) g = one-more (s .course) _ _
+item-more s (arena-item (foreign-step kind place number)) g = one-more (s .course) _ _
+item-more s (arena-item (preparation headers buckets serial)) g = refused-more _ _ _ (s .course) g
+item-more s (arena-item (preparation-over headers buckets serial t h)) g = refused-more _ _ _ (s .course) g
+item-more s prepare-book g = same (s .course)
+item-more s (write-setpoint slot l p) g = same (s .course)
+item-more s (read-setpoint slot) g = same (s .course)
+
+runs-more : (s : Shift) (items : List BookItem) → One-stretch s items → Longer (s .course) (run-shift s items .course)
+unfolding run-shift
+runs-more s [] g = same (s .course)
+runs-more s (i ∷ is) g = further (s .course) (next-shift s i .course) _ (item-more s i (g .0)) (runs-more (next-shift s i) is (g .1))
+
+-- ---- every state reached from a preparation has the ledger
+
+item-stretch : (s : Shift) (i : BookItem) → Stretch (s .course) → Stretch (next-shift s i .course)
+unfolding next-shift run
+item-stretch s (arena-item i) k = run-stretch (s .course) (i ∷ []) k
+item-stretch s prepare-book k = k
+item-stretch s (write-setpoint slot l p) k = k
+item-stretch s (read-setpoint slot) k = k
+
+runs-stretch : (s : Shift) (items : List BookItem) → Stretch (s .course) → Stretch (run-shift s items .course)
+unfolding run-shift
+runs-stretch s [] k = k
+runs-stretch s (i ∷ is) k = runs-stretch (next-shift s i) is (item-stretch s i k)
+
+-- ---- two writers
+
+-- a lease that is live at one point of a stretch and not released since is live at a later one
+still-live : (k d : Course) (l : Lease) → Stretch k → Stretch d → (m : Longer k d) → Live (k .world) l → Unreleased l (m .more) → Live (d .world) l
+still-live k d l x y m v u =
+    let g = ledger d y in
+    let before = history-of k in
+    let start : Live (now (d .origin) before) l = subst (λ (w : World). Live w l) (x .leads ∙ ap (λ (w : World). now w before) (sym (m .origin-is))) v in
+    let end = g .keeps l before (m .more) [] (m .history-is ∙ ap (λ (es : List Event). before ++ es) (sym (append-nil (m .more)))) start u in
+    subst (λ (w : World). Live w l) (ap (now (d .origin)) (sym (m .history-is)) ∙ sym (y .leads)) end
+
+-- the first stretch
+started : (w : World) (b : List ℕ) (h c s : ℕ) → preparing h c s (w .table) (w .health) .0 ≡ answer.Done
+    → Stretch (next-shift (shiftOf (cold w) b []) (arena-item (preparation h c s)) .course)
+unfolding next-shift
+started w b h c s d = begun w h c s d
+
+pub writers-parted : Writers-parted
+unfolding run-shift
+writers-parted rubbish book headers buckets serial before between slot l k p q u v d x y n g =
+    let start = next-shift (shiftOf (cold rubbish) book []) (arena-item (preparation headers buckets serial)) in
+    let one = run-shift start before in
+    let next = next-shift one (write-setpoint slot l p) in
+    let two = run-shift next between in
+    let early = runs-stretch start before (started rubbish book headers buckets serial d) in
+    let late = runs-stretch next between (item-stretch one (write-setpoint slot l p) early) in
+    let m = further (one .course) (next .course) (two .course) (item-more one (write-setpoint slot l p) tt) (runs-more next between g) in
+    go one two m early late (written-by-holder (world-of one) (one .book) slot l p u x) (written-by-holder (world-of two) (two .book) slot k q v y)
+    (released-or-not l (m .more))
+  where
+    go : (one two : Shift) (m : Longer (one .course) (two .course)) → Stretch (one .course) → Stretch (two .course)
+        → Live (world-of one) l × (l .cell ≡ slot) → Live (world-of two) k × (k .cell ≡ slot) → Unreleased l (m .more) ⊎ Release l (m .more)
+        → Released-between (one .course) (two .course) l
+    go one two m early late f h (inr r) =
+        (r .0, r .1, r .2, m .history-is ∙ ap (λ (es : List Event). history-of (one .course) ++ es) (r .3))
+    go one two m early late f h (inl c) =
+        absurd (n (one-holder (world-of two) l k (still-live (one .course) (two .course) l early late m (f .0) c) (h .0) (f .1 ∙ sym (h .1))))
