@@ -1,5 +1,6 @@
 //! The bench console's language: lines that set up the player's own RAM and lists, and lines that make calls.
 
+use crate::book::{self, BookRefusal, Kept, Setpoint};
 use crate::rules::{self, Answer, Counts, CrewReply, Head, Lease, Reason, Reply, ScriptReply};
 use std::io::{self, BufRead, ErrorKind, Write};
 
@@ -8,6 +9,7 @@ pub const LINE: usize = 1_310_720;
 /// The rooms of the player's own RAM.
 pub const TABLE: usize = 12_600;
 pub const HEALTH: usize = 70;
+pub const BOOK: usize = 33_000;
 pub const REGISTRY: usize = 80;
 pub const SCRIPT: usize = 98_400;
 pub const HELD: usize = 300;
@@ -148,6 +150,9 @@ pub enum Line {
 pub struct Console {
     pub table: Vec<u32>,
     pub health: Vec<u8>,
+    pub book: Vec<u8>,
+    /// How many bytes of the book are lent.
+    pub lent_book: usize,
     pub head: Head,
     pub registry: Vec<u32>,
     pub script: Vec<u32>,
@@ -179,6 +184,8 @@ impl Console {
         let mut console = Console {
             table: vec![0; TABLE],
             health: vec![0; HEALTH],
+            book: vec![0; BOOK],
+            lent_book: 0,
             head: Head::default(),
             registry: Vec::new(),
             script: Vec::new(),
@@ -209,7 +216,12 @@ impl Console {
         }
         let mut words = line.split(|&byte| byte == b' ');
         let command = words.next().unwrap_or_default();
-        let Some(numbers) = words.map(number).collect::<Option<Vec<u32>>>() else {
+        // of a setpoint one word is no number
+        let value = |(at, word)| match (command, at) {
+            (b"write_setpoint", 3) => kind_of(word),
+            _ => number(word),
+        };
+        let Some(numbers) = words.enumerate().map(value).collect::<Option<Vec<u32>>>() else {
             return Ok(Line::NotUnderstood);
         };
         if self.command(command, &numbers) {
@@ -245,6 +257,10 @@ impl Console {
             (b"byte", &[index, value]) if (index as usize) < HEALTH && value <= 255 => {
                 self.health[index as usize] = value as u8;
             }
+            (b"book", &[bytes]) if bytes as usize <= BOOK => self.lent_book = bytes as usize,
+            (b"book_byte", &[index, value]) if (index as usize) < BOOK && value <= 255 => {
+                self.book[index as usize] = value as u8;
+            }
             (b"registry", list) if list.len() <= REGISTRY => replace(&mut self.registry, list),
             (b"held", list) if list.len() <= HELD => replace(&mut self.held, list),
             (b"keys", list) if list.len() <= KEYS => replace(&mut self.keys, list),
@@ -278,13 +294,14 @@ impl Console {
         match (command, numbers) {
             (b"show", &[]) => self.show(out)?,
             (b"map", &[]) => self.map(out)?,
+            (b"show_book", &[]) => self.show_book(out)?,
             (b"help", &[]) => out.write_all(HELP.as_bytes())?,
             _ => return Ok(false),
         }
         Ok(true)
     }
 
-    /// Fills table and health with rubbish.
+    /// Fills table, health and book with rubbish.
     fn ram(&mut self, seed: u32) {
         let mut x = seed;
         let mut rubbish = || {
@@ -292,7 +309,9 @@ impl Console {
             x
         };
         self.table.fill_with(&mut rubbish);
-        self.health.fill_with(|| (rubbish() >> 16) as u8);
+        let mut rubbish_byte = || (rubbish() >> 16) as u8;
+        self.health.fill_with(&mut rubbish_byte);
+        self.book.fill_with(&mut rubbish_byte);
     }
 
     /// How many table words and health bytes a call under this head gets.
@@ -345,6 +364,22 @@ impl Console {
         Ok(())
     }
 
+    /// `book N`, and then for each stretch of 16 bytes of the lent book (the last may be shorter) that is not all 0 a
+    /// line with the number of its first byte and its bytes.
+    fn show_book(&self, out: &mut impl Write) -> io::Result<()> {
+        writeln!(out, "book {}", self.lent_book)?;
+        for (stretch, bytes) in self.book[..self.lent_book].chunks(16).enumerate() {
+            if bytes.iter().any(|&byte| byte != 0) {
+                write!(out, "at {}", 16 * stretch)?;
+                for byte in bytes {
+                    write!(out, " {byte}")?;
+                }
+                writeln!(out)?;
+            }
+        }
+        Ok(())
+    }
+
     /// A call and what it prints, and behind that its trace. False: it is none, and nothing has changed.
     fn call(&mut self, call: &[u8], numbers: &[u32], out: &mut impl Write) -> io::Result<bool> {
         if !self.trace {
@@ -379,6 +414,8 @@ impl Console {
             self.prepare(headers, buckets, first, out)?;
         } else if let (b"crew", &[]) = (call, numbers) {
             self.crew(out)?;
+        } else if let Some(answer) = self.book_call(call, numbers) {
+            print_book(answer, out)?;
         } else if let Some(reply) = self.call_without_script(call, numbers) {
             self.head = reply.head;
             self.print(reply.answer, reply.counts, out)?;
@@ -497,6 +534,25 @@ impl Console {
         })
     }
 
+    /// The calls of the book, which leave head and place. None is given health, and only the write the table.
+    fn book_call(&mut self, call: &[u8], numbers: &[u32]) -> Option<Result<Noted, BookRefusal>> {
+        let head = self.head;
+        let (words, _) = self.lent(head);
+        let table = &mut self.table[..words];
+        let book = &mut self.book[..self.lent_book];
+        Some(match (call, numbers) {
+            (b"prepare_book", &[]) => book::prepare_book(head, book).map(|()| Noted::Done),
+            (b"write_setpoint", &[slot, cell, serial, kind, value]) => {
+                // a valve other than 0 and 1 is not understood
+                let setpoint = Setpoint::of(kind, value)?;
+                let lease = Lease { cell, serial };
+                book::write_setpoint(head, table, book, slot, lease, setpoint).map(Noted::Version)
+            }
+            (b"read_setpoint", &[slot]) => book::read_setpoint(head, book, slot).map(Noted::Kept),
+            _ => return None,
+        })
+    }
+
     fn crew(&mut self, out: &mut impl Write) -> io::Result<()> {
         let (words, bytes) = self.lent(self.head);
         let CrewReply { head, answer } = rules::crew(
@@ -573,6 +629,43 @@ impl Console {
     }
 }
 
+/// What a call of the book answers that is not refused.
+enum Noted {
+    Done,
+    Version(u32),
+    Kept(Kept),
+}
+
+/// The line of a call of the book. Refusals without a number go by name.
+fn print_book(answer: Result<Noted, BookRefusal>, out: &mut impl Write) -> io::Result<()> {
+    match answer {
+        Ok(Noted::Done) => writeln!(out, "done"),
+        Ok(Noted::Version(version)) => writeln!(out, "done version {version}"),
+        Ok(Noted::Kept(Kept { setpoint, version })) => {
+            let kind = KINDS[usize::from(setpoint.kind()) - 1];
+            let number = setpoint.number();
+            writeln!(out, "setpoint {kind} {number} version {version}")
+        }
+        Err(BookRefusal::Numbered(refusal)) => writeln!(
+            out,
+            "refused {} {} {}",
+            refusal.number(),
+            refusal.name(),
+            refusal.carries()
+        ),
+        Err(refusal) => writeln!(out, "refused {}", refusal.name()),
+    }
+}
+
+/// The words of the kinds 1, 2 and 3.
+const KINDS: [&str; 3] = ["pressure", "speed", "valve"];
+
+/// The number of a kind's word.
+fn kind_of(word: &[u8]) -> Option<u32> {
+    let at = KINDS.iter().position(|kind| kind.as_bytes() == word)?;
+    Some(at as u32 + 1)
+}
+
 /// What stands behind `busy`, and behind the 4096 of refusal 11.
 fn print_reason(reason: Reason, out: &mut impl Write) -> io::Result<()> {
     match reason {
@@ -635,12 +728,14 @@ pub fn number(word: &[u8]) -> Option<u32> {
 
 /// The commands and calls, one a line, with what they take, for people.
 const HELP: &str = "\
-ram SEED: fills table and health with rubbish
+ram SEED: fills table, health and book with rubbish
 lend T G: calls get the first T table words and the first G health bytes
 lend: calls get what the head asks for
 head H B NEXT: this head is in force
 word I V: stores a table word
 byte I V: stores a health byte
+book N: calls get the first N bytes of the book
+book_byte I V: stores a byte of the book
 registry N..: the header number of each binding
 held CELL SERIAL ..: the held leases
 keys BINDING BUCKET ..: what acquire_index_locks asks for
@@ -653,6 +748,7 @@ member CELL ..: one more member of the crew
 crewless: no members
 show: the head, the cells that are not all 0, the health that is not 0
 map: a character for each cell
+show_book: the lent length of the book, and its bytes that are not 0, sixteen a line
 echo 1, echo 0: print each line before it is played, or do not
 trace 1, trace 0: each call prints what it did to the bits of the cells, or does not
 help: this list
@@ -674,4 +770,7 @@ acquire_index_bucket BINDING BUCKET
 release_all
 acquire_index_locks
 crew
+prepare_book
+write_setpoint SLOT CELL SERIAL pressure BITS, or speed NUMBER, or valve 0 or 1
+read_setpoint SLOT
 ";

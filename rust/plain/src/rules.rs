@@ -213,14 +213,14 @@ fn answer_of(attempt: Attempt) -> Answer {
 // ---- The arena
 
 /// A table whose length fits its head.
-struct Arena<'a> {
+pub(crate) struct Arena<'a> {
     head: Head,
-    cells: u32,
+    pub(crate) cells: u32,
     table: &'a mut [u32],
 }
 
-/// Refusal 1, as far as head and table go; else the number of cells.
-fn shape(head: Head, table: &[u32]) -> Result<u32, Refusal> {
+/// Refusal 1, as far as the head goes; else the number of cells.
+pub(crate) fn cells_of(head: Head) -> Result<u32, Refusal> {
     if !(1..=MOST_HEADERS).contains(&head.headers)
         || !(1..=MOST_BUCKETS).contains(&head.buckets)
         || head.next == 0
@@ -228,7 +228,16 @@ fn shape(head: Head, table: &[u32]) -> Result<u32, Refusal> {
         return Err(Refusal::BadShape);
     }
     let cells = head.headers * head.buckets;
-    if cells > MOST_CELLS || table.len() != 3 * cells as usize {
+    if cells > MOST_CELLS {
+        return Err(Refusal::BadShape);
+    }
+    Ok(cells)
+}
+
+/// Refusal 1, as far as head and table go; else the number of cells.
+fn shape(head: Head, table: &[u32]) -> Result<u32, Refusal> {
+    let cells = cells_of(head)?;
+    if table.len() != 3 * cells as usize {
         return Err(Refusal::BadShape);
     }
     Ok(cells)
@@ -253,7 +262,7 @@ fn waiters(cell: u32) -> usize {
 }
 
 impl<'a> Arena<'a> {
-    fn new(head: Head, table: &'a mut [u32]) -> Result<Self, Refusal> {
+    pub(crate) fn new(head: Head, table: &'a mut [u32]) -> Result<Self, Refusal> {
         let cells = shape(head, table)?;
         Ok(Arena { head, cells, table })
     }
@@ -321,7 +330,7 @@ impl<'a> Arena<'a> {
     }
 
     /// Refusal 12 for one lease.
-    fn check_live(&self, lease: Lease) -> Result<(), Refusal> {
+    pub(crate) fn check_live(&self, lease: Lease) -> Result<(), Refusal> {
         if self.is_live(lease) {
             Ok(())
         } else {

@@ -1,17 +1,19 @@
 //! The random histories reach every call, and with every call each answer that it can give; the reasons of a Busy, also
-//! where they change between attempts; the two readings of health in all their cases; and echo, map and trace in all
-//! theirs.
+//! where they change between attempts; the two readings of health in all their cases; the book's damages, and its faults
+//! two at a time; and echo, map and trace in all theirs.
 
-use plain::console::{Console, Line};
-use plain::rules;
+use plain::book::{self, BookRefusal};
+use plain::console::{number, Console, Line};
+use plain::rules::{self, Answer, Lease};
 use std::collections::{BTreeMap, BTreeSet};
 use std::process::Command;
+use std::sync::OnceLock;
 
 const CALLS: usize = 10_000;
 
-/// What each call can answer: a Busy by its reason, the refusals by number, in the order of document 01's table, and 11
-/// with its reason.
-const ANSWERS: [(&str, &str); 18] = [
+/// What each call can answer: a Busy by its reason, a setpoint by its kind, the refusals by number, in the order of
+/// document 01's table, and 11 with its reason, or by name, where they have no number.
+const ANSWERS: [(&str, &str); 21] = [
     ("prepare", "done 1"),
     ("try_acquire", "granted held 1 8 9 10"),
     ("drop_lease", "done 1 12"),
@@ -42,15 +44,31 @@ const ANSWERS: [(&str, &str); 18] = [
         "granted 1 2 3 4 5 6 7 8 9 10 11held 11before 11after",
     ),
     ("crew", "crew 1 15"),
+    ("prepare_book", "done 1 BadSlot"),
+    (
+        "write_setpoint",
+        "done 1 BadSlot 12 NotFinite DamagedBook VersionsSpent",
+    ),
+    (
+        "read_setpoint",
+        "pressure speed valve 1 BadSlot DamagedBook NeverWritten",
+    ),
 ];
 
-fn history(seed: u64) -> Vec<u8> {
+/// A history, made anew.
+fn fresh_history(seed: usize) -> Vec<u8> {
     let output = Command::new(env!("CARGO_BIN_EXE_histories"))
         .args([seed.to_string(), CALLS.to_string()])
         .output()
         .expect("histories runs");
     assert!(output.status.success());
     output.stdout
+}
+
+/// The history of one of the seeds 1 to 6, made once for all tests.
+fn history(seed: usize) -> &'static [u8] {
+    static HISTORIES: [OnceLock<Vec<u8>>; 7] = [const { OnceLock::new() }; 7];
+    HISTORIES[seed].get_or_init(|| fresh_history(seed))
 }
 
 /// A word of a line.
@@ -62,7 +80,7 @@ fn word(line: &str, at: usize) -> &str {
 fn answer_of(out: &str) -> String {
     match (word(out, 0), word(out, 1)) {
         ("refused", "11") => format!("11{}", word(out, 4)),
-        ("refused" | "busy", answer) => answer.to_string(),
+        ("refused" | "busy" | "setpoint", answer) => answer.to_string(),
         (answer, _) => answer.to_string(),
     }
 }
@@ -142,11 +160,12 @@ fn every_change_of_reason() {
     for seed in [1, 2] {
         let mut console = Console::new();
         for line in history(seed).split(|&byte| byte == b'\n') {
-            let (before, mut out) = (console.clone(), Vec::new());
+            let retrying = line.starts_with(b"acquire_index_");
+            let (before, mut out) = (retrying.then(|| console.clone()), Vec::new());
             console
                 .line(line, &mut out)
                 .expect("a vector takes every byte");
-            if out.starts_with(b"refused 11 ") {
+            if let Some(before) = before.filter(|_| out.starts_with(b"refused 11 ")) {
                 let line = String::from_utf8_lossy(line);
                 let out = String::from_utf8_lossy(&out);
                 seen.extend(change_of_reason(&before, &line, &out));
@@ -276,14 +295,22 @@ fn every_case_of_health() {
 
 #[test]
 fn the_seed_decides() {
-    let one = history(5);
+    let one = fresh_history(5);
     assert!(one == history(5));
     let other = history(6);
     let behind_the_first_line = |text: &[u8]| {
         let end = text.iter().position(|&byte| byte == b'\n').unwrap_or(0);
         text[end..].to_vec()
     };
-    assert!(behind_the_first_line(&one) != behind_the_first_line(&other));
+    assert!(behind_the_first_line(&one) != behind_the_first_line(other));
+}
+
+/// Whether a head keeps document 01's rules.
+fn good_head(head: rules::Head) -> bool {
+    (1..=64).contains(&head.headers)
+        && (1..=1024).contains(&head.buckets)
+        && head.headers * head.buckets <= 4096
+        && head.next > 0
 }
 
 /// Why there is no arena, or what characters and states the map has.
@@ -295,11 +322,7 @@ fn map_cases(console: &Console, map: &str, cases: &mut BTreeSet<String>) {
         let (words, bytes) = console.lent(console.head);
         let right_words = words as u128 == 3 * u128::from(headers) * u128::from(buckets);
         let right_bytes = bytes as u64 == u64::from(headers);
-        let good_head = (1..=64).contains(&headers)
-            && (1..=1024).contains(&buckets)
-            && headers * buckets <= 4096
-            && console.head.next > 0;
-        cases.insert(match (good_head, right_words, right_bytes) {
+        cases.insert(match (good_head(console.head), right_words, right_bytes) {
             (false, true, true) => "no arena: the head alone".to_string(),
             (false, _, _) => "no arena: the head and more".to_string(),
             (true, false, true) => "no arena: the table".to_string(),
@@ -376,9 +399,167 @@ fn every_case_of_map_and_echo() {
     assert_eq!(echoes, expected);
 }
 
+/// The rules that a damaged slot breaks, and how long the book is to be.
+fn damages(console: &Console, slot: usize) -> Vec<&'static str> {
+    let slots = book::slots_of(console.head.headers * console.head.buckets) as usize;
+    let line = &console.book[8 * slot..8 * slot + 8];
+    let body = &console.book[8 * slots + 5 * slot..8 * slots + 5 * slot + 5];
+    let place = usize::from(line[0]) + 256 * usize::from(line[1]);
+    let kept = body[1..]
+        .iter()
+        .rev()
+        .fold(0, |number, &byte| 256 * number + u32::from(byte));
+    let mut faults = Vec::new();
+    if line.iter().all(|&byte| byte == 0) {
+        return vec!["a body without a line"];
+    }
+    if place != 8 * slots + 5 * slot {
+        faults.push("place");
+    }
+    if line[2..4] != [5, 0] {
+        faults.push("length");
+    }
+    if line[4..] == [0; 4] {
+        faults.push("version 0");
+    }
+    match body[0] {
+        1 if !f32::from_bits(kept).is_finite() => faults.push("not finite"),
+        3 if kept > 1 => faults.push("valve"),
+        1..=3 => {}
+        0 => faults.push("kind 0"),
+        _ => faults.push("kind"),
+    }
+    faults
+}
+
+/// Each rule of a line and a body is broken alone, in a read and in a write.
+#[test]
+fn every_damage_of_the_book() {
+    let mut seen = BTreeSet::new();
+    for seed in [1, 2] {
+        let mut console = Console::new();
+        for line in history(seed).split(|&byte| byte == b'\n') {
+            let mut out = Vec::new();
+            console
+                .line(line, &mut out)
+                .expect("a vector takes every byte");
+            if out.starts_with(b"refused DamagedBook\n") {
+                let line = String::from_utf8_lossy(line);
+                let slot = number(word(&line, 1).as_bytes()).expect("a slot");
+                let faults = damages(&console, slot as usize);
+                assert!(!faults.is_empty(), "{line}");
+                if let &[fault] = faults.as_slice() {
+                    seen.insert(format!("{}: {fault}", word(&line, 0)));
+                }
+            }
+        }
+    }
+    let faults = [
+        "a body without a line",
+        "place",
+        "length",
+        "version 0",
+        "not finite",
+        "valve",
+        "kind 0",
+        "kind",
+    ];
+    let expected: BTreeSet<String> = faults
+        .iter()
+        .flat_map(|fault| {
+            ["read_setpoint", "write_setpoint"].map(|call| format!("{call}: {fault}"))
+        })
+        .collect();
+    assert_eq!(seen, expected);
+}
+
+/// Every fault of a `write_setpoint` under a good head, in the order of its refusals. Damage can be looked for only where
+/// there is such a slot.
+fn faults_of_a_write(console: &Console, line: &str) -> Vec<&'static str> {
+    let numbers = |at| number(word(line, at).as_bytes()).unwrap_or(0);
+    let head = console.head;
+    let (words, _) = console.lent(head);
+    let (slot, cell, serial) = (numbers(1), numbers(2), numbers(3));
+    let mut table = console.table[..words].to_vec();
+    let book = &console.book[..console.lent_book];
+    let mut faults = Vec::new();
+    let permission = rules::read_permission(head, &mut table, Lease { cell, serial }).answer;
+    if permission == Answer::Refused(rules::Refusal::BadShape) {
+        faults.push("1");
+    }
+    let read = book::read_setpoint(head, book, slot);
+    if read == Err(BookRefusal::BadSlot) {
+        let slots = book::slots_of(head.headers * head.buckets);
+        faults.push(match book.len() {
+            length if length < 13 * slots as usize => "too short",
+            length if length > 32_768 => "over the limit",
+            _ => "no such slot",
+        });
+    }
+    if permission != Answer::Cell(slot) && faults.first() != Some(&"1") {
+        faults.push("12");
+    }
+    if word(line, 4) == "pressure" && !f32::from_bits(numbers(5)).is_finite() {
+        faults.push("NotFinite");
+    }
+    match read {
+        Err(BookRefusal::DamagedBook) => faults.push("DamagedBook"),
+        Ok(kept) if kept.version == u32::MAX => faults.push("VersionsSpent"),
+        _ => {}
+    }
+    faults
+}
+
+/// Each two faults of a `write_setpoint` that can be there at once, and there are no more than these two.
+#[test]
+fn every_two_faults_of_a_write() {
+    let mut seen = BTreeSet::new();
+    for seed in 1..=6 {
+        let mut console = Console::new();
+        for line in history(seed).split(|&byte| byte == b'\n') {
+            let write = line.starts_with(b"write_setpoint ") && good_head(console.head);
+            let (before, mut out) = (write.then(|| console.clone()), Vec::new());
+            let kind = console
+                .line(line, &mut out)
+                .expect("a vector takes every byte");
+            if let Some(before) = before.filter(|_| kind == Line::Call) {
+                let line = String::from_utf8_lossy(line);
+                seen.insert(faults_of_a_write(&before, &line).join(" "));
+            }
+        }
+    }
+    for expected in [
+        "",
+        "1",
+        "too short",
+        "over the limit",
+        "no such slot",
+        "12",
+        "NotFinite",
+        "DamagedBook",
+        "VersionsSpent",
+        "1 too short",
+        "1 no such slot",
+        "1 NotFinite",
+        "1 DamagedBook",
+        "too short 12",
+        "too short NotFinite",
+        "over the limit 12",
+        "over the limit NotFinite",
+        "no such slot 12",
+        "12 NotFinite",
+        "12 DamagedBook",
+        "12 VersionsSpent",
+        "NotFinite DamagedBook",
+        "NotFinite VersionsSpent",
+    ] {
+        assert!(seen.contains(expected), "{expected}: not in {seen:?}");
+    }
+}
+
 /// What each call can do to bits: kinds of `step` lines that its trace can have. Behind the kind `+` if there can be
 /// several.
-const STEPS: [(&str, &str); 18] = [
+const STEPS: [(&str, &str); 21] = [
     ("prepare", "0 2 2+"),
     ("try_acquire", "0 1"),
     ("drop_lease", "0 2"),
@@ -397,6 +578,9 @@ const STEPS: [(&str, &str); 18] = [
     ("release_all", "0 1 1+ 2 2+"),
     ("acquire_index_locks", "0 1 1+ 2 2+"),
     ("crew", "0 1 1+"),
+    ("prepare_book", "0"),
+    ("write_setpoint", "0"),
+    ("read_setpoint", "0"),
 ];
 
 #[test]

@@ -4,6 +4,7 @@
 //! The writer plays each line as it writes it, so it knows the arena: it can name live leases, damage a cell that
 //! is in use, and keep the calls with 4,096 attempts few.
 
+use plain::book;
 use plain::console::{self, Console, Line};
 use plain::dice::Dice;
 use plain::rules;
@@ -25,8 +26,8 @@ fn main() -> io::Result<()> {
     out.write_all(&writer.text)
 }
 
-/// Every call, with the count of its numbers.
-const CALLS: [(&str, usize); 18] = [
+/// Every call but `write_setpoint`, which takes a word too, with the count of its numbers.
+const CALLS: [(&str, usize); 20] = [
     ("prepare", 3),
     ("try_acquire", 1),
     ("drop_lease", 2),
@@ -45,10 +46,30 @@ const CALLS: [(&str, usize); 18] = [
     ("release_all", 0),
     ("acquire_index_locks", 0),
     ("crew", 0),
+    ("prepare_book", 0),
+    ("read_setpoint", 1),
+];
+
+/// Pressures: zero and minus zero, the least and greatest that are finite, infinities and no numbers.
+const PRESSURES: [u32; 14] = [
+    0,
+    0x8000_0000,
+    1,
+    0x8000_0001,
+    0x3f80_0000,
+    0xc120_0000,
+    0x007f_ffff,
+    0x7f7f_ffff,
+    0xff7f_ffff,
+    0x7f80_0000,
+    0xff80_0000,
+    0x7f80_0001,
+    0x7fc0_0000,
+    u32::MAX,
 ];
 
 /// Lines that are not understood.
-const BAD_LINES: [&str; 80] = [
+const BAD_LINES: [&str; 110] = [
     " ",
     "\t",
     "\r",
@@ -129,6 +150,36 @@ const BAD_LINES: [&str; 80] = [
     "trace 2",
     "trace 01",
     "trace 1 0",
+    "book",
+    "book 33001",
+    "book 4294967295",
+    "book 1 2",
+    "book -1",
+    "book_byte 33000 0",
+    "book_byte 4294967295 0",
+    "book_byte 0 256",
+    "book_byte 0",
+    "book_byte 0 1 2",
+    "prepare_book 0",
+    "prepare_book ",
+    "show_book 1",
+    "show_books",
+    "read_setpoint",
+    "read_setpoint 0 0",
+    "read_setpoint speed",
+    "write_setpoint",
+    "write_setpoint 0 0 1 speed",
+    "write_setpoint 0 0 1 2 5",
+    "write_setpoint 0 0 1 0 speed 5",
+    "write_setpoint 0 0 1 speed 5 5",
+    "write_setpoint 0 0 speed 5",
+    "write_setpoint 0 0 1 Valve 1",
+    "write_setpoint 0 0 1 valve 2",
+    "write_setpoint 0 0 1 valve 4294967295",
+    "write_setpoint 0 0 1 speed 4294967296",
+    "write_setpoint 0 0 1 pressure 1.5",
+    "write_setpoint 0 0 1 pressure  5",
+    "write_setpoint 0 0 1 speed\t5",
 ];
 
 struct Writer {
@@ -165,6 +216,7 @@ impl Writer {
             }
         }
         self.write("map", &[]);
+        self.write_setpoint(0, [0, 1], "speed", 1);
         // long lines are dear: one for each 3,000 calls
         let mut long = 3_000;
         while self.calls < calls {
@@ -266,6 +318,18 @@ impl Writer {
     fn trace(&mut self) {
         let trace = self.dice.once_in(2);
         self.write("trace", &[u32::from(trace)]);
+    }
+
+    fn write_setpoint(&mut self, slot: u32, [cell, serial]: [u32; 2], kind: &str, value: u32) {
+        let line = format!("write_setpoint {slot} {cell} {serial} {kind} {value}");
+        self.line(line.as_bytes());
+    }
+
+    /// `show_book`, of long books seldom: before it is prepared it may be full of rubbish.
+    fn show_book(&mut self) {
+        if self.console.lent_book <= 900 || self.dice.once_in(60) {
+            self.write("show_book", &[]);
+        }
     }
 
     // ---- What the arena has
@@ -658,8 +722,15 @@ impl Writer {
             self.members();
             self.turns();
         }
+        if self.dice.once_in(2) {
+            self.lend_book();
+        }
         for _ in 0..self.dice.below(6) + 3 {
             let (cell, [binding, bucket]) = (self.cell(), self.key());
+            if self.dice.once_in(12) {
+                self.set();
+                continue;
+            }
             match self.dice.pick(&CALLS) {
                 ("prepare", _) => {}
                 ("acquire_index_bucket", _) => self.acquire(binding, bucket),
@@ -845,6 +916,12 @@ impl Writer {
     /// for changing reasons; in the end it is held or waited for, and stays so.
     fn restless_script(&mut self, cell: u32) {
         let mut script = Vec::new();
+        // others wait in the third boundary and no more in the fourth, or the fifth
+        if self.dice.once_in(3) {
+            script.extend([5, 0, 0, 5, 0, 0, 3, cell, 1, 5, 0, 0]);
+            script.extend([5, 0, 0].repeat(self.dice.below(2)));
+            script.extend([3, cell, 0]);
+        }
         for _ in 0..self.dice.below(6) + 1 {
             let serial = self.next().wrapping_add(self.dice.number(3));
             script.extend(match self.dice.below(6) {
@@ -1136,7 +1213,7 @@ impl Writer {
         }
         let [cell, serial] = self.lease();
         let [binding, bucket] = self.key();
-        match self.dice.below(71) {
+        match self.dice.below(77) {
             0..=3 => self.call_by_cell("try_acquire"),
             4..=7 => self.write("drop_lease", &[cell, serial]),
             8..=9 => self.write("read_permission", &[cell, serial]),
@@ -1170,7 +1247,8 @@ impl Writer {
                 self.crew();
             }
             64..=67 => self.lock_poisoned(),
-            _ => self.lock_waited_for(),
+            68..=70 => self.lock_waited_for(),
+            _ => self.book(),
         }
     }
 
@@ -1327,6 +1405,186 @@ impl Writer {
             self.turns();
         }
         self.write("crew", &[]);
+    }
+
+    // ---- The book
+
+    fn slots(&self) -> u32 {
+        book::slots_of(self.cells())
+    }
+
+    /// Lends the book anew: mostly as long as its slots need, or a little longer.
+    fn lend_book(&mut self) {
+        let needed = ((book::LINE + book::BODY) as u32) * self.slots();
+        let bytes = match self.dice.below(20) {
+            0 => needed - 1,
+            1 => self.dice.number(needed),
+            2 => 0,
+            3 => self.dice.pick(&[32_768, 32_769, 33_000]),
+            4 => self.dice.number(console::BOOK as u32 + 1),
+            5..=9 => needed + self.dice.number(40),
+            _ => needed,
+        };
+        self.write("book", &[bytes]);
+    }
+
+    /// One call of the book or a few, and what surrounds them.
+    fn book(&mut self) {
+        let needed = (book::LINE + book::BODY) * self.slots() as usize;
+        let fits = (needed..=book::MOST_BYTES).contains(&self.console.lent_book);
+        if self.dice.once_in(if fits { 20 } else { 2 }) {
+            self.lend_book();
+        }
+        // in a book of another arena, or of rubbish, every slot is damaged
+        let damaged = !self.reads("NeverWritten") && !self.reads("version");
+        if self.dice.once_in(if damaged { 2 } else { 20 }) {
+            self.write("prepare_book", &[]);
+        }
+        for _ in 0..self.dice.below(3) + 1 {
+            match self.dice.below(14) {
+                0..=5 => self.set(),
+                6..=7 => {
+                    self.set_for_sure();
+                }
+                8..=11 => {
+                    let slot = self.slot();
+                    self.write("read_setpoint", &[slot]);
+                }
+                _ => self.damage_book(),
+            }
+        }
+        if self.dice.once_in(6) {
+            self.show_book();
+        }
+    }
+
+    /// Whether one of the first slots reads as a line with this word.
+    fn reads(&self, word: &str) -> bool {
+        (0..self.slots().min(4)).any(|slot| {
+            let mut answer = Vec::new();
+            let line = line_of("read_setpoint", &[slot]);
+            let played = self.console.clone().line(&line, &mut answer);
+            played.is_ok() && String::from_utf8_lossy(&answer).contains(word)
+        })
+    }
+
+    /// A slot: mostly one of a few, or one that a setpoint stands in.
+    fn slot(&mut self) -> u32 {
+        let slots = self.slots();
+        match self.dice.below(30) {
+            0 => slots,
+            1 => self.dice.odd_number(),
+            2 => slots - 1,
+            3..=5 => self.dice.number(slots),
+            6..=10 => self.dice.number(slots.min(4)),
+            _ => self.slot_in_use(),
+        }
+    }
+
+    /// A slot whose line is not all 0, if there is one among the first.
+    fn slot_in_use(&mut self) -> u32 {
+        let lines = self.console.book.chunks(book::LINE).enumerate();
+        let used: Vec<u32> = lines
+            .take(self.slots().min(12) as usize)
+            .filter(|(_, line)| line.iter().any(|&byte| byte != 0))
+            .map(|(slot, _)| slot as u32)
+            .collect();
+        match used.is_empty() {
+            true => self.dice.number(self.slots().min(4)),
+            false => self.dice.pick(&used),
+        }
+    }
+
+    fn setpoint(&mut self) -> (&'static str, u32) {
+        match self.dice.below(12) {
+            0..=4 => ("pressure", self.dice.pick(&PRESSURES)),
+            5 => ("pressure", self.dice.roll() as u32),
+            6..=8 => ("speed", self.dice.odd_number()),
+            _ => ("valve", self.dice.number(2)),
+        }
+    }
+
+    /// `write_setpoint` with a lease that may be any, mostly of the slot's cell.
+    fn set(&mut self) {
+        let lease = self.lease();
+        let slot = match self.dice.below(6) {
+            0 => self.slot(),
+            _ => lease[0],
+        };
+        let (kind, value) = self.setpoint();
+        self.write_setpoint(slot, lease, kind, value);
+    }
+
+    /// `write_setpoint` with a live lease of one of the first cells, which is taken if need be. Its slot.
+    fn set_for_sure(&mut self) -> u32 {
+        let cell = self.dice.number(self.slots().min(4));
+        if self.words(cell)[..2] == [0, 0] {
+            self.write("try_acquire", &[cell]);
+        }
+        let lease = [cell, self.words(cell)[1]];
+        let (kind, value) = self.setpoint();
+        self.write_setpoint(cell, lease, kind, value);
+        cell
+    }
+
+    /// Other bytes in a slot's line or body, or around them, and calls that may meet them.
+    fn damage_book(&mut self) {
+        let slots = self.slots();
+        let slot = match self.dice.below(3) {
+            0 => self.dice.number(slots.min(4)),
+            _ => self.set_for_sure(),
+        };
+        let line = book::LINE as u32 * slot;
+        let body = book::LINE as u32 * slots + book::BODY as u32 * slot;
+        let any = self.dice.number(256);
+        let small = self.dice.number(7);
+        match self.dice.below(12) {
+            // the version: the last one, the one before it, none, another
+            0..=2 => {
+                let low = self.dice.pick(&[255, 255, 254]);
+                for (byte, value) in [low, 255, 255, 255].into_iter().enumerate() {
+                    self.write("book_byte", &[line + 4 + byte as u32, value]);
+                }
+            }
+            3 => {
+                for byte in 4..8 {
+                    self.write("book_byte", &[line + byte, 0]);
+                }
+            }
+            4 => {
+                let byte = 4 + self.dice.number(4);
+                self.write("book_byte", &[line + byte, any]);
+            }
+            // place and length
+            5..=6 => {
+                let byte = self.dice.number(4);
+                let value = self.dice.pick(&[any, small, 0]);
+                self.write("book_byte", &[line + byte, value]);
+            }
+            // kind and number
+            7..=8 => self.write("book_byte", &[body, small]),
+            9 => {
+                let byte = 1 + self.dice.number(4);
+                let value = self.dice.pick(&[any, small, 127, 128, 255]);
+                self.write("book_byte", &[body + byte, value]);
+            }
+            10 => {
+                self.write("book_byte", &[body + 3, 128]);
+                self.write("book_byte", &[body + 4, 127]);
+            }
+            // another slot, or behind the bodies
+            _ => {
+                let at = self.dice.number(13 * slots + 40);
+                self.write("book_byte", &[at, any]);
+            }
+        }
+        let lease = [slot, self.words(slot)[1]];
+        let (kind, value) = self.setpoint();
+        if self.dice.once_in(2) {
+            self.write("read_setpoint", &[slot]);
+        }
+        self.write_setpoint(slot, lease, kind, value);
+        self.write("read_setpoint", &[slot]);
     }
 
     // ---- Lines that are no good, and lines that are long
