@@ -6,7 +6,7 @@ use mathlib.Core.Path.{_≡_}
 use mathlib.Core.List.{List, _∷_, _++_, []}
 use mathlib.Core.Logic.{_↔_}
 use lib.ListN.{length, getD}
-use Rattle.model.specs.Log.{Event, Made, took, released, waiters-set, health-set, spun, yielded, attempt-begun, boundary-run, step-dropped, by-caller, by-script}
+use Rattle.model.specs.Log.{Event, Made, took, released, waiters-set, health-set, held-all, added, spun, yielded, attempt-begun, boundary-run, step-dropped, by-caller, by-script}
 use Rattle.model.specs.Arena.{leaseOf, wordsOf}
 use Rattle.model.specs.Refusals.{numberOf}
 use Rattle.model.specs.Lock.{bindingAt, bucketAt}
@@ -39,6 +39,8 @@ caller-takes (took by-script c s ∷ es) = caller-takes es
 caller-takes (released a c s ∷ es) = caller-takes es
 caller-takes (waiters-set c n ∷ es) = caller-takes es
 caller-takes (health-set i n ∷ es) = caller-takes es
+caller-takes (held-all m ∷ es) = caller-takes es
+caller-takes (added m c v ∷ es) = caller-takes es
 
 pub data Ends : Answer → (boundaries : ℕ) (taken released : List Lease) → Type 0 where
   -- 6, 7, 8: the key names no cell of a header that is healthy at the first reading
@@ -170,6 +172,8 @@ is-spin (took a c s) = 0
 is-spin (released a c s) = 0
 is-spin (waiters-set c n) = 0
 is-spin (health-set i n) = 0
+is-spin (held-all m) = 0
+is-spin (added m c v) = 0
 
 unfoldable pub spins-in : List Event → ℕ
 spins-in [] = 0

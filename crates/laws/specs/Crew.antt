@@ -1,6 +1,7 @@
--- What the crew's checks give: few members with few cells, and each member's list in the run, in range and strictly rising.
-use Prim.Native.Nat.{ℕ, zero, suc, _+_, _-_, _≤_, _<_}
-use mathlib.Core.Path.{_≡_, _∙_}
+-- The moves of a crew's work, and what its checks give: few members with few cells, each member's list in the run, in range and strictly
+-- rising, and one counter a cell.
+use Prim.Native.Nat.{ℕ, zero, suc, _+_, _*_, _-_, _≤_, _<_}
+use mathlib.Core.Path.{_≡_, refl, _∙_}
 use mathlib.Core.List.{List, [], _∷_, _++_}
 use mathlib.Core.Bool.{true, not, _&&_, _||_}
 use native.Mathlib.Omega.{arith}
@@ -8,13 +9,40 @@ use native.Mathlib.Decide.{decLt, ℕ-discrete}
 use lib.Dec.{ltb, leb, eqb}
 use lib.ListN.{length, getD, drop, length-take, length-drop, List·getD-eq-default}
 use lib.Seq.{getD-take, getD-drop}
-use borrow.Author.Tests.{ltb-true, ltb-false, leb-true, eqb-true, not-false}
-use Rattle.model.specs.Arena.{within}
+use borrow.Author.Tests.{ltb-true, ltb-false, leb-true, eqb-true, eq-eqb, not-false}
+use Rattle.model.specs.Arena.{within, cellsOf}
 use Rattle.model.specs.Refusals.{first}
-use Rattle.model.specs.Crew.{total, startOf, countOf, listOf, allWithin, badLimits, risesFrom, badLists}
+use Rattle.model.specs.Checks.{badShape, badHealth}
+use Rattle.model.specs.Crew.{Work, rests, adds, addsOf, movesOf, total, startOf, countOf, listOf, allWithin, badLimits, risesFrom, badLists, planRules, crewRules, badCounters, crewAtWorkRules}
 use Rattle.model.specs.declared.Check.the-variants.{Fine}
+use Rattle.model.specs.declared.Head.{Head}
 use Rattle.choice.specs.Pick.{both, neither}
-use Rattle.laws.specs.Checks.{fine-rest}
+use Rattle.laws.specs.Checks.{fine-rest, first-skip}
+
+-- ---- the work
+
+-- at most a move a cell
+pub adds-few : (work : Work) (n : ℕ) → addsOf work n ≤ n
+unfolding addsOf
+adds-few rests n = omega arith
+adds-few adds n = omega arith
+
+pub adds-none : (work : Work) → addsOf work 0 ≡ 0
+adds-none work = omega (arith, adds-few work 0)
+
+pub adds-plus : (work : Work) (n k : ℕ) → addsOf work (n + k) ≡ addsOf work n + addsOf work k
+unfolding addsOf
+adds-plus rests n k = refl
+adds-plus adds n k = refl
+
+-- all moves: two a cell, or three
+pub moves-two : (n : ℕ) → movesOf rests n ≡ 2 * n
+unfolding addsOf
+moves-two n = omega arith
+
+pub moves-three : (n : ℕ) → movesOf adds n ≡ 3 * n
+unfolding addsOf
+moves-three n = omega arith
 
 -- ---- where the lists lie
 
@@ -111,3 +139,22 @@ pub cell-inside : (inside : ℕ) (counts cells : List ℕ) → length cells ≡ 
 cell-inside inside counts cells size e m j l =
     let r = lists-rise (length counts) 0 inside counts cells e m (omega arith) (omega (arith, member counts m (omega arith))) in
     rw (listed counts cells m j l) at (rises-inside inside 0 (listOf counts cells m) r j (omega (arith, list-long counts cells size m)))
+
+-- ---- the checks of the crew at work are those of the crew, and one counter a cell
+
+module _ (h : Head) (t g counts cells turns counters : List ℕ) where
+  pub at-work-fine : length counters ≡ cellsOf h → first (crewRules h t g counts cells turns) ≡ Fine → first (crewAtWorkRules h t g counts cells turns counters) ≡ Fine
+  unfolding crewRules crewAtWorkRules
+  at-work-fine wide e =
+      let a = fine-rest _ _ e in
+      let b = fine-rest _ _ (a .1) in
+      first-skip (badShape h t) _ (a .0) ∙ first-skip (badHealth h g) _ (b .0)
+      ∙ first-skip (badCounters h counters) (planRules h counts cells turns) (rw (eq-eqb (length counters) (cellsOf h) wide)) ∙ b .1
+
+  pub fine-at-work : first (crewAtWorkRules h t g counts cells turns counters) ≡ Fine → (length counters ≡ cellsOf h) × (first (crewRules h t g counts cells turns) ≡ Fine)
+  unfolding crewRules crewAtWorkRules
+  fine-at-work e =
+      let a = fine-rest _ _ e in
+      let b = fine-rest _ _ (a .1) in
+      let c = fine-rest _ _ (b .1) in
+      (eqb-true _ _ (not-false _ (c .0)), first-skip (badShape h t) _ (a .0) ∙ first-skip (badHealth h g) _ (b .0) ∙ c .1)

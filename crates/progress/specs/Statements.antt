@@ -6,7 +6,7 @@ use mathlib.Core.Logic.{_⊎_}
 use lib.Dec.{eqb}
 use lib.ListN.{length, getD, set, replicate}
 use Rattle.choice.specs.Choice.{if_then_else_}
-use Rattle.model.specs.Log.{Made, Event, by-caller, attempt-begun, boundary-run, yielded, spun, step-dropped, took, released, waiters-set, health-set}
+use Rattle.model.specs.Log.{Made, Event, by-caller, attempt-begun, boundary-run, yielded, spun, step-dropped, took, released, waiters-set, health-set, held-all, added}
 use Rattle.model.specs.Arena.{lastSerial, spentTo, waitersAt, setCell, stateAt}
 use Rattle.model.specs.Refusals.{first}
 use Rattle.model.specs.Crew.{total, startOf, countOf, listOf, crewRules, Crew, crewAt, turnOf, turnsOf, crewOf}
@@ -193,6 +193,8 @@ cell-of (took a c s) = c
 cell-of (released a c s) = c
 cell-of (waiters-set c n) = 0
 cell-of (health-set i n) = 0
+cell-of (held-all m) = 0
+cell-of (added m c v) = 0
 
 -- the cells of a log's takes, or of its releases, in their order
 unfoldable pub cells-in : Kind → List Event → List ℕ
