@@ -67,14 +67,14 @@ Attempt-ends f =
 
 -- ---- one call and then another: the counts add up, the logs follow one another, and the second's answer stands
 
-abbrev pub added : Counts → Counts → Counts
-added a b = countsOf (a .attempts + b .attempts) (a .boundaries + b .boundaries) (a .yields + b .yields) (a .dropped + b .dropped)
+abbrev pub added-up : Counts → Counts → Counts
+added-up a b = countsOf (a .attempts + b .attempts) (a .boundaries + b .boundaries) (a .yields + b .yields) (a .dropped + b .dropped)
 
 infixr 4 _and-then_
 abbrev pub _and-then_ : Made (World × Says) → Made (World × Says) → Made (World × Says)
 m and-then n =
     record {
-      seen = (n .seen .0, says (n .seen .1 .answer) (added (m .seen .1 .counts) (n .seen .1 .counts)) (n .seen .1 .place) (n .seen .1 .grants));
+      seen = (n .seen .0, says (n .seen .1 .answer) (added-up (m .seen .1 .counts) (n .seen .1 .counts)) (n .seen .1 .place) (n .seen .1 .grants));
       log = m .log ++ n .log;
     }
 

@@ -13,7 +13,7 @@ use Rattle.model.specs.Arena.{cellsOf, leaseOf, bitAt, ownerAt, setCell, shapeF
 use Rattle.model.specs.Refusals.{Rule, refusalOf, first}
 use Rattle.model.specs.Lock.{leaseAt, noLease}
 use Rattle.model.specs.Calls.{tryAcquireOf, dropLeaseOf, readPermissionOf, competingAcquireOf, releaseThenHandoffOf, foreignReleaseOf, acquirePreservingOf, dropPreservingOf, environmentOf, tryLockOf, transactionalOf, acquireBucketOf, releaseAllOf, acquireLocksOf}
-use Rattle.model.specs.Crew.{crewOf}
+use Rattle.model.specs.Crew.{crewOf, shiftOf, crewAtWorkOf}
 use Rattle.model.specs.declared.Check.{Check}
 use Rattle.model.specs.declared.Check.the-variants.{Fine, Fault}
 use Rattle.model.specs.declared.Lease.{Lease}
@@ -179,7 +179,7 @@ lawful-trace protected w (e ∷ es) z k u =
 
 pub refused : (w : World) (k : Call) (r : Refusal) → first (rules w k) ≡ Fault r → perform w k ≡ unchanged w k r
 unfolding perform tryAcquireOf dropLeaseOf readPermissionOf competingAcquireOf releaseThenHandoffOf foreignReleaseOf acquirePreservingOf dropPreservingOf
-    environmentOf tryLockOf transactionalOf acquireBucketOf releaseAllOf acquireLocksOf crewOf
+    environmentOf tryLockOf transactionalOf acquireBucketOf releaseAllOf acquireLocksOf shiftOf crewOf crewAtWorkOf
 refused w (try-acquire c) r e = rw e
 refused w (drop-lease l) r e = rw e
 refused w (read-permission l) r e = rw e
@@ -205,7 +205,7 @@ first-after (y ∷ xs) x ys c e = first-skip y (xs ++ (x ∷ ys)) (c .0) ∙ fir
 -- no check applies: the steps are made
 made : (w : World) (k : Call) → first (rules w k) ≡ Fine → perform w k ≡ steps w k
 unfolding perform tryAcquireOf dropLeaseOf readPermissionOf competingAcquireOf releaseThenHandoffOf foreignReleaseOf acquirePreservingOf dropPreservingOf
-    environmentOf tryLockOf transactionalOf acquireBucketOf releaseAllOf acquireLocksOf crewOf
+    environmentOf tryLockOf transactionalOf acquireBucketOf releaseAllOf acquireLocksOf shiftOf crewOf crewAtWorkOf
 made w (try-acquire c) e = simp (e, append-nil)
 made w (drop-lease l) e = rw e
 made w (read-permission l) e = rw e
