@@ -490,16 +490,17 @@ Tight-where-shared-at-work =
     → 1 ≤ total counts
     → Short-at-work h t g counts cells counters
 
+-- for every K from 1 to 256
+abbrev pub For-every : (ℕ → Type 0) → Type 0
+For-every P = (K : ℕ) → 1 ≤ K → K ≤ 256 → P K
+
 abbrev pub Tight-for-every : Type 0
-Tight-for-every =
-    (K : ℕ) → 1 ≤ K → K ≤ 256
-    → (h : Head) × (t : List ℕ) × (g : List ℕ) × (counts : List ℕ) × (cells : List ℕ) × (total counts ≡ K) × Short h t g counts cells
+Tight-for-every = For-every λ K. (h : Head) × (t : List ℕ) × (g : List ℕ) × (counts : List ℕ) × (cells : List ℕ) × (total counts ≡ K) × Short h t g counts cells
 
 -- with any counters
 abbrev pub Tight-for-every-at-work : Type 0
 Tight-for-every-at-work =
-    (K : ℕ) → 1 ≤ K → K ≤ 256
-    → (h : Head) × (t : List ℕ) × (g : List ℕ) × (counts : List ℕ) × (cells : List ℕ) × (total counts ≡ K)
+    For-every λ K. (h : Head) × (t : List ℕ) × (g : List ℕ) × (counts : List ℕ) × (cells : List ℕ) × (total counts ≡ K)
     × ((counters : List ℕ) → length counters ≡ cellsOf h → Short-at-work h t g counts cells counters)
 
 -- the premises can be met by members that contend: two want the same cells
