@@ -23,7 +23,6 @@ use Rattle.laws.specs.Checks.{fine-rest, first-skip}
 
 -- at most a move a cell
 pub adds-few : (work : Work) (n : ℕ) → addsOf work n ≤ n
-unfolding addsOf
 adds-few rests n = omega arith
 adds-few adds n = omega arith
 
@@ -31,17 +30,14 @@ pub adds-none : (work : Work) → addsOf work 0 ≡ 0
 adds-none work = omega (arith, adds-few work 0)
 
 pub adds-plus : (work : Work) (n k : ℕ) → addsOf work (n + k) ≡ addsOf work n + addsOf work k
-unfolding addsOf
 adds-plus rests n k = refl
 adds-plus adds n k = refl
 
 -- all moves: two a cell, or three
 pub moves-two : (n : ℕ) → movesOf rests n ≡ 2 * n
-unfolding addsOf
 moves-two n = omega arith
 
 pub moves-three : (n : ℕ) → movesOf adds n ≡ 3 * n
-unfolding addsOf
 moves-three n = omega arith
 
 -- ---- where the lists lie

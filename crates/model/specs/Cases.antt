@@ -15,7 +15,7 @@ use Rattle.model.specs.Foreign.{stepTakeOf, stepReleaseOf, stepWaitersOf
 use Rattle.model.specs.Lock.{takeOf, lateOf, secondOf, lockOf, findOf, attemptOf, spinOf, pauseOf, retryOf, giveBackOf, rollbackOf, locksOf}
 use Rattle.model.specs.Checks.{notLive, badBindings, notReleasable, prepareRules, cellRules, leaseRules, heldCellRules, heldLeaseRules, scriptRules, lockRules, bucketRules, releaseRules, locksRules}
 use Rattle.model.specs.Calls.{prepareOf, acquireOf, tryAcquireOf, dropLeaseOf, readPermissionOf, competingAcquireOf, releaseThenHandoffOf, foreignReleaseOf, acquirePreservingOf, dropPreservingOf, environmentOf, tryLockOf, transactionalOf, acquireBucketOf, releaseAllOf, acquireLocksOf}
-use Rattle.model.specs.Crew.{addsOf, summedOf, total, startOf, allWithin, risesFrom, badLists, badTurns, crewRules, crewAtWorkRules, tryTurnOf, heldAllOf, addTurnOf, releaseTurnOf, turnOf, turnsOf, takenOf, releasedOf, shiftOf, crewOf, crewAtWorkOf}
+use Rattle.model.specs.Crew.{summedOf, total, startOf, allWithin, risesFrom, badLists, badTurns, crewRules, crewAtWorkRules, tryTurnOf, heldAllOf, addTurnOf, releaseTurnOf, turnOf, turnsOf, takenOf, releasedOf, shiftOf, crewOf, crewAtWorkOf}
 use Rattle.model.specs.declared.Answer.{Answer}
 use Rattle.model.specs.declared.Counts.{Counts}
 use Rattle.model.specs.declared.CrewReply.{CrewReply}
@@ -389,5 +389,5 @@ atWork =
 
 -- every figure of every case holds of the definitions
 pub cases-hold : (every cases ≡ true) × (every further ≡ true) × (every secondReading ≡ true) × (every atWork ≡ true)
-unfolding bitAt ownerAt waitersAt setCell setWaiters isFree isHeld stateOf stateAt isLive leasesOf wordsOf sameLease isIn headFits shapeFits healthFits registryFits first stepTakeOf stepReleaseOf stepWaitersOf stepHealthOf stepOf runStepsOf boundaryOf takeOf lateOf secondOf lockOf findOf attemptOf spinOf pauseOf retryOf giveBackOf rollbackOf locksOf notLive badBindings notReleasable prepareRules cellRules leaseRules heldCellRules heldLeaseRules scriptRules lockRules bucketRules releaseRules locksRules prepareOf acquireOf tryAcquireOf dropLeaseOf readPermissionOf competingAcquireOf releaseThenHandoffOf foreignReleaseOf acquirePreservingOf dropPreservingOf environmentOf tryLockOf transactionalOf acquireBucketOf releaseAllOf acquireLocksOf addsOf summedOf total startOf allWithin risesFrom badLists badTurns crewRules crewAtWorkRules tryTurnOf heldAllOf addTurnOf releaseTurnOf turnOf turnsOf takenOf releasedOf shiftOf crewOf crewAtWorkOf
+unfolding bitAt ownerAt waitersAt setCell setWaiters isFree isHeld stateOf stateAt isLive leasesOf wordsOf sameLease isIn headFits shapeFits healthFits registryFits first stepTakeOf stepReleaseOf stepWaitersOf stepHealthOf stepOf runStepsOf boundaryOf takeOf lateOf secondOf lockOf findOf attemptOf spinOf pauseOf retryOf giveBackOf rollbackOf locksOf notLive badBindings notReleasable prepareRules cellRules leaseRules heldCellRules heldLeaseRules scriptRules lockRules bucketRules releaseRules locksRules prepareOf acquireOf tryAcquireOf dropLeaseOf readPermissionOf competingAcquireOf releaseThenHandoffOf foreignReleaseOf acquirePreservingOf dropPreservingOf environmentOf tryLockOf transactionalOf acquireBucketOf releaseAllOf acquireLocksOf summedOf total startOf allWithin risesFrom badLists badTurns crewRules crewAtWorkRules tryTurnOf heldAllOf addTurnOf releaseTurnOf turnOf turnsOf takenOf releasedOf shiftOf crewOf crewAtWorkOf
 cases-hold = (refl, refl, refl, refl)

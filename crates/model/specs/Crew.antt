@@ -27,7 +27,7 @@ pub data Work : Type 0 where
   rests adds : Work
 
 -- its moves for that, if it has n cells
-unfoldable pub addsOf : Work → ℕ → ℕ
+abbrev pub addsOf : Work → ℕ → ℕ
 addsOf rests n = 0
 addsOf adds n = n
 

@@ -73,7 +73,6 @@ crew-deeds h t g counts cells rounds m o rs n =
     (d .takes-so, d .releases-so)
 
 pub crew-deeds-at-work : Crew-deeds-at-work
-unfolding addsOf
 crew-deeds-at-work h t g counts cells counters rounds m o wide rs n =
     let e = moves-three (total counts) in
     let d = crew-deeds-over adds h t g counts cells counters rounds m o (crew-at-work-rounds h t g counts cells rounds (o .fine) counters wide rs) (omega arith) in
