@@ -15,7 +15,7 @@ use Rattle.model.specs.Foreign.{stepTakeOf, stepReleaseOf, stepWaitersOf
 use Rattle.model.specs.Lock.{takeOf, lateOf, secondOf, lockOf, findOf, attemptOf, spinOf, pauseOf, retryOf, giveBackOf, rollbackOf, locksOf}
 use Rattle.model.specs.Checks.{notLive, badBindings, notReleasable, prepareRules, cellRules, leaseRules, heldCellRules, heldLeaseRules, scriptRules, lockRules, bucketRules, releaseRules, locksRules}
 use Rattle.model.specs.Calls.{prepareOf, acquireOf, tryAcquireOf, dropLeaseOf, readPermissionOf, competingAcquireOf, releaseThenHandoffOf, foreignReleaseOf, acquirePreservingOf, dropPreservingOf, environmentOf, tryLockOf, transactionalOf, acquireBucketOf, releaseAllOf, acquireLocksOf}
-use Rattle.model.specs.Crew.{summedOf, total, startOf, allWithin, risesFrom, badLists, badTurns, crewRules, crewAtWorkRules, tryTurnOf, heldAllOf, addTurnOf, releaseTurnOf, turnOf, turnsOf, takenOf, releasedOf, shiftOf, crewOf, crewAtWorkOf}
+use Rattle.model.specs.Crew.{summedOf, total, startOf, allWithin, risesFrom, badLists, badTurns, crewRules, crewAtWorkRules, tryTurnOf, heldAllOf, addTurnOf, releaseTurnOf, turnOf, turnsOf, takenOf, releasedOf, shiftOf, crewOf, crewAtWorkOf, orderOf}
 use Rattle.model.specs.declared.Answer.{Answer}
 use Rattle.model.specs.declared.Counts.{Counts}
 use Rattle.model.specs.declared.CrewReply.{CrewReply}
@@ -34,8 +34,9 @@ pub record Out : Type 0 where
   pub table : List ℕ
   -- a lease: of the answer, or the first of the grant buffer
   pub lease : List ℕ
-  -- of the crew at work
+  -- of the crew at work; and the order in which members came to hold all
   pub counters : List ℕ
+  pub order : List ℕ
 
 abbrev noCounts : Counts
 noCounts = record { attempts = 0; boundaries = 0; yields = 0; dropped = 0 }
@@ -43,33 +44,33 @@ noCounts = record { attempts = 0; boundaries = 0; yields = 0; dropped = 0 }
 abbrev fromReply : Made (Reply × List ℕ) → Out
 fromReply m =
     let r = m .seen .0 in
-    record { answer = r .answer; head = r .head; at = 0; counts = r .counts; turns = (0, 0); table = m .seen .1; lease = valuesOf (r .answer); counters = [] }
+    record { answer = r .answer; head = r .head; at = 0; counts = r .counts; turns = (0, 0); table = m .seen .1; lease = valuesOf (r .answer); counters = []; order = [] }
 
 -- a call that changes no word
 abbrev fromRead : Made Reply → Out
 fromRead m =
     let r = m .seen in
-    record { answer = r .answer; head = r .head; at = 0; counts = r .counts; turns = (0, 0); table = []; lease = valuesOf (r .answer); counters = [] }
+    record { answer = r .answer; head = r .head; at = 0; counts = r .counts; turns = (0, 0); table = []; lease = valuesOf (r .answer); counters = []; order = [] }
 
 abbrev fromPlayed : Made (Played × (List ℕ × List ℕ)) → Out
 fromPlayed m =
     let r = m .seen .0 in
-    record { answer = r .answer; head = r .head; at = r .place; counts = r .counts; turns = (0, 0); table = m .seen .1 .0; lease = valuesOf (r .answer); counters = [] }
+    record { answer = r .answer; head = r .head; at = r .place; counts = r .counts; turns = (0, 0); table = m .seen .1 .0; lease = valuesOf (r .answer); counters = []; order = [] }
 
 abbrev fromLocks : Made (Played × (List ℕ × (List ℕ × List ℕ))) → Out
 fromLocks m =
     let r = m .seen .0 in
-    record { answer = r .answer; head = r .head; at = r .place; counts = r .counts; turns = (0, 0); table = m .seen .1 .0; lease = m .seen .1 .1 .1; counters = [] }
+    record { answer = r .answer; head = r .head; at = r .place; counts = r .counts; turns = (0, 0); table = m .seen .1 .0; lease = m .seen .1 .1 .1; counters = []; order = [] }
 
 abbrev fromCrew : Made (CrewReply × List ℕ) → Out
 fromCrew m =
     let r = m .seen .0 in
-    record { answer = r .answer; head = r .head; at = 0; counts = noCounts; turns = (r .moving, r .idle); table = m .seen .1; lease = []; counters = [] }
+    record { answer = r .answer; head = r .head; at = 0; counts = noCounts; turns = (r .moving, r .idle); table = m .seen .1; lease = []; counters = []; order = [] }
 
 abbrev fromCrewAtWork : Made (CrewReply × (List ℕ × List ℕ)) → Out
 fromCrewAtWork m =
     let r = m .seen .0 in
-    record { answer = r .answer; head = r .head; at = 0; counts = noCounts; turns = (r .moving, r .idle); table = m .seen .1 .0; lease = []; counters = m .seen .1 .1 }
+    record { answer = r .answer; head = r .head; at = 0; counts = noCounts; turns = (r .moving, r .idle); table = m .seen .1 .0; lease = []; counters = m .seen .1 .1; order = orderOf (m .log) }
 
 -- ---- the figures that a sentence gives
 
@@ -136,6 +137,10 @@ owner c o = ownerAt (o .table) c
 
 abbrev counter : ℕ → Out → ℕ
 counter c o = getD (o .counters) c 0
+
+-- the member that came to hold all as the so many-th
+abbrev holder : ℕ → Out → ℕ
+holder i o = getD (o .order) i 99
 
 -- ---- one statement for a list of cases: every figure of every call of it comes out
 
@@ -385,9 +390,11 @@ atWork =
     ∷ (crewAtWork (2 ∷ 2 ∷ []) (2 ∷ 5 ∷ 5 ∷ 2 ∷ []) (pairs 11) counters give (refusal is 15 ∷ carries is 1 ∷ bit 2 is 0 ∷ counter 2 is 40_000 ∷ counter 5 is 60_000 ∷ []))
     -- the value noted is of the moment of holding all: member 1 waits for cell 5, and member 0 adds to it before
     ∷ (crewAtWork (2 ∷ 1 ∷ []) (2 ∷ 5 ∷ 5 ∷ []) (0 ∷ 0 ∷ 1 ∷ 0 ∷ 0 ∷ 0 ∷ 1 ∷ 1 ∷ 1 ∷ 0 ∷ []) counters give (moving is 9 ∷ idle is 1 ∷ next is 4 ∷ counter 2 is 14_464 ∷ counter 5 is 3_392 ∷ []))
+    -- "in the order in which they came to hold all": member 1 is finished first, and member 0 held all first; it is named once
+    ∷ (crewAtWork (2 ∷ 1 ∷ []) (2 ∷ 5 ∷ 5 ∷ []) (0 ∷ 0 ∷ 0 ∷ 0 ∷ 0 ∷ 1 ∷ 1 ∷ 1 ∷ 0 ∷ []) counters give (moving is 9 ∷ holder 0 is 0 ∷ holder 1 is 1 ∷ holder 2 is 99 ∷ []))
     ∷ []
 
 -- every figure of every case holds of the definitions
 pub cases-hold : (every cases ≡ true) × (every further ≡ true) × (every secondReading ≡ true) × (every atWork ≡ true)
-unfolding bitAt ownerAt waitersAt setCell setWaiters isFree isHeld stateOf stateAt isLive leasesOf wordsOf sameLease isIn headFits shapeFits healthFits registryFits first stepTakeOf stepReleaseOf stepWaitersOf stepHealthOf stepOf runStepsOf boundaryOf takeOf lateOf secondOf lockOf findOf attemptOf spinOf pauseOf retryOf giveBackOf rollbackOf locksOf notLive badBindings notReleasable prepareRules cellRules leaseRules heldCellRules heldLeaseRules scriptRules lockRules bucketRules releaseRules locksRules prepareOf acquireOf tryAcquireOf dropLeaseOf readPermissionOf competingAcquireOf releaseThenHandoffOf foreignReleaseOf acquirePreservingOf dropPreservingOf environmentOf tryLockOf transactionalOf acquireBucketOf releaseAllOf acquireLocksOf summedOf total startOf allWithin risesFrom badLists badTurns crewRules crewAtWorkRules tryTurnOf heldAllOf addTurnOf releaseTurnOf turnOf turnsOf takenOf releasedOf shiftOf crewOf crewAtWorkOf
+unfolding bitAt ownerAt waitersAt setCell setWaiters isFree isHeld stateOf stateAt isLive leasesOf wordsOf sameLease isIn headFits shapeFits healthFits registryFits first stepTakeOf stepReleaseOf stepWaitersOf stepHealthOf stepOf runStepsOf boundaryOf takeOf lateOf secondOf lockOf findOf attemptOf spinOf pauseOf retryOf giveBackOf rollbackOf locksOf notLive badBindings notReleasable prepareRules cellRules leaseRules heldCellRules heldLeaseRules scriptRules lockRules bucketRules releaseRules locksRules prepareOf acquireOf tryAcquireOf dropLeaseOf readPermissionOf competingAcquireOf releaseThenHandoffOf foreignReleaseOf acquirePreservingOf dropPreservingOf environmentOf tryLockOf transactionalOf acquireBucketOf releaseAllOf acquireLocksOf summedOf total startOf allWithin risesFrom badLists badTurns crewRules crewAtWorkRules tryTurnOf heldAllOf addTurnOf releaseTurnOf turnOf turnsOf takenOf releasedOf shiftOf crewOf crewAtWorkOf orderOf
 cases-hold = (refl, refl, refl, refl)

@@ -6,7 +6,7 @@ use mathlib.Core.Bool.{Bool, true, not, _&&_, _||_}
 use lib.Dec.{ltb, leb, eqb}
 use lib.ListN.{length, getD, set, take, drop, replicate}
 use Rattle.choice.specs.Choice.{if_then_else_}
-use Rattle.model.specs.Log.{Made, by-caller, attempt-begun, released, held-all, added, gives, note, _>>=_, _>>_}
+use Rattle.model.specs.Log.{Made, Event, by-caller, attempt-begun, boundary-run, yielded, spun, step-dropped, took, released, waiters-set, health-set, held-all, added, gives, note, _>>=_, _>>_}
 use Rattle.model.specs.Arena.{within, cellsOf, spentTo, headerOf, isPoisoned, setCell}
 use Rattle.model.specs.Refusals.{Rule, refuse_carrying_when_, first, judge}
 use Rattle.model.specs.Checks.{badShape, badHealth}
@@ -233,3 +233,18 @@ unfoldable pub crewAtWorkOf : Head → List ℕ → List ℕ → List ℕ → Li
 crewAtWorkOf h t g counts cells turns counters =
     judge (first (crewAtWorkRules h t g counts cells turns counters)) (λ r. gives (crewRefused h r, (t, counters)))
     (shiftOf adds h t g counts cells turns counters)
+
+-- "in the order in which they came to hold all": read off the log
+unfoldable pub orderOf : List Event → List ℕ
+orderOf [] = []
+orderOf (attempt-begun ∷ es) = orderOf es
+orderOf (boundary-run ∷ es) = orderOf es
+orderOf (yielded ∷ es) = orderOf es
+orderOf (spun ∷ es) = orderOf es
+orderOf (step-dropped ∷ es) = orderOf es
+orderOf (took a c s ∷ es) = orderOf es
+orderOf (released a c s ∷ es) = orderOf es
+orderOf (waiters-set c n ∷ es) = orderOf es
+orderOf (health-set i n ∷ es) = orderOf es
+orderOf (held-all m ∷ es) = m ∷ orderOf es
+orderOf (added m c v ∷ es) = orderOf es
