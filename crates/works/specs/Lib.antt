@@ -4,3 +4,6 @@ pub mod Wholes
 pub mod Due
 pub mod Kept
 pub mod Reorders
+pub mod First
+pub mod Played
+pub mod Wraps

@@ -108,6 +108,9 @@ Sums-wrap f =
     o .seen .0 .answer ≡ Done → Low counters
     → (c : ℕ) → c < length counters → getD (o .seen .1 .1) c 0 ≡ (getD counters c 0 + values-to c (o .log)) % 65536
 
+abbrev pub Stays-low : Crew-at-work-build → Type 0
+Stays-low f = (h : Head) (t g counts cells turns counters : List ℕ) → Low counters → Low (f h t g counts cells turns counters .seen .1 .1)
+
 -- ---- when turns run out before the end
 
 -- a member that came to hold all still owes an add to this cell: to the j-th of its list, and it has made j adds at most
