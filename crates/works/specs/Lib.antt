@@ -1,4 +1,5 @@
 pub mod Statements
+pub mod Theorems
 pub mod Orders
 pub mod Wholes
 pub mod Due
@@ -7,3 +8,4 @@ pub mod Reorders
 pub mod First
 pub mod Played
 pub mod Wraps
+pub mod Once

@@ -3,10 +3,10 @@ use Prim.Native.Nat.{ℕ, _+_}
 use mathlib.Core.Path.{_≡_, refl, sym, ap, _∙_}
 use mathlib.Core.List.{List, [], _∷_, _++_}
 use mathlib.Core.Bool.{Bool, true, false}
-use lib.ListN.{getD}
+use lib.ListN.{length, getD, length-set}
 use Rattle.choice.specs.Choice.{if_then_else_}
 use Rattle.model.specs.Log.{Event, by-caller, attempt-begun, boundary-run, yielded, spun, step-dropped, took, released, waiters-set, health-set, held-all, added}
-use Rattle.model.specs.Crew.{Work, Crew, moved, isFull, addedTo, turnOf, turnsOf}
+use Rattle.model.specs.Crew.{Work, summedOf, Crew, moved, isFull, addedTo, turnOf, turnsOf}
 use Rattle.model.specs.declared.Head.{Head}
 use Rattle.progress.specs.Statements.{filling, deeds-in, Turn, idled, grabbed, summed, gave}
 use Rattle.progress.specs.Turns.{same, turn-is}
@@ -44,6 +44,25 @@ played-append : (l : List ℕ) (xs ys : List Event) → playedOf l (xs ++ ys) �
 unfolding playedOf
 played-append l [] ys = refl
 played-append l (e ∷ xs) ys = played-more l e (xs ++ ys) ∙ played-append (effect e l) xs ys ∙ ap (λ (z : List ℕ). playedOf z ys) (sym (played-more l e xs))
+
+-- no counter comes or goes
+effect-long : (e : Event) (l : List ℕ) → length (effect e l) ≡ length l
+effect-long attempt-begun l = refl
+effect-long boundary-run l = refl
+effect-long yielded l = refl
+effect-long spun l = refl
+effect-long step-dropped l = refl
+effect-long (took a c s) l = refl
+effect-long (released a c s) l = refl
+effect-long (waiters-set c n) l = refl
+effect-long (health-set i n) l = refl
+effect-long (held-all m) l = refl
+effect-long (added m c v) l = length-set l c (summedOf (getD l c 0) v)
+
+pub played-long : (l : List ℕ) (log : List Event) → length (playedOf l log) ≡ length l
+unfolding playedOf
+played-long l [] = refl
+played-long l (e ∷ es) = ap length (played-more l e es) ∙ played-long (effect e l) es ∙ effect-long e l
 
 -- as a function of the counters
 abbrev play : List Event → List ℕ → List ℕ
