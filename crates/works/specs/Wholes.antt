@@ -31,37 +31,37 @@ among cells (suc left) k c = go (ℕ-discrete (named cells (k + left)) c) (among
         at j b (yes p) = rw p e
         at j b (no p) = f j (omega arith)
 
-module _ (plus : ℕ → ℕ → ℕ) (cells : List ℕ) (v : ℕ) where
-  abbrev put : List ℕ → ℕ → List ℕ
-  put l k = set l (named cells k) (plus (getD l (named cells k) 0) v)
-
-  pub raised-length : (left k : ℕ) (l : List ℕ) → length (raisedBy plus left k cells v l) ≡ length l
+module _ (plus : ℕ → ℕ → ℕ) (cells : List ℕ) where
+  pub raised-length : (v left k : ℕ) (l : List ℕ) → length (raisedBy plus left k cells v l) ≡ length l
   unfolding raisedBy
-  raised-length zero k l = refl
-  raised-length (suc left) k l = raised-length left (k + 1) (put l k) ∙ length-set l (named cells k) (plus (getD l (named cells k) 0) v)
+  raised-length v zero k l = refl
+  raised-length v (suc left) k l = raised-length _ left (k + 1) _ ∙ length-set l (named cells k) _
 
-  raised-other : (left k : ℕ) (l : List ℕ) (c : ℕ) → ((j : ℕ) → j < left → named cells (k + j) ≢ c) → getD (raisedBy plus left k cells v l) c 0 ≡ getD l c 0
+  raised-other : (v left k : ℕ) (l : List ℕ) (c : ℕ) → ((j : ℕ) → j < left → named cells (k + j) ≢ c) → getD (raisedBy plus left k cells v l) c 0 ≡ getD l c 0
   unfolding raisedBy
-  raised-other zero k l c apart = refl
-  raised-other (suc left) k l c apart =
-      raised-other left (k + 1) (put l k) c (λ j b e. apart (suc j) (omega arith) (ap (named cells) {x = k + suc j} {y = k + 1 + j} (omega arith) ∙ e))
-      ∙ getD-set-other l (named cells k) c (plus (getD l (named cells k) 0) v) 0 (λ e. apart 0 (omega arith) (ap (named cells) {x = k + 0} {y = k} (omega arith) ∙ sym e))
+  raised-other v zero k l c apart = refl
+  raised-other v (suc left) k l c apart =
+      raised-other _ left (k + 1) _ c (λ j b e. apart (suc j) (omega arith) (ap (named cells) {x = k + suc j} {y = k + 1 + j} (omega arith) ∙ e))
+      ∙ getD-set-other l (named cells k) c _ 0 (λ e. apart 0 (omega arith) (ap (named cells) {x = k + 0} {y = k} (omega arith) ∙ sym e))
 
-  raised-at : (left k : ℕ) (l : List ℕ) (j : ℕ) → ((a b : ℕ) → a < b → b < left → named cells (k + a) < named cells (k + b)) → j < left → named cells (k + j) < length l
+  abbrev put : ℕ → List ℕ → ℕ → List ℕ
+  put v l k = set l (named cells k) (plus (getD l (named cells k) 0) v)
+
+  raised-at : (v left k : ℕ) (l : List ℕ) (j : ℕ) → ((a b : ℕ) → a < b → b < left → named cells (k + a) < named cells (k + b)) → j < left → named cells (k + j) < length l
       → getD (raisedBy plus left k cells v l) (named cells (k + j)) 0 ≡ plus (getD l (named cells (k + j)) 0) v
   unfolding raisedBy
-  raised-at zero k l j rise b in-range = absurd (omega arith)
-  raised-at (suc left) k l zero rise b in-range =
+  raised-at v zero k l j rise b in-range = absurd (omega arith)
+  raised-at v (suc left) k l zero rise b in-range =
       let e : k + 0 ≡ k = omega arith in
       let i : named cells k < length l = rw e at in-range in
-      rw e (raised-other left (k + 1) (put l k) (named cells k)
+      rw e (raised-other v left (k + 1) (put v l k) (named cells k)
       (λ j b d. omega (arith, rise 0 (suc j) (omega arith) (omega arith), ap (named cells) {x = k + suc j} {y = k + 1 + j} (omega arith), ap (named cells) e))
       ∙ getD-set-same l (named cells k) (plus (getD l (named cells k) 0) v) 0 i)
-  raised-at (suc left) k l (suc j) rise b in-range =
+  raised-at v (suc left) k l (suc j) rise b in-range =
       let e : k + suc j ≡ k + 1 + j = omega arith in
       let i : named cells (k + 1 + j) < length l = rw e at in-range in
       let f : named cells k < named cells (k + 1 + j) = omega (arith, rise 0 (suc j) (omega arith) b, ap (named cells) e, ap (named cells) {x = k + 0} {y = k} (omega arith)) in
-      rw e (raised-at left (k + 1) (put l k) j
+      rw e (raised-at v left (k + 1) (put v l k) j
       (λ a b x y. omega (arith, rise (suc a) (suc b) (omega arith) (omega arith), ap (named cells) {x = k + suc a} {y = k + 1 + a} (omega arith), ap (named cells) {x = k + suc b} {y = k + 1 + b} (omega arith)))
       (omega arith) (omega (arith, length-set l (named cells k) (plus (getD l (named cells k) 0) v)))
       ∙ ap (λ x. plus x v) (getD-set-other l (named cells k) (named cells (k + 1 + j)) (plus (getD l (named cells k) 0) v) 0 (λ x. omega arith)))
@@ -69,11 +69,11 @@ module _ (plus : ℕ → ℕ → ℕ) (cells : List ℕ) (v : ℕ) where
 module _ (plus : ℕ → ℕ → ℕ) (counts cells : List ℕ) where
   pub whole-length : (l : List ℕ) (m : ℕ) → length (wholeBy plus counts cells l m) ≡ length l
   unfolding wholeBy
-  whole-length l m = raised-length plus cells (getD l (named cells (startOf counts m)) 0) (countOf counts m) (startOf counts m) l
+  whole-length l m = raised-length plus cells _ (countOf counts m) (startOf counts m) l
 
   pub whole-other : (l : List ℕ) (m c : ℕ) → ((j : ℕ) → j < countOf counts m → named cells (startOf counts m + j) ≢ c) → getD (wholeBy plus counts cells l m) c 0 ≡ getD l c 0
   unfolding wholeBy
-  whole-other l m c apart = raised-other plus cells (getD l (named cells (startOf counts m)) 0) (countOf counts m) (startOf counts m) l c apart
+  whole-other l m c apart = raised-other plus cells _ (countOf counts m) (startOf counts m) l c apart
 
   pub whole-none : (l : List ℕ) (m : ℕ) → countOf counts m ≡ 0 → wholeBy plus counts cells l m ≡ l
   unfolding wholeBy raisedBy
@@ -89,4 +89,4 @@ module _ (plus : ℕ → ℕ → ℕ) (counts cells : List ℕ) where
         → getD (wholeBy plus counts cells l m) (named cells (startOf counts m + j)) 0 ≡ plus (getD l (named cells (startOf counts m + j)) 0) (getD l (named cells (startOf counts m)) 0)
     unfolding wholeBy
     whole-at l m j b e =
-        raised-at plus cells (getD l (named cells (startOf counts m)) 0) (countOf counts m) (startOf counts m) l j (λ x y p q. f .rising m x y p q) b (omega (arith, f .range m j b))
+        raised-at plus cells _ (countOf counts m) (startOf counts m) l j (λ x y p q. f .rising m x y p q) b (omega (arith, f .range m j b))
