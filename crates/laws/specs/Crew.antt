@@ -3,17 +3,19 @@
 use Prim.Native.Nat.{ℕ, zero, suc, _+_, _*_, _-_, _≤_, _<_}
 use mathlib.Core.Path.{_≡_, refl, _∙_}
 use mathlib.Core.List.{List, [], _∷_, _++_}
-use mathlib.Core.Bool.{true, not, _&&_, _||_}
+use mathlib.Core.Bool.{Bool, true, false, not, _&&_, _||_}
 use native.Mathlib.Omega.{arith}
 use native.Mathlib.Decide.{decLt, ℕ-discrete}
 use lib.Dec.{ltb, leb, eqb}
 use lib.ListN.{length, getD, drop, length-take, length-drop, List·getD-eq-default}
 use lib.Seq.{getD-take, getD-drop}
 use borrow.Author.Tests.{ltb-true, ltb-false, leb-true, eqb-true, eq-eqb, not-false}
+use Rattle.choice.specs.Choice.{if_then_else_}
+use Rattle.model.specs.Log.{gives, _>>=_}
 use Rattle.model.specs.Arena.{within, cellsOf}
 use Rattle.model.specs.Refusals.{first}
 use Rattle.model.specs.Checks.{badShape, badHealth}
-use Rattle.model.specs.Crew.{Work, rests, adds, addsOf, movesOf, total, startOf, countOf, listOf, allWithin, badLimits, risesFrom, badLists, planRules, crewRules, badCounters, crewAtWorkRules}
+use Rattle.model.specs.Crew.{Work, rests, adds, addsOf, movesOf, total, startOf, countOf, listOf, allWithin, badLimits, risesFrom, badLists, planRules, crewRules, badCounters, crewAtWorkRules, Crew, idled, tryTurnOf, heldAllOf, addTurnOf, releaseTurnOf, turnOf, releasedOf}
 use Rattle.model.specs.declared.Check.the-variants.{Fine}
 use Rattle.model.specs.declared.Head.{Head}
 use Rattle.choice.specs.Pick.{both, neither}
@@ -154,3 +156,40 @@ module _ (h : Head) (t g counts cells turns counters : List ℕ) where
       let b = fine-rest _ _ (a .1) in
       let c = fine-rest _ _ (b .1) in
       (eqb-true _ _ (not-false _ (c .0)), first-skip (badShape h t) _ (a .0) ∙ first-skip (badHealth h g) _ (b .0) ∙ c .1)
+
+-- ---- a turn of the crew that rests: there is no move between the last take and the first release
+
+module _ (headers buckets : ℕ) (g counts cells : List ℕ) (w : Crew) (m : ℕ) where
+  abbrev n : ℕ
+  n = getD (w .made) m 0
+
+  abbrev count : ℕ
+  count = countOf counts m
+
+  abbrev k : ℕ
+  k = startOf counts m
+
+  pub rest-turn : turnOf rests headers buckets g counts cells w m
+      ≡ (if leb (2 * count) n then gives (idled (w .next) (w .table) w)
+      else if ltb n count then (tryTurnOf headers buckets g w m (k + n) (getD cells (k + n) 0) >>= λ v. heldAllOf counts cells v m)
+      else releaseTurnOf w m (k + (2 * count - 1 - n)) (getD cells (k + (2 * count - 1 - n)) 0))
+  unfolding turnOf
+  rest-turn =
+      let a : 2 * count + 0 ≡ 2 * count = omega arith in
+      let b : count + 0 ≡ count = omega arith in
+      rw (a, b) (go (ltb n count))
+    where
+      go : (c : Bool) → (if leb (2 * count) n then gives (idled (w .next) (w .table) w)
+          else if c then (tryTurnOf headers buckets g w m (k + n) (getD cells (k + n) 0) >>= λ v. heldAllOf counts cells v m)
+          else if c then addTurnOf w m (getD cells (k + (n - count)) 0)
+          else releaseTurnOf w m (k + (2 * count - 1 - n)) (getD cells (k + (2 * count - 1 - n)) 0))
+          ≡ (if leb (2 * count) n then gives (idled (w .next) (w .table) w)
+          else if c then (tryTurnOf headers buckets g w m (k + n) (getD cells (k + n) 0) >>= λ v. heldAllOf counts cells v m)
+          else releaseTurnOf w m (k + (2 * count - 1 - n)) (getD cells (k + (2 * count - 1 - n)) 0))
+      go true = refl
+      go false = refl
+
+-- and of what it released
+pub rest-released : (left m : ℕ) (counts made : List ℕ) → releasedOf rests (suc left) m counts made ≡ (getD made m 0 - countOf counts m) ∷ releasedOf rests left (m + 1) counts made
+unfolding releasedOf
+rest-released left m counts made = let e : countOf counts m + 0 ≡ countOf counts m = omega arith in rw e
