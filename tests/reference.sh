@@ -18,7 +18,7 @@ quoting=(
     "$specs"/*.antt
     crates/history/specs/{Statements,Answers}.antt
     crates/exact/specs/{Statements,Script,Attempts}.antt
-    crates/progress/specs/Statements.antt
+    crates/{progress,works}/specs/Statements.antt
 )
 
 # names_of PAGE..: the names File.name on it

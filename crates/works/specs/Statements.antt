@@ -77,7 +77,7 @@ playedOf l (health-set i n ∷ es) = playedOf l es
 playedOf l (held-all m ∷ es) = playedOf l es
 playedOf l (added m c v ∷ es) = playedOf (addedTo l c v) es
 
--- "of others, exactly the adds in the log": of all. The counters are those that the caller set, with the adds of the log
+-- of all members, finished or not: the counters are those that the caller set, with exactly the adds of the log
 abbrev pub Adds-are-all : Crew-at-work-build → Type 0
 Adds-are-all f =
     (h : Head) (t g counts cells turns counters : List ℕ) → let o = f h t g counts cells turns counters in
