@@ -2,6 +2,7 @@
 use Prim.Native.Nat.{ℕ, _+_, _-_, min, _≤_, _<_}
 use mathlib.Core.Path.{_≡_, refl, sym, ap, _∙_, subst}
 use mathlib.Core.List.{List, append-nil}
+use mathlib.Core.Logic.{_⊎_, inl, inr}
 use native.Mathlib.Omega.{arith}
 use native.Mathlib.Decide.{decLt}
 use lib.ListN.{length, getD}
@@ -24,7 +25,7 @@ use Rattle.progress.specs.Ended.{taken-at, released-at}
 use Rattle.progress.specs.Told.{turns-tally, turns-named}
 use Rattle.progress.specs.Whole.{Shown, start-shown}
 use Rattle.works.specs.Statements.{All-finished, Owes, times, Named-so}
-use Rattle.works.specs.Orders.{times-in, heldAll, run, log-of, turns-grow}
+use Rattle.works.specs.Orders.{in-times, times-in, heldAll, run, log-of, turns-grow}
 use Rattle.works.specs.Wholes.{whole-none}
 use Rattle.works.specs.Due.{Due}
 
@@ -117,6 +118,17 @@ module _ (h : Head) (t g counts cells turns counters : List ℕ) (fine : first (
   owes-so m j d =
       let some : 1 ≤ countOf counts m = omega (arith, d .2) in
       (m, j, times-in m (orderOf log) (omega (arith, named-full m some (d .0))), omega (arith, adds-so-far m (member counts m some), d .0, d .1), d .2, refl)
+
+  -- a member that has finished, or has not come to hold all, owes nothing
+  pub owes-none : (m j : ℕ) → In m (orderOf log) → adds-of m log ≤ j → j < countOf counts m
+      → (getD (reply .released) m 0 ≡ countOf counts m) ⊎ (getD (reply .taken) m 0 < countOf counts m) → ⊥
+  owes-none m j i a b (inl e) =
+      let l = member counts m (omega arith) in
+      omega (arith, adds-so-far m l, released-at adds counts (end .made) m (omega (arith, fit .few)))
+  owes-none m j i a b (inr e) =
+      let l = member counts m (omega arith) in
+      let k = taken-at counts (end .made) m (omega (arith, fit .few)) in
+      omega (arith, in-times m (orderOf log) i, named-not m (omega arith))
 
   -- ---- what the reply tells
 

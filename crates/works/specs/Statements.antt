@@ -117,12 +117,22 @@ Stays-low f = (h : Head) (t g counts cells turns counters : List ℕ) → Low co
 abbrev pub Owes : List ℕ → List ℕ → List Event → ℕ → Type 0
 Owes counts cells log c = (m : ℕ) × (j : ℕ) × In m (orderOf log) × (adds-of m log ≤ j) × (j < countOf counts m) × (named cells (startOf counts m + j) ≡ c)
 
--- every other counter is as replayed: so are those of members that finished, but where a later member at work has yet to add
+-- every other counter is as replayed
 abbrev pub Owes-only : Crew-at-work-build → Type 0
 Owes-only f =
     (h : Head) (t g counts cells turns counters : List ℕ) → let o = f h t g counts cells turns counters in
     o .seen .0 .answer ≡ Done
     → (c : ℕ) → (Owes counts cells (o .log) c → ⊥)
+    → getD (o .seen .1 .1) c 0 ≡ getD (replayOf counts cells counters (orderOf (o .log))) c 0
+
+-- so the counters of members that finished are as replayed: every cell that is wanted only by members that have finished or, as the reply
+-- tells it, have not come to hold all
+abbrev pub As-replayed : Crew-at-work-build → Type 0
+As-replayed f =
+    (h : Head) (t g counts cells turns counters : List ℕ) (c : ℕ) → let o = f h t g counts cells turns counters in
+    o .seen .0 .answer ≡ Done
+    → ((m j : ℕ) → j < countOf counts m → named cells (startOf counts m + j) ≡ c
+    → (getD (o .seen .0 .released) m 0 ≡ countOf counts m) ⊎ (getD (o .seen .0 .taken) m 0 < countOf counts m))
     → getD (o .seen .1 .1) c 0 ≡ getD (replayOf counts cells counters (orderOf (o .log))) c 0
 
 -- ---- the order names each member that came to hold all, once

@@ -16,14 +16,14 @@ use Rattle.model.specs.declared.CrewReply.{CrewReply}
 use Rattle.model.specs.declared.Head.{Head}
 use Rattle.laws.specs.Crew.{member}
 use Rattle.progress.specs.Statements.{named}
-use Rattle.works.specs.Statements.{replayOf, replayBy, All-finished, One-after-another, Low, Over-remainders, playedOf, Adds-are-all, Sums-wrap, Stays-low, Owes, Owes-only, Named-once, Released-first, Any-order}
+use Rattle.works.specs.Statements.{replayOf, replayBy, All-finished, One-after-another, Low, Over-remainders, playedOf, Adds-are-all, Sums-wrap, Stays-low, Owes, Owes-only, As-replayed, Named-once, Released-first, Any-order}
 use Rattle.works.specs.Due.{Settled, level, waits}
 use Rattle.works.specs.Kept.{Good, turns-good, start-good}
 use Rattle.works.specs.Reorders.{reorder}
 use Rattle.works.specs.First as first-of
 use Rattle.works.specs.Played.{played-long, turns-play}
 use Rattle.works.specs.Wraps.{played-at, replay-remainders}
-use Rattle.works.specs.Once.{done-fine, fit, wide, end, log, reply, result-is, at-most-once, owes-so, named-so, all-moved}
+use Rattle.works.specs.Once.{done-fine, fit, wide, end, log, reply, result-is, at-most-once, owes-so, owes-none, named-so, all-moved}
 
 module _ (h : Head) (t g counts cells turns counters : List ℕ) (fine : first (crewAtWorkRules h t g counts cells turns counters) ≡ Fine) where
   abbrev replayed : List ℕ
@@ -77,6 +77,11 @@ pub owes-only : Owes-only crewAtWorkOf
 owes-only h t g counts cells turns counters done =
     let fine = done-fine h t g counts cells turns counters done in
     rw (result-is h t g counts cells turns counters fine) (owes h t g counts cells turns counters fine)
+
+pub as-replayed : As-replayed crewAtWorkOf
+as-replayed h t g counts cells turns counters c done =
+    let fine = done-fine h t g counts cells turns counters done in
+    rw (result-is h t g counts cells turns counters fine) (λ all. owes h t g counts cells turns counters fine c (λ (m, j, i, a, b, e). owes-none h t g counts cells turns counters fine m j i a b (all m j b e)))
 
 pub named-once : Named-once crewAtWorkOf
 named-once h t g counts cells turns counters m done =
