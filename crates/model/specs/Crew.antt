@@ -82,6 +82,7 @@ unfoldable pub badTurns : ℕ → ℕ → List ℕ → List Rule
 badTurns members i [] = []
 badTurns members i (m ∷ ms) = (refuse 15 carrying i when leb members m) ∷ badTurns members (i + 1) ms
 
+-- "lists before turns": what both calls check of the crew
 abbrev pub planRules : Head → List ℕ → List ℕ → List ℕ → List Rule
 planRules h counts cells turns = badLimits counts cells turns ∷ (badLists (length counts) 0 (cellsOf h) counts cells ++ badTurns (length counts) 0 turns)
 
@@ -160,6 +161,7 @@ heldAllOf counts cells w m = do
 abbrev pub addedTo : List ℕ → ℕ → ℕ → List ℕ
 addedTo counters c value = set counters c (summedOf (getD counters c 0) value)
 
+-- "Between holding all and releasing, a member spends one moving turn a cell"
 unfoldable pub addTurnOf : Crew → ℕ → ℕ → Made Crew
 addTurnOf w m c = do
   note (added m c (getD (w .noted) m 0))
@@ -197,11 +199,12 @@ unfoldable pub takenOf : ℕ → ℕ → List ℕ → List ℕ → List ℕ
 takenOf zero m counts made = []
 takenOf (suc left) m counts made = min (getD made m 0) (countOf counts m) ∷ takenOf left (m + 1) counts made
 
--- behind the moves of its work
+-- a member's releases come behind the moves of its work
 unfoldable pub releasedOf : Work → ℕ → ℕ → List ℕ → List ℕ → List ℕ
 releasedOf work zero m counts made = []
 releasedOf work (suc left) m counts made = (getD made m 0 - (countOf counts m + addsOf work (countOf counts m))) ∷ releasedOf work left (m + 1) counts made
 
+-- a refused run: nobody moved
 abbrev pub crewRefused : Head → Refusal → CrewReply
 crewRefused h r = record { head = h; moving = 0; idle = 0; taken = replicate 16 0; released = replicate 16 0; answer = Refused r }
 
