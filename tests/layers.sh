@@ -6,7 +6,7 @@ set -euo pipefail
 cd "$(dirname "$0")/.."
 
 base='choice model laws setpoint slots'
-theory='history exact progress upstream builds swaps written'
+theory='history exact progress works upstream builds swaps written'
 steps='arena lease foreign lock bucket release multilock crew book'
 callers="$steps records skid ask map" # the calls themselves, and the faces that make them
 exports=skid

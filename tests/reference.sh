@@ -18,7 +18,7 @@ quoting=(
     "$specs"/*.antt
     crates/history/specs/{Statements,Answers}.antt
     crates/exact/specs/{Statements,Script,Attempts}.antt
-    crates/progress/specs/Statements.antt
+    crates/{progress,works}/specs/Statements.antt
     crates/setpoint/specs/Codec.antt
     crates/slots/specs/{Layout,Rules,Calls,Cases}.antt
     crates/written/specs/Statements.antt

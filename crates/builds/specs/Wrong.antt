@@ -6,7 +6,7 @@ use mathlib.Core.List.{List, [], _∷_, _++_}
 use lib.Dec.{leb, eqb}
 use lib.ListN.{length, replicate}
 use Rattle.choice.specs.Choice.{if_then_else_}
-use Rattle.model.specs.Log.{Made, Event, by-caller, by-script, attempt-begun, boundary-run, yielded, spun, step-dropped, took, released, waiters-set, health-set, gives, note, _>>=_, _>>_}
+use Rattle.model.specs.Log.{Made, Event, by-caller, by-script, attempt-begun, boundary-run, yielded, spun, step-dropped, took, released, waiters-set, health-set, held-all, added, gives, note, _>>=_, _>>_}
 use Rattle.model.specs.Arena.{spentTo, leaseOf, leasesOf, ownerAt, setCell}
 use Rattle.model.specs.Answers.{refusalIn}
 use Rattle.model.specs.Foreign.{Setting, boundaryOf}
@@ -26,7 +26,7 @@ use Rattle.model.specs.declared.Refusal.the-variants as refusal
 use Rattle.model.specs.declared.Run.{Run}
 use Rattle.model.specs.declared.Tried.{Tried}
 use Rattle.history.specs.World.{World, worldOf, now, caller-releases}
-use Rattle.history.specs.Items.{try-acquire, drop-lease, read-permission, competing-acquire, release-then-handoff, foreign-release, drop-preserving, acquire-preserving, environment, try-lock, transactional, acquire-bucket, release-all, acquire-locks, crew, asked, cellOf, place-of, Says, says, perform, foreign, Build, Stepper}
+use Rattle.history.specs.Items.{try-acquire, drop-lease, read-permission, competing-acquire, release-then-handoff, foreign-release, drop-preserving, acquire-preserving, environment, try-lock, transactional, acquire-bucket, release-all, acquire-locks, crew, crew-at-work, asked, cellOf, place-of, Says, says, perform, foreign, Build, Stepper}
 use Rattle.history.specs.Statements.{Crew-build, answer-in}
 
 -- ---- the same with another answer, and the like
@@ -111,6 +111,8 @@ skipping (released by-caller c s ∷ es) = es
 skipping (released by-script c s ∷ es) = released by-script c s ∷ skipping es
 skipping (waiters-set c n ∷ es) = waiters-set c n ∷ skipping es
 skipping (health-set i n ∷ es) = health-set i n ∷ skipping es
+skipping (held-all m ∷ es) = held-all m ∷ skipping es
+skipping (added m c v ∷ es) = added m c v ∷ skipping es
 
 abbrev pub skipped : World → Made (World × Says) → Answer → Made (World × Says)
 skipped w m (RefusedAt r p) = record { seen = (now w (skipping (m .log)), m .seen .1); log = skipping (m .log) }
@@ -169,6 +171,7 @@ others drop key once locks w (acquire-bucket registry script place held binding 
 others drop key once locks w (release-all script place leases) = perform w (release-all script place leases)
 others drop key once locks w (acquire-locks registry script place held keys grants) = locks w registry script place held keys grants
 others drop key once locks w (crew counts cells turns) = perform w (crew counts cells turns)
+others drop key once locks w (crew-at-work counts cells turns counters) = perform w (crew-at-work counts cells turns counters)
 
 abbrev pub our-drop : World → Lease → Made (World × Says)
 our-drop w l = perform w (drop-lease l)

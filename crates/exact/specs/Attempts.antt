@@ -6,7 +6,7 @@ use mathlib.Core.Path.{_≡_}
 use mathlib.Core.List.{List, _∷_, _++_, []}
 use mathlib.Core.Logic.{_↔_}
 use lib.ListN.{length, getD}
-use Rattle.model.specs.Log.{Event, Made, took, released, waiters-set, health-set, spun, yielded, attempt-begun, boundary-run, step-dropped, by-caller, by-script}
+use Rattle.model.specs.Log.{Event, Made, took, released, waiters-set, health-set, held-all, added, spun, yielded, attempt-begun, boundary-run, step-dropped, by-caller, by-script}
 use Rattle.model.specs.Arena.{leaseOf, wordsOf}
 use Rattle.model.specs.Refusals.{numberOf}
 use Rattle.model.specs.Lock.{bindingAt, bucketAt}
@@ -41,6 +41,8 @@ caller-takes (took by-script c s ∷ es) = caller-takes es
 caller-takes (released a c s ∷ es) = caller-takes es
 caller-takes (waiters-set c n ∷ es) = caller-takes es
 caller-takes (health-set i n ∷ es) = caller-takes es
+caller-takes (held-all m ∷ es) = caller-takes es
+caller-takes (added m c v ∷ es) = caller-takes es
 
 pub data Ends : Answer → (boundaries : ℕ) (taken released : List Lease) → Type 0 where
   -- 6, 7, 8: the key names no cell of a header that is healthy at the first reading
@@ -68,14 +70,14 @@ Attempt-ends f =
 
 -- ---- one call and then another: the counts add up, the logs follow one another, and the second's answer stands
 
-abbrev pub added : Counts → Counts → Counts
-added a b = countsOf (a .attempts + b .attempts) (a .boundaries + b .boundaries) (a .yields + b .yields) (a .dropped + b .dropped)
+abbrev pub added-up : Counts → Counts → Counts
+added-up a b = countsOf (a .attempts + b .attempts) (a .boundaries + b .boundaries) (a .yields + b .yields) (a .dropped + b .dropped)
 
 infixr 4 _and-then_
 abbrev pub _and-then_ : Made (World × Says) → Made (World × Says) → Made (World × Says)
 m and-then n =
     record {
-      seen = (n .seen .0, says (n .seen .1 .answer) (added (m .seen .1 .counts) (n .seen .1 .counts)) (n .seen .1 .place) (n .seen .1 .grants));
+      seen = (n .seen .0, says (n .seen .1 .answer) (added-up (m .seen .1 .counts) (n .seen .1 .counts)) (n .seen .1 .place) (n .seen .1 .grants));
       log = m .log ++ n .log;
     }
 
@@ -191,6 +193,8 @@ is-spin (took a c s) = 0
 is-spin (released a c s) = 0
 is-spin (waiters-set c n) = 0
 is-spin (health-set i n) = 0
+is-spin (held-all m) = 0
+is-spin (added m c v) = 0
 
 unfoldable pub spins-in : List Event → ℕ
 spins-in [] = 0

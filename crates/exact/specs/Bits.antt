@@ -6,7 +6,7 @@ use mathlib.Core.List.{List, [], _∷_}
 use native.Mathlib.Decide.{ℕ-discrete}
 use native.Mathlib.Omega.{arith}
 use lib.ListN.{length}
-use Rattle.model.specs.Log.{Event, attempt-begun, boundary-run, yielded, spun, step-dropped, took, released, waiters-set, health-set}
+use Rattle.model.specs.Log.{Event, attempt-begun, boundary-run, yielded, spun, step-dropped, took, released, waiters-set, health-set, held-all, added}
 use Rattle.model.specs.Arena.{bitAt, setCell}
 use Rattle.model.specs.Calls.{prepareOf}
 use Rattle.laws.specs.Lists.{zero-bit}
@@ -44,6 +44,8 @@ length-step w (took a d s) = length-set-cell (w .table) d 1 s
 length-step w (released a d s) = length-set-cell (w .table) d 0 0
 length-step w (waiters-set d n) = length-set-waiters (w .table) d n
 length-step w (health-set i n) = refl
+length-step w (held-all m) = refl
+length-step w (added m c v) = refl
 
 left-step : (w : World) (e : Event) (c : ℕ) → 3 * c < length (w .table) → Left (bitAt (w .table) c) (bitAt (step w e .table) c)
 left-step w attempt-begun c l = as-it-was refl
@@ -55,6 +57,8 @@ left-step w (took a d s) c l = put (w .table) d 1 s c (omega arith) l
 left-step w (released a d s) c l = put (w .table) d 0 0 c (omega arith) l
 left-step w (waiters-set d n) c l = as-it-was (bit-set-waiters (w .table) d n c)
 left-step w (health-set i n) c l = as-it-was refl
+left-step w (held-all i) c l = as-it-was refl
+left-step w (added i d x) c l = as-it-was refl
 
 then : {a b c : ℕ} → Left a b → Left b c → Left a c
 then _ (a-bit l) = a-bit l

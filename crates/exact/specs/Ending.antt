@@ -6,7 +6,7 @@ use native.Mathlib.Nat.{zero-add}
 use native.Mathlib.Omega.{arith}
 use lib.Dec.{leb, eqb}
 use lib.ListN.{getD}
-use Rattle.model.specs.Log.{Made, Event, by-caller, by-script, attempt-begun, boundary-run, yielded, spun, step-dropped, took, released, waiters-set, health-set}
+use Rattle.model.specs.Log.{Made, Event, by-caller, by-script, attempt-begun, boundary-run, yielded, spun, step-dropped, took, released, waiters-set, health-set, held-all, added}
 use Rattle.model.specs.Arena.{serialRemains, headerOf, isPoisoned, leaseOf, leasesOf, waitersAt, stateAt}
 use Rattle.model.specs.Refusals.{numberOf}
 use Rattle.model.specs.Foreign.{Setting, protecting, flowOf, boundaryOf}
@@ -45,6 +45,8 @@ none-then ys (also (took by-script c s) p a) = none-then ys a
 none-then ys (also (released x c s) p a) = none-then ys a
 none-then ys (also (waiters-set c n) p a) = none-then ys a
 none-then ys (also (health-set i n) p a) = none-then ys a
+none-then ys (also (held-all m) p a) = none-then ys a
+none-then ys (also (added m c v) p a) = none-then ys a
 
 -- an ending, its takes and releases read off a log
 abbrev pub Ends-by : Answer → ℕ → List Event → Type 0

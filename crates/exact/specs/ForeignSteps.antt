@@ -7,7 +7,7 @@ use mathlib.Core.Bool.{true, not, _&&_}
 use native.Mathlib.Omega.{arith}
 use lib.Dec.{ltb, leb, eqb}
 use borrow.Author.Tests.{ltb-true, leb-true, eqb-true, eqb-false, lt-ltb, le-leb, eq-eqb, not-true}
-use Rattle.model.specs.Log.{Made, Event, by-script, attempt-begun, boundary-run, yielded, spun, step-dropped, took, released, waiters-set, health-set}
+use Rattle.model.specs.Log.{Made, Event, by-script, attempt-begun, boundary-run, yielded, spun, step-dropped, took, released, waiters-set, health-set, held-all, added}
 use Rattle.model.specs.Arena.{lastSerial, serialRemains, cellsOf, leaseOf, bitAt, ownerAt, isFree, isLive, isIn}
 use Rattle.model.specs.Foreign.{stepTakeOf, stepReleaseOf, stepWaitersOf, stepHealthOf, stepOf}
 use Rattle.model.specs.Calls.{given}
@@ -128,6 +128,8 @@ allowed-legal w ps (took a c s) l = l
 allowed-legal w ps (released a c s) l = l .0
 allowed-legal w ps (waiters-set c n) l = l
 allowed-legal w ps (health-set i n) l = l
+allowed-legal w ps (held-all m) l = l
+allowed-legal w ps (added m c v) l = l
 
 legal-allowed : (w : World) (e : Event) → Legal w e → Allowed w [] e
 unfolding isIn
@@ -140,6 +142,8 @@ legal-allowed w (took a c s) l = l
 legal-allowed w (released a c s) l = (l, refl)
 legal-allowed w (waiters-set c n) l = l
 legal-allowed w (health-set i n) l = l
+legal-allowed w (held-all m) l = l
+legal-allowed w (added m c v) l = l
 
 -- a drop is asked for by no step
 not-asked : {w : World} {kind place number : ℕ} {e : Event} → Asks w kind place number e → e ≡ step-dropped → ⊥

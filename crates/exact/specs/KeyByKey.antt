@@ -38,7 +38,7 @@ use Rattle.history.specs.Steps.{With, worldAt, of-run, of-tried, Won, won, none
 use Rattle.history.specs.Many.{Held, of-locks, one-more}
 use Rattle.exact.specs.Statements.{Passes}
 use Rattle.exact.specs.Script.{acquire-bucket-has, acquire-locks-has, environment-has, place-in}
-use Rattle.exact.specs.Attempts.{added, _and-then_, locking, dropping, between, Gives-back, all-back, one-back, refused-at, Key-by-key, all-locked, one-locked, one-refused, Locks-as-calls, key-at}
+use Rattle.exact.specs.Attempts.{added-up, _and-then_, locking, dropping, between, Gives-back, all-back, one-back, refused-at, Key-by-key, all-locked, one-locked, one-refused, Locks-as-calls, key-at}
 use Rattle.exact.specs.Made.{made, drop-made}
 use Rattle.exact.specs.Passing.{clear-live, boundary-on, even, holding-more, in-script, key-passes, leases-append}
 use Rattle.exact.specs.Passing as passing
@@ -57,7 +57,7 @@ keys-from : (e : Setting) (left p buckets : ℕ) (registry keys : List ℕ) (tak
 keys-from e left p buckets registry keys taken r t g grants =
     rw (from-nil r) at (keys-on (counted r) e left p buckets registry keys taken (nil (r .flow .next) (r .flow .place)) t g grants)
 
-none-added : (c : Counts) → added (countsOf 0 0 0 0) c ≡ c
+none-added : (c : Counts) → added-up (countsOf 0 0 0 0) c ≡ c
 none-added c = rw (zero-add (c .attempts), zero-add (c .boundaries), zero-add (c .yields), zero-add (c .dropped))
 
 -- a lease of the first n of a list, by its place
@@ -199,7 +199,7 @@ module _ (h : Head) (registry script held keys grants : List ℕ) where
       let m = giveBackOf n e ls (nil (f .next) (f .place)) (c .seen .1 .0) (c .seen .1 .1) in
       let whole =
       ap (λ (k : Counts). record { seen = (of-run h (m .seen), says Done k (m .seen .0 .flow .place) []); log = released by-caller (l .cell) (l .serial) ∷ (c .log ++ m .log) })
-      (none-added (added (countsOf 0 1 0 (f .dropped)) (counted (m .seen .0))))
+      (none-added (added-up (countsOf 0 1 0 (f .dropped)) (counted (m .seen .0))))
       ∙ ap (λ (k : Made (With Run)). done-with h (record { seen = k .seen; log = released by-caller (l .cell) (l .serial) ∷ (c .log ++ k .log) }))
       (sym (back-from e n ls (runOf f 0 1 0) (c .seen .1 .0) (c .seen .1 .1))) in
       subst (λ (ks : List Lease). Backs ks v place (done-with h (giveBackOf (suc n) e ls (nil s place) t g))) (sym (take-suc ls n noLease (omega (arith, st .mine .enough))))

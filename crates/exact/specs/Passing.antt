@@ -9,7 +9,7 @@ use native.Mathlib.Omega.{arith}
 use lib.Dec.{ltb, eqb}
 use lib.ListN.{length, length-set, length-append}
 use borrow.Author.Tests.{not-false, le-ltb, ltb-false, eqb-true, eq-eqb}
-use Rattle.model.specs.Log.{Event, attempt-begun, boundary-run, yielded, spun, step-dropped, took, released, waiters-set, health-set}
+use Rattle.model.specs.Log.{Event, attempt-begun, boundary-run, yielded, spun, step-dropped, took, released, waiters-set, health-set, held-all, added}
 use Rattle.model.specs.Arena.{cellsOf, shapeFits, healthFits, isLive, leasesOf, isIn, wordsOf, leaseOf}
 use Rattle.model.specs.Foreign.{stepsIn}
 use Rattle.model.specs.Lock.{bindingAt}
@@ -54,6 +54,8 @@ one-health w (took a c s) = refl
 one-health w (released a c s) = refl
 one-health w (waiters-set c n) = refl
 one-health w (health-set i n) = length-set (w .health) i n
+one-health w (held-all m) = refl
+one-health w (added m c v) = refl
 
 health-now : (w : World) (es : List Event) → length (now w es .health) ≡ length (w .health)
 health-now w [] = refl

@@ -4,7 +4,7 @@ use Prim.Native.Nat.{ℕ, _+_, _≤_, _<_, _-_}
 use mathlib.Core.Path.{_≡_}
 use mathlib.Core.List.{List, _∷_, [], _++_}
 use lib.ListN.{length, getD}
-use Rattle.model.specs.Log.{Event, Made, attempt-begun, yielded, spun, took, by-caller, boundary-run, released, by-script, step-dropped, waiters-set, health-set}
+use Rattle.model.specs.Log.{Event, Made, attempt-begun, yielded, spun, took, by-caller, boundary-run, released, by-script, step-dropped, waiters-set, health-set, held-all, added}
 use Rattle.model.specs.Arena.{leasesOf}
 use Rattle.model.specs.Foreign.{stepsIn, kindAt, placeAt, numberAt}
 use Rattle.model.specs.Crew.{total}
@@ -122,6 +122,8 @@ Points script p q (released by-caller c s) = Unit {0}
 Points script p q (released by-script c s) = (x : ℕ) × (p ≤ x) × (x < q) × (kindAt script x ≡ 2) × (placeAt script x ≡ c) × (numberAt script x ≡ s)
 Points script p q (waiters-set c n) = (x : ℕ) × (p ≤ x) × (x < q) × (kindAt script x ≡ 3) × (placeAt script x ≡ c) × (numberAt script x ≡ n)
 Points script p q (health-set i n) = (x : ℕ) × (p ≤ x) × (x < q) × (kindAt script x ≡ 4) × (placeAt script x ≡ i) × (numberAt script x ≡ n)
+Points script p q (held-all m) = Unit {0}
+Points script p q (added m c v) = Unit {0}
 
 abbrev pub By-script-only : Build → Type 0
 By-script-only f =

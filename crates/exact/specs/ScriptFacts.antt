@@ -8,7 +8,7 @@ use native.Mathlib.Nat.{add-zero}
 use native.Mathlib.Omega.{arith}
 use lib.ListN.{length, getD, length-append, List·getD-append}
 use lib.Seq.{getD-append-add}
-use Rattle.model.specs.Log.{Event, by-caller, by-script, attempt-begun, boundary-run, yielded, spun, step-dropped, took, released, waiters-set, health-set}
+use Rattle.model.specs.Log.{Event, by-caller, by-script, attempt-begun, boundary-run, yielded, spun, step-dropped, took, released, waiters-set, health-set, held-all, added}
 use Rattle.model.specs.Foreign.{stepsIn, kindAt, placeAt, numberAt}
 use Rattle.model.specs.Checks.{scriptRules, lockRules, bucketRules, releaseRules, locksRules}
 use Rattle.model.specs.Crew.{total}
@@ -116,6 +116,8 @@ module _ (script : List ℕ) where
   wider (released by-script c s) l m a = (a .0, omega (arith, a .1), omega (arith, a .2), a .3, a .4, a .5)
   wider (waiters-set c n) l m a = (a .0, omega (arith, a .1), omega (arith, a .2), a .3, a .4, a .5)
   wider (health-set i n) l m a = (a .0, omega (arith, a .1), omega (arith, a .2), a .3, a .4, a .5)
+  wider (held-all i) l m a = a
+  wider (added i d x) l m a = a
 
   all-wider : {p q o r : ℕ} {es : List Event} → o ≤ p → q ≤ r → Every (Points script p q) es → Every (Points script o r) es
   all-wider l m = every-map (λ e. wider e l m)

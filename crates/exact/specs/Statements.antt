@@ -8,7 +8,7 @@ use mathlib.Core.List.{List, [], _∷_}
 use mathlib.Core.Bool.{false}
 use mathlib.Core.Logic.{_↔_}
 use lib.ListN.{getD}
-use Rattle.model.specs.Log.{Event, Made, took, by-caller, by-script, attempt-begun, released, waiters-set, health-set, yielded, spun, boundary-run, step-dropped}
+use Rattle.model.specs.Log.{Event, Made, took, by-caller, by-script, attempt-begun, released, waiters-set, health-set, held-all, added, yielded, spun, boundary-run, step-dropped}
 use Rattle.model.specs.Arena.{bitAt, headerOf, waitersAt, lastSerial, isIn, leaseOf, spentTo, ownerAt, wordsOf}
 use Rattle.model.specs.Foreign.{stepsIn}
 use Rattle.model.specs.Lock.{bindingAt, bucketAt}
@@ -98,6 +98,8 @@ Allowed w ps (took a c s) = Legal w (took a c s)
 Allowed w ps (released a c s) = Legal w (released a c s) × (isIn (leaseOf c s) ps ≡ false)
 Allowed w ps (waiters-set c n) = Legal w (waiters-set c n)
 Allowed w ps (health-set i n) = Legal w (health-set i n)
+Allowed w ps (held-all m) = Legal w (held-all m)
+Allowed w ps (added m c v) = Legal w (added m c v)
 
 -- one step: the world that it leaves, its log, and 1 where it was dropped
 pub data Stepping (w : World) (ps : List Lease) (kind place number : ℕ) : World → List Event → ℕ → Type 0 where

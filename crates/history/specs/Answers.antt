@@ -16,7 +16,7 @@ use Rattle.model.specs.declared.Lease.{Lease}
 use Rattle.model.specs.declared.Reason.{Reason}
 use Rattle.model.specs.declared.Refusal.{Refusal}
 use Rattle.history.specs.World.{World, Live, Healthy, now, Unreleased, number-of, attempts, takes}
-use Rattle.history.specs.Items.{Call, try-acquire, drop-lease, read-permission, competing-acquire, release-then-handoff, foreign-release, drop-preserving, acquire-preserving, environment, try-lock, transactional, acquire-bucket, release-all, acquire-locks, crew, IsCrew, asked, keyCell, Build, Entry, events-of, history-of}
+use Rattle.history.specs.Items.{Call, try-acquire, drop-lease, read-permission, competing-acquire, release-then-handoff, foreign-release, drop-preserving, acquire-preserving, environment, try-lock, transactional, acquire-bucket, release-all, acquire-locks, crew, crew-at-work, IsCrew, asked, keyCell, Build, Entry, events-of, history-of}
 use Rattle.history.specs.Statements.{Through, answer-in, buffer-in, world-in, Hands-over, Gives, Nothing-held}
 
 -- ---- one call, whatever the arena holds
@@ -58,6 +58,7 @@ Asks-one (acquire-bucket registry script place held binding bucket) = Unit {0}
 Asks-one (release-all script place leases) = ⊥
 Asks-one (acquire-locks registry script place held keys grants) = ⊥
 Asks-one (crew counts cells turns) = ⊥
+Asks-one (crew-at-work counts cells turns counters) = ⊥
 
 -- every attempt to take c in that stretch: such a call of a cell that a live lease holds, in whose log that lease is not released, is Busy
 -- or refused
@@ -97,6 +98,7 @@ Reads-again (acquire-bucket registry script place held binding bucket) = Unit {0
 Reads-again (release-all script place leases) = ⊥
 Reads-again (acquire-locks registry script place held keys grants) = ⊥
 Reads-again (crew counts cells turns) = ⊥
+Reads-again (crew-at-work counts cells turns counters) = ⊥
 
 -- a lease that such a call grants is on a header that is healthy in the health that the call leaves
 abbrev pub Granted-healthy : Build → Type 0

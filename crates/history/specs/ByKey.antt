@@ -31,7 +31,7 @@ use Rattle.choice.specs.Pick.{if-both}
 use Rattle.laws.specs.Lists.{length-words}
 use Rattle.laws.specs.Outcomes.{Comes, granted, busy, poisoned, damaged, spent, lock-comes}
 use Rattle.history.specs.World.{World}
-use Rattle.history.specs.Items.{Call, try-acquire, drop-lease, read-permission, competing-acquire, release-then-handoff, foreign-release, drop-preserving, acquire-preserving, environment, try-lock, transactional, acquire-bucket, release-all, acquire-locks, crew, perform, asked, cellOf, keyCell}
+use Rattle.history.specs.Items.{Call, try-acquire, drop-lease, read-permission, competing-acquire, release-then-handoff, foreign-release, drop-preserving, acquire-preserving, environment, try-lock, transactional, acquire-bucket, release-all, acquire-locks, crew, crew-at-work, perform, asked, cellOf, keyCell}
 use Rattle.history.specs.Statements.{answers, Buffer-is, Grant-is}
 use Rattle.history.specs.Tests.{leases-words}
 use Rattle.history.specs.Judged.{acting, steps, performed}
@@ -144,6 +144,7 @@ steps-names w (acquire-locks registry script place held keys grants) l a =
     let e = acting w (acquire-locks registry script place held keys grants) in
     absurd (locks-all (countIn keys) 0 e (w .head .buckets) registry keys [] (starting (w .head) place) (w .table) (w .health) grants l a)
 steps-names w (crew counts cells turns) l a = let z : _≡_ {A = ℕ} 0 1 = cc in absurd (omega arith)
+steps-names w (crew-at-work counts cells turns counters) l a = let z : _≡_ {A = ℕ} 0 1 = cc in absurd (omega arith)
 
 pub grants-name : Grant-is perform
 grants-name w k l =

@@ -15,13 +15,13 @@ use Rattle.model.specs.Foreign.{flowOf}
 use Rattle.model.specs.Lock.{leaseAt, noLease, answerOf, settled, attemptLimit, noneYet}
 use Rattle.model.specs.Checks.{countIn, badShape, badHeld, badCell, notReleasable, cellRules, leaseRules, heldCellRules, heldLeaseRules, scriptRules, lockRules, bucketRules, releaseRules, locksRules}
 use Rattle.model.specs.Calls.{starting, acquireOf}
-use Rattle.model.specs.Crew.{crewRules}
+use Rattle.model.specs.Crew.{crewRules, rests, adds, crewAtWorkRules}
 use Rattle.model.specs.declared.Head.{Head}
 use Rattle.model.specs.declared.Lease.{Lease}
 use Rattle.model.specs.declared.Outcome.{Outcome}
 use Rattle.laws.specs.Shape.{shaped}
 use Rattle.history.specs.World.{World, worldOf, cells, Live, Lawful, Unreleased, now}
-use Rattle.history.specs.Items.{Call, Says, try-acquire, drop-lease, read-permission, competing-acquire, release-then-handoff, foreign-release, drop-preserving, acquire-preserving, environment, try-lock, transactional, acquire-bucket, release-all, acquire-locks, crew, perform, held-of, Clear, rules}
+use Rattle.history.specs.Items.{Call, Says, try-acquire, drop-lease, read-permission, competing-acquire, release-then-handoff, foreign-release, drop-preserving, acquire-preserving, environment, try-lock, transactional, acquire-bucket, release-all, acquire-locks, crew, crew-at-work, perform, held-of, Clear, rules}
 use Rattle.history.specs.Statements.{Hands-over, Held-live, log-of}
 use Rattle.history.specs.Tests.{differ, In, in-take}
 use Rattle.history.specs.Events.{Fit, lives, good}
@@ -29,7 +29,7 @@ use Rattle.history.specs.Logs.{Kept, nothing, event, kept-fit, kept-live
 use Rattle.history.specs.Judged.{clear-back, reply, seen-as, steps, performed}
 use Rattle.history.specs.Steps.{Gains, followed, Won, won, won-of, none-yet, no-more, boundary-kept, take-kept, lock-kept, attempt-kept, retry-kept}
 use Rattle.history.specs.Many.{Held, give-back-kept, locks-kept}
-use Rattle.history.specs.Crew.{crew-kept}
+use Rattle.history.specs.Crew.{crew-kept, crew-plan, crew-at-work-plan}
 
 -- ---- the leases that `release_all` is given
 
@@ -157,11 +157,13 @@ steps-kept w (acquire-locks registry script place held keys grants) g k =
     }) in
     record { kept = weaken (λ l i v. (i, lives w l v .high)) (m .kept); gain = m .gain }
 steps-kept w (crew counts lists turns) g k =
-    record { kept = crew-kept (w .head) (w .table) (w .health) counts lists turns g k; gain = λ l x. absurd x }
+    record { kept = crew-kept rests (w .head) (w .table) (w .health) counts lists turns [] g (crew-plan _ _ _ counts lists turns k); gain = λ l x. absurd x }
+steps-kept w (crew-at-work counts lists turns counters) g k =
+    record { kept = crew-kept adds (w .head) (w .table) (w .health) counts lists turns counters g (crew-at-work-plan _ _ _ counts lists turns counters k); gain = λ l x. absurd x }
 
 -- the first check of every call is the shape
 pub clear-fit : (w : World) (k : Call) → Clear (rules w k) → Fit w
-unfolding cellRules leaseRules heldCellRules heldLeaseRules scriptRules lockRules bucketRules releaseRules locksRules crewRules
+unfolding cellRules leaseRules heldCellRules heldLeaseRules scriptRules lockRules bucketRules releaseRules locksRules crewRules crewAtWorkRules
 clear-fit w k c = record { shape = shaped (w .head) (length (w .table)) (not-false (shapeFits (w .head) (length (w .table))) (first-clear k c)) }
   where
     first-clear : (k : Call) → Clear (rules w k) → not (shapeFits (w .head) (length (w .table))) ≡ false
@@ -180,6 +182,7 @@ clear-fit w k c = record { shape = shaped (w .head) (length (w .table)) (not-fal
     first-clear (release-all script place leases) k = k .0
     first-clear (acquire-locks registry script place held keys grants) k = k .0
     first-clear (crew counts lists turns) k = k .0
+    first-clear (crew-at-work counts lists turns counters) k = k .0
 
 -- a call whose shape does not fit does nothing
 pub call-fit : (w : World) (k : Call) → (log-of w k ≡ []) ⊎ Fit w

@@ -12,7 +12,7 @@ use Rattle.model.specs.Calls.{countsOf, starting, acquireOf}
 use Rattle.model.specs.declared.Counts.{Counts}
 use Rattle.model.specs.declared.Head.{Head}
 use Rattle.history.specs.World.{World, number-of, attempts, boundaries, yields, drops}
-use Rattle.history.specs.Items.{Call, Says, try-acquire, drop-lease, read-permission, competing-acquire, release-then-handoff, foreign-release, drop-preserving, acquire-preserving, environment, try-lock, transactional, acquire-bucket, release-all, acquire-locks, crew, IsCrew, perform}
+use Rattle.history.specs.Items.{Call, Says, try-acquire, drop-lease, read-permission, competing-acquire, release-then-handoff, foreign-release, drop-preserving, acquire-preserving, environment, try-lock, transactional, acquire-bucket, release-all, acquire-locks, crew, crew-at-work, IsCrew, perform}
 use Rattle.history.specs.Statements.{Counts-are}
 use Rattle.history.specs.Judged.{acting, steps, performed}
 use Rattle.history.specs.Counted.{Counted, then-counted, none-counted, boundary-counted, take-counted, lock-counted, attempt-counted, retry-counted, back-counted, locks-counted}
@@ -61,6 +61,7 @@ steps-counted w (acquire-locks registry script place held keys grants) _ =
     let k = acquire-locks registry script place held keys grants in
     locks-counted (acting w k) (w .head .buckets) registry keys grants (countIn keys) 0 [] (starting (w .head) place) (w .table) (w .health)
 steps-counted w (crew counts cells turns) n = absurd (n tt)
+steps-counted w (crew-at-work counts cells turns counters) n = absurd (n tt)
 
 -- counts that began at nothing are the numbers
 abbrev Fair : Made (World × Says) → Type 0

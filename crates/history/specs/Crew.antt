@@ -1,19 +1,21 @@
--- The crew: whatever the turns, each lease that a member noted and has not released is live, and no two of them are the same.
+-- The crew, in either work: whatever the turns, each lease that a member noted and has not released is live, and no two of them are the same.
 use Prim.Native.Nat.{ℕ, zero, suc, _+_, _*_, _-_, _≤_, _<_}
 use mathlib.Core.Path.{_≡_, refl, sym, ap, _∙_, subst}
 use mathlib.Core.List.{List, [], _∷_, _++_}
+use mathlib.Core.Bool.{Bool, true, false}
 use native.Mathlib.Decide.{ℕ-discrete, decLt}
 use native.Mathlib.Omega.{arith}
 use lib.Dec.{ltb, leb, eqb}
 use lib.ListN.{length, getD, set, replicate, length-set, length-replicate, List·getD-eq-default}
 use lib.Seq.{getD-set-same, getD-set-other}
 use borrow.Author.Tests.{ltb-true, ltb-false, leb-false}
-use Rattle.model.specs.Log.{Made, Event, by-caller, attempt-begun, boundary-run, released}
+use Rattle.choice.specs.Choice.{if_then_else_}
+use Rattle.model.specs.Log.{Made, Event, by-caller, attempt-begun, boundary-run, released, held-all, added, note, gives, _>>_}
 use Rattle.model.specs.Arena.{cellsOf, headerOf, isPoisoned, leaseOf, setCell, waitersAt, isIn}
 use Rattle.model.specs.Foreign.{flowOf, runStepsOf, boundaryOf}
 use Rattle.model.specs.Lock.{takeOf, lateOf, afterTake, secondOf, lockOf}
 use Rattle.model.specs.Calls.{given}
-use Rattle.model.specs.Crew.{total, startOf, countOf, badLimits, badLists, badTurns, crewRules, Crew, crewAt, moved, afterTry, tryTurnOf, releaseTurnOf, turnOf, turnsOf}
+use Rattle.model.specs.Crew.{Work, addsOf, movesOf, total, startOf, countOf, badLimits, badLists, badTurns, planRules, crewRules, crewAtWorkRules, Crew, crewStart, moved, isFull, afterTry, tryTurnOf, heldAllOf, addTurnOf, releaseTurnOf, turnOf, turnsOf}
 use Rattle.model.specs.declared.Head.{Head}
 use Rattle.model.specs.declared.Lease.{Lease}
 use Rattle.model.specs.declared.Locked.{Locked}
@@ -22,7 +24,7 @@ use Rattle.model.specs.declared.Take.{Take}
 use Rattle.model.specs.declared.Take.the-variants as taking
 use Rattle.choice.specs.Pick.{if-both}
 use Rattle.laws.specs.Lists.{zeros}
-use Rattle.laws.specs.Crew.{start-fits, limits-fine, cell-inside}
+use Rattle.laws.specs.Crew.{adds-few, start-fits, limits-fine, cell-inside}
 use Rattle.history.specs.World.{World, worldOf, Live, Unreleased}
 use Rattle.history.specs.Items.{Clear}
 use Rattle.history.specs.Tests.{differ, In, in-first, if-cases}
@@ -57,33 +59,41 @@ pub record Limits (h : Head) (counts cells : List ℕ) : Type 0 where
   pub small : total counts ≤ 256
   pub inside : (m j : ℕ) → j < countOf counts m → getD cells (startOf counts m + j) 0 < cellsOf h
 
-pub limits : (h : Head) (t g counts cells turns : List ℕ) → Clear (crewRules h t g counts cells turns) → Limits h counts cells
-unfolding crewRules
-limits h t g counts cells turns c =
+pub limits : (h : Head) (counts cells turns : List ℕ) → Clear (planRules h counts cells turns) → Limits h counts cells
+limits h counts cells turns c =
     let lists = badLists (length counts) 0 (cellsOf h) counts cells in
-    let k = limits-fine counts cells turns (clear-fine (badLimits counts cells turns ∷ []) (c .1 .1 .0, tt)) in
+    let k = limits-fine counts cells turns (clear-fine (badLimits counts cells turns ∷ []) (c .0, tt)) in
     record {
       members = k .few-members;
       small = k .few-cells;
-      inside = cell-inside (cellsOf h) counts cells (k .cells-are) (clear-fine lists (clear-front lists (badTurns (length counts) 0 turns) (c .1 .1 .1)));
+      inside = cell-inside (cellsOf h) counts cells (k .cells-are) (clear-fine lists (clear-front lists (badTurns (length counts) 0 turns) (c .1)));
     }
+
+-- both calls check the plan
+pub crew-plan : (h : Head) (t g counts cells turns : List ℕ) → Clear (crewRules h t g counts cells turns) → Clear (planRules h counts cells turns)
+unfolding crewRules
+crew-plan h t g counts cells turns c = c .1 .1
+
+pub crew-at-work-plan : (h : Head) (t g counts cells turns counters : List ℕ) → Clear (crewAtWorkRules h t g counts cells turns counters) → Clear (planRules h counts cells turns)
+unfolding crewAtWorkRules
+crew-at-work-plan h t g counts cells turns counters c = c .1 .1 .1
 
 -- ---- who holds what
 
 -- the j-th cell of a member is held: taken, and not yet released
-abbrev pub Holds : List ℕ → List ℕ → ℕ → ℕ → Type 0
-Holds counts made m j = (j < getD made m 0) × (j + getD made m 0 < 2 * countOf counts m)
+abbrev pub Holds : Work → List ℕ → List ℕ → ℕ → ℕ → Type 0
+Holds work counts made m j = (j < countOf counts m) × (j < getD made m 0) × (j + getD made m 0 < movesOf work (countOf counts m))
 
 -- the lease noted at a place
 abbrev pub noted : List ℕ → List ℕ → ℕ → Lease
 noted cells serials k = leaseOf (getD cells k 0) (getD serials k 0)
 
-pub record Safe (counts cells : List ℕ) (w : World) (made serials : List ℕ) : Type 0 where
+pub record Safe (work : Work) (counts cells : List ℕ) (w : World) (made serials : List ℕ) : Type 0 where
   pub good : Fit w
   pub many-members : length made ≡ 16
   pub many-places : length serials ≡ 256
-  pub holds : (m j : ℕ) → Holds counts made m j → Live w (noted cells serials (startOf counts m + j))
-  pub distinct : (m j k i : ℕ) → Holds counts made m j → Holds counts made k i
+  pub holds : (m j : ℕ) → Holds work counts made m j → Live w (noted cells serials (startOf counts m + j))
+  pub distinct : (m j k i : ℕ) → Holds work counts made m j → Holds work counts made k i
       → noted cells serials (startOf counts m + j) ≡ noted cells serials (startOf counts k + i) → (m ≡ k) × (j ≡ i)
 
 -- a member's moves after one more move of one member
@@ -99,13 +109,13 @@ moves made m k l = go (ℕ-discrete k m)
     go (no e) = other e (getD-set-other made m k (getD made m 0 + 1) 0 e)
 
 -- where a member has noted one more: the lease noted at a place that is held then
-data Noted (counts cells made serials : List ℕ) (m x i j : ℕ) : Type 0 where
+data Noted (work : Work) (counts cells made serials : List ℕ) (m x i j : ℕ) : Type 0 where
   new-one : i ≡ m → j ≡ getD made m 0
       → noted cells (set serials (startOf counts m + getD made m 0) x) (startOf counts i + j) ≡ leaseOf (getD cells (startOf counts m + getD made m 0) 0) x
-      → Noted counts cells made serials m x i j
-  old-one : Holds counts made i j
+      → Noted work counts cells made serials m x i j
+  old-one : Holds work counts made i j
       → noted cells (set serials (startOf counts m + getD made m 0) x) (startOf counts i + j) ≡ noted cells serials (startOf counts i + j)
-      → Noted counts cells made serials m x i j
+      → Noted work counts cells made serials m x i j
 
 -- ---- a lock with no script spares every lease, and leaves the health alone
 
@@ -162,7 +172,7 @@ module _ (h : Head) (n : ℕ) (t g : List ℕ) (c : ℕ) where
 
 -- ---- a turn
 
-module _ (h : Head) (counts cells : List ℕ) (lim : Limits h counts cells) where
+module _ (work : Work) (h : Head) (counts cells : List ℕ) (lim : Limits h counts cells) where
   member : (made : List ℕ) (m : ℕ) → length made ≡ 16 → 0 < countOf counts m → m < length made
   member made m e l = go (decLt m (length counts))
     where
@@ -170,7 +180,7 @@ module _ (h : Head) (counts cells : List ℕ) (lim : Limits h counts cells) wher
       go (yes k) = omega (arith, lim .members)
       go (no k) = absurd (omega (arith, List·getD-eq-default counts 0 {n = m} (omega arith)))
 
-  still-safe : {w v : World} {es : List Event} {made serials : List ℕ} → Kept w (λ _. Unit {0}) v es → Safe counts cells w made serials → Safe counts cells v made serials
+  still-safe : {w v : World} {es : List Event} {made serials : List ℕ} → Kept w (λ _. Unit {0}) v es → Safe work counts cells w made serials → Safe work counts cells v made serials
   still-safe k s =
       record {
         good = kept-fit (s .good) k;
@@ -180,13 +190,13 @@ module _ (h : Head) (counts cells : List ℕ) (lim : Limits h counts cells) wher
         distinct = s .distinct;
       }
 
-  module _ (w v : World) (es : List Event) (made serials : List ℕ) (m : ℕ) (s : Safe counts cells w made serials) where
+  module _ (w v : World) (es : List Event) (made serials : List ℕ) (m : ℕ) (s : Safe work counts cells w made serials) where
     abbrev done : ℕ
     done = getD made m 0
 
     -- a take: the next cell's lease is noted
     taken-safe : (x : ℕ) → Kept w (λ _. Unit {0}) v es → done < countOf counts m → Live v (leaseOf (getD cells (startOf counts m + done) 0) x) → w .head .next ≤ x
-        → Safe counts cells v (moved made m) (set serials (startOf counts m + done) x)
+        → Safe work counts cells v (moved made m) (set serials (startOf counts m + done) x)
     taken-safe x k l new young =
         record {
           good = kept-fit (s .good) k;
@@ -203,12 +213,12 @@ module _ (h : Head) (counts cells : List ℕ) (lim : Limits h counts cells) wher
         after q = noted cells (set serials p x) q
 
         Which : ℕ → ℕ → Type 0
-        Which i j = Noted counts cells made serials m x i j
+        Which i j = Noted work counts cells made serials m x i j
 
         unmoved : (q : ℕ) → (q ≡ p → ⊥) → after q ≡ noted cells serials q
         unmoved q n = ap (leaseOf (getD cells q 0)) (getD-set-other serials p q x 0 n)
 
-        which : (i j : ℕ) → Holds counts (moved made m) i j → Which i j
+        which : (i j : ℕ) → Holds work counts (moved made m) i j → Which i j
         which i j a = go (moves made m i (member made m (s .many-members) (omega arith))) (ℕ-discrete j done)
           where
             go : Moves made m i → Dec (j ≡ done) → Which i j
@@ -218,14 +228,14 @@ module _ (h : Head) (counts cells : List ℕ) (lim : Limits h counts cells) wher
             go (mine e f) (no d) =
                 let e₁ : getD made i 0 ≡ done = ap (λ (z : ℕ). getD made z 0) e in
                 let e₂ : countOf counts i ≡ countOf counts m = ap (countOf counts) e in
-                old-one (omega arith, omega arith) (unmoved (startOf counts i + j) (λ q. d (one-place counts i j m done (omega arith) l q .1)))
-            go (other e f) d = old-one (omega arith, omega arith) (unmoved (startOf counts i + j) (λ q. e (one-place counts i j m done (omega arith) l q .0)))
+                old-one (omega arith, omega arith, omega arith) (unmoved (startOf counts i + j) (λ q. d (one-place counts i j m done (omega arith) l q .1)))
+            go (other e f) d = old-one (omega arith, omega arith, omega arith) (unmoved (startOf counts i + j) (λ q. e (one-place counts i j m done (omega arith) l q .0)))
 
         alive : (i j : ℕ) → Which i j → Live v (after (startOf counts i + j))
         alive i j (new-one a b e) = subst (Live v) (sym e) new
         alive i j (old-one a e) = subst (Live v) (sym e) (kept-live (s .good) k _ tt (s .holds i j a))
 
-        old : (i j : ℕ) → Holds counts made i j → getD serials (startOf counts i + j) 0 < w .head .next
+        old : (i j : ℕ) → Holds work counts made i j → getD serials (startOf counts i + j) 0 < w .head .next
         old i j a = lives w (noted cells serials (startOf counts i + j)) (s .holds i j a) .high
 
         apart : (i j i′ j′ : ℕ) → Which i j → Which i′ j′ → after (startOf counts i + j) ≡ after (startOf counts i′ + j′) → (i ≡ i′) × (j ≡ j′)
@@ -234,38 +244,45 @@ module _ (h : Head) (counts cells : List ℕ) (lim : Limits h counts cells) wher
         apart i j i′ j′ (old-one a e) (new-one c d f) q = absurd (omega (arith, old i j a, ap (λ (z : Lease). z .serial) (sym e ∙ q ∙ f)))
         apart i j i′ j′ (old-one a e) (old-one c f) q = s .distinct i j i′ j′ a c (sym e ∙ q ∙ f)
 
-    -- a release: the last cell that it holds
-    gave-safe : (z : ℕ) → Kept w (λ l. l ≡ noted cells serials (startOf counts m + z) → ⊥) v es → countOf counts m ≤ done → z + done + 1 ≡ 2 * countOf counts m
-        → Safe counts cells v (moved made m) serials
-    gave-safe z k a b =
+    -- an add, or a release: what is held after it was held before
+    later-safe : {P : Lease → Type 0} → Kept w P v es → countOf counts m ≤ done → done < movesOf work (countOf counts m)
+        → ((i j : ℕ) → Holds work counts (moved made m) i j → Holds work counts made i j → P (noted cells serials (startOf counts i + j)))
+        → Safe work counts cells v (moved made m) serials
+    later-safe k a b spared =
         record {
           good = kept-fit (s .good) k;
           many-members = length-set made m (done + 1) ∙ s .many-members;
           many-places = s .many-places;
-          holds = λ i j x. let o = was i j x in kept-live (s .good) k _ (o .1) (s .holds i j (o .0));
-          distinct = λ i j i′ j′ x y. s .distinct i j i′ j′ (was i j x .0) (was i′ j′ y .0);
+          holds = λ i j x. let o = was i j x in kept-live (s .good) k _ (spared i j x o) (s .holds i j o);
+          distinct = λ i j i′ j′ x y. s .distinct i j i′ j′ (was i j x) (was i′ j′ y);
         }
       where
-        was : (i j : ℕ) → Holds counts (moved made m) i j
-            → Holds counts made i j × (noted cells serials (startOf counts i + j) ≡ noted cells serials (startOf counts m + z) → ⊥)
-        was i j x = go (moves made m i (member made m (s .many-members) (omega arith)))
+        was : (i j : ℕ) → Holds work counts (moved made m) i j → Holds work counts made i j
+        was i j x = go (moves made m i (member made m (s .many-members) (omega (arith, adds-few work (countOf counts m)))))
           where
-            go : Moves made m i → Holds counts made i j × (noted cells serials (startOf counts i + j) ≡ noted cells serials (startOf counts m + z) → ⊥)
+            go : Moves made m i → Holds work counts made i j
             go (mine e f) =
                 let e₁ : getD made i 0 ≡ done = ap (λ (q : ℕ). getD made q 0) e in
                 let e₂ : countOf counts i ≡ countOf counts m = ap (countOf counts) e in
-                let o : Holds counts made i j = (omega arith, omega arith) in
-                (o, λ q. omega (arith, s .distinct i j m z o (omega arith, omega arith) q .1))
-            go (other e f) =
-                let o : Holds counts made i j = (omega arith, omega arith) in
-                (o, λ q. e (s .distinct i j m z o (omega arith, omega arith) q .0))
+                (omega arith, omega arith, omega arith)
+            go (other e f) = (omega arith, omega arith, omega arith)
+
+    -- a release, of the last cell that it holds: no other lease that is held is the same
+    gave-safe : (z : ℕ) → Kept w (λ l. l ≡ noted cells serials (startOf counts m + z) → ⊥) v es
+        → countOf counts m + addsOf work (countOf counts m) ≤ done → z + done + 1 ≡ movesOf work (countOf counts m)
+        → Safe work counts cells v (moved made m) serials
+    gave-safe z k a b = later-safe k (omega arith) (omega arith) (λ i j x o q. go i j x (moves made m i (member made m (s .many-members) (omega arith))) (s .distinct i j m z o (omega arith, omega arith, omega arith) q))
+      where
+        go : (i j : ℕ) → Holds work counts (moved made m) i j → Moves made m i → (i ≡ m) × (j ≡ z) → ⊥
+        go i j x (mine e f) d = omega (arith, d .1, ap (λ y. movesOf work (countOf counts y)) e)
+        go i j x (other e f) d = e (d .0)
 
   module _ (g : List ℕ) where
     abbrev of-crew : Crew → World
     of-crew w = worldAt h (w .next) (w .table) g
 
     abbrev Steady : Crew → Type 0
-    Steady w = Safe counts cells (of-crew w) (w .made) (w .serials)
+    Steady w = Safe work counts cells (of-crew w) (w .made) (w .serials)
 
     abbrev Turning : Crew → Made Crew → Type 0
     Turning w = Gains of-crew Steady (of-crew w) (In [])
@@ -289,46 +306,70 @@ module _ (h : Head) (counts cells : List ℕ) (lim : Limits h counts cells) wher
         if-both (Turning w) (isPoisoned g (headerOf (h .buckets) c)) (record { kept = nothing; gain = s })
         (followed (s .good) (event attempt-begun tt (λ l i v x. x)) (after-try w m (o .0 .flow .next) (o .1 .0) _ (o .0 .answer) s l (k .gain) (ended (k .kept))))
 
-    release-turn : (w : Crew) (m : ℕ) (z : ℕ) → Steady w → countOf counts m ≤ getD (w .made) m 0 → z + getD (w .made) m 0 + 1 ≡ 2 * countOf counts m
+    -- that a member came to hold all changes no word
+    filled-turn : (w : Crew) (m : ℕ) → Steady w → Turning w (heldAllOf counts cells w m)
+    unfolding heldAllOf
+    filled-turn w m s = record { kept = go (isFull counts (w .made) m); gain = s }
+      where
+        go : (b : Bool) → Kept (of-crew w) (In []) (of-crew w) (((if b then note (held-all m) else gives tt) >> gives w) .log)
+        go true = event (held-all m) tt (λ l i v x. x)
+        go false = nothing
+
+    -- and neither does an add
+    add-turn : (w : Crew) (m c : ℕ) → Steady w → countOf counts m ≤ getD (w .made) m 0 → getD (w .made) m 0 < movesOf work (countOf counts m) → Turning w (addTurnOf w m c)
+    unfolding addTurnOf
+    add-turn w m c s a b =
+        let k : Kept (of-crew w) (λ _. Unit {0}) (of-crew w) (added m c (getD (w .noted) m 0) ∷ []) = event (added m c (getD (w .noted) m 0)) tt (λ l i v x. x) in
+        record {
+          kept = weaken (λ _ _ _. tt) k;
+          gain = later-safe (of-crew w) (of-crew w) (added m c (getD (w .noted) m 0) ∷ []) (w .made) (w .serials) m s k a b (λ i j x o. tt);
+        }
+
+    release-turn : (w : Crew) (m : ℕ) (z : ℕ) → Steady w → countOf counts m + addsOf work (countOf counts m) ≤ getD (w .made) m 0 → z + getD (w .made) m 0 + 1 ≡ movesOf work (countOf counts m)
         → let p = startOf counts m + z in Turning w (releaseTurnOf w m p (getD cells p 0))
     unfolding releaseTurnOf isIn
     release-turn w m z s a b =
         let p = startOf counts m + z in
         let l = noted cells (w .serials) p in
         let k : Kept (of-crew w) (λ x. x ≡ l → ⊥) (worldAt h (w .next) (setCell (w .table) (l .cell) 0 0) g) (released by-caller (l .cell) (l .serial) ∷ []) =
-        event (released by-caller (l .cell) (l .serial)) (s .holds m z (omega arith, omega arith)) (λ x n v e. n e) in
+        event (released by-caller (l .cell) (l .serial)) (s .holds m z (omega arith, omega arith, omega arith)) (λ x n v e. n e) in
         record {
           kept = weaken (λ x i v. absurd (differ i)) k;
           gain = gave-safe (of-crew w) (worldAt h (w .next) (setCell (w .table) (l .cell) 0 0) g) (released by-caller (l .cell) (l .serial) ∷ []) (w .made) (w .serials) m s z k a b;
         }
 
-    turn-kept : (w : Crew) (m : ℕ) → Steady w → Turning w (turnOf (h .headers) (h .buckets) g counts cells w m)
+    turn-kept : (w : Crew) (m : ℕ) → Steady w → Turning w (turnOf work (h .headers) (h .buckets) g counts cells w m)
     unfolding turnOf
     turn-kept w m s =
         let n = getD (w .made) m 0 in
         let count = countOf counts m in
-        if-cases (Turning w) (leb (2 * count) n) (λ e. record { kept = nothing; gain = s })
-        (λ e. if-cases (Turning w) (ltb n count) (λ f. try-turn w m s (ltb-true n count f))
-        (λ f. release-turn w m (2 * count - 1 - n) s (ltb-false n count f) (omega (arith, leb-false (2 * count) n e, ltb-false n count f))))
+        let all = movesOf work count in
+        if-cases (Turning w) (leb all n) (λ e. record { kept = nothing; gain = s })
+        (λ e. if-cases (Turning w) (ltb n count)
+        (λ f. let k = try-turn w m s (ltb-true n count f) in
+        followed (s .good) (k .kept) (filled-turn (tryTurnOf (h .headers) (h .buckets) g w m (startOf counts m + n) (getD cells (startOf counts m + n) 0) .seen) m (k .gain)))
+        (λ f. if-cases (Turning w) (ltb n (count + addsOf work count))
+        (λ i. add-turn w m (getD cells (startOf counts m + (n - count)) 0) s (ltb-false n count f) (leb-false all n e))
+        (λ i. release-turn w m (all - 1 - n) s (ltb-false n (count + addsOf work count) i) (omega (arith, leb-false all n e)))))
 
-    turns-kept : (w : Crew) (ms : List ℕ) → Steady w → Turning w (turnsOf (h .headers) (h .buckets) g counts cells w ms)
+    turns-kept : (w : Crew) (ms : List ℕ) → Steady w → Turning w (turnsOf work (h .headers) (h .buckets) g counts cells w ms)
     unfolding turnsOf
     turns-kept w [] s = record { kept = nothing; gain = s }
     turns-kept w (m ∷ ms) s =
         let k = turn-kept w m s in
-        let v = turnOf (h .headers) (h .buckets) g counts cells w m .seen in
+        let v = turnOf work (h .headers) (h .buckets) g counts cells w m .seen in
         followed (s .good) (k .kept) (turns-kept v ms (k .gain))
 
-pub crew-kept : (h : Head) (t g counts cells turns : List ℕ) → Fit (worldOf h t g) → Clear (crewRules h t g counts cells turns)
-    → let m = turnsOf (h .headers) (h .buckets) g counts cells (crewAt (h .next) t (replicate 16 0) (replicate 256 0) 0 0) turns in
+pub crew-kept : (work : Work) (h : Head) (t g counts cells turns counters : List ℕ) → Fit (worldOf h t g) → Clear (planRules h counts cells turns)
+    → let m = turnsOf work (h .headers) (h .buckets) g counts cells (crewStart h t counters) turns in
     Kept (worldOf h t g) (In []) (worldAt h (m .seen .next) (m .seen .table) g) (m .log)
-crew-kept h t g counts cells turns good k =
-    turns-kept h counts cells (limits h t g counts cells turns k) g (crewAt (h .next) t (replicate 16 0) (replicate 256 0) 0 0) turns start .kept
+crew-kept work h t g counts cells turns counters good k =
+    turns-kept work h counts cells (limits h counts cells turns k) g (crewStart h t counters) turns start .kept
   where
-    none : (m j : ℕ) → Holds counts (replicate 16 0) m j → ⊥
+    none : (m j : ℕ) → Holds work counts (replicate 16 0) m j → ⊥
     none m j a = omega (arith, zeros 16 m)
 
-    start : Safe counts cells (worldOf h t g) (replicate 16 0) (replicate 256 0)
+    start : Safe work counts cells (worldOf h t g) (replicate 16 0) (replicate 256 0)
     start =
         record {
           good = good;

@@ -3,7 +3,7 @@ use Prim.Native.Nat.{ℕ}
 use mathlib.Core.Path.{_≡_}
 use mathlib.Core.List.{List}
 use Rattle.model.specs.Calls.{tryAcquireOf, dropLeaseOf, readPermissionOf, competingAcquireOf, releaseThenHandoffOf, foreignReleaseOf, acquirePreservingOf, dropPreservingOf, environmentOf, tryLockOf, transactionalOf, acquireBucketOf, releaseAllOf, acquireLocksOf}
-use Rattle.model.specs.Crew.{crewOf}
+use Rattle.model.specs.Crew.{crewOf, crewAtWorkOf}
 use Rattle.model.specs.declared.CrewReply.{CrewReply}
 use Rattle.model.specs.declared.Head.{Head}
 use Rattle.model.specs.declared.Lease.{Lease}
@@ -55,3 +55,6 @@ acquire-locks-determined h t g registry script place held keys grants a b p q = 
 
 pub crew-determined : (h : Head) (t g counts cells turns : List ℕ) (a b : CrewReply × List ℕ) → a ≡ crewOf h t g counts cells turns .seen → b ≡ crewOf h t g counts cells turns .seen → a ≡ b
 crew-determined h t g counts cells turns a b p q = determined p q
+
+pub crew-at-work-determined : (h : Head) (t g counts cells turns counters : List ℕ) (a b : CrewReply × (List ℕ × List ℕ)) → a ≡ crewAtWorkOf h t g counts cells turns counters .seen → b ≡ crewAtWorkOf h t g counts cells turns counters .seen → a ≡ b
+crew-at-work-determined h t g counts cells turns counters a b p q = determined p q

@@ -9,7 +9,7 @@ use native.Mathlib.Omega.{arith}
 use lib.Dec.{eqb}
 use lib.ListN.{length, length-set}
 use borrow.Author.Tests.{le-leb, eq-eqb}
-use Rattle.model.specs.Log.{Actor, Event, attempt-begun, boundary-run, yielded, spun, step-dropped, took, released, waiters-set, health-set}
+use Rattle.model.specs.Log.{Actor, Event, attempt-begun, boundary-run, yielded, spun, step-dropped, took, released, waiters-set, health-set, held-all, added}
 use Rattle.model.specs.Arena.{lastSerial, cellsOf, headFits, shapeFits, healthFits, spentTo, leaseOf, bitAt, ownerAt, setCell, setWaiters, stateAt, isLive}
 use Rattle.model.specs.declared.Head.{Head}
 use Rattle.model.specs.declared.Lease.{Lease}
@@ -165,6 +165,8 @@ good-step w (waiters-set c n) g l =
       apart = simp (bit-set-waiters, owner-set-waiters) (g .apart);
     }
 good-step w (health-set i n) g l = record { shape = g .shape; health-is = length-set (w .health) i n ∙ g .health-is; status = g .status; apart = g .apart }
+good-step w (held-all m) g l = g
+good-step w (added m c v) g l = g
 
 pub fit-step : (w : World) (e : Event) → Fit w → Legal w e → Fit (step w e)
 fit-step w attempt-begun f l = f
@@ -179,6 +181,8 @@ fit-step w (released a c s) f l =
 fit-step w (waiters-set c n) f l =
     record { shape = reshaped (w .head) (w .head .next) (length (w .table)) (length (setWaiters (w .table) c n)) (f .shape) (f .shape .low) (f .shape .high) (length-set-waiters (w .table) c n) }
 fit-step w (health-set i n) f l = record { shape = f .shape }
+fit-step w (held-all m) f l = f
+fit-step w (added m c v) f l = f
 
 -- the head but for the next serial stays
 pub same-arena : (w : World) (e : Event) → step w e .head ≡ spentTo (w .head) (step w e .head .next)
@@ -191,6 +195,8 @@ same-arena w (took a c s) = refl
 same-arena w (released a c s) = refl
 same-arena w (waiters-set c n) = refl
 same-arena w (health-set i n) = refl
+same-arena w (held-all m) = refl
+same-arena w (added m c v) = refl
 
 -- ---- leases
 
@@ -224,6 +230,8 @@ keep-step w (waiters-set c n) l g k v u =
     moved-live (w .head .next) (cells w) (w .head .next) (w .table) (setWaiters (w .table) c n) l (lives w l v) (omega arith)
     (bit-set-waiters (w .table) c n (l .cell)) (owner-set-waiters (w .table) c n (l .cell))
 keep-step w (health-set i n) l g k v u = v
+keep-step w (held-all i) l g k v n = v
+keep-step w (added i d x) l g k v n = v
 
 -- a live lease after an event was live before it, or its serial is the one just issued
 pub live-before : (w : World) (e : Event) (l : Lease) → Fit w → Legal w e → Live (step w e) l → l .serial < w .head .next → Live w l
@@ -248,6 +256,8 @@ live-before w (waiters-set c n) l g k v o =
     moved-live (w .head .next) (cells w) (w .head .next) (setWaiters (w .table) c n) (w .table) l (lives (step w (waiters-set c n)) l v) (omega arith)
     (sym (bit-set-waiters (w .table) c n (l .cell))) (sym (owner-set-waiters (w .table) c n (l .cell)))
 live-before w (health-set i n) l g k v o = v
+live-before w (held-all i) l g k v o = v
+live-before w (added i d x) l g k v o = v
 
 -- ---- counts
 
@@ -265,6 +275,8 @@ next-step w (took a c s) = refl
 next-step w (released a c s) = omega arith
 next-step w (waiters-set c n) = omega arith
 next-step w (health-set i n) = omega arith
+next-step w (held-all m) = omega arith
+next-step w (added m c v) = omega arith
 
 pub spent-step : (w : World) (e : Event) (s : ℕ) → Fit w → Legal w e → Spent w s → Spent (step w e) s
 spent-step w e s g k p =
@@ -309,6 +321,8 @@ bits-step w (released a c s) g k =
     omega (arith, bits-put (cells w) (w .table) c 0 0 (i .in-range) (at w (fit g) c (i .in-range)), ap (λ (x : ℕ). one (eqb x 1)) (i .bit-is))
 bits-step w (waiters-set c n) g k = ap (λ (x : ℕ). x + 0) (bits-same (cells w) (setWaiters (w .table) c n) (w .table) (λ d l. bit-set-waiters (w .table) c n d))
 bits-step w (health-set i n) g k = refl
+bits-step w (held-all m) g k = refl
+bits-step w (added m c v) g k = refl
 
 -- the lease that a take makes
 pub taken-live : (w : World) (a : Actor) (c : ℕ) → Fit w → c < cells w → Live (step w (took a c (w .head .next))) (leaseOf c (w .head .next))

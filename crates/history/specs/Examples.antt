@@ -15,7 +15,7 @@ use Rattle.model.specs.Foreign.{stepTakeOf, stepReleaseOf, stepWaitersOf, stepH
 use Rattle.model.specs.Lock.{takeOf, lateOf, secondOf, lockOf, findOf, attemptOf, spinOf, pauseOf, retryOf, giveBackOf, rollbackOf, leaseAt, locksOf}
 use Rattle.model.specs.Checks.{notLive, badBindings, notReleasable, prepareRules, cellRules, leaseRules, scriptRules, lockRules, bucketRules, releaseRules, locksRules}
 use Rattle.model.specs.Calls.{prepareOf, acquireOf, tryAcquireOf, dropLeaseOf, competingAcquireOf, tryLockOf, acquireBucketOf, releaseAllOf, acquireLocksOf, environmentOf, countsOf}
-use Rattle.model.specs.Crew.{total, startOf, allWithin, risesFrom, badLists, badTurns, crewRules, crewOf}
+use Rattle.model.specs.Crew.{total, startOf, allWithin, risesFrom, badLists, badTurns, crewRules, crewAtWorkRules, crewOf, crewAtWorkOf}
 use Rattle.model.specs.declared.Answer.the-variants.{Done, Granted, AllGranted, Busy, Refused, RefusedAt}
 use Rattle.model.specs.declared.CrewReply.{CrewReply}
 use Rattle.model.specs.declared.Lease.{Lease}
@@ -26,7 +26,7 @@ use Rattle.history.specs.Items.{Call, Says, acquire-bucket, try-lock, dr
 use Rattle.history.specs.Statements.{Ledger, answers, leaves, log-of, Hands-over, Rolled-back, buffer-in, Fails}
 use Rattle.history.specs.Reasons.{Takes-nothing}
 use Rattle.history.specs.Callers.{singles}
-use Rattle.history.specs.Theorems.{demand-2, forgets, nothing-kept, held-live, changes-nothing, crew-refused, named, take-is-call, nothing-new, rollback-is, two-writers, granted-healthy, holder-lives, early-takes-nothing, late-is-spent, locks-healthy, poisoned-holds-nothing}
+use Rattle.history.specs.Theorems.{demand-2, forgets, nothing-kept, held-live, changes-nothing, crew-refused, crew-at-work-refused, named, take-is-call, nothing-new, rollback-is, two-writers, granted-healthy, holder-lives, early-takes-nothing, late-is-spent, locks-healthy, poisoned-holds-nothing}
 use Rattle.history.specs.Tests.{differ}
 use Rattle.history.specs.Events.{lives}
 
@@ -191,6 +191,13 @@ pub two-members-refused : let m = crewOf (headOf 2 4 1) (replicate 24 0) (replic
 unfolding headFits shapeFits healthFits first total startOf allWithin risesFrom badLists badTurns crewRules crewOf
 two-members-refused =
     (refl, ap (λ (m : Made (CrewReply × List ℕ)). m .seen .0 .moving) (crew-refused (headOf 2 4 1) (replicate 24 0) (replicate 2 0) (2 ∷ 2 ∷ []) (2 ∷ 5 ∷ 5 ∷ 2 ∷ []) [] (BadCrew 1) refl))
+
+-- `crew-at-work-refused`: counters that are not one a cell
+pub short-counters-refused : let m = crewAtWorkOf (headOf 2 4 1) (replicate 24 0) (replicate 2 0) (2 ∷ []) (2 ∷ 5 ∷ []) [] (9 ∷ []) in
+    (m .seen .0 .answer ≡ Refused BadShape) × (m .seen .1 .1 ≡ 9 ∷ [])
+unfolding headFits shapeFits healthFits first crewAtWorkRules crewAtWorkOf
+short-counters-refused =
+    (refl, ap (λ (m : Made (CrewReply × (List ℕ × List ℕ))). m .seen .1 .1) (crew-at-work-refused (headOf 2 4 1) (replicate 24 0) (replicate 2 0) (2 ∷ []) (2 ∷ 5 ∷ []) [] (9 ∷ []) BadShape refl))
 
 -- `nothing-kept`, where all is granted: cells 0 and 5, serials 1 and 2
 abbrev two-keys : Call

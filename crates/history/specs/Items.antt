@@ -11,7 +11,7 @@ use Rattle.model.specs.Foreign.{stepOf}
 use Rattle.model.specs.Lock.{bindingAt, bucketAt}
 use Rattle.model.specs.Checks.{cellRules, leaseRules, heldCellRules, heldLeaseRules, scriptRules, lockRules, bucketRules, releaseRules, locksRules}
 use Rattle.model.specs.Calls.{countsOf, given, prepareOf, tryAcquireOf, dropLeaseOf, readPermissionOf, competingAcquireOf, releaseThenHandoffOf, foreignReleaseOf, acquirePreservingOf, dropPreservingOf, environmentOf, tryLockOf, transactionalOf, acquireBucketOf, releaseAllOf, acquireLocksOf}
-use Rattle.model.specs.Crew.{crewRules, crewOf}
+use Rattle.model.specs.Crew.{crewRules, crewAtWorkRules, crewOf, crewAtWorkOf}
 use Rattle.model.specs.declared.Answer.{Answer}
 use Rattle.model.specs.declared.Answer.the-variants.{Done, Cell, Granted, AllGranted, Busy, Refused, RefusedAt}
 use Rattle.model.specs.declared.Counts.{Counts}
@@ -30,6 +30,7 @@ pub data Call : Type 0 where
   release-all : (script : List ℕ) (place : ℕ) (leases : List ℕ) → Call
   acquire-locks : (registry script : List ℕ) (place : ℕ) (held keys grants : List ℕ) → Call
   crew : (counts cells turns : List ℕ) → Call
+  crew-at-work : (counts cells turns counters : List ℕ) → Call
 
 -- ---- what a call is given, by kind of call: no script, no list or no buffer is an empty one
 
@@ -50,6 +51,7 @@ script-of (acquire-bucket registry script place held binding bucket) = script
 script-of (release-all script place leases) = script
 script-of (acquire-locks registry script place held keys grants) = script
 script-of (crew counts cells turns) = []
+script-of (crew-at-work counts cells turns counters) = []
 
 -- the place in its script at which a call begins
 abbrev pub place-of : Call → ℕ
@@ -68,6 +70,7 @@ place-of (acquire-bucket registry script place held binding bucket) = place
 place-of (release-all script place leases) = place
 place-of (acquire-locks registry script place held keys grants) = place
 place-of (crew counts cells turns) = 0
+place-of (crew-at-work counts cells turns counters) = 0
 
 -- the held list of a call
 abbrev pub held-of : Call → List Lease
@@ -86,6 +89,7 @@ held-of (acquire-bucket registry script place held binding bucket) = leasesOf he
 held-of (release-all script place leases) = []
 held-of (acquire-locks registry script place held keys grants) = leasesOf held
 held-of (crew counts cells turns) = []
+held-of (crew-at-work counts cells turns counters) = []
 
 -- the leases that a call is given to give up
 abbrev pub given-up : Call → List Lease
@@ -104,6 +108,7 @@ given-up (acquire-bucket registry script place held binding bucket) = []
 given-up (release-all script place leases) = leasesOf leases
 given-up (acquire-locks registry script place held keys grants) = []
 given-up (crew counts cells turns) = []
+given-up (crew-at-work counts cells turns counters) = []
 
 -- the buffer that a call was given
 abbrev pub buffer : Call → List ℕ
@@ -122,6 +127,7 @@ buffer (acquire-bucket registry script place held binding bucket) = []
 buffer (release-all script place leases) = []
 buffer (acquire-locks registry script place held keys grants) = grants
 buffer (crew counts cells turns) = []
+buffer (crew-at-work counts cells turns counters) = []
 
 -- the calls that are given a cell number
 abbrev pub ByCell : Call → Type 0
@@ -140,8 +146,9 @@ ByCell (acquire-bucket registry script place held binding bucket) = ⊥
 ByCell (release-all script place leases) = ⊥
 ByCell (acquire-locks registry script place held keys grants) = ⊥
 ByCell (crew counts cells turns) = ⊥
+ByCell (crew-at-work counts cells turns counters) = ⊥
 
--- the crew
+-- the crew, with or without work
 abbrev pub IsCrew : Call → Type 0
 IsCrew (try-acquire c) = ⊥
 IsCrew (drop-lease l) = ⊥
@@ -158,6 +165,7 @@ IsCrew (acquire-bucket registry script place held binding bucket) = ⊥
 IsCrew (release-all script place leases) = ⊥
 IsCrew (acquire-locks registry script place held keys grants) = ⊥
 IsCrew (crew counts cells turns) = Unit {0}
+IsCrew (crew-at-work counts cells turns counters) = Unit {0}
 
 -- ---- which cell a call asks for
 
@@ -186,6 +194,7 @@ asked w (acquire-bucket registry script place held binding bucket) = cellOf (w .
 asked w (release-all script place leases) = 0
 asked w (acquire-locks registry script place held keys grants) = 0
 asked w (crew counts cells turns) = 0
+asked w (crew-at-work counts cells turns counters) = 0
 
 -- ---- the checks of a call
 
@@ -206,6 +215,7 @@ rules w (acquire-bucket registry script place held binding bucket) = bucketRules
 rules w (release-all script place leases) = releaseRules (w .head) (w .table) (w .health) script place leases
 rules w (acquire-locks registry script place held keys grants) = locksRules (w .head) (w .table) (w .health) registry script place held keys grants
 rules w (crew counts cells turns) = crewRules (w .head) (w .table) (w .health) counts cells turns
+rules w (crew-at-work counts cells turns counters) = crewAtWorkRules (w .head) (w .table) (w .health) counts cells turns counters
 
 -- none of them applies
 abbrev pub Clear : List Rule → Type 0
@@ -270,6 +280,9 @@ perform w (acquire-locks registry script place held keys grants) = do
   gives (worldOf (r .head) t g, says (r .answer) (r .counts) (r .place) b)
 perform w (crew counts cells turns) = do
   (r, t) ← crewOf (w .head) (w .table) (w .health) counts cells turns
+  gives (worldOf (r .head) t (w .health), says (r .answer) (countsOf 0 0 0 0) 0 [])
+perform w (crew-at-work counts cells turns counters) = do
+  (r, (t, x)) ← crewAtWorkOf (w .head) (w .table) (w .health) counts cells turns counters
   gives (worldOf (r .head) t (w .health), says (r .answer) (countsOf 0 0 0 0) 0 [])
 
 -- a lone foreign step, between two calls: nobody's lease is protected then

@@ -4,7 +4,6 @@ use mathlib.Core.Path.{_≡_, refl}
 use mathlib.Core.List.{List, [], _∷_, _++_, append-nil}
 use mathlib.Core.Bool.{Bool, true, false}
 use native.Mathlib.Omega.{arith}
-use lib.ListN.{replicate}
 use Rattle.choice.specs.Choice.{if_then_else_}
 use Rattle.model.specs.Log.{Made, by-caller, attempt-begun, released, gives, note, _>>=_, _>>_}
 use Rattle.model.specs.Arena.{spentTo, setCell, leasesOf}
@@ -13,7 +12,7 @@ use Rattle.model.specs.Foreign.{Setting, flowOf, boundaryOf}
 use Rattle.model.specs.Lock.{lockOf, answerOf, runOf, attemptOf, attemptLimit, noneYet, retryOf, settled, giveBackOf, locksOf}
 use Rattle.model.specs.Checks.{countIn}
 use Rattle.model.specs.Calls.{countsOf, given, starting, replied, played, refused, acquireOf, tryAcquireOf, dropLeaseOf, readPermissionOf, competingAcquireOf, releaseThenHandoffOf, foreignReleaseOf, acquirePreservingOf, dropPreservingOf, environmentOf, tryLockOf, transactionalOf, acquireBucketOf, releaseAllOf, acquireLocksOf}
-use Rattle.model.specs.Crew.{crewAt, turnsOf, crewOf}
+use Rattle.model.specs.Crew.{Work, rests, adds, crewStart, turnsOf, shiftOf, crewOf, crewAtWorkOf}
 use Rattle.model.specs.declared.Answer.the-variants as answer
 use Rattle.model.specs.declared.Check.{Check}
 use Rattle.model.specs.declared.Check.the-variants.{Fine, Fault}
@@ -22,7 +21,7 @@ use Rattle.model.specs.declared.Played.{Played}
 use Rattle.model.specs.declared.Refusal.{Refusal}
 use Rattle.model.specs.declared.Reply.{Reply}
 use Rattle.history.specs.World.{World, worldOf}
-use Rattle.history.specs.Items.{Call, Says, says, try-acquire, drop-lease, read-permission, competing-acquire, release-then-handoff, foreign-release, drop-preserving, acquire-preserving, environment, try-lock, transactional, acquire-bucket, release-all, acquire-locks, crew, perform, buffer, script-of, held-of, place-of, Clear, rules}
+use Rattle.history.specs.Items.{Call, Says, says, try-acquire, drop-lease, read-permission, competing-acquire, release-then-handoff, foreign-release, drop-preserving, acquire-preserving, environment, try-lock, transactional, acquire-bucket, release-all, acquire-locks, crew, crew-at-work, perform, buffer, script-of, held-of, place-of, Clear, rules}
 
 -- ---- checks that found nothing
 
@@ -87,9 +86,18 @@ grant m = (worldOf (m .0 .head) (m .1 .0) (m .1 .1 .0), says (m .0 .answer) (m .
 abbrev crewed : World → CrewReply × List ℕ → World × Says
 crewed w m = (worldOf (m .0 .head) (m .1) (w .health), says (m .0 .answer) (countsOf 0 0 0 0) 0 [])
 
+abbrev worked : World → CrewReply × (List ℕ × List ℕ) → World × Says
+worked w m = crewed w (m .0, m .1 .0)
+
 -- the same log, seen otherwise
 abbrev pub seen-as : {A B : Type 0} → (A → B) → Made A → Made B
 seen-as f m = record { seen = f (m .seen); log = m .log }
+
+-- the turns of a crew, in either work
+abbrev pub shifted : Work → World → (counts cells turns counters : List ℕ) → Made (World × Says)
+shifted work w counts cells turns counters =
+    seen-as (λ v. (worldOf (spentTo (w .head) (v .next)) (v .table) (w .health), says answer.Done (countsOf 0 0 0 0) 0 []))
+    (turnsOf work (w .head .headers) (w .head .buckets) (w .health) counts cells (crewStart (w .head) (w .table) counters) turns)
 
 -- the steps of each call
 abbrev pub steps : World → Call → Made (World × Says)
@@ -129,9 +137,8 @@ steps w (release-all script place leases) =
 steps w (acquire-locks registry script place held keys grants) =
     seen-as (λ m. grant (played (w .head) (m .0 .run) (m .0 .answer), m .1))
     (locksOf (countIn keys) 0 (acting w (acquire-locks registry script place held keys grants)) (w .head .buckets) registry keys [] (starting (w .head) place) (w .table) (w .health) grants)
-steps w (crew counts cells turns) =
-    seen-as (λ v. (worldOf (spentTo (w .head) (v .next)) (v .table) (w .health), says answer.Done (countsOf 0 0 0 0) 0 []))
-    (turnsOf (w .head .headers) (w .head .buckets) (w .health) counts cells (crewAt (w .head .next) (w .table) (replicate 16 0) (replicate 256 0) 0 0) turns)
+steps w (crew counts cells turns) = shifted rests w counts cells turns []
+steps w (crew-at-work counts cells turns counters) = shifted adds w counts cells turns counters
 
 -- what holds of the call as it was and of its steps
 module _ (P : Made (World × Says) → Type 0) (w : World) where
@@ -140,7 +147,7 @@ module _ (P : Made (World × Says) → Type 0) (w : World) where
 
   pub performed : (k : Call) → ((r : Refusal) → P (unchanged w k r)) → (Clear (rules w k) → P (steps w k)) → P (perform w k)
   unfolding perform tryAcquireOf dropLeaseOf readPermissionOf competingAcquireOf releaseThenHandoffOf foreignReleaseOf acquirePreservingOf dropPreservingOf
-      environmentOf tryLockOf transactionalOf acquireBucketOf releaseAllOf acquireLocksOf crewOf
+      environmentOf tryLockOf transactionalOf acquireBucketOf releaseAllOf acquireLocksOf shiftOf crewOf crewAtWorkOf
   performed (try-acquire c) x y = judged (By (reply w)) (rules w (try-acquire c)) x (λ fine. rw append-nil (y fine))
   performed (drop-lease l) x y = judged (By (reply w)) (rules w (drop-lease l)) x y
   performed (read-permission l) x y = judged (By (read w)) (rules w (read-permission l)) x y
@@ -159,3 +166,4 @@ module _ (P : Made (World × Says) → Type 0) (w : World) where
   performed (acquire-locks registry script place held keys grants) x y =
       judged (By grant) (rules w (acquire-locks registry script place held keys grants)) x (λ fine. simp append-nil (y fine))
   performed (crew counts cells turns) x y = judged (By (crewed w)) (rules w (crew counts cells turns)) x (λ fine. simp append-nil (y fine))
+  performed (crew-at-work counts cells turns counters) x y = judged (By (worked w)) (rules w (crew-at-work counts cells turns counters)) x (λ fine. simp append-nil (y fine))

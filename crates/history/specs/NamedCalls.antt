@@ -8,7 +8,9 @@ use lib.Dec.{ltb, leb, eqb}
 use lib.ListN.{length}
 use lib.Seq.{take-length}
 use borrow.Author.Tests.{eqb-true}
-use Rattle.model.specs.Log.{Made, Actor, Event, by-script, attempt-begun, boundary-run, yielded, spun, step-dropped, took, released, waiters-set, health-set}
+use Rattle.history.specs.Crew.{crew-plan, crew-at-work-plan}
+use Rattle.model.specs.Crew.{rests, adds}
+use Rattle.model.specs.Log.{Made, Actor, Event, by-script, attempt-begun, boundary-run, yielded, spun, step-dropped, took, released, waiters-set, health-set, held-all, added}
 use Rattle.model.specs.Arena.{leaseOf, leasesOf, isIn, setCell, serialRemains, bitAt, ownerAt, isFree, isLive}
 use Rattle.model.specs.Foreign.{Setting, flowOf, stepTakeOf, stepReleaseOf, stepWaitersOf, stepHealthOf, stepOf}
 use Rattle.model.specs.Lock.{noLease, leaseAt, attemptLimit, noneYet}
@@ -19,7 +21,7 @@ use Rattle.model.specs.declared.Lease.{Lease}
 use Rattle.model.specs.declared.Stepped.{Stepped}
 use Rattle.choice.specs.Pick.{if-both}
 use Rattle.history.specs.World.{World}
-use Rattle.history.specs.Items.{Call, try-acquire, drop-lease, read-permission, competing-acquire, release-then-handoff, foreign-release, drop-preserving, acquire-preserving, environment, try-lock, transactional, acquire-bucket, release-all, acquire-locks, crew, script-of, place-of, given-up, foreign, perform, Clear, rules}
+use Rattle.history.specs.Items.{Call, try-acquire, drop-lease, read-permission, competing-acquire, release-then-handoff, foreign-release, drop-preserving, acquire-preserving, environment, try-lock, transactional, acquire-bucket, release-all, acquire-locks, crew, crew-at-work, script-of, place-of, given-up, foreign, perform, Clear, rules}
 use Rattle.history.specs.Statements.{log-of, Named, Named-alone}
 use Rattle.history.specs.Tests.{in-take, if-cases}
 use Rattle.history.specs.Judged.{acting, steps, performed}
@@ -71,7 +73,9 @@ steps-told w (acquire-locks registry script place held keys grants) _ =
     let k = acquire-locks registry script place held keys grants in
     locks-told (acting w k) place (w .head .buckets) registry keys grants (countIn keys) 0 [] (starting (w .head) place) (w .table) (w .health) (Mine k) (omega arith)
     (λ i h. absurd (omega arith))
-steps-told w (crew counts cells turns) fine = crew-told w counts cells turns (Mine (crew counts cells turns)) fine
+steps-told w (crew counts cells turns) fine = crew-told rests w counts cells turns [] (Mine (crew counts cells turns)) (crew-plan _ _ _ counts cells turns fine)
+steps-told w (crew-at-work counts cells turns counters) fine =
+    crew-told adds w counts cells turns counters (Mine (crew-at-work counts cells turns counters)) (crew-at-work-plan _ _ _ counts cells turns counters fine)
 
 call-told : (w : World) (k : Call) → Told (script-of k) (place-of k) (Mine k) (log-of w k) any
 call-told w k = performed (λ m. Told (script-of k) (place-of k) (Mine k) (m .log) any) w k (λ r. none tt) (steps-told w k)
@@ -91,6 +95,8 @@ Right kind place number (took a c s) = Unit {0}
 Right kind place number (released a c s) = (a ≡ by-script) × (kind ≡ 2) × (place ≡ c) × (number ≡ s)
 Right kind place number (waiters-set c n) = Unit {0}
 Right kind place number (health-set i n) = Unit {0}
+Right kind place number (held-all m) = Unit {0}
+Right kind place number (added m c v) = Unit {0}
 
 module _ (kind place number : ℕ) where
   -- every release of the log is right

@@ -1,7 +1,8 @@
--- The crew's releases: each names the serial that was noted at that place of the lists when it was taken.
+-- The crew's releases, in either work: each names the serial that was noted at that place of the lists when it was taken.
 use Prim.Native.Nat.{ℕ, zero, suc, _+_, _*_, _-_, _≤_, _<_}
 use mathlib.Core.Path.{_≡_, refl, ap, _∙_}
 use mathlib.Core.List.{List, [], _∷_}
+use mathlib.Core.Bool.{Bool, true, false}
 use mathlib.Core.Logic.{_≢_, _⊎_, inl, inr}
 use native.Mathlib.Decide.{ℕ-discrete}
 use native.Mathlib.Omega.{arith}
@@ -9,20 +10,21 @@ use lib.Dec.{ltb, leb}
 use lib.ListN.{length, getD, set, replicate, length-set}
 use lib.Seq.{getD-set-same, getD-set-other}
 use borrow.Author.Tests.{ltb-true, ltb-false, leb-false}
-use Rattle.model.specs.Log.{Made}
+use Rattle.choice.specs.Choice.{if_then_else_}
+use Rattle.model.specs.Log.{Made, held-all, note, gives, _>>_}
 use Rattle.model.specs.Arena.{headerOf, isPoisoned}
 use Rattle.model.specs.Foreign.{setting, flowOf}
 use Rattle.model.specs.Lock.{lockOf}
-use Rattle.model.specs.Crew.{total, crewRules, startOf, countOf, Crew, crewAt, afterTry, tryTurnOf, releaseTurnOf, turnOf, turnsOf}
+use Rattle.model.specs.Crew.{Work, addsOf, movesOf, total, planRules, startOf, countOf, Crew, crewStart, isFull, afterTry, tryTurnOf, heldAllOf, addTurnOf, releaseTurnOf, turnOf, turnsOf}
 use Rattle.choice.specs.Pick.{if-both}
 use Rattle.model.specs.declared.Outcome.{Outcome}
 use Rattle.laws.specs.Outcomes.{Comes, granted, busy, poisoned, damaged, spent, lock-comes}
 use Rattle.laws.specs.Lists.{zeros}
 use Rattle.laws.specs.Crew.{start-fits}
 use Rattle.history.specs.World.{World}
-use Rattle.history.specs.Items.{crew, Clear}
+use Rattle.history.specs.Items.{Clear}
 use Rattle.history.specs.Tests.{if-cases}
-use Rattle.history.specs.Judged.{steps}
+use Rattle.history.specs.Judged.{shifted}
 use Rattle.history.specs.Crew.{limits, Holds}
 use Rattle.history.specs.Naming.{Leases, Sub, Told, any, none, more, andthen, told, Given, lock-told}
 
@@ -38,28 +40,28 @@ set-at (x ∷ xs) (suc i) (suc j) v = go (set-at xs i j v)
     go (inl e) = inl e
     go (inr e) = inr (ap suc (e .0), e .1)
 
-module _ (counts cells : List ℕ) where
+module _ (work : Work) (counts cells : List ℕ) where
   -- what is held after move n of member m was held before it, unless that move took it
-  held-before : (made : List ℕ) (m n q j : ℕ) → n ≡ getD made m 0 → Holds counts (set made m (n + 1)) q j
-      → (startOf counts q + j ≢ startOf counts m + n) ⊎ (countOf counts m ≤ n) → Holds counts made q j
+  held-before : (made : List ℕ) (m n q j : ℕ) → n ≡ getD made m 0 → Holds work counts (set made m (n + 1)) q j
+      → (startOf counts q + j ≢ startOf counts m + n) ⊎ (countOf counts m ≤ n) → Holds work counts made q j
   held-before made m n q j is h other = go (set-at made m q (n + 1)) other
     where
       go : (getD (set made m (n + 1)) q 0 ≡ getD made q 0) ⊎ ((q ≡ m) × (getD (set made m (n + 1)) q 0 ≡ n + 1))
-          → (startOf counts q + j ≢ startOf counts m + n) ⊎ (countOf counts m ≤ n) → Holds counts made q j
-      go (inl x) y = (omega arith, omega arith)
+          → (startOf counts q + j ≢ startOf counts m + n) ⊎ (countOf counts m ≤ n) → Holds work counts made q j
+      go (inl x) y = (omega arith, omega arith, omega arith)
       go (inr x) (inl y) =
           let a = ap (λ z. getD made z 0) (x .0) in
           let b = ap (startOf counts) (x .0) in
-          (omega arith, omega arith)
+          (omega arith, omega arith, omega arith)
       go (inr x) (inr y) =
           let a = ap (λ z. getD made z 0) (x .0) in
           let b = ap (countOf counts) (x .0) in
-          (omega arith, omega arith)
+          (omega arith, omega arith, omega arith)
 
   -- what members hold was taken with the serials noted at these places
   pub record Noted (made serials : List ℕ) (A : Leases) : Type 0 where
     pub room : length serials ≡ 256
-    pub names : (q j : ℕ) → Holds counts made q j → A (getD cells (startOf counts q + j) 0) (getD serials (startOf counts q + j) 0)
+    pub names : (q j : ℕ) → Holds work counts made q j → A (getD cells (startOf counts q + j) 0) (getD serials (startOf counts q + j) 0)
 
   abbrev Keeps : Crew → Leases → Type 0
   Keeps w A = Noted (w .made) (w .serials) A
@@ -73,7 +75,7 @@ module _ (counts cells : List ℕ) where
   took-noted made serials m n s A few is l k a =
       record { room = length-set serials _ s ∙ k .room; names = λ q j h. go q j h (ℕ-discrete (startOf counts q + j) (startOf counts m + n)) }
     where
-      go : (q j : ℕ) → Holds counts (set made m (n + 1)) q j → Dec (startOf counts q + j ≡ startOf counts m + n)
+      go : (q j : ℕ) → Holds work counts (set made m (n + 1)) q j → Dec (startOf counts q + j ≡ startOf counts m + n)
           → A (getD cells (startOf counts q + j) 0) (getD (set serials (startOf counts m + n) s) (startOf counts q + j) 0)
       go q j h (yes e) = rw (e, getD-set-same serials (startOf counts m + n) s 0 (omega (arith, start-fits counts m, k .room))) a
       go q j h (no e) = rw (getD-set-other serials (startOf counts m + n) (startOf counts q + j) s 0 e) (k .names q j (held-before made m n q j is h (inl e)))
@@ -107,30 +109,47 @@ module _ (counts cells : List ℕ) where
         go next t B h damaged a = h
         go next t B h spent a = h
 
-    release-told : (w : Crew) (m n : ℕ) (A : Leases) → n ≡ getD (w .made) m 0 → countOf counts m ≤ n → n < 2 * countOf counts m → Keeps w A
-        → let j = startOf counts m + (2 * countOf counts m - 1 - n) in Turned A (releaseTurnOf w m j (getD cells j 0))
+    -- that it holds all tells of no lease
+    filled-told : (w : Crew) (m : ℕ) (A : Leases) → Keeps w A → Turned A (heldAllOf counts cells w m)
+    unfolding heldAllOf
+    filled-told w m A k = go (isFull counts (w .made) m)
+      where
+        go : (b : Bool) → Told [] 0 A (((if b then note (held-all m) else gives tt) >> gives w) .log) (Keeps w)
+        go true = more tt (none (wider (λ c s a. inl a) k))
+        go false = none k
+
+    add-told : (w : Crew) (m n c : ℕ) (A : Leases) → n ≡ getD (w .made) m 0 → countOf counts m ≤ n → Keeps w A → Turned A (addTurnOf w m c)
+    unfolding addTurnOf
+    add-told w m n c A is all k = more tt (none (wider (λ c s a. inl a) (rw (← is) (gave-noted (w .made) (w .serials) m n A is all k))))
+
+    release-told : (w : Crew) (m n : ℕ) (A : Leases) → n ≡ getD (w .made) m 0 → countOf counts m + addsOf work (countOf counts m) ≤ n → n < movesOf work (countOf counts m) → Keeps w A
+        → let j = startOf counts m + (movesOf work (countOf counts m) - 1 - n) in Turned A (releaseTurnOf w m j (getD cells j 0))
     unfolding releaseTurnOf
     release-told w m n A is all some k =
-        more (k .names m (2 * countOf counts m - 1 - n) (omega arith, omega arith))
-        (none (wider (λ c s a. inl a) (rw (← is) (gave-noted (w .made) (w .serials) m n A is all k))))
+        more (k .names m (movesOf work (countOf counts m) - 1 - n) (omega arith, omega arith, omega arith))
+        (none (wider (λ c s a. inl a) (rw (← is) (gave-noted (w .made) (w .serials) m n A is (omega arith) k))))
 
-    turn-told : (w : Crew) (m : ℕ) (A : Leases) → Keeps w A → Turned A (turnOf headers buckets g counts cells w m)
+    turn-told : (w : Crew) (m : ℕ) (A : Leases) → Keeps w A → Turned A (turnOf work headers buckets g counts cells w m)
     unfolding turnOf
     turn-told w m A k =
         let n = getD (w .made) m 0 in
         let count = countOf counts m in
-        if-cases (Turned A) (leb (2 * count) n) (λ _. none k)
-        (λ some. if-cases (Turned A) (ltb n count) (λ less. try-told w m n A refl (ltb-true n count less) k)
-        (λ all. release-told w m n A refl (ltb-false n count all) (leb-false (2 * count) n some) k))
+        let all = movesOf work count in
+        if-cases (Turned A) (leb all n) (λ _. none k)
+        (λ some. if-cases (Turned A) (ltb n count)
+        (λ less. andthen (try-told w m n A refl (ltb-true n count less) k)
+        (λ B i h. filled-told (tryTurnOf headers buckets g w m (startOf counts m + n) (getD cells (startOf counts m + n) 0) .seen) m B h))
+        (λ held. if-cases (Turned A) (ltb n (count + addsOf work count)) (λ less. add-told w m n (getD cells (startOf counts m + (n - count)) 0) A refl (ltb-false n count held) k)
+        (λ worked. release-told w m n A refl (ltb-false n (count + addsOf work count) worked) (leb-false all n some) k)))
 
-    pub turns-told : (turns : List ℕ) (w : Crew) (A : Leases) → Keeps w A → Turned A (turnsOf headers buckets g counts cells w turns)
+    pub turns-told : (turns : List ℕ) (w : Crew) (A : Leases) → Keeps w A → Turned A (turnsOf work headers buckets g counts cells w turns)
     unfolding turnsOf
     turns-told [] w A k = none k
-    turns-told (m ∷ ms) w A k = andthen (turn-told w m A k) (λ B i h. turns-told ms (turnOf headers buckets g counts cells w m .seen) B h)
+    turns-told (m ∷ ms) w A k = andthen (turn-told w m A k) (λ B i h. turns-told ms (turnOf work headers buckets g counts cells w m .seen) B h)
 
 -- from nothing noted
-pub crew-told : (w : World) (counts cells turns : List ℕ) (A : Leases) → Clear (crewRules (w .head) (w .table) (w .health) counts cells turns) → Told [] 0 A (steps w (crew counts cells turns) .log) any
-crew-told w counts cells turns A fine =
-    told (turns-told counts cells (w .head .headers) (w .head .buckets) (w .health) (limits (w .head) (w .table) (w .health) counts cells turns fine .small)
-    turns (crewAt (w .head .next) (w .table) (replicate 16 0) (replicate 256 0) 0 0) A
+pub crew-told : (work : Work) (w : World) (counts cells turns counters : List ℕ) (A : Leases) → Clear (planRules (w .head) counts cells turns) → Told [] 0 A (shifted work w counts cells turns counters .log) any
+crew-told work w counts cells turns counters A fine =
+    told (turns-told work counts cells (w .head .headers) (w .head .buckets) (w .health) (limits (w .head) counts cells turns fine .small)
+    turns (crewStart (w .head) (w .table) counters) A
     (record { room = refl; names = λ q j h. absurd (omega (arith, zeros 16 q)) }))

@@ -7,7 +7,7 @@ use native.Mathlib.Omega.{arith}
 use lib.Dec.{ltb}
 use lib.ListN.{length}
 use borrow.Author.Tests.{ltb-true, leb-false, lt-ltb, lt-leb, le-leb, eq-eqb, not-false}
-use Rattle.model.specs.Log.{Made, Event, by-caller, by-script, attempt-begun, boundary-run, yielded, spun, step-dropped, took, released, waiters-set, health-set}
+use Rattle.model.specs.Log.{Made, Event, by-caller, by-script, attempt-begun, boundary-run, yielded, spun, step-dropped, took, released, waiters-set, health-set, held-all, added}
 use Rattle.model.specs.Arena.{lastSerial, serialRemains, spentTo, leaseOf, bitAt, ownerAt, isFree, isLive, isIn, stateAt}
 use Rattle.model.specs.Refusals.{first}
 use Rattle.model.specs.Foreign.{stepTakeOf, stepReleaseOf, stepWaitersOf, stepHealthOf, stepOf}
@@ -196,6 +196,8 @@ replayed k (released a c s) g l =
     called k (drop-lease (leaseOf c s)) (released-alone w c s (fits (w .head) (length (w .table)) (g .shape)) l)
 replayed k (waiters-set c n) g l = stepped k 3 c n (waiters-alone (k .world) c n l)
 replayed k (health-set i n) g l = stepped k 4 i n (health-alone (k .world) i n l)
+replayed k (held-all m) g l = no-item k
+replayed k (added m c v) g l = no-item k
 
 run-append : (k : Course) (xs ys : List Item) → run k (xs ++ ys) ≡ run (run k xs) ys
 unfolding run

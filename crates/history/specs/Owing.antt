@@ -8,7 +8,7 @@ use native.Mathlib.Omega.{arith}
 use lib.Dec.{ltb, leb, eqb}
 use lib.ListN.{length, take}
 use lib.Seq.{take-suc, take-length}
-use Rattle.model.specs.Log.{Made, Event, by-caller, by-script, attempt-begun, boundary-run, yielded, spun, step-dropped, took, released, waiters-set, health-set}
+use Rattle.model.specs.Log.{Made, Event, by-caller, by-script, attempt-begun, boundary-run, yielded, spun, step-dropped, took, released, waiters-set, health-set, held-all, added}
 use Rattle.model.specs.Arena.{serialRemains, headerOf, isPoisoned, leaseOf, bitAt, ownerAt, waitersAt, setCell, isFree, isLive, isIn, stateAt}
 use Rattle.model.specs.Foreign.{Setting, protecting, stepsIn, kindAt, placeAt, numberAt, stepTakeOf, stepReleaseOf, stepWaitersOf, stepHealthOf, stepOf, runStepsOf, boundaryOf, flowOf}
 use Rattle.model.specs.Lock.{takeIn, takeOf, lateOf, afterTake, secondOf, lockOf, outcomeOf, findOf, attemptAt, attemptOf, spinOf, pauseOf, isBusy, retryOf, runOf, attemptLimit, noneYet, noLease, leaseAt, giveBackOf, Locks, rollbackOf, afterKey, bindingAt, bucketAt, locksOf}
@@ -53,6 +53,8 @@ Owed L (took by-script c s) es = Unit {0}
 Owed L (released a c s) es = Unit {0}
 Owed L (waiters-set c n) es = Unit {0}
 Owed L (health-set i n) es = Unit {0}
+Owed L (held-all m) es = Unit {0}
+Owed L (added m c v) es = Unit {0}
 
 pub data Settles (L : Lease → Type 0) : List Event → Type 0 where
   none : Settles L []
@@ -83,6 +85,8 @@ joined-owed (took by-script c s) xs ys f o = tt
 joined-owed (released a c s) xs ys f o = tt
 joined-owed (waiters-set c n) xs ys f o = tt
 joined-owed (health-set i n) xs ys f o = tt
+joined-owed (held-all m) xs ys f o = tt
+joined-owed (added m c v) xs ys f o = tt
 
 pub join : {L M : Lease → Type 0} {xs ys : List Event} → Settles L xs → Settles M ys → ((l : Lease) → L l → M l ⊎ Frees l ys) → Settles M (xs ++ ys)
 join none b f = b

@@ -11,7 +11,7 @@ use Rattle.model.specs.declared.Reason.{Reason}
 use Rattle.model.specs.declared.Reason.the-variants.{Held, Before, After}
 use Rattle.model.specs.declared.State.the-variants as state
 use Rattle.history.specs.World.{World, Live, Healthy, now, Sound, Spent}
-use Rattle.history.specs.Items.{Call, try-acquire, drop-lease, read-permission, competing-acquire, release-then-handoff, foreign-release, drop-preserving, acquire-preserving, environment, try-lock, transactional, acquire-bucket, release-all, acquire-locks, crew, asked, Says, Build}
+use Rattle.history.specs.Items.{Call, try-acquire, drop-lease, read-permission, competing-acquire, release-then-handoff, foreign-release, drop-preserving, acquire-preserving, environment, try-lock, transactional, acquire-bucket, release-all, acquire-locks, crew, crew-at-work, asked, Says, Build}
 use Rattle.history.specs.Statements.{answer-in, world-in}
 
 -- both ways
@@ -36,6 +36,7 @@ Locks-once (acquire-bucket registry script place held binding bucket) = ⊥
 Locks-once (release-all script place leases) = ⊥
 Locks-once (acquire-locks registry script place held keys grants) = ⊥
 Locks-once (crew counts cells turns) = ⊥
+Locks-once (crew-at-work counts cells turns counters) = ⊥
 
 -- how many boundaries a reply counts
 abbrev pub boundaries-in : Made (World × Says) → ℕ

@@ -13,7 +13,7 @@ use Rattle.model.specs.Foreign.{Setting, protecting, flowOf}
 use Rattle.model.specs.Lock.{takeOf, lockOf, outcomeOf, answerOf, findOf, attemptAt, attemptOf, pauseOf, isBusy, retryOf, settled, attemptLimit, noneYet, rollbackOf, afterKey, bindingAt, bucketAt, Locks, locksOf}
 use Rattle.model.specs.Checks.{countIn}
 use Rattle.model.specs.Calls.{starting, acquireOf}
-use Rattle.model.specs.Crew.{crewRules, crewOf}
+use Rattle.model.specs.Crew.{crewRules, crewOf, crewAtWorkRules, shiftOf, crewAtWorkOf}
 use Rattle.model.specs.declared.Answer.{Answer}
 use Rattle.model.specs.declared.Answer.the-variants as answer
 use Rattle.model.specs.declared.CrewReply.{CrewReply}
@@ -32,8 +32,8 @@ use Rattle.model.specs.declared.Tried.{Tried}
 use Rattle.choice.specs.Pick.{if-both}
 use Rattle.laws.specs.Outcomes.{Comes, granted, busy, poisoned, damaged, spent, lock-comes}
 use Rattle.history.specs.World.{World}
-use Rattle.history.specs.Items.{Call, try-acquire, drop-lease, read-permission, competing-acquire, release-then-handoff, foreign-release, drop-preserving, acquire-preserving, environment, try-lock, transactional, acquire-bucket, release-all, acquire-locks, crew, ByCell, perform}
-use Rattle.history.specs.Statements.{Early, Changes-nothing, Crew-refused, nobody-moved}
+use Rattle.history.specs.Items.{Call, try-acquire, drop-lease, read-permission, competing-acquire, release-then-handoff, foreign-release, drop-preserving, acquire-preserving, environment, try-lock, transactional, acquire-bucket, release-all, acquire-locks, crew, crew-at-work, ByCell, perform}
+use Rattle.history.specs.Statements.{Early, Changes-nothing, Crew-refused, nobody-moved, Crew-at-work-refused}
 use Rattle.history.specs.Judged.{judged, acting, unchanged, steps, performed}
 
 -- ---- which refusals steps answer
@@ -171,6 +171,7 @@ steps-late w (acquire-locks registry script place held keys grants) =
     let e = acting w (acquire-locks registry script place held keys grants) in
     inl (locks-late Late-by-cell (countIn keys) 0 e (w .head .buckets) registry keys [] (starting (w .head) place) (w .table) (w .health) grants)
 steps-late w (crew counts cells turns) = inl tt
+steps-late w (crew-at-work counts cells turns counters) = inl tt
 
 -- so no steps answer it, and checks leave all as it was
 never : (k : Call) (a : Answer) (r : Refusal) → Bounded k a → a ≡ answer.Refused r → Early k r → ⊥
@@ -191,10 +192,20 @@ refusals-early w k r =
 
 -- and a crew's reply, with its own counts
 pub crew-unmoved : Crew-refused crewOf
-unfolding crewOf
+unfolding shiftOf crewOf
 crew-unmoved h t g counts cells turns r =
     judged (λ (m : Made (CrewReply × List ℕ)). m .seen .0 .answer ≡ answer.Refused r → m ≡ refused r) (crewRules h t g counts cells turns)
     (λ x q. let z : x ≡ r = cc in ap refused z) (λ _ q. let z : _≡_ {A = ℕ} 0 1 = cc in absurd (omega arith))
   where
     refused : Refusal → Made (CrewReply × List ℕ)
     refused x = record { seen = (nobody-moved h x, t); log = [] }
+
+-- with work, the counters too
+pub crew-at-work-unmoved : Crew-at-work-refused crewAtWorkOf
+unfolding shiftOf crewAtWorkOf
+crew-at-work-unmoved h t g counts cells turns counters r =
+    judged (λ (m : Made (CrewReply × (List ℕ × List ℕ))). m .seen .0 .answer ≡ answer.Refused r → m ≡ refused r) (crewAtWorkRules h t g counts cells turns counters)
+    (λ x q. let z : x ≡ r = cc in ap refused z) (λ _ q. let z : _≡_ {A = ℕ} 0 1 = cc in absurd (omega arith))
+  where
+    refused : Refusal → Made (CrewReply × (List ℕ × List ℕ))
+    refused x = record { seen = (nobody-moved h x, (t, counters)); log = [] }

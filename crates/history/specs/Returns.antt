@@ -22,7 +22,7 @@ use Rattle.model.specs.declared.Reply.{Reply}
 use Rattle.model.specs.declared.Run.{Run}
 use Rattle.laws.specs.Words.{Seen, here, there, see}
 use Rattle.history.specs.World.{World, cells, Live, step, now, Lawful}
-use Rattle.history.specs.Items.{Call, try-acquire, drop-lease, read-permission, competing-acquire, release-then-handoff, foreign-release, drop-preserving, acquire-preserving, environment, try-lock, transactional, acquire-bucket, release-all, acquire-locks, crew, perform, IsCrew, buffer, Clear, rules}
+use Rattle.history.specs.Items.{Call, try-acquire, drop-lease, read-permission, competing-acquire, release-then-handoff, foreign-release, drop-preserving, acquire-preserving, environment, try-lock, transactional, acquire-bucket, release-all, acquire-locks, crew, crew-at-work, perform, IsCrew, buffer, Clear, rules}
 use Rattle.history.specs.Statements.{Hands-over, answers, log-of, Nothing-kept, leaves, Given-back, Gives, Nothing-new, buffer-in, Fails}
 use Rattle.history.specs.Tests.{alive, state-held, Alive}
 use Rattle.history.specs.Events.{Fit, fit-step, lives, next-step, live-before, at}
@@ -113,6 +113,7 @@ steps-settles w (acquire-locks registry script place held keys grants) n k =
     let e = acting w (acquire-locks registry script place held keys grants) in
     locks-hands e (countIn keys) 0 (w .head .buckets) registry keys [] (starting (w .head) place) (w .table) (w .health) grants .settles
 steps-settles w (crew counts cells turns) n k = absurd (n tt)
+steps-settles w (crew-at-work counts cells turns counters) n k = absurd (n tt)
 
 pub call-settles : (w : World) (k : Call) → (IsCrew k → ⊥) → Settles (Gives (perform w k)) (log-of w k)
 call-settles w k n = performed (λ m. Settles (Gives m) (m .log)) w k (λ r. none) (steps-settles w k n)
@@ -178,6 +179,7 @@ steps-buffer w (release-all script place leases) n = refl
 steps-buffer w (acquire-locks registry script place held keys grants) n =
     locks-buffer (countIn keys) 0 (acting w (acquire-locks registry script place held keys grants)) (w .head .buckets) registry keys [] (starting (w .head) place) (w .table) (w .health) grants n
 steps-buffer w (crew counts cells turns) n = refl
+steps-buffer w (crew-at-work counts cells turns counters) n = refl
 
 buffer-kept : (w : World) (k : Call) → (answers w k ≡ AllGranted → ⊥) → buffer-in (perform w k) ≡ buffer k
 buffer-kept w k = performed (λ m. (m .seen .1 .answer ≡ AllGranted → ⊥) → m .seen .1 .grants ≡ buffer k) w k (λ r n. refl) (λ _. steps-buffer w k)

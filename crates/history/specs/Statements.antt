@@ -132,6 +132,15 @@ Crew-refused f =
     (h : Head) (t g counts cells turns : List ℕ) (r : Refusal) → f h t g counts cells turns .seen .0 .answer ≡ Refused r
     → f h t g counts cells turns ≡ record { seen = (nobody-moved h r, t); log = [] }
 
+-- and of a crew at work: the counters are as they were, too
+abbrev pub Crew-at-work-build : Type 0
+Crew-at-work-build = Head → (table health counts cells turns counters : List ℕ) → Made (CrewReply × (List ℕ × List ℕ))
+
+abbrev pub Crew-at-work-refused : Crew-at-work-build → Type 0
+Crew-at-work-refused f =
+    (h : Head) (t g counts cells turns counters : List ℕ) (r : Refusal) → f h t g counts cells turns counters .seen .0 .answer ≡ Refused r
+    → f h t g counts cells turns counters ≡ record { seen = (nobody-moved h r, (t, counters)); log = [] }
+
 -- ---- what a grant is
 
 -- "Cell number = header x B + bucket.": a grant names the cell that was asked for, by key the key's own

@@ -1,7 +1,7 @@
 -- The statements of `Statements`, `Answers` and `Callers`, each proved; the proofs are in the files behind.
-use Rattle.model.specs.Crew.{crewOf}
+use Rattle.model.specs.Crew.{crewOf, crewAtWorkOf}
 use Rattle.history.specs.Items.{perform, foreign}
-use Rattle.history.specs.Statements.{Demand-2, Forgets, Refused-stays, Lawful-always, Counts-are, Changes-nothing, Crew-refused, Grant-is, Buffer-is, Given-live, Nothing-kept, Nothing-new, Falling-all, Rollback-is, Named, Named-alone, Held-live}
+use Rattle.history.specs.Statements.{Demand-2, Forgets, Refused-stays, Lawful-always, Counts-are, Changes-nothing, Crew-refused, Grant-is, Buffer-is, Given-live, Nothing-kept, Nothing-new, Falling-all, Rollback-is, Named, Named-alone, Held-live, Crew-at-work-refused}
 use Rattle.history.specs.Answers.{Handed-over, Granted-healthy, Locks-healthy, Poisoned-holds-nothing, Serials-rise, Not-over-live, Busy-or-refused, Locks-refused, Never-twice, Once-each, Two-writers, None-takes, Alone-until-released, Takes-parted}
 use Rattle.history.specs.Reasons.{Reasons-are, Early-takes-nothing, Holder-lives, Late-is-spent, Own-serial}
 use Rattle.history.specs.Callers.{Takes-alike, Take-is-call, Releases-alike, Release-is-call, By-single-calls, Histories-single}
@@ -16,7 +16,7 @@ use Rattle.history.specs.Whys as whys
 use Rattle.history.specs.Writers as writers
 use Rattle.history.specs.Others as others
 use Rattle.history.specs.CountedCalls.{calls-counted}
-use Rattle.history.specs.Refused.{refusals-early, crew-unmoved}
+use Rattle.history.specs.Refused.{refusals-early, crew-unmoved, crew-at-work-unmoved}
 use Rattle.history.specs.NamedCalls.{calls-named, steps-named}
 
 -- ---- a history from a preparation
@@ -43,6 +43,9 @@ changes-nothing = refusals-early
 
 pub crew-refused : Crew-refused crewOf
 crew-refused = crew-unmoved
+
+pub crew-at-work-refused : Crew-at-work-refused crewAtWorkOf
+crew-at-work-refused = crew-at-work-unmoved
 
 pub grant-is : Grant-is perform
 grant-is = grants-name

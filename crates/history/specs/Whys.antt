@@ -8,7 +8,7 @@ use native.Mathlib.Omega.{arith}
 use lib.Dec.{ltb}
 use lib.ListN.{getD, List·getD-eq-default}
 use borrow.Author.Tests.{not-false, ltb-true, ltb-false}
-use Rattle.model.specs.Log.{Made, Event, by-caller, by-script, attempt-begun, boundary-run, yielded, spun, step-dropped, took, released, waiters-set, health-set}
+use Rattle.model.specs.Log.{Made, Event, by-caller, by-script, attempt-begun, boundary-run, yielded, spun, step-dropped, took, released, waiters-set, health-set, held-all, added}
 use Rattle.model.specs.Arena.{cellsOf, headerOf, leaseOf, bitAt, ownerAt, waitersAt, setCell, stateAt, isLive}
 use Rattle.model.specs.Lock.{takeOf, outcomeOf, answerOf}
 use Rattle.model.specs.Checks.{leaseRules}
@@ -23,7 +23,7 @@ use Rattle.model.specs.declared.State.{State}
 use Rattle.model.specs.declared.State.the-variants as state
 use Rattle.laws.specs.Words.{waiters-set-cell}
 use Rattle.history.specs.World.{World, cells, Live, step, now, Lawful, Spent, number-of, boundaries, caller-releases}
-use Rattle.history.specs.Items.{Call, try-acquire, drop-lease, read-permission, competing-acquire, release-then-handoff, foreign-release, drop-preserving, acquire-preserving, environment, try-lock, transactional, acquire-bucket, release-all, acquire-locks, crew, IsCrew, asked, perform}
+use Rattle.history.specs.Items.{Call, try-acquire, drop-lease, read-permission, competing-acquire, release-then-handoff, foreign-release, drop-preserving, acquire-preserving, environment, try-lock, transactional, acquire-bucket, release-all, acquire-locks, crew, crew-at-work, IsCrew, asked, perform}
 use Rattle.history.specs.Statements.{answer-in, world-in, answers, leaves, log-of}
 use Rattle.history.specs.Events.{Fit, good, fit, lives, live-before}
 use Rattle.history.specs.Events as events
@@ -65,6 +65,8 @@ ends-released (released by-caller d n ∷ xs) c s e = let z : _≡_ {A = ℕ} 0 
 ends-released (released by-script d n ∷ xs) c s e = ends-released xs c s e
 ends-released (waiters-set d n ∷ xs) c s e = ends-released xs c s e
 ends-released (health-set i n ∷ xs) c s e = ends-released xs c s e
+ends-released (held-all m ∷ xs) c s e = ends-released xs c s e
+ends-released (added m d v ∷ xs) c s e = ends-released xs c s e
 
 -- where the caller does nothing, it releases nothing last
 not-foreign : {log : List Event} (xs : List Event) (c s : ℕ) → Every Foreigner log → log ≡ xs ++ (released by-caller c s ∷ []) → ⊥
@@ -223,6 +225,7 @@ not-crew (acquire-bucket registry script place ls binding bucket) o = absurd o
 not-crew (release-all script place ls) o = absurd o
 not-crew (acquire-locks registry script place ls keys grants) o = absurd o
 not-crew (crew counts lists turns) o = absurd o
+not-crew (crew-at-work counts lists turns counters) o = absurd o
 
 -- a lock that looked is no refused call: its log is not empty, so the shape fits
 looked-fit : (w : World) (k : Call) → Locks-once k → (boundaries-in (perform w k) ≡ 0 → ⊥) → Fit w

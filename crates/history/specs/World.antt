@@ -5,7 +5,7 @@ use mathlib.Core.List.{List, [], _∷_}
 use mathlib.Core.Bool.{Bool, true, false}
 use lib.Dec.{eqb}
 use lib.ListN.{length, getD, set}
-use Rattle.model.specs.Log.{Event, by-caller, by-script, attempt-begun, boundary-run, yielded, spun, step-dropped, took, released, waiters-set, health-set}
+use Rattle.model.specs.Log.{Event, by-caller, by-script, attempt-begun, boundary-run, yielded, spun, step-dropped, took, released, waiters-set, health-set, held-all, added}
 use Rattle.model.specs.Arena.{lastSerial, cellsOf, spentTo, leaseOf, headerOf, bitAt, setCell, setWaiters, stateAt, isLive, shapeFits, healthFits}
 use Rattle.model.specs.declared.Head.{Head}
 use Rattle.model.specs.declared.Lease.{Lease}
@@ -45,6 +45,8 @@ Legal w (took a c s) = Free w c × ((s ≡ w .head .next) × (s < lastSerial))
 Legal w (released a c s) = Live w (leaseOf c s)
 Legal w (waiters-set c n) = c < cells w
 Legal w (health-set i n) = (i < w .head .headers) × (n ≤ 1)
+Legal w (held-all m) = Unit {0}
+Legal w (added m c v) = Unit {0}
 
 abbrev pub step : World → Event → World
 step w attempt-begun = w
@@ -56,6 +58,8 @@ step w (took a c s) = worldOf (spentTo (w .head) (w .head .next + 1)) (setCell (
 step w (released a c s) = worldOf (w .head) (setCell (w .table) c 0 0) (w .health)
 step w (waiters-set c n) = worldOf (w .head) (setWaiters (w .table) c n) (w .health)
 step w (health-set i n) = worldOf (w .head) (w .table) (set (w .health) i n)
+step w (held-all m) = w
+step w (added m c v) = w
 
 -- a log is oldest first: the world after it, and that each event was legal when it happened
 abbrev pub now : World → List Event → World
@@ -100,6 +104,8 @@ kind-of (took a c s) = takes
 kind-of (released a c s) = releases
 kind-of (waiters-set c n) = others
 kind-of (health-set i n) = others
+kind-of (held-all m) = others
+kind-of (added m c v) = others
 
 abbrev pub code : Kind → ℕ
 code attempts = 0
@@ -127,6 +133,8 @@ Releases l (took a c s) = ⊥
 Releases l (released a c s) = l ≡ leaseOf c s
 Releases l (waiters-set c n) = ⊥
 Releases l (health-set i n) = ⊥
+Releases l (held-all m) = ⊥
+Releases l (added m c v) = ⊥
 
 -- no event of it releases this cell with this serial
 abbrev pub Unreleased : Lease → List Event → Type 0
@@ -146,6 +154,8 @@ caller-releases (released by-caller c s ∷ es) = leaseOf c s ∷ caller-release
 caller-releases (released by-script c s ∷ es) = caller-releases es
 caller-releases (waiters-set c n ∷ es) = caller-releases es
 caller-releases (health-set i n ∷ es) = caller-releases es
+caller-releases (held-all m ∷ es) = caller-releases es
+caller-releases (added m c v ∷ es) = caller-releases es
 
 -- "a serial that was issued and owns nothing"
 pub record Spent (w : World) (s : ℕ) : Type 0 where

@@ -7,7 +7,7 @@ use native.Mathlib.Decide.{ℕ-discrete}
 use native.Mathlib.Omega.{arith}
 use lib.ListN.{length}
 use lib.Seq.{take-length}
-use Rattle.model.specs.Log.{Actor, Event, by-caller, attempt-begun, boundary-run, yielded, spun, step-dropped, took, released, waiters-set, health-set}
+use Rattle.model.specs.Log.{Actor, Event, by-caller, attempt-begun, boundary-run, yielded, spun, step-dropped, took, released, waiters-set, health-set, held-all, added}
 use Rattle.model.specs.Arena.{leaseOf, leasesOf, setCell}
 use Rattle.model.specs.Foreign.{Setting, protecting, flowOf}
 use Rattle.model.specs.Lock.{takeOf, lockOf, outcomeOf, answerOf, attemptOf, retryOf, attemptLimit, noneYet, settled, leaseAt, noLease, rollbackOf, afterKey, bindingAt, bucketAt, locksOf}
@@ -24,7 +24,7 @@ use Rattle.model.specs.declared.Refusal.{Refusal}
 use Rattle.model.specs.declared.Run.{Run}
 use Rattle.laws.specs.Prepared.{Outcome as Prepared, Came, was-done, was-refused, came}
 use Rattle.history.specs.World.{World, Live, step, now, Lawful, Releases, Unreleased, worldOf}
-use Rattle.history.specs.Items.{Call, try-acquire, drop-lease, read-permission, competing-acquire, release-then-handoff, foreign-release, drop-preserving, acquire-preserving, environment, try-lock, transactional, acquire-bucket, release-all, acquire-locks, crew, perform, Item, call, foreign-step, preparation, prepared-by, preparing, next-item, run, cold, asked, Entry, entryOf, events-of, Course, keyCell, preparation-over}
+use Rattle.history.specs.Items.{Call, try-acquire, drop-lease, read-permission, competing-acquire, release-then-handoff, foreign-release, drop-preserving, acquire-preserving, environment, try-lock, transactional, acquire-bucket, release-all, acquire-locks, crew, crew-at-work, perform, Item, call, foreign-step, preparation, prepared-by, preparing, next-item, run, cold, asked, Entry, entryOf, events-of, Course, keyCell, preparation-over}
 use Rattle.history.specs.Statements.{Hands-over, answers, log-of, Gives, Through, buffer-in}
 use Rattle.history.specs.Answers.{Asks-one, Busy-or-refused, Locks-refused, Never-twice, None-takes, Not-over-live, Once-each, Takes-parted, Two-writers, Hands, Alone-until-released}
 use Rattle.history.specs.Tests.{free-words, same-lease, In, in-take}
@@ -56,6 +56,8 @@ looked l (released a c s) = go (ℕ-discrete (l .cell) c) (ℕ-discrete (l .seri
     go (no p) q = inl (λ x. p (ap (λ (k : Lease). k .cell) x))
 looked l (waiters-set c n) = inl (λ x. x)
 looked l (health-set i n) = inl (λ x. x)
+looked l (held-all m) = inl (λ x. x)
+looked l (added m c v) = inl (λ x. x)
 
 pub parted : (w : World) (c s s′ : ℕ) (b : Actor) (between after : List Event) → Fit w → Live w (leaseOf c s) → Lawful w (between ++ (took b c s′ ∷ after))
     → (a : Actor) × (before middle : List Event) × (between ≡ before ++ (released a c s ∷ middle))
@@ -321,6 +323,7 @@ steps-one w (acquire-bucket registry script place held binding bucket) a =
 steps-one w (release-all script place leases) a = absurd a
 steps-one w (acquire-locks registry script place held keys grants) a = absurd a
 steps-one w (crew counts cells turns) a = absurd a
+steps-one w (crew-at-work counts cells turns counters) a = absurd a
 
 pub busy-or-refused : Busy-or-refused perform
 busy-or-refused w k s a v u = go (answers w k) refl (performed (λ m. One (m .seen .1 .answer)) w k (λ r. tt) (λ _. steps-one w k a))

@@ -1,20 +1,46 @@
--- What the crew's checks give: few members with few cells, and each member's list in the run, in range and strictly rising.
-use Prim.Native.Nat.{ℕ, zero, suc, _+_, _-_, _≤_, _<_}
-use mathlib.Core.Path.{_≡_, _∙_}
+-- The moves of a crew's work, and what its checks give: few members with few cells, each member's list in the run, in range and strictly
+-- rising, and one counter a cell.
+use Prim.Native.Nat.{ℕ, zero, suc, _+_, _*_, _-_, _≤_, _<_}
+use mathlib.Core.Path.{_≡_, refl, _∙_}
 use mathlib.Core.List.{List, [], _∷_, _++_}
-use mathlib.Core.Bool.{true, not, _&&_, _||_}
+use mathlib.Core.Bool.{Bool, true, false, not, _&&_, _||_}
 use native.Mathlib.Omega.{arith}
 use native.Mathlib.Decide.{decLt, ℕ-discrete}
 use lib.Dec.{ltb, leb, eqb}
 use lib.ListN.{length, getD, drop, length-take, length-drop, List·getD-eq-default}
 use lib.Seq.{getD-take, getD-drop}
-use borrow.Author.Tests.{ltb-true, ltb-false, leb-true, eqb-true, not-false}
-use Rattle.model.specs.Arena.{within}
+use borrow.Author.Tests.{ltb-true, ltb-false, leb-true, eqb-true, eq-eqb, not-false}
+use Rattle.choice.specs.Choice.{if_then_else_}
+use Rattle.model.specs.Log.{gives, _>>=_}
+use Rattle.model.specs.Arena.{within, cellsOf}
 use Rattle.model.specs.Refusals.{first}
-use Rattle.model.specs.Crew.{total, startOf, countOf, listOf, allWithin, badLimits, risesFrom, badLists}
+use Rattle.model.specs.Checks.{badShape, badHealth}
+use Rattle.model.specs.Crew.{Work, rests, adds, addsOf, movesOf, total, startOf, countOf, listOf, allWithin, badLimits, risesFrom, badLists, planRules, crewRules, badCounters, crewAtWorkRules, Crew, idled, tryTurnOf, heldAllOf, addTurnOf, releaseTurnOf, turnOf, releasedOf}
 use Rattle.model.specs.declared.Check.the-variants.{Fine}
+use Rattle.model.specs.declared.Head.{Head}
 use Rattle.choice.specs.Pick.{both, neither}
-use Rattle.laws.specs.Checks.{fine-rest}
+use Rattle.laws.specs.Checks.{fine-rest, first-skip}
+
+-- ---- the work
+
+-- at most a move a cell
+pub adds-few : (work : Work) (n : ℕ) → addsOf work n ≤ n
+adds-few rests n = omega arith
+adds-few adds n = omega arith
+
+pub adds-none : (work : Work) → addsOf work 0 ≡ 0
+adds-none work = omega (arith, adds-few work 0)
+
+pub adds-plus : (work : Work) (n k : ℕ) → addsOf work (n + k) ≡ addsOf work n + addsOf work k
+adds-plus rests n k = refl
+adds-plus adds n k = refl
+
+-- all moves: two a cell, or three
+pub moves-two : (n : ℕ) → movesOf rests n ≡ 2 * n
+moves-two n = omega arith
+
+pub moves-three : (n : ℕ) → movesOf adds n ≡ 3 * n
+moves-three n = omega arith
 
 -- ---- where the lists lie
 
@@ -111,3 +137,59 @@ pub cell-inside : (inside : ℕ) (counts cells : List ℕ) → length cells ≡ 
 cell-inside inside counts cells size e m j l =
     let r = lists-rise (length counts) 0 inside counts cells e m (omega arith) (omega (arith, member counts m (omega arith))) in
     rw (listed counts cells m j l) at (rises-inside inside 0 (listOf counts cells m) r j (omega (arith, list-long counts cells size m)))
+
+-- ---- the checks of the crew at work are those of the crew, and one counter a cell
+
+module _ (h : Head) (t g counts cells turns counters : List ℕ) where
+  pub at-work-fine : length counters ≡ cellsOf h → first (crewRules h t g counts cells turns) ≡ Fine → first (crewAtWorkRules h t g counts cells turns counters) ≡ Fine
+  unfolding crewRules crewAtWorkRules
+  at-work-fine wide e =
+      let a = fine-rest _ _ e in
+      let b = fine-rest _ _ (a .1) in
+      first-skip (badShape h t) _ (a .0) ∙ first-skip (badHealth h g) _ (b .0)
+      ∙ first-skip (badCounters h counters) (planRules h counts cells turns) (rw (eq-eqb (length counters) (cellsOf h) wide)) ∙ b .1
+
+  pub fine-at-work : first (crewAtWorkRules h t g counts cells turns counters) ≡ Fine → (length counters ≡ cellsOf h) × (first (crewRules h t g counts cells turns) ≡ Fine)
+  unfolding crewRules crewAtWorkRules
+  fine-at-work e =
+      let a = fine-rest _ _ e in
+      let b = fine-rest _ _ (a .1) in
+      let c = fine-rest _ _ (b .1) in
+      (eqb-true _ _ (not-false _ (c .0)), first-skip (badShape h t) _ (a .0) ∙ first-skip (badHealth h g) _ (b .0) ∙ c .1)
+
+-- ---- a turn of the crew that rests: there is no move between the last take and the first release
+
+module _ (headers buckets : ℕ) (g counts cells : List ℕ) (w : Crew) (m : ℕ) where
+  abbrev n : ℕ
+  n = getD (w .made) m 0
+
+  abbrev count : ℕ
+  count = countOf counts m
+
+  abbrev k : ℕ
+  k = startOf counts m
+
+  pub rest-turn : turnOf rests headers buckets g counts cells w m
+      ≡ (if leb (2 * count) n then gives (idled (w .next) (w .table) w)
+      else if ltb n count then (tryTurnOf headers buckets g w m (k + n) (getD cells (k + n) 0) >>= λ v. heldAllOf counts cells v m)
+      else releaseTurnOf w m (k + (2 * count - 1 - n)) (getD cells (k + (2 * count - 1 - n)) 0))
+  unfolding turnOf
+  rest-turn =
+      let a : 2 * count + 0 ≡ 2 * count = omega arith in
+      let b : count + 0 ≡ count = omega arith in
+      rw (a, b) (go (ltb n count))
+    where
+      go : (c : Bool) → (if leb (2 * count) n then gives (idled (w .next) (w .table) w)
+          else if c then (tryTurnOf headers buckets g w m (k + n) (getD cells (k + n) 0) >>= λ v. heldAllOf counts cells v m)
+          else if c then addTurnOf w m (getD cells (k + (n - count)) 0)
+          else releaseTurnOf w m (k + (2 * count - 1 - n)) (getD cells (k + (2 * count - 1 - n)) 0))
+          ≡ (if leb (2 * count) n then gives (idled (w .next) (w .table) w)
+          else if c then (tryTurnOf headers buckets g w m (k + n) (getD cells (k + n) 0) >>= λ v. heldAllOf counts cells v m)
+          else releaseTurnOf w m (k + (2 * count - 1 - n)) (getD cells (k + (2 * count - 1 - n)) 0))
+      go true = refl
+      go false = refl
+
+-- and of what it released
+pub rest-released : (left m : ℕ) (counts made : List ℕ) → releasedOf rests (suc left) m counts made ≡ (getD made m 0 - countOf counts m) ∷ releasedOf rests left (m + 1) counts made
+unfolding releasedOf
+rest-released left m counts made = let e : countOf counts m + 0 ≡ countOf counts m = omega arith in rw e

@@ -1,6 +1,7 @@
 -- Document 01, "Bench cases": the sentences marked *, as one computed list of (call, what must come out). `further` is a list of our own in
--- the same form, for slips that no marked sentence meets; `secondReading` has the sentences of document 02, L3, and `reasons` those of L1.
-use Prim.Native.Nat.{ℕ}
+-- the same form, for slips that no marked sentence meets; `secondReading` has the sentences of document 02, L3, `reasons` those of L1 and
+-- `atWork` those of L13.
+use Prim.Native.Nat.{ℕ, zero, suc}
 use mathlib.Core.Path.{_≡_, refl}
 use mathlib.Core.List.{List, [], _∷_, _++_}
 use mathlib.Core.Bool.{Bool, true, _&&_, _||_}
@@ -15,7 +16,7 @@ use Rattle.model.specs.Foreign.{stepTakeOf, stepReleaseOf, stepWaitersOf
 use Rattle.model.specs.Lock.{answerOf, takeOf, lateOf, secondOf, lockOf, findOf, attemptOf, spinOf, pauseOf, noneYet, retryOf, settled, giveBackOf, endedOf, rollbackOf, afterKey, locksOf}
 use Rattle.model.specs.Checks.{notLive, badBindings, notReleasable, prepareRules, cellRules, leaseRules, heldCellRules, heldLeaseRules, scriptRules, lockRules, bucketRules, releaseRules, locksRules}
 use Rattle.model.specs.Calls.{played, starting, given, prepareOf, acquireOf, tryAcquireOf, dropLeaseOf, readPermissionOf, competingAcquireOf, releaseThenHandoffOf, foreignReleaseOf, acquirePreservingOf, dropPreservingOf, environmentOf, tryLockOf, transactionalOf, acquireBucketOf, releaseAllOf, acquireLocksOf}
-use Rattle.model.specs.Crew.{total, startOf, allWithin, risesFrom, badLists, badTurns, crewRules, tryTurnOf, releaseTurnOf, turnOf, turnsOf, takenOf, releasedOf, crewOf}
+use Rattle.model.specs.Crew.{summedOf, total, startOf, allWithin, risesFrom, badLists, badTurns, crewRules, crewAtWorkRules, tryTurnOf, heldAllOf, addTurnOf, releaseTurnOf, turnOf, turnsOf, takenOf, releasedOf, shiftOf, crewOf, crewAtWorkOf, orderOf}
 use Rattle.model.specs.declared.Answer.{Answer}
 use Rattle.model.specs.declared.Answer.the-variants as answer
 use Rattle.model.specs.declared.Counts.{Counts}
@@ -38,6 +39,9 @@ pub record Out : Type 0 where
   pub table : List ℕ
   -- a lease: of the answer, or the first of the grant buffer
   pub lease : List ℕ
+  -- of the crew at work; and the order in which members came to hold all
+  pub counters : List ℕ
+  pub order : List ℕ
 
 abbrev noCounts : Counts
 noCounts = record { attempts = 0; boundaries = 0; yields = 0; dropped = 0 }
@@ -45,28 +49,33 @@ noCounts = record { attempts = 0; boundaries = 0; yields = 0; dropped = 0 }
 abbrev fromReply : Made (Reply × List ℕ) → Out
 fromReply m =
     let r = m .seen .0 in
-    record { answer = r .answer; head = r .head; at = 0; counts = r .counts; turns = (0, 0); table = m .seen .1; lease = valuesOf (r .answer) }
+    record { answer = r .answer; head = r .head; at = 0; counts = r .counts; turns = (0, 0); table = m .seen .1; lease = valuesOf (r .answer); counters = []; order = [] }
 
 -- a call that changes no word
 abbrev fromRead : Made Reply → Out
 fromRead m =
     let r = m .seen in
-    record { answer = r .answer; head = r .head; at = 0; counts = r .counts; turns = (0, 0); table = []; lease = valuesOf (r .answer) }
+    record { answer = r .answer; head = r .head; at = 0; counts = r .counts; turns = (0, 0); table = []; lease = valuesOf (r .answer); counters = []; order = [] }
 
 abbrev fromPlayed : Made (Played × (List ℕ × List ℕ)) → Out
 fromPlayed m =
     let r = m .seen .0 in
-    record { answer = r .answer; head = r .head; at = r .place; counts = r .counts; turns = (0, 0); table = m .seen .1 .0; lease = valuesOf (r .answer) }
+    record { answer = r .answer; head = r .head; at = r .place; counts = r .counts; turns = (0, 0); table = m .seen .1 .0; lease = valuesOf (r .answer); counters = []; order = [] }
 
 abbrev fromLocks : Made (Played × (List ℕ × (List ℕ × List ℕ))) → Out
 fromLocks m =
     let r = m .seen .0 in
-    record { answer = r .answer; head = r .head; at = r .place; counts = r .counts; turns = (0, 0); table = m .seen .1 .0; lease = m .seen .1 .1 .1 }
+    record { answer = r .answer; head = r .head; at = r .place; counts = r .counts; turns = (0, 0); table = m .seen .1 .0; lease = m .seen .1 .1 .1; counters = []; order = [] }
 
 abbrev fromCrew : Made (CrewReply × List ℕ) → Out
 fromCrew m =
     let r = m .seen .0 in
-    record { answer = r .answer; head = r .head; at = 0; counts = noCounts; turns = (r .moving, r .idle); table = m .seen .1; lease = [] }
+    record { answer = r .answer; head = r .head; at = 0; counts = noCounts; turns = (r .moving, r .idle); table = m .seen .1; lease = []; counters = []; order = [] }
+
+abbrev fromCrewAtWork : Made (CrewReply × (List ℕ × List ℕ)) → Out
+fromCrewAtWork m =
+    let r = m .seen .0 in
+    record { answer = r .answer; head = r .head; at = 0; counts = noCounts; turns = (r .moving, r .idle); table = m .seen .1 .0; lease = []; counters = m .seen .1 .1; order = orderOf (m .log) }
 
 -- ---- the figures that a sentence gives
 
@@ -137,6 +146,13 @@ bit c o = bitAt (o .table) c
 
 abbrev owner : ℕ → Out → ℕ
 owner c o = ownerAt (o .table) c
+
+abbrev counter : ℕ → Out → ℕ
+counter c o = getD (o .counters) c 0
+
+-- the member that came to hold all as the so many-th
+abbrev holder : ℕ → Out → ℕ
+holder i o = getD (o .order) i 99
 
 -- ---- one statement for a list of cases: every figure of every call of it comes out
 
@@ -402,7 +418,51 @@ reasons =
     ∷ (keyBusy (reason.After 4) give (refusal is 11 ∷ position is 1 ∷ why is 3 ∷ by is 4 ∷ bit 0 is 0 ∷ []))
     ∷ []
 
+-- ---- document 02, L13: the crew at work
+
+-- "a counter from 0 to 65,535": two are so high that sums wrap
+abbrev counters : List ℕ
+counters = 0 ∷ 1 ∷ 40000 ∷ 3 ∷ 4 ∷ 60000 ∷ 6 ∷ 7 ∷ []
+
+abbrev crewAtWork : List ℕ → List ℕ → List ℕ → List ℕ → List Out
+crewAtWork counts cells turns lent = fromCrewAtWork (crewAtWorkOf (bench 1) prepared healthy counts cells turns lent) ∷ []
+
+-- turns 0, 1 so many times
+abbrev pairs : ℕ → List ℕ
+pairs zero = []
+pairs (suc n) = 0 ∷ 1 ∷ pairs n
+
+abbrev pub atWork : List Case
+atWork =
+    -- "Document 01's crew case now needs eleven pairs of turns: 12 moving, 10 idle.": whole members one after another, 0 first
+    (crewAtWork (2 ∷ 2 ∷ []) (2 ∷ 5 ∷ 2 ∷ 5 ∷ []) (pairs 11) counters give (done is 1 ∷ moving is 12 ∷ idle is 10 ∷ next is 5 ∷ bit 2 is 0 ∷ bit 5 is 0 ∷ counter 0 is 0 ∷ counter 2 is 28_928 ∷ counter 5 is 48_928 ∷ counter 7 is 7 ∷ []))
+    -- ten are not enough: member 1 has yet to release cell 2
+    ∷ (crewAtWork (2 ∷ 2 ∷ []) (2 ∷ 5 ∷ 2 ∷ 5 ∷ []) (pairs 10) counters give (done is 1 ∷ moving is 11 ∷ idle is 9 ∷ owner 2 is 3 ∷ bit 5 is 0 ∷ []))
+    -- "Between holding all and releasing, a member spends one moving turn a cell, rising"
+    ∷ (crewAtWork (2 ∷ []) (2 ∷ 5 ∷ []) (0 ∷ 0 ∷ []) counters give (moving is 2 ∷ bit 2 is 1 ∷ bit 5 is 1 ∷ counter 2 is 40_000 ∷ counter 5 is 60_000 ∷ []))
+    ∷ (crewAtWork (2 ∷ []) (2 ∷ 5 ∷ []) (0 ∷ 0 ∷ 0 ∷ []) counters give (moving is 3 ∷ bit 2 is 1 ∷ bit 5 is 1 ∷ counter 2 is 14_464 ∷ counter 5 is 60_000 ∷ []))
+    -- "to each it adds the value that its lowest cell's counter had when it came to hold all, and sums wrap at 65,536"
+    ∷ (crewAtWork (2 ∷ []) (2 ∷ 5 ∷ []) (0 ∷ 0 ∷ 0 ∷ 0 ∷ []) counters give (moving is 4 ∷ bit 2 is 1 ∷ bit 5 is 1 ∷ counter 2 is 14_464 ∷ counter 5 is 34_464 ∷ []))
+    -- then the releases, last first
+    ∷ (crewAtWork (2 ∷ []) (2 ∷ 5 ∷ []) (0 ∷ 0 ∷ 0 ∷ 0 ∷ 0 ∷ []) counters give (moving is 5 ∷ bit 2 is 1 ∷ bit 5 is 0 ∷ []))
+    -- a member with one cell doubles its counter, and is finished after three moves
+    ∷ (crewAtWork (1 ∷ []) (2 ∷ []) (0 ∷ 0 ∷ 0 ∷ 0 ∷ []) counters give (done is 1 ∷ moving is 3 ∷ idle is 1 ∷ counter 2 is 14_464 ∷ counter 0 is 0 ∷ []))
+    -- 65,535 and 1 make 0, 65,534 and 1 make 65,535
+    ∷ (crewAtWork (3 ∷ []) (0 ∷ 1 ∷ 2 ∷ []) (0 ∷ 0 ∷ 0 ∷ 0 ∷ 0 ∷ 0 ∷ []) (1 ∷ 65_535 ∷ 65_534 ∷ 0 ∷ 0 ∷ 0 ∷ 0 ∷ 0 ∷ []) give (moving is 6 ∷ counter 0 is 2 ∷ counter 1 is 0 ∷ counter 2 is 65_535 ∷ []))
+    -- "Members with no cells change nothing."
+    ∷ (crewAtWork (0 ∷ 1 ∷ []) (5 ∷ []) (0 ∷ 0 ∷ 0 ∷ []) counters give (done is 1 ∷ moving is 0 ∷ idle is 3 ∷ next is 1 ∷ counter 0 is 0 ∷ counter 5 is 60_000 ∷ []))
+    -- "not one a cell: BadShape": before 15, and also where there is one too many
+    ∷ (crewAtWork (2 ∷ 2 ∷ []) (2 ∷ 5 ∷ 5 ∷ 2 ∷ []) [] (9 ∷ []) give (refusal is 1 ∷ carries is 0 ∷ counter 0 is 9 ∷ []))
+    ∷ (crewAtWork (1 ∷ []) (2 ∷ []) [] (9 ∷ 9 ∷ 9 ∷ 9 ∷ 9 ∷ 9 ∷ 9 ∷ 9 ∷ 9 ∷ []) give (refusal is 1 ∷ carries is 0 ∷ counter 8 is 9 ∷ []))
+    -- a refusal leaves the counters
+    ∷ (crewAtWork (2 ∷ 2 ∷ []) (2 ∷ 5 ∷ 5 ∷ 2 ∷ []) (pairs 11) counters give (refusal is 15 ∷ carries is 1 ∷ bit 2 is 0 ∷ counter 2 is 40_000 ∷ counter 5 is 60_000 ∷ []))
+    -- the value noted is of the moment of holding all: member 1 waits for cell 5, and member 0 adds to it before
+    ∷ (crewAtWork (2 ∷ 1 ∷ []) (2 ∷ 5 ∷ 5 ∷ []) (0 ∷ 0 ∷ 1 ∷ 0 ∷ 0 ∷ 0 ∷ 1 ∷ 1 ∷ 1 ∷ 0 ∷ []) counters give (moving is 9 ∷ idle is 1 ∷ next is 4 ∷ counter 2 is 14_464 ∷ counter 5 is 3_392 ∷ []))
+    -- "in the order in which they came to hold all": member 1 is finished first, and member 0 held all first; it is named once
+    ∷ (crewAtWork (2 ∷ 1 ∷ []) (2 ∷ 5 ∷ 5 ∷ []) (0 ∷ 0 ∷ 0 ∷ 0 ∷ 0 ∷ 1 ∷ 1 ∷ 1 ∷ 0 ∷ []) counters give (moving is 9 ∷ holder 0 is 0 ∷ holder 1 is 1 ∷ holder 2 is 99 ∷ []))
+    ∷ []
+
 -- every figure of every case holds of the definitions
-pub cases-hold : (every cases ≡ true) × (every further ≡ true) × (every secondReading ≡ true) × (every reasons ≡ true)
-unfolding bitAt ownerAt waitersAt setCell setWaiters isFree isHeld stateOf stateAt isLive leasesOf wordsOf sameLease isIn headFits shapeFits healthFits registryFits first stepTakeOf stepReleaseOf stepWaitersOf stepHealthOf stepOf runStepsOf boundaryOf takeOf lateOf secondOf lockOf findOf attemptOf spinOf pauseOf retryOf giveBackOf rollbackOf locksOf notLive badBindings notReleasable prepareRules cellRules leaseRules heldCellRules heldLeaseRules scriptRules lockRules bucketRules releaseRules locksRules prepareOf acquireOf tryAcquireOf dropLeaseOf readPermissionOf competingAcquireOf releaseThenHandoffOf foreignReleaseOf acquirePreservingOf dropPreservingOf environmentOf tryLockOf transactionalOf acquireBucketOf releaseAllOf acquireLocksOf total startOf allWithin risesFrom badLists badTurns crewRules tryTurnOf releaseTurnOf turnOf turnsOf takenOf releasedOf crewOf
-cases-hold = (refl, refl, refl, refl)
+pub cases-hold : (every cases ≡ true) × (every further ≡ true) × (every secondReading ≡ true) × (every reasons ≡ true) × (every atWork ≡ true)
+unfolding bitAt ownerAt waitersAt setCell setWaiters isFree isHeld stateOf stateAt isLive leasesOf wordsOf sameLease isIn headFits shapeFits healthFits registryFits first stepTakeOf stepReleaseOf stepWaitersOf stepHealthOf stepOf runStepsOf boundaryOf takeOf lateOf secondOf lockOf findOf attemptOf spinOf pauseOf retryOf giveBackOf rollbackOf locksOf notLive badBindings notReleasable prepareRules cellRules leaseRules heldCellRules heldLeaseRules scriptRules lockRules bucketRules releaseRules locksRules prepareOf acquireOf tryAcquireOf dropLeaseOf readPermissionOf competingAcquireOf releaseThenHandoffOf foreignReleaseOf acquirePreservingOf dropPreservingOf environmentOf tryLockOf transactionalOf acquireBucketOf releaseAllOf acquireLocksOf total startOf allWithin risesFrom badLists badTurns crewRules tryTurnOf releaseTurnOf turnOf turnsOf takenOf releasedOf crewOf summedOf crewAtWorkRules heldAllOf addTurnOf shiftOf crewAtWorkOf orderOf
+cases-hold = (refl, refl, refl, refl, refl)

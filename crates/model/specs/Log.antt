@@ -17,6 +17,10 @@ pub data Event : Type 0 where
   waiters-set : ℕ → ℕ → Event
   -- the header, the number
   health-set : ℕ → ℕ → Event
+  -- the crew: the member that came to hold all its cells
+  held-all : ℕ → Event
+  -- the crew at work: the member, the cell, the value added to its counter
+  added : ℕ → ℕ → ℕ → Event
 
 -- what is seen, and the log of the steps that led to it
 pub record Made (A : Type 0) : Type 0 where

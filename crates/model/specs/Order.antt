@@ -7,7 +7,7 @@ use lib.ListN.{length, getD, replicate}
 use Rattle.model.specs.Arena.{leasesOf}
 use Rattle.model.specs.Refusals.{Rule, reasonNumber, reasonSerial, reasonOf, refusalWith, numberOf, carriedOf, refusalReason}
 use Rattle.model.specs.Checks.{countIn, notLive, badBindings, notReleasable, prepareRules, cellRules, leaseRules, heldCellRules, heldLeaseRules, scriptRules, lockRules, bucketRules, releaseRules, locksRules}
-use Rattle.model.specs.Crew.{badLists, badTurns, crewRules}
+use Rattle.model.specs.Crew.{badLists, badTurns, crewRules, crewAtWorkRules}
 use Rattle.model.specs.declared.Head.{Head}
 use Rattle.model.specs.declared.Lease.{Lease}
 use Rattle.model.specs.declared.Reason.{Reason}
@@ -140,3 +140,9 @@ pub crew-order : (h : Head) (t g counts cells turns : List ℕ) → numbersOf (c
     ≡ 1 ∷ 1 ∷ 15 ∷ (replicate (length counts) 15 ++ replicate (length turns) 15)
 unfolding crewRules
 crew-order h t g counts cells turns = rw (numbers-append (badLists (length counts) 0 _ counts cells) _, bad-lists, bad-turns)
+
+-- the counters' length before the crew
+pub crew-at-work-order : (h : Head) (t g counts cells turns counters : List ℕ) → numbersOf (crewAtWorkRules h t g counts cells turns counters)
+    ≡ 1 ∷ 1 ∷ 1 ∷ 15 ∷ (replicate (length counts) 15 ++ replicate (length turns) 15)
+unfolding crewAtWorkRules
+crew-at-work-order h t g counts cells turns counters = rw (numbers-append (badLists (length counts) 0 _ counts cells) _, bad-lists, bad-turns)

@@ -1,22 +1,23 @@
 -- The end: where nothing is left to move, every member has held and released its whole list, the serials are spent, and the table is as it was.
 use Prim.Native.Nat.{ℕ, zero, suc, _+_, _*_, _-_, _/_, min, _≤_, _<_}
 use mathlib.Core.Path.{_≡_, refl, sym, ap, _∙_}
-use mathlib.Core.List.{List, _∷_, _++_, append-nil}
+use mathlib.Core.List.{List, [], _∷_, append-nil}
 use native.Mathlib.Decide.{ℕ-discrete, decLt}
 use native.Mathlib.Omega.{arith}
-use lib.ListN.{length, getD, drop, drop-of-length-le}
+use lib.ListN.{length, getD, replicate}
 use lib.Seq.{ext-getD}
-use Rattle.model.specs.Log.{Made}
+use Rattle.model.specs.Log.{Made, Event}
 use Rattle.model.specs.Arena.{bitAt, ownerAt, waitersAt, spentTo}
-use Rattle.model.specs.Crew.{total, countOf, listOf, takenOf, releasedOf, Crew, turnsOf, crewOf}
+use Rattle.model.specs.Crew.{Work, addsOf, movesOf, total, countOf, listOf, takenOf, releasedOf, Crew, crewStart, moved, turnOf, turnsOf, shiftOf}
 use Rattle.model.specs.declared.Head.{Head}
 use Rattle.laws.specs.Lists.{zeros}
-use Rattle.history.specs.World.{takes, releases}
-use Rattle.progress.specs.Statements.{Open, Complete, start, cells-in, falling, own-log}
-use Rattle.progress.specs.Turns.{turns-count}
-use Rattle.progress.specs.Steady.{left, Status, same, held, Steady, fit, start-steady, turns-steady}
+use Rattle.laws.specs.Crew.{adds-few, member}
+use Rattle.history.specs.World.{takes, releases, number-of}
+use Rattle.history.specs.Counted.{number-append}
+use Rattle.progress.specs.Statements.{Open, adds-in, Completed, tabled, Turn, idled, grabbed, summed, gave}
+use Rattle.progress.specs.Turns.{adds-append, none-done, one-took, one-added, one-gave, turn-is, turns-count}
+use Rattle.progress.specs.Steady.{takingsOf, worksOf, works-plus, left, left-start, left-move, Status, same, held, Steady, Goes, fit, start-steady, turn-steady, turns-steady}
 use Rattle.progress.specs.Rounds.{left-at, some-left}
-use Rattle.progress.specs.Deeds.{turns-did}
 
 -- two tables with the same words
 same-words : (u t : List ℕ) → length u ≡ length t → ((c : ℕ) → bitAt u c ≡ bitAt t c) → ((c : ℕ) → ownerAt u c ≡ ownerAt t c)
@@ -39,76 +40,108 @@ pub taken-at : (counts made : List ℕ) (m : ℕ) → m < 16 → getD (takenOf 1
 unfolding takenOf
 taken-at counts made m l = numbers-at (λ n i. takenOf n i counts made) (λ q. min (getD made q 0) (countOf counts q)) (λ n i. refl) 16 0 m m l (omega arith)
 
-pub released-at : (counts made : List ℕ) (m : ℕ) → m < 16 → getD (releasedOf 16 0 counts made) m 0 ≡ getD made m 0 - countOf counts m
+pub released-at : (work : Work) (counts made : List ℕ) (m : ℕ) → m < 16
+    → getD (releasedOf work 16 0 counts made) m 0 ≡ getD made m 0 - (countOf counts m + addsOf work (countOf counts m))
 unfolding releasedOf
-released-at counts made m l = numbers-at (λ n i. releasedOf n i counts made) (λ q. getD made q 0 - countOf counts q) (λ n i. refl) 16 0 m m l (omega arith)
+released-at work counts made m l =
+    numbers-at (λ n i. releasedOf work n i counts made) (λ q. getD made q 0 - (countOf counts q + addsOf work (countOf counts q))) (λ n i. refl) 16 0 m m l (omega arith)
 
-module _ (h : Head) (t counts cells : List ℕ) (next : ℕ) (u made : List ℕ) (moving : ℕ) (s : Steady h t counts cells next u made moving) (z : left 2 counts made ≡ 0) where
-  pub ended : (m : ℕ) → getD made m 0 ≡ 2 * countOf counts m
-  ended m = go (decLt (getD made m 0) (2 * countOf counts m))
+module _ (work : Work) (h : Head) (t counts cells : List ℕ) (next : ℕ) (u made : List ℕ) (moving : ℕ) (s : Steady work h t counts cells next u made moving) (z : left (movesOf work) counts made ≡ 0) where
+  pub ended : (m : ℕ) → getD made m 0 ≡ movesOf work (countOf counts m)
+  ended m = go (decLt (getD made m 0) (movesOf work (countOf counts m)))
     where
-      go : Dec (getD made m 0 < 2 * countOf counts m) → getD made m 0 ≡ 2 * countOf counts m
-      go (yes l) = absurd (omega (arith, left-at 2 counts made m (omega arith)))
+      go : Dec (getD made m 0 < movesOf work (countOf counts m)) → getD made m 0 ≡ movesOf work (countOf counts m)
+      go (yes l) = absurd (omega (arith, left-at (movesOf work) counts made m (omega (arith, adds-few work (countOf counts m)))))
       go (no l) = omega (arith, s .bound m)
 
   pub spent-all : next ≡ h .next + total counts
-  spent-all = go (decLt 0 (left 1 counts made))
+  spent-all = go (decLt 0 (left takingsOf counts made))
     where
-      go : Dec (0 < left 1 counts made) → next ≡ h .next + total counts
-      go (yes l) = let x = some-left 1 counts made l in absurd (omega (arith, x .1 .1, ended (x .0)))
+      go : Dec (0 < left takingsOf counts made) → next ≡ h .next + total counts
+      go (yes l) = let x = some-left takingsOf counts made l in absurd (omega (arith, x .1 .1, ended (x .0)))
       go (no l) = omega (arith, s .serials)
 
   pub table-same : u ≡ t
   table-same = same-words u t (s .words) (λ c. go c (s .status c) .0) (λ c. go c (s .status c) .1) (s .waiters-are)
     where
-      go : (c : ℕ) → Status h t counts cells u made c → (bitAt u c ≡ bitAt t c) × (ownerAt u c ≡ ownerAt t c)
+      go : (c : ℕ) → Status work h t counts cells u made c → (bitAt u c ≡ bitAt t c) × (ownerAt u c ≡ ownerAt t c)
       go c (same b o) = (b, o)
-      go c (held q j x is) = absurd (omega (arith, ended q))
+      go c (held q j x is) = absurd (omega (arith, ended q, x .2))
 
--- the call's own result, if its turns left nothing to move
-module _ (h : Head) (t g counts cells turns : List ℕ) (o : Open h t g counts cells turns) where
+-- nothing is left of what each member has done
+none-left : (f : ℕ → ℕ) (counts made : List ℕ) → ((m : ℕ) → f (countOf counts m) ≤ getD made m 0) → left f counts made ≡ 0
+none-left f counts made all = go (decLt 0 (left f counts made))
+  where
+    go : Dec (0 < left f counts made) → left f counts made ≡ 0
+    go (yes l) = let x = some-left f counts made l in absurd (omega (arith, x .1 .1, all (x .0)))
+    go (no l) = omega arith
+
+-- ---- takes and adds, until there are none left
+
+module _ (work : Work) (h : Head) (t g counts cells turns : List ℕ) (o : Open h t g counts cells turns) where
+  turn-works : {w v : Crew} {m : ℕ} {log : List Event} → Goes work h t g counts cells turns o w → Turn work (h .buckets) g counts cells w m v log
+      → number-of takes log + adds-in log + left (worksOf work) counts (v .made) ≡ left (worksOf work) counts (w .made)
+  turn-works s (idled i e q) = let x = none-done q in rw e (omega (arith, x .takes-are, x .adds-are))
+  turn-works {w} {m = m} s (grabbed l r e q) =
+      let x = one-took counts (moved (w .made) m) m q in
+      let k = member counts m (omega arith) in
+      rw e (omega (arith, x .takes-are, x .adds-are, left-move (worksOf work) counts (w .made) m k (omega (arith, fit work h t g counts cells turns o .few, s .size))))
+  turn-works {w} {m = m} s (summed l r e q) =
+      let x = one-added q in
+      let k = member counts m (omega (arith, adds-few work (countOf counts m))) in
+      rw e (omega (arith, x .takes-are, x .adds-are, left-move (worksOf work) counts (w .made) m k (omega (arith, fit work h t g counts cells turns o .few, s .size))))
+  turn-works {w} {m = m} s (gave l r e q) =
+      let x = one-gave q in
+      let k = member counts m (omega (arith, adds-few work (countOf counts m))) in
+      rw e (omega (arith, x .takes-are, x .adds-are, left-move (worksOf work) counts (w .made) m k (omega (arith, fit work h t g counts cells turns o .few, s .size))))
+
+  pub turns-work : (w : Crew) (ms : List ℕ) → Goes work h t g counts cells turns o w
+      → let r = turnsOf work (h .headers) (h .buckets) g counts cells w ms in
+      number-of takes (r .log) + adds-in (r .log) + left (worksOf work) counts (r .seen .made) ≡ left (worksOf work) counts (w .made)
+  unfolding turnsOf number-of adds-in
+  turns-work w [] s = omega arith
+  turns-work w (m ∷ ms) s =
+      let p = turn-is work (h .buckets) g counts cells (h .headers) w m in
+      let v = turnOf work (h .headers) (h .buckets) g counts cells w m in
+      let r = turnsOf work (h .headers) (h .buckets) g counts cells (v .seen) ms in
+      omega (
+        arith,
+        turn-works s p,
+        turns-work (v .seen) ms (turn-steady work h t g counts cells turns o s p),
+        number-append takes (v .log) (r .log),
+        adds-append (v .log) (r .log),
+      )
+
+-- the run's own result, if its turns left nothing to move
+module _ (work : Work) (h : Head) (t g counts cells turns counters : List ℕ) (o : Open h t g counts cells turns) where
   abbrev ran : Made Crew
-  ran = turnsOf (h .headers) (h .buckets) g counts cells (start h t) turns
+  ran = turnsOf work (h .headers) (h .buckets) g counts cells (crewStart h t counters) turns
 
   abbrev w : Crew
   w = ran .seen
 
-  pub completes : 2 * total counts ≤ w .moving → Complete h t counts turns (crewOf h t g counts cells turns)
-  unfolding crewOf
+  pub completes : movesOf work (total counts) ≤ w .moving → Completed (movesOf work (total counts)) h t counts turns (tabled (shiftOf work h t g counts cells turns counters))
+  unfolding shiftOf
   completes all =
-      let s = turns-steady h t g counts cells turns o (start h t) turns (start-steady h t g counts cells turns o) in
-      let few = fit h t g counts cells turns o .few in
-      let z : left 2 counts (w .made) ≡ 0 = omega (arith, s .moves) in
-      let end = ended h t counts cells (w .next) (w .table) (w .made) (w .moving) s z in
-      let spent = spent-all h t counts cells (w .next) (w .table) (w .made) (w .moving) s z in
-      let counted = turns-count (h .buckets) g counts cells (h .headers) (start h t) turns in
-      rw (o .fine, append-nil (ran .log)) (record {
+      let s = turns-steady work h t g counts cells turns o (crewStart h t counters) turns (start-steady work h t g counts cells turns o counters) in
+      let few = fit work h t g counts cells turns o .few in
+      let z : left (movesOf work) counts (w .made) ≡ 0 = omega (arith, s .moves) in
+      let end = ended work h t counts cells (w .next) (w .table) (w .made) (w .moving) s z in
+      let spent = spent-all work h t counts cells (w .next) (w .table) (w .made) (w .moving) s z in
+      let counted = turns-count work (h .buckets) g counts cells (h .headers) (crewStart h t counters) turns in
+      let first-steady = start-steady work h t g counts cells turns o counters in
+      let worked = turns-work work h t g counts cells turns o (crewStart h t counters) turns first-steady in
+      let works = left-start (worksOf work) (works-plus work) counts (replicate 16 0) (zeros 16) in
+      let over = none-left (worksOf work) counts (w .made) (λ m. omega (arith, end m)) in
+      rw (append-nil (ran .log)) (record {
         done = refl;
         taken = λ m l. omega (arith, taken-at counts (w .made) m (omega arith), end m);
-        released = λ m l. omega (arith, released-at counts (w .made) m (omega arith), end m);
+        released = λ m l. omega (arith, released-at work counts (w .made) m (omega arith), end m);
         spent = ap (spentTo h) spent;
         moving = omega (arith, s .moves);
         turns-are = omega (arith, counted .turns-are);
-        table-is = table-same h t counts cells (w .next) (w .table) (w .made) (w .moving) s z;
+        table-is = table-same work h t counts cells (w .next) (w .table) (w .made) (w .moving) s z;
         takes-are = omega (arith, counted .serials-are);
-        releases-are = omega (arith, counted .serials-are, counted .moves-are, s .moves);
+        releases-are = omega (arith, counted .serials-are, counted .moves-are, s .moves, worked, works, over);
+        adds-are = omega (arith, counted .serials-are, counted .moves-are, s .moves, worked, works, over);
       })
-
-  -- each member has taken its list, and released it from the last to the first
-  pub deeds : 2 * total counts ≤ w .moving → (m : ℕ)
-      → let log = own-log h g counts cells m (start h t) turns in
-      (cells-in takes log ≡ listOf counts cells m) × (cells-in releases log ≡ falling (countOf counts m) (listOf counts cells m))
-  deeds all m =
-      let first-steady = start-steady h t g counts cells turns o in
-      let s = turns-steady h t g counts cells turns o (start h t) turns first-steady in
-      let end = ended h t counts cells (w .next) (w .table) (w .made) (w .moving) s (omega (arith, s .moves)) m in
-      let d = turns-did h t g counts cells turns o m (start h t) turns first-steady in
-      go (listOf counts cells m) (countOf counts m) (cells-in takes (own-log h g counts cells m (start h t) turns)) (cells-in releases (own-log h g counts cells m (start h t) turns)) (fit h t g counts cells turns o .long m) (zeros 16 m) end (d .took-so) (d .gave-so)
-    where
-      go : {n k : ℕ} (L : List ℕ) (count : ℕ) (xs ys : List ℕ) → length L ≡ count → n ≡ 0 → k ≡ 2 * count → xs ++ drop k L ≡ drop n L → ys ++ falling (min count (2 * count - k)) L ≡ falling (min count (2 * count - n)) L
-          → (xs ≡ L) × (ys ≡ falling count L)
-      go {n} {k} L count xs ys long a b x y =
-          let p : min count (2 * count - k) ≡ 0 = omega arith in
-          let q : min count (2 * count - n) ≡ count = omega arith in
-          let none = drop-of-length-le L {i = k} (omega arith) in
-          (sym (append-nil xs) ∙ (rw (none, a) at x), sym (append-nil ys) ∙ (rw (p, q) at y))

@@ -7,11 +7,12 @@ use native.Mathlib.Omega.{arith}
 use lib.ListN.{getD, replicate}
 use Rattle.model.specs.Arena.{headOf, bitAt, ownerAt, waitersAt, isFree, stateOf, stateAt, headFits, shapeFits, healthFits}
 use Rattle.model.specs.Refusals.{first}
-use Rattle.model.specs.Crew.{total, startOf, allWithin, risesFrom, badLists, badTurns, crewRules, crewOf}
+use Rattle.model.specs.Crew.{total, startOf, allWithin, risesFrom, badLists, badTurns, crewRules, crewOf, crewAtWorkOf}
 use Rattle.model.specs.declared.Check.the-variants.{Fine}
+use Rattle.model.specs.declared.CrewReply.{CrewReply}
 use Rattle.model.specs.declared.Head.{Head}
 use Rattle.laws.specs.Lists.{zeros}
-use Rattle.progress.specs.Statements.{In, flat, Open, Met, Rounds-after, Unfinished-after}
+use Rattle.progress.specs.Statements.{In, flat, Unfinished-told, Rounds-told, Open, Met, Met-at-work}
 
 abbrev bench : Head
 bench = headOf 2 4 1
@@ -40,16 +41,30 @@ opened turns fine =
       serials = omega arith;
     }
 
--- turns that name everyone are a round of any state
-again : (n : ℕ) (before : List ℕ) → Rounds-after crewOf bench table health counts cells before (replicate n (0 ∷ 1 ∷ []))
-again zero before = tt
-again (suc n) before = (everyone, again n (before ++ (0 ∷ 1 ∷ [])))
+-- turns that name everyone are rounds, whatever the replies
+again : (reply : List ℕ → CrewReply) (n : ℕ) (before : List ℕ) → Rounds-told reply counts before (replicate n (0 ∷ 1 ∷ []))
+again reply zero before = tt
+again reply (suc n) before = (everyone, again reply n (before ++ (0 ∷ 1 ∷ [])))
   where
-    everyone : (m : ℕ) → Unfinished-after crewOf bench table health counts cells before m → In m (0 ∷ 1 ∷ [])
+    everyone : (m : ℕ) → Unfinished-told reply counts before m → In m (0 ∷ 1 ∷ [])
     everyone zero u = inl refl
     everyone (suc zero) u = inr (inl refl)
     everyone (suc (suc m)) u = absurd (omega (arith, u .0))
 
 pub contending : Met
 unfolding first crewRules shapeFits headFits healthFits total startOf allWithin risesFrom badLists badTurns
-contending = (bench, table, health, replicate 8 (0 ∷ 1 ∷ []), opened (flat (replicate 8 (0 ∷ 1 ∷ []))) refl, again 8 [], omega arith)
+contending = (bench, table, health, replicate 8 (0 ∷ 1 ∷ []), opened (flat (replicate 8 (0 ∷ 1 ∷ []))) refl, again (λ turns. crewOf bench table health counts cells turns .seen .0) 8 [], omega arith)
+
+pub contending-at-work : Met-at-work
+unfolding first crewRules shapeFits headFits healthFits total startOf allWithin risesFrom badLists badTurns
+contending-at-work = (
+  bench,
+  table,
+  health,
+  replicate 8 40_000,
+  replicate 12 (0 ∷ 1 ∷ []),
+  opened (flat (replicate 12 (0 ∷ 1 ∷ []))) refl,
+  refl,
+  again (λ turns. crewAtWorkOf bench table health counts cells turns (replicate 8 40_000) .seen .0) 12 [],
+  omega arith,
+)

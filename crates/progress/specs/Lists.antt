@@ -9,7 +9,7 @@ use lib.ListN.{length, getD}
 use borrow.Author.Tests.{leb-true, not-false}
 use Rattle.model.specs.Arena.{cellsOf}
 use Rattle.model.specs.Refusals.{first}
-use Rattle.model.specs.Crew.{startOf, countOf, listOf, risesFrom, badLimits, badLists, badTurns, crewRules}
+use Rattle.model.specs.Crew.{total, startOf, countOf, listOf, risesFrom, badLimits, badLists, badTurns, crewRules}
 use Rattle.model.specs.declared.Check.the-variants.{Fine}
 use Rattle.model.specs.declared.Head.{Head}
 use Rattle.choice.specs.Pick.{both}
@@ -42,6 +42,7 @@ module _ (inside : ℕ) where
 pub record Fits (h : Head) (words : ℕ) (counts cells : List ℕ) : Type 0 where
   pub shape : Shaped h words
   pub few : length counts ≤ 16
+  pub small : total counts ≤ 256
   pub long : (m : ℕ) → length (listOf counts cells m) ≡ countOf counts m
   pub range : (m j : ℕ) → j < countOf counts m → getD cells (startOf counts m + j) 0 < cellsOf h
   pub rising : (m i j : ℕ) → i < j → j < countOf counts m → getD cells (startOf counts m + i) 0 < getD cells (startOf counts m + j) 0
@@ -59,6 +60,7 @@ fits h t g counts cells turns e =
     record {
       shape = shaped h (length t) (not-false _ (a .0));
       few = k .few-members;
+      small = k .few-cells;
       long = long;
       range = cell-inside (cellsOf h) counts cells (k .cells-are) fine;
       rising = λ m x j r l.

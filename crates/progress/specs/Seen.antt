@@ -1,24 +1,26 @@
--- Rounds as the replies tell them are rounds as the crew's state tells them, and the other way round.
+-- The two calls are runs in their work. Rounds as the replies tell them are rounds as the crew's state tells them, and the other way round.
 use Prim.Native.Nat.{ℕ, _+_, _-_, _≤_, _<_}
-use mathlib.Core.Path.{_≡_, refl, sym, _∙_, subst}
-use mathlib.Core.List.{List, [], _∷_, _++_, append-assoc}
+use mathlib.Core.Path.{_≡_, refl, sym, ap, _∙_, subst}
+use mathlib.Core.List.{List, [], _∷_, _++_, append-assoc, append-nil}
 use mathlib.Core.Bool.{false, not, _||_}
 use mathlib.Core.Logic.{inl, inr}
 use native.Mathlib.Omega.{arith}
 use lib.Dec.{ltb, eqb}
 use lib.ListN.{length, getD, length-append}
 use borrow.Author.Tests.{le-ltb, lt-leb, leb-false, ltb-false}
+use Rattle.model.specs.Log.{Made}
 use Rattle.model.specs.Arena.{within, cellsOf}
 use Rattle.model.specs.Refusals.{first}
 use Rattle.model.specs.Checks.{badShape, badHealth}
-use Rattle.model.specs.Crew.{total, countOf, allWithin, badLimits, badLists, badTurns, crewRules, crewOf, Crew}
+use Rattle.model.specs.Crew.{Work, rests, adds, addsOf, total, countOf, allWithin, badLimits, badLists, badTurns, crewRules, crewAtWorkRules, Crew, crewStart, shiftOf, crewOf, crewAtWorkOf}
 use Rattle.model.specs.declared.Check.the-variants.{Fine}
+use Rattle.model.specs.declared.CrewReply.{CrewReply}
 use Rattle.model.specs.declared.Head.{Head}
 use Rattle.choice.specs.Pick.{neither}
 use Rattle.laws.specs.Checks.{first-skip, first-append, fine-rest, fine-append}
-use Rattle.progress.specs.Statements.{In, flat, start, after, Rounds, Open, Rounds-after}
+use Rattle.laws.specs.Crew.{adds-few, at-work-fine}
+use Rattle.progress.specs.Statements.{In, flat, after, Rounds, Rounds-told, Rounds-after, Rounds-at-work, Rounds-over, Open, tabled}
 use Rattle.progress.specs.Turns.{turns-append, in-left}
-use Rattle.progress.specs.Steady.{fit}
 use Rattle.progress.specs.Ended.{released-at}
 
 -- ---- the premises with other turns
@@ -70,33 +72,80 @@ fine-front h t g counts cells before later e =
     fine-turns h t g counts cells (before ++ later) before e (λ n k. turns-name (length counts) 0 (before ++ later) (d .1) n (in-left n before later k))
     (omega (arith, length-append before later))
 
+-- ---- the two calls are runs in their work
+
+pub crew-is : (h : Head) (t g counts cells turns : List ℕ) → first (crewRules h t g counts cells turns) ≡ Fine
+    → crewOf h t g counts cells turns ≡ tabled (shiftOf rests h t g counts cells turns [])
+unfolding crewOf
+crew-is h t g counts cells turns fine = rw (fine, append-nil (shiftOf rests h t g counts cells turns [] .log))
+
+pub crew-at-work-is : (h : Head) (t g counts cells turns counters : List ℕ) → first (crewAtWorkRules h t g counts cells turns counters) ≡ Fine
+    → crewAtWorkOf h t g counts cells turns counters ≡ shiftOf adds h t g counts cells turns counters
+unfolding crewAtWorkOf
+crew-at-work-is h t g counts cells turns counters fine = rw fine
+
+-- rounds by other replies that say the same to the first of these turns
+rounds-same : (reply other : List ℕ → CrewReply) (counts turns : List ℕ) → ((before later : List ℕ) → turns ≡ before ++ later → reply before ≡ other before)
+    → (before : List ℕ) (rs : List (List ℕ)) → turns ≡ before ++ flat rs → Rounds-told reply counts before rs → Rounds-told other counts before rs
+rounds-same reply other counts turns same before [] e x = tt
+rounds-same reply other counts turns same before (r ∷ rs) e x = (
+  λ m u. x .0 m (u .0, rw (same before (r ++ flat rs) e) (u .1)),
+  rounds-same reply other counts turns same (before ++ r) rs (e ∙ sym (append-assoc before r (flat rs))) (x .1),
+)
+
+module _ (h : Head) (t g counts cells turns : List ℕ) (fine : first (crewRules h t g counts cells turns) ≡ Fine) where
+  pub prefix-fine : (before later : List ℕ) → turns ≡ before ++ later → first (crewRules h t g counts cells before) ≡ Fine
+  prefix-fine before later e = fine-front h t g counts cells before later (subst (λ (ts : List ℕ). first (crewRules h t g counts cells ts) ≡ Fine) e fine)
+
+  -- what the crew replies to the first turns
+  pub crew-replies : (before later : List ℕ) → turns ≡ before ++ later
+      → crewOf h t g counts cells before .seen .0 ≡ shiftOf rests h t g counts cells before [] .seen .0
+  crew-replies before later e = ap (λ (o : Made (CrewReply × List ℕ)). o .seen .0) (crew-is h t g counts cells before (prefix-fine before later e))
+
+  pub crew-at-work-replies : (counters : List ℕ) → length counters ≡ cellsOf h → (before later : List ℕ) → turns ≡ before ++ later
+      → crewAtWorkOf h t g counts cells before counters .seen .0 ≡ shiftOf adds h t g counts cells before counters .seen .0
+  crew-at-work-replies counters wide before later e =
+      ap (λ (o : Made (CrewReply × (List ℕ × List ℕ))). o .seen .0)
+      (crew-at-work-is h t g counts cells before counters (at-work-fine h t g counts cells before counters wide (prefix-fine before later e)))
+
+module _ (h : Head) (t g counts cells : List ℕ) (rounds : List (List ℕ)) (fine : first (crewRules h t g counts cells (flat rounds)) ≡ Fine) where
+  -- so rounds by one are rounds by the other
+  pub crew-rounds : Rounds-after crewOf h t g counts cells [] rounds → Rounds-over rests h t g counts cells [] [] rounds
+  crew-rounds = rounds-same _ _ counts (flat rounds) (crew-replies h t g counts cells (flat rounds) fine) [] rounds refl
+
+  pub rounds-crew : Rounds-over rests h t g counts cells [] [] rounds → Rounds-after crewOf h t g counts cells [] rounds
+  rounds-crew = rounds-same _ _ counts (flat rounds) (λ before later e. sym (crew-replies h t g counts cells (flat rounds) fine before later e)) [] rounds refl
+
+  module _ (counters : List ℕ) (wide : length counters ≡ cellsOf h) where
+    pub crew-at-work-rounds : Rounds-at-work crewAtWorkOf h t g counts cells counters [] rounds → Rounds-over adds h t g counts cells counters [] rounds
+    crew-at-work-rounds = rounds-same _ _ counts (flat rounds) (crew-at-work-replies h t g counts cells (flat rounds) fine counters wide) [] rounds refl
+
+    pub rounds-crew-at-work : Rounds-over adds h t g counts cells counters [] rounds → Rounds-at-work crewAtWorkOf h t g counts cells counters [] rounds
+    rounds-crew-at-work =
+        rounds-same _ _ counts (flat rounds) (λ before later e. sym (crew-at-work-replies h t g counts cells (flat rounds) fine counters wide before later e)) [] rounds refl
+
 -- ---- rounds
 
-module _ (h : Head) (t g counts cells turns : List ℕ) (o : Open h t g counts cells turns) where
+module _ (work : Work) (h : Head) (t g counts cells counters : List ℕ) (few : length counts ≤ 16) where
   abbrev state : List ℕ → Crew
-  state before = after h g counts cells (start h t) before
+  state before = after work h g counts cells (crewStart h t counters) before
 
-  -- what the reply to the first turns says that a member released
-  said : (before later : List ℕ) → turns ≡ before ++ later → (m : ℕ) → m < length counts
-      → getD (crewOf h t g counts cells before .seen .0 .released) m 0 ≡ getD (state before .made) m 0 - countOf counts m
-  unfolding crewOf
-  said before later e m l =
-      let few = fit h t g counts cells turns o .few in
-      rw (fine-front h t g counts cells before later (subst (λ (ts : List ℕ). first (crewRules h t g counts cells ts) ≡ Fine) e (o .fine)))
-      (released-at counts (state before .made) m (omega arith))
+  -- what the reply to some turns says that a member released
+  pub said : (before : List ℕ) (m : ℕ) → m < length counts
+      → getD (shiftOf work h t g counts cells before counters .seen .0 .released) m 0 ≡ getD (state before .made) m 0 - (countOf counts m + addsOf work (countOf counts m))
+  unfolding shiftOf
+  said before m l = released-at work counts (state before .made) m (omega arith)
 
-  pub by-state : (before : List ℕ) (rs : List (List ℕ)) → turns ≡ before ++ flat rs → Rounds-after crewOf h t g counts cells before rs → Rounds h g counts cells (state before) rs
-  by-state before [] e x = tt
-  by-state before (r ∷ rs) e x = (
-    λ m u. x .0 m (u .0, omega (arith, said before (r ++ flat rs) e m (u .0), u .1)),
-    subst (λ (w : Crew). Rounds h g counts cells w rs) (turns-append h g counts cells (start h t) before r)
-        (by-state (before ++ r) rs (e ∙ sym (append-assoc before r (flat rs))) (x .1)),
+  pub by-state : (before : List ℕ) (rs : List (List ℕ)) → Rounds-over work h t g counts cells counters before rs → Rounds work h g counts cells (state before) rs
+  by-state before [] x = tt
+  by-state before (r ∷ rs) x = (
+    λ m u. x .0 m (u .0, omega (arith, said before m (u .0), u .1, adds-few work (countOf counts m))),
+    subst (λ (w : Crew). Rounds work h g counts cells w rs) (turns-append work h g counts cells (crewStart h t counters) before r) (by-state (before ++ r) rs (x .1)),
   )
 
-  pub by-replies : (before : List ℕ) (rs : List (List ℕ)) → turns ≡ before ++ flat rs → Rounds h g counts cells (state before) rs → Rounds-after crewOf h t g counts cells before rs
-  by-replies before [] e x = tt
-  by-replies before (r ∷ rs) e x = (
-    λ m u. x .0 m (u .0, omega (arith, said before (r ++ flat rs) e m (u .0), u .1)),
-    by-replies (before ++ r) rs (e ∙ sym (append-assoc before r (flat rs)))
-        (subst (λ (w : Crew). Rounds h g counts cells w rs) (sym (turns-append h g counts cells (start h t) before r)) (x .1)),
+  pub by-replies : (before : List ℕ) (rs : List (List ℕ)) → Rounds work h g counts cells (state before) rs → Rounds-over work h t g counts cells counters before rs
+  by-replies before [] x = tt
+  by-replies before (r ∷ rs) x = (
+    λ m u. x .0 m (u .0, omega (arith, said before m (u .0), u .1)),
+    by-replies (before ++ r) rs (subst (λ (w : Crew). Rounds work h g counts cells w rs) (sym (turns-append work h g counts cells (crewStart h t counters) before r)) (x .1)),
   )

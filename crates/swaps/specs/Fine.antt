@@ -7,7 +7,7 @@ use native.Mathlib.Omega.{arith}
 use lib.Dec.{ltb}
 use lib.ListN.{length}
 use borrow.Author.Tests.{ltb-true}
-use Rattle.model.specs.Log.{Event, attempt-begun, boundary-run, yielded, spun, step-dropped, took, released, waiters-set, health-set}
+use Rattle.model.specs.Log.{Event, attempt-begun, boundary-run, yielded, spun, step-dropped, took, released, waiters-set, health-set, held-all, added}
 use Rattle.model.specs.Arena.{cellsOf, leaseOf, bitAt, ownerAt, setCell, stateOf, stateAt, heldBy, isLive}
 use Rattle.laws.specs.Shape.{shaped}
 use Rattle.laws.specs.Words.{length-set-cell, length-set-waiters, bit-set-other, owner-set-other, bit-set-waiters, owner-set-waiters}
@@ -48,6 +48,8 @@ Away (took a d s) c = c ≢ d
 Away (released a d s) c = c ≢ d
 Away (waiters-set d n) c = Unit {0}
 Away (health-set i n) c = Unit {0}
+Away (held-all i) c = Unit {0}
+Away (added i d x) c = Unit {0}
 
 -- one serial more damages nothing and mends nothing, where nothing is damaged
 later : (n b o : ℕ) → Status b o n → stateOf (n + 1) b o ≡ stateOf n b o
@@ -67,6 +69,8 @@ state-kept w (took x d s) c f l a =
 state-kept w (released x d s) c f l a = rw (bit-set-other (w .table) d 0 0 c a, owner-set-other (w .table) d 0 0 c a)
 state-kept w (waiters-set d n) c f l a = rw (bit-set-waiters (w .table) d n c, owner-set-waiters (w .table) d n c)
 state-kept w (health-set i n) c f l a = refl
+state-kept w (held-all i) c f l a = refl
+state-kept w (added i d x) c f l a = refl
 
 -- the head but for the next serial stays
 same-cells : (w : World) (e : Event) → cells (step w e) ≡ cells w
@@ -118,3 +122,5 @@ fine-step w (waiters-set c n) f l =
       status = λ d k. simp (bit-set-waiters, owner-set-waiters) (f .status d k);
     }
 fine-step w (health-set i n) f l = record { words = f .words; low = f .low; status = f .status }
+fine-step w (held-all m) f l = f
+fine-step w (added m c v) f l = f

@@ -2,16 +2,18 @@
 use Prim.Native.Nat.{ℕ}
 use mathlib.Core.List.{List, _∷_}
 use mathlib.Core.Logic.{_≢_}
-use Rattle.model.specs.Log.{Actor, Event, attempt-begun, boundary-run, yielded, spun, step-dropped, took, released, waiters-set, health-set}
+use Rattle.model.specs.Log.{Actor, Event, attempt-begun, boundary-run, yielded, spun, step-dropped, took, released, waiters-set, health-set, held-all, added}
 use Rattle.history.specs.World.{World, Legal, step}
 
--- an event that changes nothing and is always legal
+-- an event that changes nothing of the arena and is always legal; a crew's counters are no part of it
 pub data Quiet : Event → Type 0 where
   attempts : Quiet attempt-begun
   boundaries : Quiet boundary-run
   yields : Quiet yielded
   spins : Quiet spun
   drops : Quiet step-dropped
+  holds : {m : ℕ} → Quiet (held-all m)
+  sums : {m c v : ℕ} → Quiet (added m c v)
 
 -- two events that may be swapped: every pair but two takes, and but two that write the same word
 pub data Apart : Event → Event → Type 0 where

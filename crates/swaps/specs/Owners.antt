@@ -7,7 +7,7 @@ use native.Mathlib.Decide.{ℕ-discrete, decLt}
 use native.Mathlib.Omega.{arith}
 use lib.ListN.{length, set, getD}
 use borrow.Author.Tests.{eq-eqb, ne-eqb}
-use Rattle.model.specs.Log.{Actor, Event, attempt-begun, boundary-run, yielded, spun, step-dropped, took, released, waiters-set, health-set}
+use Rattle.model.specs.Log.{Actor, Event, attempt-begun, boundary-run, yielded, spun, step-dropped, took, released, waiters-set, health-set, held-all, added}
 use Rattle.model.specs.Arena.{spentTo, cellsOf, leaseOf, bitAt, ownerAt, waitersAt, setCell, setWaiters, stateAt}
 use Rattle.model.specs.declared.Head.{Head}
 use Rattle.laws.specs.Words.{length-set-cell, length-set-waiters, waiters-set-cell, bit-set-waiters, owner-set-waiters, waiters-set-same, waiters-set-other, Seen, here, there, see}
@@ -253,6 +253,8 @@ follow w v attempt-begun f z o r l = (tt, r)
 follow w v boundary-run f z o r l = (tt, r)
 follow w v yielded f z o r l = (tt, r)
 follow w v spun f z o r l = (tt, r)
+follow w v (held-all m) f z o r l = (tt, r)
+follow w v (added m c x) f z o r l = (tt, r)
 follow w v step-dropped f z o r l = (tt, r)
 follow {to = to} w v (took a c s) f z o r l =
     let i : c < cells w = l .0 .0 in

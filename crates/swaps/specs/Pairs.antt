@@ -11,7 +11,7 @@ use Rattle.model.specs.Arena.{bitAt, ownerAt, waitersAt, setCell, setWaiters}
 use Rattle.laws.specs.Words.{length-set-cell, owner-set, owner-set-other}
 use Rattle.history.specs.World.{World, cells, Legal, step}
 use Rattle.swaps.specs.Steps.{on-table, exchanged}
-use Rattle.swaps.specs.Logs.{Quiet, attempts, boundaries, yields, spins, drops, Apart, quiet-first, quiet-second, take-release, release-take, release-release, take-waiters, waiters-take, release-waiters, waiters-release, waiters-waiters, take-health, health-take, release-health, health-release, waiters-health, health-waiters, health-health, Both}
+use Rattle.swaps.specs.Logs.{Quiet, attempts, boundaries, yields, spins, drops, holds, sums, Apart, quiet-first, quiet-second, take-release, release-take, release-release, take-waiters, waiters-take, release-waiters, waiters-release, waiters-waiters, take-health, health-take, release-health, health-release, waiters-health, health-waiters, health-health, Both}
 use Rattle.swaps.specs.Statements.{Exchanged-words, Two-events, Two-take-events}
 use Rattle.swaps.specs.Fine.{Fine, fine, state-kept, live-kept, at}
 
@@ -95,6 +95,8 @@ quiet-step w boundaries = refl
 quiet-step w yields = refl
 quiet-step w spins = refl
 quiet-step w drops = refl
+quiet-step w holds = refl
+quiet-step w sums = refl
 
 quiet-legal : (w : World) {e : Event} → Quiet e → Legal w e
 quiet-legal w attempts = tt
@@ -102,6 +104,8 @@ quiet-legal w boundaries = tt
 quiet-legal w yields = tt
 quiet-legal w spins = tt
 quiet-legal w drops = tt
+quiet-legal w holds = tt
+quiet-legal w sums = tt
 
 -- the world left is the same either way: this needs no premise at all
 pub commute : (w : World) {e f : Event} → Apart e f → step (step w e) f ≡ step (step w f) e

@@ -3,7 +3,7 @@ use Prim.Native.Nat.{ℕ, _+_}
 use mathlib.Core.Path.{_≡_, refl, sym, ap, _∙_, subst}
 use mathlib.Core.List.{List, [], _∷_}
 use native.Mathlib.Omega.{arith}
-use Rattle.model.specs.Log.{Event, attempt-begun, boundary-run, yielded, spun, step-dropped, took, released, waiters-set, health-set}
+use Rattle.model.specs.Log.{Event, attempt-begun, boundary-run, yielded, spun, step-dropped, took, released, waiters-set, health-set, held-all, added}
 use Rattle.model.specs.declared.Head.{Head}
 use Rattle.history.specs.World.{World, step, now, Lawful, Kind, number-of}
 use Rattle.swaps.specs.Logs.{Both}
@@ -37,6 +37,8 @@ renamed-numbers to k (e ∷ es) = go e (renamed-numbers to k es)
     go (released a c s) i = rw i
     go (waiters-set c n) i = rw i
     go (health-set j n) i = rw i
+    go (held-all m) i = rw i
+    go (added m c v) i = rw i
 
 alike : (w : World) {es fs : List Event} → Fine w → Recast es fs → Lawful w es → Renamed-logs w es fs
 unfolding number-of

@@ -5,7 +5,7 @@ use mathlib.Core.List.{List, [], _∷_}
 use mathlib.Core.Logic.{_≢_, _⊎_}
 use lib.Dec.{eqb}
 use Rattle.choice.specs.Choice.{if_then_else_}
-use Rattle.model.specs.Log.{Actor, Event, attempt-begun, boundary-run, yielded, spun, step-dropped, took, released, waiters-set, health-set}
+use Rattle.model.specs.Log.{Actor, Event, attempt-begun, boundary-run, yielded, spun, step-dropped, took, released, waiters-set, health-set, held-all, added}
 use Rattle.model.specs.declared.Lease.{Lease}
 use Rattle.history.specs.World.{World}
 use Rattle.swaps.specs.Steps.{Step, stepWords, take-step, leaves, dropped, Parted}
@@ -45,6 +45,8 @@ renamed to (took a c s) = took a c s
 renamed to (released a c s) = released a c (to s)
 renamed to (waiters-set c n) = waiters-set c n
 renamed to (health-set i n) = health-set i n
+renamed to (held-all m) = held-all m
+renamed to (added m c v) = added m c v
 
 abbrev pub renamed-all : (ℕ → ℕ) → List Event → List Event
 renamed-all to [] = []

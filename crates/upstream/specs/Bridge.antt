@@ -8,12 +8,12 @@ use native.Mathlib.Omega.{arith}
 use lib.ListN.{length}
 use lib.Seq.{take-length}
 use borrow.Author.Tests.{eq-eqb, ne-eqb}
-use Rattle.model.specs.Log.{Made, Event, attempt-begun, boundary-run, yielded, spun, step-dropped, took, released, waiters-set, health-set}
+use Rattle.model.specs.Log.{Made, Event, attempt-begun, boundary-run, yielded, spun, step-dropped, took, released, waiters-set, health-set, held-all, added}
 use Rattle.model.specs.Arena.{cellsOf, leaseOf, bitAt, ownerAt, setCell, shapeFits}
 use Rattle.model.specs.Refusals.{Rule, refusalOf, first}
 use Rattle.model.specs.Lock.{leaseAt, noLease}
 use Rattle.model.specs.Calls.{tryAcquireOf, dropLeaseOf, readPermissionOf, competingAcquireOf, releaseThenHandoffOf, foreignReleaseOf, acquirePreservingOf, dropPreservingOf, environmentOf, tryLockOf, transactionalOf, acquireBucketOf, releaseAllOf, acquireLocksOf}
-use Rattle.model.specs.Crew.{crewOf}
+use Rattle.model.specs.Crew.{crewOf, shiftOf, crewAtWorkOf}
 use Rattle.model.specs.declared.Check.{Check}
 use Rattle.model.specs.declared.Check.the-variants.{Fine, Fault}
 use Rattle.model.specs.declared.Lease.{Lease}
@@ -23,7 +23,7 @@ use Rattle.laws.specs.Words.{length-set-cell, length-set-waiters, bit-set-waite
 use Rattle.laws.specs.Checks.{first-hit, first-skip}
 use Rattle.history.specs.World as world
 use Rattle.history.specs.World.{World, worldOf, Live, Legal, Lawful, now, Sound, Unreleased}
-use Rattle.history.specs.Items.{Call, Says, perform, try-acquire, drop-lease, read-permission, competing-acquire, release-then-handoff, foreign-release, drop-preserving, acquire-preserving, environment, try-lock, transactional, acquire-bucket, release-all, acquire-locks, crew, Clear, rules}
+use Rattle.history.specs.Items.{Call, Says, perform, try-acquire, drop-lease, read-permission, competing-acquire, release-then-handoff, foreign-release, drop-preserving, acquire-preserving, environment, try-lock, transactional, acquire-bucket, release-all, acquire-locks, crew, crew-at-work, Clear, rules}
 use Rattle.history.specs.Tests.{Status, free as is-free, held as is-held, live, free-words, In, in-index, in-take, same-lease}
 use Rattle.history.specs.Events.{good, lives}
 use Rattle.history.specs.Judged.{clear, steps, unchanged}
@@ -85,6 +85,8 @@ event-of (took a c s) = Acquire c s
 event-of (released a c s) = Release c s
 event-of (waiters-set c n) = Observe
 event-of (health-set i n) = Observe
+event-of (held-all m) = Observe
+event-of (added m c v) = Observe
 
 -- "Table: a lent run of u32 of exactly 3 x H x B words"; every call refuses another by 1
 abbrev pub Sized : Authority → Type 0
@@ -132,6 +134,8 @@ event-step w (released a c s) z k =
 event-step w (waiters-set c n) z k =
     record { same = record { same-keys = refl; each = λ k i. rw (bit-set-waiters (w .table) c n k, owner-set-waiters (w .table) c n k) }; stays = refl }
 event-step w (health-set i n) z k = same w _ refl refl
+event-step w (held-all m) z k = same w w refl refl
+event-step w (added m c v) z k = same w w refl refl
 
 sized-step : (w : Authority) (e : Event) → Sized w → Sized (world.step w e)
 sized-step w attempt-begun z = z
@@ -143,6 +147,8 @@ sized-step w (took a c s) z = (length-set-cell (w .table) c 1 s ∙ z .0, omega 
 sized-step w (released a c s) z = (length-set-cell (w .table) c 0 0 ∙ z .0, z .1)
 sized-step w (waiters-set c n) z = (length-set-waiters (w .table) c n ∙ z .0, z .1)
 sized-step w (health-set i n) z = z
+sized-step w (held-all m) z = z
+sized-step w (added m c v) z = z
 
 pub sized-now : (w : Authority) (es : List Event) → Sized w → Sized (now w es)
 sized-now w [] z = z
@@ -158,6 +164,8 @@ released-is (took a c s) l n r = r
 released-is (released a c s) l n r = n (same-lease l (leaseOf c s) (sym (r .0)) (sym (r .1)))
 released-is (waiters-set c k) l n r = r
 released-is (health-set i k) l n r = r
+released-is (held-all m) l n r = r
+released-is (added m c v) l n r = r
 
 -- a lawful log is a trace of upstream's steps
 pub lawful-trace : (protected : Leases) (w : Authority) (es : List Event) → Sized w → Lawful w es → ((l : Lease) → protected l → Unreleased l es)
@@ -171,7 +179,7 @@ lawful-trace protected w (e ∷ es) z k u =
 
 pub refused : (w : World) (k : Call) (r : Refusal) → first (rules w k) ≡ Fault r → perform w k ≡ unchanged w k r
 unfolding perform tryAcquireOf dropLeaseOf readPermissionOf competingAcquireOf releaseThenHandoffOf foreignReleaseOf acquirePreservingOf dropPreservingOf
-    environmentOf tryLockOf transactionalOf acquireBucketOf releaseAllOf acquireLocksOf crewOf
+    environmentOf tryLockOf transactionalOf acquireBucketOf releaseAllOf acquireLocksOf shiftOf crewOf crewAtWorkOf
 refused w (try-acquire c) r e = rw e
 refused w (drop-lease l) r e = rw e
 refused w (read-permission l) r e = rw e
@@ -187,6 +195,7 @@ refused w (acquire-bucket registry script place held binding bucket) r e = rw e
 refused w (release-all script place leases) r e = rw e
 refused w (acquire-locks registry script place held keys grants) r e = rw e
 refused w (crew counts lists turns) r e = rw e
+refused w (crew-at-work counts lists turns counters) r e = rw e
 
 -- none of the checks before it applies
 pub first-after : (xs : List Rule) (x : Rule) (ys : List Rule) → Clear xs → x .applies ≡ true → first (xs ++ (x ∷ ys)) ≡ Fault (refusalOf (x .number) (x .carries))
@@ -196,7 +205,7 @@ first-after (y ∷ xs) x ys c e = first-skip y (xs ++ (x ∷ ys)) (c .0) ∙ fir
 -- no check applies: the steps are made
 made : (w : World) (k : Call) → first (rules w k) ≡ Fine → perform w k ≡ steps w k
 unfolding perform tryAcquireOf dropLeaseOf readPermissionOf competingAcquireOf releaseThenHandoffOf foreignReleaseOf acquirePreservingOf dropPreservingOf
-    environmentOf tryLockOf transactionalOf acquireBucketOf releaseAllOf acquireLocksOf crewOf
+    environmentOf tryLockOf transactionalOf acquireBucketOf releaseAllOf acquireLocksOf shiftOf crewOf crewAtWorkOf
 made w (try-acquire c) e = simp (e, append-nil)
 made w (drop-lease l) e = rw e
 made w (read-permission l) e = rw e
@@ -212,6 +221,7 @@ made w (acquire-bucket registry script place held binding bucket) e = simp (e, a
 made w (release-all script place leases) e = simp (e, append-nil)
 made w (acquire-locks registry script place held keys grants) e = simp (e, append-nil)
 made w (crew counts lists turns) e = simp (e, append-nil)
+made w (crew-at-work counts lists turns counters) e = simp (e, append-nil)
 
 -- what holds of a call that a check refuses and of its steps, holds of the call
 pub by-checks : (P : Made (World × Says) → Type 0) (w : World) (k : Call)

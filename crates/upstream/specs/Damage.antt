@@ -8,7 +8,7 @@ use native.Mathlib.Omega.{arith}
 use native.Mathlib.Decide.{ℕ-discrete}
 use borrow.Author.Tests.{lt-ltb}
 use lib.Dec.{ltb}
-use Rattle.model.specs.Log.{Made, Event, attempt-begun, boundary-run, yielded, spun, step-dropped, took, released, waiters-set, health-set}
+use Rattle.model.specs.Log.{Made, Event, attempt-begun, boundary-run, yielded, spun, step-dropped, took, released, waiters-set, health-set, held-all, added}
 use Rattle.model.specs.Arena.{serialRemains, leaseOf, leasesOf, bitAt, ownerAt, setWaiters, isFree, isLive, isIn}
 use Rattle.model.specs.Refusals.{first}
 use Rattle.model.specs.Calls.{countsOf}
@@ -58,6 +58,8 @@ untouched w (released a d s) c k n = go (ℕ-discrete c d)
     go (no e) = rw (bit-set-other (w .table) d 0 0 c e, owner-set-other (w .table) d 0 0 c e)
 untouched w (waiters-set d m) c k n = rw (bit-set-waiters (w .table) d m c, owner-set-waiters (w .table) d m c)
 untouched w (health-set i m) c k n = refl
+untouched w (held-all i) c k n = refl
+untouched w (added i d x) c k n = refl
 
 -- words that are not valid even under the last next serial were never valid on the way, and stay as they are
 pub stays-damaged : (w : Authority) (es : List Event) (c : Key) → Lawful w es → (Valid-cell (next-serial (now w es)) (cells w c) → ⊥) → cells (now w es) c ≡ cells w c

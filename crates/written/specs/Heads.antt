@@ -7,7 +7,7 @@ use native.Mathlib.Omega.{arith}
 use lib.ListN.{length}
 use Rattle.model.specs.Arena.{headOf, headFits, shapeFits, healthFits, cellsOf}
 use Rattle.model.specs.Calls.{prepareOf}
-use Rattle.model.specs.Log.{Event, attempt-begun, boundary-run, yielded, spun, step-dropped, took, released, waiters-set, health-set}
+use Rattle.model.specs.Log.{Event, attempt-begun, boundary-run, yielded, spun, step-dropped, took, released, waiters-set, health-set, held-all, added}
 use Rattle.model.specs.declared.Head.{Head}
 use Rattle.choice.specs.Pick.{both}
 use Rattle.laws.specs.Shape.{Shaped, shaped}
@@ -53,6 +53,8 @@ step-fits w (took a c s) g f = spent-fits (w .head) f (omega (arith, g .1 .0, g 
 step-fits w (released a c s) g f = f
 step-fits w (waiters-set c n) g f = f
 step-fits w (health-set i n) g f = f
+step-fits w (held-all m) g f = f
+step-fits w (added m c v) g f = f
 
 now-fits : (w : World) (es : List Event) → Lawful w es → Fits (w .head) → Fits (now w es .head)
 now-fits w [] g f = f

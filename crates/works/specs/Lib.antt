@@ -1,0 +1,12 @@
+pub mod Statements
+pub mod Theorems
+pub mod Examples
+pub mod Orders
+pub mod Wholes
+pub mod Due
+pub mod Kept
+pub mod Reorders
+pub mod First
+pub mod Played
+pub mod Wraps
+pub mod Once

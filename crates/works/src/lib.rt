@@ -1,0 +1,1 @@
+// Document 02, L13: the crew at work looks one after another. Theorems only: specs/.
