@@ -19,6 +19,7 @@ pub const GRANTS: usize = 300;
 pub const MEMBERS: usize = 20;
 pub const MEMBER_CELLS: usize = 70;
 pub const TURNS: usize = 70_000;
+pub const COUNTERS: usize = 4_200;
 
 /// What a word of a fresh grant buffer holds.
 const GRANT: u32 = 9;
@@ -165,6 +166,7 @@ pub struct Console {
     pub members: Vec<u32>,
     pub cells: Vec<u32>,
     pub turns: Vec<u32>,
+    pub counters: Vec<u16>,
     /// Table words and health bytes to lend; none: as many as the head says.
     pub lent: Option<(usize, usize)>,
     /// Whether lines are printed before they are played. The player does it, not the console.
@@ -197,6 +199,7 @@ impl Console {
             members: Vec::new(),
             cells: Vec::new(),
             turns: Vec::new(),
+            counters: Vec::new(),
             lent: None,
             echo: false,
             trace: false,
@@ -266,6 +269,14 @@ impl Console {
             (b"keys", list) if list.len() <= KEYS => replace(&mut self.keys, list),
             (b"leases", list) if list.len() <= LEASES => replace(&mut self.leases, list),
             (b"turns", list) if list.len() <= TURNS => replace(&mut self.turns, list),
+            (b"counters", list) if list.len() <= COUNTERS => {
+                // a number over 65,535 is not understood
+                let counters = list.iter().map(|&number| u16::try_from(number).ok());
+                match counters.collect() {
+                    Some(counters) => self.counters = counters,
+                    None => return false,
+                }
+            }
             (b"script", list) if list.len() <= SCRIPT => {
                 replace(&mut self.script, list);
                 self.place = 0;
@@ -414,6 +425,8 @@ impl Console {
             self.prepare(headers, buckets, first, out)?;
         } else if let (b"crew", &[]) = (call, numbers) {
             self.crew(out)?;
+        } else if let (b"crew_at_work", &[]) = (call, numbers) {
+            self.crew_at_work(out)?;
         } else if let Some(answer) = self.book_call(call, numbers) {
             print_book(answer, out)?;
         } else if let Some(reply) = self.call_without_script(call, numbers) {
@@ -555,7 +568,7 @@ impl Console {
 
     fn crew(&mut self, out: &mut impl Write) -> io::Result<()> {
         let (words, bytes) = self.lent(self.head);
-        let CrewReply { head, answer } = rules::crew(
+        let reply = rules::crew(
             self.head,
             &mut self.table[..words],
             &mut self.health[..bytes],
@@ -563,6 +576,31 @@ impl Console {
             &self.cells,
             &self.turns,
         );
+        self.print_crew(reply, out)
+    }
+
+    /// What `crew` prints and then, refused or not, every counter.
+    fn crew_at_work(&mut self, out: &mut impl Write) -> io::Result<()> {
+        let (words, bytes) = self.lent(self.head);
+        let reply = rules::crew_at_work(
+            self.head,
+            &mut self.table[..words],
+            &mut self.health[..bytes],
+            &self.members,
+            &self.cells,
+            &self.turns,
+            &mut self.counters,
+        );
+        self.print_crew(reply, out)?;
+        write!(out, "counters")?;
+        for counter in &self.counters {
+            write!(out, " {counter}")?;
+        }
+        writeln!(out)
+    }
+
+    fn print_crew(&mut self, reply: CrewReply, out: &mut impl Write) -> io::Result<()> {
+        let CrewReply { head, answer } = reply;
         self.head = head;
         let next = head.next;
         match answer {
@@ -746,6 +784,7 @@ place P: the next foreign step
 grants N: a grant buffer of N words
 member CELL ..: one more member of the crew
 crewless: no members
+counters N..: a counter for each cell
 show: the head, the cells that are not all 0, the health that is not 0
 map: a character for each cell
 show_book: the lent length of the book, and its bytes that are not 0, sixteen a line
@@ -770,6 +809,7 @@ acquire_index_bucket BINDING BUCKET
 release_all
 acquire_index_locks
 crew
+crew_at_work
 prepare_book
 write_setpoint SLOT CELL SERIAL pressure BITS, or speed NUMBER, or valve 0 or 1
 read_setpoint SLOT

@@ -1,5 +1,5 @@
 //! Document 01: the arena, foreign steps, the steps of a lock, the crew, the refusals; with document 02's L1, the
-//! reasons of a Busy, and L3, the health that is read after the lock too.
+//! reasons of a Busy, L3, the health that is read after the lock too, and L13, the crew at work.
 //!
 //! One public function for each call, over lent slices. A call checks what it takes in the order of the table
 //! of refusals, and then runs its steps; no argument makes it panic.
@@ -951,31 +951,91 @@ pub fn crew(
     cells: &[u32],
     turns: &[u32],
 ) -> CrewReply {
-    let refused = |refusal| CrewReply {
-        head,
-        answer: Err(refusal),
-    };
-    let mut arena = match Arena::new(head, table) {
-        Ok(arena) if health.len() == head.headers as usize => arena,
-        _ => return refused(Refusal::BadShape),
-    };
-    let starts = match check_crew(&arena, counts, cells, turns) {
-        Ok(starts) => starts,
-        Err(refusal) => return refused(refusal),
-    };
-    let mut run = CrewRun::default();
-    for &turn in turns {
-        let member = turn as usize;
-        let list = &cells[starts[member]..starts[member + 1]];
-        if crew_turn(&mut arena, health, list, member, &mut run) {
-            run.moving += 1;
-        } else {
-            run.idle += 1;
+    CrewReply::of(head, || {
+        let mut arena = Arena::new(head, table)?;
+        if health.len() != head.headers as usize {
+            return Err(Refusal::BadShape);
+        }
+        let starts = check_crew(&arena, counts, cells, turns)?;
+        let mut run = CrewRun::default();
+        for &turn in turns {
+            let member = turn as usize;
+            let list = &cells[starts[member]..starts[member + 1]];
+            let moved = crew_turn(&mut arena, health, list, member, &mut run);
+            run.count(moved);
+        }
+        Ok((arena.head, run))
+    })
+}
+
+/// The crew's run with a counter for each cell. "Between holding all and releasing, a member spends one moving turn a
+/// cell, rising: to each it adds the value that its lowest cell's counter had when it came to hold all, and sums wrap at
+/// 65,536."
+pub fn crew_at_work(
+    head: Head,
+    table: &mut [u32],
+    health: &mut [u8],
+    counts: &[u32],
+    cells: &[u32],
+    turns: &[u32],
+    counters: &mut [u16],
+) -> CrewReply {
+    CrewReply::of(head, || {
+        let mut arena = Arena::new(head, table)?;
+        // "not one a cell: BadShape"
+        if health.len() != head.headers as usize || counters.len() != arena.cells as usize {
+            return Err(Refusal::BadShape);
+        }
+        let starts = check_crew(&arena, counts, cells, turns)?;
+        let mut run = CrewRun::default();
+        // of each member: to how many cells it has added, and what it adds
+        let mut added = [0; MOST_MEMBERS];
+        let mut values = [0u16; MOST_MEMBERS];
+        for &turn in turns {
+            let member = turn as usize;
+            let list = &cells[starts[member]..starts[member + 1]];
+            let held_all = run.taken[member] as usize == list.len();
+            if held_all && added[member] < list.len() {
+                let counter = &mut counters[list[added[member]] as usize];
+                *counter = counter.wrapping_add(values[member]);
+                added[member] += 1;
+                run.count(true);
+                continue;
+            }
+            let moved = crew_turn(&mut arena, health, list, member, &mut run);
+            run.count(moved);
+            if !held_all && run.taken[member] as usize == list.len() {
+                values[member] = counters[list[0] as usize];
+            }
+        }
+        Ok((arena.head, run))
+    })
+}
+
+impl CrewReply {
+    /// What the checks and turns of a crew came to; a refusal changes nothing.
+    fn of(head: Head, turns: impl FnOnce() -> Result<(Head, CrewRun), Refusal>) -> Self {
+        match turns() {
+            Ok((head, run)) => CrewReply {
+                head,
+                answer: Ok(run),
+            },
+            Err(refusal) => CrewReply {
+                head,
+                answer: Err(refusal),
+            },
         }
     }
-    CrewReply {
-        head: arena.head,
-        answer: Ok(run),
+}
+
+impl CrewRun {
+    /// A turn that moved, or one that idled.
+    fn count(&mut self, moved: bool) {
+        if moved {
+            self.moving += 1;
+        } else {
+            self.idle += 1;
+        }
     }
 }
 

@@ -1,6 +1,6 @@
 //! The random histories reach every call, and with every call each answer that it can give; the reasons of a Busy, also
 //! where they change between attempts; the two readings of health in all their cases; the book's damages, and its faults
-//! two at a time; and echo, map and trace in all theirs.
+//! two at a time; the counters of a crew at work; and echo, map and trace in all theirs.
 
 use plain::book::{self, BookRefusal};
 use plain::console::{number, Console, Line};
@@ -13,7 +13,7 @@ const CALLS: usize = 10_000;
 
 /// What each call can answer: a Busy by its reason, a setpoint by its kind, the refusals by number, in the order of
 /// document 01's table, and 11 with its reason, or by name, where they have no number.
-const ANSWERS: [(&str, &str); 21] = [
+const ANSWERS: [(&str, &str); 22] = [
     ("prepare", "done 1"),
     ("try_acquire", "granted held 1 8 9 10"),
     ("drop_lease", "done 1 12"),
@@ -44,6 +44,7 @@ const ANSWERS: [(&str, &str); 21] = [
         "granted 1 2 3 4 5 6 7 8 9 10 11held 11before 11after",
     ),
     ("crew", "crew 1 15"),
+    ("crew_at_work", "crew 1 15"),
     ("prepare_book", "done 1 BadSlot"),
     (
         "write_setpoint",
@@ -557,9 +558,109 @@ fn every_two_faults_of_a_write() {
     }
 }
 
+/// The numbers behind a word of each line that has it.
+fn each_behind(out: &str, word: &str) -> Vec<u32> {
+    out.lines().filter_map(|line| behind(line, word)).collect()
+}
+
+/// What a `crew_at_work` met. `before` is what it was given.
+fn cases_of_work(before: &Console, after: &Console, out: &str) -> Vec<&'static str> {
+    let mut cases = Vec::new();
+    let cells = before.head.headers.saturating_mul(before.head.buckets) as usize;
+    if out.starts_with("refused 1 ") && good_head(before.head) && before.lent.is_none() {
+        let mut right = before.clone();
+        right.counters = vec![0; cells];
+        let mut other = Vec::new();
+        right
+            .line(b"crew_at_work", &mut other)
+            .expect("a vector takes every byte");
+        cases.push(match before.counters.len() {
+            0 => "no counters",
+            count if count < cells => "too few counters",
+            _ => "too many counters",
+        });
+        if other.starts_with(b"refused 15 ") {
+            cases.push("a wrong count, and 15 too");
+        }
+    }
+    if !out.starts_with("crew ") {
+        assert_eq!(before.counters, after.counters);
+        return cases;
+    }
+    let (taken, released) = (each_behind(out, "taken"), each_behind(out, "released"));
+    let moving = behind(out, "moving").expect("a count");
+    let added = moving - taken.iter().sum::<u32>() - released.iter().sum::<u32>();
+    let lists = before.members.iter().zip(taken.iter().zip(&released));
+    // cells of those who have released, who have added to all; and of those who hold all, who may have added
+    let (mut least, mut most) = (0, 0);
+    for (&list, (&taken, &released)) in lists {
+        least += if released > 0 { list } else { 0 };
+        most += if taken == list { list } else { 0 };
+    }
+    assert!(least <= added && added <= most, "{out}");
+    if added > least {
+        cases.push("it ended before all that hold all had released");
+    }
+    if added > least && added < most {
+        cases.push("it ended between two adds");
+    }
+    if before.members.iter().sum::<u32>() == released.iter().sum()
+        && released.len() > 1
+        && added > 0
+    {
+        cases.push("several members finished");
+    }
+    let pairs = before.counters.iter().zip(&after.counters);
+    if pairs.clone().any(|(old, new)| new < old) {
+        cases.push("a sum wrapped");
+    }
+    if pairs.clone().any(|(old, new)| new > old) {
+        cases.push("a sum did not wrap");
+    }
+    if added > 0 && pairs.clone().all(|(old, new)| new == old) {
+        cases.push("nothing but 0 was added");
+    }
+    cases
+}
+
+#[test]
+fn every_case_of_work() {
+    let mut seen = BTreeSet::new();
+    for seed in [1, 2] {
+        let mut console = Console::new();
+        for line in history(seed).split(|&byte| byte == b'\n') {
+            let work = line == b"crew_at_work";
+            let (before, mut out) = (work.then(|| console.clone()), Vec::new());
+            console
+                .line(line, &mut out)
+                .expect("a vector takes every byte");
+            if let Some(before) = before {
+                seen.extend(cases_of_work(
+                    &before,
+                    &console,
+                    &String::from_utf8_lossy(&out),
+                ));
+            }
+        }
+    }
+    let expected = [
+        "no counters",
+        "too few counters",
+        "too many counters",
+        "a wrong count, and 15 too",
+        "it ended before all that hold all had released",
+        "it ended between two adds",
+        "several members finished",
+        "a sum wrapped",
+        "a sum did not wrap",
+        "nothing but 0 was added",
+    ];
+    assert_eq!(seen, expected.into());
+}
+
 /// What each call can do to bits: kinds of `step` lines that its trace can have. Behind the kind `+` if there can be
 /// several.
-const STEPS: [(&str, &str); 21] = [
+const STEPS: [(&str, &str); 22] = [
     ("prepare", "0 2 2+"),
     ("try_acquire", "0 1"),
     ("drop_lease", "0 2"),
@@ -578,6 +679,7 @@ const STEPS: [(&str, &str); 21] = [
     ("release_all", "0 1 1+ 2 2+"),
     ("acquire_index_locks", "0 1 1+ 2 2+"),
     ("crew", "0 1 1+"),
+    ("crew_at_work", "0 1 1+"),
     ("prepare_book", "0"),
     ("write_setpoint", "0"),
     ("read_setpoint", "0"),

@@ -27,7 +27,7 @@ fn main() -> io::Result<()> {
 }
 
 /// Every call but `write_setpoint`, which takes a word too, with the count of its numbers.
-const CALLS: [(&str, usize); 20] = [
+const CALLS: [(&str, usize); 21] = [
     ("prepare", 3),
     ("try_acquire", 1),
     ("drop_lease", 2),
@@ -46,6 +46,7 @@ const CALLS: [(&str, usize); 20] = [
     ("release_all", 0),
     ("acquire_index_locks", 0),
     ("crew", 0),
+    ("crew_at_work", 0),
     ("prepare_book", 0),
     ("read_setpoint", 1),
 ];
@@ -69,7 +70,7 @@ const PRESSURES: [u32; 14] = [
 ];
 
 /// Lines that are not understood.
-const BAD_LINES: [&str; 110] = [
+const BAD_LINES: [&str; 117] = [
     " ",
     "\t",
     "\r",
@@ -180,6 +181,13 @@ const BAD_LINES: [&str; 110] = [
     "write_setpoint 0 0 1 pressure 1.5",
     "write_setpoint 0 0 1 pressure  5",
     "write_setpoint 0 0 1 speed\t5",
+    "counters 65536",
+    "counters 1 2 65536",
+    "counters 1 4294967295 1",
+    "counters 1  2",
+    "counter 1 2",
+    "crew_at_work 0",
+    "crew_at_work ",
 ];
 
 struct Writer {
@@ -721,6 +729,7 @@ impl Writer {
         if self.dice.once_in(3) {
             self.members();
             self.turns();
+            self.counters();
         }
         if self.dice.once_in(2) {
             self.lend_book();
@@ -1133,12 +1142,33 @@ impl Writer {
         self.write("member", &list);
     }
 
+    /// One counter a cell, mostly: some of them wrap when they are added to.
+    fn counters(&mut self) {
+        let cells = self.cells() as usize;
+        let count = match self.dice.below(16) {
+            0 => cells + 1,
+            1 => cells - 1,
+            2 => self.dice.pick(&[0, 1, 2 * cells, 3 * cells]),
+            _ => cells,
+        };
+        let list: Vec<u32> = (0..count.min(console::COUNTERS))
+            .map(|_| match self.dice.below(8) {
+                0 => 0,
+                1 => self.dice.pick(&[1, 255, 256, 32_767, 32_768]),
+                2 => 65_535 - self.dice.number(3),
+                3..=4 => self.dice.number(65_536),
+                _ => self.dice.number(10),
+            })
+            .collect();
+        self.write("counters", &list);
+    }
+
     fn turns(&mut self) {
         let members = self.console.members.len() as u32;
         let count = match self.dice.below(12) {
             _ if members == 0 && self.dice.once_in(2) => 0,
             0 => self.dice.below(3),
-            1 => 60 + self.dice.below(60),
+            1..=2 => 60 + self.dice.below(60),
             _ => 8 + self.dice.below(30),
         };
         let in_order = self.dice.once_in(2);
@@ -1213,7 +1243,7 @@ impl Writer {
         }
         let [cell, serial] = self.lease();
         let [binding, bucket] = self.key();
-        match self.dice.below(77) {
+        match self.dice.below(80) {
             0..=3 => self.call_by_cell("try_acquire"),
             4..=7 => self.write("drop_lease", &[cell, serial]),
             8..=9 => self.write("read_permission", &[cell, serial]),
@@ -1248,6 +1278,7 @@ impl Writer {
             }
             64..=67 => self.lock_poisoned(),
             68..=70 => self.lock_waited_for(),
+            71..=73 => self.crew_at_work(),
             _ => self.book(),
         }
     }
@@ -1407,6 +1438,26 @@ impl Writer {
         self.write("crew", &[]);
     }
 
+    /// A crew with counters, in an arena in which most of its cells can be taken.
+    fn crew_at_work(&mut self) {
+        if self.console.members.is_empty() || self.dice.once_in(2) {
+            self.members();
+            self.turns();
+        }
+        let wrong = self.console.counters.len() != self.cells() as usize;
+        if wrong && !self.dice.once_in(5) || self.dice.once_in(4) {
+            self.counters();
+        }
+        if self.dice.once_in(3) {
+            let numbers = [self.headers(), self.buckets(), self.next().max(1)];
+            self.write("prepare", &numbers);
+        }
+        self.write("crew_at_work", &[]);
+        if self.dice.once_in(3) {
+            self.write("crew_at_work", &[]);
+        }
+    }
+
     // ---- The book
 
     fn slots(&self) -> u32 {
@@ -1538,9 +1589,9 @@ impl Writer {
         let body = book::LINE as u32 * slots + book::BODY as u32 * slot;
         let any = self.dice.number(256);
         let small = self.dice.number(7);
-        match self.dice.below(12) {
+        match self.dice.below(14) {
             // the version: the last one, the one before it, none, another
-            0..=2 => {
+            0..=2 | 12..=13 => {
                 let low = self.dice.pick(&[255, 255, 254]);
                 for (byte, value) in [low, 255, 255, 255].into_iter().enumerate() {
                     self.write("book_byte", &[line + 4 + byte as u32, value]);
@@ -1629,6 +1680,7 @@ impl Writer {
                     ("keys", console::KEYS),
                     ("leases", console::LEASES),
                     ("member", console::MEMBER_CELLS),
+                    ("counters", console::COUNTERS),
                 ]);
                 let more = self.dice.below(2);
                 self.write(word, &vec![1; room + more]);
@@ -1737,6 +1789,8 @@ impl Writer {
                     .collect();
                 self.write("turns", &turns);
                 self.write("crew", &[]);
+                self.counters();
+                self.write("crew_at_work", &[]);
                 self.show();
                 self.turns();
             }
@@ -1744,6 +1798,7 @@ impl Writer {
                 let more = self.dice.below(2);
                 self.write("turns", &vec![0; console::TURNS + more]);
                 self.write("crew", &[]);
+                self.write("crew_at_work", &[]);
                 self.turns();
             }
         }
