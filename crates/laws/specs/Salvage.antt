@@ -7,6 +7,7 @@ use native.Mathlib.Omega.{arith}
 use lib.Dec.{eqb}
 use lib.ListN.{length, getD, length-append}
 use Rattle.choice.specs.Choice.{if_then_else_}
+use Rattle.choice.specs.Pick.{if-both}
 use Rattle.model.specs.Arena.{cellsOf, bitAt, ownerAt, waitersAt, isFree, isHeld, stateOf}
 use Rattle.model.specs.Salvage.{keptIn, keptOf, mendedCell, mendedTable, mendedByte, mendedHealth, changeOf, changesFrom, changesOf, entriesOf, heldFrom, leftHeld}
 use Rattle.model.specs.declared.Head.{Head}
@@ -98,7 +99,7 @@ held-same next (suc left) c t h =
 -- ---- how many entries
 
 -- 1 for a word that changed
-abbrev pub changedOf : ℕ → ℕ → ℕ
+unfoldable pub changedOf : ℕ → ℕ → ℕ
 changedOf old new = if eqb old new then 0 else 1
 
 -- the places where two runs differ
@@ -108,7 +109,7 @@ differing (a ∷ old) [] = 0
 differing (a ∷ old) (b ∷ new) = changedOf a b + differing old new
 
 length-change : (place old new : ℕ) → length (changeOf place old new) ≡ 3 * changedOf old new
-unfolding changeOf
+unfolding changeOf changedOf
 length-change place old new = go (eqb old new)
   where
     go : (x : Bool) → length (if x then [] else (place ∷ old ∷ new ∷ [])) ≡ 3 * (if x then 0 else 1)
@@ -130,3 +131,10 @@ entries-are h t g =
 
 pub entries-number : (h : Head) (t g : List ℕ) → entriesOf h t g ≡ differing t (mendedTable (h .next) t) + differing g (mendedHealth g)
 entries-number h t g = omega (arith, entries-are h t g)
+
+pub changed-few : (old new : ℕ) → changedOf old new ≤ 1
+unfolding changedOf
+changed-few old new = if-both (λ n. n ≤ 1) (eqb old new) (omega arith) (omega arith)
+
+pub changed-small : (n old new : ℕ) → n ≡ changedOf old new → n ≤ 1
+changed-small n old new e = omega (arith, changed-few old new)
