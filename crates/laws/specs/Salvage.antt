@@ -138,3 +138,18 @@ changed-few old new = if-both (λ n. n ≤ 1) (eqb old new) (omega arith) (omega
 
 pub changed-small : (n old new : ℕ) → n ≡ changedOf old new → n ≤ 1
 changed-small n old new e = omega (arith, changed-few old new)
+
+pub differing-few : (old new : List ℕ) → differing old new ≤ length old
+unfolding differing
+differing-few [] new = omega arith
+differing-few (a ∷ old) [] = omega arith
+differing-few (a ∷ old) (b ∷ new) = omega (arith, changed-few a b, differing-few old new)
+
+-- a report has room for all entries exactly if a third of its length is no less than their number
+pub entries-room : (h : Head) (t g : List ℕ) (n m : ℕ) → n ≡ entriesOf h t g → n ≤ m / 3 → length (changesOf h t g) ≤ m
+entries-room h t g n m e k = omega (arith, entries-are h t g)
+
+-- the cells left held, from the table as it was
+pub left-held-is : (next cells : ℕ) (t : List ℕ) → 3 * cells ≤ length t → leftHeld next cells t ≡ heldFrom next cells 0 t
+unfolding leftHeld
+left-held-is next cells t h = held-same next cells 0 t (omega arith)

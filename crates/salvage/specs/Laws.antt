@@ -10,10 +10,12 @@ use lib.ListN.{length, getD, drop, take, set, length-append, length-take, length
 use lib.Seq.{sets, sets-eq, length-sets, drop-cons, take-at, drop-at, take-all, length-take-le}
 use Rattle.choice.specs.Choice.{if_then_else_}
 use Rattle.choice.specs.Pick.{if-both}
-use Rattle.model.specs.Arena.{bitAt, ownerAt, waitersAt, setCell, setWaiters, isHeld}
-use Rattle.model.specs.Salvage.{keptOf, mendedCell, mendedTable, mendedByte, mendedHealth, changeOf, changesFrom, heldFrom, overOf}
+use Rattle.model.specs.Arena.{cellsOf, bitAt, ownerAt, waitersAt, setCell, setWaiters, isHeld}
+use Rattle.model.specs.Salvage.{keptOf, mendedCell, mendedTable, mendedByte, mendedHealth, changeOf, changesFrom, changesOf, entriesOf, heldFrom, leftHeld, overOf}
+use Rattle.model.specs.declared.Head.{Head}
+use Rattle.laws.specs.Shape.{Shaped}
 use Rattle.laws.specs.Lists.{drop-one}
-use Rattle.laws.specs.Salvage.{changedOf, differing, changed-few}
+use Rattle.laws.specs.Salvage.{changedOf, differing, changed-few, differing-few, entries-number, left-held-is}
 
 -- ---- one cell
 
@@ -345,3 +347,46 @@ held-in-one next t c e = rw e
 
 pub held-count-end : (next : ℕ) (t : List ℕ) (cells c : ℕ) → cells ≤ c → length (heldLeft next t cells c) ≡ 0
 held-count-end next t cells c h = rw (held-end next t cells c h)
+
+-- ---- the whole
+
+pub count-cells-small : (n next : ℕ) (t : List ℕ) → n ≡ countCellsOf next t → n ≤ length t
+unfolding countCellsOf
+count-cells-small n next t e = omega (arith, differing-few t (mendedTable next t))
+
+pub count-bytes-small : (n : ℕ) (g : List ℕ) → n ≡ countBytesOf g → n ≤ length g
+unfolding countBytesOf
+count-bytes-small n g e = omega (arith, differing-few g (mendedHealth g))
+
+pub entries-count : (h : Head) (t g : List ℕ) (n m : ℕ) → n ≡ countCellsOf (h .next) t → m ≡ countBytesOf g → n + m ≡ entriesOf h t g
+unfolding countCellsOf countBytesOf
+entries-count h t g n m e f = omega (arith, entries-number h t g)
+
+pub held-count : (h : Head) (t : List ℕ) (n : ℕ) → Shaped h (length t) → n ≡ countHeldOf (h .next) (cellsOf h) t → n ≡ length (leftHeld (h .next) (cellsOf h) t)
+unfolding countHeldOf
+held-count h t n s e = e ∙ ap (λ (x : List ℕ). length x) (sym (left-held-is (h .next) (cellsOf h) t (omega (arith, s .words-are))))
+
+-- laid from the front on, and all of it fitted
+pub laid-run : (n : ℕ) (m l x : List ℕ) → (n, m) ≡ laidOf l 0 x → length x ≤ length l → m ≡ overOf x l
+laid-run n m l x e h = ap (λ (o : ℕ × List ℕ). o .1) (e ∙ laid-over l x h)
+
+pub list-fits : (h : Head) (t : List ℕ) (n : ℕ) → Shaped h (length t) → length (leftHeld (h .next) (cellsOf h) t) ≤ n
+    → length (heldFrom (h .next) (cellsOf h) 0 t) ≤ n
+list-fits h t n s k = rw (left-held-is (h .next) (cellsOf h) t (omega (arith, s .words-are))) at k
+
+pub list-filled : (h : Head) (t m l : List ℕ) (n : ℕ) → Shaped h (length t) → length (leftHeld (h .next) (cellsOf h) t) ≤ length l
+    → (n, m) ≡ laidOf l 0 (heldFrom (h .next) (cellsOf h) 0 t) → m ≡ overOf (leftHeld (h .next) (cellsOf h) t) l
+list-filled h t m l n s k e =
+    laid-run n m l (leftHeld (h .next) (cellsOf h) t) (e ∙ ap (laidOf l 0) (sym (left-held-is (h .next) (cellsOf h) t (omega (arith, s .words-are))))) k
+
+pub changes-parts : (h : Head) (t g : List ℕ) → changesOf h t g ≡ cellEntries (h .next) t ++ byteEntries (3 * cellsOf h) g
+unfolding changesOf cellEntries byteEntries
+changes-parts h t g = refl
+
+pub changes-long : (h : Head) (t g : List ℕ) → length (changesOf h t g) ≡ length (cellEntries (h .next) t) + length (byteEntries (3 * cellsOf h) g)
+changes-long h t g = rw (changes-parts h t g) (length-append (cellEntries (h .next) t) (byteEntries (3 * cellsOf h) g))
+
+pub report-filled : (h : Head) (t g u m l : List ℕ) (n k : ℕ) → length (changesOf h t g) ≤ length l → (k, u) ≡ laidOf l 0 (cellEntries (h .next) t)
+    → (n, m) ≡ laidOf u k (byteEntries (3 * cellsOf h) g) → m ≡ overOf (changesOf h t g) l
+report-filled h t g u m l n k r e f =
+    laid-run n m l (changesOf h t g) (laid-both l u 0 k (cellEntries (h .next) t) (byteEntries (3 * cellsOf h) g) (n, m) e f ∙ ap (laidOf l 0) (sym (changes-parts h t g))) r

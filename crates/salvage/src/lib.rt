@@ -11,7 +11,7 @@ ghost use Prim.Native.Nat.{_+_, _*_, _<_, _≤_, _/_};
 ghost use lib.ListN.{length};
 ghost use Rattle.model.specs.Arena.{bitAt, ownerAt, isHeld, cellsOf};
 ghost use Rattle.model.specs.Salvage.{keptOf, mendedTable, mendedByte, mendedHealth, changeOf, heldFrom};
-ghost use Rattle.model.specs.Salvage.{answering, mendOf, goOverOf, salvageOf};
+ghost use Rattle.model.specs.Salvage.{changesOf, entriesOf, leftHeld, overOf, answering, mendOf, goOverOf, salvageOf};
 ghost use Rattle.laws.specs.Shape.{Shaped};
 ghost use Rattle.laws.specs.Salvage.{changedOf};
 ghost use Rattle.salvage.specs.Laws.{changedIn, changesIn, mendCellOf, heldIn, laidOf};
@@ -270,5 +270,121 @@ fn mend_bytes(health: &mut [u8])
     while i < health.len() {
         health[i] = mended_byte(health[i]);
         i += 1;
+    }
+}
+
+// ---- the call
+
+// All entries: the table's, then those of the health bytes.
+fn fill_report(head: Head, table: &[u32], health: &[u8], report: &mut [u32])
+    requires { ⌜ Shaped head (length (now table)) × (length (now health) ≡ head .headers) ×
+        (length (changesOf head (now table) (now health)) ≤ length (now report)) ⌝ }
+    ensures { λ _. ⌜ now (report .exit)
+        ≡ overOf (changesOf head (now (table .entry)) (now (health .entry))) (now (report .entry)) ⌝ }
+{
+    let cells = head.headers * head.buckets;
+    let at = report_cells(head.next, table, cells, report);
+    report_bytes(health, 3 * cells, report, at);
+}
+
+// The cells left held: a mended cell is held exactly if it was.
+fn fill_list(head: Head, table: &[u32], list: &mut [u32])
+    requires { ⌜ Shaped head (length (now table)) ×
+        (length (leftHeld (head .next) (cellsOf head) (now table)) ≤ length (now list)) ⌝ }
+    ensures { λ _. ⌜ now (list .exit)
+        ≡ overOf (leftHeld (head .next) (cellsOf head) (now (table .entry))) (now (list .entry)) ⌝ }
+{
+    let cells = head.headers * head.buckets;
+    list_held(head.next, table, cells, list);
+}
+
+// Everything is listed as it stands, then mended.
+fn mend(
+    head: Head,
+    table: &mut [u32],
+    health: &mut [u8],
+    report: &mut [u32],
+    unconfirmed: &mut [u32],
+)
+    requires { ⌜ Shaped head (length (now table)) × (length (now health) ≡ head .headers) ×
+        (length (changesOf head (now table) (now health)) ≤ length (now report)) ×
+        (length (leftHeld (head .next) (cellsOf head) (now table)) ≤ length (now unconfirmed)) ⌝ }
+    ensures { λ _. ⌜ (now (table .exit), (now (health .exit), (now (report .exit), now (unconfirmed .exit))))
+        ≡ mendOf head (now (table .entry)) (now (health .entry)) (now (report .entry)) (now (unconfirmed .entry)) ⌝ }
+{
+    fill_report(head, table, health, report);
+    fill_list(head, table, unconfirmed);
+    mend_cells(head.next, table, head.headers * head.buckets);
+    mend_bytes(health);
+}
+
+// How many entries the report needs.
+fn entries(head: Head, table: &[u32], health: &[u8]) -> usize
+    requires { ⌜ Shaped head (length (now table)) × (length (now health) ≡ head .headers) ⌝ }
+    ensures { λ r. ⌜ r ≡ entriesOf head (now (table .entry)) (now (health .entry)) ⌝ }
+{
+    let words = count_cells(head.next, table, head.headers * head.buckets);
+    let bytes = count_bytes(health);
+    words + bytes
+}
+
+// How many cells the list needs room for.
+fn held(head: Head, table: &[u32]) -> usize
+    requires { ⌜ Shaped head (length (now table)) ⌝ }
+    ensures { λ r. ⌜ r ≡ length (leftHeld (head .next) (cellsOf head) (now (table .entry))) ⌝ }
+{
+    count_held(head.next, table, head.headers * head.buckets)
+}
+
+// An arena whose shape is good: ReportFull is known before the first change.
+fn go_over(
+    head: Head,
+    table: &mut [u32],
+    health: &mut [u8],
+    report: &mut [u32],
+    unconfirmed: &mut [u32],
+) -> SalvageReply
+    requires { ⌜ Shaped head (length (now table)) × (length (now health) ≡ head .headers) ⌝ }
+    ensures { λ r. ⌜ (r, (now (table .exit), (now (health .exit), (now (report .exit), now (unconfirmed .exit)))))
+        ≡ goOverOf head (now (table .entry)) (now (health .entry)) (now (report .entry)) (now (unconfirmed .entry)) ⌝ }
+{
+    let changes = entries(head, table, health);
+    let left = held(head, table);
+    if report.len() / 3 < changes {
+        return reply(head, SalvageAnswer::ReportFull);
+    }
+    if unconfirmed.len() < left {
+        return reply(head, SalvageAnswer::ReportFull);
+    }
+    mend(head, table, health, report, unconfirmed);
+    reply(head, SalvageAnswer::Done(changes, left))
+}
+
+// The result, with the head as it was given.
+fn reply(head: Head, answer: SalvageAnswer) -> SalvageReply
+    ensures { λ r. ⌜ r ≡ answering head answer ⌝ }
+{
+    SalvageReply { head, answer }
+}
+
+// Given the head that is held on paper, goes over the arena: damaged cells become free, all waiters become 0, health
+// bytes other than 0 and 1 become 1, sound cells keep bit and owner. The report has place, old and new of each word or
+// byte changed, rising, the list the cells left held; words behind the entries of both stay as they were. A head or a
+// length that keeps no rule of the arena is BadShape; where the report or the list has no room for all its entries it
+// is ReportFull. Either changes no lent word.
+pub fn salvage(
+    head: Head,
+    table: &mut [u32],
+    health: &mut [u8],
+    report: &mut [u32],
+    unconfirmed: &mut [u32],
+) -> SalvageReply
+    ensures { λ r. ⌜ (r, (now (table .exit), (now (health .exit), (now (report .exit), now (unconfirmed .exit)))))
+        ≡ salvageOf head (now (table .entry)) (now (health .entry)) (now (report .entry)) (now (unconfirmed .entry)) ⌝ }
+{
+    let check = arena::arena_fault(head, table, health);
+    match check {
+        Check::Fault(_) => reply(head, SalvageAnswer::BadShape),
+        Check::Fine => go_over(head, table, health, report, unconfirmed),
     }
 }
