@@ -1,0 +1,6 @@
+pub mod Statements
+
+
+pub mod Report
+
+
