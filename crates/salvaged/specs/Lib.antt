@@ -1,6 +1,5 @@
 pub mod Statements
-
-
+pub mod Theorems
 pub mod Report
-
-
+pub mod Cells
+pub mod Came
