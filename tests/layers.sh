@@ -6,8 +6,8 @@ set -euo pipefail
 cd "$(dirname "$0")/.."
 
 base='choice model laws'
-theory='history exact progress upstream builds swaps'
-steps='arena lease foreign lock bucket release multilock crew'
+theory='history exact progress upstream builds swaps salvaged'
+steps='arena lease foreign lock bucket release multilock crew salvage'
 callers="$steps records skid ask map" # the calls themselves, and the faces that make them
 exports=skid
 

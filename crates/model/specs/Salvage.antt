@@ -149,7 +149,7 @@ pub record Cases : Type 0 where
   pub bytes-mended : mendedHealth (0 ∷ 1 ∷ 2 ∷ 255 ∷ []) ≡ 0 ∷ 1 ∷ 1 ∷ 1 ∷ []
   -- "place, old, new, in rising order, health places counting on from the table's"
   pub reported : changesOf paper found sick ≡ entries
-  -- "Only words that change": of a damaged cell of bit 2, owner 0 and no waiters, one word
+  -- a word that does not change has no entry: a damaged cell of bit 2, owner 0 and no waiters has one
   pub one-entry : changesOf (headOf 1 1 9) (2 ∷ 0 ∷ 0 ∷ []) (0 ∷ []) ≡ 0 ∷ 2 ∷ 0 ∷ []
   -- "Cells left held are listed apart as unconfirmed."
   pub held-listed : leftHeld 9 6 found ≡ 0 ∷ 4 ∷ []

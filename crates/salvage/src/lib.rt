@@ -177,7 +177,8 @@ fn put_cell(report: &mut [u32], at: usize, next: u32, table: &[u32], cell: u32) 
 fn report_cells(next: u32, table: &[u32], cells: u32, report: &mut [u32]) -> usize
     requires { ⌜ (length (now table) ≡ 3 * cells) × (cells ≤ 4096) ×
         (length (cellEntries next (now table)) ≤ length (now report)) ⌝ }
-    ensures { λ r. ⌜ (r, now (report .exit)) ≡ laidOf (now (report .entry)) 0 (cellEntries next (now (table .entry))) ⌝ }
+    ensures { λ r. ⌜ (r, now (report .exit))
+        ≡ laidOf (now (report .entry)) 0 (cellEntries next (now (table .entry))) ⌝ }
 {
     let mut at = 0;
     let mut cell = 0;
@@ -191,7 +192,8 @@ fn report_cells(next: u32, table: &[u32], cells: u32, report: &mut [u32]) -> usi
 // The entry of a health byte.
 fn put_byte(report: &mut [u32], at: usize, place: u32, byte: u8) -> usize
     requires { ⌜ at + length (changeOf place byte (mendedByte byte)) ≤ length (now report) ⌝ }
-    ensures { λ r. ⌜ (r, now (report .exit)) ≡ laidOf (now (report .entry)) at (changeOf place byte (mendedByte byte)) ⌝ }
+    ensures { λ r. ⌜ (r, now (report .exit))
+        ≡ laidOf (now (report .entry)) at (changeOf place byte (mendedByte byte)) ⌝ }
 {
     put_change(report, at, place, byte as u32, mended_byte(byte) as u32)
 }
@@ -214,7 +216,8 @@ fn report_bytes(health: &[u8], place: u32, report: &mut [u32], at: usize) -> usi
 
 // A cell's number, if it is held.
 fn put_held(list: &mut [u32], at: usize, next: u32, table: &[u32], cell: u32) -> usize
-    requires { ⌜ (3 * cell + 2 < length (now table)) × (at + length (heldIn next (now table) cell) ≤ length (now list)) ⌝ }
+    requires { ⌜ (3 * cell + 2 < length (now table)) ×
+        (at + length (heldIn next (now table) cell) ≤ length (now list)) ⌝ }
     ensures { λ r. ⌜ (r, now (list .exit)) ≡ laidOf (now (list .entry)) at (heldIn next (now (table .entry)) cell) ⌝ }
 {
     if is_held(next, table, cell) {
@@ -227,7 +230,8 @@ fn put_held(list: &mut [u32], at: usize, next: u32, table: &[u32], cell: u32) ->
 // The cells that are held, from the front of the list on.
 fn list_held(next: u32, table: &[u32], cells: u32, list: &mut [u32]) -> usize
     requires { ⌜ (length (now table) ≡ 3 * cells) × (length (heldFrom next cells 0 (now table)) ≤ length (now list)) ⌝ }
-    ensures { λ r. ⌜ (r, now (list .exit)) ≡ laidOf (now (list .entry)) 0 (heldFrom next cells 0 (now (table .entry))) ⌝ }
+    ensures { λ r. ⌜ (r, now (list .exit))
+        ≡ laidOf (now (list .entry)) 0 (heldFrom next cells 0 (now (table .entry))) ⌝ }
 {
     let mut at = 0;
     let mut cell = 0;

@@ -133,8 +133,8 @@ reports old new words before e l q r =
       rising = λ j k m n. rw (over-front words before (3 * j) (omega arith), over-front words before (3 * k) (omega arith)) (rising l j k m (omega arith));
       told = says;
       listed = λ p m d.
-        let x = listed l p m d in
-        (x .0, omega (arith, x .1), over-front words before (3 * x .0) (omega (arith, x .1)) ∙ x .2 ∙ (let z : 0 + p ≡ p = omega arith in z));
+          let x = listed l p m d in
+          (x .0, omega (arith, x .1), over-front words before (3 * x .0) (omega (arith, x .1)) ∙ x .2 ∙ (let z : 0 + p ≡ p = omega arith in z));
       behind = over-behind words before (3 * e) q;
     }
   where
@@ -157,7 +157,7 @@ arena-lines h t g report list l =
     let u = mendedTable (h .next) t in
     let v = mendedHealth g in
     let e : length (t ++ g) ≡ length (u ++ v) =
-      omega (arith, length-append t g, length-append u v, length-mended (h .next) t, length-mended-health g) in
+    omega (arith, length-append t g, length-append u v, length-mended (h .next) t, length-mended-health g) in
     subst (Lines 0 (t ++ g) (u ++ v)) (sym (changes-are h t g report list l)) (lines 0 (t ++ g) (u ++ v) e)
 
 pub report-is : Report-is
@@ -186,12 +186,12 @@ lists h u words before n l q r =
       long = over-long words before r;
       rising = λ j k m o. rw (over-front words before j (omega arith), over-front words before k (omega arith)) (pick-rising l j k m (omega arith));
       held = λ k m.
-        let x = pick-held l k (omega arith) in
-        let f = over-front words before k (omega arith) in
-        (omega (arith, x .high), rw f (holds-state (h .next) u (getD words k 0) (x .held)));
+          let x = pick-held l k (omega arith) in
+          let f = over-front words before k (omega arith) in
+          (omega (arith, x .high), rw f (holds-state (h .next) u (getD words k 0) (x .held)));
       listed = λ c m s.
-        let x = pick-listed l c (record { low = omega arith; high = omega arith; held = state-holds (h .next) u c (holding (h .next) u c s) }) in
-        (x .0, omega (arith, x .1), over-front words before (x .0) (x .1) ∙ x .2);
+          let x = pick-listed l c (record { low = omega arith; high = omega arith; held = state-holds (h .next) u c (holding (h .next) u c s) }) in
+          (x .0, omega (arith, x .1), over-front words before (x .0) (x .1) ∙ x .2);
       behind = over-behind words before n q;
     }
 
@@ -397,6 +397,6 @@ doubled-apart w c d s f n p q =
     let fit : Fit w = record { shape = shaped (w .head) (length (w .table)) f } in
     let a = alive (w .head .next) (cellsOf (w .head)) (w .table) (leaseOf c s) p in
     let free : Free (step w (released by-caller c s)) c =
-      (a .in-range, state-freed (w .head .next) (w .table) c (omega (arith, fit .shape .words-are, a .in-range))) in
+    (a .in-range, state-freed (w .head .next) (w .table) c (omega (arith, fit .shape .words-are, a .in-range))) in
     let other = keep-step w (released by-caller c s) (leaseOf d s) fit p q (λ e. n (sym (ap (λ (k : Lease). k .cell) e))) in
     (ap (λ (z : World × Says). z .1 .answer) x, rw v free, rw v other)
