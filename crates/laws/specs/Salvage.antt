@@ -1,7 +1,7 @@
 -- Laws of a salvage (document 02, L6): a cell's words afterwards, lengths, the number of entries, and the cells left held.
 use Prim.Native.Nat.{ℕ, zero, suc, _+_, _*_, _/_, _≤_, _<_}
 use mathlib.Core.Path.{_≡_, refl, sym, ap, _∙_}
-use mathlib.Core.List.{List, [], _∷_, _++_}
+use mathlib.Core.List.{List, [], _∷_}
 use mathlib.Core.Bool.{Bool, true, false}
 use native.Mathlib.Omega.{arith}
 use lib.Dec.{eqb}
@@ -9,9 +9,8 @@ use lib.ListN.{length, getD, length-append}
 use Rattle.choice.specs.Choice.{if_then_else_}
 use Rattle.choice.specs.Pick.{if-both}
 use Rattle.model.specs.Arena.{cellsOf, bitAt, ownerAt, waitersAt, isFree, isHeld, stateOf}
-use Rattle.model.specs.Salvage.{keptIn, keptOf, mendedCell, mendedTable, mendedByte, mendedHealth, changeOf, changesFrom, changesOf, entriesOf, heldFrom, leftHeld}
+use Rattle.model.specs.Salvage.{keptIn, keptOf, mendedCell, mendedTable, mendedHealth, changeOf, changesFrom, changesOf, entriesOf, heldFrom, leftHeld}
 use Rattle.model.specs.declared.Head.{Head}
-use Rattle.model.specs.declared.State.{State}
 use Rattle.model.specs.declared.State.the-variants.{Free, Held, Damaged}
 
 -- ---- a cell of a table: the first one, and the next ones

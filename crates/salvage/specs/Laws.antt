@@ -1,13 +1,12 @@
 -- What the salvage's functions promise of one cell, and the laws of their loops: one turn, and the end.
-use Prim.Native.Nat.{ℕ, zero, suc, _+_, _*_, _-_, _/_, _≤_, _<_}
+use Prim.Native.Nat.{ℕ, suc, _+_, _*_, _-_, _≤_, _<_}
 use mathlib.Core.Path.{_≡_, refl, sym, ap, _∙_}
 use mathlib.Core.List.{List, [], _∷_, _++_, append-assoc, append-nil}
 use mathlib.Core.Bool.{Bool, true, false}
 use native.Mathlib.Omega.{arith}
-use native.Mathlib.Numerals.{add-one}
 use lib.Dec.{eqb}
-use lib.ListN.{length, getD, drop, take, set, length-append, length-take, length-set, drop-of-length-le}
-use lib.Seq.{sets, sets-eq, length-sets, drop-cons, take-at, drop-at, take-all, length-take-le}
+use lib.ListN.{length, getD, drop, take, set, length-append, drop-of-length-le}
+use lib.Seq.{sets, sets-eq, take-at, drop-at, take-all, length-take-le}
 use Rattle.choice.specs.Choice.{if_then_else_}
 use Rattle.choice.specs.Pick.{if-both}
 use Rattle.model.specs.Arena.{cellsOf, bitAt, ownerAt, waitersAt, setCell, setWaiters, isHeld}

@@ -1,23 +1,21 @@
 -- What comes of a salvage, by cases; and what one that is done has given.
-use Prim.Native.Nat.{ℕ, _+_, _*_, _/_, _≤_, _<_}
+use Prim.Native.Nat.{ℕ, _+_, _*_, _/_, _≤_}
 use mathlib.Core.Path.{_≡_, refl, sym, ap, _∙_}
-use mathlib.Core.List.{List, [], _∷_, _++_}
-use mathlib.Core.Bool.{Bool, true, false, _&&_, _||_}
+use mathlib.Core.List.{List, _++_}
+use mathlib.Core.Bool.{Bool, true, false}
 use native.Mathlib.Omega.{arith}
 use lib.Dec.{ltb}
-use lib.ListN.{length, drop, length-append}
-use borrow.Author.Tests.{ltb-true, ltb-false, lt-ltb}
-use Rattle.choice.specs.Choice.{if_then_else_}
+use lib.ListN.{length}
+use borrow.Author.Tests.{ltb-false}
 use Rattle.choice.specs.Pick.{both, neither}
 use Rattle.model.specs.Arena.{cellsOf, shapeFits, healthFits}
 use Rattle.model.specs.Refusals.{first}
 use Rattle.model.specs.Checks.{prepareRules}
 use Rattle.model.specs.Salvage.{Salvage, mendedTable, mendedHealth, changesFrom, changesOf, entriesOf, leftHeld, overOf, isReportFull, mendOf, salvagedOf, unsalvaged, goOverOf, salvageOf}
 use Rattle.model.specs.declared.Head.{Head}
-use Rattle.model.specs.declared.SalvageAnswer.{SalvageAnswer}
 use Rattle.model.specs.declared.SalvageAnswer.the-variants.{Done, BadShape, ReportFull}
 use Rattle.laws.specs.Shape.{Shaped, shaped, healthy}
-use Rattle.laws.specs.Salvage.{differing, length-mended, length-mended-health, entries-are, entries-number, entries-room}
+use Rattle.laws.specs.Salvage.{differing, length-mended, entries-are}
 use Rattle.salvaged.specs.Statements.{answerIn, tableIn, healthIn, reportIn, listIn, fits}
 use Rattle.salvaged.specs.Report.{changes-join, differing-join}
 

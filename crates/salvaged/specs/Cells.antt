@@ -1,22 +1,21 @@
 -- What a salvage makes of a cell and of a health byte, also the second time; and which cells its list picks.
-use Prim.Native.Nat.{ℕ, zero, suc, _+_, _*_, _≤_, _<_}
+use Prim.Native.Nat.{ℕ, zero, suc, _+_, _≤_, _<_}
 use mathlib.Core.Path.{_≡_, refl, sym, ap, _∙_}
-use mathlib.Core.List.{List, [], _∷_, _++_}
+use mathlib.Core.List.{List, [], _∷_}
 use mathlib.Core.Bool.{Bool, true, false, _&&_}
-use mathlib.Core.Logic.{_≢_}
 use native.Mathlib.Omega.{arith}
 use native.Mathlib.Decide.{ℕ-discrete}
 use lib.Dec.{ltb, leb, eqb}
 use lib.ListN.{length, getD}
-use borrow.Author.Tests.{eqb-true, leb-true, ltb-true, leb-false, le-leb, lt-leb, eq-eqb, lt-ltb}
+use borrow.Author.Tests.{eqb-true, leb-true, ltb-true, le-leb, lt-leb, eq-eqb, lt-ltb}
 use Rattle.choice.specs.Choice.{if_then_else_}
 use Rattle.choice.specs.Pick.{both}
-use Rattle.model.specs.Arena.{bitAt, ownerAt, waitersAt, isFree, isHeld, stateOf, stateAt}
+use Rattle.model.specs.Arena.{bitAt, ownerAt, isFree, isHeld, stateOf, stateAt}
 use Rattle.model.specs.Salvage.{keptIn, keptOf, mendedTable, mendedByte, mendedHealth, heldFrom}
 use Rattle.model.specs.declared.State.{State}
 use Rattle.model.specs.declared.State.the-variants.{Free, Held, Damaged}
-use Rattle.laws.specs.Salvage.{mended-cons, bit-mended, owner-mended}
-use Rattle.history.specs.Tests.{differ, Stands, is-free, is-held, is-damaged, stands, state-free, state-held}
+use Rattle.laws.specs.Salvage.{mended-cons}
+use Rattle.history.specs.Tests.{differ, Stands, is-free, is-held, is-damaged, stands, state-held}
 
 -- ---- a cell
 

@@ -1,5 +1,5 @@
 -- What `changesFrom` lists of two runs of one length: exactly the places where they differ, rising; and the old run from the new one.
-use Prim.Native.Nat.{ℕ, zero, suc, _+_, _*_, _≤_, _<_}
+use Prim.Native.Nat.{ℕ, zero, suc, _+_, _*_, _<_}
 use mathlib.Core.Path.{_≡_, refl, sym, ap, _∙_}
 use mathlib.Core.List.{List, [], _∷_, _++_, append-assoc}
 use mathlib.Core.Bool.{Bool, true, false}
@@ -11,7 +11,7 @@ use lib.Seq.{set-at}
 use borrow.Author.Tests.{eqb-true, eqb-false, eq-eqb}
 use Rattle.choice.specs.Choice.{if_then_else_}
 use Rattle.model.specs.Salvage.{changeOf, changesFrom}
-use Rattle.laws.specs.Salvage.{changedOf, differing}
+use Rattle.laws.specs.Salvage.{differing}
 use Rattle.salvaged.specs.Statements.{placeIn, oldIn, newIn, undone}
 
 -- the entries of two runs, as a table of cases

@@ -1,29 +1,26 @@
 -- The statements of `Statements`, each proved; what they rest on is in the files behind.
 use Prim.Native.Nat.{ℕ, _+_, _*_, _/_, _≤_, _<_}
 use mathlib.Core.Path.{_≡_, refl, sym, ap, _∙_, subst}
-use mathlib.Core.List.{List, [], _∷_, _++_}
-use mathlib.Core.Bool.{Bool, true, false, _&&_, _||_}
-use mathlib.Core.Logic.{_↔_, _⊎_, inl, inr, _≢_}
+use mathlib.Core.List.{List, [], _++_}
+use mathlib.Core.Bool.{Bool, true, false, _||_}
+use mathlib.Core.Logic.{_⊎_, inl, inr, _≢_}
 use native.Mathlib.Omega.{arith}
 use native.Mathlib.Decide.{decLt}
 use lib.Dec.{ltb}
 use lib.ListN.{length, getD, take, drop, length-append, length-drop, List·getD-append}
 use lib.Seq.{take-at, drop-at}
-use borrow.Author.Tests.{ltb-true, ltb-false, lt-ltb}
-use Rattle.choice.specs.Choice.{if_then_else_}
-use Rattle.choice.specs.Pick.{both}
-use Rattle.model.specs.Arena.{cellsOf, leaseOf, bitAt, ownerAt, waitersAt, stateOf, stateAt, isLive, shapeFits, healthFits}
-use Rattle.model.specs.Log.{Made, by-caller, released}
+use borrow.Author.Tests.{ltb-true, lt-ltb}
+use Rattle.choice.specs.Pick.{both, determined}
+use Rattle.model.specs.Arena.{cellsOf, leaseOf, bitAt, ownerAt, stateAt, isLive, shapeFits, healthFits}
+use Rattle.model.specs.Log.{by-caller, released}
 use Rattle.model.specs.Refusals.{first}
 use Rattle.model.specs.Checks.{leaseRules}
 use Rattle.model.specs.Calls.{countsOf, dropLeaseOf}
-use Rattle.model.specs.Salvage.{Salvage, mendedTable, mendedByte, mendedHealth, changesOf, entriesOf, heldFrom, leftHeld, overOf, isReportFull, unsalvaged, answering, salvagedOf, mendOf, salvageOf}
+use Rattle.model.specs.Salvage.{Salvage, mendedTable, mendedHealth, changesOf, entriesOf, leftHeld, overOf, isReportFull, unsalvaged, answering, mendOf, salvageOf}
 use Rattle.model.specs.declared.Answer.the-variants as answer
 use Rattle.model.specs.declared.Head.{Head}
 use Rattle.model.specs.declared.Lease.{Lease}
-use Rattle.model.specs.declared.SalvageAnswer.{SalvageAnswer}
 use Rattle.model.specs.declared.SalvageAnswer.the-variants.{Done, BadShape, ReportFull}
-use Rattle.model.specs.declared.State.{State}
 use Rattle.model.specs.declared.State.the-variants as state
 use Rattle.laws.specs.Shape.{Shaped, shaped}
 use Rattle.laws.specs.Words.{state-freed}
@@ -33,11 +30,11 @@ use Rattle.history.specs.Statements.{leaves}
 use Rattle.history.specs.Callers.{Shape-fits}
 use Rattle.history.specs.Tests.{differ, state-free, state-held, undamaged, alive, live}
 use Rattle.history.specs.Events.{issued, Fit, keep-step}
-use Rattle.laws.specs.Salvage.{differing, length-mended, length-mended-health, bit-mended, owner-mended, waiters-mended, entries-are}
-use Rattle.salvaged.specs.Statements.{answerIn, tableIn, healthIn, reportIn, listIn, fits, No-room, Bad-shape-exactly, Report-full-exactly, placeIn, oldIn, newIn, Reports, Report-is, undone, undoneOf, Rebuilds, Lists, Held-in, Unconfirmed-is, Mends, Mended, Twice, Owners-differ, Apart-exactly, Doubled-apart}
+use Rattle.laws.specs.Salvage.{length-mended, length-mended-health, bit-mended, owner-mended, waiters-mended}
+use Rattle.salvaged.specs.Statements.{answerIn, tableIn, healthIn, listIn, fits, No-room, Bad-shape-exactly, Report-full-exactly, placeIn, oldIn, newIn, Reports, Report-is, undone, undoneOf, Rebuilds, Lists, Held-in, Unconfirmed-is, Mends, Mended, Twice, Owners-differ, Apart-exactly, Doubled-apart}
 use Rattle.salvaged.specs.Report.{Lines, lines, told, listed, rising, undone-is, changes-none}
-use Rattle.salvaged.specs.Cells.{Mending, keeps, frees, mending, table-again, byte-kept, byte-mended, byte-few, health-twice, byte-in, holds-state, Holding, holding, state-holds, Picks, picks, pick-held, pick-listed, pick-rising}
-use Rattle.salvaged.specs.Came.{Came, bad, full, done, came, words-are, Was-done, was-done, changes-are}
+use Rattle.salvaged.specs.Cells.{Mending, keeps, frees, mending, table-again, byte-kept, byte-mended, health-twice, byte-in, holds-state, holding, state-holds, Picks, picks, pick-held, pick-listed, pick-rising}
+use Rattle.salvaged.specs.Came.{Came, bad, full, done, came, words-are, was-done, changes-are}
 
 -- ---- refusals
 
@@ -317,7 +314,7 @@ twice h t g report list e n d report′ list′ l =
     let x = second h u v report′ list′ n f (table-again (h .next) t) (health-twice g) (changes-again h t g) m l in
     rw (w .table-is, w .health-is, w .list-is, over-words (leftHeld (h .next) (cellsOf h) t) list n (w .cells), ← left-again (h .next) (cellsOf h) t) x
 
--- ---- "no serial owns two cells"
+-- ---- no serial owns two cells
 
 -- the lease of a held cell is live
 live-held : (h : Head) (u v : List ℕ) (c : ℕ) → c < cellsOf h → Held-in h u c → Live (worldOf h u v) (leaseOf c (ownerAt u c))
@@ -400,3 +397,9 @@ doubled-apart w c d s f n p q =
     (a .in-range, state-freed (w .head .next) (w .table) c (omega (arith, fit .shape .words-are, a .in-range))) in
     let other = keep-step w (released by-caller c s) (leaseOf d s) fit p q (λ e. n (sym (ap (λ (k : Lease). k .cell) e))) in
     (ap (λ (z : World × Says). z .1 .answer) x, rw v free, rw v other)
+
+-- ---- two replies that meet `salvage`'s promise are equal, with every lent word
+
+pub salvage-determined : (h : Head) (t g report list : List ℕ) (a b : Salvage)
+    → a ≡ salvageOf h t g report list → b ≡ salvageOf h t g report list → a ≡ b
+salvage-determined h t g report list a b p q = determined p q

@@ -3,7 +3,6 @@ use native.Mathlib.Omega.{arith}
 use Rattle.salvage.specs.Laws.{changedIn}
 use Rattle.laws.specs.Salvage.{changed-small}
 use native.Mathlib.Omega.{arith}
-use Rattle.laws.specs.Salvage.{changed-few}
 use borrow.Author.Needs.{needs}
 use Rattle.salvage.proofs.changed_in.Statement.{statement}
 use Rattle.salvage.proofs.changed_in.Tie as tie
