@@ -87,8 +87,8 @@ overOf words run = words ++ drop (length words) run
 abbrev pub Salvage : Type 0
 Salvage = SalvageReply × (List ℕ × (List ℕ × (List ℕ × List ℕ)))
 
-abbrev pub answering : Head → SalvageAnswer → SalvageReply
-answering h a = record { head = h; answer = a }
+abbrev pub concluded : Head → SalvageAnswer → SalvageReply
+concluded h a = record { head = h; answer = a }
 
 -- "refuse ReportFull .. if the report or that list cannot hold all its entries, and only then"
 unfoldable pub isReportFull : Head → List ℕ → List ℕ → List ℕ → List ℕ → Bool
@@ -103,11 +103,11 @@ mendOf h t g report list =
 -- both numbers of entries, with the head as it was given
 abbrev pub salvagedOf : Head → List ℕ → List ℕ → List ℕ → List ℕ → Salvage
 salvagedOf h t g report list =
-    (answering h (Done (entriesOf h t g) (length (leftHeld (h .next) (cellsOf h) t))), mendOf h t g report list)
+    (concluded h (Done (entriesOf h t g) (length (leftHeld (h .next) (cellsOf h) t))), mendOf h t g report list)
 
 -- a refusal changes nothing
 abbrev pub unsalvaged : Head → List ℕ → List ℕ → List ℕ → List ℕ → SalvageAnswer → Salvage
-unsalvaged h t g report list a = (answering h a, (t, (g, (report, list))))
+unsalvaged h t g report list a = (concluded h a, (t, (g, (report, list))))
 
 -- "refuse ReportFull before the first change if the report or that list cannot hold all its entries"
 unfoldable pub goOverOf : Head → List ℕ → List ℕ → List ℕ → List ℕ → Salvage
@@ -157,10 +157,10 @@ pub record Cases : Type 0 where
   pub doubled-kept : leftHeld 9 2 (1 ∷ 5 ∷ 0 ∷ 1 ∷ 5 ∷ 0 ∷ []) ≡ 0 ∷ 1 ∷ []
   -- the whole call; a report whose length is no multiple of 3 has room for 8 entries, and the words behind them stay
   pub called : salvageOf paper found sick (blank 26) (blank 3)
-      ≡ (answering paper (Done 8 2), (mended, (0 ∷ 1 ∷ [], (entries ++ blank 2, 0 ∷ 4 ∷ 77 ∷ []))))
+      ≡ (concluded paper (Done 8 2), (mended, (0 ∷ 1 ∷ [], (entries ++ blank 2, 0 ∷ 4 ∷ 77 ∷ []))))
   -- report and list exactly full
   pub just-fits : salvageOf paper found sick (blank 24) (blank 2)
-      ≡ (answering paper (Done 8 2), (mended, (0 ∷ 1 ∷ [], (entries, 0 ∷ 4 ∷ []))))
+      ≡ (concluded paper (Done 8 2), (mended, (0 ∷ 1 ∷ [], (entries, 0 ∷ 4 ∷ []))))
   -- one word short: ReportFull, and nothing has changed; the list one short: the same
   pub report-short : salvageOf paper found sick (blank 23) (blank 2) ≡ unsalvaged paper found sick (blank 23) (blank 2) ReportFull
   pub list-short : salvageOf paper found sick (blank 24) (blank 1) ≡ unsalvaged paper found sick (blank 24) (blank 1) ReportFull
@@ -169,7 +169,7 @@ pub record Cases : Type 0 where
   pub health-short : salvageOf paper found (0 ∷ []) [] [] ≡ unsalvaged paper found (0 ∷ []) [] [] BadShape
   -- "A second salvage reports no change.", and needs no report
   pub again : salvageOf paper mended (0 ∷ 1 ∷ []) [] (blank 2)
-      ≡ (answering paper (Done 0 2), (mended, (0 ∷ 1 ∷ [], ([], 0 ∷ 4 ∷ []))))
+      ≡ (concluded paper (Done 0 2), (mended, (0 ∷ 1 ∷ [], ([], 0 ∷ 4 ∷ []))))
 
 pub cases-hold : Cases
 unfolding bitAt ownerAt isFree isHeld stateOf headFits shapeFits healthFits first prepareRules keptOf mendedCell mendedTable mendedByte mendedHealth changeOf changesFrom changesOf heldFrom leftHeld overOf isReportFull mendOf goOverOf salvageOf

@@ -11,7 +11,7 @@ ghost use Prim.Native.Nat.{_+_, _*_, _<_, _≤_, _/_};
 ghost use lib.ListN.{length};
 ghost use Rattle.model.specs.Arena.{bitAt, ownerAt, isHeld, cellsOf};
 ghost use Rattle.model.specs.Salvage.{keptOf, mendedTable, mendedByte, mendedHealth, changeOf, heldFrom};
-ghost use Rattle.model.specs.Salvage.{changesOf, entriesOf, leftHeld, overOf, answering, mendOf, goOverOf, salvageOf};
+ghost use Rattle.model.specs.Salvage.{changesOf, entriesOf, leftHeld, overOf, concluded, mendOf, goOverOf, salvageOf};
 ghost use Rattle.laws.specs.Shape.{Shaped};
 ghost use Rattle.laws.specs.Salvage.{changedOf};
 ghost use Rattle.salvage.specs.Laws.{changedIn, changesIn, mendCellOf, heldIn, laidOf};
@@ -355,18 +355,18 @@ fn go_over(
     let changes = entries(head, table, health);
     let left = held(head, table);
     if report.len() / 3 < changes {
-        return reply(head, SalvageAnswer::ReportFull);
+        return conclude(head, SalvageAnswer::ReportFull);
     }
     if unconfirmed.len() < left {
-        return reply(head, SalvageAnswer::ReportFull);
+        return conclude(head, SalvageAnswer::ReportFull);
     }
     mend(head, table, health, report, unconfirmed);
-    reply(head, SalvageAnswer::Done(changes, left))
+    conclude(head, SalvageAnswer::Done(changes, left))
 }
 
 // The result, with the head as it was given.
-fn reply(head: Head, answer: SalvageAnswer) -> SalvageReply
-    ensures { λ r. ⌜ r ≡ answering head answer ⌝ }
+fn conclude(head: Head, answer: SalvageAnswer) -> SalvageReply
+    ensures { λ r. ⌜ r ≡ concluded head answer ⌝ }
 {
     SalvageReply { head, answer }
 }
@@ -388,7 +388,7 @@ pub fn salvage(
 {
     let check = arena::arena_fault(head, table, health);
     match check {
-        Check::Fault(_) => reply(head, SalvageAnswer::BadShape),
+        Check::Fault(_) => conclude(head, SalvageAnswer::BadShape),
         Check::Fine => go_over(head, table, health, report, unconfirmed),
     }
 }

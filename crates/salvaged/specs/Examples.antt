@@ -7,7 +7,7 @@ use lib.ListN.{getD, take, replicate}
 use Rattle.model.specs.Arena.{headOf, leaseOf, bitAt, ownerAt, isFree, isHeld, stateOf, stateAt, isLive, headFits, shapeFits, healthFits}
 use Rattle.model.specs.Refusals.{first}
 use Rattle.model.specs.Checks.{prepareRules}
-use Rattle.model.specs.Salvage.{Salvage, keptOf, mendedCell, mendedTable, mendedByte, mendedHealth, changeOf, changesFrom, changesOf, heldFrom, leftHeld, overOf, isReportFull, answering, mendOf, goOverOf, salvageOf}
+use Rattle.model.specs.Salvage.{Salvage, keptOf, mendedCell, mendedTable, mendedByte, mendedHealth, changeOf, changesFrom, changesOf, heldFrom, leftHeld, overOf, isReportFull, concluded, mendOf, goOverOf, salvageOf}
 use Rattle.model.specs.declared.Answer.the-variants as answer
 use Rattle.model.specs.declared.Head.{Head}
 use Rattle.model.specs.declared.SalvageAnswer.the-variants.{Done, ReportFull}
@@ -86,7 +86,7 @@ is-mended = mended paper found sick (replicate 14 77) (replicate 3 77) 4 2 (figu
 
 -- again, with no report and a list of two words
 pub is-same : salvageOf paper (tableIn first-time) (healthIn first-time) [] (replicate 2 0)
-    ≡ (answering paper (Done 0 2), (tableIn first-time, (healthIn first-time, ([], overOf (take 2 (listIn first-time)) (replicate 2 0)))))
+    ≡ (concluded paper (Done 0 2), (tableIn first-time, (healthIn first-time, ([], overOf (take 2 (listIn first-time)) (replicate 2 0)))))
 is-same = twice paper found sick (replicate 14 77) (replicate 3 77) 4 2 (figures .is-done) [] (replicate 2 0) (omega arith)
 
 -- its two owners differ: the arena is sound

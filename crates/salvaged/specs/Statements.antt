@@ -7,7 +7,7 @@ use mathlib.Core.Bool.{Bool, true, false, _&&_}
 use mathlib.Core.Logic.{_↔_, _⊎_, _≢_}
 use lib.ListN.{length, getD, take, drop, set}
 use Rattle.model.specs.Arena.{cellsOf, leaseOf, bitAt, ownerAt, waitersAt, stateAt, shapeFits, healthFits}
-use Rattle.model.specs.Salvage.{Salvage, salvageOf, mendedTable, mendedHealth, leftHeld, overOf, answering, unsalvaged}
+use Rattle.model.specs.Salvage.{Salvage, salvageOf, mendedTable, mendedHealth, leftHeld, overOf, concluded, unsalvaged}
 use Rattle.model.specs.declared.Answer.the-variants as answer
 use Rattle.model.specs.declared.Head.{Head}
 use Rattle.model.specs.declared.SalvageAnswer.{SalvageAnswer}
@@ -174,7 +174,7 @@ Twice =
     let m = salvageOf h t g report list in
     (report′ list′ : List ℕ) → n ≤ length list′
     → salvageOf h (tableIn m) (healthIn m) report′ list′
-    ≡ (answering h (Done 0 n), (tableIn m, (healthIn m, (report′, overOf (take n (listIn m)) list′)))))
+    ≡ (concluded h (Done 0 n), (tableIn m, (healthIn m, (report′, overOf (take n (listIn m)) list′)))))
 
 -- ---- no serial owns two cells
 

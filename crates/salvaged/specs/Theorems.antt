@@ -16,7 +16,7 @@ use Rattle.model.specs.Log.{by-caller, released}
 use Rattle.model.specs.Refusals.{first}
 use Rattle.model.specs.Checks.{leaseRules}
 use Rattle.model.specs.Calls.{countsOf, dropLeaseOf}
-use Rattle.model.specs.Salvage.{Salvage, mendedTable, mendedHealth, changesOf, entriesOf, leftHeld, overOf, isReportFull, unsalvaged, answering, mendOf, salvageOf}
+use Rattle.model.specs.Salvage.{Salvage, mendedTable, mendedHealth, changesOf, entriesOf, leftHeld, overOf, isReportFull, unsalvaged, concluded, mendOf, salvageOf}
 use Rattle.model.specs.declared.Answer.the-variants as answer
 use Rattle.model.specs.declared.Head.{Head}
 use Rattle.model.specs.declared.Lease.{Lease}
@@ -291,7 +291,7 @@ changes-again h t g =
 -- nothing to report, and room for the cells
 second : (h : Head) (u v report list : List ℕ) (n : ℕ) → fits h u v ≡ true → mendedTable (h .next) u ≡ u → mendedHealth v ≡ v
     → changesOf h u v ≡ [] → n ≡ length (leftHeld (h .next) (cellsOf h) u) → n ≤ length list
-    → salvageOf h u v report list ≡ (answering h (Done 0 n), (u, (v, (report, overOf (leftHeld (h .next) (cellsOf h) u) list))))
+    → salvageOf h u v report list ≡ (concluded h (Done 0 n), (u, (v, (report, overOf (leftHeld (h .next) (cellsOf h) u) list))))
 unfolding mendOf overOf
 second h u v report list n f p q r k l = go (came h u v report list)
   where
@@ -299,7 +299,7 @@ second h u v report list n f p q r k l = go (came h u v report list)
     roomy (inl m) = omega (arith, words-are h u v report list, ap (λ (y : List ℕ). length y) r)
     roomy (inr m) = omega arith
 
-    go : Came h u v report list → salvageOf h u v report list ≡ (answering h (Done 0 n), (u, (v, (report, overOf (leftHeld (h .next) (cellsOf h) u) list))))
+    go : Came h u v report list → salvageOf h u v report list ≡ (concluded h (Done 0 n), (u, (v, (report, overOf (leftHeld (h .next) (cellsOf h) u) list))))
     go (bad e x) = let z : false ≡ true = sym e ∙ f in cc
     go (full e i x) = absurd (roomy (no-room h u v report list i))
     go (done e i x) = x ∙ rw (p, q, r, k)

@@ -12,8 +12,8 @@ entries-requires c κs = search needs
 held-requires : tie.Need-held-requires
 held-requires c κs = search needs
 
-reply-requires : tie.Need-reply-requires
-reply-requires c κs = search needs
+conclude-requires : tie.Need-conclude-requires
+conclude-requires c κs = search needs
 
 same-length : tie.Need-same-length
 same-length c = search needs
@@ -23,10 +23,10 @@ same-length-2 c = search needs
 
 returns : tie.Need-returns
 unfolding goOverOf isReportFull
-returns c = rw (← c .before .before .before .before .entries .ensures, lt-ltb _ _ (c .before .if1 .taken), ← c .reply .ensures)
+returns c = rw (← c .before .before .before .before .entries .ensures, lt-ltb _ _ (c .before .if1 .taken), ← c .conclude .ensures)
 
-reply-requires-2 : tie.Need-reply-requires-2
-reply-requires-2 c κs = search needs
+conclude-requires-2 : tie.Need-conclude-requires-2
+conclude-requires-2 c κs = search needs
 
 same-length-3 : tie.Need-same-length-3
 same-length-3 c = search needs
@@ -36,7 +36,7 @@ same-length-4 c = search needs
 
 returns-2 : tie.Need-returns-2
 unfolding goOverOf isReportFull
-returns-2 c = rw (← c .before .before .before .before .before .entries .ensures, le-ltb _ _ (c .before .before .if1 .left), ← c .before .before .before .held .ensures, lt-ltb _ _ (c .before .if2 .taken), ← c .reply2 .ensures)
+returns-2 c = rw (← c .before .before .before .before .before .entries .ensures, le-ltb _ _ (c .before .before .if1 .left), ← c .before .before .before .held .ensures, lt-ltb _ _ (c .before .if2 .taken), ← c .conclude2 .ensures)
 
 mend-requires : tie.Need-mend-requires
 mend-requires c κs =
@@ -44,8 +44,8 @@ mend-requires c κs =
     let p = c .before .before .before .before .before .before .before .before .before .before .before .before .before .before .before .pre in
     (p .0, p .1, entries-room (a .head) (a .table .now) (a .health .now) _ _ (c .before .before .before .before .before .before .before .before .entries .ensures) (c .before .before .before .before .before .if1 .left), rw (← c .before .before .before .before .before .before .held .ensures) (c .before .before .before .before .if2 .left))
 
-reply-requires-3 : tie.Need-reply-requires-3
-reply-requires-3 c κs = search needs
+conclude-requires-3 : tie.Need-conclude-requires-3
+conclude-requires-3 c κs = search needs
 
 same-length-5 : tie.Need-same-length-5
 same-length-5 c = search needs
@@ -61,7 +61,7 @@ same-length-8 c = search needs
 
 returns-3 : tie.Need-returns-3
 unfolding goOverOf isReportFull
-returns-3 c = rw (← c .before .before .before .before .before .before .before .before .before .before .before .before .before .before .before .before .before .before .entries .ensures, le-ltb _ _ (c .before .before .before .before .before .before .before .before .before .before .before .before .before .before .before .if1 .left), ← c .before .before .before .before .before .before .before .before .before .before .before .before .before .before .before .before .held .ensures, le-ltb _ _ (c .before .before .before .before .before .before .before .before .before .before .before .before .before .before .if2 .left), ← c .before .before .before .before .before .before .before .before .before .mend .ensures, ← c .reply3 .ensures)
+returns-3 c = rw (← c .before .before .before .before .before .before .before .before .before .before .before .before .before .before .before .before .before .before .entries .ensures, le-ltb _ _ (c .before .before .before .before .before .before .before .before .before .before .before .before .before .before .before .if1 .left), ← c .before .before .before .before .before .before .before .before .before .before .before .before .before .before .before .before .held .ensures, le-ltb _ _ (c .before .before .before .before .before .before .before .before .before .before .before .before .before .before .if2 .left), ← c .before .before .before .before .before .before .before .before .before .mend .ensures, ← c .conclude3 .ensures)
 
 pub go-over-spec : {M : Type 1} → statement M
 go-over-spec =
@@ -69,16 +69,16 @@ go-over-spec =
     (tie.spec
     entries-requires
     held-requires
-    reply-requires
+    conclude-requires
     same-length
     same-length-2
     returns
-    reply-requires-2
+    conclude-requires-2
     same-length-3
     same-length-4
     returns-2
     mend-requires
-    reply-requires-3
+    conclude-requires-3
     same-length-5
     same-length-6
     same-length-7

@@ -13,8 +13,8 @@ arena-fault-requires c κs = search needs
 enum-told : tie.Need-enum-told
 enum-told c = search needs
 
-reply-requires : tie.Need-reply-requires
-reply-requires c κs = search needs
+conclude-requires : tie.Need-conclude-requires
+conclude-requires c κs = search needs
 
 enum-told-2 : tie.Need-enum-told-2
 enum-told-2 c = search needs
@@ -30,7 +30,7 @@ same-length-2 c = search needs
 
 returns : tie.Need-returns
 unfolding salvageOf prepareRules
-returns c = rw (← c .before .before .before .arena-fault .ensures, c .before .enum-told .given .1, ← c .reply .ensures)
+returns c = rw (← c .before .before .before .arena-fault .ensures, c .before .enum-told .given .1, ← c .conclude .ensures)
 
 same-length-3 : tie.Need-same-length-3
 same-length-3 c = search needs
@@ -54,7 +54,7 @@ salvage-spec =
     (tie.spec
     arena-fault-requires
     enum-told
-    reply-requires
+    conclude-requires
     enum-told-2
     go-over-requires
     same-length
