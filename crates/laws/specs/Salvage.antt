@@ -32,8 +32,8 @@ length-mended-health [] = refl
 length-mended-health (b ∷ g) = omega (arith, length-mended-health g)
 
 -- a word of a later cell is one of the table behind the first cell
-later : (b o w : ℕ) (t : List ℕ) (c k : ℕ) → getD (b ∷ o ∷ w ∷ t) (3 * suc c + k) 0 ≡ getD t (3 * c + k) 0
-later b o w t c k = let e : 3 * suc c + k ≡ suc (suc (suc (3 * c + k))) = omega arith in rw e
+pub later-word : (b o w : ℕ) (t : List ℕ) (c k : ℕ) → getD (b ∷ o ∷ w ∷ t) (3 * suc c + k) 0 ≡ getD t (3 * c + k) 0
+later-word b o w t c k = let e : 3 * suc c + k ≡ suc (suc (suc (3 * c + k))) = omega arith in rw e
 
 front-mended : (next b o w : ℕ) (t : List ℕ) (k : ℕ) → k < 3 → getD (mendedTable next (b ∷ o ∷ w ∷ t)) k 0 ≡ getD (mendedCell next b o w) k 0
 unfolding mendedTable mendedCell
@@ -56,7 +56,7 @@ word-mended next t c k h l = let e : 3 * c + 0 ≡ 3 * c = omega arith in go t c
     go (b ∷ o ∷ []) c h = absurd (omega arith)
     go (b ∷ o ∷ w ∷ t) zero h = let z : 3 * 0 + k ≡ k = omega arith in rw z (front-mended next b o w t k l)
     go (b ∷ o ∷ w ∷ t) (suc c) h =
-        rw (mended-cons next b o w t, later (keptOf next b o b) (keptOf next b o o) 0 (mendedTable next t) c k, later b o w t c 0, later b o w t c 1, later b o w t c 2) (go t c (omega arith))
+        rw (mended-cons next b o w t, later-word (keptOf next b o b) (keptOf next b o o) 0 (mendedTable next t) c k, later-word b o w t c 0, later-word b o w t c 1, later-word b o w t c 2) (go t c (omega arith))
 
 pub bit-mended : (next : ℕ) (t : List ℕ) (c : ℕ) → 3 * c + 2 < length t
     → bitAt (mendedTable next t) c ≡ keptOf next (bitAt t c) (ownerAt t c) (bitAt t c)

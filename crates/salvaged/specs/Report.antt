@@ -11,7 +11,7 @@ use lib.Seq.{set-at}
 use borrow.Author.Tests.{eqb-true, eqb-false, eq-eqb}
 use Rattle.choice.specs.Choice.{if_then_else_}
 use Rattle.model.specs.Salvage.{changeOf, changesFrom}
-use Rattle.laws.specs.Salvage.{differing}
+use Rattle.laws.specs.Salvage.{later-word, differing}
 use Rattle.salvaged.specs.Statements.{placeIn, oldIn, newIn, undone}
 
 -- the entries of two runs, as a table of cases
@@ -32,10 +32,7 @@ lines p (a ∷ old) (b ∷ new) e = go (eqb a b) refl (lines (p + 1) old new (om
     go true f r = same p a b old new (changesFrom (p + 1) old new) (eqb-true a b f) r
     go false f r = differs p a b old new (changesFrom (p + 1) old new) (eqb-false a b f) r
 
--- the words of an entry behind the first
-later : (a b c : ℕ) (words : List ℕ) (k i : ℕ) → getD (a ∷ b ∷ c ∷ words) (3 * suc k + i) 0 ≡ getD words (3 * k + i) 0
-later a b c words k i = let e : 3 * suc k + i ≡ suc (suc (suc (3 * k + i))) = omega arith in rw e
-
+-- the place of an entry behind the first
 later-place : (a b c : ℕ) (words : List ℕ) (k : ℕ) → placeIn (a ∷ b ∷ c ∷ words) (suc k) ≡ placeIn words k
 later-place a b c words k = let e : 3 * suc k ≡ suc (suc (suc (3 * k))) = omega arith in rw e
 
@@ -61,8 +58,8 @@ told (differs p a b os ns ws e r) (suc k) h =
       index = suc (x .index);
       inside = omega (arith, x .inside);
       place-is = omega (arith, x .place-is, later-place p a b ws k);
-      old-is = later p a b ws k 1 ∙ x .old-is;
-      new-is = later p a b ws k 2 ∙ x .new-is;
+      old-is = later-word p a b ws k 1 ∙ x .old-is;
+      new-is = later-word p a b ws k 2 ∙ x .new-is;
       differ = x .differ;
     }
 

@@ -105,6 +105,14 @@ Report-is =
     Reports (t ++ g) (tableIn m ++ healthIn m) report (reportIn m) e
     × (length t ≡ 3 * cellsOf h) × (length (tableIn m) ≡ 3 * cellsOf h))
 
+-- a place below 3 x H x B is a table word's, and the i-th behind them is health byte i
+abbrev pub Places-are : Type 0
+Places-are =
+    When-done (λ h t g report list e n.
+    let m = salvageOf h t g report list in
+    ((p : ℕ) → p < 3 * cellsOf h → (getD (t ++ g) p 0 ≡ getD t p 0) × (getD (tableIn m ++ healthIn m) p 0 ≡ getD (tableIn m) p 0))
+    × ((i : ℕ) → (getD (t ++ g) (3 * cellsOf h + i) 0 ≡ getD g i 0) × (getD (tableIn m ++ healthIn m) (3 * cellsOf h + i) 0 ≡ getD (healthIn m) i 0)))
+
 -- the words before the changes: each entry's old word at its place again
 unfoldable pub undone : List ℕ → List ℕ → List ℕ
 undone [] run = run

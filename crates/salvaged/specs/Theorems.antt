@@ -8,7 +8,7 @@ use native.Mathlib.Omega.{arith}
 use native.Mathlib.Decide.{decLt}
 use lib.Dec.{ltb}
 use lib.ListN.{length, getD, take, drop, length-append, length-drop, List·getD-append}
-use lib.Seq.{take-at, drop-at}
+use lib.Seq.{take-at, drop-at, getD-append-add}
 use borrow.Author.Tests.{ltb-true, lt-ltb}
 use Rattle.choice.specs.Pick.{both, determined}
 use Rattle.model.specs.Arena.{cellsOf, leaseOf, bitAt, ownerAt, stateAt, isLive, shapeFits, healthFits}
@@ -20,6 +20,7 @@ use Rattle.model.specs.Salvage.{Salvage, mendedTable, mendedHealth, changesOf, 
 use Rattle.model.specs.declared.Answer.the-variants as answer
 use Rattle.model.specs.declared.Head.{Head}
 use Rattle.model.specs.declared.Lease.{Lease}
+use Rattle.model.specs.declared.SalvageAnswer.{SalvageAnswer}
 use Rattle.model.specs.declared.SalvageAnswer.the-variants.{Done, BadShape, ReportFull}
 use Rattle.model.specs.declared.State.the-variants as state
 use Rattle.laws.specs.Shape.{Shaped, shaped}
@@ -31,15 +32,26 @@ use Rattle.history.specs.Callers.{Shape-fits}
 use Rattle.history.specs.Tests.{differ, state-free, state-held, undamaged, alive, live}
 use Rattle.history.specs.Events.{issued, Fit, keep-step}
 use Rattle.laws.specs.Salvage.{length-mended, length-mended-health, bit-mended, owner-mended, waiters-mended}
-use Rattle.salvaged.specs.Statements.{answerIn, tableIn, healthIn, listIn, fits, No-room, Bad-shape-exactly, Report-full-exactly, placeIn, oldIn, newIn, Reports, Report-is, undone, undoneOf, Rebuilds, Lists, Held-in, Unconfirmed-is, Mends, Mended, Twice, Owners-differ, Apart-exactly, Doubled-apart}
+use Rattle.salvaged.specs.Statements.{answerIn, tableIn, healthIn, listIn, fits, No-room, Bad-shape-exactly, Report-full-exactly, placeIn, oldIn, newIn, Reports, Report-is, Places-are, undone, undoneOf, Rebuilds, Lists, Held-in, Unconfirmed-is, Mends, Mended, Twice, Owners-differ, Apart-exactly, Doubled-apart}
 use Rattle.salvaged.specs.Report.{Lines, lines, told, listed, rising, undone-is, changes-none}
 use Rattle.salvaged.specs.Cells.{Mending, keeps, frees, mending, table-again, byte-kept, byte-mended, health-twice, byte-in, holds-state, holding, state-holds, Picks, picks, pick-held, pick-listed, pick-rising}
 use Rattle.salvaged.specs.Came.{Came, bad, full, done, came, words-are, was-done, changes-are}
 
 -- ---- refusals
 
+-- what is not done changes nothing
+unchanged : (h : Head) (t g report list : List ℕ) (a : SalvageAnswer) → answerIn (salvageOf h t g report list) ≡ a
+    → ((e n : ℕ) → a ≡ Done e n → ⊥) → salvageOf h t g report list ≡ unsalvaged h t g report list a
+unchanged h t g report list a d n = go (came h t g report list)
+  where
+    go : Came h t g report list → salvageOf h t g report list ≡ unsalvaged h t g report list a
+    go (bad f p) = p ∙ ap (unsalvaged h t g report list) (sym (ap answerIn p) ∙ d)
+    go (full f k p) = p ∙ ap (unsalvaged h t g report list) (sym (ap answerIn p) ∙ d)
+    go (done f k p) = absurd (n (entriesOf h t g) (length (leftHeld (h .next) (cellsOf h) t)) (sym d ∙ ap answerIn p))
+
 pub bad-shape-exactly : Bad-shape-exactly
-bad-shape-exactly h t g report list = ((there (came h t g report list), back (came h t g report list)), unchanged (came h t g report list))
+bad-shape-exactly h t g report list =
+    ((there (came h t g report list), back (came h t g report list)), λ a. unchanged h t g report list BadShape a (λ e n q. differ (let z : BadShape ≡ Done e n = q in cc)))
   where
     there : Came h t g report list → answerIn (salvageOf h t g report list) ≡ BadShape → fits h t g ≡ false
     there (bad f p) a = f
@@ -51,13 +63,6 @@ bad-shape-exactly h t g report list = ((there (came h t g report list), back (ca
     back (bad f p) a = ap answerIn p
     back (full f k p) a = let z : true ≡ false = sym f ∙ a in cc
     back (done f k p) a = let z : true ≡ false = sym f ∙ a in cc
-
-    unchanged : Came h t g report list → answerIn (salvageOf h t g report list) ≡ BadShape
-        → salvageOf h t g report list ≡ unsalvaged h t g report list BadShape
-    unchanged (bad f p) a = p
-    unchanged (full f k p) a = let q : ReportFull ≡ BadShape = sym (ap answerIn p) ∙ a in cc
-    unchanged (done f k p) a =
-        let q : Done (entriesOf h t g) (length (leftHeld (h .next) (cellsOf h) t)) ≡ BadShape = sym (ap answerIn p) ∙ a in cc
 
 -- the test, as the fact that it is
 no-room : (h : Head) (t g report list : List ℕ) → isReportFull h t g report list ≡ true → No-room h t g report list
@@ -80,7 +85,8 @@ is-full h t g report list (inr l) = go (ltb (length report / 3) (entriesOf h t g
     go false = lt-ltb _ _ l
 
 pub report-full-exactly : Report-full-exactly
-report-full-exactly h t g report list = ((there (came h t g report list), back (came h t g report list)), unchanged (came h t g report list))
+report-full-exactly h t g report list =
+    ((there (came h t g report list), back (came h t g report list)), λ a. unchanged h t g report list ReportFull a (λ e n q. differ (let z : ReportFull ≡ Done e n = q in cc)))
   where
     there : Came h t g report list → answerIn (salvageOf h t g report list) ≡ ReportFull → (fits h t g ≡ true) × No-room h t g report list
     there (bad f p) a = let q : BadShape ≡ ReportFull = sym (ap answerIn p) ∙ a in let z : _≡_ {A = ℕ} 0 1 = cc in absurd (omega arith)
@@ -94,13 +100,6 @@ report-full-exactly h t g report list = ((there (came h t g report list), back (
     back (bad f p) a = let z : false ≡ true = sym f ∙ a .0 in cc
     back (full f k p) a = ap answerIn p
     back (done f k p) a = let z : false ≡ true = sym k ∙ is-full h t g report list (a .1) in cc
-
-    unchanged : Came h t g report list → answerIn (salvageOf h t g report list) ≡ ReportFull
-        → salvageOf h t g report list ≡ unsalvaged h t g report list ReportFull
-    unchanged (bad f p) a = let q : BadShape ≡ ReportFull = sym (ap answerIn p) ∙ a in cc
-    unchanged (full f k p) a = p
-    unchanged (done f k p) a =
-        let q : Done (entriesOf h t g) (length (leftHeld (h .next) (cellsOf h) t)) ≡ ReportFull = sym (ap answerIn p) ∙ a in cc
 
 -- ---- the report
 
@@ -163,6 +162,19 @@ report-is h t g report list e n d =
     let s = w .shape .words-are in
     let r = reports (t ++ g) (mendedTable (h .next) t ++ mendedHealth g) (changesOf h t g) report e (arena-lines h t g report list s) (w .entries) (omega (arith, w .entries, w .report-room)) in
     (rw (w .table-is, w .health-is, w .report-is) r, s, rw (w .table-is) (length-mended (h .next) t ∙ s))
+
+-- the words of two runs, one behind the other
+join-front : (a b : List ℕ) (n p : ℕ) → length a ≡ n → p < n → getD (a ++ b) p 0 ≡ getD a p 0
+join-front a b n p e h = List·getD-append a b 0 p (omega arith)
+
+join-behind : (a b : List ℕ) (n i : ℕ) → length a ≡ n → getD (a ++ b) (n + i) 0 ≡ getD b i 0
+join-behind a b n i e = rw (← e) (getD-append-add a b i 0)
+
+pub places-are : Places-are
+places-are h t g report list e n d =
+    let m = salvageOf h t g report list in
+    let l = report-is h t g report list e n d in
+    (λ p k. (join-front t g (3 * cellsOf h) p (l .1) k, join-front (tableIn m) (healthIn m) (3 * cellsOf h) p (l .2) k), λ i. (join-behind t g (3 * cellsOf h) i (l .1), join-behind (tableIn m) (healthIn m) (3 * cellsOf h) i (l .2)))
 
 pub rebuilds : Rebuilds
 unfolding undoneOf
