@@ -7,7 +7,7 @@ use model::SalvageAnswer;
 use model::SalvageReply;
 use model::State;
 ghost use mathlib.Core.Path.{_≡_};
-ghost use Prim.Native.Nat.{_+_, _*_, _<_, _≤_, _/_};
+ghost use Prim.Native.Nat.{_+_, _*_, _<_, _≤_};
 ghost use lib.ListN.{length};
 ghost use Rattle.model.specs.Arena.{bitAt, ownerAt, isHeld, cellsOf};
 ghost use Rattle.model.specs.Salvage.{keptOf, mendedTable, mendedByte, mendedHealth, changeOf, heldFrom};

@@ -168,6 +168,7 @@ pub record Mends (h : Head) (t g u v : List ℕ) : Type 0 where
   -- "health bytes other than 0 and 1 become 1"
   pub bytes-kept : (i : ℕ) → i < length g → getD g i 0 ≤ 1 → getD v i 0 ≡ getD g i 0
   pub bytes-mended : (i : ℕ) → i < length g → 2 ≤ getD g i 0 → getD v i 0 ≡ 1
+  pub bytes-few : (i : ℕ) → i < length v → getD v i 0 ≤ 1
 
 abbrev pub Mended : Type 0
 Mended =

@@ -34,7 +34,7 @@ use Rattle.history.specs.Events.{issued, Fit, keep-step}
 use Rattle.laws.specs.Salvage.{length-mended, length-mended-health, bit-mended, owner-mended, waiters-mended}
 use Rattle.salvaged.specs.Statements.{answerIn, tableIn, healthIn, listIn, fits, No-room, Bad-shape-exactly, Report-full-exactly, placeIn, oldIn, newIn, Reports, Report-is, Places-are, undone, undoneOf, Rebuilds, Lists, Held-in, Unconfirmed-is, Mends, Mended, Twice, Owners-differ, Apart-exactly, Doubled-apart}
 use Rattle.salvaged.specs.Report.{Lines, lines, told, listed, rising, undone-is, changes-none}
-use Rattle.salvaged.specs.Cells.{Mending, keeps, frees, mending, table-again, byte-kept, byte-mended, health-twice, byte-in, holds-state, holding, state-holds, Picks, picks, pick-held, pick-listed, pick-rising}
+use Rattle.salvaged.specs.Cells.{Mending, keeps, frees, mending, table-again, byte-kept, byte-mended, byte-few, health-twice, byte-in, holds-state, holding, state-holds, Picks, picks, pick-held, pick-listed, pick-rising}
 use Rattle.salvaged.specs.Came.{Came, bad, full, done, came, words-are, was-done, changes-are}
 
 -- ---- refusals
@@ -282,6 +282,7 @@ mends h t g s =
       sound-kept = now-kept h t s;
       bytes-kept = λ i l b. byte-in g i l ∙ byte-kept (getD g i 0) b;
       bytes-mended = λ i l b. byte-in g i l ∙ byte-mended (getD g i 0) b;
+      bytes-few = λ i l. omega (arith, byte-in g i (omega (arith, length-mended-health g)), byte-few (getD g i 0));
     }
 
 pub mended : Mended
