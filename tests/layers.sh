@@ -6,8 +6,8 @@ set -euo pipefail
 cd "$(dirname "$0")/.."
 
 base='choice model laws setpoint slots'
-theory='history exact progress works upstream builds swaps written'
-steps='arena lease foreign lock bucket release multilock crew book'
+theory='history exact progress works upstream builds swaps written salvaged'
+steps='arena lease foreign lock bucket release multilock crew book salvage'
 callers="$steps records skid ask map" # the calls themselves, and the faces that make them
 exports=skid
 

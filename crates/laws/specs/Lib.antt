@@ -8,3 +8,4 @@ pub mod Keys
 pub mod Outcomes
 pub mod Crew
 pub mod Prepared
+pub mod Salvage

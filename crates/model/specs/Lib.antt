@@ -10,3 +10,4 @@ pub mod Calls
 pub mod Crew
 pub mod Order
 pub mod Cases
+pub mod Salvage

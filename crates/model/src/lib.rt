@@ -327,3 +327,16 @@ impl Refusal {
         }
     }
 }
+
+// Document 02, L6. What a salvage comes to: entries in the report and cells left held, or why nothing was changed.
+pub enum SalvageAnswer {
+    Done(usize, usize),
+    BadShape,
+    ReportFull,
+}
+
+// The result of a salvage, with the head as it was given.
+pub struct SalvageReply {
+    pub head: Head,
+    pub answer: SalvageAnswer,
+}

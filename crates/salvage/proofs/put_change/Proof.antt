@@ -1,0 +1,63 @@
+-- `salvage::put_change` meets its contract.
+use native.Mathlib.Omega.{arith}
+use Prim.Native.Nat.{_+_}
+use lib.ListN.{set, length-set}
+use Rattle.salvage.specs.Laws.{laid-same, laid-change, length-change-new}
+use borrow.Author.Tests.{eq-eqb, ne-eqb}
+use native.Mathlib.Omega.{arith}
+use borrow.Author.Needs.{needs}
+use Rattle.salvage.proofs.put_change.Statement.{statement}
+use Rattle.salvage.proofs.put_change.Tie as tie
+
+returns : tie.Need-returns
+returns c = let a = c .before .args in laid-same (a .report .now) (a .at) (a .place) (a .old) (a .new) (eq-eqb _ _ (c .if1 .taken))
+
+mul-report : tie.Need-mul-report
+mul-report c = search needs
+
+slice-write-report : tie.Need-slice-write-report
+slice-write-report c = let a = c .before .args in omega (arith, length-change-new (a .place) (a .old) (a .new) (ne-eqb _ _ (c .if1 .left)))
+
+add-report : tie.Need-add-report
+add-report c = search needs
+
+mul-report-2 : tie.Need-mul-report-2
+mul-report-2 c = search needs
+
+slice-write-report-2 : tie.Need-slice-write-report-2
+slice-write-report-2 c = let a = c .before .args in omega (arith, length-change-new (a .place) (a .old) (a .new) (ne-eqb _ _ (c .if1 .left)), length-set (a .report .now) (a .at) (a .place))
+
+add-report-2 : tie.Need-add-report-2
+add-report-2 c = search needs
+
+mul-report-3 : tie.Need-mul-report-3
+mul-report-3 c = search needs
+
+slice-write-report-3 : tie.Need-slice-write-report-3
+slice-write-report-3 c = let a = c .before .args in omega (arith, length-change-new (a .place) (a .old) (a .new) (ne-eqb _ _ (c .if1 .left)), length-set (a .report .now) (a .at) (a .place), length-set (set (a .report .now) (a .at) (a .place)) (a .at + 1) (a .old))
+
+add-result : tie.Need-add-result
+add-result c = search needs
+
+same-length : tie.Need-same-length
+same-length c = search needs
+
+returns-2 : tie.Need-returns-2
+returns-2 c = let a = c .before .args in laid-change (a .report .now) (a .at) (a .place) (a .old) (a .new) (ne-eqb _ _ (c .if1 .left))
+
+pub put-change-spec : {M : Type 1} → statement M
+put-change-spec =
+    tie.close
+    (tie.spec
+    returns
+    mul-report
+    slice-write-report
+    add-report
+    mul-report-2
+    slice-write-report-2
+    add-report-2
+    mul-report-3
+    slice-write-report-3
+    add-result
+    same-length
+    returns-2)
