@@ -1,4 +1,5 @@
 pub mod Model
-pub mod Lists
-pub mod Fine
+pub mod Reply
+pub mod Places
 pub mod Turns
+pub mod Rests

@@ -1,5 +1,5 @@
 // The crew: up to sixteen members take turns, each taking the cells of its list in order and then releasing them, last
-// first.
+// first. The steps that are `pub` serve crate `work` too, where members add between.
 // Functions with a `requires` are steps: the call has tested shape, limits, lists and turns, and a step tests nothing
 // twice.
 use model::Answer;
@@ -10,167 +10,30 @@ use model::Head;
 use model::Outcome;
 use model::Refusal;
 ghost use mathlib.Core.Path.{_≡_};
-ghost use mathlib.Core.List.{[], _∷_, _++_};
 ghost use Prim.Native.Nat.{_+_, _*_, _-_, _/_, _<_, _≤_, min};
-ghost use lib.ListN.{length, getD, take, drop};
+ghost use lib.ListN.{length, getD};
 ghost use Rattle.model.specs.Refusals.{first};
-ghost use Rattle.model.specs.Crew.{total, allWithin, badLimits, risesFrom, badLists, badTurns, crewRules, crewOf};
-ghost use Rattle.crew.specs.Model.{placeOf, tryMoveOf, makeMoveOf, workOf, finishOf, crewRunOf, refusedOf};
-ghost use Rattle.crew.specs.Fine.{CrewFine, Begun};
+ghost use Rattle.model.specs.Crew.{addsOf, crewRules, crewRefused, crewOf};
+ghost use Rattle.plan.specs.Starts.{Begun};
+ghost use Rattle.plan.specs.Fine.{CrewFine};
+ghost use Rattle.crew.specs.Model.{placeOf, tryMoveOf, makeMoveOf, takeTurnsOf, workBy, finishOf, crewRunOf};
 
 // What a turn comes to; a take hands on the next serial and the one it took.
-enum Move {
+pub enum Move {
     Idle,
     Took(u32, u32),
-    Gave,
+    Moved,
 }
 
 // What all turns come to, besides the table.
-struct Worked {
+pub struct Worked {
     pub next: u32,
     pub moving: usize,
     pub idle: usize,
     pub made: [usize; 16],
 }
 
-// ---- the checks: limits, then lists by member, then turns by position
-
-// Whether each count keeps its limit; the scan ends at the first that does not.
-fn counts_fit(counts: &[u32]) -> bool
-    ensures { λ r. ⌜ r ≡ allWithin 64 (now (counts .entry)) ⌝ }
-{
-    let mut i = 0;
-    while i < counts.len() {
-        if 64 < counts[i] {
-            return false;
-        }
-        i += 1;
-    }
-    true
-}
-
-// How many cells the lists have in all. So few counts of 32 bits cannot wrap.
-fn total_of(counts: &[u32]) -> usize
-    requires { ⌜ length (now counts) ≤ 16 ⌝ }
-    ensures { λ r. ⌜ r ≡ total (now (counts .entry)) ⌝ }
-{
-    let mut sum: usize = 0;
-    let mut i = 0;
-    while i < counts.len() {
-        sum += counts[i] as usize;
-        i += 1;
-    }
-    sum
-}
-
-fn limits_fault(counts: &[u32], cells: &[u32], turns: &[u32]) -> Check
-    ensures { λ r. ⌜ r ≡ first (badLimits (now (counts .entry)) (now (cells .entry)) (now (turns .entry)) ∷ []) ⌝ }
-{
-    let bad = Check::Fault(Refusal::BadCrew(0));
-    if counts.len() < 1 {
-        return bad;
-    }
-    if 16 < counts.len() {
-        return bad;
-    }
-    if counts_fit(counts) {
-        let all = total_of(counts);
-        if 256 < all {
-            return bad;
-        }
-        if cells.len() != all {
-            return bad;
-        }
-        if 65536 < turns.len() {
-            return bad;
-        }
-        return Check::Fine;
-    }
-    bad
-}
-
-// Whether one member's list rises, cell by cell, within the arena.
-fn rises(cells: &[u32], start: usize, count: usize, inside: u32) -> bool
-    requires { ⌜ start + count ≤ length (now cells) ⌝ }
-    ensures { λ r. ⌜ r ≡ risesFrom inside 0 (take count (drop start (now (cells .entry)))) ⌝ }
-{
-    let mut low: u32 = 0;
-    let mut i = 0;
-    while i < count {
-        let cell = cells[start + i];
-        if cell < low {
-            return false;
-        }
-        if inside <= cell {
-            return false;
-        }
-        low = cell + 1;
-        i += 1;
-    }
-    true
-}
-
-// The first member whose list does not.
-fn lists_fault(inside: u32, counts: &[u32], cells: &[u32]) -> Check
-    requires { ⌜ (length (now counts) ≤ 16) × (length (now cells) ≡ total (now counts)) ⌝ }
-    ensures { λ r. ⌜ r
-        ≡ first (badLists (length (now (counts .entry))) 0 inside (now (counts .entry)) (now (cells .entry))) ⌝ }
-{
-    let mut start: usize = 0;
-    let mut m = 0;
-    while m < counts.len() {
-        let count = counts[m] as usize;
-        if rises(cells, start, count, inside) {
-            start += count;
-            m += 1;
-        } else {
-            return Check::Fault(Refusal::BadCrew(m));
-        }
-    }
-    Check::Fine
-}
-
-// The first turn that names no member.
-fn turns_fault(members: usize, turns: &[u32]) -> Check
-    ensures { λ r. ⌜ r ≡ first (badTurns members 0 (now (turns .entry))) ⌝ }
-{
-    let mut i = 0;
-    while i < turns.len() {
-        if members <= turns[i] as usize {
-            return Check::Fault(Refusal::BadCrew(i));
-        }
-        i += 1;
-    }
-    Check::Fine
-}
-
-// Lists, and then turns.
-fn names_fault(inside: u32, counts: &[u32], cells: &[u32], turns: &[u32]) -> Check
-    requires { ⌜ (length (now counts) ≤ 16) × (length (now cells) ≡ total (now counts)) ⌝ }
-    ensures { λ r. ⌜ r
-        ≡ first (badLists (length (now (counts .entry))) 0 inside (now (counts .entry)) (now (cells .entry))
-        ++ badTurns (length (now (counts .entry))) 0 (now (turns .entry))) ⌝ }
-{
-    let lists = lists_fault(inside, counts, cells);
-    match lists {
-        Check::Fault(refusal) => Check::Fault(refusal),
-        Check::Fine => turns_fault(counts.len(), turns),
-    }
-}
-
-// 15: a limit, then a list, then a turn that keeps no rule; the first that applies.
-fn plan_fault(inside: u32, counts: &[u32], cells: &[u32], turns: &[u32]) -> Check
-    ensures { λ r. ⌜ r
-        ≡ first (badLimits (now (counts .entry)) (now (cells .entry)) (now (turns .entry))
-        ∷ (badLists (length (now (counts .entry))) 0 inside (now (counts .entry)) (now (cells .entry))
-        ++ badTurns (length (now (counts .entry))) 0 (now (turns .entry)))) ⌝ }
-{
-    let limits = limits_fault(counts, cells, turns);
-    match limits {
-        Check::Fault(refusal) => Check::Fault(refusal),
-        Check::Fine => names_fault(inside, counts, cells, turns),
-    }
-}
+// ---- the checks
 
 // 1, and then 15.
 fn crew_check(
@@ -188,14 +51,14 @@ fn crew_check(
     let shape = arena::arena_fault(head, table, health);
     match shape {
         Check::Fault(refusal) => Check::Fault(refusal),
-        Check::Fine => plan_fault(head.headers * head.buckets, counts, cells, turns),
+        Check::Fine => plan::plan_fault(head.headers * head.buckets, counts, cells, turns),
     }
 }
 
 // ---- one turn
 
 // Where in the run of cells a member's next move is: the next cell it has not taken, or the last it still holds.
-fn place(start: usize, n: usize, count: usize) -> usize
+pub fn place(start: usize, n: usize, count: usize) -> usize
     requires { ⌜ (start + count ≤ 256) × (n < 2 * count) ⌝ }
     ensures { λ r. ⌜ r ≡ placeOf start n count ⌝ }
 {
@@ -226,7 +89,7 @@ fn try_move(head: Head, next: u32, table: &mut [u32], cell: u32) -> Move
 }
 
 // One turn of a member that is not finished: a health reading and a try_lock, or a release of a cell that it holds.
-fn make_move(
+pub fn make_move(
     head: Head,
     next: u32,
     table: &mut [u32],
@@ -247,31 +110,15 @@ fn make_move(
         return Move::Idle;
     }
     arena::release(table, cell);
-    Move::Gave
+    Move::Moved
 }
 
 // ---- all turns
 
-// Where each member's list begins in the run of cells.
-fn starts_of(counts: &[u32]) -> [usize; 16]
-    requires { ⌜ length (now counts) ≤ 16 ⌝ }
-    ensures { λ r. ⌜ Begun (now (counts .entry)) r ⌝ }
-{
-    let mut starts = [0usize; 16];
-    let mut start: usize = 0;
-    let mut m = 0;
-    while m < counts.len() {
-        starts[m] = start;
-        start += counts[m] as usize;
-        m += 1;
-    }
-    starts
-}
-
 // The turns in order, from a crew that holds nothing. Its moves stay here and a turn gets numbers: an idle turn stores
 // nothing.
 // No serial is kept: a release compares it with nothing, since only its holder ever names a cell.
-fn work(
+fn take_turns(
     head: Head,
     table: &mut [u32],
     health: &[u8],
@@ -283,7 +130,7 @@ fn work(
     requires { ⌜ CrewFine head (length (now table)) (length (now health)) (now counts) (now cells) (now turns)
         × Begun (now counts) (now starts) ⌝ }
     ensures { λ r. ⌜ (r, now (table .exit))
-        ≡ workOf head (now (table .entry)) (now (health .entry))
+        ≡ takeTurnsOf head (now (table .entry)) (now (health .entry))
         (now (counts .entry)) (now (cells .entry)) (now (turns .entry)) ⌝ }
 {
     let mut made = [0usize; 16];
@@ -308,7 +155,7 @@ fn work(
                 moving += 1;
                 continue;
             }
-            Move::Gave => {
+            Move::Moved => {
                 made[m] = once_more;
                 moving += 1;
                 continue;
@@ -355,9 +202,19 @@ fn beyond(a: usize, b: usize) -> usize
     a - b
 }
 
-// A member's first moves are its takes, and those beyond its count are its releases.
-fn finish(head: Head, counts: &[u32], worked: Worked) -> CrewReply
-    ensures { λ r. ⌜ r ≡ finishOf head (now (counts .entry)) worked ⌝ }
+// How many moves a member with so many cells adds in: none in document 01's run.
+fn adds_of(adding: bool, count: usize) -> usize
+    ensures { λ r. ⌜ r ≡ addsOf (workBy adding) count ⌝ }
+{
+    if adding {
+        return count;
+    }
+    0
+}
+
+// A member's first moves are its takes, and those beyond its takes and adds are its releases.
+pub fn finish(head: Head, counts: &[u32], worked: Worked, adding: bool) -> CrewReply
+    ensures { λ r. ⌜ r ≡ finishOf (workBy adding) head (now (counts .entry)) worked ⌝ }
 {
     let made = worked.made;
     let mut taken = [0usize; 16];
@@ -366,7 +223,7 @@ fn finish(head: Head, counts: &[u32], worked: Worked) -> CrewReply
     while m < 16 {
         let count = count_of(counts, m);
         taken[m] = lesser(made[m], count);
-        released[m] = beyond(made[m], count);
+        released[m] = beyond(beyond(made[m], count), adds_of(adding, count));
         m += 1;
     }
     CrewReply {
@@ -380,8 +237,8 @@ fn finish(head: Head, counts: &[u32], worked: Worked) -> CrewReply
 }
 
 // A refusal that changes nothing.
-fn refuse(head: Head, refusal: Refusal) -> CrewReply
-    ensures { λ r. ⌜ r ≡ refusedOf head refusal ⌝ }
+pub fn refuse(head: Head, refusal: Refusal) -> CrewReply
+    ensures { λ r. ⌜ r ≡ crewRefused head refusal ⌝ }
 {
     let none = [0usize; 16];
     CrewReply {
@@ -408,9 +265,9 @@ fn crew_run(
         ≡ crewRunOf head (now (table .entry)) (now (health .entry))
         (now (counts .entry)) (now (cells .entry)) (now (turns .entry)) ⌝ }
 {
-    let starts = starts_of(counts);
-    let worked = work(head, table, health, counts, cells, &starts, turns);
-    finish(head, counts, worked)
+    let starts = plan::starts_of(counts);
+    let worked = take_turns(head, table, health, counts, cells, &starts, turns);
+    finish(head, counts, worked, false)
 }
 
 // ---- the call

@@ -1,10 +1,10 @@
 -- `crew::crew` meets its contract.
 use mathlib.Core.Path.{sym, _∙_}
 use borrow.Author.Needs.{needs}
-use Rattle.model.specs.Crew.{crewOf}
+use Rattle.model.specs.Crew.{shiftOf, crewOf}
 use Rattle.crew.proofs.crew.Statement.{statement}
-use Rattle.crew.specs.Fine.{crew-fine}
-use Rattle.crew.specs.Model.{workOf, finishOf, crewRunOf}
+use Rattle.plan.specs.Fine.{crew-fine}
+use Rattle.crew.specs.Model.{takeTurnsOf, finishOf, crewRunOf}
 use Rattle.crew.proofs.crew.Tie as tie
 
 crew-check-requires : tie.Need-crew-check-requires
@@ -33,7 +33,7 @@ same-length-2 : tie.Need-same-length-2
 same-length-2 c = search needs
 
 returns-2 : tie.Need-returns-2
-unfolding crewOf crewRunOf workOf finishOf
+unfolding crewOf shiftOf crewRunOf takeTurnsOf finishOf
 returns-2 c = rw (← c .before .before .before .before .before .before .crew-check .ensures, c .before .before .before .before .enum-told .given .1) (c .before .before .crew-run .ensures)
 
 pub crew-spec : {M : Type 1} → statement M

@@ -7,8 +7,8 @@ use Rattle.crew.proofs.crew_run.Tie as tie
 starts-of-requires : tie.Need-starts-of-requires
 starts-of-requires c κs = search needs
 
-work-requires : tie.Need-work-requires
-work-requires c κs = search needs
+take-turns-requires : tie.Need-take-turns-requires
+take-turns-requires c κs = search needs
 
 finish-requires : tie.Need-finish-requires
 finish-requires c κs = search needs
@@ -18,8 +18,8 @@ same-length c = search needs
 
 returns : tie.Need-returns
 unfolding crewRunOf
-returns c = rw (← c .before .before .before .work .ensures, ← c .finish .ensures)
+returns c = rw (← c .before .before .before .take-turns .ensures, ← c .finish .ensures)
 
 pub crew-run-spec : {M : Type 1} → statement M
 crew-run-spec =
-    tie.close (tie.spec starts-of-requires work-requires finish-requires same-length returns)
+    tie.close (tie.spec starts-of-requires take-turns-requires finish-requires same-length returns)

@@ -1,4 +1,4 @@
--- `crew::rises` meets its contract.
+-- `plan::rises` meets its contract.
 use Prim.Native.Nat.{_≤_, _-_, _+_}
 use mathlib.Core.Path.{_≡_}
 use native.Mathlib.Omega.{arith}
@@ -6,9 +6,9 @@ use lib.ListN.{take, drop}
 use borrow.Author.Needs.{needs}
 use borrow.Author.Tests.{le-leb, lt-leb, le-ltb, lt-ltb}
 use Rattle.model.specs.Crew.{risesFrom}
-use Rattle.crew.proofs.rises.Statement.{statement}
-use Rattle.crew.specs.Lists.{rises-at, rises-end}
-use Rattle.crew.proofs.rises.Tie as tie
+use Rattle.plan.proofs.rises.Statement.{statement}
+use Rattle.plan.specs.Lists.{rises-at, rises-end}
+use Rattle.plan.proofs.rises.Tie as tie
 
 abbrev Inv-loop : tie.InvT-loop
 Inv-loop cells start count inside low₀ i₀ low i =

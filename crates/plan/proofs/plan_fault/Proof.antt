@@ -1,10 +1,10 @@
--- `crew::plan_fault` meets its contract.
+-- `plan::plan_fault` meets its contract.
 use mathlib.Core.Path.{sym, _∙_}
 use borrow.Author.Needs.{needs}
-use Rattle.crew.proofs.plan_fault.Statement.{statement}
+use Rattle.plan.proofs.plan_fault.Statement.{statement}
 use Rattle.laws.specs.Crew.{limits-fine}
-use Rattle.crew.specs.Fine.{plan-then}
-use Rattle.crew.proofs.plan_fault.Tie as tie
+use Rattle.plan.specs.Fine.{plan-then}
+use Rattle.plan.proofs.plan_fault.Tie as tie
 
 limits-fault-requires : tie.Need-limits-fault-requires
 limits-fault-requires c κs = search needs

@@ -1,8 +1,8 @@
--- `crew::names_fault` meets its contract.
+-- `plan::names_fault` meets its contract.
 use borrow.Author.Needs.{needs}
-use Rattle.crew.proofs.names_fault.Statement.{statement}
-use Rattle.crew.specs.Fine.{names-then}
-use Rattle.crew.proofs.names_fault.Tie as tie
+use Rattle.plan.proofs.names_fault.Statement.{statement}
+use Rattle.plan.specs.Fine.{names-then}
+use Rattle.plan.proofs.names_fault.Tie as tie
 
 lists-fault-requires : tie.Need-lists-fault-requires
 lists-fault-requires c κs = search needs

@@ -1,9 +1,9 @@
--- `crew::limits_fault` meets its contract.
+-- `plan::limits_fault` meets its contract.
 use borrow.Author.Needs.{needs}
 use borrow.Author.Tests.{le-ltb, lt-ltb, le-leb, lt-leb, eq-eqb, ne-eqb}
 use Rattle.model.specs.Refusals.{first}
-use Rattle.crew.proofs.limits_fault.Statement.{statement}
-use Rattle.crew.proofs.limits_fault.Tie as tie
+use Rattle.plan.proofs.limits_fault.Statement.{statement}
+use Rattle.plan.proofs.limits_fault.Tie as tie
 
 returns : tie.Need-returns
 unfolding first

@@ -1,13 +1,12 @@
--- `crew::starts_of` meets its contract.
+-- `plan::starts_of` meets its contract.
 use Prim.Native.Nat.{_-_}
 use mathlib.Core.Path.{refl, sym}
 use native.Mathlib.Omega.{arith}
 use lib.ListN.{length}
 use borrow.Author.Needs.{needs}
-use Rattle.crew.proofs.starts_of.Statement.{statement}
-use Rattle.crew.specs.Fine.{Beginning, begin-more, begin-done}
-use Rattle.crew.specs.Lists.{start-first}
-use Rattle.crew.proofs.starts_of.Tie as tie
+use Rattle.plan.proofs.starts_of.Statement.{statement}
+use Rattle.plan.specs.Starts.{start-first, Beginning, begin-more, begin-done}
+use Rattle.plan.proofs.starts_of.Tie as tie
 
 abbrev Inv-loop : tie.InvT-loop
 Inv-loop counts starts₀ start₀ m₀ starts start m =

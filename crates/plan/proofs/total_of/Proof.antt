@@ -1,13 +1,13 @@
--- `crew::total_of` meets its contract.
+-- `plan::total_of` meets its contract.
 use Prim.Native.Nat.{_≤_, _-_, _+_, _*_}
 use mathlib.Core.Path.{_≡_}
 use native.Mathlib.Omega.{arith}
 use lib.ListN.{length, drop}
 use borrow.Author.Needs.{needs}
 use Rattle.model.specs.Crew.{total}
-use Rattle.crew.proofs.total_of.Statement.{statement}
-use Rattle.crew.specs.Lists.{total-at, total-end}
-use Rattle.crew.proofs.total_of.Tie as tie
+use Rattle.plan.proofs.total_of.Statement.{statement}
+use Rattle.plan.specs.Lists.{total-at, total-end}
+use Rattle.plan.proofs.total_of.Tie as tie
 
 abbrev Inv-loop : tie.InvT-loop
 Inv-loop counts sum₀ i₀ sum i =

@@ -1,4 +1,4 @@
--- `crew::lists_fault` meets its contract.
+-- `plan::lists_fault` meets its contract.
 use Prim.Native.Nat.{_≤_, _-_, _+_}
 use mathlib.Core.Path.{_≡_, sym, ap}
 use native.Mathlib.Omega.{arith}
@@ -6,10 +6,11 @@ use lib.ListN.{length, getD}
 use borrow.Author.Needs.{needs}
 use Rattle.model.specs.Crew.{startOf, badLists}
 use Rattle.model.specs.Refusals.{first}
-use Rattle.crew.proofs.lists_fault.Statement.{statement}
-use Rattle.crew.specs.Lists.{start-first, start-next, lists-at, lists-end}
+use Rattle.plan.proofs.lists_fault.Statement.{statement}
+use Rattle.plan.specs.Lists.{lists-at, lists-end}
+use Rattle.plan.specs.Starts.{start-first, start-next}
 use Rattle.laws.specs.Crew.{start-fits}
-use Rattle.crew.proofs.lists_fault.Tie as tie
+use Rattle.plan.proofs.lists_fault.Tie as tie
 
 abbrev Inv-loop : tie.InvT-loop
 Inv-loop inside counts cells start₀ m₀ start m =

@@ -1,20 +1,22 @@
--- `crew::work` meets its contract.
+-- `crew::take_turns` meets its contract.
 use Prim.Native.Nat.{_*_, _-_, _≤_, _<_}
 use mathlib.Core.Path.{_≡_, refl, sym, ap}
 use native.Mathlib.Omega.{arith}
+use mathlib.Core.List.{[]}
 use lib.ListN.{length, getD, replicate}
 use borrow.Author.Needs.{needs}
-use Rattle.model.specs.Crew.{startOf}
-use Rattle.crew.proofs.work.Statement.{statement}
-use Rattle.crew.specs.Fine.{Spot, spot}
+use Rattle.model.specs.Crew.{rests, startOf, crewStart}
+use Rattle.crew.proofs.take_turns.Statement.{statement}
+use Rattle.crew.specs.Places.{placed-rests, Spot, spot}
 use Rattle.laws.specs.Crew.{start-fits}
-use Rattle.crew.specs.Model.{placeOf, crewStart, handed, workOf}
-use Rattle.crew.specs.Turns.{Working, work-idle, work-tried, work-took, work-gave, work-done}
-use Rattle.crew.proofs.work.Tie as tie
+use Rattle.crew.specs.Model.{handed, takeTurnsOf}
+use Rattle.crew.specs.Turns.{Unfinished, work-done}
+use Rattle.crew.specs.Rests.{Resting, rest-idle, rest-tried, rest-took, rest-moved}
+use Rattle.crew.proofs.take_turns.Tie as tie
 
 abbrev Inv-loop : tie.InvT-loop
 Inv-loop head table₀ health counts cells starts turns made₀ next₀ moving₀ i₀ table made next moving i =
-    Working (head .headers) (head .buckets) health counts cells turns (crewStart head table₀) next table made moving i
+    Resting (head .headers) (head .buckets) health counts cells turns (crewStart head table₀ []) next table made moving i
 
 abbrev μ-loop : tie.MeasureT-loop
 μ-loop head table₀ health counts cells starts turns made₀ next₀ moving₀ i₀ table made next moving i = length turns - i
@@ -32,19 +34,17 @@ wants-few c = c .before .before .before .before .before .before .before .pre .0 
 
 -- where it moves
 unfinished : (c : tie.After-place Inv-loop μ-loop)
-    → let a = c .before .before .before .before .before .before .before .before .before .before .before .before .args in
-    let m = getD (a .turns .now) (c .before .before .before .before .before .before .loop .i) 0 in
-    let n = getD (c .before .before .before .before .before .before .loop .made) m 0 in
-    let count = getD (a .counts .now) m 0 in
-    (getD (a .starts .now) m 0 ≡ startOf (a .counts .now) m) × ((c .place .result ≡ placeOf (getD (a .starts .now) m 0) n count) × (n < 2 * count))
-unfinished c = (begins (c .before .before .before .before .before), (c .place .ensures, c .before .before .if1 .left))
+    → let a = c .before .before .before .before .before .before .before .before .before .before .before .before .args in let l = c .before .before .before .before .before .before .loop in
+    Unfinished rests (a .head .headers) (a .head .buckets) (a .health .now) (a .counts .now) (a .cells .now) (a .turns .now) (crewStart (a .head) (a .table .now) []) (l .next) (l .table) (l .made) (l .moving) (l .i) [] (l .inv .noted) (getD (a .starts .now) (getD (a .turns .now) (l .i) 0) 0) (c .place .result)
+unfinished c = let l = c .before .before .before .before .before .before .loop in
+    record { counted = omega (arith, named (c .before .before .before .before .before), c .before .before .before .before .before .before .before .before .before .before .before .before .pre .0 .limits .few-members, l .inv .run .made-length); begins = begins (c .before .before .before .before .before); placed = placed-rests _ _ _ _ (c .place .ensures); unfinished = omega (arith, c .before .before .if1 .left) }
 
 spot-of : (c : tie.After-place Inv-loop μ-loop)
     → let a = c .before .before .before .before .before .before .before .before .before .before .before .before .args in Spot (a .head) (length (a .table .now)) (length (a .health .now)) (a .cells .now) (c .place .result)
-spot-of c = spot _ _ _ _ _ _ _ _ _ _ (c .before .before .before .before .before .before .before .before .before .before .before .before .pre .0) (named (c .before .before .before .before .before)) (begins (c .before .before .before .before .before)) (c .place .ensures) (c .before .before .if1 .left)
+spot-of c = spot rests _ _ _ _ _ _ _ _ _ _ (c .before .before .before .before .before .before .before .before .before .before .before .before .pre .0) (named (c .before .before .before .before .before)) (begins (c .before .before .before .before .before)) (unfinished c .placed) (unfinished c .unfinished)
 
 loop-holds : tie.Need-loop-holds Inv-loop μ-loop
-loop-holds c = record { serials = replicate 256 0; place = search needs; few = search needs; words = refl; made-length = refl; rest = refl }
+loop-holds c = record { noted = replicate 16 0; run = record { serials = replicate 256 0; place = search needs; few = search needs; words = refl; made-length = refl; rest = refl } }
 
 mul-m : tie.Need-mul-m Inv-loop μ-loop
 mul-m c = search needs
@@ -62,7 +62,7 @@ mul-n : tie.Need-mul-n Inv-loop μ-loop
 mul-n c = omega (arith, named (c .before), c .before .before .before .before .before .before .before .before .pre .0 .limits .few-members)
 
 array-read-n : tie.Need-array-read-n Inv-loop μ-loop
-array-read-n c = omega (arith, named (c .before), c .before .before .before .before .before .before .before .before .pre .0 .limits .few-members, c .before .before .loop .inv .made-length)
+array-read-n c = omega (arith, named (c .before), c .before .before .before .before .before .before .before .before .pre .0 .limits .few-members, c .before .before .loop .inv .run .made-length)
 
 mul-count : tie.Need-mul-count Inv-loop μ-loop
 mul-count c = omega (arith, named (c .before))
@@ -80,7 +80,7 @@ loop-less : tie.Need-loop-less Inv-loop μ-loop
 loop-less c = search needs
 
 loop-again : tie.Need-loop-again Inv-loop μ-loop
-loop-again c = work-idle _ _ _ _ _ _ _ _ _ _ _ _ (c .before .before .before .before .loop .inv) (c .before .before .before .loop-test .taken) (c .if1 .taken)
+loop-again c = rest-idle _ _ _ _ _ _ _ _ _ _ _ _ (c .before .before .before .before .loop .inv) (c .before .before .before .loop-test .taken) (c .if1 .taken)
 
 mul-place : tie.Need-mul-place Inv-loop μ-loop
 mul-place c = omega (arith, named (c .before .before .before), c .before .before .before .before .before .before .before .before .before .before .pre .0 .limits .few-members)
@@ -101,7 +101,7 @@ shared-slice-read-make-move : tie.Need-shared-slice-read-make-move Inv-loop μ-l
 shared-slice-read-make-move c = spot-of (c .before .before) .in-run
 
 make-move-requires : tie.Need-make-move-requires Inv-loop μ-loop
-make-move-requires c κs = (omega (arith, spot-of (c .before .before) .cell-fits, c .before .before .before .before .before .before .before .before .loop .inv .words), (c .before .before .before .before .before .before .before .before .before .before .before .before .before .before .pre .0 .shape .some-buckets, spot-of (c .before .before) .header-fits))
+make-move-requires c κs = (omega (arith, spot-of (c .before .before) .cell-fits, c .before .before .before .before .before .before .before .before .loop .inv .run .words), (c .before .before .before .before .before .before .before .before .before .before .before .before .before .before .pre .0 .shape .some-buckets, spot-of (c .before .before) .header-fits))
 
 enum-told : tie.Need-enum-told Inv-loop μ-loop
 enum-told c = search needs
@@ -110,7 +110,7 @@ loop-less-2 : tie.Need-loop-less-2 Inv-loop μ-loop
 loop-less-2 c = search needs
 
 loop-again-2 : tie.Need-loop-again-2 Inv-loop μ-loop
-loop-again-2 c = work-tried _ _ _ _ _ _ _ _ _ _ _ _ (c .before .before .before .before .before .before .before .before .before .before .before .before .before .loop .inv) (c .before .before .before .before .before .before .before .before .before .before .before .before .loop-test .taken) _ _ (unfinished (c .before .before .before .before .before .before .before)) _ _ (c .before .before .before .before .make-move .ensures) (search needs) (c .enum-told .given .1)
+loop-again-2 c = rest-tried _ _ _ _ _ _ _ _ _ _ _ _ (c .before .before .before .before .before .before .before .before .before .before .before .before .before .loop .inv) (c .before .before .before .before .before .before .before .before .before .before .before .before .loop-test .taken) _ _ (unfinished (c .before .before .before .before .before .before .before)) _ _ (c .before .before .before .before .make-move .ensures) (search needs) (c .enum-told .given .1)
 
 enum-known-after : tie.Need-enum-known-after Inv-loop μ-loop
 enum-known-after c = search needs
@@ -119,16 +119,16 @@ mul-made : tie.Need-mul-made Inv-loop μ-loop
 mul-made c = omega (arith, named (c .before .before .before .before .before .before .before .before .before .before .before .before .before), c .before .before .before .before .before .before .before .before .before .before .before .before .before .before .before .before .before .before .before .before .pre .0 .limits .few-members)
 
 array-write-made : tie.Need-array-write-made Inv-loop μ-loop
-array-write-made c = omega (arith, named (c .before .before .before .before .before .before .before .before .before .before .before .before .before), c .before .before .before .before .before .before .before .before .before .before .before .before .before .before .before .before .before .before .before .before .pre .0 .limits .few-members, c .before .before .before .before .before .before .before .before .before .before .before .before .before .before .loop .inv .made-length)
+array-write-made c = omega (arith, named (c .before .before .before .before .before .before .before .before .before .before .before .before .before), c .before .before .before .before .before .before .before .before .before .before .before .before .before .before .before .before .before .before .before .before .pre .0 .limits .few-members, c .before .before .before .before .before .before .before .before .before .before .before .before .before .before .loop .inv .run .made-length)
 
 add-moving : tie.Need-add-moving Inv-loop μ-loop
-add-moving c = omega (arith, c .before .before .before .before .before .before .before .before .before .before .before .before .before .before .loop .inv .few)
+add-moving c = omega (arith, c .before .before .before .before .before .before .before .before .before .before .before .before .before .before .loop .inv .run .few)
 
 loop-less-3 : tie.Need-loop-less-3 Inv-loop μ-loop
 loop-less-3 c = search needs
 
 loop-again-3 : tie.Need-loop-again-3 Inv-loop μ-loop
-loop-again-3 c = work-took _ _ _ _ _ _ _ _ _ _ _ _ (c .before .before .before .before .before .before .before .before .before .before .before .before .before .before .loop .inv) (c .before .before .before .before .before .before .before .before .before .before .before .before .before .loop-test .taken) _ _ (unfinished (c .before .before .before .before .before .before .before .before)) _ _ (c .before .before .before .before .before .make-move .ensures) (search needs) _ _ (c .before .after .given .1)
+loop-again-3 c = rest-took _ _ _ _ _ _ _ _ _ _ _ _ (c .before .before .before .before .before .before .before .before .before .before .before .before .before .before .loop .inv) (c .before .before .before .before .before .before .before .before .before .before .before .before .before .loop-test .taken) _ _ (unfinished (c .before .before .before .before .before .before .before .before)) _ _ (c .before .before .before .before .before .make-move .ensures) (search needs) _ _ (c .before .after .given .1)
 
 enum-told-2 : tie.Need-enum-told-2 Inv-loop μ-loop
 enum-told-2 c = search needs
@@ -137,16 +137,16 @@ mul-made-2 : tie.Need-mul-made-2 Inv-loop μ-loop
 mul-made-2 c = omega (arith, named (c .before .before .before .before .before .before .before .before .before .before .before .before), c .before .before .before .before .before .before .before .before .before .before .before .before .before .before .before .before .before .before .before .pre .0 .limits .few-members)
 
 array-write-made-2 : tie.Need-array-write-made-2 Inv-loop μ-loop
-array-write-made-2 c = omega (arith, named (c .before .before .before .before .before .before .before .before .before .before .before .before), c .before .before .before .before .before .before .before .before .before .before .before .before .before .before .before .before .before .before .before .pre .0 .limits .few-members, c .before .before .before .before .before .before .before .before .before .before .before .before .before .loop .inv .made-length)
+array-write-made-2 c = omega (arith, named (c .before .before .before .before .before .before .before .before .before .before .before .before), c .before .before .before .before .before .before .before .before .before .before .before .before .before .before .before .before .before .before .before .pre .0 .limits .few-members, c .before .before .before .before .before .before .before .before .before .before .before .before .before .loop .inv .run .made-length)
 
 add-moving-2 : tie.Need-add-moving-2 Inv-loop μ-loop
-add-moving-2 c = omega (arith, c .before .before .before .before .before .before .before .before .before .before .before .before .before .loop .inv .few)
+add-moving-2 c = omega (arith, c .before .before .before .before .before .before .before .before .before .before .before .before .before .loop .inv .run .few)
 
 loop-less-4 : tie.Need-loop-less-4 Inv-loop μ-loop
 loop-less-4 c = search needs
 
 loop-again-4 : tie.Need-loop-again-4 Inv-loop μ-loop
-loop-again-4 c = work-gave _ _ _ _ _ _ _ _ _ _ _ _ (c .before .before .before .before .before .before .before .before .before .before .before .before .before .loop .inv) (c .before .before .before .before .before .before .before .before .before .before .before .before .loop-test .taken) _ _ (unfinished (c .before .before .before .before .before .before .before)) _ _ (c .before .before .before .before .make-move .ensures) (search needs) (c .enum-told2 .given .1)
+loop-again-4 c = rest-moved _ _ _ _ _ _ _ _ _ _ _ _ (c .before .before .before .before .before .before .before .before .before .before .before .before .before .loop .inv) (c .before .before .before .before .before .before .before .before .before .before .before .before .loop-test .taken) _ _ (unfinished (c .before .before .before .before .before .before .before)) _ _ (c .before .before .before .before .make-move .ensures) (search needs) (c .enum-told2 .given .1)
 
 sub-idle : tie.Need-sub-idle Inv-loop μ-loop
 sub-idle c = search needs
@@ -155,11 +155,11 @@ same-length : tie.Need-same-length Inv-loop μ-loop
 same-length c = search needs
 
 returns : tie.Need-returns Inv-loop μ-loop
-unfolding workOf
-returns c = sym (ap handed (work-done _ _ _ _ _ _ _ _ _ _ _ _ (c .before .loop .inv) (c .loop-test .left)))
+unfolding takeTurnsOf
+returns c = sym (ap handed (work-done _ _ _ _ _ _ _ _ _ _ _ _ _ _ _ (c .before .loop .inv .run) (c .loop-test .left)))
 
-pub work-spec : {M : Type 1} → statement M
-work-spec =
+pub take-turns-spec : {M : Type 1} → statement M
+take-turns-spec =
     tie.close
     (tie.spec
     Inv-loop
