@@ -1,7 +1,7 @@
 -- The words lose nothing: equal words are equal replies.
 use Prim.Native.Nat.{ℕ, zero, suc, _+_}
 use mathlib.Core.Path.{_≡_, refl, sym, ap, _∙_}
-use mathlib.Core.List.{List, _∷_, _++_}
+use mathlib.Core.List.{List, [], _∷_, _++_}
 use lib.Dec.{eqb}
 use native.Mathlib.Omega.{arith}
 use native.Mathlib.Numerals.{add-one}
@@ -10,7 +10,7 @@ use lib.Seq.{drop-cons}
 use Rattle.model.specs.Arena.{headOf, leaseOf}
 use Rattle.model.specs.Calls.{countsOf}
 use Rattle.choice.specs.Choice.{if_then_else_}
-use Rattle.model.specs.Crew.{takenOf, releasedOf, crewRules, crewOf}
+use Rattle.model.specs.Crew.{Work, rests, adds, takenOf, releasedOf, crewRules, crewAtWorkRules, shiftOf, crewOf, crewAtWorkOf}
 use Rattle.model.specs.Log.{Made}
 use Rattle.model.specs.Order.{reason-is, refusal-is}
 use Rattle.model.specs.Refusals.{reasonOf, refusalWith, first, judge}
@@ -105,11 +105,22 @@ either : {A : Type 0} (P : A → Type 0) (k : Check) (f : Refusal → A) (a : A)
 either P Fine f a p q = q
 either P (Fault r) f a p q = p r
 
+-- of a run of turns, in either work
+shift-sixteen : (work : Work) (h : Head) (t g counts cells turns counters : List ℕ) → Sixteen (shiftOf work h t g counts cells turns counters .seen .0)
+unfolding shiftOf takenOf releasedOf
+shift-sixteen work h t g counts cells turns counters = record { taken = refl; released = refl }
+
 pub crew-sixteen : (h : Head) (t g counts cells turns : List ℕ) → Sixteen (crewOf h t g counts cells turns .seen .0)
-unfolding crewOf takenOf releasedOf
+unfolding crewOf
 crew-sixteen h t g counts cells turns =
     either (λ (m : Made (CrewReply × List ℕ)). Sixteen (m .seen .0)) (first (crewRules h t g counts cells turns)) _ _
-    (λ r. record { taken = refl; released = refl }) (record { taken = refl; released = refl })
+    (λ r. record { taken = refl; released = refl }) (shift-sixteen rests h t g counts cells turns [])
+
+pub crew-at-work-sixteen : (h : Head) (t g counts cells turns counters : List ℕ) → Sixteen (crewAtWorkOf h t g counts cells turns counters .seen .0)
+unfolding crewAtWorkOf
+crew-at-work-sixteen h t g counts cells turns counters =
+    either (λ (m : Made (CrewReply × (List ℕ × List ℕ))). Sixteen (m .seen .0)) (first (crewAtWorkRules h t g counts cells turns counters)) _ _
+    (λ r. record { taken = refl; released = refl }) (shift-sixteen adds h t g counts cells turns counters)
 
 each-rest : (n i : ℕ) (l : List ℕ) → length l ≡ i + n → eachOf n i l ≡ drop i l
 unfolding eachOf
