@@ -1,6 +1,7 @@
--- Laws for the code: an answer's six words one by one, and the crew's counts stored in a loop.
+-- Laws for the code: an answer's six words one by one, the crew's counts stored in a loop, and that what the book's calls answer has a body.
 use Prim.Native.Nat.{ℕ, suc, _+_, _-_, _<_, _≤_}
-use mathlib.Core.Path.{_≡_, refl, ap}
+use mathlib.Core.Path.{_≡_, refl, ap, _∙_}
+use mathlib.Core.Bool.{true}
 use mathlib.Core.List.{List, [], _∷_, _++_}
 use native.Mathlib.Omega.{arith}
 use lib.ListN.{getD, set, replicate}
@@ -10,6 +11,11 @@ use Rattle.model.specs.declared.Answer.the-variants.{Done, Cell, Granted, AllGr
 use Rattle.model.specs.declared.Counts.{Counts}
 use Rattle.model.specs.declared.CrewReply.{CrewReply}
 use Rattle.model.specs.declared.Head.{Head}
+use Rattle.model.specs.declared.Lease.{Lease}
+use Rattle.setpoint.specs.declared.Setpoint.{Setpoint}
+use Rattle.slots.specs.Calls.{prepareBookOf, writeSetpointOf}
+use Rattle.slots.specs.Outcomes.{Prepared, was-prepared, not-prepared, preparing-is, Wrote, was-written, not-written, writing-is, bodyTold}
+use Rattle.slots.specs.declared.BookAnswer.{BookAnswer}
 use Rattle.words.specs.Words.{busyWords, answerWords, resultWords, eachOf, crewWords}
 
 pub six : (a : Answer)
@@ -58,3 +64,18 @@ crew-laid r ws e =
     rw e
     (ap (λ (a : List ℕ). r .head .headers ∷ r .head .buckets ∷ r .head .next ∷ 0 ∷ 0 ∷ 0 ∷ 0 ∷ 0 ∷ (a ++ (r .moving ∷ r .idle ∷ (eachOf 16 0 (r .taken) ++ eachOf 16 0 (r .released)))))
     (six (r .answer)))
+
+-- what a preparation and a write answer is no setting, so its words ask for nothing; of a read it is `told-whole`
+pub prepared-whole : (a : BookAnswer) (book b : List ℕ) (h : Head) → (a, book) ≡ prepareBookOf h b → bodyTold a ≡ true
+prepared-whole a book b h e = ap (λ (o : BookAnswer × List ℕ). bodyTold (o .0)) e ∙ go (prepareBookOf h b) (preparing-is h b)
+  where
+    go : (o : BookAnswer × List ℕ) → Prepared h b o → bodyTold (o .0) ≡ true
+    go _ (was-prepared fits fine) = refl
+    go _ (not-prepared r) = refl
+
+pub written-whole : (a : BookAnswer) (book t b : List ℕ) (h : Head) (slot : ℕ) (l : Lease) (s : Setpoint) → (a, book) ≡ writeSetpointOf h t b slot l s → bodyTold a ≡ true
+written-whole a book t b h slot l s e = ap (λ (o : BookAnswer × List ℕ). bodyTold (o .0)) e ∙ go (writeSetpointOf h t b slot l s) (writing-is h t b slot l s)
+  where
+    go : (o : BookAnswer × List ℕ) → Wrote h t b slot l s o → bodyTold (o .0) ≡ true
+    go _ (was-written claim over) = refl
+    go _ (not-written r damaged) = refl

@@ -2,6 +2,7 @@
 use Prim.Native.Nat.{ℕ, zero, suc, _+_}
 use mathlib.Core.Path.{_≡_, refl, sym, ap, _∙_}
 use mathlib.Core.List.{List, [], _∷_, _++_}
+use mathlib.Core.Bool.{true}
 use lib.Dec.{eqb}
 use native.Mathlib.Omega.{arith}
 use native.Mathlib.Numerals.{add-one}
@@ -23,12 +24,20 @@ use Rattle.model.specs.declared.Head.{Head}
 use Rattle.model.specs.declared.Played.{Played}
 use Rattle.model.specs.declared.Refusal.{Refusal}
 use Rattle.model.specs.declared.Reply.{Reply}
+use Rattle.setpoint.specs.Codec.{hasBody, settingOf}
+use Rattle.setpoint.specs.RoundTrip.{Held, setting-back}
+use Rattle.setpoint.specs.declared.Decoded.{Decoded}
+use Rattle.setpoint.specs.declared.Decoded.the-variants as decoded
+use Rattle.slots.specs.declared.BookAnswer.{BookAnswer}
+use Rattle.slots.specs.declared.BookAnswer.the-variants as book
+use Rattle.slots.specs.declared.BookRefusal.{BookRefusal}
+use Rattle.slots.specs.declared.BookRefusal.the-variants as fault
 use Rattle.wave.specs.declared.Dumped.{Dumped}
 use Rattle.wave.specs.declared.Dumped.the-variants as dumped
 use Rattle.wave.specs.declared.Undumped.{Undumped}
 use Rattle.wave.specs.declared.Undumped.the-variants as undumped
 use Rattle.words.specs.Laws.{six}
-use Rattle.words.specs.Words.{busyWords, answerWords, replyWords, playedWords, eachOf, crewWords, dumpedWords, undumpedWords, told}
+use Rattle.words.specs.Words.{busyWords, answerWords, replyWords, playedWords, eachOf, crewWords, bookNumber, bookWords, dumpedWords, undumpedWords, told}
 
 -- ---- the way back
 
@@ -137,6 +146,57 @@ crew-back r x =
 
 pub crew-tells : (r s : CrewReply) → Sixteen r → Sixteen s → crewWords r ≡ crewWords s → r ≡ s
 crew-tells r s x y e = sym (crew-back r x) ∙ ap crewIn e ∙ crew-back s y
+
+-- the book's refusal that a number tells
+abbrev pub bookFault : ℕ → BookRefusal
+bookFault n =
+    if eqb n 1 then fault.BadShape
+    else if eqb n 12 then fault.NotHeld
+    else if eqb n 101 then fault.BadSlot
+    else if eqb n 102 then fault.NotFinite
+    else if eqb n 103 then fault.DamagedBook
+    else if eqb n 104 then fault.VersionsSpent
+    else fault.NeverWritten
+
+fault-back : (r : BookRefusal) → bookFault (bookNumber r) ≡ r
+fault-back fault.BadShape = refl
+fault-back fault.BadSlot = refl
+fault-back fault.NotHeld = refl
+fault-back fault.NotFinite = refl
+fault-back fault.DamagedBook = refl
+fault-back fault.VersionsSpent = refl
+fault-back fault.NeverWritten = refl
+
+-- the setting that a kind, a word and a version tell; words that tell none are not a setting's
+abbrev pub settingIn : Decoded → ℕ → BookAnswer
+settingIn (decoded.Setting s) v = book.Setting s v
+settingIn decoded.Damaged v = book.Done
+
+-- the book's answer that four words tell
+abbrev pub bookIn : List ℕ → BookAnswer
+bookIn ws =
+    let kind = getD ws 0 0 in
+    if eqb kind 0 then book.Done
+    else if eqb kind 1 then book.Written (getD ws 1 0)
+    else if eqb kind 2 then settingIn (settingOf (getD ws 2 0) (getD ws 3 0)) (getD ws 1 0)
+    else book.Refused (bookFault (getD ws 1 0))
+
+-- a setting whose setpoint is a value of its type and has a body; every other answer
+abbrev pub Whole : BookAnswer → Type 0
+Whole book.Done = Unit
+Whole (book.Written v) = Unit
+Whole (book.Setting s v) = Held s × (hasBody s ≡ true)
+Whole (book.Refused r) = Unit
+
+book-back : (a : BookAnswer) → Whole a → bookIn (bookWords a) ≡ a
+unfolding bookWords
+book-back book.Done w = refl
+book-back (book.Written v) w = refl
+book-back (book.Setting s v) w = ap (λ (d : Decoded). settingIn d v) (setting-back s (w .0) (w .1))
+book-back (book.Refused r) w = ap book.Refused (fault-back r)
+
+pub book-tells : (a b : BookAnswer) → Whole a → Whole b → bookWords a ≡ bookWords b → a ≡ b
+book-tells a b x y e = sym (book-back a x) ∙ ap bookIn e ∙ book-back b y
 
 -- the waveform's answers that three words tell
 abbrev pub dumpedIn : List ℕ → Dumped

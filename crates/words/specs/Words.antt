@@ -12,6 +12,11 @@ use Rattle.model.specs.declared.Head.{Head}
 use Rattle.model.specs.declared.Played.{Played}
 use Rattle.model.specs.declared.Refusal.{Refusal}
 use Rattle.model.specs.declared.Reply.{Reply}
+use Rattle.setpoint.specs.Codec.{kindOf, wordOf}
+use Rattle.slots.specs.declared.BookAnswer.{BookAnswer}
+use Rattle.slots.specs.declared.BookAnswer.the-variants as book
+use Rattle.slots.specs.declared.BookRefusal.{BookRefusal}
+use Rattle.slots.specs.declared.BookRefusal.the-variants as fault
 use Rattle.wave.specs.Answers.{dumpedNumber}
 use Rattle.wave.specs.declared.Dumped.{Dumped}
 use Rattle.wave.specs.declared.Dumped.the-variants as dumped
@@ -59,6 +64,25 @@ eachOf (suc left) m l = getD l m 0 ∷ eachOf left (m + 1) l
 -- 47 what they released
 unfoldable pub crewWords : CrewReply → List ℕ
 crewWords r = resultWords (r .head) 0 (countsOf 0 0 0 0) (r .answer) ++ (r .moving ∷ r .idle ∷ (eachOf 16 0 (r .taken) ++ eachOf 16 0 (r .released)))
+
+-- a refusal of the setpoint book: "1" and "12" are document 01's numbers; those without a number count from 101, in the order of their names
+-- in document 02, "BadSlot", "NotFinite", "DamagedBook", "VersionsSpent", and then "NeverWritten"
+abbrev pub bookNumber : BookRefusal → ℕ
+bookNumber fault.BadShape = 1
+bookNumber fault.BadSlot = 101
+bookNumber fault.NotHeld = 12
+bookNumber fault.NotFinite = 102
+bookNumber fault.DamagedBook = 103
+bookNumber fault.VersionsSpent = 104
+bookNumber fault.NeverWritten = 105
+
+-- of the setpoint book: the kind of the answer (0 done, 1 written, 2 a setting, 3 refused); the version, or the refusal's number; of a
+-- setting the setpoint's kind, "1, 2, 3 in that order", and the word of its four bytes
+unfoldable pub bookWords : BookAnswer → List ℕ
+bookWords book.Done = 0 ∷ 0 ∷ 0 ∷ 0 ∷ []
+bookWords (book.Written v) = 1 ∷ v ∷ 0 ∷ 0 ∷ []
+bookWords (book.Setting s v) = 2 ∷ v ∷ kindOf s ∷ wordOf s ∷ []
+bookWords (book.Refused r) = 3 ∷ bookNumber r ∷ 0 ∷ 0 ∷ []
 
 -- of the waveform's writer and reader: the kind of the answer (0 done, 1 refused by number, 2 TooWide, 3 NoRoom, 4 BadLine); the bytes
 -- written, the cells read, the refusal's number or the wrong line; the steps read

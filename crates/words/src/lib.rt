@@ -1,4 +1,5 @@
-// A reply as words, for callers in C or Rust: fourteen of them, the crew's forty-eight, or the waveform's three.
+// A reply as words, for callers in C or Rust: fourteen of them, the crew's forty-eight, the setpoint book's
+// four, or the waveform's three.
 // specs/Words.antt lays them out, and specs/Tells.antt proves that they lose nothing.
 use model::Answer;
 use model::Counts;
@@ -7,14 +8,18 @@ use model::Head;
 use model::Played;
 use model::Refusal;
 use model::Reply;
+use slots::BookAnswer;
+use slots::BookRefusal;
 use wave::Dumped;
 use wave::Undumped;
 ghost use mathlib.Core.Path.{_≡_};
 ghost use Prim.Native.Nat.{_+_, _≤_};
+ghost use mathlib.Core.Bool.{true};
 ghost use lib.Seq.{sets};
 ghost use Rattle.model.specs.Refusals.{refusalReason};
+ghost use Rattle.slots.specs.Outcomes.{bodyTold};
 ghost use Rattle.words.specs.Words.{busyWords, refusalWords, answerWords, resultWords, replyWords, playedWords};
-ghost use Rattle.words.specs.Words.{eachOf, crewWords, dumpedWords, undumpedWords};
+ghost use Rattle.words.specs.Words.{eachOf, crewWords, bookNumber, bookWords, dumpedWords, undumpedWords};
 
 // Words 12 and 13 of a refusal: only 11 gives a reason.
 fn reason_words(refusal: Refusal) -> [u64; 2]
@@ -155,6 +160,39 @@ pub fn crew_words(r: CrewReply) -> [u64; 48]
     put_counts(&mut words, 16, &taken);
     put_counts(&mut words, 32, &released);
     words
+}
+
+// The number of the book's refusal: document 01's where it has one, else from 101 on.
+fn book_number(refusal: BookRefusal) -> u64
+    ensures { λ r. ⌜ r ≡ bookNumber refusal ⌝ }
+{
+    match refusal {
+        BookRefusal::BadShape => 1,
+        BookRefusal::BadSlot => 101,
+        BookRefusal::NotHeld => 12,
+        BookRefusal::NotFinite => 102,
+        BookRefusal::DamagedBook => 103,
+        BookRefusal::VersionsSpent => 104,
+        BookRefusal::NeverWritten => 105,
+    }
+}
+
+// Of the setpoint book. A setting has a body, as every read's has: only such a setpoint has a word.
+pub fn book_words(answer: BookAnswer) -> [u64; 4]
+    requires { ⌜ bodyTold answer ≡ true ⌝ }
+    ensures { λ w. ⌜ w ≡ bookWords answer ⌝ }
+{
+    match answer {
+        BookAnswer::Done => [0, 0, 0, 0],
+        BookAnswer::Written(version) => [1, version as u64, 0, 0],
+        BookAnswer::Setting(s, version) => [
+            2,
+            version as u64,
+            setpoint::kind(s) as u64,
+            setpoint::word(s) as u64,
+        ],
+        BookAnswer::Refused(refusal) => [3, book_number(refusal), 0, 0],
+    }
 }
 
 // Of the waveform's writer.
