@@ -1,5 +1,5 @@
 -- The words lose nothing: equal words are equal replies.
-use Prim.Native.Nat.{ℕ, zero, suc, _+_}
+use Prim.Native.Nat.{ℕ, zero, suc, _+_, _<_}
 use mathlib.Core.Path.{_≡_, refl, sym, ap, _∙_}
 use mathlib.Core.List.{List, [], _∷_, _++_}
 use mathlib.Core.Bool.{true}
@@ -25,13 +25,21 @@ use Rattle.model.specs.declared.Played.{Played}
 use Rattle.model.specs.declared.Refusal.{Refusal}
 use Rattle.model.specs.declared.Reply.{Reply}
 use Rattle.setpoint.specs.Codec.{hasBody, settingOf}
-use Rattle.setpoint.specs.RoundTrip.{Held, setting-back}
+use Rattle.setpoint.specs.RoundTrip.{Held, setting-back, setting-means, join-small}
 use Rattle.setpoint.specs.declared.Decoded.{Decoded}
 use Rattle.setpoint.specs.declared.Decoded.the-variants as decoded
+use Rattle.slots.specs.Calls.{toldOf, readSetpointOf}
+use Rattle.slots.specs.Judged.{Judged, is-held, is-zeros, is-rubbish, judged}
+use Rattle.slots.specs.Layout.{slotsOf, lineFrom, bodyFrom, fiveAt, slotAt, readOf}
+use Rattle.slots.specs.Rules.{firstFault, judgeBook, readRules}
 use Rattle.slots.specs.declared.BookAnswer.{BookAnswer}
 use Rattle.slots.specs.declared.BookAnswer.the-variants as book
+use Rattle.slots.specs.declared.BookCheck.{BookCheck}
+use Rattle.slots.specs.declared.BookCheck.the-variants as checked
 use Rattle.slots.specs.declared.BookRefusal.{BookRefusal}
 use Rattle.slots.specs.declared.BookRefusal.the-variants as fault
+use Rattle.slots.specs.declared.Reading.{Reading}
+use Rattle.slots.specs.declared.Slot.{Slot}
 use Rattle.wave.specs.declared.Dumped.{Dumped}
 use Rattle.wave.specs.declared.Dumped.the-variants as dumped
 use Rattle.wave.specs.declared.Undumped.{Undumped}
@@ -194,6 +202,21 @@ book-back book.Done w = refl
 book-back (book.Written v) w = refl
 book-back (book.Setting s v) w = ap (λ (d : Decoded). settingIn d v) (setting-back s (w .0) (w .1))
 book-back (book.Refused r) w = ap book.Refused (fault-back r)
+
+-- what a read tells is so, since a book's bytes are below 256
+word-below : (b : List ℕ) (p q : ℕ) → ((j : ℕ) → getD b j 0 < 256) → slotAt b p q .word < 4294967296
+unfolding slotAt fiveAt
+word-below b p q bytes = join-small _ _ _ _ (bytes (q + 1)) (bytes (q + 2)) (bytes (q + 3)) (bytes (q + 4))
+
+seen-whole : (c : BookCheck) (place : ℕ) (s : Slot) (r : Reading) → s .word < 4294967296 → Judged place s r → Whole (judgeBook c book.Refused (toldOf r))
+seen-whole (checked.Fault x) place s r l j = tt
+seen-whole checked.Fine place s _ l (is-held p f) = let m = setting-means (s .kind) (s .word) p l (f .means) in (m .held, m .whole)
+seen-whole checked.Fine place s _ l (is-zeros z) = tt
+seen-whole checked.Fine place s _ l (is-rubbish f g) = tt
+
+pub read-whole : (h : Head) (b : List ℕ) (slot : ℕ) → ((j : ℕ) → getD b j 0 < 256) → Whole (readSetpointOf h b slot)
+unfolding readSetpointOf readOf
+read-whole h b slot bytes = seen-whole (firstFault (readRules h b slot)) _ _ _ (word-below b _ _ bytes) (judged (bodyFrom (slotsOf h) slot) (slotAt b (lineFrom slot) (bodyFrom (slotsOf h) slot)))
 
 pub book-tells : (a b : BookAnswer) → Whole a → Whole b → bookWords a ≡ bookWords b → a ≡ b
 book-tells a b x y e = sym (book-back a x) ∙ ap bookIn e ∙ book-back b y
