@@ -1,6 +1,6 @@
 /*
- * The lease layer of the skid kernel: the calls of document 01, and the waveform of the cells (document 02, L11), for
- * C.
+ * The lease layer of the skid kernel: the calls of document 01, and of document 02 the setpoint book (L2) and the
+ * waveform of the cells (L11), for C.
  *
  * Link with libskid.a (`rt staticlib skid` writes target/staticlib/libskid.a). The archive is code for x86-64, by the
  * calling convention of Linux there (System V). It asks the host for memcpy and memset, and for nothing else. It has
@@ -15,8 +15,9 @@
  * - The head (headers H, buckets B, next serial) goes in as three numbers, and comes back in the reply's first three
  *   words. A lease is two numbers, cell and serial.
  * - A run is lent as a pointer to its first element and a length. A length counts elements, not bytes.
- * - The last argument is the lent reply: SKID_REPLY_WORDS words, SKID_CREW_WORDS for skid_crew, SKID_WAVE_WORDS for
- *   skid_write_dump and skid_read_dump. A call writes all of them and reads none.
+ * - The last argument is the lent reply: SKID_REPLY_WORDS words, SKID_CREW_WORDS for skid_crew, SKID_BOOK_WORDS for
+ *   the calls of the setpoint book, SKID_WAVE_WORDS for skid_write_dump and skid_read_dump. A call writes all of them
+ *   and reads none.
  * - There is no result: the answer is in the reply.
  *
  * What a call needs, and changes
@@ -46,10 +47,21 @@
  *   where the script was left. Kinds: enum skid_step.
  * - held, leases: two words a lease (cell, serial), at most 64 leases.
  * - keys: two words a key (binding, bucket). grants: two words a key (cell, serial).
+ *
+ * The setpoint book
+ * -----------------
+ * - book: at most SKID_MAX_BOOK bytes. One slot for each cell, at most the first SKID_MAX_SLOTS: n slots, for which
+ *   13 x n bytes are needed. Bytes behind them are set to 0 by preparing, and else left alone.
+ * - First a table of contents, 8 bytes a slot: the place of its body (2 bytes), its length (2 bytes; 5), its version
+ *   (4 bytes), each low byte first. Then the bodies in slot order, 5 bytes each, that of slot i at 8 x n + 5 x i: a kind
+ *   (enum skid_setpoint), and four bytes, low byte first.
+ * - A slot that was never written is all zeros. A line or a body that fits no rule is SKID_DAMAGED_BOOK, for its slot
+ *   alone.
  */
 #ifndef SKID_H
 #define SKID_H
 
+#include <stdbool.h>
 #include <stddef.h>
 #include <stdint.h>
 
@@ -58,7 +70,7 @@ extern "C" {
 #endif
 
 /* The version of header and library together; CHANGELOG.md says what came with which. */
-#define SKID_VERSION "0.11.0"
+#define SKID_VERSION "0.12.0"
 
 /* ---- limits */
 
@@ -75,6 +87,9 @@ extern "C" {
 #define SKID_MAX_MEMBER_CELLS 64u    /* of one member */
 #define SKID_MAX_CREW_CELLS 256u     /* of all members */
 #define SKID_MAX_TURNS 65536u
+#define SKID_MAX_BOOK 32768u         /* bytes of a setpoint book */
+#define SKID_MAX_SLOTS 64u           /* of a book; one for each cell, up to these */
+#define SKID_SLOT_BYTES 13u          /* of each slot: 8 for its line, 5 for its body */
 #define SKID_MAX_WAVE_CELLS 94u      /* of a waveform */
 #define SKID_MAX_DUMP 319088u        /* bytes: no dump is longer */
 
@@ -93,6 +108,7 @@ enum skid_step {
 
 #define SKID_REPLY_WORDS 14
 #define SKID_CREW_WORDS 48
+#define SKID_BOOK_WORDS 4
 #define SKID_WAVE_WORDS 3
 
 /* Which word is what. */
@@ -168,6 +184,41 @@ enum skid_refusal {
     SKID_PROTECTED = 13,             /* 0: the lease is live and in the held list */
     SKID_REPEATED = 14,              /* the position of the later of two equal live leases in the list */
     SKID_BAD_CREW = 15               /* 0 for a limit; the member of a bad list; the turn that names no member */
+};
+
+/* The reply of the setpoint book's calls. Words that an answer does not use are 0. A refusal changes no byte. */
+enum skid_book_reply {
+    SKID_BOOK_KIND = 0,     /* enum skid_book_kind */
+    SKID_BOOK_VERSION = 1,  /* written, or a setting: the version, from 1 */
+    SKID_BOOK_REFUSAL = 1,  /* refused: enum skid_book_refusal */
+    SKID_BOOK_SETPOINT = 2, /* a setting: what the setpoint is, enum skid_setpoint */
+    SKID_BOOK_WORD = 3      /* a setting: its 32 bits; a pressure is the f32 with this pattern */
+};
+
+enum skid_book_kind {
+    SKID_BOOK_DONE = 0,
+    SKID_BOOK_WRITTEN = 1,
+    SKID_BOOK_SETTING = 2,
+    SKID_BOOK_REFUSED = 3
+};
+
+enum skid_setpoint {
+    SKID_PRESSURE = 1, /* in bar, a binary32; never a NaN or an infinity */
+    SKID_SPEED = 2,    /* a whole number */
+    SKID_VALVE = 3     /* 1 open, 0 shut */
+};
+
+/*
+ * The refusals of the book's calls. SKID_BAD_SHAPE (1) and SKID_NOT_HELD (12) are document 01's; the others have no
+ * number there and count from 101. Tested in the order of this list, SKID_NOT_HELD behind SKID_BAD_SLOT; a read tests
+ * SKID_BAD_SHAPE, SKID_BAD_SLOT, SKID_DAMAGED_BOOK, SKID_NEVER_WRITTEN.
+ */
+enum skid_book_refusal {
+    SKID_BAD_SLOT = 101,       /* the book too short for its slots or over the limit, or no such slot */
+    SKID_NOT_FINITE = 102,     /* a pressure that is a NaN or an infinity */
+    SKID_DAMAGED_BOOK = 103,   /* the slot's line or body fits no rule */
+    SKID_VERSIONS_SPENT = 104, /* the slot is at version 4,294,967,295 */
+    SKID_NEVER_WRITTEN = 105   /* the slot is at version 0 */
 };
 
 /* The reply of the waveform's two calls. A refusal changes no lent byte or word. */
@@ -315,6 +366,35 @@ void skid_crew(uint32_t headers, uint32_t buckets, uint32_t next, uint32_t *tabl
                const uint8_t *health, size_t health_len, const uint32_t *counts, size_t counts_len,
                const uint32_t *cells, size_t cells_len, const uint32_t *turns, size_t turns_len,
                uint64_t reply[SKID_CREW_WORDS]);
+
+/* ---- the setpoint book (document 02, L2). No call changes the table, and none takes the health. */
+
+/* Sets every byte of the book to 0, whatever stood there: done. Refused: SKID_BAD_SHAPE for the head, SKID_BAD_SLOT. */
+void skid_prepare_book(uint32_t headers, uint32_t buckets, uint32_t next, uint8_t *book, size_t book_len,
+                       uint64_t reply[SKID_BOOK_WORDS]);
+
+/*
+ * Writes a pressure in bar to a slot, by a live lease on the slot's cell: written, with the slot's new version, one
+ * more than its last. Refused, in this order: SKID_BAD_SHAPE, SKID_BAD_SLOT, SKID_NOT_HELD, SKID_NOT_FINITE,
+ * SKID_DAMAGED_BOOK, SKID_VERSIONS_SPENT.
+ */
+void skid_write_pressure(uint32_t headers, uint32_t buckets, uint32_t next, const uint32_t *table, size_t table_len,
+                         uint8_t *book, size_t book_len, uint32_t slot, uint32_t cell, uint32_t serial, float bar,
+                         uint64_t reply[SKID_BOOK_WORDS]);
+
+/* The same with a speed; never SKID_NOT_FINITE. */
+void skid_write_speed(uint32_t headers, uint32_t buckets, uint32_t next, const uint32_t *table, size_t table_len,
+                      uint8_t *book, size_t book_len, uint32_t slot, uint32_t cell, uint32_t serial, uint32_t speed,
+                      uint64_t reply[SKID_BOOK_WORDS]);
+
+/* The same with a valve, true for open; never SKID_NOT_FINITE. */
+void skid_write_valve(uint32_t headers, uint32_t buckets, uint32_t next, const uint32_t *table, size_t table_len,
+                      uint8_t *book, size_t book_len, uint32_t slot, uint32_t cell, uint32_t serial, bool open,
+                      uint64_t reply[SKID_BOOK_WORDS]);
+
+/* The setpoint of a slot and its version: a setting. It needs no lease and changes nothing. */
+void skid_read_setpoint(uint32_t headers, uint32_t buckets, uint32_t next, const uint8_t *book, size_t book_len,
+                        uint32_t slot, uint64_t reply[SKID_BOOK_WORDS]);
 
 /* ---- the waveform of the cells (document 02, L11) */
 

@@ -1,6 +1,6 @@
 /*
- * Document 01's bench cases, through skid.h, and edges of the calling convention. A line for each case; exit 1 if a
- * figure is not document 01's.
+ * Document 01's bench cases, through skid.h, the setpoint book of document 02, and edges of the calling convention. A
+ * line for each case; exit 1 if a figure is not the documents'.
  */
 #include <inttypes.h>
 #include <stdio.h>
@@ -10,7 +10,7 @@
 
 /* ---- what is checked */
 
-static int cases, edges, failures;
+static int cases, books, edges, failures;
 static int bad; /* in the case at hand */
 
 static void check(const char *what, uint64_t got, uint64_t want) {
@@ -53,12 +53,19 @@ static struct {
 static struct {
     uint64_t before, words[SKID_CREW_WORDS], after;
 } crew;
+static struct {
+    uint8_t before, bytes[104], after; /* 8 slots */
+} book;
+static struct {
+    uint64_t before, words[SKID_BOOK_WORDS], after;
+} told;
 static const uint32_t registry[3] = {0, 1, 1};
 static uint32_t next;
 
 #define HEAD 2, 4, next
 #define TABLE table.words, 24
 #define HEALTH health.bytes, 2
+#define BOOK book.bytes, 104
 #define REGISTRY registry, 3
 #define LIST(a) a, sizeof a / sizeof a[0]
 
@@ -395,6 +402,192 @@ static void crews(void) {
     end(&cases);
 }
 
+/* ---- the setpoint book: the governor holds cell 2 by serial 1, the panel reads */
+
+static uint64_t *blank_book(void) {
+    int i;
+    for (i = 0; i < SKID_BOOK_WORDS; i++) {
+        told.words[i] = PATTERN;
+    }
+    return told.words;
+}
+
+/* All four words. */
+static void tells(uint64_t kind, uint64_t first, uint64_t setpoint, uint64_t bits) {
+    kept();
+    if (book.before != GUARD || book.after != GUARD || told.before != GUARD || told.after != GUARD) {
+        printf("A WORD OUTSIDE THE RUNS CHANGED, ");
+        bad = 1;
+    }
+    check("kind", told.words[SKID_BOOK_KIND], kind);
+    check(kind == SKID_BOOK_REFUSED ? "refusal" : "version", told.words[1], first);
+    check("setpoint", told.words[SKID_BOOK_SETPOINT], setpoint);
+    check("word", told.words[SKID_BOOK_WORD], bits);
+}
+
+static void no_setting(uint64_t number) { tells(SKID_BOOK_REFUSED, number, 0, 0); }
+
+/* How many bytes of a slot's line and body are not 0. */
+static uint32_t marks(uint32_t slot) {
+    uint32_t i, n = 0;
+    for (i = 0; i < 8; i++) {
+        n += book.bytes[8 * slot + i] != 0;
+    }
+    for (i = 0; i < 5; i++) {
+        n += book.bytes[64 + 5 * slot + i] != 0;
+    }
+    return n;
+}
+
+static float pressure(uint32_t bits) {
+    float bar;
+    memcpy(&bar, &bits, sizeof bar);
+    return bar;
+}
+
+static void write_pressure(uint32_t slot, uint32_t cell, uint32_t serial, uint32_t bits) {
+    skid_write_pressure(HEAD, TABLE, BOOK, slot, cell, serial, pressure(bits), blank_book());
+}
+
+static void read_slot(uint32_t slot) { skid_read_setpoint(HEAD, BOOK, slot, blank_book()); }
+
+/* Memory after a cold start holds anything. */
+static void open_book(void) {
+    prepare(1);
+    acquire(NONE, NONE, 2);
+    memset(&book, 0x5a, sizeof book);
+    book.before = book.after = GUARD;
+    told.before = told.after = GUARD;
+    skid_prepare_book(HEAD, BOOK, blank_book());
+    tells(SKID_BOOK_DONE, 0, 0, 0);
+}
+
+static void unwritten(void) {
+    uint32_t i, n = 0;
+    name("a book prepared over cold RAM, read before anybody wrote");
+    open_book();
+    for (i = 0; i < 104; i++) {
+        n += book.bytes[i] != 0;
+    }
+    check("bytes not 0", n, 0);
+    for (i = 0; i < 8; i++) {
+        read_slot(i);
+        no_setting(SKID_NEVER_WRITTEN);
+    }
+    end(&books);
+
+    name("a book that was not prepared");
+    memset(book.bytes, 0x5a, sizeof book.bytes);
+    read_slot(2);
+    no_setting(SKID_DAMAGED_BOOK);
+    end(&books);
+}
+
+static void written(void) {
+    static const uint8_t body[5] = {1, 0, 0, 192, 63}, line[8] = {74, 0, 5, 0, 1, 0, 0, 0};
+    name("the governor writes 1.5 bar");
+    open_book();
+    skid_write_pressure(HEAD, TABLE, BOOK, 2, 2, 1, 1.5f, blank_book());
+    tells(SKID_BOOK_WRITTEN, 1, 0, 0);
+    check("line", memcmp(book.bytes + 16, line, 8) == 0, 1);
+    check("body", memcmp(book.bytes + 74, body, 5) == 0, 1);
+    read_slot(2);
+    tells(SKID_BOOK_SETTING, 1, SKID_PRESSURE, 0x3fc00000u);
+    check("bar", pressure((uint32_t)told.words[SKID_BOOK_WORD]) == 1.5f, 1);
+    end(&books);
+
+    name("minus zero, bit for bit, as version 2");
+    write_pressure(2, 2, 1, 0x80000000u);
+    tells(SKID_BOOK_WRITTEN, 2, 0, 0);
+    read_slot(2);
+    tells(SKID_BOOK_SETTING, 2, SKID_PRESSURE, 0x80000000u);
+    end(&books);
+
+    name("the smallest pressure above 0, and the largest");
+    write_pressure(2, 2, 1, 1);
+    read_slot(2);
+    tells(SKID_BOOK_SETTING, 3, SKID_PRESSURE, 1);
+    write_pressure(2, 2, 1, 0x7f7fffffu);
+    read_slot(2);
+    tells(SKID_BOOK_SETTING, 4, SKID_PRESSURE, 0x7f7fffffu);
+    end(&books);
+
+    name("a speed, a valve open and shut");
+    skid_write_speed(HEAD, TABLE, BOOK, 2, 2, 1, 4294967295u, blank_book());
+    tells(SKID_BOOK_WRITTEN, 5, 0, 0);
+    read_slot(2);
+    tells(SKID_BOOK_SETTING, 5, SKID_SPEED, 4294967295u);
+    skid_write_valve(HEAD, TABLE, BOOK, 2, 2, 1, true, blank_book());
+    read_slot(2);
+    tells(SKID_BOOK_SETTING, 6, SKID_VALVE, 1);
+    skid_write_valve(HEAD, TABLE, BOOK, 2, 2, 1, false, blank_book());
+    read_slot(2);
+    tells(SKID_BOOK_SETTING, 7, SKID_VALVE, 0);
+    check("bytes of slot 1 not 0", marks(1), 0);
+    check("bytes of slot 3 not 0", marks(3), 0);
+    end(&books);
+}
+
+static void not_written(void) {
+    uint8_t before[104];
+    name("refused writes, in order");
+    open_book();
+    write_pressure(2, 2, 1, 0x3fc00000u);
+    book.bytes[74] = 4; /* slot 2's body is damaged */
+    memcpy(before, book.bytes, sizeof before);
+    skid_write_pressure(HEAD, table.words, 23, BOOK, 8, 2, 7, pressure(0x7fc00000u), blank_book());
+    no_setting(SKID_BAD_SHAPE);
+    write_pressure(8, 2, 7, 0x7fc00000u);
+    no_setting(SKID_BAD_SLOT);
+    skid_write_pressure(HEAD, TABLE, book.bytes, 103, 2, 2, 7, pressure(0x7fc00000u), blank_book());
+    no_setting(SKID_BAD_SLOT);
+    write_pressure(2, 2, 7, 0x7fc00000u);
+    no_setting(SKID_NOT_HELD);
+    write_pressure(3, 2, 1, 0x3fc00000u);
+    no_setting(SKID_NOT_HELD);
+    write_pressure(2, 2, 1, 0x7fc00000u);
+    no_setting(SKID_NOT_FINITE);
+    write_pressure(2, 2, 1, 0xff800000u);
+    no_setting(SKID_NOT_FINITE);
+    write_pressure(2, 2, 1, 0x3fc00000u);
+    no_setting(SKID_DAMAGED_BOOK);
+    read_slot(2);
+    no_setting(SKID_DAMAGED_BOOK);
+    read_slot(3);
+    no_setting(SKID_NEVER_WRITTEN);
+    check("bytes as they were", memcmp(before, book.bytes, sizeof before) == 0, 1);
+    end(&books);
+
+    name("another lease on the cell");
+    open_book();
+    skid_release_then_handoff(HEAD, TABLE, 2, 1, blank());
+    called();
+    skid_write_speed(HEAD, TABLE, BOOK, 2, 2, 1, 7, blank_book());
+    no_setting(SKID_NOT_HELD);
+    skid_write_valve(HEAD, TABLE, BOOK, 2, 2, 1, true, blank_book());
+    no_setting(SKID_NOT_HELD);
+    skid_write_speed(HEAD, TABLE, BOOK, 2, 2, 2, 7, blank_book());
+    tells(SKID_BOOK_WRITTEN, 1, 0, 0);
+    end(&books);
+
+    name("the last version");
+    memset(book.bytes + 20, 0xff, 4);
+    skid_write_speed(HEAD, TABLE, BOOK, 2, 2, 2, 8, blank_book());
+    no_setting(SKID_VERSIONS_SPENT);
+    read_slot(2);
+    tells(SKID_BOOK_SETTING, 4294967295u, SKID_SPEED, 7);
+    end(&books);
+
+    name("no book");
+    skid_prepare_book(HEAD, NONE, blank_book());
+    no_setting(SKID_BAD_SLOT);
+    skid_read_setpoint(HEAD, NONE, 2, blank_book());
+    no_setting(SKID_BAD_SLOT);
+    skid_prepare_book(0, 4, 1, BOOK, blank_book());
+    no_setting(SKID_BAD_SHAPE);
+    end(&books);
+}
+
 /* ---- edges: each call by its own name, with its arguments in their places */
 
 /* Every word behind the head. */
@@ -593,6 +786,9 @@ int main(void) {
     foreign_release();
     keys();
     crews();
+    unwritten();
+    written();
+    not_written();
     without_script();
     with_script();
     refused_preparation();
@@ -600,6 +796,7 @@ int main(void) {
         printf("bench cases in C: %d failed\n", failures);
         return 1;
     }
+    printf("setpoint book in C: %d passed\n", books);
     printf("edges in C: %d passed\n", edges);
     printf("bench cases in C: %d passed\n", cases);
     return 0;

@@ -1,9 +1,10 @@
-// The calls of document 01, and document 02's waveform, for a kernel in C or Rust; include/skid.h declares them. Only
-// numbers and lent runs cross: the head goes in as three numbers, a lease as two, and the last parameter is the lent
-// reply, whose words crate `words` lays out. Each is thin: it makes the head, makes the call, and writes the reply's
-// words.
+// The calls of document 01, and document 02's setpoint book and waveform, for a kernel in C or Rust; include/skid.h
+// declares them. Only numbers and lent runs cross: the head goes in as three numbers, a lease as two, and the last
+// parameter is the lent reply, whose words crate `words` lays out. Each is thin: it makes the head, makes the call, and
+// writes the reply's words.
 use model::Head;
 use model::Lease;
+use setpoint::Setpoint;
 ghost use mathlib.Core.Path.{_≡_};
 ghost use Rattle.model.specs.Arena.{headOf, leaseOf};
 ghost use Rattle.model.specs.Calls.{prepareOf, tryAcquireOf, dropLeaseOf, readPermissionOf, competingAcquireOf};
@@ -11,8 +12,10 @@ ghost use Rattle.model.specs.Calls.{releaseThenHandoffOf, foreignReleaseOf, acq
 ghost use Rattle.model.specs.Calls.{environmentOf, tryLockOf, transactionalOf, acquireBucketOf, releaseAllOf};
 ghost use Rattle.model.specs.Calls.{acquireLocksOf};
 ghost use Rattle.model.specs.Crew.{crewOf};
+ghost use Rattle.setpoint.specs.declared.Setpoint.the-variants.{Pressure, Speed, Valve};
+ghost use Rattle.slots.specs.Calls.{prepareBookOf, writeSetpointOf, readSetpointOf};
 ghost use Rattle.wave.specs.Calls.{writeOf, readIntoOf};
-ghost use Rattle.words.specs.Words.{replyWords, playedWords, crewWords, dumpedWords, undumpedWords, told};
+ghost use Rattle.words.specs.Words.{replyWords, playedWords, crewWords, bookWords, dumpedWords, undumpedWords, told};
 
 // ---- preparing
 
@@ -528,6 +531,136 @@ pub extern "C" fn skid_crew(
     };
     let r = crew::crew(head, table, health, counts, cells, turns);
     *reply = words::crew_words(r);
+}
+
+// ---- the setpoint book (document 02, L2)
+
+// Refused with 1 or BadSlot it changes no byte.
+#[no_mangle]
+pub extern "C" fn skid_prepare_book(
+    headers: u32,
+    buckets: u32,
+    next: u32,
+    book: &mut [u8],
+    reply: &mut [u64; 4],
+)
+    ensures { λ _. ⌜ (now (reply .exit), now (book .exit))
+        ≡ told bookWords (prepareBookOf (headOf headers buckets next) (now (book .entry))) ⌝ }
+{
+    let head = Head {
+        headers,
+        buckets,
+        next,
+    };
+    let r = book::prepare_book(head, book);
+    *reply = words::book_words(r);
+}
+
+// A pressure that is not finite is NotFinite. The table is only read, and a refusal changes no byte. Each sort of
+// setpoint has a call of its own, so that no wrong kind can cross.
+#[no_mangle]
+pub extern "C" fn skid_write_pressure(
+    headers: u32,
+    buckets: u32,
+    next: u32,
+    table: &[u32],
+    book: &mut [u8],
+    slot: u32,
+    cell: u32,
+    serial: u32,
+    bar: f32,
+    reply: &mut [u64; 4],
+)
+    ensures { λ _. ⌜ (now (reply .exit), now (book .exit))
+        ≡ told bookWords (writeSetpointOf (headOf headers buckets next) (now (table .entry))
+        (now (book .entry)) slot (leaseOf cell serial) (Pressure bar)) ⌝ }
+{
+    let head = Head {
+        headers,
+        buckets,
+        next,
+    };
+    let lease = Lease { cell, serial };
+    let r = book::write_setpoint(head, table, book, slot, lease, Setpoint::Pressure(bar));
+    *reply = words::book_words(r);
+}
+
+// So too; no speed is NotFinite.
+#[no_mangle]
+pub extern "C" fn skid_write_speed(
+    headers: u32,
+    buckets: u32,
+    next: u32,
+    table: &[u32],
+    book: &mut [u8],
+    slot: u32,
+    cell: u32,
+    serial: u32,
+    speed: u32,
+    reply: &mut [u64; 4],
+)
+    ensures { λ _. ⌜ (now (reply .exit), now (book .exit))
+        ≡ told bookWords (writeSetpointOf (headOf headers buckets next) (now (table .entry))
+        (now (book .entry)) slot (leaseOf cell serial) (Speed speed)) ⌝ }
+{
+    let head = Head {
+        headers,
+        buckets,
+        next,
+    };
+    let lease = Lease { cell, serial };
+    let r = book::write_setpoint(head, table, book, slot, lease, Setpoint::Speed(speed));
+    *reply = words::book_words(r);
+}
+
+// So too; true is open.
+#[no_mangle]
+pub extern "C" fn skid_write_valve(
+    headers: u32,
+    buckets: u32,
+    next: u32,
+    table: &[u32],
+    book: &mut [u8],
+    slot: u32,
+    cell: u32,
+    serial: u32,
+    opened: bool,
+    reply: &mut [u64; 4],
+)
+    ensures { λ _. ⌜ (now (reply .exit), now (book .exit))
+        ≡ told bookWords (writeSetpointOf (headOf headers buckets next) (now (table .entry))
+        (now (book .entry)) slot (leaseOf cell serial) (Valve opened)) ⌝ }
+{
+    let head = Head {
+        headers,
+        buckets,
+        next,
+    };
+    let lease = Lease { cell, serial };
+    let r = book::write_setpoint(head, table, book, slot, lease, Setpoint::Valve(opened));
+    *reply = words::book_words(r);
+}
+
+// Changes nothing and takes no table: a read needs no lease.
+#[no_mangle]
+pub extern "C" fn skid_read_setpoint(
+    headers: u32,
+    buckets: u32,
+    next: u32,
+    book: &[u8],
+    slot: u32,
+    reply: &mut [u64; 4],
+)
+    ensures { λ _. ⌜ now (reply .exit)
+        ≡ bookWords (readSetpointOf (headOf headers buckets next) (now (book .entry)) slot) ⌝ }
+{
+    let head = Head {
+        headers,
+        buckets,
+        next,
+    };
+    let r = book::read_setpoint(head, book, slot);
+    *reply = words::book_words(r);
 }
 
 // ---- the waveform of the cells (document 02, L11)

@@ -1,8 +1,8 @@
-//! Document 01's bench cases, through the crate `skid`, and edges of the calls. A line for each case; exit 1 if a
-//! figure is not document 01's.
+//! Document 01's bench cases, through the crate `skid`, the setpoint book of document 02, and edges of the calls. A
+//! line for each case; exit 1 if a figure is not the documents'.
 use skid::{
-    Answer, Arena, Counts, Head, Key, Lease, Played, Reason, Refusal, Reply, Script, Step,
-    NO_SERIAL,
+    Answer, Arena, BookAnswer, BookRefusal, Counts, Head, Key, Lease, Played, Reason, Refusal,
+    Reply, Script, Setpoint, Step, LONGEST_BOOK, NO_SERIAL, SLOT_BYTES,
 };
 use std::fmt::Debug;
 use std::process::exit;
@@ -354,6 +354,130 @@ fn falling_list(b: &mut Bench) {
     });
 }
 
+// ---- the setpoint book: the governor holds cell 2 by serial 1, the panel reads
+
+const GOVERNOR: Lease = Lease { cell: 2, serial: 1 };
+const BAR: Setpoint = Setpoint::Pressure(1.5);
+
+/// A book of eight slots, prepared over rubbish, between guards.
+fn with_book(run: impl FnOnce(&mut Arena, &mut [u8])) {
+    with_arena(1, |arena| {
+        assert_eq!(acquire(arena, &[], &[], 2).answer, granted(2, 1));
+        let mut bytes = [0x5a; 8 * SLOT_BYTES + 2];
+        let book = &mut bytes[1..8 * SLOT_BYTES + 1];
+        assert_eq!(arena.prepare_book(book), BookAnswer::Done);
+        run(arena, book);
+        assert_eq!(
+            (bytes[0], bytes[8 * SLOT_BYTES + 1]),
+            (0x5a, 0x5a),
+            "a byte outside the book"
+        );
+    });
+}
+
+fn not(refusal: BookRefusal) -> BookAnswer {
+    BookAnswer::Refused(refusal)
+}
+
+/// The bits of a pressure, since -0.0 equals 0.0.
+fn bits(answer: BookAnswer) -> Option<(u32, u32)> {
+    match answer {
+        BookAnswer::Setting(Setpoint::Pressure(bar), version) => Some((bar.to_bits(), version)),
+        _ => None,
+    }
+}
+
+fn never_written(b: &mut Bench) {
+    with_book(|arena, book| {
+        b.check("bytes not 0", book.iter().filter(|x| **x != 0).count(), 0);
+        for slot in 0..8 {
+            let read = arena.read_setpoint(book, slot);
+            b.check("read", read, not(BookRefusal::NeverWritten));
+        }
+        book.fill(0x5a);
+        let read = arena.read_setpoint(book, 2);
+        b.check("not prepared", read, not(BookRefusal::DamagedBook));
+    });
+}
+
+fn governor_writes(b: &mut Bench) {
+    with_book(|arena, book| {
+        let write = arena.write_setpoint(book, 2, GOVERNOR, BAR);
+        b.check("write", write, BookAnswer::Written(1));
+        b.check("line", &book[16..24], &[74, 0, 5, 0, 1, 0, 0, 0]);
+        b.check("body", &book[74..79], &[1, 0, 0, 192, 63]);
+        let read = arena.read_setpoint(book, 2);
+        b.check("read", read, BookAnswer::Setting(BAR, 1));
+        for (version, pattern) in [(2, 0x8000_0000), (3, 1), (4, 0x7f7f_ffff)] {
+            let setpoint = Setpoint::Pressure(f32::from_bits(pattern));
+            let write = arena.write_setpoint(book, 2, GOVERNOR, setpoint);
+            b.check("write", write, BookAnswer::Written(version));
+            let read = arena.read_setpoint(book, 2);
+            b.check("bits", bits(read), Some((pattern, version)));
+        }
+        let others = [
+            Setpoint::Speed(u32::MAX),
+            Setpoint::Valve(true),
+            Setpoint::Valve(false),
+        ];
+        for (version, setpoint) in (5..).zip(others) {
+            let write = arena.write_setpoint(book, 2, GOVERNOR, setpoint);
+            b.check("write", write, BookAnswer::Written(version));
+            let read = arena.read_setpoint(book, 2);
+            b.check("read", read, BookAnswer::Setting(setpoint, version));
+        }
+        let read = arena.read_setpoint(book, 3);
+        b.check("slot 3", read, not(BookRefusal::NeverWritten));
+    });
+}
+
+fn refused_writes(b: &mut Bench) {
+    with_book(|arena, book| {
+        let stale = Lease { cell: 2, serial: 7 };
+        let nan = Setpoint::Pressure(f32::NAN);
+        let below = Setpoint::Pressure(f32::NEG_INFINITY);
+        let _ = arena.write_setpoint(book, 2, GOVERNOR, BAR);
+        book[74] = 4;
+        let mut before = [0; 8 * SLOT_BYTES];
+        before.copy_from_slice(book);
+        let bare =
+            Arena::resume(arena.head(), &mut [], &mut []).write_setpoint(book, 8, stale, nan);
+        b.check("no table", bare, not(BookRefusal::BadShape));
+        for (slot, lease, setpoint, refusal) in [
+            (8, stale, nan, BookRefusal::BadSlot),
+            (2, stale, nan, BookRefusal::NotHeld),
+            (3, GOVERNOR, BAR, BookRefusal::NotHeld),
+            (2, GOVERNOR, nan, BookRefusal::NotFinite),
+            (2, GOVERNOR, below, BookRefusal::NotFinite),
+            (2, GOVERNOR, BAR, BookRefusal::DamagedBook),
+        ] {
+            let write = arena.write_setpoint(book, slot, lease, setpoint);
+            b.check("write", write, not(refusal));
+        }
+        b.check("bytes as they were", *book == before, true);
+        let short = arena.prepare_book(&mut book[1..]);
+        b.check("too short", short, not(BookRefusal::BadSlot));
+        let long = arena.prepare_book(&mut [0; LONGEST_BOOK + 1]);
+        b.check("too long", long, not(BookRefusal::BadSlot));
+    });
+}
+
+fn last_version(b: &mut Bench) {
+    with_book(|arena, book| {
+        let write = arena.write_setpoint(book, 2, GOVERNOR, Setpoint::Speed(7));
+        b.check("write", write, BookAnswer::Written(1));
+        book[20..24].fill(0xff);
+        let write = arena.write_setpoint(book, 2, GOVERNOR, BAR);
+        b.check("write", write, not(BookRefusal::VersionsSpent));
+        let read = arena.read_setpoint(book, 2);
+        b.check(
+            "read",
+            read,
+            BookAnswer::Setting(Setpoint::Speed(7), u32::MAX),
+        );
+    });
+}
+
 // ---- edges: each call by its own name, empty lists, refused preparations
 
 fn without_script(b: &mut Bench) {
@@ -538,6 +662,11 @@ fn main() {
     b.case("crew {2,5},{2,5}, turns 0,1 seven times", crew);
     b.case("crew {2,5},{5,2}", falling_list);
     let cases = b.passed;
+    b.case("a book read before anybody wrote", never_written);
+    b.case("the governor writes", governor_writes);
+    b.case("refused writes, in order", refused_writes);
+    b.case("the last version", last_version);
+    let books = b.passed - cases;
     b.case("calls without a script", without_script);
     b.case("calls with a script", with_script);
     b.case("nothing lent", nothing_lent);
@@ -545,6 +674,7 @@ fn main() {
         println!("bench cases in Rust: {} failed", b.failed);
         exit(1);
     }
-    println!("edges in Rust: {} passed", b.passed - cases);
+    println!("setpoint book in Rust: {books} passed");
+    println!("edges in Rust: {} passed", b.passed - cases - books);
     println!("bench cases in Rust: {cases} passed");
 }

@@ -1,10 +1,11 @@
-//! The lease layer of the skid kernel: the calls of document 01, and the waveform of the cells ([`wave`]), safe to call.
+//! The lease layer of the skid kernel: the calls of document 01, the setpoint book ([`Setpoint`]) and the waveform of
+//! the cells ([`wave`]), safe to call.
 //!
 //! The programs of a pump skid's kernel share one arena of setpoint buckets. Each bucket has a mutex cell. A program
 //! that takes a cell gets a [`Lease`]: the number of the cell, and a serial.
 //!
 //! Each call is made by a proved library, `libskid.a`: for every argument the answer and every lent word afterwards are
-//! what document 01 says, refusals included. This crate only lends the runs and reads the reply's words. It has no
+//! what the documents say, refusals included. This crate only lends the runs and reads the reply's words. It has no
 //! heap, no thread and no dependency.
 //!
 //! ```no_run
@@ -34,9 +35,12 @@
 #![deny(unsafe_op_in_unsafe_fn)]
 #![deny(missing_docs)]
 
+mod book;
 #[allow(unsafe_code)]
 mod sys;
 pub mod wave;
+
+pub use book::{BookAnswer, BookRefusal, Setpoint, LONGEST_BOOK, SLOTS, SLOT_BYTES};
 
 /// The version of this crate and of the library under it; CHANGELOG.md says what came with which.
 pub const VERSION: &str = env!("CARGO_PKG_VERSION");

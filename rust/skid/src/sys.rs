@@ -14,6 +14,8 @@ use core::mem::{align_of, size_of};
 pub(crate) const REPLY: usize = 14;
 /// Words of the crew's.
 pub(crate) const CREW: usize = 48;
+/// Words of the setpoint book's.
+pub(crate) const BOOK: usize = 4;
 /// Words of the waveform's.
 pub(crate) const WAVE: usize = 3;
 /// What a reply holds before a call. The library writes every word; one that it left out would show.
@@ -25,7 +27,7 @@ const _: () = assert!(size_of::<Key>() == 8 && align_of::<Key>() == 4);
 const _: () = assert!(size_of::<Step>() == 12 && align_of::<Step>() == 4);
 
 mod raw {
-    use super::{CREW, REPLY, WAVE};
+    use super::{BOOK, CREW, REPLY, WAVE};
 
     extern "C" {
         pub(super) fn skid_prepare(
@@ -273,6 +275,65 @@ mod raw {
             turns: *const u32,
             turns_len: usize,
             reply: *mut [u64; CREW],
+        );
+        pub(super) fn skid_prepare_book(
+            headers: u32,
+            buckets: u32,
+            next: u32,
+            book: *mut u8,
+            book_len: usize,
+            reply: *mut [u64; BOOK],
+        );
+        pub(super) fn skid_write_pressure(
+            headers: u32,
+            buckets: u32,
+            next: u32,
+            table: *const u32,
+            table_len: usize,
+            book: *mut u8,
+            book_len: usize,
+            slot: u32,
+            cell: u32,
+            serial: u32,
+            bar: f32,
+            reply: *mut [u64; BOOK],
+        );
+        pub(super) fn skid_write_speed(
+            headers: u32,
+            buckets: u32,
+            next: u32,
+            table: *const u32,
+            table_len: usize,
+            book: *mut u8,
+            book_len: usize,
+            slot: u32,
+            cell: u32,
+            serial: u32,
+            speed: u32,
+            reply: *mut [u64; BOOK],
+        );
+        pub(super) fn skid_write_valve(
+            headers: u32,
+            buckets: u32,
+            next: u32,
+            table: *const u32,
+            table_len: usize,
+            book: *mut u8,
+            book_len: usize,
+            slot: u32,
+            cell: u32,
+            serial: u32,
+            open: bool,
+            reply: *mut [u64; BOOK],
+        );
+        pub(super) fn skid_read_setpoint(
+            headers: u32,
+            buckets: u32,
+            next: u32,
+            book: *const u8,
+            book_len: usize,
+            slot: u32,
+            reply: *mut [u64; BOOK],
         );
         pub(super) fn skid_write_dump(
             cells: u32,
@@ -773,6 +834,126 @@ pub(crate) fn crew(
             cells.len(),
             turns.as_ptr(),
             turns.len(),
+            &mut reply,
+        );
+    }
+    reply
+}
+
+pub(crate) fn prepare_book(head: Head, book: &mut [u8]) -> [u64; BOOK] {
+    let mut reply = [BLANK; BOOK];
+    // SAFETY: the pointers and lengths are those of references; see the head of this file.
+    unsafe {
+        raw::skid_prepare_book(
+            head.headers,
+            head.buckets,
+            head.next,
+            book.as_mut_ptr(),
+            book.len(),
+            &mut reply,
+        );
+    }
+    reply
+}
+
+pub(crate) fn write_pressure(
+    head: Head,
+    table: &[u32],
+    book: &mut [u8],
+    slot: u32,
+    lease: Lease,
+    bar: f32,
+) -> [u64; BOOK] {
+    let mut reply = [BLANK; BOOK];
+    // SAFETY: the pointers and lengths are those of references; see the head of this file.
+    unsafe {
+        raw::skid_write_pressure(
+            head.headers,
+            head.buckets,
+            head.next,
+            table.as_ptr(),
+            table.len(),
+            book.as_mut_ptr(),
+            book.len(),
+            slot,
+            lease.cell,
+            lease.serial,
+            bar,
+            &mut reply,
+        );
+    }
+    reply
+}
+
+pub(crate) fn write_speed(
+    head: Head,
+    table: &[u32],
+    book: &mut [u8],
+    slot: u32,
+    lease: Lease,
+    speed: u32,
+) -> [u64; BOOK] {
+    let mut reply = [BLANK; BOOK];
+    // SAFETY: the pointers and lengths are those of references; see the head of this file.
+    unsafe {
+        raw::skid_write_speed(
+            head.headers,
+            head.buckets,
+            head.next,
+            table.as_ptr(),
+            table.len(),
+            book.as_mut_ptr(),
+            book.len(),
+            slot,
+            lease.cell,
+            lease.serial,
+            speed,
+            &mut reply,
+        );
+    }
+    reply
+}
+
+pub(crate) fn write_valve(
+    head: Head,
+    table: &[u32],
+    book: &mut [u8],
+    slot: u32,
+    lease: Lease,
+    open: bool,
+) -> [u64; BOOK] {
+    let mut reply = [BLANK; BOOK];
+    // SAFETY: the pointers and lengths are those of references; see the head of this file.
+    unsafe {
+        raw::skid_write_valve(
+            head.headers,
+            head.buckets,
+            head.next,
+            table.as_ptr(),
+            table.len(),
+            book.as_mut_ptr(),
+            book.len(),
+            slot,
+            lease.cell,
+            lease.serial,
+            open,
+            &mut reply,
+        );
+    }
+    reply
+}
+
+pub(crate) fn read_setpoint(head: Head, book: &[u8], slot: u32) -> [u64; BOOK] {
+    let mut reply = [BLANK; BOOK];
+    // SAFETY: the pointers and lengths are those of references; see the head of this file.
+    unsafe {
+        raw::skid_read_setpoint(
+            head.headers,
+            head.buckets,
+            head.next,
+            book.as_ptr(),
+            book.len(),
+            slot,
             &mut reply,
         );
     }

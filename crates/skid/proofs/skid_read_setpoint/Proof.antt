@@ -1,0 +1,18 @@
+-- `skid::skid_read_setpoint` meets its contract.
+use Rattle.slots.specs.Outcomes.{told-whole}
+use borrow.Author.Needs.{needs}
+use Rattle.skid.proofs.skid_read_setpoint.Statement.{statement}
+use Rattle.skid.proofs.skid_read_setpoint.Tie as tie
+
+read-setpoint-requires : tie.Need-read-setpoint-requires
+read-setpoint-requires c κs = search needs
+
+book-words-requires : tie.Need-book-words-requires
+book-words-requires c κs = told-whole _ _ _ _ (c .read-setpoint .ensures)
+
+returns : tie.Need-returns
+returns c = rw (← c .before .read-setpoint .ensures, ← c .book-words .ensures)
+
+pub skid-read-setpoint-spec : {M : Type 1} → statement M
+skid-read-setpoint-spec =
+    tie.close (tie.spec read-setpoint-requires book-words-requires returns)

@@ -1,0 +1,21 @@
+-- `skid::skid_write_valve` meets its contract.
+use Rattle.words.specs.Laws.{written-whole}
+use borrow.Author.Needs.{needs}
+use Rattle.skid.proofs.skid_write_valve.Statement.{statement}
+use Rattle.skid.proofs.skid_write_valve.Tie as tie
+
+write-setpoint-requires : tie.Need-write-setpoint-requires
+write-setpoint-requires c κs = search needs
+
+book-words-requires : tie.Need-book-words-requires
+book-words-requires c κs = written-whole _ _ _ _ _ _ _ _ (c .before .before .write-setpoint .ensures)
+
+same-length : tie.Need-same-length
+same-length c = search needs
+
+returns : tie.Need-returns
+returns c = rw (← c .before .before .before .write-setpoint .ensures, ← c .book-words .ensures)
+
+pub skid-write-valve-spec : {M : Type 1} → statement M
+skid-write-valve-spec =
+    tie.close (tie.spec write-setpoint-requires book-words-requires same-length returns)

@@ -1,0 +1,125 @@
+//! The setpoint book (document 02, L2): a setpoint for each cell, at most the first 64, in a lent run of bytes.
+use crate::{sys, Arena, Lease};
+
+/// No book has more bytes.
+pub const LONGEST_BOOK: usize = 32_768;
+/// The most slots of a book: one for each cell, up to these.
+pub const SLOTS: u32 = 64;
+/// Bytes that each slot needs: 8 for its line, 5 for its body.
+pub const SLOT_BYTES: usize = 13;
+
+/// A setpoint.
+#[derive(Clone, Copy, Debug, PartialEq)]
+pub enum Setpoint {
+    /// A pressure in bar; one that is not finite is [`BookRefusal::NotFinite`].
+    Pressure(f32),
+    /// A speed.
+    Speed(u32),
+    /// A valve; true is open.
+    Valve(bool),
+}
+
+impl Setpoint {
+    /// The setpoint that words 2 and 3 of a setting tell. The library gives no kind but 1 to 3, and of a valve no word
+    /// but 0 and 1.
+    const fn of(w: &[u64; sys::BOOK]) -> Setpoint {
+        let bits = w[3] as u32;
+        match w[2] {
+            1 => Setpoint::Pressure(f32::from_bits(bits)),
+            2 => Setpoint::Speed(bits),
+            _ => Setpoint::Valve(bits != 0),
+        }
+    }
+}
+
+/// The refusals of the book's calls. Each changes no byte.
+#[derive(Clone, Copy, Debug, PartialEq, Eq)]
+pub enum BookRefusal {
+    /// Document 01's 1: the head or the table's length breaks the arena's rules.
+    BadShape,
+    /// The book is too short for its slots or over the limit, or there is no such slot.
+    BadSlot,
+    /// Document 01's 12: no live lease on the slot's cell.
+    NotHeld,
+    /// A pressure that is a NaN or an infinity.
+    NotFinite,
+    /// The slot's line or body fits no rule.
+    DamagedBook,
+    /// The slot is at version 4,294,967,295.
+    VersionsSpent,
+    /// The slot is at version 0.
+    NeverWritten,
+}
+
+impl BookRefusal {
+    /// The refusal that word 1 tells. The library gives no number but these.
+    const fn of(w: &[u64; sys::BOOK]) -> BookRefusal {
+        match w[1] {
+            1 => BookRefusal::BadShape,
+            12 => BookRefusal::NotHeld,
+            101 => BookRefusal::BadSlot,
+            102 => BookRefusal::NotFinite,
+            103 => BookRefusal::DamagedBook,
+            104 => BookRefusal::VersionsSpent,
+            _ => BookRefusal::NeverWritten,
+        }
+    }
+}
+
+/// The answer of a call of the book.
+#[derive(Clone, Copy, Debug, PartialEq)]
+#[must_use]
+pub enum BookAnswer {
+    /// The book is prepared.
+    Done,
+    /// Written, as this version.
+    Written(u32),
+    /// A setpoint and its version.
+    Setting(Setpoint, u32),
+    /// Refused.
+    Refused(BookRefusal),
+}
+
+impl BookAnswer {
+    /// The answer that four words tell. The library gives no kind but 0 to 3.
+    const fn of(w: &[u64; sys::BOOK]) -> BookAnswer {
+        match w[0] {
+            0 => BookAnswer::Done,
+            1 => BookAnswer::Written(w[1] as u32),
+            2 => BookAnswer::Setting(Setpoint::of(w), w[1] as u32),
+            _ => BookAnswer::Refused(BookRefusal::of(w)),
+        }
+    }
+}
+
+impl Arena<'_> {
+    /// Sets every byte of the book to 0, whatever stood there.
+    pub fn prepare_book(&self, book: &mut [u8]) -> BookAnswer {
+        BookAnswer::of(&sys::prepare_book(self.head, book))
+    }
+
+    /// Writes a setpoint to a slot, by a live lease on the slot's cell, and gives the slot's new version. Refused in
+    /// this order: [`BookRefusal::BadShape`], [`BookRefusal::BadSlot`], [`BookRefusal::NotHeld`],
+    /// [`BookRefusal::NotFinite`], [`BookRefusal::DamagedBook`], [`BookRefusal::VersionsSpent`].
+    pub fn write_setpoint(
+        &self,
+        book: &mut [u8],
+        slot: u32,
+        lease: Lease,
+        setpoint: Setpoint,
+    ) -> BookAnswer {
+        let (head, table) = (self.head, &*self.table);
+        let words = match setpoint {
+            Setpoint::Pressure(bar) => sys::write_pressure(head, table, book, slot, lease, bar),
+            Setpoint::Speed(speed) => sys::write_speed(head, table, book, slot, lease, speed),
+            Setpoint::Valve(open) => sys::write_valve(head, table, book, slot, lease, open),
+        };
+        BookAnswer::of(&words)
+    }
+
+    /// The setpoint of a slot and its version; it needs no lease. Refused in this order: [`BookRefusal::BadShape`] for
+    /// the head, [`BookRefusal::BadSlot`], [`BookRefusal::DamagedBook`], [`BookRefusal::NeverWritten`].
+    pub fn read_setpoint(&self, book: &[u8], slot: u32) -> BookAnswer {
+        BookAnswer::of(&sys::read_setpoint(self.head, book, slot))
+    }
+}
