@@ -53,8 +53,8 @@
  * - book: at most SKID_MAX_BOOK bytes. One slot for each cell, at most the first SKID_MAX_SLOTS: n slots, for which
  *   13 x n bytes are needed. Bytes behind them are set to 0 by preparing, and else left alone.
  * - First a table of contents, 8 bytes a slot: the place of its body (2 bytes), its length (2 bytes; 5), its version
- *   (4 bytes), each low byte first. Then the bodies in slot order, 5 bytes each, that of slot i at 8 x n + 5 x i: a kind
- *   (enum skid_setpoint), and four bytes, low byte first.
+ *   (4 bytes), each low byte first. Then the bodies in slot order, 5 bytes each, that of slot i at 8 x n + 5 x i: a
+ *   kind (enum skid_setpoint), and four bytes, low byte first.
  * - A slot that was never written is all zeros. A line or a body that fits no rule is SKID_DAMAGED_BOOK, for its slot
  *   alone.
  */
