@@ -182,12 +182,20 @@ acquire_index_bucket 2 2
 release_all 0 0
 acquire_index_locks 0 0
 crew 0 0
+book 1 1
+book_byte 2 2
+show_book 0 0
+prepare_book 0 0
+read_setpoint 1 1
 TABLE
+# of a setpoint one word is no number
+for count in 0 1 2 3 4 5 6; do echo "write_setpoint$(numbers "$count" 1)"; done >>"$input"
 printf 'lend 1\nlend 0\nlend 1 2 3\nlend x\nlend 1 x\necho 2\necho 256\necho 4294967295\necho 4294967296\necho 01\necho x\necho\n' >>"$input"
 all_bad 'too many and too few words'
 for word in ram lend head word byte registry held keys leases turns script place grants member crewless show map echo help prepare try_acquire drop_lease read_permission \
     competing_acquire_is_excluded release_then_handoff foreign_release_between_attempts acquire_preserving_borrows drop_preserving_borrows environment \
-    environment_for_borrows try_lock other_mutex_preserves_leases transactional_try_lock_bucket acquire_index_bucket release_all acquire_index_locks crew; do
+    environment_for_borrows try_lock other_mutex_preserves_leases transactional_try_lock_bucket acquire_index_bucket release_all acquire_index_locks crew \
+    book book_byte show_book prepare_book read_setpoint write_setpoint; do
     # the right count of numbers, the word wrong: longer, shorter, of capitals
     for rest in '' ' 1' ' 1 1' ' 1 1 1'; do
         printf '%s\n' "${word}x$rest" "${word%?}$rest" "x$word$rest" "${word#?}$rest" "${word^}$rest" "${word^^}$rest" "$word.$rest"
@@ -288,6 +296,35 @@ if ! diff <(grep 'not understood' "$room/player") <(printf 'line %s: not underst
     echo 'ends of table and health: NOT THE TEXT WANTED'
     wrong=$((wrong + 1))
 fi
+# the book: its room, one more, its ends, and a setpoint's words
+printf 'book 33000\nbook_byte 32999 7\nbook_byte 0 255\nshow_book\nbook 33001\nbook 4294967295\nbook_byte 33000 0\nbook_byte 4294967295 0\nbook_byte 0 256\nprepare 1 1 1\nprepare_book\nread_setpoint 0\nbook 32769\nprepare_book\nbook 32768\nprepare_book\nbook 32785\nshow_book\n' >"$input"
+compare 'ends of the book'
+texts=$((texts + 1))
+if ! diff <(grep 'not understood' "$room/player") <(printf 'line %s: not understood\n' 5 6 7 8 9) ||
+    ! grep -q '^at 0 255 ' "$room/player" || ! grep -q '^at 32992\( [0-9]*\)\{7\} 7$' "$room/player" ||
+    [ "$(tail -n 2 "$room/player" | grep -c '^at 327')" != 2 ]; then
+    echo 'ends of the book: NOT THE TEXT WANTED'
+    wrong=$((wrong + 1))
+fi
+{
+    for kind in Pressure pressures pressur p 1 '' ' speed' speeds VALVE; do echo "write_setpoint 0 0 1 $kind 1"; done
+    for value in '' ' 4294967296' ' -1' ' 1.5' ' NaN' ' 01' ' 1 1' ' speed' '  1' ' 1 ' $' 1\r'; do
+        for kind in pressure speed valve; do echo "write_setpoint 0 0 1 $kind$value"; done
+    done
+    for value in 2 256 4294967295; do echo "write_setpoint 0 0 1 valve $value"; done
+    printf '%s\n' 'write_setpoint 0 0 speed 1' 'write_setpoint 0 0 1 1 speed 1' 'write_setpoint speed 0 0 1 1' 'write_setpoint x 0 1 speed 1' \
+        'write_setpoint 0 x 1 speed 1' 'write_setpoint 0 0 x speed 1' 'write_setpoint  0 0 1 speed 1' 'write_setpoint 00 0 1 speed 1' \
+        'write_setpoint 4294967296 0 1 speed 1' ' write_setpoint 0 0 1 speed 1' 'speed 0 0 1 write_setpoint 1'
+} >"$input"
+all_bad 'setpoints that are none'
+{
+    printf 'prepare 1 2 1\nbook 26\nprepare_book\ntry_acquire 1\n'
+    for bits in 0 1 1069547520 2139095039 2139095040 2139095041 2147483647 2147483648 4286578687 4286578688 4286578689 4294967295; do
+        for kind in pressure speed; do printf 'write_setpoint 1 1 1 %s %s\nread_setpoint 1\n' "$kind" "$bits"; done
+    done
+    printf 'show_book\nram 5\nshow_book\nread_setpoint 0\n'
+} >"$input"
+compare 'pressures by their bits'
 printf 'lend 12601 70\nlend 12600 71\nlend 4294967295 0\nlend 0 4294967295\nlend 1\nlend 1 1 1\n' >"$input"
 all_bad 'lending too much'
 printf 'lend 12600 70\nprepare 2 4 1\nlend 24 2\nprepare 2 4 1\nlend 23 2\nprepare 2 4 1\nlend 24 1\nprepare 2 4 1\ntry_acquire 0\nenvironment\nlend 0 0\nshow\nlend 2 0\nshow\nlend 3 0\nshow\nlend 7 1\nshow\nlend\nshow\n' >"$input"

@@ -88,7 +88,8 @@ tried=$((tried + 1))
 for word in ram lend head word byte registry held keys leases turns script place grants member crewless show echo map trace help prepare \
     try_acquire drop_lease read_permission competing_acquire_is_excluded release_then_handoff foreign_release_between_attempts \
     acquire_preserving_borrows drop_preserving_borrows environment environment_for_borrows try_lock other_mutex_preserves_leases \
-    transactional_try_lock_bucket acquire_index_bucket release_all acquire_index_locks crew; do
+    transactional_try_lock_bucket acquire_index_bucket release_all acquire_index_locks crew book book_byte show_book prepare_book \
+    write_setpoint read_setpoint; do
     grep -q "^$word\b" "$room/out" || complain "help does not name $word"
 done
 
@@ -155,7 +156,7 @@ play "$input" >"$room/out" 2>/dev/full || complain "standard error lost: status 
 
 # ---- the stack: 2 MB, environment and all
 
-{ cat bench/*.txt; printf '\nhelp\nlend 12600 70\nram 3\nshow\necho 1\n'; of_length 5000 x; printf '\nlend\nprepare 64 64 1\nmap\n'; } >"$input"
+{ cat bench/*.txt; printf '\nhelp\nlend 12600 70\nram 3\nshow\nbook 33000\nshow_book\necho 1\n'; of_length 5000 x; printf '\nlend\nprepare 64 64 1\nmap\n'; } >"$input"
 play "$input" >"$room/wanted" 2>"$room/wanted-said"
 STACK=2048 play "$input" >"$room/out" 2>"$room/said" || complain "a stack of 2 MB: status $?"
 same 'a stack of 2 MB' "$room/wanted" "$room/out"

@@ -4,6 +4,7 @@ use answer::Answered;
 use answer::quiet;
 use desk::Desk;
 use desk::HEALTH;
+use desk::RAM;
 use desk::verbs::Verb;
 use desk::verbs::fits;
 use desk::verbs::verb_of;
@@ -19,7 +20,7 @@ fn puzzled(n: usize, desk: Desk, out: &mut [u8], used: usize) -> Answered {
     }
 }
 
-// What a line changes before anything is printed. The health bytes are the first of the bytes.
+// What a line changes before anything is printed. The RAM's bytes are the first of the bytes.
 fn set_up(
     desk: Desk,
     verb: Verb,
@@ -31,7 +32,7 @@ fn set_up(
     lists: &mut [u32],
     grants: &mut [u32],
 ) -> Desk {
-    let h = within_bytes(HEALTH, bytes);
+    let r = within_bytes(RAM, bytes);
     setup::change(
         desk,
         verb,
@@ -39,7 +40,7 @@ fn set_up(
         line,
         at,
         table,
-        &mut bytes[..h],
+        &mut bytes[..r],
         lists,
         grants,
     )
@@ -71,10 +72,10 @@ fn say_answer(
     )
 }
 
-// Before a call that is traced: its bits are kept, in the bytes behind health.
+// Before a call that is traced: its bits are kept, in the bytes behind the RAM's.
 fn keep_bits(desk: Desk, verb: Verb, got: Numbers, table: &[u32], bytes: &mut [u8]) {
-    let h = within_bytes(HEALTH, bytes);
-    trace::keep(desk, verb, got, table, &mut bytes[h..]);
+    let r = within_bytes(RAM, bytes);
+    trace::keep(desk, verb, got, table, &mut bytes[r..]);
 }
 
 // Behind what such a call printed: its steps.
@@ -87,8 +88,8 @@ fn say_steps(
     out: &mut [u8],
     used: usize,
 ) -> usize {
-    let h = within_bytes(HEALTH, bytes);
-    trace::steps(desk, verb, got, table, &bytes[h..], out, used)
+    let r = within_bytes(RAM, bytes);
+    trace::steps(desk, verb, got, table, &bytes[r..], out, used)
 }
 
 // All that it prints. The steps are those of the table that the desk before it lends.
@@ -141,6 +142,23 @@ fn obey(
     perform(ready, verb, got, table, bytes, lists, grants, out, used)
 }
 
+// A line of the book, or one that is not understood.
+fn other(
+    n: usize,
+    desk: Desk,
+    line: &[u8],
+    table: &[u32],
+    bytes: &mut [u8],
+    out: &mut [u8],
+    used: usize,
+) -> Answered {
+    let said = shelf::play(desk, line, table, bytes, out, used);
+    if said.understood {
+        return said;
+    }
+    puzzled(n, desk, out, used)
+}
+
 // A line that is neither empty nor a comment, the n-th.
 fn act(
     n: usize,
@@ -173,7 +191,7 @@ fn act(
             );
         }
     }
-    puzzled(n, desk, out, used)
+    other(n, desk, line, table, bytes, out, used)
 }
 
 // An empty line is skipped, and so is a remark.

@@ -28,6 +28,10 @@ pub struct Desk {
     pub grants: usize,
     pub members: usize,
     pub cells: usize,
+    // How many bytes of the book are lent.
+    pub book: usize,
+    // How many counters a crew at work has.
+    pub counters: usize,
 }
 
 // What a call came to: the desk after it, its counts and its answer.
@@ -47,7 +51,7 @@ pub enum List {
     Script,
 }
 
-// All lists lie in one run of 170,700 numbers: where each begins.
+// All lists lie in one run of 166,237 numbers: where each begins.
 pub const REGISTRY: usize = 0;
 
 pub const HELD: usize = 80;
@@ -62,7 +66,7 @@ pub const CELLS: usize = 900;
 
 pub const TURNS: usize = 2300;
 
-pub const SCRIPT: usize = 72300;
+pub const SCRIPT: usize = 67837;
 
 // A step of the console, no call of document 01: only its own crates call it.
 pub fn start_of(list: List) -> usize {
@@ -87,6 +91,29 @@ pub fn room_of(list: List) -> usize {
         List::Turns => 70000,
         List::Script => 98400,
     }
+}
+
+// Where each ends, so that the next one is not written. Of the turns 65,537 numbers are kept: document 01 takes 65,536,
+// and refuses a longer list with 15 whatever it holds and however long it is. The stack of the player is the poorer for
+// every number more.
+// A step of the console, no call of document 01: only its own crates call it.
+pub fn end_of(list: List) -> usize {
+    match list {
+        List::Registry => HELD,
+        List::Held => KEYS,
+        List::Keys => LEASES,
+        List::Leases => COUNTS,
+        List::Turns => SCRIPT,
+        List::Script => 166237,
+    }
+}
+
+// The turns that are kept.
+fn turns_kept(n: usize) -> usize {
+    if n < 65537 {
+        return n;
+    }
+    65537
 }
 
 // The part of the run from `start` on that has n numbers; where there is none, the empty one.
@@ -122,8 +149,11 @@ pub fn within_bytes(n: usize, run: &[u8]) -> usize
     run.len()
 }
 
-// All bytes lie in one run of 4,270: 70 of health, and behind them one for each cell, for `trace`.
+// All bytes lie in one run of 37,270: 70 of health and behind them the book's 33,000, which are the RAM's; and behind
+// those one for each cell, for `trace`.
 pub const HEALTH: usize = 70;
+
+pub const RAM: usize = 33070;
 
 // 3·H·B, the true product, or a number that is more than there is.
 // A step of the console, no call of document 01: only its own crates call it.
@@ -159,6 +189,8 @@ pub fn first_desk() -> Desk {
         grants: 0,
         members: 0,
         cells: 0,
+        book: 0,
+        counters: 0,
     }
 }
 
@@ -229,6 +261,18 @@ impl Desk {
         self
     }
 
+    // A step of the console, no call of document 01: only its own crates call it.
+    pub fn with_book(mut self, n: usize) -> Desk {
+        self.book = n;
+        self
+    }
+
+    // A step of the console, no call of document 01: only its own crates call it.
+    pub fn with_counters(mut self, n: usize) -> Desk {
+        self.counters = n;
+        self
+    }
+
     // A list has n numbers now; with a new script the place is 0 again.
     // A step of the console, no call of document 01: only its own crates call it.
     pub fn with_length(mut self, list: List, n: usize) -> Desk {
@@ -237,7 +281,7 @@ impl Desk {
             List::Held => self.held = n,
             List::Keys => self.keys = n,
             List::Leases => self.leases = n,
-            List::Turns => self.turns = n,
+            List::Turns => self.turns = turns_kept(n),
             List::Script => {
                 self.script = n;
                 self.place = 0;

@@ -18,7 +18,7 @@ fn ram_lines(out: &mut [u8], used: usize) -> usize {
     put(
         out,
         used,
-        b"ram SEED: fill table and health with rubbish\n\
+        b"ram SEED: fill table, health and book with rubbish\n\
         word I V: store table word I, as bad RAM would\n\
         byte I V: store health byte I, as bad RAM would\n\
         lend T G: lend T words and G bytes; lend alone: what the head asks for\n\
@@ -96,21 +96,43 @@ fn many_lines(out: &mut [u8], used: usize) -> usize {
     )
 }
 
+fn book_setup_lines(out: &mut [u8], used: usize) -> usize {
+    put(
+        out,
+        used,
+        b"book N: lend the first N bytes of the book\n\
+        book_byte I V: store byte I of the book, as bad RAM would\n\
+        show_book: the lent book, sixteen bytes a line, but for zeros\n",
+    )
+}
+
+fn book_lines(out: &mut [u8], used: usize) -> usize {
+    put(
+        out,
+        used,
+        b"prepare_book: set the lent book to zeros\n\
+        write_setpoint SLOT C S KIND VALUE: pressure (the 32 bits of an f32), speed or valve (0, 1), by the lease\n\
+        read_setpoint SLOT: the setpoint of a slot and its version\n",
+    )
+}
+
 fn command_lines(out: &mut [u8], used: usize) -> usize {
     let a = talk_lines(out, used);
     let b = ram_lines(out, a);
     let c = list_lines(out, b);
-    crew_setup_lines(out, c)
+    let d = crew_setup_lines(out, c);
+    book_setup_lines(out, d)
 }
 
 fn call_lines(out: &mut [u8], used: usize) -> usize {
     let a = cell_lines(out, used);
     let b = held_lines(out, a);
     let c = lock_lines(out, b);
-    many_lines(out, c)
+    let d = many_lines(out, c);
+    book_lines(out, d)
 }
 
-// Less than 3,000 bytes.
+// Less than 4,000 bytes.
 // A step of the console, no call of document 01: only its own crates call it.
 pub fn help(out: &mut [u8], used: usize) -> usize {
     let a = command_lines(out, used);

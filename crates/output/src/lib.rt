@@ -1,6 +1,6 @@
 // The bench console. The room for output, and how it is written out. A function of the console puts text behind the
-// first `used` bytes of the room and says how many are used then. The room is written out when 9,000 bytes are used;
-// between two such places less than 7,000 are put, and the room has 16,384. So it is full only where output was lost,
+// first `used` bytes of the room and says how many are used then. The room is written out when 1,000 bytes are used;
+// between two such places less than 7,000 are put, and the room has 8,192. So it is full only where output was lost,
 // and then it stays full.
 use desk::within_bytes;
 use text::put;
@@ -45,7 +45,7 @@ pub fn written(out: &[u8], used: usize) -> usize {
 // Written out, if much of the room is used.
 // A step of the console, no call of document 01: only its own crates call it.
 pub fn ready(out: &[u8], used: usize) -> usize {
-    if used < 9000 {
+    if used < 1000 {
         return used;
     }
     written(out, used)

@@ -1,6 +1,6 @@
 // The bench console. It reads its input in roomfuls, plays each line when its line feed has come, and writes what
 // the calls answered before it reads again. docs/CONSOLE.md has the language.
-use desk::HEALTH;
+use desk::RAM;
 use room::Course;
 use room::after_read;
 use room::at_its_end;
@@ -24,22 +24,22 @@ fn main() {
 
 // The lists of the player.
 fn with_lists(input: &mut [u8]) {
-    let mut lists = [0u32; 170700];
+    let mut lists = [0u32; 166237];
     with_ram(input, &mut lists);
 }
 
 // The player starts as after `ram 1`.
 fn rubbish(table: &mut [u32], bytes: &mut [u8]) {
-    let h = desk::within_bytes(HEALTH, bytes);
-    setup::fill(1, table, &mut bytes[..h]);
+    let n = desk::within_bytes(RAM, bytes);
+    setup::fill(1, table, &mut bytes[..n]);
 }
 
 // The player's own RAM and a byte for each of its cells, a grant buffer, and a room for output.
 fn with_ram(input: &mut [u8], lists: &mut [u32]) {
     let mut table = [0u32; 12600];
-    let mut bytes = [0u8; 4270];
+    let mut bytes = [0u8; 37270];
     let mut grants = [0u32; 300];
-    let mut out = [0u8; 16384];
+    let mut out = [0u8; 8192];
     rubbish(&mut table, &mut bytes);
     converse(input, &mut table, &mut bytes, lists, &mut grants, &mut out);
 }

@@ -3,8 +3,10 @@ use desk::CELLS;
 use desk::COUNTS;
 use desk::Desk;
 use desk::List;
+use desk::end_of;
 use desk::start_of;
 use desk::verbs::Verb;
+use desk::within;
 use model::Head;
 use text::Numbers;
 
@@ -26,21 +28,21 @@ fn fill_words(seed: u32, table: &mut [u32]) -> u32 {
     x
 }
 
-fn fill_bytes(seed: u32, health: &mut [u8]) {
+fn fill_bytes(seed: u32, bytes: &mut [u8]) {
     let mut x = seed;
     let mut i = 0;
-    while i < health.len() {
+    while i < bytes.len() {
         x = rubbish(x);
-        health[i] = ((x / 65536) % 256) as u8;
+        bytes[i] = ((x / 65536) % 256) as u8;
         i += 1;
     }
 }
 
-// Fills table and health with rubbish.
+// Fills the table and the RAM's bytes, health and book, with rubbish.
 // A step of the console, no call of document 01: only its own crates call it.
-pub fn fill(seed: u32, table: &mut [u32], health: &mut [u8]) {
+pub fn fill(seed: u32, table: &mut [u32], bytes: &mut [u8]) {
     let x = fill_words(seed, table);
-    fill_bytes(x, health);
+    fill_bytes(x, bytes);
 }
 
 fn set_word(table: &mut [u32], i: usize, value: u32) {
@@ -82,7 +84,8 @@ fn head(desk: Desk, got: Numbers) -> Desk {
 }
 
 fn replace(desk: Desk, list: List, line: &[u8], at: usize, n: usize, lists: &mut [u32]) -> Desk {
-    text::store(line, at, lists, start_of(list));
+    let end = within(end_of(list), lists);
+    text::store(line, at, &mut lists[..end], start_of(list));
     desk.with_length(list, n)
 }
 
@@ -100,7 +103,8 @@ fn member(desk: Desk, line: &[u8], at: usize, n: usize, lists: &mut [u32]) -> De
     desk
 }
 
-// What a line changes of the desk, the RAM and the lists before anything is printed: nothing, where it makes a call.
+// What a line changes of the desk, the RAM and the lists before anything is printed: nothing, where it makes a call. The
+// health bytes are the first of the RAM's bytes.
 // A step of the console, no call of document 01: only its own crates call it.
 pub fn change(
     desk: Desk,
@@ -109,13 +113,13 @@ pub fn change(
     line: &[u8],
     at: usize,
     table: &mut [u32],
-    health: &mut [u8],
+    bytes: &mut [u8],
     lists: &mut [u32],
     grants: &mut [u32],
 ) -> Desk {
     match verb {
         Verb::Ram => {
-            fill(got.a, table, health);
+            fill(got.a, table, bytes);
             desk
         }
         Verb::Word => {
@@ -123,7 +127,7 @@ pub fn change(
             desk
         }
         Verb::Byte => {
-            set_byte(health, got.a as usize, got.b);
+            set_byte(bytes, got.a as usize, got.b);
             desk
         }
         Verb::Grants => {

@@ -7,10 +7,10 @@ use Rattle.setup.proofs.fill_bytes.Statement.{statement}
 use Rattle.setup.proofs.fill_bytes.Tie as tie
 
 abbrev Inv-loop : tie.InvT-loop
-Inv-loop seed health₀ x₀ i₀ health x i = (length health ≡ length health₀)
+Inv-loop seed bytes₀ x₀ i₀ bytes x i = (length bytes ≡ length bytes₀)
 
 abbrev μ-loop : tie.MeasureT-loop
-μ-loop seed health₀ x₀ i₀ health x i = length health₀ - i
+μ-loop seed bytes₀ x₀ i₀ bytes x i = length bytes₀ - i
 
 loop-holds : tie.Need-loop-holds Inv-loop μ-loop
 loop-holds c = search needs
@@ -18,11 +18,11 @@ loop-holds c = search needs
 rubbish-requires : tie.Need-rubbish-requires Inv-loop μ-loop
 rubbish-requires c κs = search needs
 
-cast-health : tie.Need-cast-health Inv-loop μ-loop
-cast-health c = search needs
+cast-bytes : tie.Need-cast-bytes Inv-loop μ-loop
+cast-bytes c = search needs
 
-slice-write-health : tie.Need-slice-write-health Inv-loop μ-loop
-slice-write-health c = search needs
+slice-write-bytes : tie.Need-slice-write-bytes Inv-loop μ-loop
+slice-write-bytes c = search needs
 
 add-i : tie.Need-add-i Inv-loop μ-loop
 add-i c = search needs
@@ -47,8 +47,8 @@ fill-bytes-spec =
     μ-loop
     loop-holds
     rubbish-requires
-    cast-health
-    slice-write-health
+    cast-bytes
+    slice-write-bytes
     add-i
     loop-less
     loop-again
