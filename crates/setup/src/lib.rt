@@ -103,8 +103,8 @@ fn member(desk: Desk, line: &[u8], at: usize, n: usize, lists: &mut [u32]) -> De
     desk
 }
 
-// What a line changes of the desk, the RAM and the lists before anything is printed: nothing, where it makes a call. The
-// health bytes are the first of the RAM's bytes.
+// What a line changes of the desk, the RAM and the lists before anything is printed: nothing, where it makes a call.
+// The health bytes are the first of the RAM's bytes.
 // A step of the console, no call of document 01: only its own crates call it.
 pub fn change(
     desk: Desk,
