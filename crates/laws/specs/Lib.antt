@@ -9,3 +9,4 @@ pub mod Outcomes
 pub mod Crew
 pub mod Prepared
 pub mod Salvage
+pub mod Sorting

@@ -11,3 +11,4 @@ pub mod Crew
 pub mod Order
 pub mod Cases
 pub mod Salvage
+pub mod Sorted

@@ -340,3 +340,9 @@ pub struct SalvageReply {
     pub head: Head,
     pub answer: SalvageAnswer,
 }
+
+// What the tests of the keys come to that go position by position: the first fault, with the position that has it.
+pub enum KeyCheck {
+    Fine,
+    FaultAt(Refusal, usize),
+}

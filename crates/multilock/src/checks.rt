@@ -1,5 +1,5 @@
 // The checks of multi-lock, in the order of document 01's table.
-// Nothing here is reached from outside the crate.
+// Crate `sorted` begins with the same checks.
 use model::Check;
 use model::Head;
 use model::Refusal;
@@ -60,6 +60,7 @@ fn all_keys_fault(registry: &[u32], held: &[u32], keys: &[u32], grants: &[u32]) 
     }
 }
 
+// All of them.
 pub fn locks_check(
     head: Head,
     table: &[u32],

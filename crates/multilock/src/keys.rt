@@ -1,6 +1,6 @@
 // The keys in the order given, and the grant buffer.
 // Functions with a `requires` are steps: calls have tested the shape, and a step tests nothing twice.
-// Nothing here is reached from outside the crate.
+// Crate `sorted` calls `lock_keys` too.
 use crate::rollback::roll_back;
 use foreign::Scope;
 use model::Answer;

@@ -2,8 +2,10 @@
 // The leases taken so far stand in an array of sixty-four pairs, passed by value with a count; a refusal rolls it back
 // from the end.
 // Functions with a `requires` are steps: calls have tested the shape, and a step tests nothing twice.
-mod checks;
-mod keys;
+// Steps are no calls of document 01, public ones neither: only the layers here call them (tests/layers.sh), and each
+// caller proves their `requires`.
+pub mod checks;
+pub mod keys;
 mod rollback;
 
 use checks::locks_check;

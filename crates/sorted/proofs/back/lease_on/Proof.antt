@@ -1,0 +1,95 @@
+-- `sorted::back::lease_on` meets its contract.
+use Prim.Native.Nat.{_≤_, _-_, _*_, _/_}
+use mathlib.Core.Path.{_≡_, refl}
+use native.Mathlib.Omega.{arith}
+use lib.ListN.{length, drop}
+use borrow.Author.Tests.{eq-eqb, ne-eqb}
+use borrow.Author.Needs.{needs}
+use Rattle.model.specs.Sorted.{leaseOn}
+use Rattle.model.specs.Arena.{leasesOf}
+use Rattle.sorted.specs.Back.{lease-on-at, lease-on-end}
+use Rattle.sorted.proofs.back.lease_on.Statement.{statement}
+use Rattle.sorted.proofs.back.lease_on.Tie as tie
+
+abbrev Inv-loop : tie.InvT-loop
+Inv-loop leases cell i₀ i = (i ≤ length leases / 2) × (leaseOn (leasesOf (drop (2 * i) leases)) cell ≡ leaseOn (leasesOf leases) cell)
+
+abbrev μ-loop : tie.MeasureT-loop
+μ-loop leases cell i₀ i = length leases / 2 - i
+
+loop-holds : tie.Need-loop-holds Inv-loop μ-loop
+loop-holds c = (search needs, refl)
+
+mul-if1 : tie.Need-mul-if1 Inv-loop μ-loop
+mul-if1 c = search needs
+
+mul-if1-2 : tie.Need-mul-if1-2 Inv-loop μ-loop
+mul-if1-2 c = search needs
+
+shared-slice-read-if1 : tie.Need-shared-slice-read-if1 Inv-loop μ-loop
+shared-slice-read-if1 c = search needs
+
+mul-t9 : tie.Need-mul-t9 Inv-loop μ-loop
+mul-t9 c = search needs
+
+mul-t10 : tie.Need-mul-t10 Inv-loop μ-loop
+mul-t10 c = search needs
+
+shared-slice-read-t12 : tie.Need-shared-slice-read-t12 Inv-loop μ-loop
+shared-slice-read-t12 c = search needs
+
+mul-t13 : tie.Need-mul-t13 Inv-loop μ-loop
+mul-t13 c = search needs
+
+add-t14 : tie.Need-add-t14 Inv-loop μ-loop
+add-t14 c = search needs
+
+mul-t15 : tie.Need-mul-t15 Inv-loop μ-loop
+mul-t15 c = search needs
+
+shared-slice-read-t17 : tie.Need-shared-slice-read-t17 Inv-loop μ-loop
+shared-slice-read-t17 c = search needs
+
+returns : tie.Need-returns Inv-loop μ-loop
+returns c =
+    let l = c .before .before .before .before .before .loop in
+    rw (← l .inv .1, lease-on-at (c .before .before .before .before .before .before .args .leases .now) (l .i) (c .before .before .before .before .before .before .args .cell) (omega (arith, c .before .before .before .before .loop-test .taken)), eq-eqb _ _ (c .before .before .if1 .taken))
+
+add-i : tie.Need-add-i Inv-loop μ-loop
+add-i c = search needs
+
+loop-less : tie.Need-loop-less Inv-loop μ-loop
+loop-less c = search needs
+
+loop-again : tie.Need-loop-again Inv-loop μ-loop
+loop-again c =
+    let l = c .before .before .before .loop in
+    (search needs, rw (← l .inv .1, lease-on-at (c .before .before .before .before .args .leases .now) (l .i) (c .before .before .before .before .args .cell) (omega (arith, c .before .before .loop-test .taken)), ne-eqb _ _ (c .if1 .left)))
+
+returns-2 : tie.Need-returns-2 Inv-loop μ-loop
+returns-2 c =
+    let l = c .before .loop in
+    rw (← l .inv .1, lease-on-end (c .before .before .args .leases .now) (l .i) (c .before .before .args .cell) (omega (arith, c .loop-test .left)))
+
+pub lease-on-spec : {M : Type 1} → statement M
+lease-on-spec =
+    tie.close
+    (tie.spec
+    Inv-loop
+    μ-loop
+    loop-holds
+    mul-if1
+    mul-if1-2
+    shared-slice-read-if1
+    mul-t9
+    mul-t10
+    shared-slice-read-t12
+    mul-t13
+    add-t14
+    mul-t15
+    shared-slice-read-t17
+    returns
+    add-i
+    loop-less
+    loop-again
+    returns-2)

@@ -1,0 +1,100 @@
+-- `sorted::back::share` meets its contract.
+use Prim.Native.Nat.{_≤_, _<_, _-_, _*_, _+_}
+use mathlib.Core.Path.{_≡_, refl, sym, _∙_}
+use native.Mathlib.Omega.{arith}
+use lib.Seq.{take-length, take-all}
+use lib.ListN.{length, take, length-set}
+use borrow.Author.Needs.{needs}
+use Rattle.model.specs.Sorted.{sharedOf}
+use Rattle.model.specs.Arena.{leasesOf, wordsOf}
+use Rattle.sorted.specs.Back.{shared-push}
+use Rattle.sorted.proofs.back.share.Statement.{statement}
+use Rattle.sorted.proofs.back.share.Tie as tie
+
+abbrev Inv-loop : tie.InvT-loop
+Inv-loop asked leases grants₀ i₀ grants i = (i ≤ length asked) × ((length grants ≡ length grants₀) × (take (2 * i) grants ≡ wordsOf (sharedOf (leasesOf leases) (take i asked))))
+
+abbrev μ-loop : tie.MeasureT-loop
+μ-loop asked leases grants₀ i₀ grants i = length asked - i
+
+loop-holds : tie.Need-loop-holds Inv-loop μ-loop
+unfolding wordsOf sharedOf
+loop-holds c = (search needs, (refl, refl))
+
+mul-lease-on : tie.Need-mul-lease-on Inv-loop μ-loop
+mul-lease-on c = search needs
+
+shared-slice-read-lease-on : tie.Need-shared-slice-read-lease-on Inv-loop μ-loop
+shared-slice-read-lease-on c = search needs
+
+lease-on-requires : tie.Need-lease-on-requires Inv-loop μ-loop
+lease-on-requires c κs = search needs
+
+mul-grants : tie.Need-mul-grants Inv-loop μ-loop
+mul-grants c = omega (arith, c .before .before .loop-test .taken, c .before .before .before .loop .inv .1 .0, c .before .before .before .before .before .before .before .pre)
+
+mul-grants-2 : tie.Need-mul-grants-2 Inv-loop μ-loop
+mul-grants-2 c = omega (arith, c .before .before .loop-test .taken, c .before .before .before .loop .inv .1 .0, c .before .before .before .before .before .before .before .pre)
+
+slice-write-grants : tie.Need-slice-write-grants Inv-loop μ-loop
+slice-write-grants c = omega (arith, c .before .before .loop-test .taken, c .before .before .before .loop .inv .1 .0, c .before .before .before .before .before .before .before .pre)
+
+mul-grants-3 : tie.Need-mul-grants-3 Inv-loop μ-loop
+mul-grants-3 c = omega (arith, c .before .before .loop-test .taken, c .before .before .before .loop .inv .1 .0, c .before .before .before .before .before .before .before .pre)
+
+add-grants : tie.Need-add-grants Inv-loop μ-loop
+add-grants c = omega (arith, c .before .before .loop-test .taken, c .before .before .before .loop .inv .1 .0, c .before .before .before .before .before .before .before .pre)
+
+mul-grants-4 : tie.Need-mul-grants-4 Inv-loop μ-loop
+mul-grants-4 c = omega (arith, c .before .before .loop-test .taken, c .before .before .before .loop .inv .1 .0, c .before .before .before .before .before .before .before .pre)
+
+slice-write-grants-2 : tie.Need-slice-write-grants-2 Inv-loop μ-loop
+slice-write-grants-2 c = simp length-set (omega (arith, c .before .before .loop-test .taken, c .before .before .before .loop .inv .1 .0, c .before .before .before .before .before .before .before .pre))
+
+add-i : tie.Need-add-i Inv-loop μ-loop
+add-i c = search needs
+
+loop-less : tie.Need-loop-less Inv-loop μ-loop
+loop-less c = search needs
+
+loop-again : tie.Need-loop-again Inv-loop μ-loop
+loop-again c =
+    let l = c .before .before .before .loop in
+    let a = c .before .before .before .before .before .before .before .args in
+    let b : 2 * l .i + 1 < length (l .grants) = omega (arith, c .before .before .loop-test .taken, l .inv .1 .0, c .before .before .before .before .before .before .before .pre) in
+    (search needs, (simp length-set (l .inv .1 .0), rw (c .lease-on .ensures) (shared-push (leasesOf (a .leases .now)) (a .asked .now) (l .grants) (l .i) (c .before .before .loop-test .taken) b (l .inv .1 .1))))
+
+same-length : tie.Need-same-length Inv-loop μ-loop
+same-length c = search needs
+
+returns : tie.Need-returns Inv-loop μ-loop
+returns c =
+    let l = c .before .loop in
+    let a = c .before .before .before .before .before .args in
+    let k : l .i ≡ length (a .asked .now) = omega (arith, l .inv .0, c .loop-test .left) in
+    let t : take (2 * l .i) (l .grants) ≡ l .grants = take-all (2 * l .i) (l .grants) (omega (arith, k, l .inv .1 .0, c .before .before .before .before .before .pre)) in
+    let e : take (l .i) (a .asked .now) ≡ a .asked .now = rw k (take-length (a .asked .now)) in
+    sym t ∙ l .inv .1 .1 ∙ rw e
+
+pub share-spec : {M : Type 1} → statement M
+share-spec =
+    tie.close
+    (tie.spec
+    Inv-loop
+    μ-loop
+    loop-holds
+    mul-lease-on
+    shared-slice-read-lease-on
+    lease-on-requires
+    mul-grants
+    mul-grants-2
+    slice-write-grants
+    mul-grants-3
+    add-grants
+    mul-grants-4
+    slice-write-grants-2
+    add-i
+    loop-less
+    loop-again
+    same-length
+    returns)

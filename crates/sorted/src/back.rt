@@ -1,0 +1,79 @@
+// What was locked, for the caller: one lease for each key, in the caller's order, or the refusal's position.
+// Functions with a `requires` are steps: calls have tested the shape, and a step tests nothing twice.
+// Nothing here is reached from outside the crate.
+use crate::order::first_asking;
+use model::Answer;
+use model::Ended;
+use model::Head;
+use model::Lease;
+use model::Played;
+ghost use mathlib.Core.Path.{_≡_};
+ghost use Prim.Native.Nat.{_*_};
+ghost use lib.ListN.{length};
+ghost use Rattle.model.specs.Arena.{leasesOf, wordsOf};
+ghost use Rattle.model.specs.Sorted.{leaseOn, sharedOf};
+ghost use Rattle.sorted.specs.Back.{backOf, Placed};
+
+// The lease of a cell, among leases.
+fn lease_on(leases: &[u32], cell: u32) -> Lease
+    ensures { λ r. ⌜ r ≡ leaseOn (leasesOf (now (leases .entry))) cell ⌝ }
+{
+    let mut i = 0;
+    while i < leases.len() / 2 {
+        if leases[2 * i] == cell {
+            return Lease {
+                cell: leases[2 * i],
+                serial: leases[2 * i + 1],
+            };
+        }
+        i += 1;
+    }
+    Lease { cell: 0, serial: 0 }
+}
+
+// One lease for each key; keys of one cell share one.
+fn share(asked: &[u32], leases: &[u32], grants: &mut [u32])
+    requires { ⌜ length (now grants) ≡ 2 * length (now asked) ⌝ }
+    ensures { λ _. ⌜ now (grants .exit)
+        ≡ wordsOf (sharedOf (leasesOf (now (leases .entry))) (now (asked .entry))) ⌝ }
+{
+    let mut i = 0;
+    while i < asked.len() {
+        let lease = lease_on(leases, asked[i]);
+        grants[2 * i] = lease.cell;
+        grants[2 * i + 1] = lease.serial;
+        i += 1;
+    }
+}
+
+// The caller's buffer and answer, from what multi-lock's steps came to.
+pub fn finish(
+    head: Head,
+    ended: Ended,
+    asked: &[u32],
+    sorted: &[u32],
+    leases: &[u32],
+    grants: &mut [u32],
+) -> Played
+    requires { ⌜ (length (now grants) ≡ 2 * length (now asked)) × Placed (length (now sorted)) (ended .answer) ⌝ }
+    ensures { λ r. ⌜ (r, now (grants .exit)) ≡ backOf head ended (now (asked .entry)) (now (sorted .entry))
+        (now (leases .entry)) (now (grants .entry)) ⌝ }
+{
+    let run = ended.run;
+    let answer = ended.answer;
+    match answer {
+        Answer::AllGranted => {
+            share(asked, leases, grants);
+            foreign::play(head, run, Answer::AllGranted)
+        }
+        Answer::RefusedAt(refusal, q) => {
+            let p = first_asking(asked, sorted[q]);
+            foreign::play(head, run, Answer::RefusedAt(refusal, p))
+        }
+        Answer::Done => foreign::play(head, run, Answer::Done),
+        Answer::Cell(cell) => foreign::play(head, run, Answer::Cell(cell)),
+        Answer::Granted(lease) => foreign::play(head, run, Answer::Granted(lease)),
+        Answer::Busy(why) => foreign::play(head, run, Answer::Busy(why)),
+        Answer::Refused(refusal) => foreign::play(head, run, Answer::Refused(refusal)),
+    }
+}

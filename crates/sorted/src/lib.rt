@@ -1,0 +1,180 @@
+// Multi-lock with keys in any order, and doubles (document 02, L4): `acquire_sorted_locks`.
+// The keys are resolved to cells and sorted in arrays of the call's own; then multi-lock's own steps lock the sorted
+// keys, and each key is handed the lease of its cell.
+// Functions with a `requires` are steps: calls have tested the shape, and a step tests nothing twice.
+mod back;
+mod check;
+mod order;
+
+use back::finish;
+use check::first_key_fault;
+use model::Answer;
+use model::Check;
+use model::Counts;
+use model::Head;
+use model::KeyCheck;
+use model::Played;
+use model::Refusal;
+use order::order;
+ghost use mathlib.Core.Path.{_≡_};
+ghost use lib.ListN.{length};
+ghost use Rattle.model.specs.Sorted.{unplayedAt, sortedLocksOf, acquireSortedOf};
+ghost use Rattle.multilock.specs.Fine.{LocksFine};
+ghost use Rattle.sorted.specs.Order.{KeysFine};
+ghost use Rattle.sorted.specs.Steps.{checkedOf};
+
+// A refusal at a position, before any step.
+fn unplay_at(head: Head, place: usize, refusal: Refusal, p: usize) -> Played
+    ensures { λ r. ⌜ r ≡ unplayedAt head place refusal p ⌝ }
+{
+    Played {
+        head,
+        place,
+        counts: Counts {
+            attempts: 0,
+            boundaries: 0,
+            yields: 0,
+            dropped: 0,
+        },
+        answer: Answer::RefusedAt(refusal, p),
+    }
+}
+
+// Room for the words of 64 keys or leases. It is made apart, so that its words are not met one by one.
+fn room() -> [u32; 128]
+    ensures { λ r. ⌜ length r ≡ 128 ⌝ }
+{
+    [0; 128]
+}
+
+// The steps of a call whose checks are fine.
+fn sorted_once(
+    head: Head,
+    table: &mut [u32],
+    health: &mut [u8],
+    registry: &[u32],
+    script: &[u32],
+    place: usize,
+    held: &[u32],
+    keys: &[u32],
+    grants: &mut [u32],
+) -> Played
+    requires { ⌜ LocksFine head (length (now table)) (length (now health)) (length (now script)) place
+        (now registry) (now keys) (length (now grants)) × KeysFine head (now registry) (now keys) ⌝ }
+    ensures { λ r. ⌜ (r, (now (table .exit), (now (health .exit), now (grants .exit))))
+        ≡ sortedLocksOf head (now (table .entry)) (now (health .entry)) (now (registry .entry))
+        (now (script .entry)) place (now (held .entry)) (now (keys .entry)) (now (grants .entry)) .seen ⌝ }
+{
+    let n = keys.len() / 2;
+    let mut asked = room();
+    let mut sorted = room();
+    let mut chosen = room();
+    let mut leases = room();
+    let m = order(head, registry, keys, &mut asked, &mut sorted, &mut chosen);
+    let words = 2 * m;
+    let scope = foreign::scope_of(head, script);
+    let start = bucket::starting(head, place);
+    let ended = multilock::keys::lock_keys(
+        scope,
+        start,
+        table,
+        health,
+        script,
+        held,
+        registry,
+        &chosen[..words],
+        m,
+        &mut leases[..words],
+    );
+    finish(
+        head,
+        ended,
+        &asked[..n],
+        &sorted[..m],
+        &leases[..words],
+        grants,
+    )
+}
+
+// The checks by position, and then the steps.
+fn sorted_checked(
+    head: Head,
+    table: &mut [u32],
+    health: &mut [u8],
+    registry: &[u32],
+    script: &[u32],
+    place: usize,
+    held: &[u32],
+    keys: &[u32],
+    grants: &mut [u32],
+) -> Played
+    requires { ⌜ LocksFine head (length (now table)) (length (now health)) (length (now script)) place
+        (now registry) (now keys) (length (now grants)) ⌝ }
+    ensures { λ r. ⌜ (r, (now (table .exit), (now (health .exit), now (grants .exit))))
+        ≡ checkedOf head (now (table .entry)) (now (health .entry)) (now (registry .entry))
+        (now (script .entry)) place (now (held .entry)) (now (keys .entry)) (now (grants .entry)) .seen ⌝ }
+{
+    let check = first_key_fault(head, registry, keys);
+    match check {
+        KeyCheck::FaultAt(refusal, p) => unplay_at(head, place, refusal, p),
+        KeyCheck::Fine => sorted_once(
+            head,
+            table,
+            health,
+            registry,
+            script,
+            place,
+            held,
+            keys,
+            grants,
+        ),
+    }
+}
+
+// ---- the call
+
+// Keys in any order, all or none, each distinct cell locked once, in rising order. On a grant the buffer has cell and
+// serial for each key, in the caller's order; keys of one cell share one lease, which `release_all` takes once. A bad
+// header or bucket is refused before any attempt, at its position; a later refusal carries the first position asking
+// for that cell, gives back all that was taken, and leaves the buffer as it was.
+pub fn acquire_sorted_locks(
+    head: Head,
+    table: &mut [u32],
+    health: &mut [u8],
+    registry: &[u32],
+    script: &[u32],
+    place: usize,
+    held: &[u32],
+    keys: &[u32],
+    grants: &mut [u32],
+) -> Played
+    ensures { λ r. ⌜ (r, (now (table .exit), (now (health .exit), now (grants .exit))))
+        ≡ acquireSortedOf head (now (table .entry)) (now (health .entry)) (now (registry .entry))
+        (now (script .entry)) place (now (held .entry)) (now (keys .entry)) (now (grants .entry)) .seen ⌝ }
+{
+    let check = multilock::checks::locks_check(
+        head,
+        table,
+        health,
+        registry,
+        script,
+        place,
+        held,
+        keys,
+        grants,
+    );
+    match check {
+        Check::Fault(refusal) => foreign::unplay(head, place, refusal),
+        Check::Fine => sorted_checked(
+            head,
+            table,
+            health,
+            registry,
+            script,
+            place,
+            held,
+            keys,
+            grants,
+        ),
+    }
+}
