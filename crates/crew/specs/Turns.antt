@@ -112,7 +112,7 @@ module _ (work : Work) (headers buckets : ℕ) (g counts cells : List ℕ) (next
   -- and the crew behind it
   abbrev pub crewBy : ℕ → ℕ → ℕ → Move × (List ℕ × List ℕ) → Crew
   crewBy m start k o =
-      after (o .0) (o .1 .0) (o .1 .1) (notedBy (o .0) (eqb (getD made m 0 + 1) (getD counts m 0)) noted counters m (getD cells start 0)) at-work m k
+      after (o .0) (o .1 .0) (o .1 .1) (notedBy (o .0) (eqb (getD made m 0 + 1) (getD counts m 0)) noted (o .1 .1) m (getD cells start 0)) at-work m k
 
   move-is : (m start k : ℕ) → start ≡ startOf counts m → m < length made → Placed work start (getD made m 0) (getD counts m 0) k
       → leb (movesOf work (getD counts m 0)) (getD made m 0) ≡ false
@@ -223,7 +223,7 @@ module _ (work : Work) (headers buckets : ℕ) (g counts cells turns : List ℕ)
           rest = rw (← one-idle (w .few)) (rw f at go-on);
         }
 
-    pub work-took : (next′ s : ℕ) → mv ≡ move.Took next′ s → Then next′ u (set made member (so-far + 1)) (moving + 1) x (notedAt (eqb (so-far + 1) wants) noted counters member (getD cells first 0))
+    pub work-took : (next′ s : ℕ) → mv ≡ move.Took next′ s → Then next′ u (set made member (so-far + 1)) (moving + 1) x (notedAt (eqb (so-far + 1) wants) noted x member (getD cells first 0))
     work-took next′ s f =
         record {
           serials = set (w .serials) k s;

@@ -1,5 +1,5 @@
-// The plan of a crew's run, for document 01's and document 02's: what its limits, lists and turns must keep, and where each
-// member's list begins.
+// The plan of a crew's run, for document 01's and document 02's: what its limits, lists and turns must keep, and where
+// each member's list begins.
 // Functions with a `requires` are steps: the call has tested the limits, and a step tests nothing twice.
 use model::Check;
 use model::Refusal;

@@ -1,0 +1,40 @@
+-- The crew at work as the code makes it: its last checks, where a member stands, what is noted, and what the loop hands back.
+use Prim.Native.Nat.{ℕ, _-_}
+use mathlib.Core.List.{List, _∷_, _++_}
+use mathlib.Core.Bool.{Bool}
+use lib.Dec.{ltb, eqb}
+use lib.ListN.{length, getD}
+use Rattle.choice.specs.Choice.{if_then_else_}
+use Rattle.model.specs.Refusals.{first}
+use Rattle.model.specs.Crew.{adds, Crew, crewStart, badLimits, badLists, badTurns, turnsOf}
+use Rattle.model.specs.declared.Check.{Check}
+use Rattle.model.specs.declared.Check.the-variants.{Fault}
+use Rattle.model.specs.declared.CrewReply.{CrewReply}
+use Rattle.model.specs.declared.Head.{Head}
+use Rattle.model.specs.declared.Refusal.the-variants.{BadShape}
+use Rattle.crew.specs.Model.{finishOf}
+use Rattle.crew.specs.declared.Worked.{Worked}
+
+-- behind the arena's checks: one counter a cell, and the plan
+unfoldable pub workFaultOf : ℕ → List ℕ → List ℕ → List ℕ → List ℕ → Check
+workFaultOf inside counts cells turns counters =
+    if eqb (length counters) inside then first (badLimits counts cells turns ∷ (badLists (length counts) 0 inside counts cells ++ badTurns (length counts) 0 turns))
+    else Fault BadShape
+
+-- the move of document 01's run at the same place
+unfoldable pub standOf : ℕ → ℕ → ℕ
+standOf n count = if ltb n count then n else n - count
+
+unfoldable pub noteOf : Bool → ℕ → List ℕ → ℕ → ℕ
+noteOf full before counters low = if full then getD counters low 0 else before
+
+-- ---- all turns, and the reply
+
+abbrev pub handedWith : Crew → Worked × (List ℕ × List ℕ)
+handedWith w = (record { next = w .next; moving = w .moving; idle = w .idle; made = w .made }, (w .table, w .counters))
+
+unfoldable pub workTurnsOf : Head → List ℕ → List ℕ → List ℕ → List ℕ → List ℕ → List ℕ → Worked × (List ℕ × List ℕ)
+workTurnsOf h t g counts cells turns counters = handedWith (turnsOf adds (h .headers) (h .buckets) g counts cells (crewStart h t counters) turns .seen)
+
+unfoldable pub workRunOf : Head → List ℕ → List ℕ → List ℕ → List ℕ → List ℕ → List ℕ → CrewReply × (List ℕ × List ℕ)
+workRunOf h t g counts cells turns counters = let o = workTurnsOf h t g counts cells turns counters in (finishOf adds h counts (o .0), o .1)
