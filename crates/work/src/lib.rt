@@ -1,5 +1,5 @@
-// The crew at work (document 02, L13): between holding all its cells and releasing them, a member adds to their counters, a
-// moving turn a cell. Plans, places, takes, releases and replies are those of `plan` and `crew`.
+// The crew at work (document 02, L13): between holding all its cells and releasing them, a member adds to their
+// counters, a moving turn a cell. Plans, places, takes, releases and replies are those of `plan` and `crew`.
 // Functions with a `requires` are steps: the call has tested shape, counters, limits, lists and turns, and a step tests
 // nothing twice.
 use crew::Move;
@@ -148,25 +148,16 @@ fn work_turns(
             continue;
         }
         let start = starts[m];
-        let k = crew::place(start, stand(n, count), count);
+        let cell = cells[crew::place(start, stand(n, count), count)];
+        let value = noted[m];
         let once_more = n + 1;
-        match work_move(
-            head,
-            next,
-            table,
-            health,
-            counters,
-            n,
-            count,
-            cells[k],
-            noted[m],
-        ) {
+        match work_move(head, next, table, health, counters, n, count, cell, value) {
             Move::Idle => continue,
             Move::Took(after, _) => {
                 next = after;
                 made[m] = once_more;
                 moving += 1;
-                noted[m] = note(once_more == count, noted[m], counters, cells[start]);
+                noted[m] = note(once_more == count, value, counters, cells[start]);
                 continue;
             }
             Move::Moved => {
@@ -208,8 +199,8 @@ fn work_run(
 
 // ---- the call
 
-// The crew with a counter for each cell: `counters` has one a cell, starting as the caller sets them. Everything else is
-// as `crew::crew` has it. A refusal leaves table and counters; turns that run out leave what was added so far.
+// The crew with a counter for each cell: `counters` has one a cell, starting as the caller sets them. Everything else
+// is as `crew::crew` has it. A refusal leaves table and counters; turns that run out leave what was added so far.
 pub fn crew_at_work(
     head: Head,
     table: &mut [u32],

@@ -103,20 +103,20 @@ place-requires : tie.Need-place-requires Inv-loop μ-loop
 place-requires c κs = let a = c .before .before .before .before .before .before .before .before .before .before .before .before .before .args in let m = getD (a .turns .now) (c .before .before .before .before .before .before .loop .i) 0 in
     (omega (arith, begins (c .before .before .before .before .before), start-fits (a .counts .now) m, c .before .before .before .before .before .before .before .before .before .before .before .before .before .pre .0 .limits .few-cells), stand-few _ _ _ (c .stand .ensures) (c .before .before .if1 .left))
 
+mul-cell : tie.Need-mul-cell Inv-loop μ-loop
+mul-cell c = omega (arith, spot-of c .in-run)
+
+shared-slice-read-cell : tie.Need-shared-slice-read-cell Inv-loop μ-loop
+shared-slice-read-cell c = spot-of (c .before) .in-run
+
+mul-value : tie.Need-mul-value Inv-loop μ-loop
+mul-value c = omega (arith, few (c .before .before .before .before .before .before .before))
+
+array-read-value : tie.Need-array-read-value Inv-loop μ-loop
+array-read-value c = few (c .before .before .before .before .before .before .before)
+
 add-once-more : tie.Need-add-once-more Inv-loop μ-loop
-add-once-more c = omega (arith, wants-few (c .before .before .before .before .before .before), c .before .before .before .if1 .left)
-
-mul-work-move : tie.Need-mul-work-move Inv-loop μ-loop
-mul-work-move c = omega (arith, spot-of (c .before .before) .in-run)
-
-shared-slice-read-work-move : tie.Need-shared-slice-read-work-move Inv-loop μ-loop
-shared-slice-read-work-move c = spot-of (c .before .before .before) .in-run
-
-mul-work-move-2 : tie.Need-mul-work-move-2 Inv-loop μ-loop
-mul-work-move-2 c = omega (arith, few (c .before .before .before .before .before .before .before .before .before))
-
-array-read-work-move : tie.Need-array-read-work-move Inv-loop μ-loop
-array-read-work-move c = few (c .before .before .before .before .before .before .before .before .before)
+add-once-more c = omega (arith, wants-few (c .before .before .before .before .before .before .before), c .before .before .before .before .if1 .left)
 
 work-move-requires : tie.Need-work-move-requires Inv-loop μ-loop
 work-move-requires c κs = let l = c .before .before .before .before .before .before .before .before .before .before .loop in let s = spot-of (c .before .before .before) in let f = c .before .before .before .before .before .before .before .before .before .before .before .before .before .before .before .before .before .pre in
@@ -144,13 +144,7 @@ add-moving : tie.Need-add-moving Inv-loop μ-loop
 add-moving c = omega (arith, c .before .before .before .before .before .before .before .before .before .before .before .before .before .before .before .before .before .before .loop .inv .run .few)
 
 mul-note : tie.Need-mul-note Inv-loop μ-loop
-mul-note c = omega (arith, few (c .before .before .before .before .before .before .before .before .before .before .before .before .before .before .before .before .before))
-
-array-read-note : tie.Need-array-read-note Inv-loop μ-loop
-array-read-note c = few (c .before .before .before .before .before .before .before .before .before .before .before .before .before .before .before .before .before)
-
-mul-note-2 : tie.Need-mul-note-2 Inv-loop μ-loop
-mul-note-2 c = omega (arith, low-of (c .before .before .before .before .before .before .before .before .before .before .before .before) .in-run)
+mul-note c = omega (arith, low-of (c .before .before .before .before .before .before .before .before .before .before .before .before) .in-run)
 
 shared-slice-read-note : tie.Need-shared-slice-read-note Inv-loop μ-loop
 shared-slice-read-note c = low-of (c .before .before .before .before .before .before .before .before .before .before .before .before .before) .in-run
@@ -224,11 +218,11 @@ work-turns-spec =
     element-copy-out-start
     stand-requires
     place-requires
+    mul-cell
+    shared-slice-read-cell
+    mul-value
+    array-read-value
     add-once-more
-    mul-work-move
-    shared-slice-read-work-move
-    mul-work-move-2
-    array-read-work-move
     work-move-requires
     enum-told
     loop-less-2
@@ -238,8 +232,6 @@ work-turns-spec =
     array-write-made
     add-moving
     mul-note
-    array-read-note
-    mul-note-2
     shared-slice-read-note
     note-requires
     mul-noted
