@@ -1,6 +1,6 @@
 /*
- * The lease layer of the skid kernel: the calls of document 01, and of document 02 the setpoint book (L2) and the
- * waveform of the cells (L11), for C.
+ * The lease layer of the skid kernel: the calls of document 01, and of document 02 the setpoint book (L2), the waveform
+ * of the cells (L11) and the crew at work (L13), for C.
  *
  * Link with libskid.a (`rt staticlib skid` writes target/staticlib/libskid.a). The archive is code for x86-64, by the
  * calling convention of Linux there (System V). It asks the host for memcpy and memset, and for nothing else. It has
@@ -15,9 +15,9 @@
  * - The head (headers H, buckets B, next serial) goes in as three numbers, and comes back in the reply's first three
  *   words. A lease is two numbers, cell and serial.
  * - A run is lent as a pointer to its first element and a length. A length counts elements, not bytes.
- * - The last argument is the lent reply: SKID_REPLY_WORDS words, SKID_CREW_WORDS for skid_crew, SKID_BOOK_WORDS for
- *   the calls of the setpoint book, SKID_WAVE_WORDS for skid_write_dump and skid_read_dump. A call writes all of them
- *   and reads none.
+ * - The last argument is the lent reply: SKID_REPLY_WORDS words, SKID_CREW_WORDS for skid_crew and skid_crew_at_work,
+ *   SKID_BOOK_WORDS for the calls of the setpoint book, SKID_WAVE_WORDS for skid_write_dump and skid_read_dump. A call
+ *   writes all of them and reads none.
  * - There is no result: the answer is in the reply.
  *
  * What a call needs, and changes
@@ -70,7 +70,7 @@ extern "C" {
 #endif
 
 /* The version of header and library together; CHANGELOG.md says what came with which. */
-#define SKID_VERSION "0.12.0"
+#define SKID_VERSION "0.13.0"
 
 /* ---- limits */
 
@@ -133,8 +133,8 @@ enum skid_reply {
 
 /* The crew's reply: words 0 to 2 and 8 to 11 as above, words 3 to 7, 12 and 13 are 0. */
 enum skid_crew_reply {
-    SKID_MOVING = 14,  /* turns that took or released */
-    SKID_IDLE = 15,    /* turns that did neither */
+    SKID_MOVING = 14,  /* turns that took, released or, at work, added */
+    SKID_IDLE = 15,    /* turns that did none of it */
     SKID_TAKEN = 16,   /* words 16 to 31: cells taken by members 0 to 15 */
     SKID_RELEASED = 32 /* words 32 to 47: cells released by members 0 to 15 */
 };
@@ -366,6 +366,17 @@ void skid_crew(uint32_t headers, uint32_t buckets, uint32_t next, uint32_t *tabl
                const uint8_t *health, size_t health_len, const uint32_t *counts, size_t counts_len,
                const uint32_t *cells, size_t cells_len, const uint32_t *turns, size_t turns_len,
                uint64_t reply[SKID_CREW_WORDS]);
+
+/*
+ * The crew at work (document 02, L13): as skid_crew, and a member that has come to hold all its cells adds before it
+ * releases, a moving turn for each cell, rising. To each cell's counter it adds the value that its lowest cell's
+ * counter had when it came to hold all; sums wrap at 65,536. counters: one a cell, so H x B of them, else
+ * SKID_BAD_SHAPE. A refusal leaves them as they were.
+ */
+void skid_crew_at_work(uint32_t headers, uint32_t buckets, uint32_t next, uint32_t *table, size_t table_len,
+                       const uint8_t *health, size_t health_len, const uint32_t *counts, size_t counts_len,
+                       const uint32_t *cells, size_t cells_len, const uint32_t *turns, size_t turns_len,
+                       uint16_t *counters, size_t counters_len, uint64_t reply[SKID_CREW_WORDS]);
 
 /* ---- the setpoint book (document 02, L2). No call changes the table, and none takes the health. */
 

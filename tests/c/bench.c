@@ -1,6 +1,6 @@
 /*
- * Document 01's bench cases, through skid.h, the setpoint book of document 02, and edges of the calling convention. A
- * line for each case; exit 1 if a figure is not the documents'.
+ * Document 01's bench cases, through skid.h, the crew at work and the setpoint book of document 02, and edges of the
+ * calling convention. A line for each case; exit 1 if a figure is not the documents'.
  */
 #include <inttypes.h>
 #include <stdio.h>
@@ -10,7 +10,7 @@
 
 /* ---- what is checked */
 
-static int cases, books, edges, failures;
+static int cases, works, books, edges, failures;
 static int bad; /* in the case at hand */
 
 static void check(const char *what, uint64_t got, uint64_t want) {
@@ -54,6 +54,9 @@ static struct {
     uint64_t before, words[SKID_CREW_WORDS], after;
 } crew;
 static struct {
+    uint16_t before, each[8], after;
+} counters;
+static struct {
     uint8_t before, bytes[104], after; /* 8 slots */
 } book;
 static struct {
@@ -65,6 +68,7 @@ static uint32_t next;
 #define HEAD 2, 4, next
 #define TABLE table.words, 24
 #define HEALTH health.bytes, 2
+#define COUNTERS counters.each, 8
 #define BOOK book.bytes, 104
 #define REGISTRY registry, 3
 #define LIST(a) a, sizeof a / sizeof a[0]
@@ -400,6 +404,96 @@ static void crews(void) {
     check("refusal", crew.words[SKID_REFUSAL], SKID_BAD_CREW);
     check("member", crew.words[SKID_CARRIED], 1);
     end(&cases);
+}
+
+/* ---- the crew at work: cell 2's counter is 40,000, cell 5's 30,000, all others 7 */
+
+static void count(void) {
+    int i;
+    for (i = 0; i < 8; i++) {
+        counters.each[i] = 7;
+    }
+    counters.each[2] = 40000;
+    counters.each[5] = 30000;
+    counters.before = counters.after = GUARD;
+}
+
+static void counted(uint32_t two, uint32_t five) {
+    static const int others[6] = {0, 1, 3, 4, 6, 7};
+    uint32_t i, n = 0;
+    crewed();
+    if (counters.before != GUARD || counters.after != GUARD) {
+        printf("A COUNTER OUTSIDE THE RUN CHANGED, ");
+        bad = 1;
+    }
+    for (i = 0; i < 6; i++) {
+        n += counters.each[others[i]] == 7;
+    }
+    check("counter of 2", counters.each[2], two);
+    check("of 5", counters.each[5], five);
+    check("others as they were", n, 6);
+}
+
+static void at_work(void) {
+    static const uint32_t counts[2] = {2, 2}, cells[4] = {2, 5, 2, 5}, falling[4] = {2, 5, 5, 2};
+    static const uint32_t turns[22] = {0, 1, 0, 1, 0, 1, 0, 1, 0, 1, 0, 1, 0, 1, 0, 1, 0, 1, 0, 1, 0, 1};
+    static const uint32_t one[1] = {1}, two[1] = {2}, thrice[3] = {0, 0, 0};
+    int i;
+    name("crew {2,5},{2,5} at work, turns 0,1 eleven times");
+    prepare(1);
+    count();
+    skid_crew_at_work(HEAD, TABLE, HEALTH, LIST(counts), LIST(cells), LIST(turns), COUNTERS, blank_crew());
+    counted(28928, 18928); /* 4 x 40,000 and 30,000 + 3 x 40,000, less what is over 65,535 */
+    check("kind", crew.words[SKID_KIND], SKID_DONE);
+    check("moving", crew.words[SKID_MOVING], 12);
+    check("idle", crew.words[SKID_IDLE], 10);
+    check("next", crew.words[SKID_NEXT], 5);
+    for (i = 0; i < 16; i++) {
+        uint64_t want = i < 2 ? 2 : 0;
+        if (crew.words[SKID_TAKEN + i] != want || crew.words[SKID_RELEASED + i] != want) {
+            printf("MEMBER %d, ", i);
+            bad = 1;
+        }
+    }
+    free_cells();
+    end(&works);
+
+    name("a member with one cell doubles its counter");
+    prepare(1);
+    count();
+    skid_crew_at_work(HEAD, TABLE, HEALTH, LIST(one), LIST(two), LIST(thrice), COUNTERS, blank_crew());
+    counted(14464, 30000);
+    check("moving", crew.words[SKID_MOVING], 3);
+    check("taken", crew.words[SKID_TAKEN], 1);
+    check("released", crew.words[SKID_RELEASED], 1);
+    end(&works);
+
+    name("turns that run out");
+    prepare(1);
+    count();
+    skid_crew_at_work(HEAD, TABLE, HEALTH, LIST(counts), LIST(cells), turns, 6, COUNTERS, blank_crew());
+    counted(14464, 30000);
+    check("kind", crew.words[SKID_KIND], SKID_DONE);
+    check("moving", crew.words[SKID_MOVING], 3);
+    check("idle", crew.words[SKID_IDLE], 3);
+    check("taken", crew.words[SKID_TAKEN], 2);
+    check("released", crew.words[SKID_RELEASED], 0);
+    end(&works);
+
+    name("seven counters, and a list that falls");
+    prepare(1);
+    count();
+    skid_crew_at_work(HEAD, TABLE, HEALTH, LIST(counts), LIST(falling), LIST(turns), counters.each, 7, blank_crew());
+    counted(40000, 30000);
+    check("kind", crew.words[SKID_KIND], SKID_REFUSED);
+    check("refusal", crew.words[SKID_REFUSAL], SKID_BAD_SHAPE);
+    skid_crew_at_work(HEAD, TABLE, HEALTH, LIST(counts), LIST(falling), LIST(turns), COUNTERS, blank_crew());
+    counted(40000, 30000);
+    check("refusal", crew.words[SKID_REFUSAL], SKID_BAD_CREW);
+    check("member", crew.words[SKID_CARRIED], 1);
+    check("moving", crew.words[SKID_MOVING], 0);
+    free_cells();
+    end(&works);
 }
 
 /* ---- the setpoint book: the governor holds cell 2 by serial 1, the panel reads */
@@ -786,6 +880,7 @@ int main(void) {
     foreign_release();
     keys();
     crews();
+    at_work();
     unwritten();
     written();
     not_written();
@@ -796,6 +891,7 @@ int main(void) {
         printf("bench cases in C: %d failed\n", failures);
         return 1;
     }
+    printf("crew at work in C: %d passed\n", works);
     printf("setpoint book in C: %d passed\n", books);
     printf("edges in C: %d passed\n", edges);
     printf("bench cases in C: %d passed\n", cases);

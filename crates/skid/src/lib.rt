@@ -1,7 +1,7 @@
-// The calls of document 01, and document 02's setpoint book and waveform, for a kernel in C or Rust; include/skid.h
-// declares them. Only numbers and lent runs cross: the head goes in as three numbers, a lease as two, and the last
-// parameter is the lent reply, whose words crate `words` lays out. Each is thin: it makes the head, makes the call, and
-// writes the reply's words.
+// The calls of document 01, and document 02's crew at work, setpoint book and waveform, for a kernel in C or Rust;
+// include/skid.h declares them. Only numbers and lent runs cross: the head goes in as three numbers, a lease as two, and
+// the last parameter is the lent reply, whose words crate `words` lays out. Each is thin: it makes the head, makes the
+// call, and writes the reply's words.
 use model::Head;
 use model::Lease;
 use setpoint::Setpoint;
@@ -11,7 +11,7 @@ ghost use Rattle.model.specs.Calls.{prepareOf, tryAcquireOf, dropLeaseOf, readP
 ghost use Rattle.model.specs.Calls.{releaseThenHandoffOf, foreignReleaseOf, acquirePreservingOf, dropPreservingOf};
 ghost use Rattle.model.specs.Calls.{environmentOf, tryLockOf, transactionalOf, acquireBucketOf, releaseAllOf};
 ghost use Rattle.model.specs.Calls.{acquireLocksOf};
-ghost use Rattle.model.specs.Crew.{crewOf};
+ghost use Rattle.model.specs.Crew.{crewOf, crewAtWorkOf};
 ghost use Rattle.setpoint.specs.declared.Setpoint.the-variants.{Pressure, Speed, Valve};
 ghost use Rattle.slots.specs.Calls.{prepareBookOf, writeSetpointOf, readSetpointOf};
 ghost use Rattle.wave.specs.Calls.{writeOf, readIntoOf};
@@ -530,6 +530,35 @@ pub extern "C" fn skid_crew(
         next,
     };
     let r = crew::crew(head, table, health, counts, cells, turns);
+    *reply = words::crew_words(r);
+}
+
+// At work (document 02, L13). Counters that are not one a cell are 1; a refusal leaves them. Turns that run out leave
+// what was added.
+#[no_mangle]
+pub extern "C" fn skid_crew_at_work(
+    headers: u32,
+    buckets: u32,
+    next: u32,
+    table: &mut [u32],
+    health: &[u8],
+    counts: &[u32],
+    cells: &[u32],
+    turns: &[u32],
+    counters: &mut [u16],
+    reply: &mut [u64; 48],
+)
+    ensures { λ _. ⌜ (now (reply .exit), (now (table .exit), now (counters .exit)))
+        ≡ told crewWords (crewAtWorkOf (headOf headers buckets next) (now (table .entry))
+        (now (health .entry)) (now (counts .entry)) (now (cells .entry)) (now (turns .entry))
+        (now (counters .entry)) .seen) ⌝ }
+{
+    let head = Head {
+        headers,
+        buckets,
+        next,
+    };
+    let r = work::crew_at_work(head, table, health, counts, cells, turns, counters);
     *reply = words::crew_words(r);
 }
 

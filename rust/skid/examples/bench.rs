@@ -1,5 +1,5 @@
-//! Document 01's bench cases, through the crate `skid`, the setpoint book of document 02, and edges of the calls. A
-//! line for each case; exit 1 if a figure is not the documents'.
+//! Document 01's bench cases, through the crate `skid`, the crew at work and the setpoint book of document 02, and edges
+//! of the calls. A line for each case; exit 1 if a figure is not the documents'.
 use skid::{
     Answer, Arena, BookAnswer, BookRefusal, Counts, Head, Key, Lease, Played, Reason, Refusal,
     Reply, Script, Setpoint, Step, LONGEST_BOOK, NO_SERIAL, SLOT_BYTES,
@@ -354,6 +354,62 @@ fn falling_list(b: &mut Bench) {
     });
 }
 
+// ---- the crew at work: cell 2's counter is 40,000, cell 5's 30,000, all others 7
+
+const COUNTERS: [u16; 8] = [7, 7, 40_000, 7, 7, 30_000, 7, 7];
+const TURNS: [u32; 22] = [
+    0, 1, 0, 1, 0, 1, 0, 1, 0, 1, 0, 1, 0, 1, 0, 1, 0, 1, 0, 1, 0, 1,
+];
+
+fn at_work(b: &mut Bench) {
+    with_arena(1, |arena| {
+        let mut counters = COUNTERS;
+        let reply = arena.crew_at_work(&[2, 2], &[2, 5, 2, 5], &TURNS, &mut counters);
+        let mut each = [0; 16];
+        (each[0], each[1]) = (2, 2);
+        b.check("answer", reply.answer, Answer::Done);
+        b.check("moving", reply.moving, 12);
+        b.check("idle", reply.idle, 10);
+        b.check("next", reply.head.next, 5);
+        b.check("taken", reply.taken, each);
+        b.check("released", reply.released, each);
+        b.check("counters", counters, [7, 7, 28_928, 7, 7, 18_928, 7, 7]);
+        b.all_free(arena);
+    });
+}
+
+fn some_work(b: &mut Bench) {
+    with_arena(1, |arena| {
+        let mut counters = COUNTERS;
+        let reply = arena.crew_at_work(&[1], &[2], &[0, 0, 0], &mut counters);
+        b.check("moving", reply.moving, 3);
+        b.check("counters", counters, [7, 7, 14_464, 7, 7, 30_000, 7, 7]);
+        b.all_free(arena);
+        let mut counters = COUNTERS;
+        let reply = arena.crew_at_work(&[2, 2], &[2, 5, 2, 5], &TURNS[..6], &mut counters);
+        b.check("answer", reply.answer, Answer::Done);
+        b.check("moving", (reply.moving, reply.idle), (3, 3));
+        b.check("taken", (reply.taken[0], reply.released[0]), (2, 0));
+        b.check("counters", counters, [7, 7, 14_464, 7, 7, 30_000, 7, 7]);
+    });
+}
+
+fn refused_work(b: &mut Bench) {
+    with_arena(1, |arena| {
+        let mut counters = COUNTERS;
+        let short = arena.crew_at_work(&[2, 2], &[2, 5, 5, 2], &TURNS, &mut counters[1..]);
+        b.check("answer", short.answer, Answer::Refused(Refusal::BadShape));
+        let falling = arena.crew_at_work(&[2, 2], &[2, 5, 5, 2], &TURNS, &mut counters);
+        b.check(
+            "answer",
+            falling.answer,
+            Answer::Refused(Refusal::BadCrew(1)),
+        );
+        b.check("counters", counters, COUNTERS);
+        b.all_free(arena);
+    });
+}
+
 // ---- the setpoint book: the governor holds cell 2 by serial 1, the panel reads
 
 const GOVERNOR: Lease = Lease { cell: 2, serial: 1 };
@@ -662,11 +718,15 @@ fn main() {
     b.case("crew {2,5},{2,5}, turns 0,1 seven times", crew);
     b.case("crew {2,5},{5,2}", falling_list);
     let cases = b.passed;
+    b.case("crew {2,5},{2,5} at work, turns 0,1 eleven times", at_work);
+    b.case("one cell, and turns that run out", some_work);
+    b.case("refused work", refused_work);
+    let works = b.passed - cases;
     b.case("a book read before anybody wrote", never_written);
     b.case("the governor writes", governor_writes);
     b.case("refused writes, in order", refused_writes);
     b.case("the last version", last_version);
-    let books = b.passed - cases;
+    let books = b.passed - cases - works;
     b.case("calls without a script", without_script);
     b.case("calls with a script", with_script);
     b.case("nothing lent", nothing_lent);
@@ -674,7 +734,8 @@ fn main() {
         println!("bench cases in Rust: {} failed", b.failed);
         exit(1);
     }
+    println!("crew at work in Rust: {works} passed");
     println!("setpoint book in Rust: {books} passed");
-    println!("edges in Rust: {} passed", b.passed - cases - books);
+    println!("edges in Rust: {} passed", b.passed - cases - works - books);
     println!("bench cases in Rust: {cases} passed");
 }

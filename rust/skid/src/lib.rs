@@ -365,9 +365,9 @@ pub struct Played {
 pub struct CrewReply {
     /// The head after the call.
     pub head: Head,
-    /// Turns that took or released a cell.
+    /// Turns that took or released a cell or, at work, added to its counter.
     pub moving: usize,
-    /// Turns that did neither.
+    /// Turns that did none of it.
     pub idle: usize,
     /// For each member, cells taken; 0 where there is no member.
     pub taken: [usize; 16],
@@ -704,6 +704,30 @@ impl<'a> Arena<'a> {
             counts,
             cells,
             turns,
+        ));
+        self.head = reply.head;
+        reply
+    }
+
+    /// The crew at work (document 02, L13): [`Arena::crew`], and a member that has come to hold all its cells adds
+    /// before it releases, a moving turn for each cell, rising. To each cell's counter it adds the value that its lowest
+    /// cell's counter had when it came to hold all; sums wrap at 65,536. `counters` has one for each cell, else
+    /// [`Refusal::BadShape`]; a refusal leaves them as they were.
+    pub fn crew_at_work(
+        &mut self,
+        counts: &[u32],
+        cells: &[u32],
+        turns: &[u32],
+        counters: &mut [u16],
+    ) -> CrewReply {
+        let reply = crew_of(&sys::crew_at_work(
+            self.head,
+            self.table,
+            self.health,
+            counts,
+            cells,
+            turns,
+            counters,
         ));
         self.head = reply.head;
         reply

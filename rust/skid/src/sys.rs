@@ -276,6 +276,24 @@ mod raw {
             turns_len: usize,
             reply: *mut [u64; CREW],
         );
+        pub(super) fn skid_crew_at_work(
+            headers: u32,
+            buckets: u32,
+            next: u32,
+            table: *mut u32,
+            table_len: usize,
+            health: *const u8,
+            health_len: usize,
+            counts: *const u32,
+            counts_len: usize,
+            cells: *const u32,
+            cells_len: usize,
+            turns: *const u32,
+            turns_len: usize,
+            counters: *mut u16,
+            counters_len: usize,
+            reply: *mut [u64; CREW],
+        );
         pub(super) fn skid_prepare_book(
             headers: u32,
             buckets: u32,
@@ -834,6 +852,40 @@ pub(crate) fn crew(
             cells.len(),
             turns.as_ptr(),
             turns.len(),
+            &mut reply,
+        );
+    }
+    reply
+}
+
+pub(crate) fn crew_at_work(
+    head: Head,
+    table: &mut [u32],
+    health: &[u8],
+    counts: &[u32],
+    cells: &[u32],
+    turns: &[u32],
+    counters: &mut [u16],
+) -> [u64; CREW] {
+    let mut reply = [BLANK; CREW];
+    // SAFETY: the pointers and lengths are those of references; see the head of this file.
+    unsafe {
+        raw::skid_crew_at_work(
+            head.headers,
+            head.buckets,
+            head.next,
+            table.as_mut_ptr(),
+            table.len(),
+            health.as_ptr(),
+            health.len(),
+            counts.as_ptr(),
+            counts.len(),
+            cells.as_ptr(),
+            cells.len(),
+            turns.as_ptr(),
+            turns.len(),
+            counters.as_mut_ptr(),
+            counters.len(),
             &mut reply,
         );
     }
