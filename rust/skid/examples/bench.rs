@@ -1,5 +1,5 @@
-//! Document 01's bench cases, through the crate `skid`, the crew at work and the setpoint book of document 02, and edges
-//! of the calls. A line for each case; exit 1 if a figure is not the documents'.
+//! Document 01's bench cases, through the crate `skid`, the crew at work and the setpoint book of document 02, and
+//! edges of the calls. A line for each case; exit 1 if a figure is not the documents'.
 use skid::{
     Answer, Arena, BookAnswer, BookRefusal, Counts, Head, Key, Lease, Played, Reason, Refusal,
     Reply, Script, Setpoint, Step, LONGEST_BOOK, NO_SERIAL, SLOT_BYTES,

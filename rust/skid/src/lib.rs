@@ -710,8 +710,8 @@ impl<'a> Arena<'a> {
     }
 
     /// The crew at work (document 02, L13): [`Arena::crew`], and a member that has come to hold all its cells adds
-    /// before it releases, a moving turn for each cell, rising. To each cell's counter it adds the value that its lowest
-    /// cell's counter had when it came to hold all; sums wrap at 65,536. `counters` has one for each cell, else
+    /// before it releases, a moving turn for each cell, rising. To each cell's counter it adds the value that its
+    /// lowest cell's counter had when it came to hold all; sums wrap at 65,536. `counters` has one for each cell, else
     /// [`Refusal::BadShape`]; a refusal leaves them as they were.
     pub fn crew_at_work(
         &mut self,
