@@ -187,6 +187,7 @@ book_byte 2 2
 show_book 0 0
 prepare_book 0 0
 read_setpoint 1 1
+crew_at_work 0 0
 TABLE
 # of a setpoint one word is no number
 for count in 0 1 2 3 4 5 6; do echo "write_setpoint$(numbers "$count" 1)"; done >>"$input"
@@ -195,7 +196,7 @@ all_bad 'too many and too few words'
 for word in ram lend head word byte registry held keys leases turns script place grants member crewless show map echo help prepare try_acquire drop_lease read_permission \
     competing_acquire_is_excluded release_then_handoff foreign_release_between_attempts acquire_preserving_borrows drop_preserving_borrows environment \
     environment_for_borrows try_lock other_mutex_preserves_leases transactional_try_lock_bucket acquire_index_bucket release_all acquire_index_locks crew \
-    book book_byte show_book prepare_book read_setpoint write_setpoint; do
+    book book_byte show_book prepare_book read_setpoint write_setpoint counters crew_at_work; do
     # the right count of numbers, the word wrong: longer, shorter, of capitals
     for rest in '' ' 1' ' 1 1' ' 1 1 1'; do
         printf '%s\n' "${word}x$rest" "${word%?}$rest" "x$word$rest" "${word#?}$rest" "${word^}$rest" "${word^^}$rest" "$word.$rest"
@@ -235,6 +236,7 @@ room_of held held 300 "$arena" environment "refused 3 BadHeld 150 next 1 place 0
 room_of keys keys 200 "$arena" acquire_index_locks 'grants'
 room_of leases leases 300 "$arena" release_all "refused 4 TooMany 0 next 1 place 0 $counts"
 room_of turns turns 70000 "$arena"$'\nmember 1' crew 'refused 15 BadCrew 0 next 1'
+room_of counters counters 4200 "$arena"$'\nmember 1' crew_at_work "counters$(numbers 4200 0)"
 room_of member member 70 "$arena" crew 'refused 15 BadCrew 0 next 1'
 
 # what document 01 allows at most, and one more
@@ -294,6 +296,20 @@ texts=$((texts + 1))
 if ! diff <(grep 'not understood' "$room/player") <(printf 'line %s: not understood\n' 3 4 6 7 8 9) ||
     ! grep -q '^cell 4199 [0-9]* [0-9]* 7$' "$room/player" || [ "$(tail -n 1 "$room/player")" != 'health 69 255' ]; then
     echo 'ends of table and health: NOT THE TEXT WANTED'
+    wrong=$((wrong + 1))
+fi
+# counters: the greatest, one more, and a list with one that is none
+{
+    printf 'prepare 1 3 1\nmember 0\nturns 0 0 0\ncounters 65535 0 1\ncrew_at_work\n'
+    for bad in 65536 4294967295 4294967296 x -1 01 ''; do printf 'counters %s\ncounters 1 2 %s\ncounters %s 1 2\n' "$bad" "$bad" "$bad"; done
+    printf 'crew_at_work\ncounters\ncrew_at_work\n'
+    echo "counters$(numbers 4200 65535)"
+    printf 'crew_at_work\nlend 12600 70\ncrew_at_work\n'
+} >"$input"
+compare 'counters'
+texts=$((texts + 1))
+if [ "$(grep -c 'not understood' "$room/player")" != 21 ] || ! grep -qx 'counters 65534 0 1' "$room/player" || ! grep -qx counters "$room/player"; then
+    echo 'counters: NOT THE TEXT WANTED'
     wrong=$((wrong + 1))
 fi
 # the book: its room, one more, its ends, and a setpoint's words

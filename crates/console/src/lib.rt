@@ -142,8 +142,26 @@ fn obey(
     perform(ready, verb, got, table, bytes, lists, grants, out, used)
 }
 
-// A line of the book, or one that is not understood.
+// A line of the crew at work, of the book, or one that is not understood.
 fn other(
+    n: usize,
+    desk: Desk,
+    line: &[u8],
+    table: &mut [u32],
+    bytes: &mut [u8],
+    lists: &[u32],
+    counters: &mut [u16],
+    out: &mut [u8],
+    used: usize,
+) -> Answered {
+    let said = gang::play(desk, line, table, bytes, lists, counters, out, used);
+    if said.understood {
+        return said;
+    }
+    book_line(n, desk, line, table, bytes, out, used)
+}
+
+fn book_line(
     n: usize,
     desk: Desk,
     line: &[u8],
@@ -168,6 +186,7 @@ fn act(
     bytes: &mut [u8],
     lists: &mut [u32],
     grants: &mut [u32],
+    counters: &mut [u16],
     out: &mut [u8],
     used: usize,
 ) -> Answered {
@@ -191,7 +210,7 @@ fn act(
             );
         }
     }
-    other(n, desk, line, table, bytes, out, used)
+    other(n, desk, line, table, bytes, lists, counters, out, used)
 }
 
 // An empty line is skipped, and so is a remark.
@@ -221,6 +240,7 @@ pub fn play_line(
     bytes: &mut [u8],
     lists: &mut [u32],
     grants: &mut [u32],
+    counters: &mut [u16],
     out: &mut [u8],
     used: usize,
 ) -> Answered {
@@ -231,5 +251,16 @@ pub fn play_line(
         return quiet(desk, used);
     }
     let at = echoed(desk.echo, line, out, used);
-    act(n, desk, line, table, bytes, lists, grants, out, at)
+    act(
+        n,
+        desk,
+        line,
+        table,
+        bytes,
+        lists,
+        grants,
+        counters,
+        out,
+        at,
+    )
 }

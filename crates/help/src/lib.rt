@@ -46,7 +46,8 @@ fn crew_setup_lines(out: &mut [u8], used: usize) -> usize {
         used,
         b"member N..: one more member, which wants these cells\n\
         crewless: no members\n\
-        turns N..: members by number, one for each turn\n",
+        turns N..: members by number, one for each turn\n\
+        counters N..: the counters of crew_at_work, one for each cell\n",
     )
 }
 
@@ -92,7 +93,8 @@ fn many_lines(out: &mut [u8], used: usize) -> usize {
         used,
         b"release_all: give all of leases back, last first\n\
         acquire_index_locks: take all keys, or none\n\
-        crew: the members take and release their cells, by turns\n",
+        crew: the members take and release their cells, by turns\n\
+        crew_at_work: the same, and between the two they add to the counters\n",
     )
 }
 

@@ -34,14 +34,23 @@ fn rubbish(table: &mut [u32], bytes: &mut [u8]) {
     setup::fill(1, table, &mut bytes[..n]);
 }
 
-// The player's own RAM and a byte for each of its cells, a grant buffer, and a room for output.
+// The player's own RAM and a byte for each of its cells, a grant buffer, counters, and a room for output.
 fn with_ram(input: &mut [u8], lists: &mut [u32]) {
     let mut table = [0u32; 12600];
     let mut bytes = [0u8; 37270];
     let mut grants = [0u32; 300];
+    let mut counters = [0u16; 4200];
     let mut out = [0u8; 8192];
     rubbish(&mut table, &mut bytes);
-    converse(input, &mut table, &mut bytes, lists, &mut grants, &mut out);
+    converse(
+        input,
+        &mut table,
+        &mut bytes,
+        lists,
+        &mut grants,
+        &mut counters,
+        &mut out,
+    );
 }
 
 // ---- one read
@@ -60,6 +69,7 @@ fn listen(
     bytes: &mut [u8],
     lists: &mut [u32],
     grants: &mut [u32],
+    counters: &mut [u16],
     out: &mut [u8],
 ) -> Course {
     let used = output::written(out, talk.used);
@@ -69,7 +79,17 @@ fn listen(
     }
     let piece = clear.piece;
     let got = read_behind(input, piece.held);
-    after_read(clear, got, input, table, bytes, lists, grants, out)
+    after_read(
+        clear,
+        got,
+        input,
+        table,
+        bytes,
+        lists,
+        grants,
+        counters,
+        out,
+    )
 }
 
 // ---- the whole talk
@@ -92,12 +112,13 @@ fn converse(
     bytes: &mut [u8],
     lists: &mut [u32],
     grants: &mut [u32],
+    counters: &mut [u16],
     out: &mut [u8],
 ) {
     let mut now = going_on(talk::fresh());
     let mut turns: u64 = 18446744073709551615;
     while 0 < turns {
-        now = listen(now.talk, input, table, bytes, lists, grants, out);
+        now = listen(now.talk, input, table, bytes, lists, grants, counters, out);
         turns = turns_left(now.goes_on, turns);
     }
     farewell(now, out);

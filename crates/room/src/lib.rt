@@ -99,10 +99,22 @@ fn play_lines(
     bytes: &mut [u8],
     lists: &mut [u32],
     grants: &mut [u32],
+    counters: &mut [u16],
     out: &mut [u8],
 ) -> Heard {
     let most = desk::within_bytes(n, input);
-    talk::play(talk, &input[..most], held, table, bytes, lists, grants, out)
+    let ended = &input[..most];
+    talk::play(
+        talk,
+        ended,
+        held,
+        table,
+        bytes,
+        lists,
+        grants,
+        counters,
+        out,
+    )
 }
 
 // A read has answered: -1 where it failed, 0 at the end of input, else how many bytes it put behind those that are
@@ -116,6 +128,7 @@ pub fn after_read(
     bytes: &mut [u8],
     lists: &mut [u32],
     grants: &mut [u32],
+    counters: &mut [u16],
     out: &mut [u8],
 ) -> Course {
     if got < 0 {
@@ -125,7 +138,18 @@ pub fn after_read(
     let held = desk::within_bytes(piece.held, input);
     let fresh = io::count(got, &input[held..]);
     let n = filled(talk, held, fresh, input);
-    let heard = play_lines(talk, input, held, n, table, bytes, lists, grants, out);
+    let heard = play_lines(
+        talk,
+        input,
+        held,
+        n,
+        table,
+        bytes,
+        lists,
+        grants,
+        counters,
+        out,
+    );
     let after = heard.talk;
     let kept = keep(after, input, heard.at, n);
     Course {

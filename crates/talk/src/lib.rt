@@ -84,6 +84,7 @@ pub fn end_line(
     bytes: &mut [u8],
     lists: &mut [u32],
     grants: &mut [u32],
+    counters: &mut [u16],
     out: &mut [u8],
 ) -> Talk {
     let n = one_more(talk.lines);
@@ -98,6 +99,7 @@ pub fn end_line(
         bytes,
         lists,
         grants,
+        counters,
         out,
         used,
     );
@@ -114,6 +116,7 @@ pub fn play(
     bytes: &mut [u8],
     lists: &mut [u32],
     grants: &mut [u32],
+    counters: &mut [u16],
     out: &mut [u8],
 ) -> Heard
     ensures { λ r. ⌜ r .at ≤ length (now (input .entry)) ⌝ }
@@ -127,7 +130,16 @@ pub fn play(
             return Heard { talk: now, at };
         }
         let next = end + 1;
-        now = end_line(now, &input[at..end], table, bytes, lists, grants, out);
+        now = end_line(
+            now,
+            &input[at..end],
+            table,
+            bytes,
+            lists,
+            grants,
+            counters,
+            out,
+        );
         at = next;
         from = next;
         if output::lost(out, now.used) {

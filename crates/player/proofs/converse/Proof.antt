@@ -7,12 +7,12 @@ use Rattle.player.proofs.converse.Statement.{statement}
 use Rattle.player.proofs.converse.Tie as tie
 
 abbrev Inv-loop : tie.InvT-loop
-Inv-loop input₀ table₀ health₀ lists₀ grants₀ out₀ now₀ turns₀ input table health lists grants out now turns =
+Inv-loop input₀ table₀ health₀ lists₀ grants₀ counters₀ out₀ now₀ turns₀ input table health lists grants counters out now turns =
     (length input ≡ length input₀) × (length table ≡ length table₀) × (length health ≡ length health₀) × (length lists ≡ length lists₀) ×
-    (length grants ≡ length grants₀) × (length out ≡ length out₀)
+    (length grants ≡ length grants₀) × (length counters ≡ length counters₀) × (length out ≡ length out₀)
 
 abbrev μ-loop : tie.MeasureT-loop
-μ-loop input₀ table₀ health₀ lists₀ grants₀ out₀ now₀ turns₀ input table health lists grants out now turns =
+μ-loop input₀ table₀ health₀ lists₀ grants₀ counters₀ out₀ now₀ turns₀ input table health lists grants counters out now turns =
     turns
 
 fresh-requires : tie.Need-fresh-requires Inv-loop μ-loop
@@ -57,6 +57,9 @@ same-length-5 c = search needs
 same-length-6 : tie.Need-same-length-6 Inv-loop μ-loop
 same-length-6 c = search needs
 
+same-length-7 : tie.Need-same-length-7 Inv-loop μ-loop
+same-length-7 c = search needs
+
 returns : tie.Need-returns Inv-loop μ-loop
 returns c = search needs
 
@@ -80,4 +83,5 @@ converse-spec =
     same-length-4
     same-length-5
     same-length-6
+    same-length-7
     returns)

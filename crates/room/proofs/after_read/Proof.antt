@@ -57,6 +57,9 @@ same-length-5 c = search needs
 same-length-6 : tie.Need-same-length-6
 same-length-6 c = search needs
 
+same-length-7 : tie.Need-same-length-7
+same-length-7 c = search needs
+
 returns-2 : tie.Need-returns-2
 returns-2 c = search needs
 
@@ -80,4 +83,5 @@ after-read-spec =
     same-length-4
     same-length-5
     same-length-6
+    same-length-7
     returns-2)
