@@ -38,8 +38,8 @@ same-length : tie.Need-same-length
 same-length c = omega (
   arith,
   c .before .before .keep .kept,
-  c .before .before .before .before .before .before .before .before .before .before .before .before
-      .before .before .before .before .before .before .before .before .before .before .before .before .filled .kept,
+  c .before .before .before .before .before .before .before .before .before .before .before .before .before .before
+      .before .before .before .before .before .before .before .before .before .before .before .before .before .filled .kept,
 )
 
 same-length-2 : tie.Need-same-length-2
