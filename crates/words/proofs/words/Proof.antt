@@ -4,8 +4,8 @@ use borrow.Author.Needs.{needs}
 use Rattle.words.proofs.words.Statement.{statement}
 use Rattle.words.proofs.words.Tie as tie
 
-answer-words-requires : tie.Need-answer-words-requires
-answer-words-requires c κs = search needs
+said-words-requires : tie.Need-said-words-requires
+said-words-requires c κs = search needs
 
 cast-t7 : tie.Need-cast-t7
 cast-t7 c = search needs
@@ -35,13 +35,13 @@ array-read-t32 : tie.Need-array-read-t32
 array-read-t32 c = search needs
 
 returns : tie.Need-returns
-returns c = let a = c .before .before .before .before .args in laid (a .head) (a .place) (a .counts) (a .answer) (c .before .before .before .answer-words .result) (c .before .before .before .answer-words .ensures)
+returns c = let a = c .before .before .before .before .args in laid (a .head) (a .place) (a .counts) (a .answer) (c .before .before .before .said-words .result) (c .before .before .before .said-words .ensures)
 
 pub words-spec : {M : Type 1} → statement M
 words-spec =
     tie.close
     (tie.spec
-    answer-words-requires
+    said-words-requires
     cast-t7
     cast-t8
     cast-t9
