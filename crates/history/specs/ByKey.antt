@@ -56,7 +56,8 @@ lock-names (poisoned h) l e = let z : _≡_ {A = ℕ} 0 1 = cc in absurd (omega 
 lock-names damaged l e = let z : _≡_ {A = ℕ} 0 1 = cc in absurd (omega arith)
 lock-names spent l e = let z : _≡_ {A = ℕ} 0 1 = cc in absurd (omega arith)
 
-abbrev FoundAt : ℕ → Found → Type 0
+-- the cell that a key was found to name, if it names one
+abbrev pub FoundAt : ℕ → Found → Type 0
 FoundAt c (found.Fault r) = Unit {0}
 FoundAt c (found.At d) = d ≡ c
 
@@ -64,12 +65,16 @@ module _ (e : Setting) (buckets : ℕ) (registry : List ℕ) (binding bucket : �
   abbrev own : ℕ
   own = cellOf buckets registry binding bucket
 
-  attempt-names : (r : Run) (t g : List ℕ) → Names own (attemptOf e buckets registry binding bucket r t g .seen .0 .outcome)
-  unfolding attemptOf findOf
-  attempt-names r t g =
+  -- it is the key's own
+  pub found-own : (g : List ℕ) → FoundAt own (findOf (e .headers) buckets g registry binding bucket)
+  unfolding findOf
+  found-own g =
       let header = getD registry binding 0 in
-      go (findOf (e .headers) buckets g registry binding bucket)
-      (if-both (FoundAt own) (leb (e .headers) header) tt (if-both (FoundAt own) (isPoisoned g header) tt (if-both (FoundAt own) (leb buckets bucket) tt refl)))
+      if-both (FoundAt own) (leb (e .headers) header) tt (if-both (FoundAt own) (isPoisoned g header) tt (if-both (FoundAt own) (leb buckets bucket) tt refl))
+
+  attempt-names : (r : Run) (t g : List ℕ) → Names own (attemptOf e buckets registry binding bucket r t g .seen .0 .outcome)
+  unfolding attemptOf
+  attempt-names r t g = go (findOf (e .headers) buckets g registry binding bucket) (found-own g)
     where
       go : (x : Found) → FoundAt own x → Names own (attemptAt x e buckets r t g .seen .0 .outcome)
       go (found.Fault x) h l a = let z : _≡_ {A = ℕ} 0 1 = cc in absurd (omega arith)

@@ -3,6 +3,7 @@
 use Prim.Native.Nat.{ℕ}
 use mathlib.Core.Path.{_≡_}
 use mathlib.Core.List.{List, [], _∷_, _++_}
+use mathlib.Core.Logic.{_↔_}
 use Rattle.model.specs.Log.{Made, Event, by-caller, took, released}
 use Rattle.model.specs.Arena.{leaseOf, waitersAt, stateAt}
 use Rattle.model.specs.declared.Answer.the-variants.{Busy}
@@ -13,11 +14,6 @@ use Rattle.model.specs.declared.State.the-variants as state
 use Rattle.history.specs.World.{World, Live, Healthy, now, Sound, Spent}
 use Rattle.history.specs.Items.{Call, try-acquire, drop-lease, read-permission, competing-acquire, release-then-handoff, foreign-release, drop-preserving, acquire-preserving, environment, try-lock, transactional, acquire-bucket, release-all, acquire-locks, crew, crew-at-work, asked, Says, Build}
 use Rattle.history.specs.Statements.{answer-in, world-in}
-
--- both ways
-infix 3 _↔_
-abbrev pub _↔_ : Type 0 → Type 0 → Type 0
-A ↔ B = (A → B) × (B → A)
 
 -- the calls that make one attempt to lock one cell, with boundaries
 abbrev pub Locks-once : Call → Type 0

@@ -1,18 +1,17 @@
 -- Why it is Busy: what one attempt saw, by a table of its endings, and the reasons read off it.
 use Prim.Native.Nat.{ℕ, _+_}
-use mathlib.Core.Path.{_≡_, refl, sym, ap, _∙_, subst}
+use mathlib.Core.Path.{_≡_, refl, sym, ap, _∙_}
 use mathlib.Core.List.{List, [], _∷_, _++_, append-nil, append-assoc}
 use mathlib.Core.Bool.{Bool, true, false, not}
-use mathlib.Core.Logic.{_⊎_, inl, inr}
 use native.Mathlib.Omega.{arith}
 use native.Mathlib.Nat.{zero-add}
-use lib.Dec.{leb, eqb}
+use lib.Dec.{eqb}
 use lib.ListN.{getD}
 use borrow.Author.Tests.{eqb-true, eqb-false}
 use Rattle.choice.specs.Choice.{if_then_else_}
 use Rattle.choice.specs.Pick.{if-both}
 use Rattle.model.specs.Log.{Made, Event, by-caller, attempt-begun, took, released, gives}
-use Rattle.model.specs.Arena.{serialRemains, headerOf, isPoisoned, leaseOf, waitersAt, setCell, stateAt}
+use Rattle.model.specs.Arena.{serialRemains, headerOf, leaseOf, waitersAt, stateAt}
 use Rattle.model.specs.Foreign.{Setting, protecting, flowOf, boundaryOf}
 use Rattle.model.specs.Lock.{takeIn, takeOf, lockedOf, giveUpOf, lateOf, afterTake, secondOf, lockOf, answerOf, findOf, attemptAt, attemptOf}
 use Rattle.model.specs.Calls.{starting}
@@ -31,12 +30,13 @@ use Rattle.model.specs.declared.State.{State}
 use Rattle.model.specs.declared.State.the-variants as state
 use Rattle.model.specs.declared.Took.{Took}
 use Rattle.laws.specs.Words.{waiters-set-cell}
-use Rattle.history.specs.World.{World, Healthy, now, caller-releases}
+use Rattle.history.specs.World.{World, caller-releases}
 use Rattle.history.specs.Items.{Call, try-acquire, drop-lease, read-permission, competing-acquire, release-then-handoff, foreign-release, drop-preserving, acquire-preserving, environment, try-lock, transactional, acquire-bucket, release-all, acquire-locks, crew, crew-at-work, cellOf, asked, perform, Says}
 use Rattle.history.specs.Statements.{answer-in, world-in}
 use Rattle.history.specs.Steps.{With}
-use Rattle.history.specs.Rollback.{Foreigner, Every, end, also, every-append, every-at, boundary-foreign, still-then}
+use Rattle.history.specs.Rollback.{Foreigner, Every, end, also, every-append, boundary-foreign, still-then}
 use Rattle.history.specs.Judged.{acting, performed}
+use Rattle.history.specs.ByKey.{FoundAt, found-own}
 use Rattle.history.specs.Reasons.{boundaries-in, Locks-once}
 
 -- ---- how an attempt on cell c ends, by what it answers, its boundaries and its log, the next serial and the runs that it leaves
@@ -120,20 +120,12 @@ module _ (e : Setting) (buckets c : ℕ) where
 abbrev Seen-by : World → ℕ → Made (World × Says) → Type 0
 Seen-by w c m = Looks (w .head .buckets) c (answer-in m) (boundaries-in m) (m .log) (world-in m .head .next) (world-in m .table) (world-in m .health)
 
-abbrev FoundAt : ℕ → Found → Type 0
-FoundAt c (found.Fault r) = Unit {0}
-FoundAt c (found.At d) = d ≡ c
-
 attempt-looks : (e : Setting) (buckets : ℕ) (registry : List ℕ) (binding bucket : ℕ) (r : Run) (t g : List ℕ) → r .boundaries ≡ 0
     → let m = attemptOf e buckets registry binding bucket r t g in
     Looks buckets (cellOf buckets registry binding bucket) (answerOf (m .seen .0 .outcome)) (m .seen .0 .run .boundaries) (m .log) (m .seen .0 .run .flow .next) (m .seen .1 .0) (m .seen .1 .1)
-unfolding attemptOf findOf
+unfolding attemptOf
 attempt-looks e buckets registry binding bucket r t g z =
-    let header = getD registry binding 0 in
-    let own = cellOf buckets registry binding bucket in
-    behind _ (also attempt-begun tt end)
-    (go (findOf (e .headers) buckets g registry binding bucket)
-    (if-both (FoundAt own) (leb (e .headers) header) tt (if-both (FoundAt own) (isPoisoned g header) tt (if-both (FoundAt own) (leb buckets bucket) tt refl))))
+    behind _ (also attempt-begun tt end) (go (findOf (e .headers) buckets g registry binding bucket) (found-own e buckets registry binding bucket g))
   where
     go : (x : Found) → FoundAt (cellOf buckets registry binding bucket) x
         → let m = attemptAt x e buckets r t g in

@@ -8,23 +8,21 @@ use native.Mathlib.Omega.{arith}
 use lib.Dec.{ltb}
 use lib.ListN.{getD, List·getD-eq-default}
 use borrow.Author.Tests.{not-false, ltb-true, ltb-false}
-use Rattle.model.specs.Log.{Made, Event, by-caller, by-script, attempt-begun, boundary-run, yielded, spun, step-dropped, took, released, waiters-set, health-set, held-all, added}
-use Rattle.model.specs.Arena.{cellsOf, headerOf, leaseOf, bitAt, ownerAt, waitersAt, setCell, stateAt, isLive}
-use Rattle.model.specs.Lock.{takeOf, outcomeOf, answerOf}
+use Rattle.model.specs.Log.{Event, by-caller, by-script, attempt-begun, boundary-run, yielded, spun, step-dropped, took, released, waiters-set, health-set, held-all, added}
+use Rattle.model.specs.Arena.{headerOf, leaseOf, bitAt, ownerAt, waitersAt, stateAt, isLive}
+use Rattle.model.specs.Lock.{takeOf}
 use Rattle.model.specs.Checks.{leaseRules}
 use Rattle.model.specs.Calls.{acquireOf}
 use Rattle.model.specs.declared.Answer.{Answer}
-use Rattle.model.specs.declared.Answer.the-variants.{Busy, Refused}
+use Rattle.model.specs.declared.Answer.the-variants.{Busy}
 use Rattle.model.specs.declared.Counts.{Counts}
-use Rattle.model.specs.declared.Lease.{Lease}
-use Rattle.model.specs.declared.Reason.{Reason}
 use Rattle.model.specs.declared.Reason.the-variants.{Held, Before, After}
 use Rattle.model.specs.declared.State.{State}
 use Rattle.model.specs.declared.State.the-variants as state
 use Rattle.laws.specs.Words.{waiters-set-cell}
 use Rattle.history.specs.World.{World, cells, Live, step, now, Lawful, Spent, number-of, boundaries, caller-releases}
 use Rattle.history.specs.Items.{Call, try-acquire, drop-lease, read-permission, competing-acquire, release-then-handoff, foreign-release, drop-preserving, acquire-preserving, environment, try-lock, transactional, acquire-bucket, release-all, acquire-locks, crew, crew-at-work, IsCrew, asked, perform}
-use Rattle.history.specs.Statements.{answer-in, world-in, answers, leaves, log-of}
+use Rattle.history.specs.Statements.{answer-in, leaves, log-of}
 use Rattle.history.specs.Events.{Fit, good, fit, lives, live-before}
 use Rattle.history.specs.Events as events
 use Rattle.history.specs.Logs.{now-append, lawful-split, good-now, arena-now, kept-fit}
@@ -34,7 +32,7 @@ use Rattle.history.specs.Judged.{performed}
 use Rattle.history.specs.Returns.{not-empty, released-dead}
 use Rattle.history.specs.Rollback.{Foreigner, Every, every-at}
 use Rattle.history.specs.Tests.{Stands, is-free, is-held, is-damaged, stands, alive, live, state-held}
-use Rattle.history.specs.Reasons.{_↔_, boundaries-in, Locks-once, Takes-nothing, Was-held, Waited-before, Waited-after, Reasoned, Reasons-are, Early-takes-nothing, Holder-lives, Late-is-spent, Own-serial}
+use Rattle.history.specs.Reasons.{boundaries-in, Locks-once, Takes-nothing, Reasons-are, Early-takes-nothing, Holder-lives, Late-is-spent, Own-serial}
 use Rattle.history.specs.Why.{Looks, unlooked, waited, holder, stopped, granted, late, poisoned, call-looks}
 
 -- ---- the last event of a log
