@@ -4,6 +4,7 @@ use mathlib.Core.Path.{_≡_}
 use mathlib.Core.List.{List}
 use Rattle.model.specs.Calls.{tryAcquireOf, dropLeaseOf, readPermissionOf, competingAcquireOf, releaseThenHandoffOf, foreignReleaseOf, acquirePreservingOf, dropPreservingOf, environmentOf, tryLockOf, transactionalOf, acquireBucketOf, releaseAllOf, acquireLocksOf}
 use Rattle.model.specs.Crew.{crewOf, crewAtWorkOf}
+use Rattle.model.specs.Sorted.{acquireSortedOf}
 use Rattle.model.specs.declared.CrewReply.{CrewReply}
 use Rattle.model.specs.declared.Head.{Head}
 use Rattle.model.specs.declared.Lease.{Lease}
@@ -52,6 +53,9 @@ release-all-determined h t g script place leases a b p q = determined p q
 
 pub acquire-locks-determined : (h : Head) (t g registry script : List ℕ) (place : ℕ) (held keys grants : List ℕ) (a b : Played × (List ℕ × (List ℕ × List ℕ))) → a ≡ acquireLocksOf h t g registry script place held keys grants .seen → b ≡ acquireLocksOf h t g registry script place held keys grants .seen → a ≡ b
 acquire-locks-determined h t g registry script place held keys grants a b p q = determined p q
+
+pub acquire-sorted-determined : (h : Head) (t g registry script : List ℕ) (place : ℕ) (held keys grants : List ℕ) (a b : Played × (List ℕ × (List ℕ × List ℕ))) → a ≡ acquireSortedOf h t g registry script place held keys grants .seen → b ≡ acquireSortedOf h t g registry script place held keys grants .seen → a ≡ b
+acquire-sorted-determined h t g registry script place held keys grants a b p q = determined p q
 
 pub crew-determined : (h : Head) (t g counts cells turns : List ℕ) (a b : CrewReply × List ℕ) → a ≡ crewOf h t g counts cells turns .seen → b ≡ crewOf h t g counts cells turns .seen → a ≡ b
 crew-determined h t g counts cells turns a b p q = determined p q
