@@ -9,11 +9,12 @@ out=target/speed
 archive=target/staticlib/libskid.a
 mkdir -p "$out"
 
-# A case, and how often it is repeated to count its instructions.
+# A case, how often it is repeated to count its instructions, and the case that is subtracted from it, if there is one.
 cases="refusal 100
 script 50
 held 20
-crew 50
+crew 50 crew-prepare
+crew_at_work 50 crew-prepare
 try_lock 20000
 bucket 20000
 locks 2000
@@ -142,10 +143,10 @@ row() {
 
 echo "| case | proved, instructions a call | plain Rust, instructions a call | ratio | proved, ns a call | plain Rust, ns a call | ratio |"
 echo "|---|---|---|---|---|---|---|"
-while read -r case repeats; do
+while read -r case repeats less; do
     {
         measured "$case" "$repeats"
-        if [ "$case" = crew ]; then measured crew-prepare "$repeats"; fi
+        if [ -n "$less" ]; then measured "$less" "$repeats"; fi
     } >"$out/measured"
     row "$case" <"$out/measured"
 done <<<"$cases"
@@ -158,6 +159,7 @@ $(date -u +%Y-%m-%d), $(uname -m), $("${rustc[@]}" --version), $(rt version)
 - held: \`environment\` over 32,768 steps, 64 leases held: half release held ones, first, middle and last, and are dropped;
   half take and release cells that nobody protects.
 - crew: \`crew\` of 16 members with the same 16 cells, 65,536 turns in turn. The \`prepare\` before each is subtracted.
+- crew_at_work: \`crew_at_work\` of the same crew, with a counter for each cell. The \`prepare\` is subtracted.
 - try_lock: \`try_lock\` of a free cell, no script, and \`drop_lease\` of it: two calls.
 - bucket: \`acquire_index_bucket\` of a free key, no script, and \`drop_lease\` of it: two calls.
 - locks: \`acquire_index_locks\` of 16 free keys, no script, and \`release_all\` of them: two calls.

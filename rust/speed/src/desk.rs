@@ -31,6 +31,7 @@ pub struct Desk {
     pub counts: Vec<u32>,
     pub cells: Vec<u32>,
     pub turns: Vec<u32>,
+    pub counters: Vec<u16>,
 }
 
 impl Desk {

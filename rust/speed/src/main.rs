@@ -181,7 +181,24 @@ impl Case for Crew {
     }
 }
 
-/// The `prepare` of the crew's case alone, to be subtracted from it.
+/// The same crew with a counter for each cell: each member adds to its 16 before it releases them. Counters go on.
+struct CrewAtWork;
+
+impl Case for CrewAtWork {
+    fn desk<S: Side>() -> Desk {
+        let mut desk = Crew::desk::<S>();
+        desk.counters = (1..=256).collect();
+        desk
+    }
+
+    #[inline(always)]
+    fn run<S: Side>(desk: &mut Desk, watch: &mut impl Watch) {
+        S::prepare(desk.hidden(), |r| watch.see(r, S::reply_words));
+        S::crew_at_work(desk.hidden(), |r| watch.see(r, S::crew_words));
+    }
+}
+
+/// The `prepare` of the crew's cases alone, to be subtracted from them.
 struct CrewPrepare;
 
 impl Case for CrewPrepare {
@@ -301,6 +318,7 @@ fn line<C: Case, S: Side>(repeats: u64, each: bool) -> String {
     sum.add(desk.table);
     sum.add(desk.health);
     sum.add(desk.grants);
+    sum.add(desk.counters);
     let last: Vec<String> = sum.last[..14].iter().map(u64::to_string).collect();
     format!("{:016x} {}", sum.sum, last.join(" "))
 }
@@ -339,6 +357,7 @@ fn on<S: Side>(case: &str, how: &[&str]) -> Option<String> {
         "script" => asked::<Scripted, S>(how),
         "held" => asked::<Held, S>(how),
         "crew" => asked::<Crew, S>(how),
+        "crew_at_work" => asked::<CrewAtWork, S>(how),
         "crew-prepare" => asked::<CrewPrepare, S>(how),
         "try_lock" => asked::<TryLock, S>(how),
         "bucket" => asked::<Bucket, S>(how),
@@ -363,7 +382,7 @@ fn main() -> ExitCode {
         }
         None => {
             eprintln!("speed proved|plain CASE REPEATS [each], or speed proved|plain CASE time");
-            eprintln!("CASE: refusal script held crew crew-prepare try_lock bucket locks prepare");
+            eprintln!("CASE: refusal script held crew crew_at_work crew-prepare try_lock bucket locks prepare");
             ExitCode::from(2)
         }
     }

@@ -191,6 +191,21 @@ impl Side for Plain {
     }
 
     #[inline(always)]
+    fn crew_at_work<T>(desk: &mut Desk, seen: impl FnOnce(&CrewReply) -> T) -> T {
+        let head = head_of(desk);
+        let reply = rules::crew_at_work(
+            head,
+            &mut desk.table,
+            &mut desk.health,
+            &desk.counts,
+            &desk.cells,
+            &desk.turns,
+            &mut desk.counters,
+        );
+        seen(&reply)
+    }
+
+    #[inline(always)]
     fn next(played: &ScriptReply) -> u32 {
         played.head.next
     }

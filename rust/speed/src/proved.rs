@@ -132,6 +132,24 @@ extern "C" {
         turns_len: usize,
         reply: *mut Crew,
     );
+    fn skid_crew_at_work(
+        headers: u32,
+        buckets: u32,
+        next: u32,
+        table: *mut u32,
+        table_len: usize,
+        health: *const u8,
+        health_len: usize,
+        counts: *const u32,
+        counts_len: usize,
+        cells: *const u32,
+        cells_len: usize,
+        turns: *const u32,
+        turns_len: usize,
+        counters: *mut u16,
+        counters_len: usize,
+        reply: *mut Crew,
+    );
 }
 
 pub struct Proved;
@@ -323,6 +341,32 @@ impl Side for Proved {
                 desk.cells.len(),
                 desk.turns.as_ptr(),
                 desk.turns.len(),
+                reply.as_mut_ptr(),
+            );
+            seen(reply.assume_init_ref())
+        }
+    }
+
+    #[inline(always)]
+    fn crew_at_work<T>(desk: &mut Desk, seen: impl FnOnce(&Crew) -> T) -> T {
+        let mut reply = MaybeUninit::uninit();
+        unsafe {
+            skid_crew_at_work(
+                desk.head.headers,
+                desk.head.buckets,
+                desk.head.next,
+                desk.table.as_mut_ptr(),
+                desk.table.len(),
+                desk.health.as_ptr(),
+                desk.health.len(),
+                desk.counts.as_ptr(),
+                desk.counts.len(),
+                desk.cells.as_ptr(),
+                desk.cells.len(),
+                desk.turns.as_ptr(),
+                desk.turns.len(),
+                desk.counters.as_mut_ptr(),
+                desk.counters.len(),
                 reply.as_mut_ptr(),
             );
             seen(reply.assume_init_ref())

@@ -21,6 +21,7 @@ pub trait Side {
     /// Of the leases that multi-lock left in its buffer.
     fn release_all<T>(desk: &mut Desk, seen: impl FnOnce(&Self::Played) -> T) -> T;
     fn crew<T>(desk: &mut Desk, seen: impl FnOnce(&Self::Crew) -> T) -> T;
+    fn crew_at_work<T>(desk: &mut Desk, seen: impl FnOnce(&Self::Crew) -> T) -> T;
 
     /// The next serial.
     fn next(played: &Self::Played) -> u32;
