@@ -26,7 +26,7 @@ use Rattle.model.specs.declared.Refusal.the-variants as refusal
 use Rattle.model.specs.declared.Run.{Run}
 use Rattle.model.specs.declared.Tried.{Tried}
 use Rattle.history.specs.World.{World, worldOf, now, caller-releases}
-use Rattle.history.specs.Items.{try-acquire, drop-lease, read-permission, competing-acquire, release-then-handoff, foreign-release, drop-preserving, acquire-preserving, environment, try-lock, transactional, acquire-bucket, release-all, acquire-locks, crew, crew-at-work, asked, cellOf, place-of, Says, says, perform, foreign, Build, Stepper}
+use Rattle.history.specs.Items.{try-acquire, drop-lease, read-permission, competing-acquire, release-then-handoff, foreign-release, drop-preserving, acquire-preserving, environment, try-lock, transactional, acquire-bucket, release-all, acquire-locks, acquire-sorted, crew, crew-at-work, asked, cellOf, place-of, Says, says, perform, foreign, Build, Stepper}
 use Rattle.history.specs.Statements.{Crew-build, answer-in}
 
 -- ---- the same with another answer, and the like
@@ -170,6 +170,7 @@ others drop key once locks w (transactional registry script place held binding b
 others drop key once locks w (acquire-bucket registry script place held binding bucket) = key w registry script place held binding bucket
 others drop key once locks w (release-all script place leases) = perform w (release-all script place leases)
 others drop key once locks w (acquire-locks registry script place held keys grants) = locks w registry script place held keys grants
+others drop key once locks w (acquire-sorted registry script place held keys grants) = perform w (acquire-sorted registry script place held keys grants)
 others drop key once locks w (crew counts cells turns) = perform w (crew counts cells turns)
 others drop key once locks w (crew-at-work counts cells turns counters) = perform w (crew-at-work counts cells turns counters)
 
