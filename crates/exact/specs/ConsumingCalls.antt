@@ -6,7 +6,6 @@ use mathlib.Core.List.{List, [], _++_, append-nil}
 use native.Mathlib.Omega.{arith}
 use lib.ListN.{length}
 use lib.Seq.{take-all}
-use Rattle.model.specs.Log.{Made}
 use Rattle.model.specs.Arena.{leasesOf, wordsOf}
 use Rattle.model.specs.Foreign.{flowOf}
 use Rattle.model.specs.Lock.{answerOf, settled, lockOf, attemptOf, retryOf, attemptLimit, noneYet, locksOf}
@@ -20,7 +19,7 @@ use Rattle.model.specs.declared.Outcome.{Outcome}
 use Rattle.model.specs.declared.Outcome.the-variants as outcome
 use Rattle.laws.specs.Lists.{leases-few}
 use Rattle.history.specs.World.{World}
-use Rattle.history.specs.Items.{held-of, given-up, place-of, Call, perform, Says, script-of}
+use Rattle.history.specs.Items.{Call, perform}
 use Rattle.history.specs.Theorems.{lawful-always}
 use Rattle.history.specs.Tests.{leases-words}
 use Rattle.history.specs.Judged.{judged-at, sorted-locks, steps}

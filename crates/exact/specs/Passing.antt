@@ -65,10 +65,10 @@ module _ {w v : World} {es : List Event} (held : List ℕ) (k : Kept w (In (leas
   shape-fit : not (shapeFits (w .head) (length (w .table))) ≡ false → Fit w
   shape-fit e = record { shape = shaped (w .head) (length (w .table)) (not-false _ e) }
 
-  shape-on : not (shapeFits (w .head) (length (w .table))) ≡ false → not (shapeFits (v .head) (length (v .table))) ≡ false
+  pub shape-on : not (shapeFits (w .head) (length (w .table))) ≡ false → not (shapeFits (v .head) (length (v .table))) ≡ false
   shape-on e = ap not (fits (v .head) (length (v .table)) (kept-fit (shape-fit e) k .shape))
 
-  health-on : not (healthFits (w .head) (length (w .health))) ≡ false → not (healthFits (v .head) (length (v .health))) ≡ false
+  pub health-on : not (healthFits (w .head) (length (w .health))) ≡ false → not (healthFits (v .head) (length (v .health))) ≡ false
   unfolding healthFits
   health-on e =
       let bytes : length (v .health) ≡ length (w .health) = ap (λ (x : World). length (x .health)) (k .leads) ∙ health-now w es in

@@ -1,0 +1,9 @@
+pub mod Statements
+pub mod Theorems
+pub mod Examples
+pub mod Keys
+pub mod Runs
+pub mod Granted
+pub mod Refused
+pub mod Quiet
+pub mod Repeats
