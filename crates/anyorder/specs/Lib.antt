@@ -1,5 +1,6 @@
 pub mod Statements
 pub mod Theorems
+pub mod Callers
 pub mod Examples
 pub mod Keys
 pub mod Runs
