@@ -24,6 +24,7 @@ use Rattle.laws.specs.Keys.{place-inside}
 use Rattle.laws.specs.Lists.{zeros}
 use Rattle.laws.specs.Sorting.{isAmong, first-asking, sorted-listed}
 use Rattle.history.specs.Items.{Clear, keyCell}
+use Rattle.history.specs.Statements.{Crew-build, Crew-at-work-build}
 use Rattle.history.specs.Judged.{clear-fine, clear-append}
 use Rattle.history.specs.Shared.{asked-length, asked-at, first-place, first-place-at}
 use Rattle.progress.specs.Statements.{In, flat, Unfinished-told, Rounds-told, Rounds-after, Rounds-at-work, Open, Enough, Enough-at-work, Completed, Complete, tabled}
@@ -85,6 +86,33 @@ pub record Ready-for (h : Head) (t g : List ℕ) (callers : List Caller) : Type 
   pub calm : All (λ c. (p : ℕ) → p < countIn (c .keys) → Calm h t g (asks (h .buckets) c p)) callers
   pub serials : h .next + total (counts-of (h .buckets) callers) ≤ lastSerial
 
+-- ---- what is proved of them
+
+-- they are a crew: BadCrew does not apply, nor does another check
+abbrev pub Callers-are-crew : Type 0
+Callers-are-crew =
+    (h : Head) (t g : List ℕ) (callers : List Caller) (turns : List ℕ) → Crowd h t g callers turns
+    → first (crewRules h t g (counts-of (h .buckets) callers) (cells-of (h .buckets) callers) turns) ≡ Fine
+
+-- demand 3, "whatever the order of turns": after 2K rounds, K being the distinct cells of each caller in all, all have held their whole lists
+-- and released them
+abbrev pub Callers-finish : Crew-build → Type 0
+Callers-finish f =
+    (h : Head) (t g : List ℕ) (callers : List Caller) (rounds : List (List ℕ))
+    → let counts = counts-of (h .buckets) callers in
+    let cells = cells-of (h .buckets) callers in
+    Crowd h t g callers (flat rounds) → Ready-for h t g callers → Rounds-after f h t g counts cells [] rounds → Enough counts rounds
+    → Complete h t counts (flat rounds) (f h t g counts cells (flat rounds))
+
+-- and at work after 3K
+abbrev pub Callers-finish-at-work : Crew-at-work-build → Type 0
+Callers-finish-at-work f =
+    (h : Head) (t g : List ℕ) (callers : List Caller) (counters : List ℕ) (rounds : List (List ℕ))
+    → let counts = counts-of (h .buckets) callers in
+    let cells = cells-of (h .buckets) callers in
+    Crowd h t g callers (flat rounds) → Ready-for h t g callers → length counters ≡ cellsOf h → Rounds-at-work f h t g counts cells counters [] rounds → Enough-at-work counts rounds
+    → Completed (3 * total counts) h t counts (flat rounds) (tabled (f h t g counts cells (flat rounds) counters))
+
 -- ---- the lists of a crew
 
 members-are : (b : ℕ) (cs : List Caller) → length (counts-of b cs) ≡ length cs
@@ -137,9 +165,7 @@ unfolding badTurns
 turns-pass members i [] f = tt
 turns-pass members i (m ∷ ms) f = (lt-leb members m (f 0 (omega arith)), turns-pass members (i + 1) ms (λ j l. f (suc j) (omega arith)))
 
--- "callers are a crew": BadCrew does not apply, nor does another check
-pub callers-are-crew : (h : Head) (t g : List ℕ) (callers : List Caller) (turns : List ℕ) → Crowd h t g callers turns
-    → first (crewRules h t g (counts-of (h .buckets) callers) (cells-of (h .buckets) callers) turns) ≡ Fine
+pub callers-are-crew : Callers-are-crew
 unfolding crewRules
 callers-are-crew h t g callers turns k =
     let counts = counts-of (h .buckets) callers in
@@ -192,21 +218,10 @@ callers-open h t g callers turns k r =
       serials = r .serials;
     }
 
--- demand 3, "whatever the order of turns": after 2K rounds, K being the distinct cells of each caller in all, all have held their whole lists
--- and released them
-pub callers-finish : (h : Head) (t g : List ℕ) (callers : List Caller) (rounds : List (List ℕ))
-    → let counts = counts-of (h .buckets) callers in
-    let cells = cells-of (h .buckets) callers in
-    Crowd h t g callers (flat rounds) → Ready-for h t g callers → Rounds-after crewOf h t g counts cells [] rounds → Enough counts rounds
-    → Complete h t counts (flat rounds) (crewOf h t g counts cells (flat rounds))
+pub callers-finish : Callers-finish crewOf
 callers-finish h t g callers rounds k r = demand-3 h t g (counts-of (h .buckets) callers) (cells-of (h .buckets) callers) rounds (callers-open h t g callers (flat rounds) k r)
 
--- and at work after 3K
-pub callers-finish-at-work : (h : Head) (t g : List ℕ) (callers : List Caller) (counters : List ℕ) (rounds : List (List ℕ))
-    → let counts = counts-of (h .buckets) callers in
-    let cells = cells-of (h .buckets) callers in
-    Crowd h t g callers (flat rounds) → Ready-for h t g callers → length counters ≡ cellsOf h → Rounds-at-work crewAtWorkOf h t g counts cells counters [] rounds → Enough-at-work counts rounds
-    → Completed (3 * total counts) h t counts (flat rounds) (tabled (crewAtWorkOf h t g counts cells (flat rounds) counters))
+pub callers-finish-at-work : Callers-finish-at-work crewAtWorkOf
 callers-finish-at-work h t g callers counters rounds k r =
     demand-3-at-work h t g (counts-of (h .buckets) callers) (cells-of (h .buckets) callers) counters rounds (callers-open h t g callers (flat rounds) k r)
 

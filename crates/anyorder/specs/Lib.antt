@@ -6,5 +6,6 @@ pub mod Keys
 pub mod Runs
 pub mod Granted
 pub mod Refused
+pub mod Healthy
 pub mod Quiet
 pub mod Repeats

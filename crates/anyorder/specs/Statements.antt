@@ -19,9 +19,10 @@ use Rattle.model.specs.declared.Head.{Head}
 use Rattle.model.specs.declared.KeyCheck.the-variants as key
 use Rattle.model.specs.declared.Refusal.{Refusal}
 use Rattle.model.specs.declared.Refusal.the-variants.{BadHeader, InvalidBucket, Repeated}
-use Rattle.history.specs.World.{World, Live, now}
+use Rattle.history.specs.World.{World, Live, Healthy, now}
 use Rattle.history.specs.Items.{acquire-locks, acquire-sorted, release-all, keyCell, Says, says, Build, Clear, rules}
 use Rattle.history.specs.Statements.{answer-in, buffer-in, world-in, Rolled-back}
+use Rattle.history.specs.Answers.{Grant-point}
 use Rattle.exact.specs.Statements.{Is-free, Unwaited, Names, leases-from, takes-of}
 
 -- ---- granted: "hand back one lease per key in the caller's order, doubled keys sharing one"
@@ -71,6 +72,18 @@ Each-key-live f =
     → let m = f w (acquire-sorted registry script place held keys grants) in
     let l = leaseAt (leasesOf (buffer-in m)) p in
     answer-in m ≡ AllGranted → p < countIn keys → (l .cell ≡ keyCell (w .head .buckets) registry keys p) × Live (world-in m) l
+
+-- document 02, L3: each key's lease is on a header that is healthy at the point of its grant, and that of the highest cell in the health that the call
+-- leaves. As of multi-lock, no more is promised of the cells before the last
+abbrev pub Sorted-healthy : Build → Type 0
+Sorted-healthy f =
+    (w : World) (registry script : List ℕ) (place : ℕ) (held keys grants : List ℕ) (p : ℕ)
+    → let m = f w (acquire-sorted registry script place held keys grants) in
+    let cell = keyCell (w .head .buckets) registry keys in
+    let l = leaseAt (leasesOf (buffer-in m)) p in
+    answer-in m ≡ AllGranted → p < countIn keys
+    → ((before after : List Event) × (m .log ≡ before ++ after) × Grant-point l before after × Healthy (now w before) (l .cell))
+    × (((q : ℕ) → q < countIn keys → cell q ≤ cell p) → Healthy (world-in m) (l .cell))
 
 -- ---- refused before any attempt: "BadHeader and InvalidBucket are now also tested in this call before any attempt, by the caller's first position,
 -- header before bucket."

@@ -1,9 +1,12 @@
--- The statements of `Statements`, each proved of ours; the proofs are in the files behind.
+-- The statements of `Statements` and `Callers`, each proved of ours; the proofs are in the files behind.
+use Rattle.model.specs.Crew.{crewOf, crewAtWorkOf}
 use Rattle.history.specs.Items.{perform}
-use Rattle.anyorder.specs.Statements.{Shares, Serials-by-cell, Apart-by-cell, Taken-rising, Each-key-live, Keys-first, As-multilock, Sorted-quiet, Later-position, Fourteen}
+use Rattle.anyorder.specs.Statements.{Shares, Serials-by-cell, Apart-by-cell, Taken-rising, Each-key-live, Sorted-healthy, Keys-first, As-multilock, Sorted-quiet, Later-position, Fourteen}
+use Rattle.anyorder.specs.Callers as callers
 use Rattle.anyorder.specs.Granted as granting
 use Rattle.anyorder.specs.Refused as refusing
 use Rattle.anyorder.specs.Runs as running
+use Rattle.anyorder.specs.Healthy as healthy
 use Rattle.anyorder.specs.Quiet as quiet
 use Rattle.anyorder.specs.Repeats as repeating
 
@@ -23,6 +26,9 @@ taken-rising = granting.taken-rising
 
 pub each-key-live : Each-key-live perform
 each-key-live = granting.each-key-live
+
+pub sorted-healthy : Sorted-healthy perform
+sorted-healthy = healthy.sorted-healthy
 
 pub sorted-quiet : Sorted-quiet perform
 sorted-quiet = quiet.sorted-quiet
@@ -44,3 +50,14 @@ as-multilock = running.as-multilock
 
 pub fourteen : Fourteen perform
 fourteen = repeating.fourteen
+
+-- ---- demand 3
+
+pub callers-are-crew : callers.Callers-are-crew
+callers-are-crew = callers.callers-are-crew
+
+pub callers-finish : callers.Callers-finish crewOf
+callers-finish = callers.callers-finish
+
+pub callers-finish-at-work : callers.Callers-finish-at-work crewAtWorkOf
+callers-finish-at-work = callers.callers-finish-at-work

@@ -1,7 +1,7 @@
 -- Builds that lock keys in a wrong order, or hand back wrong leases or positions, fail a theorem: the like of `Falls`, for document 02, L4.
 use Prim.Native.Nat.{ℕ, _<_}
 use mathlib.Core.Path.{_≡_, refl, ap}
-use mathlib.Core.List.{List, [], _∷_}
+use mathlib.Core.List.{[], _∷_}
 use mathlib.Core.Logic.{inl, inr}
 use native.Mathlib.Omega.{arith}
 use lib.ListN.{replicate}
