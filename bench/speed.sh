@@ -18,6 +18,7 @@ crew_at_work 50 crew-prepare
 try_lock 20000
 bucket 20000
 locks 2000
+sorted 2000
 prepare 1000"
 
 fail() {
@@ -163,5 +164,6 @@ $(date -u +%Y-%m-%d), $(uname -m), $("${rustc[@]}" --version), $(rt version)
 - try_lock: \`try_lock\` of a free cell, no script, and \`drop_lease\` of it: two calls.
 - bucket: \`acquire_index_bucket\` of a free key, no script, and \`drop_lease\` of it: two calls.
 - locks: \`acquire_index_locks\` of 16 free keys, no script, and \`release_all\` of them: two calls.
+- sorted: \`acquire_sorted_locks\` of the same keys in falling order, and \`release_all\` of them: two calls.
 - prepare: \`prepare\` of 64 x 64 cells, 12,288 words.
 END

@@ -1,6 +1,6 @@
 /*
- * The lease layer of the skid kernel: the calls of document 01, and of document 02 the setpoint book (L2), the waveform
- * of the cells (L11) and the crew at work (L13), for C.
+ * The lease layer of the skid kernel: the calls of document 01, and of document 02 the setpoint book (L2), keys in any
+ * order (L4), the waveform of the cells (L11) and the crew at work (L13), for C.
  *
  * Link with libskid.a (`rt staticlib skid` writes target/staticlib/libskid.a). The archive is code for x86-64, by the
  * calling convention of Linux there (System V). It asks the host for memcpy and memset, and for nothing else. It has
@@ -70,7 +70,7 @@ extern "C" {
 #endif
 
 /* The version of header and library together; CHANGELOG.md says what came with which. */
-#define SKID_VERSION "0.13.0"
+#define SKID_VERSION "0.14.0"
 
 /* ---- limits */
 
@@ -147,7 +147,7 @@ enum skid_kind {
     SKID_ALL_GRANTED = 3, /* multi-lock: the leases are in `grants` */
     SKID_BUSY = 4,
     SKID_REFUSED = 5,
-    SKID_REFUSED_AT = 6 /* multi-lock: a refusal at a key */
+    SKID_REFUSED_AT = 6 /* multi-lock: a refusal at a key, with its position */
 };
 
 /*
@@ -166,7 +166,7 @@ enum skid_reason {
  * The refusals, by document 01's numbers, with what each carries. 1 to 5, 8 in a call by cell, and 12 to 15 are tested
  * before anything else is done, in the order of the numbers (12 and 14 together, by position); they change nothing and
  * have all counts 0. 6 to 11, but for that 8, end an attempt; they keep foreign steps and spent serials, and the
- * caller holds nothing new.
+ * caller holds nothing new. (skid_acquire_sorted_locks tests 6 and 8 before any attempt, too.)
  */
 enum skid_refusal {
     SKID_BAD_SHAPE = 1,              /* 0: the head or a length breaks the arena's rules */
@@ -354,6 +354,25 @@ void skid_acquire_index_locks(uint32_t headers, uint32_t buckets, uint32_t next,
                               const uint32_t *script, size_t script_len, size_t place, const uint32_t *held,
                               size_t held_len, const uint32_t *keys, size_t keys_len, uint32_t *grants,
                               size_t grants_len, uint64_t reply[SKID_REPLY_WORDS]);
+
+/*
+ * Multi-lock with keys in any order, and doubles (document 02, L4). The keys are resolved to cells; each distinct cell
+ * is taken once, in rising order of cells, as skid_acquire_index_locks takes a key. All granted, and `grants` holds
+ * cell and serial for each key, in the caller's order: keys of one cell share one lease. So hand each lease to
+ * skid_release_all once; the buffer of doubled keys as it stands is SKID_REPEATED. Attempts and boundaries count
+ * distinct cells.
+ *
+ * Checked in this order: what skid_acquire_index_locks checks, every binding among it (SKID_TOO_MANY counts keys as
+ * typed); then, before any attempt, position by position, the header (SKID_BAD_HEADER) before the bucket
+ * (SKID_INVALID_BUCKET). These two have their position and, here, all counts 0. A later refusal, SKID_POISONED among
+ * them, has the first position that asks for its cell; all taken leases are released as in skid_release_all. Refused,
+ * `grants` is unchanged.
+ */
+void skid_acquire_sorted_locks(uint32_t headers, uint32_t buckets, uint32_t next, uint32_t *table, size_t table_len,
+                               uint8_t *health, size_t health_len, const uint32_t *registry, size_t registry_len,
+                               const uint32_t *script, size_t script_len, size_t place, const uint32_t *held,
+                               size_t held_len, const uint32_t *keys, size_t keys_len, uint32_t *grants,
+                               size_t grants_len, uint64_t reply[SKID_REPLY_WORDS]);
 
 /* ---- the crew */
 

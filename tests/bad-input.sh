@@ -181,6 +181,7 @@ transactional_try_lock_bucket 2 2
 acquire_index_bucket 2 2
 release_all 0 0
 acquire_index_locks 0 0
+acquire_sorted_locks 0 0
 crew 0 0
 book 1 1
 book_byte 2 2
@@ -195,7 +196,7 @@ printf 'lend 1\nlend 0\nlend 1 2 3\nlend x\nlend 1 x\necho 2\necho 256\necho 429
 all_bad 'too many and too few words'
 for word in ram lend head word byte registry held keys leases turns script place grants member crewless show map echo help prepare try_acquire drop_lease read_permission \
     competing_acquire_is_excluded release_then_handoff foreign_release_between_attempts acquire_preserving_borrows drop_preserving_borrows environment \
-    environment_for_borrows try_lock other_mutex_preserves_leases transactional_try_lock_bucket acquire_index_bucket release_all acquire_index_locks crew \
+    environment_for_borrows try_lock other_mutex_preserves_leases transactional_try_lock_bucket acquire_index_bucket release_all acquire_index_locks acquire_sorted_locks crew \
     book book_byte show_book prepare_book read_setpoint write_setpoint counters crew_at_work; do
     # the right count of numbers, the word wrong: longer, shorter, of capitals
     for rest in '' ' 1' ' 1 1' ' 1 1 1'; do
@@ -234,6 +235,7 @@ room_of registry registry 80 'prepare 2 4 1' 'transactional_try_lock_bucket 0 0'
 room_of script script 98400 "$arena" environment "refused 2 BadScript 0 next 1 place 0 $counts"
 room_of held held 300 "$arena" environment "refused 3 BadHeld 150 next 1 place 0 $counts"
 room_of keys keys 200 "$arena" acquire_index_locks 'grants'
+room_of 'keys, sorted' keys 200 "$arena" acquire_sorted_locks 'grants'
 room_of leases leases 300 "$arena" release_all "refused 4 TooMany 0 next 1 place 0 $counts"
 room_of turns turns 70000 "$arena"$'\nmember 1' crew 'refused 15 BadCrew 0 next 1'
 room_of counters counters 4200 "$arena"$'\nmember 1' crew_at_work "counters$(numbers 4200 0)"
@@ -260,7 +262,7 @@ room_of member member 70 "$arena" crew 'refused 15 BadCrew 0 next 1'
     echo "keys$(numbers 128 1)"
     printf 'grants 128\nacquire_index_locks\n'
     echo "keys$(numbers 130 1)"
-    printf 'grants 130\nacquire_index_locks\ngrants 300\nacquire_index_locks\n'
+    printf 'grants 130\nacquire_index_locks\nacquire_sorted_locks\ngrants 300\nacquire_index_locks\nacquire_sorted_locks\n'
     echo "leases$(numbers 128 1)"
     printf 'release_all\n'
     echo "leases$(numbers 130 1)"
@@ -277,6 +279,21 @@ room_of member member 70 "$arena" crew 'refused 15 BadCrew 0 next 1'
     printf 'crew\nshow\n'
 } >"$input"
 compare 'limits of document 01'
+
+# the sorted call: keys count as typed, 64 of one cell are not too many, with one held lease they are
+{
+    printf 'prepare 2 4 1\nregistry 0 1 1\ntry_acquire 7\n'
+    echo "keys$(numbers 128 1)"
+    printf 'grants 128\nacquire_sorted_locks\nheld 7 1\nacquire_sorted_locks\n'
+    echo "keys$(numbers 126 2)"
+    printf 'grants 126\nacquire_sorted_locks\nkeys 4294967295 0\ngrants 2\nacquire_sorted_locks\nkeys 0 4294967295\nacquire_sorted_locks\nregistry 4294967295\nacquire_sorted_locks\n'
+} >"$input"
+says 'sorted keys at the limit' "done next 1 place 0 $counts" 'granted 7 1 next 2 place 0 attempts 1 boundaries 0 yields 0 dropped 0' \
+    'granted next 3 place 0 attempts 1 boundaries 3 yields 0 dropped 0' "grants$(numbers 64 '5 2')" \
+    "refused 4 TooMany 0 next 3 place 0 $counts" "grants$(numbers 64 '5 2')" \
+    'granted next 4 place 0 attempts 1 boundaries 3 yields 0 dropped 0' "grants$(numbers 63 '6 3')" \
+    "refused 5 BadBinding 0 next 4 place 0 $counts" 'grants 9 9' "refused 8 InvalidBucket 4294967295 at 0 next 4 place 0 $counts" 'grants 9 9' \
+    "refused 6 BadHeader 4294967295 at 0 next 4 place 0 $counts" 'grants 9 9'
 
 # grants, members
 printf 'prepare 2 4 1\ngrants 300\nacquire_index_locks\ngrants 301\ngrants 4294967295\nacquire_index_locks\n' >"$input"

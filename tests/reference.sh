@@ -12,13 +12,13 @@ cd "$(dirname "$0")/.." || exit 1
 page=${PAGE:-docs/REFERENCE.md}
 header=include/skid.h
 specs=crates/model/specs
-rules="Arena Refusals Answers Foreign Lock Checks Calls Crew"
+rules="Arena Refusals Answers Foreign Lock Checks Calls Crew Sorted"
 documents=${SHARED_DOCS:-../shared/docs}
 quoting=(
     "$specs"/*.antt
     crates/history/specs/{Statements,Answers}.antt
     crates/exact/specs/{Statements,Script,Attempts}.antt
-    crates/{progress,works}/specs/Statements.antt
+    crates/{progress,anyorder,works}/specs/Statements.antt
     crates/setpoint/specs/Codec.antt
     crates/slots/specs/{Layout,Rules,Calls,Cases}.antt
     crates/written/specs/Statements.antt

@@ -1,6 +1,6 @@
 /*
- * Document 01's bench cases, through skid.h, the crew at work and the setpoint book of document 02, and edges of the
- * calling convention. A line for each case; exit 1 if a figure is not the documents'.
+ * Document 01's bench cases, through skid.h, and of document 02 keys in any order, the crew at work and the setpoint
+ * book, and edges of the calling convention. A line for each case; exit 1 if a figure is not the documents'.
  */
 #include <inttypes.h>
 #include <stdio.h>
@@ -10,7 +10,7 @@
 
 /* ---- what is checked */
 
-static int cases, works, books, edges, failures;
+static int cases, sorts, works, books, edges, failures;
 static int bad; /* in the case at hand */
 
 static void check(const char *what, uint64_t got, uint64_t want) {
@@ -404,6 +404,120 @@ static void crews(void) {
     check("refusal", crew.words[SKID_REFUSAL], SKID_BAD_CREW);
     check("member", crew.words[SKID_CARRIED], 1);
     end(&cases);
+}
+
+/* ---- keys in any order, and doubles; a grant buffer of nines, so that one that was written shows */
+
+static uint32_t grants[8];
+
+static void sort_keys(const uint32_t *script, size_t script_len, const uint32_t *keys, size_t keys_len) {
+    int i;
+    for (i = 0; i < 8; i++) {
+        grants[i] = 9;
+    }
+    skid_acquire_sorted_locks(HEAD, TABLE, HEALTH, REGISTRY, script, script_len, 0, NONE, keys, keys_len, grants,
+                              keys_len, blank());
+    called();
+}
+
+static void each_granted(const uint32_t *want, size_t words, uint64_t attempts, uint64_t boundaries) {
+    check("kind", word(SKID_KIND), SKID_ALL_GRANTED);
+    check("attempts", word(SKID_ATTEMPTS), attempts);
+    check("boundaries", word(SKID_BOUNDARIES), boundaries);
+    check("grants", memcmp(grants, want, words * sizeof *want) == 0 && grants[words] == 9, 1);
+}
+
+static void refused_at(uint64_t number, uint64_t carried, uint64_t position, uint64_t attempts) {
+    check("kind", word(SKID_KIND), SKID_REFUSED_AT);
+    check("refusal", word(SKID_REFUSAL), number);
+    check("carrying", word(SKID_CARRIED), carried);
+    check("position", word(SKID_POSITION), position);
+    check("attempts", word(SKID_ATTEMPTS), attempts);
+    check("grants as they were", grants[0] == 9 && grants[1] == 9 && grants[2] == 9 && grants[3] == 9, 1);
+}
+
+static void any_order(void) {
+    static const uint32_t two[4] = {1, 0, 2, 0}, shared[4] = {4, 1, 4, 1};
+    static const uint32_t falling[6] = {1, 1, 0, 3, 0, 0}, risen[6] = {5, 3, 3, 2, 0, 1};
+    static const uint32_t three[6] = {1, 0, 0, 2, 2, 0}, doubled[6] = {4, 2, 2, 1, 4, 2}, once[4] = {4, 2, 2, 1};
+
+    name("keys (1,0),(2,0) in any order: one cell, one lease");
+    prepare(1);
+    sort_keys(NONE, LIST(two));
+    each_granted(shared, 4, 1, 3);
+    at_next(2);
+    end(&sorts);
+
+    name("falling keys");
+    prepare(1);
+    sort_keys(NONE, LIST(falling));
+    each_granted(risen, 6, 3, 9);
+    at_next(4);
+    end(&sorts);
+
+    name("three keys, two of them one cell, and their release");
+    prepare(1);
+    sort_keys(NONE, LIST(three));
+    each_granted(doubled, 6, 2, 6);
+    at_next(3);
+    skid_release_all(HEAD, TABLE, HEALTH, NONE, 0, grants, 6, blank());
+    called();
+    refused(SKID_REPEATED, 2);
+    skid_release_all(HEAD, TABLE, HEALTH, NONE, 0, LIST(once), blank());
+    called();
+    check("kind", word(SKID_KIND), SKID_DONE);
+    free_cells();
+    end(&sorts);
+}
+
+static void any_order_refused(void) {
+    static const uint32_t strangers[3] = {0, 9, 1}, faults[4] = {0, 4, 1, 0}, unbound[6] = {0, 4, 1, 0, 3, 0};
+    static const uint32_t poisoned[4] = {1, 4, 0, 2}, poison[3] = {4, 0, 1}, late[8] = {1, 0, 1, 0, 0, 2, 0, 2};
+    uint32_t i;
+
+    name("a bad bucket at 0 and a bad header at 1, and a bad binding behind them");
+    prepare(1);
+    for (i = 0; i < 8; i++) {
+        grants[i] = 9;
+    }
+    skid_acquire_sorted_locks(HEAD, TABLE, HEALTH, LIST(strangers), NONE, 0, NONE, LIST(faults), grants, 4, blank());
+    called();
+    refused_at(SKID_INVALID_BUCKET, 4, 0, 0);
+    skid_acquire_sorted_locks(HEAD, TABLE, HEALTH, LIST(strangers), NONE, 0, NONE, faults + 2, 2, grants, 2, blank());
+    called();
+    refused_at(SKID_BAD_HEADER, 9, 0, 0);
+    skid_acquire_sorted_locks(HEAD, TABLE, HEALTH, LIST(strangers), NONE, 0, NONE, LIST(unbound), grants, 6, blank());
+    called();
+    refused(SKID_BAD_BINDING, 2);
+    check("attempts", word(SKID_ATTEMPTS), 0);
+    at_next(1);
+    end(&sorts);
+
+    name("header 0 poisoned: the bucket is tested first, and a later refusal has the first position asking");
+    prepare(1);
+    step(SKID_STEP_HEALTH, 0, 1);
+    sort_keys(NONE, LIST(poisoned));
+    refused_at(SKID_INVALID_BUCKET, 4, 0, 0);
+    sort_keys(NONE, LIST(late));
+    refused_at(SKID_POISONED, 0, 2, 1);
+    prepare(1);
+    sort_keys(LIST(poison), LIST(late)); /* read after the lock too: the serial stays spent */
+    refused_at(SKID_POISONED, 0, 2, 1);
+    at_next(2);
+    free_cells();
+    end(&sorts);
+
+    name("cell 4 held by foreign 1: cell 2 is taken and given back");
+    prepare(1);
+    step(SKID_STEP_TAKE, 4, 0);
+    sort_keys(NONE, LIST(late));
+    refused_at(SKID_SERIALIZATION_FAILURE, 4096, 0, 4097);
+    reason(SKID_REASON_HELD, 1);
+    check("boundaries", word(SKID_BOUNDARIES), 12356);
+    at_next(3);
+    check("bit of 2", table.words[6], 0);
+    check("owner of 4", table.words[13], 1);
+    end(&sorts);
 }
 
 /* ---- the crew at work: cell 2's counter is 40,000, cell 5's 30,000, all others 7 */
@@ -880,6 +994,8 @@ int main(void) {
     foreign_release();
     keys();
     crews();
+    any_order();
+    any_order_refused();
     at_work();
     unwritten();
     written();
@@ -891,6 +1007,7 @@ int main(void) {
         printf("bench cases in C: %d failed\n", failures);
         return 1;
     }
+    printf("keys in any order in C: %d passed\n", sorts);
     printf("crew at work in C: %d passed\n", works);
     printf("setpoint book in C: %d passed\n", books);
     printf("edges in C: %d passed\n", edges);

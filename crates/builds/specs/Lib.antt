@@ -1,4 +1,5 @@
 pub mod Wrong
 pub mod Falls
 pub mod Reasons
+pub mod Orders
 pub mod Crews

@@ -1,7 +1,7 @@
 -- Wrong builds: answering functions of the calls' own types, each wrong in one thing. "Slips to be ruled out" and "Idle builds the promises must
--- reject" of document 01, slips that document 02, L1 and L3, invite, and six slips of definitions that an earlier set of
--- theorems let pass. `Falls`, `Reasons` and `Crews` prove which theorem each fails. Where nothing else is said a build does as ours does.
-use Prim.Native.Nat.{ℕ, zero, suc, _+_, _-_, _%_}
+-- reject" of document 01, slips that document 02, L1, L3 and L4, invite, and six slips of definitions that an earlier set of
+-- theorems let pass. `Falls`, `Reasons`, `Orders` and `Crews` prove which theorem each fails. Where nothing else is said a build does as ours does.
+use Prim.Native.Nat.{ℕ, zero, suc, _+_, _*_, _-_, _%_}
 use mathlib.Core.List.{List, [], _∷_, _++_}
 use lib.Dec.{leb, eqb}
 use lib.ListN.{length, replicate}
@@ -12,6 +12,7 @@ use Rattle.model.specs.Answers.{refusalIn}
 use Rattle.model.specs.Foreign.{Setting, boundaryOf}
 use Rattle.model.specs.Lock.{runOf, attemptOf, attemptLimit, noneYet, spinOf, isBusy, lastOf, triedOf, answerOf, settled}
 use Rattle.model.specs.Calls.{countsOf, given, starting}
+use Rattle.model.specs.Sorted.{cellsSorted, sortedKeys}
 use Rattle.model.specs.Crew.{total, crewOf}
 use Rattle.model.specs.declared.Answer.{Answer}
 use Rattle.model.specs.declared.Answer.the-variants.{Done, Cell, Granted, AllGranted, Busy, Refused, RefusedAt}
@@ -26,7 +27,7 @@ use Rattle.model.specs.declared.Refusal.the-variants as refusal
 use Rattle.model.specs.declared.Run.{Run}
 use Rattle.model.specs.declared.Tried.{Tried}
 use Rattle.history.specs.World.{World, worldOf, now, caller-releases}
-use Rattle.history.specs.Items.{try-acquire, drop-lease, read-permission, competing-acquire, release-then-handoff, foreign-release, drop-preserving, acquire-preserving, environment, try-lock, transactional, acquire-bucket, release-all, acquire-locks, crew, crew-at-work, asked, cellOf, place-of, Says, says, perform, foreign, Build, Stepper}
+use Rattle.history.specs.Items.{try-acquire, drop-lease, read-permission, competing-acquire, release-then-handoff, foreign-release, drop-preserving, acquire-preserving, environment, try-lock, transactional, acquire-bucket, release-all, acquire-locks, acquire-sorted, crew, crew-at-work, asked, cellOf, place-of, Says, says, perform, foreign, Build, Stepper}
 use Rattle.history.specs.Statements.{Crew-build, answer-in}
 
 -- ---- the same with another answer, and the like
@@ -155,23 +156,24 @@ retries-at remainder w registry script place held binding bucket = do
 -- ---- by kind of call: one of them done otherwise
 
 abbrev pub others : (drop : World → Lease → Made (World × Says)) (key once : World → (registry script : List ℕ) (place : ℕ) (held : List ℕ) (binding bucket : ℕ) → Made (World × Says))
-    (locks : World → (registry script : List ℕ) (place : ℕ) (held keys grants : List ℕ) → Made (World × Says)) → Build
-others drop key once locks w (try-acquire c) = perform w (try-acquire c)
-others drop key once locks w (drop-lease l) = drop w l
-others drop key once locks w (read-permission l) = perform w (read-permission l)
-others drop key once locks w (competing-acquire l) = perform w (competing-acquire l)
-others drop key once locks w (release-then-handoff l) = perform w (release-then-handoff l)
-others drop key once locks w (foreign-release held l) = perform w (foreign-release held l)
-others drop key once locks w (drop-preserving held l) = perform w (drop-preserving held l)
-others drop key once locks w (acquire-preserving held c) = perform w (acquire-preserving held c)
-others drop key once locks w (environment script place held) = perform w (environment script place held)
-others drop key once locks w (try-lock script place held c) = perform w (try-lock script place held c)
-others drop key once locks w (transactional registry script place held binding bucket) = once w registry script place held binding bucket
-others drop key once locks w (acquire-bucket registry script place held binding bucket) = key w registry script place held binding bucket
-others drop key once locks w (release-all script place leases) = perform w (release-all script place leases)
-others drop key once locks w (acquire-locks registry script place held keys grants) = locks w registry script place held keys grants
-others drop key once locks w (crew counts cells turns) = perform w (crew counts cells turns)
-others drop key once locks w (crew-at-work counts cells turns counters) = perform w (crew-at-work counts cells turns counters)
+    (locks sorted : World → (registry script : List ℕ) (place : ℕ) (held keys grants : List ℕ) → Made (World × Says)) → Build
+others drop key once locks sorted w (try-acquire c) = perform w (try-acquire c)
+others drop key once locks sorted w (drop-lease l) = drop w l
+others drop key once locks sorted w (read-permission l) = perform w (read-permission l)
+others drop key once locks sorted w (competing-acquire l) = perform w (competing-acquire l)
+others drop key once locks sorted w (release-then-handoff l) = perform w (release-then-handoff l)
+others drop key once locks sorted w (foreign-release held l) = perform w (foreign-release held l)
+others drop key once locks sorted w (drop-preserving held l) = perform w (drop-preserving held l)
+others drop key once locks sorted w (acquire-preserving held c) = perform w (acquire-preserving held c)
+others drop key once locks sorted w (environment script place held) = perform w (environment script place held)
+others drop key once locks sorted w (try-lock script place held c) = perform w (try-lock script place held c)
+others drop key once locks sorted w (transactional registry script place held binding bucket) = once w registry script place held binding bucket
+others drop key once locks sorted w (acquire-bucket registry script place held binding bucket) = key w registry script place held binding bucket
+others drop key once locks sorted w (release-all script place leases) = perform w (release-all script place leases)
+others drop key once locks sorted w (acquire-locks registry script place held keys grants) = locks w registry script place held keys grants
+others drop key once locks sorted w (acquire-sorted registry script place held keys grants) = sorted w registry script place held keys grants
+others drop key once locks sorted w (crew counts cells turns) = perform w (crew counts cells turns)
+others drop key once locks sorted w (crew-at-work counts cells turns counters) = perform w (crew-at-work counts cells turns counters)
 
 abbrev pub our-drop : World → Lease → Made (World × Says)
 our-drop w l = perform w (drop-lease l)
@@ -185,11 +187,14 @@ our-once w registry script place held binding bucket = perform w (transactional 
 abbrev pub our-locks : World → (registry script : List ℕ) (place : ℕ) (held keys grants : List ℕ) → Made (World × Says)
 our-locks w registry script place held keys grants = perform w (acquire-locks registry script place held keys grants)
 
+abbrev pub our-sorted : World → (registry script : List ℕ) (place : ℕ) (held keys grants : List ℕ) → Made (World × Says)
+our-sorted w registry script place held keys grants = perform w (acquire-sorted registry script place held keys grants)
+
 abbrev pub feigns-the-rest : Build
-feigns-the-rest = others our-drop our-key our-once first-key-only
+feigns-the-rest = others our-drop our-key our-once first-key-only our-sorted
 
 abbrev pub yields-at : ℕ → Build
-yields-at remainder = others our-drop (retries-at remainder) our-once our-locks
+yields-at remainder = others our-drop (retries-at remainder) our-once our-locks our-sorted
 
 -- "testing the bucket before health"
 abbrev pub bucket-first : Build
@@ -198,13 +203,36 @@ bucket-first =
     (λ w registry script place held binding bucket. if leb (w .head .buckets) bucket then
     record { seen = (w, says (Refused (refusal.InvalidBucket bucket)) (countsOf 1 0 0 0) place []); log = attempt-begun ∷ [] }
     else our-once w registry script place held binding bucket)
-    our-locks
+    our-locks our-sorted
 
 -- "freeing by cell without comparing the serial"
 abbrev pub frees-by-cell : Build
 frees-by-cell =
     others (λ w l. record { seen = (worldOf (w .head) (setCell (w .table) (l .cell) 0 0) (w .health), says Done (countsOf 0 0 0 0) 0 []); log = released by-caller (l .cell) (l .serial) ∷ [] })
-    our-key our-once our-locks
+    our-key our-once our-locks our-sorted
+
+-- ---- document 02, L4: "lock in rising order, then hand back one lease per key in the caller's order, doubled keys sharing one."
+
+-- multi-lock in the caller's order, in place of the sorted one
+abbrev pub as-typed : Build
+as-typed = others our-drop our-key our-once our-locks our-locks
+
+-- a lease of its own for each key, doubled or not: its cell, and the serials one after the other
+abbrev pub own-leases : Build
+own-leases =
+    others our-drop our-key our-once our-locks λ w registry script place held keys grants.
+    let m = our-sorted w registry script place held keys grants in
+    let s = m .seen .1 in
+    record { seen = (m .seen .0, says (s .answer) (s .counts) (s .place) (feigned (w .head .buckets) registry (w .head .next) keys)); log = m .log }
+
+-- a later refusal with the place in the sorted list, in place of the caller's position
+abbrev pub sorted-position : Build
+sorted-position =
+    others our-drop our-key our-once our-locks λ w registry script place held keys grants.
+    let n = length (cellsSorted (w .head .buckets) registry keys) in
+    let m = our-locks w registry script place held (sortedKeys (w .head .buckets) registry keys) (replicate (2 * n) 0) in
+    let s = m .seen .1 in
+    record { seen = (m .seen .0, says (s .answer) (s .counts) (s .place) grants); log = m .log }
 
 -- ---- document 02, L3: "A header went bad before the grant, and the governor wrote into it."
 
@@ -292,7 +320,7 @@ abbrev pub first-reason : Build
 first-reason =
     others our-drop
     (λ w registry script place held binding bucket. answering (λ s. reworded (busy-by (answer-in (our-once w registry script place held binding bucket))) (s .answer)) (our-key w registry script place held binding bucket))
-    our-once our-locks
+    our-once our-locks our-sorted
 
 -- ---- six slips of definitions that no theorem caught once
 

@@ -142,7 +142,7 @@ fn obey(
     perform(ready, verb, got, table, bytes, lists, grants, out, used)
 }
 
-// A line of the crew at work, of the book, or one that is not understood.
+// A line of document 02's parts, or one that is not understood.
 fn other(
     n: usize,
     desk: Desk,
@@ -150,27 +150,12 @@ fn other(
     table: &mut [u32],
     bytes: &mut [u8],
     lists: &[u32],
+    grants: &mut [u32],
     counters: &mut [u16],
     out: &mut [u8],
     used: usize,
 ) -> Answered {
-    let said = gang::play(desk, line, table, bytes, lists, counters, out, used);
-    if said.understood {
-        return said;
-    }
-    book_line(n, desk, line, table, bytes, out, used)
-}
-
-fn book_line(
-    n: usize,
-    desk: Desk,
-    line: &[u8],
-    table: &[u32],
-    bytes: &mut [u8],
-    out: &mut [u8],
-    used: usize,
-) -> Answered {
-    let said = shelf::play(desk, line, table, bytes, out, used);
+    let said = parts::play(desk, line, table, bytes, lists, grants, counters, out, used);
     if said.understood {
         return said;
     }
@@ -210,7 +195,18 @@ fn act(
             );
         }
     }
-    other(n, desk, line, table, bytes, lists, counters, out, used)
+    other(
+        n,
+        desk,
+        line,
+        table,
+        bytes,
+        lists,
+        grants,
+        counters,
+        out,
+        used,
+    )
 }
 
 // An empty line is skipped, and so is a remark.

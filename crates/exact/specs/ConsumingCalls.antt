@@ -1,16 +1,17 @@
 -- Every call with a script uses it up as `Consumed` says: from its place to the place that it gives back, with its dropped steps, from the
 -- world before it to the world after it, over its log.
 use Prim.Native.Nat.{ℕ}
-use mathlib.Core.Path.{_≡_, refl, sym}
+use mathlib.Core.Path.{_≡_, refl, sym, _∙_}
 use mathlib.Core.List.{List, [], _++_, append-nil}
 use native.Mathlib.Omega.{arith}
+use lib.ListN.{length}
 use lib.Seq.{take-all}
-use Rattle.model.specs.Log.{Made}
-use Rattle.model.specs.Arena.{leasesOf}
+use Rattle.model.specs.Arena.{leasesOf, wordsOf}
 use Rattle.model.specs.Foreign.{flowOf}
 use Rattle.model.specs.Lock.{answerOf, settled, lockOf, attemptOf, retryOf, attemptLimit, noneYet, locksOf}
 use Rattle.model.specs.Checks.{countIn}
 use Rattle.model.specs.Calls.{given, starting}
+use Rattle.model.specs.Sorted.{cellsAsked, cellsSorted, sortedKeys, firstKey, sharedOf, handedBack, askedFirst}
 use Rattle.model.specs.declared.Answer.{Answer}
 use Rattle.model.specs.declared.Answer.the-variants.{Done, Cell, Granted, AllGranted, Busy, Refused, RefusedAt}
 use Rattle.model.specs.declared.Lease.{Lease}
@@ -18,11 +19,13 @@ use Rattle.model.specs.declared.Outcome.{Outcome}
 use Rattle.model.specs.declared.Outcome.the-variants as outcome
 use Rattle.laws.specs.Lists.{leases-few}
 use Rattle.history.specs.World.{World}
-use Rattle.history.specs.Items.{held-of, given-up, place-of, Call, perform, Says, script-of}
+use Rattle.history.specs.Items.{Call, perform}
 use Rattle.history.specs.Theorems.{lawful-always}
-use Rattle.history.specs.Judged.{steps}
+use Rattle.history.specs.Tests.{leases-words}
+use Rattle.history.specs.Judged.{judged-at, sorted-locks, steps}
+use Rattle.history.specs.Shared.{steps-hand-back, back-once}
 use Rattle.history.specs.Calls.{words-leases}
-use Rattle.exact.specs.Script.{Scripted, environment-has, try-lock-has, transactional-has, acquire-bucket-has, release-all-has, acquire-locks-has, attempts-one, counts, handed, Script-consumed, Consumed}
+use Rattle.exact.specs.Script.{Scripted, environment-has, try-lock-has, transactional-has, acquire-bucket-has, release-all-has, acquire-locks-has, acquire-sorted-has, attempts-one, at-rest, counts, handed, Consumes, Script-consumed}
 use Rattle.exact.specs.Made.{made}
 use Rattle.exact.specs.Consuming.{lawfully}
 use Rattle.exact.specs.ConsumingSteps.{held-after, granted-after, boundary-consumed, lock-consumed, attempt-consumed, retry-consumed, back-consumed, locks-consumed, Any}
@@ -49,13 +52,37 @@ granted-handed ps (Busy why) b = sym (append-nil ps)
 granted-handed ps (Refused r) b = sym (append-nil ps)
 granted-handed ps (RefusedAt r p) b = sym (append-nil ps)
 
--- the same, where nothing is asked of the caller's own events
-abbrev Goes : World → Call → Made (World × Says) → Type 0
-Goes w k m =
-    Consumed Any (script-of k) (held-of k ++ given-up k) (place-of k) 0 w
-    (held-of k ++ handed (m .seen .1 .answer) (m .seen .1 .grants)) (m .seen .1 .place) (m .seen .1 .counts .dropped) (m .seen .0) (m .log)
+-- what the sorted call hands back, of each cell once, is what its locks hand over
+sorted-handed : (w : World) (registry script : List ℕ) (place : ℕ) (held keys grants : List ℕ)
+    → let asked = cellsAsked (w .head .buckets) registry keys in
+    let sorted = cellsSorted (w .head .buckets) registry keys in
+    let m = sorted-locks w registry script place held keys grants .seen in
+    handed (askedFirst (m .0 .answer) asked sorted) (wordsOf (sharedOf (leasesOf (handedBack (m .0 .answer) asked (m .1 .1 .1))) sorted)) ≡ handed (m .0 .answer) (m .1 .1 .1)
+sorted-handed w registry script place held keys grants =
+    go (sorted-locks w registry script place held keys grants .seen .0 .answer)
+    (λ e. back-once (w .head .buckets) registry keys (steps-hand-back w registry script place held keys grants e))
+  where
+    asked : List ℕ
+    asked = cellsAsked (w .head .buckets) registry keys
 
-steps-consumed : (w : World) {k : Call} → Scripted k → Goes w k (steps w k)
+    sorted : List ℕ
+    sorted = cellsSorted (w .head .buckets) registry keys
+
+    b : List ℕ
+    b = sorted-locks w registry script place held keys grants .seen .1 .1 .1
+
+    go : (x : Answer) → (x ≡ AllGranted → sharedOf (leasesOf (handedBack AllGranted asked b)) sorted ≡ leasesOf b)
+        → handed (askedFirst x asked sorted) (wordsOf (sharedOf (leasesOf (handedBack x asked b)) sorted)) ≡ handed x b
+    go Done f = refl
+    go (Cell c) f = refl
+    go (Granted l) f = refl
+    go AllGranted f = leases-words (sharedOf (leasesOf (handedBack AllGranted asked b)) sorted) ∙ f refl
+    go (Busy why) f = refl
+    go (Refused r) f = refl
+    go (RefusedAt r p) f = refl
+
+-- nothing is asked of the caller's own events here
+steps-consumed : (w : World) {k : Call} (s : Scripted k) → Consumes Any w s (steps w k)
 steps-consumed w (environment-has script place held) =
     simp append-nil (boundary-consumed (w .head) script (leasesOf held) (flowOf (w .head .next) place 0) (w .table) (w .health))
 steps-consumed w (try-lock-has script place held c) =
@@ -82,6 +109,13 @@ steps-consumed w (acquire-locks-has registry script place held keys grants) =
     let m = locksOf (countIn keys) 0 (given (w .head) script ps) (w .head .buckets) registry keys [] (starting (w .head) place) (w .table) (w .health) grants .seen in
     rw (← (granted-handed ps (m .0 .answer) (m .1 .1 .1)))
     (locks-consumed (w .head) script ps (w .head .buckets) registry keys grants (countIn keys) 0 [] (starting (w .head) place) (w .table) (w .health))
+steps-consumed w (acquire-sorted-has registry script place held keys grants) =
+    let ps = leasesOf held in
+    let m = sorted-locks w registry script place held keys grants .seen in
+    judged-at (Consumes Any w (acquire-sorted-has registry script place held keys grants)) (firstKey (countIn keys) 0 (w .head) registry keys) (λ r p _. at-rest)
+    (λ _.
+    rw (sorted-handed w registry script place held keys grants, ← (granted-handed ps (m .0 .answer) (m .1 .1 .1)))
+    (locks-consumed (w .head) script ps (w .head .buckets) registry (sortedKeys (w .head .buckets) registry keys) grants (length (cellsSorted (w .head .buckets) registry keys)) 0 [] (starting (w .head) place) (w .table) (w .health)))
 
 pub script-consumed : Script-consumed perform
 script-consumed w k s fine = lawfully {Own = Any} (rw (made w s fine) (steps-consumed w s)) (lawful-always w k .0)

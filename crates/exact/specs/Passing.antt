@@ -65,10 +65,10 @@ module _ {w v : World} {es : List Event} (held : List ℕ) (k : Kept w (In (leas
   shape-fit : not (shapeFits (w .head) (length (w .table))) ≡ false → Fit w
   shape-fit e = record { shape = shaped (w .head) (length (w .table)) (not-false _ e) }
 
-  shape-on : not (shapeFits (w .head) (length (w .table))) ≡ false → not (shapeFits (v .head) (length (v .table))) ≡ false
+  pub shape-on : not (shapeFits (w .head) (length (w .table))) ≡ false → not (shapeFits (v .head) (length (v .table))) ≡ false
   shape-on e = ap not (fits (v .head) (length (v .table)) (kept-fit (shape-fit e) k .shape))
 
-  health-on : not (healthFits (w .head) (length (w .health))) ≡ false → not (healthFits (v .head) (length (v .health))) ≡ false
+  pub health-on : not (healthFits (w .head) (length (w .health))) ≡ false → not (healthFits (v .head) (length (v .health))) ≡ false
   unfolding healthFits
   health-on e =
       let bytes : length (v .health) ≡ length (w .health) = ap (λ (x : World). length (x .health)) (k .leads) ∙ health-now w es in
@@ -113,7 +113,7 @@ module _ {w v : World} {es : List Event} (held : List ℕ) (k : Kept w (In (leas
       (shape-on (c .0), (health-on (c .1 .0), (c .1 .1 .0, (script-on script place p inside (c .1 .1 .1 .0), (c .1 .1 .1 .1 .0, clear-append (notLive (v .head) (v .table) 0 (leasesOf held)) _ live last)))))
 
 -- multi-lock's checks are those of a call by key, for each of its keys
-bindings-clear : (left i : ℕ) (registry keys : List ℕ) → Clear (badBindings left i registry keys) → (p : ℕ) → i ≤ p → p < i + left → badBinding registry 0 (bindingAt keys p) .applies ≡ false
+pub bindings-clear : (left i : ℕ) (registry keys : List ℕ) → Clear (badBindings left i registry keys) → (p : ℕ) → i ≤ p → p < i + left → badBinding registry 0 (bindingAt keys p) .applies ≡ false
 unfolding badBindings
 bindings-clear zero i registry keys c p l m = absurd (omega arith)
 bindings-clear (suc left) i registry keys c p l m = go (ℕ-discrete i p) (bindings-clear left (i + 1) registry keys (c .1) p)

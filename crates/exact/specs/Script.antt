@@ -5,14 +5,15 @@ use mathlib.Core.Path.{_≡_}
 use mathlib.Core.List.{List, _∷_, [], _++_}
 use lib.ListN.{length, getD}
 use Rattle.model.specs.Log.{Event, Made, attempt-begun, yielded, spun, took, by-caller, boundary-run, released, by-script, step-dropped, waiters-set, health-set, held-all, added}
-use Rattle.model.specs.Arena.{leasesOf}
+use Rattle.model.specs.Arena.{leasesOf, wordsOf}
 use Rattle.model.specs.Foreign.{stepsIn, kindAt, placeAt, numberAt}
+use Rattle.model.specs.Sorted.{cellsSorted, sharedOf}
 use Rattle.model.specs.Crew.{total}
 use Rattle.model.specs.declared.Answer.{Answer}
 use Rattle.model.specs.declared.Answer.the-variants.{Done, Busy, Refused, Cell, Granted, AllGranted, RefusedAt}
 use Rattle.model.specs.declared.Lease.{Lease}
 use Rattle.history.specs.World.{World, step, now, Legal}
-use Rattle.history.specs.Items.{Build, Call, Says, environment, place-of, script-of, try-lock, held-of, transactional, acquire-bucket, given-up, release-all, acquire-locks}
+use Rattle.history.specs.Items.{Build, Call, Says, environment, place-of, script-of, try-lock, held-of, transactional, acquire-bucket, given-up, release-all, acquire-locks, acquire-sorted}
 use Rattle.exact.specs.Statements.{Passes, Stepping}
 
 -- the calls with a script
@@ -23,6 +24,7 @@ pub data Scripted : Call → Type 0 where
   acquire-bucket-has : (registry script : List ℕ) (place : ℕ) (held : List ℕ) (binding bucket : ℕ) → Scripted (acquire-bucket registry script place held binding bucket)
   release-all-has : (script : List ℕ) (place : ℕ) (leases : List ℕ) → Scripted (release-all script place leases)
   acquire-locks-has : (registry script : List ℕ) (place : ℕ) (held keys grants : List ℕ) → Scripted (acquire-locks registry script place held keys grants)
+  acquire-sorted-has : (registry script : List ℕ) (place : ℕ) (held keys grants : List ℕ) → Scripted (acquire-sorted registry script place held keys grants)
 
 -- the place that a call gives back
 abbrev pub place-in : Made (World × Says) → ℕ
@@ -74,14 +76,25 @@ handed (Busy why) b = []
 handed (Refused r) b = []
 handed (RefusedAt r p) b = []
 
--- protected at first: what the caller holds, and in `release_all` what it gives up; at last: what it holds, and what it is handed
-abbrev pub Consumes : World → Call → Made (World × Says) → Type 0
-Consumes w k m =
-    Consumed Legal (script-of k) (held-of k ++ given-up k) (place-of k) 0 w
-    (held-of k ++ handed (m .seen .1 .answer) (m .seen .1 .grants)) (m .seen .1 .place) (m .seen .1 .counts .dropped) (m .seen .0) (m .log)
+-- a buffer in the order of the takes. Document 02, L4: "lock in rising order", "doubled keys sharing one": of the sorted call's, each lease once
+abbrev pub as-taken : World → {k : Call} → Scripted k → List ℕ → List ℕ
+as-taken w (environment-has script place held) b = b
+as-taken w (try-lock-has script place held c) b = b
+as-taken w (transactional-has registry script place held binding bucket) b = b
+as-taken w (acquire-bucket-has registry script place held binding bucket) b = b
+as-taken w (release-all-has script place leases) b = b
+as-taken w (acquire-locks-has registry script place held keys grants) b = b
+as-taken w (acquire-sorted-has registry script place held keys grants) b = wordsOf (sharedOf (leasesOf b) (cellsSorted (w .head .buckets) registry keys))
+
+-- protected at first: what the caller holds, and in `release_all` what it gives up; at last: what it holds, and what it is handed. `Own` is what is
+-- known of the caller's own takes and releases
+abbrev pub Consumes : (World → Event → Type 0) → World → {k : Call} → Scripted k → Made (World × Says) → Type 0
+Consumes Own w {k} s m =
+    Consumed Own (script-of k) (held-of k ++ given-up k) (place-of k) 0 w
+    (held-of k ++ handed (m .seen .1 .answer) (as-taken w s (m .seen .1 .grants))) (m .seen .1 .place) (m .seen .1 .counts .dropped) (m .seen .0) (m .log)
 
 abbrev pub Script-consumed : Build → Type 0
-Script-consumed f = (w : World) (k : Call) → Scripted k → Passes w k → Consumes w k (f w k)
+Script-consumed f = (w : World) (k : Call) (s : Scripted k) → Passes w k → Consumes Legal w s (f w k)
 
 -- ---- the place
 

@@ -19,7 +19,7 @@ use Rattle.history.specs.Items.{Call, script-of, place-of, perform, Clear, rule
 use Rattle.history.specs.Logs.{now-append}
 use Rattle.history.specs.Rollback.{Every, end, also, every-append, every-map, every-at}
 use Rattle.exact.specs.Statements.{Asks, dropped, ends, looks, performed, release-it, set-health, set-waiters, take-a-cell, Stepping}
-use Rattle.exact.specs.Script.{Scripted, environment-has, try-lock-has, transactional-has, acquire-bucket-has, release-all-has, acquire-locks-has, place-in, Boundary, at-end, at-five, one-step, attempts-one, yields-once, spins, Consumed, at-rest, counts, takes, gives-up, boundary, Place-goes, Turn, Each-has-its-turn, Points, By-script-only, Tally, Dropped-are}
+use Rattle.exact.specs.Script.{Scripted, environment-has, try-lock-has, transactional-has, acquire-bucket-has, release-all-has, acquire-locks-has, acquire-sorted-has, place-in, Boundary, at-end, at-five, one-step, attempts-one, yields-once, spins, Consumed, at-rest, counts, takes, gives-up, boundary, Place-goes, Turn, Each-has-its-turn, Points, By-script-only, Tally, Dropped-are}
 use Rattle.exact.specs.Passing.{in-script}
 use Rattle.exact.specs.Consuming.{boundary-rises, place-rises, place-inside, boundary-now, step-now}
 use Rattle.exact.specs.ConsumingCalls.{script-consumed}
@@ -32,6 +32,7 @@ fits w (transactional-has registry script place held binding bucket) c = in-scri
 fits w (acquire-bucket-has registry script place held binding bucket) c = in-script script place (c .1 .1 .1 .0)
 fits w (release-all-has script place leases) c = in-script script place (c .1 .1 .0)
 fits w (acquire-locks-has registry script place held keys grants) c = in-script script place (c .1 .1 .1 .0)
+fits w (acquire-sorted-has registry script place held keys grants) c = in-script script place (c .1 .1 .1 .0)
 
 pub place-goes : Place-goes perform
 place-goes w k s fine = let c = script-consumed w k s fine in (place-rises c, place-inside c (fits w s fine))

@@ -5,10 +5,8 @@ use desk::CELLS;
 use desk::COUNTS;
 use desk::Desk;
 use desk::HEALTH;
-use desk::RAM;
 use desk::TURNS;
 use desk::part;
-use desk::verbs::Verb;
 use desk::within_bytes;
 use model::CrewReply;
 use text::Numbers;
@@ -91,36 +89,6 @@ fn crew_at_work(
     told(desk, reply, counters, out, used)
 }
 
-// ---- its steps: those of a call that is lent what `crew` is
-
-fn no_numbers() -> Numbers {
-    Numbers {
-        fine: true,
-        count: 0,
-        a: 0,
-        b: 0,
-        c: 0,
-    }
-}
-
-fn keep_bits(desk: Desk, table: &[u32], bytes: &mut [u8]) {
-    let r = within_bytes(RAM, bytes);
-    trace::keep(desk, Verb::Crew, no_numbers(), table, &mut bytes[r..]);
-}
-
-fn say_steps(desk: Desk, table: &[u32], bytes: &[u8], out: &mut [u8], used: usize) -> usize {
-    let r = within_bytes(RAM, bytes);
-    trace::steps(
-        desk,
-        Verb::Crew,
-        no_numbers(),
-        table,
-        &bytes[r..],
-        out,
-        used,
-    )
-}
-
 // All that it prints. The steps are those of the table that the desk before it lends.
 fn say_all(
     desk: Desk,
@@ -132,7 +100,7 @@ fn say_all(
     used: usize,
 ) -> Answered {
     let said = crew_at_work(desk, table, bytes, lists, counters, out, used);
-    let n = say_steps(desk, table, bytes, out, said.used);
+    let n = trace::call_steps(desk, table, bytes, out, said.used);
     quiet(said.desk, n)
 }
 
@@ -145,7 +113,7 @@ fn call_line(
     out: &mut [u8],
     used: usize,
 ) -> Answered {
-    keep_bits(desk, table, bytes);
+    trace::keep_call(desk, table, bytes);
     say_all(desk, table, bytes, lists, counters, out, used)
 }
 

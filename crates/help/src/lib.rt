@@ -34,7 +34,7 @@ fn list_lines(out: &mut [u8], used: usize) -> usize {
         script N..: foreign steps, each kind, place, number; the place becomes 0\n\
         place P: the place in the script, in steps\n\
         held N..: leases that the caller holds, each cell, serial\n\
-        keys N..: keys of acquire_index_locks, each binding, bucket\n\
+        keys N..: keys of acquire_index_locks and acquire_sorted_locks, each binding, bucket\n\
         grants N: a grant buffer of N words, two for each key\n\
         leases N..: leases of release_all, each cell, serial\n",
     )
@@ -93,6 +93,7 @@ fn many_lines(out: &mut [u8], used: usize) -> usize {
         used,
         b"release_all: give all of leases back, last first\n\
         acquire_index_locks: take all keys, or none\n\
+        acquire_sorted_locks: the same in any order; keys of one cell share one lease\n\
         crew: the members take and release their cells, by turns\n\
         crew_at_work: the same, and between the two they add to the counters\n",
     )

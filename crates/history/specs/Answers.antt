@@ -16,7 +16,7 @@ use Rattle.model.specs.declared.Lease.{Lease}
 use Rattle.model.specs.declared.Reason.{Reason}
 use Rattle.model.specs.declared.Refusal.{Refusal}
 use Rattle.history.specs.World.{World, Live, Healthy, now, Unreleased, number-of, attempts, takes}
-use Rattle.history.specs.Items.{Call, try-acquire, drop-lease, read-permission, competing-acquire, release-then-handoff, foreign-release, drop-preserving, acquire-preserving, environment, try-lock, transactional, acquire-bucket, release-all, acquire-locks, crew, crew-at-work, IsCrew, asked, keyCell, Build, Entry, events-of, history-of}
+use Rattle.history.specs.Items.{Call, try-acquire, drop-lease, read-permission, competing-acquire, release-then-handoff, foreign-release, drop-preserving, acquire-preserving, environment, try-lock, transactional, acquire-bucket, release-all, acquire-locks, acquire-sorted, crew, crew-at-work, IsCrew, By-keys, asked, keyCell, Build, Entry, events-of, history-of}
 use Rattle.history.specs.Statements.{Through, answer-in, buffer-in, world-in, Hands-over, Gives, Nothing-held}
 
 -- ---- one call, whatever the arena holds
@@ -28,11 +28,14 @@ Handed-over f =
     (w : World) (k : Call) (l : Lease) → Gives (f w k) l
     → (before after : List Event) × (f w k .log ≡ before ++ (took by-caller (l .cell) (l .serial) ∷ after)) × (l .serial ≡ now w before .head .next)
 
--- the serials in a granted buffer rise from each position to each later one
+-- "keys in the order given": the serials in multi-lock's granted buffer rise from each position to each later one. Those of the sorted call
+-- rise with the cells (crate `anyorder`, `Serials-by-cell`)
 abbrev pub Serials-rise : Build → Type 0
 Serials-rise f =
-    (w : World) (k : Call) (i j : ℕ) → answer-in (f w k) ≡ AllGranted
-    → let ls = leasesOf (buffer-in (f w k)) in i < j → j < length ls → leaseAt ls i .serial < leaseAt ls j .serial
+    (w : World) (registry script : List ℕ) (place : ℕ) (held keys grants : List ℕ) (i j : ℕ)
+    → let m = f w (acquire-locks registry script place held keys grants) in
+    answer-in m ≡ AllGranted
+    → let ls = leasesOf (buffer-in m) in i < j → j < length ls → leaseAt ls i .serial < leaseAt ls j .serial
 
 -- while (c, s) is live, no answer hands over a lease on c unless the call's own log releases (c, s) first
 abbrev pub Not-over-live : Build → Type 0
@@ -57,6 +60,7 @@ Asks-one (transactional registry script place held binding bucket) = Unit {0}
 Asks-one (acquire-bucket registry script place held binding bucket) = Unit {0}
 Asks-one (release-all script place leases) = ⊥
 Asks-one (acquire-locks registry script place held keys grants) = ⊥
+Asks-one (acquire-sorted registry script place held keys grants) = ⊥
 Asks-one (crew counts cells turns) = ⊥
 Asks-one (crew-at-work counts cells turns counters) = ⊥
 
@@ -69,11 +73,11 @@ Busy-or-refused f =
     Live w l → Unreleased l (f w k .log)
     → ((why : Reason) × (answer-in (f w k) ≡ Busy why)) ⊎ ((r : Refusal) × (answer-in (f w k) ≡ Refused r))
 
--- and a multi-lock with a key of that cell is refused
+-- and a multi-lock with a key of that cell is refused, in either order
 abbrev pub Locks-refused : Build → Type 0
 Locks-refused f =
-    (w : World) (registry script : List ℕ) (place : ℕ) (held keys grants : List ℕ) (p s : ℕ) → p < countIn keys
-    → let m = f w (acquire-locks registry script place held keys grants) in
+    (w : World) (k : Call) (registry keys : List ℕ) (p s : ℕ) → By-keys k registry keys → p < countIn keys
+    → let m = f w k in
     let l = leaseOf (keyCell (w .head .buckets) registry keys p) s in
     Live w l → Unreleased l (m .log)
     → ((r : Refusal) × (answer-in m ≡ Refused r)) ⊎ ((r : Refusal) × (q : ℕ) × (answer-in m ≡ RefusedAt r q))
@@ -97,6 +101,7 @@ Reads-again (transactional registry script place held binding bucket) = Unit {0}
 Reads-again (acquire-bucket registry script place held binding bucket) = Unit {0}
 Reads-again (release-all script place leases) = ⊥
 Reads-again (acquire-locks registry script place held keys grants) = ⊥
+Reads-again (acquire-sorted registry script place held keys grants) = ⊥
 Reads-again (crew counts cells turns) = ⊥
 Reads-again (crew-at-work counts cells turns counters) = ⊥
 

@@ -14,7 +14,9 @@ use Rattle.model.specs.Foreign.{Setting, protecting, flowOf}
 use Rattle.model.specs.Lock.{takeOf, lockOf, outcomeOf, answerOf, settled, findOf, attemptAt, attemptOf, pauseOf, isBusy, retryOf, attemptLimit, noneYet, noLease, leaseAt, rollbackOf, afterKey, bindingAt, bucketAt, locksOf}
 use Rattle.model.specs.Checks.{countIn}
 use Rattle.model.specs.Calls.{starting, acquireOf}
-use Rattle.model.specs.declared.Answer.the-variants.{AllGranted, Granted, Refused}
+use Rattle.model.specs.Sorted.{cellsSorted, sortedKeys, firstKey, askedFirst}
+use Rattle.model.specs.declared.Answer.{Answer}
+use Rattle.model.specs.declared.Answer.the-variants.{Done, Cell, Granted, AllGranted, Busy, Refused, RefusedAt}
 use Rattle.model.specs.declared.Check.the-variants.{Fault}
 use Rattle.model.specs.declared.Found.{Found}
 use Rattle.model.specs.declared.Found.the-variants as found
@@ -31,10 +33,10 @@ use Rattle.choice.specs.Pick.{if-both}
 use Rattle.laws.specs.Lists.{length-words}
 use Rattle.laws.specs.Outcomes.{Comes, granted, busy, poisoned, damaged, spent, lock-comes}
 use Rattle.history.specs.World.{World}
-use Rattle.history.specs.Items.{Call, try-acquire, drop-lease, read-permission, competing-acquire, release-then-handoff, foreign-release, drop-preserving, acquire-preserving, environment, try-lock, transactional, acquire-bucket, release-all, acquire-locks, crew, crew-at-work, perform, asked, cellOf, keyCell}
-use Rattle.history.specs.Statements.{answers, Buffer-is, Grant-is}
+use Rattle.history.specs.Items.{Call, Says, try-acquire, drop-lease, read-permission, competing-acquire, release-then-handoff, foreign-release, drop-preserving, acquire-preserving, environment, try-lock, transactional, acquire-bucket, release-all, acquire-locks, acquire-sorted, crew, crew-at-work, perform, asked, cellOf, keyCell}
+use Rattle.history.specs.Statements.{Grant-is}
 use Rattle.history.specs.Tests.{leases-words}
-use Rattle.history.specs.Judged.{acting, steps, performed}
+use Rattle.history.specs.Judged.{acting, steps, performed, judged-at}
 use Rattle.history.specs.Steps.{With}
 
 -- ---- which cell a grant names
@@ -148,6 +150,22 @@ steps-names w (release-all script place leases) l a = let z : _≡_ {A = ℕ} 0 
 steps-names w (acquire-locks registry script place held keys grants) l a =
     let e = acting w (acquire-locks registry script place held keys grants) in
     absurd (locks-all (countIn keys) 0 e (w .head .buckets) registry keys [] (starting (w .head) place) (w .table) (w .health) grants l a)
+steps-names w (acquire-sorted registry script place held keys grants) l a =
+    absurd (judged-at (λ (m : Made (World × Says)). m .seen .1 .answer ≡ Granted l → ⊥) (firstKey (countIn keys) 0 (w .head) registry keys)
+    (λ r p _ a. let z : _≡_ {A = ℕ} 0 1 = cc in omega arith) (λ _. none _ _ _ (locks-all (length (cellsSorted (w .head .buckets) registry keys)) 0 (acting w k) (w .head .buckets) registry (sortedKeys (w .head .buckets) registry keys) [] (starting (w .head) place) (w .table) (w .health) grants l)) a)
+  where
+    k : Call
+    k = acquire-sorted registry script place held keys grants
+
+    -- seen by the keys as typed, it is no single grant either
+    none : (asked sorted : List ℕ) (x : Answer) → (x ≡ Granted l → ⊥) → askedFirst x asked sorted ≡ Granted l → ⊥
+    none asked sorted Done n a = let z : _≡_ {A = ℕ} 0 1 = cc in omega arith
+    none asked sorted (Cell c) n a = let z : _≡_ {A = ℕ} 0 1 = cc in omega arith
+    none asked sorted (Granted m) n a = n a
+    none asked sorted AllGranted n a = let z : _≡_ {A = ℕ} 0 1 = cc in omega arith
+    none asked sorted (Busy why) n a = let z : _≡_ {A = ℕ} 0 1 = cc in omega arith
+    none asked sorted (Refused r) n a = let z : _≡_ {A = ℕ} 0 1 = cc in omega arith
+    none asked sorted (RefusedAt r p) n a = let z : _≡_ {A = ℕ} 0 1 = cc in omega arith
 steps-names w (crew counts cells turns) l a = let z : _≡_ {A = ℕ} 0 1 = cc in absurd (omega arith)
 steps-names w (crew-at-work counts cells turns counters) l a = let z : _≡_ {A = ℕ} 0 1 = cc in absurd (omega arith)
 
@@ -158,9 +176,10 @@ grants-name w k l =
 -- ---- what multi-lock's buffer holds
 
 module _ (buckets : ℕ) (registry keys : List ℕ) where
-  record Filled (n : ℕ) (b : List ℕ) : Type 0 where
-    long : length b ≡ 2 * n
-    filled : (i : ℕ) → i < n → leaseAt (leasesOf b) i .cell ≡ keyCell buckets registry keys i
+  pub record Filled (n : ℕ) (b : List ℕ) : Type 0 where
+    pub long : length b ≡ 2 * n
+    pub many : length (leasesOf b) ≡ n
+    pub filled : (i : ℕ) → i < n → leaseAt (leasesOf b) i .cell ≡ keyCell buckets registry keys i
 
   one-more : (p : ℕ) (taken : List Lease) (l : Lease) → length taken ≡ p → ((i : ℕ) → i < p → leaseAt taken i .cell ≡ keyCell buckets registry keys i) → l .cell ≡ keyCell buckets registry keys p
       → (i : ℕ) → i < p + 1 → leaseAt (taken ++ (l ∷ [])) i .cell ≡ keyCell buckets registry keys i
@@ -175,12 +194,12 @@ module _ (buckets : ℕ) (registry keys : List ℕ) where
           let b : i < length taken = omega arith in
           ap (λ (k : Lease). k .cell) (List·getD-append taken (l ∷ []) noLease i b) ∙ all i (omega arith)
 
-  locks-filled : (total left p : ℕ) → p + left ≡ total → (e : Setting) (taken : List Lease) (r : Run) (t g grants : List ℕ)
+  pub locks-filled : (total left p : ℕ) → p + left ≡ total → (e : Setting) (taken : List Lease) (r : Run) (t g grants : List ℕ)
       → length taken ≡ p → ((i : ℕ) → i < p → leaseAt taken i .cell ≡ keyCell buckets registry keys i)
       → let m = locksOf left p e buckets registry keys taken r t g grants .seen in m .0 .answer ≡ AllGranted → Filled total (m .1 .1 .1)
   unfolding locksOf rollbackOf
   locks-filled total zero p h e taken r t g grants n all a =
-      record { long = omega (arith, length-words taken); filled = λ i k. rw (leases-words taken) (all i (omega arith)) }
+      record { long = omega (arith, length-words taken); many = rw (leases-words taken) (omega arith); filled = λ i k. rw (leases-words taken) (all i (omega arith)) }
   locks-filled total (suc left) p h e taken r t g grants n all a =
       let m = retryOf attemptLimit 0 noneYet (protecting e taken) buckets registry (bindingAt keys p) (bucketAt keys p) r t g .seen in
       go (m .0 .outcome) (m .0 .run) (m .1 .0) (m .1 .1) (retry-names (protecting e taken) buckets registry (bindingAt keys p) (bucketAt keys p) attemptLimit 0 noneYet r t g)
@@ -194,16 +213,3 @@ module _ (buckets : ℕ) (registry keys : List ℕ) where
       go (outcome.Granted l) s u y c on = on l (c l refl)
       go (outcome.Busy why) s u y c on = λ a. let z : _≡_ {A = ℕ} 0 1 = cc in absurd (omega arith)
       go (outcome.Refused x) s u y c on = λ a. let z : _≡_ {A = ℕ} 0 1 = cc in absurd (omega arith)
-
-pub buffers-name : Buffer-is perform
-buffers-name w registry script place held keys grants a = let f = all a in (f .long, f .filled)
-  where
-    k : Call
-    k = acquire-locks registry script place held keys grants
-
-    all : answers w k ≡ AllGranted → Filled (w .head .buckets) registry keys (countIn keys) (perform w k .seen .1 .grants)
-    all =
-        performed (λ m. m .seen .1 .answer ≡ AllGranted → Filled (w .head .buckets) registry keys (countIn keys) (m .seen .1 .grants)) w k (λ r a. let z : _≡_ {A = ℕ} 0 1 = cc in absurd (omega arith))
-        (λ _.
-        locks-filled (w .head .buckets) registry keys (countIn keys) (countIn keys) 0 (omega arith) (acting w k) [] (starting (w .head) place) (w .table) (w .health) grants refl
-        (λ i x. absurd (omega arith)))

@@ -15,21 +15,23 @@ use Rattle.model.specs.Foreign.{flowOf}
 use Rattle.model.specs.Lock.{leaseAt, noLease, answerOf, settled, attemptLimit, noneYet}
 use Rattle.model.specs.Checks.{countIn, badShape, badHeld, badCell, notReleasable, cellRules, leaseRules, heldCellRules, heldLeaseRules, scriptRules, lockRules, bucketRules, releaseRules, locksRules}
 use Rattle.model.specs.Calls.{starting, acquireOf}
+use Rattle.model.specs.Sorted.{cellsSorted, sortedKeys, firstKey}
 use Rattle.model.specs.Crew.{crewRules, rests, adds, crewAtWorkRules}
 use Rattle.model.specs.declared.Head.{Head}
 use Rattle.model.specs.declared.Lease.{Lease}
 use Rattle.model.specs.declared.Outcome.{Outcome}
 use Rattle.laws.specs.Shape.{shaped}
 use Rattle.history.specs.World.{World, worldOf, cells, Live, Lawful, Unreleased, now}
-use Rattle.history.specs.Items.{Call, Says, try-acquire, drop-lease, read-permission, competing-acquire, release-then-handoff, foreign-release, drop-preserving, acquire-preserving, environment, try-lock, transactional, acquire-bucket, release-all, acquire-locks, crew, crew-at-work, perform, held-of, Clear, rules}
+use Rattle.history.specs.Items.{Call, Says, try-acquire, drop-lease, read-permission, competing-acquire, release-then-handoff, foreign-release, drop-preserving, acquire-preserving, environment, try-lock, transactional, acquire-bucket, release-all, acquire-locks, acquire-sorted, crew, crew-at-work, perform, held-of, Clear, rules}
 use Rattle.history.specs.Statements.{Hands-over, Held-live, log-of}
 use Rattle.history.specs.Tests.{differ, In, in-take}
 use Rattle.history.specs.Events.{Fit, lives, good}
 use Rattle.history.specs.Logs.{Kept, nothing, event, kept-fit, kept-live, weaken, chain, ended, lawful-split, unreleased-front, keep-now}
-use Rattle.history.specs.Judged.{clear-back, reply, seen-as, steps, performed}
+use Rattle.history.specs.Judged.{clear-back, judged-at, reply, seen-as, steps, performed}
 use Rattle.history.specs.Steps.{Gains, followed, Won, won, won-of, none-yet, no-more, boundary-kept, take-kept, lock-kept, attempt-kept, retry-kept}
-use Rattle.history.specs.Many.{Held, give-back-kept, locks-kept}
+use Rattle.history.specs.Many.{Held, Taken, give-back-kept, locks-kept}
 use Rattle.history.specs.Crew.{crew-kept, crew-plan, crew-at-work-plan}
+use Rattle.history.specs.Shared.{handed-inner}
 
 -- ---- the leases that `release_all` is given
 
@@ -110,6 +112,14 @@ module _ (w : World) (good : Fit w) where
 apart-from : (held : List ℕ) (l : Lease) → isIn l (leasesOf held) ≡ false → (k : Lease) → In (leasesOf held) k → k ≡ l → ⊥
 apart-from held l n k i e = differ (sym n ∙ subst (In (leasesOf held)) e i)
 
+-- a multi-lock begins with nothing taken
+none-taken : (w : World) → Taken w (w .head .next) []
+none-taken w =
+    record {
+      are-held = record { enough = omega arith; all-live = λ i x. absurd (omega arith); distinct = λ i j x. absurd (omega arith) };
+      young = λ i x. absurd (omega arith);
+    }
+
 steps-kept : (w : World) (k : Call) → Fit w → Clear (rules w k) → Said w (In (held-of k)) (steps w k)
 unfolding cellRules leaseRules heldCellRules heldLeaseRules lockRules releaseRules isIn acquireOf
 steps-kept w (try-acquire c) g k = acquire-kept w g (In []) 1 c (leb-false (cells w) c (k .1 .0))
@@ -150,12 +160,14 @@ steps-kept w (release-all script place leases) g k =
     let m = give-back-kept (w .head) script (countIn leases) [] (leasesOf leases) (starting (w .head) place) (w .table) (w .health) g held in
     record { kept = weaken (λ l i v. absurd (differ i)) (m .kept); gain = λ l x. absurd x }
 steps-kept w (acquire-locks registry script place held keys grants) g k =
-    let m = locks-kept (w .head) script (countIn keys) 0 (leasesOf held) [] registry keys (starting (w .head) place) (w .table) (w .health) grants (w .head .next) g (omega arith)
-    (record {
-      are-held = record { enough = omega arith; all-live = λ i x. absurd (omega arith); distinct = λ i j x. absurd (omega arith) };
-      young = λ i x. absurd (omega arith);
-    }) in
+    let m = locks-kept (w .head) script (countIn keys) 0 (leasesOf held) [] registry keys (starting (w .head) place) (w .table) (w .health) grants (w .head .next) g (omega arith) (none-taken w) in
     record { kept = weaken (λ l i v. (i, lives w l v .high)) (m .kept); gain = m .gain }
+steps-kept w (acquire-sorted registry script place held keys grants) g k =
+    let n = length (cellsSorted (w .head .buckets) registry keys) in
+    let chosen = sortedKeys (w .head .buckets) registry keys in
+    let m = locks-kept (w .head) script n 0 (leasesOf held) [] registry chosen (starting (w .head) place) (w .table) (w .health) grants (w .head .next) g (omega arith) (none-taken w) in
+    judged-at (Said w (In (leasesOf held))) (firstKey (countIn keys) 0 (w .head) registry keys) (λ r p _. record { kept = nothing; gain = λ l x. absurd x })
+    (λ _. record { kept = weaken (λ l i v. (i, lives w l v .high)) (m .kept); gain = λ l x. m .gain l (handed-inner w registry script place held keys grants l x) })
 steps-kept w (crew counts lists turns) g k =
     record { kept = crew-kept rests (w .head) (w .table) (w .health) counts lists turns [] g (crew-plan _ _ _ counts lists turns k); gain = λ l x. absurd x }
 steps-kept w (crew-at-work counts lists turns counters) g k =
@@ -181,6 +193,7 @@ clear-fit w k c = record { shape = shaped (w .head) (length (w .table)) (not-fal
     first-clear (acquire-bucket registry script place held binding bucket) k = k .0
     first-clear (release-all script place leases) k = k .0
     first-clear (acquire-locks registry script place held keys grants) k = k .0
+    first-clear (acquire-sorted registry script place held keys grants) k = k .0
     first-clear (crew counts lists turns) k = k .0
     first-clear (crew-at-work counts lists turns counters) k = k .0
 

@@ -3,18 +3,20 @@ use Prim.Native.Nat.{ℕ, _+_}
 use mathlib.Core.Path.{_≡_, refl}
 use mathlib.Core.List.{List, [], _∷_}
 use native.Mathlib.Omega.{arith}
+use lib.ListN.{length}
 use Rattle.model.specs.Log.{Made, by-caller, attempt-begun, released}
 use Rattle.model.specs.Arena.{leasesOf, setCell}
 use Rattle.model.specs.Foreign.{flowOf}
 use Rattle.model.specs.Lock.{attemptLimit, noneYet}
 use Rattle.model.specs.Checks.{countIn}
 use Rattle.model.specs.Calls.{countsOf, starting, acquireOf}
+use Rattle.model.specs.Sorted.{cellsSorted, sortedKeys, firstKey}
 use Rattle.model.specs.declared.Counts.{Counts}
 use Rattle.model.specs.declared.Head.{Head}
 use Rattle.history.specs.World.{World, number-of, attempts, boundaries, yields, drops}
-use Rattle.history.specs.Items.{Call, Says, try-acquire, drop-lease, read-permission, competing-acquire, release-then-handoff, foreign-release, drop-preserving, acquire-preserving, environment, try-lock, transactional, acquire-bucket, release-all, acquire-locks, crew, crew-at-work, IsCrew, perform}
+use Rattle.history.specs.Items.{Call, Says, try-acquire, drop-lease, read-permission, competing-acquire, release-then-handoff, foreign-release, drop-preserving, acquire-preserving, environment, try-lock, transactional, acquire-bucket, release-all, acquire-locks, acquire-sorted, crew, crew-at-work, IsCrew, perform}
 use Rattle.history.specs.Statements.{Counts-are}
-use Rattle.history.specs.Judged.{acting, steps, performed}
+use Rattle.history.specs.Judged.{judged-at, acting, steps, performed}
 use Rattle.history.specs.Counted.{Counted, then-counted, none-counted, boundary-counted, take-counted, lock-counted, attempt-counted, retry-counted, back-counted, locks-counted}
 
 abbrev nothing : Counts
@@ -60,6 +62,11 @@ steps-counted w (release-all script place leases) _ =
 steps-counted w (acquire-locks registry script place held keys grants) _ =
     let k = acquire-locks registry script place held keys grants in
     locks-counted (acting w k) (w .head .buckets) registry keys grants (countIn keys) 0 [] (starting (w .head) place) (w .table) (w .health)
+steps-counted w (acquire-sorted registry script place held keys grants) _ =
+    let k = acquire-sorted registry script place held keys grants in
+    judged-at (λ (m : Made (World × Says)). Counted nothing (m .seen .1 .counts) (m .log)) (firstKey (countIn keys) 0 (w .head) registry keys) (λ r p _. none-counted nothing)
+    (λ _.
+    locks-counted (acting w k) (w .head .buckets) registry (sortedKeys (w .head .buckets) registry keys) grants (length (cellsSorted (w .head .buckets) registry keys)) 0 [] (starting (w .head) place) (w .table) (w .health))
 steps-counted w (crew counts cells turns) n = absurd (n tt)
 steps-counted w (crew-at-work counts cells turns counters) n = absurd (n tt)
 

@@ -30,7 +30,7 @@ use Rattle.model.specs.declared.Tried.{Tried}
 use Rattle.choice.specs.Pick.{if-both}
 use Rattle.laws.specs.Outcomes.{Comes, granted, busy, poisoned, damaged, spent, lock-comes}
 use Rattle.history.specs.World.{World, Healthy, now, attempts, number-of}
-use Rattle.history.specs.Items.{Call, try-acquire, drop-lease, read-permission, competing-acquire, release-then-handoff, foreign-release, drop-preserving, acquire-preserving, environment, try-lock, transactional, acquire-bucket, release-all, acquire-locks, crew, crew-at-work, perform}
+use Rattle.history.specs.Items.{Call, try-acquire, drop-lease, read-permission, competing-acquire, release-then-handoff, foreign-release, drop-preserving, acquire-preserving, environment, try-lock, transactional, acquire-bucket, release-all, acquire-locks, acquire-sorted, crew, crew-at-work, perform}
 use Rattle.history.specs.Statements.{answers, log-of, Fails}
 use Rattle.history.specs.Answers.{Reads-again, Granted-healthy, Grant-point, Locks-healthy, Poisoned-holds-nothing}
 use Rattle.history.specs.Tests.{leases-words}
@@ -159,6 +159,7 @@ steps-healthy w (acquire-bucket registry script place held binding bucket) l y a
     retry-so e (w .head .buckets) registry binding bucket attemptLimit 0 noneYet (starting (w .head) place) (w .table) (w .health) l (of-settled _ l a) .healthy
 steps-healthy w (release-all script place leases) l y a = absurd y
 steps-healthy w (acquire-locks registry script place held keys grants) l y a = absurd y
+steps-healthy w (acquire-sorted registry script place held keys grants) l y a = absurd y
 steps-healthy w (crew counts cells turns) l y a = absurd y
 steps-healthy w (crew-at-work counts cells turns counters) l y a = absurd y
 

@@ -11,6 +11,7 @@ use Rattle.model.specs.Foreign.{stepOf}
 use Rattle.model.specs.Lock.{bindingAt, bucketAt}
 use Rattle.model.specs.Checks.{cellRules, leaseRules, heldCellRules, heldLeaseRules, scriptRules, lockRules, bucketRules, releaseRules, locksRules}
 use Rattle.model.specs.Calls.{countsOf, given, prepareOf, tryAcquireOf, dropLeaseOf, readPermissionOf, competingAcquireOf, releaseThenHandoffOf, foreignReleaseOf, acquirePreservingOf, dropPreservingOf, environmentOf, tryLockOf, transactionalOf, acquireBucketOf, releaseAllOf, acquireLocksOf}
+use Rattle.model.specs.Sorted.{acquireSortedOf}
 use Rattle.model.specs.Crew.{crewRules, crewAtWorkRules, crewOf, crewAtWorkOf}
 use Rattle.model.specs.declared.Answer.{Answer}
 use Rattle.model.specs.declared.Answer.the-variants.{Done, Cell, Granted, AllGranted, Busy, Refused, RefusedAt}
@@ -29,6 +30,8 @@ pub data Call : Type 0 where
   transactional acquire-bucket : (registry script : List ℕ) (place : ℕ) (held : List ℕ) (binding bucket : ℕ) → Call
   release-all : (script : List ℕ) (place : ℕ) (leases : List ℕ) → Call
   acquire-locks : (registry script : List ℕ) (place : ℕ) (held keys grants : List ℕ) → Call
+  -- document 02, L4: "Keys in any order, and doubles."
+  acquire-sorted : (registry script : List ℕ) (place : ℕ) (held keys grants : List ℕ) → Call
   crew : (counts cells turns : List ℕ) → Call
   crew-at-work : (counts cells turns counters : List ℕ) → Call
 
@@ -50,6 +53,7 @@ script-of (transactional registry script place held binding bucket) = script
 script-of (acquire-bucket registry script place held binding bucket) = script
 script-of (release-all script place leases) = script
 script-of (acquire-locks registry script place held keys grants) = script
+script-of (acquire-sorted registry script place held keys grants) = script
 script-of (crew counts cells turns) = []
 script-of (crew-at-work counts cells turns counters) = []
 
@@ -69,6 +73,7 @@ place-of (transactional registry script place held binding bucket) = place
 place-of (acquire-bucket registry script place held binding bucket) = place
 place-of (release-all script place leases) = place
 place-of (acquire-locks registry script place held keys grants) = place
+place-of (acquire-sorted registry script place held keys grants) = place
 place-of (crew counts cells turns) = 0
 place-of (crew-at-work counts cells turns counters) = 0
 
@@ -88,6 +93,7 @@ held-of (transactional registry script place held binding bucket) = leasesOf hel
 held-of (acquire-bucket registry script place held binding bucket) = leasesOf held
 held-of (release-all script place leases) = []
 held-of (acquire-locks registry script place held keys grants) = leasesOf held
+held-of (acquire-sorted registry script place held keys grants) = leasesOf held
 held-of (crew counts cells turns) = []
 held-of (crew-at-work counts cells turns counters) = []
 
@@ -107,6 +113,7 @@ given-up (transactional registry script place held binding bucket) = []
 given-up (acquire-bucket registry script place held binding bucket) = []
 given-up (release-all script place leases) = leasesOf leases
 given-up (acquire-locks registry script place held keys grants) = []
+given-up (acquire-sorted registry script place held keys grants) = []
 given-up (crew counts cells turns) = []
 given-up (crew-at-work counts cells turns counters) = []
 
@@ -126,6 +133,7 @@ buffer (transactional registry script place held binding bucket) = []
 buffer (acquire-bucket registry script place held binding bucket) = []
 buffer (release-all script place leases) = []
 buffer (acquire-locks registry script place held keys grants) = grants
+buffer (acquire-sorted registry script place held keys grants) = grants
 buffer (crew counts cells turns) = []
 buffer (crew-at-work counts cells turns counters) = []
 
@@ -145,6 +153,7 @@ ByCell (transactional registry script place held binding bucket) = ⊥
 ByCell (acquire-bucket registry script place held binding bucket) = ⊥
 ByCell (release-all script place leases) = ⊥
 ByCell (acquire-locks registry script place held keys grants) = ⊥
+ByCell (acquire-sorted registry script place held keys grants) = ⊥
 ByCell (crew counts cells turns) = ⊥
 ByCell (crew-at-work counts cells turns counters) = ⊥
 
@@ -164,8 +173,14 @@ IsCrew (transactional registry script place held binding bucket) = ⊥
 IsCrew (acquire-bucket registry script place held binding bucket) = ⊥
 IsCrew (release-all script place leases) = ⊥
 IsCrew (acquire-locks registry script place held keys grants) = ⊥
+IsCrew (acquire-sorted registry script place held keys grants) = ⊥
 IsCrew (crew counts cells turns) = Unit {0}
 IsCrew (crew-at-work counts cells turns counters) = Unit {0}
+
+-- the calls that lock many keys, with their registry and keys: in the order given, and in any order
+pub data By-keys : Call → (registry keys : List ℕ) → Type 0 where
+  in-order : (registry script : List ℕ) (place : ℕ) (held keys grants : List ℕ) → By-keys (acquire-locks registry script place held keys grants) registry keys
+  any-order : (registry script : List ℕ) (place : ℕ) (held keys grants : List ℕ) → By-keys (acquire-sorted registry script place held keys grants) registry keys
 
 -- ---- which cell a call asks for
 
@@ -173,7 +188,7 @@ IsCrew (crew-at-work counts cells turns counters) = Unit {0}
 abbrev pub cellOf : (buckets : ℕ) (registry : List ℕ) (binding bucket : ℕ) → ℕ
 cellOf buckets registry binding bucket = cellNumber buckets (getD registry binding 0) bucket
 
--- the cell of multi-lock's key at a position
+-- the cell of a multi-lock's key at a position
 abbrev pub keyCell : (buckets : ℕ) (registry keys : List ℕ) → ℕ → ℕ
 keyCell buckets registry keys p = cellOf buckets registry (bindingAt keys p) (bucketAt keys p)
 
@@ -193,12 +208,14 @@ asked w (transactional registry script place held binding bucket) = cellOf (w .h
 asked w (acquire-bucket registry script place held binding bucket) = cellOf (w .head .buckets) registry binding bucket
 asked w (release-all script place leases) = 0
 asked w (acquire-locks registry script place held keys grants) = 0
+asked w (acquire-sorted registry script place held keys grants) = 0
 asked w (crew counts cells turns) = 0
 asked w (crew-at-work counts cells turns counters) = 0
 
 -- ---- the checks of a call
 
--- those of document 01's table on what it takes, in the order of the table
+-- those of document 01's table on what it takes, in the order of the table; the sorted call's tests of headers and buckets, position by
+-- position, come behind and name the position (crate `anyorder`, `Keys-first`)
 abbrev pub rules : World → Call → List Rule
 rules w (try-acquire c) = cellRules (w .head) (w .table) c
 rules w (drop-lease l) = leaseRules (w .head) (w .table) l
@@ -214,6 +231,7 @@ rules w (transactional registry script place held binding bucket) = bucketRules 
 rules w (acquire-bucket registry script place held binding bucket) = bucketRules (w .head) (w .table) (w .health) registry script place held binding
 rules w (release-all script place leases) = releaseRules (w .head) (w .table) (w .health) script place leases
 rules w (acquire-locks registry script place held keys grants) = locksRules (w .head) (w .table) (w .health) registry script place held keys grants
+rules w (acquire-sorted registry script place held keys grants) = locksRules (w .head) (w .table) (w .health) registry script place held keys grants
 rules w (crew counts cells turns) = crewRules (w .head) (w .table) (w .health) counts cells turns
 rules w (crew-at-work counts cells turns counters) = crewAtWorkRules (w .head) (w .table) (w .health) counts cells turns counters
 
@@ -224,7 +242,7 @@ Clear (r ∷ rs) = (r .applies ≡ false) × Clear rs
 
 -- ---- what a call says, and what it leaves
 
--- the crew gives no such counts; the place is the script's afterwards, and only multi-lock has a grant buffer
+-- the crew gives no such counts; the place is the script's afterwards, and only the multi-locks have a grant buffer
 pub record Says : Type 0 where
   pub answer : Answer
   pub counts : Counts
@@ -277,6 +295,9 @@ perform w (release-all script place leases) = do
   gives (worldOf (r .head) t g, says (r .answer) (r .counts) (r .place) [])
 perform w (acquire-locks registry script place held keys grants) = do
   (r, (t, (g, b))) ← acquireLocksOf (w .head) (w .table) (w .health) registry script place held keys grants
+  gives (worldOf (r .head) t g, says (r .answer) (r .counts) (r .place) b)
+perform w (acquire-sorted registry script place held keys grants) = do
+  (r, (t, (g, b))) ← acquireSortedOf (w .head) (w .table) (w .health) registry script place held keys grants
   gives (worldOf (r .head) t g, says (r .answer) (r .counts) (r .place) b)
 perform w (crew counts cells turns) = do
   (r, t) ← crewOf (w .head) (w .table) (w .health) counts cells turns

@@ -1,27 +1,31 @@
 -- How a call goes: if a check applies it is refused and nothing changes, else its steps are made. What holds of both holds of the call.
 use Prim.Native.Nat.{ℕ}
-use mathlib.Core.Path.{_≡_, refl}
+use mathlib.Core.Path.{_≡_, refl, sym, subst}
 use mathlib.Core.List.{List, [], _∷_, _++_, append-nil}
 use mathlib.Core.Bool.{Bool, true, false}
 use native.Mathlib.Omega.{arith}
+use lib.ListN.{length}
 use Rattle.choice.specs.Choice.{if_then_else_}
 use Rattle.model.specs.Log.{Made, by-caller, attempt-begun, released, gives, note, _>>=_, _>>_}
 use Rattle.model.specs.Arena.{spentTo, setCell, leasesOf}
 use Rattle.model.specs.Refusals.{Rule, refusalOf, first, judge}
 use Rattle.model.specs.Foreign.{Setting, flowOf, boundaryOf}
-use Rattle.model.specs.Lock.{lockOf, answerOf, runOf, attemptOf, attemptLimit, noneYet, retryOf, settled, giveBackOf, locksOf}
+use Rattle.model.specs.Lock.{lockOf, answerOf, runOf, attemptOf, attemptLimit, noneYet, retryOf, settled, giveBackOf, Locks, locksOf}
 use Rattle.model.specs.Checks.{countIn}
 use Rattle.model.specs.Calls.{countsOf, given, starting, replied, played, refused, acquireOf, tryAcquireOf, dropLeaseOf, readPermissionOf, competingAcquireOf, releaseThenHandoffOf, foreignReleaseOf, acquirePreservingOf, dropPreservingOf, environmentOf, tryLockOf, transactionalOf, acquireBucketOf, releaseAllOf, acquireLocksOf}
+use Rattle.model.specs.Sorted.{cellsAsked, cellsSorted, sortedKeys, firstKey, judgeAt, unplayedAt, askedFirst, handedBack, sortedLocksOf, acquireSortedOf}
 use Rattle.model.specs.Crew.{Work, rests, adds, crewStart, turnsOf, shiftOf, crewOf, crewAtWorkOf}
 use Rattle.model.specs.declared.Answer.the-variants as answer
 use Rattle.model.specs.declared.Check.{Check}
 use Rattle.model.specs.declared.Check.the-variants.{Fine, Fault}
 use Rattle.model.specs.declared.CrewReply.{CrewReply}
+use Rattle.model.specs.declared.KeyCheck.{KeyCheck}
+use Rattle.model.specs.declared.KeyCheck.the-variants as key
 use Rattle.model.specs.declared.Played.{Played}
 use Rattle.model.specs.declared.Refusal.{Refusal}
 use Rattle.model.specs.declared.Reply.{Reply}
 use Rattle.history.specs.World.{World, worldOf}
-use Rattle.history.specs.Items.{Call, Says, says, try-acquire, drop-lease, read-permission, competing-acquire, release-then-handoff, foreign-release, drop-preserving, acquire-preserving, environment, try-lock, transactional, acquire-bucket, release-all, acquire-locks, crew, crew-at-work, perform, buffer, script-of, held-of, place-of, Clear, rules}
+use Rattle.history.specs.Items.{Call, Says, says, try-acquire, drop-lease, read-permission, competing-acquire, release-then-handoff, foreign-release, drop-preserving, acquire-preserving, environment, try-lock, transactional, acquire-bucket, release-all, acquire-locks, acquire-sorted, crew, crew-at-work, perform, buffer, script-of, held-of, place-of, Clear, rules}
 
 -- ---- checks that found nothing
 
@@ -60,6 +64,12 @@ judged P rules {refused} {steps} r s = go (first rules) refl
     go Fine e = s (clear rules e)
     go (Fault x) e = r x
 
+-- the same of the sorted call, whose keys' headers and buckets are tested by position behind
+pub judged-at : {A : Type 0} (P : A → Type 0) (k : KeyCheck) {refused : Refusal → ℕ → A} {steps : A}
+    → ((r : Refusal) (p : ℕ) → k ≡ key.FaultAt r p → P (refused r p)) → (k ≡ key.Fine → P steps) → P (judgeAt k refused steps)
+judged-at P key.Fine r s = s refl
+judged-at P (key.FaultAt x p) r s = r x p refl
+
 -- ---- the parts of a call
 
 -- what its steps are given
@@ -69,6 +79,10 @@ acting w k = given (w .head) (script-of k) (held-of k)
 -- all as it was, and no count
 abbrev pub unchanged : World → Call → Refusal → Made (World × Says)
 unchanged w k r = record { seen = (w, says (answer.Refused r) (countsOf 0 0 0 0) (place-of k) (buffer k)); log = [] }
+
+-- the same, refused at a position before any attempt
+abbrev pub unchanged-at : World → Call → Refusal → ℕ → Made (World × Says)
+unchanged-at w k r p = record { seen = (w, says (answer.RefusedAt r p) (countsOf 0 0 0 0) (place-of k) (buffer k)); log = [] }
 
 -- what a call says, by what it hands over: a reply, with the table; a reply with a script, with table and health
 abbrev pub reply : World → Reply × List ℕ → World × Says
@@ -80,7 +94,7 @@ read w m = (worldOf (m .head) (w .table) (w .health), says (m .answer) (m .count
 abbrev play : Played × (List ℕ × List ℕ) → World × Says
 play m = (worldOf (m .0 .head) (m .1 .0) (m .1 .1), says (m .0 .answer) (m .0 .counts) (m .0 .place) [])
 
-abbrev grant : Played × (List ℕ × (List ℕ × List ℕ)) → World × Says
+abbrev pub grant : Played × (List ℕ × (List ℕ × List ℕ)) → World × Says
 grant m = (worldOf (m .0 .head) (m .1 .0) (m .1 .1 .0), says (m .0 .answer) (m .0 .counts) (m .0 .place) (m .1 .1 .1))
 
 abbrev crewed : World → CrewReply × List ℕ → World × Says
@@ -98,6 +112,20 @@ abbrev pub shifted : Work → World → (counts cells turns counters : List ℕ)
 shifted work w counts cells turns counters =
     seen-as (λ v. (worldOf (spentTo (w .head) (v .next)) (v .table) (w .health), says answer.Done (countsOf 0 0 0 0) 0 []))
     (turnsOf work (w .head .headers) (w .head .buckets) (w .health) counts cells (crewStart (w .head) (w .table) counters) turns)
+
+-- multi-lock's own steps over the sorted keys, and how the caller sees them: by the keys as they were typed
+abbrev pub sorted-locks : World → (registry script : List ℕ) (place : ℕ) (held keys grants : List ℕ) → Made Locks
+sorted-locks w registry script place held keys grants =
+    locksOf (length (cellsSorted (w .head .buckets) registry keys)) 0 (given (w .head) script (leasesOf held)) (w .head .buckets) registry (sortedKeys (w .head .buckets) registry keys) []
+    (starting (w .head) place) (w .table) (w .health) grants
+
+abbrev pub as-asked : World → (registry keys : List ℕ) → Locks → World × Says
+as-asked w registry keys m =
+    let asked = cellsAsked (w .head .buckets) registry keys in
+    grant (
+      played (w .head) (m .0 .run) (askedFirst (m .0 .answer) asked (cellsSorted (w .head .buckets) registry keys)),
+      (m .1 .0, (m .1 .1 .0, handedBack (m .0 .answer) asked (m .1 .1 .1))),
+    )
 
 -- the steps of each call
 abbrev pub steps : World → Call → Made (World × Says)
@@ -137,8 +165,25 @@ steps w (release-all script place leases) =
 steps w (acquire-locks registry script place held keys grants) =
     seen-as (λ m. grant (played (w .head) (m .0 .run) (m .0 .answer), m .1))
     (locksOf (countIn keys) 0 (acting w (acquire-locks registry script place held keys grants)) (w .head .buckets) registry keys [] (starting (w .head) place) (w .table) (w .health) grants)
+steps w (acquire-sorted registry script place held keys grants) =
+    judgeAt (firstKey (countIn keys) 0 (w .head) registry keys) (unchanged-at w (acquire-sorted registry script place held keys grants))
+    (seen-as (as-asked w registry keys) (sorted-locks w registry script place held keys grants))
 steps w (crew counts cells turns) = shifted rests w counts cells turns []
 steps w (crew-at-work counts cells turns counters) = shifted adds w counts cells turns counters
+
+-- those of the sorted call, as `perform` has them
+sorted-steps : (w : World) (registry script : List ℕ) (place : ℕ) (held keys grants : List ℕ) (k : KeyCheck)
+    → (judgeAt k (λ r p. gives (unplayedAt (w .head) place r p, (w .table, (w .health, grants)))) (sortedLocksOf (w .head) (w .table) (w .health) registry script place held keys grants) >>= λ a. gives (grant a))
+    ≡ judgeAt k (unchanged-at w (acquire-sorted registry script place held keys grants)) (seen-as (as-asked w registry keys) (sorted-locks w registry script place held keys grants))
+unfolding sortedLocksOf
+sorted-steps w registry script place held keys grants key.Fine = simp append-nil
+sorted-steps w registry script place held keys grants (key.FaultAt r p) = refl
+
+-- multi-lock's checks found nothing: the sorted call is its steps
+pub sorted-made : (w : World) (registry script : List ℕ) (place : ℕ) (held keys grants : List ℕ)
+    → let k = acquire-sorted registry script place held keys grants in first (rules w k) ≡ Fine → perform w k ≡ steps w k
+unfolding perform acquireSortedOf
+sorted-made w registry script place held keys grants e = rw e (sorted-steps w registry script place held keys grants (firstKey (countIn keys) 0 (w .head) registry keys))
 
 -- what holds of the call as it was and of its steps
 module _ (P : Made (World × Says) → Type 0) (w : World) where
@@ -147,7 +192,7 @@ module _ (P : Made (World × Says) → Type 0) (w : World) where
 
   pub performed : (k : Call) → ((r : Refusal) → P (unchanged w k r)) → (Clear (rules w k) → P (steps w k)) → P (perform w k)
   unfolding perform tryAcquireOf dropLeaseOf readPermissionOf competingAcquireOf releaseThenHandoffOf foreignReleaseOf acquirePreservingOf dropPreservingOf
-      environmentOf tryLockOf transactionalOf acquireBucketOf releaseAllOf acquireLocksOf shiftOf crewOf crewAtWorkOf
+      environmentOf tryLockOf transactionalOf acquireBucketOf releaseAllOf acquireLocksOf acquireSortedOf shiftOf crewOf crewAtWorkOf
   performed (try-acquire c) x y = judged (By (reply w)) (rules w (try-acquire c)) x (λ fine. rw append-nil (y fine))
   performed (drop-lease l) x y = judged (By (reply w)) (rules w (drop-lease l)) x y
   performed (read-permission l) x y = judged (By (read w)) (rules w (read-permission l)) x y
@@ -165,5 +210,8 @@ module _ (P : Made (World × Says) → Type 0) (w : World) where
   performed (release-all script place leases) x y = judged (By play) (rules w (release-all script place leases)) x (λ fine. simp append-nil (y fine))
   performed (acquire-locks registry script place held keys grants) x y =
       judged (By grant) (rules w (acquire-locks registry script place held keys grants)) x (λ fine. simp append-nil (y fine))
+  performed (acquire-sorted registry script place held keys grants) x y =
+      judged (By grant) (rules w (acquire-sorted registry script place held keys grants)) x
+      (λ fine. subst P (sym (sorted-steps w registry script place held keys grants (firstKey (countIn keys) 0 (w .head) registry keys))) (y fine))
   performed (crew counts cells turns) x y = judged (By (crewed w)) (rules w (crew counts cells turns)) x (λ fine. simp append-nil (y fine))
   performed (crew-at-work counts cells turns counters) x y = judged (By (worked w)) (rules w (crew-at-work counts cells turns counters)) x (λ fine. simp append-nil (y fine))

@@ -21,6 +21,7 @@ pub mod Owing
 pub mod Returns
 pub mod Rollback
 pub mod ByKey
+pub mod Shared
 pub mod Handed
 pub mod HandedCalls
 pub mod Healthy

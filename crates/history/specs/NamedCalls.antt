@@ -16,15 +16,16 @@ use Rattle.model.specs.Foreign.{Setting, flowOf, stepTakeOf, stepReleaseOf, ste
 use Rattle.model.specs.Lock.{noLease, leaseAt, attemptLimit, noneYet}
 use Rattle.model.specs.Checks.{countIn}
 use Rattle.model.specs.Calls.{given, starting, acquireOf}
+use Rattle.model.specs.Sorted.{cellsSorted, sortedKeys, firstKey}
 use Rattle.model.specs.declared.Head.{Head}
 use Rattle.model.specs.declared.Lease.{Lease}
 use Rattle.model.specs.declared.Stepped.{Stepped}
 use Rattle.choice.specs.Pick.{if-both}
 use Rattle.history.specs.World.{World}
-use Rattle.history.specs.Items.{Call, try-acquire, drop-lease, read-permission, competing-acquire, release-then-handoff, foreign-release, drop-preserving, acquire-preserving, environment, try-lock, transactional, acquire-bucket, release-all, acquire-locks, crew, crew-at-work, script-of, place-of, given-up, foreign, perform, Clear, rules}
+use Rattle.history.specs.Items.{Call, Says, try-acquire, drop-lease, read-permission, competing-acquire, release-then-handoff, foreign-release, drop-preserving, acquire-preserving, environment, try-lock, transactional, acquire-bucket, release-all, acquire-locks, acquire-sorted, crew, crew-at-work, script-of, place-of, given-up, foreign, perform, Clear, rules}
 use Rattle.history.specs.Statements.{log-of, Named, Named-alone}
 use Rattle.history.specs.Tests.{in-take, if-cases}
-use Rattle.history.specs.Judged.{acting, steps, performed}
+use Rattle.history.specs.Judged.{judged-at, acting, steps, performed}
 use Rattle.history.specs.Calls.{words-leases}
 use Rattle.history.specs.Naming.{Leases, Told, any, none, more, andthen, told, handed, and-took, at-script, at-caller, boundary-told, take-told, lock-told, attempt-told, retry-told, back-told, locks-told}
 use Rattle.history.specs.NamingCrew.{crew-told}
@@ -73,6 +74,12 @@ steps-told w (acquire-locks registry script place held keys grants) _ =
     let k = acquire-locks registry script place held keys grants in
     locks-told (acting w k) place (w .head .buckets) registry keys grants (countIn keys) 0 [] (starting (w .head) place) (w .table) (w .health) (Mine k) (omega arith)
     (λ i h. absurd (omega arith))
+steps-told w (acquire-sorted registry script place held keys grants) _ =
+    let k = acquire-sorted registry script place held keys grants in
+    judged-at (λ (m : Made (World × Says)). Told script place (Mine k) (m .log) any) (firstKey (countIn keys) 0 (w .head) registry keys) (λ r p _. none tt)
+    (λ _.
+    locks-told (acting w k) place (w .head .buckets) registry (sortedKeys (w .head .buckets) registry keys) grants (length (cellsSorted (w .head .buckets) registry keys)) 0 [] (starting (w .head) place) (w .table) (w .health) (Mine k) (omega arith)
+    (λ i h. absurd (omega arith)))
 steps-told w (crew counts cells turns) fine = crew-told rests w counts cells turns [] (Mine (crew counts cells turns)) (crew-plan _ _ _ counts cells turns fine)
 steps-told w (crew-at-work counts cells turns counters) fine =
     crew-told adds w counts cells turns counters (Mine (crew-at-work counts cells turns counters)) (crew-at-work-plan _ _ _ counts cells turns counters fine)

@@ -12,7 +12,7 @@ use Rattle.model.specs.declared.Reason.{Reason}
 use Rattle.model.specs.declared.Reason.the-variants.{Held, Before, After}
 use Rattle.model.specs.declared.State.the-variants as state
 use Rattle.history.specs.World.{World, Live, Healthy, now, Sound, Spent}
-use Rattle.history.specs.Items.{Call, try-acquire, drop-lease, read-permission, competing-acquire, release-then-handoff, foreign-release, drop-preserving, acquire-preserving, environment, try-lock, transactional, acquire-bucket, release-all, acquire-locks, crew, crew-at-work, asked, Says, Build}
+use Rattle.history.specs.Items.{Call, try-acquire, drop-lease, read-permission, competing-acquire, release-then-handoff, foreign-release, drop-preserving, acquire-preserving, environment, try-lock, transactional, acquire-bucket, release-all, acquire-locks, acquire-sorted, crew, crew-at-work, asked, Says, Build}
 use Rattle.history.specs.Statements.{answer-in, world-in}
 
 -- the calls that make one attempt to lock one cell, with boundaries
@@ -31,6 +31,7 @@ Locks-once (transactional registry script place held binding bucket) = Unit {0}
 Locks-once (acquire-bucket registry script place held binding bucket) = ⊥
 Locks-once (release-all script place leases) = ⊥
 Locks-once (acquire-locks registry script place held keys grants) = ⊥
+Locks-once (acquire-sorted registry script place held keys grants) = ⊥
 Locks-once (crew counts cells turns) = ⊥
 Locks-once (crew-at-work counts cells turns counters) = ⊥
 

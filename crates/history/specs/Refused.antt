@@ -5,7 +5,7 @@ use mathlib.Core.List.{List, [], _∷_, _++_}
 use mathlib.Core.Logic.{_⊎_, inl, inr}
 use native.Mathlib.Omega.{arith}
 use lib.Dec.{leb}
-use lib.ListN.{getD}
+use lib.ListN.{length, getD}
 use Rattle.model.specs.Log.{Made}
 use Rattle.model.specs.Arena.{isPoisoned, setCell}
 use Rattle.model.specs.Refusals.{numberOf}
@@ -14,6 +14,7 @@ use Rattle.model.specs.Lock.{takeOf, lockOf, outcomeOf, answerOf, findOf, attem
 use Rattle.model.specs.Checks.{countIn}
 use Rattle.model.specs.Calls.{starting, acquireOf}
 use Rattle.model.specs.Crew.{crewRules, crewOf, crewAtWorkRules, shiftOf, crewAtWorkOf}
+use Rattle.model.specs.Sorted.{cellsAsked, cellsSorted, sortedKeys, firstKey, askedFirst}
 use Rattle.model.specs.declared.Answer.{Answer}
 use Rattle.model.specs.declared.Answer.the-variants as answer
 use Rattle.model.specs.declared.CrewReply.{CrewReply}
@@ -32,9 +33,9 @@ use Rattle.model.specs.declared.Tried.{Tried}
 use Rattle.choice.specs.Pick.{if-both}
 use Rattle.laws.specs.Outcomes.{Comes, granted, busy, poisoned, damaged, spent, lock-comes}
 use Rattle.history.specs.World.{World}
-use Rattle.history.specs.Items.{Call, try-acquire, drop-lease, read-permission, competing-acquire, release-then-handoff, foreign-release, drop-preserving, acquire-preserving, environment, try-lock, transactional, acquire-bucket, release-all, acquire-locks, crew, crew-at-work, ByCell, perform}
+use Rattle.history.specs.Items.{Call, Says, try-acquire, drop-lease, read-permission, competing-acquire, release-then-handoff, foreign-release, drop-preserving, acquire-preserving, environment, try-lock, transactional, acquire-bucket, release-all, acquire-locks, acquire-sorted, crew, crew-at-work, ByCell, perform}
 use Rattle.history.specs.Statements.{Early, Changes-nothing, Crew-refused, nobody-moved, Crew-at-work-refused}
-use Rattle.history.specs.Judged.{judged, acting, unchanged, steps, performed}
+use Rattle.history.specs.Judged.{judged, judged-at, acting, unchanged, sorted-locks, steps, performed}
 
 -- ---- which refusals steps answer
 
@@ -135,6 +136,16 @@ locks-late P (suc left) p e buckets registry keys taken r t g grants =
     go k u w (outcome.Busy why) more h = tt
     go k u w (outcome.Refused x) more h = tt
 
+-- and so does the sorted call, by the keys as typed
+asked-late : (P : Refusal → Type 0) (asked sorted : List ℕ) (x : Answer) → OfAnswer P x → OfAnswer P (askedFirst x asked sorted)
+asked-late P asked sorted answer.Done h = tt
+asked-late P asked sorted (answer.Cell c) h = tt
+asked-late P asked sorted (answer.Granted l) h = tt
+asked-late P asked sorted answer.AllGranted h = tt
+asked-late P asked sorted (answer.Busy why) h = tt
+asked-late P asked sorted (answer.Refused r) h = h
+asked-late P asked sorted (answer.RefusedAt r p) h = tt
+
 -- ---- the calls
 
 -- 6 to 11, and not 8 where a cell is given
@@ -170,6 +181,12 @@ steps-late w (release-all script place leases) = inl tt
 steps-late w (acquire-locks registry script place held keys grants) =
     let e = acting w (acquire-locks registry script place held keys grants) in
     inl (locks-late Late-by-cell (countIn keys) 0 e (w .head .buckets) registry keys [] (starting (w .head) place) (w .table) (w .health) grants)
+steps-late w (acquire-sorted registry script place held keys grants) =
+    let e = acting w (acquire-sorted registry script place held keys grants) in
+    inl (judged-at (λ (m : Made (World × Says)). OfAnswer Late-by-cell (m .seen .1 .answer)) (firstKey (countIn keys) 0 (w .head) registry keys) (λ r p _. tt)
+    (λ _.
+    asked-late Late-by-cell (cellsAsked (w .head .buckets) registry keys) (cellsSorted (w .head .buckets) registry keys) (sorted-locks w registry script place held keys grants .seen .0 .answer)
+    (locks-late Late-by-cell (length (cellsSorted (w .head .buckets) registry keys)) 0 e (w .head .buckets) registry (sortedKeys (w .head .buckets) registry keys) [] (starting (w .head) place) (w .table) (w .health) grants)))
 steps-late w (crew counts cells turns) = inl tt
 steps-late w (crew-at-work counts cells turns counters) = inl tt
 

@@ -5,6 +5,7 @@ use mathlib.Core.List.{List, [], _∷_, _++_}
 use mathlib.Core.Bool.{true}
 use mathlib.Core.Logic.{inl, _⊎_, inr}
 use native.Mathlib.Omega.{arith}
+use lib.ListN.{length}
 use borrow.Author.Tests.{not-false}
 use Rattle.model.specs.Log.{Made, Event, by-caller, attempt-begun, took, released}
 use Rattle.model.specs.Arena.{cellsOf, bitAt, ownerAt, isLive, stateAt, setCell, leasesOf, leaseOf}
@@ -12,6 +13,7 @@ use Rattle.model.specs.Foreign.{Setting, protecting, flowOf}
 use Rattle.model.specs.Lock.{takeOf, outcomeOf, answerOf, settled, attemptLimit, noneYet, retryOf, bindingAt, bucketAt, rollbackOf, afterKey, locksOf}
 use Rattle.model.specs.Checks.{countIn, badShape, badHeld, heldLeaseRules}
 use Rattle.model.specs.Calls.{starting, acquireOf}
+use Rattle.model.specs.Sorted.{cellsSorted, sortedKeys, firstKey, askedFirst, handedBack}
 use Rattle.model.specs.declared.Answer.{Answer}
 use Rattle.model.specs.declared.Answer.the-variants.{Done, Cell, Granted, AllGranted, Busy, Refused, RefusedAt}
 use Rattle.model.specs.declared.Head.{Head}
@@ -22,11 +24,12 @@ use Rattle.model.specs.declared.Reply.{Reply}
 use Rattle.model.specs.declared.Run.{Run}
 use Rattle.laws.specs.Words.{Seen, here, there, see}
 use Rattle.history.specs.World.{World, cells, Live, step, now, Lawful}
-use Rattle.history.specs.Items.{Call, try-acquire, drop-lease, read-permission, competing-acquire, release-then-handoff, foreign-release, drop-preserving, acquire-preserving, environment, try-lock, transactional, acquire-bucket, release-all, acquire-locks, crew, crew-at-work, perform, IsCrew, buffer, Clear, rules}
+use Rattle.history.specs.Items.{Call, Says, try-acquire, drop-lease, read-permission, competing-acquire, release-then-handoff, foreign-release, drop-preserving, acquire-preserving, environment, try-lock, transactional, acquire-bucket, release-all, acquire-locks, acquire-sorted, crew, crew-at-work, perform, IsCrew, buffer, Clear, rules}
 use Rattle.history.specs.Statements.{Hands-over, answers, log-of, Nothing-kept, leaves, Given-back, Gives, Nothing-new, buffer-in, Fails}
 use Rattle.history.specs.Tests.{alive, state-held, Alive}
 use Rattle.history.specs.Events.{Fit, fit-step, lives, next-step, live-before, at}
-use Rattle.history.specs.Judged.{clear-back, acting, steps, performed}
+use Rattle.history.specs.Judged.{clear-back, judged-at, acting, sorted-locks, steps, performed}
+use Rattle.history.specs.Shared.{inner-handed}
 use Rattle.history.specs.Calls.{words-leases, call-kept, call-fit}
 use Rattle.history.specs.Owing.{Frees, freed-here, freed-later, Settles, none, more, join, loosen, quiet, Nobody, Given, boundary-silent, take-hands, lock-hands, attempt-hands, retry-hands, give-back-hands, locks-hands, frees-right, freed-at, settled-at}
 
@@ -112,6 +115,12 @@ steps-settles w (release-all script place leases) n k =
 steps-settles w (acquire-locks registry script place held keys grants) n k =
     let e = acting w (acquire-locks registry script place held keys grants) in
     locks-hands e (countIn keys) 0 (w .head .buckets) registry keys [] (starting (w .head) place) (w .table) (w .health) grants .settles
+steps-settles w (acquire-sorted registry script place held keys grants) n k =
+    let e = acting w (acquire-sorted registry script place held keys grants) in
+    judged-at (λ (m : Made (World × Says)). Settles (Hands-over (m .seen .1 .answer) (m .seen .1 .grants)) (m .log)) (firstKey (countIn keys) 0 (w .head) registry keys) (λ r p _. none)
+    (λ _.
+    loosen (inner-handed w registry script place held keys grants)
+    (locks-hands e (length (cellsSorted (w .head .buckets) registry keys)) 0 (w .head .buckets) registry (sortedKeys (w .head .buckets) registry keys) [] (starting (w .head) place) (w .table) (w .health) grants .settles))
 steps-settles w (crew counts cells turns) n k = absurd (n tt)
 steps-settles w (crew-at-work counts cells turns counters) n k = absurd (n tt)
 
@@ -178,6 +187,21 @@ steps-buffer w (acquire-bucket registry script place held binding bucket) n = re
 steps-buffer w (release-all script place leases) n = refl
 steps-buffer w (acquire-locks registry script place held keys grants) n =
     locks-buffer (countIn keys) 0 (acting w (acquire-locks registry script place held keys grants)) (w .head .buckets) registry keys [] (starting (w .head) place) (w .table) (w .health) grants n
+steps-buffer w (acquire-sorted registry script place held keys grants) n =
+    judged-at (λ (m : Made (World × Says)). (m .seen .1 .answer ≡ AllGranted → ⊥) → m .seen .1 .grants ≡ grants) (firstKey (countIn keys) 0 (w .head) registry keys) (λ r p _ _. refl)
+    (λ _.
+    kept _ _ _ (sorted-locks w registry script place held keys grants .seen .0 .answer)
+    (locks-buffer (length (cellsSorted (w .head .buckets) registry keys)) 0 (acting w (acquire-sorted registry script place held keys grants)) (w .head .buckets) registry (sortedKeys (w .head .buckets) registry keys) [] (starting (w .head) place) (w .table) (w .health) grants)) n
+  where
+    -- so a refusal hands the buffer back as it was
+    kept : (asked sorted b : List ℕ) (x : Answer) → ((x ≡ AllGranted → ⊥) → b ≡ grants) → (askedFirst x asked sorted ≡ AllGranted → ⊥) → handedBack x asked b ≡ grants
+    kept asked sorted b Done f n = f n
+    kept asked sorted b (Cell c) f n = f n
+    kept asked sorted b (Granted l) f n = f n
+    kept asked sorted b AllGranted f n = absurd (n refl)
+    kept asked sorted b (Busy why) f n = f n
+    kept asked sorted b (Refused r) f n = f n
+    kept asked sorted b (RefusedAt r p) f n = f (λ e. let z : _≡_ {A = ℕ} 0 1 = cc in omega arith)
 steps-buffer w (crew counts cells turns) n = refl
 steps-buffer w (crew-at-work counts cells turns counters) n = refl
 

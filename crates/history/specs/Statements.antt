@@ -21,7 +21,7 @@ use Rattle.model.specs.declared.Head.{Head}
 use Rattle.model.specs.declared.Lease.{Lease}
 use Rattle.model.specs.declared.Refusal.{Refusal}
 use Rattle.history.specs.World.{World, worldOf, cells, Live, now, Lawful, Sound, Spent, Unreleased, caller-releases, bits, number-of, attempts, boundaries, yields, drops, takes, releases}
-use Rattle.history.specs.Items.{Call, release-all, acquire-locks, script-of, place-of, held-of, given-up, buffer, ByCell, IsCrew, asked, keyCell, Says, saying, perform, Build, Stepper, Item, preparation, Course, cold, noted, history-of, preparing, next-item, run}
+use Rattle.history.specs.Items.{Call, release-all, acquire-locks, By-keys, script-of, place-of, held-of, given-up, buffer, ByCell, IsCrew, asked, keyCell, Says, saying, perform, Build, Stepper, Item, preparation, Course, cold, noted, history-of, preparing, next-item, run}
 
 -- ---- the ledger of a history: what holds of every stretch from a preparation, at every point of it. A point is a place in the log: the
 -- world there is what the events before it make of the first.
@@ -147,11 +147,12 @@ Crew-at-work-refused f =
 abbrev pub Grant-is : Build → Type 0
 Grant-is f = (w : World) (k : Call) (l : Lease) → answer-in (f w k) ≡ Granted l → l .cell ≡ asked w k
 
--- "On a grant, multi-lock's buffer holds cell and serial for each key, in key order"
+-- "On a grant, multi-lock's buffer holds cell and serial for each key, in key order". Document 02, L4: "hand back one lease per key in the
+-- caller's order"
 abbrev pub Buffer-is : Build → Type 0
 Buffer-is f =
-    (w : World) (registry script : List ℕ) (place : ℕ) (held keys grants : List ℕ)
-    → let m = f w (acquire-locks registry script place held keys grants) in
+    (w : World) (k : Call) (registry keys : List ℕ) → By-keys k registry keys
+    → let m = f w k in
     answer-in m ≡ AllGranted
     → (length (buffer-in m) ≡ 2 * countIn keys)
     × ((p : ℕ) → p < countIn keys → leaseAt (leasesOf (buffer-in m)) p .cell ≡ keyCell (w .head .buckets) registry keys p)

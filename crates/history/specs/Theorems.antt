@@ -9,7 +9,8 @@ use Rattle.history.specs.Calls.{call-kept, calls-spare-held}
 use Rattle.history.specs.Courses as courses
 use Rattle.history.specs.Returns.{calls-keep-nothing, calls-leave-nothing}
 use Rattle.history.specs.Rollback.{releases-fall, locks-roll-back}
-use Rattle.history.specs.ByKey.{grants-name, buffers-name}
+use Rattle.history.specs.ByKey.{grants-name}
+use Rattle.history.specs.Shared.{buffers-name}
 use Rattle.history.specs.HandedCalls as handed
 use Rattle.history.specs.Healthy as healthy
 use Rattle.history.specs.Whys as whys

@@ -31,7 +31,7 @@ use Rattle.model.specs.declared.State.the-variants as state
 use Rattle.model.specs.declared.Took.{Took}
 use Rattle.laws.specs.Words.{waiters-set-cell}
 use Rattle.history.specs.World.{World, caller-releases}
-use Rattle.history.specs.Items.{Call, try-acquire, drop-lease, read-permission, competing-acquire, release-then-handoff, foreign-release, drop-preserving, acquire-preserving, environment, try-lock, transactional, acquire-bucket, release-all, acquire-locks, crew, crew-at-work, cellOf, asked, perform, Says}
+use Rattle.history.specs.Items.{Call, try-acquire, drop-lease, read-permission, competing-acquire, release-then-handoff, foreign-release, drop-preserving, acquire-preserving, environment, try-lock, transactional, acquire-bucket, release-all, acquire-locks, acquire-sorted, crew, crew-at-work, cellOf, asked, perform, Says}
 use Rattle.history.specs.Statements.{answer-in, world-in}
 use Rattle.history.specs.Steps.{With}
 use Rattle.history.specs.Rollback.{Foreigner, Every, end, also, every-append, boundary-foreign, still-then}
@@ -156,5 +156,6 @@ call-looks w (environment script place held) o = absurd o
 call-looks w (acquire-bucket registry script place held binding bucket) o = absurd o
 call-looks w (release-all script place leases) o = absurd o
 call-looks w (acquire-locks registry script place held keys grants) o = absurd o
+call-looks w (acquire-sorted registry script place held keys grants) o = absurd o
 call-looks w (crew counts cells turns) o = absurd o
 call-looks w (crew-at-work counts cells turns counters) o = absurd o

@@ -21,7 +21,7 @@ use Rattle.model.specs.declared.State.{State}
 use Rattle.model.specs.declared.State.the-variants as state
 use Rattle.laws.specs.Words.{waiters-set-cell}
 use Rattle.history.specs.World.{World, cells, Live, step, now, Lawful, Spent, number-of, boundaries, caller-releases}
-use Rattle.history.specs.Items.{Call, try-acquire, drop-lease, read-permission, competing-acquire, release-then-handoff, foreign-release, drop-preserving, acquire-preserving, environment, try-lock, transactional, acquire-bucket, release-all, acquire-locks, crew, crew-at-work, IsCrew, asked, perform}
+use Rattle.history.specs.Items.{Call, try-acquire, drop-lease, read-permission, competing-acquire, release-then-handoff, foreign-release, drop-preserving, acquire-preserving, environment, try-lock, transactional, acquire-bucket, release-all, acquire-locks, acquire-sorted, crew, crew-at-work, IsCrew, asked, perform}
 use Rattle.history.specs.Statements.{answer-in, leaves, log-of}
 use Rattle.history.specs.Events.{Fit, good, fit, lives, live-before}
 use Rattle.history.specs.Events as events
@@ -222,6 +222,7 @@ not-crew (transactional registry script place ls binding bucket) o = λ x. x
 not-crew (acquire-bucket registry script place ls binding bucket) o = absurd o
 not-crew (release-all script place ls) o = absurd o
 not-crew (acquire-locks registry script place ls keys grants) o = absurd o
+not-crew (acquire-sorted registry script place ls keys grants) o = absurd o
 not-crew (crew counts lists turns) o = absurd o
 not-crew (crew-at-work counts lists turns counters) o = absurd o
 

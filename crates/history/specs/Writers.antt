@@ -7,12 +7,13 @@ use native.Mathlib.Decide.{ℕ-discrete}
 use native.Mathlib.Omega.{arith}
 use lib.ListN.{length}
 use lib.Seq.{take-length}
-use Rattle.model.specs.Log.{Actor, Event, by-caller, attempt-begun, boundary-run, yielded, spun, step-dropped, took, released, waiters-set, health-set, held-all, added}
+use Rattle.model.specs.Log.{Made, Actor, Event, by-caller, attempt-begun, boundary-run, yielded, spun, step-dropped, took, released, waiters-set, health-set, held-all, added}
 use Rattle.model.specs.Arena.{leaseOf, leasesOf, setCell}
 use Rattle.model.specs.Foreign.{Setting, protecting, flowOf}
 use Rattle.model.specs.Lock.{takeOf, lockOf, outcomeOf, answerOf, attemptOf, retryOf, attemptLimit, noneYet, settled, leaseAt, noLease, rollbackOf, afterKey, bindingAt, bucketAt, locksOf}
 use Rattle.model.specs.Checks.{countIn}
-use Rattle.model.specs.Calls.{starting, acquireOf, prepareOf}
+use Rattle.model.specs.Calls.{given, starting, acquireOf, prepareOf}
+use Rattle.model.specs.Sorted.{cellsAsked, cellsSorted, sortedKeys, firstKey, askedFirst}
 use Rattle.model.specs.declared.Answer.{Answer}
 use Rattle.model.specs.declared.Answer.the-variants.{Done, Cell, Granted, AllGranted, Busy, Refused, RefusedAt}
 use Rattle.model.specs.declared.Head.{Head}
@@ -24,17 +25,18 @@ use Rattle.model.specs.declared.Refusal.{Refusal}
 use Rattle.model.specs.declared.Run.{Run}
 use Rattle.laws.specs.Prepared.{Outcome as Prepared, Came, was-done, was-refused, came}
 use Rattle.history.specs.World.{World, Live, step, now, Lawful, Releases, Unreleased, worldOf}
-use Rattle.history.specs.Items.{Call, try-acquire, drop-lease, read-permission, competing-acquire, release-then-handoff, foreign-release, drop-preserving, acquire-preserving, environment, try-lock, transactional, acquire-bucket, release-all, acquire-locks, crew, crew-at-work, perform, Item, call, foreign-step, preparation, prepared-by, preparing, next-item, run, cold, asked, Entry, entryOf, events-of, Course, keyCell, preparation-over}
+use Rattle.history.specs.Items.{Call, Says, By-keys, in-order, any-order, try-acquire, drop-lease, read-permission, competing-acquire, release-then-handoff, foreign-release, drop-preserving, acquire-preserving, environment, try-lock, transactional, acquire-bucket, release-all, acquire-locks, acquire-sorted, crew, crew-at-work, perform, Item, call, foreign-step, preparation, prepared-by, preparing, next-item, run, cold, asked, Entry, entryOf, events-of, Course, keyCell, preparation-over}
 use Rattle.history.specs.Statements.{Hands-over, answers, log-of, Gives, Through, buffer-in}
 use Rattle.history.specs.Answers.{Asks-one, Busy-or-refused, Locks-refused, Never-twice, None-takes, Not-over-live, Once-each, Takes-parted, Two-writers, Hands, Alone-until-released}
 use Rattle.history.specs.Tests.{free-words, same-lease, In, in-take}
 use Rattle.history.specs.Events.{Fit, fit, fit-step, keep-step, lives, taken-live, good}
 use Rattle.history.specs.Logs.{now-append, lawful-split, fit-now, next-now}
-use Rattle.history.specs.Judged.{acting, steps, performed}
+use Rattle.history.specs.Judged.{acting, judged-at, sorted-locks, steps, performed}
 use Rattle.history.specs.Calls.{words-leases, call-kept, call-fit}
 use Rattle.history.specs.Courses.{Stretch, run-stretch, events-append, begun}
 use Rattle.history.specs.Returns.{not-empty}
-use Rattle.history.specs.ByKey.{grants-name, buffers-name}
+use Rattle.history.specs.ByKey.{grants-name}
+use Rattle.history.specs.Shared.{buffers-name}
 use Rattle.history.specs.Handed.{Taken-in, taken-between}
 use Rattle.history.specs.HandedCalls.{call-came}
 
@@ -322,6 +324,7 @@ steps-one w (acquire-bucket registry script place held binding bucket) a =
     one-settled (retryOf attemptLimit 0 noneYet e (w .head .buckets) registry binding bucket (starting (w .head) place) (w .table) (w .health) .seen .0 .outcome)
 steps-one w (release-all script place leases) a = absurd a
 steps-one w (acquire-locks registry script place held keys grants) a = absurd a
+steps-one w (acquire-sorted registry script place held keys grants) a = absurd a
 steps-one w (crew counts cells turns) a = absurd a
 steps-one w (crew-at-work counts cells turns counters) a = absurd a
 
@@ -365,15 +368,31 @@ locks-answer (suc left) p e buckets registry keys taken r t g grants =
     go (outcome.Busy why) s u y on = tt
     go (outcome.Refused x) s u y on = tt
 
-pub locks-refused : Locks-refused perform
-locks-refused w registry script place held keys grants p s i v u =
-    go (answers w k) refl
-    (performed (λ m. All-or-refused (m .seen .1 .answer)) w k (λ r. tt)
-    (λ _. locks-answer (countIn keys) 0 (acting w k) (w .head .buckets) registry keys [] (starting (w .head) place) (w .table) (w .health) grants))
-  where
-    k : Call
-    k = acquire-locks registry script place held keys grants
+-- the sorted call is refused where its locks are
+asked-answer : (asked sorted : List ℕ) (x : Answer) → All-or-refused x → All-or-refused (askedFirst x asked sorted)
+asked-answer asked sorted Done o = absurd o
+asked-answer asked sorted (Cell c) o = absurd o
+asked-answer asked sorted (Granted l) o = absurd o
+asked-answer asked sorted AllGranted o = tt
+asked-answer asked sorted (Busy why) o = absurd o
+asked-answer asked sorted (Refused r) o = tt
+asked-answer asked sorted (RefusedAt r p) o = tt
 
+all-or-refused : (w : World) (k : Call) (registry keys : List ℕ) → By-keys k registry keys → All-or-refused (answers w k)
+all-or-refused w k _ _ (in-order registry script place held keys grants) =
+    performed (λ m. All-or-refused (m .seen .1 .answer)) w (acquire-locks registry script place held keys grants) (λ r. tt)
+    (λ _. locks-answer (countIn keys) 0 (given (w .head) script (leasesOf held)) (w .head .buckets) registry keys [] (starting (w .head) place) (w .table) (w .health) grants)
+all-or-refused w k _ _ (any-order registry script place held keys grants) =
+    performed (λ m. All-or-refused (m .seen .1 .answer)) w (acquire-sorted registry script place held keys grants) (λ r. tt)
+    (λ _.
+    judged-at (λ (m : Made (World × Says)). All-or-refused (m .seen .1 .answer)) (firstKey (countIn keys) 0 (w .head) registry keys) (λ r p _. tt)
+    (λ _.
+    asked-answer (cellsAsked (w .head .buckets) registry keys) (cellsSorted (w .head .buckets) registry keys) (sorted-locks w registry script place held keys grants .seen .0 .answer)
+    (locks-answer (length (cellsSorted (w .head .buckets) registry keys)) 0 (given (w .head) script (leasesOf held)) (w .head .buckets) registry (sortedKeys (w .head .buckets) registry keys) [] (starting (w .head) place) (w .table) (w .health) grants)))
+
+pub locks-refused : Locks-refused perform
+locks-refused w k registry keys p s many i v u = go (answers w k) refl (all-or-refused w k registry keys many)
+  where
     c : ℕ
     c = keyCell (w .head .buckets) registry keys p
 
@@ -385,7 +404,7 @@ locks-refused w registry script place held keys grants p s i v u =
     go (Cell c) e o = absurd o
     go (Granted l) e o = absurd o
     go AllGranted e o =
-        let b = buffers-name w registry script place held keys grants e in
+        let b = buffers-name w k registry keys many e in
         let l = leaseAt ls p in
         let n : p < length ls = omega (arith, words-leases (buffer-in (perform w k)), b .0) in
         let stands : In ls l = subst (λ x. In x l) (take-length ls) (in-take ls (length ls) p noLease n n) in

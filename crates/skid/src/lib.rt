@@ -1,7 +1,7 @@
-// The calls of document 01, and document 02's crew at work, setpoint book and waveform, for a kernel in C or Rust;
-// include/skid.h declares them. Only numbers and lent runs cross: the head goes in as three numbers, a lease as two,
-// and the last parameter is the lent reply, whose words crate `words` lays out. Each is thin: it makes the head, makes
-// the call, and writes the reply's words.
+// The calls of document 01, and document 02's keys in any order, crew at work, setpoint book and waveform, for a kernel
+// in C or Rust; include/skid.h declares them. Only numbers and lent runs cross: the head goes in as three numbers, a
+// lease as two, and the last parameter is the lent reply, whose words crate `words` lays out. Each is thin: it makes
+// the head, makes the call, and writes the reply's words.
 use model::Head;
 use model::Lease;
 use setpoint::Setpoint;
@@ -12,6 +12,7 @@ ghost use Rattle.model.specs.Calls.{releaseThenHandoffOf, foreignReleaseOf, acq
 ghost use Rattle.model.specs.Calls.{environmentOf, tryLockOf, transactionalOf, acquireBucketOf, releaseAllOf};
 ghost use Rattle.model.specs.Calls.{acquireLocksOf};
 ghost use Rattle.model.specs.Crew.{crewOf, crewAtWorkOf};
+ghost use Rattle.model.specs.Sorted.{acquireSortedOf};
 ghost use Rattle.setpoint.specs.declared.Setpoint.the-variants.{Pressure, Speed, Valve};
 ghost use Rattle.slots.specs.Calls.{prepareBookOf, writeSetpointOf, readSetpointOf};
 ghost use Rattle.wave.specs.Calls.{writeOf, readIntoOf};
@@ -492,6 +493,47 @@ pub extern "C" fn skid_acquire_index_locks(
         next,
     };
     let r = multilock::acquire_index_locks(
+        head,
+        table,
+        health,
+        registry,
+        script,
+        place,
+        held,
+        keys,
+        grants,
+    );
+    *reply = words::played_words(r);
+}
+
+// Keys in any order (document 02, L4), all or none. Each distinct cell is locked once, keys of one cell share its
+// lease; a bad header or bucket is refused before any attempt, and a refusal leaves the grant buffer as it was.
+#[no_mangle]
+pub extern "C" fn skid_acquire_sorted_locks(
+    headers: u32,
+    buckets: u32,
+    next: u32,
+    table: &mut [u32],
+    health: &mut [u8],
+    registry: &[u32],
+    script: &[u32],
+    place: usize,
+    held: &[u32],
+    keys: &[u32],
+    grants: &mut [u32],
+    reply: &mut [u64; 14],
+)
+    ensures { λ _. ⌜ (now (reply .exit), (now (table .exit), (now (health .exit), now (grants .exit))))
+        ≡ told playedWords (acquireSortedOf (headOf headers buckets next) (now (table .entry))
+        (now (health .entry)) (now (registry .entry)) (now (script .entry)) place (now (held .entry))
+        (now (keys .entry)) (now (grants .entry)) .seen) ⌝ }
+{
+    let head = Head {
+        headers,
+        buckets,
+        next,
+    };
+    let r = sorted::acquire_sorted_locks(
         head,
         table,
         health,

@@ -4,16 +4,19 @@ use mathlib.Core.Path.{_≡_, refl, _∙_}
 use mathlib.Core.List.{List, [], _++_}
 use native.Mathlib.Omega.{arith}
 use lib.ListN.{length}
-use Rattle.model.specs.Log.{Made}
+use Rattle.model.specs.Log.{Made, gives}
 use Rattle.model.specs.Arena.{spentTo, serialRemains, stateAt, leasesOf}
 use Rattle.model.specs.Refusals.{first, judge}
 use Rattle.model.specs.Foreign.{flowOf}
 use Rattle.model.specs.Lock.{takeIn, takeOf, attemptLimit, noneYet}
 use Rattle.model.specs.Checks.{countIn, scriptRules, lockRules, bucketRules, releaseRules, locksRules}
 use Rattle.model.specs.Calls.{starting, environmentOf, tryLockOf, transactionalOf, acquireBucketOf, releaseAllOf, acquireLocksOf}
+use Rattle.model.specs.Sorted.{cellsSorted, sortedKeys, firstKey, judgeAt, unplayedAt, sortedLocksOf, acquireSortedOf}
 use Rattle.model.specs.declared.Check.{Check}
 use Rattle.model.specs.declared.Check.the-variants as check
 use Rattle.model.specs.declared.Head.{Head}
+use Rattle.model.specs.declared.KeyCheck.{KeyCheck}
+use Rattle.model.specs.declared.KeyCheck.the-variants as key
 use Rattle.model.specs.declared.Played.{Played}
 use Rattle.model.specs.declared.Refusal.{Refusal}
 use Rattle.model.specs.declared.State.{State}
@@ -26,7 +29,7 @@ use Rattle.history.specs.Items.{perform}
 use Rattle.history.specs.Tests as tests
 use Rattle.history.specs.Events.{older, status-put}
 use Rattle.swaps.specs.Steps.{Step, Shuffled}
-use Rattle.swaps.specs.Scripts.{scriptOf, Unended, Respelled, stretch, onward, environments, try-locks, transactionals, acquire-buckets, releases-all, acquires-locks}
+use Rattle.swaps.specs.Scripts.{scriptOf, Unended, Respelled, stretch, onward, environments, try-locks, transactionals, acquire-buckets, releases-all, acquires-locks, acquires-sorted}
 use Rattle.swaps.specs.Statements.{Calls-rescripted}
 use Rattle.swaps.specs.Fine.{Fine, fine, freed}
 use Rattle.swaps.specs.Boundaries.{Ran, same-length, shuffled-length, OutsideFine, boundary-alike}
@@ -118,6 +121,21 @@ module _ {h : Head} {a b : List ℕ} {Good : Ran → Type 0} (tw : Twins h a b G
       let r = locks-alike tw (leasesOf held) (h .buckets) registry keys grants (countIn keys) 0 [] (starting h place) t g x in
       rw e (judged-two (Seen-alike (Played × (List ℕ × (List ℕ × List ℕ)))) (first (locksRules h t g registry a place held keys grants)) (λ _. refl) (rw r))
 
+  acquire-sorted-alike : (registry held keys grants : List ℕ)
+      → acquireSortedOf h t g registry b place held keys grants .seen ≡ acquireSortedOf h t g registry a place held keys grants .seen
+  unfolding acquireSortedOf sortedLocksOf locksRules
+  acquire-sorted-alike registry held keys grants =
+      let sorted = cellsSorted (h .buckets) registry keys in
+      let r = locks-alike tw (leasesOf held) (h .buckets) registry (sortedKeys (h .buckets) registry keys) grants (length sorted) 0 [] (starting h place) t g x in
+      rw e (judged-two (Seen-alike (Played × (List ℕ × (List ℕ × List ℕ)))) (first (locksRules h t g registry a place held keys grants)) (λ _. refl)
+      (go (firstKey (countIn keys) 0 h registry keys) (rw r)))
+    where
+      go : (k : KeyCheck) → sortedLocksOf h t g registry b place held keys grants .seen ≡ sortedLocksOf h t g registry a place held keys grants .seen
+          → judgeAt k (λ y p. gives (unplayedAt h place y p, (t, (g, grants)))) (sortedLocksOf h t g registry b place held keys grants) .seen
+          ≡ judgeAt k (λ y p. gives (unplayedAt h place y p, (t, (g, grants)))) (sortedLocksOf h t g registry a place held keys grants) .seen
+      go key.Fine q = q
+      go (key.FaultAt y p) q = refl
+
 -- ---- every call with a script
 
 -- what holds of one stretch holds of any number of them, one after the other
@@ -154,4 +172,8 @@ calls-rescript w k l g (releases-all {place = place} {leases = leases} r) =
 calls-rescript w k l g (acquires-locks {place = place} {registry = registry} {held = held} {keys = keys} {grants = grants} r) =
     let e = chained w place (λ (s : List ℕ). acquireLocksOf (w .head) (w .table) (w .health) registry s place held keys grants .seen) (fine w g)
     (λ a b G tw n x. acquire-locks-alike tw n (w .table) (w .health) place x registry held keys grants) r in
+    rw e
+calls-rescript w k l g (acquires-sorted {place = place} {registry = registry} {held = held} {keys = keys} {grants = grants} r) =
+    let e = chained w place (λ (s : List ℕ). acquireSortedOf (w .head) (w .table) (w .health) registry s place held keys grants .seen) (fine w g)
+    (λ a b G tw n x. acquire-sorted-alike tw n (w .table) (w .health) place x registry held keys grants) r in
     rw e

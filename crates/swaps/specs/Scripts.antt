@@ -4,7 +4,7 @@ use mathlib.Core.Path.{_≡_}
 use mathlib.Core.List.{List, [], _∷_, _++_}
 use mathlib.Core.Logic.{_≢_, _⊎_}
 use lib.ListN.{length}
-use Rattle.history.specs.Items.{Call, environment, try-lock, transactional, acquire-bucket, release-all, acquire-locks}
+use Rattle.history.specs.Items.{Call, environment, try-lock, transactional, acquire-bucket, release-all, acquire-locks, acquire-sorted}
 use Rattle.swaps.specs.Steps.{Step, Shuffled}
 
 -- "A script is a lent run of u32, three words a step": the words of a list of steps
@@ -45,3 +45,5 @@ pub data Rescripted : Call → Call → Type 0 where
   releases-all : {a b : List ℕ} {place : ℕ} {leases : List ℕ} → Respelled place a b → Rescripted (release-all a place leases) (release-all b place leases)
   acquires-locks : {a b : List ℕ} {place : ℕ} {registry held keys grants : List ℕ} → Respelled place a b
       → Rescripted (acquire-locks registry a place held keys grants) (acquire-locks registry b place held keys grants)
+  acquires-sorted : {a b : List ℕ} {place : ℕ} {registry held keys grants : List ℕ} → Respelled place a b
+      → Rescripted (acquire-sorted registry a place held keys grants) (acquire-sorted registry b place held keys grants)

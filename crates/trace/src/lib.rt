@@ -1,8 +1,10 @@
 // The bench console. What `trace 1` prints behind a call: which bits of the lent table it changed, as steps.
 use desk::Desk;
+use desk::RAM;
 use desk::verbs::Verb;
 use desk::verbs::calls;
 use desk::within;
+use desk::within_bytes;
 use output::ready;
 use text::Numbers;
 use text::put;
@@ -139,6 +141,32 @@ pub fn steps(
 ) -> usize {
     if traced(desk, verb) {
         return all_steps(lent(desk, verb, got, table), table, before, out, used);
+    }
+    used
+}
+
+// ---- the same for a call of document 02, which is none of the desk's words and gets what the head in force asks for.
+// Its bits are kept in the bytes behind the RAM's.
+
+// How many table words it gets.
+fn lent_to_call(desk: Desk, table: &[u32]) -> usize {
+    let head = desk.head;
+    desk.lent_words(head.headers, head.buckets, table)
+}
+
+// A step of the console, no call of document 01: only its own crates call it.
+pub fn keep_call(desk: Desk, table: &[u32], bytes: &mut [u8]) {
+    if desk.trace {
+        let r = within_bytes(RAM, bytes);
+        keep_bits(lent_to_call(desk, table), table, &mut bytes[r..]);
+    }
+}
+
+// A step of the console, no call of document 01: only its own crates call it.
+pub fn call_steps(desk: Desk, table: &[u32], bytes: &[u8], out: &mut [u8], used: usize) -> usize {
+    if desk.trace {
+        let r = within_bytes(RAM, bytes);
+        return all_steps(lent_to_call(desk, table), table, &bytes[r..], out, used);
     }
     used
 }

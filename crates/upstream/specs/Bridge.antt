@@ -13,6 +13,7 @@ use Rattle.model.specs.Arena.{cellsOf, leaseOf, bitAt, ownerAt, setCell, shapeF
 use Rattle.model.specs.Refusals.{Rule, refusalOf, first}
 use Rattle.model.specs.Lock.{leaseAt, noLease}
 use Rattle.model.specs.Calls.{tryAcquireOf, dropLeaseOf, readPermissionOf, competingAcquireOf, releaseThenHandoffOf, foreignReleaseOf, acquirePreservingOf, dropPreservingOf, environmentOf, tryLockOf, transactionalOf, acquireBucketOf, releaseAllOf, acquireLocksOf}
+use Rattle.model.specs.Sorted.{acquireSortedOf}
 use Rattle.model.specs.Crew.{crewOf, shiftOf, crewAtWorkOf}
 use Rattle.model.specs.declared.Check.{Check}
 use Rattle.model.specs.declared.Check.the-variants.{Fine, Fault}
@@ -23,10 +24,10 @@ use Rattle.laws.specs.Words.{length-set-cell, length-set-waiters, bit-set-waite
 use Rattle.laws.specs.Checks.{first-hit, first-skip}
 use Rattle.history.specs.World as world
 use Rattle.history.specs.World.{World, worldOf, Live, Legal, Lawful, now, Sound, Unreleased}
-use Rattle.history.specs.Items.{Call, Says, perform, try-acquire, drop-lease, read-permission, competing-acquire, release-then-handoff, foreign-release, drop-preserving, acquire-preserving, environment, try-lock, transactional, acquire-bucket, release-all, acquire-locks, crew, crew-at-work, Clear, rules}
+use Rattle.history.specs.Items.{Call, Says, perform, try-acquire, drop-lease, read-permission, competing-acquire, release-then-handoff, foreign-release, drop-preserving, acquire-preserving, environment, try-lock, transactional, acquire-bucket, release-all, acquire-locks, acquire-sorted, crew, crew-at-work, Clear, rules}
 use Rattle.history.specs.Tests.{Status, free as is-free, held as is-held, live, free-words, In, in-index, in-take, same-lease}
 use Rattle.history.specs.Events.{good, lives}
-use Rattle.history.specs.Judged.{clear, steps, unchanged}
+use Rattle.history.specs.Judged.{clear, steps, unchanged, sorted-made}
 use Rattle.upstream.specs.Vocabulary.{Key, Cell, cell, Authority, Leases, next-serial, dom, contains-key, cells, insert, Cells-are, Valid-cell, valid, authorized, Step, Acquire, Release, Observe, step, releases, protected-valid, held-ids, leases-authorized}
 use Rattle.upstream.specs.Protocol.{Trace, ended, first as one}
 
@@ -179,7 +180,7 @@ lawful-trace protected w (e ∷ es) z k u =
 
 pub refused : (w : World) (k : Call) (r : Refusal) → first (rules w k) ≡ Fault r → perform w k ≡ unchanged w k r
 unfolding perform tryAcquireOf dropLeaseOf readPermissionOf competingAcquireOf releaseThenHandoffOf foreignReleaseOf acquirePreservingOf dropPreservingOf
-    environmentOf tryLockOf transactionalOf acquireBucketOf releaseAllOf acquireLocksOf shiftOf crewOf crewAtWorkOf
+    environmentOf tryLockOf transactionalOf acquireBucketOf releaseAllOf acquireLocksOf acquireSortedOf shiftOf crewOf crewAtWorkOf
 refused w (try-acquire c) r e = rw e
 refused w (drop-lease l) r e = rw e
 refused w (read-permission l) r e = rw e
@@ -194,6 +195,7 @@ refused w (transactional registry script place held binding bucket) r e = rw e
 refused w (acquire-bucket registry script place held binding bucket) r e = rw e
 refused w (release-all script place leases) r e = rw e
 refused w (acquire-locks registry script place held keys grants) r e = rw e
+refused w (acquire-sorted registry script place held keys grants) r e = rw e
 refused w (crew counts lists turns) r e = rw e
 refused w (crew-at-work counts lists turns counters) r e = rw e
 
@@ -220,6 +222,7 @@ made w (transactional registry script place held binding bucket) e = simp (e, ap
 made w (acquire-bucket registry script place held binding bucket) e = simp (e, append-nil)
 made w (release-all script place leases) e = simp (e, append-nil)
 made w (acquire-locks registry script place held keys grants) e = simp (e, append-nil)
+made w (acquire-sorted registry script place held keys grants) e = sorted-made w registry script place held keys grants e
 made w (crew counts lists turns) e = simp (e, append-nil)
 made w (crew-at-work counts lists turns counters) e = simp (e, append-nil)
 

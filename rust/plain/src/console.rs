@@ -2,6 +2,7 @@
 
 use crate::book::{self, BookRefusal, Kept, Setpoint};
 use crate::rules::{self, Answer, Counts, CrewReply, Head, Lease, Reason, Reply, ScriptReply};
+use std::fmt::Display;
 use std::io::{self, BufRead, ErrorKind, Write};
 
 /// The longest line that can be understood, in bytes, without its line feed.
@@ -436,12 +437,8 @@ impl Console {
             self.head = reply.head;
             self.place = reply.place;
             self.print(reply.answer, reply.counts, out)?;
-            if call == b"acquire_index_locks" {
-                write!(out, "grants")?;
-                for word in &self.grants {
-                    write!(out, " {word}")?;
-                }
-                writeln!(out)?;
+            if call == b"acquire_index_locks" || call == b"acquire_sorted_locks" {
+                print_list("grants", &self.grants, out)?;
             }
         } else {
             return Ok(false);
@@ -543,6 +540,17 @@ impl Console {
                 &self.keys,
                 &mut self.grants,
             ),
+            (b"acquire_sorted_locks", &[]) => rules::acquire_sorted_locks(
+                head,
+                table,
+                health,
+                registry,
+                script,
+                place,
+                held,
+                &self.keys,
+                &mut self.grants,
+            ),
             _ => return None,
         })
     }
@@ -592,11 +600,7 @@ impl Console {
             &mut self.counters,
         );
         self.print_crew(reply, out)?;
-        write!(out, "counters")?;
-        for counter in &self.counters {
-            write!(out, " {counter}")?;
-        }
-        writeln!(out)
+        print_list("counters", &self.counters, out)
     }
 
     fn print_crew(&mut self, reply: CrewReply, out: &mut impl Write) -> io::Result<()> {
@@ -665,6 +669,15 @@ impl Console {
             counts.dropped
         )
     }
+}
+
+/// A word and every number of a list; an empty one prints its word alone.
+fn print_list(word: &str, numbers: &[impl Display], out: &mut impl Write) -> io::Result<()> {
+    write!(out, "{word}")?;
+    for number in numbers {
+        write!(out, " {number}")?;
+    }
+    writeln!(out)
 }
 
 /// What a call of the book answers that is not refused.
@@ -776,7 +789,7 @@ book N: calls get the first N bytes of the book
 book_byte I V: stores a byte of the book
 registry N..: the header number of each binding
 held CELL SERIAL ..: the held leases
-keys BINDING BUCKET ..: what acquire_index_locks asks for
+keys BINDING BUCKET ..: what acquire_index_locks and acquire_sorted_locks ask for
 leases CELL SERIAL ..: what release_all releases
 turns MEMBER ..: the crew's turns
 script KIND PLACE NUMBER ..: the foreign steps; the place becomes 0
@@ -808,6 +821,7 @@ transactional_try_lock_bucket BINDING BUCKET
 acquire_index_bucket BINDING BUCKET
 release_all
 acquire_index_locks
+acquire_sorted_locks
 crew
 crew_at_work
 prepare_book

@@ -1,5 +1,5 @@
 //! Document 01: the arena, foreign steps, the steps of a lock, the crew, the refusals; with document 02's L1, the
-//! reasons of a Busy, L3, the health that is read after the lock too, and L13, the crew at work.
+//! reasons of a Busy, L3, the health that is read after the lock too, L4, keys in any order, and L13, the crew at work.
 //!
 //! One public function for each call, over lent slices. A call checks what it takes in the order of the table
 //! of refusals, and then runs its steps; no argument makes it panic.
@@ -146,7 +146,7 @@ pub enum Answer {
     Cell(u32),
     Busy(Reason),
     Refused(Refusal),
-    /// Multi-lock's refusals 6 to 11, with the key's position.
+    /// Multi-lock's refusals 6 to 11, with the key's position; in the sorted call the first that asks for that cell.
     RefusedAt(Refusal, u32),
 }
 
@@ -571,9 +571,10 @@ impl<'a> Run<'a> {
         }
     }
 
-    /// Keys in the order given. On a refusal all taken leases are released, last first, a boundary after each.
-    fn acquire_all(&mut self, keys: &[u32]) -> Answer {
-        for (position, key) in keys.chunks_exact(2).enumerate() {
+    /// Keys in the order given, each with its position in the caller's list. On a refusal all taken leases are
+    /// released, last first, a boundary after each.
+    fn acquire_all<'k>(&mut self, keys: impl Iterator<Item = (usize, &'k [u32])>) -> Answer {
+        for (position, key) in keys {
             if let Err(refusal) = self.acquire_bucket(key[0], key[1]) {
                 while self.count > 0 {
                     self.release_last();
@@ -592,6 +593,22 @@ impl<'a> Run<'a> {
             Some(position) => Err(Refusal::BadBinding(position as u32)),
             None => Ok(()),
         }
+    }
+
+    /// The cell of a key whose binding is in the registry, for L4: "BadHeader and InvalidBucket are now also tested in
+    /// this call before any attempt, .. header before bucket".
+    fn resolve(&self, key: &[u32]) -> Result<u32, Refusal> {
+        let Head {
+            headers, buckets, ..
+        } = self.arena.head;
+        let (header, bucket) = (self.registry[key[0] as usize], key[1]);
+        if header >= headers {
+            return Err(Refusal::BadHeader(header));
+        }
+        if bucket >= buckets {
+            return Err(Refusal::InvalidBucket(bucket));
+        }
+        Ok(header * buckets + bucket)
     }
 
     /// Refusals 4, 12 and 14 of `release_all`; the last two together, by position.
@@ -905,6 +922,17 @@ pub fn release_all(
     })
 }
 
+/// Refusal 4 of multi-lock.
+fn check_keys(held: &[u32], keys: &[u32], grants: &[u32]) -> Result<(), Refusal> {
+    if keys.len() % 2 != 0
+        || held.len() / 2 + keys.len() / 2 > MOST_LEASES
+        || grants.len() != keys.len()
+    {
+        return Err(Refusal::TooMany);
+    }
+    Ok(())
+}
+
 /// Multi-lock. On a grant the buffer holds cell and serial for each key, in key order.
 #[allow(clippy::too_many_arguments)]
 pub fn acquire_index_locks(
@@ -923,17 +951,59 @@ pub fn acquire_index_locks(
         let mut run = Run::new(
             head, table, health, registry, script, place, held, &mut taken,
         )?;
-        if keys.len() % 2 != 0
-            || held.len() / 2 + keys.len() / 2 > MOST_LEASES
-            || grants.len() != keys.len()
-        {
-            return Err(Refusal::TooMany);
-        }
+        check_keys(held, keys, grants)?;
         run.check_bindings(keys)?;
-        let answer = run.acquire_all(keys);
+        let answer = run.acquire_all(keys.chunks_exact(2).enumerate());
         if answer == Answer::AllGranted {
             for (grant, lease) in grants.chunks_exact_mut(2).zip(run.taken.iter()) {
                 grant.copy_from_slice(lease);
+            }
+        }
+        Ok(run.reply(answer))
+    })
+}
+
+/// Multi-lock with keys in any order, and doubles (L4). "Resolve the keys, sort by cell .., drop doubles, lock in
+/// rising order, then hand back one lease per key in the caller's order, doubled keys sharing one."
+#[allow(clippy::too_many_arguments)]
+pub fn acquire_sorted_locks(
+    head: Head,
+    table: &mut [u32],
+    health: &mut [u8],
+    registry: &[u32],
+    script: &[u32],
+    place: usize,
+    held: &[u32],
+    keys: &[u32],
+    grants: &mut [u32],
+) -> ScriptReply {
+    let mut taken = [[0; 2]; MOST_LEASES];
+    ScriptReply::of(head, place, || {
+        let mut run = Run::new(
+            head, table, health, registry, script, place, held, &mut taken,
+        )?;
+        check_keys(held, keys, grants)?;
+        run.check_bindings(keys)?;
+        // of each key its cell and its position; sorted, the first position of equal cells comes first
+        let mut asked = [(0, 0); MOST_LEASES];
+        let asked = &mut asked[..keys.len() / 2];
+        for (position, key) in keys.chunks_exact(2).enumerate() {
+            match run.resolve(key) {
+                Ok(cell) => asked[position] = (cell, position),
+                Err(refusal) => return Ok(run.reply(Answer::RefusedAt(refusal, position as u32))),
+            }
+        }
+        asked.sort_unstable();
+        let doubles = || asked.chunk_by(|one, other| one.0 == other.0);
+        let answer = run.acquire_all(doubles().map(|same| {
+            let (_, position) = same[0];
+            (position, &keys[2 * position..][..2])
+        }));
+        if answer == Answer::AllGranted {
+            for (same, lease) in doubles().zip(run.taken.iter()) {
+                for &(_, position) in same {
+                    grants[2 * position..][..2].copy_from_slice(lease);
+                }
             }
         }
         Ok(run.reply(answer))

@@ -1,6 +1,6 @@
 //! The random histories reach every call, and with every call each answer that it can give; the reasons of a Busy, also
-//! where they change between attempts; the two readings of health in all their cases; the book's damages, and its faults
-//! two at a time; the counters of a crew at work; and echo, map and trace in all theirs.
+//! where they change between attempts; the two readings of health in all their cases; keys in any order and doubles; the
+//! book's damages, and its faults two at a time; the counters of a crew at work; and echo, map and trace in all theirs.
 
 use plain::book::{self, BookRefusal};
 use plain::console::{number, Console, Line};
@@ -13,7 +13,7 @@ const CALLS: usize = 10_000;
 
 /// What each call can answer: a Busy by its reason, a setpoint by its kind, the refusals by number, in the order of
 /// document 01's table, and 11 with its reason, or by name, where they have no number.
-const ANSWERS: [(&str, &str); 22] = [
+const ANSWERS: [(&str, &str); 23] = [
     ("prepare", "done 1"),
     ("try_acquire", "granted held 1 8 9 10"),
     ("drop_lease", "done 1 12"),
@@ -41,6 +41,10 @@ const ANSWERS: [(&str, &str); 22] = [
     ("release_all", "done 1 2 4 12 14"),
     (
         "acquire_index_locks",
+        "granted 1 2 3 4 5 6 7 8 9 10 11held 11before 11after",
+    ),
+    (
+        "acquire_sorted_locks",
         "granted 1 2 3 4 5 6 7 8 9 10 11held 11before 11after",
     ),
     ("crew", "crew 1 15"),
@@ -158,7 +162,7 @@ fn change_of_reason(console: &Console, line: &str, out: &str) -> Option<String> 
 #[test]
 fn every_change_of_reason() {
     let mut seen = BTreeSet::new();
-    for seed in [1, 2] {
+    for seed in 1..=6 {
         let mut console = Console::new();
         for line in history(seed).split(|&byte| byte == b'\n') {
             let retrying = line.starts_with(b"acquire_index_");
@@ -658,9 +662,131 @@ fn every_case_of_work() {
     assert_eq!(seen, expected.into());
 }
 
+/// The faults that a sorted call's keys have by themselves, each with the first position that has it.
+fn faults_of_keys(console: &Console) -> [Option<usize>; 3] {
+    let header = |key: &[u32]| console.registry.get(key[0] as usize);
+    let keys = || console.keys.chunks_exact(2);
+    [
+        keys().position(|key| header(key).is_none()),
+        keys().position(|key| header(key).is_some_and(|&header| header >= console.head.headers)),
+        keys().position(|key| key[1] >= console.head.buckets),
+    ]
+}
+
+/// What an `acquire_sorted_locks` met that got past refusal 4. `before` is what it was given.
+fn cases_of_sorted(before: &Console, out: &str) -> Vec<&'static str> {
+    let mut cases = Vec::new();
+    let answer = answer_of(out);
+    let [binding, header, bucket] = faults_of_keys(before);
+    let at = behind(out, "at").map(|at| at as usize);
+    match answer.as_str() {
+        "5" if header.min(bucket) < binding && header.min(bucket).is_some() => {
+            cases.push("5 behind 6 or 8");
+        }
+        "6" if header == bucket => cases.push("6 and 8 of one key"),
+        "6" if bucket.is_some_and(|bucket| Some(bucket) > header) => cases.push("6 before 8"),
+        "8" if header.is_some_and(|header| Some(header) > bucket) => cases.push("8 before 6"),
+        _ => {}
+    }
+    if ["1", "2", "3", "4", "5", "6", "8"].contains(&answer.as_str()) {
+        assert!(
+            out.contains(" attempts 0 boundaries 0 yields 0 dropped 0\n"),
+            "{out}"
+        );
+        return cases;
+    }
+    let keys = before.keys.chunks_exact(2);
+    let cells: Vec<u32> = keys
+        .map(|key| before.registry[key[0] as usize] * before.head.buckets + key[1])
+        .collect();
+    let distinct: BTreeSet<u32> = cells.iter().copied().collect();
+    if let Some(at) = at {
+        assert!(!cells[..at].contains(&cells[at]), "{out}");
+        if cells[at + 1..].contains(&cells[at]) {
+            cases.push("refused at a doubled key");
+        }
+        if distinct.first() != Some(&cells[at]) {
+            cases.push("refused behind a lower cell");
+        }
+        if cells[..at].iter().any(|&cell| cell > cells[at]) {
+            cases.push("refused before a higher cell that stands before it");
+        }
+        return cases;
+    }
+    if cells.len() > distinct.len() {
+        cases.push("doubled keys");
+        let keys: BTreeSet<&[u32]> = before.keys.chunks_exact(2).collect();
+        if keys.len() > distinct.len() {
+            cases.push("a cell by two bindings");
+        }
+    }
+    if cells.len() > 1 && cells.windows(2).all(|two| two[0] > two[1]) {
+        cases.push("falling keys");
+    }
+    if cells.len() > 1 && cells.windows(2).all(|two| two[0] < two[1]) {
+        cases.push("rising keys");
+    }
+    if before.held.len() > 1 {
+        cases.push("leases held");
+    }
+    cases
+}
+
+/// Each answer of the sorted call and each case of its keys, not once but often.
+#[test]
+fn every_case_of_sorted_keys() {
+    let mut seen: BTreeMap<String, usize> = BTreeMap::new();
+    for seed in 1..=6 {
+        let mut console = Console::new();
+        for line in history(seed).split(|&byte| byte == b'\n') {
+            let sorted = line == b"acquire_sorted_locks";
+            let (before, mut out) = (sorted.then(|| console.clone()), Vec::new());
+            console
+                .line(line, &mut out)
+                .expect("a vector takes every byte");
+            if let Some(before) = before {
+                let out = String::from_utf8_lossy(&out);
+                let cases = cases_of_sorted(&before, &out);
+                for case in cases.into_iter().map(String::from).chain([answer_of(&out)]) {
+                    *seen.entry(case).or_default() += 1;
+                }
+            }
+        }
+    }
+    for case in [
+        "granted",
+        "1",
+        "2",
+        "3",
+        "4",
+        "5",
+        "6",
+        "7",
+        "8",
+        "9",
+        "10",
+        "11held",
+        "11before",
+        "5 behind 6 or 8",
+        "6 and 8 of one key",
+        "6 before 8",
+        "8 before 6",
+        "refused at a doubled key",
+        "refused behind a lower cell",
+        "refused before a higher cell that stands before it",
+        "doubled keys",
+        "a cell by two bindings",
+        "falling keys",
+        "rising keys",
+        "leases held",
+    ] {
+        assert!(seen.get(case) >= Some(&20), "{case}: {seen:?}");
+    }
+}
+
 /// What each call can do to bits: kinds of `step` lines that its trace can have. Behind the kind `+` if there can be
 /// several.
-const STEPS: [(&str, &str); 22] = [
+const STEPS: [(&str, &str); 23] = [
     ("prepare", "0 2 2+"),
     ("try_acquire", "0 1"),
     ("drop_lease", "0 2"),
@@ -678,6 +804,7 @@ const STEPS: [(&str, &str); 22] = [
     ("acquire_index_bucket", "0 1 1+ 2 2+"),
     ("release_all", "0 1 1+ 2 2+"),
     ("acquire_index_locks", "0 1 1+ 2 2+"),
+    ("acquire_sorted_locks", "0 1 1+ 2 2+"),
     ("crew", "0 1 1+"),
     ("crew_at_work", "0 1 1+"),
     ("prepare_book", "0"),

@@ -1,5 +1,5 @@
-//! Document 01's bench cases, through the crate `skid`, the crew at work and the setpoint book of document 02, and
-//! edges of the calls. A line for each case; exit 1 if a figure is not the documents'.
+//! Document 01's bench cases, through the crate `skid`, and of document 02 keys in any order, the crew at work and the
+//! setpoint book, and edges of the calls. A line for each case; exit 1 if a figure is not the documents'.
 use skid::{
     Answer, Arena, BookAnswer, BookRefusal, Counts, Head, Key, Lease, Played, Reason, Refusal,
     Reply, Script, Setpoint, Step, LONGEST_BOOK, NO_SERIAL, SLOT_BYTES,
@@ -351,6 +351,101 @@ fn falling_list(b: &mut Bench) {
     with_arena(1, |arena| {
         let reply = arena.crew(&[2, 2], &[2, 5, 5, 2], &[0, 1]);
         b.check("answer", reply.answer, Answer::Refused(Refusal::BadCrew(1)));
+    });
+}
+
+// ---- keys in any order, and doubles
+
+const NINES: Lease = Lease { cell: 9, serial: 9 };
+
+fn keys_of<const N: usize>(keys: [(u32, u32); N]) -> [Key; N] {
+    keys.map(|(binding, bucket)| Key { binding, bucket })
+}
+
+fn leases_of<const N: usize>(leases: [(u32, u32); N]) -> [Lease; N] {
+    leases.map(|(cell, serial)| Lease { cell, serial })
+}
+
+/// These keys with a quiet script, and the grant buffer afterwards.
+fn sorted<const N: usize>(
+    arena: &mut Arena,
+    registry: &[u32],
+    keys: [(u32, u32); N],
+) -> (Played, [Lease; N]) {
+    let mut grants = [NINES; N];
+    let quiet = &mut Script::quiet();
+    let played = arena.acquire_sorted_locks(registry, quiet, &[], &keys_of(keys), &mut grants);
+    (played, grants)
+}
+
+fn doubles(b: &mut Bench) {
+    with_arena(1, |arena| {
+        let (played, grants) = sorted(arena, &REGISTRY, [(1, 0), (2, 0)]);
+        b.check("answer", played.answer, Answer::AllGranted);
+        b.check("grants", grants, leases_of([(4, 1), (4, 1)]));
+        b.check("attempts", played.counts.attempts, 1);
+        b.check("next", played.head.next, 2);
+    });
+    with_arena(1, |arena| {
+        let (played, grants) = sorted(arena, &REGISTRY, [(1, 0), (0, 2), (2, 0)]);
+        b.check("answer", played.answer, Answer::AllGranted);
+        b.check("grants", grants, leases_of([(4, 2), (2, 1), (4, 2)]));
+        b.check("attempts", played.counts.attempts, 2);
+        b.check("boundaries", played.counts.boundaries, 6);
+        let played = arena.release_all(&mut Script::quiet(), &grants);
+        b.check(
+            "answer",
+            played.answer,
+            Answer::Refused(Refusal::Repeated(2)),
+        );
+        let played = arena.release_all(&mut Script::quiet(), &grants[..2]);
+        b.check("answer", played.answer, Answer::Done);
+        b.all_free(arena);
+    });
+}
+
+fn falling_keys(b: &mut Bench) {
+    with_arena(1, |arena| {
+        let (played, grants) = sorted(arena, &REGISTRY, [(1, 1), (0, 3), (0, 0)]);
+        b.check("answer", played.answer, Answer::AllGranted);
+        b.check("grants", grants, leases_of([(5, 3), (3, 2), (0, 1)]));
+        b.check("boundaries", played.counts.boundaries, 9);
+    });
+}
+
+fn refused_keys(b: &mut Bench) {
+    with_arena(1, |arena| {
+        let strangers = [0, 9, 1];
+        let (played, grants) = sorted(arena, &strangers, [(0, 4), (1, 0)]);
+        b.check(
+            "answer",
+            played.answer,
+            Answer::RefusedAt(Refusal::InvalidBucket(4), 0),
+        );
+        b.check("grants", grants, [NINES; 2]);
+        b.check("attempts", played.counts.attempts, 0);
+        let (played, _) = sorted(arena, &strangers, [(2, 0), (1, 7)]);
+        b.check(
+            "answer",
+            played.answer,
+            Answer::RefusedAt(Refusal::BadHeader(9), 1),
+        );
+        let (played, _) = sorted(arena, &strangers, [(0, 4), (1, 0), (3, 0)]);
+        b.check(
+            "answer",
+            played.answer,
+            Answer::Refused(Refusal::BadBinding(2)),
+        );
+        foreign(arena, Step::take(4));
+        let (played, grants) = sorted(arena, &REGISTRY, [(0, 2), (2, 0), (1, 0)]);
+        b.check(
+            "answer",
+            played.answer,
+            Answer::RefusedAt(Refusal::SerializationFailure(Reason::Held(1)), 1),
+        );
+        b.check("grants", grants, [NINES; 3]);
+        b.check("attempts", played.counts.attempts, 4097);
+        b.check("next", played.head.next, 3);
     });
 }
 
@@ -718,15 +813,19 @@ fn main() {
     b.case("crew {2,5},{2,5}, turns 0,1 seven times", crew);
     b.case("crew {2,5},{5,2}", falling_list);
     let cases = b.passed;
+    b.case("keys of one cell share a lease", doubles);
+    b.case("falling keys", falling_keys);
+    b.case("refused keys", refused_keys);
+    let sorts = b.passed - cases;
     b.case("crew {2,5},{2,5} at work, turns 0,1 eleven times", at_work);
     b.case("one cell, and turns that run out", some_work);
     b.case("refused work", refused_work);
-    let works = b.passed - cases;
+    let works = b.passed - cases - sorts;
     b.case("a book read before anybody wrote", never_written);
     b.case("the governor writes", governor_writes);
     b.case("refused writes, in order", refused_writes);
     b.case("the last version", last_version);
-    let books = b.passed - cases - works;
+    let books = b.passed - cases - sorts - works;
     b.case("calls without a script", without_script);
     b.case("calls with a script", with_script);
     b.case("nothing lent", nothing_lent);
@@ -734,8 +833,10 @@ fn main() {
         println!("bench cases in Rust: {} failed", b.failed);
         exit(1);
     }
+    println!("keys in any order in Rust: {sorts} passed");
     println!("crew at work in Rust: {works} passed");
     println!("setpoint book in Rust: {books} passed");
-    println!("edges in Rust: {} passed", b.passed - cases - works - books);
+    let edges = b.passed - cases - sorts - works - books;
+    println!("edges in Rust: {edges} passed");
     println!("bench cases in Rust: {cases} passed");
 }

@@ -1,5 +1,6 @@
-//! The lease layer of the skid kernel: the calls of document 01, the setpoint book ([`Setpoint`]) and the waveform of
-//! the cells ([`wave`]), safe to call.
+//! The lease layer of the skid kernel: the calls of document 01, keys in any order
+//! ([`Arena::acquire_sorted_locks`]), the setpoint book ([`Setpoint`]) and the waveform of the cells ([`wave`]), safe to
+//! call.
 //!
 //! The programs of a pump skid's kernel share one arena of setpoint buckets. Each bucket has a mutex cell. A program
 //! that takes a cell gets a [`Lease`]: the number of the cell, and a serial.
@@ -679,6 +680,56 @@ impl<'a> Arena<'a> {
         grants: &mut [Lease],
     ) -> Played {
         let words = sys::acquire_index_locks(
+            self.head,
+            self.table,
+            self.health,
+            registry,
+            script.steps,
+            script.place,
+            held,
+            keys,
+            grants,
+        );
+        self.played(script, words)
+    }
+
+    /// Multi-lock with keys in any order, and doubles (document 02, L4). Each distinct cell is taken once, in rising
+    /// order, as [`Arena::acquire_index_locks`] takes a key. All granted, and the buffer holds a lease for each key, in
+    /// the caller's order; keys of one cell share one lease, which [`Arena::release_all`] takes once (else
+    /// [`Refusal::Repeated`]).
+    ///
+    /// What [`Arena::acquire_index_locks`] checks comes first, every binding among it. Then, before any attempt and
+    /// position by position, [`Refusal::BadHeader`] and [`Refusal::InvalidBucket`], with all counts 0. A later refusal
+    /// has the first position that asks for its cell. Refused, all taken leases are released, and the buffer is
+    /// unchanged.
+    ///
+    /// Bindings 1 and 2 both name header 1, so two of these three keys are one cell:
+    ///
+    /// ```no_run
+    /// use skid::{Answer, Arena, Key, Lease, Script};
+    ///
+    /// let (mut table, mut health) = ([0u32; 24], [0u8; 2]);
+    /// let mut arena = Arena::prepare(2, 4, 1, &mut table, &mut health).unwrap();
+    /// let keys = [(1, 0), (0, 2), (2, 0)].map(|(binding, bucket)| Key { binding, bucket });
+    /// let mut grants = [Lease::default(); 3];
+    /// let quiet = &mut Script::quiet();
+    /// let played = arena.acquire_sorted_locks(&[0, 1, 1], quiet, &[], &keys, &mut grants);
+    /// assert_eq!(played.answer, Answer::AllGranted);
+    /// assert_eq!(grants[0], Lease { cell: 4, serial: 2 });
+    /// assert_eq!(grants[1], Lease { cell: 2, serial: 1 });
+    /// assert_eq!(grants[2], grants[0]);
+    /// // each lease once
+    /// assert_eq!(arena.release_all(quiet, &grants[..2]).answer, Answer::Done);
+    /// ```
+    pub fn acquire_sorted_locks(
+        &mut self,
+        registry: &[u32],
+        script: &mut Script,
+        held: &[Lease],
+        keys: &[Key],
+        grants: &mut [Lease],
+    ) -> Played {
+        let words = sys::acquire_sorted_locks(
             self.head,
             self.table,
             self.health,

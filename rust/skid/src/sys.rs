@@ -260,6 +260,27 @@ mod raw {
             grants_len: usize,
             reply: *mut [u64; REPLY],
         );
+        pub(super) fn skid_acquire_sorted_locks(
+            headers: u32,
+            buckets: u32,
+            next: u32,
+            table: *mut u32,
+            table_len: usize,
+            health: *mut u8,
+            health_len: usize,
+            registry: *const u32,
+            registry_len: usize,
+            script: *const u32,
+            script_len: usize,
+            place: usize,
+            held: *const u32,
+            held_len: usize,
+            keys: *const u32,
+            keys_len: usize,
+            grants: *mut u32,
+            grants_len: usize,
+            reply: *mut [u64; REPLY],
+        );
         pub(super) fn skid_crew(
             headers: u32,
             buckets: u32,
@@ -803,6 +824,45 @@ pub(crate) fn acquire_index_locks(
     // SAFETY: the pointers and lengths are those of references; see the head of this file.
     unsafe {
         raw::skid_acquire_index_locks(
+            head.headers,
+            head.buckets,
+            head.next,
+            table.as_mut_ptr(),
+            table.len(),
+            health.as_mut_ptr(),
+            health.len(),
+            registry.as_ptr(),
+            registry.len(),
+            script.as_ptr().cast(),
+            3 * script.len(),
+            place,
+            held.as_ptr().cast(),
+            2 * held.len(),
+            keys.as_ptr().cast(),
+            2 * keys.len(),
+            grants.as_mut_ptr().cast(),
+            2 * grants.len(),
+            &mut reply,
+        );
+    }
+    reply
+}
+
+pub(crate) fn acquire_sorted_locks(
+    head: Head,
+    table: &mut [u32],
+    health: &mut [u8],
+    registry: &[u32],
+    script: &[Step],
+    place: usize,
+    held: &[Lease],
+    keys: &[Key],
+    grants: &mut [Lease],
+) -> [u64; REPLY] {
+    let mut reply = [BLANK; REPLY];
+    // SAFETY: the pointers and lengths are those of references; see the head of this file.
+    unsafe {
+        raw::skid_acquire_sorted_locks(
             head.headers,
             head.buckets,
             head.next,

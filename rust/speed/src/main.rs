@@ -296,6 +296,28 @@ impl Case for Locks {
     }
 }
 
+/// `acquire_sorted_locks` of the same 16 keys in falling order, no script, and `release_all` of what it granted.
+/// Serials go on.
+struct Sorted;
+
+impl Case for Sorted {
+    fn desk<S: Side>() -> Desk {
+        let mut desk = Locks::desk::<S>();
+        desk.keys = (0..16).rev().flat_map(|key| [key, 15 - key]).collect();
+        desk
+    }
+
+    #[inline(always)]
+    fn run<S: Side>(desk: &mut Desk, watch: &mut impl Watch) {
+        let desk = desk.hidden();
+        desk.head.next = S::acquire_sorted_locks(desk, |r| {
+            watch.see(r, S::played_words);
+            S::next(r)
+        });
+        S::release_all(desk.hidden(), |r| watch.see(r, S::played_words));
+    }
+}
+
 /// The measured loop, alike for both sides.
 #[inline(never)]
 fn repeat<C: Case, S: Side>(desk: &mut Desk, repeats: u64, watch: &mut impl Watch) {
@@ -362,6 +384,7 @@ fn on<S: Side>(case: &str, how: &[&str]) -> Option<String> {
         "try_lock" => asked::<TryLock, S>(how),
         "bucket" => asked::<Bucket, S>(how),
         "locks" => asked::<Locks, S>(how),
+        "sorted" => asked::<Sorted, S>(how),
         "prepare" => asked::<Prepare, S>(how),
         _ => None,
     }
@@ -382,7 +405,8 @@ fn main() -> ExitCode {
         }
         None => {
             eprintln!("speed proved|plain CASE REPEATS [each], or speed proved|plain CASE time");
-            eprintln!("CASE: refusal script held crew crew_at_work crew-prepare try_lock bucket locks prepare");
+            eprintln!("CASE: refusal script held crew crew_at_work crew-prepare try_lock bucket");
+            eprintln!("      locks sorted prepare");
             ExitCode::from(2)
         }
     }

@@ -163,6 +163,23 @@ impl Side for Plain {
     }
 
     #[inline(always)]
+    fn acquire_sorted_locks<T>(desk: &mut Desk, seen: impl FnOnce(&ScriptReply) -> T) -> T {
+        let head = head_of(desk);
+        let reply = rules::acquire_sorted_locks(
+            head,
+            &mut desk.table,
+            &mut desk.health,
+            &desk.registry,
+            &desk.script,
+            0,
+            &desk.held,
+            &desk.keys,
+            &mut desk.grants,
+        );
+        seen(&reply)
+    }
+
+    #[inline(always)]
     fn release_all<T>(desk: &mut Desk, seen: impl FnOnce(&ScriptReply) -> T) -> T {
         let head = head_of(desk);
         let reply = rules::release_all(

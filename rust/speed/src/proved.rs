@@ -116,6 +116,27 @@ extern "C" {
         grants_len: usize,
         reply: *mut Reply,
     );
+    fn skid_acquire_sorted_locks(
+        headers: u32,
+        buckets: u32,
+        next: u32,
+        table: *mut u32,
+        table_len: usize,
+        health: *mut u8,
+        health_len: usize,
+        registry: *const u32,
+        registry_len: usize,
+        script: *const u32,
+        script_len: usize,
+        place: usize,
+        held: *const u32,
+        held_len: usize,
+        keys: *const u32,
+        keys_len: usize,
+        grants: *mut u32,
+        grants_len: usize,
+        reply: *mut Reply,
+    );
     fn skid_crew(
         headers: u32,
         buckets: u32,
@@ -276,6 +297,35 @@ impl Side for Proved {
         let mut reply = MaybeUninit::uninit();
         unsafe {
             skid_acquire_index_locks(
+                desk.head.headers,
+                desk.head.buckets,
+                desk.head.next,
+                desk.table.as_mut_ptr(),
+                desk.table.len(),
+                desk.health.as_mut_ptr(),
+                desk.health.len(),
+                desk.registry.as_ptr(),
+                desk.registry.len(),
+                desk.script.as_ptr(),
+                desk.script.len(),
+                0,
+                desk.held.as_ptr(),
+                desk.held.len(),
+                desk.keys.as_ptr(),
+                desk.keys.len(),
+                desk.grants.as_mut_ptr(),
+                desk.grants.len(),
+                reply.as_mut_ptr(),
+            );
+            seen(reply.assume_init_ref())
+        }
+    }
+
+    #[inline(always)]
+    fn acquire_sorted_locks<T>(desk: &mut Desk, seen: impl FnOnce(&Reply) -> T) -> T {
+        let mut reply = MaybeUninit::uninit();
+        unsafe {
+            skid_acquire_sorted_locks(
                 desk.head.headers,
                 desk.head.buckets,
                 desk.head.next,

@@ -18,6 +18,7 @@ pub trait Side {
     fn try_lock<T>(desk: &mut Desk, seen: impl FnOnce(&Self::Played) -> T) -> T;
     fn acquire_index_bucket<T>(desk: &mut Desk, seen: impl FnOnce(&Self::Played) -> T) -> T;
     fn acquire_index_locks<T>(desk: &mut Desk, seen: impl FnOnce(&Self::Played) -> T) -> T;
+    fn acquire_sorted_locks<T>(desk: &mut Desk, seen: impl FnOnce(&Self::Played) -> T) -> T;
     /// Of the leases that multi-lock left in its buffer.
     fn release_all<T>(desk: &mut Desk, seen: impl FnOnce(&Self::Played) -> T) -> T;
     fn crew<T>(desk: &mut Desk, seen: impl FnOnce(&Self::Crew) -> T) -> T;

@@ -8,6 +8,8 @@ use plain::book;
 use plain::console::{self, Console, Line};
 use plain::dice::Dice;
 use plain::rules;
+use std::cmp::Reverse;
+use std::collections::BTreeSet;
 use std::io::{self, Write};
 
 fn main() -> io::Result<()> {
@@ -27,7 +29,7 @@ fn main() -> io::Result<()> {
 }
 
 /// Every call but `write_setpoint`, which takes a word too, with the count of its numbers.
-const CALLS: [(&str, usize); 21] = [
+const CALLS: [(&str, usize); 22] = [
     ("prepare", 3),
     ("try_acquire", 1),
     ("drop_lease", 2),
@@ -45,6 +47,7 @@ const CALLS: [(&str, usize); 21] = [
     ("acquire_index_bucket", 2),
     ("release_all", 0),
     ("acquire_index_locks", 0),
+    ("acquire_sorted_locks", 0),
     ("crew", 0),
     ("crew_at_work", 0),
     ("prepare_book", 0),
@@ -70,7 +73,7 @@ const PRESSURES: [u32; 14] = [
 ];
 
 /// Lines that are not understood.
-const BAD_LINES: [&str; 117] = [
+const BAD_LINES: [&str; 120] = [
     " ",
     "\t",
     "\r",
@@ -188,6 +191,9 @@ const BAD_LINES: [&str; 117] = [
     "counter 1 2",
     "crew_at_work 0",
     "crew_at_work ",
+    "acquire_sorted_locks 0",
+    "acquire_sorted_locks ",
+    "acquire_sorted_lock",
 ];
 
 struct Writer {
@@ -746,8 +752,8 @@ impl Writer {
                 ("transactional_try_lock_bucket", _) => {
                     self.write("transactional_try_lock_bucket", &[binding, bucket]);
                 }
-                ("acquire_index_locks", _) => {
-                    self.write_retrying("acquire_index_locks", &[]);
+                (name @ ("acquire_index_locks" | "acquire_sorted_locks"), _) => {
+                    self.write_retrying(name, &[]);
                 }
                 (name, 0) => self.write(name, &[]),
                 (name, 1) => self.write(name, &[cell]),
@@ -1080,7 +1086,87 @@ impl Writer {
         if self.dice.once_in(30) {
             list.push(0);
         }
-        self.write("keys", &list);
+        self.write_keys(&list);
+    }
+
+    /// Keys in any order, many of them doubled, by the same binding or by another of the same header.
+    fn keys_in_any_order(&mut self) {
+        let mut list: Vec<[u32; 2]> = Vec::new();
+        // many keys of few cells
+        let count = match self.dice.below(50) {
+            0 => self.dice.pick(&[63, 64, 65, 100]),
+            _ => self.dice.below(6) + 1,
+        };
+        for _ in 0..count {
+            let key = match self.dice.below(16) {
+                // any key, which may be bad
+                0 => self.key(),
+                1..=4 if !list.is_empty() => self.dice.pick(&list),
+                5..=6 if !list.is_empty() => {
+                    let [binding, bucket] = self.dice.pick(&list);
+                    [self.other_binding(binding), bucket]
+                }
+                _ => self.free_key(),
+            };
+            list.push(key);
+        }
+        match self.dice.below(6) {
+            0 => list.sort_by_key(|&key| self.cell_of(key)),
+            1..=2 => list.sort_by_key(|&key| Reverse(self.cell_of(key))),
+            _ => {}
+        }
+        if self.dice.once_in(2) {
+            list.dedup_by_key(|&mut key| self.cell_of(key));
+        }
+        let mut words = list.concat();
+        if self.dice.once_in(30) {
+            words.push(0);
+        }
+        self.write_keys(&words);
+    }
+
+    /// Keys some of which are bad, by binding, by header or by bucket, in any order.
+    fn bad_keys(&mut self) {
+        let (headers, buckets) = (self.headers(), self.buckets());
+        let mut registry = self.console.registry.clone();
+        if !registry.iter().any(|&header| header >= headers) {
+            registry.truncate(60);
+            registry.push(headers);
+            self.write("registry", &registry);
+        }
+        let bindings = registry.len() as u32;
+        let unknown = registry.iter().position(|&header| header >= headers);
+        let unknown = unknown.map_or(bindings, |binding| binding as u32);
+        let mut list = Vec::new();
+        for _ in 0..self.dice.below(4) + 2 {
+            let [binding, bucket] = self.free_key();
+            list.extend(match self.dice.below(12) {
+                0 => [bindings, bucket],
+                1..=2 => [unknown, bucket],
+                3 => [unknown, buckets],
+                4..=5 => [binding, buckets],
+                _ => [binding, bucket],
+            });
+        }
+        self.write_keys(&list);
+    }
+
+    /// A binding that names the same header, if there is another one.
+    fn other_binding(&mut self, binding: u32) -> u32 {
+        let registry = &self.console.registry;
+        let header = registry.get(binding as usize);
+        let same: Vec<u32> = (0..registry.len() as u32)
+            .filter(|&other| other != binding && registry.get(other as usize) == header)
+            .collect();
+        match same.is_empty() {
+            true => binding,
+            false => self.dice.pick(&same),
+        }
+    }
+
+    /// Keys, and mostly a grant buffer that fits them.
+    fn write_keys(&mut self, list: &[u32]) {
+        self.write("keys", list);
         let words = list.len() as u32;
         let words = match self.dice.below(30) {
             0 => words + 1,
@@ -1243,7 +1329,7 @@ impl Writer {
         }
         let [cell, serial] = self.lease();
         let [binding, bucket] = self.key();
-        match self.dice.below(80) {
+        match self.dice.below(89) {
             0..=3 => self.call_by_cell("try_acquire"),
             4..=7 => self.write("drop_lease", &[cell, serial]),
             8..=9 => self.write("read_permission", &[cell, serial]),
@@ -1279,6 +1365,7 @@ impl Writer {
             64..=67 => self.lock_poisoned(),
             68..=70 => self.lock_waited_for(),
             71..=73 => self.crew_at_work(),
+            74..=82 => self.acquire_sorted(),
             _ => self.book(),
         }
     }
@@ -1319,6 +1406,76 @@ impl Writer {
         if !self.write_retrying("acquire_index_locks", &[]) {
             self.leases();
             self.write("release_all", &[]);
+        }
+    }
+
+    /// Keys in any order, of free cells most of the time, one of which may meet what refuses it.
+    fn acquire_sorted(&mut self) {
+        match self.dice.below(16) {
+            0 => {}
+            1..=3 => self.bad_keys(),
+            _ => self.keys_in_any_order(),
+        }
+        let next = self.next();
+        let cells: Vec<u32> = self.sorted_cells().into_iter().collect();
+        for &cell in &cells {
+            self.heal(cell / self.buckets());
+        }
+        if !cells.is_empty() {
+            self.meet(&cells);
+        }
+        if !self.write_retrying("acquire_sorted_locks", &[]) {
+            self.leases();
+            self.write("release_all", &[]);
+        } else if self.dice.once_in(4) {
+            // as they were handed back: doubled keys share one lease
+            let leases = self.console.grants.clone();
+            self.write("leases", &leases);
+            self.write("release_all", &[]);
+        }
+        // nearly no serial was left for this call
+        if next < u32::MAX - 64 && self.next() >= u32::MAX - 64 {
+            self.write("head", &[self.headers(), self.buckets(), next]);
+        }
+    }
+
+    /// The cells that the keys ask for, rising and each once; of bad keys none.
+    fn sorted_cells(&self) -> BTreeSet<u32> {
+        let keys = self.console.keys.chunks_exact(2);
+        keys.filter_map(|key| self.cell_of([key[0], key[1]]))
+            .collect()
+    }
+
+    /// Damage, poison, waiters, a holder, spent serials, a script: what one of these cells may meet in a sorted call.
+    fn meet(&mut self, cells: &[u32]) {
+        let at = self.dice.below(cells.len());
+        let cell = cells[at];
+        let header = cell / self.buckets();
+        match self.dice.below(36) {
+            0..=1 => {
+                let byte = self.dice.pick(&[1, 1, 2, 255]);
+                self.write("byte", &[header, byte]);
+            }
+            2..=3 => {
+                let bit = self.dice.pick(&[1, 2, u32::MAX]);
+                self.write("word", &[3 * cell, bit]);
+            }
+            4 => self.write("word", &[3 * cell + 2, 1]),
+            5 => self.write("try_acquire", &[cell]),
+            6..=7 => {
+                let serials = self.dice.number(4);
+                self.write(
+                    "head",
+                    &[self.headers(), self.buckets(), u32::MAX - serials],
+                );
+            }
+            8..=11 => self.hostile_script(),
+            12..=13 => {
+                self.heal(header);
+                self.health_script(cell, 3 * at, 1);
+            }
+            14 => self.restless_script(cell),
+            _ => {}
         }
     }
 
@@ -1420,7 +1577,10 @@ impl Writer {
                 self.write("keys", &key);
                 self.write("grants", &[2]);
                 self.restless_script(cell);
-                self.write_restless("acquire_index_locks", &[]);
+                let call = self
+                    .dice
+                    .pick(&["acquire_index_locks", "acquire_sorted_locks"]);
+                self.write_restless(call, &[]);
             }
         }
         if self.dice.once_in(2) {
@@ -1613,13 +1773,17 @@ impl Writer {
                 self.write("book_byte", &[line + byte, value]);
             }
             // kind and number
-            7..=8 => self.write("book_byte", &[body, small]),
+            7..=8 => {
+                let kind = self.dice.pick(&[0, small]);
+                self.write("book_byte", &[body, kind]);
+            }
             9 => {
                 let byte = 1 + self.dice.number(4);
                 let value = self.dice.pick(&[any, small, 127, 128, 255]);
                 self.write("book_byte", &[body + byte, value]);
             }
             10 => {
+                self.write("book_byte", &[body, 1]);
                 self.write("book_byte", &[body + 3, 128]);
                 self.write("book_byte", &[body + 4, 127]);
             }
@@ -1740,6 +1904,10 @@ impl Writer {
         self.write("grants", &[4]);
         self.write("place", &[0]);
         self.write("acquire_index_locks", &[]);
+        self.write("keys", &[0, 1, 0, 0, 0, 1]);
+        self.write("grants", &[6]);
+        self.write("place", &[0]);
+        self.write("acquire_sorted_locks", &[]);
         self.write("show", &[]);
         self.script();
     }

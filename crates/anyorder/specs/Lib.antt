@@ -1,0 +1,11 @@
+pub mod Statements
+pub mod Theorems
+pub mod Callers
+pub mod Examples
+pub mod Keys
+pub mod Runs
+pub mod Granted
+pub mod Refused
+pub mod Healthy
+pub mod Quiet
+pub mod Repeats

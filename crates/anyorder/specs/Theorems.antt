@@ -1,0 +1,63 @@
+-- The statements of `Statements` and `Callers`, each proved of ours; the proofs are in the files behind.
+use Rattle.model.specs.Crew.{crewOf, crewAtWorkOf}
+use Rattle.history.specs.Items.{perform}
+use Rattle.anyorder.specs.Statements.{Shares, Serials-by-cell, Apart-by-cell, Taken-rising, Each-key-live, Sorted-healthy, Keys-first, As-multilock, Sorted-quiet, Later-position, Fourteen}
+use Rattle.anyorder.specs.Callers as callers
+use Rattle.anyorder.specs.Granted as granting
+use Rattle.anyorder.specs.Refused as refusing
+use Rattle.anyorder.specs.Runs as running
+use Rattle.anyorder.specs.Healthy as healthy
+use Rattle.anyorder.specs.Quiet as quiet
+use Rattle.anyorder.specs.Repeats as repeating
+
+-- ---- granted
+
+pub shares : Shares perform
+shares = granting.shares
+
+pub serials-by-cell : Serials-by-cell perform
+serials-by-cell = granting.serials-by-cell
+
+pub apart-by-cell : Apart-by-cell perform
+apart-by-cell = granting.apart-by-cell
+
+pub taken-rising : Taken-rising perform
+taken-rising = granting.taken-rising
+
+pub each-key-live : Each-key-live perform
+each-key-live = granting.each-key-live
+
+pub sorted-healthy : Sorted-healthy perform
+sorted-healthy = healthy.sorted-healthy
+
+pub sorted-quiet : Sorted-quiet perform
+sorted-quiet = quiet.sorted-quiet
+
+-- ---- refused
+
+pub keys-first : Keys-first perform
+keys-first = refusing.keys-first
+
+pub later-position : Later-position perform
+later-position = refusing.later-position
+
+-- ---- as multi-lock
+
+pub as-multilock : As-multilock perform
+as-multilock = running.as-multilock
+
+-- ---- `release_all`
+
+pub fourteen : Fourteen perform
+fourteen = repeating.fourteen
+
+-- ---- demand 3
+
+pub callers-are-crew : callers.Callers-are-crew
+callers-are-crew = callers.callers-are-crew
+
+pub callers-finish : callers.Callers-finish crewOf
+callers-finish = callers.callers-finish
+
+pub callers-finish-at-work : callers.Callers-finish-at-work crewAtWorkOf
+callers-finish-at-work = callers.callers-finish-at-work
