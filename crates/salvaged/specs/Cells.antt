@@ -11,43 +11,14 @@ use borrow.Author.Tests.{eqb-true, leb-true, ltb-true, le-leb, lt-leb, eq-eqb, l
 use Rattle.choice.specs.Choice.{if_then_else_}
 use Rattle.choice.specs.Pick.{both}
 use Rattle.model.specs.Arena.{bitAt, ownerAt, isFree, isHeld, stateOf, stateAt}
-use Rattle.model.specs.Salvage.{keptIn, keptOf, mendedTable, mendedByte, mendedHealth, heldFrom}
+use Rattle.model.specs.Salvage.{keptOf, mendedTable, mendedByte, mendedHealth, heldFrom}
 use Rattle.model.specs.declared.State.{State}
 use Rattle.model.specs.declared.State.the-variants.{Free, Held, Damaged}
 use Rattle.laws.specs.Salvage.{mended-cons}
+use Rattle.history.specs.Salvages.{Mending, keeps, frees, mending}
 use Rattle.history.specs.Tests.{differ, Stands, is-free, is-held, is-damaged, stands, state-held}
 
 -- ---- a cell
-
-kept-sound : (next b o x : ℕ) → (stateOf next b o ≡ Damaged → ⊥) → keptOf next b o x ≡ x
-unfolding keptOf
-kept-sound next b o x n = go (stateOf next b o) n
-  where
-    go : (s : State) → (s ≡ Damaged → ⊥) → keptIn s x ≡ x
-    go Free n = refl
-    go (Held p) n = refl
-    go Damaged n = absurd (n refl)
-
-kept-damaged : (next b o x : ℕ) → stateOf next b o ≡ Damaged → keptOf next b o x ≡ 0
-unfolding keptOf
-kept-damaged next b o x e = rw e
-
--- a cell keeps both words, or is freed
-pub data Mending (next b o : ℕ) : Type 0 where
-  keeps : (stateOf next b o ≡ Damaged → ⊥) → ((x : ℕ) → keptOf next b o x ≡ x) → Mending next b o
-  frees : stateOf next b o ≡ Damaged → ((x : ℕ) → keptOf next b o x ≡ 0) → Mending next b o
-
-pub mending : (next b o : ℕ) → Mending next b o
-mending next b o = go (stateOf next b o) refl
-  where
-    go : (s : State) → stateOf next b o ≡ s → Mending next b o
-    go Free e =
-        let n : stateOf next b o ≡ Damaged → ⊥ = λ d. differ (let q : Free ≡ Damaged = sym e ∙ d in cc) in
-        keeps n (λ x. kept-sound next b o x n)
-    go (Held p) e =
-        let n : stateOf next b o ≡ Damaged → ⊥ = λ d. differ (let q : Held p ≡ Damaged = sym e ∙ d in cc) in
-        keeps n (λ x. kept-sound next b o x n)
-    go Damaged e = frees e (λ x. kept-damaged next b o x e)
 
 kept-free : (next x : ℕ) → keptOf next 0 0 x ≡ x
 unfolding keptOf stateOf isFree

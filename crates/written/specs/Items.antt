@@ -16,8 +16,8 @@ use Rattle.slots.specs.declared.BookRefusal.the-variants.{NeverWritten}
 use Rattle.history.specs.World.{World}
 use Rattle.history.specs.Items.{Item, Course, next-item}
 
--- an item of a history (a call of document 01, a lone foreign step, a preparation of the arena), or a call of the book without the head, the
--- table and the book, which are what the last item left
+-- an item of a history (a call of document 01, a lone foreign step, a preparation or a salvage of the arena), or a call of the book without
+-- the head, the table and the book, which are what the last item left
 pub data BookItem : Type 0 where
   arena-item : Item → BookItem
   prepare-book : BookItem
