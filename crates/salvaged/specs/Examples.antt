@@ -2,6 +2,7 @@
 use Prim.Native.Nat.{ℕ, zero, suc, _+_}
 use mathlib.Core.Path.{_≡_, refl, sym, subst}
 use mathlib.Core.List.{List, [], _∷_, _++_}
+use mathlib.Core.Bool.{false}
 use native.Mathlib.Omega.{arith}
 use lib.ListN.{getD, take, replicate}
 use Rattle.model.specs.Log.{Event, by-caller, attempt-begun, took, released}
@@ -15,14 +16,14 @@ use Rattle.model.specs.declared.Answer.the-variants as answer
 use Rattle.model.specs.declared.Head.{Head}
 use Rattle.model.specs.declared.Refusal.the-variants.{NotHeld}
 use Rattle.model.specs.declared.SalvageAnswer.the-variants.{Done, ReportFull}
-use Rattle.history.specs.World.{World, worldOf, cells, Live, Free, Apart, Sound, now, bits, number-of, takes, releases}
+use Rattle.history.specs.World.{World, worldOf, cells, Live, Free, Apart, Sound, now, Spent, bits, number-of, takes, releases}
 use Rattle.history.specs.Items.{drop-lease, try-acquire, perform, Item, call, preparation, salvage, salvage-over, says, saying, Entry, entryOf, Course, courseOf, cold, history-of, preparing, salvaging, next-item, run}
-use Rattle.history.specs.Statements.{answers, leaves, rescued, No-start}
+use Rattle.history.specs.Statements.{answers, leaves, rescued, Begins, No-start}
 use Rattle.history.specs.Tests.{differ}
 use Rattle.history.specs.Events.{lives}
 use Rattle.history.specs.Callers.{Shape-fits}
-use Rattle.salvaged.specs.Statements.{answerIn, tableIn, healthIn, reportIn, listIn, No-room, undoneOf, Mends, Owners-differ, Salvages, other}
-use Rattle.salvaged.specs.Theorems.{report-full-exactly, rebuilds, mended, twice, apart-exactly, doubled-apart, counts-from-salvage, dead-stays-dead, apart-from-there, live-over-salvage}
+use Rattle.salvaged.specs.Statements.{answerIn, tableIn, healthIn, reportIn, listIn, No-room, undoneOf, Mends, Owners-differ, Salvages, other, All-spare}
+use Rattle.salvaged.specs.Theorems.{report-full-exactly, rebuilds, mended, twice, apart-exactly, doubled-apart, counts-from-salvage, dead-stays-dead, dead-over-salvages, apart-from-there, live-over-salvage}
 
 -- one header of three cells, the next serial 9
 abbrev paper : Head
@@ -234,3 +235,41 @@ lives-then = (refl, refl)
 
 pub lives-on-then : Live (next-item went-on (salvage (headOf 1 3 4) [] (77 ∷ [])) .world) (leaseOf 2 3)
 lives-on-then = live-over-salvage went-on [] (77 ∷ []) (leaseOf 2 3) (0, 1, lives-then .0) .1 (lives-then .1)
+
+-- `dead-over-salvages`: that salvage, and cell 0 taken; serial 2 is dead
+abbrev more : List Item
+more = salvage (headOf 1 3 4) [] (77 ∷ []) ∷ call (try-acquire 0) ∷ []
+
+abbrev whole-day : List Item
+whole-day = call (try-acquire 0) ∷ call (try-acquire 2) ∷ rescue ∷ afterwards
+
+day-is : run (cold rubbish) (boot ∷ whole-day) ≡ went-on
+unfolding run
+day-is = story .goes-on
+
+starts-day : Begins rubbish boot
+unfolding preparing prepareOf prepareRules first headFits shapeFits healthFits
+starts-day = refl
+
+still-lost : (c : ℕ) → Live (went-on .world) (leaseOf c 2) → ⊥
+unfolding bitAt ownerAt isFree isHeld stateOf stateAt isLive
+still-lost zero v = differ v
+still-lost (suc zero) v = differ v
+still-lost (suc (suc zero)) v = differ v
+still-lost (suc (suc (suc c))) v = omega (arith, lives (went-on .world) (leaseOf (suc (suc (suc c))) 2) v .in-range)
+
+pub dead-over-then : Spent (run went-on more .world) 2
+dead-over-then =
+    subst (λ (k : Course). (s : ℕ) (items : List Item) → Spent (k .world) s → All-spare s k items → Spent (run k items .world) s) day-is
+    (dead-over-salvages rubbish boot whole-day starts-day) 2 more (record { was-issued = omega arith; owns-none = still-lost }) (omega arith, (tt, tt))
+
+-- and what it does not say: one cell, free, serial 1 dead. A dip writes 1 and 1 into its bit and owner, and a salvage of what it left keeps them:
+-- serial 1 owns again, and no preparation stands between
+abbrev one-free : World
+one-free = worldOf (headOf 1 1 2) (0 ∷ 0 ∷ 0 ∷ []) (0 ∷ [])
+
+pub revived : (next-item (cold one-free) (salvage (headOf 1 1 2) [] []) ≡ cold one-free)
+    × (isLive 2 1 (one-free .table) (leaseOf 0 1) ≡ false)
+    × Live (next-item (cold one-free) (salvage-over (headOf 1 1 2) (1 ∷ 1 ∷ 0 ∷ []) (0 ∷ []) [] (77 ∷ [])) .world) (leaseOf 0 1)
+unfolding next-item salvaging bitAt ownerAt isFree isHeld stateOf stateAt isLive headFits shapeFits healthFits first prepareRules keptOf mendedCell mendedTable mendedByte mendedHealth changeOf changesFrom changesOf heldFrom leftHeld overOf isReportFull mendOf goOverOf salvageOf
+revived = (refl, refl, refl)

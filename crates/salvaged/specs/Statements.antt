@@ -15,9 +15,9 @@ use Rattle.model.specs.declared.SalvageAnswer.the-variants.{Done, BadShape, Rep
 use Rattle.model.specs.declared.State.the-variants as state
 use Rattle.model.specs.Log.{Event}
 use Rattle.model.specs.declared.Lease.{Lease}
-use Rattle.history.specs.World.{World, worldOf, cells, Free, Live, Apart, Sound, now, bits, number-of, takes, releases}
-use Rattle.history.specs.Items.{drop-lease, Item, salvage, salvage-over, Course, history-of, next-item, run}
-use Rattle.history.specs.Statements.{answers, leaves, rescued, Begins, No-start}
+use Rattle.history.specs.World.{World, worldOf, cells, Free, Live, Apart, Sound, now, Spent, bits, number-of, takes, releases}
+use Rattle.history.specs.Items.{drop-lease, Item, call, foreign-step, preparation, preparation-over, salvage, salvage-over, Course, history-of, next-item, run}
+use Rattle.history.specs.Statements.{answers, leaves, rescued, Begins, No-start, Through}
 use Rattle.history.specs.Callers.{Shape-fits}
 use Rattle.laws.specs.Salvage.{differing}
 
@@ -242,6 +242,25 @@ Dead-stays-dead =
     (s : ℕ) → s < h .next → ((c : ℕ) → Live (rescued h t g report list) (leaseOf c s) → ⊥)
     → (before after : List Event) → history-of d ≡ before ++ after
     → (c : ℕ) → Live (now (rescued h t g report list) before) (leaseOf c s) → ⊥)
+
+-- "up to the next preparation": the item is no preparation that is done, and a salvage only of the arena's own runs, with the serial below the
+-- next one on its paper. A dip in between may write a dead serial into a cell, and a salvage of what it left keeps it there (`Examples.revived`)
+abbrev pub Spares : ℕ → World → Item → Type 0
+Spares s w (call c) = Unit {0}
+Spares s w (foreign-step kind place number) = Unit {0}
+Spares s w (preparation headers buckets serial) = Begins w (preparation headers buckets serial) → ⊥
+Spares s w (preparation-over headers buckets serial t g) = Begins w (preparation-over headers buckets serial t g) → ⊥
+Spares s w (salvage h report list) = s < h .next
+Spares s w (salvage-over h t g report list) = Begins w (salvage-over h t g report list) → ⊥
+
+abbrev pub All-spare : ℕ → Course → List Item → Type 0
+All-spare s k [] = Unit {0}
+All-spare s k (i ∷ is) = Spares s (k .world) i × All-spare s (next-item k i) is
+
+-- over such items a dead serial stays dead, from any point of any history, through further salvages
+abbrev pub Dead-over-salvages : Type 0
+Dead-over-salvages =
+    Through (λ k. (s : ℕ) (items : List Item) → Spent (k .world) s → All-spare s k items → Spent (run k items .world) s)
 
 -- at every point no serial owns two cells, exactly if the owners of the listed cells are pairwise different
 abbrev pub Apart-from-there : Type 0

@@ -22,22 +22,21 @@ use Rattle.model.specs.declared.Head.{Head}
 use Rattle.model.specs.declared.Lease.{Lease}
 use Rattle.model.specs.declared.SalvageAnswer.{SalvageAnswer}
 use Rattle.model.specs.declared.SalvageAnswer.the-variants.{Done, BadShape, ReportFull}
-use Rattle.model.specs.declared.State.the-variants as state
 use Rattle.laws.specs.Shape.{Shaped, shaped}
 use Rattle.laws.specs.Words.{state-freed}
-use Rattle.history.specs.World.{World, worldOf, cells, Live, Free, Apart, Sound, Spent, step, now, bits}
-use Rattle.history.specs.Items.{perform, drop-lease, Says, says, Item, Course, cold, history-of, salvaged-by, salvaging, next-item, run}
-use Rattle.history.specs.Statements.{leaves, rescued, Begins, No-start, Ledger}
+use Rattle.history.specs.World.{World, worldOf, cells, Live, Free, Apart, Sound, step, now}
+use Rattle.history.specs.Items.{perform, drop-lease, Says, says, history-of, run}
+use Rattle.history.specs.Statements.{leaves, rescued}
 use Rattle.history.specs.Callers.{Shape-fits}
-use Rattle.history.specs.Tests.{differ, state-held, Alive, alive, live}
-use Rattle.history.specs.Events.{Fit, keep-step}
-use Rattle.history.specs.Salvages.{Came, bad, full, done, came, Stands-now, inside, came-state, now-whole, now-owned, now-freed, now-kept}
-use Rattle.history.specs.Courses.{begun, run-stretch, ledger, origin-kept}
+use Rattle.history.specs.Tests.{differ, state-held, alive, live}
+use Rattle.history.specs.Events.{Fit, fit, keep-step}
+use Rattle.history.specs.Salvages.{Came, bad, full, done, came, inside, now-whole, now-owned, now-freed, now-kept}
 use Rattle.laws.specs.Salvage.{length-mended, length-mended-health, waiters-mended}
-use Rattle.salvaged.specs.Statements.{answerIn, tableIn, healthIn, listIn, fits, No-room, Bad-shape-exactly, Report-full-exactly, placeIn, oldIn, newIn, Reports, Report-is, Places-are, undone, undoneOf, Rebuilds, Lists, Held-in, Unconfirmed-is, Mends, Mended, Twice, Owners-differ, Apart-exactly, Doubled-apart, Salvages, own, other, Held-at-start, Counts-from-salvage, Dead-stays-dead, Apart-from-there, Live-over-salvage}
+use Rattle.salvaged.specs.Statements.{answerIn, tableIn, healthIn, listIn, fits, No-room, Bad-shape-exactly, Report-full-exactly, placeIn, oldIn, newIn, Reports, Report-is, Places-are, undone, undoneOf, Rebuilds, Lists, Held-in, Unconfirmed-is, Mends, Mended, Twice, Owners-differ, Apart-exactly, Doubled-apart, other, Held-at-start, Counts-from-salvage, Dead-stays-dead, Dead-over-salvages, Apart-from-there, Live-over-salvage}
 use Rattle.salvaged.specs.Report.{Lines, lines, told, listed, rising, undone-is, changes-none}
-use Rattle.salvaged.specs.Cells.{table-again, byte-kept, byte-mended, byte-few, health-twice, byte-in, holds-state, holding, state-holds, Picks, picks, pick-held, pick-listed, pick-rising, left-bits}
+use Rattle.salvaged.specs.Cells.{table-again, byte-kept, byte-mended, byte-few, health-twice, byte-in, holds-state, holding, state-holds, Picks, picks, pick-held, pick-listed, pick-rising}
 use Rattle.salvaged.specs.Came.{words-are, was-done, changes-are}
+use Rattle.salvaged.specs.Onward as onward
 
 -- ---- refusals
 
@@ -360,64 +359,19 @@ doubled-apart w c d s f n p q =
 -- ---- histories that go on from a salvage
 
 pub held-at-start : Held-at-start
-held-at-start h t g report list e n d =
-    let w = was-done h t g report list e n d in
-    rw (w .table-is) (sym (left-bits (h .next) (cellsOf h) t (now-whole h t (w .shape))) ∙ sym (w .cells))
-
--- the head is handed back as it was given
-head-given : (h : Head) (t g report list : List ℕ) → salvageOf h t g report list .0 .head ≡ h
-head-given h t g report list = go (came h t g report list)
-  where
-    go : Came h t g report list → salvageOf h t g report list .0 .head ≡ h
-    go (bad f p) = ap (λ (m : Salvage). m .0 .head) p
-    go (full f i p) = ap (λ (m : Salvage). m .0 .head) p
-    go (done f i p) = ap (λ (m : Salvage). m .0 .head) p
-
--- the item is a start, and the stretch begins in the salvaged world
-starts : {w : World} {i : Item} {h : Head} {t g report list : List ℕ} {e n : ℕ} → Salvages w i h t g report list
-    → answerIn (salvageOf h t g report list) ≡ Done e n → Begins w i
-unfolding salvaging
-starts {e = e} {n = n} (own h report list) d = (e, n, d)
-starts {e = e} {n = n} (other h t g report list) d = (e, n, d)
-
-starts-in : (k : Course) {i : Item} {h : Head} {t g report list : List ℕ} {e n : ℕ} → Salvages (k .world) i h t g report list
-    → answerIn (salvageOf h t g report list) ≡ Done e n → next-item k i ≡ cold (rescued h t g report list)
-unfolding next-item salvaging
-starts-in k (own h report list) d =
-    let m = salvageOf h (k .world .table) (k .world .health) report list in
-    ap (λ (a : SalvageAnswer). salvaged-by a (worldOf (m .0 .head) (tableIn m) (healthIn m)) (worldOf (k .world .head) (tableIn m) (healthIn m)) k) d
-    ∙ ap (λ (x : Head). cold (worldOf x (tableIn m) (healthIn m))) (head-given h (k .world .table) (k .world .health) report list)
-starts-in k (other h t g report list) d =
-    let m = salvageOf h t g report list in
-    ap (λ (a : SalvageAnswer). salvaged-by a (worldOf (m .0 .head) (tableIn m) (healthIn m)) (k .world) k) d
-    ∙ ap (λ (x : Head). cold (worldOf x (tableIn m) (healthIn m))) (head-given h t g report list)
-
-module _ (k : Course) (i : Item) (h : Head) (t g report list : List ℕ) (e n : ℕ) (items : List Item)
-    (x : Salvages (k .world) i h t g report list) (d : answerIn (salvageOf h t g report list) ≡ Done e n) (on : No-start (next-item k i) items) where
-  abbrev end : Course
-  end = run k (i ∷ items)
-
-  begins-there : end .origin ≡ rescued h t g report list
-  unfolding run
-  begins-there = origin-kept (next-item k i) items on ∙ ap (λ (c : Course). c .origin) (starts-in k x d)
-
-  kept : Ledger end
-  unfolding run
-  kept = ledger end (run-stretch (next-item k i) items (begun k i (starts x d)))
+held-at-start = onward.held-at-start
 
 pub counts-from-salvage : Counts-from-salvage
-counts-from-salvage k i h t g report list e n items x d on =
-    let o = begins-there k i h t g report list e n items x d on in
-    let l = kept k i h t g report list e n items x d on in
-    (omega (arith, l .issued, ap (λ (w : World). w .head .next) o), omega (arith, l .counted, ap (λ (w : World). bits (cells w) (w .table)) o, held-at-start h t g report list e n d))
+counts-from-salvage = onward.counts-from-salvage
 
 pub dead-stays-dead : Dead-stays-dead
-dead-stays-dead k i h t g report list e n items x d on s low none before after p c v =
-    let o = begins-there k i h t g report list e n items x d on in
-    let l = kept k i h t g report list e n items x d on in
-    let dead : Spent (rescued h t g report list) s = record { was-issued = low; owns-none = none } in
-    l .never s [] before after p (subst (λ (w : World). Spent w s) (sym o) dead) .owns-none c
-    (subst (λ (w : World). Live (now w before) (leaseOf c s)) (sym o) v)
+dead-stays-dead = onward.dead-stays-dead
+
+pub dead-over-salvages : Dead-over-salvages
+dead-over-salvages = onward.dead-over-salvages
+
+pub live-over-salvage : Live-over-salvage
+live-over-salvage = onward.live-over-salvage
 
 pub apart-from-there : Apart-from-there
 apart-from-there k i h t g report list e n items x d on = (there, back)
@@ -436,52 +390,9 @@ apart-from-there k i h t g report list e n items x d on = (there, back)
 
     back : Owners-differ (tableIn m) (listIn m) n → Always-apart
     back q before after p =
-        let o = begins-there k i h t g report list e n items x d on in
+        let o = onward.begins-there k i h t g report list e n items x d on in
         let a : Apart (rescued h t g report list) = apart-of h (tableIn m) (healthIn m) (listIn m) list n l q in
-        subst (λ (w : World). Apart (now w before)) o (kept k i h t g report list e n items x d on .apart (subst Apart (sym o) a) before after p)
-
--- a lease by the words of its cell: mended, they are the same, or were damaged and are zeros
-module _ (h : Head) (t : List ℕ) (s : Shaped h (length t)) (l : Lease) where
-  abbrev after : List ℕ
-  after = mendedTable (h .next) t
-
-  lived : isLive (h .next) (cellsOf h) after l ≡ true → isLive (h .next) (cellsOf h) t l ≡ true
-  lived v = let a = alive (h .next) (cellsOf h) after l v in go a (came-state h t s (l .cell) (a .in-range))
-    where
-      go : (a : Alive (h .next) (cellsOf h) after l) → Stands-now h t s (l .cell) (a .in-range) → isLive (h .next) (cellsOf h) t l ≡ true
-      go a (inl x) =
-          live (h .next) (cellsOf h) t l
-          (record { in-range = a .in-range; bit-is = sym (x .1) ∙ a .bit-is; owner-is = sym (x .2) ∙ a .owner-is; low = a .low; high = a .high })
-      go a (inr x) = absurd (omega (arith, x .1, a .bit-is))
-
-  lives-on : isLive (h .next) (cellsOf h) t l ≡ true → isLive (h .next) (cellsOf h) after l ≡ true
-  lives-on v =
-      let a = alive (h .next) (cellsOf h) t l v in
-      let q = now-kept h t s (l .cell) (a .in-range) (was-held a) in
-      live (h .next) (cellsOf h) after l
-      (record { in-range = a .in-range; bit-is = q .0 ∙ a .bit-is; owner-is = q .1 ∙ a .owner-is; low = a .low; high = a .high })
-    where
-      was-held : Alive (h .next) (cellsOf h) t l → stateAt (h .next) t (l .cell) ≡ state.Damaged → ⊥
-      was-held a z =
-          let y = held-live h t (l .cell) (l .serial) v .1 in
-          differ (let q : state.Held (ownerAt t (l .cell)) ≡ state.Damaged = sym y ∙ z in cc)
-
-pub live-over-salvage : Live-over-salvage
-unfolding salvaging
-live-over-salvage k report list l b =
-    let w = k .world in
-    let h = w .head in
-    let m = salvageOf h (w .table) (w .health) report list in
-    let done-so : answerIn m ≡ Done (b .0) (b .1) = b .2 in
-    let s = was-done h (w .table) (w .health) report list (b .0) (b .1) done-so in
-    let q = ap (λ (c : Course). c .world) (starts-in k (own h report list) done-so) in (
-      λ v.
-          lived h (w .table) (s .shape) l
-          (subst (λ (u : List ℕ). isLive (h .next) (cellsOf h) u l ≡ true) (s .table-is) (subst (λ (x : World). Live x l) q v)),
-      λ v.
-          subst (λ (x : World). Live x l) (sym q)
-          (subst (λ (u : List ℕ). isLive (h .next) (cellsOf h) u l ≡ true) (sym (s .table-is)) (lives-on h (w .table) (s .shape) l v)),
-    )
+        subst (λ (w : World). Apart (now w before)) o (onward.kept k i h t g report list e n items x d on .apart (subst Apart (sym o) a) before after p)
 
 -- ---- two replies that meet `salvage`'s promise are equal, with every lent word
 

@@ -114,8 +114,8 @@ told (the p) n = Setting p n
 
 -- ---- premises
 
--- after every item the head in force has n slots. Preparations of the arena are among the items: a done one keeps to it if H x B gives the
--- same number, at most 64; a refused one always does, as does every call
+-- after every item the head in force has n slots. Preparations and salvages of the arena are among the items: a done one keeps to it if H x B
+-- gives the same number, at most 64; a refused one always does, as does every call
 abbrev pub Same-slots : ℕ → Shift → List BookItem → Type 0
 Same-slots n s [] = Unit {0}
 Same-slots n s (i ∷ is) = (slots-in (next-shift s i) ≡ n) × Same-slots n (next-shift s i) is
