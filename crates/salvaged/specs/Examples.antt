@@ -5,7 +5,7 @@ use mathlib.Core.List.{List, [], _∷_, _++_}
 use mathlib.Core.Bool.{false}
 use native.Mathlib.Omega.{arith}
 use lib.ListN.{getD, take, replicate}
-use Rattle.model.specs.Log.{Event, by-caller, attempt-begun, took, released}
+use Rattle.model.specs.Log.{Actor, Event, by-caller, attempt-begun, took, released}
 use Rattle.model.specs.Arena.{headOf, leaseOf, bitAt, ownerAt, setCell, isFree, isHeld, stateOf, stateAt, isLive, headFits, shapeFits, healthFits}
 use Rattle.model.specs.Refusals.{first}
 use Rattle.model.specs.Lock.{takeOf}
@@ -23,7 +23,7 @@ use Rattle.history.specs.Tests.{differ}
 use Rattle.history.specs.Events.{lives}
 use Rattle.history.specs.Callers.{Shape-fits}
 use Rattle.salvaged.specs.Statements.{answerIn, tableIn, healthIn, reportIn, listIn, No-room, undoneOf, Mends, Owners-differ, Salvages, other, All-spare}
-use Rattle.salvaged.specs.Theorems.{report-full-exactly, rebuilds, mended, twice, apart-exactly, doubled-apart, counts-from-salvage, dead-stays-dead, dead-over-salvages, apart-from-there, live-over-salvage}
+use Rattle.salvaged.specs.Theorems.{report-full-exactly, rebuilds, mended, twice, apart-exactly, doubled-apart, counts-from-salvage, dead-stays-dead, dead-over-salvages, apart-from-there, unconfirmed-alone, live-over-salvage}
 
 -- one header of three cells, the next serial 9
 abbrev paper : Head
@@ -176,6 +176,7 @@ pub record Story : Type 0 where
   pub is-listed : listIn went-over ≡ 0 ∷ 77 ∷ []
   pub begins-anew : next-item before-dip rescue ≡ cold salvaged-world
   pub is-rescued : rescued on-paper after-dip (0 ∷ []) (replicate 9 77) (replicate 2 77) ≡ salvaged-world
+  pub lives-after : Live salvaged-world (leaseOf 0 1)
   pub goes-on : run before-dip (rescue ∷ afterwards) ≡ went-on
 
 pub story : Story
@@ -187,6 +188,7 @@ story =
       is-listed = refl;
       begins-anew = refl;
       is-rescued = refl;
+      lives-after = refl;
       goes-on = refl;
     }
 
@@ -226,6 +228,20 @@ apart-then =
     subst (λ (w : World). (before after : List Event) → history-of end ≡ before ++ after → Apart (now w before)) (story .is-rescued)
     (apart-from-there before-dip rescue on-paper after-dip (0 ∷ []) (replicate 9 77) (replicate 2 77) 3 1 afterwards is-salvage (story .is-done) no-start .1
     (λ j k a b e. omega arith))
+
+-- `unconfirmed-alone`: cell 0 is Busy, its lease is dropped, and then it is granted
+abbrev valve : List Item
+valve = call (try-acquire 0) ∷ call (drop-lease (leaseOf 0 1)) ∷ call (try-acquire 0) ∷ []
+
+valve-is : history-of (run before-dip (rescue ∷ valve)) ≡ (attempt-begun ∷ released by-caller 0 1 ∷ attempt-begun ∷ []) ++ (took by-caller 0 3 ∷ [])
+unfolding run next-item preparing salvaging perform bitAt ownerAt setCell isFree isHeld stateOf stateAt isLive headFits shapeFits healthFits first prepareRules cellRules leaseRules prepareOf acquireOf takeOf tryAcquireOf dropLeaseOf keptOf mendedCell mendedTable mendedByte mendedHealth changeOf changesFrom changesOf heldFrom leftHeld overOf isReportFull mendOf goOverOf salvageOf
+valve-is = refl
+
+pub valve-released : (a : Actor) × (before middle : List Event)
+    × (attempt-begun ∷ released by-caller 0 1 ∷ attempt-begun ∷ [] ≡ before ++ (released a 0 1 ∷ middle))
+valve-released =
+    unconfirmed-alone before-dip rescue on-paper after-dip (0 ∷ []) (replicate 9 77) (replicate 2 77) 3 1 valve is-salvage (story .is-done) (λ z. z, (λ z. z, (λ z. z, tt)))
+    0 1 3 by-caller (attempt-begun ∷ released by-caller 0 1 ∷ attempt-begun ∷ []) [] (subst (λ (w : World). Live w (leaseOf 0 1)) (sym (story .is-rescued)) (story .lives-after)) valve-is
 
 -- `live-over-salvage`: a salvage with the head in force, over the arena's own runs, keeps the lease of cell 2
 pub lives-then : (salvaging (headOf 1 3 4) (went-on .world .table) (went-on .world .health) [] (77 ∷ []) .0 ≡ Done 0 1)

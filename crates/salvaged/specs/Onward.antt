@@ -1,6 +1,6 @@
 -- Histories that go on from a salvage: where they begin, what is counted, and who is live or dead.
 use Prim.Native.Nat.{ℕ, _<_}
-use mathlib.Core.Path.{_≡_, sym, ap, _∙_, subst}
+use mathlib.Core.Path.{_≡_, refl, sym, ap, _∙_, subst}
 use mathlib.Core.List.{List, [], _∷_}
 use mathlib.Core.Bool.{true}
 use mathlib.Core.Logic.{inl, inr}
@@ -15,18 +15,19 @@ use Rattle.model.specs.declared.SalvageAnswer.{SalvageAnswer}
 use Rattle.model.specs.declared.SalvageAnswer.the-variants.{Done, BadShape, ReportFull}
 use Rattle.model.specs.declared.State.the-variants as state
 use Rattle.laws.specs.Shape.{Shaped}
-use Rattle.history.specs.World.{World, worldOf, cells, Live, Spent, now, bits}
+use Rattle.history.specs.World.{World, worldOf, cells, Live, Spent, now, Lawful, bits}
 use Rattle.history.specs.Items.{Item, call, foreign-step, preparation, preparation-over, salvage, salvage-over, Course, cold, history-of, salvaged-by, salvaging, next-item, run}
 use Rattle.history.specs.Statements.{rescued, Begins, No-start, Ledger}
 use Rattle.history.specs.Tests.{differ, state-held, Alive, alive, live}
-use Rattle.history.specs.Events.{Fit, fit}
+use Rattle.history.specs.Events.{Fit, fit, good}
+use Rattle.history.specs.Writers.{parted}
 use Rattle.history.specs.Logs.{Kept, fit-now, spent-now}
 use Rattle.history.specs.Calls.{call-kept}
 use Rattle.history.specs.Salvages.{Came, bad, full, done, came, Stands-now, came-state, now-whole, now-kept}
 use Rattle.history.specs.Courses.{Stretch, foreign-kept, begun, run-stretch, ledger, origin-kept, not-prepared, not-salvaged, refused-stays, salvage-refused-stays}
-use Rattle.salvaged.specs.Statements.{answerIn, tableIn, healthIn, Salvages, own, other, Held-at-start, Counts-from-salvage, Dead-stays-dead, Spares, All-spare, Dead-over-salvages, Live-over-salvage}
+use Rattle.salvaged.specs.Statements.{answerIn, tableIn, healthIn, Salvages, own, other, Held-at-start, Counts-from-salvage, Dead-stays-dead, Spares, All-spare, Dead-over-salvages, Unconfirmed-alone, Live-over-salvage}
 use Rattle.salvaged.specs.Cells.{left-bits}
-use Rattle.salvaged.specs.Came.{words-are, was-done}
+use Rattle.salvaged.specs.Came.{was-done}
 
 -- ---- where they begin, and what is counted
 
@@ -89,6 +90,14 @@ dead-stays-dead k i h t g report list e n items x d on s low none before after p
     let dead : Spent (rescued h t g report list) s = record { was-issued = low; owns-none = none } in
     l .never s [] before after p (subst (λ (w : World). Spent w s) (sym o) dead) .owns-none c
     (subst (λ (w : World). Live (now w before) (leaseOf c s)) (sym o) v)
+
+pub unconfirmed-alone : Unconfirmed-alone
+unconfirmed-alone k i h t g report list e n items x d on c s s′ b between after v p =
+    let o = begins-there k i h t g report list e n items x d on in
+    let l = kept k i h t g report list e n items x d on in
+    let w = run k (i ∷ items) .origin in
+    parted w c s s′ b between after (fit (good w (l .whole [] (history-of (run k (i ∷ items))) refl))) (subst (λ (u : World). Live u (leaseOf c s)) (sym o) v)
+    (subst (Lawful w) p (l .lawful))
 
 -- ---- a lease, by the words of its cell: mended, they are the same, or were damaged and are zeros
 module _ (h : Head) (t : List ℕ) (s : Shaped h (length t)) (l : Lease) where

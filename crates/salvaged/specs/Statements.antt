@@ -13,7 +13,7 @@ use Rattle.model.specs.declared.Head.{Head}
 use Rattle.model.specs.declared.SalvageAnswer.{SalvageAnswer}
 use Rattle.model.specs.declared.SalvageAnswer.the-variants.{Done, BadShape, ReportFull}
 use Rattle.model.specs.declared.State.the-variants as state
-use Rattle.model.specs.Log.{Event}
+use Rattle.model.specs.Log.{Actor, Event, took, released}
 use Rattle.model.specs.declared.Lease.{Lease}
 use Rattle.history.specs.World.{World, worldOf, cells, Free, Live, Apart, Sound, now, Spent, bits, number-of, takes, releases}
 use Rattle.history.specs.Items.{drop-lease, Item, call, foreign-step, preparation, preparation-over, salvage, salvage-over, Course, history-of, next-item, run}
@@ -269,6 +269,14 @@ Apart-from-there =
     let m = salvageOf h t g report list in
     ((before after : List Event) → history-of d ≡ before ++ after → Apart (now (rescued h t g report list) before))
     ↔ Owners-differ (tableIn m) (listIn m) n)
+
+-- "two writers drive one valve": a cell that is left held, unconfirmed as it is, is taken by nobody before its lease is released
+abbrev pub Unconfirmed-alone : Type 0
+Unconfirmed-alone =
+    From-salvage (λ h t g report list n d.
+    (c s s′ : ℕ) (b : Actor) (between after : List Event) → Live (rescued h t g report list) (leaseOf c s)
+    → history-of d ≡ between ++ (took b c s′ ∷ after)
+    → (a : Actor) × (before middle : List Event) × (between ≡ before ++ (released a c s ∷ middle)))
 
 -- with the head in force as the paper, and over the arena's own runs, whatever they hold: a lease is live after it exactly if it was live before.
 -- So a dip that spared the words loses no lease and revives none
