@@ -71,7 +71,7 @@ extern "C" {
 #endif
 
 /* The version of header and library together; CHANGELOG.md says what came with which. */
-#define SKID_VERSION "0.14.0"
+#define SKID_VERSION "0.15.0"
 
 /* ---- limits */
 
