@@ -61,7 +61,7 @@ trap '' PIPE
 status=0
 { said=$(play "$file" 2>&1 >&3 3>&-) || status=$?; } 3>&1
 [ -z "$said" ] || printf '%s\n' "$said" >&2
-[ "$status" -ne 139 ] || fail "the player ended at once: it needs a stack of 2 MB (ulimit -s 2048)"
+[ "$status" -ne 139 ] || fail "the player ended at once: it needs a stack of 2,304 KB (ulimit -s 2304)"
 [ "$status" -eq 0 ] || fail "the player ended with status $status"
 case $said in
     '') exit 0 ;;

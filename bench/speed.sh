@@ -19,7 +19,8 @@ try_lock 20000
 bucket 20000
 locks 2000
 sorted 2000
-prepare 1000"
+prepare 1000
+salvage 200 dip"
 
 fail() {
     echo "speed: $*" >&2
@@ -166,4 +167,6 @@ $(date -u +%Y-%m-%d), $(uname -m), $("${rustc[@]}" --version), $(rt version)
 - locks: \`acquire_index_locks\` of 16 free keys, no script, and \`release_all\` of them: two calls.
 - sorted: \`acquire_sorted_locks\` of the same keys in falling order, and \`release_all\` of them: two calls.
 - prepare: \`prepare\` of 64 x 64 cells, 12,288 words.
+- salvage: \`salvage\` of 64 x 64 cells: of every 16 one is damaged, of every 8 one is waited for, of every 4 one is held. Report
+  and list are exactly long enough. The copying of the dipped arena before each is subtracted.
 END

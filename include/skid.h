@@ -1,6 +1,6 @@
 /*
  * The lease layer of the skid kernel: the calls of document 01, and of document 02 the setpoint book (L2), keys in any
- * order (L4), the waveform of the cells (L11) and the crew at work (L13), for C.
+ * order (L4), salvage (L6), the waveform of the cells (L11) and the crew at work (L13), for C.
  *
  * Link with libskid.a (`rt staticlib skid` writes target/staticlib/libskid.a). The archive is code for x86-64, by the
  * calling convention of Linux there (System V). It asks the host for memcpy and memset, and for nothing else. It has
@@ -16,8 +16,8 @@
  *   words. A lease is two numbers, cell and serial.
  * - A run is lent as a pointer to its first element and a length. A length counts elements, not bytes.
  * - The last argument is the lent reply: SKID_REPLY_WORDS words, SKID_CREW_WORDS for skid_crew and skid_crew_at_work,
- *   SKID_BOOK_WORDS for the calls of the setpoint book, SKID_WAVE_WORDS for skid_write_dump and skid_read_dump. A call
- *   writes all of them and reads none.
+ *   SKID_SALVAGE_WORDS for skid_salvage, SKID_BOOK_WORDS for the calls of the setpoint book, SKID_WAVE_WORDS for
+ *   skid_write_dump and skid_read_dump. A call writes all of them and reads none.
  * - There is no result: the answer is in the reply.
  *
  * What a call needs, and changes
@@ -37,6 +37,7 @@
  *   before it stays in force; the three zeros that it hands back are no head.
  * - Let one caller at a time work on a table. No call takes a lock or issues a memory barrier.
  * - Throw away the leases from before a preparation.
+ * - Keep the last head where a power dip does not reach it, for skid_salvage.
  *
  * The arena
  * ---------
@@ -70,7 +71,7 @@ extern "C" {
 #endif
 
 /* The version of header and library together; CHANGELOG.md says what came with which. */
-#define SKID_VERSION "0.14.0"
+#define SKID_VERSION "0.15.0"
 
 /* ---- limits */
 
@@ -92,6 +93,7 @@ extern "C" {
 #define SKID_SLOT_BYTES 13u          /* of each slot: 8 for its line, 5 for its body */
 #define SKID_MAX_WAVE_CELLS 94u      /* of a waveform */
 #define SKID_MAX_DUMP 319088u        /* bytes: no dump is longer */
+#define SKID_MAX_REPORT 37056u       /* words: no report of a salvage is longer */
 
 /* ---- a foreign step: its kind, and what its place and number are */
 
@@ -108,6 +110,7 @@ enum skid_step {
 
 #define SKID_REPLY_WORDS 14
 #define SKID_CREW_WORDS 48
+#define SKID_SALVAGE_WORDS 6
 #define SKID_BOOK_WORDS 4
 #define SKID_WAVE_WORDS 3
 
@@ -186,6 +189,19 @@ enum skid_refusal {
     SKID_BAD_CREW = 15               /* 0 for a limit; the member of a bad list; the turn that names no member */
 };
 
+/* The salvage's reply: words 0 to 2 the head, as it was given. */
+enum skid_salvage_reply {
+    SKID_SALVAGE_KIND = 3,    /* SKID_DONE or SKID_REFUSED */
+    SKID_SALVAGE_CHANGED = 4, /* done: the entries of the report */
+    SKID_SALVAGE_REFUSAL = 4, /* refused: SKID_BAD_SHAPE or SKID_REPORT_FULL */
+    SKID_SALVAGE_HELD = 5     /* done: the cells left held; else 0 */
+};
+
+/* A refusal without a number in document 01; they count on from the setpoint book's. */
+enum skid_salvage_refusal {
+    SKID_REPORT_FULL = 106 /* the report or the list of cells left held has no room for all its entries */
+};
+
 /* The reply of the setpoint book's calls. Words that an answer does not use are 0. A refusal changes no byte. */
 enum skid_book_reply {
     SKID_BOOK_KIND = 0,     /* enum skid_book_kind */
@@ -248,6 +264,32 @@ enum skid_wave_kind {
  */
 void skid_prepare(uint32_t headers, uint32_t buckets, uint32_t serial, uint32_t *table, size_t table_len,
                   uint8_t *health, size_t health_len, uint64_t reply[SKID_REPLY_WORDS]);
+
+/* ---- salvage after a warm restart (document 02, L6) */
+
+/*
+ * Power dipped, and RAM mostly survived. Goes over the arena by the head that was kept on paper: a damaged cell becomes
+ * free, all waiters become 0, a health byte other than 0 and 1 becomes 1. A sound cell keeps its bit and owner. Done,
+ * with the head as it was given.
+ *
+ * - report: three words an entry (place, old, new), one for each word or byte that was changed, in rising order of
+ *   places. A place counts the table's words from 0, and then the health bytes, from 3 x H x B on. The report has room
+ *   for report_len / 3 entries, rounded down.
+ * - unconfirmed: the cells left held, one word each, rising.
+ * - Words behind the entries of both are left alone.
+ *
+ * Refused: SKID_BAD_SHAPE, where the head or the length of table or health breaks the arena's rules; then
+ * SKID_REPORT_FULL, exactly if the report or the list cannot hold all its entries. That is known before the first
+ * change: a refusal changes no lent word. A second salvage reports no change.
+ *
+ * What the caller must see to: the head must be the last one. By an older head, leases issued since look damaged and
+ * are freed, and their serials are issued again. A cell left held is not thereby confirmed: its owner is to confirm the
+ * lease or to drop it. RAM may have left one serial as the owner of two cells; both stand in the list, and the table
+ * says who owns each.
+ */
+void skid_salvage(uint32_t headers, uint32_t buckets, uint32_t next, uint32_t *table, size_t table_len,
+                  uint8_t *health, size_t health_len, uint32_t *report, size_t report_len, uint32_t *unconfirmed,
+                  size_t unconfirmed_len, uint64_t reply[SKID_SALVAGE_WORDS]);
 
 /* ---- calls without a script. Each changes no word but those of the named cell. */
 

@@ -189,6 +189,9 @@ show_book 0 0
 prepare_book 0 0
 read_setpoint 1 1
 crew_at_work 0 0
+report 1 1
+unconfirmed 1 1
+salvage 0 0
 TABLE
 # of a setpoint one word is no number
 for count in 0 1 2 3 4 5 6; do echo "write_setpoint$(numbers "$count" 1)"; done >>"$input"
@@ -197,7 +200,7 @@ all_bad 'too many and too few words'
 for word in ram lend head word byte registry held keys leases turns script place grants member crewless show map echo help prepare try_acquire drop_lease read_permission \
     competing_acquire_is_excluded release_then_handoff foreign_release_between_attempts acquire_preserving_borrows drop_preserving_borrows environment \
     environment_for_borrows try_lock other_mutex_preserves_leases transactional_try_lock_bucket acquire_index_bucket release_all acquire_index_locks acquire_sorted_locks crew \
-    book book_byte show_book prepare_book read_setpoint write_setpoint counters crew_at_work; do
+    book book_byte show_book prepare_book read_setpoint write_setpoint counters crew_at_work report unconfirmed salvage; do
     # the right count of numbers, the word wrong: longer, shorter, of capitals
     for rest in '' ' 1' ' 1 1' ' 1 1 1'; do
         printf '%s\n' "${word}x$rest" "${word%?}$rest" "x$word$rest" "${word#?}$rest" "${word^}$rest" "${word^^}$rest" "$word.$rest"
@@ -329,6 +332,35 @@ if [ "$(grep -c 'not understood' "$room/player")" != 21 ] || ! grep -qx 'counter
     echo 'counters: NOT THE TEXT WANTED'
     wrong=$((wrong + 1))
 fi
+# a salvage's report and list: their rooms, one more, and the largest arena with every word and byte to be changed
+{
+    for bad in 37201 4294967295 4294967296 x -1 01 '' ' 1' '1 1' '1 '; do echo "report $bad"; done
+    for bad in 4201 37200 4294967295 4294967296 x -1 01 '' ' 1' '1 1' '1 '; do echo "unconfirmed $bad"; done
+    printf '%s\n' 'salvage 0' 'salvage ' ' salvage' $'salvage\r' 'salvage report' 'report salvage' $'report\t1' $'unconfirmed\t1'
+} >"$input"
+all_bad 'rooms of a salvage that are none'
+printf 'salvage\nreport 37200\nunconfirmed 4200\nsalvage\nreport 37201\nunconfirmed 4201\nsalvage\nprepare 1 1 1\nsalvage\nreport 0\nunconfirmed 0\nsalvage\n' >"$input"
+full="report$(numbers 37200 9)" list="unconfirmed$(numbers 4200 9)"
+says 'rooms of a salvage' 'refused 1 BadShape 0 next 0' report unconfirmed 'refused 1 BadShape 0 next 0' "$full" "$list" 'line 5: not understood' \
+    'line 6: not understood' 'refused 1 BadShape 0 next 0' "$full" "$list" "done next 1 place 0 $counts" 'done 0 0 next 1' "$full" "$list" \
+    'done 0 0 next 1' report unconfirmed
+{
+    printf 'prepare 64 64 1\n'
+    # bit 2, owner 3 and waiters 4 in each cell, 5 in each byte
+    awk 'BEGIN { for (i = 0; i < 12288; i++) print "word", i, i % 3 + 2; for (i = 0; i < 64; i++) print "byte", i, 5 }'
+    printf 'report 37055\nunconfirmed 4200\nsalvage\nreport 37056\nunconfirmed 0\nsalvage\nsalvage\n'
+} >"$input"
+entries="report$(awk 'BEGIN { for (i = 0; i < 12288; i++) printf " %d %d 0", i, i % 3 + 2; for (i = 0; i < 64; i++) printf " %d 5 1", 12288 + i }')"
+says 'the longest report' "done next 1 place 0 $counts" 'refused ReportFull next 1' "report$(numbers 37055 9)" "$list" 'done 12352 0 next 1' "$entries" \
+    unconfirmed 'done 0 0 next 1' "$entries" unconfirmed
+{
+    printf 'prepare 64 64 4097\n'
+    # each cell held by a serial of its own
+    awk 'BEGIN { for (i = 0; i < 4096; i++) { print "word", 3 * i, 1; print "word", 3 * i + 1, i + 1 } }'
+    printf 'unconfirmed 4095\nsalvage\nunconfirmed 4096\nsalvage\nhead 64 64 4096\nreport 6\nsalvage\n'
+} >"$input"
+says 'the longest list' "done next 4097 place 0 $counts" 'refused ReportFull next 4097' report "unconfirmed$(numbers 4095 9)" 'done 0 4096 next 4097' report \
+    "unconfirmed$(numbers 4096)" 'done 2 4095 next 4096' 'report 12285 1 0 12286 4096 0' "unconfirmed$(numbers 4096)"
 # the book: its room, one more, its ends, and a setpoint's words
 printf 'book 33000\nbook_byte 32999 7\nbook_byte 0 255\nshow_book\nbook 33001\nbook 4294967295\nbook_byte 33000 0\nbook_byte 4294967295 0\nbook_byte 0 256\nprepare 1 1 1\nprepare_book\nread_setpoint 0\nbook 32769\nprepare_book\nbook 32768\nprepare_book\nbook 32785\nshow_book\n' >"$input"
 compare 'ends of the book'

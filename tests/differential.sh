@@ -21,9 +21,9 @@ need_player
 room=$(mktemp -d)
 trap 'rm -rf "$room"' EXIT
 
-# a call prints one line with its counts, but for the crew's and the book's
+# a call prints one line with its counts, but for the crew's, the salvage's and the book's
 calls_in() {
-    grep -c -E ' place [0-9]+ attempts [0-9]+ boundaries [0-9]+ |^crew moving |^refused [0-9]+ [A-Za-z]+ [0-9]+( next [0-9]+)?$|^done( version [0-9]+)?$|^refused [A-Za-z]+$|^setpoint ' "$1" || true
+    grep -c -E ' place [0-9]+ attempts [0-9]+ boundaries [0-9]+ |^crew moving |^refused [0-9]+ [A-Za-z]+ [0-9]+( next [0-9]+)?$|^done [0-9]+ [0-9]+ next |^done( version [0-9]+)?$|^refused [A-Za-z]+( next [0-9]+)?$|^setpoint ' "$1" || true
 }
 
 # the line of the history that printed line $1: the end of the shortest beginning that prints as many lines

@@ -1,6 +1,6 @@
 #!/usr/bin/env bash
 # The static library as people use it. Header, Rust face and archive have the same functions; document 01's bench cases and document 02's
-# keys in any order, crew at work, setpoint book and waveform run through the library from C and from Rust, and each figure is checked. Built things go to target/library.
+# keys in any order, salvage, crew at work, setpoint book and waveform run through the library from C and from Rust, and each figure is checked. Built things go to target/library.
 set -euo pipefail
 cd "$(dirname "$0")/.."
 out=target/library
@@ -39,7 +39,7 @@ grep -ohE 'skid_[a-z_]+\(' tests/c/*.c | tr -d '(' | sort -u >"$out/called"
 diff "$out/header" "$out/archive" || fail "the header (<) and the archive (>) have different functions"
 diff "$out/face" "$out/archive" || fail "the Rust face (<) and the archive (>) have different functions"
 diff "$out/called" "$out/archive" || fail "the C tests call (<) other functions than the archive has (>)"
-[ "$(wc -l <"$out/header")" = 27 ] || fail "document 01 has 18 calls, the setpoint book 5, the waveform 2, keys in any order 1, and the crew at work 1"
+[ "$(wc -l <"$out/header")" = 28 ] || fail "document 01 has 18 calls, the setpoint book 5, the waveform 2, keys in any order, salvage and the crew at work 1 each"
 "$nm" -u "$archive" | awk '$1 == "U" && $2 != "memcpy" && $2 != "memset" { print "asks for " $2; bad = 1 } END { exit bad }' ||
     fail "the header says that the archive asks for memcpy and memset alone"
 "$nm" "$archive" | awk '$2 ~ /^[BbCDd]$/ { print "changing data: " $3; bad = 1 } END { exit bad }' ||

@@ -12,7 +12,7 @@ cd "$(dirname "$0")/.." || exit 1
 page=${PAGE:-docs/REFERENCE.md}
 header=include/skid.h
 specs=crates/model/specs
-rules="Arena Refusals Answers Foreign Lock Checks Calls Crew Sorted"
+rules="Arena Refusals Answers Foreign Lock Checks Calls Crew Sorted Salvage"
 documents=${SHARED_DOCS:-../shared/docs}
 quoting=(
     "$specs"/*.antt
@@ -21,7 +21,7 @@ quoting=(
     crates/{progress,anyorder,works}/specs/Statements.antt
     crates/setpoint/specs/Codec.antt
     crates/slots/specs/{Layout,Rules,Calls,Cases}.antt
-    crates/written/specs/Statements.antt
+    crates/{written,salvaged}/specs/Statements.antt
 )
 
 # names_of PAGE..: the names File.name on it

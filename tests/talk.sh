@@ -1,7 +1,7 @@
 #!/usr/bin/env bash
 # A talk with the player, and what can go wrong around it: answers come before the end of input, in a terminal and through a pipe;
 # output that is lost (a full disk, a closed output, a pipe that nobody reads), input that is lost (a directory); input of 3 MB, a
-# line at the limit and one byte over it, a stack of 2 MB; the messages on standard error; bench/play.sh, its status, and when it
+# line at the limit and one byte over it, a stack of 2,304 KB; the messages on standard error; bench/play.sh, its status, and when it
 # builds the player anew. PLAYER names another program instead of the player. Ends with 1 if anything is wrong.
 set -euo pipefail
 cd "$(dirname "$0")/.."
@@ -89,7 +89,7 @@ for word in ram lend head word byte registry held keys leases turns script place
     try_acquire drop_lease read_permission competing_acquire_is_excluded release_then_handoff foreign_release_between_attempts \
     acquire_preserving_borrows drop_preserving_borrows environment environment_for_borrows try_lock other_mutex_preserves_leases \
     transactional_try_lock_bucket acquire_index_bucket release_all acquire_index_locks crew book book_byte show_book prepare_book \
-    write_setpoint read_setpoint counters crew_at_work acquire_sorted_locks; do
+    write_setpoint read_setpoint counters crew_at_work acquire_sorted_locks report unconfirmed salvage; do
     grep -q "^$word\b" "$room/out" || complain "help does not name $word"
 done
 
@@ -154,13 +154,13 @@ lost 'a directory as input' 'player: input lost'
 same 'a directory as input' "$room/wanted" "$room/out"
 play "$input" >"$room/out" 2>/dev/full || complain "standard error lost: status $?"
 
-# ---- the stack: 2 MB, environment and all
+# ---- the stack: 2,304 KB, environment and all
 
-{ cat bench/*.txt; printf '\nhelp\nlend 12600 70\nram 3\nshow\nbook 33000\nshow_book\necho 1\n'; of_length 5000 x; printf '\nlend\nprepare 64 64 1\nmap\n'; } >"$input"
+{ cat bench/*.txt; printf '\nhelp\nlend 12600 70\nram 3\nshow\nbook 33000\nshow_book\necho 1\n'; of_length 5000 x; printf '\nlend\nprepare 64 64 1\nmap\nram 3\nreport 37200\nunconfirmed 4200\nsalvage\n'; } >"$input"
 play "$input" >"$room/wanted" 2>"$room/wanted-said"
-STACK=2048 play "$input" >"$room/out" 2>"$room/said" || complain "a stack of 2 MB: status $?"
-same 'a stack of 2 MB' "$room/wanted" "$room/out"
-same 'a stack of 2 MB, standard error' "$room/wanted-said" "$room/said"
+STACK=2304 play "$input" >"$room/out" 2>"$room/said" || complain "a stack of 2,304 KB: status $?"
+same 'a stack of 2,304 KB' "$room/wanted" "$room/out"
+same 'a stack of 2,304 KB, standard error' "$room/wanted-said" "$room/said"
 
 # ---- a talk
 

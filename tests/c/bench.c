@@ -1,6 +1,6 @@
 /*
- * Document 01's bench cases, through skid.h, and of document 02 keys in any order, the crew at work and the setpoint
- * book, and edges of the calling convention. A line for each case; exit 1 if a figure is not the documents'.
+ * Document 01's bench cases, through skid.h, and of document 02 keys in any order, salvage, the crew at work and the
+ * setpoint book, and edges of the calling convention. A line for each case; exit 1 if a figure is not the documents'.
  */
 #include <inttypes.h>
 #include <stdio.h>
@@ -10,7 +10,7 @@
 
 /* ---- what is checked */
 
-static int cases, sorts, works, books, edges, failures;
+static int cases, sorts, salvages, works, books, edges, failures;
 static int bad; /* in the case at hand */
 
 static void check(const char *what, uint64_t got, uint64_t want) {
@@ -520,6 +520,132 @@ static void any_order_refused(void) {
     end(&sorts);
 }
 
+/* ---- salvage after a warm restart */
+
+static struct {
+    uint32_t before, words[32], after;
+} report;
+static struct {
+    uint32_t before, cells[4], after;
+} list;
+static struct {
+    uint64_t before, words[SKID_SALVAGE_WORDS], after;
+} found;
+
+/* Given so many words of the report and of the list, all nines: all six words, and what stands behind the entries. */
+static void salvage(size_t room, size_t cells, uint64_t kind, uint64_t first, uint64_t second) {
+    size_t i;
+    uint32_t n = 0;
+    for (i = 0; i < 32; i++) {
+        report.words[i] = 9;
+    }
+    for (i = 0; i < 4; i++) {
+        list.cells[i] = 9;
+    }
+    for (i = 0; i < SKID_SALVAGE_WORDS; i++) {
+        found.words[i] = PATTERN;
+    }
+    report.before = report.after = list.before = list.after = GUARD;
+    found.before = found.after = GUARD;
+    skid_salvage(HEAD, TABLE, HEALTH, report.words, room, list.cells, cells, found.words);
+    kept();
+    if (report.before != GUARD || report.after != GUARD || list.before != GUARD || list.after != GUARD ||
+        found.before != GUARD || found.after != GUARD) {
+        printf("A WORD OUTSIDE THE RUNS CHANGED, ");
+        bad = 1;
+    }
+    check("headers", found.words[SKID_HEADERS], 2);
+    check("buckets", found.words[SKID_BUCKETS], 4);
+    check("next", found.words[SKID_NEXT], next);
+    check("kind", found.words[SKID_SALVAGE_KIND], kind);
+    check(kind == SKID_DONE ? "changed" : "refusal", found.words[SKID_SALVAGE_CHANGED], first);
+    check("held", found.words[SKID_SALVAGE_HELD], second);
+    for (i = kind == SKID_DONE ? 3 * first : 0; i < 32; i++) {
+        n += report.words[i] != 9;
+    }
+    for (i = kind == SKID_DONE ? second : 0; i < 4; i++) {
+        n += list.cells[i] != 9;
+    }
+    check("words behind the entries changed", n, 0);
+}
+
+/* The governor holds cells 2 and 6, somebody waits for 6; then power dips. Seven words and a byte will change. */
+static void dip(void) {
+    prepare(1);
+    acquire(NONE, NONE, 2);
+    skid_try_acquire(HEAD, TABLE, 6, blank());
+    called();
+    step(SKID_STEP_WAITERS, 6, 3);
+    table.words[0] = 7;  /* cell 0: no bit */
+    table.words[3] = 1;  /* cell 1: a bit, and nobody */
+    table.words[10] = 2; /* cell 3: an owner, and no bit */
+    table.words[12] = 1; /* cell 4: a serial that was never issued */
+    table.words[13] = 3;
+    table.words[14] = 4; /* and waiters */
+    health.bytes[0] = 1;
+    health.bytes[1] = 200;
+}
+
+static void salvaged(void) {
+    static const uint32_t entries[24] = {0,  7, 0, 3,  1, 0, 10, 2, 0, 12, 1,   0,
+                                         13, 3, 0, 14, 4, 0, 20, 3, 0, 25, 200, 1};
+    uint32_t before[24];
+    name("ReportFull for the report and for the list, and BadShape: nothing changes");
+    dip();
+    memcpy(before, table.words, sizeof before);
+    salvage(23, 2, SKID_REFUSED, SKID_REPORT_FULL, 0);
+    salvage(24, 1, SKID_REFUSED, SKID_REPORT_FULL, 0);
+    salvage(0, 0, SKID_REFUSED, SKID_REPORT_FULL, 0);
+    next = 0;
+    salvage(0, 0, SKID_REFUSED, SKID_BAD_SHAPE, 0);
+    next = 3;
+    check("table as it was", memcmp(before, table.words, sizeof before) == 0, 1);
+    check("health as it was", health.bytes[0] * 1000u + health.bytes[1], 1200);
+    end(&salvages);
+
+    name("the salvage: exactly enough room, and a word over");
+    salvage(25, 2, SKID_DONE, 8, 2);
+    check("report", memcmp(report.words, entries, sizeof entries) == 0, 1);
+    check("list", list.cells[0] == 2 && list.cells[1] == 6, 1);
+    check("health", health.bytes[0] * 1000u + health.bytes[1], 1001);
+    check("owner of 6", table.words[19], 2);
+    check("waiters of 6", table.words[20], 0);
+    end(&salvages);
+
+    name("a second salvage reports no change");
+    salvage(0, 2, SKID_DONE, 0, 2);
+    check("list", list.cells[0] == 2 && list.cells[1] == 6, 1);
+    end(&salvages);
+
+    name("the owners drop their leases, and cell 4 is taken");
+    skid_drop_lease(HEAD, TABLE, 2, 1, blank());
+    called();
+    check("kind", word(SKID_KIND), SKID_DONE);
+    skid_drop_lease(HEAD, TABLE, 6, 2, blank());
+    called();
+    check("kind", word(SKID_KIND), SKID_DONE);
+    free_cells();
+    skid_try_acquire(HEAD, TABLE, 4, blank());
+    called();
+    granted(4, 3);
+    end(&salvages);
+
+    name("one owner of two cells");
+    table.words[15] = 1;
+    table.words[16] = 3;
+    salvage(0, 2, SKID_DONE, 0, 2);
+    check("list", list.cells[0] == 4 && list.cells[1] == 5, 1);
+    check("owner of 4", table.words[13], 3);
+    check("owner of 5", table.words[16], 3);
+    end(&salvages);
+
+    name("a salvage with nothing lent");
+    skid_salvage(2, 4, 1, NONE, NONE, NONE, NONE, found.words);
+    check("kind", found.words[SKID_SALVAGE_KIND], SKID_REFUSED);
+    check("refusal", found.words[SKID_SALVAGE_REFUSAL], SKID_BAD_SHAPE);
+    end(&salvages);
+}
+
 /* ---- the crew at work: cell 2's counter is 40,000, cell 5's 30,000, all others 7 */
 
 static void count(void) {
@@ -996,6 +1122,7 @@ int main(void) {
     crews();
     any_order();
     any_order_refused();
+    salvaged();
     at_work();
     unwritten();
     written();
@@ -1008,6 +1135,7 @@ int main(void) {
         return 1;
     }
     printf("keys in any order in C: %d passed\n", sorts);
+    printf("salvage in C: %d passed\n", salvages);
     printf("crew at work in C: %d passed\n", works);
     printf("setpoint book in C: %d passed\n", books);
     printf("edges in C: %d passed\n", edges);

@@ -149,7 +149,7 @@ fn other(
     line: &[u8],
     table: &mut [u32],
     bytes: &mut [u8],
-    lists: &[u32],
+    lists: &mut [u32],
     grants: &mut [u32],
     counters: &mut [u16],
     out: &mut [u8],

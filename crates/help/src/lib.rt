@@ -47,7 +47,9 @@ fn crew_setup_lines(out: &mut [u8], used: usize) -> usize {
         b"member N..: one more member, which wants these cells\n\
         crewless: no members\n\
         turns N..: members by number, one for each turn\n\
-        counters N..: the counters of crew_at_work, one for each cell\n",
+        counters N..: the counters of crew_at_work, one for each cell\n\
+        report N: a report of N words for salvage, three for each change\n\
+        unconfirmed N: a list of N words for salvage, one for each cell left held\n",
     )
 }
 
@@ -95,7 +97,8 @@ fn many_lines(out: &mut [u8], used: usize) -> usize {
         acquire_index_locks: take all keys, or none\n\
         acquire_sorted_locks: the same in any order; keys of one cell share one lease\n\
         crew: the members take and release their cells, by turns\n\
-        crew_at_work: the same, and between the two they add to the counters\n",
+        crew_at_work: the same, and between the two they add to the counters\n\
+        salvage: after a warm restart: mend the arena, list each change and the cells left held\n",
     )
 }
 

@@ -1,4 +1,4 @@
--- Every item of a history keeps the ledger: calls, lone foreign steps, further preparations.
+-- Every item of a history keeps the ledger: calls, lone foreign steps, further preparations and salvages.
 use Prim.Native.Nat.{ℕ, zero, suc, _+_, _*_}
 use mathlib.Core.Path.{_≡_, refl, sym, ap, _∙_, subst}
 use mathlib.Core.List.{List, [], _∷_, _++_, append-nil, append-assoc}
@@ -6,23 +6,28 @@ use native.Mathlib.Omega.{arith}
 use lib.Dec.{eqb}
 use lib.ListN.{length, replicate, length-replicate}
 use Rattle.model.specs.Log.{Actor, Event, took}
-use Rattle.model.specs.Arena.{headOf, shapeFits, healthFits}
+use Rattle.model.specs.Arena.{cellsOf, headOf, leaseOf, bitAt, shapeFits, healthFits}
 use Rattle.model.specs.Calls.{prepareOf}
+use Rattle.model.specs.Salvage.{Salvage, entriesOf, leftHeld, mendOf, salvageOf}
 use Rattle.model.specs.declared.Answer.{Answer}
 use Rattle.model.specs.declared.Answer.the-variants.{Done, Cell, Granted, AllGranted, Busy, Refused, RefusedAt}
+use Rattle.model.specs.declared.Head.{Head}
 use Rattle.model.specs.declared.Lease.{Lease}
+use Rattle.model.specs.declared.SalvageAnswer.{SalvageAnswer}
+use Rattle.model.specs.declared.SalvageAnswer.the-variants as salvaged
 use Rattle.choice.specs.Pick.{both}
-use Rattle.laws.specs.Shape.{Shaped, shaped}
+use Rattle.laws.specs.Shape.{Shaped, shaped, healthy}
 use Rattle.laws.specs.Lists.{zero-bit, zero-owner}
 use Rattle.laws.specs.Prepared.{Outcome, Came, was-done, was-refused, came, prepare-done}
-use Rattle.history.specs.World.{World, worldOf, cells, now, Lawful, one, bits, takes, number-of}
-use Rattle.history.specs.Items.{Says, saying, foreign, Item, call, foreign-step, preparation, preparation-over, Entry, entryOf, Course, noted, events-of, history-of, prepared-by, preparing, next-item, run, cold}
-use Rattle.history.specs.Statements.{Ledger, Demand-2, Forgets, Refused-stays}
+use Rattle.history.specs.World.{World, worldOf, cells, Apart, now, Lawful, one, bits, takes, number-of}
+use Rattle.history.specs.Items.{Says, saying, foreign, Item, call, foreign-step, preparation, preparation-over, salvage, salvage-over, Entry, entryOf, Course, courseOf, noted, events-of, history-of, prepared-by, preparing, salvaged-by, salvaging, next-item, run, cold}
+use Rattle.history.specs.Statements.{Begins, Fresh, Begun, by-preparation, by-salvage, No-start, Ledger, Demand-2, Sound-if-apart, Prepared-fresh, Prepared-sound, Prepared-counted, Forgets, Refused-stays, Salvage-refused-stays}
 use Rattle.history.specs.Tests.{free, In}
-use Rattle.history.specs.Events.{Good, fit, sound, counts}
-use Rattle.history.specs.Logs.{now-append, lawful-append, lawful-split, good-now, arena-now, next-now, bits-now, keep-now, spent-now, Kept, ended, nothing}
+use Rattle.history.specs.Events.{Good, fit, lives, whole, counts}
+use Rattle.history.specs.Logs.{now-append, lawful-append, lawful-split, good-now, apart-now, arena-now, next-now, bits-now, keep-now, spent-now, Kept, ended, nothing}
 use Rattle.history.specs.Steps.{step-kept}
 use Rattle.history.specs.Calls.{call-kept}
+use Rattle.history.specs.Salvages.{Came as Salvages-came, bad, full, done, came as salvage-came, mended-good}
 
 -- ---- a lone foreign step
 
@@ -32,12 +37,9 @@ foreign-kept w kind place number = ended (step-kept (w .head) [] [] (w .head .ne
 
 -- ---- a preparation
 
-abbrev pub Fresh : World → Type 0
-Fresh w = w ≡ worldOf (w .head) (replicate (3 * cells w) 0) (replicate (w .head .headers) 0)
-
--- a stretch of a history since a preparation
+-- a stretch of a history since its start
 pub record Stretch (k : Course) : Type 0 where
-  pub fresh : Fresh (k .origin)
+  pub begun : Begun (k .origin)
   pub good : Good (k .origin)
   pub lawful : Lawful (k .origin) (history-of k)
   pub leads : k .world ≡ now (k .origin) (history-of k)
@@ -66,11 +68,10 @@ module _ (headers buckets serial : ℕ) where
         };
         health-is = length-replicate {A = ℕ} headers 0;
         status = λ c _. free (zero-bit (3 * (headers * buckets)) c) (zero-owner (3 * (headers * buckets)) c);
-        apart = λ c d _ _ p _ _. absurd (omega (arith, zero-bit (3 * (headers * buckets)) c));
       }
 
   begins : {words : ℕ} → Shaped (headOf headers buckets serial) words → Stretch (cold prepared)
-  begins d = record { fresh = refl; good = prepared-good d; lawful = tt; leads = refl }
+  begins d = record { begun = by-preparation refl; good = prepared-good d; lawful = tt; leads = refl }
 
   -- done, it begins a stretch; refused, the one before goes on in the world that stays
   pub preparation-stretch : (t g : List ℕ) (v : World) (k : Course)
@@ -90,6 +91,39 @@ module _ (headers buckets serial : ℕ) where
           subst After (sym p) (λ _. begins (shaped h (length t) (both (shapeFits h (length t)) (healthFits h (length g)) e .0)))
       go (was-refused e p) = subst After (sym p) (λ s. s (λ d. let z : _≡_ {A = ℕ} 0 1 = cc in omega arith))
 
+-- ---- a salvage
+
+module _ (paper : Head) (t g report list : List ℕ) where
+  abbrev Undone : SalvageAnswer → Type 0
+  Undone a = (e n : ℕ) × (a ≡ salvaged.Done e n) → ⊥
+
+  -- done, it begins a stretch; refused, the one before goes on in the world that stays
+  pub salvage-stretch : (v : World) (k : Course)
+      → let p = salvaging paper t g report list in
+      (Undone (p .0) → Stretch (courseOf (k .origin) (k .entries) v)) → Stretch (salvaged-by (p .0) (p .1) v k)
+  unfolding salvaging mendOf
+  salvage-stretch v k = go (salvage-came paper t g report list)
+    where
+      After : Salvage → Type 0
+      After o =
+          (Undone (o .0 .answer) → Stretch (courseOf (k .origin) (k .entries) v))
+          → Stretch (salvaged-by (o .0 .answer) (worldOf (o .0 .head) (o .1 .0) (o .1 .1 .0)) v k)
+
+      go : Salvages-came paper t g report list → After (salvageOf paper t g report list)
+      go (bad f p) = subst After (sym p) (λ s. s (λ d. let q = d .2 in let z : _≡_ {A = ℕ} 0 1 = cc in omega arith))
+      go (full f i p) = subst After (sym p) (λ s. s (λ d. let q = d .2 in let z : _≡_ {A = ℕ} 0 1 = cc in omega arith))
+      go (done f i p) =
+          let b = both (shapeFits paper (length t)) (healthFits paper (length g)) f in
+          subst After (sym p)
+          (λ _.
+          record {
+            begun = by-salvage paper t g report list (entriesOf paper t g) (length (leftHeld (paper .next) (cellsOf paper) t))
+                (ap (λ (o : Salvage). o .0 .answer) p) (ap (λ (o : Salvage). worldOf paper (o .1 .0) (o .1 .1 .0)) (sym p));
+            good = mended-good paper t g (shaped paper (length t) (b .0)) (healthy paper (length g) (b .1));
+            lawful = tt;
+            leads = refl;
+          })
+
 -- ---- a history
 
 pub events-append : (xs ys : List Entry) → events-of (xs ++ ys) ≡ events-of xs ++ events-of ys
@@ -105,7 +139,7 @@ goes-on : (k : Course) {P : Lease → Type 0} {v : World} {es : List Event} (sai
 goes-on k {P} {v} {es} said s m =
     let e = one-entry (k .entries) (entryOf es said) in
     record {
-      fresh = s .fresh;
+      begun = s .begun;
       good = s .good;
       lawful = subst (Lawful (k .origin)) (sym e) (lawful-append (k .origin) (history-of k) es (s .lawful) (subst (λ w. Lawful w es) (s .leads) (m .lawful)));
       leads =
@@ -129,6 +163,20 @@ handed-back w headers buckets serial n = go (came headers buckets serial (w .tab
     go (was-done e p) = absurd (n (ap (λ (o : Outcome). o .0 .answer) p))
     go (was-refused e p) = ap (λ (o : Outcome). worldOf (w .head) (o .1 .0) (o .1 .1)) p
 
+-- and so are those that a refused salvage hands back
+salvage-handed-back : (w : World) (paper : Head) (report list : List ℕ) → (Begins w (salvage paper report list) → ⊥)
+    → let p = salvaging paper (w .table) (w .health) report list in worldOf (w .head) (p .1 .table) (p .1 .health) ≡ w
+unfolding salvaging
+salvage-handed-back w paper report list n = go (salvage-came paper (w .table) (w .health) report list)
+  where
+    Back : Salvage → World
+    Back o = worldOf (w .head) (o .1 .0) (o .1 .1 .0)
+
+    go : Salvages-came paper (w .table) (w .health) report list → Back (salvageOf paper (w .table) (w .health) report list) ≡ w
+    go (bad f p) = ap Back p
+    go (full f i p) = ap Back p
+    go (done f i p) = absurd (n (_, _, ap (λ (o : Salvage). o .0 .answer) p))
+
 item-stretch : (k : Course) (i : Item) → Stretch k → Stretch (next-item k i)
 unfolding next-item
 item-stretch k (call c) s = goes-on k _ s (call-kept (k .world) c .kept)
@@ -139,6 +187,10 @@ item-stretch k (preparation headers buckets serial) s =
     let a = preparing headers buckets serial (k .world .table) (k .world .health) .0 in
     subst (λ v. Stretch (noted k [] (saying a) v)) (sym (handed-back (k .world) headers buckets serial n)) (stays k (saying a) s))
 item-stretch k (preparation-over headers buckets serial t g) s = preparation-stretch headers buckets serial t g (k .world) k (λ _. stays k _ s)
+item-stretch k (salvage paper report list) s =
+    salvage-stretch paper (k .world .table) (k .world .health) report list _ k
+    (λ n. subst (λ v. Stretch (courseOf (k .origin) (k .entries) v)) (sym (salvage-handed-back (k .world) paper report list n)) s)
+item-stretch k (salvage-over paper t g report list) s = salvage-stretch paper t g report list (k .world) k (λ _. s)
 
 pub run-stretch : (k : Course) (is : List Item) → Stretch k → Stretch (run k is)
 unfolding run
@@ -167,10 +219,11 @@ same-front a b c d s (f ∷ x) x′ (f′ ∷ y) y′ e n =
 pub ledger : (k : Course) → Stretch k → Ledger k
 ledger k s =
     record {
-      fresh = s .fresh;
+      begun = s .begun;
       lawful = s .lawful;
       leads = s .leads;
-      sound = λ before after e. sound (now o before) (mid before after e .0);
+      whole = λ before after e. whole (now o before) (mid before after e .0);
+      apart = λ a before after e. apart-now o before (s .good) (lawful-split o before after (subst (Lawful o) e (s .lawful)) .0) a;
       keeps = λ l before middle after e v u.
           let m = mid before (middle ++ after) e in
           rw (now-append o before middle) (keep-now (now o before) middle l (fit (m .0)) (lawful-split (now o before) middle after (m .1) .0) v u);
@@ -185,8 +238,7 @@ ledger k s =
       counted =
           let size : cells (k .world) ≡ cells o = ap cells (s .leads) ∙ ap (λ h. h .headers * h .buckets) (arena-now o (history-of k)) in
           let table : k .world .table ≡ now o (history-of k) .table = ap (λ w. w .table) (s .leads) in
-          let none : bits (cells o) (o .table) ≡ 0 = ap (λ w. bits (cells o) (w .table)) (s .fresh) ∙ zero-bits (cells o) (3 * cells o) in
-          rw (size, table) (omega (arith, bits-now o (history-of k) (s .good) (s .lawful)));
+          rw (size, table) (bits-now o (history-of k) (fit (s .good)) (s .lawful));
     }
   where
     o : World
@@ -197,19 +249,62 @@ ledger k s =
         let t = lawful-split o before after (subst (Lawful o) e (s .lawful)) in
         (good-now o before (s .good) (t .0), t .1)
 
--- ---- every history from a preparation
+-- ---- every history from a start
 
--- the first stretch begins
-pub begun : (rubbish : World) (headers buckets serial : ℕ) → preparing headers buckets serial (rubbish .table) (rubbish .health) .0 ≡ Done
-    → Stretch (next-item (cold rubbish) (preparation headers buckets serial))
+-- it begins a stretch
+pub begun : (k : Course) (i : Item) → Begins (k .world) i → Stretch (next-item k i)
 unfolding next-item
-begun rubbish headers buckets serial d =
-    preparation-stretch headers buckets serial (rubbish .table) (rubbish .health) _ (cold rubbish) (λ n. absurd (n d))
+begun k (call c) d = absurd d
+begun k (foreign-step kind place number) d = absurd d
+begun k (preparation headers buckets serial) d =
+    preparation-stretch headers buckets serial (k .world .table) (k .world .health) _ k (λ n. absurd (n d))
+begun k (preparation-over headers buckets serial t g) d = preparation-stretch headers buckets serial t g (k .world) k (λ n. absurd (n d))
+begun k (salvage paper report list) d = salvage-stretch paper (k .world .table) (k .world .health) report list _ k (λ n. absurd (n d))
+begun k (salvage-over paper t g report list) d = salvage-stretch paper t g report list (k .world) k (λ n. absurd (n d))
+
+-- with nothing done yet
+prepared-yet : (a : Answer) (w v : World) (k : Course) → a ≡ Done → prepared-by a w v k .entries ≡ []
+prepared-yet a w v k d = ap (λ (x : Answer). prepared-by x w v k .entries) d
+
+salvaged-yet : (a : SalvageAnswer) (w v : World) (k : Course) (e n : ℕ) → a ≡ salvaged.Done e n → salvaged-by a w v k .entries ≡ []
+salvaged-yet a w v k e n d = ap (λ (x : SalvageAnswer). salvaged-by x w v k .entries) d
+
+pub nothing-yet : (k : Course) (i : Item) → Begins (k .world) i → next-item k i .entries ≡ []
+unfolding next-item
+nothing-yet k (call c) d = absurd d
+nothing-yet k (foreign-step kind place number) d = absurd d
+nothing-yet k (preparation headers buckets serial) d = prepared-yet _ _ _ k d
+nothing-yet k (preparation-over headers buckets serial t g) d = prepared-yet _ _ _ k d
+nothing-yet k (salvage paper report list) d = salvaged-yet _ _ _ k (d .0) (d .1) (d .2)
+nothing-yet k (salvage-over paper t g report list) d = salvaged-yet _ _ _ k (d .0) (d .1) (d .2)
 
 pub histories-kept : Demand-2
 unfolding run
-histories-kept rubbish headers buckets serial items d =
-    ledger _ (run-stretch (next-item (cold rubbish) (preparation headers buckets serial)) items (begun rubbish headers buckets serial d))
+histories-kept rubbish start items d = ledger _ (run-stretch (next-item (cold rubbish) start) items (begun (cold rubbish) start d))
+
+pub sound-if-apart : Sound-if-apart
+sound-if-apart rubbish start items d a before after e =
+    let l = histories-kept rubbish start items d in
+    record { whole = l .whole before after e; apart = l .apart a before after e }
+
+-- ---- a stretch from a preparation
+
+pub prepared-fresh : Prepared-fresh
+unfolding preparing
+prepared-fresh headers buckets serial t g d =
+    subst (λ (o : Outcome). Fresh (worldOf (o .0 .head) (o .1 .0) (o .1 .1))) (sym (prepare-done headers buckets serial t g d)) refl
+
+fresh-apart : (w : World) → Fresh w → Apart w
+fresh-apart w f c d s x y =
+    absurd (omega (arith, lives w (leaseOf c s) x .bit-is, ap (λ (v : World). bitAt (v .table) c) f, zero-bit (3 * cells w) c))
+
+pub prepared-sound : Prepared-sound
+prepared-sound rubbish start items d f = sound-if-apart rubbish start items d (fresh-apart _ f)
+
+pub prepared-counted : Prepared-counted
+prepared-counted rubbish start items d f =
+    let o = run (cold rubbish) (start ∷ items) .origin in
+    omega (arith, histories-kept rubbish start items d .counted, ap (λ (w : World). bits (cells o) (w .table)) f, zero-bits (cells o) (3 * cells o))
 
 pub histories-forget : Forgets
 unfolding run next-item preparing
@@ -222,17 +317,46 @@ histories-forget rubbish rubbish′ headers buckets serial items d d′ = ap (λ
         → next-item (cold w) (preparation headers buckets serial) ≡ cold (prepared headers buckets serial)
     begins w d = ap (after w) (prepare-done headers buckets serial (w .table) (w .health) d)
 
+-- ---- an item that is no start
+
+pub not-prepared : (a : Answer) (w v : World) (k : Course) → (a ≡ Done → ⊥) → prepared-by a w v k ≡ noted k [] (saying a) v
+not-prepared Done w v k n = absurd (n refl)
+not-prepared (Cell c) w v k n = refl
+not-prepared (Granted l) w v k n = refl
+not-prepared AllGranted w v k n = refl
+not-prepared (Busy why) w v k n = refl
+not-prepared (Refused r) w v k n = refl
+not-prepared (RefusedAt r p) w v k n = refl
+
+pub not-salvaged : (a : SalvageAnswer) (w v : World) (k : Course) → ((e n : ℕ) × (a ≡ salvaged.Done e n) → ⊥)
+    → salvaged-by a w v k ≡ courseOf (k .origin) (k .entries) v
+not-salvaged (salvaged.Done e m) w v k n = absurd (n (e, m, refl))
+not-salvaged salvaged.BadShape w v k n = refl
+not-salvaged salvaged.ReportFull w v k n = refl
+
 pub refused-stays : Refused-stays
 unfolding next-item
 refused-stays k headers buckets serial n =
     let p = preparing headers buckets serial (k .world .table) (k .world .health) in
-    kept (p .0) (p .1) _ n ∙ ap (λ (v : World). noted k [] (saying (p .0)) v) (handed-back (k .world) headers buckets serial n)
-  where
-    kept : (a : Answer) (w v : World) → (a ≡ Done → ⊥) → prepared-by a w v k ≡ noted k [] (saying a) v
-    kept Done w v n = absurd (n refl)
-    kept (Cell c) w v n = refl
-    kept (Granted l) w v n = refl
-    kept AllGranted w v n = refl
-    kept (Busy why) w v n = refl
-    kept (Refused r) w v n = refl
-    kept (RefusedAt r p) w v n = refl
+    not-prepared (p .0) (p .1) _ k n ∙ ap (λ (v : World). noted k [] (saying (p .0)) v) (handed-back (k .world) headers buckets serial n)
+
+pub salvage-refused-stays : Salvage-refused-stays
+unfolding next-item
+salvage-refused-stays k paper report list n =
+    let p = salvaging paper (k .world .table) (k .world .health) report list in
+    not-salvaged (p .0) (p .1) _ k n ∙ ap (λ (v : World). courseOf (k .origin) (k .entries) v) (salvage-handed-back (k .world) paper report list n)
+
+-- the stretch goes on
+origin-stays : (k : Course) (i : Item) → (Begins (k .world) i → ⊥) → next-item k i .origin ≡ k .origin
+unfolding next-item
+origin-stays k (call c) n = refl
+origin-stays k (foreign-step kind place number) n = refl
+origin-stays k (preparation headers buckets serial) n = ap (λ (d : Course). d .origin) (not-prepared _ _ _ k n)
+origin-stays k (preparation-over headers buckets serial t g) n = ap (λ (d : Course). d .origin) (not-prepared _ _ _ k n)
+origin-stays k (salvage paper report list) n = ap (λ (d : Course). d .origin) (not-salvaged _ _ _ k n)
+origin-stays k (salvage-over paper t g report list) n = ap (λ (d : Course). d .origin) (not-salvaged _ _ _ k n)
+
+pub origin-kept : (k : Course) (is : List Item) → No-start k is → run k is .origin ≡ k .origin
+unfolding run
+origin-kept k [] n = refl
+origin-kept k (i ∷ is) n = origin-kept (next-item k i) is (n .1) ∙ origin-stays k i (n .0)

@@ -1,10 +1,10 @@
--- Laws of one event that is legal: what it keeps of a sound arena, of a live lease, of a spent serial, and what it does to the counts.
+-- Laws of one event that is legal: what it keeps of a whole arena, of a live lease, of a spent serial, and what it does to the counts.
 use Prim.Native.Nat.{ℕ, zero, suc, _+_, _*_, _≤_, _<_}
 use mathlib.Core.Path.{_≡_, refl, sym, ap, _∙_}
 use mathlib.Core.List.{List}
 use mathlib.Core.Bool.{true}
 use mathlib.Core.Logic.{_≢_}
-use native.Mathlib.Decide.{ℕ-discrete}
+use native.Mathlib.Decide.{ℕ-discrete, decLt}
 use native.Mathlib.Omega.{arith}
 use lib.Dec.{eqb}
 use lib.ListN.{length, length-set}
@@ -15,19 +15,15 @@ use Rattle.model.specs.declared.Head.{Head}
 use Rattle.model.specs.declared.Lease.{Lease}
 use Rattle.laws.specs.Shape.{Shaped, shaped, healthy}
 use Rattle.laws.specs.Words.{length-set-cell, length-set-waiters, bit-set, bit-set-other, owner-set-other, bit-set-waiters, owner-set-waiters, Seen, here, there, see}
-use Rattle.history.specs.World.{World, cells, Live, Legal, step, Sound, one, bits, Kind, kind-of, code, takes, releases, Releases, Spent}
+use Rattle.history.specs.World.{World, cells, Live, Legal, step, Whole, Apart, one, bits, Kind, kind-of, code, takes, releases, Releases, Spent}
 use Rattle.history.specs.Tests.{Status, free, held, undamaged, not-damaged, free-words, Alive, alive, live, same-lease}
 
--- ---- a sound arena, as facts about its words
-
-abbrev pub Apart : List ℕ → ℕ → Type 0
-Apart t n = (c d : ℕ) → c < n → d < n → bitAt t c ≡ 1 → bitAt t d ≡ 1 → ownerAt t c ≡ ownerAt t d → c ≡ d
+-- ---- a whole arena, as facts about its words
 
 pub record Good (w : World) : Type 0 where
   pub shape : Shaped (w .head) (length (w .table))
   pub health-is : length (w .health) ≡ w .head .headers
   pub status : (c : ℕ) → c < cells w → Status (bitAt (w .table) c) (ownerAt (w .table) c) (w .head .next)
-  pub apart : Apart (w .table) (cells w)
 
 pub fits : (h : Head) (words : ℕ) → Shaped h words → shapeFits h words ≡ true
 unfolding headFits shapeFits
@@ -48,36 +44,22 @@ pub issued : {b o n : ℕ} → Status b o n → b ≡ 1 → (1 ≤ o) × (o < n)
 issued (free b o) h = absurd (omega arith)
 issued (held b o p) h = (o, p)
 
-pub good : (w : World) → Sound w → Good w
+pub good : (w : World) → Whole w → Good w
 unfolding stateAt
 good w s =
     record {
       shape = shaped (w .head) (length (w .table)) (s .fits);
       health-is = healthy (w .head) (length (w .health)) (s .healthy);
-      status = status;
-      apart = λ c d p q x y e.
-          s .apart c d (ownerAt (w .table) c) (is-live c (ownerAt (w .table) c) p x refl) (is-live d (ownerAt (w .table) c) q y (sym e));
+      status = λ c l. undamaged (w .head .next) (bitAt (w .table) c) (ownerAt (w .table) c) (s .undamaged c l);
     }
-  where
-    status : (c : ℕ) → c < cells w → Status (bitAt (w .table) c) (ownerAt (w .table) c) (w .head .next)
-    status c l = undamaged (w .head .next) (bitAt (w .table) c) (ownerAt (w .table) c) (s .whole c l)
 
-    is-live : (c s : ℕ) → c < cells w → bitAt (w .table) c ≡ 1 → ownerAt (w .table) c ≡ s → Live w (leaseOf c s)
-    is-live c s l b o =
-        let i = issued (status c l) b in
-        live (w .head .next) (cells w) (w .table) (leaseOf c s) (record { in-range = l; bit-is = b; owner-is = o; low = omega arith; high = omega arith })
-
-pub sound : (w : World) → Good w → Sound w
+pub whole : (w : World) → Good w → Whole w
 unfolding stateAt healthFits
-sound w g =
+whole w g =
     record {
       fits = fits (w .head) (length (w .table)) (g .shape);
       healthy = eq-eqb (length (w .health)) (w .head .headers) (g .health-is);
-      whole = λ c l. not-damaged (w .head .next) (bitAt (w .table) c) (ownerAt (w .table) c) (g .status c l);
-      apart = λ c d s x y.
-          let p = alive (w .head .next) (cells w) (w .table) (leaseOf c s) x in
-          let q = alive (w .head .next) (cells w) (w .table) (leaseOf d s) y in
-          g .apart c d (p .in-range) (q .in-range) (p .bit-is) (q .bit-is) (p .owner-is ∙ sym (q .owner-is));
+      undamaged = λ c l. not-damaged (w .head .next) (bitAt (w .table) c) (ownerAt (w .table) c) (g .status c l);
     }
 
 -- the facts of a live lease
@@ -111,19 +93,8 @@ status-put cells n t c b o e new old d k = go (ℕ-discrete d c)
         here-put (there y _ _) = absurd (y x)
     go (no x) = rw (bit-set-other t c b o d x, owner-set-other t c b o d x) (old d k)
 
-module _ (w : World) (g : Good w) (c : ℕ) (l : c < cells w) where
-  -- what is written is free, or held by a serial that owns nothing
-  apart-put : (b o : ℕ) → (b ≡ 1 → (d : ℕ) → d < cells w → bitAt (w .table) d ≡ 1 → ownerAt (w .table) d ≢ o) → Apart (setCell (w .table) c b o) (cells w)
-  apart-put b o new d e k m x y z = go (see (w .table) c b o d (omega (arith, at w (fit g) c l))) (see (w .table) c b o e (omega (arith, at w (fit g) c l)))
-    where
-      go : Seen (w .table) c b o d → Seen (w .table) c b o e → d ≡ e
-      go (here p _ _) (here q _ _) = omega arith
-      go (here p p₁ p₂) (there q q₁ q₂) = absurd (new (omega arith) e m (omega arith) (omega arith))
-      go (there p p₁ p₂) (here q q₁ q₂) = absurd (new (omega arith) d k (omega arith) (omega arith))
-      go (there p p₁ p₂) (there q q₁ q₂) = g .apart d e k m (omega arith) (omega arith) (omega arith)
-
 -- another table, and perhaps another next serial
-reshaped : (h : Head) (n m words : ℕ) → Shaped h m → 1 ≤ n → n ≤ lastSerial → words ≡ m → Shaped (spentTo h n) words
+pub reshaped : (h : Head) (n m words : ℕ) → Shaped h m → 1 ≤ n → n ≤ lastSerial → words ≡ m → Shaped (spentTo h n) words
 reshaped h n m words s a b e =
     record {
       some-headers = s .some-headers;
@@ -147,7 +118,6 @@ good-step w (took a c s) g l =
       shape = reshaped (w .head) (w .head .next + 1) (length (w .table)) (length (setCell (w .table) c 1 s)) (g .shape) (omega arith) (omega arith) (length-set-cell (w .table) c 1 s);
       health-is = g .health-is;
       status = status-put (cells w) (w .head .next + 1) (w .table) c 1 s (g .shape .words-are) (held refl (omega (arith, g .shape .low)) (omega arith)) (λ d k. older (g .status d k));
-      apart = apart-put w g c (l .0 .0) 1 s (λ _ d k b. omega (arith, issued (g .status d k) b .1));
     }
 good-step w (released a c s) g l =
     let i = lives w (leaseOf c s) l .in-range in
@@ -155,16 +125,14 @@ good-step w (released a c s) g l =
       shape = reshaped (w .head) (w .head .next) (length (w .table)) (length (setCell (w .table) c 0 0)) (g .shape) (g .shape .low) (g .shape .high) (length-set-cell (w .table) c 0 0);
       health-is = g .health-is;
       status = status-put (cells w) (w .head .next) (w .table) c 0 0 (g .shape .words-are) (free refl refl) (g .status);
-      apart = apart-put w g c i 0 0 (omega arith);
     }
 good-step w (waiters-set c n) g l =
     record {
       shape = reshaped (w .head) (w .head .next) (length (w .table)) (length (setWaiters (w .table) c n)) (g .shape) (g .shape .low) (g .shape .high) (length-set-waiters (w .table) c n);
       health-is = g .health-is;
       status = λ d k. simp (bit-set-waiters, owner-set-waiters) (g .status d k);
-      apart = simp (bit-set-waiters, owner-set-waiters) (g .apart);
     }
-good-step w (health-set i n) g l = record { shape = g .shape; health-is = length-set (w .health) i n ∙ g .health-is; status = g .status; apart = g .apart }
+good-step w (health-set i n) g l = record { shape = g .shape; health-is = length-set (w .health) i n ∙ g .health-is; status = g .status }
 good-step w (held-all m) g l = g
 good-step w (added m c v) g l = g
 
@@ -285,6 +253,39 @@ spent-step w e s g k p =
       owns-none = λ c v. p .owns-none c (live-before w e (leaseOf c s) g k v (p .was-issued));
     }
 
+-- ---- no serial owns two cells
+
+-- a serial that an event issues is the cell's that it took
+new-owner : (w : World) (a : Actor) (c s : ℕ) → Good w → Legal w (took a c s) → (d n : ℕ) → (n < w .head .next → ⊥)
+    → Live (step w (took a c s)) (leaseOf d n) → d ≡ c
+new-owner w a c s g k d n old v = go (see (w .table) c 1 s d (omega (arith, at w (fit g) c (k .0 .0)))) (lives (step w (took a c s)) (leaseOf d n) v)
+  where
+    go : Seen (w .table) c 1 s d → Alive (w .head .next + 1) (cells w) (setCell (w .table) c 1 s) (leaseOf d n) → d ≡ c
+    go (here e p q) x = e
+    go (there e p q) x =
+        absurd (old (omega (arith, x .owner-is, issued (g .status d (x .in-range)) (sym p ∙ x .bit-is) .1)))
+
+late-apart : (w : World) (e : Event) → Good w → Legal w e → (c d s : ℕ) → (s < w .head .next → ⊥)
+    → Live (step w e) (leaseOf c s) → Live (step w e) (leaseOf d s) → c ≡ d
+late-apart w attempt-begun g k c d s n x y = absurd (n (lives w (leaseOf c s) x .high))
+late-apart w boundary-run g k c d s n x y = absurd (n (lives w (leaseOf c s) x .high))
+late-apart w yielded g k c d s n x y = absurd (n (lives w (leaseOf c s) x .high))
+late-apart w spun g k c d s n x y = absurd (n (lives w (leaseOf c s) x .high))
+late-apart w step-dropped g k c d s n x y = absurd (n (lives w (leaseOf c s) x .high))
+late-apart w (took a i m) g k c d s n x y = new-owner w a i m g k c s n x ∙ sym (new-owner w a i m g k d s n y)
+late-apart w (released a i m) g k c d s n x y = absurd (n (lives (step w (released a i m)) (leaseOf c s) x .high))
+late-apart w (waiters-set i m) g k c d s n x y = absurd (n (lives (step w (waiters-set i m)) (leaseOf c s) x .high))
+late-apart w (health-set i m) g k c d s n x y = absurd (n (lives w (leaseOf c s) x .high))
+late-apart w (held-all i) g k c d s n x y = absurd (n (lives w (leaseOf c s) x .high))
+late-apart w (added i j v) g k c d s n x y = absurd (n (lives w (leaseOf c s) x .high))
+
+pub apart-step : (w : World) (e : Event) → Good w → Legal w e → Apart w → Apart (step w e)
+apart-step w e g k a c d s x y = go (decLt s (w .head .next))
+  where
+    go : Dec (s < w .head .next) → c ≡ d
+    go (yes o) = a c d s (live-before w e (leaseOf c s) (fit g) k x o) (live-before w e (leaseOf d s) (fit g) k y o)
+    go (no n) = late-apart w e g k c d s n x y
+
 pub bits-same : (n : ℕ) (t u : List ℕ) → ((d : ℕ) → d < n → bitAt t d ≡ bitAt u d) → bits n t ≡ bits n u
 unfolding bits
 bits-same zero t u h = refl
@@ -307,7 +308,7 @@ bits-put : (n : ℕ) (t : List ℕ) (c b o : ℕ) → c < n → 3 * c + 2 < leng
 bits-put n t c b o l h =
     bits-change n (setCell t c b o) t c l (λ d e. bit-set-other t c b o d e) ∙ ap (λ (x : ℕ). bits n t + one (eqb x 1)) (bit-set t c b o (omega arith))
 
-pub bits-step : (w : World) (e : Event) → Good w → Legal w e
+pub bits-step : (w : World) (e : Event) → Fit w → Legal w e
     → bits (cells w) (step w e .table) + counts releases e ≡ bits (cells w) (w .table) + counts takes e
 bits-step w attempt-begun g k = refl
 bits-step w boundary-run g k = refl
@@ -315,10 +316,10 @@ bits-step w yielded g k = refl
 bits-step w spun g k = refl
 bits-step w step-dropped g k = refl
 bits-step w (took a c s) g k =
-    omega (arith, bits-put (cells w) (w .table) c 1 s (k .0 .0) (at w (fit g) c (k .0 .0)), ap (λ (x : ℕ). one (eqb x 1)) (free-words (w .head .next) (w .table) c (k .0 .1) .0))
+    omega (arith, bits-put (cells w) (w .table) c 1 s (k .0 .0) (at w g c (k .0 .0)), ap (λ (x : ℕ). one (eqb x 1)) (free-words (w .head .next) (w .table) c (k .0 .1) .0))
 bits-step w (released a c s) g k =
     let i = lives w (leaseOf c s) k in
-    omega (arith, bits-put (cells w) (w .table) c 0 0 (i .in-range) (at w (fit g) c (i .in-range)), ap (λ (x : ℕ). one (eqb x 1)) (i .bit-is))
+    omega (arith, bits-put (cells w) (w .table) c 0 0 (i .in-range) (at w g c (i .in-range)), ap (λ (x : ℕ). one (eqb x 1)) (i .bit-is))
 bits-step w (waiters-set c n) g k = ap (λ (x : ℕ). x + 0) (bits-same (cells w) (setWaiters (w .table) c n) (w .table) (λ d l. bit-set-waiters (w .table) c n d))
 bits-step w (health-set i n) g k = refl
 bits-step w (held-all m) g k = refl
@@ -333,19 +334,3 @@ taken-live w a c g l = go (see (w .table) c 1 (w .head .next) c (omega (arith, a
         live (w .head .next + 1) (cells w) (setCell (w .table) c 1 (w .head .next)) (leaseOf c (w .head .next))
         (record { in-range = l; bit-is = p; owner-is = q; low = g .shape .low; high = omega arith })
     go (there e p q) = absurd (e refl)
-
--- a lease that is released is gone: its serial owns nothing
-pub released-spent : (w : World) (a : Actor) (c s : ℕ) → Good w → Live w (leaseOf c s) → Spent (step w (released a c s)) s
-released-spent w a c s g v =
-    let x = lives w (leaseOf c s) v in
-    record {
-      was-issued = x .high;
-      owns-none = λ d u.
-          let y = lives w (leaseOf d s) (live-before w (released a c s) (leaseOf d s) (fit g) v u (x .high)) in
-          go d (g .apart d c (y .in-range) (x .in-range) (y .bit-is) (x .bit-is) (y .owner-is ∙ sym (x .owner-is))) (lives (step w (released a c s)) (leaseOf d s) u)
-          (see (w .table) c 0 0 d (omega (arith, at w (fit g) c (x .in-range))));
-    }
-  where
-    go : (d : ℕ) → d ≡ c → Alive (w .head .next) (cells w) (setCell (w .table) c 0 0) (leaseOf d s) → Seen (w .table) c 0 0 d → ⊥
-    go d e u (here p q r) = omega (arith, u .bit-is)
-    go d e u (there p q r) = p e

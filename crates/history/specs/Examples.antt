@@ -15,18 +15,21 @@ use Rattle.model.specs.Foreign.{stepTakeOf, stepReleaseOf, stepWaitersOf, stepH
 use Rattle.model.specs.Lock.{takeOf, lateOf, secondOf, lockOf, findOf, attemptOf, spinOf, pauseOf, retryOf, giveBackOf, rollbackOf, leaseAt, locksOf}
 use Rattle.model.specs.Checks.{notLive, badBindings, notReleasable, prepareRules, cellRules, leaseRules, scriptRules, lockRules, bucketRules, releaseRules, locksRules}
 use Rattle.model.specs.Calls.{prepareOf, acquireOf, tryAcquireOf, dropLeaseOf, competingAcquireOf, tryLockOf, acquireBucketOf, releaseAllOf, acquireLocksOf, environmentOf, countsOf}
+use Rattle.model.specs.Salvage.{keptOf, mendedCell, mendedTable, mendedByte, mendedHealth, changeOf, changesFrom, changesOf, heldFrom, leftHeld, overOf, isReportFull, mendOf, goOverOf, salvageOf}
 use Rattle.model.specs.Crew.{total, startOf, allWithin, risesFrom, badLists, badTurns, crewRules, crewAtWorkRules, crewOf, crewAtWorkOf}
 use Rattle.model.specs.declared.Answer.the-variants.{Done, Granted, AllGranted, Busy, Refused, RefusedAt}
 use Rattle.model.specs.declared.CrewReply.{CrewReply}
+use Rattle.model.specs.declared.Head.{Head}
 use Rattle.model.specs.declared.Lease.{Lease}
 use Rattle.model.specs.declared.Reason.the-variants as reason
 use Rattle.model.specs.declared.Refusal.the-variants.{Poisoned, InvalidBucket, NotHeld, BadCrew, Damaged, BadShape}
+use Rattle.model.specs.declared.SalvageAnswer.the-variants as salvaged
 use Rattle.history.specs.World.{World, worldOf, Live, Healthy, now, Sound, Spent, Unreleased, number-of, takes}
-use Rattle.history.specs.Items.{Call, Says, acquire-bucket, try-lock, drop-lease, competing-acquire, release-all, acquire-locks, environment, try-acquire, perform, foreign, Item, call, foreign-step, preparation, Course, courseOf, cold, next-item, run, preparing, held-of, Entry, noted, preparation-over, entryOf, events-of, saying, says}
-use Rattle.history.specs.Statements.{Ledger, answers, leaves, log-of, Hands-over, Rolled-back, buffer-in, Fails}
+use Rattle.history.specs.Items.{Call, Says, salvage, salvaging, acquire-bucket, try-lock, drop-lease, competing-acquire, release-all, acquire-locks, environment, try-acquire, perform, foreign, Item, call, foreign-step, preparation, Course, courseOf, cold, next-item, run, preparing, held-of, Entry, noted, preparation-over, entryOf, events-of, history-of, saying, says}
+use Rattle.history.specs.Statements.{Begins, Fresh, Ledger, answers, leaves, log-of, Hands-over, Rolled-back, buffer-in, Fails}
 use Rattle.history.specs.Reasons.{Takes-nothing}
 use Rattle.history.specs.Callers.{singles}
-use Rattle.history.specs.Theorems.{demand-2, forgets, nothing-kept, held-live, changes-nothing, crew-refused, crew-at-work-refused, named, take-is-call, nothing-new, rollback-is, two-writers, granted-healthy, holder-lives, early-takes-nothing, late-is-spent, locks-healthy, poisoned-holds-nothing}
+use Rattle.history.specs.Theorems.{demand-2, prepared-sound, forgets, salvage-refused-stays, nothing-kept, held-live, changes-nothing, crew-refused, crew-at-work-refused, named, take-is-call, nothing-new, rollback-is, two-writers, granted-healthy, holder-lives, early-takes-nothing, late-is-spent, locks-healthy, poisoned-holds-nothing}
 use Rattle.history.specs.Tests.{differ}
 use Rattle.history.specs.Events.{lives}
 
@@ -110,7 +113,13 @@ unfolding preparing prepareOf prepareRules first headFits shapeFits healthFits
 boot-done = refl
 
 pub day-kept : Ledger the-day
-day-kept = subst Ledger day-is (demand-2 rubbish 2 4 1 day boot-done)
+day-kept = subst Ledger day-is (demand-2 rubbish boot day boot-done)
+
+-- `prepared-sound`
+pub day-sound : (before after : List Event) → events-of entries ≡ before ++ after → Sound (now prepared before)
+day-sound =
+    subst (λ (k : Course). Fresh (k .origin) → (before after : List Event) → history-of k ≡ before ++ after → Sound (now (k .origin) before)) day-is
+    (prepared-sound rubbish boot day boot-done) refl
 
 -- `forgets`: the same day over other RAM
 abbrev other-rubbish : World
@@ -172,13 +181,31 @@ pub refused-again : (after (day ++ (preparation 2 5 1 ∷ [])) ≡ noted the-day
 unfolding run next-item preparing perform foreign bitAt ownerAt waitersAt setCell setWaiters isFree isHeld stateOf stateAt isLive leasesOf sameLease isIn headFits shapeFits healthFits registryFits first stepReleaseOf stepTakeOf stepWaitersOf stepOf runStepsOf boundaryOf takeOf lateOf secondOf lockOf findOf attemptOf retryOf giveBackOf notLive notReleasable prepareRules leaseRules scriptRules lockRules bucketRules releaseRules prepareOf dropLeaseOf tryLockOf acquireBucketOf releaseAllOf
 refused-again = (refl, refl)
 
+-- ---- document 02, L6: a salvage at the end of the day, with the head in force on paper. Cell 3 is waited for, so its report has one entry
+
+abbrev on-paper : Head
+on-paper = headOf 2 4 4
+
+pub salvaged-then : (after (day ++ (salvage on-paper (replicate 3 9) [] ∷ [])) ≡ cold (worldOf on-paper (replicate 24 0) (replicate 2 0)))
+    × (salvaging on-paper (the-day .world .table) (the-day .world .health) (replicate 3 9) [] .0 ≡ salvaged.Done 1 0)
+unfolding run next-item preparing salvaging perform foreign bitAt ownerAt waitersAt setCell setWaiters isFree isHeld stateOf stateAt isLive leasesOf wordsOf sameLease isIn headFits shapeFits healthFits registryFits first stepTakeOf stepReleaseOf stepWaitersOf stepHealthOf stepOf runStepsOf boundaryOf takeOf lateOf secondOf lockOf findOf attemptOf spinOf pauseOf retryOf giveBackOf rollbackOf locksOf notLive badBindings notReleasable prepareRules cellRules leaseRules scriptRules lockRules bucketRules releaseRules locksRules prepareOf acquireOf tryAcquireOf dropLeaseOf environmentOf tryLockOf acquireBucketOf releaseAllOf acquireLocksOf keptOf mendedCell mendedTable mendedByte mendedHealth changeOf changesFrom changesOf heldFrom leftHeld overOf isReportFull mendOf goOverOf salvageOf
+salvaged-then = (refl, refl)
+
+-- `salvage-refused-stays`: with no report it is refused, and the day goes on
+full-then : Begins (the-day .world) (salvage on-paper [] []) → ⊥
+unfolding salvaging bitAt ownerAt setWaiters isFree isHeld stateOf headFits shapeFits healthFits first prepareRules keptOf mendedCell mendedTable mendedByte mendedHealth changeOf changesFrom changesOf heldFrom leftHeld overOf isReportFull mendOf goOverOf salvageOf
+full-then d = let q : salvaged.ReportFull ≡ salvaged.Done (d .0) (d .1) = d .2 in let z : _≡_ {A = ℕ} 0 1 = cc in omega arith
+
+pub unsalvaged-then : next-item the-day (salvage on-paper [] []) ≡ the-day
+unsalvaged-then = salvage-refused-stays the-day on-paper [] [] full-then
+
 -- ---- one call, in the prepared world and in the one after the grant
 
 abbrev granted : World
 granted = now prepared granting
 
 pub both-sound : Sound prepared × Sound granted
-both-sound = (day-kept .sound [] _ refl, day-kept .sound granting _ refl)
+both-sound = (day-sound [] _ refl, day-sound granting _ refl)
 
 -- `changes-nothing`: number 12
 pub mistake-refused : (answers granted mistake ≡ Refused (NotHeld 0)) × (leaves granted mistake ≡ granted)
@@ -303,7 +330,7 @@ valve-is = refl
 
 pub valve-released : (a : Actor) × (before middle after : List Event)
     × (events-of meanwhile ++ second-grant .events ≡ before ++ (released a 2 1 ∷ (middle ++ (took by-caller 2 2 ∷ after))))
-valve-released = two-writers rubbish 2 4 1 valve boot-done [] meanwhile [] first-grant second-grant 2 1 2 valve-is refl refl
+valve-released = two-writers rubbish boot valve boot-done [] meanwhile [] first-grant second-grant 2 1 2 valve-is refl refl
 
 -- ---- cold RAM: every cell is damaged but cell 0, and nobody waits for cell 1. The first key is locked, the second is refused as damaged, the first
 -- is given back

@@ -1,4 +1,4 @@
--- What a history is made of: calls of document 01 with any arguments, lone foreign steps, preparations.
+-- What a history is made of: calls of document 01 with any arguments, lone foreign steps, preparations, and document 02's salvages.
 use Prim.Native.Nat.{ℕ, _+_}
 use mathlib.Core.Path.{_≡_}
 use mathlib.Core.List.{List, [], _∷_, _++_}
@@ -13,10 +13,14 @@ use Rattle.model.specs.Checks.{cellRules, leaseRules, heldCellRules, heldLeaseR
 use Rattle.model.specs.Calls.{countsOf, given, prepareOf, tryAcquireOf, dropLeaseOf, readPermissionOf, competingAcquireOf, releaseThenHandoffOf, foreignReleaseOf, acquirePreservingOf, dropPreservingOf, environmentOf, tryLockOf, transactionalOf, acquireBucketOf, releaseAllOf, acquireLocksOf}
 use Rattle.model.specs.Sorted.{acquireSortedOf}
 use Rattle.model.specs.Crew.{crewRules, crewAtWorkRules, crewOf, crewAtWorkOf}
+use Rattle.model.specs.Salvage.{salvageOf}
 use Rattle.model.specs.declared.Answer.{Answer}
 use Rattle.model.specs.declared.Answer.the-variants.{Done, Cell, Granted, AllGranted, Busy, Refused, RefusedAt}
 use Rattle.model.specs.declared.Counts.{Counts}
+use Rattle.model.specs.declared.Head.{Head}
 use Rattle.model.specs.declared.Lease.{Lease}
+use Rattle.model.specs.declared.SalvageAnswer.{SalvageAnswer}
+use Rattle.model.specs.declared.SalvageAnswer.the-variants as salvaged
 use Rattle.history.specs.World.{World, worldOf}
 
 -- a call without its head, table and health: these are what the last item left
@@ -322,7 +326,7 @@ Build = World → Call → Made (World × Says)
 abbrev pub Stepper : Type 0
 Stepper = World → (kind place number : ℕ) → Made World
 
--- ---- a history, seen since its last preparation
+-- ---- a history, seen since its last start: a preparation, or a salvage
 
 pub data Item : Type 0 where
   call : Call → Item
@@ -330,6 +334,10 @@ pub data Item : Type 0 where
   -- a preparation of the arena's own runs; of other runs that are lent in their place, whatever they hold
   preparation : (headers buckets serial : ℕ) → Item
   preparation-over : (headers buckets serial : ℕ) (table health : List ℕ) → Item
+  -- "Power dips, RAM mostly survives, and I hold the last head on paper.": a salvage of the arena's own runs; of what the dip left in their
+  -- place, whatever it is
+  salvage : (paper : Head) (report list : List ℕ) → Item
+  salvage-over : (paper : Head) (table health report list : List ℕ) → Item
 
 -- what one item did, and what it said
 pub record Entry : Type 0 where
@@ -340,7 +348,7 @@ abbrev pub entryOf : List Event → Says → Entry
 entryOf es s = record { events = es; said = s }
 
 pub record Course : Type 0 where
-  -- the world that the last preparation left, what each item since did and said, and the world now
+  -- the world that the last start left, what each item since did and said, and the world now
   pub origin : World
   pub entries : List Entry
   pub world : World
@@ -348,7 +356,7 @@ pub record Course : Type 0 where
 abbrev pub courseOf : World → List Entry → World → Course
 courseOf o es w = record { origin = o; entries = es; world = w }
 
--- before the first preparation: cold RAM, whatever it holds. After one: the world that it left
+-- before the first start: cold RAM, whatever it holds. After one: the world that it left
 abbrev pub cold : World → Course
 cold w = courseOf w [] w
 
@@ -384,8 +392,20 @@ prepared-by (Busy why) w v k = noted k [] (saying (Busy why)) v
 prepared-by (Refused r) w v k = noted k [] (saying (Refused r)) v
 prepared-by (RefusedAt r p) w v k = noted k [] (saying (RefusedAt r p)) v
 
+-- what a salvage answers, and the world of the head and the runs that it hands back
+unfoldable pub salvaging : Head → (table health report list : List ℕ) → SalvageAnswer × World
+salvaging paper t g report list =
+    let o = salvageOf paper t g report list in
+    (o .0 .answer, worldOf (o .0 .head) (o .1 .0) (o .1 .1 .0))
+
+-- done: a new stretch begins in the salvaged world; refused: the stretch goes on in the world that stays, and nothing is noted
+abbrev pub salvaged-by : SalvageAnswer → (rescued stays : World) → Course → Course
+salvaged-by (salvaged.Done e n) w v k = cold w
+salvaged-by salvaged.BadShape w v k = courseOf (k .origin) (k .entries) v
+salvaged-by salvaged.ReportFull w v k = courseOf (k .origin) (k .entries) v
+
 -- refused, "the head before it stays the one in force": over the arena's own runs, with these as the preparation hands them back; other runs
--- leave the arena alone
+-- leave the arena alone. A refused salvage the same
 unfoldable pub next-item : Course → Item → Course
 next-item k (call c) = let m = perform (k .world) c in noted k (m .log) (m .seen .1) (m .seen .0)
 next-item k (foreign-step kind place number) = let m = foreign (k .world) kind place number in noted k (m .log) (saying Done) (m .seen)
@@ -395,6 +415,12 @@ next-item k (preparation headers buckets serial) =
 next-item k (preparation-over headers buckets serial t g) =
     let p = preparing headers buckets serial t g in
     prepared-by (p .0) (p .1) (k .world) k
+next-item k (salvage paper report list) =
+    let p = salvaging paper (k .world .table) (k .world .health) report list in
+    salvaged-by (p .0) (p .1) (worldOf (k .world .head) (p .1 .table) (p .1 .health)) k
+next-item k (salvage-over paper t g report list) =
+    let p = salvaging paper t g report list in
+    salvaged-by (p .0) (p .1) (k .world) k
 
 unfoldable pub run : Course → List Item → Course
 run k [] = k

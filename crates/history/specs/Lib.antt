@@ -16,6 +16,7 @@ pub mod Steps
 pub mod Many
 pub mod Crew
 pub mod Calls
+pub mod Salvages
 pub mod Courses
 pub mod Owing
 pub mod Returns

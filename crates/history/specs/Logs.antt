@@ -6,8 +6,8 @@ use native.Mathlib.Omega.{arith}
 use Rattle.model.specs.Log.{Event}
 use Rattle.model.specs.Arena.{spentTo}
 use Rattle.model.specs.declared.Lease.{Lease}
-use Rattle.history.specs.World.{World, cells, Live, Legal, step, now, Lawful, bits, takes, releases, number-of, Releases, Unreleased, Spent}
-use Rattle.history.specs.Events.{Good, good-step, Fit, fit-step, same-arena, keep-step, next-step, spent-step, bits-step}
+use Rattle.history.specs.World.{World, cells, Live, Apart, Legal, step, now, Lawful, bits, takes, releases, number-of, Releases, Unreleased, Spent}
+use Rattle.history.specs.Events.{Good, good-step, apart-step, Fit, fit-step, same-arena, keep-step, next-step, spent-step, bits-step}
 
 -- ---- logs one behind the other
 
@@ -37,6 +37,10 @@ pub good-now : (w : World) (es : List Event) → Good w → Lawful w es → Good
 good-now w [] g t = g
 good-now w (e ∷ es) g t = good-now (step w e) es (good-step w e g (t .0)) (t .1)
 
+pub apart-now : (w : World) (es : List Event) → Good w → Lawful w es → Apart w → Apart (now w es)
+apart-now w [] g t a = a
+apart-now w (e ∷ es) g t a = apart-now (step w e) es (good-step w e g (t .0)) (t .1) (apart-step w e g (t .0) a)
+
 pub fit-now : (w : World) (es : List Event) → Fit w → Lawful w es → Fit (now w es)
 fit-now w [] f t = f
 fit-now w (e ∷ es) f t = fit-now (step w e) es (fit-step w e f (t .0)) (t .1)
@@ -50,13 +54,13 @@ unfolding number-of
 next-now w [] = omega arith
 next-now w (e ∷ es) = omega (arith, next-now (step w e) es, next-step w e)
 
-pub bits-now : (w : World) (es : List Event) → Good w → Lawful w es
+pub bits-now : (w : World) (es : List Event) → Fit w → Lawful w es
     → bits (cells w) (now w es .table) + number-of releases es ≡ bits (cells w) (w .table) + number-of takes es
 unfolding number-of
 bits-now w [] g t = omega arith
 bits-now w (e ∷ es) g t =
     let same : cells (step w e) ≡ cells w = ap (λ h. h .headers * h .buckets) (same-arena w e) in
-    omega (arith, rw same at (bits-now (step w e) es (good-step w e g (t .0)) (t .1)), bits-step w e g (t .0))
+    omega (arith, rw same at (bits-now (step w e) es (fit-step w e g (t .0)) (t .1)), bits-step w e g (t .0))
 
 pub keep-now : (w : World) (es : List Event) (l : Lease) → Fit w → Lawful w es → Live w l → Unreleased l es → Live (now w es) l
 keep-now w [] l g t v u = v

@@ -22,7 +22,7 @@ use Rattle.model.specs.declared.Stepped.{Stepped}
 use Rattle.model.specs.declared.Took.{Took}
 use Rattle.choice.specs.Pick.{both}
 use Rattle.history.specs.World.{World, worldOf, cells, Free, Live, Legal, step, now, Lawful}
-use Rattle.history.specs.Items.{Says, says, try-acquire, drop-lease, perform, foreign, Item, preparation, Course, next-item, run, Call, cold, foreign-step, history-of, call, noted, saying, entryOf}
+use Rattle.history.specs.Items.{Says, says, try-acquire, drop-lease, perform, foreign, Item, Course, next-item, run, Call, cold, foreign-step, history-of, call, noted, saying, entryOf}
 use Rattle.history.specs.Statements.{answers, leaves, log-of}
 use Rattle.history.specs.Callers.{Shape-fits, Takes-alike, Take-is-call, Releases-alike, Release-is-call, single, singles, replay, replays, By-single-calls, Histories-single, Played-singly}
 use Rattle.history.specs.Tests.{differ, free-words, is-free-state, if-cases}
@@ -226,7 +226,7 @@ by-single-calls w k before after e = at-point (Played-singly w) w k before after
     nothing-played = let p = no-item (cold w) in record { did = p .did; left = p .left }
 
 pub histories-single : Histories-single
-histories-single rubbish headers buckets serial items d before after e =
-    let w = run (cold rubbish) (preparation headers buckets serial ∷ items) in
-    let s = through rubbish headers buckets serial items d .stretch in
+histories-single rubbish start items d before after e =
+    let w = run (cold rubbish) (start ∷ items) in
+    let s = through rubbish start items d .stretch in
     played-singly (w .origin) before (fit (s .good)) (lawful-split (w .origin) before after (subst (Lawful (w .origin)) e (s .lawful)) .0)

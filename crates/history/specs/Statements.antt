@@ -1,5 +1,5 @@
 -- What demand 2 says, as statements: of a history, and of one call. `World` and `Items` have the words they are made of, `Theorems` gives
--- their proofs by name. What stands in quotes is of the work order or of document 01. A statement about one call is one of any build, any
+-- their proofs by name. What stands in quotes is of the work order or of document 01 or 02. A statement about one call is one of any build, any
 -- function that answers calls: `Theorems` proves it of ours, `perform`, and crate `builds` proves that wrong builds fail it.
 use Prim.Native.Nat.{ℕ, _+_, _*_, _≤_, _<_}
 use mathlib.Core.Path.{_≡_}
@@ -14,49 +14,106 @@ use Rattle.model.specs.Foreign.{stepsIn, kindAt, placeAt, numberAt}
 use Rattle.model.specs.Lock.{leaseAt}
 use Rattle.model.specs.Checks.{countIn}
 use Rattle.model.specs.Calls.{countsOf}
+use Rattle.model.specs.Salvage.{salvageOf}
 use Rattle.model.specs.declared.Answer.{Answer}
 use Rattle.model.specs.declared.Answer.the-variants.{Done, Cell, Granted, AllGranted, Busy, Refused, RefusedAt}
 use Rattle.model.specs.declared.CrewReply.{CrewReply}
 use Rattle.model.specs.declared.Head.{Head}
 use Rattle.model.specs.declared.Lease.{Lease}
 use Rattle.model.specs.declared.Refusal.{Refusal}
-use Rattle.history.specs.World.{World, worldOf, cells, Live, now, Lawful, Sound, Spent, Unreleased, caller-releases, bits, number-of, attempts, boundaries, yields, drops, takes, releases}
-use Rattle.history.specs.Items.{Call, release-all, acquire-locks, By-keys, script-of, place-of, held-of, given-up, buffer, ByCell, IsCrew, asked, keyCell, Says, saying, perform, Build, Stepper, Item, preparation, Course, cold, noted, history-of, preparing, next-item, run}
+use Rattle.history.specs.World.{World, worldOf, cells, Live, now, Lawful, Sound, Spent, Unreleased, caller-releases, bits, number-of, attempts, boundaries, yields, drops, takes, releases, Whole, Apart}
+use Rattle.history.specs.Items.{Call, release-all, acquire-locks, By-keys, script-of, place-of, held-of, given-up, buffer, ByCell, IsCrew, asked, keyCell, Says, saying, perform, Build, Stepper, Item, preparation, Course, cold, noted, history-of, preparing, next-item, run, call, foreign-step, preparation-over, salvage, salvage-over, salvaging}
+use Rattle.model.specs.declared.SalvageAnswer.the-variants as salvaged
 
--- ---- the ledger of a history: what holds of every stretch from a preparation, at every point of it. A point is a place in the log: the
--- world there is what the events before it make of the first.
+-- ---- where a stretch of a history begins: "Demand 2 now starts from a prepared or a salvaged table."
+
+-- the item is done, and what it leaves is a start: a preparation or a salvage, of the arena's own runs or of others
+abbrev pub Begins : World → Item → Type 0
+Begins w (call c) = ⊥
+Begins w (foreign-step kind place number) = ⊥
+Begins w (preparation headers buckets serial) = preparing headers buckets serial (w .table) (w .health) .0 ≡ Done
+Begins w (preparation-over headers buckets serial t g) = preparing headers buckets serial t g .0 ≡ Done
+Begins w (salvage paper report list) = (e n : ℕ) × (salvaging paper (w .table) (w .health) report list .0 ≡ salvaged.Done e n)
+Begins w (salvage-over paper t g report list) = (e n : ℕ) × (salvaging paper t g report list .0 ≡ salvaged.Done e n)
+
+-- "Preparing .. sets every table word and health byte to 0."
+abbrev pub Fresh : World → Type 0
+Fresh w = w ≡ worldOf (w .head) (replicate (3 * cells w) 0) (replicate (w .head .headers) 0)
+
+-- the head on paper, with what a salvage makes of the runs
+abbrev pub rescued : Head → (table health report list : List ℕ) → World
+rescued h t g report list = let o = salvageOf h t g report list in worldOf h (o .1 .0) (o .1 .1 .0)
+
+-- the world that a start left: all zeros, or what a salvage that is done leaves
+pub data Begun (w : World) : Type 0 where
+  by-preparation : Fresh w → Begun w
+  by-salvage : (h : Head) (t g report list : List ℕ) (e n : ℕ)
+      → salvageOf h t g report list .0 .answer ≡ salvaged.Done e n → w ≡ rescued h t g report list → Begun w
+
+-- no item of these is a start
+abbrev pub No-start : Course → List Item → Type 0
+No-start k [] = Unit {0}
+No-start k (i ∷ is) = (Begins (k .world) i → ⊥) × No-start (next-item k i) is
+
+-- ---- the ledger of a history: what holds of every stretch from a start, at every point of it. A point is a place in the log: the world
+-- there is what the events before it make of the first.
 
 pub record Ledger (k : Course) : Type 0 where
-  -- "Preparing .. sets every table word and health byte to 0."
-  pub fresh : k .origin ≡ worldOf (k .origin .head) (replicate (3 * cells (k .origin)) 0) (replicate (k .origin .head .headers) 0)
+  pub begun : Begun (k .origin)
   -- every event was legal in the state in which it happened, and the world now is what the events make of the first
   pub lawful : Lawful (k .origin) (history-of k)
   pub leads : k .world ≡ now (k .origin) (history-of k)
-  -- at every point: no damaged cell, each owner from 1 to next - 1, no serial owns two cells
-  pub sound : (before after : List Event) → history-of k ≡ before ++ after → Sound (now (k .origin) before)
+  -- at every point: no damaged cell, each owner from 1 to next - 1
+  pub whole : (before after : List Event) → history-of k ≡ before ++ after → Whole (now (k .origin) before)
+  -- at every point, if at the first: no serial owns two cells
+  pub apart : Apart (k .origin) → (before after : List Event) → history-of k ≡ before ++ after → Apart (now (k .origin) before)
   -- "until the next preparation a lease keeps its cell up to a release naming its cell and serial"
   pub keeps : (l : Lease) (before middle after : List Event) → history-of k ≡ before ++ (middle ++ after)
       → Live (now (k .origin) before) l → Unreleased l middle → Live (now (k .origin) (before ++ middle)) l
-  -- "a serial that was issued and owns nothing never owns again"
+  -- "a serial that was issued and owns nothing never owns again"; "For a salvaged one, a dead serial below next stays dead from there on, up
+  -- to the next preparation"
   pub never : (s : ℕ) (before middle after : List Event) → history-of k ≡ before ++ (middle ++ after)
       → Spent (now (k .origin) before) s → Spent (now (k .origin) (before ++ middle)) s
   -- each serial is issued at most once, to one cell
   pub once : (a b : Actor) (c d s : ℕ) (x x′ y y′ : List Event)
       → history-of k ≡ x ++ (took a c s ∷ x′) → history-of k ≡ y ++ (took b d s ∷ y′) → (x ≡ y) × (c ≡ d)
-  -- "next minus first serial = takes in the history; takes minus releases = cells with bit 1"
+  -- "next minus first serial = takes in the history"; "next minus the given next = takes since"
   pub issued : k .world .head .next ≡ k .origin .head .next + number-of takes (history-of k)
-  pub counted : bits (cells (k .world)) (k .world .table) + number-of releases (history-of k) ≡ number-of takes (history-of k)
+  -- "cells held at the start plus takes minus releases = cells with bit 1"
+  pub counted : bits (cells (k .world)) (k .world .table) + number-of releases (history-of k)
+      ≡ bits (cells (k .origin)) (k .origin .table) + number-of takes (history-of k)
 
 -- "From a prepared table, over any calls and foreign steps, each call given the head, table and health the last one left": what holds of
--- every history through a preparation that is done, whatever stood in RAM before it, and over any further items, preparations among them
+-- every history through a start, whatever stood in RAM before it, and over any further items, starts among them
 abbrev pub Through : (Course → Type 0) → Type 0
-Through P =
-    (rubbish : World) (headers buckets serial : ℕ) (items : List Item)
-    → preparing headers buckets serial (rubbish .table) (rubbish .health) .0 ≡ Done
-    → P (run (cold rubbish) (preparation headers buckets serial ∷ items))
+Through P = (rubbish : World) (start : Item) (items : List Item) → Begins rubbish start → P (run (cold rubbish) (start ∷ items))
 
 abbrev pub Demand-2 : Type 0
 Demand-2 = Through Ledger
+
+-- so the arena is sound at every point, if no serial owns two cells where the stretch begins
+abbrev pub Sound-if-apart : Type 0
+Sound-if-apart =
+    Through (λ k. Apart (k .origin) → (before after : List Event) → history-of k ≡ before ++ after → Sound (now (k .origin) before))
+
+-- ---- a stretch from a preparation
+
+-- what a preparation that is done leaves
+abbrev pub Prepared-fresh : Type 0
+Prepared-fresh =
+    (headers buckets serial : ℕ) (t g : List ℕ) → preparing headers buckets serial t g .0 ≡ Done → Fresh (preparing headers buckets serial t g .1)
+
+-- there no cell is held, so no serial owns two: sound at every point
+abbrev pub Prepared-sound : Type 0
+Prepared-sound =
+    Through (λ k. Fresh (k .origin) → (before after : List Event) → history-of k ≡ before ++ after → Sound (now (k .origin) before))
+
+-- "takes minus releases = cells with bit 1"
+abbrev pub Prepared-counted : Type 0
+Prepared-counted =
+    Through (λ k.
+    Fresh (k .origin)
+    → bits (cells (k .world)) (k .world .table) + number-of releases (history-of k) ≡ number-of takes (history-of k))
 
 -- "nothing afterwards depends on what stood there before"
 abbrev pub Forgets : Type 0
@@ -73,6 +130,12 @@ Refused-stays =
     (k : Course) (headers buckets serial : ℕ)
     → let a = preparing headers buckets serial (k .world .table) (k .world .health) .0 in
     (a ≡ Done → ⊥) → next-item k (preparation headers buckets serial) ≡ noted k [] (saying a) (k .world)
+
+-- "refuse ReportFull before the first change": a refused salvage, which reads the runs that the salvage hands back, leaves the history as it was
+abbrev pub Salvage-refused-stays : Type 0
+Salvage-refused-stays =
+    (k : Course) (paper : Head) (report list : List ℕ)
+    → (Begins (k .world) (salvage paper report list) → ⊥) → next-item k (salvage paper report list) ≡ k
 
 -- ---- of one call: its answer, its grant buffer, and the world that it leaves
 

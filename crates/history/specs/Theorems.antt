@@ -1,7 +1,7 @@
 -- The statements of `Statements`, `Answers` and `Callers`, each proved; the proofs are in the files behind.
 use Rattle.model.specs.Crew.{crewOf, crewAtWorkOf}
 use Rattle.history.specs.Items.{perform, foreign}
-use Rattle.history.specs.Statements.{Demand-2, Forgets, Refused-stays, Lawful-always, Counts-are, Changes-nothing, Crew-refused, Grant-is, Buffer-is, Given-live, Nothing-kept, Nothing-new, Falling-all, Rollback-is, Named, Named-alone, Held-live, Crew-at-work-refused}
+use Rattle.history.specs.Statements.{Demand-2, Sound-if-apart, Prepared-fresh, Prepared-sound, Prepared-counted, Forgets, Refused-stays, Salvage-refused-stays, Lawful-always, Counts-are, Changes-nothing, Crew-refused, Grant-is, Buffer-is, Given-live, Nothing-kept, Nothing-new, Falling-all, Rollback-is, Named, Named-alone, Held-live, Crew-at-work-refused}
 use Rattle.history.specs.Answers.{Handed-over, Granted-healthy, Locks-healthy, Poisoned-holds-nothing, Serials-rise, Not-over-live, Busy-or-refused, Locks-refused, Never-twice, Once-each, Two-writers, None-takes, Alone-until-released, Takes-parted}
 use Rattle.history.specs.Reasons.{Reasons-are, Early-takes-nothing, Holder-lives, Late-is-spent, Own-serial}
 use Rattle.history.specs.Callers.{Takes-alike, Take-is-call, Releases-alike, Release-is-call, By-single-calls, Histories-single}
@@ -20,16 +20,31 @@ use Rattle.history.specs.CountedCalls.{calls-counted}
 use Rattle.history.specs.Refused.{refusals-early, crew-unmoved, crew-at-work-unmoved}
 use Rattle.history.specs.NamedCalls.{calls-named, steps-named}
 
--- ---- a history from a preparation
+-- ---- a history from a preparation or a salvage
 
 pub demand-2 : Demand-2
 demand-2 = courses.histories-kept
+
+pub sound-if-apart : Sound-if-apart
+sound-if-apart = courses.sound-if-apart
+
+pub prepared-fresh : Prepared-fresh
+prepared-fresh = courses.prepared-fresh
+
+pub prepared-sound : Prepared-sound
+prepared-sound = courses.prepared-sound
+
+pub prepared-counted : Prepared-counted
+prepared-counted = courses.prepared-counted
 
 pub forgets : Forgets
 forgets = courses.histories-forget
 
 pub refused-stays : Refused-stays
 refused-stays = courses.refused-stays
+
+pub salvage-refused-stays : Salvage-refused-stays
+salvage-refused-stays = courses.salvage-refused-stays
 
 -- ---- one call
 

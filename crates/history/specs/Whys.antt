@@ -24,8 +24,7 @@ use Rattle.history.specs.World.{World, cells, Live, step, now, Lawful, S
 use Rattle.history.specs.Items.{Call, try-acquire, drop-lease, read-permission, competing-acquire, release-then-handoff, foreign-release, drop-preserving, acquire-preserving, environment, try-lock, transactional, acquire-bucket, release-all, acquire-locks, acquire-sorted, crew, crew-at-work, IsCrew, asked, perform}
 use Rattle.history.specs.Statements.{answer-in, leaves, log-of}
 use Rattle.history.specs.Events.{Fit, good, fit, lives, live-before}
-use Rattle.history.specs.Events as events
-use Rattle.history.specs.Logs.{now-append, lawful-split, good-now, arena-now, kept-fit}
+use Rattle.history.specs.Logs.{now-append, lawful-split, good-now, apart-now, arena-now, kept-fit}
 use Rattle.history.specs.Calls.{call-kept, call-fit}
 use Rattle.history.specs.CountedCalls.{calls-counted}
 use Rattle.history.specs.Judged.{performed}
@@ -268,14 +267,14 @@ late-is-spent w k s o sound q =
     let u = now w (x .up-to) in
     let e = released by-caller c s in
     let lawful = lawful-split w (x .up-to) (e ∷ []) (subst (Lawful w) (x .gives-up) (call-kept w k .kept .lawful)) in
-    let g = good-now w (x .up-to) (good w sound) (lawful .0) in
+    let g = good-now w (x .up-to) (good w (sound .whole)) (lawful .0) in
     let alive-then = lives u (leaseOf c s) (lawful .1 .0) in
     subst (λ (v : World). Spent v s) (sym (left w k c s (x .up-to) (x .gives-up)))
     (record {
       was-issued = alive-then .high;
       owns-none = λ d l.
           let before = live-before u e (leaseOf d s) (fit g) (lawful .1 .0) l (alive-then .high) in
-          let same : c ≡ d = events.sound u g .apart c d s (lawful .1 .0) before in
+          let same : c ≡ d = apart-now w (x .up-to) (good w (sound .whole)) (lawful .0) (sound .apart) c d s (lawful .1 .0) before in
           released-dead u (leaseOf c s) (fit g) (lawful .1 .0) (subst (λ (n : ℕ). Live (step u e) (leaseOf n s)) (sym same) l);
     })
 

@@ -72,12 +72,20 @@ Lawful w (e ∷ es) = Legal w e × Lawful (step w e) es
 
 -- ---- a sound arena: "no cell is damaged, owners are below next and no two cells have one owner"
 
-pub record Sound (w : World) : Type 0 where
+-- the first two: what every history has at every point
+pub record Whole (w : World) : Type 0 where
   pub fits : shapeFits (w .head) (length (w .table)) ≡ true
   pub healthy : healthFits (w .head) (length (w .health)) ≡ true
   -- free, or held: then the owner is from 1 to next - 1 (`stateOf`)
-  pub whole : (c : ℕ) → c < cells w → stateAt (w .head .next) (w .table) c ≡ state.Damaged → ⊥
-  pub apart : (c d s : ℕ) → Live w (leaseOf c s) → Live w (leaseOf d s) → c ≡ d
+  pub undamaged : (c : ℕ) → c < cells w → stateAt (w .head .next) (w .table) c ≡ state.Damaged → ⊥
+
+-- the third: a history from a preparation has it; one from a salvage, exactly if the salvaged arena has it
+abbrev pub Apart : World → Type 0
+Apart w = (c d s : ℕ) → Live w (leaseOf c s) → Live w (leaseOf d s) → c ≡ d
+
+pub record Sound (w : World) : Type 0 where
+  pub whole : Whole w
+  pub apart : Apart w
 
 -- ---- counting
 

@@ -23,9 +23,11 @@ use Rattle.model.specs.declared.Outcome.the-variants as outcome
 use Rattle.model.specs.declared.Reason.{Reason}
 use Rattle.model.specs.declared.Refusal.{Refusal}
 use Rattle.model.specs.declared.Run.{Run}
+use Rattle.model.specs.declared.SalvageAnswer.{SalvageAnswer}
+use Rattle.model.specs.declared.SalvageAnswer.the-variants as salvaged
 use Rattle.laws.specs.Prepared.{Outcome as Prepared, Came, was-done, was-refused, came}
 use Rattle.history.specs.World.{World, Live, step, now, Lawful, Releases, Unreleased, worldOf}
-use Rattle.history.specs.Items.{Call, Says, By-keys, in-order, any-order, try-acquire, drop-lease, read-permission, competing-acquire, release-then-handoff, foreign-release, drop-preserving, acquire-preserving, environment, try-lock, transactional, acquire-bucket, release-all, acquire-locks, acquire-sorted, crew, crew-at-work, perform, Item, call, foreign-step, preparation, prepared-by, preparing, next-item, run, cold, asked, Entry, entryOf, events-of, Course, keyCell, preparation-over}
+use Rattle.history.specs.Items.{Call, Says, By-keys, in-order, any-order, try-acquire, drop-lease, read-permission, competing-acquire, release-then-handoff, foreign-release, drop-preserving, acquire-preserving, environment, try-lock, transactional, acquire-bucket, release-all, acquire-locks, acquire-sorted, crew, crew-at-work, perform, Item, call, foreign-step, preparation, prepared-by, preparing, next-item, run, cold, asked, Entry, entryOf, events-of, Course, keyCell, preparation-over, salvage, salvage-over, salvaged-by, salvaging}
 use Rattle.history.specs.Statements.{Hands-over, answers, log-of, Gives, Through, buffer-in}
 use Rattle.history.specs.Answers.{Asks-one, Busy-or-refused, Locks-refused, Never-twice, None-takes, Not-over-live, Once-each, Takes-parted, Two-writers, Hands, Alone-until-released}
 use Rattle.history.specs.Tests.{free-words, same-lease, In, in-take}
@@ -33,7 +35,7 @@ use Rattle.history.specs.Events.{Fit, fit, fit-step, keep-step, lives, t
 use Rattle.history.specs.Logs.{now-append, lawful-split, fit-now, next-now}
 use Rattle.history.specs.Judged.{acting, judged-at, sorted-locks, steps, performed}
 use Rattle.history.specs.Calls.{words-leases, call-kept, call-fit}
-use Rattle.history.specs.Courses.{Stretch, run-stretch, events-append, begun}
+use Rattle.history.specs.Courses.{Stretch, run-stretch, events-append, begun, nothing-yet}
 use Rattle.history.specs.Returns.{not-empty}
 use Rattle.history.specs.ByKey.{grants-name}
 use Rattle.history.specs.Shared.{buffers-name}
@@ -116,6 +118,12 @@ prepared-fair (Busy why) w v d h s = one-more d _ s (λ l x. absurd (h l x))
 prepared-fair (Refused r) w v d h s = one-more d _ s (λ l x. absurd (h l x))
 prepared-fair (RefusedAt r p) w v d h s = one-more d _ s (λ l x. absurd (h l x))
 
+-- a salvage that is done begins anew, and one that is not leaves the entries
+salvaged-fair : (a : SalvageAnswer) (w v : World) (d : Course) → Kept-well d → Fair (salvaged-by a w v d .origin) (salvaged-by a w v d .entries)
+salvaged-fair (salvaged.Done e n) w v d s = tt
+salvaged-fair salvaged.BadShape w v d s = s .fair
+salvaged-fair salvaged.ReportFull w v d s = s .fair
+
 hands-none : (headers buckets serial : ℕ) (t g : List ℕ) (l : Lease) → Hands-over (preparing headers buckets serial t g .0) [] l → ⊥
 unfolding preparing
 hands-none headers buckets serial t g l = go (came headers buckets serial t g)
@@ -137,6 +145,12 @@ item-fair d (preparation headers buckets serial) s =
 item-fair d (preparation-over headers buckets serial t g) s =
     let p = preparing headers buckets serial t g in
     prepared-fair (p .0) (p .1) (d .world) d (hands-none headers buckets serial t g) s
+item-fair d (salvage paper report list) s =
+    let p = salvaging paper (d .world .table) (d .world .health) report list in
+    salvaged-fair (p .0) (p .1) (worldOf (d .world .head) (p .1 .table) (p .1 .health)) d s
+item-fair d (salvage-over paper t g report list) s =
+    let p = salvaging paper t g report list in
+    salvaged-fair (p .0) (p .1) (d .world) d s
 
 item-kept : (d : Course) (i : Item) → Kept-well d → Kept-well (next-item d i)
 unfolding run
@@ -148,19 +162,10 @@ run-kept d [] s = s
 run-kept d (i ∷ is) s = run-kept (next-item d i) is (item-kept d i s)
 
 pub through : Through Kept-well
-unfolding run next-item
-through rubbish headers buckets serial items d =
-    run-kept (next-item (cold rubbish) (preparation headers buckets serial)) items
-    (record { stretch = begun rubbish headers buckets serial d; fair = first (p .0) d })
-  where
-    p : Answer × World
-    p = preparing headers buckets serial (rubbish .table) (rubbish .health)
-
-    new : Answer → Course
-    new a = prepared-by a (p .1) (worldOf (rubbish .head) (p .1 .table) (p .1 .health)) (cold rubbish)
-
-    first : (a : Answer) → a ≡ Done → Fair (new a .origin) (new a .entries)
-    first a e = subst (λ (x : Answer). Fair (new x .origin) (new x .entries)) (sym e) tt
+unfolding run
+through rubbish start items d =
+    let first = next-item (cold rubbish) start in
+    run-kept first items (record { stretch = begun (cold rubbish) start d; fair = subst (Fair (first .origin)) (sym (nothing-yet (cold rubbish) start d)) tt })
 
 -- ---- at an entry
 
@@ -195,39 +200,39 @@ spliced xs js before after m n new old e f =
 -- ---- the statements
 
 pub never-twice : Never-twice
-never-twice rubbish headers buckets serial items d x y z i j l k e p q =
-    let w = run (cold rubbish) (preparation headers buckets serial ∷ items) in
+never-twice rubbish start items d x y z i j l k e p q =
+    let w = run (cold rubbish) (start ∷ items) in
     let u = now (w .origin) (events-of x) in
     let v = now u (i .events) in
-    let a = at w x (y ++ (j ∷ z)) i (through rubbish headers buckets serial items d) e in
+    let a = at w x (y ++ (j ∷ z)) i (through rubbish start items d) e in
     let b = taken-between (a .honest l p .0) in
     let c = taken-between (fair-split v y (j ∷ z) (a .fair) .0 k q .0) in
     omega (arith, b .1, c .0, next-now u (i .events), next-now v (events-of y))
 
 pub once-each : Once-each
-once-each rubbish headers buckets serial items d x z i c s s′ e p q =
-    let w = run (cold rubbish) (preparation headers buckets serial ∷ items) in
+once-each rubbish start items d x z i c s s′ e p q =
+    let w = run (cold rubbish) (start ∷ items) in
     let v = now (now (w .origin) (events-of x)) (i .events) in
-    let a = at w x z i (through rubbish headers buckets serial items d) e in
+    let a = at w x z i (through rubbish start items d) e in
     sym (lives v (leaseOf c s) (a .honest (leaseOf c s) p .1) .owner-is) ∙ lives v (leaseOf c s′) (a .honest (leaseOf c s′) q .1) .owner-is
 
 pub none-takes : None-takes
-none-takes rubbish headers buckets serial items d x z i c s s′ b between after e p q =
-    let w = run (cold rubbish) (preparation headers buckets serial ∷ items) in
+none-takes rubbish start items d x z i c s s′ b between after e p q =
+    let w = run (cold rubbish) (start ∷ items) in
     let v = now (now (w .origin) (events-of x)) (i .events) in
-    let a = at w x z i (through rubbish headers buckets serial items d) e in
+    let a = at w x z i (through rubbish start items d) e in
     parted v c s s′ b between after (a .fits) (a .honest (leaseOf c s) p .1) (subst (Lawful v) q (a .lawful))
 
 pub two-writers : Two-writers
-two-writers rubbish headers buckets serial items d x y z i j c s s′ e p q =
-    let w = run (cold rubbish) (preparation headers buckets serial ∷ items) in
+two-writers rubbish start items d x y z i j c s s′ e p q =
+    let w = run (cold rubbish) (start ∷ items) in
     let v = now (now (w .origin) (events-of x)) (i .events) in
-    let a = at w x (y ++ (j ∷ z)) i (through rubbish headers buckets serial items d) e in
+    let a = at w x (y ++ (j ∷ z)) i (through rubbish start items d) e in
     let k = fair-split v y (j ∷ z) (a .fair) .0 (leaseOf c s′) q .0 in
     let es = events-of y in
     let new = took by-caller c s′ in
     let whole = events-append y (j ∷ z) ∙ seam es (j .events) (k .before) (k .after) (events-of z) new (k .parts) in
-    let r = none-takes rubbish headers buckets serial items d x (y ++ (j ∷ z)) i c s s′ by-caller (es ++ k .before) (k .after ++ events-of z) e p whole in
+    let r = none-takes rubbish start items d x (y ++ (j ∷ z)) i c s s′ by-caller (es ++ k .before) (k .after ++ events-of z) e p whole in
     (r .0, r .1, r .2, k .after, spliced es (j .events) (k .before) (k .after) (r .1) (r .2) new (released (r .0) c s) (k .parts) (r .3))
 
 -- a log with a release of the lease is no log without one
@@ -236,22 +241,22 @@ was-released c s a [] after u = u .0 refl
 was-released c s a (e ∷ es) after u = was-released c s a es after (u .1)
 
 pub alone-until-released : Alone-until-released
-alone-until-released rubbish headers buckets serial items d x y z i j c s e p u = (
+alone-until-released rubbish start items d x y z i j c s e p u = (
   λ s′ q.
-      let r = two-writers rubbish headers buckets serial items d x y z i j c s s′ e p q in
+      let r = two-writers rubbish start items d x y z i j c s s′ e p q in
       was-released c s (r .0) (r .1) _ (subst (Unreleased (leaseOf c s)) (r .4) u),
   λ b s′ before after q.
       let whole : events-of (y ++ (j ∷ z)) ≡ before ++ (took b c s′ ∷ (after ++ events-of z))
       = events-append y (j ∷ z) ∙ sym (append-assoc (events-of y) (j .events) (events-of z)) ∙ ap (λ (l : List Event). l ++ events-of z) q ∙ append-assoc before (took b c s′ ∷ after) (events-of z) in
-      let r = none-takes rubbish headers buckets serial items d x (y ++ (j ∷ z)) i c s s′ b before (after ++ events-of z) e p whole in
+      let r = none-takes rubbish start items d x (y ++ (j ∷ z)) i c s s′ b before (after ++ events-of z) e p whole in
       was-released c s (r .0) (r .1) (r .2 ++ (took b c s′ ∷ after))
       (subst (Unreleased (leaseOf c s)) (q ∙ ap (λ (l : List Event). l ++ (took b c s′ ∷ after)) (r .3) ∙ append-assoc (r .1) (released (r .0) c s ∷ r .2) (took b c s′ ∷ after)) u),
 )
 
 pub takes-parted : Takes-parted
-takes-parted rubbish headers buckets serial items d c s s′ a b x between z e =
-    let w = run (cold rubbish) (preparation headers buckets serial ∷ items) in
-    let k = through rubbish headers buckets serial items d .stretch in
+takes-parted rubbish start items d c s s′ a b x between z e =
+    let w = run (cold rubbish) (start ∷ items) in
+    let k = through rubbish start items d .stretch in
     let p = lawful-split (w .origin) x (took a c s ∷ (between ++ (took b c s′ ∷ z))) (subst (Lawful (w .origin)) e (k .lawful)) in
     let v = now (w .origin) x in
     let v-fits = fit-now (w .origin) x (fit (k .good)) (p .0) in

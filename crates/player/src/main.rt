@@ -22,9 +22,9 @@ fn main() {
     with_lists(&mut input);
 }
 
-// The lists of the player.
+// The lists of the player, and behind them the cells that a salvage left held.
 fn with_lists(input: &mut [u8]) {
-    let mut lists = [0u32; 166237];
+    let mut lists = [0u32; 170438];
     with_ram(input, &mut lists);
 }
 
@@ -34,11 +34,12 @@ fn rubbish(table: &mut [u32], bytes: &mut [u8]) {
     setup::fill(1, table, &mut bytes[..n]);
 }
 
-// The player's own RAM and a byte for each of its cells, a grant buffer, counters, and a room for output.
+// The player's own RAM and a byte for each of its cells, a grant buffer and behind it a salvage's report, counters, and
+// a room for output.
 fn with_ram(input: &mut [u8], lists: &mut [u32]) {
     let mut table = [0u32; 12600];
     let mut bytes = [0u8; 37270];
-    let mut grants = [0u32; 300];
+    let mut grants = [0u32; 37501];
     let mut counters = [0u16; 4200];
     let mut out = [0u8; 8192];
     rubbish(&mut table, &mut bytes);

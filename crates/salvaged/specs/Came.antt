@@ -1,42 +1,26 @@
--- What comes of a salvage, by cases; and what one that is done has given.
+-- What a salvage that is done has given.
 use Prim.Native.Nat.{ℕ, _+_, _*_, _/_, _≤_}
-use mathlib.Core.Path.{_≡_, refl, sym, ap, _∙_}
+use mathlib.Core.Path.{_≡_, sym, ap, _∙_}
 use mathlib.Core.List.{List, _++_}
-use mathlib.Core.Bool.{Bool, true, false}
+use mathlib.Core.Bool.{true}
 use native.Mathlib.Omega.{arith}
 use lib.Dec.{ltb}
 use lib.ListN.{length}
 use borrow.Author.Tests.{ltb-false}
 use Rattle.choice.specs.Pick.{both, neither}
 use Rattle.model.specs.Arena.{cellsOf, shapeFits, healthFits}
-use Rattle.model.specs.Refusals.{first}
-use Rattle.model.specs.Checks.{prepareRules}
-use Rattle.model.specs.Salvage.{Salvage, mendedTable, mendedHealth, changesFrom, changesOf, entriesOf, leftHeld, overOf, isReportFull, mendOf, salvagedOf, unsalvaged, goOverOf, salvageOf}
+use Rattle.model.specs.Salvage.{Salvage, mendedTable, mendedHealth, changesFrom, changesOf, entriesOf, leftHeld, overOf, isReportFull, mendOf, salvageOf}
 use Rattle.model.specs.declared.Head.{Head}
 use Rattle.model.specs.declared.SalvageAnswer.the-variants.{Done, BadShape, ReportFull}
 use Rattle.laws.specs.Shape.{Shaped, shaped, healthy}
 use Rattle.laws.specs.Salvage.{differing, length-mended, entries-are}
+use Rattle.history.specs.Salvages.{Came, bad, full, done, came}
 use Rattle.salvaged.specs.Statements.{answerIn, tableIn, healthIn, reportIn, listIn, fits}
 use Rattle.salvaged.specs.Report.{changes-join, differing-join}
 
 module _ (h : Head) (t g report list : List ℕ) where
   abbrev made : Salvage
   made = salvageOf h t g report list
-
-  pub data Came : Type 0 where
-    bad : fits h t g ≡ false → made ≡ unsalvaged h t g report list BadShape → Came
-    full : fits h t g ≡ true → isReportFull h t g report list ≡ true → made ≡ unsalvaged h t g report list ReportFull → Came
-    done : fits h t g ≡ true → isReportFull h t g report list ≡ false → made ≡ salvagedOf h t g report list → Came
-
-  pub came : Came
-  unfolding salvageOf goOverOf prepareRules first
-  came = go (shapeFits h (length t)) (healthFits h (length g)) (isReportFull h t g report list) refl refl refl
-    where
-      go : (a b c : Bool) → shapeFits h (length t) ≡ a → healthFits h (length g) ≡ b → isReportFull h t g report list ≡ c → Came
-      go true true true e f k = full (rw (e, f)) k (rw (e, f, k))
-      go true true false e f k = done (rw (e, f)) k (rw (e, f, k))
-      go true false c e f k = bad (rw (e, f)) (rw (e, f))
-      go false b c e f k = bad (rw e) (rw e)
 
   -- how many words the entries take: three for each place whose word differs
   pub words-are : length (changesOf h t g) ≡ 3 * differing (t ++ g) (mendedTable (h .next) t ++ mendedHealth g)
@@ -61,9 +45,9 @@ module _ (h : Head) (t g report list : List ℕ) where
 
   pub was-done : (e n : ℕ) → answerIn made ≡ Done e n → Was-done e n
   unfolding isReportFull mendOf
-  was-done e n d = go came
+  was-done e n d = go (came h t g report list)
     where
-      go : Came → Was-done e n
+      go : Came h t g report list → Was-done e n
       go (bad f p) = let q : BadShape ≡ Done e n = sym (ap answerIn p) ∙ d in let z : _≡_ {A = ℕ} 0 1 = cc in absurd (omega arith)
       go (full f k p) = let q : ReportFull ≡ Done e n = sym (ap answerIn p) ∙ d in let z : _≡_ {A = ℕ} 0 1 = cc in absurd (omega arith)
       go (done f k p) =

@@ -1,4 +1,4 @@
--- What a salvage makes of a cell and of a health byte, also the second time; and which cells its list picks.
+-- What a salvage makes of a cell and of a health byte, also the second time; and which cells its list picks, and how many.
 use Prim.Native.Nat.{ℕ, zero, suc, _+_, _≤_, _<_}
 use mathlib.Core.Path.{_≡_, refl, sym, ap, _∙_}
 use mathlib.Core.List.{List, [], _∷_}
@@ -7,47 +7,19 @@ use native.Mathlib.Omega.{arith}
 use native.Mathlib.Decide.{ℕ-discrete}
 use lib.Dec.{ltb, leb, eqb}
 use lib.ListN.{length, getD}
-use borrow.Author.Tests.{eqb-true, leb-true, ltb-true, le-leb, lt-leb, eq-eqb, lt-ltb}
+use borrow.Author.Tests.{eqb-true, leb-true, ltb-true, le-leb, lt-leb, eq-eqb, ne-eqb, lt-ltb}
 use Rattle.choice.specs.Choice.{if_then_else_}
 use Rattle.choice.specs.Pick.{both}
 use Rattle.model.specs.Arena.{bitAt, ownerAt, isFree, isHeld, stateOf, stateAt}
-use Rattle.model.specs.Salvage.{keptIn, keptOf, mendedTable, mendedByte, mendedHealth, heldFrom}
+use Rattle.model.specs.Salvage.{keptOf, mendedTable, mendedByte, mendedHealth, heldFrom, leftHeld}
 use Rattle.model.specs.declared.State.{State}
 use Rattle.model.specs.declared.State.the-variants.{Free, Held, Damaged}
 use Rattle.laws.specs.Salvage.{mended-cons}
-use Rattle.history.specs.Tests.{differ, Stands, is-free, is-held, is-damaged, stands, state-held}
+use Rattle.history.specs.Salvages.{Mending, keeps, frees, mending}
+use Rattle.history.specs.World.{one, bits}
+use Rattle.history.specs.Tests.{differ, Stands, is-free, is-held, is-damaged, stands, state-held, Status, free, held, undamaged}
 
 -- ---- a cell
-
-kept-sound : (next b o x : ℕ) → (stateOf next b o ≡ Damaged → ⊥) → keptOf next b o x ≡ x
-unfolding keptOf
-kept-sound next b o x n = go (stateOf next b o) n
-  where
-    go : (s : State) → (s ≡ Damaged → ⊥) → keptIn s x ≡ x
-    go Free n = refl
-    go (Held p) n = refl
-    go Damaged n = absurd (n refl)
-
-kept-damaged : (next b o x : ℕ) → stateOf next b o ≡ Damaged → keptOf next b o x ≡ 0
-unfolding keptOf
-kept-damaged next b o x e = rw e
-
--- a cell keeps both words, or is freed
-pub data Mending (next b o : ℕ) : Type 0 where
-  keeps : (stateOf next b o ≡ Damaged → ⊥) → ((x : ℕ) → keptOf next b o x ≡ x) → Mending next b o
-  frees : stateOf next b o ≡ Damaged → ((x : ℕ) → keptOf next b o x ≡ 0) → Mending next b o
-
-pub mending : (next b o : ℕ) → Mending next b o
-mending next b o = go (stateOf next b o) refl
-  where
-    go : (s : State) → stateOf next b o ≡ s → Mending next b o
-    go Free e =
-        let n : stateOf next b o ≡ Damaged → ⊥ = λ d. differ (let q : Free ≡ Damaged = sym e ∙ d in cc) in
-        keeps n (λ x. kept-sound next b o x n)
-    go (Held p) e =
-        let n : stateOf next b o ≡ Damaged → ⊥ = λ d. differ (let q : Held p ≡ Damaged = sym e ∙ d in cc) in
-        keeps n (λ x. kept-sound next b o x n)
-    go Damaged e = frees e (λ x. kept-damaged next b o x e)
 
 kept-free : (next x : ℕ) → keptOf next 0 0 x ≡ x
 unfolding keptOf stateOf isFree
@@ -194,3 +166,34 @@ pick-rising (picked left c words e r) j zero l h = absurd (omega arith)
 pick-rising (picked left c words e r) zero (suc k) l h = omega (arith, pick-held r k (omega arith) .low)
 pick-rising (picked left c words e r) (suc j) (suc k) l h = pick-rising r j k (omega arith) (omega arith)
 pick-rising (passed left c words e r) j k l h = pick-rising r j k l h
+
+-- ---- how many they are: where no cell is damaged, those with bit 1
+
+not-held : (next b o : ℕ) → b ≡ 0 → isHeld next b o ≡ false
+unfolding isHeld
+not-held next b o p = rw (ne-eqb b 1 (omega arith))
+
+held-one : (next : ℕ) (t : List ℕ) (c : ℕ) (words : List ℕ) → Status (bitAt t c) (ownerAt t c) next
+    → length (if holds next t c then c ∷ words else words) ≡ one (eqb (bitAt t c) 1) + length words
+held-one next t c words (free p q) = rw (not-held next (bitAt t c) (ownerAt t c) p, ne-eqb (bitAt t c) 1 (omega arith)) (omega arith)
+held-one next t c words (held p q r) =
+    rw (state-holds next t c (record { bit-is = p; low = q; high = r }), eq-eqb (bitAt t c) 1 p) (omega arith)
+
+held-bits : (next : ℕ) (t : List ℕ) (left c : ℕ) → ((d : ℕ) → d < c + left → stateAt next t d ≡ Damaged → ⊥)
+    → length (heldFrom next left c t) + bits c t ≡ bits (c + left) t
+unfolding heldFrom bits stateAt
+held-bits next t zero c n = let e : c ≡ c + 0 = omega arith in omega (arith, ap (λ (k : ℕ). bits k t) e)
+held-bits next t (suc left) c n =
+    let e : c + 1 ≡ suc c = omega arith in
+    let f : c + 1 + left ≡ c + suc left = omega arith in
+    omega (arith, held-bits next t left (c + 1) (λ d l. n d (omega arith)), held-one next t c (heldFrom next left (c + 1) t) (undamaged next (bitAt t c) (ownerAt t c) (n c (omega arith))), ap (λ (k : ℕ). bits k t) e, ap (λ (k : ℕ). bits k t) f)
+
+pub left-bits : (next cells : ℕ) (t : List ℕ) → ((c : ℕ) → c < cells → stateAt next (mendedTable next t) c ≡ Damaged → ⊥)
+    → length (leftHeld next cells t) ≡ bits cells (mendedTable next t)
+unfolding leftHeld bits
+left-bits next cells t n =
+    let u = mendedTable next t in
+    let z : 0 + cells ≡ cells = omega arith in
+    let e : length (heldFrom next cells 0 u) + 0 ≡ bits (0 + cells) u = held-bits next u cells 0 (λ c l. n c (omega arith)) in
+    let f : length (heldFrom next cells 0 u) ≡ length (heldFrom next cells 0 u) + 0 = omega arith in
+    f ∙ e ∙ ap (λ (k : ℕ). bits k u) z

@@ -4,3 +4,4 @@ pub mod Examples
 pub mod Report
 pub mod Cells
 pub mod Came
+pub mod Onward

@@ -1,5 +1,5 @@
--- Document 02, L6, as statements about a salvage: when it refuses, what its report and its list hold, what it leaves. They speak of the call
--- alone; histories that begin with a salvage are not here.
+-- Document 02, L6, as statements about a salvage: when it refuses, what its report and its list hold, what it leaves; and about histories that
+-- go on from one.
 use Prim.Native.Nat.{ℕ, _+_, _*_, _≤_, _<_}
 use mathlib.Core.Path.{_≡_}
 use mathlib.Core.List.{List, [], _∷_, _++_}
@@ -13,9 +13,11 @@ use Rattle.model.specs.declared.Head.{Head}
 use Rattle.model.specs.declared.SalvageAnswer.{SalvageAnswer}
 use Rattle.model.specs.declared.SalvageAnswer.the-variants.{Done, BadShape, ReportFull}
 use Rattle.model.specs.declared.State.the-variants as state
-use Rattle.history.specs.World.{World, worldOf, Free, Live, Sound}
-use Rattle.history.specs.Items.{drop-lease}
-use Rattle.history.specs.Statements.{answers, leaves}
+use Rattle.model.specs.Log.{Actor, Event, took, released}
+use Rattle.model.specs.declared.Lease.{Lease}
+use Rattle.history.specs.World.{World, worldOf, cells, Free, Live, Apart, Sound, now, Spent, bits, number-of, takes, releases}
+use Rattle.history.specs.Items.{drop-lease, Item, call, foreign-step, preparation, preparation-over, salvage, salvage-over, Course, history-of, next-item, run}
+use Rattle.history.specs.Statements.{answers, leaves, rescued, Begins, No-start, Through}
 use Rattle.history.specs.Callers.{Shape-fits}
 use Rattle.laws.specs.Salvage.{differing}
 
@@ -206,3 +208,79 @@ Doubled-apart =
     → (answers w (drop-lease (leaseOf c s)) ≡ answer.Done)
     × Free (leaves w (drop-lease (leaseOf c s))) c
     × Live (leaves w (drop-lease (leaseOf c s))) (leaseOf d s)
+
+-- ---- histories that go on from a salvage: "Demand 2 now starts from a prepared or a salvaged table."
+
+-- the item is a salvage with this head, of the arena's own runs or of what the dip left in their place
+pub data Salvages (w : World) : Item → Head → List ℕ → List ℕ → List ℕ → List ℕ → Type 0 where
+  own : (h : Head) (report list : List ℕ) → Salvages w (salvage h report list) h (w .table) (w .health) report list
+  other : (h : Head) (t g report list : List ℕ) → Salvages w (salvage-over h t g report list) h t g report list
+
+-- what holds of every history through a salvage that is done, with n cells left held: whatever came before it, and over any items behind it up
+-- to the next start
+abbrev pub From-salvage : (Head → List ℕ → List ℕ → List ℕ → List ℕ → (n : ℕ) → Course → Type 0) → Type 0
+From-salvage P =
+    (k : Course) (i : Item) (h : Head) (t g report list : List ℕ) (e n : ℕ) (items : List Item)
+    → Salvages (k .world) i h t g report list → answerIn (salvageOf h t g report list) ≡ Done e n → No-start (next-item k i) items
+    → P h t g report list n (run k (i ∷ items))
+
+-- the cells held at the start are those that were listed
+abbrev pub Held-at-start : Type 0
+Held-at-start = When-done (λ h t g report list e n. bits (cellsOf h) (tableIn (salvageOf h t g report list)) ≡ n)
+
+-- "the count rule reads: next minus the given next = takes since; cells held at the start plus takes minus releases = cells with bit 1"
+abbrev pub Counts-from-salvage : Type 0
+Counts-from-salvage =
+    From-salvage (λ h t g report list n d.
+    (d .world .head .next ≡ h .next + number-of takes (history-of d))
+    × (bits (cells (d .world)) (d .world .table) + number-of releases (history-of d) ≡ n + number-of takes (history-of d)))
+
+-- "a dead serial below next stays dead from there on": at every point of the log since the salvage
+abbrev pub Dead-stays-dead : Type 0
+Dead-stays-dead =
+    From-salvage (λ h t g report list n d.
+    (s : ℕ) → s < h .next → ((c : ℕ) → Live (rescued h t g report list) (leaseOf c s) → ⊥)
+    → (before after : List Event) → history-of d ≡ before ++ after
+    → (c : ℕ) → Live (now (rescued h t g report list) before) (leaseOf c s) → ⊥)
+
+-- "up to the next preparation": the item is no preparation that is done, and a salvage only of the arena's own runs, with the serial below the
+-- next one on its paper. A dip in between may write a dead serial into a cell, and a salvage of what it left keeps it there (`Examples.revived`)
+abbrev pub Spares : ℕ → World → Item → Type 0
+Spares s w (call c) = Unit {0}
+Spares s w (foreign-step kind place number) = Unit {0}
+Spares s w (preparation headers buckets serial) = Begins w (preparation headers buckets serial) → ⊥
+Spares s w (preparation-over headers buckets serial t g) = Begins w (preparation-over headers buckets serial t g) → ⊥
+Spares s w (salvage h report list) = s < h .next
+Spares s w (salvage-over h t g report list) = Begins w (salvage-over h t g report list) → ⊥
+
+abbrev pub All-spare : ℕ → Course → List Item → Type 0
+All-spare s k [] = Unit {0}
+All-spare s k (i ∷ is) = Spares s (k .world) i × All-spare s (next-item k i) is
+
+-- over such items a dead serial stays dead, from any point of any history, through further salvages
+abbrev pub Dead-over-salvages : Type 0
+Dead-over-salvages =
+    Through (λ k. (s : ℕ) (items : List Item) → Spent (k .world) s → All-spare s k items → Spent (run k items .world) s)
+
+-- at every point no serial owns two cells, exactly if the owners of the listed cells are pairwise different
+abbrev pub Apart-from-there : Type 0
+Apart-from-there =
+    From-salvage (λ h t g report list n d.
+    let m = salvageOf h t g report list in
+    ((before after : List Event) → history-of d ≡ before ++ after → Apart (now (rescued h t g report list) before))
+    ↔ Owners-differ (tableIn m) (listIn m) n)
+
+-- "two writers drive one valve": a cell that is left held, unconfirmed as it is, is taken by nobody before its lease is released
+abbrev pub Unconfirmed-alone : Type 0
+Unconfirmed-alone =
+    From-salvage (λ h t g report list n d.
+    (c s s′ : ℕ) (b : Actor) (between after : List Event) → Live (rescued h t g report list) (leaseOf c s)
+    → history-of d ≡ between ++ (took b c s′ ∷ after)
+    → (a : Actor) × (before middle : List Event) × (between ≡ before ++ (released a c s ∷ middle)))
+
+-- with the head in force as the paper, and over the arena's own runs, whatever they hold: a lease is live after it exactly if it was live before.
+-- So a dip that spared the words loses no lease and revives none
+abbrev pub Live-over-salvage : Type 0
+Live-over-salvage =
+    (k : Course) (report list : List ℕ) (l : Lease) → Begins (k .world) (salvage (k .world .head) report list)
+    → Live (next-item k (salvage (k .world .head) report list) .world) l ↔ Live (k .world) l

@@ -1,9 +1,9 @@
 -- The statements of `Statements`, each proved; what they rest on is in the files behind.
 use Prim.Native.Nat.{ℕ, _+_, _*_, _/_, _≤_, _<_}
 use mathlib.Core.Path.{_≡_, refl, sym, ap, _∙_, subst}
-use mathlib.Core.List.{List, [], _++_}
+use mathlib.Core.List.{List, [], _∷_, _++_}
 use mathlib.Core.Bool.{Bool, true, false, _||_}
-use mathlib.Core.Logic.{_⊎_, inl, inr, _≢_}
+use mathlib.Core.Logic.{inl, inr, _≢_}
 use native.Mathlib.Omega.{arith}
 use native.Mathlib.Decide.{decLt}
 use lib.Dec.{ltb}
@@ -12,7 +12,7 @@ use lib.Seq.{take-at, drop-at, getD-append-add}
 use borrow.Author.Tests.{ltb-true, lt-ltb}
 use Rattle.choice.specs.Pick.{both, determined}
 use Rattle.model.specs.Arena.{cellsOf, leaseOf, bitAt, ownerAt, stateAt, isLive, shapeFits, healthFits}
-use Rattle.model.specs.Log.{by-caller, released}
+use Rattle.model.specs.Log.{Event, by-caller, released}
 use Rattle.model.specs.Refusals.{first}
 use Rattle.model.specs.Checks.{leaseRules}
 use Rattle.model.specs.Calls.{countsOf, dropLeaseOf}
@@ -22,20 +22,21 @@ use Rattle.model.specs.declared.Head.{Head}
 use Rattle.model.specs.declared.Lease.{Lease}
 use Rattle.model.specs.declared.SalvageAnswer.{SalvageAnswer}
 use Rattle.model.specs.declared.SalvageAnswer.the-variants.{Done, BadShape, ReportFull}
-use Rattle.model.specs.declared.State.the-variants as state
 use Rattle.laws.specs.Shape.{Shaped, shaped}
 use Rattle.laws.specs.Words.{state-freed}
-use Rattle.history.specs.World.{World, worldOf, Live, Free, Sound, step}
-use Rattle.history.specs.Items.{perform, drop-lease, Says, says}
-use Rattle.history.specs.Statements.{leaves}
+use Rattle.history.specs.World.{World, worldOf, cells, Live, Free, Apart, Sound, step, now}
+use Rattle.history.specs.Items.{perform, drop-lease, Says, says, history-of, run}
+use Rattle.history.specs.Statements.{leaves, rescued}
 use Rattle.history.specs.Callers.{Shape-fits}
-use Rattle.history.specs.Tests.{differ, state-free, state-held, undamaged, alive, live}
-use Rattle.history.specs.Events.{issued, Fit, keep-step}
-use Rattle.laws.specs.Salvage.{length-mended, length-mended-health, bit-mended, owner-mended, waiters-mended}
-use Rattle.salvaged.specs.Statements.{answerIn, tableIn, healthIn, listIn, fits, No-room, Bad-shape-exactly, Report-full-exactly, placeIn, oldIn, newIn, Reports, Report-is, Places-are, undone, undoneOf, Rebuilds, Lists, Held-in, Unconfirmed-is, Mends, Mended, Twice, Owners-differ, Apart-exactly, Doubled-apart}
+use Rattle.history.specs.Tests.{differ, state-held, alive, live}
+use Rattle.history.specs.Events.{Fit, fit, keep-step}
+use Rattle.history.specs.Salvages.{Came, bad, full, done, came, inside, now-whole, now-owned, now-freed, now-kept}
+use Rattle.laws.specs.Salvage.{length-mended, length-mended-health, waiters-mended}
+use Rattle.salvaged.specs.Statements.{answerIn, tableIn, healthIn, listIn, fits, No-room, Bad-shape-exactly, Report-full-exactly, placeIn, oldIn, newIn, Reports, Report-is, Places-are, undone, undoneOf, Rebuilds, Lists, Held-in, Unconfirmed-is, Mends, Mended, Twice, Owners-differ, Apart-exactly, Doubled-apart, other, Held-at-start, Counts-from-salvage, Dead-stays-dead, Dead-over-salvages, Apart-from-there, Unconfirmed-alone, Live-over-salvage}
 use Rattle.salvaged.specs.Report.{Lines, lines, told, listed, rising, undone-is, changes-none}
-use Rattle.salvaged.specs.Cells.{Mending, keeps, frees, mending, table-again, byte-kept, byte-mended, byte-few, health-twice, byte-in, holds-state, holding, state-holds, Picks, picks, pick-held, pick-listed, pick-rising}
-use Rattle.salvaged.specs.Came.{Came, bad, full, done, came, words-are, was-done, changes-are}
+use Rattle.salvaged.specs.Cells.{table-again, byte-kept, byte-mended, byte-few, health-twice, byte-in, holds-state, holding, state-holds, Picks, picks, pick-held, pick-listed, pick-rising}
+use Rattle.salvaged.specs.Came.{words-are, was-done, changes-are}
+use Rattle.salvaged.specs.Onward as onward
 
 -- ---- refusals
 
@@ -216,60 +217,6 @@ unconfirmed-is h t g report list e n d =
 
 -- ---- what is left
 
-module _ (h : Head) (t : List ℕ) (s : Shaped h (length t)) (c : ℕ) (l : c < cellsOf h) where
-  abbrev u : List ℕ
-  u = mendedTable (h .next) t
-
-  inside : 3 * c + 2 < length t
-  inside = omega (arith, s .words-are)
-
-  -- a cell that is mended: it was sound and is as it was, or it was damaged and is free
-  abbrev Stands-now : Type 0
-  Stands-now =
-      ((stateAt (h .next) t c ≡ state.Damaged → ⊥) × (bitAt u c ≡ bitAt t c) × (ownerAt u c ≡ ownerAt t c))
-      ⊎ ((stateAt (h .next) t c ≡ state.Damaged) × (bitAt u c ≡ 0) × (ownerAt u c ≡ 0))
-
-  mended-state : Mending (h .next) (bitAt t c) (ownerAt t c) → Stands-now
-  unfolding stateAt
-  mended-state (keeps n k) = inl (n, bit-mended (h .next) t c inside ∙ k (bitAt t c), owner-mended (h .next) t c inside ∙ k (ownerAt t c))
-  mended-state (frees e k) = inr (e, bit-mended (h .next) t c inside ∙ k (bitAt t c), owner-mended (h .next) t c inside ∙ k (ownerAt t c))
-
-  came-state : Stands-now
-  came-state = mended-state (mending (h .next) (bitAt t c) (ownerAt t c))
-
-  free-again : bitAt u c ≡ 0 → ownerAt u c ≡ 0 → stateAt (h .next) u c ≡ state.Free
-  unfolding stateAt
-  free-again p q = state-free (h .next) (bitAt u c) (ownerAt u c) p q
-
-  same-state : bitAt u c ≡ bitAt t c → ownerAt u c ≡ ownerAt t c → stateAt (h .next) u c ≡ stateAt (h .next) t c
-  unfolding stateAt
-  same-state p q = rw (p, q)
-
-  now-whole : stateAt (h .next) u c ≡ state.Damaged → ⊥
-  now-whole e = go came-state
-    where
-      go : Stands-now → ⊥
-      go (inl x) = x .0 (sym (same-state (x .1) (x .2)) ∙ e)
-      go (inr x) = differ (let q : state.Free ≡ state.Damaged = sym (free-again (x .1) (x .2)) ∙ e in cc)
-
-  now-owned : bitAt u c ≡ 1 → (1 ≤ ownerAt u c) × (ownerAt u c < h .next)
-  unfolding stateAt
-  now-owned b = issued (undamaged (h .next) (bitAt u c) (ownerAt u c) now-whole) b
-
-  now-freed : stateAt (h .next) t c ≡ state.Damaged → stateAt (h .next) u c ≡ state.Free
-  now-freed e = go came-state
-    where
-      go : Stands-now → stateAt (h .next) u c ≡ state.Free
-      go (inl x) = absurd (x .0 e)
-      go (inr x) = free-again (x .1) (x .2)
-
-  now-kept : (stateAt (h .next) t c ≡ state.Damaged → ⊥) → (bitAt u c ≡ bitAt t c) × (ownerAt u c ≡ ownerAt t c)
-  now-kept n = go came-state
-    where
-      go : Stands-now → (bitAt u c ≡ bitAt t c) × (ownerAt u c ≡ ownerAt t c)
-      go (inl x) = (x .1, x .2)
-      go (inr x) = absurd (n (x .0))
-
 mends : (h : Head) (t g : List ℕ) → Shaped h (length t) → Mends h t g (mendedTable (h .next) t) (mendedHealth g)
 mends h t g s =
     record {
@@ -354,14 +301,14 @@ one-place list n r j k a b e = go (decLt j k) (decLt k j)
     go (no x) (no y) = omega arith
 
 module _ (h : Head) (u v list before : List ℕ) (n : ℕ) (l : Lists h u before list n) where
-  differ-of : Sound (worldOf h u v) → Owners-differ u list n
+  differ-of : Apart (worldOf h u v) → Owners-differ u list n
   differ-of s j k a b e =
       let x = l .held j a in
       let y = l .held k b in
       one-place list n (l .rising) j k a b
-      (s .apart (getD list j 0) (getD list k 0) (ownerAt u (getD list j 0)) (live-held h u v (getD list j 0) (x .0) (x .1)) (rw e (live-held h u v (getD list k 0) (y .0) (y .1))))
+      (s (getD list j 0) (getD list k 0) (ownerAt u (getD list j 0)) (live-held h u v (getD list j 0) (x .0) (x .1)) (rw e (live-held h u v (getD list k 0) (y .0) (y .1))))
 
-  apart-of : Owners-differ u list n → (c d s : ℕ) → Live (worldOf h u v) (leaseOf c s) → Live (worldOf h u v) (leaseOf d s) → c ≡ d
+  apart-of : Owners-differ u list n → Apart (worldOf h u v)
   apart-of o c d s p q =
       let x = held-live h u c s p in
       let y = held-live h u d s q in
@@ -380,7 +327,7 @@ apart-exactly h t g report list e n d = (there, back)
     l = unconfirmed-is h t g report list e n d
 
     there : Sound (worldOf h (tableIn m) (healthIn m)) → Owners-differ (tableIn m) (listIn m) n
-    there = differ-of h (tableIn m) (healthIn m) (listIn m) list n l
+    there s = differ-of h (tableIn m) (healthIn m) (listIn m) list n l (s .apart)
 
     back : Owners-differ (tableIn m) (listIn m) n → Sound (worldOf h (tableIn m) (healthIn m))
     back o =
@@ -388,9 +335,7 @@ apart-exactly h t g report list e n d = (there, back)
         let k = mended h t g report list e n d in
         let f = both (shapeFits h (length t)) (healthFits h (length g)) (w .good) in
         record {
-          fits = rw (k .same-words) (f .0);
-          healthy = rw (k .same-bytes) (f .1);
-          whole = k .whole;
+          whole = record { fits = rw (k .same-words) (f .0); healthy = rw (k .same-bytes) (f .1); undamaged = k .whole };
           apart = apart-of h (tableIn m) (healthIn m) (listIn m) list n l o;
         }
 
@@ -410,6 +355,47 @@ doubled-apart w c d s f n p q =
     (a .in-range, state-freed (w .head .next) (w .table) c (omega (arith, fit .shape .words-are, a .in-range))) in
     let other = keep-step w (released by-caller c s) (leaseOf d s) fit p q (λ e. n (sym (ap (λ (k : Lease). k .cell) e))) in
     (ap (λ (z : World × Says). z .1 .answer) x, rw v free, rw v other)
+
+-- ---- histories that go on from a salvage
+
+pub held-at-start : Held-at-start
+held-at-start = onward.held-at-start
+
+pub counts-from-salvage : Counts-from-salvage
+counts-from-salvage = onward.counts-from-salvage
+
+pub dead-stays-dead : Dead-stays-dead
+dead-stays-dead = onward.dead-stays-dead
+
+pub dead-over-salvages : Dead-over-salvages
+dead-over-salvages = onward.dead-over-salvages
+
+pub unconfirmed-alone : Unconfirmed-alone
+unconfirmed-alone = onward.unconfirmed-alone
+
+pub live-over-salvage : Live-over-salvage
+live-over-salvage = onward.live-over-salvage
+
+pub apart-from-there : Apart-from-there
+apart-from-there k i h t g report list e n items x d on = (there, back)
+  where
+    m : Salvage
+    m = salvageOf h t g report list
+
+    l : Lists h (tableIn m) list (listIn m) n
+    l = unconfirmed-is h t g report list e n d
+
+    Always-apart : Type 0
+    Always-apart = (before after : List Event) → history-of (run k (i ∷ items)) ≡ before ++ after → Apart (now (rescued h t g report list) before)
+
+    there : Always-apart → Owners-differ (tableIn m) (listIn m) n
+    there f = differ-of h (tableIn m) (healthIn m) (listIn m) list n l (f [] (history-of (run k (i ∷ items))) refl)
+
+    back : Owners-differ (tableIn m) (listIn m) n → Always-apart
+    back q before after p =
+        let o = onward.begins-there k i h t g report list e n items x d on in
+        let a : Apart (rescued h t g report list) = apart-of h (tableIn m) (healthIn m) (listIn m) list n l q in
+        subst (λ (w : World). Apart (now w before)) o (onward.kept k i h t g report list e n items x d on .apart (subst Apart (sym o) a) before after p)
 
 -- ---- two replies that meet `salvage`'s promise are equal, with every lent word
 

@@ -10,6 +10,9 @@ use desk::within;
 use model::Head;
 use text::Numbers;
 
+// The words of the grant buffer. Behind them in its run stands a salvage's report (crate `mend`).
+pub const GRANTS: usize = 300;
+
 // ---- the RAM
 
 // The next number of the rubbish.
@@ -57,12 +60,19 @@ fn set_byte(health: &mut [u8], i: usize, value: u32) {
     }
 }
 
-fn nines(grants: &mut [u32]) {
+// Every word becomes 9.
+// A step of the console, no call of document 01: only its own crates call it.
+pub fn nines(grants: &mut [u32]) {
     let mut i = 0;
     while i < grants.len() {
         grants[i] = 9;
         i += 1;
     }
+}
+
+fn nine_grants(grants: &mut [u32]) {
+    let n = within(GRANTS, grants);
+    nines(&mut grants[..n]);
 }
 
 // ---- lines that change the desk and print nothing
@@ -131,7 +141,7 @@ pub fn change(
             desk
         }
         Verb::Grants => {
-            nines(grants);
+            nine_grants(grants);
             desk.with_grants(got.a as usize)
         }
         Verb::Member => member(desk, line, at, got.count, lists),

@@ -1,7 +1,7 @@
-// The calls of document 01, and document 02's keys in any order, crew at work, setpoint book and waveform, for a kernel
-// in C or Rust; include/skid.h declares them. Only numbers and lent runs cross: the head goes in as three numbers, a
-// lease as two, and the last parameter is the lent reply, whose words crate `words` lays out. Each is thin: it makes
-// the head, makes the call, and writes the reply's words.
+// The calls of document 01, and document 02's keys in any order, salvage, crew at work, setpoint book and waveform, for
+// a kernel in C or Rust; include/skid.h declares them. Only numbers and lent runs cross: the head goes in as three
+// numbers, a lease as two, and the last parameter is the lent reply, whose words crate `words` lays out. Each is thin:
+// it makes the head, makes the call, and writes the reply's words.
 use model::Head;
 use model::Lease;
 use setpoint::Setpoint;
@@ -12,11 +12,13 @@ ghost use Rattle.model.specs.Calls.{releaseThenHandoffOf, foreignReleaseOf, acq
 ghost use Rattle.model.specs.Calls.{environmentOf, tryLockOf, transactionalOf, acquireBucketOf, releaseAllOf};
 ghost use Rattle.model.specs.Calls.{acquireLocksOf};
 ghost use Rattle.model.specs.Crew.{crewOf, crewAtWorkOf};
+ghost use Rattle.model.specs.Salvage.{salvageOf};
 ghost use Rattle.model.specs.Sorted.{acquireSortedOf};
 ghost use Rattle.setpoint.specs.declared.Setpoint.the-variants.{Pressure, Speed, Valve};
 ghost use Rattle.slots.specs.Calls.{prepareBookOf, writeSetpointOf, readSetpointOf};
 ghost use Rattle.wave.specs.Calls.{writeOf, readIntoOf};
-ghost use Rattle.words.specs.Words.{replyWords, playedWords, crewWords, bookWords, dumpedWords, undumpedWords, told};
+ghost use Rattle.words.specs.Words.{replyWords, playedWords, crewWords, salvageWords, bookWords, dumpedWords};
+ghost use Rattle.words.specs.Words.{undumpedWords, told};
 
 // ---- preparing
 
@@ -35,6 +37,41 @@ pub extern "C" fn skid_prepare(
 {
     let r = arena::prepare(headers, buckets, serial, table, health);
     *reply = words::reply_words(r);
+}
+
+// After a warm restart (document 02, L6), by the head that is held on paper. BadShape and ReportFull change no lent
+// word; words behind the entries of the report and of the list stay as they were.
+#[no_mangle]
+pub extern "C" fn skid_salvage(
+    headers: u32,
+    buckets: u32,
+    next: u32,
+    table: &mut [u32],
+    health: &mut [u8],
+    report: &mut [u32],
+    unconfirmed: &mut [u32],
+    reply: &mut [u64; 6],
+)
+    ensures { λ _. ⌜ (
+      now (reply .exit),
+      (
+        now (table .exit),
+        (
+          now (health .exit),
+          (now (report .exit), now (unconfirmed .exit)),
+        ),
+      ),
+    )
+        ≡ told salvageWords (salvageOf (headOf headers buckets next) (now (table .entry)) (now (health .entry))
+        (now (report .entry)) (now (unconfirmed .entry))) ⌝ }
+{
+    let head = Head {
+        headers,
+        buckets,
+        next,
+    };
+    let r = salvage::salvage(head, table, health, report, unconfirmed);
+    *reply = words::salvage_words(r);
 }
 
 // ---- calls without a script

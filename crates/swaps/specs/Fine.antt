@@ -11,13 +11,13 @@ use Rattle.model.specs.Log.{Event, attempt-begun, boundary-run, yielded, spun, 
 use Rattle.model.specs.Arena.{cellsOf, leaseOf, bitAt, ownerAt, setCell, stateOf, stateAt, heldBy, isLive}
 use Rattle.laws.specs.Shape.{shaped}
 use Rattle.laws.specs.Words.{length-set-cell, length-set-waiters, bit-set-other, owner-set-other, bit-set-waiters, owner-set-waiters}
-use Rattle.history.specs.World.{World, worldOf, cells, Legal, step, Sound}
+use Rattle.history.specs.World.{World, worldOf, cells, Legal, step, Whole as Arena-whole}
 use Rattle.history.specs.Tests.{Status, free, held, undamaged, state-free, state-held}
 use Rattle.history.specs.Events.{older, status-put, same-arena}
 use Rattle.swaps.specs.Steps.{Whole}
 
-pub sound-arena : (w : World) → Sound w → Whole w
-sound-arena w s = record { fits = s .fits; undamaged = λ c l e. absurd (s .whole c l e) }
+pub sound-arena : (w : World) → Arena-whole w → Whole w
+sound-arena w s = record { fits = s .fits; undamaged = s .undamaged }
 
 -- the premise as facts about numbers
 pub record Fine (w : World) : Type 0 where

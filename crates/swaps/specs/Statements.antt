@@ -11,16 +11,16 @@ use Rattle.model.specs.Foreign.{flowOf, boundaryOf}
 use Rattle.model.specs.Calls.{given, environmentOf}
 use Rattle.model.specs.declared.Lease.{Lease}
 use Rattle.model.specs.declared.Played.{Played}
-use Rattle.history.specs.World.{World, Live, step, now, Lawful, Sound, Kind, number-of}
+use Rattle.history.specs.World.{World, Live, step, now, Lawful, Whole as Arena-whole, Kind, number-of}
 use Rattle.history.specs.Items.{Call, perform, foreign-step, Item, Course, run}
 use Rattle.swaps.specs.Steps.{Whole, Step, take-step, release-step, waiters-step, health-step, leaves, dropped, on-table, exchanged, Parted, after-all, dropped-in, Shuffled}
 use Rattle.swaps.specs.Logs.{Apart, Both, Reordered}
 use Rattle.swaps.specs.Renaming.{Serials, renamed-owners, Recast, Retaken, Older}
 use Rattle.swaps.specs.Scripts.{scriptOf, Unended, Ended, ends, Rescripted}
 
--- the premise holds at every point of every history from a preparation (`history`: `Ledger.sound`)
+-- the premise holds at every point of every history from a preparation or a salvage (`history`: `Ledger.whole`)
 abbrev pub Sound-whole : Type 0
-Sound-whole = (w : World) → Sound w → Whole w
+Sound-whole = (w : World) → Arena-whole w → Whole w
 
 -- ---- two foreign steps. "Releases keep their protected set fixed across the swap": one list `ps` for both orders.
 

@@ -23,7 +23,7 @@ use Rattle.laws.specs.Shape.{shaped}
 use Rattle.laws.specs.Words.{length-set-cell, length-set-waiters, bit-set-waiters, owner-set-waiters, Seen, here, there, see}
 use Rattle.laws.specs.Checks.{first-hit, first-skip}
 use Rattle.history.specs.World as world
-use Rattle.history.specs.World.{World, worldOf, Live, Legal, Lawful, now, Sound, Unreleased}
+use Rattle.history.specs.World.{World, worldOf, Live, Legal, Lawful, now, Sound, Unreleased, Whole}
 use Rattle.history.specs.Items.{Call, Says, perform, try-acquire, drop-lease, read-permission, competing-acquire, release-then-handoff, foreign-release, drop-preserving, acquire-preserving, environment, try-lock, transactional, acquire-bucket, release-all, acquire-locks, acquire-sorted, crew, crew-at-work, Clear, rules}
 use Rattle.history.specs.Tests.{Status, free as is-free, held as is-held, live, free-words, In, in-index, in-take, same-lease}
 use Rattle.history.specs.Events.{good, lives}
@@ -45,7 +45,7 @@ valid-status next c v = go (v .bits) (c .owner) refl
     go (inl p) (suc o) e = absurd (omega (arith, v .owned .0 (omega arith)))
     go (inr p) o e = is-held p (v .owned .1 p) (v .below (v .owned .1 p))
 
-pub sound-valid : (w : Authority) → Sound w → valid w
+pub sound-valid : (w : Authority) → Whole w → valid w
 sound-valid w s k i = status-valid (next-serial w) (cells w k) (good w s .status k i)
 
 -- ---- authorized: the lease is live

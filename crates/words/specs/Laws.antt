@@ -1,4 +1,4 @@
--- Laws for the code: an answer's six words one by one, the crew's counts stored in a loop, and that what the book's calls answer has a body.
+-- Laws for the code: an answer's words one by one, the crew's counts stored in a loop, and that what the book's calls answer has a body.
 use Prim.Native.Nat.{ℕ, suc, _+_, _-_, _<_, _≤_}
 use mathlib.Core.Path.{_≡_, refl, ap, _∙_}
 use mathlib.Core.Bool.{true}
@@ -12,11 +12,14 @@ use Rattle.model.specs.declared.Counts.{Counts}
 use Rattle.model.specs.declared.CrewReply.{CrewReply}
 use Rattle.model.specs.declared.Head.{Head}
 use Rattle.model.specs.declared.Lease.{Lease}
+use Rattle.model.specs.declared.SalvageAnswer.{SalvageAnswer}
+use Rattle.model.specs.declared.SalvageAnswer.the-variants as salvaged
+use Rattle.model.specs.declared.SalvageReply.{SalvageReply}
 use Rattle.setpoint.specs.declared.Setpoint.{Setpoint}
 use Rattle.slots.specs.Calls.{prepareBookOf, writeSetpointOf}
 use Rattle.slots.specs.Outcomes.{Prepared, was-prepared, not-prepared, preparing-is, Wrote, was-written, not-written, writing-is, bodyTold}
 use Rattle.slots.specs.declared.BookAnswer.{BookAnswer}
-use Rattle.words.specs.Words.{busyWords, answerWords, resultWords, eachOf, crewWords}
+use Rattle.words.specs.Words.{busyWords, answerWords, resultWords, eachOf, crewWords, salvagedWords, salvageWords}
 
 pub six : (a : Answer)
     → getD (answerWords a) 0 0 ∷ getD (answerWords a) 1 0 ∷ getD (answerWords a) 2 0 ∷ getD (answerWords a) 3 0 ∷ getD (answerWords a) 4 0 ∷ getD (answerWords a) 5 0 ∷ []
@@ -35,6 +38,17 @@ pub laid : (h : Head) (place : ℕ) (k : Counts) (a : Answer) (ws : List ℕ) �
     → h .headers ∷ h .buckets ∷ h .next ∷ place ∷ k .attempts ∷ k .boundaries ∷ k .yields ∷ k .dropped ∷ getD ws 0 0 ∷ getD ws 1 0 ∷ getD ws 2 0 ∷ getD ws 3 0 ∷ getD ws 4 0 ∷ getD ws 5 0 ∷ []
     ≡ resultWords h place k a
 laid h place k a ws e = rw e (ap (λ (r : List ℕ). h .headers ∷ h .buckets ∷ h .next ∷ place ∷ k .attempts ∷ k .boundaries ∷ k .yields ∷ k .dropped ∷ r) (six a))
+
+-- a salvage's answer has three
+pub three : (a : SalvageAnswer) → getD (salvagedWords a) 0 0 ∷ getD (salvagedWords a) 1 0 ∷ getD (salvagedWords a) 2 0 ∷ [] ≡ salvagedWords a
+three (salvaged.Done changed held) = refl
+three salvaged.BadShape = refl
+three salvaged.ReportFull = refl
+
+pub salvage-laid : (r : SalvageReply) (ws : List ℕ) → ws ≡ salvagedWords (r .answer)
+    → r .head .headers ∷ r .head .buckets ∷ r .head .next ∷ getD ws 0 0 ∷ getD ws 1 0 ∷ getD ws 2 0 ∷ [] ≡ salvageWords r
+unfolding salvageWords
+salvage-laid r ws e = rw e (ap (λ (s : List ℕ). r .head .headers ∷ r .head .buckets ∷ r .head .next ∷ s) (three (r .answer)))
 
 -- one turn and the end of the loop that stores the counts of the members
 pub put-at : (at i : ℕ) (ns ws : List ℕ) → i < 16

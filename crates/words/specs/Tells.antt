@@ -24,6 +24,9 @@ use Rattle.model.specs.declared.Head.{Head}
 use Rattle.model.specs.declared.Played.{Played}
 use Rattle.model.specs.declared.Refusal.{Refusal}
 use Rattle.model.specs.declared.Reply.{Reply}
+use Rattle.model.specs.declared.SalvageAnswer.{SalvageAnswer}
+use Rattle.model.specs.declared.SalvageAnswer.the-variants as salvaged
+use Rattle.model.specs.declared.SalvageReply.{SalvageReply}
 use Rattle.setpoint.specs.Codec.{hasBody, settingOf}
 use Rattle.setpoint.specs.RoundTrip.{Held, setting-back, setting-means, join-small}
 use Rattle.setpoint.specs.declared.Decoded.{Decoded}
@@ -45,7 +48,7 @@ use Rattle.wave.specs.declared.Dumped.the-variants as dumped
 use Rattle.wave.specs.declared.Undumped.{Undumped}
 use Rattle.wave.specs.declared.Undumped.the-variants as undumped
 use Rattle.words.specs.Laws.{six}
-use Rattle.words.specs.Words.{busyWords, answerWords, replyWords, playedWords, eachOf, crewWords, bookNumber, bookWords, dumpedWords, undumpedWords, told}
+use Rattle.words.specs.Words.{busyWords, answerWords, replyWords, playedWords, eachOf, crewWords, salvagedWords, salvageWords, bookNumber, bookWords, dumpedWords, undumpedWords, told}
 
 -- ---- the way back
 
@@ -154,6 +157,25 @@ crew-back r x =
 
 pub crew-tells : (r s : CrewReply) → Sixteen r → Sixteen s → crewWords r ≡ crewWords s → r ≡ s
 crew-tells r s x y e = sym (crew-back r x) ∙ ap crewIn e ∙ crew-back s y
+
+-- the salvage's answer that three words tell, and its reply that six do
+abbrev pub salvagedIn : List ℕ → SalvageAnswer
+salvagedIn ws = if eqb (getD ws 0 0) 0 then salvaged.Done (getD ws 1 0) (getD ws 2 0) else if eqb (getD ws 1 0) 1 then salvaged.BadShape else salvaged.ReportFull
+
+abbrev pub salvageIn : List ℕ → SalvageReply
+salvageIn ws = record { head = headOf (getD ws 0 0) (getD ws 1 0) (getD ws 2 0); answer = salvagedIn (drop 3 ws) }
+
+salvaged-back : (a : SalvageAnswer) → salvagedIn (salvagedWords a) ≡ a
+salvaged-back (salvaged.Done changed held) = refl
+salvaged-back salvaged.BadShape = refl
+salvaged-back salvaged.ReportFull = refl
+
+salvage-back : (r : SalvageReply) → salvageIn (salvageWords r) ≡ r
+unfolding salvageWords
+salvage-back r = ap (λ (a : SalvageAnswer). record { head = r .head; answer = a }) (salvaged-back (r .answer))
+
+pub salvage-tells : (r s : SalvageReply) → salvageWords r ≡ salvageWords s → r ≡ s
+salvage-tells r s e = sym (salvage-back r) ∙ ap salvageIn e ∙ salvage-back s
 
 -- the book's refusal that a number tells
 abbrev pub bookFault : ℕ → BookRefusal

@@ -12,6 +12,9 @@ use Rattle.model.specs.declared.Head.{Head}
 use Rattle.model.specs.declared.Played.{Played}
 use Rattle.model.specs.declared.Refusal.{Refusal}
 use Rattle.model.specs.declared.Reply.{Reply}
+use Rattle.model.specs.declared.SalvageAnswer.{SalvageAnswer}
+use Rattle.model.specs.declared.SalvageAnswer.the-variants as salvaged
+use Rattle.model.specs.declared.SalvageReply.{SalvageReply}
 use Rattle.setpoint.specs.Codec.{kindOf, wordOf}
 use Rattle.slots.specs.declared.BookAnswer.{BookAnswer}
 use Rattle.slots.specs.declared.BookAnswer.the-variants as book
@@ -64,6 +67,17 @@ eachOf (suc left) m l = getD l m 0 ∷ eachOf left (m + 1) l
 -- 47 what they released
 unfoldable pub crewWords : CrewReply → List ℕ
 crewWords r = resultWords (r .head) 0 (countsOf 0 0 0 0) (r .answer) ++ (r .moving ∷ r .idle ∷ (eachOf 16 0 (r .taken) ++ eachOf 16 0 (r .released)))
+
+-- of a salvage: the kind of the answer, as in `answerWords`; done, the entries of the report and the cells left held; refused, the number, and
+-- ReportFull, which has none, counts on behind the setpoint book's
+abbrev pub salvagedWords : SalvageAnswer → List ℕ
+salvagedWords (salvaged.Done changed held) = 0 ∷ changed ∷ held ∷ []
+salvagedWords salvaged.BadShape = 5 ∷ 1 ∷ 0 ∷ []
+salvagedWords salvaged.ReportFull = 5 ∷ 106 ∷ 0 ∷ []
+
+-- words 0 to 2 the head, as it was given
+unfoldable pub salvageWords : SalvageReply → List ℕ
+salvageWords r = r .head .headers ∷ r .head .buckets ∷ r .head .next ∷ salvagedWords (r .answer)
 
 -- a refusal of the setpoint book: "1" and "12" are document 01's numbers; those without a number count from 101, in the order of their names
 -- in document 02, "BadSlot", "NotFinite", "DamagedBook", "VersionsSpent", and then "NeverWritten"

@@ -1,5 +1,5 @@
-// A reply as words, for callers in C or Rust: fourteen of them, the crew's forty-eight, the setpoint book's
-// four, or the waveform's three.
+// A reply as words, for callers in C or Rust: fourteen of them, the crew's forty-eight, the salvage's six, the setpoint
+// book's four, or the waveform's three.
 // specs/Words.antt lays them out, and specs/Tells.antt proves that they lose nothing.
 use model::Answer;
 use model::Counts;
@@ -8,6 +8,8 @@ use model::Head;
 use model::Played;
 use model::Refusal;
 use model::Reply;
+use model::SalvageAnswer;
+use model::SalvageReply;
 use slots::BookAnswer;
 use slots::BookRefusal;
 use wave::Dumped;
@@ -19,7 +21,8 @@ ghost use lib.Seq.{sets};
 ghost use Rattle.model.specs.Refusals.{refusalReason};
 ghost use Rattle.slots.specs.Outcomes.{bodyTold};
 ghost use Rattle.words.specs.Words.{busyWords, refusalWords, answerWords, resultWords, replyWords, playedWords};
-ghost use Rattle.words.specs.Words.{eachOf, crewWords, bookNumber, bookWords, dumpedWords, undumpedWords};
+ghost use Rattle.words.specs.Words.{eachOf, crewWords, salvagedWords, salvageWords, bookNumber, bookWords};
+ghost use Rattle.words.specs.Words.{dumpedWords, undumpedWords};
 
 // Words 12 and 13 of a refusal: only 11 gives a reason.
 fn reason_words(refusal: Refusal) -> [u64; 2]
@@ -175,6 +178,34 @@ pub fn crew_words(r: CrewReply) -> [u64; 48]
     put_counts(&mut words, 16, &taken);
     put_counts(&mut words, 32, &released);
     words
+}
+
+// Words 3 to 5 of a salvage.
+fn salvaged_words(answer: SalvageAnswer) -> [u64; 3]
+    ensures { λ r. ⌜ r ≡ salvagedWords answer ⌝ }
+{
+    match answer {
+        SalvageAnswer::Done(changed, held) => [0, changed as u64, held as u64],
+        SalvageAnswer::BadShape => [5, 1, 0],
+        SalvageAnswer::ReportFull => [5, 106, 0],
+    }
+}
+
+// Of a salvage.
+pub fn salvage_words(r: SalvageReply) -> [u64; 6]
+    ensures { λ w. ⌜ w ≡ salvageWords r ⌝ }
+{
+    let head = r.head;
+    let answer = r.answer;
+    let said = salvaged_words(answer);
+    [
+        head.headers as u64,
+        head.buckets as u64,
+        head.next as u64,
+        said[0],
+        said[1],
+        said[2],
+    ]
 }
 
 // The number of the book's refusal: document 01's where it has one, else from 101 on.

@@ -189,8 +189,8 @@ differ-leases e = let z : _≡_ {A = ℕ} 1 2 = ap (λ (l : Lease). l .serial) e
 
 pub given-back-between : Released-between (first-write .course) (run-shift first-write (write-setpoint 1 one-lease bar ∷ change) .course) one-lease
 given-back-between =
-    writers-parted rubbish old 1 2 1 (prepare-book ∷ arena-item (call (try-acquire 1)) ∷ []) change 1 one-lease other-lease bar (Valve true) 1 2
-    boot-done first-done second-done differ-leases (tt, (tt, (tt, tt)))
+    writers-parted rubbish old (preparation 1 2 1) (prepare-book ∷ arena-item (call (try-acquire 1)) ∷ []) change 1 one-lease other-lease bar (Valve true) 1 2
+    boot-done first-done second-done differ-leases (λ z. z, (λ z. z, (tt, tt)))
 
 -- ---- a slot's thirteen bytes
 

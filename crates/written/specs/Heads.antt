@@ -7,6 +7,7 @@ use native.Mathlib.Omega.{arith}
 use lib.ListN.{length}
 use Rattle.model.specs.Arena.{headOf, headFits, shapeFits, healthFits, cellsOf}
 use Rattle.model.specs.Calls.{prepareOf}
+use Rattle.model.specs.Salvage.{Salvage, salvageOf}
 use Rattle.model.specs.Log.{Event, attempt-begun, boundary-run, yielded, spun, step-dropped, took, released, waiters-set, health-set, held-all, added}
 use Rattle.model.specs.declared.Head.{Head}
 use Rattle.choice.specs.Pick.{both}
@@ -14,8 +15,9 @@ use Rattle.laws.specs.Shape.{Shaped, shaped}
 use Rattle.laws.specs.Prepared.{Outcome, Came, was-done, was-refused, came}
 use Rattle.slots.specs.Fine.{head-alone, shape-head}
 use Rattle.history.specs.World.{World, worldOf, Legal, step, now, Lawful}
-use Rattle.history.specs.Items.{Item, call, foreign-step, preparation, preparation-over, Course, perform, foreign, prepared-by, preparing, next-item}
+use Rattle.history.specs.Items.{Item, call, foreign-step, preparation, preparation-over, salvage, salvage-over, Course, perform, foreign, prepared-by, preparing, salvaged-by, salvaging, next-item}
 use Rattle.history.specs.Events.{fits}
+use Rattle.history.specs.Salvages.{Came as Salvages-came, bad, full, done, came as salvage-came}
 use Rattle.history.specs.Courses.{foreign-kept}
 use Rattle.history.specs.Theorems.{lawful-always}
 
@@ -76,6 +78,22 @@ module _ (headers buckets serial : ℕ) (t g : List ℕ) (v : World) (k : Course
           subst After (sym p) (shape-head h (length t) (both (shapeFits h (length t)) (healthFits h (length g)) e .0))
       go (was-refused e p) = subst After (sym p) f
 
+-- a salvage the same
+module _ (paper : Head) (t g report list : List ℕ) (v : World) (k : Course) where
+  salvage-fits : Fits (v .head)
+      → let p = salvaging paper t g report list in Fits (salvaged-by (p .0) (p .1) v k .world .head)
+  unfolding salvaging
+  salvage-fits f = go (salvage-came paper t g report list)
+    where
+      After : Salvage → Type 0
+      After o = Fits (salvaged-by (o .0 .answer) (worldOf (o .0 .head) (o .1 .0) (o .1 .1 .0)) v k .world .head)
+
+      go : Salvages-came paper t g report list → After (salvageOf paper t g report list)
+      go (bad e p) = subst After (sym p) f
+      go (full e i p) = subst After (sym p) f
+      go (done e i p) =
+          subst After (sym p) (shape-head paper (length t) (both (shapeFits paper (length t)) (healthFits paper (length g)) e .0))
+
 pub item-fits : (k : Course) (i : Item) → Fits (k .world .head) → Fits (next-item k i .world .head)
 unfolding next-item
 item-fits k (call c) f =
@@ -86,3 +104,5 @@ item-fits k (foreign-step kind place number) f =
     subst (λ (w : World). Fits (w .head)) (sym (m .leads)) (now-fits (k .world) (foreign (k .world) kind place number .log) (m .lawful) f)
 item-fits k (preparation headers buckets serial) f = preparation-fits headers buckets serial (k .world .table) (k .world .health) _ k f
 item-fits k (preparation-over headers buckets serial t g) f = preparation-fits headers buckets serial t g (k .world) k f
+item-fits k (salvage paper report list) f = salvage-fits paper (k .world .table) (k .world .health) report list _ k f
+item-fits k (salvage-over paper t g report list) f = salvage-fits paper t g report list (k .world) k f

@@ -16,8 +16,8 @@ use Rattle.slots.specs.declared.BookRefusal.the-variants.{NeverWritten}
 use Rattle.history.specs.World.{World}
 use Rattle.history.specs.Items.{Item, Course, next-item}
 
--- an item of a history (a call of document 01, a lone foreign step, a preparation of the arena), or a call of the book without the head, the
--- table and the book, which are what the last item left
+-- an item of a history (a call of document 01, a lone foreign step, a preparation or a salvage of the arena), or a call of the book without
+-- the head, the table and the book, which are what the last item left
 pub data BookItem : Type 0 where
   arena-item : Item → BookItem
   prepare-book : BookItem
@@ -114,8 +114,8 @@ told (the p) n = Setting p n
 
 -- ---- premises
 
--- after every item the head in force has n slots. Preparations of the arena are among the items: a done one keeps to it if H x B gives the
--- same number, at most 64; a refused one always does, as does every call
+-- after every item the head in force has n slots. Preparations and salvages of the arena are among the items: a done one keeps to it if H x B
+-- gives the same number, at most 64; a refused one always does, as does every call
 abbrev pub Same-slots : ℕ → Shift → List BookItem → Type 0
 Same-slots n s [] = Unit {0}
 Same-slots n s (i ∷ is) = (slots-in (next-shift s i) ≡ n) × Same-slots n (next-shift s i) is

@@ -9,16 +9,19 @@ use Rattle.model.specs.Log.{Actor, Event, released}
 use Rattle.model.specs.declared.Answer.{Answer}
 use Rattle.model.specs.declared.Answer.the-variants as answer
 use Rattle.model.specs.declared.Lease.{Lease}
+use Rattle.model.specs.declared.SalvageAnswer.{SalvageAnswer}
+use Rattle.model.specs.declared.SalvageAnswer.the-variants as salvaged
 use Rattle.slots.specs.Calls.{writeSetpointOf}
 use Rattle.slots.specs.Outcomes.{Wrote, was-written, not-written, writing-is}
 use Rattle.slots.specs.declared.BookAnswer.{BookAnswer}
 use Rattle.slots.specs.declared.BookAnswer.the-variants.{Written}
 use Rattle.history.specs.World.{World, Live, now, Releases, Unreleased}
-use Rattle.history.specs.Items.{call, foreign-step, preparation, preparation-over, Entry, Course, courseOf, cold, events-of, history-of, prepared-by, preparing, next-item, run}
+use Rattle.history.specs.Items.{Item, call, foreign-step, preparation, preparation-over, salvage, salvage-over, Entry, Course, courseOf, cold, events-of, history-of, prepared-by, salvaged-by, next-item, run}
+use Rattle.history.specs.Statements.{Begins}
 use Rattle.history.specs.Tests.{same-lease}
 use Rattle.history.specs.Events.{lives}
 use Rattle.history.specs.Writers.{looked}
-use Rattle.history.specs.Courses.{Stretch, run-stretch, ledger, begun, events-append}
+use Rattle.history.specs.Courses.{Stretch, run-stretch, ledger, begun, events-append, not-prepared, not-salvaged}
 use Rattle.written.specs.Items.{BookItem, arena-item, prepare-book, write-setpoint, read-setpoint, Shift, shiftOf, world-of, next-shift, run-shift}
 use Rattle.written.specs.Statements.{Written-by-holder, One-writer, Goes-on, One-stretch, Released-between, Writers-parted}
 
@@ -81,21 +84,22 @@ one-more : (k : Course) (e : Entry) (w : World) → Longer k (courseOf (k .origi
 one-more k e w = record { more = events-of (e ∷ []); origin-is = refl; history-is = events-append (k .entries) (e ∷ []) }
 
 -- a preparation that is not done
-refused-more : (a : Answer) (w v : World) (k : Course) → a ≢ answer.Done → Longer k (prepared-by a w v k)
-refused-more answer.Done w v k n = absurd (n refl)
-refused-more (answer.Cell c) w v k n = one-more k _ v
-refused-more (answer.Granted l) w v k n = one-more k _ v
-refused-more answer.AllGranted w v k n = one-more k _ v
-refused-more (answer.Busy why) w v k n = one-more k _ v
-refused-more (answer.Refused r) w v k n = one-more k _ v
-refused-more (answer.RefusedAt r p) w v k n = one-more k _ v
+unprepared-more : (a : Answer) (w v : World) (k : Course) → a ≢ answer.Done → Longer k (prepared-by a w v k)
+unprepared-more a w v k n = subst (Longer k) (sym (not-prepared a w v k n)) (one-more k _ v)
+
+-- a salvage that is not done
+unsalvaged-more : (a : SalvageAnswer) (w v : World) (k : Course) → ((e m : ℕ) × (a ≡ salvaged.Done e m) → ⊥) → Longer k (salvaged-by a w v k)
+unsalvaged-more a w v k n =
+    subst (Longer k) (sym (not-salvaged a w v k n)) (record { more = []; origin-is = refl; history-is = sym (append-nil (history-of k)) })
 
 item-more : (s : Shift) (i : BookItem) → Goes-on s i → Longer (s .course) (next-shift s i .course)
 unfolding next-shift next-item
 item-more s (arena-item (call c)) g = one-more (s .course) _ _
 item-more s (arena-item (foreign-step kind place number)) g = one-more (s .course) _ _
-item-more s (arena-item (preparation headers buckets serial)) g = refused-more _ _ _ (s .course) g
-item-more s (arena-item (preparation-over headers buckets serial t h)) g = refused-more _ _ _ (s .course) g
+item-more s (arena-item (preparation headers buckets serial)) g = unprepared-more _ _ _ (s .course) g
+item-more s (arena-item (preparation-over headers buckets serial t h)) g = unprepared-more _ _ _ (s .course) g
+item-more s (arena-item (salvage paper report list)) g = unsalvaged-more _ _ _ (s .course) g
+item-more s (arena-item (salvage-over paper t h report list)) g = unsalvaged-more _ _ _ (s .course) g
 item-more s prepare-book g = same (s .course)
 item-more s (write-setpoint slot l p) g = same (s .course)
 item-more s (read-setpoint slot) g = same (s .course)
@@ -105,7 +109,7 @@ unfolding run-shift
 runs-more s [] g = same (s .course)
 runs-more s (i ∷ is) g = further (s .course) (next-shift s i .course) _ (item-more s i (g .0)) (runs-more (next-shift s i) is (g .1))
 
--- ---- every state reached from a preparation has the ledger
+-- ---- every state reached from a start has the ledger
 
 item-stretch : (s : Shift) (i : BookItem) → Stretch (s .course) → Stretch (next-shift s i .course)
 unfolding next-shift run
@@ -131,19 +135,18 @@ still-live k d l x y m v u =
     subst (λ (w : World). Live w l) (ap (now (d .origin)) (sym (m .history-is)) ∙ sym (y .leads)) end
 
 -- the first stretch
-started : (w : World) (b : List ℕ) (h c s : ℕ) → preparing h c s (w .table) (w .health) .0 ≡ answer.Done
-    → Stretch (next-shift (shiftOf (cold w) b []) (arena-item (preparation h c s)) .course)
+started : (w : World) (b : List ℕ) (i : Item) → Begins w i → Stretch (next-shift (shiftOf (cold w) b []) (arena-item i) .course)
 unfolding next-shift
-started w b h c s d = begun w h c s d
+started w b i d = begun (cold w) i d
 
 pub writers-parted : Writers-parted
 unfolding run-shift
-writers-parted rubbish book headers buckets serial before between slot l k p q u v d x y n g =
-    let start = next-shift (shiftOf (cold rubbish) book []) (arena-item (preparation headers buckets serial)) in
+writers-parted rubbish book begin before between slot l k p q u v d x y n g =
+    let start = next-shift (shiftOf (cold rubbish) book []) (arena-item begin) in
     let one = run-shift start before in
     let next = next-shift one (write-setpoint slot l p) in
     let two = run-shift next between in
-    let early = runs-stretch start before (started rubbish book headers buckets serial d) in
+    let early = runs-stretch start before (started rubbish book begin d) in
     let late = runs-stretch next between (item-stretch one (write-setpoint slot l p) early) in
     let m = further (one .course) (next .course) (two .course) (item-more one (write-setpoint slot l p) tt) (runs-more next between g) in
     go one two m early late (written-by-holder (world-of one) (one .book) slot l p u x) (written-by-holder (world-of two) (two .book) slot k q v y)

@@ -8,7 +8,6 @@ use mathlib.Core.Bool.{true, false}
 use lib.ListN.{length, getD}
 use Rattle.model.specs.Arena.{headFits}
 use Rattle.model.specs.Log.{Actor, Event, released}
-use Rattle.model.specs.declared.Answer.the-variants as answer
 use Rattle.model.specs.declared.Head.{Head}
 use Rattle.model.specs.declared.Lease.{Lease}
 use Rattle.setpoint.specs.Codec.{hasBody}
@@ -22,7 +21,8 @@ use Rattle.slots.specs.declared.BookAnswer.{BookAnswer}
 use Rattle.slots.specs.declared.BookAnswer.the-variants.{Done, Written, Setting, Refused}
 use Rattle.slots.specs.declared.BookRefusal.the-variants.{DamagedBook, NeverWritten}
 use Rattle.history.specs.World.{World, Live}
-use Rattle.history.specs.Items.{call, foreign-step, preparation, preparation-over, Course, cold, history-of, preparing}
+use Rattle.history.specs.Items.{Item, Course, cold, history-of}
+use Rattle.history.specs.Statements.{Begins}
 use Rattle.written.specs.Items.{BookItem, arena-item, prepare-book, write-setpoint, read-setpoint, BookEntry, Shift, shiftOf, world-of, slots-in, preparing-book, writing, reading, next-shift, run-shift, last-write, writes, told, Same-slots, All-typed}
 
 -- what answers a write, and what answers a read; `writeSetpointOf` and `readSetpointOf` are ours. A statement about one call is one of any such
@@ -85,12 +85,9 @@ One-writer f =
     (w : World) (b c : List ℕ) (slot : ℕ) (l k : Lease) (p q : Setpoint) (u v : ℕ)
     → f (w .head) (w .table) b slot l p .0 ≡ Written u → f (w .head) (w .table) c slot k q .0 ≡ Written v → l ≡ k
 
--- the item begins no new stretch: it is no done preparation of the arena
+-- the item begins no new stretch: it is no start of the arena's history, a done preparation or a done salvage
 abbrev pub Goes-on : Shift → BookItem → Type 0
-Goes-on s (arena-item (call c)) = Unit {0}
-Goes-on s (arena-item (foreign-step kind place number)) = Unit {0}
-Goes-on s (arena-item (preparation headers buckets serial)) = preparing headers buckets serial (world-of s .table) (world-of s .health) .0 ≢ answer.Done
-Goes-on s (arena-item (preparation-over headers buckets serial t g)) = preparing headers buckets serial t g .0 ≢ answer.Done
+Goes-on s (arena-item i) = Begins (world-of s) i → ⊥
 Goes-on s prepare-book = Unit {0}
 Goes-on s (write-setpoint slot l p) = Unit {0}
 Goes-on s (read-setpoint slot) = Unit {0}
@@ -104,13 +101,13 @@ abbrev pub Released-between : Course → Course → Lease → Type 0
 Released-between k d l =
     (a : Actor) × (front back : List Event) × (history-of d ≡ history-of k ++ (front ++ (released a (l .cell) (l .serial) ∷ back)))
 
--- "two writers drive one valve": of two done writes on one slot in one stretch since a preparation of the arena, with different leases, the
--- first lease was released between them
+-- "two writers drive one valve": of two done writes on one slot in one stretch since a preparation or a salvage of the arena, with different
+-- leases, the first lease was released between them
 abbrev pub Writers-parted : Type 0
 Writers-parted =
-    (rubbish : World) (book : List ℕ) (headers buckets serial : ℕ) (before between : List BookItem) (slot : ℕ) (l k : Lease) (p q : Setpoint) (u v : ℕ)
-    → preparing headers buckets serial (rubbish .table) (rubbish .health) .0 ≡ answer.Done
-    → let one = run-shift (shiftOf (cold rubbish) book []) (arena-item (preparation headers buckets serial) ∷ before) in
+    (rubbish : World) (book : List ℕ) (start : Item) (before between : List BookItem) (slot : ℕ) (l k : Lease) (p q : Setpoint) (u v : ℕ)
+    → Begins rubbish start
+    → let one = run-shift (shiftOf (cold rubbish) book []) (arena-item start ∷ before) in
     let two = run-shift one (write-setpoint slot l p ∷ between) in
     writing one slot l p .0 ≡ Written u → writing two slot k q .0 ≡ Written v → l ≢ k → One-stretch (next-shift one (write-setpoint slot l p)) between
     → Released-between (one .course) (two .course) l

@@ -2,6 +2,7 @@
 
 use crate::book::{self, BookRefusal, Kept, Setpoint};
 use crate::rules::{self, Answer, Counts, CrewReply, Head, Lease, Reason, Reply, ScriptReply};
+use crate::salvage::{self, SalvageRefusal, Salvaged};
 use std::fmt::Display;
 use std::io::{self, BufRead, ErrorKind, Write};
 
@@ -21,9 +22,11 @@ pub const MEMBERS: usize = 20;
 pub const MEMBER_CELLS: usize = 70;
 pub const TURNS: usize = 70_000;
 pub const COUNTERS: usize = 4_200;
+pub const REPORT: usize = 37_200;
+pub const UNCONFIRMED: usize = 4_200;
 
-/// What a word of a fresh grant buffer holds.
-const GRANT: u32 = 9;
+/// What a word of a fresh grant buffer holds, of a fresh report, and of a fresh list of cells left held.
+const FRESH: u32 = 9;
 
 /// How a play ended.
 #[derive(Clone, Copy, Debug, PartialEq, Eq)]
@@ -168,6 +171,9 @@ pub struct Console {
     pub cells: Vec<u32>,
     pub turns: Vec<u32>,
     pub counters: Vec<u16>,
+    /// A salvage's report, and its list of cells left held.
+    pub report: Vec<u32>,
+    pub unconfirmed: Vec<u32>,
     /// Table words and health bytes to lend; none: as many as the head says.
     pub lent: Option<(usize, usize)>,
     /// Whether lines are printed before they are played. The player does it, not the console.
@@ -201,6 +207,8 @@ impl Console {
             cells: Vec::new(),
             turns: Vec::new(),
             counters: Vec::new(),
+            report: Vec::new(),
+            unconfirmed: Vec::new(),
             lent: None,
             echo: false,
             trace: false,
@@ -284,7 +292,13 @@ impl Console {
             }
             (b"place", &[place]) => self.place = place as usize,
             (b"grants", &[words]) if words as usize <= GRANTS => {
-                self.grants = vec![GRANT; words as usize];
+                self.grants = vec![FRESH; words as usize];
+            }
+            (b"report", &[words]) if words as usize <= REPORT => {
+                self.report = vec![FRESH; words as usize];
+            }
+            (b"unconfirmed", &[words]) if words as usize <= UNCONFIRMED => {
+                self.unconfirmed = vec![FRESH; words as usize];
             }
             (b"member", list) if list.len() <= MEMBER_CELLS && self.members.len() < MEMBERS => {
                 self.members.push(list.len() as u32);
@@ -428,6 +442,8 @@ impl Console {
             self.crew(out)?;
         } else if let (b"crew_at_work", &[]) = (call, numbers) {
             self.crew_at_work(out)?;
+        } else if let (b"salvage", &[]) = (call, numbers) {
+            self.salvage(out)?;
         } else if let Some(answer) = self.book_call(call, numbers) {
             print_book(answer, out)?;
         } else if let Some(reply) = self.call_without_script(call, numbers) {
@@ -601,6 +617,27 @@ impl Console {
         );
         self.print_crew(reply, out)?;
         print_list("counters", &self.counters, out)
+    }
+
+    /// The answer's line, and then, refused or not, report and list as they now are. The place stays.
+    fn salvage(&mut self, out: &mut impl Write) -> io::Result<()> {
+        let (words, bytes) = self.lent(self.head);
+        let reply = salvage::salvage(
+            self.head,
+            &mut self.table[..words],
+            &mut self.health[..bytes],
+            &mut self.report,
+            &mut self.unconfirmed,
+        );
+        self.head = reply.head;
+        match reply.answer {
+            Ok(Salvaged { changed, held }) => write!(out, "done {changed} {held}")?,
+            Err(SalvageRefusal::BadShape) => write!(out, "refused 1 BadShape 0")?,
+            Err(SalvageRefusal::ReportFull) => write!(out, "refused ReportFull")?,
+        }
+        writeln!(out, " next {}", self.head.next)?;
+        print_list("report", &self.report, out)?;
+        print_list("unconfirmed", &self.unconfirmed, out)
     }
 
     fn print_crew(&mut self, reply: CrewReply, out: &mut impl Write) -> io::Result<()> {
@@ -798,6 +835,8 @@ grants N: a grant buffer of N words
 member CELL ..: one more member of the crew
 crewless: no members
 counters N..: a counter for each cell
+report N: a salvage's report of N words
+unconfirmed N: a salvage's list of N words for the cells left held
 show: the head, the cells that are not all 0, the health that is not 0
 map: a character for each cell
 show_book: the lent length of the book, and its bytes that are not 0, sixteen a line
@@ -824,6 +863,7 @@ acquire_index_locks
 acquire_sorted_locks
 crew
 crew_at_work
+salvage
 prepare_book
 write_setpoint SLOT CELL SERIAL pressure BITS, or speed NUMBER, or valve 0 or 1
 read_setpoint SLOT

@@ -1,10 +1,12 @@
 //! The random histories reach every call, and with every call each answer that it can give; the reasons of a Busy, also
 //! where they change between attempts; the two readings of health in all their cases; keys in any order and doubles; the
-//! book's damages, and its faults two at a time; the counters of a crew at work; and echo, map and trace in all theirs.
+//! book's damages, and its faults two at a time; the counters of a crew at work; what a salvage finds and what room it
+//! has; and echo, map and trace in all theirs.
 
 use plain::book::{self, BookRefusal};
 use plain::console::{number, Console, Line};
 use plain::rules::{self, Answer, Lease};
+use plain::salvage::{salvage, Salvaged};
 use std::collections::{BTreeMap, BTreeSet};
 use std::process::Command;
 use std::sync::OnceLock;
@@ -13,7 +15,7 @@ const CALLS: usize = 10_000;
 
 /// What each call can answer: a Busy by its reason, a setpoint by its kind, the refusals by number, in the order of
 /// document 01's table, and 11 with its reason, or by name, where they have no number.
-const ANSWERS: [(&str, &str); 23] = [
+const ANSWERS: [(&str, &str); 24] = [
     ("prepare", "done 1"),
     ("try_acquire", "granted held 1 8 9 10"),
     ("drop_lease", "done 1 12"),
@@ -49,6 +51,7 @@ const ANSWERS: [(&str, &str); 23] = [
     ),
     ("crew", "crew 1 15"),
     ("crew_at_work", "crew 1 15"),
+    ("salvage", "done 1 ReportFull"),
     ("prepare_book", "done 1 BadSlot"),
     (
         "write_setpoint",
@@ -441,7 +444,7 @@ fn damages(console: &Console, slot: usize) -> Vec<&'static str> {
 #[test]
 fn every_damage_of_the_book() {
     let mut seen = BTreeSet::new();
-    for seed in [1, 2] {
+    for seed in 1..=6 {
         let mut console = Console::new();
         for line in history(seed).split(|&byte| byte == b'\n') {
             let mut out = Vec::new();
@@ -784,9 +787,205 @@ fn every_case_of_sorted_keys() {
     }
 }
 
+/// What a salvage found in each cell and byte. `before` is what it was given, and it is an arena.
+fn finds(before: &Console, after: &Console) -> BTreeSet<&'static str> {
+    let mut finds = BTreeSet::new();
+    let next = before.head.next;
+    let (words, bytes) = before.lent(before.head);
+    let cells = before.table[..words].chunks_exact(3);
+    let mut owners = BTreeSet::new();
+    for (old, new) in cells.zip(after.table.chunks_exact(3)) {
+        let (bit, owner, waiters) = (old[0], old[1], old[2] != 0);
+        let (cell, waited) = match (bit, owner) {
+            (0, 0) => ("free", "free, waited for"),
+            (1, 1..) if owner < next => ("held", "held, waited for"),
+            (0, _) => ("damaged: bit 0 with an owner", "damaged, waited for"),
+            (1, 0) => ("damaged: bit 1 without owner", "damaged, waited for"),
+            (1, _) if owner == next => ("damaged: owner next", "damaged, waited for"),
+            (1, _) => ("damaged: owner above next", "damaged, waited for"),
+            (_, 0) => ("damaged: another bit alone", "damaged, waited for"),
+            _ => ("damaged: another bit with an owner", "damaged, waited for"),
+        };
+        finds.insert(if waiters { waited } else { cell });
+        let mended = if cell == "held" {
+            [1, owner, 0]
+        } else {
+            [0; 3]
+        };
+        assert_eq!(new, mended);
+        if cell == "held" && !owners.insert(owner) {
+            finds.insert("one owner of two cells");
+        }
+    }
+    for (&old, &new) in before.health[..bytes].iter().zip(&after.health) {
+        finds.insert(match old {
+            0 => "health 0",
+            1 => "health 1",
+            _ => "another health",
+        });
+        assert_eq!(new, old.min(1));
+    }
+    finds
+}
+
+/// What a salvage with room for all would find; nothing where it is refused by 1.
+fn found(console: &Console) -> Salvaged {
+    let (words, bytes) = console.lent(console.head);
+    let reply = salvage(
+        console.head,
+        &mut console.table[..words].to_vec(),
+        &mut console.health[..bytes].to_vec(),
+        &mut [0; 37_200],
+        &mut [0; 4_200],
+    );
+    reply.answer.unwrap_or_default()
+}
+
+/// What a salvage met. `before` is what it was given; `again`: a salvage that was done stands right before it.
+fn cases_of_salvage(before: &Console, after: &Console, out: &str, again: bool) -> Vec<String> {
+    let mut cases = BTreeSet::new();
+    let Salvaged { changed, held } = found(before);
+    let (report, list) = (before.report.len(), before.unconfirmed.len());
+    if !out.starts_with("done ") {
+        assert!(before.table == after.table && before.health == after.health);
+        assert!(before.report == after.report && before.unconfirmed == after.unconfirmed);
+    }
+    match answer_of(out).as_str() {
+        "1" if report == 0 || list == 0 => {
+            cases.insert("1, and little room");
+        }
+        "ReportFull" => {
+            let (full, short) = (report / 3 < changed, list < held);
+            assert!(full || short, "{out}");
+            cases.insert(match (full, short) {
+                (true, false) => "full: the report",
+                (false, _) => "full: the list",
+                (true, true) => "full: both",
+            });
+            if report + 1 == 3 * changed {
+                cases.insert("full: one word short");
+            }
+            if report / 3 + 1 == changed && report % 3 == 0 {
+                cases.insert("full: one entry short");
+            }
+            if list + 1 == held && !full {
+                cases.insert("full: one cell short");
+            }
+            if changed > 0 && report == 0 {
+                cases.insert("full: an empty report");
+            }
+            if held > 0 && list == 0 {
+                cases.insert("full: an empty list");
+            }
+        }
+        "done" => {
+            cases.extend(finds(before, after));
+            cases.insert(match (changed, report) {
+                (0, 0) => "no report, none needed",
+                (0, _) => "a report, none needed",
+                _ if report == 3 * changed => "report: exactly enough",
+                _ if report / 3 == changed => "report: a word or two behind",
+                _ => "report: more than enough",
+            });
+            cases.insert(match (held, list) {
+                (0, 0) => "no list, none needed",
+                (0, _) => "a list, none needed",
+                _ if list == held => "list: exactly enough",
+                _ => "list: more than enough",
+            });
+            if again {
+                assert_eq!(changed, 0, "{out}");
+                cases.insert("a second salvage");
+            }
+            match before.head.next {
+                1 => drop(cases.insert("next 1")),
+                u32::MAX => drop(cases.insert("no serial")),
+                _ => {}
+            }
+        }
+        _ => {}
+    }
+    cases
+        .into_iter()
+        .map(String::from)
+        .chain([answer_of(out)])
+        .collect()
+}
+
+/// Each answer of the salvage, each find and each room, not once but often.
+#[test]
+fn every_case_of_salvage() {
+    let mut seen: BTreeMap<String, usize> = BTreeMap::new();
+    for seed in 1..=6 {
+        let mut console = Console::new();
+        // the last line that was no command for the rooms was a salvage, and it was done
+        let mut again = false;
+        for line in history(seed).split(|&byte| byte == b'\n') {
+            let before = (line == b"salvage").then(|| console.clone());
+            let mut out = Vec::new();
+            console
+                .line(line, &mut out)
+                .expect("a vector takes every byte");
+            let rooms = line.starts_with(b"report ") || line.starts_with(b"unconfirmed ");
+            if let Some(before) = before {
+                let out = String::from_utf8_lossy(&out);
+                for case in cases_of_salvage(&before, &console, &out, again) {
+                    *seen.entry(case).or_default() += 1;
+                }
+                again = out.starts_with("done ");
+            } else if !rooms {
+                again = false;
+            }
+        }
+    }
+    for case in [
+        "done",
+        "1",
+        "ReportFull",
+        "1, and little room",
+        "full: the report",
+        "full: the list",
+        "full: both",
+        "full: one word short",
+        "full: one entry short",
+        "full: one cell short",
+        "full: an empty report",
+        "full: an empty list",
+        "no report, none needed",
+        "a report, none needed",
+        "report: exactly enough",
+        "report: a word or two behind",
+        "report: more than enough",
+        "no list, none needed",
+        "a list, none needed",
+        "list: exactly enough",
+        "list: more than enough",
+        "a second salvage",
+        "next 1",
+        "no serial",
+        "free",
+        "free, waited for",
+        "held",
+        "held, waited for",
+        "damaged, waited for",
+        "damaged: bit 0 with an owner",
+        "damaged: bit 1 without owner",
+        "damaged: owner next",
+        "damaged: owner above next",
+        "damaged: another bit alone",
+        "damaged: another bit with an owner",
+        "one owner of two cells",
+        "health 0",
+        "health 1",
+        "another health",
+    ] {
+        assert!(seen.get(case) >= Some(&20), "{case}: {seen:?}");
+    }
+}
+
 /// What each call can do to bits: kinds of `step` lines that its trace can have. Behind the kind `+` if there can be
 /// several.
-const STEPS: [(&str, &str); 23] = [
+const STEPS: [(&str, &str); 24] = [
     ("prepare", "0 2 2+"),
     ("try_acquire", "0 1"),
     ("drop_lease", "0 2"),
@@ -807,6 +1006,7 @@ const STEPS: [(&str, &str); 23] = [
     ("acquire_sorted_locks", "0 1 1+ 2 2+"),
     ("crew", "0 1 1+"),
     ("crew_at_work", "0 1 1+"),
+    ("salvage", "0 2 2+"),
     ("prepare_book", "0"),
     ("write_setpoint", "0"),
     ("read_setpoint", "0"),

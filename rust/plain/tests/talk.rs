@@ -174,7 +174,7 @@ fn help_names_everything() {
                  release_then_handoff foreign_release_between_attempts acquire_preserving_borrows \
                  drop_preserving_borrows environment environment_for_borrows try_lock \
                  other_mutex_preserves_leases transactional_try_lock_bucket acquire_index_bucket release_all \
-                 acquire_index_locks acquire_sorted_locks crew"
+                 acquire_index_locks acquire_sorted_locks crew report unconfirmed salvage"
         .split_whitespace()
     {
         assert!(named.contains(&word), "{word}");

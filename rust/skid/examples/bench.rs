@@ -1,8 +1,9 @@
-//! Document 01's bench cases, through the crate `skid`, and of document 02 keys in any order, the crew at work and the
-//! setpoint book, and edges of the calls. A line for each case; exit 1 if a figure is not the documents'.
+//! Document 01's bench cases, through the crate `skid`, and of document 02 keys in any order, salvage, the crew at work
+//! and the setpoint book, and edges of the calls. A line for each case; exit 1 if a figure is not the documents'.
 use skid::{
-    Answer, Arena, BookAnswer, BookRefusal, Counts, Head, Key, Lease, Played, Reason, Refusal,
-    Reply, Script, Setpoint, Step, LONGEST_BOOK, NO_SERIAL, SLOT_BYTES,
+    Answer, Arena, BookAnswer, BookRefusal, Change, Counts, Head, Key, Lease, Played, Reason,
+    Refusal, Reply, SalvageRefusal, Salvaged, Script, Setpoint, Step, LONGEST_BOOK, NO_SERIAL,
+    SLOT_BYTES,
 };
 use std::fmt::Debug;
 use std::process::exit;
@@ -449,6 +450,106 @@ fn refused_keys(b: &mut Bench) {
     });
 }
 
+// ---- salvage after a warm restart
+
+const PAPER: Head = Head {
+    headers: 2,
+    buckets: 4,
+    next: 3,
+};
+const EMPTY: Change = Change {
+    place: 9,
+    old: 9,
+    new: 9,
+};
+
+/// Serials 1 and 2 hold cells 2 and 6; then power dips: cell 0's bit is 7, cell 4 has an owner that was never issued,
+/// somebody waits for cell 6, header 1's health is 200.
+fn after_a_dip(run: impl FnOnce(&mut [u32], &mut [u8])) {
+    let (mut table, mut health) = ([0; 26], [0x5a; 4]);
+    (table[0], table[25]) = (GUARD, GUARD);
+    let cells = &mut table[1..25];
+    cells[6..8].copy_from_slice(&[1, 1]);
+    cells[18..21].copy_from_slice(&[1, 2, 3]);
+    cells[0] = 7;
+    cells[12..14].copy_from_slice(&[1, 3]);
+    (health[1], health[2]) = (1, 200);
+    run(cells, &mut health[1..3]);
+    assert_eq!(
+        (table[0], table[25], health[0], health[3]),
+        (GUARD, GUARD, 0x5a, 0x5a),
+        "a word outside the runs"
+    );
+}
+
+fn salvage(b: &mut Bench) {
+    after_a_dip(|table, health| {
+        let (mut report, mut list) = ([EMPTY; 6], [9; 3]);
+        {
+            let (mut arena, found) =
+                Arena::salvage(PAPER, table, health, &mut report, &mut list).expect("salvaged");
+            let want = Salvaged {
+                changed: 5,
+                held: 2,
+            };
+            b.check("found", found, want);
+            b.check("head", arena.head(), PAPER);
+            b.check("health", arena.health(), &[1, 1]);
+            b.check("dropped", arena.drop_lease(GOVERNOR).answer, Answer::Done);
+            b.check("taken", arena.try_acquire(4).answer, granted(4, 3));
+        }
+        let words = report.map(|c| (c.place, c.old, c.new));
+        let want = [
+            (0, 7, 0),
+            (12, 1, 0),
+            (13, 3, 0),
+            (20, 3, 0),
+            (25, 200, 1),
+            (9, 9, 9),
+        ];
+        b.check("report", words, want);
+        b.check("list", list, [2, 6, 9]);
+    });
+}
+
+fn second_salvage(b: &mut Bench) {
+    after_a_dip(|table, health| {
+        let first = Arena::salvage(PAPER, table, health, &mut [EMPTY; 5], &mut [9; 2]);
+        b.check("first", first.is_ok(), true);
+        let mut list = [9; 2];
+        let second = Arena::salvage(PAPER, table, health, &mut [], &mut list);
+        let want = Salvaged {
+            changed: 0,
+            held: 2,
+        };
+        b.check("second", second.map(|(_, found)| found).ok(), Some(want));
+        b.check("list", list, [2, 6]);
+    });
+}
+
+fn refused_salvage(b: &mut Bench) {
+    after_a_dip(|table, health| {
+        let mut before = [0; 24];
+        before.copy_from_slice(table);
+        for (changes, cells) in [(4, 2), (5, 1), (0, 0)] {
+            let (mut report, mut list) = ([EMPTY; 5], [9; 2]);
+            let refused = Arena::salvage(
+                PAPER,
+                table,
+                health,
+                &mut report[..changes],
+                &mut list[..cells],
+            );
+            b.check("refused", refused.err(), Some(SalvageRefusal::ReportFull));
+            b.check("report", (report, list), ([EMPTY; 5], [9; 2]));
+        }
+        let short = Arena::salvage(PAPER, &mut table[1..], health, &mut [], &mut []);
+        b.check("refused", short.err(), Some(SalvageRefusal::BadShape));
+        b.check("words as they were", *table == before, true);
+        b.check("bytes as they were", health, &mut [1, 200]);
+    });
+}
+
 // ---- the crew at work: cell 2's counter is 40,000, cell 5's 30,000, all others 7
 
 const COUNTERS: [u16; 8] = [7, 7, 40_000, 7, 7, 30_000, 7, 7];
@@ -817,15 +918,19 @@ fn main() {
     b.case("falling keys", falling_keys);
     b.case("refused keys", refused_keys);
     let sorts = b.passed - cases;
+    b.case("a salvage, and work goes on", salvage);
+    b.case("a second salvage", second_salvage);
+    b.case("refused salvages", refused_salvage);
+    let salvages = b.passed - cases - sorts;
     b.case("crew {2,5},{2,5} at work, turns 0,1 eleven times", at_work);
     b.case("one cell, and turns that run out", some_work);
     b.case("refused work", refused_work);
-    let works = b.passed - cases - sorts;
+    let works = b.passed - cases - sorts - salvages;
     b.case("a book read before anybody wrote", never_written);
     b.case("the governor writes", governor_writes);
     b.case("refused writes, in order", refused_writes);
     b.case("the last version", last_version);
-    let books = b.passed - cases - sorts - works;
+    let books = b.passed - cases - sorts - salvages - works;
     b.case("calls without a script", without_script);
     b.case("calls with a script", with_script);
     b.case("nothing lent", nothing_lent);
@@ -834,9 +939,10 @@ fn main() {
         exit(1);
     }
     println!("keys in any order in Rust: {sorts} passed");
+    println!("salvage in Rust: {salvages} passed");
     println!("crew at work in Rust: {works} passed");
     println!("setpoint book in Rust: {books} passed");
-    let edges = b.passed - cases - sorts - works - books;
+    let edges = b.passed - cases - sorts - salvages - works - books;
     println!("edges in Rust: {edges} passed");
     println!("bench cases in Rust: {cases} passed");
 }

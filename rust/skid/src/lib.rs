@@ -1,6 +1,6 @@
 //! The lease layer of the skid kernel: the calls of document 01, keys in any order
-//! ([`Arena::acquire_sorted_locks`]), the setpoint book ([`Setpoint`]) and the waveform of the cells ([`wave`]), safe to
-//! call.
+//! ([`Arena::acquire_sorted_locks`]), salvage after a warm restart ([`Arena::salvage`]), the setpoint book
+//! ([`Setpoint`]) and the waveform of the cells ([`wave`]), safe to call.
 //!
 //! The programs of a pump skid's kernel share one arena of setpoint buckets. Each bucket has a mutex cell. A program
 //! that takes a cell gets a [`Lease`]: the number of the cell, and a serial.
@@ -30,18 +30,21 @@
 //!
 //! An [`Arena`] keeps the head, and borrows table and health, so that each call gets what the last one left and one
 //! caller at a time works on a table. Who takes an arena apart and goes on later ([`Arena::resume`]) must see to that
-//! himself. Leases from before a preparation are to be thrown away.
+//! himself. Leases from before a preparation are to be thrown away. The last head is to be kept where a power dip does
+//! not reach it, for [`Arena::salvage`].
 #![no_std]
 #![deny(unsafe_code)]
 #![deny(unsafe_op_in_unsafe_fn)]
 #![deny(missing_docs)]
 
 mod book;
+mod salvage;
 #[allow(unsafe_code)]
 mod sys;
 pub mod wave;
 
 pub use book::{BookAnswer, BookRefusal, Setpoint, LONGEST_BOOK, SLOTS, SLOT_BYTES};
+pub use salvage::{Change, SalvageRefusal, Salvaged};
 
 /// The version of this crate and of the library under it; CHANGELOG.md says what came with which.
 pub const VERSION: &str = env!("CARGO_PKG_VERSION");

@@ -3,17 +3,19 @@
 //!
 //! Each function of the library reads and writes only the runs that it is lent, of the lengths that it is told, and the
 //! reply; it keeps no pointer, and takes any numbers. So a function over references is safe: a reference is aligned and
-//! valid for its length, and one to be written overlaps no other. Lengths count elements; of leases, keys and steps they
-//! count words.
+//! valid for its length, and one to be written overlaps no other. Lengths count elements; of leases, keys, steps and
+//! changes they count words.
 #![allow(clippy::too_many_arguments)]
 
-use crate::{Head, Key, Lease, Step};
+use crate::{Change, Head, Key, Lease, Step};
 use core::mem::{align_of, size_of};
 
 /// Words of a reply.
 pub(crate) const REPLY: usize = 14;
 /// Words of the crew's.
 pub(crate) const CREW: usize = 48;
+/// Words of the salvage's.
+pub(crate) const SALVAGE: usize = 6;
 /// Words of the setpoint book's.
 pub(crate) const BOOK: usize = 4;
 /// Words of the waveform's.
@@ -21,13 +23,14 @@ pub(crate) const WAVE: usize = 3;
 /// What a reply holds before a call. The library writes every word; one that it left out would show.
 const BLANK: u64 = 0xa5a5_a5a5_a5a5_a5a5;
 
-// Leases, keys and steps are lent as the words that they are made of, in their order (`repr(C)`).
+// Leases, keys, steps and changes are lent as the words that they are made of, in their order (`repr(C)`).
 const _: () = assert!(size_of::<Lease>() == 8 && align_of::<Lease>() == 4);
 const _: () = assert!(size_of::<Key>() == 8 && align_of::<Key>() == 4);
 const _: () = assert!(size_of::<Step>() == 12 && align_of::<Step>() == 4);
+const _: () = assert!(size_of::<Change>() == 12 && align_of::<Change>() == 4);
 
 mod raw {
-    use super::{BOOK, CREW, REPLY, WAVE};
+    use super::{BOOK, CREW, REPLY, SALVAGE, WAVE};
 
     extern "C" {
         pub(super) fn skid_prepare(
@@ -39,6 +42,20 @@ mod raw {
             health: *mut u8,
             health_len: usize,
             reply: *mut [u64; REPLY],
+        );
+        pub(super) fn skid_salvage(
+            headers: u32,
+            buckets: u32,
+            next: u32,
+            table: *mut u32,
+            table_len: usize,
+            health: *mut u8,
+            health_len: usize,
+            report: *mut u32,
+            report_len: usize,
+            unconfirmed: *mut u32,
+            unconfirmed_len: usize,
+            reply: *mut [u64; SALVAGE],
         );
         pub(super) fn skid_try_acquire(
             headers: u32,
@@ -410,6 +427,34 @@ pub(crate) fn prepare(
             table.len(),
             health.as_mut_ptr(),
             health.len(),
+            &mut reply,
+        );
+    }
+    reply
+}
+
+pub(crate) fn salvage(
+    head: Head,
+    table: &mut [u32],
+    health: &mut [u8],
+    report: &mut [Change],
+    unconfirmed: &mut [u32],
+) -> [u64; SALVAGE] {
+    let mut reply = [BLANK; SALVAGE];
+    // SAFETY: the pointers and lengths are those of references; see the head of this file.
+    unsafe {
+        raw::skid_salvage(
+            head.headers,
+            head.buckets,
+            head.next,
+            table.as_mut_ptr(),
+            table.len(),
+            health.as_mut_ptr(),
+            health.len(),
+            report.as_mut_ptr().cast(),
+            3 * report.len(),
+            unconfirmed.as_mut_ptr(),
+            unconfirmed.len(),
             &mut reply,
         );
     }

@@ -32,6 +32,12 @@ pub struct Desk {
     pub cells: Vec<u32>,
     pub turns: Vec<u32>,
     pub counters: Vec<u16>,
+    /// A salvage's report, and its list of cells left held.
+    pub report: Vec<u32>,
+    pub unconfirmed: Vec<u32>,
+    /// Table and health as a power dip left them.
+    pub dipped_table: Vec<u32>,
+    pub dipped_health: Vec<u8>,
 }
 
 impl Desk {

@@ -272,6 +272,56 @@ impl Case for Prepare {
     }
 }
 
+/// Table and health as the dip left them, and `salvage` of 64 x 64 cells: of every 16 cells one is damaged, in bit and
+/// owner; of every 8 one is waited for; of every 4 one is held; of every 8 health bytes one is neither 0 nor 1. Report
+/// and list are exactly long enough.
+struct Salvage;
+
+impl Case for Salvage {
+    fn desk<S: Side>() -> Desk {
+        let mut desk = Desk::new(64, 64);
+        desk.head.next = 4097;
+        desk.dipped_table = (0..4096)
+            .flat_map(|cell| {
+                let waiters = u32::from(cell % 8 == 3);
+                match (cell % 16, cell % 4) {
+                    (5, _) => [2, 7, waiters],
+                    (_, 2) => [1, cell + 1, waiters],
+                    _ => [0, 0, waiters],
+                }
+            })
+            .collect();
+        desk.dipped_health = (0..64)
+            .map(|header| [0, 7][usize::from(header % 8 == 3)])
+            .collect();
+        desk.report = vec![0; 3 * (2 * 256 + 512 + 8)];
+        desk.unconfirmed = vec![0; 1024];
+        desk
+    }
+
+    #[inline(always)]
+    fn run<S: Side>(desk: &mut Desk, watch: &mut impl Watch) {
+        Dip::run::<S>(desk, watch);
+        S::salvage(desk.hidden(), |r| watch.see(r, S::salvage_words));
+    }
+}
+
+/// The dip of the salvage's case alone, to be subtracted from it.
+struct Dip;
+
+impl Case for Dip {
+    fn desk<S: Side>() -> Desk {
+        Salvage::desk::<S>()
+    }
+
+    #[inline(always)]
+    fn run<S: Side>(desk: &mut Desk, _watch: &mut impl Watch) {
+        let desk = desk.hidden();
+        desk.table.copy_from_slice(&desk.dipped_table);
+        desk.health.copy_from_slice(&desk.dipped_health);
+    }
+}
+
 /// `acquire_index_locks` of 16 free keys, no script, and `release_all` of what it granted. Serials go on.
 struct Locks;
 
@@ -341,7 +391,9 @@ fn line<C: Case, S: Side>(repeats: u64, each: bool) -> String {
     sum.add(desk.health);
     sum.add(desk.grants);
     sum.add(desk.counters);
-    let last: Vec<String> = sum.last[..14].iter().map(u64::to_string).collect();
+    sum.add(desk.report);
+    sum.add(desk.unconfirmed);
+    let last: Vec<String> = sum.last.iter().take(14).map(u64::to_string).collect();
     format!("{:016x} {}", sum.sum, last.join(" "))
 }
 
@@ -386,6 +438,8 @@ fn on<S: Side>(case: &str, how: &[&str]) -> Option<String> {
         "locks" => asked::<Locks, S>(how),
         "sorted" => asked::<Sorted, S>(how),
         "prepare" => asked::<Prepare, S>(how),
+        "salvage" => asked::<Salvage, S>(how),
+        "dip" => asked::<Dip, S>(how),
         _ => None,
     }
 }
@@ -406,7 +460,7 @@ fn main() -> ExitCode {
         None => {
             eprintln!("speed proved|plain CASE REPEATS [each], or speed proved|plain CASE time");
             eprintln!("CASE: refusal script held crew crew_at_work crew-prepare try_lock bucket");
-            eprintln!("      locks sorted prepare");
+            eprintln!("      locks sorted prepare salvage dip");
             ExitCode::from(2)
         }
     }

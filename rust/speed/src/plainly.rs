@@ -1,10 +1,12 @@
-//! The plain side: plain::rules. Its replies are told in the library's words, so that the two can be compared.
+//! The plain side: plain::rules and plain::salvage. Its replies are told in the library's words, so that the two can be
+//! compared.
 
 use crate::desk::Desk;
 use crate::side::{Side, Words};
 use plain::rules::{
     self, Answer, Counts, CrewReply, Head, Lease, Reason, Refusal, Reply, ScriptReply,
 };
+use plain::salvage::{self, SalvageRefusal, SalvageReply, Salvaged};
 
 pub struct Plain;
 
@@ -74,6 +76,7 @@ impl Side for Plain {
     type Reply = Reply;
     type Played = ScriptReply;
     type Crew = CrewReply;
+    type Salvage = SalvageReply;
 
     #[inline(always)]
     fn prepare<T>(desk: &mut Desk, seen: impl FnOnce(&Reply) -> T) -> T {
@@ -223,6 +226,19 @@ impl Side for Plain {
     }
 
     #[inline(always)]
+    fn salvage<T>(desk: &mut Desk, seen: impl FnOnce(&SalvageReply) -> T) -> T {
+        let head = head_of(desk);
+        let reply = salvage::salvage(
+            head,
+            &mut desk.table,
+            &mut desk.health,
+            &mut desk.report,
+            &mut desk.unconfirmed,
+        );
+        seen(&reply)
+    }
+
+    #[inline(always)]
     fn next(played: &ScriptReply) -> u32 {
         played.head.next
     }
@@ -259,5 +275,16 @@ impl Side for Plain {
                 words
             }
         }
+    }
+
+    fn salvage_words(salvage: &SalvageReply) -> Words {
+        let SalvageReply { head, answer } = salvage;
+        let [kind, one, two] = match *answer {
+            Ok(Salvaged { changed, held }) => [0, changed as u64, held as u64],
+            Err(SalvageRefusal::BadShape) => [5, 1, 0],
+            Err(SalvageRefusal::ReportFull) => [5, 106, 0],
+        };
+        let [headers, buckets, next] = [head.headers, head.buckets, head.next].map(u64::from);
+        vec![headers, buckets, next, kind, one, two]
     }
 }

@@ -8,6 +8,7 @@ use skid as _;
 
 type Reply = [u64; 14];
 type Crew = [u64; 48];
+type Salvage = [u64; 6];
 
 extern "C" {
     fn skid_prepare(
@@ -171,6 +172,20 @@ extern "C" {
         counters_len: usize,
         reply: *mut Crew,
     );
+    fn skid_salvage(
+        headers: u32,
+        buckets: u32,
+        next: u32,
+        table: *mut u32,
+        table_len: usize,
+        health: *mut u8,
+        health_len: usize,
+        report: *mut u32,
+        report_len: usize,
+        unconfirmed: *mut u32,
+        unconfirmed_len: usize,
+        reply: *mut Salvage,
+    );
 }
 
 pub struct Proved;
@@ -181,6 +196,7 @@ impl Side for Proved {
     type Reply = Reply;
     type Played = Reply;
     type Crew = Crew;
+    type Salvage = Salvage;
 
     #[inline(always)]
     fn prepare<T>(desk: &mut Desk, seen: impl FnOnce(&Reply) -> T) -> T {
@@ -424,6 +440,28 @@ impl Side for Proved {
     }
 
     #[inline(always)]
+    fn salvage<T>(desk: &mut Desk, seen: impl FnOnce(&Salvage) -> T) -> T {
+        let mut reply = MaybeUninit::uninit();
+        unsafe {
+            skid_salvage(
+                desk.head.headers,
+                desk.head.buckets,
+                desk.head.next,
+                desk.table.as_mut_ptr(),
+                desk.table.len(),
+                desk.health.as_mut_ptr(),
+                desk.health.len(),
+                desk.report.as_mut_ptr(),
+                desk.report.len(),
+                desk.unconfirmed.as_mut_ptr(),
+                desk.unconfirmed.len(),
+                reply.as_mut_ptr(),
+            );
+            seen(reply.assume_init_ref())
+        }
+    }
+
+    #[inline(always)]
     fn next(played: &Reply) -> u32 {
         played[2] as u32
     }
@@ -443,5 +481,9 @@ impl Side for Proved {
 
     fn crew_words(crew: &Crew) -> Words {
         crew.to_vec()
+    }
+
+    fn salvage_words(salvage: &Salvage) -> Words {
+        salvage.to_vec()
     }
 }

@@ -3,14 +3,15 @@
 
 use crate::desk::Desk;
 
-/// The words of a reply, as include/skid.h lays them out; the crew's are 48.
+/// The words of a reply, as include/skid.h lays them out: 14, of the crew 48, of a salvage 6.
 pub type Words = Vec<u64>;
 
 pub trait Side {
-    /// The reply of a call without a script, of a call with one, and of the crew.
+    /// The reply of a call without a script, of a call with one, of the crew, and of a salvage.
     type Reply;
     type Played;
     type Crew;
+    type Salvage;
 
     fn prepare<T>(desk: &mut Desk, seen: impl FnOnce(&Self::Reply) -> T) -> T;
     fn drop_lease<T>(desk: &mut Desk, seen: impl FnOnce(&Self::Reply) -> T) -> T;
@@ -23,6 +24,7 @@ pub trait Side {
     fn release_all<T>(desk: &mut Desk, seen: impl FnOnce(&Self::Played) -> T) -> T;
     fn crew<T>(desk: &mut Desk, seen: impl FnOnce(&Self::Crew) -> T) -> T;
     fn crew_at_work<T>(desk: &mut Desk, seen: impl FnOnce(&Self::Crew) -> T) -> T;
+    fn salvage<T>(desk: &mut Desk, seen: impl FnOnce(&Self::Salvage) -> T) -> T;
 
     /// The next serial.
     fn next(played: &Self::Played) -> u32;
@@ -32,4 +34,5 @@ pub trait Side {
     fn reply_words(reply: &Self::Reply) -> Words;
     fn played_words(played: &Self::Played) -> Words;
     fn crew_words(crew: &Self::Crew) -> Words;
+    fn salvage_words(salvage: &Self::Salvage) -> Words;
 }

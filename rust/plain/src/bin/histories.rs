@@ -8,6 +8,7 @@ use plain::book;
 use plain::console::{self, Console, Line};
 use plain::dice::Dice;
 use plain::rules;
+use plain::salvage::{self, Salvaged};
 use std::cmp::Reverse;
 use std::collections::BTreeSet;
 use std::io::{self, Write};
@@ -29,7 +30,7 @@ fn main() -> io::Result<()> {
 }
 
 /// Every call but `write_setpoint`, which takes a word too, with the count of its numbers.
-const CALLS: [(&str, usize); 22] = [
+const CALLS: [(&str, usize); 23] = [
     ("prepare", 3),
     ("try_acquire", 1),
     ("drop_lease", 2),
@@ -50,6 +51,7 @@ const CALLS: [(&str, usize); 22] = [
     ("acquire_sorted_locks", 0),
     ("crew", 0),
     ("crew_at_work", 0),
+    ("salvage", 0),
     ("prepare_book", 0),
     ("read_setpoint", 1),
 ];
@@ -73,7 +75,7 @@ const PRESSURES: [u32; 14] = [
 ];
 
 /// Lines that are not understood.
-const BAD_LINES: [&str; 120] = [
+const BAD_LINES: [&str; 130] = [
     " ",
     "\t",
     "\r",
@@ -194,6 +196,16 @@ const BAD_LINES: [&str; 120] = [
     "acquire_sorted_locks 0",
     "acquire_sorted_locks ",
     "acquire_sorted_lock",
+    "report",
+    "report 37201",
+    "report 4294967296",
+    "report 1 2",
+    "unconfirmed",
+    "unconfirmed 4201",
+    "unconfirmed 1 2",
+    "salvage 0",
+    "salvage ",
+    "salvages",
 ];
 
 struct Writer {
@@ -740,6 +752,9 @@ impl Writer {
         if self.dice.once_in(2) {
             self.lend_book();
         }
+        if self.dice.once_in(3) {
+            self.rooms();
+        }
         for _ in 0..self.dice.below(6) + 3 {
             let (cell, [binding, bucket]) = (self.cell(), self.key());
             if self.dice.once_in(12) {
@@ -861,6 +876,16 @@ impl Writer {
                 _ => [4, cell / self.buckets(), 1],
             });
         }
+        self.write("script", &script);
+    }
+
+    /// A script under which some of the live leases are let go in one boundary.
+    fn letting_go_script(&mut self) {
+        let leases = self.some_live(4);
+        let script: Vec<u32> = leases
+            .chunks(2)
+            .flat_map(|lease| [2, lease[0], lease[1]])
+            .collect();
         self.write("script", &script);
     }
 
@@ -1329,7 +1354,7 @@ impl Writer {
         }
         let [cell, serial] = self.lease();
         let [binding, bucket] = self.key();
-        match self.dice.below(89) {
+        match self.dice.below(99) {
             0..=3 => self.call_by_cell("try_acquire"),
             4..=7 => self.write("drop_lease", &[cell, serial]),
             8..=9 => self.write("read_permission", &[cell, serial]),
@@ -1338,8 +1363,13 @@ impl Writer {
             14..=16 => self.write("foreign_release_between_attempts", &[cell, serial]),
             17..=20 => self.call_by_cell("acquire_preserving_borrows"),
             21..=24 => self.write("drop_preserving_borrows", &[cell, serial]),
-            25..=26 => self.write("environment", &[]),
-            27..=28 => self.write("environment_for_borrows", &[]),
+            25..=28 => {
+                if self.dice.once_in(5) {
+                    self.letting_go_script();
+                }
+                let call = self.dice.pick(&["environment", "environment_for_borrows"]);
+                self.write(call, &[]);
+            }
             29..=33 => self.call_by_cell("try_lock"),
             34..=37 => self.call_by_cell("other_mutex_preserves_leases"),
             38..=42 => self.write("transactional_try_lock_bucket", &[binding, bucket]),
@@ -1366,6 +1396,7 @@ impl Writer {
             68..=70 => self.lock_waited_for(),
             71..=73 => self.crew_at_work(),
             74..=82 => self.acquire_sorted(),
+            83..=88 => self.salvage(),
             _ => self.book(),
         }
     }
@@ -1615,6 +1646,150 @@ impl Writer {
         self.write("crew_at_work", &[]);
         if self.dice.once_in(3) {
             self.write("crew_at_work", &[]);
+        }
+    }
+
+    // ---- Salvage
+
+    /// A power dip or none, a salvage, and most of the time a second one; where the first was refused with room enough.
+    fn salvage(&mut self) {
+        let next = self.next();
+        if !self.dice.once_in(6) {
+            self.dip();
+        }
+        self.rooms();
+        self.write("salvage", &[]);
+        match self.dice.below(4) {
+            0 => {}
+            1 => self.write("salvage", &[]),
+            _ => {
+                self.room_enough();
+                self.write("salvage", &[]);
+            }
+        }
+        // a head without serials is kept for a few calls at most
+        if self.next() >= u32::MAX - 64 && next < u32::MAX - 64 && !self.dice.once_in(10) {
+            self.write("head", &[self.headers(), self.buckets(), next]);
+        }
+    }
+
+    /// Words and bytes of the arena are no longer what they were, and the head is the one on paper.
+    fn dip(&mut self) {
+        if self.cells() <= 12 && self.dice.once_in(8) {
+            let seed = self.dice.odd_number();
+            self.write("ram", &[seed]);
+        }
+        for _ in 0..self.dice.below(7) {
+            self.spoil();
+        }
+        let rules::Head {
+            headers,
+            buckets,
+            next,
+        } = self.console.head;
+        let back = self.dice.number(4);
+        let next = match self.dice.below(20) {
+            0 => next.saturating_sub(back).max(1),
+            1 => next.saturating_add(back),
+            2 => 1,
+            3 => u32::MAX,
+            4 => next,
+            _ => return,
+        };
+        self.write("head", &[headers, buckets, next]);
+    }
+
+    /// One word, byte or cell as bad RAM leaves it.
+    fn spoil(&mut self) {
+        let (cells, headers, next) = (self.cells(), self.headers(), self.next());
+        let cell = self.dice.number(cells.min(12));
+        let any = self.dice.odd_number();
+        match self.dice.below(12) {
+            0..=1 => {
+                let bit = self.dice.pick(&[0, 1, 2, any]);
+                self.write("word", &[3 * cell, bit]);
+            }
+            2..=3 => {
+                let owner = self.dice.pick(&[0, 1, next, next.saturating_add(1), any]);
+                self.write("word", &[3 * cell + 1, owner]);
+            }
+            // held, by an owner of now or of later
+            4..=5 => {
+                let owner = self.dice.pick(&[1, next.saturating_sub(1), next, any]);
+                self.write("word", &[3 * cell, 1]);
+                self.write("word", &[3 * cell + 1, owner]);
+            }
+            // one owner of two cells
+            6 => {
+                if let Some(&[_, serial]) = self.live().first() {
+                    self.write("word", &[3 * cell, 1]);
+                    self.write("word", &[3 * cell + 1, serial]);
+                }
+            }
+            7..=9 => {
+                let waiters = self.dice.pick(&[1, 1, any]);
+                self.write("word", &[3 * cell + 2, waiters]);
+            }
+            _ => {
+                let header = self.dice.number(headers);
+                let byte = self.dice.pick(&[0, 1, 2, 128, 255]);
+                self.write("byte", &[header, byte]);
+            }
+        }
+    }
+
+    /// What a salvage would find now; nothing where it would be refused by 1.
+    fn found(&self) -> Salvaged {
+        let head = self.console.head;
+        let (words, bytes) = self.console.lent(head);
+        let (mut table, mut health) = (self.console.table.clone(), self.console.health.clone());
+        let mut report = [0; console::REPORT];
+        let mut list = [0; console::UNCONFIRMED];
+        let reply = salvage::salvage(
+            head,
+            &mut table[..words],
+            &mut health[..bytes],
+            &mut report,
+            &mut list,
+        );
+        reply.answer.unwrap_or_default()
+    }
+
+    /// Report and list exactly long enough, one short, empty, or longer. Where much is to be reported they are seldom
+    /// long enough: they are printed word by word.
+    fn rooms(&mut self) {
+        let Salvaged { changed, held } = self.found();
+        let (words, cells) = ((3 * changed) as u32, held as u32);
+        let much = changed + held > 200 && !self.dice.once_in(12);
+        let words = match self.dice.below(16) {
+            0..=1 => words.saturating_sub(1),
+            2 => words.saturating_sub(self.dice.pick(&[2, 3, 6])),
+            3 => 0,
+            4..=5 => words + self.dice.number(8),
+            6 => 3 * self.dice.number(6),
+            _ => words,
+        };
+        let cells = match self.dice.below(16) {
+            0..=1 => cells.saturating_sub(1),
+            2 => 0,
+            3..=4 => cells + self.dice.number(4),
+            5 => self.dice.number(6),
+            _ => cells,
+        };
+        let (words, cells) = match much {
+            true => (words.min(30), cells.min(30)),
+            false => (words, cells),
+        };
+        self.write("report", &[words]);
+        self.write("unconfirmed", &[cells]);
+    }
+
+    /// Report and list with room for all.
+    fn room_enough(&mut self) {
+        let Salvaged { changed, held } = self.found();
+        if changed + held <= 200 {
+            self.write("report", &[(3 * changed) as u32]);
+            self.write("unconfirmed", &[held as u32]);
         }
     }
 
@@ -1915,7 +2090,7 @@ impl Writer {
     /// A line near the greatest lengths, and calls that meet it.
     fn long(&mut self) {
         let steps = rules::MOST_STEPS;
-        match self.dice.below(7) {
+        match self.dice.below(8) {
             0..=1 => {
                 let mut script: Vec<u32> = (0..steps)
                     .flat_map(|_| [self.dice.pick(&[0, 5, 5, 5, 5, 3, 6]), 0, 0])
@@ -1961,6 +2136,20 @@ impl Writer {
                 self.write("crew_at_work", &[]);
                 self.show();
                 self.turns();
+            }
+            // the largest arena, all of it rubbish: a word less than enough, and enough
+            6 => {
+                let seed = self.dice.odd_number();
+                self.write("ram", &[seed]);
+                self.write("head", &[64, 64, 1 + seed / 2]);
+                let Salvaged { changed, held } = self.found();
+                self.write("unconfirmed", &[held as u32]);
+                self.write("report", &[3 * changed as u32 - 1]);
+                self.write("salvage", &[]);
+                self.write("report", &[3 * changed as u32]);
+                self.write("salvage", &[]);
+                self.write("report", &[0]);
+                self.write("salvage", &[]);
             }
             _ => {
                 let more = self.dice.below(2);
