@@ -1,6 +1,6 @@
 #!/bin/bash
 # docs/REFERENCE.md against the definitions and the header, and the definitions' quotes against the documents:
-# - every name File.name on the page, and on docs/MAP.md, is declared in crates/model/specs/File.antt; and every rule of these files, a
+# - every name File.name on the page, and on docs/MAP.md, is declared in File.antt of crates/types/specs or crates/model/specs; and every rule of these files, a
 #   definition that is `unfoldable pub`, stands on the page. Every such name on docs/DECISIONS.md is declared in File.antt of some crate;
 # - every call of include/skid.h has its heading on the page, every refusal its number and name in the table of refusals, and every SKID_..
 #   on the page stands in the header; a number behind it in the reply's table is the header's;
@@ -11,11 +11,10 @@
 cd "$(dirname "$0")/.." || exit 1
 page=${PAGE:-docs/REFERENCE.md}
 header=include/skid.h
-specs=crates/model/specs
-rules="Arena Refusals Answers Foreign Lock Checks Calls Crew Sorted Salvage"
+rules="Head Numbers Arena Refusals Answers Foreign Lock Checks Calls Crew Sorted Salvage"
 documents=${SHARED_DOCS:-../shared/docs}
 quoting=(
-    "$specs"/*.antt
+    crates/{types,model}/specs/*.antt
     crates/history/specs/{Statements,Answers}.antt
     crates/exact/specs/{Statements,Script,Attempts}.antt
     crates/{progress,anyorder,works}/specs/Statements.antt
@@ -46,13 +45,13 @@ done
 
 wrong=$(
     while IFS=. read -r file word; do
-        declared "$word" "$specs/$file.antt" || echo "$file.$word is not in $specs/$file.antt"
+        declared "$word" crates/{types,model}/specs/"$file.antt" || echo "$file.$word is in no $file.antt of crates types and model"
     done < <(names_of "$page" docs/MAP.md)
     while IFS=. read -r file word; do
         declared "$word" crates/*/specs/"$file.antt" || echo "docs/DECISIONS.md names $file.$word, which no crate has"
     done < <(names_of docs/DECISIONS.md | grep -vx File.name)
     for file in $rules; do
-        sed -n 's/^unfoldable pub \([^ ]*\) : .*/\1/p' "$specs/$file.antt" | while read -r word; do
+        sed -n 's/^unfoldable pub \([^ ]*\) : .*/\1/p' crates/{types,model}/specs/"$file.antt" 2>/dev/null | while read -r word; do
             grep -qxF "$file.$word" <<< "$names" || echo "$file.$word is not on $page"
         done
     done

@@ -1,9 +1,9 @@
 // The lines of the console that print: a call of document 01 and its answer, and the views of the arena.
 use desk::Desk;
-use desk::verbs::Scripted;
-use desk::verbs::Small;
-use desk::verbs::Verb;
 use text::Numbers;
+use verbs::Scripted;
+use verbs::Small;
+use verbs::Verb;
 
 // The desk after a line, how much of the room for output is used, and whether the line was understood.
 pub struct Answered {
@@ -57,7 +57,7 @@ fn crew(
 ) -> Answered {
     let reply = ask::crew(desk, table, health, lists);
     let after = reply.head;
-    let n = say::crew_lines(desk.members, reply, out, used);
+    let n = crewsay::crew_lines(desk.members, reply, out, used);
     quiet(desk.with_head(after), n)
 }
 

@@ -15,11 +15,11 @@ use Rattle.model.specs.Refusals.{first}
 use Rattle.model.specs.Checks.{countIn}
 use Rattle.model.specs.Crew.{total, startOf, listOf, allWithin, risesFrom, badLimits, badLists, badTurns, crewRules, crewOf, crewAtWorkOf}
 use Rattle.model.specs.Sorted.{mergeOf, mergedOf, sortOf, sortedOf, cellsFrom, cellsAsked, cellsSorted, firstAsking, firstKey}
-use Rattle.model.specs.declared.Check.the-variants.{Fine}
-use Rattle.model.specs.declared.CrewReply.{CrewReply}
-use Rattle.model.specs.declared.Head.{Head}
-use Rattle.model.specs.declared.KeyCheck.the-variants as key
-use Rattle.model.specs.declared.State.the-variants as state
+use Rattle.types.specs.declared.Check.the-variants.{Fine}
+use Rattle.types.specs.declared.CrewReply.{CrewReply}
+use Rattle.types.specs.declared.Head.{Head}
+use Rattle.types.specs.declared.KeyCheck.the-variants as key
+use Rattle.types.specs.declared.State.the-variants as state
 use Rattle.laws.specs.Keys.{place-inside}
 use Rattle.laws.specs.Lists.{zeros}
 use Rattle.laws.specs.Sorting.{isAmong, first-asking, sorted-listed}

@@ -13,8 +13,8 @@ use Rattle.model.specs.Foreign.{runStepsOf, boundaryOf}
 use Rattle.model.specs.Lock.{leaseAt, takeOf, lateOf, secondOf, lockOf, findOf, attemptOf, spinOf, pauseOf, retryOf, giveBackOf, rollbackOf, locksOf}
 use Rattle.model.specs.Calls.{countsOf, releaseAllOf}
 use Rattle.model.specs.Sorted.{mergeOf, mergedOf, sortOf, sortedOf, cellsFrom, firstAsking, keysFor, firstKey, leaseOn, sharedOf, sortedLocksOf, acquireSortedOf}
-use Rattle.model.specs.declared.Answer.the-variants.{Done, AllGranted, Refused, RefusedAt}
-use Rattle.model.specs.declared.Refusal.the-variants.{BadHeader, Poisoned, Repeated}
+use Rattle.types.specs.declared.Answer.the-variants.{Done, AllGranted, Refused, RefusedAt}
+use Rattle.types.specs.declared.Refusal.the-variants.{BadHeader, Poisoned, Repeated}
 use Rattle.history.specs.World.{World, worldOf, Live}
 use Rattle.history.specs.Items.{Call, acquire-sorted, release-all, says, perform}
 use Rattle.history.specs.Statements.{answers, buffer-in, leaves, log-of}

@@ -12,9 +12,9 @@ use Rattle.model.specs.Lock.{leaseAt}
 use Rattle.model.specs.Checks.{countIn}
 use Rattle.model.specs.Calls.{given, starting}
 use Rattle.model.specs.Sorted.{firstAsking, handedBack}
-use Rattle.model.specs.declared.Answer.{Answer}
-use Rattle.model.specs.declared.Answer.the-variants.{AllGranted}
-use Rattle.model.specs.declared.Lease.{Lease}
+use Rattle.types.specs.declared.Answer.{Answer}
+use Rattle.types.specs.declared.Answer.the-variants.{AllGranted}
+use Rattle.types.specs.declared.Lease.{Lease}
 use Rattle.history.specs.World.{World, number-of, takes}
 use Rattle.history.specs.Items.{Says, acquire-sorted, keyCell, perform}
 use Rattle.history.specs.Statements.{buffer-in, Hands-over}

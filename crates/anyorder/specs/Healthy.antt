@@ -10,7 +10,7 @@ use Rattle.model.specs.Arena.{leasesOf}
 use Rattle.model.specs.Lock.{leaseAt}
 use Rattle.model.specs.Checks.{countIn}
 use Rattle.model.specs.Sorted.{sharedOf}
-use Rattle.model.specs.declared.Lease.{Lease}
+use Rattle.types.specs.declared.Lease.{Lease}
 use Rattle.history.specs.World.{World, Healthy, now}
 use Rattle.history.specs.Items.{acquire-locks, acquire-sorted, in-order, keyCell, perform}
 use Rattle.history.specs.Statements.{answer-in, buffer-in, world-in}

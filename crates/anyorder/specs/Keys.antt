@@ -14,12 +14,12 @@ use Rattle.model.specs.Refusals.{first}
 use Rattle.model.specs.Lock.{bucketAt}
 use Rattle.model.specs.Checks.{countIn}
 use Rattle.model.specs.Sorted.{headerOfKey, faultAt, firstAsking, firstKey}
-use Rattle.model.specs.declared.Check.the-variants as check
-use Rattle.model.specs.declared.Head.{Head}
-use Rattle.model.specs.declared.KeyCheck.{KeyCheck}
-use Rattle.model.specs.declared.KeyCheck.the-variants as key
-use Rattle.model.specs.declared.Refusal.{Refusal}
-use Rattle.model.specs.declared.Refusal.the-variants.{BadHeader, InvalidBucket}
+use Rattle.types.specs.declared.Check.the-variants as check
+use Rattle.types.specs.declared.Head.{Head}
+use Rattle.types.specs.declared.KeyCheck.{KeyCheck}
+use Rattle.types.specs.declared.KeyCheck.the-variants as key
+use Rattle.types.specs.declared.Refusal.{Refusal}
+use Rattle.types.specs.declared.Refusal.the-variants.{BadHeader, InvalidBucket}
 use Rattle.anyorder.specs.Statements.{Tests-key, Key-inside, Bad-key, bad-header, bad-bucket, First-bad}
 
 module _ (h : Head) (registry keys : List ℕ) where

@@ -9,10 +9,10 @@ use Rattle.model.specs.Lock.{bindingAt, bucketAt}
 use Rattle.model.specs.Checks.{countIn}
 use Rattle.model.specs.Calls.{countsOf}
 use Rattle.model.specs.Sorted.{firstAsking, sharedOf, askedFirst}
-use Rattle.model.specs.declared.Answer.{Answer}
-use Rattle.model.specs.declared.Answer.the-variants.{AllGranted}
-use Rattle.model.specs.declared.Counts.{Counts}
-use Rattle.model.specs.declared.Lease.{Lease}
+use Rattle.types.specs.declared.Answer.{Answer}
+use Rattle.types.specs.declared.Answer.the-variants.{AllGranted}
+use Rattle.types.specs.declared.Counts.{Counts}
+use Rattle.types.specs.declared.Lease.{Lease}
 use Rattle.history.specs.World.{World, now}
 use Rattle.history.specs.Items.{Says, says, acquire-locks, acquire-sorted, keyCell, perform}
 use Rattle.history.specs.Tests.{leases-words}

@@ -13,18 +13,18 @@ use Rattle.model.specs.Foreign.{Setting, protecting}
 use Rattle.model.specs.Lock.{findOf, attemptAt, attemptOf, pauseOf, isBusy, retryOf, attemptLimit, noneYet, rollbackOf, afterKey, bindingAt, bucketAt, Locks, locksOf}
 use Rattle.model.specs.Calls.{given, starting}
 use Rattle.model.specs.Sorted.{headerOfKey, firstAsking, judgeAt, askedFirst}
-use Rattle.model.specs.declared.Answer.{Answer}
-use Rattle.model.specs.declared.Answer.the-variants.{Done, Cell, Granted, AllGranted, Busy, Refused, RefusedAt}
-use Rattle.model.specs.declared.Found.{Found}
-use Rattle.model.specs.declared.Found.the-variants as found
-use Rattle.model.specs.declared.KeyCheck.{KeyCheck}
-use Rattle.model.specs.declared.Lease.{Lease}
-use Rattle.model.specs.declared.Outcome.{Outcome}
-use Rattle.model.specs.declared.Outcome.the-variants as outcome
-use Rattle.model.specs.declared.Reason.{Reason}
-use Rattle.model.specs.declared.Refusal.{Refusal}
-use Rattle.model.specs.declared.Run.{Run}
-use Rattle.model.specs.declared.Tried.{Tried}
+use Rattle.types.specs.declared.Answer.{Answer}
+use Rattle.types.specs.declared.Answer.the-variants.{Done, Cell, Granted, AllGranted, Busy, Refused, RefusedAt}
+use Rattle.types.specs.declared.Found.{Found}
+use Rattle.types.specs.declared.Found.the-variants as found
+use Rattle.types.specs.declared.KeyCheck.{KeyCheck}
+use Rattle.types.specs.declared.Lease.{Lease}
+use Rattle.types.specs.declared.Outcome.{Outcome}
+use Rattle.types.specs.declared.Outcome.the-variants as outcome
+use Rattle.types.specs.declared.Reason.{Reason}
+use Rattle.types.specs.declared.Refusal.{Refusal}
+use Rattle.types.specs.declared.Run.{Run}
+use Rattle.types.specs.declared.Tried.{Tried}
 use Rattle.laws.specs.Outcomes.{Comes, granted, busy, poisoned, damaged, spent, lock-comes}
 use Rattle.history.specs.World.{World}
 use Rattle.history.specs.Items.{Says, acquire-locks, acquire-sorted, perform, Clear, rules}

@@ -14,12 +14,12 @@ use Rattle.model.specs.Refusals.{first}
 use Rattle.model.specs.Lock.{noLease, leaseAt}
 use Rattle.model.specs.Checks.{countIn, isOdd, tooManyLeases, notLive, notReleasable, releaseRules, locksRules}
 use Rattle.model.specs.Calls.{releaseAllOf}
-use Rattle.model.specs.declared.Answer.the-variants.{AllGranted, Refused}
-use Rattle.model.specs.declared.Check.the-variants.{Fault}
-use Rattle.model.specs.declared.Head.{Head}
-use Rattle.model.specs.declared.Lease.{Lease}
-use Rattle.model.specs.declared.Refusal.{Refusal}
-use Rattle.model.specs.declared.Refusal.the-variants.{Repeated}
+use Rattle.types.specs.declared.Answer.the-variants.{AllGranted, Refused}
+use Rattle.types.specs.declared.Check.the-variants.{Fault}
+use Rattle.types.specs.declared.Head.{Head}
+use Rattle.types.specs.declared.Lease.{Lease}
+use Rattle.types.specs.declared.Refusal.{Refusal}
+use Rattle.types.specs.declared.Refusal.the-variants.{Repeated}
 use Rattle.laws.specs.Lists.{leases-few}
 use Rattle.history.specs.World.{World, Live}
 use Rattle.history.specs.Items.{acquire-sorted, release-all, any-order, keyCell, perform, Clear, rules}

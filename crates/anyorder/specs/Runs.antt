@@ -16,15 +16,15 @@ use Rattle.model.specs.Lock.{Locks, afterKey, rollbackOf, retryOf, attemptLimit
 use Rattle.model.specs.Checks.{countIn, isOdd, tooManyKeys, notLive, badBindings, locksRules}
 use Rattle.model.specs.Calls.{given, starting, played}
 use Rattle.model.specs.Sorted.{firstKey, judgeAt, sharedOf, handedBack}
-use Rattle.model.specs.declared.Answer.{Answer}
-use Rattle.model.specs.declared.Answer.the-variants.{Done, Cell, Granted, AllGranted, Busy, Refused, RefusedAt}
-use Rattle.model.specs.declared.KeyCheck.{KeyCheck}
-use Rattle.model.specs.declared.KeyCheck.the-variants as key
-use Rattle.model.specs.declared.Lease.{Lease}
-use Rattle.model.specs.declared.Outcome.{Outcome}
-use Rattle.model.specs.declared.Outcome.the-variants as outcome
-use Rattle.model.specs.declared.Refusal.{Refusal}
-use Rattle.model.specs.declared.Run.{Run}
+use Rattle.types.specs.declared.Answer.{Answer}
+use Rattle.types.specs.declared.Answer.the-variants.{Done, Cell, Granted, AllGranted, Busy, Refused, RefusedAt}
+use Rattle.types.specs.declared.KeyCheck.{KeyCheck}
+use Rattle.types.specs.declared.KeyCheck.the-variants as key
+use Rattle.types.specs.declared.Lease.{Lease}
+use Rattle.types.specs.declared.Outcome.{Outcome}
+use Rattle.types.specs.declared.Outcome.the-variants as outcome
+use Rattle.types.specs.declared.Refusal.{Refusal}
+use Rattle.types.specs.declared.Run.{Run}
 use Rattle.history.specs.World.{World}
 use Rattle.history.specs.Items.{Call, Says, acquire-locks, acquire-sorted, perform, Clear, rules}
 use Rattle.history.specs.Judged.{clear-front, clear-back, clear-append, clear-fine, unchanged, unchanged-at, judged-at, grant, seen-as, sorted-locks, as-asked, sorted-made, performed}

@@ -14,11 +14,11 @@ use Rattle.model.specs.Lock.{leaseAt, bindingAt, bucketAt}
 use Rattle.model.specs.Checks.{countIn}
 use Rattle.model.specs.Calls.{countsOf}
 use Rattle.model.specs.Sorted.{headerOfKey, cellsAsked, cellsSorted, sortedKeys, firstKey, sharedOf, askedFirst}
-use Rattle.model.specs.declared.Answer.the-variants.{AllGranted, Refused, RefusedAt}
-use Rattle.model.specs.declared.Head.{Head}
-use Rattle.model.specs.declared.KeyCheck.the-variants as key
-use Rattle.model.specs.declared.Refusal.{Refusal}
-use Rattle.model.specs.declared.Refusal.the-variants.{BadHeader, InvalidBucket, Repeated}
+use Rattle.types.specs.declared.Answer.the-variants.{AllGranted, Refused, RefusedAt}
+use Rattle.types.specs.declared.Head.{Head}
+use Rattle.types.specs.declared.KeyCheck.the-variants as key
+use Rattle.types.specs.declared.Refusal.{Refusal}
+use Rattle.types.specs.declared.Refusal.the-variants.{BadHeader, InvalidBucket, Repeated}
 use Rattle.history.specs.World.{World, Live, Healthy, now}
 use Rattle.history.specs.Items.{acquire-locks, acquire-sorted, release-all, keyCell, Says, says, Build, Clear, rules}
 use Rattle.history.specs.Statements.{answer-in, buffer-in, world-in, Rolled-back}

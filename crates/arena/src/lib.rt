@@ -2,13 +2,13 @@
 // Functions with a `requires` are steps: calls have tested the shape, and a step tests nothing twice.
 // Steps are no calls of document 01, public ones neither: only the layers here call them (tests/layers.sh), and each
 // caller proves their `requires`.
-use model::Answer;
-use model::Check;
-use model::Counts;
-use model::Head;
-use model::Refusal;
-use model::Reply;
-use model::State;
+use types::Answer;
+use types::Check;
+use types::Counts;
+use types::Head;
+use types::Refusal;
+use types::Reply;
+use types::State;
 ghost use mathlib.Core.Path.{_≡_};
 ghost use mathlib.Core.List.{[], _∷_};
 ghost use Prim.Native.Nat.{_+_, _*_, _<_, _≤_};

@@ -11,15 +11,15 @@ use desk::SCRIPT;
 use desk::TURNS;
 use desk::Told;
 use desk::part;
-use desk::verbs::Scripted;
-use desk::verbs::Small;
 use desk::within;
-use model::Answer;
-use model::CrewReply;
-use model::Head;
-use model::Lease;
-use model::Played;
-use model::Reply;
+use types::Answer;
+use types::CrewReply;
+use types::Head;
+use types::Lease;
+use types::Played;
+use types::Reply;
+use verbs::Scripted;
+use verbs::Small;
 
 // The head in force stays where a preparation was refused.
 fn head_after(before: Head, reply: Reply) -> Head {

@@ -1,8 +1,6 @@
 // The calls of the setpoint book (document 02, L2): preparing, writing, reading. `slots` has the rules.
 // Functions with a `requires` are steps: calls have tested the head, the book's length and the slot, and a step tests
 // nothing twice. No other crate calls a step of this file.
-use model::Head;
-use model::Lease;
 use setpoint::Decoded;
 use setpoint::Setpoint;
 use slots::BookAnswer;
@@ -10,6 +8,8 @@ use slots::BookCheck;
 use slots::BookRefusal;
 use slots::Reading;
 use slots::Slot;
+use types::Head;
+use types::Lease;
 ghost use mathlib.Core.Path.{_≡_};
 ghost use Prim.Native.Nat.{_+_, _*_, _≤_, _<_};
 ghost use mathlib.Core.Bool.{true};

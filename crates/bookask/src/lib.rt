@@ -2,9 +2,9 @@
 // table and of the book. None is given the health.
 use desk::Desk;
 use desk::within_bytes;
-use model::Lease;
 use setpoint::Setpoint;
 use slots::BookAnswer;
+use types::Lease;
 
 // A step of the console, no call of document 01: only its own crates call it.
 pub fn prepare_book(desk: Desk, book: &mut [u8]) -> BookAnswer {

@@ -10,12 +10,12 @@ use Rattle.model.specs.Lock.{findOf, attemptAt, attemptOf, noneYet, retryOf, an
 use Rattle.model.specs.Refusals.{Rule, first}
 use Rattle.model.specs.Checks.{badShape, badHealth, badRegistry, badScript, badHeld, badBinding, bucketRules}
 use Rattle.model.specs.Calls.{starting, given, played}
-use Rattle.model.specs.declared.Check.the-variants.{Fine}
-use Rattle.model.specs.declared.Found.{Found}
-use Rattle.model.specs.declared.Head.{Head}
-use Rattle.model.specs.declared.Played.{Played}
-use Rattle.model.specs.declared.Reason.{Reason}
-use Rattle.model.specs.declared.Run.{Run}
+use Rattle.types.specs.declared.Check.the-variants.{Fine}
+use Rattle.types.specs.declared.Found.{Found}
+use Rattle.types.specs.declared.Head.{Head}
+use Rattle.types.specs.declared.Played.{Played}
+use Rattle.types.specs.declared.Reason.{Reason}
+use Rattle.types.specs.declared.Run.{Run}
 use Rattle.laws.specs.Checks.{or-else, first-append, first-two, fine-rest, fine-append, arena-fine}
 use Rattle.foreign.specs.declared.Scope.{Scope}
 use Rattle.foreign.specs.Model.{scopeOf, settingOf}

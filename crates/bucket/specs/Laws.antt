@@ -12,18 +12,18 @@ use Rattle.model.specs.Log.{Made}
 use Rattle.model.specs.Arena.{waitersAt}
 use Rattle.model.specs.Foreign.{Setting, setting, stepsIn, boundaryOf}
 use Rattle.model.specs.Lock.{takeOf, lockOf, runOf, triedOf, findOf, attemptAt, attemptOf, spinOf, pauseOf, isBusy, lastOf, noneYet, retryOf}
-use Rattle.model.specs.declared.Flow.{Flow}
-use Rattle.model.specs.declared.Found.{Found}
-use Rattle.model.specs.declared.Found.the-variants as found
-use Rattle.model.specs.declared.Lease.{Lease}
-use Rattle.model.specs.declared.Locked.{Locked}
-use Rattle.model.specs.declared.Outcome.{Outcome}
-use Rattle.model.specs.declared.Outcome.the-variants as outcome
-use Rattle.model.specs.declared.Reason.{Reason}
-use Rattle.model.specs.declared.Run.{Run}
-use Rattle.model.specs.declared.Take.{Take}
-use Rattle.model.specs.declared.Take.the-variants as taking
-use Rattle.model.specs.declared.Tried.{Tried}
+use Rattle.types.specs.declared.Flow.{Flow}
+use Rattle.types.specs.declared.Found.{Found}
+use Rattle.types.specs.declared.Found.the-variants as found
+use Rattle.types.specs.declared.Lease.{Lease}
+use Rattle.types.specs.declared.Locked.{Locked}
+use Rattle.types.specs.declared.Outcome.{Outcome}
+use Rattle.types.specs.declared.Outcome.the-variants as outcome
+use Rattle.types.specs.declared.Reason.{Reason}
+use Rattle.types.specs.declared.Run.{Run}
+use Rattle.types.specs.declared.Take.{Take}
+use Rattle.types.specs.declared.Take.the-variants as taking
+use Rattle.types.specs.declared.Tried.{Tried}
 use Rattle.laws.specs.Keys.{find-inside, find-healthy}
 use Rattle.choice.specs.Pick.{if-both}
 use Rattle.laws.specs.Seen.{seen-if}

@@ -2,9 +2,9 @@
 // Functions with a `requires` are steps: calls have tested the shape, and a step tests nothing twice.
 // Steps are no calls of document 01, public ones neither: only the layers here call them (tests/layers.sh), and each
 // caller proves their `requires`.
-use model::Check;
-use model::Head;
-use model::Refusal;
+use types::Check;
+use types::Head;
+use types::Refusal;
 ghost use mathlib.Core.Path.{_≡_};
 ghost use mathlib.Core.Bool.{true};
 ghost use mathlib.Core.List.{[], _∷_};

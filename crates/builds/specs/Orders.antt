@@ -12,8 +12,8 @@ use Rattle.model.specs.Lock.{takeOf, lateOf, secondOf, lockOf, findOf, attemptO
 use Rattle.model.specs.Checks.{notLive, badBindings, locksRules}
 use Rattle.model.specs.Calls.{acquireLocksOf}
 use Rattle.model.specs.Sorted.{mergeOf, mergedOf, sortOf, sortedOf, cellsFrom, firstAsking, keysFor, firstKey, leaseOn, sharedOf, sortedLocksOf, acquireSortedOf}
-use Rattle.model.specs.declared.Lease.{Lease}
-use Rattle.model.specs.declared.Refusal.the-variants.{Poisoned}
+use Rattle.types.specs.declared.Lease.{Lease}
+use Rattle.types.specs.declared.Refusal.the-variants.{Poisoned}
 use Rattle.history.specs.World.{World, worldOf}
 use Rattle.history.specs.Items.{perform}
 use Rattle.anyorder.specs.Statements.{Shares, Serials-by-cell, Later-position}

@@ -13,11 +13,11 @@ use Rattle.model.specs.Foreign.{stepWaitersOf, stepOf, runStepsOf, boundaryOf}
 use Rattle.model.specs.Lock.{noneYet, takeOf, lateOf, secondOf, lockOf, findOf, attemptOf}
 use Rattle.model.specs.Checks.{notLive, cellRules, scriptRules, lockRules, bucketRules}
 use Rattle.model.specs.Calls.{countsOf, acquireOf, tryAcquireOf, environmentOf, tryLockOf, transactionalOf}
-use Rattle.model.specs.declared.Answer.{Answer}
-use Rattle.model.specs.declared.Answer.the-variants.{Busy, Done, Refused}
-use Rattle.model.specs.declared.Reason.{Reason}
-use Rattle.model.specs.declared.Reason.the-variants as reason
-use Rattle.model.specs.declared.Refusal.the-variants.{SerializationFailure}
+use Rattle.types.specs.declared.Answer.{Answer}
+use Rattle.types.specs.declared.Answer.the-variants.{Busy, Done, Refused}
+use Rattle.types.specs.declared.Reason.{Reason}
+use Rattle.types.specs.declared.Reason.the-variants as reason
+use Rattle.types.specs.declared.Refusal.the-variants.{SerializationFailure}
 use Rattle.history.specs.World.{World, worldOf}
 use Rattle.history.specs.Items.{Call, Says, says, environment, try-lock, transactional, acquire-bucket, perform}
 use Rattle.history.specs.Statements.{answer-in, world-in}

@@ -5,11 +5,11 @@ use answer::quiet;
 use desk::Desk;
 use desk::HEALTH;
 use desk::RAM;
-use desk::verbs::Verb;
-use desk::verbs::fits;
-use desk::verbs::verb_of;
 use desk::within_bytes;
 use text::Numbers;
+use verbs::Verb;
+use verbs::verb_of;
+use wants::fits;
 
 // The n-th line was not understood.
 fn puzzled(n: usize, desk: Desk, out: &mut [u8], used: usize) -> Answered {

@@ -8,7 +8,7 @@ use lib.ListN.{length, getD}
 use borrow.Author.Tests.{lt-ltb, le-ltb}
 use Rattle.model.specs.Arena.{cellsOf}
 use Rattle.model.specs.Crew.{Work, rests, addsOf, movesOf, startOf}
-use Rattle.model.specs.declared.Head.{Head}
+use Rattle.types.specs.declared.Head.{Head}
 use Rattle.laws.specs.Crew.{adds-few, start-fits}
 use Rattle.lock.specs.Fine.{header-in}
 use Rattle.plan.specs.Fine.{CrewFine}

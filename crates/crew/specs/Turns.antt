@@ -14,12 +14,12 @@ use Rattle.model.specs.Arena.{waitersAt, stateAt, serialRemains}
 use Rattle.model.specs.Foreign.{setting, flowOf}
 use Rattle.model.specs.Lock.{takeIn, takeOf}
 use Rattle.model.specs.Crew.{Work, addsOf, movesOf, Crew, crewAt, afterTry, notedAt, addedTo, startOf, tryTurnOf, heldAllOf, addTurnOf, releaseTurnOf, turnOf, turnsOf}
-use Rattle.model.specs.declared.Locked.{Locked}
-use Rattle.model.specs.declared.Outcome.{Outcome}
-use Rattle.model.specs.declared.Outcome.the-variants as outcome
-use Rattle.model.specs.declared.State.{State}
-use Rattle.model.specs.declared.State.the-variants as state
-use Rattle.model.specs.declared.Took.{Took}
+use Rattle.types.specs.declared.Locked.{Locked}
+use Rattle.types.specs.declared.Outcome.{Outcome}
+use Rattle.types.specs.declared.Outcome.the-variants as outcome
+use Rattle.types.specs.declared.State.{State}
+use Rattle.types.specs.declared.State.the-variants as state
+use Rattle.types.specs.declared.Took.{Took}
 use Rattle.choice.specs.Pick.{if-both}
 use Rattle.laws.specs.Lists.{drop-one}
 use Rattle.lock.specs.Model.{quietTake, quietLockOf}

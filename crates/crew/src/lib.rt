@@ -2,13 +2,13 @@
 // first. The steps that are `pub` serve crate `work` too, where members add between.
 // Functions with a `requires` are steps: the call has tested shape, limits, lists and turns, and a step tests nothing
 // twice.
-use model::Answer;
-use model::Check;
-use model::CrewReply;
-use model::Flow;
-use model::Head;
-use model::Outcome;
-use model::Refusal;
+use types::Answer;
+use types::Check;
+use types::CrewReply;
+use types::Flow;
+use types::Head;
+use types::Outcome;
+use types::Refusal;
 ghost use mathlib.Core.Path.{_≡_};
 ghost use Prim.Native.Nat.{_+_, _*_, _-_, _/_, _<_, _≤_, min};
 ghost use lib.ListN.{length, getD};

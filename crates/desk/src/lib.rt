@@ -1,10 +1,7 @@
-// The console's state besides its RAM: the head in force, the place, what is lent, how long each list is. And its
-// words.
-pub mod verbs;
-
-use model::Answer;
-use model::Counts;
-use model::Head;
+// The console's state besides its RAM: the head in force, the place, what is lent, how long each list is.
+use types::Answer;
+use types::Counts;
+use types::Head;
 ghost use Rattle.io.specs.Counts.{Counts as Within};
 
 pub struct Desk {

@@ -14,14 +14,14 @@ use Rattle.model.specs.Foreign.{Setting, flowOf, boundaryOf}
 use Rattle.model.specs.Lock.{answerOf, settled, runOf, triedOf, attemptOf, spinOf, pauseOf, isBusy, lastOf, retryOf, attemptLimit, noneYet}
 use Rattle.model.specs.Checks.{bucketRules}
 use Rattle.model.specs.Calls.{countsOf, given}
-use Rattle.model.specs.declared.Answer.the-variants.{Done, Busy, Refused}
-use Rattle.model.specs.declared.Counts.{Counts}
-use Rattle.model.specs.declared.Head.{Head}
-use Rattle.model.specs.declared.Outcome.{Outcome}
-use Rattle.model.specs.declared.Outcome.the-variants as outcome
-use Rattle.model.specs.declared.Reason.{Reason}
-use Rattle.model.specs.declared.Run.{Run}
-use Rattle.model.specs.declared.Tried.{Tried}
+use Rattle.types.specs.declared.Answer.the-variants.{Done, Busy, Refused}
+use Rattle.types.specs.declared.Counts.{Counts}
+use Rattle.types.specs.declared.Head.{Head}
+use Rattle.types.specs.declared.Outcome.{Outcome}
+use Rattle.types.specs.declared.Outcome.the-variants as outcome
+use Rattle.types.specs.declared.Reason.{Reason}
+use Rattle.types.specs.declared.Run.{Run}
+use Rattle.types.specs.declared.Tried.{Tried}
 use Rattle.laws.specs.Outcomes.{retry-first}
 use Rattle.history.specs.World.{World}
 use Rattle.history.specs.Items.{Says, says, perform, acquire-bucket, environment, transactional}

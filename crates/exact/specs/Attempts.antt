@@ -13,14 +13,14 @@ use Rattle.model.specs.Lock.{bindingAt, bucketAt}
 use Rattle.model.specs.Checks.{countIn}
 use Rattle.model.specs.Calls.{countsOf}
 use Rattle.model.specs.Crew.{total}
-use Rattle.model.specs.declared.Answer.{Answer}
-use Rattle.model.specs.declared.Answer.the-variants.{Done, Refused, Busy, RefusedAt, Cell, Granted, AllGranted}
-use Rattle.model.specs.declared.Counts.{Counts}
-use Rattle.model.specs.declared.Lease.{Lease}
-use Rattle.model.specs.declared.Reason.{Reason}
-use Rattle.model.specs.declared.Reason.the-variants as reason
-use Rattle.model.specs.declared.Refusal.{Refusal}
-use Rattle.model.specs.declared.Refusal.the-variants.{Poisoned, SerializationFailure}
+use Rattle.types.specs.declared.Answer.{Answer}
+use Rattle.types.specs.declared.Answer.the-variants.{Done, Refused, Busy, RefusedAt, Cell, Granted, AllGranted}
+use Rattle.types.specs.declared.Counts.{Counts}
+use Rattle.types.specs.declared.Lease.{Lease}
+use Rattle.types.specs.declared.Reason.{Reason}
+use Rattle.types.specs.declared.Reason.the-variants as reason
+use Rattle.types.specs.declared.Refusal.{Refusal}
+use Rattle.types.specs.declared.Refusal.the-variants.{Poisoned, SerializationFailure}
 use Rattle.history.specs.World.{World, caller-releases}
 use Rattle.history.specs.Items.{Build, Says, acquire-bucket, acquire-locks, says, environment, transactional, drop-lease, Call}
 use Rattle.history.specs.Statements.{answer-in, world-in}

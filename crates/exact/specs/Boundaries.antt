@@ -14,10 +14,10 @@ use Rattle.model.specs.Foreign.{flowOf}
 use Rattle.model.specs.Lock.{noneYet, bindingAt, bucketAt}
 use Rattle.model.specs.Calls.{countsOf, given, starting}
 use Rattle.model.specs.Crew.{total}
-use Rattle.model.specs.declared.Answer.{Answer}
-use Rattle.model.specs.declared.Answer.the-variants.{Done}
-use Rattle.model.specs.declared.Lease.{Lease}
-use Rattle.model.specs.declared.Reason.{Reason}
+use Rattle.types.specs.declared.Answer.{Answer}
+use Rattle.types.specs.declared.Answer.the-variants.{Done}
+use Rattle.types.specs.declared.Lease.{Lease}
+use Rattle.types.specs.declared.Reason.{Reason}
 use Rattle.laws.specs.Crew.{total-append}
 use Rattle.history.specs.World.{World}
 use Rattle.history.specs.Items.{Says, perform, acquire-bucket, drop-lease, environment}

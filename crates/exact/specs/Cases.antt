@@ -11,10 +11,10 @@ use Rattle.model.specs.Refusals.{first}
 use Rattle.model.specs.Lock.{bindingAt, bucketAt}
 use Rattle.model.specs.Checks.{notLive, badBindings, bucketRules, locksRules}
 use Rattle.model.specs.Calls.{countsOf}
-use Rattle.model.specs.declared.Answer.the-variants.{Granted, Refused, RefusedAt}
-use Rattle.model.specs.declared.Check.the-variants.{Fine}
-use Rattle.model.specs.declared.Reason.the-variants as reason
-use Rattle.model.specs.declared.Refusal.the-variants.{SerialsSpent, SerializationFailure}
+use Rattle.types.specs.declared.Answer.the-variants.{Granted, Refused, RefusedAt}
+use Rattle.types.specs.declared.Check.the-variants.{Fine}
+use Rattle.types.specs.declared.Reason.the-variants as reason
+use Rattle.types.specs.declared.Refusal.the-variants.{SerialsSpent, SerializationFailure}
 use Rattle.history.specs.World.{World, worldOf, step}
 use Rattle.history.specs.Items.{Call, Says, says, acquire-bucket, acquire-locks, keyCell, perform, rules}
 use Rattle.history.specs.Judged.{clear}

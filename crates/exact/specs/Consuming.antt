@@ -6,7 +6,7 @@ use mathlib.Core.List.{List, _∷_, _++_, append-assoc}
 use native.Mathlib.Omega.{arith}
 use Rattle.model.specs.Log.{Event, boundary-run}
 use Rattle.model.specs.Foreign.{stepsIn}
-use Rattle.model.specs.declared.Lease.{Lease}
+use Rattle.types.specs.declared.Lease.{Lease}
 use Rattle.history.specs.World.{World, now, Lawful, Legal}
 use Rattle.history.specs.Logs.{now-append, lawful-split}
 use Rattle.exact.specs.Statements.{Stepping, dropped, ends, looks, performed}

@@ -12,11 +12,11 @@ use Rattle.model.specs.Lock.{answerOf, settled, lockOf, attemptOf, retryOf, att
 use Rattle.model.specs.Checks.{countIn}
 use Rattle.model.specs.Calls.{given, starting}
 use Rattle.model.specs.Sorted.{cellsAsked, cellsSorted, sortedKeys, firstKey, sharedOf, handedBack, askedFirst}
-use Rattle.model.specs.declared.Answer.{Answer}
-use Rattle.model.specs.declared.Answer.the-variants.{Done, Cell, Granted, AllGranted, Busy, Refused, RefusedAt}
-use Rattle.model.specs.declared.Lease.{Lease}
-use Rattle.model.specs.declared.Outcome.{Outcome}
-use Rattle.model.specs.declared.Outcome.the-variants as outcome
+use Rattle.types.specs.declared.Answer.{Answer}
+use Rattle.types.specs.declared.Answer.the-variants.{Done, Cell, Granted, AllGranted, Busy, Refused, RefusedAt}
+use Rattle.types.specs.declared.Lease.{Lease}
+use Rattle.types.specs.declared.Outcome.{Outcome}
+use Rattle.types.specs.declared.Outcome.the-variants as outcome
 use Rattle.laws.specs.Lists.{leases-few}
 use Rattle.history.specs.World.{World}
 use Rattle.history.specs.Items.{Call, perform}

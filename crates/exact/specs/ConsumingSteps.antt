@@ -13,26 +13,26 @@ use Rattle.model.specs.Arena.{serialRemains, headerOf, isPoisoned, leaseOf, lea
 use Rattle.model.specs.Foreign.{stepsIn, kindAt, placeAt, numberAt, flowOf, stepOf, runStepsOf, boundaryOf}
 use Rattle.model.specs.Lock.{takeIn, takeOf, lateOf, afterTake, secondOf, lockOf, outcomeOf, runOf, findOf, attemptAt, attemptOf, spinOf, pauseOf, isBusy, retryOf, attemptLimit, noneYet, noLease, leaseAt, giveBackOf, Locks, rollbackOf, afterKey, bindingAt, bucketAt, locksOf}
 use Rattle.model.specs.Calls.{given}
-use Rattle.model.specs.declared.Answer.{Answer}
-use Rattle.model.specs.declared.Answer.the-variants.{Done, Cell, Granted, AllGranted, Busy, Refused, RefusedAt}
-use Rattle.model.specs.declared.Flow.{Flow}
-use Rattle.model.specs.declared.Found.{Found}
-use Rattle.model.specs.declared.Found.the-variants as found
-use Rattle.model.specs.declared.Head.{Head}
-use Rattle.model.specs.declared.Lease.{Lease}
-use Rattle.model.specs.declared.Locked.{Locked}
-use Rattle.model.specs.declared.Outcome.{Outcome}
-use Rattle.model.specs.declared.Outcome.the-variants as outcome
-use Rattle.model.specs.declared.Reason.{Reason}
-use Rattle.model.specs.declared.Refusal.{Refusal}
-use Rattle.model.specs.declared.Refusal.the-variants.{SerializationFailure}
-use Rattle.model.specs.declared.Run.{Run}
-use Rattle.model.specs.declared.State.{State}
-use Rattle.model.specs.declared.State.the-variants as state
-use Rattle.model.specs.declared.Take.{Take}
-use Rattle.model.specs.declared.Take.the-variants as taking
-use Rattle.model.specs.declared.Took.{Took}
-use Rattle.model.specs.declared.Tried.{Tried}
+use Rattle.types.specs.declared.Answer.{Answer}
+use Rattle.types.specs.declared.Answer.the-variants.{Done, Cell, Granted, AllGranted, Busy, Refused, RefusedAt}
+use Rattle.types.specs.declared.Flow.{Flow}
+use Rattle.types.specs.declared.Found.{Found}
+use Rattle.types.specs.declared.Found.the-variants as found
+use Rattle.types.specs.declared.Head.{Head}
+use Rattle.types.specs.declared.Lease.{Lease}
+use Rattle.types.specs.declared.Locked.{Locked}
+use Rattle.types.specs.declared.Outcome.{Outcome}
+use Rattle.types.specs.declared.Outcome.the-variants as outcome
+use Rattle.types.specs.declared.Reason.{Reason}
+use Rattle.types.specs.declared.Refusal.{Refusal}
+use Rattle.types.specs.declared.Refusal.the-variants.{SerializationFailure}
+use Rattle.types.specs.declared.Run.{Run}
+use Rattle.types.specs.declared.State.{State}
+use Rattle.types.specs.declared.State.the-variants as state
+use Rattle.types.specs.declared.Take.{Take}
+use Rattle.types.specs.declared.Take.the-variants as taking
+use Rattle.types.specs.declared.Took.{Took}
+use Rattle.types.specs.declared.Tried.{Tried}
 use Rattle.choice.specs.Pick.{if-both}
 use Rattle.history.specs.World.{World}
 use Rattle.history.specs.Tests.{differ, if-cases, leases-words}

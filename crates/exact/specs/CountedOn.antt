@@ -12,21 +12,21 @@ use Rattle.model.specs.Log.{Made, Event, by-caller, attempt-begun, yielded, rel
 use Rattle.model.specs.Arena.{headerOf, isPoisoned, leaseOf, setCell, waitersAt}
 use Rattle.model.specs.Foreign.{Setting, protecting, stepsIn, kindAt, placeAt, numberAt, flowOf, stepOf, runStepsOf, boundaryOf}
 use Rattle.model.specs.Lock.{takeOf, lockedOf, lateOf, afterTake, secondOf, lockOf, runOf, triedOf, findOf, attemptAt, attemptOf, spinOf, pauseOf, isBusy, retryOf, attemptLimit, noneYet, leaseAt, giveBackOf, Locks, endedOf, rollbackOf, afterKey, bindingAt, bucketAt, locksOf}
-use Rattle.model.specs.declared.Counts.{Counts}
-use Rattle.model.specs.declared.Flow.{Flow}
-use Rattle.model.specs.declared.Found.{Found}
-use Rattle.model.specs.declared.Found.the-variants as found
-use Rattle.model.specs.declared.Lease.{Lease}
-use Rattle.model.specs.declared.Locked.{Locked}
-use Rattle.model.specs.declared.Outcome.{Outcome}
-use Rattle.model.specs.declared.Outcome.the-variants as outcome
-use Rattle.model.specs.declared.Reason.{Reason}
-use Rattle.model.specs.declared.Refusal.{Refusal}
-use Rattle.model.specs.declared.Refusal.the-variants.{SerializationFailure}
-use Rattle.model.specs.declared.Run.{Run}
-use Rattle.model.specs.declared.Take.{Take}
-use Rattle.model.specs.declared.Take.the-variants as taking
-use Rattle.model.specs.declared.Tried.{Tried}
+use Rattle.types.specs.declared.Counts.{Counts}
+use Rattle.types.specs.declared.Flow.{Flow}
+use Rattle.types.specs.declared.Found.{Found}
+use Rattle.types.specs.declared.Found.the-variants as found
+use Rattle.types.specs.declared.Lease.{Lease}
+use Rattle.types.specs.declared.Locked.{Locked}
+use Rattle.types.specs.declared.Outcome.{Outcome}
+use Rattle.types.specs.declared.Outcome.the-variants as outcome
+use Rattle.types.specs.declared.Reason.{Reason}
+use Rattle.types.specs.declared.Refusal.{Refusal}
+use Rattle.types.specs.declared.Refusal.the-variants.{SerializationFailure}
+use Rattle.types.specs.declared.Run.{Run}
+use Rattle.types.specs.declared.Take.{Take}
+use Rattle.types.specs.declared.Take.the-variants as taking
+use Rattle.types.specs.declared.Tried.{Tried}
 use Rattle.history.specs.Steps.{With}
 
 -- ---- counted on

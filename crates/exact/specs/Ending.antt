@@ -12,16 +12,16 @@ use Rattle.model.specs.Refusals.{numberOf}
 use Rattle.model.specs.Foreign.{Setting, protecting, flowOf, boundaryOf}
 use Rattle.model.specs.Lock.{takeIn, takeOf, lateOf, afterTake, secondOf, lockOf, answerOf, findOf, attemptAt, attemptOf}
 use Rattle.model.specs.Calls.{given, starting}
-use Rattle.model.specs.declared.Answer.{Answer}
-use Rattle.model.specs.declared.Flow.{Flow}
-use Rattle.model.specs.declared.Found.{Found}
-use Rattle.model.specs.declared.Found.the-variants as found
-use Rattle.model.specs.declared.Locked.{Locked}
-use Rattle.model.specs.declared.Refusal.the-variants.{Damaged, SerialsSpent}
-use Rattle.model.specs.declared.Run.{Run}
-use Rattle.model.specs.declared.State.{State}
-use Rattle.model.specs.declared.State.the-variants as state
-use Rattle.model.specs.declared.Took.{Took}
+use Rattle.types.specs.declared.Answer.{Answer}
+use Rattle.types.specs.declared.Flow.{Flow}
+use Rattle.types.specs.declared.Found.{Found}
+use Rattle.types.specs.declared.Found.the-variants as found
+use Rattle.types.specs.declared.Locked.{Locked}
+use Rattle.types.specs.declared.Refusal.the-variants.{Damaged, SerialsSpent}
+use Rattle.types.specs.declared.Run.{Run}
+use Rattle.types.specs.declared.State.{State}
+use Rattle.types.specs.declared.State.the-variants as state
+use Rattle.types.specs.declared.Took.{Took}
 use Rattle.choice.specs.Pick.{if-both}
 use Rattle.history.specs.World.{caller-releases}
 use Rattle.history.specs.Items.{perform}

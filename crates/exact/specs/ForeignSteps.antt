@@ -11,9 +11,9 @@ use Rattle.model.specs.Log.{Made, Event, by-script, attempt-begun, boundary-run
 use Rattle.model.specs.Arena.{lastSerial, serialRemains, cellsOf, leaseOf, bitAt, ownerAt, isFree, isLive, isIn}
 use Rattle.model.specs.Foreign.{stepTakeOf, stepReleaseOf, stepWaitersOf, stepHealthOf, stepOf}
 use Rattle.model.specs.Calls.{given}
-use Rattle.model.specs.declared.Head.{Head}
-use Rattle.model.specs.declared.Lease.{Lease}
-use Rattle.model.specs.declared.Stepped.{Stepped}
+use Rattle.types.specs.declared.Head.{Head}
+use Rattle.types.specs.declared.Lease.{Lease}
+use Rattle.types.specs.declared.Stepped.{Stepped}
 use Rattle.choice.specs.Pick.{both}
 use Rattle.history.specs.World.{World, Legal, step}
 use Rattle.history.specs.Items.{foreign}

@@ -16,15 +16,15 @@ use Rattle.model.specs.Foreign.{Setting, protecting, stepsIn, flowOf, boundaryO
 use Rattle.model.specs.Lock.{noLease, leaseAt, attemptLimit, noneYet, retryOf, giveBackOf, Locks, endedOf, rollbackOf, afterKey, bindingAt, bucketAt, locksOf, settled, answerOf, runOf}
 use Rattle.model.specs.Checks.{countIn, isOdd, locksRules, leaseRules, notLive}
 use Rattle.model.specs.Calls.{countsOf, given}
-use Rattle.model.specs.declared.Answer.the-variants.{Done, Granted, Refused, RefusedAt}
-use Rattle.model.specs.declared.Counts.{Counts}
-use Rattle.model.specs.declared.Head.{Head}
-use Rattle.model.specs.declared.Lease.{Lease}
-use Rattle.model.specs.declared.Outcome.{Outcome}
-use Rattle.model.specs.declared.Refusal.{Refusal}
-use Rattle.model.specs.declared.Refusal.the-variants.{SerializationFailure}
-use Rattle.model.specs.declared.Run.{Run}
-use Rattle.model.specs.declared.Tried.{Tried}
+use Rattle.types.specs.declared.Answer.the-variants.{Done, Granted, Refused, RefusedAt}
+use Rattle.types.specs.declared.Counts.{Counts}
+use Rattle.types.specs.declared.Head.{Head}
+use Rattle.types.specs.declared.Lease.{Lease}
+use Rattle.types.specs.declared.Outcome.{Outcome}
+use Rattle.types.specs.declared.Refusal.{Refusal}
+use Rattle.types.specs.declared.Refusal.the-variants.{SerializationFailure}
+use Rattle.types.specs.declared.Run.{Run}
+use Rattle.types.specs.declared.Tried.{Tried}
 use Rattle.choice.specs.Pick.{neither}
 use Rattle.laws.specs.Shape.{shaped}
 use Rattle.history.specs.World.{World, Live}

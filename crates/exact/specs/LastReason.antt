@@ -6,11 +6,11 @@ use native.Mathlib.Omega.{arith}
 use Rattle.model.specs.Log.{Made}
 use Rattle.model.specs.Refusals.{numberOf}
 use Rattle.model.specs.Lock.{noneYet}
-use Rattle.model.specs.declared.Answer.{Answer}
-use Rattle.model.specs.declared.Answer.the-variants.{Busy, Refused}
-use Rattle.model.specs.declared.Lease.{Lease}
-use Rattle.model.specs.declared.Reason.{Reason}
-use Rattle.model.specs.declared.Refusal.the-variants.{SerializationFailure}
+use Rattle.types.specs.declared.Answer.{Answer}
+use Rattle.types.specs.declared.Answer.the-variants.{Busy, Refused}
+use Rattle.types.specs.declared.Lease.{Lease}
+use Rattle.types.specs.declared.Reason.{Reason}
+use Rattle.types.specs.declared.Refusal.the-variants.{SerializationFailure}
 use Rattle.history.specs.World.{World}
 use Rattle.history.specs.Items.{Says, perform}
 use Rattle.history.specs.Statements.{world-in, answer-in}

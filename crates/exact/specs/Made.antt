@@ -2,7 +2,7 @@
 use mathlib.Core.Path.{_≡_}
 use mathlib.Core.List.{append-nil}
 use Rattle.model.specs.Calls.{dropLeaseOf, environmentOf, tryLockOf, transactionalOf, acquireBucketOf, releaseAllOf, acquireLocksOf}
-use Rattle.model.specs.declared.Lease.{Lease}
+use Rattle.types.specs.declared.Lease.{Lease}
 use Rattle.history.specs.World.{World}
 use Rattle.history.specs.Items.{Call, drop-lease, environment, try-lock, transactional, acquire-bucket, release-all, acquire-locks, acquire-sorted, perform, Clear, rules}
 use Rattle.history.specs.Judged.{steps, clear-fine, sorted-made}

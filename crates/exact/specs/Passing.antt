@@ -14,8 +14,8 @@ use Rattle.model.specs.Arena.{cellsOf, shapeFits, healthFits, isLive, leasesOf,
 use Rattle.model.specs.Foreign.{stepsIn}
 use Rattle.model.specs.Lock.{bindingAt}
 use Rattle.model.specs.Checks.{notLive, badScript, bucketRules, scriptRules, badBindings, locksRules, badBinding, countIn, badHeldLength, isOdd}
-use Rattle.model.specs.declared.Head.{Head}
-use Rattle.model.specs.declared.Lease.{Lease}
+use Rattle.types.specs.declared.Head.{Head}
+use Rattle.types.specs.declared.Lease.{Lease}
 use Rattle.choice.specs.Pick.{neither}
 use Rattle.laws.specs.Shape.{shaped}
 use Rattle.laws.specs.Lists.{length-words}

@@ -16,15 +16,15 @@ use Rattle.model.specs.Log.{Made, boundary-run}
 use Rattle.model.specs.Arena.{lastSerial, serialRemains, headerOf, leaseOf, bitAt, ownerAt, waitersAt, setCell, stateAt}
 use Rattle.model.specs.Foreign.{Setting, protecting, stepsIn, flowOf, runStepsOf, boundaryOf}
 use Rattle.model.specs.Lock.{takeIn, takeOf, lockedOf, lateOf, afterTake, secondOf, lockOf, runOf, triedOf, attemptOf, spinOf, pauseOf, retryOf}
-use Rattle.model.specs.declared.Flow.{Flow}
-use Rattle.model.specs.declared.Locked.{Locked}
-use Rattle.model.specs.declared.Outcome.the-variants as outcome
-use Rattle.model.specs.declared.Reason.{Reason}
-use Rattle.model.specs.declared.Reason.the-variants as reason
-use Rattle.model.specs.declared.Run.{Run}
-use Rattle.model.specs.declared.State.{State}
-use Rattle.model.specs.declared.Refusal.the-variants as refusal
-use Rattle.model.specs.declared.Took.{Took}
+use Rattle.types.specs.declared.Flow.{Flow}
+use Rattle.types.specs.declared.Locked.{Locked}
+use Rattle.types.specs.declared.Outcome.the-variants as outcome
+use Rattle.types.specs.declared.Reason.{Reason}
+use Rattle.types.specs.declared.Reason.the-variants as reason
+use Rattle.types.specs.declared.Run.{Run}
+use Rattle.types.specs.declared.State.{State}
+use Rattle.types.specs.declared.Refusal.the-variants as refusal
+use Rattle.types.specs.declared.Took.{Took}
 use Rattle.laws.specs.Words.{waiters-set-cell}
 use Rattle.history.specs.World.{one}
 use Rattle.history.specs.Tests.{Stands, stands, is-free, is-held, is-damaged, if-cases}

@@ -14,19 +14,19 @@ use Rattle.model.specs.Arena.{spentTo, headerOf, isPoisoned, leasesOf, ownerAt}
 use Rattle.model.specs.Foreign.{Setting, stepsIn, flowOf}
 use Rattle.model.specs.Lock.{lockedOf, lockOf, answerOf, settled, runOf, triedOf, findOf, attemptAt, attemptOf, isBusy, noneYet, retryOf}
 use Rattle.model.specs.Calls.{countsOf, given, starting}
-use Rattle.model.specs.declared.Answer.{Answer}
-use Rattle.model.specs.declared.Answer.the-variants.{Granted, Busy, Refused}
-use Rattle.model.specs.declared.Flow.{Flow}
-use Rattle.model.specs.declared.Found.{Found}
-use Rattle.model.specs.declared.Found.the-variants as found
-use Rattle.model.specs.declared.Lease.{Lease}
-use Rattle.model.specs.declared.Locked.{Locked}
-use Rattle.model.specs.declared.Outcome.the-variants as outcome
-use Rattle.model.specs.declared.Reason.{Reason}
-use Rattle.model.specs.declared.Reason.the-variants as reason
-use Rattle.model.specs.declared.Refusal.the-variants.{BadHeader, Poisoned, InvalidBucket, Damaged, SerialsSpent, SerializationFailure}
-use Rattle.model.specs.declared.Run.{Run}
-use Rattle.model.specs.declared.Tried.{Tried}
+use Rattle.types.specs.declared.Answer.{Answer}
+use Rattle.types.specs.declared.Answer.the-variants.{Granted, Busy, Refused}
+use Rattle.types.specs.declared.Flow.{Flow}
+use Rattle.types.specs.declared.Found.{Found}
+use Rattle.types.specs.declared.Found.the-variants as found
+use Rattle.types.specs.declared.Lease.{Lease}
+use Rattle.types.specs.declared.Locked.{Locked}
+use Rattle.types.specs.declared.Outcome.the-variants as outcome
+use Rattle.types.specs.declared.Reason.{Reason}
+use Rattle.types.specs.declared.Reason.the-variants as reason
+use Rattle.types.specs.declared.Refusal.the-variants.{BadHeader, Poisoned, InvalidBucket, Damaged, SerialsSpent, SerializationFailure}
+use Rattle.types.specs.declared.Run.{Run}
+use Rattle.types.specs.declared.Tried.{Tried}
 use Rattle.laws.specs.Keys.{header-of-key}
 use Rattle.laws.specs.Outcomes.{retry-first}
 use Rattle.history.specs.World.{World, worldOf, Healthy}

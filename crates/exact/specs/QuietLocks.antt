@@ -12,16 +12,16 @@ use Rattle.model.specs.Foreign.{Setting, protecting, stepsIn, flowOf}
 use Rattle.model.specs.Lock.{lockedOf, lockOf, runOf, triedOf, findOf, attemptOf, retryOf, attemptLimit, noneYet, bindingAt, bucketAt, endedOf, Locks, locksOf}
 use Rattle.model.specs.Checks.{countIn}
 use Rattle.model.specs.Calls.{countsOf, given}
-use Rattle.model.specs.declared.Answer.the-variants.{AllGranted}
-use Rattle.model.specs.declared.Ended.{Ended}
-use Rattle.model.specs.declared.Flow.{Flow}
-use Rattle.model.specs.declared.Found.{Found}
-use Rattle.model.specs.declared.Found.the-variants as found
-use Rattle.model.specs.declared.Head.{Head}
-use Rattle.model.specs.declared.Lease.{Lease}
-use Rattle.model.specs.declared.Locked.{Locked}
-use Rattle.model.specs.declared.Outcome.the-variants as outcome
-use Rattle.model.specs.declared.Run.{Run}
+use Rattle.types.specs.declared.Answer.the-variants.{AllGranted}
+use Rattle.types.specs.declared.Ended.{Ended}
+use Rattle.types.specs.declared.Flow.{Flow}
+use Rattle.types.specs.declared.Found.{Found}
+use Rattle.types.specs.declared.Found.the-variants as found
+use Rattle.types.specs.declared.Head.{Head}
+use Rattle.types.specs.declared.Lease.{Lease}
+use Rattle.types.specs.declared.Locked.{Locked}
+use Rattle.types.specs.declared.Outcome.the-variants as outcome
+use Rattle.types.specs.declared.Run.{Run}
 use Rattle.laws.specs.Keys.{find-healthy}
 use Rattle.laws.specs.Words.{waiters-set-cell, bit-set-other, owner-set-other}
 use Rattle.history.specs.World.{World, worldOf, now}

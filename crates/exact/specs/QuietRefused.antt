@@ -14,22 +14,22 @@ use Rattle.model.specs.Foreign.{Setting, protecting, stepsIn, flowOf}
 use Rattle.model.specs.Lock.{lockedOf, lockOf, answerOf, settled, runOf, triedOf, findOf, attemptAt, isBusy, retryOf, attemptLimit, noneYet, leaseAt, giveBackOf, rollbackOf, bindingAt, bucketAt, afterKey, endedOf, Locks, locksOf}
 use Rattle.model.specs.Checks.{countIn, locksRules}
 use Rattle.model.specs.Calls.{countsOf, given}
-use Rattle.model.specs.declared.Answer.{Answer}
-use Rattle.model.specs.declared.Answer.the-variants.{Refused, RefusedAt}
-use Rattle.model.specs.declared.Ended.{Ended}
-use Rattle.model.specs.declared.Flow.{Flow}
-use Rattle.model.specs.declared.Found.{Found}
-use Rattle.model.specs.declared.Found.the-variants as found
-use Rattle.model.specs.declared.Head.{Head}
-use Rattle.model.specs.declared.Lease.{Lease}
-use Rattle.model.specs.declared.Locked.{Locked}
-use Rattle.model.specs.declared.Outcome.{Outcome}
-use Rattle.model.specs.declared.Outcome.the-variants as outcome
-use Rattle.model.specs.declared.Refusal.{Refusal}
-use Rattle.model.specs.declared.Reason.{Reason}
-use Rattle.model.specs.declared.Reason.the-variants as reason
-use Rattle.model.specs.declared.Refusal.the-variants.{SerializationFailure}
-use Rattle.model.specs.declared.Tried.{Tried}
+use Rattle.types.specs.declared.Answer.{Answer}
+use Rattle.types.specs.declared.Answer.the-variants.{Refused, RefusedAt}
+use Rattle.types.specs.declared.Ended.{Ended}
+use Rattle.types.specs.declared.Flow.{Flow}
+use Rattle.types.specs.declared.Found.{Found}
+use Rattle.types.specs.declared.Found.the-variants as found
+use Rattle.types.specs.declared.Head.{Head}
+use Rattle.types.specs.declared.Lease.{Lease}
+use Rattle.types.specs.declared.Locked.{Locked}
+use Rattle.types.specs.declared.Outcome.{Outcome}
+use Rattle.types.specs.declared.Outcome.the-variants as outcome
+use Rattle.types.specs.declared.Refusal.{Refusal}
+use Rattle.types.specs.declared.Reason.{Reason}
+use Rattle.types.specs.declared.Reason.the-variants as reason
+use Rattle.types.specs.declared.Refusal.the-variants.{SerializationFailure}
+use Rattle.types.specs.declared.Tried.{Tried}
 use Rattle.laws.specs.Words.{bit-set-other, owner-set-other}
 use Rattle.laws.specs.Keys.{place-inside, find-healthy}
 use Rattle.laws.specs.Outcomes.{retry-first}

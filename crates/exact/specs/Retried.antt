@@ -15,26 +15,26 @@ use Rattle.model.specs.Lock.{takeIn, takeOf, lateOf, afterTake, secondOf, lockO
 use Rattle.model.specs.Checks.{countIn}
 use Rattle.model.specs.Calls.{given, starting}
 use Rattle.model.specs.Crew.{total}
-use Rattle.model.specs.declared.Answer.{Answer}
-use Rattle.model.specs.declared.Answer.the-variants.{Granted, AllGranted, Refused, RefusedAt}
-use Rattle.model.specs.declared.Flow.{Flow}
-use Rattle.model.specs.declared.Found.{Found}
-use Rattle.model.specs.declared.Found.the-variants as found
-use Rattle.model.specs.declared.Lease.{Lease}
-use Rattle.model.specs.declared.Locked.{Locked}
-use Rattle.model.specs.declared.Outcome.{Outcome}
-use Rattle.model.specs.declared.Outcome.the-variants as outcome
-use Rattle.model.specs.declared.Reason.{Reason}
-use Rattle.model.specs.declared.Refusal.{Refusal}
-use Rattle.model.specs.declared.Refusal.the-variants.{SerializationFailure}
-use Rattle.model.specs.declared.Run.{Run}
-use Rattle.model.specs.declared.State.{State}
-use Rattle.model.specs.declared.State.the-variants as state
-use Rattle.model.specs.declared.Stepped.{Stepped}
-use Rattle.model.specs.declared.Take.{Take}
-use Rattle.model.specs.declared.Take.the-variants as taking
-use Rattle.model.specs.declared.Took.{Took}
-use Rattle.model.specs.declared.Tried.{Tried}
+use Rattle.types.specs.declared.Answer.{Answer}
+use Rattle.types.specs.declared.Answer.the-variants.{Granted, AllGranted, Refused, RefusedAt}
+use Rattle.types.specs.declared.Flow.{Flow}
+use Rattle.types.specs.declared.Found.{Found}
+use Rattle.types.specs.declared.Found.the-variants as found
+use Rattle.types.specs.declared.Lease.{Lease}
+use Rattle.types.specs.declared.Locked.{Locked}
+use Rattle.types.specs.declared.Outcome.{Outcome}
+use Rattle.types.specs.declared.Outcome.the-variants as outcome
+use Rattle.types.specs.declared.Reason.{Reason}
+use Rattle.types.specs.declared.Refusal.{Refusal}
+use Rattle.types.specs.declared.Refusal.the-variants.{SerializationFailure}
+use Rattle.types.specs.declared.Run.{Run}
+use Rattle.types.specs.declared.State.{State}
+use Rattle.types.specs.declared.State.the-variants as state
+use Rattle.types.specs.declared.Stepped.{Stepped}
+use Rattle.types.specs.declared.Take.{Take}
+use Rattle.types.specs.declared.Take.the-variants as taking
+use Rattle.types.specs.declared.Took.{Took}
+use Rattle.types.specs.declared.Tried.{Tried}
 use Rattle.choice.specs.Pick.{if-both}
 use Rattle.laws.specs.Outcomes.{Comes, granted, busy, poisoned, damaged, spent, lock-comes}
 use Rattle.history.specs.World.{World}

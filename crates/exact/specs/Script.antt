@@ -9,9 +9,9 @@ use Rattle.model.specs.Arena.{leasesOf, wordsOf}
 use Rattle.model.specs.Foreign.{stepsIn, kindAt, placeAt, numberAt}
 use Rattle.model.specs.Sorted.{cellsSorted, sharedOf}
 use Rattle.model.specs.Crew.{total}
-use Rattle.model.specs.declared.Answer.{Answer}
-use Rattle.model.specs.declared.Answer.the-variants.{Done, Busy, Refused, Cell, Granted, AllGranted, RefusedAt}
-use Rattle.model.specs.declared.Lease.{Lease}
+use Rattle.types.specs.declared.Answer.{Answer}
+use Rattle.types.specs.declared.Answer.the-variants.{Done, Busy, Refused, Cell, Granted, AllGranted, RefusedAt}
+use Rattle.types.specs.declared.Lease.{Lease}
 use Rattle.history.specs.World.{World, step, now, Legal}
 use Rattle.history.specs.Items.{Build, Call, Says, environment, place-of, script-of, try-lock, held-of, transactional, acquire-bucket, given-up, release-all, acquire-locks, acquire-sorted}
 use Rattle.exact.specs.Statements.{Passes, Stepping}

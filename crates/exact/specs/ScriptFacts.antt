@@ -12,7 +12,7 @@ use Rattle.model.specs.Log.{Event, by-caller, by-script, attempt-begun, boundar
 use Rattle.model.specs.Foreign.{stepsIn, kindAt, placeAt, numberAt}
 use Rattle.model.specs.Checks.{scriptRules, lockRules, bucketRules, releaseRules, locksRules}
 use Rattle.model.specs.Crew.{total}
-use Rattle.model.specs.declared.Lease.{Lease}
+use Rattle.types.specs.declared.Lease.{Lease}
 use Rattle.laws.specs.Crew.{total-append}
 use Rattle.history.specs.World.{World, now, Legal}
 use Rattle.history.specs.Items.{Call, script-of, place-of, perform, Clear, rules}

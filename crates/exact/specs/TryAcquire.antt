@@ -14,15 +14,15 @@ use Rattle.model.specs.Refusals.{first, judge}
 use Rattle.model.specs.Lock.{takeIn, takeOf, outcomeOf, answerOf}
 use Rattle.model.specs.Checks.{cellRules}
 use Rattle.model.specs.Calls.{countsOf, refused, acquireOf, tryAcquireOf}
-use Rattle.model.specs.declared.Answer.the-variants.{Granted, Busy, Refused}
-use Rattle.model.specs.declared.Check.{Check}
-use Rattle.model.specs.declared.Check.the-variants.{Fine, Fault}
-use Rattle.model.specs.declared.Lease.{Lease}
-use Rattle.model.specs.declared.Reason.{Reason}
-use Rattle.model.specs.declared.Reason.the-variants as reason
-use Rattle.model.specs.declared.Refusal.the-variants.{InvalidBucket, Damaged, SerialsSpent}
-use Rattle.model.specs.declared.State.{State}
-use Rattle.model.specs.declared.Took.{Took}
+use Rattle.types.specs.declared.Answer.the-variants.{Granted, Busy, Refused}
+use Rattle.types.specs.declared.Check.{Check}
+use Rattle.types.specs.declared.Check.the-variants.{Fine, Fault}
+use Rattle.types.specs.declared.Lease.{Lease}
+use Rattle.types.specs.declared.Reason.{Reason}
+use Rattle.types.specs.declared.Reason.the-variants as reason
+use Rattle.types.specs.declared.Refusal.the-variants.{InvalidBucket, Damaged, SerialsSpent}
+use Rattle.types.specs.declared.State.{State}
+use Rattle.types.specs.declared.Took.{Took}
 use Rattle.history.specs.World.{World, worldOf, cells}
 use Rattle.history.specs.Items.{Says, says, try-acquire, perform}
 use Rattle.history.specs.Callers.{Shape-fits}

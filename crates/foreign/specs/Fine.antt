@@ -11,10 +11,10 @@ use Rattle.model.specs.Arena.{cellsOf, leasesOf}
 use Rattle.model.specs.Refusals.{Rule, first}
 use Rattle.model.specs.Checks.{badShape, badHealth, badScript, scriptRules}
 use Rattle.model.specs.Foreign.{stepsIn, flowOf}
-use Rattle.model.specs.declared.Check.the-variants.{Fine}
+use Rattle.types.specs.declared.Check.the-variants.{Fine}
 use Rattle.model.specs.Calls.{given}
-use Rattle.model.specs.declared.Head.{Head}
-use Rattle.model.specs.declared.Lease.{Lease}
+use Rattle.types.specs.declared.Head.{Head}
+use Rattle.types.specs.declared.Lease.{Lease}
 use Rattle.foreign.specs.declared.Scope.{Scope}
 use Rattle.choice.specs.Pick.{neither}
 use Rattle.laws.specs.Shape.{Shaped}

@@ -13,10 +13,10 @@ use Rattle.choice.specs.Choice.{if_then_else_}
 use Rattle.model.specs.Log.{Made}
 use Rattle.model.specs.Arena.{serialRemains, bitAt, ownerAt, leaseOf, leasesOf, sameLease, isIn, isLive, heldBy, stateAt, stateOf, isFree, isHeld}
 use Rattle.model.specs.Foreign.{Setting, setting, flowOf, stepReleaseOf, stepTakeOf, stepWaitersOf, stepHealthOf, stepOf, runStepsOf, boundaryOf, kindAt, placeAt, numberAt, stepsIn}
-use Rattle.model.specs.declared.Flow.{Flow}
-use Rattle.model.specs.declared.Lease.{Lease}
-use Rattle.model.specs.declared.State.the-variants as state
-use Rattle.model.specs.declared.Stepped.{Stepped}
+use Rattle.types.specs.declared.Flow.{Flow}
+use Rattle.types.specs.declared.Lease.{Lease}
+use Rattle.types.specs.declared.State.the-variants as state
+use Rattle.types.specs.declared.Stepped.{Stepped}
 use Rattle.choice.specs.Pick.{if-both}
 use Rattle.laws.specs.Seen.{seen-if}
 use Rattle.foreign.specs.Model.{pairsOf, guardsOf}

@@ -7,10 +7,10 @@ use Rattle.model.specs.Arena.{leaseOf, leasesOf, cellsOf}
 use Rattle.model.specs.Foreign.{Setting, setting, flowOf, boundaryOf}
 use Rattle.model.specs.Lock.{runOf}
 use Rattle.model.specs.Calls.{played, given}
-use Rattle.model.specs.declared.Answer.the-variants.{Done}
-use Rattle.model.specs.declared.Head.{Head}
-use Rattle.model.specs.declared.Lease.{Lease}
-use Rattle.model.specs.declared.Played.{Played}
+use Rattle.types.specs.declared.Answer.the-variants.{Done}
+use Rattle.types.specs.declared.Head.{Head}
+use Rattle.types.specs.declared.Lease.{Lease}
+use Rattle.types.specs.declared.Played.{Played}
 use Rattle.foreign.specs.declared.Scope.{Scope}
 
 -- `left` pairs of an array from place i on, as leases

@@ -2,16 +2,16 @@
 // Functions with a `requires` are steps: calls have tested the shape, and a step tests nothing twice.
 // Steps are no calls of document 01, public ones neither: only the layers here call them (tests/layers.sh), and each
 // caller proves their `requires`.
-use model::Answer;
-use model::Check;
-use model::Counts;
-use model::Flow;
-use model::Head;
-use model::Lease;
-use model::Played;
-use model::Refusal;
-use model::Run;
-use model::Stepped;
+use types::Answer;
+use types::Check;
+use types::Counts;
+use types::Flow;
+use types::Head;
+use types::Lease;
+use types::Played;
+use types::Refusal;
+use types::Run;
+use types::Stepped;
 ghost use mathlib.Core.Path.{_≡_};
 ghost use mathlib.Core.Bool.{true};
 ghost use mathlib.Core.List.{[], _∷_, _++_};
@@ -139,7 +139,7 @@ fn step_take(cells: u32, next: u32, table: &mut [u32], cell: u32) -> Stepped
 {
     if cell < cells {
         if arena::is_free(table, cell) {
-            if model::serial_remains(next) {
+            if types::serial_remains(next) {
                 arena::set_cell(table, cell, 1, next);
                 return Stepped {
                     next: next + 1,

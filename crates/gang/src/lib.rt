@@ -8,8 +8,8 @@ use desk::HEALTH;
 use desk::TURNS;
 use desk::part;
 use desk::within_bytes;
-use model::CrewReply;
 use text::Numbers;
+use types::CrewReply;
 
 // A line that is none of these.
 fn no_line(desk: Desk, used: usize) -> Answered {
@@ -70,7 +70,7 @@ fn counters_after(desk: Desk, counters: &[u16], out: &mut [u8], used: usize) -> 
 // What `crew` prints, and then the counters, refused or not.
 fn told(desk: Desk, reply: CrewReply, counters: &[u16], out: &mut [u8], used: usize) -> Answered {
     let after = reply.head;
-    let n = say::crew_lines(desk.members, reply, out, used);
+    let n = crewsay::crew_lines(desk.members, reply, out, used);
     let m = counters_after(desk, counters, out, n);
     quiet(desk.with_head(after), m)
 }

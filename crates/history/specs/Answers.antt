@@ -11,10 +11,10 @@ use Rattle.model.specs.Arena.{leaseOf, leasesOf}
 use Rattle.model.specs.Answers.{refusalIn}
 use Rattle.model.specs.Lock.{leaseAt}
 use Rattle.model.specs.Checks.{countIn}
-use Rattle.model.specs.declared.Answer.the-variants.{Granted, AllGranted, Busy, Refused, RefusedAt}
-use Rattle.model.specs.declared.Lease.{Lease}
-use Rattle.model.specs.declared.Reason.{Reason}
-use Rattle.model.specs.declared.Refusal.{Refusal}
+use Rattle.types.specs.declared.Answer.the-variants.{Granted, AllGranted, Busy, Refused, RefusedAt}
+use Rattle.types.specs.declared.Lease.{Lease}
+use Rattle.types.specs.declared.Reason.{Reason}
+use Rattle.types.specs.declared.Refusal.{Refusal}
 use Rattle.history.specs.World.{World, Live, Healthy, now, Unreleased, number-of, attempts, takes}
 use Rattle.history.specs.Items.{Call, try-acquire, drop-lease, read-permission, competing-acquire, release-then-handoff, foreign-release, drop-preserving, acquire-preserving, environment, try-lock, transactional, acquire-bucket, release-all, acquire-locks, acquire-sorted, crew, crew-at-work, IsCrew, By-keys, asked, keyCell, Build, Entry, events-of, history-of}
 use Rattle.history.specs.Statements.{Through, answer-in, buffer-in, world-in, Hands-over, Gives, Nothing-held}

@@ -15,20 +15,20 @@ use Rattle.model.specs.Lock.{takeOf, lockOf, outcomeOf, answerOf, settled, find
 use Rattle.model.specs.Checks.{countIn}
 use Rattle.model.specs.Calls.{starting, acquireOf}
 use Rattle.model.specs.Sorted.{cellsSorted, sortedKeys, firstKey, askedFirst}
-use Rattle.model.specs.declared.Answer.{Answer}
-use Rattle.model.specs.declared.Answer.the-variants.{Done, Cell, Granted, AllGranted, Busy, Refused, RefusedAt}
-use Rattle.model.specs.declared.Check.the-variants.{Fault}
-use Rattle.model.specs.declared.Found.{Found}
-use Rattle.model.specs.declared.Found.the-variants as found
-use Rattle.model.specs.declared.Head.{Head}
-use Rattle.model.specs.declared.Lease.{Lease}
-use Rattle.model.specs.declared.Outcome.{Outcome}
-use Rattle.model.specs.declared.Outcome.the-variants as outcome
-use Rattle.model.specs.declared.Reason.{Reason}
-use Rattle.model.specs.declared.Run.{Run}
-use Rattle.model.specs.declared.Take.{Take}
-use Rattle.model.specs.declared.Take.the-variants as taking
-use Rattle.model.specs.declared.Tried.{Tried}
+use Rattle.types.specs.declared.Answer.{Answer}
+use Rattle.types.specs.declared.Answer.the-variants.{Done, Cell, Granted, AllGranted, Busy, Refused, RefusedAt}
+use Rattle.types.specs.declared.Check.the-variants.{Fault}
+use Rattle.types.specs.declared.Found.{Found}
+use Rattle.types.specs.declared.Found.the-variants as found
+use Rattle.types.specs.declared.Head.{Head}
+use Rattle.types.specs.declared.Lease.{Lease}
+use Rattle.types.specs.declared.Outcome.{Outcome}
+use Rattle.types.specs.declared.Outcome.the-variants as outcome
+use Rattle.types.specs.declared.Reason.{Reason}
+use Rattle.types.specs.declared.Run.{Run}
+use Rattle.types.specs.declared.Take.{Take}
+use Rattle.types.specs.declared.Take.the-variants as taking
+use Rattle.types.specs.declared.Tried.{Tried}
 use Rattle.choice.specs.Pick.{if-both}
 use Rattle.laws.specs.Lists.{length-words}
 use Rattle.laws.specs.Outcomes.{Comes, granted, busy, poisoned, damaged, spent, lock-comes}

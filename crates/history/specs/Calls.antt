@@ -17,9 +17,9 @@ use Rattle.model.specs.Checks.{countIn, badShape, badHeld, badCell, notReleasab
 use Rattle.model.specs.Calls.{starting, acquireOf}
 use Rattle.model.specs.Sorted.{cellsSorted, sortedKeys, firstKey}
 use Rattle.model.specs.Crew.{crewRules, rests, adds, crewAtWorkRules}
-use Rattle.model.specs.declared.Head.{Head}
-use Rattle.model.specs.declared.Lease.{Lease}
-use Rattle.model.specs.declared.Outcome.{Outcome}
+use Rattle.types.specs.declared.Head.{Head}
+use Rattle.types.specs.declared.Lease.{Lease}
+use Rattle.types.specs.declared.Outcome.{Outcome}
 use Rattle.laws.specs.Shape.{shaped}
 use Rattle.history.specs.World.{World, worldOf, cells, Live, Lawful, Unreleased, now}
 use Rattle.history.specs.Items.{Call, Says, try-acquire, drop-lease, read-permission, competing-acquire, release-then-handoff, foreign-release, drop-preserving, acquire-preserving, environment, try-lock, transactional, acquire-bucket, release-all, acquire-locks, acquire-sorted, crew, crew-at-work, perform, held-of, Clear, rules}

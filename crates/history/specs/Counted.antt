@@ -11,23 +11,23 @@ use Rattle.model.specs.Arena.{serialRemains, headerOf, isPoisoned, bitAt, owner
 use Rattle.model.specs.Foreign.{Setting, protecting, stepsIn, kindAt, placeAt, numberAt, flowOf, stepTakeOf, stepReleaseOf, stepWaitersOf, stepHealthOf, stepOf, runStepsOf, boundaryOf}
 use Rattle.model.specs.Lock.{takeIn, takeOf, afterTake, lateOf, secondOf, lockOf, runOf, findOf, attemptAt, attemptOf, spinOf, pauseOf, isBusy, retryOf, leaseAt, giveBackOf, rollbackOf, afterKey, bindingAt, bucketAt, attemptLimit, noneYet, Locks, locksOf}
 use Rattle.model.specs.Calls.{countsOf}
-use Rattle.model.specs.declared.Counts.{Counts}
-use Rattle.model.specs.declared.Flow.{Flow}
-use Rattle.model.specs.declared.Found.{Found}
-use Rattle.model.specs.declared.Found.the-variants as found
-use Rattle.model.specs.declared.Lease.{Lease}
-use Rattle.model.specs.declared.Locked.{Locked}
-use Rattle.model.specs.declared.Outcome.{Outcome}
-use Rattle.model.specs.declared.Outcome.the-variants as outcome
-use Rattle.model.specs.declared.Reason.{Reason}
-use Rattle.model.specs.declared.Run.{Run}
-use Rattle.model.specs.declared.State.{State}
-use Rattle.model.specs.declared.State.the-variants as state
-use Rattle.model.specs.declared.Stepped.{Stepped}
-use Rattle.model.specs.declared.Take.{Take}
-use Rattle.model.specs.declared.Take.the-variants as taking
-use Rattle.model.specs.declared.Took.{Took}
-use Rattle.model.specs.declared.Tried.{Tried}
+use Rattle.types.specs.declared.Counts.{Counts}
+use Rattle.types.specs.declared.Flow.{Flow}
+use Rattle.types.specs.declared.Found.{Found}
+use Rattle.types.specs.declared.Found.the-variants as found
+use Rattle.types.specs.declared.Lease.{Lease}
+use Rattle.types.specs.declared.Locked.{Locked}
+use Rattle.types.specs.declared.Outcome.{Outcome}
+use Rattle.types.specs.declared.Outcome.the-variants as outcome
+use Rattle.types.specs.declared.Reason.{Reason}
+use Rattle.types.specs.declared.Run.{Run}
+use Rattle.types.specs.declared.State.{State}
+use Rattle.types.specs.declared.State.the-variants as state
+use Rattle.types.specs.declared.Stepped.{Stepped}
+use Rattle.types.specs.declared.Take.{Take}
+use Rattle.types.specs.declared.Take.the-variants as taking
+use Rattle.types.specs.declared.Took.{Took}
+use Rattle.types.specs.declared.Tried.{Tried}
 use Rattle.choice.specs.Pick.{if-both}
 use Rattle.history.specs.World.{Kind, attempts, boundaries, yields, drops, number-of}
 

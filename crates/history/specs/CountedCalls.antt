@@ -11,8 +11,8 @@ use Rattle.model.specs.Lock.{attemptLimit, noneYet}
 use Rattle.model.specs.Checks.{countIn}
 use Rattle.model.specs.Calls.{countsOf, starting, acquireOf}
 use Rattle.model.specs.Sorted.{cellsSorted, sortedKeys, firstKey}
-use Rattle.model.specs.declared.Counts.{Counts}
-use Rattle.model.specs.declared.Head.{Head}
+use Rattle.types.specs.declared.Counts.{Counts}
+use Rattle.types.specs.declared.Head.{Head}
 use Rattle.history.specs.World.{World, number-of, attempts, boundaries, yields, drops}
 use Rattle.history.specs.Items.{Call, Says, try-acquire, drop-lease, read-permission, competing-acquire, release-then-handoff, foreign-release, drop-preserving, acquire-preserving, environment, try-lock, transactional, acquire-bucket, release-all, acquire-locks, acquire-sorted, crew, crew-at-work, IsCrew, perform}
 use Rattle.history.specs.Statements.{Counts-are}

@@ -16,12 +16,12 @@ use Rattle.model.specs.Foreign.{flowOf, runStepsOf, boundaryOf}
 use Rattle.model.specs.Lock.{takeOf, lateOf, afterTake, secondOf, lockOf}
 use Rattle.model.specs.Calls.{given}
 use Rattle.model.specs.Crew.{Work, addsOf, movesOf, total, startOf, countOf, badLimits, badLists, badTurns, planRules, crewRules, crewAtWorkRules, Crew, crewStart, moved, isFull, afterTry, tryTurnOf, heldAllOf, addTurnOf, releaseTurnOf, turnOf, turnsOf}
-use Rattle.model.specs.declared.Head.{Head}
-use Rattle.model.specs.declared.Lease.{Lease}
-use Rattle.model.specs.declared.Locked.{Locked}
-use Rattle.model.specs.declared.Outcome.{Outcome}
-use Rattle.model.specs.declared.Take.{Take}
-use Rattle.model.specs.declared.Take.the-variants as taking
+use Rattle.types.specs.declared.Head.{Head}
+use Rattle.types.specs.declared.Lease.{Lease}
+use Rattle.types.specs.declared.Locked.{Locked}
+use Rattle.types.specs.declared.Outcome.{Outcome}
+use Rattle.types.specs.declared.Take.{Take}
+use Rattle.types.specs.declared.Take.the-variants as taking
 use Rattle.choice.specs.Pick.{if-both}
 use Rattle.laws.specs.Lists.{zeros}
 use Rattle.laws.specs.Crew.{adds-few, start-fits, limits-fine, cell-inside}

@@ -5,11 +5,11 @@ use mathlib.Core.List.{List}
 use Rattle.model.specs.Calls.{tryAcquireOf, dropLeaseOf, readPermissionOf, competingAcquireOf, releaseThenHandoffOf, foreignReleaseOf, acquirePreservingOf, dropPreservingOf, environmentOf, tryLockOf, transactionalOf, acquireBucketOf, releaseAllOf, acquireLocksOf}
 use Rattle.model.specs.Crew.{crewOf, crewAtWorkOf}
 use Rattle.model.specs.Sorted.{acquireSortedOf}
-use Rattle.model.specs.declared.CrewReply.{CrewReply}
-use Rattle.model.specs.declared.Head.{Head}
-use Rattle.model.specs.declared.Lease.{Lease}
-use Rattle.model.specs.declared.Played.{Played}
-use Rattle.model.specs.declared.Reply.{Reply}
+use Rattle.types.specs.declared.CrewReply.{CrewReply}
+use Rattle.types.specs.declared.Head.{Head}
+use Rattle.types.specs.declared.Lease.{Lease}
+use Rattle.types.specs.declared.Played.{Played}
+use Rattle.types.specs.declared.Reply.{Reply}
 use Rattle.choice.specs.Pick.{determined}
 
 pub try-acquire-determined : (h : Head) (t : List ℕ) (c : ℕ) (a b : Reply × List ℕ) → a ≡ tryAcquireOf h t c .seen → b ≡ tryAcquireOf h t c .seen → a ≡ b

@@ -11,8 +11,8 @@ use lib.ListN.{length, length-set}
 use borrow.Author.Tests.{le-leb, eq-eqb}
 use Rattle.model.specs.Log.{Actor, Event, attempt-begun, boundary-run, yielded, spun, step-dropped, took, released, waiters-set, health-set, held-all, added}
 use Rattle.model.specs.Arena.{lastSerial, cellsOf, headFits, shapeFits, healthFits, spentTo, leaseOf, bitAt, ownerAt, setCell, setWaiters, stateAt, isLive}
-use Rattle.model.specs.declared.Head.{Head}
-use Rattle.model.specs.declared.Lease.{Lease}
+use Rattle.types.specs.declared.Head.{Head}
+use Rattle.types.specs.declared.Lease.{Lease}
 use Rattle.laws.specs.Shape.{Shaped, shaped, healthy}
 use Rattle.laws.specs.Words.{length-set-cell, length-set-waiters, bit-set, bit-set-other, owner-set-other, bit-set-waiters, owner-set-waiters, Seen, here, there, see}
 use Rattle.history.specs.World.{World, cells, Live, Legal, step, Whole, Apart, one, bits, Kind, kind-of, code, takes, releases, Releases, Spent}

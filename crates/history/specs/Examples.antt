@@ -17,13 +17,13 @@ use Rattle.model.specs.Checks.{notLive, badBindings, notReleasable, prepareRule
 use Rattle.model.specs.Calls.{prepareOf, acquireOf, tryAcquireOf, dropLeaseOf, competingAcquireOf, tryLockOf, acquireBucketOf, releaseAllOf, acquireLocksOf, environmentOf, countsOf}
 use Rattle.model.specs.Salvage.{keptOf, mendedCell, mendedTable, mendedByte, mendedHealth, changeOf, changesFrom, changesOf, heldFrom, leftHeld, overOf, isReportFull, mendOf, goOverOf, salvageOf}
 use Rattle.model.specs.Crew.{total, startOf, allWithin, risesFrom, badLists, badTurns, crewRules, crewAtWorkRules, crewOf, crewAtWorkOf}
-use Rattle.model.specs.declared.Answer.the-variants.{Done, Granted, AllGranted, Busy, Refused, RefusedAt}
-use Rattle.model.specs.declared.CrewReply.{CrewReply}
-use Rattle.model.specs.declared.Head.{Head}
-use Rattle.model.specs.declared.Lease.{Lease}
-use Rattle.model.specs.declared.Reason.the-variants as reason
-use Rattle.model.specs.declared.Refusal.the-variants.{Poisoned, InvalidBucket, NotHeld, BadCrew, Damaged, BadShape}
-use Rattle.model.specs.declared.SalvageAnswer.the-variants as salvaged
+use Rattle.types.specs.declared.Answer.the-variants.{Done, Granted, AllGranted, Busy, Refused, RefusedAt}
+use Rattle.types.specs.declared.CrewReply.{CrewReply}
+use Rattle.types.specs.declared.Head.{Head}
+use Rattle.types.specs.declared.Lease.{Lease}
+use Rattle.types.specs.declared.Reason.the-variants as reason
+use Rattle.types.specs.declared.Refusal.the-variants.{Poisoned, InvalidBucket, NotHeld, BadCrew, Damaged, BadShape}
+use Rattle.types.specs.declared.SalvageAnswer.the-variants as salvaged
 use Rattle.history.specs.World.{World, worldOf, Live, Healthy, now, Sound, Spent, Unreleased, number-of, takes}
 use Rattle.history.specs.Items.{Call, Says, salvage, salvaging, acquire-bucket, try-lock, drop-lease, competing-acquire, release-all, acquire-locks, environment, try-acquire, perform, foreign, Item, call, foreign-step, preparation, Course, courseOf, cold, next-item, run, preparing, held-of, Entry, noted, preparation-over, entryOf, events-of, history-of, saying, says}
 use Rattle.history.specs.Statements.{Begins, Fresh, Ledger, answers, leaves, log-of, Hands-over, Rolled-back, buffer-in, Fails}

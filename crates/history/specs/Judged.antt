@@ -15,15 +15,15 @@ use Rattle.model.specs.Checks.{countIn}
 use Rattle.model.specs.Calls.{countsOf, given, starting, replied, played, refused, acquireOf, tryAcquireOf, dropLeaseOf, readPermissionOf, competingAcquireOf, releaseThenHandoffOf, foreignReleaseOf, acquirePreservingOf, dropPreservingOf, environmentOf, tryLockOf, transactionalOf, acquireBucketOf, releaseAllOf, acquireLocksOf}
 use Rattle.model.specs.Sorted.{cellsAsked, cellsSorted, sortedKeys, firstKey, judgeAt, unplayedAt, askedFirst, handedBack, sortedLocksOf, acquireSortedOf}
 use Rattle.model.specs.Crew.{Work, rests, adds, crewStart, turnsOf, shiftOf, crewOf, crewAtWorkOf}
-use Rattle.model.specs.declared.Answer.the-variants as answer
-use Rattle.model.specs.declared.Check.{Check}
-use Rattle.model.specs.declared.Check.the-variants.{Fine, Fault}
-use Rattle.model.specs.declared.CrewReply.{CrewReply}
-use Rattle.model.specs.declared.KeyCheck.{KeyCheck}
-use Rattle.model.specs.declared.KeyCheck.the-variants as key
-use Rattle.model.specs.declared.Played.{Played}
-use Rattle.model.specs.declared.Refusal.{Refusal}
-use Rattle.model.specs.declared.Reply.{Reply}
+use Rattle.types.specs.declared.Answer.the-variants as answer
+use Rattle.types.specs.declared.Check.{Check}
+use Rattle.types.specs.declared.Check.the-variants.{Fine, Fault}
+use Rattle.types.specs.declared.CrewReply.{CrewReply}
+use Rattle.types.specs.declared.KeyCheck.{KeyCheck}
+use Rattle.types.specs.declared.KeyCheck.the-variants as key
+use Rattle.types.specs.declared.Played.{Played}
+use Rattle.types.specs.declared.Refusal.{Refusal}
+use Rattle.types.specs.declared.Reply.{Reply}
 use Rattle.history.specs.World.{World, worldOf}
 use Rattle.history.specs.Items.{Call, Says, says, try-acquire, drop-lease, read-permission, competing-acquire, release-then-handoff, foreign-release, drop-preserving, acquire-preserving, environment, try-lock, transactional, acquire-bucket, release-all, acquire-locks, acquire-sorted, crew, crew-at-work, perform, buffer, script-of, held-of, place-of, Clear, rules}
 

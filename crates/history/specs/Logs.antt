@@ -5,7 +5,7 @@ use mathlib.Core.List.{List, [], _∷_, _++_, append-nil}
 use native.Mathlib.Omega.{arith}
 use Rattle.model.specs.Log.{Event}
 use Rattle.model.specs.Arena.{spentTo}
-use Rattle.model.specs.declared.Lease.{Lease}
+use Rattle.types.specs.declared.Lease.{Lease}
 use Rattle.history.specs.World.{World, cells, Live, Apart, Legal, step, now, Lawful, bits, takes, releases, number-of, Releases, Unreleased, Spent}
 use Rattle.history.specs.Events.{Good, good-step, apart-step, Fit, fit-step, same-arena, keep-step, next-step, spent-step, bits-step}
 

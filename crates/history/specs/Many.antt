@@ -11,11 +11,11 @@ use Rattle.model.specs.Arena.{setCell}
 use Rattle.model.specs.Foreign.{boundaryOf}
 use Rattle.model.specs.Lock.{runOf, noLease, leaseAt, giveBackOf, Locks, rollbackOf, afterKey, attemptLimit, noneYet, bindingAt, bucketAt, retryOf, locksOf}
 use Rattle.model.specs.Calls.{given}
-use Rattle.model.specs.declared.Head.{Head}
-use Rattle.model.specs.declared.Lease.{Lease}
-use Rattle.model.specs.declared.Outcome.{Outcome}
-use Rattle.model.specs.declared.Refusal.{Refusal}
-use Rattle.model.specs.declared.Run.{Run}
+use Rattle.types.specs.declared.Head.{Head}
+use Rattle.types.specs.declared.Lease.{Lease}
+use Rattle.types.specs.declared.Outcome.{Outcome}
+use Rattle.types.specs.declared.Refusal.{Refusal}
+use Rattle.types.specs.declared.Run.{Run}
 use Rattle.history.specs.World.{World, Live}
 use Rattle.history.specs.Statements.{Hands-over}
 use Rattle.history.specs.Tests.{In, in-left, in-right, in-take, in-index, leases-words}

@@ -17,9 +17,9 @@ use Rattle.model.specs.Lock.{noLease, leaseAt, attemptLimit, noneYet}
 use Rattle.model.specs.Checks.{countIn}
 use Rattle.model.specs.Calls.{given, starting, acquireOf}
 use Rattle.model.specs.Sorted.{cellsSorted, sortedKeys, firstKey}
-use Rattle.model.specs.declared.Head.{Head}
-use Rattle.model.specs.declared.Lease.{Lease}
-use Rattle.model.specs.declared.Stepped.{Stepped}
+use Rattle.types.specs.declared.Head.{Head}
+use Rattle.types.specs.declared.Lease.{Lease}
+use Rattle.types.specs.declared.Stepped.{Stepped}
 use Rattle.choice.specs.Pick.{if-both}
 use Rattle.history.specs.World.{World}
 use Rattle.history.specs.Items.{Call, Says, try-acquire, drop-lease, read-permission, competing-acquire, release-then-handoff, foreign-release, drop-preserving, acquire-preserving, environment, try-lock, transactional, acquire-bucket, release-all, acquire-locks, acquire-sorted, crew, crew-at-work, script-of, place-of, given-up, foreign, perform, Clear, rules}

@@ -17,7 +17,7 @@ use Rattle.model.specs.Foreign.{setting, flowOf}
 use Rattle.model.specs.Lock.{lockOf}
 use Rattle.model.specs.Crew.{Work, addsOf, movesOf, total, planRules, startOf, countOf, Crew, crewStart, isFull, afterTry, tryTurnOf, heldAllOf, addTurnOf, releaseTurnOf, turnOf, turnsOf}
 use Rattle.choice.specs.Pick.{if-both}
-use Rattle.model.specs.declared.Outcome.{Outcome}
+use Rattle.types.specs.declared.Outcome.{Outcome}
 use Rattle.laws.specs.Outcomes.{Comes, granted, busy, poisoned, damaged, spent, lock-comes}
 use Rattle.laws.specs.Lists.{zeros}
 use Rattle.laws.specs.Crew.{start-fits}

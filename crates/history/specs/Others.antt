@@ -14,12 +14,12 @@ use Rattle.model.specs.Foreign.{stepTakeOf, stepReleaseOf, stepWaitersOf, stepH
 use Rattle.model.specs.Lock.{takeIn, takeOf}
 use Rattle.model.specs.Checks.{cellRules, leaseRules}
 use Rattle.model.specs.Calls.{countsOf, acquireOf, tryAcquireOf, dropLeaseOf}
-use Rattle.model.specs.declared.Answer.the-variants.{Done, Granted}
-use Rattle.model.specs.declared.Lease.{Lease}
-use Rattle.model.specs.declared.State.{State}
-use Rattle.model.specs.declared.State.the-variants as state
-use Rattle.model.specs.declared.Stepped.{Stepped}
-use Rattle.model.specs.declared.Took.{Took}
+use Rattle.types.specs.declared.Answer.the-variants.{Done, Granted}
+use Rattle.types.specs.declared.Lease.{Lease}
+use Rattle.types.specs.declared.State.{State}
+use Rattle.types.specs.declared.State.the-variants as state
+use Rattle.types.specs.declared.Stepped.{Stepped}
+use Rattle.types.specs.declared.Took.{Took}
 use Rattle.choice.specs.Pick.{both}
 use Rattle.history.specs.World.{World, worldOf, cells, Free, Live, Legal, step, now, Lawful}
 use Rattle.history.specs.Items.{Says, says, try-acquire, drop-lease, perform, foreign, Item, Course, next-item, run, Call, cold, foreign-step, history-of, call, noted, saying, entryOf}

@@ -6,11 +6,11 @@ use mathlib.Core.List.{List, [], _∷_, _++_}
 use mathlib.Core.Logic.{_↔_}
 use Rattle.model.specs.Log.{Made, Event, by-caller, took, released}
 use Rattle.model.specs.Arena.{leaseOf, waitersAt, stateAt}
-use Rattle.model.specs.declared.Answer.the-variants.{Busy}
-use Rattle.model.specs.declared.Lease.{Lease}
-use Rattle.model.specs.declared.Reason.{Reason}
-use Rattle.model.specs.declared.Reason.the-variants.{Held, Before, After}
-use Rattle.model.specs.declared.State.the-variants as state
+use Rattle.types.specs.declared.Answer.the-variants.{Busy}
+use Rattle.types.specs.declared.Lease.{Lease}
+use Rattle.types.specs.declared.Reason.{Reason}
+use Rattle.types.specs.declared.Reason.the-variants.{Held, Before, After}
+use Rattle.types.specs.declared.State.the-variants as state
 use Rattle.history.specs.World.{World, Live, Healthy, now, Sound, Spent}
 use Rattle.history.specs.Items.{Call, try-acquire, drop-lease, read-permission, competing-acquire, release-then-handoff, foreign-release, drop-preserving, acquire-preserving, environment, try-lock, transactional, acquire-bucket, release-all, acquire-locks, acquire-sorted, crew, crew-at-work, asked, Says, Build}
 use Rattle.history.specs.Statements.{answer-in, world-in}

@@ -10,10 +10,10 @@ use Rattle.model.specs.Arena.{cellsOf, bitAt, ownerAt, stateOf, stateAt, shapeF
 use Rattle.model.specs.Refusals.{first}
 use Rattle.model.specs.Checks.{prepareRules}
 use Rattle.model.specs.Salvage.{keptIn, keptOf, mendedTable, mendedHealth, isReportFull, salvagedOf, unsalvaged, goOverOf, salvageOf}
-use Rattle.model.specs.declared.Head.{Head}
-use Rattle.model.specs.declared.SalvageAnswer.the-variants.{BadShape, ReportFull}
-use Rattle.model.specs.declared.State.{State}
-use Rattle.model.specs.declared.State.the-variants as state
+use Rattle.types.specs.declared.Head.{Head}
+use Rattle.types.specs.declared.SalvageAnswer.the-variants.{BadShape, ReportFull}
+use Rattle.types.specs.declared.State.{State}
+use Rattle.types.specs.declared.State.the-variants as state
 use Rattle.laws.specs.Shape.{Shaped}
 use Rattle.laws.specs.Salvage.{length-mended, length-mended-health, bit-mended, owner-mended}
 use Rattle.history.specs.World.{worldOf}

@@ -16,9 +16,9 @@ use Rattle.model.specs.Lock.{noLease, leaseAt, bindingAt, bucketAt}
 use Rattle.model.specs.Checks.{countIn}
 use Rattle.model.specs.Calls.{given, starting}
 use Rattle.model.specs.Sorted.{cellOfKey, cellsFrom, cellsAsked, cellsSorted, firstAsking, keysFor, sortedKeys, firstKey, leaseOn, sharedOf, askedFirst, handedBack}
-use Rattle.model.specs.declared.Answer.{Answer}
-use Rattle.model.specs.declared.Answer.the-variants.{Done, Cell, Granted, AllGranted, Busy, Refused, RefusedAt}
-use Rattle.model.specs.declared.Lease.{Lease}
+use Rattle.types.specs.declared.Answer.{Answer}
+use Rattle.types.specs.declared.Answer.the-variants.{Done, Cell, Granted, AllGranted, Busy, Refused, RefusedAt}
+use Rattle.types.specs.declared.Lease.{Lease}
 use Rattle.laws.specs.Lists.{length-words}
 use Rattle.laws.specs.Sorting.{Rising, isAmong, sorted-is, first-asking, stands-at}
 use Rattle.history.specs.World.{World}

@@ -15,15 +15,15 @@ use Rattle.model.specs.Lock.{leaseAt}
 use Rattle.model.specs.Checks.{countIn}
 use Rattle.model.specs.Calls.{countsOf}
 use Rattle.model.specs.Salvage.{salvageOf}
-use Rattle.model.specs.declared.Answer.{Answer}
-use Rattle.model.specs.declared.Answer.the-variants.{Done, Cell, Granted, AllGranted, Busy, Refused, RefusedAt}
-use Rattle.model.specs.declared.CrewReply.{CrewReply}
-use Rattle.model.specs.declared.Head.{Head}
-use Rattle.model.specs.declared.Lease.{Lease}
-use Rattle.model.specs.declared.Refusal.{Refusal}
+use Rattle.types.specs.declared.Answer.{Answer}
+use Rattle.types.specs.declared.Answer.the-variants.{Done, Cell, Granted, AllGranted, Busy, Refused, RefusedAt}
+use Rattle.types.specs.declared.CrewReply.{CrewReply}
+use Rattle.types.specs.declared.Head.{Head}
+use Rattle.types.specs.declared.Lease.{Lease}
+use Rattle.types.specs.declared.Refusal.{Refusal}
 use Rattle.history.specs.World.{World, worldOf, cells, Live, now, Lawful, Sound, Spent, Unreleased, caller-releases, bits, number-of, attempts, boundaries, yields, drops, takes, releases, Whole, Apart}
 use Rattle.history.specs.Items.{Call, release-all, acquire-locks, By-keys, script-of, place-of, held-of, given-up, buffer, ByCell, IsCrew, asked, keyCell, Says, saying, perform, Build, Stepper, Item, preparation, Course, cold, noted, history-of, preparing, next-item, run, call, foreign-step, preparation-over, salvage, salvage-over, salvaging}
-use Rattle.model.specs.declared.SalvageAnswer.the-variants as salvaged
+use Rattle.types.specs.declared.SalvageAnswer.the-variants as salvaged
 
 -- ---- where a stretch of a history begins: "Demand 2 now starts from a prepared or a salvaged table."
 

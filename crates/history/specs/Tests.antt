@@ -10,9 +10,9 @@ use lib.ListN.{length, getD, take}
 use borrow.Author.Tests.{ltb-true, leb-true, eqb-true, lt-ltb, le-leb, eq-eqb}
 use Rattle.choice.specs.Choice.{if_then_else_}
 use Rattle.model.specs.Arena.{bitAt, ownerAt, isFree, isHeld, stateOf, stateAt, heldBy, isLive, leaseOf, sameLease, isIn, leasesOf, wordsOf}
-use Rattle.model.specs.declared.Lease.{Lease}
-use Rattle.model.specs.declared.State.{State}
-use Rattle.model.specs.declared.State.the-variants.{Free, Held, Damaged}
+use Rattle.types.specs.declared.Lease.{Lease}
+use Rattle.types.specs.declared.State.{State}
+use Rattle.types.specs.declared.State.the-variants.{Free, Held, Damaged}
 use Rattle.choice.specs.Pick.{both}
 
 -- two constructors of Bool

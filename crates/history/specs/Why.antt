@@ -15,20 +15,20 @@ use Rattle.model.specs.Arena.{serialRemains, headerOf, leaseOf, waitersAt, stat
 use Rattle.model.specs.Foreign.{Setting, protecting, flowOf, boundaryOf}
 use Rattle.model.specs.Lock.{takeIn, takeOf, lockedOf, giveUpOf, lateOf, afterTake, secondOf, lockOf, answerOf, findOf, attemptAt, attemptOf}
 use Rattle.model.specs.Calls.{starting}
-use Rattle.model.specs.declared.Answer.{Answer}
-use Rattle.model.specs.declared.Answer.the-variants.{Granted, Busy, Refused}
-use Rattle.model.specs.declared.Flow.{Flow}
-use Rattle.model.specs.declared.Found.{Found}
-use Rattle.model.specs.declared.Found.the-variants as found
-use Rattle.model.specs.declared.Locked.{Locked}
-use Rattle.model.specs.declared.Outcome.the-variants as outcome
-use Rattle.model.specs.declared.Reason.the-variants.{Held, Before, After}
-use Rattle.model.specs.declared.Refusal.{Refusal}
-use Rattle.model.specs.declared.Refusal.the-variants as refusal
-use Rattle.model.specs.declared.Run.{Run}
-use Rattle.model.specs.declared.State.{State}
-use Rattle.model.specs.declared.State.the-variants as state
-use Rattle.model.specs.declared.Took.{Took}
+use Rattle.types.specs.declared.Answer.{Answer}
+use Rattle.types.specs.declared.Answer.the-variants.{Granted, Busy, Refused}
+use Rattle.types.specs.declared.Flow.{Flow}
+use Rattle.types.specs.declared.Found.{Found}
+use Rattle.types.specs.declared.Found.the-variants as found
+use Rattle.types.specs.declared.Locked.{Locked}
+use Rattle.types.specs.declared.Outcome.the-variants as outcome
+use Rattle.types.specs.declared.Reason.the-variants.{Held, Before, After}
+use Rattle.types.specs.declared.Refusal.{Refusal}
+use Rattle.types.specs.declared.Refusal.the-variants as refusal
+use Rattle.types.specs.declared.Run.{Run}
+use Rattle.types.specs.declared.State.{State}
+use Rattle.types.specs.declared.State.the-variants as state
+use Rattle.types.specs.declared.Took.{Took}
 use Rattle.laws.specs.Words.{waiters-set-cell}
 use Rattle.history.specs.World.{World, caller-releases}
 use Rattle.history.specs.Items.{Call, try-acquire, drop-lease, read-permission, competing-acquire, release-then-handoff, foreign-release, drop-preserving, acquire-preserving, environment, try-lock, transactional, acquire-bucket, release-all, acquire-locks, acquire-sorted, crew, crew-at-work, cellOf, asked, perform, Says}

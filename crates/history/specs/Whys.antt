@@ -13,12 +13,12 @@ use Rattle.model.specs.Arena.{headerOf, leaseOf, bitAt, ownerAt, waitersAt, sta
 use Rattle.model.specs.Lock.{takeOf}
 use Rattle.model.specs.Checks.{leaseRules}
 use Rattle.model.specs.Calls.{acquireOf}
-use Rattle.model.specs.declared.Answer.{Answer}
-use Rattle.model.specs.declared.Answer.the-variants.{Busy}
-use Rattle.model.specs.declared.Counts.{Counts}
-use Rattle.model.specs.declared.Reason.the-variants.{Held, Before, After}
-use Rattle.model.specs.declared.State.{State}
-use Rattle.model.specs.declared.State.the-variants as state
+use Rattle.types.specs.declared.Answer.{Answer}
+use Rattle.types.specs.declared.Answer.the-variants.{Busy}
+use Rattle.types.specs.declared.Counts.{Counts}
+use Rattle.types.specs.declared.Reason.the-variants.{Held, Before, After}
+use Rattle.types.specs.declared.State.{State}
+use Rattle.types.specs.declared.State.the-variants as state
 use Rattle.laws.specs.Words.{waiters-set-cell}
 use Rattle.history.specs.World.{World, cells, Live, step, now, Lawful, Spent, number-of, boundaries, caller-releases}
 use Rattle.history.specs.Items.{Call, try-acquire, drop-lease, read-permission, competing-acquire, release-then-handoff, foreign-release, drop-preserving, acquire-preserving, environment, try-lock, transactional, acquire-bucket, release-all, acquire-locks, acquire-sorted, crew, crew-at-work, IsCrew, asked, perform}

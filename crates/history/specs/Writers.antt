@@ -14,17 +14,17 @@ use Rattle.model.specs.Lock.{takeOf, lockOf, outcomeOf, answerOf, attemptOf, re
 use Rattle.model.specs.Checks.{countIn}
 use Rattle.model.specs.Calls.{given, starting, acquireOf, prepareOf}
 use Rattle.model.specs.Sorted.{cellsAsked, cellsSorted, sortedKeys, firstKey, askedFirst}
-use Rattle.model.specs.declared.Answer.{Answer}
-use Rattle.model.specs.declared.Answer.the-variants.{Done, Cell, Granted, AllGranted, Busy, Refused, RefusedAt}
-use Rattle.model.specs.declared.Head.{Head}
-use Rattle.model.specs.declared.Lease.{Lease}
-use Rattle.model.specs.declared.Outcome.{Outcome}
-use Rattle.model.specs.declared.Outcome.the-variants as outcome
-use Rattle.model.specs.declared.Reason.{Reason}
-use Rattle.model.specs.declared.Refusal.{Refusal}
-use Rattle.model.specs.declared.Run.{Run}
-use Rattle.model.specs.declared.SalvageAnswer.{SalvageAnswer}
-use Rattle.model.specs.declared.SalvageAnswer.the-variants as salvaged
+use Rattle.types.specs.declared.Answer.{Answer}
+use Rattle.types.specs.declared.Answer.the-variants.{Done, Cell, Granted, AllGranted, Busy, Refused, RefusedAt}
+use Rattle.types.specs.declared.Head.{Head}
+use Rattle.types.specs.declared.Lease.{Lease}
+use Rattle.types.specs.declared.Outcome.{Outcome}
+use Rattle.types.specs.declared.Outcome.the-variants as outcome
+use Rattle.types.specs.declared.Reason.{Reason}
+use Rattle.types.specs.declared.Refusal.{Refusal}
+use Rattle.types.specs.declared.Run.{Run}
+use Rattle.types.specs.declared.SalvageAnswer.{SalvageAnswer}
+use Rattle.types.specs.declared.SalvageAnswer.the-variants as salvaged
 use Rattle.laws.specs.Prepared.{Outcome as Prepared, Came, was-done, was-refused, came}
 use Rattle.history.specs.World.{World, Live, step, now, Lawful, Releases, Unreleased, worldOf}
 use Rattle.history.specs.Items.{Call, Says, By-keys, in-order, any-order, try-acquire, drop-lease, read-permission, competing-acquire, release-then-handoff, foreign-release, drop-preserving, acquire-preserving, environment, try-lock, transactional, acquire-bucket, release-all, acquire-locks, acquire-sorted, crew, crew-at-work, perform, Item, call, foreign-step, preparation, prepared-by, preparing, next-item, run, cold, asked, Entry, entryOf, events-of, Course, keyCell, preparation-over, salvage, salvage-over, salvaged-by, salvaging}

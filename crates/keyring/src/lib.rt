@@ -12,7 +12,7 @@ use desk::Told;
 use desk::part;
 use desk::within;
 use desk::within_bytes;
-use model::Played;
+use types::Played;
 
 // On the lent table and health.
 fn reply(

@@ -16,8 +16,8 @@ use Rattle.model.specs.Arena.{within, cellsOf}
 use Rattle.model.specs.Refusals.{first}
 use Rattle.model.specs.Checks.{badShape, badHealth}
 use Rattle.model.specs.Crew.{Work, rests, adds, addsOf, movesOf, total, startOf, countOf, listOf, allWithin, badLimits, risesFrom, badLists, planRules, crewRules, badCounters, crewAtWorkRules, Crew, idled, tryTurnOf, heldAllOf, addTurnOf, releaseTurnOf, turnOf, releasedOf}
-use Rattle.model.specs.declared.Check.the-variants.{Fine}
-use Rattle.model.specs.declared.Head.{Head}
+use Rattle.types.specs.declared.Check.the-variants.{Fine}
+use Rattle.types.specs.declared.Head.{Head}
 use Rattle.choice.specs.Pick.{both, neither}
 use Rattle.laws.specs.Checks.{fine-rest, first-skip}
 

@@ -11,9 +11,9 @@ use borrow.Author.Tests.{leb-false, eqb-true, not-false}
 use Rattle.choice.specs.Choice.{if_then_else_}
 use Rattle.model.specs.Arena.{cellNumber, headerOf, isPoisoned}
 use Rattle.model.specs.Lock.{findOf}
-use Rattle.model.specs.declared.Found.{Found}
-use Rattle.model.specs.declared.Found.the-variants as found
-use Rattle.model.specs.declared.Refusal.the-variants as refusal
+use Rattle.types.specs.declared.Found.{Found}
+use Rattle.types.specs.declared.Found.the-variants as found
+use Rattle.types.specs.declared.Refusal.the-variants as refusal
 
 pub place-inside : (headers buckets header bucket : ℕ) → header < headers → bucket < buckets → cellNumber buckets header bucket < headers * buckets
 place-inside headers buckets header bucket p q = omega (arith, mul-le-mul-right buckets p, suc-mul header buckets)

@@ -11,17 +11,17 @@ use Rattle.model.specs.Log.{Made, gives, _>>=_}
 use Rattle.model.specs.Arena.{headerOf, leaseOf, waitersAt}
 use Rattle.model.specs.Foreign.{Setting, protecting, boundaryOf, flowOf}
 use Rattle.model.specs.Lock.{takeOf, lockedOf, giveUpOf, lateOf, afterTake, secondOf, lockOf, attemptOf, pauseOf, isBusy, lastOf, retryOf}
-use Rattle.model.specs.declared.Flow.{Flow}
-use Rattle.model.specs.declared.Locked.{Locked}
-use Rattle.model.specs.declared.Outcome.{Outcome}
-use Rattle.model.specs.declared.Outcome.the-variants as outcome
-use Rattle.model.specs.declared.Reason.{Reason}
-use Rattle.model.specs.declared.Reason.the-variants as reason
-use Rattle.model.specs.declared.Refusal.the-variants as refusal
-use Rattle.model.specs.declared.Run.{Run}
-use Rattle.model.specs.declared.Take.{Take}
-use Rattle.model.specs.declared.Take.the-variants as taking
-use Rattle.model.specs.declared.Tried.{Tried}
+use Rattle.types.specs.declared.Flow.{Flow}
+use Rattle.types.specs.declared.Locked.{Locked}
+use Rattle.types.specs.declared.Outcome.{Outcome}
+use Rattle.types.specs.declared.Outcome.the-variants as outcome
+use Rattle.types.specs.declared.Reason.{Reason}
+use Rattle.types.specs.declared.Reason.the-variants as reason
+use Rattle.types.specs.declared.Refusal.the-variants as refusal
+use Rattle.types.specs.declared.Run.{Run}
+use Rattle.types.specs.declared.Take.{Take}
+use Rattle.types.specs.declared.Take.the-variants as taking
+use Rattle.types.specs.declared.Tried.{Tried}
 use Rattle.choice.specs.Pick.{if-both}
 
 -- a lock of cell c that leaves the health g: a grant is of that cell, and its header is healthy then; 7 carries its

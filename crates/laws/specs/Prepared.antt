@@ -10,12 +10,12 @@ use Rattle.model.specs.Arena.{headOf, headFits, shapeFits, healthFits}
 use Rattle.model.specs.Refusals.{first}
 use Rattle.model.specs.Checks.{prepareRules}
 use Rattle.model.specs.Calls.{replied, refused, prepareOf}
-use Rattle.model.specs.declared.Answer.{Answer}
-use Rattle.model.specs.declared.Answer.the-variants.{Done, Refused}
-use Rattle.model.specs.declared.Head.{Head}
-use Rattle.model.specs.declared.Refusal.{Refusal}
-use Rattle.model.specs.declared.Refusal.the-variants.{BadShape}
-use Rattle.model.specs.declared.Reply.{Reply}
+use Rattle.types.specs.declared.Answer.{Answer}
+use Rattle.types.specs.declared.Answer.the-variants.{Done, Refused}
+use Rattle.types.specs.declared.Head.{Head}
+use Rattle.types.specs.declared.Refusal.{Refusal}
+use Rattle.types.specs.declared.Refusal.the-variants.{BadShape}
+use Rattle.types.specs.declared.Reply.{Reply}
 use Rattle.choice.specs.Pick.{determined}
 use Rattle.laws.specs.Shape.{shaped, healthy}
 

@@ -10,8 +10,8 @@ use Rattle.choice.specs.Choice.{if_then_else_}
 use Rattle.choice.specs.Pick.{if-both}
 use Rattle.model.specs.Arena.{cellsOf, bitAt, ownerAt, waitersAt, isFree, isHeld, stateOf}
 use Rattle.model.specs.Salvage.{keptIn, keptOf, mendedCell, mendedTable, mendedHealth, changeOf, changesFrom, changesOf, entriesOf, heldFrom, leftHeld}
-use Rattle.model.specs.declared.Head.{Head}
-use Rattle.model.specs.declared.State.the-variants.{Free, Held, Damaged}
+use Rattle.types.specs.declared.Head.{Head}
+use Rattle.types.specs.declared.State.the-variants.{Free, Held, Damaged}
 
 -- ---- a cell of a table: the first one, and the next ones
 

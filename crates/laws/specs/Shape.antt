@@ -5,7 +5,7 @@ use mathlib.Core.Bool.{true, _&&_}
 use lib.Dec.{leb, eqb}
 use borrow.Author.Tests.{leb-true, eqb-true}
 use Rattle.model.specs.Arena.{lastSerial, within, cellsOf, headFits, shapeFits, healthFits}
-use Rattle.model.specs.declared.Head.{Head}
+use Rattle.types.specs.declared.Head.{Head}
 use Rattle.choice.specs.Pick.{both}
 
 pub record Shaped (h : Head) (words : ℕ) : Type 0 where

@@ -8,7 +8,7 @@ use native.Mathlib.Decide.{ℕ-discrete}
 use lib.ListN.{length, set, length-set}
 use lib.Seq.{getD-set-same, getD-set-other}
 use Rattle.model.specs.Arena.{bitAt, ownerAt, waitersAt, setCell, setWaiters, isFree, stateOf, stateAt}
-use Rattle.model.specs.declared.State.the-variants.{Free}
+use Rattle.types.specs.declared.State.the-variants.{Free}
 
 pub length-set-cell : (t : List ℕ) (c b o : ℕ) → length (setCell t c b o) ≡ length t
 unfolding setCell

@@ -6,14 +6,14 @@ use mathlib.Core.List.{List}
 use Rattle.model.specs.Arena.{serialRemains, spentTo, setCell, stateAt, issueOf}
 use Rattle.model.specs.Lock.{takeIn, takeOf, outcomeOf, answerOf}
 use Rattle.model.specs.Calls.{replied, acquireOf}
-use Rattle.model.specs.declared.Head.{Head}
-use Rattle.model.specs.declared.Reply.{Reply}
-use Rattle.model.specs.declared.Serial.{Serial}
-use Rattle.model.specs.declared.Serial.the-variants as serial
-use Rattle.model.specs.declared.State.the-variants as state
-use Rattle.model.specs.declared.Take.{Take}
-use Rattle.model.specs.declared.Take.the-variants as taking
-use Rattle.model.specs.declared.Took.{Took}
+use Rattle.types.specs.declared.Head.{Head}
+use Rattle.types.specs.declared.Reply.{Reply}
+use Rattle.types.specs.declared.Serial.{Serial}
+use Rattle.types.specs.declared.Serial.the-variants as serial
+use Rattle.types.specs.declared.State.the-variants as state
+use Rattle.types.specs.declared.Take.{Take}
+use Rattle.types.specs.declared.Take.the-variants as taking
+use Rattle.types.specs.declared.Took.{Took}
 use Rattle.lease.specs.declared.Claim.{Claim}
 
 abbrev pub claimWith : Head → Take → Claim

@@ -2,17 +2,17 @@
 // Functions with a `requires` are steps: calls have tested the shape, and a step tests nothing twice.
 // Steps are no calls of document 01, public ones neither: only the layers here call them (tests/layers.sh), and each
 // caller proves their `requires`.
-use model::Answer;
-use model::Check;
-use model::Head;
-use model::Lease;
-use model::Outcome;
-use model::Reason;
-use model::Refusal;
-use model::Reply;
-use model::Serial;
-use model::State;
-use model::Take;
+use types::Answer;
+use types::Check;
+use types::Head;
+use types::Lease;
+use types::Outcome;
+use types::Reason;
+use types::Refusal;
+use types::Reply;
+use types::Serial;
+use types::State;
+use types::Take;
 ghost use mathlib.Core.Path.{_≡_};
 ghost use mathlib.Core.Bool.{true};
 ghost use mathlib.Core.List.{[], _∷_};

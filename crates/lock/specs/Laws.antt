@@ -13,16 +13,16 @@ use Rattle.model.specs.Log.{Made}
 use Rattle.model.specs.Arena.{leaseOf, headerOf, isPoisoned, waitersAt, setCell, headOf, stateAt, serialRemains}
 use Rattle.model.specs.Foreign.{Setting, protecting, flowOf, stepsIn, boundaryOf}
 use Rattle.model.specs.Lock.{takeIn, takeOf, tookOf, outcomeOf, lateOf, afterTake, secondOf, lockOf, lockedOf}
-use Rattle.model.specs.declared.Flow.{Flow}
-use Rattle.model.specs.declared.Locked.{Locked}
-use Rattle.model.specs.declared.Outcome.{Outcome}
-use Rattle.model.specs.declared.Outcome.the-variants as outcome
-use Rattle.model.specs.declared.Reason.the-variants as reason
-use Rattle.model.specs.declared.State.{State}
-use Rattle.model.specs.declared.State.the-variants as state
-use Rattle.model.specs.declared.Take.{Take}
-use Rattle.model.specs.declared.Take.the-variants as taking
-use Rattle.model.specs.declared.Took.{Took}
+use Rattle.types.specs.declared.Flow.{Flow}
+use Rattle.types.specs.declared.Locked.{Locked}
+use Rattle.types.specs.declared.Outcome.{Outcome}
+use Rattle.types.specs.declared.Outcome.the-variants as outcome
+use Rattle.types.specs.declared.Reason.the-variants as reason
+use Rattle.types.specs.declared.State.{State}
+use Rattle.types.specs.declared.State.the-variants as state
+use Rattle.types.specs.declared.Take.{Take}
+use Rattle.types.specs.declared.Take.the-variants as taking
+use Rattle.types.specs.declared.Took.{Took}
 use Rattle.choice.specs.Pick.{if-both}
 use Rattle.laws.specs.Words.{waiters-set-cell}
 use Rattle.lease.specs.Model.{claimAtOf}

@@ -4,17 +4,17 @@
 // Steps are no calls of document 01, public ones neither: only the layers here call them (tests/layers.sh), and each
 // caller proves their `requires`.
 use foreign::Scope;
-use model::Check;
-use model::Flow;
-use model::Head;
-use model::Lease;
-use model::Locked;
-use model::Outcome;
-use model::Played;
-use model::Reason;
-use model::Refusal;
-use model::Run;
-use model::Take;
+use types::Check;
+use types::Flow;
+use types::Head;
+use types::Lease;
+use types::Locked;
+use types::Outcome;
+use types::Played;
+use types::Reason;
+use types::Refusal;
+use types::Run;
+use types::Take;
 ghost use mathlib.Core.Path.{_≡_};
 ghost use Prim.Native.Nat.{_+_, _*_, _<_};
 ghost use lib.ListN.{length};

@@ -2,8 +2,8 @@
 use Prim.Native.Nat.{ℕ}
 use lib.Dec.{eqb}
 use Rattle.choice.specs.Choice.{if_then_else_}
-use Rattle.model.specs.declared.State.{State}
-use Rattle.model.specs.declared.State.the-variants.{Free, Held, Damaged}
+use Rattle.types.specs.declared.State.{State}
+use Rattle.types.specs.declared.State.the-variants.{Free, Held, Damaged}
 
 -- "`.` free, `#` held, `!` damaged; a free cell with waiters is `w`, a held one with waiters `W`, a damaged one
 -- stays `!`"

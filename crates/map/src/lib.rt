@@ -1,11 +1,11 @@
 // The bench console. The arena at a glance: a line for each header, a character for each cell.
 use desk::Desk;
 use desk::within;
-use model::Head;
-use model::State;
 use text::put;
 use text::put_byte;
 use text::put_form;
+use types::Head;
+use types::State;
 ghost use mathlib.Core.Path.{_≡_};
 ghost use lib.Dec.{eqb};
 ghost use Rattle.model.specs.Arena.{stateOf};

@@ -13,13 +13,13 @@ use desk::end_of;
 use desk::part;
 use desk::within;
 use desk::within_bytes;
-use model::SalvageAnswer;
-use model::SalvageReply;
 use output::ready;
 use setup::GRANTS;
 use text::Numbers;
 use text::put;
 use text::put_form;
+use types::SalvageAnswer;
+use types::SalvageReply;
 
 // A line that is none of these.
 fn no_line(desk: Desk, used: usize) -> Answered {

@@ -9,15 +9,15 @@ use Rattle.model.specs.Refusals.{first, judge}
 use Rattle.model.specs.Checks.{countIn, prepareRules, cellRules, leaseRules, heldCellRules, heldLeaseRules, scriptRules, lockRules, bucketRules, releaseRules, locksRules}
 use Rattle.model.specs.Foreign.{Setting, setting, flowOf, boundaryOf}
 use Rattle.model.specs.Lock.{takeOf, lockOf, outcomeOf, answerOf, runOf, attemptOf, attemptLimit, noneYet, retryOf, settled, giveBackOf, locksOf}
-use Rattle.model.specs.declared.Answer.{Answer}
-use Rattle.model.specs.declared.Answer.the-variants.{Done, Cell, Refused}
-use Rattle.model.specs.declared.Counts.{Counts}
-use Rattle.model.specs.declared.Head.{Head}
-use Rattle.model.specs.declared.Lease.{Lease}
-use Rattle.model.specs.declared.Played.{Played}
-use Rattle.model.specs.declared.Refusal.{Refusal}
-use Rattle.model.specs.declared.Reply.{Reply}
-use Rattle.model.specs.declared.Run.{Run}
+use Rattle.types.specs.declared.Answer.{Answer}
+use Rattle.types.specs.declared.Answer.the-variants.{Done, Cell, Refused}
+use Rattle.types.specs.declared.Counts.{Counts}
+use Rattle.types.specs.declared.Head.{Head}
+use Rattle.types.specs.declared.Lease.{Lease}
+use Rattle.types.specs.declared.Played.{Played}
+use Rattle.types.specs.declared.Refusal.{Refusal}
+use Rattle.types.specs.declared.Reply.{Reply}
+use Rattle.types.specs.declared.Run.{Run}
 
 -- ---- results
 

@@ -9,8 +9,8 @@ use Rattle.model.specs.Arena.{cellsOf, shapeFits, healthFits, registryFi
 use Rattle.model.specs.Foreign.{stepsIn}
 use Rattle.model.specs.Lock.{bindingAt}
 use Rattle.model.specs.Refusals.{Rule, refuse_carrying_when_}
-use Rattle.model.specs.declared.Head.{Head}
-use Rattle.model.specs.declared.Lease.{Lease}
+use Rattle.types.specs.declared.Head.{Head}
+use Rattle.types.specs.declared.Lease.{Lease}
 
 -- ---- 1 BadShape: "head or a length breaks the arena rules"
 

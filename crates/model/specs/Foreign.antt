@@ -7,9 +7,9 @@ use lib.ListN.{length, getD, set}
 use Rattle.choice.specs.Choice.{if_then_else_}
 use Rattle.model.specs.Log.{Made, by-script, boundary-run, step-dropped, took, released, waiters-set, health-set, gives, note, _>>=_, _>>_}
 use Rattle.model.specs.Arena.{serialRemains, bitAt, ownerAt, setCell, setWaiters, isFree, isLive, isIn, leaseOf}
-use Rattle.model.specs.declared.Flow.{Flow}
-use Rattle.model.specs.declared.Lease.{Lease}
-use Rattle.model.specs.declared.Stepped.{Stepped}
+use Rattle.types.specs.declared.Flow.{Flow}
+use Rattle.types.specs.declared.Lease.{Lease}
+use Rattle.types.specs.declared.Stepped.{Stepped}
 
 -- what the steps of a call are given and never change
 pub record Setting : Type 0 where

@@ -4,29 +4,18 @@ use mathlib.Core.List.{List, [], _∷_}
 use mathlib.Core.Bool.{Bool}
 use lib.Dec.{eqb}
 use Rattle.choice.specs.Choice.{if_then_else_}
-use Rattle.model.specs.declared.Check.{Check}
-use Rattle.model.specs.declared.Check.the-variants.{Fine, Fault}
-use Rattle.model.specs.declared.Reason.{Reason}
-use Rattle.model.specs.declared.Reason.the-variants as reason
-use Rattle.model.specs.declared.Refusal.{Refusal}
-use Rattle.model.specs.declared.Refusal.the-variants.{BadShape, BadScript, BadHeld, TooMany, BadBinding, BadHeader, Poisoned, InvalidBucket, Damaged, SerialsSpent, SerializationFailure, NotHeld, Protected, Repeated, BadCrew}
+pub use Rattle.types.specs.Numbers.{reasonNumber, reasonSerial, numberOf, carriedOf}
+use Rattle.types.specs.declared.Check.{Check}
+use Rattle.types.specs.declared.Check.the-variants.{Fine, Fault}
+use Rattle.types.specs.declared.Reason.{Reason}
+use Rattle.types.specs.declared.Reason.the-variants as reason
+use Rattle.types.specs.declared.Refusal.{Refusal}
+use Rattle.types.specs.declared.Refusal.the-variants.{BadShape, BadScript, BadHeld, TooMany, BadBinding, BadHeader, Poisoned, InvalidBucket, Damaged, SerialsSpent, SerializationFailure, NotHeld, Protected, Repeated, BadCrew}
 
 -- ---- document 02, L1: "Split the word: held, with the owner's serial; waiters seen before the compare-and-set; waiters seen after it. The last
 -- one also gives the serial that was spent."
 
--- a reason's number
-abbrev pub reasonNumber : Reason → ℕ
-reasonNumber (reason.Held s) = 1
-reasonNumber reason.Before = 2
-reasonNumber (reason.After s) = 3
-
--- the serial that it gives, 0 for none
-abbrev pub reasonSerial : Reason → ℕ
-reasonSerial (reason.Held s) = s
-reasonSerial reason.Before = 0
-reasonSerial (reason.After s) = s
-
--- the same, read the other way
+-- a reason by its number (`reasonNumber` of crate `types`) and its serial
 abbrev pub reasonOf : ℕ → ℕ → Reason
 reasonOf number s = if eqb number 1 then reason.Held s else if eqb number 2 then reason.Before else reason.After s
 
@@ -50,41 +39,6 @@ refusalWith why number k =
     else if eqb number 13 then Protected
     else if eqb number 14 then Repeated k
     else BadCrew k
-
--- the same columns, read the other way
-abbrev pub numberOf : Refusal → ℕ
-numberOf BadShape = 1
-numberOf BadScript = 2
-numberOf (BadHeld k) = 3
-numberOf TooMany = 4
-numberOf (BadBinding k) = 5
-numberOf (BadHeader k) = 6
-numberOf (Poisoned k) = 7
-numberOf (InvalidBucket k) = 8
-numberOf (Damaged k) = 9
-numberOf (SerialsSpent k) = 10
-numberOf (SerializationFailure why) = 11
-numberOf (NotHeld k) = 12
-numberOf Protected = 13
-numberOf (Repeated k) = 14
-numberOf (BadCrew k) = 15
-
-abbrev pub carriedOf : Refusal → ℕ
-carriedOf BadShape = 0
-carriedOf BadScript = 0
-carriedOf (BadHeld k) = k
-carriedOf TooMany = 0
-carriedOf (BadBinding k) = k
-carriedOf (BadHeader k) = k
-carriedOf (Poisoned k) = k
-carriedOf (InvalidBucket k) = k
-carriedOf (Damaged k) = k
-carriedOf (SerialsSpent k) = k
-carriedOf (SerializationFailure why) = 4096
-carriedOf (NotHeld k) = k
-carriedOf Protected = 0
-carriedOf (Repeated k) = k
-carriedOf (BadCrew k) = k
 
 -- the number of the reason that a refusal gives, and its serial: only 11 gives one, the others 0 and 0
 abbrev pub refusalReason : Refusal → List ℕ

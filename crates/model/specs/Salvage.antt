@@ -10,12 +10,12 @@ use Rattle.choice.specs.Choice.{if_then_else_}
 use Rattle.model.specs.Arena.{cellsOf, headOf, bitAt, ownerAt, isFree, isHeld, stateOf, headFits, shapeFits, healthFits}
 use Rattle.model.specs.Refusals.{first, judge}
 use Rattle.model.specs.Checks.{prepareRules}
-use Rattle.model.specs.declared.Head.{Head}
-use Rattle.model.specs.declared.SalvageAnswer.{SalvageAnswer}
-use Rattle.model.specs.declared.SalvageAnswer.the-variants.{Done, BadShape, ReportFull}
-use Rattle.model.specs.declared.SalvageReply.{SalvageReply}
-use Rattle.model.specs.declared.State.{State}
-use Rattle.model.specs.declared.State.the-variants.{Free, Held, Damaged}
+use Rattle.types.specs.declared.Head.{Head}
+use Rattle.types.specs.declared.SalvageAnswer.{SalvageAnswer}
+use Rattle.types.specs.declared.SalvageAnswer.the-variants.{Done, BadShape, ReportFull}
+use Rattle.types.specs.declared.SalvageReply.{SalvageReply}
+use Rattle.types.specs.declared.State.{State}
+use Rattle.types.specs.declared.State.the-variants.{Free, Held, Damaged}
 
 -- ---- what is mended
 

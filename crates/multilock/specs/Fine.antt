@@ -13,12 +13,12 @@ use Rattle.model.specs.Refusals.{first}
 use Rattle.model.specs.Checks.{countIn, isOdd, badShape, badHealth, badRegistry, badScript, badHeld, tooManyKeys, badBinding, badBindings, locksRules}
 use Rattle.model.specs.Lock.{bindingAt, locksOf}
 use Rattle.model.specs.Calls.{starting, given, played}
-use Rattle.model.specs.declared.Check.{Check}
-use Rattle.model.specs.declared.Check.the-variants.{Fine}
-use Rattle.model.specs.declared.Head.{Head}
-use Rattle.model.specs.declared.Lease.{Lease}
-use Rattle.model.specs.declared.Played.{Played}
-use Rattle.model.specs.declared.Run.{Run}
+use Rattle.types.specs.declared.Check.{Check}
+use Rattle.types.specs.declared.Check.the-variants.{Fine}
+use Rattle.types.specs.declared.Head.{Head}
+use Rattle.types.specs.declared.Lease.{Lease}
+use Rattle.types.specs.declared.Played.{Played}
+use Rattle.types.specs.declared.Run.{Run}
 use Rattle.choice.specs.Pick.{neither}
 use Rattle.laws.specs.Checks.{or-else, first-append, first-two, fine-rest, fine-append}
 use Rattle.foreign.specs.Fine.{ScriptFine}

@@ -11,17 +11,17 @@ use Rattle.model.specs.Log.{Made}
 use Rattle.model.specs.Arena.{leaseOf, leasesOf, wordsOf}
 use Rattle.model.specs.Foreign.{Setting, setting, protecting, stepsIn}
 use Rattle.model.specs.Lock.{findOf, attemptAt, attemptOf, pauseOf, isBusy, lastOf, noneYet, retryOf, giveBackOf, endedOf, rollbackOf, afterKey, locksOf, bindingAt, bucketAt, Locks, leaseAt}
-use Rattle.model.specs.declared.Answer.the-variants as answer
-use Rattle.model.specs.declared.Ended.{Ended}
-use Rattle.model.specs.declared.Found.{Found}
-use Rattle.model.specs.declared.Found.the-variants as found
-use Rattle.model.specs.declared.Lease.{Lease}
-use Rattle.model.specs.declared.Outcome.{Outcome}
-use Rattle.model.specs.declared.Outcome.the-variants as outcome
-use Rattle.model.specs.declared.Reason.{Reason}
-use Rattle.model.specs.declared.Refusal.{Refusal}
-use Rattle.model.specs.declared.Run.{Run}
-use Rattle.model.specs.declared.Tried.{Tried}
+use Rattle.types.specs.declared.Answer.the-variants as answer
+use Rattle.types.specs.declared.Ended.{Ended}
+use Rattle.types.specs.declared.Found.{Found}
+use Rattle.types.specs.declared.Found.the-variants as found
+use Rattle.types.specs.declared.Lease.{Lease}
+use Rattle.types.specs.declared.Outcome.{Outcome}
+use Rattle.types.specs.declared.Outcome.the-variants as outcome
+use Rattle.types.specs.declared.Reason.{Reason}
+use Rattle.types.specs.declared.Refusal.{Refusal}
+use Rattle.types.specs.declared.Run.{Run}
+use Rattle.types.specs.declared.Tried.{Tried}
 use Rattle.foreign.specs.declared.Scope.{Scope}
 use Rattle.foreign.specs.Model.{pairsOf, guardsOf}
 use Rattle.choice.specs.Pick.{if-both}

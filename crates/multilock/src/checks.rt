@@ -1,8 +1,8 @@
 // The checks of multi-lock, in the order of document 01's table.
 // Crate `sorted` begins with the same checks.
-use model::Check;
-use model::Head;
-use model::Refusal;
+use types::Check;
+use types::Head;
+use types::Refusal;
 ghost use mathlib.Core.Path.{_≡_};
 ghost use mathlib.Core.List.{[], _∷_};
 ghost use Prim.Native.Nat.{_+_, _*_, _<_};

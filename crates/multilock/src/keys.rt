@@ -3,12 +3,12 @@
 // Crate `sorted` calls `lock_keys` too.
 use crate::rollback::roll_back;
 use foreign::Scope;
-use model::Answer;
-use model::Ended;
-use model::Outcome;
-use model::Refusal;
-use model::Run;
-use model::Tried;
+use types::Answer;
+use types::Ended;
+use types::Outcome;
+use types::Refusal;
+use types::Run;
+use types::Tried;
 ghost use mathlib.Core.Path.{_≡_};
 ghost use mathlib.Core.List.{[]};
 ghost use Prim.Native.Nat.{_+_, _*_, _<_, _≤_};

@@ -10,9 +10,9 @@ mod rollback;
 
 use checks::locks_check;
 use keys::lock_keys;
-use model::Check;
-use model::Head;
-use model::Played;
+use types::Check;
+use types::Head;
+use types::Played;
 ghost use mathlib.Core.Path.{_≡_};
 ghost use lib.ListN.{length};
 ghost use Rattle.model.specs.Refusals.{first};

@@ -2,10 +2,10 @@
 // Functions with a `requires` are steps: calls have tested the shape, and a step tests nothing twice.
 // Nothing here is reached from outside the crate.
 use foreign::Scope;
-use model::Answer;
-use model::Ended;
-use model::Refusal;
-use model::Run;
+use types::Answer;
+use types::Ended;
+use types::Refusal;
+use types::Run;
 ghost use mathlib.Core.Path.{_≡_};
 ghost use mathlib.Core.List.{[]};
 ghost use Prim.Native.Nat.{ℕ, _<_};

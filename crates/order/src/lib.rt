@@ -1,7 +1,7 @@
 // The bench console. The lines of the setpoint book (document 02, L2): what a line orders, and what is not understood.
-use model::Lease;
 use setpoint::Setpoint;
 use text::Numbers;
+use types::Lease;
 ghost use Rattle.io.specs.Counts.{Counts as Within};
 
 // What a line of the book orders. A write names its slot, its lease and the setpoint.

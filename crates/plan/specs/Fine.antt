@@ -9,8 +9,8 @@ use Rattle.model.specs.Arena.{cellsOf}
 use Rattle.model.specs.Refusals.{first}
 use Rattle.model.specs.Checks.{badShape, badHealth}
 use Rattle.model.specs.Crew.{startOf, badLimits, badLists, badTurns, crewRules}
-use Rattle.model.specs.declared.Check.the-variants.{Fine}
-use Rattle.model.specs.declared.Head.{Head}
+use Rattle.types.specs.declared.Check.the-variants.{Fine}
+use Rattle.types.specs.declared.Head.{Head}
 use Rattle.laws.specs.Shape.{Shaped}
 use Rattle.laws.specs.Checks.{or-else, first-append, first-two, fine-rest, fine-append, arena-fine}
 use Rattle.laws.specs.Crew.{Limited, limits-fine, cell-inside}

@@ -9,8 +9,8 @@ use lib.ListN.{length, getD, take, drop, drop-of-length-le}
 use Rattle.choice.specs.Choice.{if_then_else_}
 use Rattle.model.specs.Refusals.{first}
 use Rattle.model.specs.Crew.{total, startOf, allWithin, risesFrom, badLists, badTurns}
-use Rattle.model.specs.declared.Check.the-variants.{Fine, Fault}
-use Rattle.model.specs.declared.Refusal.the-variants.{BadCrew}
+use Rattle.types.specs.declared.Check.the-variants.{Fine, Fault}
+use Rattle.types.specs.declared.Refusal.the-variants.{BadCrew}
 use Rattle.laws.specs.Lists.{drop-one}
 
 -- ---- counts

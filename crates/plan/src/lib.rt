@@ -1,8 +1,8 @@
 // The plan of a crew's run, for document 01's and document 02's: what its limits, lists and turns must keep, and where
 // each member's list begins.
 // Functions with a `requires` are steps: the call has tested the limits, and a step tests nothing twice.
-use model::Check;
-use model::Refusal;
+use types::Check;
+use types::Refusal;
 ghost use mathlib.Core.Path.{_≡_};
 ghost use mathlib.Core.List.{[], _∷_, _++_};
 ghost use Prim.Native.Nat.{_+_, _≤_};

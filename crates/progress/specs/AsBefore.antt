@@ -13,12 +13,12 @@ use Rattle.model.specs.Arena.{headerOf, isPoisoned, leaseOf, waitersAt}
 use Rattle.model.specs.Foreign.{Setting, setting, protecting, flowOf, runStepsOf, boundaryOf}
 use Rattle.model.specs.Lock.{takeOf, lockedOf, outcomeOf, giveUpOf, lateOf, afterTake, secondOf, lockOf}
 use Rattle.model.specs.Crew.{Crew, idled, afterTry, tryTurnOf}
-use Rattle.model.specs.declared.Flow.{Flow}
-use Rattle.model.specs.declared.Locked.{Locked}
-use Rattle.model.specs.declared.Outcome.the-variants as outcome
-use Rattle.model.specs.declared.Reason.the-variants as reason
-use Rattle.model.specs.declared.Take.{Take}
-use Rattle.model.specs.declared.Take.the-variants as taking
+use Rattle.types.specs.declared.Flow.{Flow}
+use Rattle.types.specs.declared.Locked.{Locked}
+use Rattle.types.specs.declared.Outcome.the-variants as outcome
+use Rattle.types.specs.declared.Reason.the-variants as reason
+use Rattle.types.specs.declared.Take.{Take}
+use Rattle.types.specs.declared.Take.the-variants as taking
 use Rattle.history.specs.Tests.{if-cases}
 use Rattle.history.specs.Steps.{With}
 

@@ -12,7 +12,7 @@ use borrow.Author.Tests.{eqb-true, eqb-false}
 use Rattle.choice.specs.Choice.{if_then_else_}
 use Rattle.model.specs.Log.{Event, by-caller, took, released, held-all, added}
 use Rattle.model.specs.Crew.{Work, addsOf, movesOf, total, startOf, countOf, listOf, Crew, crewStart, moved, isFull, turnOf, turnsOf}
-use Rattle.model.specs.declared.Head.{Head}
+use Rattle.types.specs.declared.Head.{Head}
 use Rattle.laws.specs.Lists.{zeros}
 use Rattle.laws.specs.Crew.{adds-few, member, listed}
 use Rattle.history.specs.World.{Kind, takes, releases, kind-of, code}

@@ -9,7 +9,7 @@ use lib.Seq.{ext-getD}
 use Rattle.model.specs.Log.{Made, Event}
 use Rattle.model.specs.Arena.{bitAt, ownerAt, waitersAt, spentTo}
 use Rattle.model.specs.Crew.{Work, addsOf, movesOf, total, countOf, listOf, takenOf, releasedOf, Crew, crewStart, moved, turnOf, turnsOf, shiftOf}
-use Rattle.model.specs.declared.Head.{Head}
+use Rattle.types.specs.declared.Head.{Head}
 use Rattle.laws.specs.Lists.{zeros}
 use Rattle.laws.specs.Crew.{adds-few, member}
 use Rattle.history.specs.World.{takes, releases, number-of}

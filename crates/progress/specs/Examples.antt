@@ -8,9 +8,9 @@ use lib.ListN.{getD, replicate}
 use Rattle.model.specs.Arena.{headOf, bitAt, ownerAt, waitersAt, isFree, stateOf, stateAt, headFits, shapeFits, healthFits}
 use Rattle.model.specs.Refusals.{first}
 use Rattle.model.specs.Crew.{total, startOf, allWithin, risesFrom, badLists, badTurns, crewRules, crewOf, crewAtWorkOf}
-use Rattle.model.specs.declared.Check.the-variants.{Fine}
-use Rattle.model.specs.declared.CrewReply.{CrewReply}
-use Rattle.model.specs.declared.Head.{Head}
+use Rattle.types.specs.declared.Check.the-variants.{Fine}
+use Rattle.types.specs.declared.CrewReply.{CrewReply}
+use Rattle.types.specs.declared.Head.{Head}
 use Rattle.laws.specs.Lists.{zeros}
 use Rattle.progress.specs.Statements.{In, flat, Unfinished-told, Rounds-told, Open, Met, Met-at-work}
 

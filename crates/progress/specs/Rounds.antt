@@ -9,7 +9,7 @@ use lib.ListN.{length, getD}
 use Rattle.model.specs.Log.{Event}
 use Rattle.model.specs.Arena.{cellsOf, isFree, stateOf, stateAt}
 use Rattle.model.specs.Crew.{Work, movesOf, total, startOf, countOf, Crew, crewAt, turnOf, turnsOf}
-use Rattle.model.specs.declared.Head.{Head}
+use Rattle.types.specs.declared.Head.{Head}
 use Rattle.laws.specs.Crew.{adds-few, start-fits, member}
 use Rattle.history.specs.Crew.{Holds}
 use Rattle.progress.specs.Statements.{In, flat, after, Unfinished, IsRound, Rounds, Open, Ready, Idle, finished, blocked, wish, Turn, idled, grabbed, summed, gave}

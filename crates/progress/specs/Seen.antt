@@ -13,9 +13,9 @@ use Rattle.model.specs.Arena.{within, cellsOf}
 use Rattle.model.specs.Refusals.{first}
 use Rattle.model.specs.Checks.{badShape, badHealth}
 use Rattle.model.specs.Crew.{Work, rests, adds, addsOf, total, countOf, allWithin, badLimits, badLists, badTurns, crewRules, crewAtWorkRules, Crew, crewStart, shiftOf, crewOf, crewAtWorkOf}
-use Rattle.model.specs.declared.Check.the-variants.{Fine}
-use Rattle.model.specs.declared.CrewReply.{CrewReply}
-use Rattle.model.specs.declared.Head.{Head}
+use Rattle.types.specs.declared.Check.the-variants.{Fine}
+use Rattle.types.specs.declared.CrewReply.{CrewReply}
+use Rattle.types.specs.declared.Head.{Head}
 use Rattle.choice.specs.Pick.{neither}
 use Rattle.laws.specs.Checks.{first-skip, first-append, fine-rest, fine-append}
 use Rattle.laws.specs.Crew.{adds-few, at-work-fine}

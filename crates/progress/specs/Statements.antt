@@ -12,11 +12,11 @@ use Rattle.model.specs.Log.{Made, Event, by-caller, attempt-begun, boundary-run
 use Rattle.model.specs.Arena.{lastSerial, cellsOf, spentTo, waitersAt, setCell, stateAt}
 use Rattle.model.specs.Refusals.{first}
 use Rattle.model.specs.Crew.{Work, rests, adds, addsOf, movesOf, total, startOf, countOf, listOf, crewRules, crewAtWorkRules, Crew, crewAt, crewStart, moved, isFull, notedAt, addedTo, turnOf, turnsOf, shiftOf, crewOf, crewAtWorkOf}
-use Rattle.model.specs.declared.Answer.the-variants.{Done}
-use Rattle.model.specs.declared.Check.the-variants.{Fine}
-use Rattle.model.specs.declared.CrewReply.{CrewReply}
-use Rattle.model.specs.declared.Head.{Head}
-use Rattle.model.specs.declared.State.the-variants as state
+use Rattle.types.specs.declared.Answer.the-variants.{Done}
+use Rattle.types.specs.declared.Check.the-variants.{Fine}
+use Rattle.types.specs.declared.CrewReply.{CrewReply}
+use Rattle.types.specs.declared.Head.{Head}
+use Rattle.types.specs.declared.State.the-variants as state
 use Rattle.history.specs.World.{one, Kind, takes, releases, kind-of, code, number-of}
 use Rattle.history.specs.Statements.{Crew-build, Crew-at-work-build}
 

@@ -11,7 +11,7 @@ use lib.Seq.{getD-set-same, getD-set-other}
 use Rattle.model.specs.Log.{Event}
 use Rattle.model.specs.Arena.{cellsOf, bitAt, ownerAt, waitersAt, setCell}
 use Rattle.model.specs.Crew.{Work, addsOf, movesOf, total, startOf, countOf, Crew, crewStart, moved, turnOf, turnsOf}
-use Rattle.model.specs.declared.Head.{Head}
+use Rattle.types.specs.declared.Head.{Head}
 use Rattle.laws.specs.Words.{length-set-cell, bit-set, owner-set, waiters-set-cell, Seen, here, there, see}
 use Rattle.laws.specs.Lists.{zeros}
 use Rattle.laws.specs.Crew.{adds-few, adds-none, adds-plus, start-fits, member}

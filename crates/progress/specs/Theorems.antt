@@ -8,8 +8,8 @@ use lib.Seq.{take-all}
 use Rattle.model.specs.Arena.{cellsOf}
 use Rattle.model.specs.Refusals.{first}
 use Rattle.model.specs.Crew.{Work, rests, adds, addsOf, movesOf, total, countOf, listOf, crewRules, crewStart, turnsOf, shiftOf, crewOf, crewAtWorkOf}
-use Rattle.model.specs.declared.Check.the-variants.{Fine}
-use Rattle.model.specs.declared.Head.{Head}
+use Rattle.types.specs.declared.Check.the-variants.{Fine}
+use Rattle.types.specs.declared.Head.{Head}
 use Rattle.laws.specs.Crew.{moves-two, moves-three, at-work-fine, fine-at-work}
 use Rattle.progress.specs.Statements.{flat, after, Rounds-over, Open, Enough-over, Completed, tabled, Turns-are, Stays-finished, Round-moves, Demand-3, Demand-3-at-work, Demand-3-over, Crew-deeds, Crew-deeds-at-work, Crew-deeds-over, Told, Tells, Tells-at-work, Tells-over, Taken-is-held, Taken-is-held-over, Hold-whole, Hold-whole-at-work, Tight-over, Tight-where-shared, Tight-where-shared-at-work, Tight-for-every, Tight-for-every-at-work, Met, Met-at-work}
 use Rattle.progress.specs.Examples.{contending, contending-at-work}

@@ -16,9 +16,9 @@ use Rattle.model.specs.Arena.{lastSerial, waitersAt, stateAt}
 use Rattle.model.specs.Foreign.{runStepsOf, boundaryOf}
 use Rattle.model.specs.Lock.{takeOf, lateOf, secondOf, lockOf}
 use Rattle.model.specs.Crew.{Work, addsOf, movesOf, startOf, countOf, Crew, moved, isFull, tryTurnOf, heldAllOf, addTurnOf, releaseTurnOf, turnOf, turnsOf}
-use Rattle.model.specs.declared.Head.{Head}
-use Rattle.model.specs.declared.State.{State}
-use Rattle.model.specs.declared.State.the-variants as state
+use Rattle.types.specs.declared.Head.{Head}
+use Rattle.types.specs.declared.State.{State}
+use Rattle.types.specs.declared.State.the-variants as state
 use Rattle.laws.specs.Words.{waiters-set-cell}
 use Rattle.history.specs.World.{one, number-of, takes, releases, kind-of, code}
 use Rattle.history.specs.Tests.{differ, if-cases}

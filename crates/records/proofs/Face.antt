@@ -49,12 +49,12 @@ use denote.Triple.Spec.{Meets, tripleOf}
 use denote.Triple.Statement.{Contract, Triple}
 use denote.Triple.Walked.{says, Stays, stay-slice, stay-none, walkOf, Silent, goes-slice, goes-none, Walks, ends-at, walked, walk-meets}
 use denote.Exit.{Last, yes}
-use Rattle.model.specs.declared.Head.{Head}
-use Rattle.model.specs.declared.Reply.{Reply}
-use Rattle.model.proofs.Head as G
-use Rattle.model.proofs.Head.Laws as G′
-use Rattle.model.proofs.Reply as U
-use Rattle.model.proofs.Reply.Laws as U′
+use Rattle.types.specs.declared.Head.{Head}
+use Rattle.types.specs.declared.Reply.{Reply}
+use Rattle.types.proofs.Head as G
+use Rattle.types.proofs.Head.Laws as G′
+use Rattle.types.proofs.Reply as U
+use Rattle.types.proofs.Reply.Laws as U′
 use Rattle.records.specs.Model.{spelled, none, callOf}
 use Rattle.records.specs.Laws.{given, call-outside, call-inside}
 use Rattle.records.specs.declared.Cell.{Cell}

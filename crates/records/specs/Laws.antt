@@ -13,15 +13,15 @@ use Rattle.model.specs.Refusals.{first}
 use Rattle.model.specs.Lock.{takeIn, takeOf, outcomeOf, answerOf}
 use Rattle.model.specs.Checks.{badCell, notHeld, cellRules, leaseRules}
 use Rattle.model.specs.Calls.{replied, refused, acquireOf, tryAcquireOf, dropLeaseOf}
-use Rattle.model.specs.declared.Answer.the-variants.{Done, Granted}
-use Rattle.model.specs.declared.Check.the-variants.{Fine}
-use Rattle.model.specs.declared.Head.{Head}
-use Rattle.model.specs.declared.Lease.{Lease}
-use Rattle.model.specs.declared.Refusal.the-variants.{BadShape, InvalidBucket, NotHeld}
-use Rattle.model.specs.declared.Reply.{Reply}
-use Rattle.model.specs.declared.State.{State}
-use Rattle.model.specs.declared.State.the-variants.{Free, Held, Damaged}
-use Rattle.model.specs.declared.Took.{Took}
+use Rattle.types.specs.declared.Answer.the-variants.{Done, Granted}
+use Rattle.types.specs.declared.Check.the-variants.{Fine}
+use Rattle.types.specs.declared.Head.{Head}
+use Rattle.types.specs.declared.Lease.{Lease}
+use Rattle.types.specs.declared.Refusal.the-variants.{BadShape, InvalidBucket, NotHeld}
+use Rattle.types.specs.declared.Reply.{Reply}
+use Rattle.types.specs.declared.State.{State}
+use Rattle.types.specs.declared.State.the-variants.{Free, Held, Damaged}
+use Rattle.types.specs.declared.Took.{Took}
 use Rattle.laws.specs.Checks.{first-skip, first-hit, shape-ok, shape-bad}
 use Rattle.laws.specs.Shape.{shaped}
 use Rattle.records.specs.Model.{spelled, cellOf, none, spotOf, takeSpotOf, dropSpotOf, takeBy, takeFreeOf, takeRuleOf, dropRuleOf, callOf}

@@ -8,18 +8,18 @@ use Rattle.choice.specs.Choice.{if_then_else_}
 use Rattle.model.specs.Arena.{shapeFits, stateOf, heldBy, issueOf}
 use Rattle.model.specs.Lock.{outcomeOf, answerOf}
 use Rattle.model.specs.Calls.{replied, refused}
-use Rattle.model.specs.declared.Answer.the-variants.{Done}
-use Rattle.model.specs.declared.Head.{Head}
-use Rattle.model.specs.declared.Lease.{Lease}
-use Rattle.model.specs.declared.Refusal.{Refusal}
-use Rattle.model.specs.declared.Refusal.the-variants.{BadShape, InvalidBucket, NotHeld}
-use Rattle.model.specs.declared.Reply.{Reply}
-use Rattle.model.specs.declared.Serial.{Serial}
-use Rattle.model.specs.declared.Serial.the-variants as serial
-use Rattle.model.specs.declared.State.{State}
-use Rattle.model.specs.declared.State.the-variants as state
-use Rattle.model.specs.declared.Take.{Take}
-use Rattle.model.specs.declared.Take.the-variants as taking
+use Rattle.types.specs.declared.Answer.the-variants.{Done}
+use Rattle.types.specs.declared.Head.{Head}
+use Rattle.types.specs.declared.Lease.{Lease}
+use Rattle.types.specs.declared.Refusal.{Refusal}
+use Rattle.types.specs.declared.Refusal.the-variants.{BadShape, InvalidBucket, NotHeld}
+use Rattle.types.specs.declared.Reply.{Reply}
+use Rattle.types.specs.declared.Serial.{Serial}
+use Rattle.types.specs.declared.Serial.the-variants as serial
+use Rattle.types.specs.declared.State.{State}
+use Rattle.types.specs.declared.State.the-variants as state
+use Rattle.types.specs.declared.Take.{Take}
+use Rattle.types.specs.declared.Take.the-variants as taking
 use Rattle.records.specs.declared.Cell.{Cell}
 use Rattle.records.specs.declared.Changed.{Changed}
 use Rattle.records.specs.declared.Spot.{Spot}

@@ -3,14 +3,14 @@
 // `lease` on the table of words that the records spell. All rules are on one record by value; the two calls at the end
 // only
 // copy the record out and write it back.
-use model::Answer;
-use model::Head;
-use model::Lease;
-use model::Refusal;
-use model::Reply;
-use model::Serial;
-use model::State;
-use model::Take;
+use types::Answer;
+use types::Head;
+use types::Lease;
+use types::Refusal;
+use types::Reply;
+use types::Serial;
+use types::State;
+use types::Take;
 ghost use mathlib.Core.Path.{_≡_};
 ghost use Prim.Native.Nat.{_*_};
 ghost use Rattle.model.specs.Arena.{shapeFits, stateOf, heldBy};

@@ -14,13 +14,13 @@ use Rattle.model.specs.Checks.{countIn, isOdd, badShape, badHealth, badScript, 
 use Rattle.model.specs.Foreign.{Setting, protecting, boundaryOf}
 use Rattle.model.specs.Lock.{runOf, leaseAt, giveBackOf}
 use Rattle.model.specs.Calls.{starting, given, played}
-use Rattle.model.specs.declared.Answer.the-variants.{Done}
-use Rattle.model.specs.declared.Check.the-variants.{Fine, Fault}
-use Rattle.model.specs.declared.Head.{Head}
-use Rattle.model.specs.declared.Lease.{Lease}
-use Rattle.model.specs.declared.Played.{Played}
-use Rattle.model.specs.declared.Refusal.the-variants as refusal
-use Rattle.model.specs.declared.Run.{Run}
+use Rattle.types.specs.declared.Answer.the-variants.{Done}
+use Rattle.types.specs.declared.Check.the-variants.{Fine, Fault}
+use Rattle.types.specs.declared.Head.{Head}
+use Rattle.types.specs.declared.Lease.{Lease}
+use Rattle.types.specs.declared.Played.{Played}
+use Rattle.types.specs.declared.Refusal.the-variants as refusal
+use Rattle.types.specs.declared.Run.{Run}
 use Rattle.choice.specs.Pick.{neither}
 use Rattle.laws.specs.Checks.{or-else, fine-rest, fine-append, arena-fine, leases-at, leases-end, live-inside}
 use Rattle.foreign.specs.declared.Scope.{Scope}

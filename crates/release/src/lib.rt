@@ -4,13 +4,13 @@
 // Steps are no calls of document 01, public ones neither: only the layers here call them (tests/layers.sh), and each
 // caller proves their `requires`.
 use foreign::Scope;
-use model::Answer;
-use model::Check;
-use model::Head;
-use model::Lease;
-use model::Played;
-use model::Refusal;
-use model::Run;
+use types::Answer;
+use types::Check;
+use types::Head;
+use types::Lease;
+use types::Played;
+use types::Refusal;
+use types::Run;
 ghost use mathlib.Core.Path.{_≡_};
 ghost use mathlib.Core.Bool.{true};
 ghost use mathlib.Core.List.{[], _∷_};

@@ -11,7 +11,7 @@ use Rattle.choice.specs.Choice.{if_then_else_}
 use Rattle.choice.specs.Pick.{if-both}
 use Rattle.model.specs.Arena.{cellsOf, bitAt, ownerAt, waitersAt, setCell, setWaiters, isHeld}
 use Rattle.model.specs.Salvage.{keptOf, mendedCell, mendedTable, mendedByte, mendedHealth, changeOf, changesFrom, changesOf, entriesOf, heldFrom, leftHeld, overOf}
-use Rattle.model.specs.declared.Head.{Head}
+use Rattle.types.specs.declared.Head.{Head}
 use Rattle.laws.specs.Shape.{Shaped}
 use Rattle.laws.specs.Lists.{drop-one}
 use Rattle.laws.specs.Salvage.{changedOf, differing, changed-few, differing-few, entries-number, left-held-is}

@@ -1,11 +1,11 @@
 // Salvage after a warm restart (document 02, L6). Each function but `salvage` is a step: it may have a `requires`,
 // which its callers prove. A first pass counts what would be written, so that ReportFull is known before the first
 // change; a second lists and mends.
-use model::Check;
-use model::Head;
-use model::SalvageAnswer;
-use model::SalvageReply;
-use model::State;
+use types::Check;
+use types::Head;
+use types::SalvageAnswer;
+use types::SalvageReply;
+use types::State;
 ghost use mathlib.Core.Path.{_≡_};
 ghost use Prim.Native.Nat.{_+_, _*_, _<_, _≤_};
 ghost use lib.ListN.{length};

@@ -10,8 +10,8 @@ use borrow.Author.Tests.{ltb-false}
 use Rattle.choice.specs.Pick.{both, neither}
 use Rattle.model.specs.Arena.{cellsOf, shapeFits, healthFits}
 use Rattle.model.specs.Salvage.{Salvage, mendedTable, mendedHealth, changesFrom, changesOf, entriesOf, leftHeld, overOf, isReportFull, mendOf, salvageOf}
-use Rattle.model.specs.declared.Head.{Head}
-use Rattle.model.specs.declared.SalvageAnswer.the-variants.{Done, BadShape, ReportFull}
+use Rattle.types.specs.declared.Head.{Head}
+use Rattle.types.specs.declared.SalvageAnswer.the-variants.{Done, BadShape, ReportFull}
 use Rattle.laws.specs.Shape.{Shaped, shaped, healthy}
 use Rattle.laws.specs.Salvage.{differing, length-mended, entries-are}
 use Rattle.history.specs.Salvages.{Came, bad, full, done, came}

@@ -12,8 +12,8 @@ use Rattle.choice.specs.Choice.{if_then_else_}
 use Rattle.choice.specs.Pick.{both}
 use Rattle.model.specs.Arena.{bitAt, ownerAt, isFree, isHeld, stateOf, stateAt}
 use Rattle.model.specs.Salvage.{keptOf, mendedTable, mendedByte, mendedHealth, heldFrom, leftHeld}
-use Rattle.model.specs.declared.State.{State}
-use Rattle.model.specs.declared.State.the-variants.{Free, Held, Damaged}
+use Rattle.types.specs.declared.State.{State}
+use Rattle.types.specs.declared.State.the-variants.{Free, Held, Damaged}
 use Rattle.laws.specs.Salvage.{mended-cons}
 use Rattle.history.specs.Salvages.{Mending, keeps, frees, mending}
 use Rattle.history.specs.World.{one, bits}

@@ -12,10 +12,10 @@ use Rattle.model.specs.Lock.{takeOf}
 use Rattle.model.specs.Checks.{prepareRules, cellRules, leaseRules}
 use Rattle.model.specs.Calls.{countsOf, prepareOf, acquireOf, tryAcquireOf, dropLeaseOf}
 use Rattle.model.specs.Salvage.{Salvage, keptOf, mendedCell, mendedTable, mendedByte, mendedHealth, changeOf, changesFrom, changesOf, heldFrom, leftHeld, overOf, isReportFull, concluded, mendOf, goOverOf, salvageOf}
-use Rattle.model.specs.declared.Answer.the-variants as answer
-use Rattle.model.specs.declared.Head.{Head}
-use Rattle.model.specs.declared.Refusal.the-variants.{NotHeld}
-use Rattle.model.specs.declared.SalvageAnswer.the-variants.{Done, ReportFull}
+use Rattle.types.specs.declared.Answer.the-variants as answer
+use Rattle.types.specs.declared.Head.{Head}
+use Rattle.types.specs.declared.Refusal.the-variants.{NotHeld}
+use Rattle.types.specs.declared.SalvageAnswer.the-variants.{Done, ReportFull}
 use Rattle.history.specs.World.{World, worldOf, cells, Live, Free, Apart, Sound, now, Spent, bits, number-of, takes, releases}
 use Rattle.history.specs.Items.{drop-lease, try-acquire, perform, Item, call, preparation, salvage, salvage-over, says, saying, Entry, entryOf, Course, courseOf, cold, history-of, preparing, salvaging, next-item, run}
 use Rattle.history.specs.Statements.{answers, leaves, rescued, Begins, No-start}

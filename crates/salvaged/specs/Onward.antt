@@ -9,11 +9,11 @@ use lib.ListN.{length}
 use Rattle.model.specs.Arena.{cellsOf, leaseOf, bitAt, ownerAt, stateAt, isLive}
 use Rattle.model.specs.Log.{Event}
 use Rattle.model.specs.Salvage.{Salvage, mendedTable, mendOf, salvageOf}
-use Rattle.model.specs.declared.Head.{Head}
-use Rattle.model.specs.declared.Lease.{Lease}
-use Rattle.model.specs.declared.SalvageAnswer.{SalvageAnswer}
-use Rattle.model.specs.declared.SalvageAnswer.the-variants.{Done, BadShape, ReportFull}
-use Rattle.model.specs.declared.State.the-variants as state
+use Rattle.types.specs.declared.Head.{Head}
+use Rattle.types.specs.declared.Lease.{Lease}
+use Rattle.types.specs.declared.SalvageAnswer.{SalvageAnswer}
+use Rattle.types.specs.declared.SalvageAnswer.the-variants.{Done, BadShape, ReportFull}
+use Rattle.types.specs.declared.State.the-variants as state
 use Rattle.laws.specs.Shape.{Shaped}
 use Rattle.history.specs.World.{World, worldOf, cells, Live, Spent, now, Lawful, bits}
 use Rattle.history.specs.Items.{Item, call, foreign-step, preparation, preparation-over, salvage, salvage-over, Course, cold, history-of, salvaged-by, salvaging, next-item, run}

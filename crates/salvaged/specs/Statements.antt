@@ -8,13 +8,13 @@ use mathlib.Core.Logic.{_↔_, _⊎_, _≢_}
 use lib.ListN.{length, getD, take, drop, set}
 use Rattle.model.specs.Arena.{cellsOf, leaseOf, bitAt, ownerAt, waitersAt, stateAt, shapeFits, healthFits}
 use Rattle.model.specs.Salvage.{Salvage, salvageOf, mendedTable, mendedHealth, leftHeld, overOf, concluded, unsalvaged}
-use Rattle.model.specs.declared.Answer.the-variants as answer
-use Rattle.model.specs.declared.Head.{Head}
-use Rattle.model.specs.declared.SalvageAnswer.{SalvageAnswer}
-use Rattle.model.specs.declared.SalvageAnswer.the-variants.{Done, BadShape, ReportFull}
-use Rattle.model.specs.declared.State.the-variants as state
+use Rattle.types.specs.declared.Answer.the-variants as answer
+use Rattle.types.specs.declared.Head.{Head}
+use Rattle.types.specs.declared.SalvageAnswer.{SalvageAnswer}
+use Rattle.types.specs.declared.SalvageAnswer.the-variants.{Done, BadShape, ReportFull}
+use Rattle.types.specs.declared.State.the-variants as state
 use Rattle.model.specs.Log.{Actor, Event, took, released}
-use Rattle.model.specs.declared.Lease.{Lease}
+use Rattle.types.specs.declared.Lease.{Lease}
 use Rattle.history.specs.World.{World, worldOf, cells, Free, Live, Apart, Sound, now, Spent, bits, number-of, takes, releases}
 use Rattle.history.specs.Items.{drop-lease, Item, call, foreign-step, preparation, preparation-over, salvage, salvage-over, Course, history-of, next-item, run}
 use Rattle.history.specs.Statements.{answers, leaves, rescued, Begins, No-start, Through}

@@ -17,11 +17,11 @@ use Rattle.model.specs.Refusals.{first}
 use Rattle.model.specs.Checks.{leaseRules}
 use Rattle.model.specs.Calls.{countsOf, dropLeaseOf}
 use Rattle.model.specs.Salvage.{Salvage, mendedTable, mendedHealth, changesOf, entriesOf, leftHeld, overOf, isReportFull, unsalvaged, concluded, mendOf, salvageOf}
-use Rattle.model.specs.declared.Answer.the-variants as answer
-use Rattle.model.specs.declared.Head.{Head}
-use Rattle.model.specs.declared.Lease.{Lease}
-use Rattle.model.specs.declared.SalvageAnswer.{SalvageAnswer}
-use Rattle.model.specs.declared.SalvageAnswer.the-variants.{Done, BadShape, ReportFull}
+use Rattle.types.specs.declared.Answer.the-variants as answer
+use Rattle.types.specs.declared.Head.{Head}
+use Rattle.types.specs.declared.Lease.{Lease}
+use Rattle.types.specs.declared.SalvageAnswer.{SalvageAnswer}
+use Rattle.types.specs.declared.SalvageAnswer.the-variants.{Done, BadShape, ReportFull}
 use Rattle.laws.specs.Shape.{Shaped, shaped}
 use Rattle.laws.specs.Words.{state-freed}
 use Rattle.history.specs.World.{World, worldOf, cells, Live, Free, Apart, Sound, step, now}

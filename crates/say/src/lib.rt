@@ -2,15 +2,13 @@
 // for output and says how many are used then.
 use desk::Told;
 use desk::within;
-use model::Answer;
-use model::Counts;
-use model::CrewReply;
-use model::Lease;
-use model::Reason;
-use model::Refusal;
 use text::put;
 use text::put_form;
-ghost use Prim.Native.Nat.{_≤_};
+use types::Answer;
+use types::Counts;
+use types::Lease;
+use types::Reason;
+use types::Refusal;
 
 // ---- the line of a call
 
@@ -21,7 +19,8 @@ fn name(number: u32, out: &mut [u8], used: usize) -> usize {
 }
 
 // `refused NUMBER NAME CARRIES`, and for 11 the reason behind it.
-fn refused(refusal: Refusal, out: &mut [u8], used: usize) -> usize {
+// A step of the console, no call of document 01: only its own crates call it.
+pub fn refused(refusal: Refusal, out: &mut [u8], used: usize) -> usize {
     let number = refusal.number();
     let a = number_after(b"refused #", number as usize, out, used);
     let b = name(number, out, a);
@@ -41,7 +40,8 @@ fn reason(why: Reason, out: &mut [u8], used: usize) -> usize {
     }
 }
 
-fn number_after(form: &[u8], number: usize, out: &mut [u8], used: usize) -> usize {
+// A step of the console, no call of document 01: only its own crates call it.
+pub fn number_after(form: &[u8], number: usize, out: &mut [u8], used: usize) -> usize {
     let values = [number];
     put_form(out, used, form, &values)
 }
@@ -127,62 +127,6 @@ pub fn grants_line(n: usize, grants: &[u32], out: &mut [u8], used: usize) -> usi
         i += 1;
     }
     line_feed(out, at)
-}
-
-// ---- the crew's lines
-
-fn member_line(m: usize, taken: usize, released: usize, out: &mut [u8], used: usize) -> usize {
-    let values = [m, taken, released];
-    put_form(out, used, b"member # taken # released #\n", &values)
-}
-
-// n, or sixteen where that is less.
-fn sixteen(n: usize) -> usize
-    ensures { λ r. ⌜ r ≤ 16 ⌝ }
-{
-    if n < 16 {
-        return n;
-    }
-    16
-}
-
-fn member_lines(members: usize, reply: CrewReply, out: &mut [u8], used: usize) -> usize {
-    let taken = reply.taken;
-    let released = reply.released;
-    let most = sixteen(members);
-    let mut at = used;
-    let mut m = 0;
-    while m < most {
-        at = member_line(m, taken[m], released[m], out, at);
-        m += 1;
-    }
-    at
-}
-
-fn crew_line(moving: usize, idle: usize, next: u32, out: &mut [u8], used: usize) -> usize {
-    let values = [moving, idle, next as usize];
-    put_form(out, used, b"crew moving # idle # next #\n", &values)
-}
-
-fn crew_refused(refusal: Refusal, next: u32, out: &mut [u8], used: usize) -> usize {
-    let a = refused(refusal, out, used);
-    number_after(b" next #\n", next as usize, out, a)
-}
-
-fn crew_done(members: usize, reply: CrewReply, next: u32, out: &mut [u8], used: usize) -> usize {
-    let a = crew_line(reply.moving, reply.idle, next, out, used);
-    member_lines(members, reply, out, a)
-}
-
-// A step of the console, no call of document 01: only its own crates call it.
-pub fn crew_lines(members: usize, reply: CrewReply, out: &mut [u8], used: usize) -> usize {
-    let head = reply.head;
-    let next = head.next;
-    let said = reply.answer;
-    match said {
-        Answer::Refused(refusal) => crew_refused(refusal, next, out, used),
-        _ => crew_done(members, reply, next, out, used),
-    }
 }
 
 // A step of the console, no call of document 01: only its own crates call it.

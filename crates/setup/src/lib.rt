@@ -5,10 +5,10 @@ use desk::Desk;
 use desk::List;
 use desk::end_of;
 use desk::start_of;
-use desk::verbs::Verb;
 use desk::within;
-use model::Head;
 use text::Numbers;
+use types::Head;
+use verbs::Verb;
 
 // The words of the grant buffer. Behind them in its run stands a salvage's report (crate `mend`).
 pub const GRANTS: usize = 300;

@@ -6,11 +6,11 @@ use desk::Desk;
 use desk::HEALTH;
 use desk::RAM;
 use desk::within_bytes;
-use model::Lease;
 use order::Order;
 use setpoint::Setpoint;
 use slots::BookAnswer;
 use text::put;
+use types::Lease;
 
 // A line that is none of the book's.
 fn no_line(desk: Desk, used: usize) -> Answered {

@@ -2,9 +2,9 @@
 use desk::Desk;
 use desk::within;
 use desk::within_bytes;
-use model::Head;
 use output::ready;
 use text::put_form;
+use types::Head;
 
 fn head_line(head: Head, out: &mut [u8], used: usize) -> usize {
     let values = [

@@ -2,9 +2,9 @@
 // a kernel in C or Rust; include/skid.h declares them. Only numbers and lent runs cross: the head goes in as three
 // numbers, a lease as two, and the last parameter is the lent reply, whose words crate `words` lays out. Each is thin:
 // it makes the head, makes the call, and writes the reply's words.
-use model::Head;
-use model::Lease;
 use setpoint::Setpoint;
+use types::Head;
+use types::Lease;
 ghost use mathlib.Core.Path.{_≡_};
 ghost use Rattle.model.specs.Arena.{headOf, leaseOf};
 ghost use Rattle.model.specs.Calls.{prepareOf, tryAcquireOf, dropLeaseOf, readPermissionOf, competingAcquireOf};

@@ -7,8 +7,8 @@ use lib.Ieee.{binary32, ofBits, toBits, nan, inf}
 use lib.ListN.{replicate, set}
 use lib.Seq.{sets}
 use Rattle.model.specs.Arena.{headOf, leaseOf, headFits, shapeFits, bitAt, ownerAt, isFree, isHeld, stateOf, stateAt, isLive}
-use Rattle.model.specs.declared.Head.{Head}
-use Rattle.model.specs.declared.Lease.{Lease}
+use Rattle.types.specs.declared.Head.{Head}
+use Rattle.types.specs.declared.Lease.{Lease}
 use Rattle.setpoint.specs.Codec.{isFinite, bytesOf, bodyOf, joinOf, settingOf}
 use Rattle.setpoint.specs.declared.Setpoint.{Setpoint}
 use Rattle.setpoint.specs.declared.Setpoint.the-variants.{Pressure, Speed, Valve}

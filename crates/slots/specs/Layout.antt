@@ -7,7 +7,7 @@ use lib.ListN.{getD}
 use lib.Seq.{sets}
 use Rattle.choice.specs.Choice.{if_then_else_}
 use Rattle.model.specs.Arena.{cellsOf}
-use Rattle.model.specs.declared.Head.{Head}
+use Rattle.types.specs.declared.Head.{Head}
 use Rattle.setpoint.specs.Codec.{bodyOf, joinOf, settingOf}
 use Rattle.setpoint.specs.declared.Setpoint.{Setpoint}
 use Rattle.setpoint.specs.declared.Decoded.{Decoded}

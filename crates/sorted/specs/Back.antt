@@ -13,15 +13,15 @@ use Rattle.model.specs.Foreign.{Setting, protecting}
 use Rattle.model.specs.Lock.{Locks, afterKey, rollbackOf, retryOf, attemptLimit, noneYet, noLease, bindingAt, bucketAt, locksOf}
 use Rattle.model.specs.Calls.{played, starting, given}
 use Rattle.model.specs.Sorted.{cellsAsked, cellsSorted, sortedKeys, leaseOn, sharedOf, handedBack, askedFirst, sortedLocksOf}
-use Rattle.model.specs.declared.Answer.{Answer}
-use Rattle.model.specs.declared.Answer.the-variants.{Done, Cell, Granted, AllGranted, Busy, Refused, RefusedAt}
-use Rattle.model.specs.declared.Ended.{Ended}
-use Rattle.model.specs.declared.Head.{Head}
-use Rattle.model.specs.declared.Lease.{Lease}
-use Rattle.model.specs.declared.Outcome.{Outcome}
-use Rattle.model.specs.declared.Outcome.the-variants as outcome
-use Rattle.model.specs.declared.Played.{Played}
-use Rattle.model.specs.declared.Run.{Run}
+use Rattle.types.specs.declared.Answer.{Answer}
+use Rattle.types.specs.declared.Answer.the-variants.{Done, Cell, Granted, AllGranted, Busy, Refused, RefusedAt}
+use Rattle.types.specs.declared.Ended.{Ended}
+use Rattle.types.specs.declared.Head.{Head}
+use Rattle.types.specs.declared.Lease.{Lease}
+use Rattle.types.specs.declared.Outcome.{Outcome}
+use Rattle.types.specs.declared.Outcome.the-variants as outcome
+use Rattle.types.specs.declared.Played.{Played}
+use Rattle.types.specs.declared.Run.{Run}
 use Rattle.laws.specs.Checks.{leases-at, leases-end}
 use Rattle.sorted.specs.Order.{take-two}
 

@@ -12,11 +12,11 @@ use Rattle.model.specs.Foreign.{Setting}
 use Rattle.model.specs.Lock.{Locks, bindingAt, locksOf}
 use Rattle.model.specs.Calls.{starting, given}
 use Rattle.model.specs.Sorted.{cellsAsked, cellsSorted, sortedKeys, firstKey, judgeAt, unplayedAt, sortedLocksOf}
-use Rattle.model.specs.declared.Ended.{Ended}
-use Rattle.model.specs.declared.Head.{Head}
-use Rattle.model.specs.declared.KeyCheck.the-variants as key
-use Rattle.model.specs.declared.Played.{Played}
-use Rattle.model.specs.declared.Run.{Run}
+use Rattle.types.specs.declared.Ended.{Ended}
+use Rattle.types.specs.declared.Head.{Head}
+use Rattle.types.specs.declared.KeyCheck.the-variants as key
+use Rattle.types.specs.declared.Played.{Played}
+use Rattle.types.specs.declared.Run.{Run}
 use Rattle.laws.specs.Sorting.{sorted-is}
 use Rattle.foreign.specs.declared.Scope.{Scope}
 use Rattle.foreign.specs.Model.{scopeOf, inScope}

@@ -2,11 +2,11 @@
 // Functions with a `requires` are steps: calls have tested the shape, and a step tests nothing twice.
 // Nothing here is reached from outside the crate.
 use crate::order::first_asking;
-use model::Answer;
-use model::Ended;
-use model::Head;
-use model::Lease;
-use model::Played;
+use types::Answer;
+use types::Ended;
+use types::Head;
+use types::Lease;
+use types::Played;
 ghost use mathlib.Core.Path.{_≡_};
 ghost use Prim.Native.Nat.{_*_};
 ghost use lib.ListN.{length};

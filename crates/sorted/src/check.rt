@@ -1,10 +1,10 @@
 // The checks of the keys that go by position: "header before bucket".
 // Functions with a `requires` are steps: calls have tested the shape, and a step tests nothing twice.
 // Nothing here is reached from outside the crate.
-use model::Check;
-use model::Head;
-use model::KeyCheck;
-use model::Refusal;
+use types::Check;
+use types::Head;
+use types::KeyCheck;
+use types::Refusal;
 ghost use mathlib.Core.Path.{_≡_};
 ghost use Prim.Native.Nat.{ℕ, _<_};
 ghost use lib.ListN.{length};

@@ -11,8 +11,8 @@ use Rattle.choice.specs.Choice.{if_then_else_}
 use Rattle.model.specs.Log.{Made, Event, by-script, spun, step-dropped, took, released, waiters-set, health-set}
 use Rattle.model.specs.Arena.{serialRemains, lastSerial, spentTo, leaseOf, bitAt, ownerAt, isFree, isLive, isIn}
 use Rattle.model.specs.Foreign.{stepOf, stepTakeOf, stepReleaseOf, stepWaitersOf, stepHealthOf}
-use Rattle.model.specs.declared.Lease.{Lease}
-use Rattle.model.specs.declared.Stepped.{Stepped}
+use Rattle.types.specs.declared.Lease.{Lease}
+use Rattle.types.specs.declared.Stepped.{Stepped}
 use Rattle.choice.specs.Pick.{both}
 use Rattle.laws.specs.Words.{bit-set-other, owner-set-other, bit-set-waiters, owner-set-waiters}
 use Rattle.history.specs.World.{World, worldOf, cells, Legal, step}

@@ -12,10 +12,10 @@ use Rattle.model.specs.Log.{Made}
 use Rattle.model.specs.Arena.{spentTo}
 use Rattle.model.specs.Foreign.{Setting, stepsIn, kindAt, placeAt, numberAt, flowOf, stepOf, runStepsOf, boundaryOf}
 use Rattle.model.specs.Calls.{given}
-use Rattle.model.specs.declared.Flow.{Flow}
-use Rattle.model.specs.declared.Head.{Head}
-use Rattle.model.specs.declared.Lease.{Lease}
-use Rattle.model.specs.declared.Stepped.{Stepped}
+use Rattle.types.specs.declared.Flow.{Flow}
+use Rattle.types.specs.declared.Head.{Head}
+use Rattle.types.specs.declared.Lease.{Lease}
+use Rattle.types.specs.declared.Stepped.{Stepped}
 use Rattle.history.specs.World.{World, worldOf}
 use Rattle.swaps.specs.Steps.{Step, stepWords, leaves, dropped, after-all, dropped-in, Shuffled, same, neighbours, behind, onward}
 use Rattle.swaps.specs.Scripts.{scriptOf, Unended}

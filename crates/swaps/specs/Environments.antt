@@ -15,12 +15,12 @@ use Rattle.model.specs.Foreign.{Setting, stepsIn, kindAt, flowOf, runStepsOf, b
 use Rattle.model.specs.Lock.{runOf}
 use Rattle.model.specs.Checks.{scriptRules}
 use Rattle.model.specs.Calls.{given, played, unplayed, environmentOf}
-use Rattle.model.specs.declared.Answer.the-variants.{Done}
-use Rattle.model.specs.declared.Check.{Check}
-use Rattle.model.specs.declared.Check.the-variants as check
-use Rattle.model.specs.declared.Lease.{Lease}
-use Rattle.model.specs.declared.Played.{Played}
-use Rattle.model.specs.declared.Refusal.{Refusal}
+use Rattle.types.specs.declared.Answer.the-variants.{Done}
+use Rattle.types.specs.declared.Check.{Check}
+use Rattle.types.specs.declared.Check.the-variants as check
+use Rattle.types.specs.declared.Lease.{Lease}
+use Rattle.types.specs.declared.Played.{Played}
+use Rattle.types.specs.declared.Refusal.{Refusal}
 use Rattle.history.specs.World.{World}
 use Rattle.swaps.specs.Steps.{Step, stepWords, after-all, dropped-in}
 use Rattle.swaps.specs.Renaming.{renamed-owners, renamed-step, renamed-steps, Retaken, same, neighbours, two-takes, idle-take, behind, onward}

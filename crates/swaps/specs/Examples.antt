@@ -9,8 +9,8 @@ use Rattle.model.specs.Log.{Event, by-caller, by-script, took, released}
 use Rattle.model.specs.Arena.{headOf, leaseOf, leasesOf, bitAt, ownerAt, setCell, setWaiters, isFree, isHeld, stateOf, stateAt, isLive, sameLease, isIn, headFits, shapeFits}
 use Rattle.model.specs.Foreign.{flowOf, stepTakeOf, stepReleaseOf, stepWaitersOf, stepHealthOf, stepOf, runStepsOf, boundaryOf}
 use Rattle.model.specs.Calls.{given, environmentOf}
-use Rattle.model.specs.declared.Lease.{Lease}
-use Rattle.model.specs.declared.State.the-variants as state
+use Rattle.types.specs.declared.Lease.{Lease}
+use Rattle.types.specs.declared.State.the-variants as state
 use Rattle.history.specs.World.{World, worldOf, Lawful}
 use Rattle.history.specs.Items.{try-lock, perform}
 use Rattle.history.specs.Tests.{Status, free, held, not-damaged}

@@ -3,7 +3,7 @@ use mathlib.Core.Path.{_≡_, refl, sym, ap, _∙_, subst}
 use mathlib.Core.List.{List, [], _∷_}
 use native.Mathlib.Omega.{arith}
 use Rattle.model.specs.Log.{Event}
-use Rattle.model.specs.declared.Lease.{Lease}
+use Rattle.types.specs.declared.Lease.{Lease}
 use Rattle.history.specs.World.{World, step, now, Lawful, number-of}
 use Rattle.history.specs.Items.{foreign-step, next-item, run, foreign}
 use Rattle.swaps.specs.Steps.{Step, leaves, after-all, dropped-in, Shuffled}

@@ -9,7 +9,7 @@ use lib.ListN.{length, set, getD}
 use borrow.Author.Tests.{eq-eqb, ne-eqb}
 use Rattle.model.specs.Log.{Actor, Event, attempt-begun, boundary-run, yielded, spun, step-dropped, took, released, waiters-set, health-set, held-all, added}
 use Rattle.model.specs.Arena.{spentTo, cellsOf, leaseOf, bitAt, ownerAt, waitersAt, setCell, setWaiters, stateAt}
-use Rattle.model.specs.declared.Head.{Head}
+use Rattle.types.specs.declared.Head.{Head}
 use Rattle.laws.specs.Words.{length-set-cell, length-set-waiters, waiters-set-cell, bit-set-waiters, owner-set-waiters, waiters-set-same, waiters-set-other, Seen, here, there, see}
 use Rattle.history.specs.World.{World, worldOf, cells, Legal, step, now, Lawful}
 use Rattle.history.specs.Tests.{Status, free, held, free-words, state-free, alive, live}

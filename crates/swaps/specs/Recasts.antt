@@ -4,7 +4,7 @@ use mathlib.Core.Path.{_≡_, refl, sym, ap, _∙_, subst}
 use mathlib.Core.List.{List, [], _∷_}
 use native.Mathlib.Omega.{arith}
 use Rattle.model.specs.Log.{Event, attempt-begun, boundary-run, yielded, spun, step-dropped, took, released, waiters-set, health-set, held-all, added}
-use Rattle.model.specs.declared.Head.{Head}
+use Rattle.types.specs.declared.Head.{Head}
 use Rattle.history.specs.World.{World, step, now, Lawful, Kind, number-of}
 use Rattle.swaps.specs.Logs.{Both}
 use Rattle.swaps.specs.Renaming.{Serials, flip, renamed, renamed-all, Recast, same, neighbours, two-takes, behind, onward}

@@ -12,16 +12,16 @@ use Rattle.model.specs.Lock.{takeIn, takeOf, attemptLimit, noneYet}
 use Rattle.model.specs.Checks.{countIn, scriptRules, lockRules, bucketRules, releaseRules, locksRules}
 use Rattle.model.specs.Calls.{starting, environmentOf, tryLockOf, transactionalOf, acquireBucketOf, releaseAllOf, acquireLocksOf}
 use Rattle.model.specs.Sorted.{cellsSorted, sortedKeys, firstKey, judgeAt, unplayedAt, sortedLocksOf, acquireSortedOf}
-use Rattle.model.specs.declared.Check.{Check}
-use Rattle.model.specs.declared.Check.the-variants as check
-use Rattle.model.specs.declared.Head.{Head}
-use Rattle.model.specs.declared.KeyCheck.{KeyCheck}
-use Rattle.model.specs.declared.KeyCheck.the-variants as key
-use Rattle.model.specs.declared.Played.{Played}
-use Rattle.model.specs.declared.Refusal.{Refusal}
-use Rattle.model.specs.declared.State.{State}
-use Rattle.model.specs.declared.State.the-variants as state
-use Rattle.model.specs.declared.Took.{Took}
+use Rattle.types.specs.declared.Check.{Check}
+use Rattle.types.specs.declared.Check.the-variants as check
+use Rattle.types.specs.declared.Head.{Head}
+use Rattle.types.specs.declared.KeyCheck.{KeyCheck}
+use Rattle.types.specs.declared.KeyCheck.the-variants as key
+use Rattle.types.specs.declared.Played.{Played}
+use Rattle.types.specs.declared.Refusal.{Refusal}
+use Rattle.types.specs.declared.State.{State}
+use Rattle.types.specs.declared.State.the-variants as state
+use Rattle.types.specs.declared.Took.{Took}
 use Rattle.choice.specs.Pick.{if-both}
 use Rattle.laws.specs.Words.{length-set-cell}
 use Rattle.history.specs.World.{World, worldOf, cells}

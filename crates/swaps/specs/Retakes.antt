@@ -11,8 +11,8 @@ use borrow.Author.Tests.{eqb-true, eq-eqb, ltb-true}
 use Rattle.choice.specs.Choice.{if_then_else_}
 use Rattle.model.specs.Log.{Event, by-script, took, released}
 use Rattle.model.specs.Arena.{leaseOf, cellsOf, bitAt, ownerAt, isFree, isLive, isIn, sameLease, serialRemains}
-use Rattle.model.specs.declared.Head.{Head}
-use Rattle.model.specs.declared.Lease.{Lease}
+use Rattle.types.specs.declared.Head.{Head}
+use Rattle.types.specs.declared.Lease.{Lease}
 use Rattle.history.specs.World.{World, cells, step}
 use Rattle.history.specs.Tests.{alive, live}
 use Rattle.swaps.specs.Steps.{Step, stepWords, take-step, leaves, dropped, after-all, dropped-in}

@@ -9,8 +9,8 @@ use Rattle.model.specs.Log.{Actor, Event, took}
 use Rattle.model.specs.Arena.{bitAt, ownerAt, waitersAt, leasesOf}
 use Rattle.model.specs.Foreign.{flowOf, boundaryOf}
 use Rattle.model.specs.Calls.{given, environmentOf}
-use Rattle.model.specs.declared.Lease.{Lease}
-use Rattle.model.specs.declared.Played.{Played}
+use Rattle.types.specs.declared.Lease.{Lease}
+use Rattle.types.specs.declared.Played.{Played}
 use Rattle.history.specs.World.{World, Live, step, now, Lawful, Whole as Arena-whole, Kind, number-of}
 use Rattle.history.specs.Items.{Call, perform, foreign-step, Item, Course, run}
 use Rattle.swaps.specs.Steps.{Whole, Step, take-step, release-step, waiters-step, health-step, leaves, dropped, on-table, exchanged, Parted, after-all, dropped-in, Shuffled}

@@ -9,9 +9,9 @@ use Rattle.model.specs.Log.{Made}
 use Rattle.model.specs.Arena.{shapeFits, spentTo, ownerAt, stateAt}
 use Rattle.model.specs.Foreign.{stepOf}
 use Rattle.model.specs.Calls.{given}
-use Rattle.model.specs.declared.Lease.{Lease}
-use Rattle.model.specs.declared.State.the-variants as state
-use Rattle.model.specs.declared.Stepped.{Stepped}
+use Rattle.types.specs.declared.Lease.{Lease}
+use Rattle.types.specs.declared.State.the-variants as state
+use Rattle.types.specs.declared.Stepped.{Stepped}
 use Rattle.history.specs.World.{World, worldOf, cells}
 
 -- "in a table with no damaged cell": the table fits the head, and no cell is damaged. Two cells may have one owner.

@@ -1,14 +1,14 @@
 // The bench console. What `trace 1` prints behind a call: which bits of the lent table it changed, as steps.
 use desk::Desk;
 use desk::RAM;
-use desk::verbs::Verb;
-use desk::verbs::calls;
 use desk::within;
 use desk::within_bytes;
 use output::ready;
 use text::Numbers;
 use text::put;
 use text::put_form;
+use verbs::Verb;
+use verbs::calls;
 ghost use mathlib.Core.Path.{_≡_};
 ghost use Prim.Native.Nat.{_*_, _≤_};
 ghost use lib.ListN.{length};

@@ -11,11 +11,11 @@ use Rattle.model.specs.Arena.{lastSerial, leaseOf, leasesOf, setCell}
 use Rattle.model.specs.Refusals.{Rule, first}
 use Rattle.model.specs.Checks.{badShape, badHeld, badHeldLength, heldCellRules, heldLeaseRules}
 use Rattle.model.specs.Calls.{acquireOf}
-use Rattle.model.specs.declared.Answer.{Answer}
-use Rattle.model.specs.declared.Answer.the-variants.{Granted, Refused}
-use Rattle.model.specs.declared.Check.the-variants.{Fine}
-use Rattle.model.specs.declared.Lease.{Lease}
-use Rattle.model.specs.declared.Refusal.the-variants.{BadHeld, InvalidBucket, Damaged, SerialsSpent, NotHeld, Protected}
+use Rattle.types.specs.declared.Answer.{Answer}
+use Rattle.types.specs.declared.Answer.the-variants.{Granted, Refused}
+use Rattle.types.specs.declared.Check.the-variants.{Fine}
+use Rattle.types.specs.declared.Lease.{Lease}
+use Rattle.types.specs.declared.Refusal.the-variants.{BadHeld, InvalidBucket, Damaged, SerialsSpent, NotHeld, Protected}
 use Rattle.history.specs.World as world
 use Rattle.history.specs.World.{Live, worldOf}
 use Rattle.history.specs.Items.{acquire-preserving, drop-preserving, foreign-release, perform, Clear, rules}

@@ -15,10 +15,10 @@ use Rattle.model.specs.Lock.{leaseAt, noLease}
 use Rattle.model.specs.Calls.{tryAcquireOf, dropLeaseOf, readPermissionOf, competingAcquireOf, releaseThenHandoffOf, foreignReleaseOf, acquirePreservingOf, dropPreservingOf, environmentOf, tryLockOf, transactionalOf, acquireBucketOf, releaseAllOf, acquireLocksOf}
 use Rattle.model.specs.Sorted.{acquireSortedOf}
 use Rattle.model.specs.Crew.{crewOf, shiftOf, crewAtWorkOf}
-use Rattle.model.specs.declared.Check.{Check}
-use Rattle.model.specs.declared.Check.the-variants.{Fine, Fault}
-use Rattle.model.specs.declared.Lease.{Lease}
-use Rattle.model.specs.declared.Refusal.{Refusal}
+use Rattle.types.specs.declared.Check.{Check}
+use Rattle.types.specs.declared.Check.the-variants.{Fine, Fault}
+use Rattle.types.specs.declared.Lease.{Lease}
+use Rattle.types.specs.declared.Refusal.{Refusal}
 use Rattle.laws.specs.Shape.{shaped}
 use Rattle.laws.specs.Words.{length-set-cell, length-set-waiters, bit-set-waiters, owner-set-waiters, Seen, here, there, see}
 use Rattle.laws.specs.Checks.{first-hit, first-skip}

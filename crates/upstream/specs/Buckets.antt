@@ -14,17 +14,17 @@ use Rattle.model.specs.Checks.{badShape, badHealth, badRegistry, badScript, bad
 use Rattle.model.specs.Foreign.{Setting, boundaryOf}
 use Rattle.model.specs.Lock.{findOf, answerOf, settled, attemptAt, attemptOf, attemptLimit, noneYet, retryOf}
 use Rattle.model.specs.Calls.{given, starting}
-use Rattle.model.specs.declared.Answer.the-variants.{Granted, Refused}
-use Rattle.model.specs.declared.Check.the-variants.{Fine, Fault}
-use Rattle.model.specs.declared.Counts.{Counts}
-use Rattle.model.specs.declared.Found.{Found}
-use Rattle.model.specs.declared.Found.the-variants as found
-use Rattle.model.specs.declared.Lease.{Lease}
-use Rattle.model.specs.declared.Outcome.{Outcome}
-use Rattle.model.specs.declared.Outcome.the-variants as outcome
-use Rattle.model.specs.declared.Refusal.{Refusal}
-use Rattle.model.specs.declared.Refusal.the-variants.{BadHeld, BadBinding, BadHeader, Poisoned, Damaged}
-use Rattle.model.specs.declared.Run.{Run}
+use Rattle.types.specs.declared.Answer.the-variants.{Granted, Refused}
+use Rattle.types.specs.declared.Check.the-variants.{Fine, Fault}
+use Rattle.types.specs.declared.Counts.{Counts}
+use Rattle.types.specs.declared.Found.{Found}
+use Rattle.types.specs.declared.Found.the-variants as found
+use Rattle.types.specs.declared.Lease.{Lease}
+use Rattle.types.specs.declared.Outcome.{Outcome}
+use Rattle.types.specs.declared.Outcome.the-variants as outcome
+use Rattle.types.specs.declared.Refusal.{Refusal}
+use Rattle.types.specs.declared.Refusal.the-variants.{BadHeld, BadBinding, BadHeader, Poisoned, Damaged}
+use Rattle.types.specs.declared.Run.{Run}
 use Rattle.history.specs.World.{yields, number-of}
 use Rattle.history.specs.Items.{Call, transactional, acquire-bucket, perform, Clear, rules}
 use Rattle.history.specs.Statements.{answers, leaves, log-of}

@@ -13,10 +13,10 @@ use Rattle.model.specs.Arena.{serialRemains, leaseOf, leasesOf, bitAt, ownerAt,
 use Rattle.model.specs.Refusals.{first}
 use Rattle.model.specs.Calls.{countsOf}
 use Rattle.model.specs.Foreign.{drops, stepTakeOf, stepReleaseOf, stepWaitersOf, stepOf, runStepsOf, boundaryOf}
-use Rattle.model.specs.declared.Answer.the-variants.{Done}
-use Rattle.model.specs.declared.Check.the-variants.{Fine}
-use Rattle.model.specs.declared.Lease.{Lease}
-use Rattle.model.specs.declared.Stepped.{Stepped}
+use Rattle.types.specs.declared.Answer.the-variants.{Done}
+use Rattle.types.specs.declared.Check.the-variants.{Fine}
+use Rattle.types.specs.declared.Lease.{Lease}
+use Rattle.types.specs.declared.Stepped.{Stepped}
 use Rattle.choice.specs.Pick.{both}
 use Rattle.laws.specs.Words.{bit-set-other, owner-set-other, bit-set-waiters, owner-set-waiters}
 use Rattle.history.specs.World as world

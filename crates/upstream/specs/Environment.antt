@@ -13,12 +13,12 @@ use Rattle.model.specs.Refusals.{Rule, first}
 use Rattle.model.specs.Checks.{badShape, badHealth, badScript, badHeld, badHeldLength, notLive, scriptRules}
 use Rattle.model.specs.Foreign.{flowOf}
 use Rattle.model.specs.Lock.{leaseAt}
-use Rattle.model.specs.declared.Answer.{Answer}
-use Rattle.model.specs.declared.Answer.the-variants.{Granted, Refused}
-use Rattle.model.specs.declared.Check.the-variants.{Fault}
-use Rattle.model.specs.declared.Lease.{Lease}
-use Rattle.model.specs.declared.Refusal.{Refusal}
-use Rattle.model.specs.declared.Refusal.the-variants.{BadHeld}
+use Rattle.types.specs.declared.Answer.{Answer}
+use Rattle.types.specs.declared.Answer.the-variants.{Granted, Refused}
+use Rattle.types.specs.declared.Check.the-variants.{Fault}
+use Rattle.types.specs.declared.Lease.{Lease}
+use Rattle.types.specs.declared.Refusal.{Refusal}
+use Rattle.types.specs.declared.Refusal.the-variants.{BadHeld}
 use Rattle.history.specs.Items.{environment, perform, Clear}
 use Rattle.history.specs.Statements.{leaves}
 use Rattle.history.specs.Judged.{clear-front, unchanged}

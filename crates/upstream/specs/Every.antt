@@ -17,10 +17,10 @@ use Rattle.model.specs.Refusals.{first}
 use Rattle.model.specs.Checks.{badScript}
 use Rattle.model.specs.Foreign.{Setting, stepsIn, kindAt, placeAt, numberAt, stepped, flowOf, stepTakeOf, stepReleaseOf, stepOf, runStepsOf, boundaryOf}
 use Rattle.model.specs.Calls.{given}
-use Rattle.model.specs.declared.Check.the-variants.{Fine}
-use Rattle.model.specs.declared.Flow.{Flow}
-use Rattle.model.specs.declared.Head.{Head}
-use Rattle.model.specs.declared.Lease.{Lease}
+use Rattle.types.specs.declared.Check.the-variants.{Fine}
+use Rattle.types.specs.declared.Flow.{Flow}
+use Rattle.types.specs.declared.Head.{Head}
+use Rattle.types.specs.declared.Lease.{Lease}
 use Rattle.laws.specs.Shape.{Shaped, shaped}
 use Rattle.laws.specs.Words.{length-set-cell}
 use Rattle.history.specs.Items.{environment, perform, rules}

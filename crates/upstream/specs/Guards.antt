@@ -17,14 +17,14 @@ use Rattle.model.specs.Checks.{countIn, badShape, badHealth, badRegistry, badSc
 use Rattle.model.specs.Foreign.{Setting, protecting}
 use Rattle.model.specs.Lock.{noLease, leaseAt, bindingAt, bucketAt, attemptLimit, noneYet, retryOf, rollbackOf, afterKey, locksOf, Locks}
 use Rattle.model.specs.Calls.{given, starting}
-use Rattle.model.specs.declared.Answer.the-variants.{Granted, AllGranted}
-use Rattle.model.specs.declared.Check.{Check}
-use Rattle.model.specs.declared.Check.the-variants.{Fault}
-use Rattle.model.specs.declared.Lease.{Lease}
-use Rattle.model.specs.declared.Outcome.{Outcome}
-use Rattle.model.specs.declared.Outcome.the-variants as outcome
-use Rattle.model.specs.declared.Refusal.the-variants.{BadBinding}
-use Rattle.model.specs.declared.Run.{Run}
+use Rattle.types.specs.declared.Answer.the-variants.{Granted, AllGranted}
+use Rattle.types.specs.declared.Check.{Check}
+use Rattle.types.specs.declared.Check.the-variants.{Fault}
+use Rattle.types.specs.declared.Lease.{Lease}
+use Rattle.types.specs.declared.Outcome.{Outcome}
+use Rattle.types.specs.declared.Outcome.the-variants as outcome
+use Rattle.types.specs.declared.Refusal.the-variants.{BadBinding}
+use Rattle.types.specs.declared.Run.{Run}
 use Rattle.laws.specs.Checks.{first-hit, first-skip}
 use Rattle.history.specs.Items.{Call, try-lock, acquire-locks, perform, Clear}
 use Rattle.history.specs.Statements.{answers}

@@ -13,16 +13,16 @@ use Rattle.model.specs.Arena.{cellNumber, leaseOf}
 use Rattle.model.specs.Foreign.{Setting}
 use Rattle.model.specs.Answers.{kindOf}
 use Rattle.model.specs.Lock.{answerOf, findOf, attemptAt, attemptOf, pauseOf, isBusy, retryOf, settled}
-use Rattle.model.specs.declared.Found.{Found}
-use Rattle.model.specs.declared.Found.the-variants as found
-use Rattle.model.specs.declared.Lease.{Lease}
-use Rattle.model.specs.declared.Answer.the-variants.{Granted}
-use Rattle.model.specs.declared.Outcome.{Outcome}
-use Rattle.model.specs.declared.Outcome.the-variants as outcome
-use Rattle.model.specs.declared.Reason.{Reason}
-use Rattle.model.specs.declared.Refusal.the-variants.{BadHeader, Poisoned, InvalidBucket}
-use Rattle.model.specs.declared.Run.{Run}
-use Rattle.model.specs.declared.Tried.{Tried}
+use Rattle.types.specs.declared.Found.{Found}
+use Rattle.types.specs.declared.Found.the-variants as found
+use Rattle.types.specs.declared.Lease.{Lease}
+use Rattle.types.specs.declared.Answer.the-variants.{Granted}
+use Rattle.types.specs.declared.Outcome.{Outcome}
+use Rattle.types.specs.declared.Outcome.the-variants as outcome
+use Rattle.types.specs.declared.Reason.{Reason}
+use Rattle.types.specs.declared.Refusal.the-variants.{BadHeader, Poisoned, InvalidBucket}
+use Rattle.types.specs.declared.Run.{Run}
+use Rattle.types.specs.declared.Tried.{Tried}
 use Rattle.choice.specs.Pick.{if-both}
 use Rattle.laws.specs.Outcomes as locked
 use Rattle.laws.specs.Outcomes.{Comes, lock-comes}

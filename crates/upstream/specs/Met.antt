@@ -7,9 +7,9 @@ use Rattle.model.specs.Arena.{headOf, leaseOf, leasesOf, bitAt, ownerAt, waiter
 use Rattle.model.specs.Refusals.{first}
 use Rattle.model.specs.Checks.{notLive, notReleasable, badBindings, heldLeaseRules, lockRules, scriptRules, bucketRules, releaseRules, locksRules}
 use Rattle.model.specs.Foreign.{boundaryOf, runStepsOf}
-use Rattle.model.specs.declared.Answer.the-variants.{Refused}
-use Rattle.model.specs.declared.Check.the-variants.{Fine}
-use Rattle.model.specs.declared.Refusal.the-variants.{Damaged}
+use Rattle.types.specs.declared.Answer.the-variants.{Refused}
+use Rattle.types.specs.declared.Check.the-variants.{Fine}
+use Rattle.types.specs.declared.Refusal.the-variants.{Damaged}
 use Rattle.history.specs.World.{worldOf}
 use Rattle.history.specs.Items.{drop-preserving, try-lock, transactional, release-all, acquire-locks, rules}
 use Rattle.history.specs.Statements.{answers}

@@ -10,13 +10,13 @@ use Rattle.model.specs.Arena.{lastSerial, leaseOf}
 use Rattle.model.specs.Answers.{kindOf}
 use Rattle.model.specs.Refusals.{first}
 use Rattle.model.specs.Checks.{leaseRules}
-use Rattle.model.specs.declared.Answer.{Answer}
-use Rattle.model.specs.declared.Answer.the-variants.{Done, Cell, Granted, Busy, Refused}
-use Rattle.model.specs.declared.Check.the-variants.{Fine}
-use Rattle.model.specs.declared.Lease.{Lease}
-use Rattle.model.specs.declared.Reason.the-variants as reason
-use Rattle.model.specs.declared.Refusal.{Refusal}
-use Rattle.model.specs.declared.Refusal.the-variants.{NotHeld, SerialsSpent}
+use Rattle.types.specs.declared.Answer.{Answer}
+use Rattle.types.specs.declared.Answer.the-variants.{Done, Cell, Granted, Busy, Refused}
+use Rattle.types.specs.declared.Check.the-variants.{Fine}
+use Rattle.types.specs.declared.Lease.{Lease}
+use Rattle.types.specs.declared.Reason.the-variants as reason
+use Rattle.types.specs.declared.Refusal.{Refusal}
+use Rattle.types.specs.declared.Refusal.the-variants.{NotHeld, SerialsSpent}
 use Rattle.history.specs.World as world
 use Rattle.history.specs.World.{Live}
 use Rattle.history.specs.Items.{read-permission, competing-acquire, release-then-handoff, perform, rules}

@@ -18,10 +18,10 @@ use Rattle.model.specs.Checks.{notLive, cellRules, notReleasable, heldCellRules
 use Rattle.model.specs.Foreign.{runStepsOf, boundaryOf}
 use Rattle.model.specs.Lock.{leaseAt, takeOf, lateOf, secondOf, lockOf, giveBackOf}
 use Rattle.model.specs.Calls.{acquireOf, tryAcquireOf, acquirePreservingOf, dropPreservingOf, tryLockOf, releaseAllOf}
-use Rattle.model.specs.declared.Answer.{Answer}
-use Rattle.model.specs.declared.Answer.the-variants.{Done, Granted, Busy}
-use Rattle.model.specs.declared.Reason.the-variants as reason
-use Rattle.model.specs.declared.Lease.{Lease}
+use Rattle.types.specs.declared.Answer.{Answer}
+use Rattle.types.specs.declared.Answer.the-variants.{Done, Granted, Busy}
+use Rattle.types.specs.declared.Reason.the-variants as reason
+use Rattle.types.specs.declared.Lease.{Lease}
 use Rattle.history.specs.World as world
 use Rattle.history.specs.World.{worldOf}
 use Rattle.history.specs.Items.{try-acquire, acquire-preserving, drop-preserving, try-lock, release-all, perform}

@@ -16,15 +16,15 @@ use Rattle.model.specs.Checks.{notLive, cellRules, scriptRules, lockRules, buck
 use Rattle.model.specs.Foreign.{Setting, stepReleaseOf, stepOf, runStepsOf, boundaryOf}
 use Rattle.model.specs.Lock.{takeOf, lateOf, secondOf, lockOf, answerOf, findOf, triedOf, attemptOf, attemptLimit, spinOf, pauseOf, isBusy, lastOf, noneYet, retryOf, settled}
 use Rattle.model.specs.Calls.{countsOf, given, starting, acquireOf, tryAcquireOf, tryLockOf, acquireBucketOf}
-use Rattle.model.specs.declared.Answer.{Answer}
-use Rattle.model.specs.declared.Answer.the-variants.{Done, Cell, Granted, AllGranted, Busy, Refused, RefusedAt}
-use Rattle.model.specs.declared.Head.{Head}
-use Rattle.model.specs.declared.Lease.{Lease}
-use Rattle.model.specs.declared.Outcome.the-variants as outcome
-use Rattle.model.specs.declared.Reason.{Reason}
-use Rattle.model.specs.declared.Refusal.the-variants.{BadShape, SerializationFailure}
-use Rattle.model.specs.declared.Run.{Run}
-use Rattle.model.specs.declared.Tried.{Tried}
+use Rattle.types.specs.declared.Answer.{Answer}
+use Rattle.types.specs.declared.Answer.the-variants.{Done, Cell, Granted, AllGranted, Busy, Refused, RefusedAt}
+use Rattle.types.specs.declared.Head.{Head}
+use Rattle.types.specs.declared.Lease.{Lease}
+use Rattle.types.specs.declared.Outcome.the-variants as outcome
+use Rattle.types.specs.declared.Reason.{Reason}
+use Rattle.types.specs.declared.Refusal.the-variants.{BadShape, SerializationFailure}
+use Rattle.types.specs.declared.Run.{Run}
+use Rattle.types.specs.declared.Tried.{Tried}
 use Rattle.choice.specs.Pick.{if-both}
 use Rattle.history.specs.Items.{try-acquire, acquire-bucket, Says, says, perform}
 use Rattle.history.specs.Statements.{answers, leaves}

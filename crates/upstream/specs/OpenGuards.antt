@@ -17,9 +17,9 @@ use Rattle.model.specs.Checks.{countIn, notLive, badBindings, locksRules}
 use Rattle.model.specs.Foreign.{boundaryOf, runStepsOf}
 use Rattle.model.specs.Lock.{bucketAt, takeOf, lateOf, secondOf, lockOf, findOf, attemptOf, retryOf, locksOf}
 use Rattle.model.specs.Calls.{countsOf, acquireLocksOf}
-use Rattle.model.specs.declared.Answer.{Answer}
-use Rattle.model.specs.declared.Answer.the-variants.{Granted, AllGranted}
-use Rattle.model.specs.declared.Lease.{Lease}
+use Rattle.types.specs.declared.Answer.{Answer}
+use Rattle.types.specs.declared.Answer.the-variants.{Granted, AllGranted}
+use Rattle.types.specs.declared.Lease.{Lease}
 use Rattle.choice.specs.Pick.{both}
 use Rattle.history.specs.Items.{acquire-locks, Says, says, perform}
 use Rattle.history.specs.Tests.{if-cases}

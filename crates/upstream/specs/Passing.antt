@@ -13,8 +13,8 @@ use Rattle.model.specs.Arena.{cellsOf, isIn, leasesOf}
 use Rattle.model.specs.Refusals.{first}
 use Rattle.model.specs.Checks.{countIn, badShape, badHealth, badRegistry, badScript, badHeldLength, badHeld, notLive, tooManyLeases, tooManyKeys, badBinding, badBindings, badCell, notHeld, isProtected, notReleasable, cellRules, leaseRules, heldCellRules, heldLeaseRules, scriptRules, lockRules, bucketRules, releaseRules, locksRules}
 use Rattle.model.specs.Lock.{leaseAt, bindingAt}
-use Rattle.model.specs.declared.Check.the-variants.{Fine}
-use Rattle.model.specs.declared.Lease.{Lease}
+use Rattle.types.specs.declared.Check.the-variants.{Fine}
+use Rattle.types.specs.declared.Lease.{Lease}
 use Rattle.history.specs.World.{Live}
 use Rattle.history.specs.Items.{Clear}
 use Rattle.history.specs.Judged.{clear-fine, clear-append}

@@ -9,7 +9,7 @@ use native.Mathlib.Omega.{arith}
 use native.Mathlib.Decide.{ℕ-discrete}
 use lib.ListN.{length, getD}
 use borrow.Author.Tests.{eq-eqb, ne-eqb}
-use Rattle.model.specs.declared.Lease.{Lease}
+use Rattle.types.specs.declared.Lease.{Lease}
 use Rattle.upstream.specs.Vocabulary.{Key, Cell, cell, is-Some, Authority, LeaseId, Leases, next-serial, dom, contains-key, cells, insert, Cells-are, Valid-cell, valid, authorized, framed, Step, Acquire, Release, Observe, Acquires, Gives-up, step, releases, protected-valid, environment-trace, legal-environment, no-resurrection}
 
 -- ---- a map with one cell written

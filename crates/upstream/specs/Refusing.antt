@@ -11,9 +11,9 @@ use Rattle.model.specs.Arena.{cellsOf, isLive, isIn, leasesOf, shapeFits}
 use Rattle.model.specs.Refusals.{Rule, first}
 use Rattle.model.specs.Checks.{badShape, badHeld, badHeldLength, notLive, badCell, notHeld, isProtected, leaseRules}
 use Rattle.model.specs.Lock.{leaseAt}
-use Rattle.model.specs.declared.Check.the-variants.{Fault}
-use Rattle.model.specs.declared.Lease.{Lease}
-use Rattle.model.specs.declared.Refusal.the-variants.{BadHeld, InvalidBucket, NotHeld, Protected}
+use Rattle.types.specs.declared.Check.the-variants.{Fault}
+use Rattle.types.specs.declared.Lease.{Lease}
+use Rattle.types.specs.declared.Refusal.the-variants.{BadHeld, InvalidBucket, NotHeld, Protected}
 use Rattle.laws.specs.Checks.{first-hit, first-skip}
 use Rattle.history.specs.World.{Live}
 use Rattle.upstream.specs.Vocabulary.{Authority, next-serial, dom, cells, contains-key, Valid-cell, authorized}

@@ -16,14 +16,14 @@ use Rattle.model.specs.Checks.{countIn, badShape, badHealth, badScript, tooMany
 use Rattle.model.specs.Foreign.{boundaryOf}
 use Rattle.model.specs.Lock.{leaseAt, noLease, giveBackOf}
 use Rattle.model.specs.Calls.{given, starting}
-use Rattle.model.specs.declared.Check.{Check}
-use Rattle.model.specs.declared.Check.the-variants.{Fault}
-use Rattle.model.specs.declared.Flow.{Flow}
-use Rattle.model.specs.declared.Head.{Head}
-use Rattle.model.specs.declared.Lease.{Lease}
-use Rattle.model.specs.declared.Refusal.{Refusal}
-use Rattle.model.specs.declared.Refusal.the-variants.{NotHeld, Repeated}
-use Rattle.model.specs.declared.Run.{Run}
+use Rattle.types.specs.declared.Check.{Check}
+use Rattle.types.specs.declared.Check.the-variants.{Fault}
+use Rattle.types.specs.declared.Flow.{Flow}
+use Rattle.types.specs.declared.Head.{Head}
+use Rattle.types.specs.declared.Lease.{Lease}
+use Rattle.types.specs.declared.Refusal.{Refusal}
+use Rattle.types.specs.declared.Refusal.the-variants.{NotHeld, Repeated}
+use Rattle.types.specs.declared.Run.{Run}
 use Rattle.laws.specs.Checks.{first-hit, first-skip}
 use Rattle.laws.specs.Lists.{leases-few}
 use Rattle.history.specs.World as world

@@ -9,9 +9,9 @@ use native.Mathlib.Omega.{arith}
 use native.Mathlib.Decide.{decLt}
 use lib.ListN.{getD}
 use Rattle.model.specs.Lock.{findOf}
-use Rattle.model.specs.declared.Found.{Found}
-use Rattle.model.specs.declared.Found.the-variants as found
-use Rattle.model.specs.declared.Refusal.the-variants.{BadHeader, Poisoned, InvalidBucket}
+use Rattle.types.specs.declared.Found.{Found}
+use Rattle.types.specs.declared.Found.the-variants as found
+use Rattle.types.specs.declared.Refusal.the-variants.{BadHeader, Poisoned, InvalidBucket}
 use Rattle.laws.specs.Keys.{place-inside}
 use Rattle.upstream.specs.Vocabulary.{Key, Authority, contains-key, key-of, bucket-request-valid, bucket-reply}
 use Rattle.upstream.specs.Keys.{Finds, bad-header, poisoned, bad-bucket, at, finds}

@@ -14,16 +14,16 @@ use Rattle.model.specs.Refusals.{first}
 use Rattle.model.specs.Checks.{badShape, badCell, cellRules}
 use Rattle.model.specs.Lock.{takeIn, takeOf, outcomeOf, answerOf}
 use Rattle.model.specs.Calls.{acquireOf}
-use Rattle.model.specs.declared.Answer.{Answer}
-use Rattle.model.specs.declared.Answer.the-variants.{Granted, Busy, Refused}
-use Rattle.model.specs.declared.Check.the-variants.{Fine, Fault}
-use Rattle.model.specs.declared.Lease.{Lease}
-use Rattle.model.specs.declared.Reason.{Reason}
-use Rattle.model.specs.declared.Reason.the-variants as reason
-use Rattle.model.specs.declared.Refusal.{Refusal}
-use Rattle.model.specs.declared.Refusal.the-variants.{InvalidBucket, Damaged, SerialsSpent}
-use Rattle.model.specs.declared.State.{State}
-use Rattle.model.specs.declared.Took.{Took}
+use Rattle.types.specs.declared.Answer.{Answer}
+use Rattle.types.specs.declared.Answer.the-variants.{Granted, Busy, Refused}
+use Rattle.types.specs.declared.Check.the-variants.{Fine, Fault}
+use Rattle.types.specs.declared.Lease.{Lease}
+use Rattle.types.specs.declared.Reason.{Reason}
+use Rattle.types.specs.declared.Reason.the-variants as reason
+use Rattle.types.specs.declared.Refusal.{Refusal}
+use Rattle.types.specs.declared.Refusal.the-variants.{InvalidBucket, Damaged, SerialsSpent}
+use Rattle.types.specs.declared.State.{State}
+use Rattle.types.specs.declared.Took.{Took}
 use Rattle.laws.specs.Words.{length-set-cell}
 use Rattle.history.specs.World.{worldOf}
 use Rattle.history.specs.Items.{try-acquire, perform, rules}

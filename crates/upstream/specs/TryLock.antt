@@ -12,15 +12,15 @@ use Rattle.model.specs.Checks.{badShape, badHealth, badScript, badHeld, badHeld
 use Rattle.model.specs.Foreign.{Setting, flowOf, boundaryOf}
 use Rattle.model.specs.Lock.{lockOf, secondOf, takeOf, answerOf}
 use Rattle.model.specs.Calls.{given}
-use Rattle.model.specs.declared.Answer.{Answer}
-use Rattle.model.specs.declared.Answer.the-variants.{Granted, Refused}
-use Rattle.model.specs.declared.Check.the-variants.{Fine}
-use Rattle.model.specs.declared.Flow.{Flow}
-use Rattle.model.specs.declared.Lease.{Lease}
-use Rattle.model.specs.declared.Refusal.the-variants.{BadHeld, InvalidBucket, Damaged}
-use Rattle.model.specs.declared.State.{State}
-use Rattle.model.specs.declared.State.the-variants as state
-use Rattle.model.specs.declared.Outcome.the-variants as outcome
+use Rattle.types.specs.declared.Answer.{Answer}
+use Rattle.types.specs.declared.Answer.the-variants.{Granted, Refused}
+use Rattle.types.specs.declared.Check.the-variants.{Fine}
+use Rattle.types.specs.declared.Flow.{Flow}
+use Rattle.types.specs.declared.Lease.{Lease}
+use Rattle.types.specs.declared.Refusal.the-variants.{BadHeld, InvalidBucket, Damaged}
+use Rattle.types.specs.declared.State.{State}
+use Rattle.types.specs.declared.State.the-variants as state
+use Rattle.types.specs.declared.Outcome.the-variants as outcome
 use Rattle.laws.specs.Outcomes.{lock-comes}
 use Rattle.history.specs.Items.{try-lock, perform, Clear, rules}
 use Rattle.history.specs.Statements.{answers, leaves}

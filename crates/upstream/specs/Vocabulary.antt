@@ -11,9 +11,9 @@ use Rattle.choice.specs.Choice.{if_then_else_}
 use Rattle.model.specs.Arena.{cellsOf, cellNumber, bitAt, ownerAt, isIn}
 use Rattle.model.specs.Lock.{leaseAt, bindingAt, bucketAt}
 use Rattle.model.specs.Checks.{countIn}
-use Rattle.model.specs.declared.Answer.{Answer}
-use Rattle.model.specs.declared.Answer.the-variants.{Granted}
-use Rattle.model.specs.declared.Lease.{Lease}
+use Rattle.types.specs.declared.Answer.{Answer}
+use Rattle.types.specs.declared.Answer.the-variants.{Granted}
+use Rattle.types.specs.declared.Lease.{Lease}
 use Rattle.history.specs.World.{World}
 
 -- ---- 000: types

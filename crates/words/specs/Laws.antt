@@ -6,15 +6,15 @@ use mathlib.Core.List.{List, [], _∷_, _++_}
 use native.Mathlib.Omega.{arith}
 use lib.ListN.{getD, set, replicate}
 use lib.Seq.{sets}
-use Rattle.model.specs.declared.Answer.{Answer}
-use Rattle.model.specs.declared.Answer.the-variants.{Done, Cell, Granted, AllGranted, Busy, Refused, RefusedAt}
-use Rattle.model.specs.declared.Counts.{Counts}
-use Rattle.model.specs.declared.CrewReply.{CrewReply}
-use Rattle.model.specs.declared.Head.{Head}
-use Rattle.model.specs.declared.Lease.{Lease}
-use Rattle.model.specs.declared.SalvageAnswer.{SalvageAnswer}
-use Rattle.model.specs.declared.SalvageAnswer.the-variants as salvaged
-use Rattle.model.specs.declared.SalvageReply.{SalvageReply}
+use Rattle.types.specs.declared.Answer.{Answer}
+use Rattle.types.specs.declared.Answer.the-variants.{Done, Cell, Granted, AllGranted, Busy, Refused, RefusedAt}
+use Rattle.types.specs.declared.Counts.{Counts}
+use Rattle.types.specs.declared.CrewReply.{CrewReply}
+use Rattle.types.specs.declared.Head.{Head}
+use Rattle.types.specs.declared.Lease.{Lease}
+use Rattle.types.specs.declared.SalvageAnswer.{SalvageAnswer}
+use Rattle.types.specs.declared.SalvageAnswer.the-variants as salvaged
+use Rattle.types.specs.declared.SalvageReply.{SalvageReply}
 use Rattle.setpoint.specs.declared.Setpoint.{Setpoint}
 use Rattle.slots.specs.Calls.{prepareBookOf, writeSetpointOf}
 use Rattle.slots.specs.Outcomes.{Prepared, was-prepared, not-prepared, preparing-is, Wrote, was-written, not-written, writing-is, bodyTold}

@@ -15,18 +15,18 @@ use Rattle.model.specs.Crew.{Work, rests, adds, takenOf, releasedOf, crewRules,
 use Rattle.model.specs.Log.{Made}
 use Rattle.model.specs.Order.{reason-is, refusal-is}
 use Rattle.model.specs.Refusals.{reasonOf, refusalWith, first, judge}
-use Rattle.model.specs.declared.Answer.{Answer}
-use Rattle.model.specs.declared.Answer.the-variants.{Done, Cell, Granted, AllGranted, Busy, Refused, RefusedAt}
-use Rattle.model.specs.declared.Check.{Check}
-use Rattle.model.specs.declared.Check.the-variants.{Fine, Fault}
-use Rattle.model.specs.declared.CrewReply.{CrewReply}
-use Rattle.model.specs.declared.Head.{Head}
-use Rattle.model.specs.declared.Played.{Played}
-use Rattle.model.specs.declared.Refusal.{Refusal}
-use Rattle.model.specs.declared.Reply.{Reply}
-use Rattle.model.specs.declared.SalvageAnswer.{SalvageAnswer}
-use Rattle.model.specs.declared.SalvageAnswer.the-variants as salvaged
-use Rattle.model.specs.declared.SalvageReply.{SalvageReply}
+use Rattle.types.specs.declared.Answer.{Answer}
+use Rattle.types.specs.declared.Answer.the-variants.{Done, Cell, Granted, AllGranted, Busy, Refused, RefusedAt}
+use Rattle.types.specs.declared.Check.{Check}
+use Rattle.types.specs.declared.Check.the-variants.{Fine, Fault}
+use Rattle.types.specs.declared.CrewReply.{CrewReply}
+use Rattle.types.specs.declared.Head.{Head}
+use Rattle.types.specs.declared.Played.{Played}
+use Rattle.types.specs.declared.Refusal.{Refusal}
+use Rattle.types.specs.declared.Reply.{Reply}
+use Rattle.types.specs.declared.SalvageAnswer.{SalvageAnswer}
+use Rattle.types.specs.declared.SalvageAnswer.the-variants as salvaged
+use Rattle.types.specs.declared.SalvageReply.{SalvageReply}
 use Rattle.setpoint.specs.Codec.{hasBody, settingOf}
 use Rattle.setpoint.specs.RoundTrip.{Held, setting-back, setting-means, join-small}
 use Rattle.setpoint.specs.declared.Decoded.{Decoded}

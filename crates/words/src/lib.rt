@@ -1,17 +1,17 @@
 // A reply as words, for callers in C or Rust: fourteen of them, the crew's forty-eight, the salvage's six, the setpoint
 // book's four, or the waveform's three.
 // specs/Words.antt lays them out, and specs/Tells.antt proves that they lose nothing.
-use model::Answer;
-use model::Counts;
-use model::CrewReply;
-use model::Head;
-use model::Played;
-use model::Refusal;
-use model::Reply;
-use model::SalvageAnswer;
-use model::SalvageReply;
 use slots::BookAnswer;
 use slots::BookRefusal;
+use types::Answer;
+use types::Counts;
+use types::CrewReply;
+use types::Head;
+use types::Played;
+use types::Refusal;
+use types::Reply;
+use types::SalvageAnswer;
+use types::SalvageReply;
 use wave::Dumped;
 use wave::Undumped;
 ghost use mathlib.Core.Path.{_≡_};

@@ -14,9 +14,9 @@ use Rattle.model.specs.Arena.{cellsOf}
 use Rattle.model.specs.Refusals.{Rule, first}
 use Rattle.model.specs.Checks.{badShape, badHealth}
 use Rattle.model.specs.Crew.{adds, movesOf, notedAt, startOf, badLimits, badLists, badTurns, badCounters, crewAtWorkRules, Crew}
-use Rattle.model.specs.declared.Check.the-variants.{Fine, Fault}
-use Rattle.model.specs.declared.Head.{Head}
-use Rattle.model.specs.declared.Refusal.the-variants.{BadShape}
+use Rattle.types.specs.declared.Check.the-variants.{Fine, Fault}
+use Rattle.types.specs.declared.Head.{Head}
+use Rattle.types.specs.declared.Refusal.the-variants.{BadShape}
 use Rattle.laws.specs.Checks.{or-else, first-append}
 use Rattle.laws.specs.Crew.{fine-at-work}
 use Rattle.plan.specs.Fine.{CrewFine, crew-fine}

@@ -7,11 +7,11 @@ use lib.ListN.{length, getD}
 use Rattle.choice.specs.Choice.{if_then_else_}
 use Rattle.model.specs.Refusals.{first}
 use Rattle.model.specs.Crew.{adds, Crew, crewStart, badLimits, badLists, badTurns, turnsOf}
-use Rattle.model.specs.declared.Check.{Check}
-use Rattle.model.specs.declared.Check.the-variants.{Fault}
-use Rattle.model.specs.declared.CrewReply.{CrewReply}
-use Rattle.model.specs.declared.Head.{Head}
-use Rattle.model.specs.declared.Refusal.the-variants.{BadShape}
+use Rattle.types.specs.declared.Check.{Check}
+use Rattle.types.specs.declared.Check.the-variants.{Fault}
+use Rattle.types.specs.declared.CrewReply.{CrewReply}
+use Rattle.types.specs.declared.Head.{Head}
+use Rattle.types.specs.declared.Refusal.the-variants.{BadShape}
 use Rattle.crew.specs.Model.{finishOf}
 use Rattle.crew.specs.declared.Worked.{Worked}
 

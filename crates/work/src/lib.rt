@@ -4,10 +4,10 @@
 // nothing twice.
 use crew::Move;
 use crew::Worked;
-use model::Check;
-use model::CrewReply;
-use model::Head;
-use model::Refusal;
+use types::Check;
+use types::CrewReply;
+use types::Head;
+use types::Refusal;
 ghost use mathlib.Core.Path.{_≡_};
 ghost use Prim.Native.Nat.{_+_, _*_, _-_, _/_, _<_, _≤_};
 ghost use lib.ListN.{length};

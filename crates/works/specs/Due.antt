@@ -10,7 +10,7 @@ use lib.ListN.{length, getD, set}
 use lib.Seq.{getD-set-same, getD-set-other}
 use Rattle.model.specs.Arena.{cellsOf, bitAt}
 use Rattle.model.specs.Crew.{adds, startOf, countOf, moved}
-use Rattle.model.specs.declared.Head.{Head}
+use Rattle.types.specs.declared.Head.{Head}
 use Rattle.progress.specs.Statements.{named, wish}
 use Rattle.history.specs.Crew.{Holds}
 use Rattle.progress.specs.Lists.{Fits}

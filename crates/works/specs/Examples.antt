@@ -12,9 +12,9 @@ use Rattle.model.specs.Refusals.{first}
 use Rattle.model.specs.Foreign.{runStepsOf, boundaryOf}
 use Rattle.model.specs.Lock.{takeOf, lateOf, secondOf, lockOf}
 use Rattle.model.specs.Crew.{summedOf, total, startOf, countOf, allWithin, risesFrom, badLists, badTurns, crewAtWorkRules, tryTurnOf, heldAllOf, addTurnOf, releaseTurnOf, turnOf, turnsOf, takenOf, releasedOf, shiftOf, crewAtWorkOf, orderOf}
-use Rattle.model.specs.declared.Answer.the-variants.{Done}
-use Rattle.model.specs.declared.CrewReply.{CrewReply}
-use Rattle.model.specs.declared.Head.{Head}
+use Rattle.types.specs.declared.Answer.the-variants.{Done}
+use Rattle.types.specs.declared.CrewReply.{CrewReply}
+use Rattle.types.specs.declared.Head.{Head}
 use Rattle.progress.specs.Statements.{In, named, adds-of}
 use Rattle.works.specs.Statements.{raisedBy, wholeBy, replayBy, replayOf, All-finished, Low, Owes, times, Before, Strangers, Gives-way}
 use Rattle.works.specs.Theorems.{one-after-another, over-remainders, owes-only, released-first, any-order}

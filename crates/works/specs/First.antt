@@ -13,8 +13,8 @@ use Rattle.choice.specs.Choice.{if_then_else_}
 use Rattle.model.specs.Log.{Event, by-caller, attempt-begun, boundary-run, yielded, spun, step-dropped, took, released, waiters-set, health-set, held-all, added}
 use Rattle.model.specs.Arena.{bitAt, stateAt}
 use Rattle.model.specs.Crew.{adds, movesOf, startOf, countOf, Crew, crewStart, turnOf, turnsOf, orderOf}
-use Rattle.model.specs.declared.Head.{Head}
-use Rattle.model.specs.declared.State.the-variants as state
+use Rattle.types.specs.declared.Head.{Head}
+use Rattle.types.specs.declared.State.the-variants as state
 use Rattle.laws.specs.Lists.{zeros}
 use Rattle.history.specs.Tests.{free-words}
 use Rattle.history.specs.Crew.{Holds}

@@ -9,8 +9,8 @@ use borrow.Author.Tests.{eq-eqb, ne-eqb}
 use Rattle.model.specs.Log.{Event}
 use Rattle.model.specs.Arena.{cellsOf, stateAt}
 use Rattle.model.specs.Crew.{adds, movesOf, summedOf, countOf, Crew, crewStart, moved, turnOf, turnsOf, orderOf}
-use Rattle.model.specs.declared.Head.{Head}
-use Rattle.model.specs.declared.State.the-variants as state
+use Rattle.types.specs.declared.Head.{Head}
+use Rattle.types.specs.declared.State.the-variants as state
 use Rattle.laws.specs.Lists.{zeros}
 use Rattle.laws.specs.Crew.{member}
 use Rattle.history.specs.Tests.{free-words}

@@ -11,11 +11,11 @@ use Rattle.model.specs.Log.{Made, Event}
 use Rattle.model.specs.Arena.{cellsOf, spentTo}
 use Rattle.model.specs.Refusals.{first}
 use Rattle.model.specs.Crew.{adds, addsOf, movesOf, summedOf, startOf, countOf, crewRules, crewAtWorkRules, Crew, crewStart, takenOf, releasedOf, shiftOf, crewAtWorkOf, orderOf}
-use Rattle.model.specs.declared.Answer.the-variants.{Done}
-use Rattle.model.specs.declared.Check.{Check}
-use Rattle.model.specs.declared.Check.the-variants.{Fine, Fault}
-use Rattle.model.specs.declared.CrewReply.{CrewReply}
-use Rattle.model.specs.declared.Head.{Head}
+use Rattle.types.specs.declared.Answer.the-variants.{Done}
+use Rattle.types.specs.declared.Check.{Check}
+use Rattle.types.specs.declared.Check.the-variants.{Fine, Fault}
+use Rattle.types.specs.declared.CrewReply.{CrewReply}
+use Rattle.types.specs.declared.Head.{Head}
 use Rattle.laws.specs.Lists.{zeros}
 use Rattle.laws.specs.Crew.{member, fine-at-work}
 use Rattle.progress.specs.Statements.{In, named, adds-of}

@@ -13,7 +13,7 @@ use borrow.Author.Tests.{eq-eqb, ne-eqb, lt-leb, le-leb}
 use Rattle.choice.specs.Choice.{if_then_else_}
 use Rattle.model.specs.Log.{Event, by-caller, attempt-begun, boundary-run, yielded, spun, step-dropped, took, released, waiters-set, health-set, held-all, added}
 use Rattle.model.specs.Crew.{adds, countOf, Crew, moved, isFull, turnOf, turnsOf, orderOf}
-use Rattle.model.specs.declared.Head.{Head}
+use Rattle.types.specs.declared.Head.{Head}
 use Rattle.progress.specs.Statements.{In, filling, deeds-in, Turn, idled, grabbed, summed, gave}
 use Rattle.progress.specs.Lists.{Fits}
 use Rattle.progress.specs.Turns.{same, turn-is}

@@ -7,7 +7,7 @@ use lib.ListN.{length, getD, length-set}
 use Rattle.choice.specs.Choice.{if_then_else_}
 use Rattle.model.specs.Log.{Event, by-caller, attempt-begun, boundary-run, yielded, spun, step-dropped, took, released, waiters-set, health-set, held-all, added}
 use Rattle.model.specs.Crew.{Work, summedOf, Crew, moved, isFull, addedTo, turnOf, turnsOf}
-use Rattle.model.specs.declared.Head.{Head}
+use Rattle.types.specs.declared.Head.{Head}
 use Rattle.progress.specs.Statements.{filling, deeds-in, Turn, idled, grabbed, summed, gave}
 use Rattle.progress.specs.Turns.{same, turn-is}
 use Rattle.works.specs.Statements.{playedOf}

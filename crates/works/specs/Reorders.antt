@@ -9,7 +9,7 @@ use lib.ListN.{length, getD}
 use lib.Seq.{ext-getD}
 use Rattle.model.specs.Arena.{cellsOf}
 use Rattle.model.specs.Crew.{startOf, countOf}
-use Rattle.model.specs.declared.Head.{Head}
+use Rattle.types.specs.declared.Head.{Head}
 use Rattle.progress.specs.Statements.{named, In}
 use Rattle.progress.specs.Lists.{Fits}
 use Rattle.works.specs.Statements.{wholeBy, replayBy, times, Before, Strangers}

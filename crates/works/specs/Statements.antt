@@ -10,9 +10,9 @@ use lib.ListN.{length, getD, set}
 use Rattle.choice.specs.Choice.{if_then_else_}
 use Rattle.model.specs.Log.{Event, by-caller, attempt-begun, boundary-run, yielded, spun, step-dropped, took, released, waiters-set, health-set, held-all, added}
 use Rattle.model.specs.Crew.{adds, summedOf, startOf, countOf, crewStart, addedTo, orderOf}
-use Rattle.model.specs.declared.Answer.the-variants.{Done}
-use Rattle.model.specs.declared.CrewReply.{CrewReply}
-use Rattle.model.specs.declared.Head.{Head}
+use Rattle.types.specs.declared.Answer.the-variants.{Done}
+use Rattle.types.specs.declared.CrewReply.{CrewReply}
+use Rattle.types.specs.declared.Head.{Head}
 use Rattle.history.specs.Statements.{Crew-at-work-build}
 use Rattle.progress.specs.Statements.{In, named, own-log, adds-of}
 

@@ -10,10 +10,10 @@ use Rattle.model.specs.Log.{Made, Event}
 use Rattle.model.specs.Arena.{cellsOf}
 use Rattle.model.specs.Refusals.{first}
 use Rattle.model.specs.Crew.{adds, summedOf, crewAtWorkRules, crewStart, crewAtWorkOf, orderOf}
-use Rattle.model.specs.declared.Check.{Check}
-use Rattle.model.specs.declared.Check.the-variants.{Fine, Fault}
-use Rattle.model.specs.declared.CrewReply.{CrewReply}
-use Rattle.model.specs.declared.Head.{Head}
+use Rattle.types.specs.declared.Check.{Check}
+use Rattle.types.specs.declared.Check.the-variants.{Fine, Fault}
+use Rattle.types.specs.declared.CrewReply.{CrewReply}
+use Rattle.types.specs.declared.Head.{Head}
 use Rattle.laws.specs.Crew.{member}
 use Rattle.progress.specs.Statements.{named}
 use Rattle.works.specs.Statements.{replayOf, replayBy, All-finished, One-after-another, Low, Over-remainders, playedOf, Adds-are-all, Sums-wrap, Stays-low, Owes, Owes-only, As-replayed, Named-once, Released-first, Any-order}

@@ -9,7 +9,7 @@ use lib.ListN.{length, getD, set, length-set}
 use lib.Seq.{getD-set-same, getD-set-other}
 use Rattle.model.specs.Arena.{cellsOf}
 use Rattle.model.specs.Crew.{startOf, countOf}
-use Rattle.model.specs.declared.Head.{Head}
+use Rattle.types.specs.declared.Head.{Head}
 use Rattle.progress.specs.Statements.{named}
 use Rattle.progress.specs.Lists.{Fits}
 use Rattle.works.specs.Statements.{raisedBy, wholeBy, replayBy}

@@ -8,7 +8,7 @@ use native.Mathlib.Omega.{arith}
 use lib.ListN.{length, getD, replicate}
 use Rattle.laws.specs.Lists.{zeros}
 use Rattle.model.specs.Arena.{headFits}
-use Rattle.model.specs.declared.Head.{Head}
+use Rattle.types.specs.declared.Head.{Head}
 use Rattle.setpoint.specs.Codec.{bytesOf, bodyOf, joinOf}
 use Rattle.setpoint.specs.RoundTrip.{Means, setting-means, low-join, join-small}
 use Rattle.setpoint.specs.declared.Setpoint.{Setpoint}

@@ -18,8 +18,8 @@ use Rattle.model.specs.Refusals.{first}
 use Rattle.model.specs.Lock.{takeOf}
 use Rattle.model.specs.Checks.{prepareRules, cellRules, leaseRules}
 use Rattle.model.specs.Calls.{prepareOf, acquireOf, tryAcquireOf, dropLeaseOf}
-use Rattle.model.specs.declared.Answer.the-variants as answer
-use Rattle.model.specs.declared.Lease.{Lease}
+use Rattle.types.specs.declared.Answer.the-variants as answer
+use Rattle.types.specs.declared.Lease.{Lease}
 use Rattle.setpoint.specs.Codec.{isFinite, bytesOf, bodyOf, joinOf, settingOf}
 use Rattle.setpoint.specs.declared.Setpoint.{Setpoint}
 use Rattle.setpoint.specs.declared.Setpoint.the-variants.{Pressure, Speed, Valve}

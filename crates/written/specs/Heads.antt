@@ -9,7 +9,7 @@ use Rattle.model.specs.Arena.{headOf, headFits, shapeFits, healthFits, cellsOf}
 use Rattle.model.specs.Calls.{prepareOf}
 use Rattle.model.specs.Salvage.{Salvage, salvageOf}
 use Rattle.model.specs.Log.{Event, attempt-begun, boundary-run, yielded, spun, step-dropped, took, released, waiters-set, health-set, held-all, added}
-use Rattle.model.specs.declared.Head.{Head}
+use Rattle.types.specs.declared.Head.{Head}
 use Rattle.choice.specs.Pick.{both}
 use Rattle.laws.specs.Shape.{Shaped, shaped}
 use Rattle.laws.specs.Prepared.{Outcome, Came, was-done, was-refused, came}

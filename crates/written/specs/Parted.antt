@@ -6,11 +6,11 @@ use mathlib.Core.List.{List, [], _∷_, _++_, append-nil, append-assoc}
 use native.Mathlib.Omega.{arith}
 use Rattle.model.specs.Arena.{ownerAt}
 use Rattle.model.specs.Log.{Actor, Event, released}
-use Rattle.model.specs.declared.Answer.{Answer}
-use Rattle.model.specs.declared.Answer.the-variants as answer
-use Rattle.model.specs.declared.Lease.{Lease}
-use Rattle.model.specs.declared.SalvageAnswer.{SalvageAnswer}
-use Rattle.model.specs.declared.SalvageAnswer.the-variants as salvaged
+use Rattle.types.specs.declared.Answer.{Answer}
+use Rattle.types.specs.declared.Answer.the-variants as answer
+use Rattle.types.specs.declared.Lease.{Lease}
+use Rattle.types.specs.declared.SalvageAnswer.{SalvageAnswer}
+use Rattle.types.specs.declared.SalvageAnswer.the-variants as salvaged
 use Rattle.slots.specs.Calls.{writeSetpointOf}
 use Rattle.slots.specs.Outcomes.{Wrote, was-written, not-written, writing-is}
 use Rattle.slots.specs.declared.BookAnswer.{BookAnswer}

@@ -4,8 +4,8 @@ use Prim.Native.Nat.{ℕ}
 use mathlib.Core.Path.{_≡_, ap}
 use mathlib.Core.List.{List, _∷_}
 use Rattle.choice.specs.Pick.{determined}
-use Rattle.model.specs.declared.Head.{Head}
-use Rattle.model.specs.declared.Lease.{Lease}
+use Rattle.types.specs.declared.Head.{Head}
+use Rattle.types.specs.declared.Lease.{Lease}
 use Rattle.setpoint.specs.declared.Setpoint.{Setpoint}
 use Rattle.slots.specs.Calls.{prepareBookOf, writeSetpointOf, readSetpointOf}
 use Rattle.slots.specs.declared.BookAnswer.{BookAnswer}

@@ -6,7 +6,7 @@ use native.Mathlib.Omega.{arith}
 use borrow.Author.Needs.{needs}
 use Rattle.model.specs.Foreign.{boundaryOf}
 use Rattle.model.specs.Log.{Made}
-use Rattle.model.specs.declared.Flow.{Flow}
+use Rattle.types.specs.declared.Flow.{Flow}
 use Rattle.foreign.proofs.boundary.Statement.{statement}
 use Rattle.foreign.specs.Laws.{steps-zero, boundary-quiet}
 use Rattle.foreign.specs.Model.{guardsOf, settingOf}

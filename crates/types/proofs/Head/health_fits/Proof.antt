@@ -1,9 +1,9 @@
--- `model::Head::health_fits` meets its contract.
+-- `types::Head::health_fits` meets its contract.
 use mathlib.Core.Path.{refl}
 use borrow.Author.Needs.{needs}
-use Rattle.model.proofs.Head.health_fits.Statement.{statement}
-use Rattle.model.specs.Arena.{healthFits}
-use Rattle.model.proofs.Head.health_fits.Tie as tie
+use Rattle.types.proofs.Head.health_fits.Statement.{statement}
+use Rattle.types.specs.Head.{healthFits}
+use Rattle.types.proofs.Head.health_fits.Tie as tie
 
 cast-result : tie.Need-cast-result
 cast-result c = search needs

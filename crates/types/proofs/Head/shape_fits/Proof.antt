@@ -1,11 +1,11 @@
--- `model::Head::shape_fits` meets its contract.
+-- `types::Head::shape_fits` meets its contract.
 use native.Mathlib.Nat.{mul-le-mul}
 use native.Mathlib.Omega.{arith}
 use borrow.Author.Needs.{needs}
 use borrow.Author.Tests.{le-leb, lt-leb}
-use Rattle.model.proofs.Head.shape_fits.Statement.{statement}
-use Rattle.model.specs.Arena.{headFits, shapeFits}
-use Rattle.model.proofs.Head.shape_fits.Tie as tie
+use Rattle.types.proofs.Head.shape_fits.Statement.{statement}
+use Rattle.types.specs.Head.{headFits, shapeFits}
+use Rattle.types.proofs.Head.shape_fits.Tie as tie
 
 returns : tie.Need-returns
 unfolding headFits shapeFits

@@ -1,10 +1,10 @@
--- `say::member_lines` meets its contract.
+-- `crewsay::member_lines` meets its contract.
 use Prim.Native.Nat.{_-_}
 use mathlib.Core.Path.{_≡_}
 use lib.ListN.{length}
 use borrow.Author.Needs.{needs}
-use Rattle.say.proofs.member_lines.Statement.{statement}
-use Rattle.say.proofs.member_lines.Tie as tie
+use Rattle.crewsay.proofs.member_lines.Statement.{statement}
+use Rattle.crewsay.proofs.member_lines.Tie as tie
 
 abbrev Inv-loop : tie.InvT-loop
 Inv-loop members out₀ used taken released most at₀ m₀ out at m = (length out ≡ length out₀)

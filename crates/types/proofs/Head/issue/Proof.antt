@@ -1,11 +1,11 @@
--- `model::Head::issue` meets its contract.
+-- `types::Head::issue` meets its contract.
 use mathlib.Core.Path.{sym, _∙_}
 use native.Mathlib.Omega.{arith}
 use borrow.Author.Needs.{needs}
 use borrow.Author.Tests.{ltb-true}
-use Rattle.model.proofs.Head.issue.Statement.{statement}
-use Rattle.model.specs.Arena.{lastSerial, issueOf}
-use Rattle.model.proofs.Head.issue.Tie as tie
+use Rattle.types.proofs.Head.issue.Statement.{statement}
+use Rattle.types.specs.Head.{lastSerial, issueOf}
+use Rattle.types.proofs.Head.issue.Tie as tie
 
 serial-remains-requires : tie.Need-serial-remains-requires
 serial-remains-requires c κs = search needs
