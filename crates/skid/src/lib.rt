@@ -17,8 +17,8 @@ ghost use Rattle.model.specs.Sorted.{acquireSortedOf};
 ghost use Rattle.setpoint.specs.declared.Setpoint.the-variants.{Pressure, Speed, Valve};
 ghost use Rattle.slots.specs.Calls.{prepareBookOf, writeSetpointOf, readSetpointOf};
 ghost use Rattle.wave.specs.Calls.{writeOf, readIntoOf};
-ghost use Rattle.words.specs.Words.{replyWords, playedWords, crewWords, salvageWords, bookWords, dumpedWords};
-ghost use Rattle.words.specs.Words.{undumpedWords, told};
+ghost use Rattle.layout.specs.Words.{replyWords, playedWords, crewWords, salvageWords, bookWords, dumpedWords};
+ghost use Rattle.layout.specs.Words.{undumpedWords, told};
 
 // ---- preparing
 

@@ -1,5 +1,5 @@
-// The types that document 01's answers are made of, and the head's own operations. What a call gives is in crate `model`:
-// document 01 itself, as definitions over these types.
+// The types that document 01's answers are made of, and the head's own operations. What a call gives is in crate
+// `model`: document 01 itself, as definitions over these types.
 ghost use mathlib.Core.Path.{_≡_};
 ghost use Rattle.types.specs.Head.{serialRemains, shapeFits, healthFits, issueOf, spentTo};
 ghost use Rattle.types.specs.Numbers.{reasonNumber, reasonSerial, numberOf, carriedOf};

@@ -20,9 +20,9 @@ ghost use mathlib.Core.Bool.{true};
 ghost use lib.Seq.{sets};
 ghost use Rattle.model.specs.Refusals.{refusalReason};
 ghost use Rattle.slots.specs.Outcomes.{bodyTold};
-ghost use Rattle.words.specs.Words.{busyWords, refusalWords, answerWords, resultWords, replyWords, playedWords};
-ghost use Rattle.words.specs.Words.{eachOf, crewWords, salvagedWords, salvageWords, bookNumber, bookWords};
-ghost use Rattle.words.specs.Words.{dumpedWords, undumpedWords};
+ghost use Rattle.layout.specs.Words.{busyWords, refusalWords, answerWords, resultWords, replyWords, playedWords};
+ghost use Rattle.layout.specs.Words.{eachOf, crewWords, salvagedWords, salvageWords, bookNumber, bookWords};
+ghost use Rattle.layout.specs.Words.{dumpedWords, undumpedWords};
 
 // Words 12 and 13 of a refusal: only 11 gives a reason.
 fn reason_words(refusal: Refusal) -> [u64; 2]

@@ -1,5 +1,5 @@
 -- `words::book_words` meets its contract.
-use Rattle.words.specs.Words.{bookWords}
+use Rattle.layout.specs.Words.{bookWords}
 use borrow.Author.Needs.{needs}
 use Rattle.words.proofs.book_words.Statement.{statement}
 use Rattle.words.proofs.book_words.Tie as tie

@@ -1,6 +1,6 @@
 -- `words::busy_words` meets its contract.
 use mathlib.Core.Path.{refl}
-use Rattle.words.specs.Words.{busyWords}
+use Rattle.layout.specs.Words.{busyWords}
 use Rattle.words.proofs.busy_words.Statement.{statement}
 use Rattle.words.proofs.busy_words.Tie as tie
 

@@ -3,8 +3,8 @@ use Prim.Native.Nat.{ℕ}
 use mathlib.Core.Path.{ap, _∙_}
 use mathlib.Core.List.{List}
 use lib.Seq.{sets}
-use Rattle.words.specs.Words.{eachOf}
-use Rattle.words.specs.Laws.{crew-laid}
+use Rattle.layout.specs.Words.{eachOf}
+use Rattle.layout.specs.Laws.{crew-laid}
 use borrow.Author.Needs.{needs}
 use Rattle.words.proofs.crew_words.Statement.{statement}
 use Rattle.words.proofs.crew_words.Tie as tie

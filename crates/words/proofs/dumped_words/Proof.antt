@@ -1,5 +1,5 @@
 -- `words::dumped_words` meets its contract.
-use Rattle.words.specs.Words.{dumpedWords}
+use Rattle.layout.specs.Words.{dumpedWords}
 use borrow.Author.Needs.{needs}
 use Rattle.words.proofs.dumped_words.Statement.{statement}
 use Rattle.words.proofs.dumped_words.Tie as tie

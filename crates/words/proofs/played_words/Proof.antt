@@ -1,5 +1,5 @@
 -- `words::played_words` meets its contract.
-use Rattle.words.specs.Words.{playedWords}
+use Rattle.layout.specs.Words.{playedWords}
 use borrow.Author.Needs.{needs}
 use Rattle.words.proofs.played_words.Statement.{statement}
 use Rattle.words.proofs.played_words.Tie as tie

@@ -3,8 +3,8 @@ use Prim.Native.Nat.{ℕ, _+_, _≤_, _-_}
 use mathlib.Core.Path.{_≡_, sym, ap, _∙_}
 use native.Mathlib.Omega.{arith}
 use lib.Seq.{sets}
-use Rattle.words.specs.Words.{eachOf}
-use Rattle.words.specs.Laws.{put-at, put-end}
+use Rattle.layout.specs.Words.{eachOf}
+use Rattle.layout.specs.Laws.{put-at, put-end}
 use borrow.Author.Needs.{needs}
 use Rattle.words.proofs.put_counts.Statement.{statement}
 use Rattle.words.proofs.put_counts.Tie as tie

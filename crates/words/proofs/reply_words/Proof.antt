@@ -1,5 +1,5 @@
 -- `words::reply_words` meets its contract.
-use Rattle.words.specs.Words.{replyWords}
+use Rattle.layout.specs.Words.{replyWords}
 use borrow.Author.Needs.{needs}
 use Rattle.words.proofs.reply_words.Statement.{statement}
 use Rattle.words.proofs.reply_words.Tie as tie

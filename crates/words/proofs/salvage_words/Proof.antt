@@ -1,5 +1,5 @@
 -- `words::salvage_words` meets its contract. The last three words are read from those of the answer.
-use Rattle.words.specs.Laws.{salvage-laid}
+use Rattle.layout.specs.Laws.{salvage-laid}
 use borrow.Author.Needs.{needs}
 use Rattle.words.proofs.salvage_words.Statement.{statement}
 use Rattle.words.proofs.salvage_words.Tie as tie

@@ -1,5 +1,5 @@
 -- `words::undumped_words` meets its contract.
-use Rattle.words.specs.Words.{undumpedWords}
+use Rattle.layout.specs.Words.{undumpedWords}
 use borrow.Author.Needs.{needs}
 use Rattle.words.proofs.undumped_words.Statement.{statement}
 use Rattle.words.proofs.undumped_words.Tie as tie

@@ -1,5 +1,5 @@
 -- `words::words` meets its contract. The last six words are read from those of the answer.
-use Rattle.words.specs.Laws.{laid}
+use Rattle.layout.specs.Laws.{laid}
 use borrow.Author.Needs.{needs}
 use Rattle.words.proofs.words.Statement.{statement}
 use Rattle.words.proofs.words.Tie as tie

@@ -47,8 +47,8 @@ use Rattle.wave.specs.declared.Dumped.{Dumped}
 use Rattle.wave.specs.declared.Dumped.the-variants as dumped
 use Rattle.wave.specs.declared.Undumped.{Undumped}
 use Rattle.wave.specs.declared.Undumped.the-variants as undumped
-use Rattle.words.specs.Laws.{six}
-use Rattle.words.specs.Words.{busyWords, answerWords, replyWords, playedWords, eachOf, crewWords, salvagedWords, salvageWords, bookNumber, bookWords, dumpedWords, undumpedWords, told}
+use Rattle.layout.specs.Laws.{six}
+use Rattle.layout.specs.Words.{busyWords, answerWords, replyWords, playedWords, eachOf, crewWords, salvagedWords, salvageWords, bookNumber, bookWords, dumpedWords, undumpedWords, told}
 
 -- ---- the way back
 

@@ -19,7 +19,7 @@ use Rattle.setpoint.specs.declared.Setpoint.{Setpoint}
 use Rattle.slots.specs.Calls.{prepareBookOf, writeSetpointOf}
 use Rattle.slots.specs.Outcomes.{Prepared, was-prepared, not-prepared, preparing-is, Wrote, was-written, not-written, writing-is, bodyTold}
 use Rattle.slots.specs.declared.BookAnswer.{BookAnswer}
-use Rattle.words.specs.Words.{busyWords, answerWords, resultWords, eachOf, crewWords, salvagedWords, salvageWords}
+use Rattle.layout.specs.Words.{busyWords, answerWords, resultWords, eachOf, crewWords, salvagedWords, salvageWords}
 
 pub six : (a : Answer)
     → getD (answerWords a) 0 0 ∷ getD (answerWords a) 1 0 ∷ getD (answerWords a) 2 0 ∷ getD (answerWords a) 3 0 ∷ getD (answerWords a) 4 0 ∷ getD (answerWords a) 5 0 ∷ []
