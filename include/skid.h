@@ -169,7 +169,8 @@ enum skid_reason {
  * The refusals, by document 01's numbers, with what each carries. 1 to 5, 8 in a call by cell, and 12 to 15 are tested
  * before anything else is done, in the order of the numbers (12 and 14 together, by position); they change nothing and
  * have all counts 0. 6 to 11, but for that 8, end an attempt; they keep foreign steps and spent serials, and the
- * caller holds nothing new. (skid_acquire_sorted_locks tests 6 and 8 before any attempt, too.)
+ * caller holds nothing new. (In skid_acquire_sorted_locks 6 and 8 are tested before any attempt: there they change
+ * nothing and have all counts 0.)
  */
 enum skid_refusal {
     SKID_BAD_SHAPE = 1,              /* 0: the head or a length breaks the arena's rules */

@@ -1,1 +1,2 @@
-// Demand 2 of the work order: every history of calls and foreign steps from a preparation. Theorems only: specs/.
+// Demand 2 of the work order: every history of calls and foreign steps from a preparation or a salvage. Theorems only:
+// specs/.

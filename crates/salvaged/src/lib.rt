@@ -1,1 +1,1 @@
-// Document 02, L6: what a salvage does and leaves, about its definition alone. Theorems only: specs/.
+// Document 02, L6: what a salvage does and leaves, and what holds of histories from there on. Theorems only: specs/.

@@ -1,7 +1,7 @@
 // The calls of document 01, and document 02's keys in any order, salvage, crew at work, setpoint book and waveform, for
 // a kernel in C or Rust; include/skid.h declares them. Only numbers and lent runs cross: the head goes in as three
-// numbers, a lease as two, and the last parameter is the lent reply, whose words crate `words` lays out. Each is thin:
-// it makes the head, makes the call, and writes the reply's words.
+// numbers, a lease as two, and the last parameter is the lent reply, whose words crate `layout` lays out. Each is
+// thin: it makes the head, makes the call, and writes the reply's words.
 use setpoint::Setpoint;
 use types::Head;
 use types::Lease;

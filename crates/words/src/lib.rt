@@ -1,6 +1,6 @@
 // A reply as words, for callers in C or Rust: fourteen of them, the crew's forty-eight, the salvage's six, the setpoint
 // book's four, or the waveform's three.
-// specs/Words.antt lays them out, and specs/Tells.antt proves that they lose nothing.
+// Crate `layout` lays them out (its specs/Words.antt) and proves that they lose nothing (its specs/Tells.antt).
 use slots::BookAnswer;
 use slots::BookRefusal;
 use types::Answer;
