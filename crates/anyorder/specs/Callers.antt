@@ -94,6 +94,12 @@ Callers-are-crew =
     (h : Head) (t g : List ℕ) (callers : List Caller) (turns : List ℕ) → Crowd h t g callers turns
     → first (crewRules h t g (counts-of (h .buckets) callers) (cells-of (h .buckets) callers) turns) ≡ Fine
 
+-- and its members are the callers, in their order: each wants the sorted cells of its caller's keys
+abbrev pub Lists-are : Type 0
+Lists-are =
+    (b : ℕ) (before after : List Caller) (c : Caller)
+    → listOf (counts-of b (before ++ (c ∷ after))) (cells-of b (before ++ (c ∷ after))) (length before) ≡ wants b c
+
 -- demand 3, "whatever the order of turns": after 2K rounds, K being the distinct cells of each caller in all, all have held their whole lists
 -- and released them
 abbrev pub Callers-finish : Crew-build → Type 0
@@ -133,6 +139,13 @@ lists-short h (c ∷ cs) a = rw (le-leb (length (wants (h .buckets) c)) 64 (a .0
 drop-past : (xs ys : List ℕ) (n : ℕ) → drop (length xs + n) (xs ++ ys) ≡ drop n ys
 drop-past [] ys n = let e : 0 + n ≡ n = omega arith in ap (λ (k : ℕ). drop k ys) e
 drop-past (x ∷ xs) ys n = let e : length (x ∷ xs) + n ≡ suc (length xs + n) = omega arith in rw e (drop-past xs ys n)
+
+pub lists-are : Lists-are
+unfolding counts-of cells-of startOf total
+lists-are b [] after c = take-at (wants b c) (cells-of b after) (length (wants b c)) refl
+lists-are b (d ∷ before) after c =
+    let all = before ++ (c ∷ after) in
+    rw (drop-past (wants b d) (cells-of b all) (total (take (length before) (counts-of b all)))) (lists-are b before after c)
 
 -- each member's list is its caller's, so it rises and stays in range
 asked-inside : (h : Head) (c : Caller) → Asks-well h c → (d : ℕ) → isAmong d (cellsAsked (h .buckets) (c .registry) (c .keys)) ≡ true → d < cellsOf h

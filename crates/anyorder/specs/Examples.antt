@@ -12,14 +12,14 @@ use Rattle.model.specs.Checks.{notLive, badBindings, locksRules, notReleasable,
 use Rattle.model.specs.Foreign.{runStepsOf, boundaryOf}
 use Rattle.model.specs.Lock.{leaseAt, takeOf, lateOf, secondOf, lockOf, findOf, attemptOf, spinOf, pauseOf, retryOf, giveBackOf, rollbackOf, locksOf}
 use Rattle.model.specs.Calls.{countsOf, releaseAllOf}
-use Rattle.model.specs.Sorted.{mergeOf, mergedOf, sortOf, sortedOf, cellsFrom, firstAsking, keysFor, firstKey, leaseOn, sharedOf, sortedLocksOf, acquireSortedOf}
+use Rattle.model.specs.Sorted.{cellsSorted, mergeOf, mergedOf, sortOf, sortedOf, cellsFrom, firstAsking, keysFor, firstKey, leaseOn, sharedOf, sortedLocksOf, acquireSortedOf}
 use Rattle.types.specs.declared.Answer.the-variants.{Done, AllGranted, Refused, RefusedAt}
-use Rattle.types.specs.declared.Refusal.the-variants.{BadHeader, Poisoned, Repeated}
+use Rattle.types.specs.declared.Refusal.the-variants.{TooMany, BadHeader, Poisoned, Repeated}
 use Rattle.history.specs.World.{World, worldOf, Live}
 use Rattle.history.specs.Items.{Call, acquire-sorted, release-all, says, perform}
 use Rattle.history.specs.Statements.{answers, buffer-in, leaves, log-of}
 use Rattle.anyorder.specs.Statements.{Refused-later}
-use Rattle.anyorder.specs.Theorems.{shares, serials-by-cell, taken-rising, each-key-live, keys-first, later-position, fourteen}
+use Rattle.anyorder.specs.Theorems.{shares, serials-by-cell, taken-rising, each-key-live, keys-first, later-position, fourteen, once-done}
 
 abbrev prepared : World
 prepared = worldOf (headOf 2 4 1) (replicate 24 0) (replicate 2 0)
@@ -70,6 +70,18 @@ mixed-repeats = let x = fourteen prepared registry [] 0 [] mixed buffer 0 2 mixe
 pub mixed-released : answers (leaves prepared mixed-call) (release-all [] 0 (5 ∷ 3 ∷ 3 ∷ 2 ∷ 0 ∷ 1 ∷ [])) ≡ Done
 unfolding perform bitAt ownerAt waitersAt setCell isFree isHeld stateOf stateAt isLive leasesOf wordsOf sameLease isIn headFits shapeFits healthFits registryFits first runStepsOf boundaryOf takeOf lateOf secondOf lockOf findOf attemptOf spinOf pauseOf retryOf giveBackOf rollbackOf locksOf notLive badBindings locksRules notReleasable releaseRules releaseAllOf mergeOf mergedOf sortOf sortedOf cellsFrom firstAsking keysFor firstKey leaseOn sharedOf sortedLocksOf acquireSortedOf
 mixed-released = refl
+
+-- `once-done` says so too
+pub mixed-once : answers (leaves prepared mixed-call) (release-all [] 0 (wordsOf (sharedOf (leasesOf (buffer-in (perform prepared mixed-call))) (cellsSorted 4 registry mixed)))) ≡ Done
+mixed-once = once-done prepared registry [] 0 [] mixed buffer mixed-answer
+
+-- "TooMany counts keys as typed": sixty-five keys, all of cell 0
+abbrev sixty-five : Call
+sixty-five = acquire-sorted registry [] 0 [] (replicate 130 0) (replicate 130 9)
+
+pub too-many-typed : perform prepared sixty-five ≡ record { seen = (prepared, says (Refused TooMany) (countsOf 0 0 0 0) 0 (replicate 130 9)); log = [] }
+unfolding perform leasesOf headFits shapeFits healthFits registryFits first notLive locksRules acquireSortedOf
+too-many-typed = refl
 
 -- `keys-first`: header 7 at position 1, whose bucket is too high as well
 pub bad-header-first : perform prepared (acquire-sorted (0 ∷ 7 ∷ []) [] 0 [] (0 ∷ 3 ∷ 1 ∷ 4 ∷ []) (9 ∷ 9 ∷ 9 ∷ 9 ∷ [])) ≡ record { seen = (prepared, says (RefusedAt (BadHeader 7) 1) (countsOf 0 0 0 0) 0 (9 ∷ 9 ∷ 9 ∷ 9 ∷ [])); log = [] }

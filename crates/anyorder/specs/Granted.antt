@@ -79,6 +79,10 @@ module _ (w : World) (registry script : List ℕ) (place : ℕ) (held keys grant
                 (steps-hand-back w registry script place held keys grants e);
           }
 
+  pub handed-so : said .seen .1 .answer ≡ AllGranted
+      → Handed-back b registry keys (leasesOf (sorted-locks w registry script place held keys grants .seen .1 .1 .1)) (leasesOf (buffer-in said))
+  handed-so a = granted a .back
+
   key-shares : (p q : ℕ) → said .seen .1 .answer ≡ AllGranted → p < countIn keys → q < countIn keys → cell p ≡ cell q → leaseAt leases p ≡ leaseAt leases q
   key-shares p q a x y e =
       let h = granted a .back in

@@ -9,3 +9,4 @@ pub mod Refused
 pub mod Healthy
 pub mod Quiet
 pub mod Repeats
+pub mod Takes

@@ -2,19 +2,23 @@
 use Prim.Native.Nat.{ℕ, zero, suc, _+_, _*_, _<_}
 use mathlib.Core.Path.{_≡_, refl, sym, ap, _∙_, subst}
 use mathlib.Core.List.{List, [], _∷_, _++_}
-use mathlib.Core.Logic.{_⊎_, inl, inr}
+use mathlib.Core.Logic.{_⊎_, _↔_, inl, inr}
 use native.Mathlib.Omega.{arith}
 use lib.ListN.{length, getD, replicate, length-replicate}
 use borrow.Author.Tests.{lt-leb}
 use Rattle.choice.specs.Pick.{if-both}
 use Rattle.model.specs.Log.{Made, Event}
 use Rattle.model.specs.Arena.{isPoisoned, leasesOf}
+use Rattle.model.specs.Refusals.{first}
 use Rattle.model.specs.Foreign.{Setting, protecting}
 use Rattle.model.specs.Lock.{findOf, attemptAt, attemptOf, pauseOf, isBusy, retryOf, attemptLimit, noneYet, rollbackOf, afterKey, bindingAt, bucketAt, Locks, locksOf}
-use Rattle.model.specs.Calls.{given, starting}
-use Rattle.model.specs.Sorted.{headerOfKey, firstAsking, judgeAt, askedFirst}
+use Rattle.model.specs.Checks.{countIn}
+use Rattle.model.specs.Calls.{given, starting, acquireLocksOf}
+use Rattle.model.specs.Sorted.{headerOfKey, firstAsking, firstKey, judgeAt, askedFirst, acquireSortedOf}
 use Rattle.types.specs.declared.Answer.{Answer}
 use Rattle.types.specs.declared.Answer.the-variants.{Done, Cell, Granted, AllGranted, Busy, Refused, RefusedAt}
+use Rattle.types.specs.declared.Check.{Check}
+use Rattle.types.specs.declared.Check.the-variants.{Fine, Fault}
 use Rattle.types.specs.declared.Found.{Found}
 use Rattle.types.specs.declared.Found.the-variants as found
 use Rattle.types.specs.declared.KeyCheck.{KeyCheck}
@@ -27,12 +31,14 @@ use Rattle.types.specs.declared.Run.{Run}
 use Rattle.types.specs.declared.Tried.{Tried}
 use Rattle.laws.specs.Outcomes.{Comes, granted, busy, poisoned, damaged, spent, lock-comes}
 use Rattle.history.specs.World.{World}
-use Rattle.history.specs.Items.{Says, acquire-locks, acquire-sorted, perform, Clear, rules}
+use Rattle.history.specs.Items.{Call, Says, acquire-locks, acquire-sorted, perform, Clear, rules}
 use Rattle.history.specs.Statements.{answer-in, Rolled-back}
-use Rattle.history.specs.Judged.{clear-fine, unchanged-at, seen-as, sorted-locks, as-asked, sorted-made}
+use Rattle.history.specs.Judged.{clear, clear-fine, judged-at, unchanged-at, seen-as, sorted-locks, as-asked, sorted-made}
 use Rattle.history.specs.Rollback.{locks-roll-back}
 use Rattle.history.specs.Shared.{asked-cells, sorted-cells, chosen-keys, asked-at, first-place, first-place-at, chosen-binding, chosen-bucket, chosen-count}
-use Rattle.anyorder.specs.Statements.{Tests-key, Key-inside, First-bad, Keys-first, Beyond-checks, Refused-later, Later-position}
+use Rattle.exact.specs.Script.{acquire-locks-has}
+use Rattle.exact.specs.Made.{made}
+use Rattle.anyorder.specs.Statements.{Tests-key, Key-inside, First-bad, Keys-first, Checks-as-typed, Beyond-checks, Refused-later, Later-position}
 use Rattle.anyorder.specs.Keys.{keys-inside, first-found, bad-tests, none-before}
 use Rattle.anyorder.specs.Runs.{Goes, refused-whole, refused-key, locks, goes, as-multilock}
 
@@ -219,3 +225,80 @@ later-position w registry script place held keys grants r p a n =
           (at-first w registry script place held keys grants r (x .0) (m .log) (subst (λ (es : List Event). Rolled-back b registry chosen (x .0) es) (sym (y .log)) back)),
       y .kept (not-granted (x .1)),
     )
+
+-- ---- without a position: by multi-lock's checks alone
+
+abbrev Positioned : Answer → Type 0
+Positioned Done = Unit {0}
+Positioned (Cell c) = Unit {0}
+Positioned (Granted l) = Unit {0}
+Positioned AllGranted = Unit {0}
+Positioned (Busy why) = Unit {0}
+Positioned (Refused r) = ⊥
+Positioned (RefusedAt r p) = Unit {0}
+
+locks-positioned : (left p : ℕ) (e : Setting) (buckets : ℕ) (registry keys : List ℕ) (taken : List Lease) (r : Run) (t g grants : List ℕ)
+    → Positioned (locksOf left p e buckets registry keys taken r t g grants .seen .0 .answer)
+unfolding locksOf rollbackOf
+locks-positioned zero p e buckets registry keys taken r t g grants = tt
+locks-positioned (suc left) p e buckets registry keys taken r t g grants =
+    let m = retryOf attemptLimit 0 noneYet (protecting e taken) buckets registry (bindingAt keys p) (bucketAt keys p) r t g .seen in
+    go (m .0 .outcome) (m .0 .run) (m .1 .0) (m .1 .1) (λ l. locksOf left (p + 1) e buckets registry keys (taken ++ (l ∷ [])) (m .0 .run) (m .1 .0) (m .1 .1) grants)
+    (λ l. locks-positioned left (p + 1) e buckets registry keys (taken ++ (l ∷ [])) (m .0 .run) (m .1 .0) (m .1 .1) grants)
+  where
+    go : (x : Outcome) (s : Run) (u w : List ℕ) (more : Lease → Made Locks) → ((l : Lease) → Positioned (more l .seen .0 .answer))
+        → Positioned (afterKey x e taken p s u w grants more .seen .0 .answer)
+    go (outcome.Granted l) s u w more h = h l
+    go (outcome.Busy why) s u w more h = tt
+    go (outcome.Refused y) s u w more h = tt
+
+asked-positioned : (asked sorted : List ℕ) (x : Answer) → Positioned x → Positioned (askedFirst x asked sorted)
+asked-positioned asked sorted Done h = tt
+asked-positioned asked sorted (Cell c) h = tt
+asked-positioned asked sorted (Granted l) h = tt
+asked-positioned asked sorted AllGranted h = tt
+asked-positioned asked sorted (Busy why) h = tt
+asked-positioned asked sorted (Refused r) h = h
+asked-positioned asked sorted (RefusedAt r p) h = tt
+
+module _ (w : World) (registry script : List ℕ) (place : ℕ) (held keys grants : List ℕ) where
+  abbrev sorted-call : Call
+  sorted-call = acquire-sorted registry script place held keys grants
+
+  abbrev typed-call : Call
+  typed-call = acquire-locks registry script place held keys grants
+
+  -- a check of multi-lock applies: both calls answer it
+  both-refuse : (r : Refusal) → first (rules w typed-call) ≡ Fault r → (answer-in (perform w sorted-call) ≡ Refused r) × (answer-in (perform w typed-call) ≡ Refused r)
+  unfolding perform acquireSortedOf acquireLocksOf
+  both-refuse r e = (rw e, rw e)
+
+  -- none applies: neither is refused without a position
+  sorted-positioned : first (rules w typed-call) ≡ Fine → Positioned (answer-in (perform w sorted-call))
+  sorted-positioned e =
+      subst (λ (m : Made (World × Says)). Positioned (answer-in m)) (sym (sorted-made w registry script place held keys grants e))
+      (judged-at (λ (m : Made (World × Says)). Positioned (answer-in m)) (firstKey (countIn keys) 0 (w .head) registry keys) (λ r p _. tt)
+      (λ _.
+      asked-positioned (asked-cells (w .head .buckets) registry keys) (sorted-cells (w .head .buckets) registry keys) (sorted-locks w registry script place held keys grants .seen .0 .answer)
+      (locks-positioned (length (sorted-cells (w .head .buckets) registry keys)) 0 (given (w .head) script (leasesOf held)) (w .head .buckets) registry (chosen-keys (w .head .buckets) registry keys) [] (starting (w .head) place) (w .table) (w .health) grants)))
+
+  typed-positioned : first (rules w typed-call) ≡ Fine → Positioned (answer-in (perform w typed-call))
+  typed-positioned e =
+      subst (λ (m : Made (World × Says)). Positioned (answer-in m)) (sym (made w (acquire-locks-has registry script place held keys grants) (clear (rules w typed-call) e)))
+      (locks-positioned (countIn keys) 0 (given (w .head) script (leasesOf held)) (w .head .buckets) registry keys [] (starting (w .head) place) (w .table) (w .health) grants)
+
+pub checks-as-typed : Checks-as-typed perform
+checks-as-typed w registry script place held keys grants r = go (first (rules w (acquire-locks registry script place held keys grants))) refl
+  where
+    A : Answer
+    A = answer-in (perform w (acquire-sorted registry script place held keys grants))
+
+    B : Answer
+    B = answer-in (perform w (acquire-locks registry script place held keys grants))
+
+    go : (x : Check) → first (rules w (acquire-locks registry script place held keys grants)) ≡ x → (A ≡ Refused r) ↔ (B ≡ Refused r)
+    go Fine e = (
+      λ q. absurd (subst Positioned q (sorted-positioned w registry script place held keys grants e)),
+      λ q. absurd (subst Positioned q (typed-positioned w registry script place held keys grants e)),
+    )
+    go (Fault y) e = let both = both-refuse w registry script place held keys grants y e in (λ q. both .1 ∙ sym (both .0) ∙ q, λ q. both .0 ∙ sym (both .1) ∙ q)

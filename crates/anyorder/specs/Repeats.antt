@@ -1,4 +1,4 @@
--- "To `release_all` the caller hands each lease once, else 14.": the buffer of doubled keys, given to `release_all` as it is.
+-- "To `release_all` the caller hands each lease once, else 14.": the buffer of doubled keys, given to `release_all` as it is, and each lease once.
 use Prim.Native.Nat.{ℕ, zero, suc, _+_, _*_, _/_, _%_, _≤_, _<_}
 use mathlib.Core.Path.{_≡_, refl, sym, ap, _∙_, subst}
 use mathlib.Core.List.{List, [], _∷_, _++_, append-nil, append-assoc}
@@ -9,29 +9,33 @@ use lib.Dec.{ltb, eqb}
 use lib.ListN.{length, getD, take}
 use borrow.Author.Tests.{ltb-false, le-ltb, eq-eqb}
 use Rattle.choice.specs.Pick.{neither}
-use Rattle.model.specs.Arena.{cellsOf, isLive, leasesOf, isIn}
+use Rattle.model.specs.Log.{Made}
+use Rattle.model.specs.Arena.{cellsOf, isLive, leasesOf, wordsOf, isIn}
 use Rattle.model.specs.Refusals.{first}
 use Rattle.model.specs.Lock.{noLease, leaseAt}
 use Rattle.model.specs.Checks.{countIn, isOdd, tooManyLeases, notLive, notReleasable, releaseRules, locksRules}
 use Rattle.model.specs.Calls.{releaseAllOf}
-use Rattle.types.specs.declared.Answer.the-variants.{AllGranted, Refused}
+use Rattle.model.specs.Sorted.{sharedOf}
+use Rattle.types.specs.declared.Answer.the-variants.{Done, AllGranted, Refused}
 use Rattle.types.specs.declared.Check.the-variants.{Fault}
 use Rattle.types.specs.declared.Head.{Head}
 use Rattle.types.specs.declared.Lease.{Lease}
 use Rattle.types.specs.declared.Refusal.{Refusal}
 use Rattle.types.specs.declared.Refusal.the-variants.{Repeated}
-use Rattle.laws.specs.Lists.{leases-few}
+use Rattle.laws.specs.Lists.{leases-few, length-words}
 use Rattle.history.specs.World.{World, Live}
-use Rattle.history.specs.Items.{acquire-sorted, release-all, any-order, keyCell, perform, Clear, rules}
+use Rattle.history.specs.Items.{Says, acquire-sorted, release-all, any-order, keyCell, perform, Clear, rules}
 use Rattle.history.specs.Statements.{answer-in, buffer-in, leaves}
-use Rattle.history.specs.Tests.{differ, In, in-take, in-index}
-use Rattle.history.specs.Judged.{clear-back}
+use Rattle.history.specs.Tests.{differ, In, in-take, in-index, leases-words}
+use Rattle.history.specs.Judged.{clear-back, sorted-locks}
 use Rattle.history.specs.Calls.{call-kept, words-leases}
-use Rattle.history.specs.Shared.{buffers-name}
+use Rattle.history.specs.Shared.{Handed-back, sorted-cells, sorted-few, sorted-rises, rising-at, first-place, first-place-at, sorted-place-of, back-once, buffers-name}
+use Rattle.exact.specs.Script.{release-all-has}
+use Rattle.exact.specs.Made.{made}
 use Rattle.exact.specs.Passing.{shape-on, health-on}
-use Rattle.anyorder.specs.Statements.{Doubled, Fourteen}
+use Rattle.anyorder.specs.Statements.{Doubled, Fourteen, Once-done}
 use Rattle.anyorder.specs.Runs.{goes, granted-beyond}
-use Rattle.anyorder.specs.Granted.{shares, each-key-live}
+use Rattle.anyorder.specs.Granted.{handed-so, shares, each-key-live}
 
 -- ---- the least number that passes a test
 
@@ -74,6 +78,21 @@ repeated-first h t i earlier (l ∷ ls) live (suc j) b e none =
     (repeated-first h t (i + 1) (earlier ++ (l ∷ [])) ls (λ x k. live (suc x) (omega arith)) j (omega arith)
     (subst (λ (ks : List Lease). isIn (leaseAt ls j) ks ≡ true) (sym (behind j)) e)
     (λ x k. subst (λ (ks : List Lease). isIn (leaseAt ls x) ks ≡ false) (sym (behind x)) (none (suc x) (omega arith))))
+
+-- and none does, where none stands earlier
+none-again : (h : Head) (t : List ℕ) (i : ℕ) (earlier ls : List Lease) → ((x : ℕ) → x < length ls → isLive (h .next) (cellsOf h) t (leaseAt ls x) ≡ true)
+    → ((x : ℕ) → x < length ls → isIn (leaseAt ls x) (earlier ++ take x ls) ≡ false) → Clear (notReleasable h t i earlier ls)
+unfolding notReleasable
+none-again h t i earlier [] live once = tt
+none-again h t i earlier (l ∷ ls) live once =
+    let f : isIn l earlier ≡ false = subst (λ (ks : List Lease). isIn l ks ≡ false) (append-nil earlier) (once 0 (omega arith)) in (
+      ap not (live 0 (omega arith)),
+      (
+        f,
+        none-again h t (i + 1) (earlier ++ (l ∷ [])) ls (λ x k. live (suc x) (omega arith))
+            (λ x k. subst (λ (ks : List Lease). isIn (leaseAt ls x) ks ≡ false) (sym (append-assoc earlier (l ∷ []) (take x ls))) (once (suc x) (omega arith))),
+      ),
+    )
 
 getD-take : (ls : List Lease) (n i : ℕ) → i < n → getD (take n ls) i noLease ≡ getD ls i noLease
 getD-take [] zero i l = refl
@@ -170,6 +189,57 @@ module _ (w : World) (registry script : List ℕ) (place : ℕ) (held keys grant
         λ i k e. differ (sym (x .3 i k) ∙ again i (omega (arith, k, b, l)) e),
         refused-release v buffer (Repeated j) (checks ∙ repeated-first (v .head) (v .table) 0 [] ls live j (omega (arith, b, l, many)) (x .2) (x .3) ∙ ap (λ (n : ℕ). Fault (Repeated n)) z),
       )
+
+  -- ---- each lease once: those of the distinct cells, in rising order
+
+  abbrev b : ℕ
+  b = w .head .buckets
+
+  abbrev sorted : List ℕ
+  sorted = sorted-cells b registry keys
+
+  abbrev each : List Lease
+  each = leasesOf (sorted-locks w registry script place held keys grants .seen .1 .1 .1)
+
+  back : Handed-back b registry keys each ls
+  back = handed-so w registry script place held keys grants granted
+
+  each-live : (i : ℕ) → i < length each → Live v (leaseAt each i)
+  each-live i k =
+      let l : i < length sorted = omega (arith, k, back .many) in
+      let p = first-place b registry keys i in
+      let f = first-place-at b registry keys i l .0 in
+      subst (Live v) (back .each p f ∙ ap (leaseAt each) (sorted-place-of b registry keys i l)) (each-key-live w registry script place held keys grants p granted f .1)
+
+  each-once : (i : ℕ) → i < length each → isIn (leaseAt each i) ([] ++ take i each) ≡ false
+  each-once i k = go (isIn (leaseAt each i) (take i each)) refl
+    where
+      go : (x : Bool) → isIn (leaseAt each i) (take i each) ≡ x → x ≡ false
+      go false e = refl
+      go true e =
+          let x = in-index (take i each) (leaseAt each i) noLease e in
+          let j = x .0 in
+          let l : j < i = omega (arith, x .1, take-short each i) in
+          let same = ap (λ (y : Lease). y .cell) (x .2 ∙ getD-take each i j l) in
+          absurd (omega (arith, same, back .own i (omega (arith, k, back .many)), back .own j (omega (arith, l, k, back .many)), rising-at 0 sorted (sorted-rises b registry keys) j i l (omega (arith, k, back .many))))
+
+  once-clear : Clear (rules v (release-all [] 0 (wordsOf each)))
+  unfolding locksRules releaseRules
+  once-clear =
+      let c = clear in
+      let k = call-kept w (acquire-sorted registry script place held keys grants) .kept in
+      let n = length each in
+      let fits : tooManyLeases (wordsOf each) .applies ≡ false
+      = rw (length-words each, eq-eqb ((2 * n) % 2) 0 (omega arith)) (le-ltb 64 ((2 * n) / 2) (omega (arith, few, sorted-few b registry keys, back .many))) in
+      (shape-on held k (c .0), (health-on held k (c .1 .0), (refl, (fits, rw (leases-words each) (none-again (v .head) (v .table) 0 [] each each-live each-once)))))
+
+  released : answer-in (perform v (release-all [] 0 (wordsOf (sharedOf ls sorted)))) ≡ Done
+  released =
+      subst (λ (ks : List Lease). answer-in (perform v (release-all [] 0 (wordsOf ks))) ≡ Done) (sym (back-once b registry keys back))
+      (ap (λ (m : Made (World × Says)). answer-in m) (made v (release-all-has [] 0 (wordsOf each)) once-clear))
+
+pub once-done : Once-done perform
+once-done w registry script place held keys grants granted = released w registry script place held keys grants granted
 
 pub fourteen : Fourteen perform
 fourteen w registry script place held keys grants p q granted less l e = refused w registry script place held keys grants granted q l (p, less, e)

@@ -14,7 +14,7 @@ use Rattle.model.specs.Lock.{leaseAt, bindingAt, bucketAt}
 use Rattle.model.specs.Checks.{countIn}
 use Rattle.model.specs.Calls.{countsOf}
 use Rattle.model.specs.Sorted.{headerOfKey, cellsAsked, cellsSorted, sortedKeys, firstKey, sharedOf, askedFirst}
-use Rattle.types.specs.declared.Answer.the-variants.{AllGranted, Refused, RefusedAt}
+use Rattle.types.specs.declared.Answer.the-variants.{Done, AllGranted, Refused, RefusedAt}
 use Rattle.types.specs.declared.Head.{Head}
 use Rattle.types.specs.declared.KeyCheck.the-variants as key
 use Rattle.types.specs.declared.Refusal.{Refusal}
@@ -65,6 +65,14 @@ Taken-rising f =
     answer-in m ≡ AllGranted → p < countIn keys → q < countIn keys → cell p < cell q
     → (x y z : List Event) × (m .log ≡ x ++ (took by-caller (cell p) (l .serial) ∷ (y ++ (took by-caller (cell q) (k .serial) ∷ z))))
 
+-- granted or refused: no take of the caller comes behind one of a higher cell. The same cell may come again, where a retry takes it once more after a
+-- late Busy
+abbrev pub Takes-rise : Build → Type 0
+Takes-rise f =
+    (w : World) (registry script : List ℕ) (place : ℕ) (held keys grants : List ℕ) (c d s t : ℕ) (x y z : List Event)
+    → f w (acquire-sorted registry script place held keys grants) .log ≡ x ++ (took by-caller c s ∷ (y ++ (took by-caller d t ∷ z)))
+    → c ≤ d
+
 -- each key's lease is live afterwards, on the key's own cell
 abbrev pub Each-key-live : Build → Type 0
 Each-key-live f =
@@ -84,6 +92,14 @@ Sorted-healthy f =
     answer-in m ≡ AllGranted → p < countIn keys
     → ((before after : List Event) × (m .log ≡ before ++ after) × Grant-point l before after × Healthy (now w before) (l .cell))
     × (((q : ℕ) → q < countIn keys → cell q ≤ cell p) → Healthy (world-in m) (l .cell))
+
+-- ---- refused without a position: multi-lock's own checks and no others. "TooMany counts keys as typed"
+
+abbrev pub Checks-as-typed : Build → Type 0
+Checks-as-typed f =
+    (w : World) (registry script : List ℕ) (place : ℕ) (held keys grants : List ℕ) (r : Refusal)
+    → (answer-in (f w (acquire-sorted registry script place held keys grants)) ≡ Refused r)
+    ↔ (answer-in (f w (acquire-locks registry script place held keys grants)) ≡ Refused r)
 
 -- ---- refused before any attempt: "BadHeader and InvalidBucket are now also tested in this call before any attempt, by the caller's first position,
 -- header before bucket."
@@ -198,3 +214,11 @@ Fourteen f =
     → (j : ℕ) × (j ≤ q) × Doubled (w .head .buckets) registry keys j
     × ((i : ℕ) → i < j → Doubled (w .head .buckets) registry keys i → ⊥)
     × (answer-in (f (world-in m) (release-all [] 0 (buffer-in m))) ≡ Refused (Repeated j))
+
+-- "each lease once", of each cell asked for, in rising order: released
+abbrev pub Once-done : Build → Type 0
+Once-done f =
+    (w : World) (registry script : List ℕ) (place : ℕ) (held keys grants : List ℕ)
+    → let m = f w (acquire-sorted registry script place held keys grants) in
+    answer-in m ≡ AllGranted
+    → answer-in (f (world-in m) (release-all [] 0 (wordsOf (sharedOf (leasesOf (buffer-in m)) (cellsSorted (w .head .buckets) registry keys))))) ≡ Done

@@ -1,7 +1,7 @@
 -- The statements of `Statements` and `Callers`, each proved of ours; the proofs are in the files behind.
 use Rattle.model.specs.Crew.{crewOf, crewAtWorkOf}
 use Rattle.history.specs.Items.{perform}
-use Rattle.anyorder.specs.Statements.{Shares, Serials-by-cell, Apart-by-cell, Taken-rising, Each-key-live, Sorted-healthy, Keys-first, As-multilock, Sorted-quiet, Later-position, Fourteen}
+use Rattle.anyorder.specs.Statements.{Shares, Serials-by-cell, Apart-by-cell, Taken-rising, Takes-rise, Each-key-live, Sorted-healthy, Keys-first, Checks-as-typed, As-multilock, Sorted-quiet, Later-position, Fourteen, Once-done}
 use Rattle.anyorder.specs.Callers as callers
 use Rattle.anyorder.specs.Granted as granting
 use Rattle.anyorder.specs.Refused as refusing
@@ -9,6 +9,7 @@ use Rattle.anyorder.specs.Runs as running
 use Rattle.anyorder.specs.Healthy as healthy
 use Rattle.anyorder.specs.Quiet as quiet
 use Rattle.anyorder.specs.Repeats as repeating
+use Rattle.anyorder.specs.Takes as taking
 
 -- ---- granted
 
@@ -33,7 +34,15 @@ sorted-healthy = healthy.sorted-healthy
 pub sorted-quiet : Sorted-quiet perform
 sorted-quiet = quiet.sorted-quiet
 
+-- ---- granted or refused
+
+pub takes-rise : Takes-rise perform
+takes-rise = taking.takes-rise
+
 -- ---- refused
+
+pub checks-as-typed : Checks-as-typed perform
+checks-as-typed = refusing.checks-as-typed
 
 pub keys-first : Keys-first perform
 keys-first = refusing.keys-first
@@ -51,10 +60,16 @@ as-multilock = running.as-multilock
 pub fourteen : Fourteen perform
 fourteen = repeating.fourteen
 
+pub once-done : Once-done perform
+once-done = repeating.once-done
+
 -- ---- demand 3
 
 pub callers-are-crew : callers.Callers-are-crew
 callers-are-crew = callers.callers-are-crew
+
+pub lists-are : callers.Lists-are
+lists-are = callers.lists-are
 
 pub callers-finish : callers.Callers-finish crewOf
 callers-finish = callers.callers-finish
