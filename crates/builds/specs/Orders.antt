@@ -45,7 +45,7 @@ abbrev sick : World
 sick = worldOf (headOf 2 4 1) (replicate 24 0) (0 ∷ 1 ∷ [])
 
 pub sorted-position-falls : Later-position sorted-position → ⊥
-unfolding perform bitAt ownerAt waitersAt setCell isFree isHeld stateOf stateAt isLive leasesOf wordsOf sameLease isIn headFits shapeFits healthFits registryFits first runStepsOf boundaryOf takeOf lateOf secondOf lockOf findOf attemptOf spinOf pauseOf retryOf giveBackOf rollbackOf locksOf notLive badBindings locksRules mergeOf mergedOf sortOf sortedOf cellsFrom firstAsking keysFor firstKey leaseOn sharedOf acquireLocksOf
+unfolding perform bitAt ownerAt waitersAt setCell isFree isHeld stateOf stateAt isLive leasesOf wordsOf sameLease isIn headFits shapeFits healthFits registryFits first runStepsOf boundaryOf takeOf lateOf secondOf lockOf findOf attemptOf spinOf pauseOf retryOf giveBackOf rollbackOf locksOf notLive badBindings locksRules mergeOf mergedOf sortOf sortedOf cellsFrom firstAsking keysFor firstKey leaseOn sharedOf sortedLocksOf acquireSortedOf
 sorted-position-falls h =
     let k = h sick registry [] 0 [] (0 ∷ 2 ∷ 2 ∷ 1 ∷ 1 ∷ 1 ∷ 0 ∷ 0 ∷ []) (replicate 8 9) (Poisoned 1) 2 refl (λ t. elim t [ inl e ↦ omega arith | inr e ↦ omega arith ]) in
     k .0 .first-asking 1 (omega arith) refl

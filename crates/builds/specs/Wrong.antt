@@ -1,18 +1,20 @@
 -- Wrong builds: answering functions of the calls' own types, each wrong in one thing. "Slips to be ruled out" and "Idle builds the promises must
 -- reject" of document 01, slips that document 02, L1, L3 and L4, invite, and six slips of definitions that an earlier set of
 -- theorems let pass. `Falls`, `Reasons`, `Orders` and `Crews` prove which theorem each fails. Where nothing else is said a build does as ours does.
-use Prim.Native.Nat.{ℕ, zero, suc, _+_, _*_, _-_, _%_}
+use Prim.Native.Nat.{ℕ, zero, suc, _+_, _-_, _%_}
 use mathlib.Core.List.{List, [], _∷_, _++_}
+use mathlib.Core.Bool.{_||_}
 use lib.Dec.{leb, eqb}
-use lib.ListN.{length, replicate}
+use lib.ListN.{length, getD, replicate}
 use Rattle.choice.specs.Choice.{if_then_else_}
 use Rattle.model.specs.Log.{Made, Event, by-caller, by-script, attempt-begun, boundary-run, yielded, spun, step-dropped, took, released, waiters-set, health-set, held-all, added, gives, note, _>>=_, _>>_}
 use Rattle.model.specs.Arena.{spentTo, leaseOf, leasesOf, ownerAt, setCell}
+use Rattle.model.specs.Refusals.{numberOf}
 use Rattle.model.specs.Answers.{refusalIn}
 use Rattle.model.specs.Foreign.{Setting, boundaryOf}
 use Rattle.model.specs.Lock.{runOf, attemptOf, attemptLimit, noneYet, spinOf, isBusy, lastOf, triedOf, answerOf, settled}
 use Rattle.model.specs.Calls.{countsOf, given, starting}
-use Rattle.model.specs.Sorted.{cellsSorted, sortedKeys}
+use Rattle.model.specs.Sorted.{cellsAsked, cellsSorted, firstAsking}
 use Rattle.model.specs.Crew.{total, crewOf}
 use Rattle.types.specs.declared.Answer.{Answer}
 use Rattle.types.specs.declared.Answer.the-variants.{Done, Cell, Granted, AllGranted, Busy, Refused, RefusedAt}
@@ -217,22 +219,39 @@ frees-by-cell =
 abbrev pub as-typed : Build
 as-typed = others our-drop our-key our-once our-locks our-locks
 
--- a lease of its own for each key, doubled or not: its cell, and the serials one after the other
+-- granted, a lease of its own for each key, doubled or not: its cell, and the serials one after the other
+abbrev pub if-granted : Answer → List ℕ → List ℕ → List ℕ
+if-granted AllGranted own ours = own
+if-granted Done own ours = ours
+if-granted (Cell c) own ours = ours
+if-granted (Granted l) own ours = ours
+if-granted (Busy why) own ours = ours
+if-granted (Refused r) own ours = ours
+if-granted (RefusedAt r p) own ours = ours
+
 abbrev pub own-leases : Build
 own-leases =
     others our-drop our-key our-once our-locks λ w registry script place held keys grants.
     let m = our-sorted w registry script place held keys grants in
     let s = m .seen .1 in
-    record { seen = (m .seen .0, says (s .answer) (s .counts) (s .place) (feigned (w .head .buckets) registry (w .head .next) keys)); log = m .log }
+    let own = feigned (w .head .buckets) registry (w .head .next) keys in
+    record { seen = (m .seen .0, says (s .answer) (s .counts) (s .place) (if-granted (s .answer) own (s .grants))); log = m .log }
 
--- a later refusal with the place in the sorted list, in place of the caller's position
+-- a later refusal, not with 6 or 8, with the cell's place in the sorted list, in place of the caller's position
+abbrev pub by-sorted : (asked sorted : List ℕ) → Answer → Answer
+by-sorted asked sorted (RefusedAt r p) = RefusedAt r (if eqb (numberOf r) 6 || eqb (numberOf r) 8 then p else firstAsking sorted (getD asked p 0))
+by-sorted asked sorted Done = Done
+by-sorted asked sorted (Cell c) = Cell c
+by-sorted asked sorted (Granted l) = Granted l
+by-sorted asked sorted AllGranted = AllGranted
+by-sorted asked sorted (Busy why) = Busy why
+by-sorted asked sorted (Refused r) = Refused r
+
 abbrev pub sorted-position : Build
 sorted-position =
     others our-drop our-key our-once our-locks λ w registry script place held keys grants.
-    let n = length (cellsSorted (w .head .buckets) registry keys) in
-    let m = our-locks w registry script place held (sortedKeys (w .head .buckets) registry keys) (replicate (2 * n) 0) in
-    let s = m .seen .1 in
-    record { seen = (m .seen .0, says (s .answer) (s .counts) (s .place) grants); log = m .log }
+    let b = w .head .buckets in
+    answering (λ s. by-sorted (cellsAsked b registry keys) (cellsSorted b registry keys) (s .answer)) (our-sorted w registry script place held keys grants)
 
 -- ---- document 02, L3: "A header went bad before the grant, and the governor wrote into it."
 
