@@ -21,7 +21,7 @@ use Rattle.laws.specs.Lists.{zero-bit, zero-owner}
 use Rattle.laws.specs.Prepared.{Outcome, Came, was-done, was-refused, came, prepare-done}
 use Rattle.history.specs.World.{World, worldOf, cells, Apart, now, Lawful, one, bits, takes, number-of}
 use Rattle.history.specs.Items.{Says, saying, foreign, Item, call, foreign-step, preparation, preparation-over, salvage, salvage-over, Entry, entryOf, Course, courseOf, noted, events-of, history-of, prepared-by, preparing, salvaged-by, salvaging, next-item, run, cold}
-use Rattle.history.specs.Statements.{Begins, Fresh, Begun, by-preparation, by-salvage, No-start, Ledger, Demand-2, Sound-if-apart, Prepared-fresh, Prepared-sound, Prepared-counted, Forgets, Refused-stays, Salvage-refused-stays}
+use Rattle.history.specs.Statements.{Begins, Fresh, Begun, by-preparation, by-salvage, No-start, Ledger, Demand-2, Sound-if-apart, Prepared-fresh, Prepared-sound, Prepared-counted, Prepares, own-runs, other-runs, Prepared-begins, Forgets, Refused-stays, Salvage-refused-stays}
 use Rattle.history.specs.Tests.{free, In}
 use Rattle.history.specs.Events.{Good, fit, lives, whole, counts}
 use Rattle.history.specs.Logs.{now-append, lawful-append, lawful-split, good-now, apart-now, arena-now, next-now, bits-now, keep-now, spent-now, Kept, ended, nothing}
@@ -360,3 +360,28 @@ pub origin-kept : (k : Course) (is : List Item) → No-start k is → run k is .
 unfolding run
 origin-kept k [] n = refl
 origin-kept k (i ∷ is) n = origin-kept (next-item k i) is (n .1) ∙ origin-stays k i (n .0)
+
+-- ---- the stretch that a done preparation began
+
+begins-prepared : (k : Course) {i : Item} {headers buckets serial : ℕ} {t g : List ℕ} → Prepares (k .world) headers buckets serial i t g
+    → preparing headers buckets serial t g .0 ≡ Done → Begins (k .world) i × (next-item k i ≡ cold (preparing headers buckets serial t g .1))
+unfolding next-item
+begins-prepared k {headers = headers} {buckets = buckets} {serial = serial} own-runs d =
+    let p = preparing headers buckets serial (k .world .table) (k .world .health) in
+    (d, ap (λ (a : Answer). prepared-by a (p .1) (worldOf (k .world .head) (p .1 .table) (p .1 .health)) k) d)
+begins-prepared k {headers = headers} {buckets = buckets} {serial = serial} (other-runs t g) d =
+    (d, ap (λ (a : Answer). prepared-by a (preparing headers buckets serial t g .1) (k .world) k) d)
+
+prepared-head : (headers buckets serial : ℕ) (t g : List ℕ) → preparing headers buckets serial t g .0 ≡ Done
+    → preparing headers buckets serial t g .1 .head ≡ headOf headers buckets serial
+unfolding preparing
+prepared-head headers buckets serial t g d = ap (λ (o : Outcome). o .0 .head) (prepare-done headers buckets serial t g d)
+
+pub prepared-begins : Prepared-begins
+unfolding run
+prepared-begins k i headers buckets serial t g items x d on =
+    let b = begins-prepared k x d in
+    let o = origin-kept (next-item k i) items on ∙ ap (λ (c : Course). c .origin) (b .1) in
+    let h = ap (λ (w : World). w .head) o ∙ prepared-head headers buckets serial t g d in
+    let l = ledger (run (next-item k i) items) (run-stretch (next-item k i) items (begun k i (b .0))) in
+    (o, subst Fresh (sym o) (prepared-fresh headers buckets serial t g d), h, omega (arith, l .issued, ap (λ (x : Head). x .next) h))

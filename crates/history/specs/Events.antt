@@ -256,7 +256,7 @@ spent-step w e s g k p =
 -- ---- no serial owns two cells
 
 -- a serial that an event issues is the cell's that it took
-new-owner : (w : World) (a : Actor) (c s : ℕ) → Good w → Legal w (took a c s) → (d n : ℕ) → (n < w .head .next → ⊥)
+pub new-owner : (w : World) (a : Actor) (c s : ℕ) → Good w → Legal w (took a c s) → (d n : ℕ) → (n < w .head .next → ⊥)
     → Live (step w (took a c s)) (leaseOf d n) → d ≡ c
 new-owner w a c s g k d n old v = go (see (w .table) c 1 s d (omega (arith, at w (fit g) c (k .0 .0)))) (lives (step w (took a c s)) (leaseOf d n) v)
   where

@@ -26,10 +26,10 @@ use Rattle.types.specs.declared.Refusal.the-variants.{Poisoned, InvalidBucket, 
 use Rattle.types.specs.declared.SalvageAnswer.the-variants as salvaged
 use Rattle.history.specs.World.{World, worldOf, Live, Healthy, now, Sound, Spent, Unreleased, number-of, takes}
 use Rattle.history.specs.Items.{Call, Says, salvage, salvaging, acquire-bucket, try-lock, drop-lease, competing-acquire, release-all, acquire-locks, environment, try-acquire, perform, foreign, Item, call, foreign-step, preparation, Course, courseOf, cold, next-item, run, preparing, held-of, Entry, noted, preparation-over, entryOf, events-of, history-of, saying, says}
-use Rattle.history.specs.Statements.{Begins, Fresh, Ledger, answers, leaves, log-of, Hands-over, Rolled-back, buffer-in, Fails}
+use Rattle.history.specs.Statements.{Begins, Fresh, Ledger, other-runs, answers, leaves, log-of, Hands-over, Rolled-back, buffer-in, Fails}
 use Rattle.history.specs.Reasons.{Takes-nothing}
 use Rattle.history.specs.Callers.{singles}
-use Rattle.history.specs.Theorems.{demand-2, prepared-sound, forgets, salvage-refused-stays, nothing-kept, held-live, changes-nothing, crew-refused, crew-at-work-refused, named, take-is-call, nothing-new, rollback-is, two-writers, granted-healthy, holder-lives, early-takes-nothing, late-is-spent, locks-healthy, poisoned-holds-nothing}
+use Rattle.history.specs.Theorems.{demand-2, prepared-sound, prepared-begins, forgets, salvage-refused-stays, nothing-kept, held-live, changes-nothing, crew-refused, crew-at-work-refused, named, take-is-call, nothing-new, rollback-is, two-writers, granted-healthy, holder-lives, early-takes-nothing, late-is-spent, locks-healthy, poisoned-holds-nothing}
 use Rattle.history.specs.Tests.{differ}
 use Rattle.history.specs.Events.{lives}
 
@@ -176,6 +176,17 @@ pub prepared-again : (after (day ++ (boot ∷ [])) ≡ cold prepared) × (after 
 unfolding run next-item preparing perform foreign bitAt ownerAt waitersAt setCell setWaiters isFree isHeld stateOf stateAt isLive leasesOf sameLease isIn headFits shapeFits healthFits registryFits first stepReleaseOf stepTakeOf stepWaitersOf stepOf runStepsOf boundaryOf takeOf lateOf secondOf lockOf findOf attemptOf retryOf giveBackOf notLive notReleasable prepareRules leaseRules scriptRules lockRules bucketRules releaseRules prepareOf dropLeaseOf tryLockOf acquireBucketOf releaseAllOf
 prepared-again = (refl, refl)
 
+-- `prepared-begins`: such a stretch, with the first serial 5 and cell 3 taken
+abbrev next-day : Course
+next-day = run the-day (preparation-over 2 4 5 (replicate 24 9) (replicate 2 9) ∷ call (try-acquire 3) ∷ [])
+
+pub next-day-begins : (next-day .origin ≡ worldOf (headOf 2 4 5) (replicate 24 0) (replicate 2 0)) × (next-day .world .head .next ≡ 5 + number-of takes (history-of next-day))
+unfolding preparing prepareOf prepareRules first headFits shapeFits healthFits
+next-day-begins =
+    let x = prepared-begins the-day (preparation-over 2 4 5 (replicate 24 9) (replicate 2 9)) 2 4 5 (replicate 24 9) (replicate 2 9) (call (try-acquire 3) ∷ [])
+    (other-runs (replicate 24 9) (replicate 2 9)) refl (λ z. z, tt) in
+    (x .0, x .3)
+
 pub refused-again : (after (day ++ (preparation 2 5 1 ∷ [])) ≡ noted the-day [] (saying (Refused BadShape)) (the-day .world))
     × (after (day ++ (preparation-over 2 4 1 (replicate 23 9) (replicate 2 9) ∷ [])) ≡ noted the-day [] (saying (Refused BadShape)) (the-day .world))
 unfolding run next-item preparing perform foreign bitAt ownerAt waitersAt setCell setWaiters isFree isHeld stateOf stateAt isLive leasesOf sameLease isIn headFits shapeFits healthFits registryFits first stepReleaseOf stepTakeOf stepWaitersOf stepOf runStepsOf boundaryOf takeOf lateOf secondOf lockOf findOf attemptOf retryOf giveBackOf notLive notReleasable prepareRules leaseRules scriptRules lockRules bucketRules releaseRules prepareOf dropLeaseOf tryLockOf acquireBucketOf releaseAllOf
@@ -302,7 +313,7 @@ pub reasons-met : Live (leaves granted meets-holder) (leaseOf 2 2) × Takes-noth
 reasons-met = (
   holder-lives granted meets-holder 2 tt (three-reasons .0),
   early-takes-nothing granted meets-waiters tt .0 (three-reasons .1),
-  late-is-spent granted late 3 tt (both-sound .1) (three-reasons .2),
+  late-is-spent granted late 3 tt (both-sound .1 .whole) (three-reasons .2),
 )
 
 -- `own-serial`

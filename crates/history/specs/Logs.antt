@@ -1,5 +1,5 @@
 -- The laws of one event over a whole log, and over a part of it; and `Kept`, what every step of a call keeps.
-use Prim.Native.Nat.{ℕ, _+_, _*_, _≤_}
+use Prim.Native.Nat.{ℕ, _+_, _*_, _≤_, _<_}
 use mathlib.Core.Path.{_≡_, refl, sym, ap, _∙_, subst}
 use mathlib.Core.List.{List, [], _∷_, _++_, append-nil}
 use native.Mathlib.Omega.{arith}
@@ -7,7 +7,7 @@ use Rattle.model.specs.Log.{Event}
 use Rattle.model.specs.Arena.{spentTo}
 use Rattle.types.specs.declared.Lease.{Lease}
 use Rattle.history.specs.World.{World, cells, Live, Apart, Legal, step, now, Lawful, bits, takes, releases, number-of, Releases, Unreleased, Spent}
-use Rattle.history.specs.Events.{Good, good-step, apart-step, Fit, fit-step, same-arena, keep-step, next-step, spent-step, bits-step}
+use Rattle.history.specs.Events.{Good, good-step, apart-step, Fit, fit-step, same-arena, keep-step, live-before, next-step, spent-step, bits-step}
 
 -- ---- logs one behind the other
 
@@ -65,6 +65,12 @@ bits-now w (e ∷ es) g t =
 pub keep-now : (w : World) (es : List Event) (l : Lease) → Fit w → Lawful w es → Live w l → Unreleased l es → Live (now w es) l
 keep-now w [] l g t v u = v
 keep-now w (e ∷ es) l g t v u = keep-now (step w e) es l (fit-step w e g (t .0)) (t .1) (keep-step w e l g (t .0) v (u .0)) (u .1)
+
+-- a live lease behind a log was live before it, if its serial was issued before
+pub live-back : (w : World) (es : List Event) (l : Lease) → Fit w → Lawful w es → l .serial < w .head .next → Live (now w es) l → Live w l
+live-back w [] l g t o v = v
+live-back w (e ∷ es) l g t o v =
+    live-before w e l g (t .0) (live-back (step w e) es l (fit-step w e g (t .0)) (t .1) (omega (arith, next-step w e)) v) o
 
 pub spent-now : (w : World) (es : List Event) (s : ℕ) → Fit w → Lawful w es → Spent w s → Spent (now w es) s
 spent-now w [] s g t p = p

@@ -11,7 +11,7 @@ use Rattle.types.specs.declared.Lease.{Lease}
 use Rattle.types.specs.declared.Reason.{Reason}
 use Rattle.types.specs.declared.Reason.the-variants.{Held, Before, After}
 use Rattle.types.specs.declared.State.the-variants as state
-use Rattle.history.specs.World.{World, Live, Healthy, now, Sound, Spent}
+use Rattle.history.specs.World.{World, Live, Healthy, now, Whole, Spent}
 use Rattle.history.specs.Items.{Call, try-acquire, drop-lease, read-permission, competing-acquire, release-then-handoff, foreign-release, drop-preserving, acquire-preserving, environment, try-lock, transactional, acquire-bucket, release-all, acquire-locks, acquire-sorted, crew, crew-at-work, asked, Says, Build}
 use Rattle.history.specs.Statements.{answer-in, world-in}
 
@@ -85,9 +85,9 @@ Early-takes-nothing f =
 abbrev pub Holder-lives : Build → Type 0
 Holder-lives f = (w : World) (k : Call) (s : ℕ) → Locks-once k → answer-in (f w k) ≡ Busy (Held s) → Live (world-in (f w k)) (leaseOf (asked w k) s)
 
--- `after s`: from a sound arena, the serial was issued and owns nothing afterwards
+-- `after s`: from an arena with no damaged cell, the serial was issued and owns nothing afterwards
 abbrev pub Late-is-spent : Build → Type 0
-Late-is-spent f = (w : World) (k : Call) (s : ℕ) → Locks-once k → Sound w → answer-in (f w k) ≡ Busy (After s) → Spent (world-in (f w k)) s
+Late-is-spent f = (w : World) (k : Call) (s : ℕ) → Locks-once k → Whole w → answer-in (f w k) ≡ Busy (After s) → Spent (world-in (f w k)) s
 
 -- one compare-and-set by itself is Busy only by a holder, and `competing_acquire_is_excluded` names the serial of the lease that it was given
 abbrev pub Own-serial : Build → Type 0

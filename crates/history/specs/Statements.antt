@@ -8,7 +8,7 @@ use mathlib.Core.Bool.{true}
 use mathlib.Core.Logic.{_⊎_}
 use lib.ListN.{length, replicate}
 use Rattle.model.specs.Log.{Made, Actor, Event, by-caller, by-script, took, released}
-use Rattle.model.specs.Arena.{leaseOf, leasesOf, isIn}
+use Rattle.model.specs.Arena.{headOf, leaseOf, leasesOf, isIn}
 use Rattle.model.specs.Refusals.{numberOf}
 use Rattle.model.specs.Foreign.{stepsIn, kindAt, placeAt, numberAt}
 use Rattle.model.specs.Lock.{leaseAt}
@@ -114,6 +114,21 @@ Prepared-counted =
     Through (λ k.
     Fresh (k .origin)
     → bits (cells (k .world)) (k .world .table) + number-of releases (history-of k) ≡ number-of takes (history-of k))
+
+-- the item is a preparation with these numbers, of the arena's own runs or of others that are lent in their place
+pub data Prepares (w : World) (headers buckets serial : ℕ) : Item → List ℕ → List ℕ → Type 0 where
+  own-runs : Prepares w headers buckets serial (preparation headers buckets serial) (w .table) (w .health)
+  other-runs : (t g : List ℕ) → Prepares w headers buckets serial (preparation-over headers buckets serial t g) t g
+
+-- every stretch that a done preparation began, whatever came before it, is from a preparation: up to the next start it begins with what the
+-- preparation left, nothing but zeros under the head asked for. So "next minus first serial = takes in the history"
+abbrev pub Prepared-begins : Type 0
+Prepared-begins =
+    (k : Course) (i : Item) (headers buckets serial : ℕ) (t g : List ℕ) (items : List Item) → Prepares (k .world) headers buckets serial i t g
+    → preparing headers buckets serial t g .0 ≡ Done → No-start (next-item k i) items
+    → let d = run k (i ∷ items) in
+    (d .origin ≡ preparing headers buckets serial t g .1) × Fresh (d .origin) × (d .origin .head ≡ headOf headers buckets serial)
+    × (d .world .head .next ≡ serial + number-of takes (history-of d))
 
 -- "nothing afterwards depends on what stood there before"
 abbrev pub Forgets : Type 0

@@ -1,7 +1,7 @@
 -- The statements of `Statements`, `Answers` and `Callers`, each proved; the proofs are in the files behind.
 use Rattle.model.specs.Crew.{crewOf, crewAtWorkOf}
 use Rattle.history.specs.Items.{perform, foreign}
-use Rattle.history.specs.Statements.{Demand-2, Sound-if-apart, Prepared-fresh, Prepared-sound, Prepared-counted, Forgets, Refused-stays, Salvage-refused-stays, Lawful-always, Counts-are, Changes-nothing, Crew-refused, Grant-is, Buffer-is, Given-live, Nothing-kept, Nothing-new, Falling-all, Rollback-is, Named, Named-alone, Held-live, Crew-at-work-refused}
+use Rattle.history.specs.Statements.{Demand-2, Sound-if-apart, Prepared-fresh, Prepared-sound, Prepared-counted, Prepared-begins, Forgets, Refused-stays, Salvage-refused-stays, Lawful-always, Counts-are, Changes-nothing, Crew-refused, Grant-is, Buffer-is, Given-live, Nothing-kept, Nothing-new, Falling-all, Rollback-is, Named, Named-alone, Held-live, Crew-at-work-refused}
 use Rattle.history.specs.Answers.{Handed-over, Granted-healthy, Locks-healthy, Poisoned-holds-nothing, Serials-rise, Not-over-live, Busy-or-refused, Locks-refused, Never-twice, Once-each, Two-writers, None-takes, Alone-until-released, Takes-parted}
 use Rattle.history.specs.Reasons.{Reasons-are, Early-takes-nothing, Holder-lives, Late-is-spent, Own-serial}
 use Rattle.history.specs.Callers.{Takes-alike, Take-is-call, Releases-alike, Release-is-call, By-single-calls, Histories-single}
@@ -36,6 +36,9 @@ prepared-sound = courses.prepared-sound
 
 pub prepared-counted : Prepared-counted
 prepared-counted = courses.prepared-counted
+
+pub prepared-begins : Prepared-begins
+prepared-begins = courses.prepared-begins
 
 pub forgets : Forgets
 forgets = courses.histories-forget

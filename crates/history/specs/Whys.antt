@@ -23,8 +23,8 @@ use Rattle.laws.specs.Words.{waiters-set-cell}
 use Rattle.history.specs.World.{World, cells, Live, step, now, Lawful, Spent, number-of, boundaries, caller-releases}
 use Rattle.history.specs.Items.{Call, try-acquire, drop-lease, read-permission, competing-acquire, release-then-handoff, foreign-release, drop-preserving, acquire-preserving, environment, try-lock, transactional, acquire-bucket, release-all, acquire-locks, acquire-sorted, crew, crew-at-work, IsCrew, asked, perform}
 use Rattle.history.specs.Statements.{answer-in, leaves, log-of}
-use Rattle.history.specs.Events.{Fit, good, fit, lives, live-before}
-use Rattle.history.specs.Logs.{now-append, lawful-split, good-now, apart-now, arena-now, kept-fit}
+use Rattle.history.specs.Events.{Good, Fit, good, fit, good-step, lives, live-before, new-owner}
+use Rattle.history.specs.Logs.{now-append, lawful-split, good-now, arena-now, live-back, kept-fit}
 use Rattle.history.specs.Calls.{call-kept, call-fit}
 use Rattle.history.specs.CountedCalls.{calls-counted}
 use Rattle.history.specs.Judged.{performed}
@@ -260,22 +260,35 @@ holder-lives w k s o q =
 
 -- ---- a late serial is spent
 
+-- the serial that a take issued is live nowhere else behind it: where no cell is damaged, no owner was the next serial before
+sole : (w : World) (c s : ℕ) (log front behind : List Event) → log ≡ front ++ (took by-caller c s ∷ behind) → Good w → Lawful w log
+    → (d : ℕ) → Live (now w log) (leaseOf d s) → d ≡ c
+sole w c s log front behind e g t d v =
+    let e′ = took by-caller c s in
+    let u = now w front in
+    let parts = lawful-split w front (e′ ∷ behind) (subst (Lawful w) e t) in
+    let legal = parts .1 .0 in
+    let then = good-now w front g (parts .0) in
+    let last : Live (now (step u e′) behind) (leaseOf d s) = subst (λ (x : World). Live x (leaseOf d s)) (ap (now w) e ∙ now-append w front (e′ ∷ behind)) v in
+    new-owner u by-caller c s then legal d s (λ o. omega (arith, legal .1 .0))
+    (live-back (step u e′) behind (leaseOf d s) (fit (good-step u e′ then legal)) (parts .1 .1) (omega (arith, legal .1 .0)) last)
+
 pub late-is-spent : Late-is-spent perform
-late-is-spent w k s o sound q =
+late-is-spent w k s o whole q =
     let c = asked w k in
     let x = reasons-are w k o .after s .0 q in
     let u = now w (x .up-to) in
     let e = released by-caller c s in
     let lawful = lawful-split w (x .up-to) (e ∷ []) (subst (Lawful w) (x .gives-up) (call-kept w k .kept .lawful)) in
-    let g = good-now w (x .up-to) (good w (sound .whole)) (lawful .0) in
+    let g = good-now w (x .up-to) (good w whole) (lawful .0) in
     let alive-then = lives u (leaseOf c s) (lawful .1 .0) in
     subst (λ (v : World). Spent v s) (sym (left w k c s (x .up-to) (x .gives-up)))
     (record {
       was-issued = alive-then .high;
       owns-none = λ d l.
           let before = live-before u e (leaseOf d s) (fit g) (lawful .1 .0) l (alive-then .high) in
-          let same : c ≡ d = apart-now w (x .up-to) (good w (sound .whole)) (lawful .0) (sound .apart) c d s (lawful .1 .0) before in
-          released-dead u (leaseOf c s) (fit g) (lawful .1 .0) (subst (λ (n : ℕ). Live (step u e) (leaseOf n s)) (sym same) l);
+          let same : d ≡ c = sole w c s (x .up-to) (x .front) (x .behind) (x .taken) (good w whole) (lawful .0) d before in
+          released-dead u (leaseOf c s) (fit g) (lawful .1 .0) (subst (λ (n : ℕ). Live (step u e) (leaseOf n s)) same l);
     })
 
 -- ---- one compare-and-set by itself
