@@ -16,14 +16,14 @@ use Rattle.types.specs.declared.Answer.the-variants as answer
 use Rattle.types.specs.declared.Head.{Head}
 use Rattle.types.specs.declared.Refusal.the-variants.{NotHeld}
 use Rattle.types.specs.declared.SalvageAnswer.the-variants.{Done, ReportFull}
-use Rattle.history.specs.World.{World, worldOf, cells, Live, Free, Apart, Sound, now, Spent, bits, number-of, takes, releases}
+use Rattle.history.specs.World.{World, worldOf, cells, Live, Free, Apart, Sound, now, Lawful, Spent, bits, number-of, takes, releases}
 use Rattle.history.specs.Items.{drop-lease, try-acquire, perform, Item, call, preparation, salvage, salvage-over, says, saying, Entry, entryOf, Course, courseOf, cold, history-of, preparing, salvaging, next-item, run}
 use Rattle.history.specs.Statements.{answers, leaves, rescued, Begins, No-start}
 use Rattle.history.specs.Tests.{differ}
 use Rattle.history.specs.Events.{lives}
 use Rattle.history.specs.Callers.{Shape-fits}
 use Rattle.salvaged.specs.Statements.{answerIn, tableIn, healthIn, reportIn, listIn, No-room, undoneOf, Mends, Owners-differ, Salvages, other, All-spare}
-use Rattle.salvaged.specs.Theorems.{report-full-exactly, rebuilds, mended, twice, apart-exactly, doubled-apart, counts-from-salvage, dead-stays-dead, dead-over-salvages, apart-from-there, unconfirmed-alone, live-over-salvage}
+use Rattle.salvaged.specs.Theorems.{report-full-exactly, rebuilds, mended, twice, apart-exactly, doubled-apart, goes-on-from, counts-from-salvage, dead-stays-dead, dead-over-salvages, apart-from-there, unconfirmed-alone, live-over-salvage}
 
 -- one header of three cells, the next serial 9
 abbrev paper : Head
@@ -127,9 +127,9 @@ pub other-live : (answers left (drop-lease (leaseOf 0 5)) ≡ answer.Done)
     × Live (leaves left (drop-lease (leaseOf 0 5))) (leaseOf 2 5)
 other-live = doubled-apart left 0 2 5 (figures .left-fits) (λ e. omega arith) (figures .first-live) (figures .last-live)
 
--- ---- any items before it, any after it: cells 0 and 2 are taken; the dip leaves waiters of cell 1 and damages the bit of cell 2; the paper has
--- the next serial 3. The salvage frees cell 2 and leaves cell 0 as unconfirmed. Its owner drops it; the lease (2,2) is lost, and refused; cell 2
--- is granted anew
+-- ---- any items before it, any after it: cells 0 and 2 are taken; the dip leaves waiters of cell 1, damages the bit of cell 2 and makes the
+-- health byte 7; the paper has the next serial 3. The salvage frees cell 2, leaves cell 0 as unconfirmed and the header poisoned. The owner of cell 0
+-- drops it; the lease (2,2) is lost, and refused; cell 2 is granted anew
 
 abbrev rubbish : World
 rubbish = worldOf (headOf 7 7 7) (replicate 9 7) (7 ∷ [])
@@ -147,17 +147,17 @@ abbrev after-dip : List ℕ
 after-dip = 1 ∷ 1 ∷ 0 ∷ 0 ∷ 0 ∷ 4 ∷ 7 ∷ 2 ∷ 0 ∷ []
 
 abbrev rescue : Item
-rescue = salvage-over on-paper after-dip (0 ∷ []) (replicate 9 77) (replicate 2 77)
+rescue = salvage-over on-paper after-dip (7 ∷ []) (replicate 12 77) (replicate 2 77)
 
 abbrev went-over : Salvage
-went-over = salvageOf on-paper after-dip (0 ∷ []) (replicate 9 77) (replicate 2 77)
+went-over = salvageOf on-paper after-dip (7 ∷ []) (replicate 12 77) (replicate 2 77)
 
 abbrev afterwards : List Item
 afterwards = call (drop-lease (leaseOf 0 1)) ∷ call (drop-lease (leaseOf 2 2)) ∷ call (try-acquire 2) ∷ []
 
--- the salvaged world: cell 0 held by 1
+-- the salvaged world: cell 0 held by 1, the header poisoned
 abbrev salvaged-world : World
-salvaged-world = worldOf on-paper (1 ∷ 1 ∷ replicate 7 0) (0 ∷ [])
+salvaged-world = worldOf on-paper (1 ∷ 1 ∷ replicate 7 0) (1 ∷ [])
 
 abbrev entries-then : List Entry
 entries-then =
@@ -167,15 +167,15 @@ entries-then =
     ∷ []
 
 abbrev went-on : Course
-went-on = courseOf salvaged-world entries-then (worldOf (headOf 1 3 4) (0 ∷ 0 ∷ 0 ∷ 0 ∷ 0 ∷ 0 ∷ 1 ∷ 3 ∷ 0 ∷ []) (0 ∷ []))
+went-on = courseOf salvaged-world entries-then (worldOf (headOf 1 3 4) (0 ∷ 0 ∷ 0 ∷ 0 ∷ 0 ∷ 0 ∷ 1 ∷ 3 ∷ 0 ∷ []) (1 ∷ []))
 
 pub record Story : Type 0 where
   -- before the dip both leases are live
   pub lives-before : Live (before-dip .world) (leaseOf 0 1) × Live (before-dip .world) (leaseOf 2 2)
-  pub is-done : answerIn went-over ≡ Done 3 1
+  pub is-done : answerIn went-over ≡ Done 4 1
   pub is-listed : listIn went-over ≡ 0 ∷ 77 ∷ []
   pub begins-anew : next-item before-dip rescue ≡ cold salvaged-world
-  pub is-rescued : rescued on-paper after-dip (0 ∷ []) (replicate 9 77) (replicate 2 77) ≡ salvaged-world
+  pub is-rescued : rescued on-paper after-dip (7 ∷ []) (replicate 12 77) (replicate 2 77) ≡ salvaged-world
   pub lives-after : Live salvaged-world (leaseOf 0 1)
   pub goes-on : run before-dip (rescue ∷ afterwards) ≡ went-on
 
@@ -196,17 +196,23 @@ story =
 abbrev end : Course
 end = run before-dip (rescue ∷ afterwards)
 
-is-salvage : Salvages (before-dip .world) rescue on-paper after-dip (0 ∷ []) (replicate 9 77) (replicate 2 77)
-is-salvage = other on-paper after-dip (0 ∷ []) (replicate 9 77) (replicate 2 77)
+is-salvage : Salvages (before-dip .world) rescue on-paper after-dip (7 ∷ []) (replicate 12 77) (replicate 2 77)
+is-salvage = other on-paper after-dip (7 ∷ []) (replicate 12 77) (replicate 2 77)
 
 no-start : No-start (next-item before-dip rescue) afterwards
 no-start = (λ z. z, (λ z. z, (λ z. z, tt)))
+
+-- `goes-on-from`: the stretch begins in the salvaged world
+pub goes-on-then : (end .origin ≡ salvaged-world) × Lawful salvaged-world (history-of end) × (end .world ≡ now salvaged-world (history-of end))
+goes-on-then =
+    subst (λ (w : World). (end .origin ≡ w) × Lawful w (history-of end) × (end .world ≡ now w (history-of end))) (story .is-rescued)
+    (goes-on-from before-dip rescue on-paper after-dip (7 ∷ []) (replicate 12 77) (replicate 2 77) 4 1 afterwards is-salvage (story .is-done) no-start)
 
 -- `counts-from-salvage`: one cell is held at the start
 pub counted-then : (end .world .head .next ≡ 3 + number-of takes (history-of end))
     × (bits (cells (end .world)) (end .world .table) + number-of releases (history-of end) ≡ 1 + number-of takes (history-of end))
 counted-then =
-    counts-from-salvage before-dip rescue on-paper after-dip (0 ∷ []) (replicate 9 77) (replicate 2 77) 3 1 afterwards is-salvage (story .is-done) no-start
+    counts-from-salvage before-dip rescue on-paper after-dip (7 ∷ []) (replicate 12 77) (replicate 2 77) 4 1 afterwards is-salvage (story .is-done) no-start
 
 -- `dead-stays-dead`: serial 2 lost its cell in the dip, and owns none at any point since
 lost : (c : ℕ) → Live salvaged-world (leaseOf c 2) → ⊥
@@ -219,14 +225,14 @@ lost (suc (suc (suc c))) v = omega (arith, lives salvaged-world (leaseOf (suc (s
 pub dead-then : (before after : List Event) → history-of end ≡ before ++ after → (c : ℕ) → Live (now salvaged-world before) (leaseOf c 2) → ⊥
 dead-then =
     subst (λ (w : World). (before after : List Event) → history-of end ≡ before ++ after → (c : ℕ) → Live (now w before) (leaseOf c 2) → ⊥) (story .is-rescued)
-    (dead-stays-dead before-dip rescue on-paper after-dip (0 ∷ []) (replicate 9 77) (replicate 2 77) 3 1 afterwards is-salvage (story .is-done) no-start 2 (omega arith)
+    (dead-stays-dead before-dip rescue on-paper after-dip (7 ∷ []) (replicate 12 77) (replicate 2 77) 4 1 afterwards is-salvage (story .is-done) no-start 2 (omega arith)
     (subst (λ (w : World). (c : ℕ) → Live w (leaseOf c 2) → ⊥) (sym (story .is-rescued)) lost))
 
 -- `apart-from-there`: one cell is listed, so no serial owns two at any point since
 pub apart-then : (before after : List Event) → history-of end ≡ before ++ after → Apart (now salvaged-world before)
 apart-then =
     subst (λ (w : World). (before after : List Event) → history-of end ≡ before ++ after → Apart (now w before)) (story .is-rescued)
-    (apart-from-there before-dip rescue on-paper after-dip (0 ∷ []) (replicate 9 77) (replicate 2 77) 3 1 afterwards is-salvage (story .is-done) no-start .1
+    (apart-from-there before-dip rescue on-paper after-dip (7 ∷ []) (replicate 12 77) (replicate 2 77) 4 1 afterwards is-salvage (story .is-done) no-start .1
     (λ j k a b e. omega arith))
 
 -- `unconfirmed-alone`: cell 0 is Busy, its lease is dropped, and then it is granted
@@ -240,7 +246,7 @@ valve-is = refl
 pub valve-released : (a : Actor) × (before middle : List Event)
     × (attempt-begun ∷ released by-caller 0 1 ∷ attempt-begun ∷ [] ≡ before ++ (released a 0 1 ∷ middle))
 valve-released =
-    unconfirmed-alone before-dip rescue on-paper after-dip (0 ∷ []) (replicate 9 77) (replicate 2 77) 3 1 valve is-salvage (story .is-done) (λ z. z, (λ z. z, (λ z. z, tt)))
+    unconfirmed-alone before-dip rescue on-paper after-dip (7 ∷ []) (replicate 12 77) (replicate 2 77) 4 1 valve is-salvage (story .is-done) (λ z. z, (λ z. z, (λ z. z, tt)))
     0 1 3 by-caller (attempt-begun ∷ released by-caller 0 1 ∷ attempt-begun ∷ []) [] (subst (λ (w : World). Live w (leaseOf 0 1)) (sym (story .is-rescued)) (story .lives-after)) valve-is
 
 -- `live-over-salvage`: a salvage with the head in force, over the arena's own runs, keeps the lease of cell 2
@@ -252,9 +258,11 @@ lives-then = (refl, refl)
 pub lives-on-then : Live (next-item went-on (salvage (headOf 1 3 4) [] (77 ∷ [])) .world) (leaseOf 2 3)
 lives-on-then = live-over-salvage went-on [] (77 ∷ []) (leaseOf 2 3) (0, 1, lives-then .0) .1 (lives-then .1)
 
--- `dead-over-salvages`: that salvage, and cell 0 taken; serial 2 is dead
+-- `dead-over-salvages`: that salvage, and cell 0 taken; then a dip that leaves cell 2 alone held, by 3, and a salvage of that; serial 2 is dead
 abbrev more : List Item
-more = salvage (headOf 1 3 4) [] (77 ∷ []) ∷ call (try-acquire 0) ∷ []
+more =
+    salvage (headOf 1 3 4) [] (77 ∷ []) ∷ call (try-acquire 0)
+    ∷ salvage-over (headOf 1 3 5) (went-on .world .table) (9 ∷ []) (replicate 3 77) (77 ∷ []) ∷ []
 
 abbrev whole-day : List Item
 whole-day = call (try-acquire 0) ∷ call (try-acquire 2) ∷ rescue ∷ afterwards
@@ -274,10 +282,23 @@ still-lost (suc zero) v = differ v
 still-lost (suc (suc zero)) v = differ v
 still-lost (suc (suc (suc c))) v = omega (arith, lives (went-on .world) (leaseOf (suc (suc (suc c))) 2) v .in-range)
 
+-- the second dip's salvage is done too, and no lease of serial 2 stands in what that dip left
+pub second-done : salvaging (headOf 1 3 5) (went-on .world .table) (9 ∷ []) (replicate 3 77) (77 ∷ []) .0 ≡ Done 1 1
+unfolding salvaging bitAt ownerAt isFree isHeld stateOf stateAt headFits shapeFits healthFits first prepareRules keptOf mendedCell mendedTable mendedByte mendedHealth changeOf changesFrom changesOf heldFrom leftHeld overOf isReportFull mendOf goOverOf salvageOf
+second-done = refl
+
+not-left : (c : ℕ) → Live (worldOf (headOf 1 3 5) (went-on .world .table) (9 ∷ [])) (leaseOf c 2) → ⊥
+unfolding bitAt ownerAt isFree isHeld stateOf stateAt isLive
+not-left zero v = differ v
+not-left (suc zero) v = differ v
+not-left (suc (suc zero)) v = differ v
+not-left (suc (suc (suc c))) v = omega (arith, lives (worldOf (headOf 1 3 5) (went-on .world .table) (9 ∷ [])) (leaseOf (suc (suc (suc c))) 2) v .in-range)
+
 pub dead-over-then : Spent (run went-on more .world) 2
 dead-over-then =
     subst (λ (k : Course). (s : ℕ) (items : List Item) → Spent (k .world) s → All-spare s k items → Spent (run k items .world) s) day-is
-    (dead-over-salvages rubbish boot whole-day starts-day) 2 more (record { was-issued = omega arith; owns-none = still-lost }) (omega arith, (tt, tt))
+    (dead-over-salvages rubbish boot whole-day starts-day) 2 more (record { was-issued = omega arith; owns-none = still-lost })
+    (λ _. omega arith, (tt, (λ _. (omega arith, not-left), tt)))
 
 -- and what it does not say: one cell, free, serial 1 dead. A dip writes 1 and 1 into its bit and owner, and a salvage of what it left keeps them:
 -- serial 1 owns again, and no preparation stands between

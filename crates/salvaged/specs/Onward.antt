@@ -25,7 +25,7 @@ use Rattle.history.specs.Logs.{Kept, fit-now, spent-now}
 use Rattle.history.specs.Calls.{call-kept}
 use Rattle.history.specs.Salvages.{Came, bad, full, done, came, Stands-now, came-state, now-whole, now-kept}
 use Rattle.history.specs.Courses.{Stretch, foreign-kept, begun, run-stretch, ledger, origin-kept, not-prepared, not-salvaged, refused-stays, salvage-refused-stays}
-use Rattle.salvaged.specs.Statements.{answerIn, tableIn, healthIn, Salvages, own, other, Held-at-start, Counts-from-salvage, Dead-stays-dead, Spares, All-spare, Dead-over-salvages, Unconfirmed-alone, Live-over-salvage}
+use Rattle.salvaged.specs.Statements.{answerIn, tableIn, healthIn, Salvages, own, other, Goes-on-from, Held-at-start, Counts-from-salvage, Dead-stays-dead, Spares, All-spare, Dead-over-salvages, Unconfirmed-alone, Live-over-salvage}
 use Rattle.salvaged.specs.Cells.{left-bits}
 use Rattle.salvaged.specs.Came.{was-done}
 
@@ -52,6 +52,13 @@ unfolding salvaging
 starts {e = e} {n = n} (own h report list) d = (e, n, d)
 starts {e = e} {n = n} (other h t g report list) d = (e, n, d)
 
+-- and a start only where the salvage is done
+begins-done : {w : World} {i : Item} {h : Head} {t g report list : List ℕ} → Salvages w i h t g report list → Begins w i
+    → (e n : ℕ) × (answerIn (salvageOf h t g report list) ≡ Done e n)
+unfolding salvaging
+begins-done (own h report list) b = b
+begins-done (other h t g report list) b = b
+
 starts-in : (k : Course) {i : Item} {h : Head} {t g report list : List ℕ} {e n : ℕ} → Salvages (k .world) i h t g report list
     → answerIn (salvageOf h t g report list) ≡ Done e n → next-item k i ≡ cold (rescued h t g report list)
 unfolding next-item salvaging
@@ -76,6 +83,13 @@ module _ (k : Course) (i : Item) (h : Head) (t g report list : List ℕ) (e n : 
   pub kept : Ledger end
   unfolding run
   kept = ledger end (run-stretch (next-item k i) items (begun k i (starts x d)))
+
+pub goes-on-from : Goes-on-from
+goes-on-from k i h t g report list e n items x d on =
+    let o = begins-there k i h t g report list e n items x d on in
+    let l = kept k i h t g report list e n items x d on in
+    let log = history-of (run k (i ∷ items)) in
+    (o, subst (λ (w : World). Lawful w log) o (l .lawful), l .leads ∙ ap (λ (w : World). now w log) o)
 
 pub counts-from-salvage : Counts-from-salvage
 counts-from-salvage k i h t g report list e n items x d on =
@@ -158,36 +172,54 @@ module _ (k : Course) (x : Stretch k) (s : ℕ) (p : Spent (k .world) s) where
   dead-still : {v : World} → v ≡ k .world → Spent v s
   dead-still e = subst (λ (w : World). Spent w s) (sym e) p
 
-  dead-refused : (h : Head) (report list : List ℕ) → (Begins (k .world) (salvage h report list) → ⊥) → Spent (next-item k (salvage h report list) .world) s
-  dead-refused h report list n = dead-still (ap (λ (c : Course). c .world) (salvage-refused-stays k h report list n))
+  -- over a salvage: refused, it leaves the world as it was; done, a lease that is live afterwards stood in the runs before
+  dead-refused : {i : Item} {h : Head} {t g report list : List ℕ} → Salvages (k .world) i h t g report list → (Begins (k .world) i → ⊥)
+      → Spent (next-item k i .world) s
+  unfolding next-item
+  dead-refused (own h report list) n = dead-still (ap (λ (c : Course). c .world) (salvage-refused-stays k h report list n))
+  dead-refused (other h t g report list) n = dead-still (ap (λ (c : Course). c .world) (not-salvaged _ _ _ k n))
 
-  -- over a salvage of the arena's own runs: a lease that is live afterwards stood there before
-  dead-rescued : (h : Head) (report list : List ℕ) → s < h .next → Came h (k .world .table) (k .world .health) report list
-      → Spent (next-item k (salvage h report list) .world) s
-  unfolding salvaging mendOf
-  dead-rescued h report list low (done f i q) =
+  dead-rescued : (i : Item) (h : Head) (t g report list : List ℕ) → Salvages (k .world) i h t g report list
+      → (Begins (k .world) i → (s < h .next) × ((c : ℕ) → Live (worldOf h t g) (leaseOf c s) → ⊥)) → Spent (next-item k i .world) s
+  unfolding mendOf
+  dead-rescued i h t g report list x u = go (came h t g report list)
+    where
+      undone : (a : SalvageAnswer) → answerIn (salvageOf h t g report list) ≡ a → ((e n : ℕ) → a ≡ Done e n → ⊥) → Spent (next-item k i .world) s
+      undone a q n = dead-refused x (λ b. let d = begins-done x b in n (d .0) (d .1) (sym q ∙ d .2))
+
+      go : Came h t g report list → Spent (next-item k i .world) s
+      go (bad f q) = undone BadShape (ap answerIn q) (λ e n z. differ cc)
+      go (full f j q) = undone ReportFull (ap answerIn q) (λ e n z. differ cc)
+      go (done f j q) =
+          let d = ap answerIn q in
+          let o = was-done h t g report list _ _ d in
+          let y = u (starts x d) in
+          subst (λ (c : Course). Spent (c .world) s) (sym (starts-in k x d))
+          (record {
+            was-issued = y .0;
+            owns-none = λ c v.
+                y .1 c
+                (live (h .next) (cellsOf h) t (leaseOf c s)
+                (lived h t (o .shape) (leaseOf c s) (subst (λ (u : List ℕ). isLive (h .next) (cellsOf h) u (leaseOf c s) ≡ true) (o .table-is) v)));
+          })
+
+  -- under another head too, the arena's own runs have no cell of it
+  not-there : (h : Head) (report list : List ℕ) → Begins (k .world) (salvage h report list) → (c : ℕ)
+      → Live (worldOf h (k .world .table) (k .world .health)) (leaseOf c s) → ⊥
+  unfolding salvaging
+  not-there h report list b c v =
       let w = k .world in
-      let d = ap answerIn q in
-      let o = was-done h (w .table) (w .health) report list _ _ d in
-      subst (λ (c : Course). Spent (c .world) s) (sym (starts-in k (own h report list) d))
+      let o = was-done h (w .table) (w .health) report list (b .0) (b .1) (b .2) in
+      let a = alive (h .next) (cellsOf h) (w .table) (leaseOf c s) v in
+      p .owns-none c
+      (live (w .head .next) (cells w) (w .table) (leaseOf c s)
       (record {
-        was-issued = low;
-        owns-none = λ c v.
-            let a = lived h (w .table) (o .shape) (leaseOf c s) (subst (λ (u : List ℕ). isLive (h .next) (cellsOf h) u (leaseOf c s) ≡ true) (o .table-is) v) in
-            p .owns-none c
-            (live (w .head .next) (cells w) (w .table) (leaseOf c s)
-            (record {
-              in-range = omega (arith, a .in-range, o .shape .words-are, fits-now .shape .words-are);
-              bit-is = a .bit-is;
-              owner-is = a .owner-is;
-              low = a .low;
-              high = p .was-issued;
-            }));
-      })
-  dead-rescued h report list low (bad f q) =
-      dead-refused h report list (λ b. differ (let z : BadShape ≡ Done (b .0) (b .1) = sym (ap answerIn q) ∙ b .2 in cc))
-  dead-rescued h report list low (full f i q) =
-      dead-refused h report list (λ b. differ (let z : ReportFull ≡ Done (b .0) (b .1) = sym (ap answerIn q) ∙ b .2 in cc))
+        in-range = omega (arith, a .in-range, o .shape .words-are, fits-now .shape .words-are);
+        bit-is = a .bit-is;
+        owner-is = a .owner-is;
+        low = a .low;
+        high = p .was-issued;
+      }))
 
   dead-item : (i : Item) → Spares s (k .world) i → Spent (next-item k i .world) s
   unfolding next-item
@@ -196,8 +228,9 @@ module _ (k : Course) (x : Stretch k) (s : ℕ) (p : Spent (k .world) s) where
   dead-item (preparation headers buckets serial) u =
       dead-still (ap (λ (c : Course). c .world) (refused-stays k headers buckets serial u))
   dead-item (preparation-over headers buckets serial t g) u = dead-still (ap (λ (c : Course). c .world) (not-prepared _ _ _ k u))
-  dead-item (salvage h report list) u = dead-rescued h report list u (came h (k .world .table) (k .world .health) report list)
-  dead-item (salvage-over h t g report list) u = dead-still (ap (λ (c : Course). c .world) (not-salvaged _ _ _ k u))
+  dead-item (salvage h report list) u =
+      dead-rescued (salvage h report list) h (k .world .table) (k .world .health) report list (own h report list) (λ b. (u b, not-there h report list b))
+  dead-item (salvage-over h t g report list) u = dead-rescued (salvage-over h t g report list) h t g report list (other h t g report list) u
 
 dead-items : (k : Course) (is : List Item) (s : ℕ) → Stretch k → Spent (k .world) s → All-spare s k is → Spent (run k is .world) s
 unfolding run

@@ -15,7 +15,7 @@ use Rattle.types.specs.declared.SalvageAnswer.the-variants.{Done, BadShape, Rep
 use Rattle.types.specs.declared.State.the-variants as state
 use Rattle.model.specs.Log.{Actor, Event, took, released}
 use Rattle.types.specs.declared.Lease.{Lease}
-use Rattle.history.specs.World.{World, worldOf, cells, Free, Live, Apart, Sound, now, Spent, bits, number-of, takes, releases}
+use Rattle.history.specs.World.{World, worldOf, cells, Free, Live, Apart, Sound, now, Lawful, Spent, bits, number-of, takes, releases}
 use Rattle.history.specs.Items.{drop-lease, Item, call, foreign-step, preparation, preparation-over, salvage, salvage-over, Course, history-of, next-item, run}
 use Rattle.history.specs.Statements.{answers, leaves, rescued, Begins, No-start, Through}
 use Rattle.history.specs.Callers.{Shape-fits}
@@ -224,6 +224,15 @@ From-salvage P =
     → Salvages (k .world) i h t g report list → answerIn (salvageOf h t g report list) ≡ Done e n → No-start (next-item k i) items
     → P h t g report list n (run k (i ∷ items))
 
+-- the course is that of the salvaged world: it begins there, every event since was legal in the state in which it happened, and the world now is
+-- what the events make of it
+abbrev pub Goes-on-from : Type 0
+Goes-on-from =
+    From-salvage (λ h t g report list n d.
+    (d .origin ≡ rescued h t g report list)
+    × Lawful (rescued h t g report list) (history-of d)
+    × (d .world ≡ now (rescued h t g report list) (history-of d)))
+
 -- the cells held at the start are those that were listed
 abbrev pub Held-at-start : Type 0
 Held-at-start = When-done (λ h t g report list e n. bits (cellsOf h) (tableIn (salvageOf h t g report list)) ≡ n)
@@ -243,15 +252,17 @@ Dead-stays-dead =
     → (before after : List Event) → history-of d ≡ before ++ after
     → (c : ℕ) → Live (now (rescued h t g report list) before) (leaseOf c s) → ⊥)
 
--- "up to the next preparation": the item is no preparation that is done, and a salvage only of the arena's own runs, with the serial below the
--- next one on its paper. A dip in between may write a dead serial into a cell, and a salvage of what it left keeps it there (`Examples.revived`)
+-- "up to the next preparation": the item is no preparation that is done, and a salvage that is done has the serial below the next one on its
+-- paper; where it goes over what a dip left, no cell there has it as its owner. A dip may write a dead serial into a cell, and a salvage of what it
+-- left keeps it there (`Examples.revived`)
 abbrev pub Spares : ℕ → World → Item → Type 0
 Spares s w (call c) = Unit {0}
 Spares s w (foreign-step kind place number) = Unit {0}
 Spares s w (preparation headers buckets serial) = Begins w (preparation headers buckets serial) → ⊥
 Spares s w (preparation-over headers buckets serial t g) = Begins w (preparation-over headers buckets serial t g) → ⊥
-Spares s w (salvage h report list) = s < h .next
-Spares s w (salvage-over h t g report list) = Begins w (salvage-over h t g report list) → ⊥
+Spares s w (salvage h report list) = Begins w (salvage h report list) → s < h .next
+Spares s w (salvage-over h t g report list) =
+    Begins w (salvage-over h t g report list) → (s < h .next) × ((c : ℕ) → Live (worldOf h t g) (leaseOf c s) → ⊥)
 
 abbrev pub All-spare : ℕ → Course → List Item → Type 0
 All-spare s k [] = Unit {0}

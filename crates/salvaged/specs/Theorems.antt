@@ -32,7 +32,7 @@ use Rattle.history.specs.Tests.{differ, state-held, alive, live}
 use Rattle.history.specs.Events.{Fit, fit, keep-step}
 use Rattle.history.specs.Salvages.{Came, bad, full, done, came, inside, now-whole, now-owned, now-freed, now-kept}
 use Rattle.laws.specs.Salvage.{length-mended, length-mended-health, waiters-mended}
-use Rattle.salvaged.specs.Statements.{answerIn, tableIn, healthIn, listIn, fits, No-room, Bad-shape-exactly, Report-full-exactly, placeIn, oldIn, newIn, Reports, Report-is, Places-are, undone, undoneOf, Rebuilds, Lists, Held-in, Unconfirmed-is, Mends, Mended, Twice, Owners-differ, Apart-exactly, Doubled-apart, other, Held-at-start, Counts-from-salvage, Dead-stays-dead, Dead-over-salvages, Apart-from-there, Unconfirmed-alone, Live-over-salvage}
+use Rattle.salvaged.specs.Statements.{answerIn, tableIn, healthIn, listIn, fits, No-room, Bad-shape-exactly, Report-full-exactly, placeIn, oldIn, newIn, Reports, Report-is, Places-are, undone, undoneOf, Rebuilds, Lists, Held-in, Unconfirmed-is, Mends, Mended, Twice, Owners-differ, Apart-exactly, Doubled-apart, other, Held-at-start, Goes-on-from, Counts-from-salvage, Dead-stays-dead, Dead-over-salvages, Apart-from-there, Unconfirmed-alone, Live-over-salvage}
 use Rattle.salvaged.specs.Report.{Lines, lines, told, listed, rising, undone-is, changes-none}
 use Rattle.salvaged.specs.Cells.{table-again, byte-kept, byte-mended, byte-few, health-twice, byte-in, holds-state, holding, state-holds, Picks, picks, pick-held, pick-listed, pick-rising}
 use Rattle.salvaged.specs.Came.{words-are, was-done, changes-are}
@@ -360,6 +360,9 @@ doubled-apart w c d s f n p q =
 
 pub held-at-start : Held-at-start
 held-at-start = onward.held-at-start
+
+pub goes-on-from : Goes-on-from
+goes-on-from = onward.goes-on-from
 
 pub counts-from-salvage : Counts-from-salvage
 counts-from-salvage = onward.counts-from-salvage
