@@ -258,6 +258,11 @@ lives-then = (refl, refl)
 pub lives-on-then : Live (next-item went-on (salvage (headOf 1 3 4) [] (77 ∷ [])) .world) (leaseOf 2 3)
 lives-on-then = live-over-salvage went-on [] (77 ∷ []) (leaseOf 2 3) (0, 1, lives-then .0) .1 (lives-then .1)
 
+-- and with an older head, whose next serial is 3, it does not: the owner 3 is not below it, the cell is damaged and becomes free
+pub ended-by-older : next-item went-on (salvage (headOf 1 3 3) (replicate 6 77) []) ≡ cold (worldOf (headOf 1 3 3) (replicate 9 0) (1 ∷ []))
+unfolding next-item salvaging bitAt ownerAt isFree isHeld stateOf stateAt headFits shapeFits healthFits first prepareRules keptOf mendedCell mendedTable mendedByte mendedHealth changeOf changesFrom changesOf heldFrom leftHeld overOf isReportFull mendOf goOverOf salvageOf
+ended-by-older = refl
+
 -- `dead-over-salvages`: that salvage, and cell 0 taken; then a dip that leaves cell 2 alone held, by 3, and a salvage of that; serial 2 is dead
 abbrev more : List Item
 more =
