@@ -7,14 +7,14 @@ use native.Mathlib.Decide.{decLt}
 use native.Mathlib.Omega.{arith}
 use lib.ListN.{length}
 use Rattle.model.specs.Log.{Made, Event, by-caller, took}
-use Rattle.model.specs.Arena.{leasesOf}
-use Rattle.model.specs.Lock.{leaseAt}
+use Rattle.model.specs.Arena.{holdsOf}
+use Rattle.model.specs.Lock.{holdAt}
 use Rattle.model.specs.Checks.{countIn}
 use Rattle.model.specs.Calls.{given, starting}
 use Rattle.model.specs.Sorted.{firstAsking, handedBack}
 use Rattle.types.specs.declared.Answer.{Answer}
 use Rattle.types.specs.declared.Answer.the-variants.{AllGranted}
-use Rattle.types.specs.declared.Lease.{Lease}
+use Rattle.types.specs.declared.Hold.{Hold}
 use Rattle.history.specs.World.{World, number-of, takes}
 use Rattle.history.specs.Items.{Says, acquire-sorted, keyCell, perform}
 use Rattle.history.specs.Statements.{buffer-in, Hands-over}
@@ -53,16 +53,16 @@ module _ (w : World) (registry script : List ℕ) (place : ℕ) (held keys grant
   abbrev said : Made (World × Says)
   said = perform w (acquire-sorted registry script place held keys grants)
 
-  abbrev inner-leases : List Lease
-  inner-leases = leasesOf (sorted-locks w registry script place held keys grants .seen .1 .1 .1)
+  abbrev inner-leases : List Hold
+  inner-leases = holdsOf (sorted-locks w registry script place held keys grants .seen .1 .1 .1)
 
-  abbrev leases : List Lease
-  leases = leasesOf (buffer-in said)
+  abbrev leases : List Hold
+  leases = holdsOf (buffer-in said)
 
   -- the locks were all granted, and their leases handed back by key
   record Granted-so (m : Made (World × Says)) : Type 0 where
     inner : sorted-locks w registry script place held keys grants .seen .0 .answer ≡ AllGranted
-    back : Handed-back b registry keys inner-leases (leasesOf (buffer-in m))
+    back : Handed-back b registry keys inner-leases (holdsOf (buffer-in m))
 
   granted : said .seen .1 .answer ≡ AllGranted → Granted-so said
   granted = go (goes w registry script place held keys grants)
@@ -75,31 +75,31 @@ module _ (w : World) (registry script : List ℕ) (place : ℕ) (held keys grant
           let e = all-inner (asked-cells b registry keys) (sorted-cells b registry keys) (o .0 .answer) a in
           record {
             inner = e;
-            back = subst (λ (x : Answer). Handed-back b registry keys inner-leases (leasesOf (handedBack x (asked-cells b registry keys) (o .1 .1 .1)))) (sym e)
+            back = subst (λ (x : Answer). Handed-back b registry keys inner-leases (holdsOf (handedBack x (asked-cells b registry keys) (o .1 .1 .1)))) (sym e)
                 (steps-hand-back w registry script place held keys grants e);
           }
 
   pub handed-so : said .seen .1 .answer ≡ AllGranted
-      → Handed-back b registry keys (leasesOf (sorted-locks w registry script place held keys grants .seen .1 .1 .1)) (leasesOf (buffer-in said))
+      → Handed-back b registry keys (holdsOf (sorted-locks w registry script place held keys grants .seen .1 .1 .1)) (holdsOf (buffer-in said))
   handed-so a = granted a .back
 
-  key-shares : (p q : ℕ) → said .seen .1 .answer ≡ AllGranted → p < countIn keys → q < countIn keys → cell p ≡ cell q → leaseAt leases p ≡ leaseAt leases q
+  key-shares : (p q : ℕ) → said .seen .1 .answer ≡ AllGranted → p < countIn keys → q < countIn keys → cell p ≡ cell q → holdAt leases p ≡ holdAt leases q
   key-shares p q a x y e =
       let h = granted a .back in
-      h .each p x ∙ ap (λ (c : ℕ). leaseAt inner-leases (firstAsking (sorted-cells b registry keys) c)) e ∙ sym (h .each q y)
+      h .each p x ∙ ap (λ (c : ℕ). holdAt inner-leases (firstAsking (sorted-cells b registry keys) c)) e ∙ sym (h .each q y)
 
-  key-serials : (p q : ℕ) → said .seen .1 .answer ≡ AllGranted → p < countIn keys → q < countIn keys → cell p < cell q → leaseAt leases p .serial < leaseAt leases q .serial
+  key-serials : (p q : ℕ) → said .seen .1 .answer ≡ AllGranted → p < countIn keys → q < countIn keys → cell p < cell q → holdAt leases p .serial < holdAt leases q .serial
   key-serials p q a x y l =
       let g = granted a in
       let h = g .back in
       let i = sorted-place-at b registry keys p x in
       let j = sorted-place-at b registry keys q y in
       let before = rising-earlier (sorted-cells b registry keys) (sorted-rises b registry keys) (sorted-place b registry keys p) (sorted-place b registry keys q) (i .0) (j .0) (omega (arith, i .1, j .1, l)) in
-      let rise = locks-serials (length (sorted-cells b registry keys)) (given (w .head) script (leasesOf held)) b registry (chosen-keys b registry keys) (starting (w .head) place) (w .table) (w .health) grants
+      let rise = locks-serials (length (sorted-cells b registry keys)) (given (w .head) script (holdsOf held)) b registry (chosen-keys b registry keys) (starting (w .head) place) (w .table) (w .health) grants
       (sorted-place b registry keys p) (sorted-place b registry keys q) (g .inner) before (omega (arith, j .0, h .many)) in
-      omega (arith, ap (λ (k : Lease). k .serial) (h .each p x), ap (λ (k : Lease). k .serial) (h .each q y), rise)
+      omega (arith, ap (λ (k : Hold). k .serial) (h .each p x), ap (λ (k : Hold). k .serial) (h .each q y), rise)
 
-  key-apart : (p q : ℕ) → said .seen .1 .answer ≡ AllGranted → p < countIn keys → q < countIn keys → cell p ≢ cell q → leaseAt leases p .serial ≢ leaseAt leases q .serial
+  key-apart : (p q : ℕ) → said .seen .1 .answer ≡ AllGranted → p < countIn keys → q < countIn keys → cell p ≢ cell q → holdAt leases p .serial ≢ holdAt leases q .serial
   key-apart p q a x y n e = go (decLt (cell p) (cell q)) (decLt (cell q) (cell p))
     where
       go : Dec (cell p < cell q) → Dec (cell q < cell p) → ⊥
@@ -108,16 +108,16 @@ module _ (w : World) (registry script : List ℕ) (place : ℕ) (held keys grant
       go (no l) (no d) = n (omega arith)
 
   -- a key's lease was taken in the call
-  key-handed : (p : ℕ) → said .seen .1 .answer ≡ AllGranted → p < countIn keys → Hands-over (said .seen .1 .answer) (buffer-in said) (leaseAt leases p)
-  key-handed p a x = subst (λ (z : Answer). Hands-over z (buffer-in said) (leaseAt leases p)) (sym a) (in-place leases p (omega (arith, granted a .back .as-many, x)))
+  key-handed : (p : ℕ) → said .seen .1 .answer ≡ AllGranted → p < countIn keys → Hands-over (said .seen .1 .answer) (buffer-in said) (holdAt leases p)
+  key-handed p a x = subst (λ (z : Answer). Hands-over z (buffer-in said) (holdAt leases p)) (sym a) (in-place leases p (omega (arith, granted a .back .as-many, x)))
 
-  key-own : (p : ℕ) → said .seen .1 .answer ≡ AllGranted → p < countIn keys → leaseAt leases p .cell ≡ cell p
+  key-own : (p : ℕ) → said .seen .1 .answer ≡ AllGranted → p < countIn keys → holdAt leases p .cell ≡ cell p
   key-own p a x = back-own b registry keys (granted a .back) p x
 
   abbrev Both-taken : (c d s t : ℕ) → Type 0
   Both-taken c d s t = (x y z : List Event) × (said .log ≡ x ++ (took by-caller c s ∷ (y ++ (took by-caller d t ∷ z))))
 
-  taken-behind : (l k : Lease) → Taken-in (w .head .next) l (said .log) → Taken-in (w .head .next) k (said .log) → l .serial < k .serial → Both-taken (l .cell) (k .cell) (l .serial) (k .serial)
+  taken-behind : (l k : Hold) → Taken-in (w .head .next) l (said .log) → Taken-in (w .head .next) k (said .log) → l .serial < k .serial → Both-taken (l .cell) (k .cell) (l .serial) (k .serial)
   taken-behind l k t u less =
       let m = parts-ordered (t .before) (u .before) (t .after) (u .after) (took by-caller (l .cell) (l .serial)) (took by-caller (k .cell) (k .serial)) (sym (t .parts) ∙ u .parts)
       (omega (arith, t .was-next, u .was-next, less)) in (
@@ -128,14 +128,14 @@ module _ (w : World) (registry script : List ℕ) (place : ℕ) (held keys grant
       )
 
   key-taken : (p q : ℕ) → said .seen .1 .answer ≡ AllGranted → p < countIn keys → q < countIn keys → cell p < cell q
-      → Both-taken (cell p) (cell q) (leaseAt leases p .serial) (leaseAt leases q .serial)
+      → Both-taken (cell p) (cell q) (holdAt leases p .serial) (holdAt leases q .serial)
   key-taken p q a x y l =
       let k = acquire-sorted registry script place held keys grants in
-      let t = call-came w k (leaseAt leases p) (key-handed p a x) in
-      let u = call-came w k (leaseAt leases q) (key-handed q a y) in
-      subst (λ (c : ℕ). Both-taken c (cell q) (leaseAt leases p .serial) (leaseAt leases q .serial)) (key-own p a x)
-      (subst (λ (d : ℕ). Both-taken (leaseAt leases p .cell) d (leaseAt leases p .serial) (leaseAt leases q .serial)) (key-own q a y)
-      (taken-behind (leaseAt leases p) (leaseAt leases q) t u (key-serials p q a x y l)))
+      let t = call-came w k (holdAt leases p) (key-handed p a x) in
+      let u = call-came w k (holdAt leases q) (key-handed q a y) in
+      subst (λ (c : ℕ). Both-taken c (cell q) (holdAt leases p .serial) (holdAt leases q .serial)) (key-own p a x)
+      (subst (λ (d : ℕ). Both-taken (holdAt leases p .cell) d (holdAt leases p .serial) (holdAt leases q .serial)) (key-own q a y)
+      (taken-behind (holdAt leases p) (holdAt leases q) t u (key-serials p q a x y l)))
 
 pub shares : Shares perform
 shares = key-shares
@@ -152,4 +152,4 @@ taken-rising = key-taken
 pub each-key-live : Each-key-live perform
 each-key-live w registry script place held keys grants p a x =
     let k = acquire-sorted registry script place held keys grants in
-    (key-own w registry script place held keys grants p a x, call-kept w k .gain (leaseAt (leases w registry script place held keys grants) p) (key-handed w registry script place held keys grants p a x))
+    (key-own w registry script place held keys grants p a x, call-kept w k .gain (holdAt (leases w registry script place held keys grants) p) (key-handed w registry script place held keys grants p a x))

@@ -4,7 +4,7 @@ use mathlib.Core.Path.{_≡_, refl, sym, ap, _∙_, subst}
 use mathlib.Core.List.{List}
 use native.Mathlib.Omega.{arith}
 use lib.ListN.{length, replicate, length-replicate}
-use Rattle.model.specs.Arena.{leasesOf, wordsOf}
+use Rattle.model.specs.Arena.{holdsOf, wordsOf}
 use Rattle.model.specs.Lock.{bindingAt, bucketAt}
 use Rattle.model.specs.Checks.{countIn}
 use Rattle.model.specs.Calls.{countsOf}
@@ -12,7 +12,7 @@ use Rattle.model.specs.Sorted.{firstAsking, sharedOf, askedFirst}
 use Rattle.types.specs.declared.Answer.{Answer}
 use Rattle.types.specs.declared.Answer.the-variants.{AllGranted}
 use Rattle.types.specs.declared.Counts.{Counts}
-use Rattle.types.specs.declared.Lease.{Lease}
+use Rattle.types.specs.declared.Hold.{Hold}
 use Rattle.history.specs.World.{World, now}
 use Rattle.history.specs.Items.{Says, says, acquire-locks, acquire-sorted, keyCell, perform}
 use Rattle.history.specs.Tests.{leases-words}
@@ -80,9 +80,9 @@ sorted-quiet w registry script place held keys grants fine end ready few =
     let by-count : perform w k .seen ≡ (now w (takes-of (leases-from cell n 0 s)), says AllGranted (countsOf n (3 * n) 0 0) place (wordsOf (leases-from cell n 0 s)))
     = subst (λ (j : ℕ). perform w k .seen ≡ (now w (takes-of (leases-from cell j 0 s)), says AllGranted (countsOf j (3 * j) 0 0) place (wordsOf (leases-from cell j 0 s)))) count q in
     let seen : perform w k .seen ≡ (now w (takes-of leases), says AllGranted (countsOf n (3 * n) 0 0) place (wordsOf leases))
-    = subst (λ (ls : List Lease). perform w k .seen ≡ (now w (takes-of ls), says AllGranted (countsOf n (3 * n) 0 0) place (wordsOf ls)))
+    = subst (λ (ls : List Hold). perform w k .seen ≡ (now w (takes-of ls), says AllGranted (countsOf n (3 * n) 0 0) place (wordsOf ls)))
     (same-from cell (sorted-cell b registry keys) n 0 s (λ i l. chosen-cell b registry keys i (omega arith))) by-count in
-    let buffer = ap (λ (m : World × Says). wordsOf (sharedOf (leasesOf (m .1 .grants)) asked)) seen ∙ ap (λ (ls : List Lease). wordsOf (sharedOf ls asked)) (leases-words leases) in
+    let buffer = ap (λ (m : World × Says). wordsOf (sharedOf (holdsOf (m .1 .grants)) asked)) seen ∙ ap (λ (ls : List Hold). wordsOf (sharedOf ls asked)) (leases-words leases) in
     whole (perform w (acquire-sorted registry script place held keys grants) .seen) _ _ _ _ _ (y .world ∙ ap (λ (m : World × Says). m .0) seen)
     (y .answer ∙ ap (λ (m : World × Says). askedFirst (m .1 .answer) asked sorted) seen) (y .counts ∙ ap (λ (m : World × Says). m .1 .counts) seen) (y .place ∙ ap (λ (m : World × Says). m .1 .place) seen)
     (y .handed (ap (λ (m : World × Says). m .1 .answer) seen) ∙ buffer)

@@ -7,10 +7,10 @@ use mathlib.Core.List.{List, [], _∷_, _++_}
 use mathlib.Core.Logic.{_≢_, _⊎_, _↔_}
 use lib.ListN.{length, getD}
 use Rattle.model.specs.Log.{Made, Event, by-caller, took}
-use Rattle.model.specs.Arena.{lastSerial, leasesOf, wordsOf}
+use Rattle.model.specs.Arena.{lastSerial, holdsOf, wordsOf}
 use Rattle.model.specs.Refusals.{numberOf}
 use Rattle.model.specs.Foreign.{stepsIn}
-use Rattle.model.specs.Lock.{leaseAt, bindingAt, bucketAt}
+use Rattle.model.specs.Lock.{holdAt, bindingAt, bucketAt}
 use Rattle.model.specs.Checks.{countIn}
 use Rattle.model.specs.Calls.{countsOf}
 use Rattle.model.specs.Sorted.{headerOfKey, cellsAsked, cellsSorted, sortedKeys, firstKey, sharedOf, askedFirst}
@@ -34,7 +34,7 @@ Shares f =
     → let m = f w (acquire-sorted registry script place held keys grants) in
     let cell = keyCell (w .head .buckets) registry keys in
     answer-in m ≡ AllGranted → p < countIn keys → q < countIn keys → cell p ≡ cell q
-    → leaseAt (leasesOf (buffer-in m)) p ≡ leaseAt (leasesOf (buffer-in m)) q
+    → holdAt (holdsOf (buffer-in m)) p ≡ holdAt (holdsOf (buffer-in m)) q
 
 -- "lock in rising order": the serials rise with the cells, whatever the order of the keys
 abbrev pub Serials-by-cell : Build → Type 0
@@ -43,7 +43,7 @@ Serials-by-cell f =
     → let m = f w (acquire-sorted registry script place held keys grants) in
     let cell = keyCell (w .head .buckets) registry keys in
     answer-in m ≡ AllGranted → p < countIn keys → q < countIn keys → cell p < cell q
-    → leaseAt (leasesOf (buffer-in m)) p .serial < leaseAt (leasesOf (buffer-in m)) q .serial
+    → holdAt (holdsOf (buffer-in m)) p .serial < holdAt (holdsOf (buffer-in m)) q .serial
 
 -- so keys of two cells have two serials
 abbrev pub Apart-by-cell : Build → Type 0
@@ -52,7 +52,7 @@ Apart-by-cell f =
     → let m = f w (acquire-sorted registry script place held keys grants) in
     let cell = keyCell (w .head .buckets) registry keys in
     answer-in m ≡ AllGranted → p < countIn keys → q < countIn keys → cell p ≢ cell q
-    → leaseAt (leasesOf (buffer-in m)) p .serial ≢ leaseAt (leasesOf (buffer-in m)) q .serial
+    → holdAt (holdsOf (buffer-in m)) p .serial ≢ holdAt (holdsOf (buffer-in m)) q .serial
 
 -- the same from the log: the lower cell was taken first
 abbrev pub Taken-rising : Build → Type 0
@@ -60,8 +60,8 @@ Taken-rising f =
     (w : World) (registry script : List ℕ) (place : ℕ) (held keys grants : List ℕ) (p q : ℕ)
     → let m = f w (acquire-sorted registry script place held keys grants) in
     let cell = keyCell (w .head .buckets) registry keys in
-    let l = leaseAt (leasesOf (buffer-in m)) p in
-    let k = leaseAt (leasesOf (buffer-in m)) q in
+    let l = holdAt (holdsOf (buffer-in m)) p in
+    let k = holdAt (holdsOf (buffer-in m)) q in
     answer-in m ≡ AllGranted → p < countIn keys → q < countIn keys → cell p < cell q
     → (x y z : List Event) × (m .log ≡ x ++ (took by-caller (cell p) (l .serial) ∷ (y ++ (took by-caller (cell q) (k .serial) ∷ z))))
 
@@ -78,7 +78,7 @@ abbrev pub Each-key-live : Build → Type 0
 Each-key-live f =
     (w : World) (registry script : List ℕ) (place : ℕ) (held keys grants : List ℕ) (p : ℕ)
     → let m = f w (acquire-sorted registry script place held keys grants) in
-    let l = leaseAt (leasesOf (buffer-in m)) p in
+    let l = holdAt (holdsOf (buffer-in m)) p in
     answer-in m ≡ AllGranted → p < countIn keys → (l .cell ≡ keyCell (w .head .buckets) registry keys p) × Live (world-in m) l
 
 -- document 02, L3: each key's lease is on a header that is healthy at the point of its grant, and that of the highest cell in the health that the call
@@ -88,7 +88,7 @@ Sorted-healthy f =
     (w : World) (registry script : List ℕ) (place : ℕ) (held keys grants : List ℕ) (p : ℕ)
     → let m = f w (acquire-sorted registry script place held keys grants) in
     let cell = keyCell (w .head .buckets) registry keys in
-    let l = leaseAt (leasesOf (buffer-in m)) p in
+    let l = holdAt (holdsOf (buffer-in m)) p in
     answer-in m ≡ AllGranted → p < countIn keys
     → ((before after : List Event) × (m .log ≡ before ++ after) × Grant-point l before after × Healthy (now w before) (l .cell))
     × (((q : ℕ) → q < countIn keys → cell q ≤ cell p) → Healthy (world-in m) (l .cell))
@@ -140,7 +140,7 @@ pub record As-locks (buckets : ℕ) (registry keys grants : List ℕ) (m n : Mad
   pub place : m .seen .1 .place ≡ n .seen .1 .place
   -- "a later refusal carries the first position asking for that cell"
   pub answer : answer-in m ≡ askedFirst (answer-in n) (cellsAsked buckets registry keys) (cellsSorted buckets registry keys)
-  pub handed : answer-in n ≡ AllGranted → buffer-in m ≡ wordsOf (sharedOf (leasesOf (buffer-in n)) (cellsAsked buckets registry keys))
+  pub handed : answer-in n ≡ AllGranted → buffer-in m ≡ wordsOf (sharedOf (holdsOf (buffer-in n)) (cellsAsked buckets registry keys))
   pub kept : (answer-in n ≡ AllGranted → ⊥) → buffer-in m ≡ grants
 
 -- no check applies and no key is faulty. The buffer of the other call is any that fits
@@ -221,4 +221,4 @@ Once-done f =
     (w : World) (registry script : List ℕ) (place : ℕ) (held keys grants : List ℕ)
     → let m = f w (acquire-sorted registry script place held keys grants) in
     answer-in m ≡ AllGranted
-    → answer-in (f (world-in m) (release-all [] 0 (wordsOf (sharedOf (leasesOf (buffer-in m)) (cellsSorted (w .head .buckets) registry keys))))) ≡ Done
+    → answer-in (f (world-in m) (release-all [] 0 (wordsOf (sharedOf (holdsOf (buffer-in m)) (cellsSorted (w .head .buckets) registry keys))))) ≡ Done

@@ -13,7 +13,7 @@ ghost use mathlib.Core.Path.{_≡_};
 ghost use mathlib.Core.List.{[], _∷_};
 ghost use Prim.Native.Nat.{_+_, _*_, _<_, _≤_};
 ghost use lib.ListN.{length, replicate};
-ghost use Rattle.model.specs.Arena.{leaseOf, bitAt, ownerAt, waitersAt, setCell};
+ghost use Rattle.model.specs.Arena.{holdOf, bitAt, ownerAt, waitersAt, setCell};
 ghost use Rattle.model.specs.Arena.{setWaiters, isFree, stateOf, stateAt, isLive};
 ghost use Rattle.model.specs.Refusals.{first};
 ghost use Rattle.model.specs.Checks.{badShape, badHealth};
@@ -115,7 +115,7 @@ pub fn state_at(next: u32, table: &[u32], cell: u32) -> State
 // Whether a lease is live.
 pub fn is_live(next: u32, cells: u32, table: &[u32], cell: u32, serial: u32) -> bool
     requires { ⌜ 3 * cells ≤ length (now table) ⌝ }
-    ensures { λ r. ⌜ r ≡ isLive next cells (now (table .entry)) (leaseOf cell serial) ⌝ }
+    ensures { λ r. ⌜ r ≡ isLive next cells (now (table .entry)) (holdOf cell serial) ⌝ }
 {
     if cell < cells {
         let s = state_at(next, table, cell);

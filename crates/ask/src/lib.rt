@@ -15,7 +15,7 @@ use desk::within;
 use types::Answer;
 use types::CrewReply;
 use types::Head;
-use types::Lease;
+use types::Hold;
 use types::Played;
 use types::Reply;
 use verbs::Scripted;
@@ -63,7 +63,7 @@ fn small_reply(
     cell: u32,
     serial: u32,
 ) -> Reply {
-    let lease = Lease { cell, serial };
+    let lease = Hold { cell, serial };
     match call {
         Small::TryAcquire => lease::try_acquire(head, table, cell),
         Small::DropLease => lease::drop_lease(head, table, lease),

@@ -9,7 +9,7 @@ use slots::BookRefusal;
 use slots::Reading;
 use slots::Slot;
 use types::Head;
-use types::Lease;
+use types::Hold;
 ghost use mathlib.Core.Path.{_≡_};
 ghost use Prim.Native.Nat.{_+_, _*_, _≤_, _<_};
 ghost use mathlib.Core.Bool.{true};
@@ -220,7 +220,7 @@ fn put(n: usize, book: &mut [u8], slot: usize, s: Setpoint, version: u32)
 // ---- writing
 
 // Whether the lease is live and on the slot's cell.
-fn is_holder(head: Head, table: &[u32], slot: u32, lease: Lease) -> bool
+fn is_holder(head: Head, table: &[u32], slot: u32, lease: Hold) -> bool
     requires { ⌜ shapeFits head (length (now table)) ≡ true ⌝ }
     ensures { λ r. ⌜ r ≡ isHolder head (now (table .entry)) slot lease ⌝ }
 {
@@ -237,7 +237,7 @@ fn claim_check(
     table: &[u32],
     size: usize,
     slot: u32,
-    lease: Lease,
+    lease: Hold,
     setpoint: Setpoint,
 ) -> BookCheck
     ensures { λ r. ⌜ r ≡ firstFault (claimRules head (now (table .entry)) size slot lease setpoint) ⌝ }
@@ -311,7 +311,7 @@ pub fn write_setpoint(
     table: &[u32],
     book: &mut [u8],
     slot: u32,
-    lease: Lease,
+    lease: Hold,
     setpoint: Setpoint,
 ) -> BookAnswer
     ensures { λ r. ⌜ (r, now (book .exit))

@@ -8,7 +8,7 @@ use lib.Dec.{leb, eqb}
 use lib.ListN.{length, getD, replicate}
 use Rattle.choice.specs.Choice.{if_then_else_}
 use Rattle.model.specs.Log.{Made, Event, by-caller, by-script, attempt-begun, boundary-run, yielded, spun, step-dropped, took, released, waiters-set, health-set, held-all, added, gives, note, _>>=_, _>>_}
-use Rattle.model.specs.Arena.{spentTo, leaseOf, leasesOf, ownerAt, setCell}
+use Rattle.model.specs.Arena.{spentTo, holdOf, holdsOf, ownerAt, setCell}
 use Rattle.model.specs.Refusals.{numberOf}
 use Rattle.model.specs.Answers.{refusalIn}
 use Rattle.model.specs.Foreign.{Setting, boundaryOf}
@@ -20,7 +20,7 @@ use Rattle.types.specs.declared.Answer.{Answer}
 use Rattle.types.specs.declared.Answer.the-variants.{Done, Cell, Granted, AllGranted, Busy, Refused, RefusedAt}
 use Rattle.types.specs.declared.Counts.{Counts}
 use Rattle.types.specs.declared.CrewReply.{CrewReply}
-use Rattle.types.specs.declared.Lease.{Lease}
+use Rattle.types.specs.declared.Hold.{Hold}
 use Rattle.types.specs.declared.Outcome.the-variants as outcome
 use Rattle.types.specs.declared.Reason.{Reason}
 use Rattle.types.specs.declared.Reason.the-variants as reason
@@ -58,7 +58,7 @@ always-busy w k = record { seen = (w, says (Busy reason.Before) (countsOf 1 0 0 
 
 -- "One grant for all"
 abbrev pub one-for-all : Build
-one-for-all w k = record { seen = (w, says (Granted (leaseOf 0 1)) (countsOf 0 0 0 0) (place-of k) []); log = [] }
+one-for-all w k = record { seen = (w, says (Granted (holdOf 0 1)) (countsOf 0 0 0 0) (place-of k) []); log = [] }
 
 -- "One that writes nothing"
 abbrev pub writes-nothing : Build
@@ -88,7 +88,7 @@ counts-made-up w k = counting (countsOf 7 7 7 7) (perform w k)
 abbrev pub one-fewer : World → World
 one-fewer w = worldOf (spentTo (w .head) (w .head .next - 1)) (w .table) (w .health)
 
-abbrev pub if-late : Answer → List Lease → World → World
+abbrev pub if-late : Answer → List Hold → World → World
 if-late (Busy why) (l ∷ ls) w = one-fewer w
 if-late (Busy why) [] w = w
 if-late Done ls w = w
@@ -149,7 +149,7 @@ retryAt remainder (suc left) i last e buckets registry binding bucket r t g = do
 
 abbrev pub retries-at : ℕ → World → (registry script : List ℕ) (place : ℕ) (held : List ℕ) (binding bucket : ℕ) → Made (World × Says)
 retries-at remainder w registry script place held binding bucket = do
-  (k, (t, g)) ← retryAt remainder attemptLimit 0 noneYet (given (w .head) script (leasesOf held)) (w .head .buckets) registry binding bucket (starting (w .head) place) (w .table) (w .health)
+  (k, (t, g)) ← retryAt remainder attemptLimit 0 noneYet (given (w .head) script (holdsOf held)) (w .head .buckets) registry binding bucket (starting (w .head) place) (w .table) (w .health)
   gives (
     worldOf (spentTo (w .head) (k .run .flow .next)) t g,
     says (answerOf (settled (k .outcome))) (countsOf (k .run .attempts) (k .run .boundaries) (k .run .yields) (k .run .flow .dropped)) (k .run .flow .place) [],
@@ -157,7 +157,7 @@ retries-at remainder w registry script place held binding bucket = do
 
 -- ---- by kind of call: one of them done otherwise
 
-abbrev pub others : (drop : World → Lease → Made (World × Says)) (key once : World → (registry script : List ℕ) (place : ℕ) (held : List ℕ) (binding bucket : ℕ) → Made (World × Says))
+abbrev pub others : (drop : World → Hold → Made (World × Says)) (key once : World → (registry script : List ℕ) (place : ℕ) (held : List ℕ) (binding bucket : ℕ) → Made (World × Says))
     (locks sorted : World → (registry script : List ℕ) (place : ℕ) (held keys grants : List ℕ) → Made (World × Says)) → Build
 others drop key once locks sorted w (try-acquire c) = perform w (try-acquire c)
 others drop key once locks sorted w (drop-lease l) = drop w l
@@ -177,7 +177,7 @@ others drop key once locks sorted w (acquire-sorted registry script place held k
 others drop key once locks sorted w (crew counts cells turns) = perform w (crew counts cells turns)
 others drop key once locks sorted w (crew-at-work counts cells turns counters) = perform w (crew-at-work counts cells turns counters)
 
-abbrev pub our-drop : World → Lease → Made (World × Says)
+abbrev pub our-drop : World → Hold → Made (World × Says)
 our-drop w l = perform w (drop-lease l)
 
 abbrev pub our-key : World → (registry script : List ℕ) (place : ℕ) (held : List ℕ) (binding bucket : ℕ) → Made (World × Says)
@@ -256,7 +256,7 @@ sorted-position =
 -- ---- document 02, L3: "A header went bad before the grant, and the governor wrote into it."
 
 -- what is done otherwise where a call answers 7 after a take: `f` of the lease that it releases first
-abbrev pub at-seven : (Lease → Made (World × Says)) → List Lease → Made (World × Says) → Made (World × Says)
+abbrev pub at-seven : (Hold → Made (World × Says)) → List Hold → Made (World × Says) → Made (World × Says)
 at-seven f [] m = m
 at-seven f (l ∷ ls) m = if eqb (refusalIn (m .seen .1 .answer)) 7 then f l else m
 
@@ -344,7 +344,7 @@ first-reason =
 -- ---- six slips of definitions that no theorem caught once
 
 -- a `try_lock` of a held cell answers Granted with the present owner's lease
-abbrev pub granting : Lease → Answer → Answer
+abbrev pub granting : Hold → Answer → Answer
 granting l Done = Done
 granting l (Cell c) = Cell c
 granting l (Granted k) = Granted k
@@ -354,7 +354,7 @@ granting l (Refused r) = Refused r
 granting l (RefusedAt r p) = RefusedAt r p
 
 abbrev pub owners-lease : Build
-owners-lease w k = answering (λ s. granting (leaseOf (asked w k) (ownerAt (w .table) (asked w k))) (s .answer)) (perform w k)
+owners-lease w k = answering (λ s. granting (holdOf (asked w k) (ownerAt (w .table) (asked w k))) (s .answer)) (perform w k)
 
 -- `acquire_index_bucket` answers 10 in place of 11
 abbrev pub ten : Answer → Answer

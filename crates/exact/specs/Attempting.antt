@@ -9,7 +9,7 @@ use native.Mathlib.Omega.{arith}
 use lib.Dec.{eqb}
 use borrow.Author.Tests.{eqb-true, eqb-false}
 use Rattle.model.specs.Log.{Made, yielded, note, _>>=_, _>>_, spun}
-use Rattle.model.specs.Arena.{leasesOf}
+use Rattle.model.specs.Arena.{holdsOf}
 use Rattle.model.specs.Foreign.{Setting, flowOf, boundaryOf}
 use Rattle.model.specs.Lock.{answerOf, settled, runOf, triedOf, attemptOf, spinOf, pauseOf, isBusy, lastOf, retryOf, attemptLimit, noneYet}
 use Rattle.model.specs.Checks.{bucketRules}
@@ -84,7 +84,7 @@ same-settled (outcome.Refused r) e = refl
 
 module _ (h : Head) (registry script held : List ℕ) (binding bucket : ℕ) where
   abbrev e : Setting
-  e = given h script (leasesOf held)
+  e = given h script (holdsOf held)
 
   abbrev Pauses : ℕ → ℕ → List ℕ → List ℕ → ℕ → Made (World × Says) → Type 0
   Pauses n p t g i = Pause (attempting registry script held binding bucket) (bounding script held) i (worldAt h n t g) p
@@ -152,7 +152,7 @@ pub by-steps : (w : World) (registry script : List ℕ) (place : ℕ) (held : Li
     Passes w k → Attempts (attempting registry script held binding bucket) (bounding script held) 0 last w place (perform w k)
 by-steps w registry script place held binding bucket last fine =
     let h = w .head in
-    let e = given h script (leasesOf held) in
+    let e = given h script (holdsOf held) in
     subst (Attempts (attempting registry script held binding bucket) (bounding script held) 0 last w place)
     (ap (at-last h) (retry-first 4095 0 last noneYet e (h .buckets) registry binding bucket (nil (h .next) place) (w .table) (w .health))
     ∙ sym (made w (acquire-bucket-has registry script place held binding bucket) fine))
@@ -208,7 +208,7 @@ module _ (registry script held : List ℕ) (binding bucket : ℕ) where
 
   boundary-fine : (w : World) (p : ℕ) → Fine-at w p → Passes w (environment script p held)
   unfolding bucketRules
-  boundary-fine w p k = boundary-on held (nothing {w = w} {P = In (leasesOf held)}) registry script p p binding (in-script script p (k .1 .1 .1 .0)) k
+  boundary-fine w p k = boundary-on held (nothing {w = w} {P = In (holdsOf held)}) registry script p p binding (in-script script p (k .1 .1 .1 .0)) k
 
   calling-is : (w : World) (p : ℕ) → Fine-at w p → calling w p ≡ attempting registry script held binding bucket w p
   calling-is w p k = made w (transactional-has registry script p held binding bucket) k

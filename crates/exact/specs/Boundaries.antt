@@ -9,14 +9,14 @@ use native.Mathlib.Omega.{arith}
 use lib.ListN.{length, getD, length-append, List·getD-append}
 use lib.Seq.{getD-append-add}
 use Rattle.model.specs.Log.{Made, spun, yielded}
-use Rattle.model.specs.Arena.{leasesOf, wordsOf}
+use Rattle.model.specs.Arena.{holdsOf, wordsOf}
 use Rattle.model.specs.Foreign.{flowOf}
 use Rattle.model.specs.Lock.{noneYet, bindingAt, bucketAt}
 use Rattle.model.specs.Calls.{countsOf, given, starting}
 use Rattle.model.specs.Crew.{total}
 use Rattle.types.specs.declared.Answer.{Answer}
 use Rattle.types.specs.declared.Answer.the-variants.{Done}
-use Rattle.types.specs.declared.Lease.{Lease}
+use Rattle.types.specs.declared.Hold.{Hold}
 use Rattle.types.specs.declared.Reason.{Reason}
 use Rattle.laws.specs.Crew.{total-append}
 use Rattle.history.specs.World.{World}
@@ -64,7 +64,7 @@ adds-then m n a b =
 
 -- ---- attempts
 
-ends-few : {a : Answer} {n : ℕ} {ts rs : List Lease} → Ends a n ts rs → n ≤ 3
+ends-few : {a : Answer} {n : ℕ} {ts rs : List Hold} → Ends a n ts rs → n ≤ 3
 ends-few (no-cell r i j) = omega arith
 ends-few waited = omega arith
 ends-few (held s) = omega arith
@@ -132,7 +132,7 @@ module _ (attempt between : World → ℕ → Made (World × Says)) (tries : (w 
 module _ (registry script words : List ℕ) (binding bucket : ℕ) where
   attempt-counts : (w : World) (p : ℕ) → Attempt-counts (attempting registry script words binding bucket w p)
   attempt-counts w p =
-      let e = given (w .head) script (leasesOf words) in
+      let e = given (w .head) script (holdsOf words) in
       let k = attempt-one e (w .head .buckets) registry binding bucket (starting (w .head) p) (w .table) (w .health) in
       let n = ends-few (tried-ends e (w .head .buckets) registry binding bucket (starting (w .head) p) (w .table) (w .health) refl) in
       record { one = omega (arith, k .one-attempt); few = n; none = k .no-yield; calm = k .no-spin }
@@ -143,7 +143,7 @@ boundary-counts script words w p =
       no-attempt = refl;
       one = refl;
       none = refl;
-      calm = boundary-still (given (w .head) script (leasesOf words)) (flowOf (w .head .next) p 0) (w .table) (w .health) .none;
+      calm = boundary-still (given (w .head) script (holdsOf words)) (flowOf (w .head .next) p 0) (w .table) (w .health) .none;
     }
 
 pub bucket-boundaries : Bucket-boundaries perform
@@ -160,7 +160,7 @@ key-adds w registry script place words binding bucket =
     performed (Adds 0) w (acquire-bucket registry script place words binding bucket) (λ r. adds-none)
     (λ fine. subst (Adds 0) (made w (acquire-bucket-has registry script place words binding bucket) fine) (bucket-boundaries w registry script place words binding bucket fine))
 
-drop-adds : (w : World) (l : Lease) → Adds 0 (perform w (drop-lease l))
+drop-adds : (w : World) (l : Hold) → Adds 0 (perform w (drop-lease l))
 unfolding spins-in
 drop-adds w l = performed (Adds 0) w (drop-lease l) (λ r. adds-none) (λ _. adds-none)
 
@@ -172,13 +172,13 @@ bound-adds w script place words =
     (λ _ _. boundary-adds (bounding script words w place) refl (omega (arith, boundary-counts script words w place .calm)))
 
 module _ (registry script words keys grants : List ℕ) where
-  abbrev locks : ℕ → List Lease → World → ℕ → Made (World × Says)
+  abbrev locks : ℕ → List Hold → World → ℕ → Made (World × Says)
   locks = locking perform registry script words keys grants
 
-  abbrev bounds : List Lease → World → ℕ → Made (World × Says)
+  abbrev bounds : List Hold → World → ℕ → Made (World × Says)
   bounds = between perform registry script words keys grants
 
-  back-adds : {ls : List Lease} {w : World} {place : ℕ} {m : Made (World × Says)} → Gives-back perform registry script words keys grants ls w place m → Adds (length ls) m
+  back-adds : {ls : List Hold} {w : World} {place : ℕ} {m : Made (World × Says)} → Gives-back perform registry script words keys grants ls w place m → Adds (length ls) m
   unfolding spins-in
   back-adds all-back = adds-none
   back-adds (one-back {ls = ls} {w = w} {v = v} {place = place} {n = n} l a q b rest) =
@@ -187,7 +187,7 @@ module _ (registry script words keys grants : List ℕ) where
       (adds-then (perform w (drop-lease l)) (bounds ls v place and-then n) (drop-adds w l)
       (adds-then (bounds ls v place) n (bound-adds v script place (words ++ wordsOf ls) b) (back-adds rest)))
 
-  keys-add : {p : ℕ} {taken : List Lease} {w : World} {place : ℕ} {m : Made (World × Says)} → length taken ≡ p
+  keys-add : {p : ℕ} {taken : List Hold} {w : World} {place : ℕ} {m : Made (World × Says)} → length taken ≡ p
       → Key-by-key perform registry script words keys grants p taken w place m → Adds (rolled-back (answer-in m)) m
   unfolding spins-in
   keys-add z (all-locked e) = adds-none

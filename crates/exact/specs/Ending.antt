@@ -7,7 +7,7 @@ use native.Mathlib.Omega.{arith}
 use lib.Dec.{leb, eqb}
 use lib.ListN.{getD}
 use Rattle.model.specs.Log.{Made, Event, by-caller, by-script, attempt-begun, boundary-run, yielded, spun, step-dropped, took, released, waiters-set, health-set, held-all, added}
-use Rattle.model.specs.Arena.{serialRemains, headerOf, isPoisoned, leaseOf, leasesOf, waitersAt, stateAt}
+use Rattle.model.specs.Arena.{serialRemains, headerOf, isPoisoned, holdOf, holdsOf, waitersAt, stateAt}
 use Rattle.model.specs.Refusals.{numberOf}
 use Rattle.model.specs.Foreign.{Setting, protecting, flowOf, boundaryOf}
 use Rattle.model.specs.Lock.{takeIn, takeOf, lateOf, afterTake, secondOf, lockOf, answerOf, findOf, attemptAt, attemptOf}
@@ -64,14 +64,14 @@ module _ (e : Setting) (buckets : ℕ) where
   late-ends : (f : Flow) (t g : List ℕ) (c s : ℕ) → let m = lateOf e buckets f t g c s in Locks-so (record { seen = m .seen; log = took by-caller c s ∷ m .log })
   unfolding lateOf caller-takes caller-releases
   late-ends f t g c s =
-      let q = protecting e (leaseOf c s ∷ []) in
+      let q = protecting e (holdOf c s ∷ []) in
       let b = boundaryOf q f t g in
       let still = boundary-foreign q f t g in
       if-both (λ (m : Made (With Locked)). Locks-so (record { seen = m .seen; log = took by-caller c s ∷ (b .log ++ m .log) })) (isPoisoned (b .seen .1 .1) (headerOf buckets c))
-      (rw (none-then (released by-caller c s ∷ []) still, still-then (released by-caller c s ∷ []) still) (poisoned (leaseOf c s) (headerOf buckets c)))
+      (rw (none-then (released by-caller c s ∷ []) still, still-then (released by-caller c s ∷ []) still) (poisoned (holdOf c s) (headerOf buckets c)))
       (if-both (λ (m : Made (With Locked)). Locks-so (record { seen = m .seen; log = took by-caller c s ∷ (b .log ++ m .log) })) (eqb (waitersAt (b .seen .1 .0) c) 0)
-      (rw (none-then [] still, still-then [] still) (granted (leaseOf c s)))
-      (rw (none-then (released by-caller c s ∷ []) still, still-then (released by-caller c s ∷ []) still) (late (leaseOf c s))))
+      (rw (none-then [] still, still-then [] still) (granted (holdOf c s)))
+      (rw (none-then (released by-caller c s ∷ []) still, still-then (released by-caller c s ∷ []) still) (late (holdOf c s))))
 
   -- `try_acquire` and what comes of it, by the cell's state
   take-ends : (x : State) (n place dropped : ℕ) (t g : List ℕ) (c : ℕ)
@@ -123,4 +123,4 @@ module _ (e : Setting) (buckets : ℕ) (registry : List ℕ) (binding bucket : �
 pub attempt-ends : Attempt-ends perform
 attempt-ends w registry script place words binding bucket fine =
     subst Ending (sym (made w (transactional-has registry script place words binding bucket) fine))
-    (tried-ends (given (w .head) script (leasesOf words)) (w .head .buckets) registry binding bucket (starting (w .head) place) (w .table) (w .health) refl)
+    (tried-ends (given (w .head) script (holdsOf words)) (w .head .buckets) registry binding bucket (starting (w .head) place) (w .table) (w .health) refl)

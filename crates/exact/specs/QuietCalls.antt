@@ -10,7 +10,7 @@ use native.Mathlib.Omega.{arith}
 use lib.Dec.{leb}
 use lib.ListN.{getD}
 use borrow.Author.Tests.{leb-true, leb-false, eqb-true, eqb-false, not-true, not-false}
-use Rattle.model.specs.Arena.{spentTo, headerOf, isPoisoned, leasesOf, ownerAt}
+use Rattle.model.specs.Arena.{spentTo, headerOf, isPoisoned, holdsOf, ownerAt}
 use Rattle.model.specs.Foreign.{Setting, stepsIn, flowOf}
 use Rattle.model.specs.Lock.{lockedOf, lockOf, answerOf, settled, runOf, triedOf, findOf, attemptAt, attemptOf, isBusy, noneYet, retryOf}
 use Rattle.model.specs.Calls.{countsOf, given, starting}
@@ -19,7 +19,7 @@ use Rattle.types.specs.declared.Answer.the-variants.{Granted, Busy, Refused}
 use Rattle.types.specs.declared.Flow.{Flow}
 use Rattle.types.specs.declared.Found.{Found}
 use Rattle.types.specs.declared.Found.the-variants as found
-use Rattle.types.specs.declared.Lease.{Lease}
+use Rattle.types.specs.declared.Hold.{Hold}
 use Rattle.types.specs.declared.Locked.{Locked}
 use Rattle.types.specs.declared.Outcome.the-variants as outcome
 use Rattle.types.specs.declared.Reason.{Reason}
@@ -70,8 +70,8 @@ sound-row h (sound-cell n y) = y
 pub try-lock-quiet : Try-lock-quiet perform
 try-lock-quiet w script place held c fine end =
     subst (By-cell w c place (Row-of w place c)) (sym (ap (λ m. m .seen) (made w (try-lock-has script place held c) fine)))
-    (rw (zero-add (lockOf (given (w .head) script (leasesOf held)) (w .head .buckets) (flowOf (w .head .next) place 0) (w .table) (w .health) c .seen .0 .boundaries))
-    at (lock-row w place c (lock-quiet (given (w .head) script (leasesOf held)) (w .head .buckets) (flowOf (w .head .next) place 0) (w .table) (w .health) c end)))
+    (rw (zero-add (lockOf (given (w .head) script (holdsOf held)) (w .head .buckets) (flowOf (w .head .next) place 0) (w .table) (w .health) c .seen .0 .boundaries))
+    at (lock-row w place c (lock-quiet (given (w .head) script (holdsOf held)) (w .head .buckets) (flowOf (w .head .next) place 0) (w .table) (w .health) c end)))
 
 -- what a key names, in words
 pub data Keyed (headers buckets : ℕ) (g registry : List ℕ) (binding bucket : ℕ) : Found → Type 0 where
@@ -113,13 +113,13 @@ transactional-quiet w registry script place held binding bucket fine end =
     Row = Quietly w place (busy-after reason.Before place 1) (λ s. busy-after (reason.Held s) place 2)
 
     go : {x : Found} → Keyed (w .head .headers) (w .head .buckets) (w .health) registry binding bucket x
-        → By-key w registry binding bucket place Row (said w (attemptAt x (given (w .head) script (leasesOf held)) (w .head .buckets) (starting (w .head) place) (w .table) (w .health) .seen))
+        → By-key w registry binding bucket place Row (said w (attemptAt x (given (w .head) script (holdsOf held)) (w .head .buckets) (starting (w .head) place) (w .table) (w .health) .seen))
     go (no-header p) = bad-header p
     go (sick p q) = is-poisoned p q
     go (no-bucket p q r) = bad-bucket p q r
     go (at-cell p q r) =
         names p q r (sound-row (key-healthy w registry binding bucket q r)
-        (lock-row w place _ (lock-quiet (given (w .head) script (leasesOf held)) (w .head .buckets) (flowOf (w .head .next) place 0) (w .table) (w .health) _ end)))
+        (lock-row w place _ (lock-quiet (given (w .head) script (holdsOf held)) (w .head .buckets) (flowOf (w .head .next) place 0) (w .table) (w .health) _ end)))
 
 -- ---- retrying
 
@@ -144,7 +144,7 @@ said-at-last w m = said w (triedOf (m .0 .run) (settled (m .0 .outcome)), m .1)
 
 module _ (w : World) (registry script : List ℕ) (place : ℕ) (held : List ℕ) (binding bucket : ℕ) (end : stepsIn script ≤ place) where
   abbrev around : Setting
-  around = given (w .head) script (leasesOf held)
+  around = given (w .head) script (holdsOf held)
 
   abbrev from : Flow
   from = flowOf (w .head .next) place 0
@@ -203,7 +203,7 @@ data Late : Answer → Type 0 where
   at-once : (why : Reason) → Late (Busy why)
   at-last : (why : Reason) → Late (Refused (SerializationFailure why))
 
-late-granted : {a : Answer} {l : Lease} → Late a → a ≡ Granted l → ⊥
+late-granted : {a : Answer} {l : Hold} → Late a → a ≡ Granted l → ⊥
 late-granted (at-once why) e = let z : _≡_ {A = ℕ} 0 1 = cc in omega arith
 late-granted (at-last why) e = let z : _≡_ {A = ℕ} 0 1 = cc in omega arith
 
@@ -274,7 +274,7 @@ module _ {w : World} {place : ℕ} {waiting : Says} {holding : ℕ → Says} {c 
       }
   exactly busy l p q (at-free u f r) =
       record {
-        granted = λ k. (λ e. ((u, f, r), cc), λ s. ap (λ (y : Lease). Granted y) (sym (s .1)));
+        granted = λ k. (λ e. ((u, f, r), cc), λ s. ap (λ (y : Hold). Granted y) (sym (s .1)));
         waited = (λ e. absurd (late-granted (l .late reason.Before) (sym e)), λ n. absurd (n u));
         held = λ s. (λ e. absurd (late-granted (l .late (reason.Held s)) (sym e)), λ k. absurd (omega (arith, f .0, k .1 .0)));
         not-after = λ s e. late-granted (l .late (reason.After s)) (sym e);

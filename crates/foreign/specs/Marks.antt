@@ -12,8 +12,8 @@ use lib.ListN.{length, getD, set, drop, replicate, getD-replicate}
 use lib.Seq.{getD-set-same, getD-set-other}
 use borrow.Author.Tests.{ne-eqb}
 use Rattle.choice.specs.Choice.{if_then_else_}
-use Rattle.model.specs.Arena.{leaseOf, leasesOf, sameLease, isIn}
-use Rattle.types.specs.declared.Lease.{Lease}
+use Rattle.model.specs.Arena.{holdOf, holdsOf, sameHold, isIn}
+use Rattle.types.specs.declared.Hold.{Hold}
 use Rattle.laws.specs.Checks.{is-in-at, is-in-end}
 
 -- the cell at a position of a list, and its remainder
@@ -72,32 +72,32 @@ none-noted list k l =
 
 -- ---- a scan may start where the first of its cell can stand
 
-not-same : (c s : ℕ) (l : Lease) → c ≢ l .cell → sameLease (leaseOf c s) l ≡ false
-unfolding sameLease
+not-same : (c s : ℕ) (l : Hold) → c ≢ l .cell → sameHold (holdOf c s) l ≡ false
+unfolding sameHold
 not-same c s l n = rw (ne-eqb c (l .cell) n)
 
-one-less : (l : Lease) (list : List ℕ) (k : ℕ) → (2 * k + 1 < length list → cellAt list k ≢ l .cell)
-    → isIn l (leasesOf (drop (2 * k) list)) ≡ isIn l (leasesOf (drop (2 * (k + 1)) list))
+one-less : (l : Hold) (list : List ℕ) (k : ℕ) → (2 * k + 1 < length list → cellAt list k ≢ l .cell)
+    → isIn l (holdsOf (drop (2 * k) list)) ≡ isIn l (holdsOf (drop (2 * (k + 1)) list))
 one-less l list k h = go (decLt (2 * k + 1) (length list))
   where
-    go : Dec (2 * k + 1 < length list) → isIn l (leasesOf (drop (2 * k) list)) ≡ isIn l (leasesOf (drop (2 * (k + 1)) list))
+    go : Dec (2 * k + 1 < length list) → isIn l (holdsOf (drop (2 * k) list)) ≡ isIn l (holdsOf (drop (2 * (k + 1)) list))
     go (yes b) = is-in-at l list k b ∙ rw (not-same (cellAt list k) (getD list (2 * k + 1) 0) l (h b))
     go (no b) = is-in-end l list k (omega arith) ∙ sym (is-in-end l list (k + 1) (omega arith))
 
-skip : (l : Lease) (list : List ℕ) (k : ℕ) → ((i : ℕ) → i < k → 2 * i + 1 < length list → cellAt list i ≢ l .cell)
-    → isIn l (leasesOf list) ≡ isIn l (leasesOf (drop (2 * k) list))
+skip : (l : Hold) (list : List ℕ) (k : ℕ) → ((i : ℕ) → i < k → 2 * i + 1 < length list → cellAt list i ≢ l .cell)
+    → isIn l (holdsOf list) ≡ isIn l (holdsOf (drop (2 * k) list))
 skip l list zero h = refl
 skip l list (suc k) h =
     let e : suc k ≡ k + 1 = omega arith in
     skip l list k (λ i b. h i (omega arith)) ∙ rw e (one-less l list k (h k (omega arith)))
 
 -- no mark: no listed lease has that cell
-pub unmarked : (marks list : List ℕ) (l : Lease) → Marked marks list → markOf marks (l .cell) ≡ 0 → isIn l (leasesOf list) ≡ false
+pub unmarked : (marks list : List ℕ) (l : Hold) → Marked marks list → markOf marks (l .cell) ≡ 0 → isIn l (holdsOf list) ≡ false
 unmarked marks list l m e =
     skip l list (length list / 2 + 1) (λ i b c q. absurd (omega (arith, m .from i (omega arith) c .0, ap (markOf marks) q, e))) ∙ is-in-end l list (length list / 2 + 1) (omega arith)
 
 -- a mark: the list may be read from there on
-pub marked : (marks list : List ℕ) (l : Lease) → Marked marks list → isIn l (leasesOf list) ≡ isIn l (leasesOf (drop (2 * (markOf marks (l .cell) - 1)) list))
+pub marked : (marks list : List ℕ) (l : Hold) → Marked marks list → isIn l (holdsOf list) ≡ isIn l (holdsOf (drop (2 * (markOf marks (l .cell) - 1)) list))
 marked marks list l m = skip l list (markOf marks (l .cell) - 1) (λ i b c q. absurd (omega (arith, m .from i (omega arith) c .1, ap (markOf marks) q)))
 
 -- all marks at the front say nothing, and are right of every list

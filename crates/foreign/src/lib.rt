@@ -7,7 +7,7 @@ use types::Check;
 use types::Counts;
 use types::Flow;
 use types::Head;
-use types::Lease;
+use types::Hold;
 use types::Played;
 use types::Refusal;
 use types::Run;
@@ -17,7 +17,7 @@ ghost use mathlib.Core.Bool.{true};
 ghost use mathlib.Core.List.{[], _∷_, _++_};
 ghost use Prim.Native.Nat.{_+_, _*_, _-_, _/_, _<_, _≤_};
 ghost use lib.ListN.{length};
-ghost use Rattle.model.specs.Arena.{shapeFits, isIn, cellsOf, headOf, leasesOf};
+ghost use Rattle.model.specs.Arena.{shapeFits, isIn, cellsOf, headOf, holdsOf};
 ghost use Rattle.model.specs.Refusals.{first};
 ghost use Rattle.model.specs.Checks.{badScript, badHeld, scriptRules};
 ghost use Rattle.model.specs.Foreign.{setting, protecting, flowOf, stepTakeOf, stepReleaseOf};
@@ -66,7 +66,7 @@ pub fn scope_of(head: Head, script: &[u32]) -> Scope
 // ---- one step
 
 // Whether a lease is among the first n pairs.
-fn is_in_pairs(taken: &[[u32; 2]; 64], n: usize, lease: Lease) -> bool
+fn is_in_pairs(taken: &[[u32; 2]; 64], n: usize, lease: Hold) -> bool
     requires { ⌜ n ≤ 64 ⌝ }
     ensures { λ r. ⌜ r ≡ isIn lease (pairsOf n 0 (now (taken .entry))) ⌝ }
 {
@@ -99,9 +99,9 @@ fn marks_of(held: &[u32]) -> [u8; 256]
 }
 
 // Whether a lease is held: without a mark it is not, and no lease is looked at; else up to the first match.
-fn is_held(held: &[u32], marks: &[u8; 256], lease: Lease) -> bool
+fn is_held(held: &[u32], marks: &[u8; 256], lease: Hold) -> bool
     requires { ⌜ Marked (now marks) (now held) ⌝ }
-    ensures { λ r. ⌜ r ≡ isIn lease (leasesOf (now (held .entry))) ⌝ }
+    ensures { λ r. ⌜ r ≡ isIn lease (holdsOf (now (held .entry))) ⌝ }
 {
     let at = (lease.cell % 256) as usize;
     let mark = marks[at];
@@ -117,8 +117,8 @@ fn is_guarded(
     marks: &[u8; 256],
     taken: &[[u32; 2]; 64],
     n: usize,
-    own: Lease,
-    lease: Lease,
+    own: Hold,
+    lease: Hold,
 ) -> bool
     requires { ⌜ (n ≤ 64) × Marked (now marks) (now held) ⌝ }
     ensures { λ r. ⌜ r ≡ isIn lease (guardsOf (now (held .entry)) (now (taken .entry)) n ++ (own ∷ [])) ⌝ }
@@ -158,12 +158,12 @@ fn step_release(
     cells: u32,
     next: u32,
     table: &mut [u32],
-    lease: Lease,
+    lease: Hold,
     held: &[u32],
     marks: &[u8; 256],
     taken: &[[u32; 2]; 64],
     n: usize,
-    own: Lease,
+    own: Hold,
 ) -> Stepped
     requires { ⌜ (3 * cells ≤ length (now table)) × ((n ≤ 64) × Marked (now marks) (now held)) ⌝ }
     ensures { λ r. ⌜ (r, now (table .exit))
@@ -254,7 +254,7 @@ fn step(
     marks: &[u8; 256],
     taken: &[[u32; 2]; 64],
     n: usize,
-    own: Lease,
+    own: Hold,
 ) -> Stepped
     requires { ⌜ (3 * cells ≤ length (now table)) × ((headers ≤ length (now health))
         × ((n ≤ 64) × ((kind ≡ 5 → ⊥) × Marked (now marks) (now held)))) ⌝ }
@@ -263,7 +263,7 @@ fn step(
         next (now (table .entry)) (now (health .entry)) kind place number .seen ⌝ }
 {
     if kind == 2 {
-        let lease = Lease {
+        let lease = Hold {
             cell: place,
             serial: number,
         };
@@ -288,7 +288,7 @@ fn run_marked(
     held: &[u32],
     taken: &[[u32; 2]; 64],
     n: usize,
-    own: Lease,
+    own: Hold,
 ) -> Flow
     requires { ⌜ Room headers cells (length (now table)) (length (now health)) n steps (length (now script))
         × FlowBound steps (flowOf start place before) ⌝ }
@@ -351,7 +351,7 @@ fn run_steps(
     held: &[u32],
     taken: &[[u32; 2]; 64],
     n: usize,
-    own: Lease,
+    own: Hold,
 ) -> Flow
     requires { ⌜ Room headers cells (length (now table)) (length (now health)) n steps (length (now script))
         × FlowBound steps (flowOf start place before) ⌝ }
@@ -429,7 +429,7 @@ pub fn boundary(
         flow (now (table .entry)) (now (health .entry)) .seen ⌝ }
 {
     if flow.place < scope.steps {
-        let none = Lease { cell: 0, serial: 0 };
+        let none = Hold { cell: 0, serial: 0 };
         return run_steps(
             scope.headers,
             scope.cells,
@@ -463,7 +463,7 @@ pub fn protecting_boundary(
     held: &[u32],
     taken: &[[u32; 2]; 64],
     n: usize,
-    own: Lease,
+    own: Hold,
 ) -> Flow
     requires { ⌜ RoomIn scope (length (now table)) (length (now health)) n (length (now script))
         × FlowBound (scope .steps) flow ⌝ }

@@ -5,7 +5,7 @@ use mathlib.Core.List.{List, [], _∷_}
 use native.Mathlib.Omega.{arith}
 use lib.ListN.{length}
 use Rattle.model.specs.Log.{Made, by-caller, attempt-begun, released}
-use Rattle.model.specs.Arena.{leasesOf, setCell}
+use Rattle.model.specs.Arena.{holdsOf, setCell}
 use Rattle.model.specs.Foreign.{flowOf}
 use Rattle.model.specs.Lock.{attemptLimit, noneYet}
 use Rattle.model.specs.Checks.{countIn}
@@ -58,7 +58,7 @@ steps-counted w (acquire-bucket registry script place held binding bucket) _ =
     let k = acquire-bucket registry script place held binding bucket in
     retry-counted (acting w k) (w .head .buckets) registry binding bucket attemptLimit 0 noneYet (starting (w .head) place) (w .table) (w .health)
 steps-counted w (release-all script place leases) _ =
-    back-counted (countIn leases) (acting w (release-all script place leases)) (leasesOf leases) (starting (w .head) place) (w .table) (w .health)
+    back-counted (countIn leases) (acting w (release-all script place leases)) (holdsOf leases) (starting (w .head) place) (w .table) (w .health)
 steps-counted w (acquire-locks registry script place held keys grants) _ =
     let k = acquire-locks registry script place held keys grants in
     locks-counted (acting w k) (w .head .buckets) registry keys grants (countIn keys) 0 [] (starting (w .head) place) (w .table) (w .health)

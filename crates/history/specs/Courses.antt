@@ -6,13 +6,13 @@ use native.Mathlib.Omega.{arith}
 use lib.Dec.{eqb}
 use lib.ListN.{length, replicate, length-replicate}
 use Rattle.model.specs.Log.{Actor, Event, took}
-use Rattle.model.specs.Arena.{cellsOf, headOf, leaseOf, bitAt, shapeFits, healthFits}
+use Rattle.model.specs.Arena.{cellsOf, headOf, holdOf, bitAt, shapeFits, healthFits}
 use Rattle.model.specs.Calls.{prepareOf}
 use Rattle.model.specs.Salvage.{Salvage, entriesOf, leftHeld, mendOf, salvageOf}
 use Rattle.types.specs.declared.Answer.{Answer}
 use Rattle.types.specs.declared.Answer.the-variants.{Done, Cell, Granted, AllGranted, Busy, Refused, RefusedAt}
 use Rattle.types.specs.declared.Head.{Head}
-use Rattle.types.specs.declared.Lease.{Lease}
+use Rattle.types.specs.declared.Hold.{Hold}
 use Rattle.types.specs.declared.SalvageAnswer.{SalvageAnswer}
 use Rattle.types.specs.declared.SalvageAnswer.the-variants as salvaged
 use Rattle.choice.specs.Pick.{both}
@@ -135,7 +135,7 @@ one-entry : (xs : List Entry) (e : Entry) → events-of (xs ++ (e ∷ [])) ≡ e
 one-entry xs e = events-append xs (e ∷ []) ∙ ap (λ (es : List Event). events-of xs ++ es) (append-nil (e .events))
 
 -- the events of an item, behind those before
-goes-on : (k : Course) {P : Lease → Type 0} {v : World} {es : List Event} (said : Says) → Stretch k → Kept (k .world) P v es → Stretch (noted k es said v)
+goes-on : (k : Course) {P : Hold → Type 0} {v : World} {es : List Event} (said : Says) → Stretch k → Kept (k .world) P v es → Stretch (noted k es said v)
 goes-on k {P} {v} {es} said s m =
     let e = one-entry (k .entries) (entryOf es said) in
     record {
@@ -296,7 +296,7 @@ prepared-fresh headers buckets serial t g d =
 
 fresh-apart : (w : World) → Fresh w → Apart w
 fresh-apart w f c d s x y =
-    absurd (omega (arith, lives w (leaseOf c s) x .bit-is, ap (λ (v : World). bitAt (v .table) c) f, zero-bit (3 * cells w) c))
+    absurd (omega (arith, lives w (holdOf c s) x .bit-is, ap (λ (v : World). bitAt (v .table) c) f, zero-bit (3 * cells w) c))
 
 pub prepared-sound : Prepared-sound
 prepared-sound rubbish start items d f = sound-if-apart rubbish start items d (fresh-apart _ f)

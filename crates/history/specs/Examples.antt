@@ -8,11 +8,11 @@ use mathlib.Core.Logic.{inl, inr}
 use native.Mathlib.Omega.{arith}
 use lib.ListN.{replicate}
 use Rattle.model.specs.Log.{Made, Event, by-caller, by-script, attempt-begun, boundary-run, took, released, waiters-set, health-set, Actor, step-dropped}
-use Rattle.model.specs.Arena.{headOf, leaseOf, bitAt, ownerAt, waitersAt, setCell, setWaiters, isFree, isHeld, stateOf, stateAt, isLive, leasesOf, wordsOf, sameLease, isIn, headFits, shapeFits, healthFits, registryFits}
+use Rattle.model.specs.Arena.{headOf, holdOf, bitAt, ownerAt, waitersAt, setCell, setWaiters, isFree, isHeld, stateOf, stateAt, isLive, holdsOf, wordsOf, sameHold, isIn, headFits, shapeFits, healthFits, registryFits}
 use Rattle.model.specs.Refusals.{first}
 use Rattle.model.specs.Answers.{refusalIn}
 use Rattle.model.specs.Foreign.{stepTakeOf, stepReleaseOf, stepWaitersOf, stepHealthOf, stepOf, runStepsOf, boundaryOf}
-use Rattle.model.specs.Lock.{takeOf, lateOf, secondOf, lockOf, findOf, attemptOf, spinOf, pauseOf, retryOf, giveBackOf, rollbackOf, leaseAt, locksOf}
+use Rattle.model.specs.Lock.{takeOf, lateOf, secondOf, lockOf, findOf, attemptOf, spinOf, pauseOf, retryOf, giveBackOf, rollbackOf, holdAt, locksOf}
 use Rattle.model.specs.Checks.{notLive, badBindings, notReleasable, prepareRules, cellRules, leaseRules, scriptRules, lockRules, bucketRules, releaseRules, locksRules}
 use Rattle.model.specs.Calls.{prepareOf, acquireOf, tryAcquireOf, dropLeaseOf, competingAcquireOf, tryLockOf, acquireBucketOf, releaseAllOf, acquireLocksOf, environmentOf, countsOf}
 use Rattle.model.specs.Salvage.{keptOf, mendedCell, mendedTable, mendedByte, mendedHealth, changeOf, changesFrom, changesOf, heldFrom, leftHeld, overOf, isReportFull, mendOf, goOverOf, salvageOf}
@@ -20,7 +20,7 @@ use Rattle.model.specs.Crew.{total, startOf, allWithin, risesFrom, badLists, ba
 use Rattle.types.specs.declared.Answer.the-variants.{Done, Granted, AllGranted, Busy, Refused, RefusedAt}
 use Rattle.types.specs.declared.CrewReply.{CrewReply}
 use Rattle.types.specs.declared.Head.{Head}
-use Rattle.types.specs.declared.Lease.{Lease}
+use Rattle.types.specs.declared.Hold.{Hold}
 use Rattle.types.specs.declared.Reason.the-variants as reason
 use Rattle.types.specs.declared.Refusal.the-variants.{Poisoned, InvalidBucket, NotHeld, BadCrew, Damaged, BadShape}
 use Rattle.types.specs.declared.SalvageAnswer.the-variants as salvaged
@@ -55,7 +55,7 @@ late = try-lock (5 ∷ 0 ∷ 0 ∷ 5 ∷ 0 ∷ 0 ∷ 3 ∷ 3 ∷ 1 ∷ 5 ∷ 0 �
 
 -- cell 2 is held, but not by serial 7: refused
 abbrev mistake : Call
-mistake = drop-lease (leaseOf 2 7)
+mistake = drop-lease (holdOf 2 7)
 
 -- between two calls the other holder gives cell 5 back
 abbrev lone : Item
@@ -91,7 +91,7 @@ prepared = worldOf (headOf 2 4 1) (replicate 24 0) (replicate 2 0)
 -- every item does what was said of it; at the end all is free, the next serial is 4, and cell 3 is still waited for
 abbrev entries : List Entry
 entries =
-    entryOf granting (says (Granted (leaseOf 2 2)) (countsOf 1 3 0 0) 2 [])
+    entryOf granting (says (Granted (holdOf 2 2)) (countsOf 1 3 0 0) 2 [])
     ∷ entryOf late-busy (says (Busy (reason.After 3)) (countsOf 1 3 0 0) 4 [])
     ∷ entryOf [] (saying (Refused (NotHeld 0)))
     ∷ entryOf given-back (saying Done)
@@ -102,7 +102,7 @@ abbrev the-day : Course
 the-day = courseOf prepared entries (worldOf (headOf 2 4 4) (setWaiters (replicate 24 0) 3 1) (replicate 2 0))
 
 pub day-is : after day ≡ the-day
-unfolding run next-item preparing perform foreign bitAt ownerAt waitersAt setCell setWaiters isFree isHeld stateOf stateAt isLive leasesOf sameLease isIn headFits shapeFits healthFits registryFits first stepReleaseOf stepTakeOf stepWaitersOf stepOf runStepsOf boundaryOf takeOf lateOf secondOf lockOf findOf attemptOf retryOf giveBackOf notLive notReleasable prepareRules leaseRules scriptRules lockRules bucketRules releaseRules prepareOf dropLeaseOf tryLockOf acquireBucketOf releaseAllOf
+unfolding run next-item preparing perform foreign bitAt ownerAt waitersAt setCell setWaiters isFree isHeld stateOf stateAt isLive holdsOf sameHold isIn headFits shapeFits healthFits registryFits first stepReleaseOf stepTakeOf stepWaitersOf stepOf runStepsOf boundaryOf takeOf lateOf secondOf lockOf findOf attemptOf retryOf giveBackOf notLive notReleasable prepareRules leaseRules scriptRules lockRules bucketRules releaseRules prepareOf dropLeaseOf tryLockOf acquireBucketOf releaseAllOf
 day-is = refl
 
 -- ---- `demand-2`
@@ -134,8 +134,8 @@ same-day = forgets other-rubbish rubbish 2 4 1 day other-boot-done boot-done ∙
 
 -- `keeps`: the lease (2,2) is live when it was granted; a Busy try_lock, a refused call and a foreign step later nothing has released it, and
 -- it is live; `release_all` releases it, and it is not
-abbrev lease : Lease
-lease = leaseOf 2 2
+abbrev lease : Hold
+lease = holdOf 2 2
 
 pub lease-lives : Live (now prepared granting) lease × Unreleased lease (late-busy ++ given-back) × Live (now prepared (granting ++ (late-busy ++ given-back))) lease
     × (Live (now prepared (granting ++ (late-busy ++ given-back) ++ ending)) lease → ⊥)
@@ -145,8 +145,8 @@ lease-lives = (live, unreleased, day-kept .keeps lease granting (late-busy ++ gi
     live : Live (now prepared granting) lease
     live = refl
 
-    other : (c s : ℕ) → (c ≡ 2 → ⊥) → lease ≡ leaseOf c s → ⊥
-    other c s n e = n (sym (ap (λ (l : Lease). l .cell) e))
+    other : (c s : ℕ) → (c ≡ 2 → ⊥) → lease ≡ holdOf c s → ⊥
+    other c s n e = n (sym (ap (λ (l : Hold). l .cell) e))
 
     unreleased : Unreleased lease (late-busy ++ given-back)
     unreleased = (λ z. z, (λ z. z, (λ z. z, (λ z. z, (λ z. z, (λ z. z, (other 3 3 (λ e. omega arith), (other 5 1 (λ e. omega arith), tt))))))))
@@ -156,7 +156,7 @@ pub serial-dies : Spent (now prepared (granting ++ late-busy)) 3 × Spent (now p
 unfolding bitAt ownerAt setCell setWaiters isFree isHeld stateOf stateAt isLive
 serial-dies = (dead, day-kept .never 3 (granting ++ late-busy) (given-back ++ ending) [] refl dead)
   where
-    none : (c : ℕ) → Live (now prepared (granting ++ late-busy)) (leaseOf c 3) → ⊥
+    none : (c : ℕ) → Live (now prepared (granting ++ late-busy)) (holdOf c 3) → ⊥
     none zero v = differ v
     none (suc zero) v = differ v
     none (suc (suc zero)) v = differ v
@@ -165,7 +165,7 @@ serial-dies = (dead, day-kept .never 3 (granting ++ late-busy) (given-back ++ en
     none (suc (suc (suc (suc (suc zero))))) v = differ v
     none (suc (suc (suc (suc (suc (suc zero)))))) v = differ v
     none (suc (suc (suc (suc (suc (suc (suc zero))))))) v = differ v
-    none (suc (suc (suc (suc (suc (suc (suc (suc c)))))))) v = omega (arith, lives (now prepared (granting ++ late-busy)) (leaseOf (suc (suc (suc (suc (suc (suc (suc (suc c)))))))) 3) v .in-range)
+    none (suc (suc (suc (suc (suc (suc (suc (suc c)))))))) v = omega (arith, lives (now prepared (granting ++ late-busy)) (holdOf (suc (suc (suc (suc (suc (suc (suc (suc c)))))))) 3) v .in-range)
 
     dead : Spent (now prepared (granting ++ late-busy)) 3
     dead = record { was-issued = omega arith; owns-none = none }
@@ -173,7 +173,7 @@ serial-dies = (dead, day-kept .never 3 (granting ++ late-busy) (given-back ++ en
 -- a second preparation begins a new stretch, of the arena's own runs or of others; one that is refused, since H x B no longer fits the runs
 -- or the runs that were lent are too short, is noted and leaves the arena as it was
 pub prepared-again : (after (day ++ (boot ∷ [])) ≡ cold prepared) × (after (day ++ (preparation-over 2 4 1 (replicate 24 9) (replicate 2 9) ∷ [])) ≡ cold prepared)
-unfolding run next-item preparing perform foreign bitAt ownerAt waitersAt setCell setWaiters isFree isHeld stateOf stateAt isLive leasesOf sameLease isIn headFits shapeFits healthFits registryFits first stepReleaseOf stepTakeOf stepWaitersOf stepOf runStepsOf boundaryOf takeOf lateOf secondOf lockOf findOf attemptOf retryOf giveBackOf notLive notReleasable prepareRules leaseRules scriptRules lockRules bucketRules releaseRules prepareOf dropLeaseOf tryLockOf acquireBucketOf releaseAllOf
+unfolding run next-item preparing perform foreign bitAt ownerAt waitersAt setCell setWaiters isFree isHeld stateOf stateAt isLive holdsOf sameHold isIn headFits shapeFits healthFits registryFits first stepReleaseOf stepTakeOf stepWaitersOf stepOf runStepsOf boundaryOf takeOf lateOf secondOf lockOf findOf attemptOf retryOf giveBackOf notLive notReleasable prepareRules leaseRules scriptRules lockRules bucketRules releaseRules prepareOf dropLeaseOf tryLockOf acquireBucketOf releaseAllOf
 prepared-again = (refl, refl)
 
 -- `prepared-begins`: such a stretch, with the first serial 5 and cell 3 taken
@@ -189,7 +189,7 @@ next-day-begins =
 
 pub refused-again : (after (day ++ (preparation 2 5 1 ∷ [])) ≡ noted the-day [] (saying (Refused BadShape)) (the-day .world))
     × (after (day ++ (preparation-over 2 4 1 (replicate 23 9) (replicate 2 9) ∷ [])) ≡ noted the-day [] (saying (Refused BadShape)) (the-day .world))
-unfolding run next-item preparing perform foreign bitAt ownerAt waitersAt setCell setWaiters isFree isHeld stateOf stateAt isLive leasesOf sameLease isIn headFits shapeFits healthFits registryFits first stepReleaseOf stepTakeOf stepWaitersOf stepOf runStepsOf boundaryOf takeOf lateOf secondOf lockOf findOf attemptOf retryOf giveBackOf notLive notReleasable prepareRules leaseRules scriptRules lockRules bucketRules releaseRules prepareOf dropLeaseOf tryLockOf acquireBucketOf releaseAllOf
+unfolding run next-item preparing perform foreign bitAt ownerAt waitersAt setCell setWaiters isFree isHeld stateOf stateAt isLive holdsOf sameHold isIn headFits shapeFits healthFits registryFits first stepReleaseOf stepTakeOf stepWaitersOf stepOf runStepsOf boundaryOf takeOf lateOf secondOf lockOf findOf attemptOf retryOf giveBackOf notLive notReleasable prepareRules leaseRules scriptRules lockRules bucketRules releaseRules prepareOf dropLeaseOf tryLockOf acquireBucketOf releaseAllOf
 refused-again = (refl, refl)
 
 -- ---- document 02, L6: a salvage at the end of the day, with the head in force on paper. Cell 3 is waited for, so its report has one entry
@@ -199,7 +199,7 @@ on-paper = headOf 2 4 4
 
 pub salvaged-then : (after (day ++ (salvage on-paper (replicate 3 9) [] ∷ [])) ≡ cold (worldOf on-paper (replicate 24 0) (replicate 2 0)))
     × (salvaging on-paper (the-day .world .table) (the-day .world .health) (replicate 3 9) [] .0 ≡ salvaged.Done 1 0)
-unfolding run next-item preparing salvaging perform foreign bitAt ownerAt waitersAt setCell setWaiters isFree isHeld stateOf stateAt isLive leasesOf wordsOf sameLease isIn headFits shapeFits healthFits registryFits first stepTakeOf stepReleaseOf stepWaitersOf stepHealthOf stepOf runStepsOf boundaryOf takeOf lateOf secondOf lockOf findOf attemptOf spinOf pauseOf retryOf giveBackOf rollbackOf locksOf notLive badBindings notReleasable prepareRules cellRules leaseRules scriptRules lockRules bucketRules releaseRules locksRules prepareOf acquireOf tryAcquireOf dropLeaseOf environmentOf tryLockOf acquireBucketOf releaseAllOf acquireLocksOf keptOf mendedCell mendedTable mendedByte mendedHealth changeOf changesFrom changesOf heldFrom leftHeld overOf isReportFull mendOf goOverOf salvageOf
+unfolding run next-item preparing salvaging perform foreign bitAt ownerAt waitersAt setCell setWaiters isFree isHeld stateOf stateAt isLive holdsOf wordsOf sameHold isIn headFits shapeFits healthFits registryFits first stepTakeOf stepReleaseOf stepWaitersOf stepHealthOf stepOf runStepsOf boundaryOf takeOf lateOf secondOf lockOf findOf attemptOf spinOf pauseOf retryOf giveBackOf rollbackOf locksOf notLive badBindings notReleasable prepareRules cellRules leaseRules scriptRules lockRules bucketRules releaseRules locksRules prepareOf acquireOf tryAcquireOf dropLeaseOf environmentOf tryLockOf acquireBucketOf releaseAllOf acquireLocksOf keptOf mendedCell mendedTable mendedByte mendedHealth changeOf changesFrom changesOf heldFrom leftHeld overOf isReportFull mendOf goOverOf salvageOf
 salvaged-then = (refl, refl)
 
 -- `salvage-refused-stays`: with no report it is refused, and the day goes on
@@ -220,7 +220,7 @@ both-sound = (day-sound [] _ refl, day-sound granting _ refl)
 
 -- `changes-nothing`: number 12
 pub mistake-refused : (answers granted mistake ≡ Refused (NotHeld 0)) × (leaves granted mistake ≡ granted)
-unfolding run next-item preparing perform foreign bitAt ownerAt waitersAt setCell setWaiters isFree isHeld stateOf stateAt isLive leasesOf wordsOf sameLease isIn headFits shapeFits healthFits registryFits first stepTakeOf stepReleaseOf stepWaitersOf stepHealthOf stepOf runStepsOf boundaryOf takeOf lateOf secondOf lockOf findOf attemptOf spinOf pauseOf retryOf giveBackOf rollbackOf locksOf notLive badBindings notReleasable prepareRules cellRules leaseRules scriptRules lockRules bucketRules releaseRules locksRules prepareOf acquireOf tryAcquireOf dropLeaseOf environmentOf tryLockOf acquireBucketOf releaseAllOf acquireLocksOf
+unfolding run next-item preparing perform foreign bitAt ownerAt waitersAt setCell setWaiters isFree isHeld stateOf stateAt isLive holdsOf wordsOf sameHold isIn headFits shapeFits healthFits registryFits first stepTakeOf stepReleaseOf stepWaitersOf stepHealthOf stepOf runStepsOf boundaryOf takeOf lateOf secondOf lockOf findOf attemptOf spinOf pauseOf retryOf giveBackOf rollbackOf locksOf notLive badBindings notReleasable prepareRules cellRules leaseRules scriptRules lockRules bucketRules releaseRules locksRules prepareOf acquireOf tryAcquireOf dropLeaseOf environmentOf tryLockOf acquireBucketOf releaseAllOf acquireLocksOf
 mistake-refused = (refl, ap (λ (m : Made (World × Says)). m .seen .0) (changes-nothing granted mistake (NotHeld 0) refl (inr (inr (omega arith)))))
 
 -- `crew-refused`: "Crew {2,5},{5,2}: refusal 15, member 1."
@@ -248,12 +248,12 @@ abbrev second : List Event
 second = boundary-run ∷ attempt-begun ∷ boundary-run ∷ boundary-run ∷ took by-caller 5 2 ∷ boundary-run ∷ []
 
 pub two-granted : (answers prepared two-keys ≡ AllGranted) × (perform prepared two-keys .seen .1 .grants ≡ 0 ∷ 1 ∷ 5 ∷ 2 ∷ [])
-    × (log-of prepared two-keys ≡ begun ++ (took by-caller 0 1 ∷ second)) × Live (leaves prepared two-keys) (leaseOf 0 1)
-unfolding run next-item preparing perform foreign bitAt ownerAt waitersAt setCell setWaiters isFree isHeld stateOf stateAt isLive leasesOf wordsOf sameLease isIn headFits shapeFits healthFits registryFits first stepTakeOf stepReleaseOf stepWaitersOf stepHealthOf stepOf runStepsOf boundaryOf takeOf lateOf secondOf lockOf findOf attemptOf spinOf pauseOf retryOf giveBackOf rollbackOf locksOf notLive badBindings notReleasable prepareRules cellRules leaseRules scriptRules lockRules bucketRules releaseRules locksRules prepareOf acquireOf tryAcquireOf dropLeaseOf environmentOf tryLockOf acquireBucketOf releaseAllOf acquireLocksOf
+    × (log-of prepared two-keys ≡ begun ++ (took by-caller 0 1 ∷ second)) × Live (leaves prepared two-keys) (holdOf 0 1)
+unfolding run next-item preparing perform foreign bitAt ownerAt waitersAt setCell setWaiters isFree isHeld stateOf stateAt isLive holdsOf wordsOf sameHold isIn headFits shapeFits healthFits registryFits first stepTakeOf stepReleaseOf stepWaitersOf stepHealthOf stepOf runStepsOf boundaryOf takeOf lateOf secondOf lockOf findOf attemptOf spinOf pauseOf retryOf giveBackOf rollbackOf locksOf notLive badBindings notReleasable prepareRules cellRules leaseRules scriptRules lockRules bucketRules releaseRules locksRules prepareOf acquireOf tryAcquireOf dropLeaseOf environmentOf tryLockOf acquireBucketOf releaseAllOf acquireLocksOf
 two-granted = (refl, refl, refl, refl)
 
 -- so the first is handed over
-pub two-handed : Hands-over (answers prepared two-keys) (perform prepared two-keys .seen .1 .grants) (leaseOf 0 1)
+pub two-handed : Hands-over (answers prepared two-keys) (perform prepared two-keys .seen .1 .grants) (holdOf 0 1)
 two-handed =
     elim (nothing-kept prepared two-keys 0 1 begun second (λ z. z) (two-granted .2)) [ inl x ↦ x .0 | inr y ↦ absurd (y .1 (two-granted .3)) ]
 
@@ -265,11 +265,11 @@ abbrev undone : List Event
 undone = boundary-run ∷ attempt-begun ∷ released by-caller 0 1 ∷ boundary-run ∷ []
 
 pub second-refused : (answers prepared bad-key ≡ RefusedAt (InvalidBucket 9) 1) × (log-of prepared bad-key ≡ begun ++ (took by-caller 0 1 ∷ undone))
-unfolding run next-item preparing perform foreign bitAt ownerAt waitersAt setCell setWaiters isFree isHeld stateOf stateAt isLive leasesOf wordsOf sameLease isIn headFits shapeFits healthFits registryFits first stepTakeOf stepReleaseOf stepWaitersOf stepHealthOf stepOf runStepsOf boundaryOf takeOf lateOf secondOf lockOf findOf attemptOf spinOf pauseOf retryOf giveBackOf rollbackOf locksOf notLive badBindings notReleasable prepareRules cellRules leaseRules scriptRules lockRules bucketRules releaseRules locksRules prepareOf acquireOf tryAcquireOf dropLeaseOf environmentOf tryLockOf acquireBucketOf releaseAllOf acquireLocksOf
+unfolding run next-item preparing perform foreign bitAt ownerAt waitersAt setCell setWaiters isFree isHeld stateOf stateAt isLive holdsOf wordsOf sameHold isIn headFits shapeFits healthFits registryFits first stepTakeOf stepReleaseOf stepWaitersOf stepHealthOf stepOf runStepsOf boundaryOf takeOf lateOf secondOf lockOf findOf attemptOf spinOf pauseOf retryOf giveBackOf rollbackOf locksOf notLive badBindings notReleasable prepareRules cellRules leaseRules scriptRules lockRules bucketRules releaseRules locksRules prepareOf acquireOf tryAcquireOf dropLeaseOf environmentOf tryLockOf acquireBucketOf releaseAllOf acquireLocksOf
 second-refused = (refl, refl)
 
 -- so it is given back, and the buffer is as it was
-pub all-undone : (buffer-in (perform prepared bad-key) ≡ 7 ∷ 7 ∷ 7 ∷ 7 ∷ []) × (Live (leaves prepared bad-key) (leaseOf 0 1) → ⊥)
+pub all-undone : (buffer-in (perform prepared bad-key) ≡ 7 ∷ 7 ∷ 7 ∷ 7 ∷ []) × (Live (leaves prepared bad-key) (holdOf 0 1) → ⊥)
 all-undone =
     let back = nothing-new prepared bad-key (λ z. z) (subst Fails (sym (second-refused .0)) tt) in
     (back .0, back .1 0 1 begun undone (second-refused .1) .1)
@@ -281,19 +281,19 @@ step-one = environment (0 ∷ 0 ∷ 0 ∷ 2 ∷ 5 ∷ 1 ∷ []) 1 []
 pub releases-named : (log-of granted step-one ≡ (boundary-run ∷ []) ++ (released by-script 5 1 ∷ []))
     × ((p : ℕ) × (1 ≤ p) × (p < 2))
     × (log-of granted late ≡ (attempt-begun ∷ boundary-run ∷ boundary-run ∷ took by-caller 3 3 ∷ boundary-run ∷ waiters-set 3 1 ∷ []) ++ (released by-caller 3 3 ∷ []))
-unfolding run next-item preparing perform foreign bitAt ownerAt waitersAt setCell setWaiters isFree isHeld stateOf stateAt isLive leasesOf wordsOf sameLease isIn headFits shapeFits healthFits registryFits first stepTakeOf stepReleaseOf stepWaitersOf stepHealthOf stepOf runStepsOf boundaryOf takeOf lateOf secondOf lockOf findOf attemptOf spinOf pauseOf retryOf giveBackOf rollbackOf locksOf notLive badBindings notReleasable prepareRules cellRules leaseRules scriptRules lockRules bucketRules releaseRules locksRules prepareOf acquireOf tryAcquireOf dropLeaseOf environmentOf tryLockOf acquireBucketOf releaseAllOf acquireLocksOf
+unfolding run next-item preparing perform foreign bitAt ownerAt waitersAt setCell setWaiters isFree isHeld stateOf stateAt isLive holdsOf wordsOf sameHold isIn headFits shapeFits healthFits registryFits first stepTakeOf stepReleaseOf stepWaitersOf stepHealthOf stepOf runStepsOf boundaryOf takeOf lateOf secondOf lockOf findOf attemptOf spinOf pauseOf retryOf giveBackOf rollbackOf locksOf notLive badBindings notReleasable prepareRules cellRules leaseRules scriptRules lockRules bucketRules releaseRules locksRules prepareOf acquireOf tryAcquireOf dropLeaseOf environmentOf tryLockOf acquireBucketOf releaseAllOf acquireLocksOf
 releases-named =
     let step = named granted step-one 5 1 (boundary-run ∷ []) [] .0 refl in
     (refl, (step .0, step .1, step .2), refl)
 
 -- `named-alone`
 pub lone-named : foreign granted 2 5 1 .log ≡ [] ++ (released by-script 5 1 ∷ [])
-unfolding run next-item preparing perform foreign bitAt ownerAt waitersAt setCell setWaiters isFree isHeld stateOf stateAt isLive leasesOf wordsOf sameLease isIn headFits shapeFits healthFits registryFits first stepTakeOf stepReleaseOf stepWaitersOf stepHealthOf stepOf runStepsOf boundaryOf takeOf lateOf secondOf lockOf findOf attemptOf spinOf pauseOf retryOf giveBackOf rollbackOf locksOf notLive badBindings notReleasable prepareRules cellRules leaseRules scriptRules lockRules bucketRules releaseRules locksRules prepareOf acquireOf tryAcquireOf dropLeaseOf environmentOf tryLockOf acquireBucketOf releaseAllOf acquireLocksOf
+unfolding run next-item preparing perform foreign bitAt ownerAt waitersAt setCell setWaiters isFree isHeld stateOf stateAt isLive holdsOf wordsOf sameHold isIn headFits shapeFits healthFits registryFits first stepTakeOf stepReleaseOf stepWaitersOf stepHealthOf stepOf runStepsOf boundaryOf takeOf lateOf secondOf lockOf findOf attemptOf spinOf pauseOf retryOf giveBackOf rollbackOf locksOf notLive badBindings notReleasable prepareRules cellRules leaseRules scriptRules lockRules bucketRules releaseRules locksRules prepareOf acquireOf tryAcquireOf dropLeaseOf environmentOf tryLockOf acquireBucketOf releaseAllOf acquireLocksOf
 lone-named = refl
 
 -- `held-live`: (2,2) is in the held list of the call that is late Busy, and live before it
 pub lease-held : (isIn lease (held-of late) ≡ true) × Live granted lease × (log-of granted late ≡ late-busy ++ []) × Live (now granted late-busy) lease
-unfolding run next-item preparing perform foreign bitAt ownerAt waitersAt setCell setWaiters isFree isHeld stateOf stateAt isLive leasesOf wordsOf sameLease isIn headFits shapeFits healthFits registryFits first stepTakeOf stepReleaseOf stepWaitersOf stepHealthOf stepOf runStepsOf boundaryOf takeOf lateOf secondOf lockOf findOf attemptOf spinOf pauseOf retryOf giveBackOf rollbackOf locksOf notLive badBindings notReleasable prepareRules cellRules leaseRules scriptRules lockRules bucketRules releaseRules locksRules prepareOf acquireOf tryAcquireOf dropLeaseOf environmentOf tryLockOf acquireBucketOf releaseAllOf acquireLocksOf
+unfolding run next-item preparing perform foreign bitAt ownerAt waitersAt setCell setWaiters isFree isHeld stateOf stateAt isLive holdsOf wordsOf sameHold isIn headFits shapeFits healthFits registryFits first stepTakeOf stepReleaseOf stepWaitersOf stepHealthOf stepOf runStepsOf boundaryOf takeOf lateOf secondOf lockOf findOf attemptOf spinOf pauseOf retryOf giveBackOf rollbackOf locksOf notLive badBindings notReleasable prepareRules cellRules leaseRules scriptRules lockRules bucketRules releaseRules locksRules prepareOf acquireOf tryAcquireOf dropLeaseOf environmentOf tryLockOf acquireBucketOf releaseAllOf acquireLocksOf
 lease-held = (refl, refl, refl, held-live granted late lease late-busy [] refl refl refl)
 
 -- ---- why it is Busy: cell 2 held by serial 2, waiters of cell 3 seen before, waiters of cell 3 seen after
@@ -305,11 +305,11 @@ abbrev meets-waiters : Call
 meets-waiters = try-lock (3 ∷ 3 ∷ 1 ∷ 5 ∷ 0 ∷ 0 ∷ []) 0 [] 3
 
 pub three-reasons : (answers granted meets-holder ≡ Busy (reason.Held 2)) × (answers granted meets-waiters ≡ Busy reason.Before) × (answers granted late ≡ Busy (reason.After 3))
-unfolding run next-item preparing perform foreign bitAt ownerAt waitersAt setCell setWaiters isFree isHeld stateOf stateAt isLive leasesOf wordsOf sameLease isIn headFits shapeFits healthFits registryFits first stepTakeOf stepReleaseOf stepWaitersOf stepHealthOf stepOf runStepsOf boundaryOf takeOf lateOf secondOf lockOf findOf attemptOf spinOf pauseOf retryOf giveBackOf rollbackOf locksOf notLive badBindings notReleasable prepareRules cellRules leaseRules scriptRules lockRules bucketRules releaseRules locksRules prepareOf acquireOf tryAcquireOf dropLeaseOf environmentOf tryLockOf acquireBucketOf releaseAllOf acquireLocksOf
+unfolding run next-item preparing perform foreign bitAt ownerAt waitersAt setCell setWaiters isFree isHeld stateOf stateAt isLive holdsOf wordsOf sameHold isIn headFits shapeFits healthFits registryFits first stepTakeOf stepReleaseOf stepWaitersOf stepHealthOf stepOf runStepsOf boundaryOf takeOf lateOf secondOf lockOf findOf attemptOf spinOf pauseOf retryOf giveBackOf rollbackOf locksOf notLive badBindings notReleasable prepareRules cellRules leaseRules scriptRules lockRules bucketRules releaseRules locksRules prepareOf acquireOf tryAcquireOf dropLeaseOf environmentOf tryLockOf acquireBucketOf releaseAllOf acquireLocksOf
 three-reasons = (refl, refl, refl)
 
 -- `holder-lives`, `early-takes-nothing`, `late-is-spent`: the holder's lease is live, the call that met waiters took nothing, and serial 3 owns nothing
-pub reasons-met : Live (leaves granted meets-holder) (leaseOf 2 2) × Takes-nothing (log-of granted meets-waiters) × Spent (leaves granted late) 3
+pub reasons-met : Live (leaves granted meets-holder) (holdOf 2 2) × Takes-nothing (log-of granted meets-waiters) × Spent (leaves granted late) 3
 reasons-met = (
   holder-lives granted meets-holder 2 tt (three-reasons .0),
   early-takes-nothing granted meets-waiters tt .0 (three-reasons .1),
@@ -318,25 +318,25 @@ reasons-met = (
 
 -- `own-serial`
 pub own-named : answers granted (competing-acquire lease) ≡ Busy (reason.Held 2)
-unfolding run next-item preparing perform foreign bitAt ownerAt waitersAt setCell setWaiters isFree isHeld stateOf stateAt isLive leasesOf wordsOf sameLease isIn headFits shapeFits healthFits registryFits first stepTakeOf stepReleaseOf stepWaitersOf stepHealthOf stepOf runStepsOf boundaryOf competingAcquireOf takeOf lateOf secondOf lockOf findOf attemptOf spinOf pauseOf retryOf giveBackOf rollbackOf locksOf notLive badBindings notReleasable prepareRules cellRules leaseRules scriptRules lockRules bucketRules releaseRules locksRules prepareOf acquireOf tryAcquireOf dropLeaseOf environmentOf tryLockOf acquireBucketOf releaseAllOf acquireLocksOf
+unfolding run next-item preparing perform foreign bitAt ownerAt waitersAt setCell setWaiters isFree isHeld stateOf stateAt isLive holdsOf wordsOf sameHold isIn headFits shapeFits healthFits registryFits first stepTakeOf stepReleaseOf stepWaitersOf stepHealthOf stepOf runStepsOf boundaryOf competingAcquireOf takeOf lateOf secondOf lockOf findOf attemptOf spinOf pauseOf retryOf giveBackOf rollbackOf locksOf notLive badBindings notReleasable prepareRules cellRules leaseRules scriptRules lockRules bucketRules releaseRules locksRules prepareOf acquireOf tryAcquireOf dropLeaseOf environmentOf tryLockOf acquireBucketOf releaseAllOf acquireLocksOf
 own-named = refl
 
 -- ---- `two-writers`: cell 2 is granted, Busy, given back, granted again
 
 abbrev valve : List Item
-valve = call (try-acquire 2) ∷ call (try-acquire 2) ∷ call (drop-lease (leaseOf 2 1)) ∷ call (try-acquire 2) ∷ []
+valve = call (try-acquire 2) ∷ call (try-acquire 2) ∷ call (drop-lease (holdOf 2 1)) ∷ call (try-acquire 2) ∷ []
 
 abbrev first-grant : Entry
-first-grant = entryOf (attempt-begun ∷ took by-caller 2 1 ∷ []) (says (Granted (leaseOf 2 1)) (countsOf 1 0 0 0) 0 [])
+first-grant = entryOf (attempt-begun ∷ took by-caller 2 1 ∷ []) (says (Granted (holdOf 2 1)) (countsOf 1 0 0 0) 0 [])
 
 abbrev meanwhile : List Entry
 meanwhile = entryOf (attempt-begun ∷ []) (says (Busy (reason.Held 1)) (countsOf 1 0 0 0) 0 []) ∷ entryOf (released by-caller 2 1 ∷ []) (saying Done) ∷ []
 
 abbrev second-grant : Entry
-second-grant = entryOf (attempt-begun ∷ took by-caller 2 2 ∷ []) (says (Granted (leaseOf 2 2)) (countsOf 1 0 0 0) 0 [])
+second-grant = entryOf (attempt-begun ∷ took by-caller 2 2 ∷ []) (says (Granted (holdOf 2 2)) (countsOf 1 0 0 0) 0 [])
 
 pub valve-is : after valve .entries ≡ first-grant ∷ (meanwhile ++ (second-grant ∷ []))
-unfolding run next-item preparing perform foreign bitAt ownerAt waitersAt setCell setWaiters isFree isHeld stateOf stateAt isLive leasesOf wordsOf sameLease isIn headFits shapeFits healthFits registryFits first stepTakeOf stepReleaseOf stepWaitersOf stepHealthOf stepOf runStepsOf boundaryOf takeOf lateOf secondOf lockOf findOf attemptOf spinOf pauseOf retryOf giveBackOf rollbackOf locksOf notLive badBindings notReleasable prepareRules cellRules leaseRules scriptRules lockRules bucketRules releaseRules locksRules prepareOf acquireOf tryAcquireOf dropLeaseOf environmentOf tryLockOf acquireBucketOf releaseAllOf acquireLocksOf
+unfolding run next-item preparing perform foreign bitAt ownerAt waitersAt setCell setWaiters isFree isHeld stateOf stateAt isLive holdsOf wordsOf sameHold isIn headFits shapeFits healthFits registryFits first stepTakeOf stepReleaseOf stepWaitersOf stepHealthOf stepOf runStepsOf boundaryOf takeOf lateOf secondOf lockOf findOf attemptOf spinOf pauseOf retryOf giveBackOf rollbackOf locksOf notLive badBindings notReleasable prepareRules cellRules leaseRules scriptRules lockRules bucketRules releaseRules locksRules prepareOf acquireOf tryAcquireOf dropLeaseOf environmentOf tryLockOf acquireBucketOf releaseAllOf acquireLocksOf
 valve-is = refl
 
 pub valve-released : (a : Actor) × (before middle after : List Event)
@@ -353,7 +353,7 @@ abbrev cold-keys : Call
 cold-keys = acquire-locks registry [] 0 [] (0 ∷ 0 ∷ 0 ∷ 1 ∷ []) (9 ∷ 9 ∷ 9 ∷ 9 ∷ [])
 
 pub cold-refused : (answers damaged cold-keys ≡ RefusedAt (Damaged 1) 1)
-unfolding run next-item preparing perform foreign bitAt ownerAt waitersAt setCell setWaiters isFree isHeld stateOf stateAt isLive leasesOf wordsOf sameLease isIn headFits shapeFits healthFits registryFits first stepTakeOf stepReleaseOf stepWaitersOf stepHealthOf stepOf runStepsOf boundaryOf takeOf lateOf secondOf lockOf findOf attemptOf spinOf pauseOf retryOf giveBackOf rollbackOf locksOf notLive badBindings notReleasable prepareRules cellRules leaseRules scriptRules lockRules bucketRules releaseRules locksRules prepareOf acquireOf tryAcquireOf dropLeaseOf environmentOf tryLockOf acquireBucketOf releaseAllOf acquireLocksOf
+unfolding run next-item preparing perform foreign bitAt ownerAt waitersAt setCell setWaiters isFree isHeld stateOf stateAt isLive holdsOf wordsOf sameHold isIn headFits shapeFits healthFits registryFits first stepTakeOf stepReleaseOf stepWaitersOf stepHealthOf stepOf runStepsOf boundaryOf takeOf lateOf secondOf lockOf findOf attemptOf spinOf pauseOf retryOf giveBackOf rollbackOf locksOf notLive badBindings notReleasable prepareRules cellRules leaseRules scriptRules lockRules bucketRules releaseRules locksRules prepareOf acquireOf tryAcquireOf dropLeaseOf environmentOf tryLockOf acquireBucketOf releaseAllOf acquireLocksOf
 cold-refused = refl
 
 pub cold-rolled-back : buffer-in (perform damaged cold-keys) ≡ 9 ∷ 9 ∷ 9 ∷ 9 ∷ []
@@ -372,13 +372,13 @@ sick = worldOf (headOf 2 4 1) (replicate 24 0) (0 ∷ 1 ∷ [])
 abbrev mended : Call
 mended = try-lock (4 ∷ 1 ∷ 0 ∷ 5 ∷ 0 ∷ 0 ∷ []) 0 [] 6
 
-mended-granted : answers sick mended ≡ Granted (leaseOf 6 1)
-unfolding run next-item preparing perform foreign bitAt ownerAt waitersAt setCell setWaiters isFree isHeld stateOf stateAt isLive leasesOf wordsOf sameLease isIn headFits shapeFits healthFits registryFits first stepTakeOf stepReleaseOf stepWaitersOf stepHealthOf stepOf runStepsOf boundaryOf takeOf lateOf secondOf lockOf findOf attemptOf spinOf pauseOf retryOf giveBackOf rollbackOf locksOf notLive badBindings notReleasable prepareRules cellRules leaseRules scriptRules lockRules bucketRules releaseRules locksRules prepareOf acquireOf tryAcquireOf dropLeaseOf environmentOf tryLockOf acquireBucketOf releaseAllOf acquireLocksOf
+mended-granted : answers sick mended ≡ Granted (holdOf 6 1)
+unfolding run next-item preparing perform foreign bitAt ownerAt waitersAt setCell setWaiters isFree isHeld stateOf stateAt isLive holdsOf wordsOf sameHold isIn headFits shapeFits healthFits registryFits first stepTakeOf stepReleaseOf stepWaitersOf stepHealthOf stepOf runStepsOf boundaryOf takeOf lateOf secondOf lockOf findOf attemptOf spinOf pauseOf retryOf giveBackOf rollbackOf locksOf notLive badBindings notReleasable prepareRules cellRules leaseRules scriptRules lockRules bucketRules releaseRules locksRules prepareOf acquireOf tryAcquireOf dropLeaseOf environmentOf tryLockOf acquireBucketOf releaseAllOf acquireLocksOf
 mended-granted = refl
 
 -- `granted-healthy`
 pub mended-healthy : Healthy (leaves sick mended) 6
-mended-healthy = granted-healthy sick mended (leaseOf 6 1) tt mended-granted
+mended-healthy = granted-healthy sick mended (holdOf 6 1) tt mended-granted
 
 -- `poisoned-holds-nothing`: the header is poisoned in the third boundary
 abbrev gone-bad : Call
@@ -388,11 +388,11 @@ abbrev bad-end : List Event
 bad-end = boundary-run ∷ health-set 1 1 ∷ released by-caller 6 1 ∷ []
 
 pub gone-bad-is : (answers prepared gone-bad ≡ Refused (Poisoned 1)) × (log-of prepared gone-bad ≡ begun ++ (took by-caller 6 1 ∷ bad-end))
-unfolding run next-item preparing perform foreign bitAt ownerAt waitersAt setCell setWaiters isFree isHeld stateOf stateAt isLive leasesOf wordsOf sameLease isIn headFits shapeFits healthFits registryFits first stepTakeOf stepReleaseOf stepWaitersOf stepHealthOf stepOf runStepsOf boundaryOf takeOf lateOf secondOf lockOf findOf attemptOf spinOf pauseOf retryOf giveBackOf rollbackOf locksOf notLive badBindings notReleasable prepareRules cellRules leaseRules scriptRules lockRules bucketRules releaseRules locksRules prepareOf acquireOf tryAcquireOf dropLeaseOf environmentOf tryLockOf acquireBucketOf releaseAllOf acquireLocksOf
+unfolding run next-item preparing perform foreign bitAt ownerAt waitersAt setCell setWaiters isFree isHeld stateOf stateAt isLive holdsOf wordsOf sameHold isIn headFits shapeFits healthFits registryFits first stepTakeOf stepReleaseOf stepWaitersOf stepHealthOf stepOf runStepsOf boundaryOf takeOf lateOf secondOf lockOf findOf attemptOf spinOf pauseOf retryOf giveBackOf rollbackOf locksOf notLive badBindings notReleasable prepareRules cellRules leaseRules scriptRules lockRules bucketRules releaseRules locksRules prepareOf acquireOf tryAcquireOf dropLeaseOf environmentOf tryLockOf acquireBucketOf releaseAllOf acquireLocksOf
 gone-bad-is = (refl, refl)
 
 -- so nothing is held, and the serial stays spent
-pub gone-bad-leaves : (Live (leaves prepared gone-bad) (leaseOf 6 1) → ⊥) × (leaves prepared gone-bad .head .next ≡ 1 + number-of takes (log-of prepared gone-bad))
+pub gone-bad-leaves : (Live (leaves prepared gone-bad) (holdOf 6 1) → ⊥) × (leaves prepared gone-bad .head .next ≡ 1 + number-of takes (log-of prepared gone-bad))
 gone-bad-leaves =
     let k = poisoned-holds-nothing prepared gone-bad (λ z. z) (ap refusalIn (gone-bad-is .0)) in
     (k .0 .1 6 1 begun bad-end (gone-bad-is .1) .1, k .1)
@@ -411,34 +411,34 @@ behind = acquire-locks registry behind-script 0 [] behind-keys (9 ∷ 9 ∷ 9 �
 
 pub poisoned-behind : (answers prepared behind ≡ AllGranted) × (buffer-in (perform prepared behind) ≡ 2 ∷ 1 ∷ 6 ∷ 2 ∷ [])
     × (leaves prepared behind .health ≡ 1 ∷ 0 ∷ [])
-unfolding run next-item preparing perform foreign bitAt ownerAt waitersAt setCell setWaiters isFree isHeld stateOf stateAt isLive leasesOf wordsOf sameLease isIn headFits shapeFits healthFits registryFits first stepTakeOf stepReleaseOf stepWaitersOf stepHealthOf stepOf runStepsOf boundaryOf takeOf lateOf secondOf lockOf findOf attemptOf spinOf pauseOf retryOf giveBackOf rollbackOf locksOf notLive badBindings notReleasable prepareRules cellRules leaseRules scriptRules lockRules bucketRules releaseRules locksRules prepareOf acquireOf tryAcquireOf dropLeaseOf environmentOf tryLockOf acquireBucketOf releaseAllOf acquireLocksOf
+unfolding run next-item preparing perform foreign bitAt ownerAt waitersAt setCell setWaiters isFree isHeld stateOf stateAt isLive holdsOf wordsOf sameHold isIn headFits shapeFits healthFits registryFits first stepTakeOf stepReleaseOf stepWaitersOf stepHealthOf stepOf runStepsOf boundaryOf takeOf lateOf secondOf lockOf findOf attemptOf spinOf pauseOf retryOf giveBackOf rollbackOf locksOf notLive badBindings notReleasable prepareRules cellRules leaseRules scriptRules lockRules bucketRules releaseRules locksRules prepareOf acquireOf tryAcquireOf dropLeaseOf environmentOf tryLockOf acquireBucketOf releaseAllOf acquireLocksOf
 poisoned-behind = (refl, refl, refl)
 
 -- a key's lease at its point, and the last key's at the end
-abbrev At-key : ℕ → Lease → Type 0
+abbrev At-key : ℕ → Hold → Type 0
 At-key p l =
     ((before after : List Event) × (log-of prepared behind ≡ before ++ after) × Healthy (now prepared before) (l .cell))
     × (p + 1 ≡ 2 → Healthy (leaves prepared behind) (l .cell))
 
-at-key : (p : ℕ) (l : Lease) → leaseAt (leasesOf (buffer-in (perform prepared behind))) p ≡ l → p < 2 → At-key p l
+at-key : (p : ℕ) (l : Hold) → holdAt (holdsOf (buffer-in (perform prepared behind))) p ≡ l → p < 2 → At-key p l
 at-key p l e i =
     let k = locks-healthy prepared registry behind-script 0 [] behind-keys (9 ∷ 9 ∷ 9 ∷ 9 ∷ []) p (poisoned-behind .0) i in
     subst (At-key p) e ((k .0 .0, k .0 .1, k .0 .2, k .0 .4), k .1)
 
-pub behind-healthy : At-key 0 (leaseOf 2 1) × Healthy (leaves prepared behind) 6
-unfolding leasesOf
-behind-healthy = (at-key 0 (leaseOf 2 1) (rw (poisoned-behind .1)) (omega arith), at-key 1 (leaseOf 6 2) (rw (poisoned-behind .1)) (omega arith) .1 refl)
+pub behind-healthy : At-key 0 (holdOf 2 1) × Healthy (leaves prepared behind) 6
+unfolding holdsOf
+behind-healthy = (at-key 0 (holdOf 2 1) (rw (poisoned-behind .1)) (omega arith), at-key 1 (holdOf 6 2) (rw (poisoned-behind .1)) (omega arith) .1 refl)
 
 -- ---- other callers: a foreign take of cell 3, and the call that it is; a boundary with a legal take and a dropped one, and the history that it is
 
-pub other-takes : (foreign prepared 1 3 0 .log ≡ took by-script 3 1 ∷ []) × (answers prepared (try-acquire 3) ≡ Granted (leaseOf 3 1))
-unfolding run next-item preparing perform foreign bitAt ownerAt waitersAt setCell setWaiters isFree isHeld stateOf stateAt isLive leasesOf wordsOf sameLease isIn headFits shapeFits healthFits registryFits first stepTakeOf stepReleaseOf stepWaitersOf stepHealthOf stepOf runStepsOf boundaryOf takeOf lateOf secondOf lockOf findOf attemptOf spinOf pauseOf retryOf giveBackOf rollbackOf locksOf notLive badBindings notReleasable prepareRules cellRules leaseRules scriptRules lockRules bucketRules releaseRules locksRules prepareOf acquireOf tryAcquireOf dropLeaseOf environmentOf tryLockOf acquireBucketOf releaseAllOf acquireLocksOf
+pub other-takes : (foreign prepared 1 3 0 .log ≡ took by-script 3 1 ∷ []) × (answers prepared (try-acquire 3) ≡ Granted (holdOf 3 1))
+unfolding run next-item preparing perform foreign bitAt ownerAt waitersAt setCell setWaiters isFree isHeld stateOf stateAt isLive holdsOf wordsOf sameHold isIn headFits shapeFits healthFits registryFits first stepTakeOf stepReleaseOf stepWaitersOf stepHealthOf stepOf runStepsOf boundaryOf takeOf lateOf secondOf lockOf findOf attemptOf spinOf pauseOf retryOf giveBackOf rollbackOf locksOf notLive badBindings notReleasable prepareRules cellRules leaseRules scriptRules lockRules bucketRules releaseRules locksRules prepareOf acquireOf tryAcquireOf dropLeaseOf environmentOf tryLockOf acquireBucketOf releaseAllOf acquireLocksOf
 other-takes = (refl, take-is-call prepared 3 0 1 refl refl .0)
 
 abbrev boundary : Call
 boundary = environment (1 ∷ 3 ∷ 0 ∷ 1 ∷ 3 ∷ 0 ∷ 2 ∷ 3 ∷ 1 ∷ []) 0 []
 
 pub boundary-history : (log-of prepared boundary ≡ boundary-run ∷ took by-script 3 1 ∷ step-dropped ∷ released by-script 3 1 ∷ [])
-    × (singles (log-of prepared boundary) ≡ call (try-acquire 3) ∷ call (drop-lease (leaseOf 3 1)) ∷ [])
-unfolding run next-item preparing perform foreign bitAt ownerAt waitersAt setCell setWaiters isFree isHeld stateOf stateAt isLive leasesOf wordsOf sameLease isIn headFits shapeFits healthFits registryFits first stepTakeOf stepReleaseOf stepWaitersOf stepHealthOf stepOf runStepsOf boundaryOf takeOf lateOf secondOf lockOf findOf attemptOf spinOf pauseOf retryOf giveBackOf rollbackOf locksOf notLive badBindings notReleasable prepareRules cellRules leaseRules scriptRules lockRules bucketRules releaseRules locksRules prepareOf acquireOf tryAcquireOf dropLeaseOf environmentOf tryLockOf acquireBucketOf releaseAllOf acquireLocksOf
+    × (singles (log-of prepared boundary) ≡ call (try-acquire 3) ∷ call (drop-lease (holdOf 3 1)) ∷ [])
+unfolding run next-item preparing perform foreign bitAt ownerAt waitersAt setCell setWaiters isFree isHeld stateOf stateAt isLive holdsOf wordsOf sameHold isIn headFits shapeFits healthFits registryFits first stepTakeOf stepReleaseOf stepWaitersOf stepHealthOf stepOf runStepsOf boundaryOf takeOf lateOf secondOf lockOf findOf attemptOf spinOf pauseOf retryOf giveBackOf rollbackOf locksOf notLive badBindings notReleasable prepareRules cellRules leaseRules scriptRules lockRules bucketRules releaseRules locksRules prepareOf acquireOf tryAcquireOf dropLeaseOf environmentOf tryLockOf acquireBucketOf releaseAllOf acquireLocksOf
 boundary-history = (refl, refl)

@@ -5,7 +5,7 @@ use mathlib.Core.List.{List, [], _∷_, _++_}
 use mathlib.Core.Bool.{false}
 use lib.ListN.{getD}
 use Rattle.model.specs.Log.{Made, Event, gives, _>>=_, _>>_}
-use Rattle.model.specs.Arena.{cellNumber, spentTo, leasesOf}
+use Rattle.model.specs.Arena.{cellNumber, spentTo, holdsOf}
 use Rattle.model.specs.Refusals.{Rule}
 use Rattle.model.specs.Foreign.{stepOf}
 use Rattle.model.specs.Lock.{bindingAt, bucketAt}
@@ -18,7 +18,7 @@ use Rattle.types.specs.declared.Answer.{Answer}
 use Rattle.types.specs.declared.Answer.the-variants.{Done, Cell, Granted, AllGranted, Busy, Refused, RefusedAt}
 use Rattle.types.specs.declared.Counts.{Counts}
 use Rattle.types.specs.declared.Head.{Head}
-use Rattle.types.specs.declared.Lease.{Lease}
+use Rattle.types.specs.declared.Hold.{Hold}
 use Rattle.types.specs.declared.SalvageAnswer.{SalvageAnswer}
 use Rattle.types.specs.declared.SalvageAnswer.the-variants as salvaged
 use Rattle.history.specs.World.{World, worldOf}
@@ -26,8 +26,8 @@ use Rattle.history.specs.World.{World, worldOf}
 -- a call without its head, table and health: these are what the last item left
 pub data Call : Type 0 where
   try-acquire : (cell : ℕ) → Call
-  drop-lease read-permission competing-acquire release-then-handoff : Lease → Call
-  foreign-release drop-preserving : (held : List ℕ) → Lease → Call
+  drop-lease read-permission competing-acquire release-then-handoff : Hold → Call
+  foreign-release drop-preserving : (held : List ℕ) → Hold → Call
   acquire-preserving : (held : List ℕ) (cell : ℕ) → Call
   environment : (script : List ℕ) (place : ℕ) (held : List ℕ) → Call
   try-lock : (script : List ℕ) (place : ℕ) (held : List ℕ) (cell : ℕ) → Call
@@ -82,27 +82,27 @@ place-of (crew counts cells turns) = 0
 place-of (crew-at-work counts cells turns counters) = 0
 
 -- the held list of a call
-abbrev pub held-of : Call → List Lease
+abbrev pub held-of : Call → List Hold
 held-of (try-acquire c) = []
 held-of (drop-lease l) = []
 held-of (read-permission l) = []
 held-of (competing-acquire l) = []
 held-of (release-then-handoff l) = []
-held-of (foreign-release held l) = leasesOf held
-held-of (drop-preserving held l) = leasesOf held
-held-of (acquire-preserving held c) = leasesOf held
-held-of (environment script place held) = leasesOf held
-held-of (try-lock script place held c) = leasesOf held
-held-of (transactional registry script place held binding bucket) = leasesOf held
-held-of (acquire-bucket registry script place held binding bucket) = leasesOf held
+held-of (foreign-release held l) = holdsOf held
+held-of (drop-preserving held l) = holdsOf held
+held-of (acquire-preserving held c) = holdsOf held
+held-of (environment script place held) = holdsOf held
+held-of (try-lock script place held c) = holdsOf held
+held-of (transactional registry script place held binding bucket) = holdsOf held
+held-of (acquire-bucket registry script place held binding bucket) = holdsOf held
 held-of (release-all script place leases) = []
-held-of (acquire-locks registry script place held keys grants) = leasesOf held
-held-of (acquire-sorted registry script place held keys grants) = leasesOf held
+held-of (acquire-locks registry script place held keys grants) = holdsOf held
+held-of (acquire-sorted registry script place held keys grants) = holdsOf held
 held-of (crew counts cells turns) = []
 held-of (crew-at-work counts cells turns counters) = []
 
 -- the leases that a call is given to give up
-abbrev pub given-up : Call → List Lease
+abbrev pub given-up : Call → List Hold
 given-up (try-acquire c) = []
 given-up (drop-lease l) = l ∷ []
 given-up (read-permission l) = []
@@ -115,7 +115,7 @@ given-up (environment script place held) = []
 given-up (try-lock script place held c) = []
 given-up (transactional registry script place held binding bucket) = []
 given-up (acquire-bucket registry script place held binding bucket) = []
-given-up (release-all script place leases) = leasesOf leases
+given-up (release-all script place leases) = holdsOf leases
 given-up (acquire-locks registry script place held keys grants) = []
 given-up (acquire-sorted registry script place held keys grants) = []
 given-up (crew counts cells turns) = []

@@ -7,7 +7,7 @@ use native.Mathlib.Omega.{arith}
 use lib.ListN.{length}
 use Rattle.choice.specs.Choice.{if_then_else_}
 use Rattle.model.specs.Log.{Made, by-caller, attempt-begun, released, gives, note, _>>=_, _>>_}
-use Rattle.model.specs.Arena.{spentTo, setCell, leasesOf}
+use Rattle.model.specs.Arena.{spentTo, setCell, holdsOf}
 use Rattle.model.specs.Refusals.{Rule, refusalOf, first, judge}
 use Rattle.model.specs.Foreign.{Setting, flowOf, boundaryOf}
 use Rattle.model.specs.Lock.{lockOf, answerOf, runOf, attemptOf, attemptLimit, noneYet, retryOf, settled, giveBackOf, Locks, locksOf}
@@ -116,7 +116,7 @@ shifted work w counts cells turns counters =
 -- multi-lock's own steps over the sorted keys, and how the caller sees them: by the keys as they were typed
 abbrev pub sorted-locks : World → (registry script : List ℕ) (place : ℕ) (held keys grants : List ℕ) → Made Locks
 sorted-locks w registry script place held keys grants =
-    locksOf (length (cellsSorted (w .head .buckets) registry keys)) 0 (given (w .head) script (leasesOf held)) (w .head .buckets) registry (sortedKeys (w .head .buckets) registry keys) []
+    locksOf (length (cellsSorted (w .head .buckets) registry keys)) 0 (given (w .head) script (holdsOf held)) (w .head .buckets) registry (sortedKeys (w .head .buckets) registry keys) []
     (starting (w .head) place) (w .table) (w .health) grants
 
 abbrev pub as-asked : World → (registry keys : List ℕ) → Locks → World × Says
@@ -161,7 +161,7 @@ steps w (acquire-bucket registry script place held binding bucket) =
     (retryOf attemptLimit 0 noneYet (acting w (acquire-bucket registry script place held binding bucket)) (w .head .buckets) registry binding bucket (starting (w .head) place) (w .table) (w .health))
 steps w (release-all script place leases) =
     seen-as (λ m. play (played (w .head) (m .0) answer.Done, m .1))
-    (giveBackOf (countIn leases) (acting w (release-all script place leases)) (leasesOf leases) (starting (w .head) place) (w .table) (w .health))
+    (giveBackOf (countIn leases) (acting w (release-all script place leases)) (holdsOf leases) (starting (w .head) place) (w .table) (w .health))
 steps w (acquire-locks registry script place held keys grants) =
     seen-as (λ m. grant (played (w .head) (m .0 .run) (m .0 .answer), m .1))
     (locksOf (countIn keys) 0 (acting w (acquire-locks registry script place held keys grants)) (w .head .buckets) registry keys [] (starting (w .head) place) (w .table) (w .health) grants)

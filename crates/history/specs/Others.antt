@@ -8,14 +8,14 @@ use lib.Dec.{ltb}
 use lib.ListN.{length}
 use borrow.Author.Tests.{ltb-true, leb-false, lt-ltb, lt-leb, le-leb, eq-eqb, not-false}
 use Rattle.model.specs.Log.{Made, Event, by-caller, by-script, attempt-begun, boundary-run, yielded, spun, step-dropped, took, released, waiters-set, health-set, held-all, added}
-use Rattle.model.specs.Arena.{lastSerial, serialRemains, spentTo, leaseOf, bitAt, ownerAt, isFree, isLive, isIn, stateAt}
+use Rattle.model.specs.Arena.{lastSerial, serialRemains, spentTo, holdOf, bitAt, ownerAt, isFree, isLive, isIn, stateAt}
 use Rattle.model.specs.Refusals.{first}
 use Rattle.model.specs.Foreign.{stepTakeOf, stepReleaseOf, stepWaitersOf, stepHealthOf, stepOf}
 use Rattle.model.specs.Lock.{takeIn, takeOf}
 use Rattle.model.specs.Checks.{cellRules, leaseRules}
 use Rattle.model.specs.Calls.{countsOf, acquireOf, tryAcquireOf, dropLeaseOf}
 use Rattle.types.specs.declared.Answer.the-variants.{Done, Granted}
-use Rattle.types.specs.declared.Lease.{Lease}
+use Rattle.types.specs.declared.Hold.{Hold}
 use Rattle.types.specs.declared.State.{State}
 use Rattle.types.specs.declared.State.the-variants as state
 use Rattle.types.specs.declared.Stepped.{Stepped}
@@ -37,12 +37,12 @@ use Rattle.history.specs.Writers.{through}
 
 pub taken-alone : (w : World) (c : ℕ) → Shape-fits w → Free w c → w .head .next < lastSerial
     → perform w (try-acquire c)
-    ≡ record { seen = (step w (took by-caller c (w .head .next)), says (Granted (leaseOf c (w .head .next))) (countsOf 1 0 0 0) 0 []); log = attempt-begun ∷ took by-caller c (w .head .next) ∷ [] }
+    ≡ record { seen = (step w (took by-caller c (w .head .next)), says (Granted (holdOf c (w .head .next))) (countsOf 1 0 0 0) 0 []); log = attempt-begun ∷ took by-caller c (w .head .next) ∷ [] }
 unfolding perform tryAcquireOf cellRules first acquireOf takeOf
 taken-alone w c s f l = rw (s, lt-leb (cells w) c (f .0), f .1, lt-ltb (w .head .next) lastSerial l)
 
-pub released-alone : (w : World) (c s : ℕ) → Shape-fits w → Live w (leaseOf c s)
-    → perform w (drop-lease (leaseOf c s))
+pub released-alone : (w : World) (c s : ℕ) → Shape-fits w → Live w (holdOf c s)
+    → perform w (drop-lease (holdOf c s))
     ≡ record { seen = (step w (released by-caller c s), says Done (countsOf 0 0 0 0) 0 []); log = released by-caller c s ∷ [] }
 unfolding perform dropLeaseOf leaseRules first
 released-alone w c s f l = rw (f, l)
@@ -60,7 +60,7 @@ not-taken w c n = performed (λ m. m .seen .0 ≡ w) w (try-acquire c) (λ r. re
     go (state.Held o) e i = refl
     go state.Free e i = if-cases Of (serialRemains (w .head .next)) (λ r. absurd (n (i, e) (ltb-true (w .head .next) lastSerial r))) (λ r. refl)
 
-not-released : (w : World) (l : Lease) → isLive (w .head .next) (cells w) (w .table) l ≡ false → leaves w (drop-lease l) ≡ w
+not-released : (w : World) (l : Hold) → isLive (w .head .next) (cells w) (w .table) l ≡ false → leaves w (drop-lease l) ≡ w
 unfolding leaseRules
 not-released w l n = performed (λ m. m .seen .0 ≡ w) w (drop-lease l) (λ r. refl) (λ k. absurd (differ (sym n ∙ not-false _ (k .1 .0))))
 
@@ -104,39 +104,39 @@ pub take-is-call : Take-is-call foreign
 take-is-call w c number s fit = go (foreign-take w c number)
   where
     go : {m : Made World} → Foreign-take w c m → m .log ≡ took by-script c s ∷ []
-        → (answers w (try-acquire c) ≡ Granted (leaseOf c s)) × (log-of w (try-acquire c) ≡ attempt-begun ∷ took by-caller c s ∷ [])
+        → (answers w (try-acquire c) ≡ Granted (holdOf c s)) × (log-of w (try-acquire c) ≡ attempt-begun ∷ took by-caller c s ∷ [])
     go (performed-take f l) e =
         let n : w .head .next ≡ s = cc in
         let p = taken-alone w c fit f l in
-        subst (λ (x : ℕ). (answers w (try-acquire c) ≡ Granted (leaseOf c x)) × (log-of w (try-acquire c) ≡ attempt-begun ∷ took by-caller c x ∷ [])) n
+        subst (λ (x : ℕ). (answers w (try-acquire c) ≡ Granted (holdOf c x)) × (log-of w (try-acquire c) ≡ attempt-begun ∷ took by-caller c x ∷ [])) n
         (ap (λ (m : Made (World × Says)). m .seen .1 .answer) p, ap (λ (m : Made (World × Says)). m .log) p)
     go (dropped-take n) e = let z : _≡_ {A = ℕ} 0 1 = cc in absurd (omega arith)
 
 -- what a foreign release comes to: nobody's lease is protected between calls
 data Foreign-release (w : World) (c s : ℕ) : Made World → Type 0 where
-  performed-release : Live w (leaseOf c s) → Foreign-release w c s (record { seen = step w (released by-script c s); log = released by-script c s ∷ [] })
-  dropped-release : isLive (w .head .next) (cells w) (w .table) (leaseOf c s) ≡ false → Foreign-release w c s (record { seen = w; log = step-dropped ∷ [] })
+  performed-release : Live w (holdOf c s) → Foreign-release w c s (record { seen = step w (released by-script c s); log = released by-script c s ∷ [] })
+  dropped-release : isLive (w .head .next) (cells w) (w .table) (holdOf c s) ≡ false → Foreign-release w c s (record { seen = w; log = step-dropped ∷ [] })
 
 foreign-release : (w : World) (c s : ℕ) → Foreign-release w c s (foreign w 2 c s)
 unfolding foreign stepOf stepReleaseOf isIn
-foreign-release w c s = go (isLive (w .head .next) (cells w) (w .table) (leaseOf c s)) refl
+foreign-release w c s = go (isLive (w .head .next) (cells w) (w .table) (holdOf c s)) refl
   where
-    go : (b : Bool) → isLive (w .head .next) (cells w) (w .table) (leaseOf c s) ≡ b → Foreign-release w c s (foreign w 2 c s)
+    go : (b : Bool) → isLive (w .head .next) (cells w) (w .table) (holdOf c s) ≡ b → Foreign-release w c s (foreign w 2 c s)
     go true e = rw e (performed-release e)
     go false e = rw e (dropped-release e)
 
 pub releases-alike : Releases-alike foreign
 releases-alike w c s fit = go (foreign-release w c s)
   where
-    go : {m : Made World} → Foreign-release w c s m → m .seen ≡ leaves w (drop-lease (leaseOf c s))
+    go : {m : Made World} → Foreign-release w c s m → m .seen ≡ leaves w (drop-lease (holdOf c s))
     go (performed-release v) = sym (ap (λ (m : Made (World × Says)). m .seen .0) (released-alone w c s fit v))
-    go (dropped-release n) = sym (not-released w (leaseOf c s) n)
+    go (dropped-release n) = sym (not-released w (holdOf c s) n)
 
 pub release-is-call : Release-is-call foreign
 release-is-call w c s fit = go (foreign-release w c s)
   where
     go : {m : Made World} → Foreign-release w c s m → m .log ≡ released by-script c s ∷ []
-        → (answers w (drop-lease (leaseOf c s)) ≡ Done) × (log-of w (drop-lease (leaseOf c s)) ≡ released by-caller c s ∷ [])
+        → (answers w (drop-lease (holdOf c s)) ≡ Done) × (log-of w (drop-lease (holdOf c s)) ≡ released by-caller c s ∷ [])
     go (performed-release v) e =
         let p = released-alone w c s fit v in
         (ap (λ (m : Made (World × Says)). m .seen .1 .answer) p, ap (λ (m : Made (World × Says)). m .log) p)
@@ -193,7 +193,7 @@ replayed k (took a c s) g l =
     rw (l .1 .0) (called k (try-acquire c) (taken-alone w c (fits (w .head) (length (w .table)) (g .shape)) (l .0) (subst (λ (x : ℕ). x < lastSerial) (l .1 .0) (l .1 .1))))
 replayed k (released a c s) g l =
     let w = k .world in
-    called k (drop-lease (leaseOf c s)) (released-alone w c s (fits (w .head) (length (w .table)) (g .shape)) l)
+    called k (drop-lease (holdOf c s)) (released-alone w c s (fits (w .head) (length (w .table)) (g .shape)) l)
 replayed k (waiters-set c n) g l = stepped k 3 c n (waiters-alone (k .world) c n l)
 replayed k (health-set i n) g l = stepped k 4 i n (health-alone (k .world) i n l)
 replayed k (held-all m) g l = no-item k

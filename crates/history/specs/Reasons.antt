@@ -5,9 +5,9 @@ use mathlib.Core.Path.{_≡_}
 use mathlib.Core.List.{List, [], _∷_, _++_}
 use mathlib.Core.Logic.{_↔_}
 use Rattle.model.specs.Log.{Made, Event, by-caller, took, released}
-use Rattle.model.specs.Arena.{leaseOf, waitersAt, stateAt}
+use Rattle.model.specs.Arena.{holdOf, waitersAt, stateAt}
 use Rattle.types.specs.declared.Answer.the-variants.{Busy}
-use Rattle.types.specs.declared.Lease.{Lease}
+use Rattle.types.specs.declared.Hold.{Hold}
 use Rattle.types.specs.declared.Reason.{Reason}
 use Rattle.types.specs.declared.Reason.the-variants.{Held, Before, After}
 use Rattle.types.specs.declared.State.the-variants as state
@@ -83,7 +83,7 @@ Early-takes-nothing f =
 
 -- `held s`: the lease (cell, s) is live there
 abbrev pub Holder-lives : Build → Type 0
-Holder-lives f = (w : World) (k : Call) (s : ℕ) → Locks-once k → answer-in (f w k) ≡ Busy (Held s) → Live (world-in (f w k)) (leaseOf (asked w k) s)
+Holder-lives f = (w : World) (k : Call) (s : ℕ) → Locks-once k → answer-in (f w k) ≡ Busy (Held s) → Live (world-in (f w k)) (holdOf (asked w k) s)
 
 -- `after s`: from an arena with no damaged cell, the serial was issued and owns nothing afterwards
 abbrev pub Late-is-spent : Build → Type 0
@@ -91,4 +91,4 @@ Late-is-spent f = (w : World) (k : Call) (s : ℕ) → Locks-once k → Whole w 
 
 -- one compare-and-set by itself is Busy only by a holder, and `competing_acquire_is_excluded` names the serial of the lease that it was given
 abbrev pub Own-serial : Build → Type 0
-Own-serial f = (w : World) (l : Lease) (why : Reason) → answer-in (f w (competing-acquire l)) ≡ Busy why → why ≡ Held (l .serial)
+Own-serial f = (w : World) (l : Hold) (why : Reason) → answer-in (f w (competing-acquire l)) ≡ Busy why → why ≡ Held (l .serial)

@@ -21,7 +21,7 @@ use Rattle.types.specs.declared.CrewReply.{CrewReply}
 use Rattle.types.specs.declared.Found.{Found}
 use Rattle.types.specs.declared.Found.the-variants as found
 use Rattle.types.specs.declared.Head.{Head}
-use Rattle.types.specs.declared.Lease.{Lease}
+use Rattle.types.specs.declared.Hold.{Hold}
 use Rattle.types.specs.declared.Outcome.{Outcome}
 use Rattle.types.specs.declared.Outcome.the-variants as outcome
 use Rattle.types.specs.declared.Reason.{Reason}
@@ -121,7 +121,7 @@ settled-late (outcome.Busy why) h = omega arith
 settled-late (outcome.Refused r) h = h
 
 -- multi-lock names the key's position: these are other answers
-locks-late : (P : Refusal → Type 0) (left p : ℕ) (e : Setting) (buckets : ℕ) (registry keys : List ℕ) (taken : List Lease) (r : Run) (t g grants : List ℕ)
+locks-late : (P : Refusal → Type 0) (left p : ℕ) (e : Setting) (buckets : ℕ) (registry keys : List ℕ) (taken : List Hold) (r : Run) (t g grants : List ℕ)
     → OfAnswer P (locksOf left p e buckets registry keys taken r t g grants .seen .0 .answer)
 unfolding locksOf rollbackOf
 locks-late P zero p e buckets registry keys taken r t g grants = tt
@@ -130,7 +130,7 @@ locks-late P (suc left) p e buckets registry keys taken r t g grants =
     go (m .0 .run) (m .1 .0) (m .1 .1) (m .0 .outcome) (λ l. locksOf left (p + 1) e buckets registry keys (taken ++ (l ∷ [])) (m .0 .run) (m .1 .0) (m .1 .1) grants)
     (λ l. locks-late P left (p + 1) e buckets registry keys (taken ++ (l ∷ [])) (m .0 .run) (m .1 .0) (m .1 .1) grants)
   where
-    go : (k : Run) (u w : List ℕ) (x : Outcome) (more : Lease → Made Locks) → ((l : Lease) → OfAnswer P (more l .seen .0 .answer))
+    go : (k : Run) (u w : List ℕ) (x : Outcome) (more : Hold → Made Locks) → ((l : Hold) → OfAnswer P (more l .seen .0 .answer))
         → OfAnswer P (afterKey x e taken p k u w grants more .seen .0 .answer)
     go k u w (outcome.Granted l) more h = h l
     go k u w (outcome.Busy why) more h = tt

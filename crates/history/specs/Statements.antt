@@ -8,10 +8,10 @@ use mathlib.Core.Bool.{true}
 use mathlib.Core.Logic.{_⊎_}
 use lib.ListN.{length, replicate}
 use Rattle.model.specs.Log.{Made, Actor, Event, by-caller, by-script, took, released}
-use Rattle.model.specs.Arena.{headOf, leaseOf, leasesOf, isIn}
+use Rattle.model.specs.Arena.{headOf, holdOf, holdsOf, isIn}
 use Rattle.model.specs.Refusals.{numberOf}
 use Rattle.model.specs.Foreign.{stepsIn, kindAt, placeAt, numberAt}
-use Rattle.model.specs.Lock.{leaseAt}
+use Rattle.model.specs.Lock.{holdAt}
 use Rattle.model.specs.Checks.{countIn}
 use Rattle.model.specs.Calls.{countsOf}
 use Rattle.model.specs.Salvage.{salvageOf}
@@ -19,7 +19,7 @@ use Rattle.types.specs.declared.Answer.{Answer}
 use Rattle.types.specs.declared.Answer.the-variants.{Done, Cell, Granted, AllGranted, Busy, Refused, RefusedAt}
 use Rattle.types.specs.declared.CrewReply.{CrewReply}
 use Rattle.types.specs.declared.Head.{Head}
-use Rattle.types.specs.declared.Lease.{Lease}
+use Rattle.types.specs.declared.Hold.{Hold}
 use Rattle.types.specs.declared.Refusal.{Refusal}
 use Rattle.history.specs.World.{World, worldOf, cells, Live, now, Lawful, Sound, Spent, Unreleased, caller-releases, bits, number-of, attempts, boundaries, yields, drops, takes, releases, Whole, Apart}
 use Rattle.history.specs.Items.{Call, release-all, acquire-locks, By-keys, script-of, place-of, held-of, given-up, buffer, ByCell, IsCrew, asked, keyCell, Says, saying, perform, Build, Stepper, Item, preparation, Course, cold, noted, history-of, preparing, next-item, run, call, foreign-step, preparation-over, salvage, salvage-over, salvaging}
@@ -68,7 +68,7 @@ pub record Ledger (k : Course) : Type 0 where
   -- at every point, if at the first: no serial owns two cells
   pub apart : Apart (k .origin) → (before after : List Event) → history-of k ≡ before ++ after → Apart (now (k .origin) before)
   -- "until the next preparation a lease keeps its cell up to a release naming its cell and serial"
-  pub keeps : (l : Lease) (before middle after : List Event) → history-of k ≡ before ++ (middle ++ after)
+  pub keeps : (l : Hold) (before middle after : List Event) → history-of k ≡ before ++ (middle ++ after)
       → Live (now (k .origin) before) l → Unreleased l middle → Live (now (k .origin) (before ++ middle)) l
   -- "a serial that was issued and owns nothing never owns again"; "For a salvaged one, a dead serial below next stays dead from there on, up
   -- to the next preparation"
@@ -223,7 +223,7 @@ Crew-at-work-refused f =
 
 -- "Cell number = header x B + bucket.": a grant names the cell that was asked for, by key the key's own
 abbrev pub Grant-is : Build → Type 0
-Grant-is f = (w : World) (k : Call) (l : Lease) → answer-in (f w k) ≡ Granted l → l .cell ≡ asked w k
+Grant-is f = (w : World) (k : Call) (l : Hold) → answer-in (f w k) ≡ Granted l → l .cell ≡ asked w k
 
 -- "On a grant, multi-lock's buffer holds cell and serial for each key, in key order". Document 02, L4: "hand back one lease per key in the
 -- caller's order"
@@ -233,24 +233,24 @@ Buffer-is f =
     → let m = f w k in
     answer-in m ≡ AllGranted
     → (length (buffer-in m) ≡ 2 * countIn keys)
-    × ((p : ℕ) → p < countIn keys → leaseAt (leasesOf (buffer-in m)) p .cell ≡ keyCell (w .head .buckets) registry keys p)
+    × ((p : ℕ) → p < countIn keys → holdAt (holdsOf (buffer-in m)) p .cell ≡ keyCell (w .head .buckets) registry keys p)
 
 -- whether an answer, with the grant buffer, hands this lease over
-abbrev pub Hands-over : Answer → List ℕ → Lease → Type 0
+abbrev pub Hands-over : Answer → List ℕ → Hold → Type 0
 Hands-over Done grants l = ⊥
 Hands-over (Cell c) grants l = ⊥
 Hands-over (Granted m) grants l = m ≡ l
-Hands-over AllGranted grants l = isIn l (leasesOf grants) ≡ true
+Hands-over AllGranted grants l = isIn l (holdsOf grants) ≡ true
 Hands-over (Busy why) grants l = ⊥
 Hands-over (Refused r) grants l = ⊥
 Hands-over (RefusedAt r p) grants l = ⊥
 
-abbrev pub Gives : Made (World × Says) → Lease → Type 0
+abbrev pub Gives : Made (World × Says) → Hold → Type 0
 Gives m = Hands-over (answer-in m) (buffer-in m)
 
 -- what is handed over is live in the world that the call leaves
 abbrev pub Given-live : Build → Type 0
-Given-live f = (w : World) (k : Call) (l : Lease) → Gives (f w k) l → Live (world-in (f w k)) l
+Given-live f = (w : World) (k : Call) (l : Hold) → Gives (f w k) l → Live (world-in (f w k)) l
 
 -- ---- "one that takes a cell, answers nothing and keeps it" is ruled out: what a call takes and does not hand over, it gives back
 
@@ -263,8 +263,8 @@ abbrev pub Nothing-kept : Build → Type 0
 Nothing-kept f =
     (w : World) (k : Call) (c s : ℕ) (before after : List Event) → (IsCrew k → ⊥)
     → f w k .log ≡ before ++ (took by-caller c s ∷ after)
-    → (Gives (f w k) (leaseOf c s) × Live (world-in (f w k)) (leaseOf c s))
-    ⊎ (Given-back c s after × (Live (world-in (f w k)) (leaseOf c s) → ⊥))
+    → (Gives (f w k) (holdOf c s) × Live (world-in (f w k)) (holdOf c s))
+    ⊎ (Given-back c s after × (Live (world-in (f w k)) (holdOf c s) → ⊥))
 
 -- "6 to 11 .. the caller holds nothing new; the grant buffer is unchanged", and so for Busy
 abbrev pub Fails : Answer → Type 0
@@ -281,7 +281,7 @@ abbrev pub Nothing-held : Call → Made (World × Says) → Type 0
 Nothing-held k m =
     (buffer-in m ≡ buffer k)
     × ((c s : ℕ) (before after : List Event) → m .log ≡ before ++ (took by-caller c s ∷ after)
-    → Given-back c s after × (Live (world-in m) (leaseOf c s) → ⊥))
+    → Given-back c s after × (Live (world-in m) (holdOf c s) → ⊥))
 
 abbrev pub Nothing-new : Build → Type 0
 Nothing-new f = (w : World) (k : Call) → (IsCrew k → ⊥) → Fails (answer-in (f w k)) → Nothing-held k (f w k)
@@ -292,7 +292,7 @@ abbrev pub Falling-all : Build → Type 0
 Falling-all f =
     (w : World) (script : List ℕ) (place : ℕ) (leases : List ℕ)
     → let m = f w (release-all script place leases) in
-    answer-in m ≡ Done → caller-releases (m .log) ≡ reverse (leasesOf leases)
+    answer-in m ≡ Done → caller-releases (m .log) ≡ reverse (holdsOf leases)
 
 -- "On a refusal at position p all taken leases are released as in `release_all`": the log of a refused multi-lock parts in two. The keys
 -- before the position p were locked in the first part, each its own cell, and every other lease taken there was given back there; the second
@@ -300,14 +300,14 @@ Falling-all f =
 pub record Rolled-back (buckets : ℕ) (registry keys : List ℕ) (p : ℕ) (log : List Event) : Type 0 where
   pub locking : List Event
   pub rollback : List Event
-  pub leases : List Lease
+  pub leases : List Hold
   pub parts : log ≡ locking ++ rollback
   pub position : p < countIn keys
   pub many : length leases ≡ p
-  pub own : (i : ℕ) → i < p → leaseAt leases i .cell ≡ keyCell buckets registry keys i
-  pub taken : (l : Lease) → isIn l leases ≡ true → (m n : List Event) × (locking ≡ m ++ (took by-caller (l .cell) (l .serial) ∷ n))
+  pub own : (i : ℕ) → i < p → holdAt leases i .cell ≡ keyCell buckets registry keys i
+  pub taken : (l : Hold) → isIn l leases ≡ true → (m n : List Event) × (locking ≡ m ++ (took by-caller (l .cell) (l .serial) ∷ n))
   pub others : (c s : ℕ) (before after : List Event) → locking ≡ before ++ (took by-caller c s ∷ after)
-      → (isIn (leaseOf c s) leases ≡ true) ⊎ Given-back c s after
+      → (isIn (holdOf c s) leases ≡ true) ⊎ Given-back c s after
   pub last-first : caller-releases rollback ≡ reverse leases
   pub none-taken : (c s : ℕ) (before after : List Event) → rollback ≡ before ++ (took by-caller c s ∷ after) → ⊥
 
@@ -328,7 +328,7 @@ Named f =
     (w : World) (k : Call) (c s : ℕ) (before after : List Event)
     → (f w k .log ≡ before ++ (released by-script c s ∷ after) → By-step (script-of k) (place-of k) c s)
     × (f w k .log ≡ before ++ (released by-caller c s ∷ after)
-    → (isIn (leaseOf c s) (given-up k) ≡ true) ⊎ ((m n : List Event) × (before ≡ m ++ (took by-caller c s ∷ n))))
+    → (isIn (holdOf c s) (given-up k) ≡ true) ⊎ ((m n : List Event) × (before ≡ m ++ (took by-caller c s ∷ n))))
 
 -- a lone foreign step releases only what it names
 abbrev pub Named-alone : Stepper → Type 0
@@ -341,5 +341,5 @@ Named-alone f =
 
 abbrev pub Held-live : Build → Type 0
 Held-live f =
-    (w : World) (k : Call) (l : Lease) (before after : List Event) → isIn l (held-of k) ≡ true → Live w l
+    (w : World) (k : Call) (l : Hold) (before after : List Event) → isIn l (held-of k) ≡ true → Live w l
     → f w k .log ≡ before ++ after → Live (now w before) l

@@ -11,7 +11,7 @@ use borrow.Author.Tests.{eqb-true, eqb-false}
 use Rattle.choice.specs.Choice.{if_then_else_}
 use Rattle.choice.specs.Pick.{if-both}
 use Rattle.model.specs.Log.{Made, Event, by-caller, attempt-begun, took, released, gives}
-use Rattle.model.specs.Arena.{serialRemains, headerOf, leaseOf, waitersAt, stateAt}
+use Rattle.model.specs.Arena.{serialRemains, headerOf, holdOf, waitersAt, stateAt}
 use Rattle.model.specs.Foreign.{Setting, protecting, flowOf, boundaryOf}
 use Rattle.model.specs.Lock.{takeIn, takeOf, lockedOf, giveUpOf, lateOf, afterTake, secondOf, lockOf, answerOf, findOf, attemptAt, attemptOf}
 use Rattle.model.specs.Calls.{starting}
@@ -48,7 +48,7 @@ pub data Looks (buckets c : ℕ) (a : Answer) (boundaries : ℕ) (log : List Eve
   holder : (s : ℕ) → a ≡ Busy (Held s) → boundaries ≡ 2 → Every Foreigner log → stateAt next t c ≡ state.Held s → Looks buckets c a boundaries log next t g
   stopped : (r : Refusal) → a ≡ Refused r → boundaries ≡ 2 → Every Foreigner log → ((s : ℕ) → stateAt next t c ≡ state.Held s → ⊥)
       → Looks buckets c a boundaries log next t g
-  granted : (s : ℕ) → a ≡ Granted (leaseOf c s) → boundaries ≡ 3 → caller-releases log ≡ [] → Looks buckets c a boundaries log next t g
+  granted : (s : ℕ) → a ≡ Granted (holdOf c s) → boundaries ≡ 3 → caller-releases log ≡ [] → Looks buckets c a boundaries log next t g
   -- taken, and given up: late, or poisoned
   late : (s : ℕ) (x y : List Event) → a ≡ Busy (After s) → boundaries ≡ 3 → log ≡ x ++ (took by-caller c s ∷ (y ++ (released by-caller c s ∷ [])))
       → getD g (headerOf buckets c) 0 ≡ 0 → (waitersAt t c ≡ 0 → ⊥) → Looks buckets c a boundaries log next t g
@@ -75,12 +75,12 @@ module _ (e : Setting) (buckets c : ℕ) where
   late-looks : (f : Flow) (t g : List ℕ) (s : ℕ) → let m = lateOf e buckets f t g c s in Locking buckets c (record { seen = m .seen; log = took by-caller c s ∷ m .log })
   unfolding lateOf caller-releases
   late-looks f t g s =
-      let q = protecting e (leaseOf c s ∷ []) in
+      let q = protecting e (holdOf c s ∷ []) in
       let b = boundaryOf q f t g in
       go (b .log) (boundary-foreign q f t g) (b .seen .0) (b .seen .1 .0) (b .seen .1 .1) (eqb (getD (b .seen .1 .1) (headerOf buckets c) 0) 0) refl (eqb (waitersAt (b .seen .1 .0) c) 0) refl
     where
       go : (log : List Event) → Every Foreigner log → (k : Flow) (u w : List ℕ) (x : Bool) → eqb (getD w (headerOf buckets c) 0) 0 ≡ x → (y : Bool) → eqb (waitersAt u c) 0 ≡ y
-          → let m = if not x then giveUpOf (outcome.Refused (refusal.Poisoned (headerOf buckets c))) k u w c s else if y then gives (lockedOf k 3 (outcome.Granted (leaseOf c s)), (u, w)) else giveUpOf (outcome.Busy (After s)) k u w c s in
+          → let m = if not x then giveUpOf (outcome.Refused (refusal.Poisoned (headerOf buckets c))) k u w c s else if y then gives (lockedOf k 3 (outcome.Granted (holdOf c s)), (u, w)) else giveUpOf (outcome.Busy (After s)) k u w c s in
           Locking buckets c (record { seen = m .seen; log = took by-caller c s ∷ (log ++ m .log) })
       go log f k u w false p y q = poisoned s [] log _ refl refl refl (eqb-false _ _ p)
       go log f k u w true p true q = granted s refl refl (still-then [] f)

@@ -9,7 +9,7 @@ use lib.Dec.{ltb}
 use lib.ListN.{getD, List·getD-eq-default}
 use borrow.Author.Tests.{not-false, ltb-true, ltb-false}
 use Rattle.model.specs.Log.{Event, by-caller, by-script, attempt-begun, boundary-run, yielded, spun, step-dropped, took, released, waiters-set, health-set, held-all, added}
-use Rattle.model.specs.Arena.{headerOf, leaseOf, bitAt, ownerAt, waitersAt, stateAt, isLive}
+use Rattle.model.specs.Arena.{headerOf, holdOf, bitAt, ownerAt, waitersAt, stateAt, isLive}
 use Rattle.model.specs.Lock.{takeOf}
 use Rattle.model.specs.Checks.{leaseRules}
 use Rattle.model.specs.Calls.{acquireOf}
@@ -234,16 +234,16 @@ looked-fit w k o n = elim (call-fit w k) [ inl e ↦ absurd (n (none e)) | inr f
     none e = ap (λ (x : Counts). x .boundaries) (calls-counted w k (not-crew k o)) ∙ ap (number-of boundaries) e
 
 -- a held cell is in range: behind the table there is no bit
-held-lives : (v : World) (c s : ℕ) → Fit v → stateAt (v .head .next) (v .table) c ≡ state.Held s → Live v (leaseOf c s)
+held-lives : (v : World) (c s : ℕ) → Fit v → stateAt (v .head .next) (v .table) c ≡ state.Held s → Live v (holdOf c s)
 unfolding stateAt bitAt
 held-lives v c s f e = go (stands (v .head .next) (bitAt (v .table) c) (ownerAt (v .table) c)) e
   where
-    go : {x : State} → Stands (v .head .next) (bitAt (v .table) c) (ownerAt (v .table) c) x → x ≡ state.Held s → Live v (leaseOf c s)
+    go : {x : State} → Stands (v .head .next) (bitAt (v .table) c) (ownerAt (v .table) c) x → x ≡ state.Held s → Live v (holdOf c s)
     go (is-free x y) q = let z : _≡_ {A = ℕ} 0 1 = cc in absurd (omega arith)
     go (is-damaged x y) q = let z : _≡_ {A = ℕ} 0 1 = cc in absurd (omega arith)
     go (is-held b l h) q =
         let i : ownerAt (v .table) c ≡ s = cc in
-        live (v .head .next) (cells v) (v .table) (leaseOf c s)
+        live (v .head .next) (cells v) (v .table) (holdOf c s)
         (record { in-range = inside (ltb c (cells v)) refl; bit-is = b; owner-is = i; low = omega arith; high = omega arith })
       where
         inside : (x : Bool) → ltb c (cells v) ≡ x → c < cells v
@@ -262,16 +262,16 @@ holder-lives w k s o q =
 
 -- the serial that a take issued is live nowhere else behind it: where no cell is damaged, no owner was the next serial before
 sole : (w : World) (c s : ℕ) (log front behind : List Event) → log ≡ front ++ (took by-caller c s ∷ behind) → Good w → Lawful w log
-    → (d : ℕ) → Live (now w log) (leaseOf d s) → d ≡ c
+    → (d : ℕ) → Live (now w log) (holdOf d s) → d ≡ c
 sole w c s log front behind e g t d v =
     let e′ = took by-caller c s in
     let u = now w front in
     let parts = lawful-split w front (e′ ∷ behind) (subst (Lawful w) e t) in
     let legal = parts .1 .0 in
     let then = good-now w front g (parts .0) in
-    let last : Live (now (step u e′) behind) (leaseOf d s) = subst (λ (x : World). Live x (leaseOf d s)) (ap (now w) e ∙ now-append w front (e′ ∷ behind)) v in
+    let last : Live (now (step u e′) behind) (holdOf d s) = subst (λ (x : World). Live x (holdOf d s)) (ap (now w) e ∙ now-append w front (e′ ∷ behind)) v in
     new-owner u by-caller c s then legal d s (λ o. omega (arith, legal .1 .0))
-    (live-back (step u e′) behind (leaseOf d s) (fit (good-step u e′ then legal)) (parts .1 .1) (omega (arith, legal .1 .0)) last)
+    (live-back (step u e′) behind (holdOf d s) (fit (good-step u e′ then legal)) (parts .1 .1) (omega (arith, legal .1 .0)) last)
 
 pub late-is-spent : Late-is-spent perform
 late-is-spent w k s o whole q =
@@ -281,14 +281,14 @@ late-is-spent w k s o whole q =
     let e = released by-caller c s in
     let lawful = lawful-split w (x .up-to) (e ∷ []) (subst (Lawful w) (x .gives-up) (call-kept w k .kept .lawful)) in
     let g = good-now w (x .up-to) (good w whole) (lawful .0) in
-    let alive-then = lives u (leaseOf c s) (lawful .1 .0) in
+    let alive-then = lives u (holdOf c s) (lawful .1 .0) in
     subst (λ (v : World). Spent v s) (sym (left w k c s (x .up-to) (x .gives-up)))
     (record {
       was-issued = alive-then .high;
       owns-none = λ d l.
-          let before = live-before u e (leaseOf d s) (fit g) (lawful .1 .0) l (alive-then .high) in
+          let before = live-before u e (holdOf d s) (fit g) (lawful .1 .0) l (alive-then .high) in
           let same : d ≡ c = sole w c s (x .up-to) (x .front) (x .behind) (x .taken) (good w whole) (lawful .0) d before in
-          released-dead u (leaseOf c s) (fit g) (lawful .1 .0) (subst (λ (n : ℕ). Live (step u e) (leaseOf n s)) same l);
+          released-dead u (holdOf c s) (fit g) (lawful .1 .0) (subst (λ (n : ℕ). Live (step u e) (holdOf n s)) same l);
     })
 
 -- ---- one compare-and-set by itself

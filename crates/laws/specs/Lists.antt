@@ -6,8 +6,8 @@ use native.Mathlib.Omega.{arith}
 use native.Mathlib.Numerals.{add-one}
 use lib.ListN.{length, getD, drop, replicate}
 use lib.Seq.{drop-cons}
-use Rattle.model.specs.Arena.{bitAt, ownerAt, leasesOf, wordsOf}
-use Rattle.types.specs.declared.Lease.{Lease}
+use Rattle.model.specs.Arena.{bitAt, ownerAt, holdsOf, wordsOf}
+use Rattle.types.specs.declared.Hold.{Hold}
 
 -- what is left from place i on begins with what stands there
 pub drop-one : (l : List ℕ) (i : ℕ) → i < length l → drop i l ≡ getD l i 0 ∷ drop (i + 1) l
@@ -15,14 +15,14 @@ drop-one l i b = rw (add-one i) (drop-cons l i 0 b)
 
 -- ---- leases as words
 
-pub length-words : (ls : List Lease) → length (wordsOf ls) ≡ 2 * length ls
+pub length-words : (ls : List Hold) → length (wordsOf ls) ≡ 2 * length ls
 unfolding wordsOf
 length-words [] = refl
 length-words (l ∷ ls) = omega (arith, length-words ls)
 
 -- a word left over is no lease
-pub leases-few : (ws : List ℕ) → 2 * length (leasesOf ws) ≤ length ws
-unfolding leasesOf
+pub leases-few : (ws : List ℕ) → 2 * length (holdsOf ws) ≤ length ws
+unfolding holdsOf
 leases-few [] = omega arith
 leases-few (c ∷ []) = omega arith
 leases-few (c ∷ s ∷ ws) = omega (arith, leases-few ws)

@@ -11,7 +11,7 @@ use Rattle.types.specs.declared.Answer.the-variants.{Done, Cell, Granted, AllGr
 use Rattle.types.specs.declared.Counts.{Counts}
 use Rattle.types.specs.declared.CrewReply.{CrewReply}
 use Rattle.types.specs.declared.Head.{Head}
-use Rattle.types.specs.declared.Lease.{Lease}
+use Rattle.types.specs.declared.Hold.{Hold}
 use Rattle.types.specs.declared.SalvageAnswer.{SalvageAnswer}
 use Rattle.types.specs.declared.SalvageAnswer.the-variants as salvaged
 use Rattle.types.specs.declared.SalvageReply.{SalvageReply}
@@ -87,7 +87,7 @@ prepared-whole a book b h e = ap (λ (o : BookAnswer × List ℕ). bodyTold (o .
     go _ (was-prepared fits fine) = refl
     go _ (not-prepared r) = refl
 
-pub written-whole : (a : BookAnswer) (book t b : List ℕ) (h : Head) (slot : ℕ) (l : Lease) (s : Setpoint) → (a, book) ≡ writeSetpointOf h t b slot l s → bodyTold a ≡ true
+pub written-whole : (a : BookAnswer) (book t b : List ℕ) (h : Head) (slot : ℕ) (l : Hold) (s : Setpoint) → (a, book) ≡ writeSetpointOf h t b slot l s → bodyTold a ≡ true
 written-whole a book t b h slot l s e = ap (λ (o : BookAnswer × List ℕ). bodyTold (o .0)) e ∙ go (writeSetpointOf h t b slot l s) (writing-is h t b slot l s)
   where
     go : (o : BookAnswer × List ℕ) → Wrote h t b slot l s o → bodyTold (o .0) ≡ true

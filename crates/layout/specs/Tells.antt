@@ -8,7 +8,7 @@ use native.Mathlib.Omega.{arith}
 use native.Mathlib.Numerals.{add-one}
 use lib.ListN.{length, getD, take, drop, drop-of-length-le}
 use lib.Seq.{drop-cons}
-use Rattle.model.specs.Arena.{headOf, leaseOf}
+use Rattle.model.specs.Arena.{headOf, holdOf}
 use Rattle.model.specs.Calls.{countsOf}
 use Rattle.choice.specs.Choice.{if_then_else_}
 use Rattle.model.specs.Crew.{Work, rests, adds, takenOf, releasedOf, crewRules, crewAtWorkRules, shiftOf, crewOf, crewAtWorkOf}
@@ -59,7 +59,7 @@ answerIn ws =
     let why = reasonOf (getD ws 4 0) (getD ws 5 0) in
     if eqb kind 0 then Done
     else if eqb kind 1 then Cell (getD ws 1 0)
-    else if eqb kind 2 then Granted (leaseOf (getD ws 1 0) (getD ws 2 0))
+    else if eqb kind 2 then Granted (holdOf (getD ws 1 0) (getD ws 2 0))
     else if eqb kind 3 then AllGranted
     else if eqb kind 4 then Busy why
     else if eqb kind 5 then Refused (refusalWith why (getD ws 1 0) (getD ws 2 0))

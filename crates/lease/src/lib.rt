@@ -5,7 +5,7 @@
 use types::Answer;
 use types::Check;
 use types::Head;
-use types::Lease;
+use types::Hold;
 use types::Outcome;
 use types::Reason;
 use types::Refusal;
@@ -18,7 +18,7 @@ ghost use mathlib.Core.Bool.{true};
 ghost use mathlib.Core.List.{[], _∷_};
 ghost use Prim.Native.Nat.{_+_, _*_, _<_, _≤_};
 ghost use lib.ListN.{length, drop};
-ghost use Rattle.model.specs.Arena.{cellsOf, leaseOf, leasesOf, setCell, shapeFits, isLive, sameLease, isIn};
+ghost use Rattle.model.specs.Arena.{cellsOf, holdOf, holdsOf, setCell, shapeFits, isLive, sameHold, isIn};
 ghost use Rattle.model.specs.Refusals.{first};
 ghost use Rattle.model.specs.Lock.{outcomeOf, answerOf};
 ghost use Rattle.model.specs.Checks.{cellRules, leaseRules, heldCellRules, heldLeaseRules, badHeld};
@@ -82,7 +82,7 @@ pub fn outcome(cell: u32, answer: Take) -> Outcome
     ensures { λ r. ⌜ r ≡ outcomeOf cell answer ⌝ }
 {
     match answer {
-        Take::Granted(serial) => Outcome::Granted(Lease { cell, serial }),
+        Take::Granted(serial) => Outcome::Granted(Hold { cell, serial }),
         Take::Busy(owner) => Outcome::Busy(Reason::Held(owner)),
         Take::Damaged => Outcome::Refused(Refusal::Damaged(cell)),
         Take::Spent => Outcome::Refused(Refusal::SerialsSpent(cell)),
@@ -131,8 +131,8 @@ fn hand_on(n: usize, head: Head, table: &mut [u32], cell: u32) -> Reply
 // ---- the checks of these calls, in the order of document 01's table
 
 // Whether these are the lease's words.
-pub fn same_lease(cell: u32, serial: u32, lease: Lease) -> bool
-    ensures { λ r. ⌜ r ≡ sameLease (leaseOf cell serial) lease ⌝ }
+pub fn same_lease(cell: u32, serial: u32, lease: Hold) -> bool
+    ensures { λ r. ⌜ r ≡ sameHold (holdOf cell serial) lease ⌝ }
 {
     if cell == lease.cell {
         return serial == lease.serial;
@@ -141,8 +141,8 @@ pub fn same_lease(cell: u32, serial: u32, lease: Lease) -> bool
 }
 
 // Whether a lease stands in a list from a position on; the scan ends at the first match.
-pub fn is_in_from(list: &[u32], from: usize, lease: Lease) -> bool
-    ensures { λ r. ⌜ r ≡ isIn lease (leasesOf (drop (2 * from) (now (list .entry)))) ⌝ }
+pub fn is_in_from(list: &[u32], from: usize, lease: Hold) -> bool
+    ensures { λ r. ⌜ r ≡ isIn lease (holdsOf (drop (2 * from) (now (list .entry)))) ⌝ }
 {
     let mut i = from;
     while i < list.len() / 2 {
@@ -155,8 +155,8 @@ pub fn is_in_from(list: &[u32], from: usize, lease: Lease) -> bool
 }
 
 // Whether a lease stands in a list.
-pub fn is_in(list: &[u32], lease: Lease) -> bool
-    ensures { λ r. ⌜ r ≡ isIn lease (leasesOf (now (list .entry))) ⌝ }
+pub fn is_in(list: &[u32], lease: Hold) -> bool
+    ensures { λ r. ⌜ r ≡ isIn lease (holdsOf (now (list .entry))) ⌝ }
 {
     is_in_from(list, 0, lease)
 }
@@ -164,7 +164,7 @@ pub fn is_in(list: &[u32], lease: Lease) -> bool
 // Whether a lease is live.
 pub fn is_live(head: Head, table: &[u32], cell: u32, serial: u32) -> bool
     requires { ⌜ shapeFits head (length (now table)) ≡ true ⌝ }
-    ensures { λ r. ⌜ r ≡ isLive (head .next) (cellsOf head) (now (table .entry)) (leaseOf cell serial) ⌝ }
+    ensures { λ r. ⌜ r ≡ isLive (head .next) (cellsOf head) (now (table .entry)) (holdOf cell serial) ⌝ }
 {
     arena::is_live(head.next, head.headers * head.buckets, table, cell, serial)
 }
@@ -172,7 +172,7 @@ pub fn is_live(head: Head, table: &[u32], cell: u32, serial: u32) -> bool
 // The first lease of a held list that is not live.
 fn live_fault(head: Head, table: &[u32], held: &[u32]) -> Check
     requires { ⌜ shapeFits head (length (now table)) ≡ true ⌝ }
-    ensures { λ r. ⌜ r ≡ first (notLive head (now (table .entry)) 0 (leasesOf (now (held .entry)))) ⌝ }
+    ensures { λ r. ⌜ r ≡ first (notLive head (now (table .entry)) 0 (holdsOf (now (held .entry)))) ⌝ }
 {
     let mut i = 0;
     while i < held.len() / 2 {
@@ -212,7 +212,7 @@ pub fn cell_fault(head: Head, cell: u32) -> Check
 }
 
 // A lease to release or read.
-fn lease_fault(head: Head, table: &[u32], lease: Lease) -> Check
+fn lease_fault(head: Head, table: &[u32], lease: Hold) -> Check
     requires { ⌜ shapeFits head (length (now table)) ≡ true ⌝ }
     ensures { λ r. ⌜ r ≡ first (notHeld head (now (table .entry)) 0 lease ∷ []) ⌝ }
 {
@@ -231,7 +231,7 @@ fn cell_check(head: Head, table: &[u32], cell: u32) -> Check
     Check::Fault(Refusal::BadShape)
 }
 
-fn lease_check(head: Head, table: &[u32], lease: Lease) -> Check
+fn lease_check(head: Head, table: &[u32], lease: Hold) -> Check
     ensures { λ r. ⌜ r ≡ first (leaseRules head (now (table .entry)) lease) ⌝ }
 {
     if head.shape_fits(table.len()) {
@@ -254,7 +254,7 @@ fn held_cell_check(head: Head, table: &[u32], held: &[u32], cell: u32) -> Check
 }
 
 // Of a live lease that may not be in the held list.
-fn protected_fault(held: &[u32], lease: Lease) -> Check
+fn protected_fault(held: &[u32], lease: Hold) -> Check
     ensures { λ r. ⌜ r ≡ first (isProtected (now (held .entry)) lease ∷ []) ⌝ }
 {
     if is_in(held, lease) {
@@ -263,7 +263,7 @@ fn protected_fault(held: &[u32], lease: Lease) -> Check
     Check::Fine
 }
 
-fn held_lease_check(head: Head, table: &[u32], held: &[u32], lease: Lease) -> Check
+fn held_lease_check(head: Head, table: &[u32], held: &[u32], lease: Hold) -> Check
     ensures { λ r. ⌜ r ≡ first (heldLeaseRules head (now (table .entry)) (now (held .entry)) lease) ⌝ }
 {
     if head.shape_fits(table.len()) {
@@ -277,7 +277,7 @@ fn held_lease_check(head: Head, table: &[u32], held: &[u32], lease: Lease) -> Ch
 }
 
 // 12, and then 13.
-fn drop_fault(head: Head, table: &[u32], held: &[u32], lease: Lease) -> Check
+fn drop_fault(head: Head, table: &[u32], held: &[u32], lease: Hold) -> Check
     requires { ⌜ shapeFits head (length (now table)) ≡ true ⌝ }
     ensures { λ r. ⌜ r
         ≡ first (notHeld head (now (table .entry)) 0 lease ∷ isProtected (now (held .entry)) lease ∷ []) ⌝ }
@@ -306,7 +306,7 @@ pub fn try_acquire(head: Head, table: &mut [u32], cell: u32) -> Reply
 
 // One release, and no boundary; who waits for the cell stays noted. A lease that is not live, on a damaged cell too, is
 // refused with 12 and nothing changes.
-pub fn drop_lease(head: Head, table: &mut [u32], lease: Lease) -> Reply
+pub fn drop_lease(head: Head, table: &mut [u32], lease: Hold) -> Reply
     ensures { λ r. ⌜ (r, now (table .exit)) ≡ dropLeaseOf head (now (table .entry)) lease .seen ⌝ }
 {
     let check = lease_check(head, table, lease);
@@ -320,7 +320,7 @@ pub fn drop_lease(head: Head, table: &mut [u32], lease: Lease) -> Reply
 }
 
 // Answers the cell of a live lease and changes nothing; any other lease is refused with 12.
-pub fn read_permission(head: Head, table: &[u32], lease: Lease) -> Reply
+pub fn read_permission(head: Head, table: &[u32], lease: Hold) -> Reply
     ensures { λ r. ⌜ r ≡ readPermissionOf head (now (table .entry)) lease .seen ⌝ }
 {
     let check = lease_check(head, table, lease);
@@ -332,7 +332,7 @@ pub fn read_permission(head: Head, table: &[u32], lease: Lease) -> Reply
 
 // One compare-and-set of a live lease's cell: it is Busy always, held by the lease's serial, and changes nothing. A
 // lease that is not live is refused with 12 before the attempt.
-pub fn competing_acquire_is_excluded(head: Head, table: &mut [u32], lease: Lease) -> Reply
+pub fn competing_acquire_is_excluded(head: Head, table: &mut [u32], lease: Hold) -> Reply
     ensures { λ r. ⌜ (r, now (table .exit)) ≡ competingAcquireOf head (now (table .entry)) lease .seen ⌝ }
 {
     let check = lease_check(head, table, lease);
@@ -344,7 +344,7 @@ pub fn competing_acquire_is_excluded(head: Head, table: &mut [u32], lease: Lease
 
 // The lease released, and its cell taken anew. With no serial left it is refused with 10, and the release stands: the
 // cell is free. A lease that is not live is refused with 12 and keeps its cell.
-pub fn release_then_handoff(head: Head, table: &mut [u32], lease: Lease) -> Reply
+pub fn release_then_handoff(head: Head, table: &mut [u32], lease: Hold) -> Reply
     ensures { λ r. ⌜ (r, now (table .exit)) ≡ releaseThenHandoffOf head (now (table .entry)) lease .seen ⌝ }
 {
     let check = lease_check(head, table, lease);
@@ -360,7 +360,7 @@ pub fn foreign_release_between_attempts(
     head: Head,
     table: &mut [u32],
     held: &[u32],
-    lease: Lease,
+    lease: Hold,
 ) -> Reply
     ensures { λ r. ⌜ (r, now (table .exit))
         ≡ foreignReleaseOf head (now (table .entry)) (now (held .entry)) lease .seen ⌝ }
@@ -390,7 +390,7 @@ pub fn acquire_preserving_borrows(head: Head, table: &mut [u32], held: &[u32], c
 }
 
 // drop_lease, but not of a lease in the held list: that is refused with 13, and nothing changes.
-pub fn drop_preserving_borrows(head: Head, table: &mut [u32], held: &[u32], lease: Lease) -> Reply
+pub fn drop_preserving_borrows(head: Head, table: &mut [u32], held: &[u32], lease: Hold) -> Reply
     ensures { λ r. ⌜ (r, now (table .exit))
         ≡ dropPreservingOf head (now (table .entry)) (now (held .entry)) lease .seen ⌝ }
 {

@@ -8,14 +8,14 @@ use native.Mathlib.Decide.{ℕ-discrete}
 use lib.ListN.{length, getD, set, take, drop, length-append}
 use lib.Seq.{getD-set-same, getD-set-other, set-at}
 use Rattle.model.specs.Log.{Made}
-use Rattle.model.specs.Arena.{leaseOf, leasesOf, wordsOf}
+use Rattle.model.specs.Arena.{holdOf, holdsOf, wordsOf}
 use Rattle.model.specs.Foreign.{Setting, setting, protecting, stepsIn}
-use Rattle.model.specs.Lock.{findOf, attemptAt, attemptOf, pauseOf, isBusy, lastOf, noneYet, retryOf, giveBackOf, endedOf, rollbackOf, afterKey, locksOf, bindingAt, bucketAt, Locks, leaseAt}
+use Rattle.model.specs.Lock.{findOf, attemptAt, attemptOf, pauseOf, isBusy, lastOf, noneYet, retryOf, giveBackOf, endedOf, rollbackOf, afterKey, locksOf, bindingAt, bucketAt, Locks, holdAt}
 use Rattle.types.specs.declared.Answer.the-variants as answer
 use Rattle.types.specs.declared.Ended.{Ended}
 use Rattle.types.specs.declared.Found.{Found}
 use Rattle.types.specs.declared.Found.the-variants as found
-use Rattle.types.specs.declared.Lease.{Lease}
+use Rattle.types.specs.declared.Hold.{Hold}
 use Rattle.types.specs.declared.Outcome.{Outcome}
 use Rattle.types.specs.declared.Outcome.the-variants as outcome
 use Rattle.types.specs.declared.Reason.{Reason}
@@ -36,8 +36,8 @@ use Rattle.release.specs.Release.{giveOneOf, give-back-at}
 
 -- ---- the array of pairs
 
-abbrev pub pair : List (List ℕ) → ℕ → Lease
-pair a i = leaseOf (getD (getD a i []) 0 0) (getD (getD a i []) 1 0)
+abbrev pub pair : List (List ℕ) → ℕ → Hold
+pair a i = holdOf (getD (getD a i []) 0 0) (getD (getD a i []) 1 0)
 
 pub length-pairs : (n i : ℕ) (a : List (List ℕ)) → length (pairsOf n i a) ≡ n
 unfolding pairsOf
@@ -51,7 +51,7 @@ take-pairs n zero i a l = refl
 take-pairs zero (suc m) i a l = absurd (omega arith)
 take-pairs (suc n) (suc m) i a l = rw (take-pairs n m (i + 1) a (omega arith))
 
-pair-at : (n m i : ℕ) (a : List (List ℕ)) → m < n → leaseAt (pairsOf n i a) m ≡ pair a (i + m)
+pair-at : (n m i : ℕ) (a : List (List ℕ)) → m < n → holdAt (pairsOf n i a) m ≡ pair a (i + m)
 unfolding pairsOf
 pair-at zero m i a l = absurd (omega arith)
 pair-at (suc n) zero i a l = let e : i + 0 ≡ i = omega arith in rw e
@@ -64,7 +64,7 @@ pairs-more zero i a = let e : i + 0 ≡ i = omega arith in rw e
 pairs-more (suc n) i a =
     let k : suc n + 1 ≡ suc (n + 1) = omega arith in
     let e : i + 1 + n ≡ i + suc n = omega arith in
-    rw k (ap {B = List Lease} (λ r. pair a i ∷ r) (pairs-more n (i + 1) a ∙ ap (λ j. pairsOf n (i + 1) a ++ (pair a j ∷ [])) e))
+    rw k (ap {B = List Hold} (λ r. pair a i ∷ r) (pairs-more n (i + 1) a ∙ ap (λ j. pairsOf n (i + 1) a ++ (pair a j ∷ [])) e))
 
 -- pairs before a place do not see a store to it
 pub pairs-set : (n i p : ℕ) (a : List (List ℕ)) (v : List ℕ) → i + n ≤ p → pairsOf n i (set a p v) ≡ pairsOf n i a
@@ -72,10 +72,10 @@ unfolding pairsOf
 pairs-set zero i p a v l = refl
 pairs-set (suc n) i p a v l =
     let d : i ≢ p = omega arith in
-    rw (getD-set-other a p i v [] d) (ap {B = List Lease} (λ r. pair a i ∷ r) (pairs-set n (i + 1) p a v (omega arith)))
+    rw (getD-set-other a p i v [] d) (ap {B = List Hold} (λ r. pair a i ∷ r) (pairs-set n (i + 1) p a v (omega arith)))
 
 -- a lease noted behind them
-pub pairs-push : (p : ℕ) (a : List (List ℕ)) (c s : ℕ) → p < length a → pairsOf (p + 1) 0 (set a p (c ∷ s ∷ [])) ≡ pairsOf p 0 a ++ (leaseOf c s ∷ [])
+pub pairs-push : (p : ℕ) (a : List (List ℕ)) (c s : ℕ) → p < length a → pairsOf (p + 1) 0 (set a p (c ∷ s ∷ [])) ≡ pairsOf p 0 a ++ (holdOf c s ∷ [])
 pairs-push p a c s l =
     let z : 0 + p ≡ p = omega arith in
     pairs-more p 0 (set a p (c ∷ s ∷ [])) ∙ rw (z, getD-set-same a p (c ∷ s ∷ []) [] l, pairs-set p 0 p a (c ∷ s ∷ []) (omega arith))
@@ -98,10 +98,10 @@ module _ (e : Setting) (buckets : ℕ) (registry : List ℕ) (binding bucket : �
 
   -- a granted lease's cell is in range
   abbrev Within : Outcome → Type 0
-  Within k = (l : Lease) → k ≡ outcome.Granted l → l .cell < e .headers * buckets
+  Within k = (l : Hold) → k ≡ outcome.Granted l → l .cell < e .headers * buckets
 
   within-at : (c : ℕ) (g : List ℕ) (o : Outcome) → Comes buckets c g o → c < e .headers * buckets → Within o
-  within-at c g o (granted s k) h l q = let z : leaseOf c s ≡ l = cc in omega (arith, ap (λ (k : Lease). k .cell) z)
+  within-at c g o (granted s k) h l q = let z : holdOf c s ≡ l = cc in omega (arith, ap (λ (k : Hold). k .cell) z)
   within-at c g o (busy why) h l q = let y : _≡_ {A = ℕ} 0 1 = cc in absurd (omega arith)
   within-at c g o (poisoned k) h l q = let y : _≡_ {A = ℕ} 0 1 = cc in absurd (omega arith)
   within-at c g o damaged h l q = let y : _≡_ {A = ℕ} 0 1 = cc in absurd (omega arith)
@@ -122,19 +122,19 @@ module _ (e : Setting) (buckets : ℕ) (registry : List ℕ) (binding bucket : �
       (within-attempt (findOf (e .headers) buckets g registry binding bucket) r t g (find-inside (e .headers) buckets g registry binding bucket))
 
 -- as the code has them
-pub retry-goes : (o : Tried × (List ℕ × List ℕ)) (headers cells steps : ℕ) (script : List ℕ) (ps : List Lease) (buckets : ℕ) (registry : List ℕ) (binding bucket most : ℕ) (r : Run) (t g : List ℕ)
+pub retry-goes : (o : Tried × (List ℕ × List ℕ)) (headers cells steps : ℕ) (script : List ℕ) (ps : List Hold) (buckets : ℕ) (registry : List ℕ) (binding bucket most : ℕ) (r : Run) (t g : List ℕ)
     → steps ≡ length script / 3 → o ≡ retryOf 4096 0 noneYet (setting headers cells script ps) buckets registry binding bucket r t g .seen → RunBound steps most r → RunBound steps (most + keyMost) (o .0 .run)
 retry-goes o headers cells steps script ps buckets registry binding bucket most r t g n q b =
     rw (q, n) (retry-run-bound (setting headers cells script ps) buckets registry binding bucket 4096 0 noneYet most r t g (rw n at b))
 
-pub grant-inside : (o : Tried × (List ℕ × List ℕ)) (headers cells : ℕ) (script : List ℕ) (ps : List Lease) (buckets : ℕ) (registry : List ℕ) (binding bucket : ℕ) (r : Run) (t g : List ℕ) (l : Lease)
+pub grant-inside : (o : Tried × (List ℕ × List ℕ)) (headers cells : ℕ) (script : List ℕ) (ps : List Hold) (buckets : ℕ) (registry : List ℕ) (binding bucket : ℕ) (r : Run) (t g : List ℕ) (l : Hold)
     → o ≡ retryOf 4096 0 noneYet (setting headers cells script ps) buckets registry binding bucket r t g .seen → o .0 .outcome ≡ outcome.Granted l → l .cell < headers * buckets
 grant-inside o headers cells script ps buckets registry binding bucket r t g l q h =
     retry-within (setting headers cells script ps) buckets registry binding bucket 4096 0 noneYet r t g l (sym (ap (λ (k : Tried × (List ℕ × List ℕ)). k .0 .outcome) q) ∙ h)
 
 -- ---- one key
 
-module _ (n p : ℕ) (e : Setting) (buckets : ℕ) (registry keys : List ℕ) (taken : List Lease) (r : Run) (t g grants : List ℕ) where
+module _ (n p : ℕ) (e : Setting) (buckets : ℕ) (registry keys : List ℕ) (taken : List Hold) (r : Run) (t g grants : List ℕ) where
   abbrev tried : Tried × (List ℕ × List ℕ)
   tried = retryOf 4096 0 noneYet (protecting e taken) buckets registry (bindingAt keys p) (bucketAt keys p) r t g .seen
 
@@ -158,28 +158,28 @@ module _ (n p : ℕ) (e : Setting) (buckets : ℕ) (registry keys : List ℕ) (t
 pub give-pairs-at : (k m n headers cells : ℕ) (script held : List ℕ) (taken : List (List ℕ)) (r : Run) (t g : List ℕ) (o : Run × (List ℕ × List ℕ))
     → k ≡ m + 1 → m < n
     → o ≡ giveOneOf (setting headers cells script (guardsOf held taken m)) r t g (getD (getD taken m []) 0 0)
-    → giveBackOf k (setting headers cells script (leasesOf held)) (pairsOf n 0 taken) r t g .seen
-    ≡ giveBackOf m (setting headers cells script (leasesOf held)) (pairsOf n 0 taken) (o .0) (o .1 .0) (o .1 .1) .seen
+    → giveBackOf k (setting headers cells script (holdsOf held)) (pairsOf n 0 taken) r t g .seen
+    ≡ giveBackOf m (setting headers cells script (holdsOf held)) (pairsOf n 0 taken) (o .0) (o .1 .0) (o .1 .1) .seen
 unfolding guardsOf
 give-pairs-at k m n headers cells script held taken r t g o l b q =
     let z : 0 + m ≡ m = omega arith in
-    give-back-at k m (setting headers cells script (leasesOf held)) (pairsOf n 0 taken) r t g o l
+    give-back-at k m (setting headers cells script (holdsOf held)) (pairsOf n 0 taken) r t g o l
     (q ∙ rw (take-pairs n m 0 taken (omega arith), pair-at n m 0 taken b, z))
 
 -- a rollback, as the code has it: without the grant buffer, which it does not touch
-unfoldable pub rollBackOf : Setting → List Lease → Refusal → ℕ → Run → List ℕ → List ℕ → Ended × (List ℕ × List ℕ)
+unfoldable pub rollBackOf : Setting → List Hold → Refusal → ℕ → Run → List ℕ → List ℕ → Ended × (List ℕ × List ℕ)
 rollBackOf e ls x p r t g = let k = giveBackOf (length ls) e ls r t g .seen in (endedOf (k .0) (answer.RefusedAt x p), k .1)
 
 abbrev pub with-grants : Ended × (List ℕ × List ℕ) → List ℕ → Ended × (List ℕ × (List ℕ × List ℕ))
 with-grants o grants = (o .0, (o .1 .0, (o .1 .1, grants)))
 
-pub rolled : (e : Setting) (ls : List Lease) (x : Refusal) (p : ℕ) (r : Run) (t g grants : List ℕ) → rollbackOf e ls x p r t g grants .seen ≡ with-grants (rollBackOf e ls x p r t g) grants
+pub rolled : (e : Setting) (ls : List Hold) (x : Refusal) (p : ℕ) (r : Run) (t g grants : List ℕ) → rollbackOf e ls x p r t g grants .seen ≡ with-grants (rollBackOf e ls x p r t g) grants
 unfolding rollbackOf rollBackOf
 rolled e ls x p r t g grants = refl
 
 -- ---- the grant buffer
 
-words-append : (xs ys : List Lease) → wordsOf (xs ++ ys) ≡ wordsOf xs ++ wordsOf ys
+words-append : (xs ys : List Hold) → wordsOf (xs ++ ys) ≡ wordsOf xs ++ wordsOf ys
 unfolding wordsOf
 words-append [] ys = refl
 words-append (x ∷ xs) ys = ap {B = List ℕ} (λ r. x .cell ∷ x .serial ∷ r) (words-append xs ys)

@@ -13,7 +13,7 @@ ghost use mathlib.Core.Path.{_≡_};
 ghost use mathlib.Core.List.{[]};
 ghost use Prim.Native.Nat.{_+_, _*_, _<_, _≤_};
 ghost use lib.ListN.{length};
-ghost use Rattle.model.specs.Arena.{leasesOf, wordsOf};
+ghost use Rattle.model.specs.Arena.{holdsOf, wordsOf};
 ghost use Rattle.model.specs.Foreign.{protecting};
 ghost use Rattle.model.specs.Lock.{noneYet, retryOf, bindingAt, bucketAt, locksOf};
 ghost use Rattle.foreign.specs.Model.{pairsOf, inScope};
@@ -50,7 +50,7 @@ fn try_key(
     requires { ⌜ Bound scope (length (now table)) (length (now health)) (length (now script)) (now registry) (now keys)
         × (RunBound (scope .steps) callMost run × ((p < 64) × (2 * p + 1 < length (now keys)))) ⌝ }
     ensures { λ r. ⌜ (r, (now (table .exit), now (health .exit)))
-        ≡ retryOf 4096 0 noneYet (protecting (inScope scope (now (script .entry)) (leasesOf (now (held .entry))))
+        ≡ retryOf 4096 0 noneYet (protecting (inScope scope (now (script .entry)) (holdsOf (now (held .entry))))
         (pairsOf p 0 (now (taken .entry)))) (scope .buckets) (now (registry .entry))
         (bindingAt (now (keys .entry)) p) (bucketAt (now (keys .entry)) p)
         run (now (table .entry)) (now (health .entry)) .seen ⌝ }
@@ -89,7 +89,7 @@ pub fn lock_keys(
         × (RunBound (scope .steps) 0 start × ((n ≤ 64) × ((2 * n ≤ length (now keys))
         × (length (now grants) ≡ 2 * n)))) ⌝ }
     ensures { λ r. ⌜ (r, (now (table .exit), (now (health .exit), now (grants .exit))))
-        ≡ locksOf n 0 (inScope scope (now (script .entry)) (leasesOf (now (held .entry)))) (scope .buckets)
+        ≡ locksOf n 0 (inScope scope (now (script .entry)) (holdsOf (now (held .entry)))) (scope .buckets)
         (now (registry .entry)) (now (keys .entry)) []
         start (now (table .entry)) (now (health .entry)) (now (grants .entry)) .seen ⌝ }
 {

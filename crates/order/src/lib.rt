@@ -1,7 +1,7 @@
 // The bench console. The lines of the setpoint book (document 02, L2): what a line orders, and what is not understood.
 use setpoint::Setpoint;
 use text::Numbers;
-use types::Lease;
+use types::Hold;
 ghost use Rattle.io.specs.Counts.{Counts as Within};
 
 // What a line of the book orders. A write names its slot, its lease and the setpoint.
@@ -11,7 +11,7 @@ pub enum Order {
     Byte(usize, u8),
     Show,
     Prepare,
-    Write(u32, Lease, Setpoint),
+    Write(u32, Hold, Setpoint),
     Read(u32),
 }
 
@@ -113,7 +113,7 @@ fn kind_of(word: &[u8]) -> Kind {
 }
 
 // A valve is 0 or 1.
-fn valve_order(slot: u32, lease: Lease, value: u32) -> Order {
+fn valve_order(slot: u32, lease: Hold, value: u32) -> Order {
     if value == 0 {
         return Order::Write(slot, lease, Setpoint::Valve(false));
     }
@@ -123,7 +123,7 @@ fn valve_order(slot: u32, lease: Lease, value: u32) -> Order {
     Order::Unknown
 }
 
-fn kind_order(slot: u32, lease: Lease, kind: Kind, value: u32) -> Order {
+fn kind_order(slot: u32, lease: Hold, kind: Kind, value: u32) -> Order {
     match kind {
         Kind::Pressure => {
             let bar = pressure(value);
@@ -158,7 +158,7 @@ fn kind_at(line: &[u8], at: usize) -> Kind {
 
 // The slot and the lease, the kind behind them, and the value behind that.
 fn said_order(named: Numbers, kind: Kind, value: Numbers) -> Order {
-    let lease = Lease {
+    let lease = Hold {
         cell: named.b,
         serial: named.c,
     };

@@ -8,7 +8,7 @@ use borrow.Author.Tests.{le-leb, lt-leb, le-ltb, lt-ltb, leb-true, leb-false}
 use lib.Dec.{leb}
 use lib.ListN.{length, getD, set}
 use lib.Seq.{set-getD}
-use Rattle.model.specs.Arena.{serialRemains, cellsOf, headOf, spentTo, headFits, shapeFits, bitAt, ownerAt, waitersAt, setCell, isFree, isHeld, stateOf, stateAt, leaseOf, heldBy, isLive, issueOf}
+use Rattle.model.specs.Arena.{serialRemains, cellsOf, headOf, spentTo, headFits, shapeFits, bitAt, ownerAt, waitersAt, setCell, isFree, isHeld, stateOf, stateAt, holdOf, heldBy, isLive, issueOf}
 use Rattle.model.specs.Refusals.{first}
 use Rattle.model.specs.Lock.{takeIn, takeOf, outcomeOf, answerOf}
 use Rattle.model.specs.Checks.{badCell, notHeld, cellRules, leaseRules}
@@ -16,7 +16,7 @@ use Rattle.model.specs.Calls.{replied, refused, acquireOf, tryAcquireOf, dropLe
 use Rattle.types.specs.declared.Answer.the-variants.{Done, Granted}
 use Rattle.types.specs.declared.Check.the-variants.{Fine}
 use Rattle.types.specs.declared.Head.{Head}
-use Rattle.types.specs.declared.Lease.{Lease}
+use Rattle.types.specs.declared.Hold.{Hold}
 use Rattle.types.specs.declared.Refusal.the-variants.{BadShape, InvalidBucket, NotHeld}
 use Rattle.types.specs.declared.Reply.{Reply}
 use Rattle.types.specs.declared.State.{State}
@@ -178,41 +178,41 @@ take-agrees h l c = go (shapeFits h (3 * length l)) refl (leb (length l) c) refl
 -- ---- a single release
 
 -- whether the record of a lease is held by its serial
-abbrev heldIn : Head → List Cell → Lease → Bool
+abbrev heldIn : Head → List Cell → Hold → Bool
 heldIn h l x = heldBy (stateOf (h .next) (getD l (x .cell) none .bit) (getD l (x .cell) none .owner)) (x .serial)
 
-live-outside : (h : Head) (l : List Cell) (x : Lease) → shapeFits h (3 * length l) ≡ true → length l ≤ x .cell → isLive (h .next) (cellsOf h) (spelled l) x ≡ false
+live-outside : (h : Head) (l : List Cell) (x : Hold) → shapeFits h (3 * length l) ≡ true → length l ≤ x .cell → isLive (h .next) (cellsOf h) (spelled l) x ≡ false
 unfolding isLive
 live-outside h l x p b = rw (records-are h (length l) p, le-ltb (x .cell) (length l) b)
 
-live-inside : (h : Head) (l : List Cell) (x : Lease) → shapeFits h (3 * length l) ≡ true → x .cell < length l → isLive (h .next) (cellsOf h) (spelled l) x ≡ heldIn h l x
+live-inside : (h : Head) (l : List Cell) (x : Hold) → shapeFits h (3 * length l) ≡ true → x .cell < length l → isLive (h .next) (cellsOf h) (spelled l) x ≡ heldIn h l x
 unfolding isLive
 live-inside h l x p b = rw (records-are h (length l) p, lt-ltb (x .cell) (length l) b, state-spelled (h .next) l (x .cell))
 
-abbrev Drops : Head → List Cell → Lease → Type 0
+abbrev Drops : Head → List Cell → Hold → Type 0
 Drops h l x = given (callOf dropSpotOf dropRuleOf h l x) ≡ dropLeaseOf h (spelled l) x .seen
 
 -- the four ways: refused for the shape, for the cell, because another or nobody holds it, and released
-drop-misfit : (h : Head) (l : List Cell) (x : Lease) → shapeFits h (3 * length l) ≡ false → Drops h l x
+drop-misfit : (h : Head) (l : List Cell) (x : Hold) → shapeFits h (3 * length l) ≡ false → Drops h l x
 unfolding callOf dropSpotOf spotOf dropLeaseOf leaseRules
 drop-misfit h l x p = rw (p, le-leb (length l) (length l) (omega arith), shape-bad h (spelled l) (notHeld h (spelled l) 0 x ∷ []) (fits-spelled h l false p))
 
-drop-outside : (h : Head) (l : List Cell) (x : Lease) → shapeFits h (3 * length l) ≡ true → length l ≤ x .cell → Drops h l x
+drop-outside : (h : Head) (l : List Cell) (x : Hold) → shapeFits h (3 * length l) ≡ true → length l ≤ x .cell → Drops h l x
 unfolding callOf dropSpotOf spotOf dropLeaseOf leaseRules
 drop-outside h l x p b =
     rw (p, le-leb (length l) (x .cell) b, shape-ok h (spelled l) (notHeld h (spelled l) 0 x ∷ []) (fits-spelled h l true p), first-hit (notHeld h (spelled l) 0 x) [] (ap not (live-outside h l x p b)))
 
-drop-loose : (h : Head) (l : List Cell) (x : Lease) → shapeFits h (3 * length l) ≡ true → x .cell < length l → heldIn h l x ≡ false → Drops h l x
+drop-loose : (h : Head) (l : List Cell) (x : Hold) → shapeFits h (3 * length l) ≡ true → x .cell < length l → heldIn h l x ≡ false → Drops h l x
 unfolding callOf dropSpotOf spotOf dropLeaseOf leaseRules dropRuleOf
 drop-loose h l x p b q =
     rw (p, lt-leb (length l) (x .cell) b, shape-ok h (spelled l) (notHeld h (spelled l) 0 x ∷ []) (fits-spelled h l true p), first-hit (notHeld h (spelled l) 0 x) [] (ap not (live-inside h l x p b ∙ q)), q, set-getD l (x .cell) none)
 
-drop-held : (h : Head) (l : List Cell) (x : Lease) → shapeFits h (3 * length l) ≡ true → x .cell < length l → heldIn h l x ≡ true → Drops h l x
+drop-held : (h : Head) (l : List Cell) (x : Hold) → shapeFits h (3 * length l) ≡ true → x .cell < length l → heldIn h l x ≡ true → Drops h l x
 unfolding callOf dropSpotOf spotOf dropLeaseOf leaseRules dropRuleOf
 drop-held h l x p b q =
     rw (p, lt-leb (length l) (x .cell) b, shape-ok h (spelled l) (notHeld h (spelled l) 0 x ∷ []) (fits-spelled h l true p), first-skip (notHeld h (spelled l) 0 x) [] (ap not (live-inside h l x p b ∙ q)), no-rule, q, set-spelled l (x .cell) 0 0)
 
-pub drop-agrees : (h : Head) (l : List Cell) (x : Lease) → given (callOf dropSpotOf dropRuleOf h l x) ≡ dropLeaseOf h (spelled l) x .seen
+pub drop-agrees : (h : Head) (l : List Cell) (x : Hold) → given (callOf dropSpotOf dropRuleOf h l x) ≡ dropLeaseOf h (spelled l) x .seen
 drop-agrees h l x = go (shapeFits h (3 * length l)) refl (leb (length l) (x .cell)) refl
   where
     inside : shapeFits h (3 * length l) ≡ true → x .cell < length l → (t : Bool) → heldIn h l x ≡ t → Drops h l x
@@ -239,16 +239,16 @@ abbrev taken : List Cell
 taken = cellOf 1 5 7 ∷ none ∷ []
 
 -- a take of cell 0
-take-first : tryAcquireOf (headOf 1 2 5) (spelled two) 0 .seen ≡ given (replied (headOf 1 2 6) 1 (Granted (leaseOf 0 5)), taken)
+take-first : tryAcquireOf (headOf 1 2 5) (spelled two) 0 .seen ≡ given (replied (headOf 1 2 6) 1 (Granted (holdOf 0 5)), taken)
 unfolding tryAcquireOf cellRules first shapeFits headFits acquireOf takeOf stateAt stateOf isFree bitAt ownerAt setCell spelled
 take-first = refl
 
 -- its release; with another serial it is refused and changes nothing
-drop-first : dropLeaseOf (headOf 1 2 6) (spelled taken) (leaseOf 0 5) .seen ≡ given (replied (headOf 1 2 6) 0 Done, two)
+drop-first : dropLeaseOf (headOf 1 2 6) (spelled taken) (holdOf 0 5) .seen ≡ given (replied (headOf 1 2 6) 0 Done, two)
 unfolding dropLeaseOf leaseRules first shapeFits headFits isLive stateAt stateOf isFree isHeld bitAt ownerAt setCell spelled
 drop-first = refl
 
-drop-stale : dropLeaseOf (headOf 1 2 6) (spelled taken) (leaseOf 0 4) .seen ≡ given (refused (headOf 1 2 6) (NotHeld 0), taken)
+drop-stale : dropLeaseOf (headOf 1 2 6) (spelled taken) (holdOf 0 4) .seen ≡ given (refused (headOf 1 2 6) (NotHeld 0), taken)
 unfolding dropLeaseOf leaseRules first shapeFits headFits isLive stateAt stateOf isFree isHeld bitAt ownerAt spelled
 drop-stale = refl
 

@@ -10,7 +10,7 @@ use Rattle.model.specs.Lock.{outcomeOf, answerOf}
 use Rattle.model.specs.Calls.{replied, refused}
 use Rattle.types.specs.declared.Answer.the-variants.{Done}
 use Rattle.types.specs.declared.Head.{Head}
-use Rattle.types.specs.declared.Lease.{Lease}
+use Rattle.types.specs.declared.Hold.{Hold}
 use Rattle.types.specs.declared.Refusal.{Refusal}
 use Rattle.types.specs.declared.Refusal.the-variants.{BadShape, InvalidBucket, NotHeld}
 use Rattle.types.specs.declared.Reply.{Reply}
@@ -50,7 +50,7 @@ spotOf h n c x =
 unfoldable pub takeSpotOf : Head → ℕ → ℕ → Spot
 takeSpotOf h n c = spotOf h n c (InvalidBucket c)
 
-unfoldable pub dropSpotOf : Head → ℕ → Lease → Spot
+unfoldable pub dropSpotOf : Head → ℕ → Hold → Spot
 dropSpotOf h n l = spotOf h n (l .cell) (NotHeld 0)
 
 -- ---- the rules on one record
@@ -79,7 +79,7 @@ unfoldable pub takeRuleOf : Head → Cell → ℕ → Changed
 takeRuleOf h c n = takeBy (stateOf (h .next) (c .bit) (c .owner)) h c n
 
 -- one release of record c
-unfoldable pub dropRuleOf : Head → Cell → Lease → Changed
+unfoldable pub dropRuleOf : Head → Cell → Hold → Changed
 dropRuleOf h c l =
     if heldBy (stateOf (h .next) (c .bit) (c .owner)) (l .serial) then changed (cellOf 0 0 (c .waiters)) (replied h 0 Done)
     else changed c (refused h (NotHeld 0))

@@ -5,7 +5,7 @@
 // copy the record out and write it back.
 use types::Answer;
 use types::Head;
-use types::Lease;
+use types::Hold;
 use types::Refusal;
 use types::Reply;
 use types::Serial;
@@ -75,7 +75,7 @@ fn take_spot(head: Head, n: usize, cell: u32) -> Spot
 }
 
 // 12 for a lease whose cell is out of range.
-fn drop_spot(head: Head, n: usize, lease: Lease) -> Spot
+fn drop_spot(head: Head, n: usize, lease: Hold) -> Spot
     ensures { λ r. ⌜ r ≡ dropSpotOf head n lease ⌝ }
 {
     find(head, n, lease.cell, Refusal::NotHeld(0))
@@ -146,7 +146,7 @@ fn held_by(next: u32, c: Cell, serial: u32) -> bool
 }
 
 // Of a record that is held by the lease's serial: nobody owns it after. Of another: 12.
-fn drop_rule(head: Head, c: Cell, lease: Lease) -> Changed
+fn drop_rule(head: Head, c: Cell, lease: Hold) -> Changed
     ensures { λ r. ⌜ r ≡ dropRuleOf head c lease ⌝ }
 {
     if held_by(head.next, c, lease.serial) {
@@ -180,7 +180,7 @@ pub fn try_acquire(head: Head, cells: &mut [Cell], cell: u32) -> Reply
 }
 
 // One release, as `lease::drop_lease`; a lease that is not live is refused with 12, and no record changes.
-pub fn drop_lease(head: Head, cells: &mut [Cell], lease: Lease) -> Reply
+pub fn drop_lease(head: Head, cells: &mut [Cell], lease: Hold) -> Reply
     ensures { λ r. ⌜ (r, spelled (now (cells .exit))) ≡ dropLeaseOf head (spelled (now (cells .entry))) lease .seen ⌝ }
 {
     let n = cells.len();

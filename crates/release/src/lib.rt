@@ -7,7 +7,7 @@ use foreign::Scope;
 use types::Answer;
 use types::Check;
 use types::Head;
-use types::Lease;
+use types::Hold;
 use types::Played;
 use types::Refusal;
 use types::Run;
@@ -16,7 +16,7 @@ ghost use mathlib.Core.Bool.{true};
 ghost use mathlib.Core.List.{[], _∷_};
 ghost use Prim.Native.Nat.{_/_, _<_, _≤_};
 ghost use lib.ListN.{length};
-ghost use Rattle.model.specs.Arena.{leasesOf, shapeFits};
+ghost use Rattle.model.specs.Arena.{holdsOf, shapeFits};
 ghost use Rattle.model.specs.Refusals.{first};
 ghost use Rattle.model.specs.Checks.{badScript, notReleasable, releaseRules};
 ghost use Rattle.model.specs.Lock.{giveBackOf};
@@ -73,7 +73,7 @@ pub fn give_back(
         (now leases))) ⌝ }
     ensures { λ r. ⌜ (r, (now (table .exit), now (health .exit)))
         ≡ giveBackOf (length (now (leases .entry)) / 2) (inScope scope (now (script .entry)) [])
-        (leasesOf (now (leases .entry))) start (now (table .entry)) (now (health .entry)) .seen ⌝ }
+        (holdsOf (now (leases .entry))) start (now (table .entry)) (now (health .entry)) .seen ⌝ }
 {
     let none = [[0; 2]; 64];
     let mut run = start;
@@ -101,7 +101,7 @@ pub fn give_back(
 // 12 and 14, tested together by position.
 fn releasable_fault(head: Head, table: &[u32], leases: &[u32]) -> Check
     requires { ⌜ shapeFits head (length (now table)) ≡ true ⌝ }
-    ensures { λ r. ⌜ r ≡ first (notReleasable head (now (table .entry)) 0 [] (leasesOf (now (leases .entry)))) ⌝ }
+    ensures { λ r. ⌜ r ≡ first (notReleasable head (now (table .entry)) 0 [] (holdsOf (now (leases .entry)))) ⌝ }
 {
     let mut i = 0;
     while i < leases.len() / 2 {
@@ -109,7 +109,7 @@ fn releasable_fault(head: Head, table: &[u32], leases: &[u32]) -> Check
         let cell = leases[e];
         let serial = leases[e + 1];
         if lease::is_live(head, table, cell, serial) {
-            let lease = Lease { cell, serial };
+            let lease = Hold { cell, serial };
             if lease::is_in(&leases[..e], lease) {
                 return Check::Fault(Refusal::Repeated(i));
             }

@@ -4,9 +4,9 @@
 // thin: it makes the head, makes the call, and writes the reply's words.
 use setpoint::Setpoint;
 use types::Head;
-use types::Lease;
+use types::Hold;
 ghost use mathlib.Core.Path.{_≡_};
-ghost use Rattle.model.specs.Arena.{headOf, leaseOf};
+ghost use Rattle.model.specs.Arena.{headOf, holdOf};
 ghost use Rattle.model.specs.Calls.{prepareOf, tryAcquireOf, dropLeaseOf, readPermissionOf, competingAcquireOf};
 ghost use Rattle.model.specs.Calls.{releaseThenHandoffOf, foreignReleaseOf, acquirePreservingOf, dropPreservingOf};
 ghost use Rattle.model.specs.Calls.{environmentOf, tryLockOf, transactionalOf, acquireBucketOf, releaseAllOf};
@@ -110,7 +110,7 @@ pub extern "C" fn skid_drop_lease(
     reply: &mut [u64; 14],
 )
     ensures { λ _. ⌜ (now (reply .exit), now (table .exit))
-        ≡ told replyWords (dropLeaseOf (headOf headers buckets next) (now (table .entry)) (leaseOf cell serial)
+        ≡ told replyWords (dropLeaseOf (headOf headers buckets next) (now (table .entry)) (holdOf cell serial)
         .seen) ⌝ }
 {
     let head = Head {
@@ -118,7 +118,7 @@ pub extern "C" fn skid_drop_lease(
         buckets,
         next,
     };
-    let lease = Lease { cell, serial };
+    let lease = Hold { cell, serial };
     let r = lease::drop_lease(head, table, lease);
     *reply = words::reply_words(r);
 }
@@ -135,7 +135,7 @@ pub extern "C" fn skid_read_permission(
     reply: &mut [u64; 14],
 )
     ensures { λ _. ⌜ now (reply .exit)
-        ≡ replyWords (readPermissionOf (headOf headers buckets next) (now (table .entry)) (leaseOf cell serial)
+        ≡ replyWords (readPermissionOf (headOf headers buckets next) (now (table .entry)) (holdOf cell serial)
         .seen) ⌝ }
 {
     let head = Head {
@@ -143,7 +143,7 @@ pub extern "C" fn skid_read_permission(
         buckets,
         next,
     };
-    let lease = Lease { cell, serial };
+    let lease = Hold { cell, serial };
     let r = lease::read_permission(head, table, lease);
     *reply = words::reply_words(r);
 }
@@ -161,14 +161,14 @@ pub extern "C" fn skid_competing_acquire_is_excluded(
 )
     ensures { λ _. ⌜ (now (reply .exit), now (table .exit))
         ≡ told replyWords (competingAcquireOf (headOf headers buckets next) (now (table .entry))
-        (leaseOf cell serial) .seen) ⌝ }
+        (holdOf cell serial) .seen) ⌝ }
 {
     let head = Head {
         headers,
         buckets,
         next,
     };
-    let lease = Lease { cell, serial };
+    let lease = Hold { cell, serial };
     let r = lease::competing_acquire_is_excluded(head, table, lease);
     *reply = words::reply_words(r);
 }
@@ -186,14 +186,14 @@ pub extern "C" fn skid_release_then_handoff(
 )
     ensures { λ _. ⌜ (now (reply .exit), now (table .exit))
         ≡ told replyWords (releaseThenHandoffOf (headOf headers buckets next) (now (table .entry))
-        (leaseOf cell serial) .seen) ⌝ }
+        (holdOf cell serial) .seen) ⌝ }
 {
     let head = Head {
         headers,
         buckets,
         next,
     };
-    let lease = Lease { cell, serial };
+    let lease = Hold { cell, serial };
     let r = lease::release_then_handoff(head, table, lease);
     *reply = words::reply_words(r);
 }
@@ -212,14 +212,14 @@ pub extern "C" fn skid_foreign_release_between_attempts(
 )
     ensures { λ _. ⌜ (now (reply .exit), now (table .exit))
         ≡ told replyWords (foreignReleaseOf (headOf headers buckets next) (now (table .entry))
-        (now (held .entry)) (leaseOf cell serial) .seen) ⌝ }
+        (now (held .entry)) (holdOf cell serial) .seen) ⌝ }
 {
     let head = Head {
         headers,
         buckets,
         next,
     };
-    let lease = Lease { cell, serial };
+    let lease = Hold { cell, serial };
     let r = lease::foreign_release_between_attempts(head, table, held, lease);
     *reply = words::reply_words(r);
 }
@@ -262,14 +262,14 @@ pub extern "C" fn skid_drop_preserving_borrows(
 )
     ensures { λ _. ⌜ (now (reply .exit), now (table .exit))
         ≡ told replyWords (dropPreservingOf (headOf headers buckets next) (now (table .entry))
-        (now (held .entry)) (leaseOf cell serial) .seen) ⌝ }
+        (now (held .entry)) (holdOf cell serial) .seen) ⌝ }
 {
     let head = Head {
         headers,
         buckets,
         next,
     };
-    let lease = Lease { cell, serial };
+    let lease = Hold { cell, serial };
     let r = lease::drop_preserving_borrows(head, table, held, lease);
     *reply = words::reply_words(r);
 }
@@ -681,14 +681,14 @@ pub extern "C" fn skid_write_pressure(
 )
     ensures { λ _. ⌜ (now (reply .exit), now (book .exit))
         ≡ told bookWords (writeSetpointOf (headOf headers buckets next) (now (table .entry))
-        (now (book .entry)) slot (leaseOf cell serial) (Pressure bar)) ⌝ }
+        (now (book .entry)) slot (holdOf cell serial) (Pressure bar)) ⌝ }
 {
     let head = Head {
         headers,
         buckets,
         next,
     };
-    let lease = Lease { cell, serial };
+    let lease = Hold { cell, serial };
     let r = book::write_setpoint(head, table, book, slot, lease, Setpoint::Pressure(bar));
     *reply = words::book_words(r);
 }
@@ -709,14 +709,14 @@ pub extern "C" fn skid_write_speed(
 )
     ensures { λ _. ⌜ (now (reply .exit), now (book .exit))
         ≡ told bookWords (writeSetpointOf (headOf headers buckets next) (now (table .entry))
-        (now (book .entry)) slot (leaseOf cell serial) (Speed speed)) ⌝ }
+        (now (book .entry)) slot (holdOf cell serial) (Speed speed)) ⌝ }
 {
     let head = Head {
         headers,
         buckets,
         next,
     };
-    let lease = Lease { cell, serial };
+    let lease = Hold { cell, serial };
     let r = book::write_setpoint(head, table, book, slot, lease, Setpoint::Speed(speed));
     *reply = words::book_words(r);
 }
@@ -737,14 +737,14 @@ pub extern "C" fn skid_write_valve(
 )
     ensures { λ _. ⌜ (now (reply .exit), now (book .exit))
         ≡ told bookWords (writeSetpointOf (headOf headers buckets next) (now (table .entry))
-        (now (book .entry)) slot (leaseOf cell serial) (Valve opened)) ⌝ }
+        (now (book .entry)) slot (holdOf cell serial) (Valve opened)) ⌝ }
 {
     let head = Head {
         headers,
         buckets,
         next,
     };
-    let lease = Lease { cell, serial };
+    let lease = Hold { cell, serial };
     let r = book::write_setpoint(head, table, book, slot, lease, Setpoint::Valve(opened));
     *reply = words::book_words(r);
 }

@@ -6,9 +6,9 @@ use mathlib.Core.Bool.{true, false}
 use lib.Ieee.{binary32, ofBits, toBits, nan, inf}
 use lib.ListN.{replicate, set}
 use lib.Seq.{sets}
-use Rattle.model.specs.Arena.{headOf, leaseOf, headFits, shapeFits, bitAt, ownerAt, isFree, isHeld, stateOf, stateAt, isLive}
+use Rattle.model.specs.Arena.{headOf, holdOf, headFits, shapeFits, bitAt, ownerAt, isFree, isHeld, stateOf, stateAt, isLive}
 use Rattle.types.specs.declared.Head.{Head}
-use Rattle.types.specs.declared.Lease.{Lease}
+use Rattle.types.specs.declared.Hold.{Hold}
 use Rattle.setpoint.specs.Codec.{isFinite, bytesOf, bodyOf, joinOf, settingOf}
 use Rattle.setpoint.specs.declared.Setpoint.{Setpoint}
 use Rattle.setpoint.specs.declared.Setpoint.the-variants.{Pressure, Speed, Valve}
@@ -25,8 +25,8 @@ head = headOf 1 2 2
 abbrev table : List ℕ
 table = 0 ∷ 0 ∷ 0 ∷ 1 ∷ 1 ∷ 0 ∷ []
 
-abbrev lease : Lease
-lease = leaseOf 1 1
+abbrev lease : Hold
+lease = holdOf 1 1
 
 -- 1.5 bar, and 258 turns
 abbrev bar : Setpoint
@@ -108,8 +108,8 @@ read-refused = (refl, refl, refl)
 
 -- ---- "Its refusals in order", "and refusals change nothing": each case keeps what the next has wrong
 
-abbrev nowhere : Lease
-nowhere = leaseOf 1 7
+abbrev nowhere : Hold
+nowhere = holdOf 1 7
 
 abbrev bad : Setpoint
 bad = Pressure nan

@@ -11,7 +11,7 @@ use Rattle.choice.specs.Choice.{if_then_else_}
 use Rattle.choice.specs.Pick.{both, neither}
 use Rattle.model.specs.Arena.{cellsOf, headFits, shapeFits, isLive}
 use Rattle.types.specs.declared.Head.{Head}
-use Rattle.types.specs.declared.Lease.{Lease}
+use Rattle.types.specs.declared.Hold.{Hold}
 use Rattle.setpoint.specs.Codec.{hasBody}
 use Rattle.setpoint.specs.declared.Setpoint.{Setpoint}
 use Rattle.slots.specs.Layout.{slotsOf, bytesFor}
@@ -98,14 +98,14 @@ past-slots n size slot l = rw (le-leb n slot l) (go (isBadBook n size))
     go true = refl
     go false = refl
 
-pub record ClaimFine (h : Head) (t : List ℕ) (size slot : ℕ) (l : Lease) (s : Setpoint) : Type 0 where
+pub record ClaimFine (h : Head) (t : List ℕ) (size slot : ℕ) (l : Hold) (s : Setpoint) : Type 0 where
   pub shape : shapeFits h (length t) ≡ true
   pub slot-is : SlotFine (slotsOf h) size slot
   pub live : isLive (h .next) (cellsOf h) t l ≡ true
   pub own : l .cell ≡ slot
   pub whole : hasBody s ≡ true
 
-pub claim-fine : (h : Head) (t : List ℕ) (size slot : ℕ) (l : Lease) (s : Setpoint) → firstFault (claimRules h t size slot l s) ≡ Fine → ClaimFine h t size slot l s
+pub claim-fine : (h : Head) (t : List ℕ) (size slot : ℕ) (l : Hold) (s : Setpoint) → firstFault (claimRules h t size slot l s) ≡ Fine → ClaimFine h t size slot l s
 unfolding claimRules isHolder
 claim-fine h t size slot l s e =
     let a = no-fault _ _ e in

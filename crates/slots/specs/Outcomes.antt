@@ -9,7 +9,7 @@ use lib.ListN.{length, replicate}
 use Rattle.choice.specs.Choice.{if_then_else_}
 use Rattle.model.specs.Arena.{headFits, shapeFits}
 use Rattle.types.specs.declared.Head.{Head}
-use Rattle.types.specs.declared.Lease.{Lease}
+use Rattle.types.specs.declared.Hold.{Hold}
 use Rattle.setpoint.specs.Codec.{hasBody}
 use Rattle.setpoint.specs.declared.Setpoint.{Setpoint}
 use Rattle.slots.specs.Layout.{slotsOf, readOf, putOf}
@@ -56,7 +56,7 @@ prepare-alike h b c e = go (firstFault (bookRules h (length b))) ∙ ap (λ (m :
 
 -- ---- writing
 
-module _ (h : Head) (t b : List ℕ) (slot : ℕ) (l : Lease) (s : Setpoint) where
+module _ (h : Head) (t b : List ℕ) (slot : ℕ) (l : Hold) (s : Setpoint) where
   abbrev said : Reading
   said = readOf (slotsOf h) b slot
 

@@ -7,7 +7,7 @@ use lib.ListN.{length}
 use Rattle.choice.specs.Choice.{if_then_else_}
 use Rattle.model.specs.Arena.{cellsOf, headFits, shapeFits, isLive}
 use Rattle.types.specs.declared.Head.{Head}
-use Rattle.types.specs.declared.Lease.{Lease}
+use Rattle.types.specs.declared.Hold.{Hold}
 use Rattle.setpoint.specs.Codec.{hasBody}
 use Rattle.setpoint.specs.declared.Setpoint.{Setpoint}
 use Rattle.slots.specs.Layout.{slotsOf, bytesFor, readOf}
@@ -62,10 +62,10 @@ badSlot h size slot = refuse BadSlot when isBadSlot (slotsOf h) size slot
 
 -- ---- 12: "Writing needs a live lease on the slot's cell"
 
-unfoldable pub isHolder : Head → List ℕ → ℕ → Lease → Bool
+unfoldable pub isHolder : Head → List ℕ → ℕ → Hold → Bool
 isHolder h t slot l = isLive (h .next) (cellsOf h) t l && eqb (l .cell) slot
 
-abbrev pub notHolder : Head → List ℕ → ℕ → Lease → BookRule
+abbrev pub notHolder : Head → List ℕ → ℕ → Hold → BookRule
 notHolder h t slot l = refuse NotHeld when not (isHolder h t slot l)
 
 -- ---- "A pressure that is not finite: NotFinite."
@@ -112,13 +112,13 @@ unfoldable pub bookRules : Head → ℕ → List BookRule
 bookRules h size = badHead h ∷ badBook h size ∷ []
 
 -- `write_setpoint`: on what it is given, then on what its slot says
-unfoldable pub claimRules : Head → List ℕ → ℕ → ℕ → Lease → Setpoint → List BookRule
+unfoldable pub claimRules : Head → List ℕ → ℕ → ℕ → Hold → Setpoint → List BookRule
 claimRules h t size slot l s = badTable h t ∷ badSlot h size slot ∷ notHolder h t slot l ∷ notFinite s ∷ []
 
 unfoldable pub overRules : Reading → List BookRule
 overRules r = damaged r ∷ spent r ∷ []
 
-abbrev pub writeRules : Head → List ℕ → List ℕ → ℕ → Lease → Setpoint → List BookRule
+abbrev pub writeRules : Head → List ℕ → List ℕ → ℕ → Hold → Setpoint → List BookRule
 writeRules h t b slot l s = claimRules h t (length b) slot l s ++ overRules (readOf (slotsOf h) b slot)
 
 -- `read_setpoint`

@@ -5,37 +5,37 @@ use crate::order::first_asking;
 use types::Answer;
 use types::Ended;
 use types::Head;
-use types::Lease;
+use types::Hold;
 use types::Played;
 ghost use mathlib.Core.Path.{_≡_};
 ghost use Prim.Native.Nat.{_*_};
 ghost use lib.ListN.{length};
-ghost use Rattle.model.specs.Arena.{leasesOf, wordsOf};
-ghost use Rattle.model.specs.Sorted.{leaseOn, sharedOf};
+ghost use Rattle.model.specs.Arena.{holdsOf, wordsOf};
+ghost use Rattle.model.specs.Sorted.{holdOn, sharedOf};
 ghost use Rattle.sorted.specs.Back.{backOf, Placed};
 
 // The lease of a cell, among leases.
-fn lease_on(leases: &[u32], cell: u32) -> Lease
-    ensures { λ r. ⌜ r ≡ leaseOn (leasesOf (now (leases .entry))) cell ⌝ }
+fn lease_on(leases: &[u32], cell: u32) -> Hold
+    ensures { λ r. ⌜ r ≡ holdOn (holdsOf (now (leases .entry))) cell ⌝ }
 {
     let mut i = 0;
     while i < leases.len() / 2 {
         if leases[2 * i] == cell {
-            return Lease {
+            return Hold {
                 cell: leases[2 * i],
                 serial: leases[2 * i + 1],
             };
         }
         i += 1;
     }
-    Lease { cell: 0, serial: 0 }
+    Hold { cell: 0, serial: 0 }
 }
 
 // One lease for each key; keys of one cell share one.
 fn share(asked: &[u32], leases: &[u32], grants: &mut [u32])
     requires { ⌜ length (now grants) ≡ 2 * length (now asked) ⌝ }
     ensures { λ _. ⌜ now (grants .exit)
-        ≡ wordsOf (sharedOf (leasesOf (now (leases .entry))) (now (asked .entry))) ⌝ }
+        ≡ wordsOf (sharedOf (holdsOf (now (leases .entry))) (now (asked .entry))) ⌝ }
 {
     let mut i = 0;
     while i < asked.len() {

@@ -7,14 +7,14 @@ use mathlib.Core.Bool.{false, not}
 use native.Mathlib.Omega.{arith}
 use borrow.Author.Tests.{not-false, leb-false}
 use Rattle.model.specs.Log.{by-caller, released}
-use Rattle.model.specs.Arena.{lastSerial, leaseOf, leasesOf, setCell}
+use Rattle.model.specs.Arena.{lastSerial, holdOf, holdsOf, setCell}
 use Rattle.model.specs.Refusals.{Rule, first}
 use Rattle.model.specs.Checks.{badShape, badHeld, badHeldLength, heldCellRules, heldLeaseRules}
 use Rattle.model.specs.Calls.{acquireOf}
 use Rattle.types.specs.declared.Answer.{Answer}
 use Rattle.types.specs.declared.Answer.the-variants.{Granted, Refused}
 use Rattle.types.specs.declared.Check.the-variants.{Fine}
-use Rattle.types.specs.declared.Lease.{Lease}
+use Rattle.types.specs.declared.Hold.{Hold}
 use Rattle.types.specs.declared.Refusal.the-variants.{BadHeld, InvalidBucket, Damaged, SerialsSpent, NotHeld, Protected}
 use Rattle.history.specs.World as world
 use Rattle.history.specs.World.{Live, worldOf}
@@ -65,7 +65,7 @@ module _ (w : Authority) (held : List ℕ) (c : Key) where
   acquire-preserving-borrows-r2 k n = refused w (acquire-preserving held c) (InvalidBucket c) (cell-refused (Before w held) w c k n)
 
   -- leases_authorized(old(authority), held@): 3, with the first position
-  pub acquire-preserving-borrows-r3 : (i : ℕ) → Fits w → badHeldLength held .applies ≡ false → First-bad w (leasesOf held) i
+  pub acquire-preserving-borrows-r3 : (i : ℕ) → Fits w → badHeldLength held .applies ≡ false → First-bad w (holdsOf held) i
       → perform w (acquire-preserving held c) ≡ unchanged w (acquire-preserving held c) (BadHeld i)
   unfolding heldCellRules
   acquire-preserving-borrows-r3 i s b f =
@@ -74,36 +74,36 @@ module _ (w : Authority) (held : List ℕ) (c : Key) where
   pub acquire-preserving-borrows-e1 : valid w → valid final₁
   acquire-preserving-borrows-e1 = tries-valid tried
 
-  pub acquire-preserving-borrows-e2 : leases-authorized w (leasesOf held) → leases-authorized final₁ (leasesOf held)
+  pub acquire-preserving-borrows-e2 : leases-authorized w (holdsOf held) → leases-authorized final₁ (holdsOf held)
   acquire-preserving-borrows-e2 p i l = tries-keeps tried _ (p i l)
 
-  pub acquire-preserving-borrows-e3 : leases-authorized w (leasesOf held) → protected-valid final₁ (held-ids (leasesOf held))
-  acquire-preserving-borrows-e3 p = by-name final₁ (leasesOf held) (acquire-preserving-borrows-e2 p)
+  pub acquire-preserving-borrows-e3 : leases-authorized w (holdsOf held) → protected-valid final₁ (held-ids (holdsOf held))
+  acquire-preserving-borrows-e3 p = by-name final₁ (holdsOf held) (acquire-preserving-borrows-e2 p)
 
   pub acquire-preserving-borrows-e4 : dom final₁ ≡ dom w
   acquire-preserving-borrows-e4 = tries-keys tried
 
   -- "gain 'and a serial remains', else SerialsSpent"
-  pub acquire-preserving-borrows-e5 : Fits w → Short held → valid w → contains-key w c → leases-authorized w (leasesOf held) → cells w c .bit ≡ 0
-      → (next-serial w < lastSerial → result₁ ≡ Granted (leaseOf c (next-serial w))) × (lastSerial ≤ next-serial w → result₁ ≡ Refused (SerialsSpent c))
+  pub acquire-preserving-borrows-e5 : Fits w → Short held → valid w → contains-key w c → leases-authorized w (holdsOf held) → cells w c .bit ≡ 0
+      → (next-serial w < lastSerial → result₁ ≡ Granted (holdOf c (next-serial w))) × (lastSerial ≤ next-serial w → result₁ ≡ Refused (SerialsSpent c))
   acquire-preserving-borrows-e5 s k v i p b = let f = held-cell-passes w held c s k v i p in (tries-free tried f (v c i) b, tries-spent tried f (v c i) b)
 
-  pub acquire-preserving-borrows-e6 : (l : Lease) → result₁ ≡ Granted l → lease-serial l ≡ next-serial w
+  pub acquire-preserving-borrows-e6 : (l : Hold) → result₁ ≡ Granted l → lease-serial l ≡ next-serial w
   acquire-preserving-borrows-e6 l e = ap lease-serial (tries-some tried l e .0)
 
-  pub acquire-preserving-borrows-e7 : (l : Lease) → result₁ ≡ Granted l → authorized final₁ l
+  pub acquire-preserving-borrows-e7 : (l : Hold) → result₁ ≡ Granted l → authorized final₁ l
   acquire-preserving-borrows-e7 l e = let x = tries-some tried l e in rw (x .0) (step-grants w final₁ c (next-serial w) (x .1))
 
-  pub acquire-preserving-borrows-e8 : (l : Lease) → result₁ ≡ Granted l → lease-key l ≡ c
+  pub acquire-preserving-borrows-e8 : (l : Hold) → result₁ ≡ Granted l → lease-key l ≡ c
   acquire-preserving-borrows-e8 l e = ap lease-key (tries-some tried l e .0)
 
-  pub acquire-preserving-borrows-e9 : leases-authorized w (leasesOf held) → (l : Lease) → result₁ ≡ Granted l → held-ids (leasesOf held) (leaseOf c (lease-serial l)) → ⊥
+  pub acquire-preserving-borrows-e9 : leases-authorized w (holdsOf held) → (l : Hold) → result₁ ≡ Granted l → held-ids (holdsOf held) (holdOf c (lease-serial l)) → ⊥
   acquire-preserving-borrows-e9 p l e i =
-      omega (arith, by-name w (leasesOf held) p (leaseOf c (lease-serial l)) i .locked, tries-some tried l e .1 .unlocked)
+      omega (arith, by-name w (holdsOf held) p (holdOf c (lease-serial l)) i .locked, tries-some tried l e .1 .unlocked)
 
 -- ---- `drop_preserving_borrows`
 
-module _ (w : Authority) (held : List ℕ) (l : Lease) where
+module _ (w : Authority) (held : List ℕ) (l : Hold) where
   abbrev Checked₂ : Type 0
   Checked₂ = first (rules w (drop-preserving held l)) ≡ Fine
 
@@ -131,14 +131,14 @@ module _ (w : Authority) (held : List ℕ) (l : Lease) where
   drop-preserving-borrows-r2 k n = refused w (drop-preserving held l) (NotHeld 0) (not-held (Before w held) w 0 l _ k (unauthorized w l n))
 
   -- leases_authorized(old(authority), held@): 3, with the first position
-  pub drop-preserving-borrows-r3 : (i : ℕ) → Fits w → badHeldLength held .applies ≡ false → First-bad w (leasesOf held) i
+  pub drop-preserving-borrows-r3 : (i : ℕ) → Fits w → badHeldLength held .applies ≡ false → First-bad w (holdsOf held) i
       → perform w (drop-preserving held l) ≡ unchanged w (drop-preserving held l) (BadHeld i)
   unfolding heldLeaseRules
   drop-preserving-borrows-r3 i s b f =
       refused w (drop-preserving held l) (BadHeld i) (held-refused (badShape (w .head) (w .table) ∷ []) w held i _ (ap not s, tt) b f)
 
   -- !held_ids(held@).contains((lease_key(&lease), lease_serial(&lease))): 13
-  pub drop-preserving-borrows-r4 : Clear (Before w held) → valid w → authorized w l → held-ids (leasesOf held) l
+  pub drop-preserving-borrows-r4 : Clear (Before w held) → valid w → authorized w l → held-ids (holdsOf held) l
       → perform w (drop-preserving held l) ≡ unchanged w (drop-preserving held l) Protected
   unfolding heldLeaseRules
   drop-preserving-borrows-r4 k v a i = refused w (drop-preserving held l) Protected (protected-refused (Before w held) w held l k (authorized-live w l v a) i)
@@ -146,11 +146,11 @@ module _ (w : Authority) (held : List ℕ) (l : Lease) where
   pub drop-preserving-borrows-e1 : valid w → valid final₂
   drop-preserving-borrows-e1 = drops-valid dropping
 
-  pub drop-preserving-borrows-e3 : leases-authorized w (leasesOf held) → (held-ids (leasesOf held) l → ⊥) → protected-valid final₂ (held-ids (leasesOf held))
-  drop-preserving-borrows-e3 p n k i = drops-keeps dropping k (λ e. n (subst (In (leasesOf held)) e i)) (by-name w (leasesOf held) p k i)
+  pub drop-preserving-borrows-e3 : leases-authorized w (holdsOf held) → (held-ids (holdsOf held) l → ⊥) → protected-valid final₂ (held-ids (holdsOf held))
+  drop-preserving-borrows-e3 p n k i = drops-keeps dropping k (λ e. n (subst (In (holdsOf held)) e i)) (by-name w (holdsOf held) p k i)
 
-  pub drop-preserving-borrows-e2 : leases-authorized w (leasesOf held) → (held-ids (leasesOf held) l → ⊥) → leases-authorized final₂ (leasesOf held)
-  drop-preserving-borrows-e2 p n = by-place final₂ (leasesOf held) (drop-preserving-borrows-e3 p n)
+  pub drop-preserving-borrows-e2 : leases-authorized w (holdsOf held) → (held-ids (holdsOf held) l → ⊥) → leases-authorized final₂ (holdsOf held)
+  drop-preserving-borrows-e2 p n = by-place final₂ (holdsOf held) (drop-preserving-borrows-e3 p n)
 
   pub drop-preserving-borrows-e4 : dom final₂ ≡ dom w
   drop-preserving-borrows-e4 = go dropping
@@ -159,7 +159,7 @@ module _ (w : Authority) (held : List ℕ) (l : Lease) where
       go (drops x) = x .written .same-keys
       go (drop.barred r f) = refl
 
-  pub drop-preserving-borrows-e5 : Fits w → Short held → valid w → authorized w l → leases-authorized w (leasesOf held) → (held-ids (leasesOf held) l → ⊥)
+  pub drop-preserving-borrows-e5 : Fits w → Short held → valid w → authorized w l → leases-authorized w (holdsOf held) → (held-ids (holdsOf held) l → ⊥)
       → cells final₂ (lease-key l) .bit ≡ 0
   drop-preserving-borrows-e5 s k v a p n = bit-of (step-frees w final₂ (l .cell) (l .serial) (drops-done dropping (held-lease-passes w held l s k v a p n) .1))
 
@@ -168,7 +168,7 @@ module _ (w : Authority) (held : List ℕ) (l : Lease) where
 
 -- ---- `foreign_release_between_attempts`
 
-module _ (w : Authority) (held : List ℕ) (l : Lease) where
+module _ (w : Authority) (held : List ℕ) (l : Hold) where
   abbrev Checked₃ : Type 0
   Checked₃ = first (rules w (foreign-release held l)) ≡ Fine
 
@@ -205,13 +205,13 @@ module _ (w : Authority) (held : List ℕ) (l : Lease) where
   unfolding heldLeaseRules
   foreign-release-between-attempts-r2 k n = refused w (foreign-release held l) (NotHeld 0) (not-held (Before w held) w 0 l _ k (unauthorized w l n))
 
-  pub foreign-release-between-attempts-r3 : (i : ℕ) → Fits w → badHeldLength held .applies ≡ false → First-bad w (leasesOf held) i
+  pub foreign-release-between-attempts-r3 : (i : ℕ) → Fits w → badHeldLength held .applies ≡ false → First-bad w (holdsOf held) i
       → perform w (foreign-release held l) ≡ unchanged w (foreign-release held l) (BadHeld i)
   unfolding heldLeaseRules
   foreign-release-between-attempts-r3 i s b f =
       refused w (foreign-release held l) (BadHeld i) (held-refused (badShape (w .head) (w .table) ∷ []) w held i _ (ap not s, tt) b f)
 
-  pub foreign-release-between-attempts-r4 : Clear (Before w held) → valid w → authorized w l → held-ids (leasesOf held) l
+  pub foreign-release-between-attempts-r4 : Clear (Before w held) → valid w → authorized w l → held-ids (holdsOf held) l
       → perform w (foreign-release held l) ≡ unchanged w (foreign-release held l) Protected
   unfolding heldLeaseRules
   foreign-release-between-attempts-r4 k v a i = refused w (foreign-release held l) Protected (protected-refused (Before w held) w held l k (authorized-live w l v a) i)
@@ -220,20 +220,20 @@ module _ (w : Authority) (held : List ℕ) (l : Lease) where
   foreign-release-between-attempts-e1 = hands-valid handed
 
   -- the sure grant gains "and a serial remains", else SerialsSpent, and "the release stands and the cell is free"
-  pub foreign-release-between-attempts-e2 : Fits w → Short held → valid w → authorized w l → leases-authorized w (leasesOf held) → (held-ids (leasesOf held) l → ⊥)
-      → (next-serial w < lastSerial → (result₃ ≡ Granted (leaseOf (lease-key l) (next-serial w))) × authorized final₃ (leaseOf (lease-key l) (next-serial w)))
+  pub foreign-release-between-attempts-e2 : Fits w → Short held → valid w → authorized w l → leases-authorized w (holdsOf held) → (held-ids (holdsOf held) l → ⊥)
+      → (next-serial w < lastSerial → (result₃ ≡ Granted (holdOf (lease-key l) (next-serial w))) × authorized final₃ (holdOf (lease-key l) (next-serial w)))
       × (lastSerial ≤ next-serial w → (result₃ ≡ Refused (SerialsSpent (lease-key l))) × (cells final₃ (lease-key l) ≡ cell 0 0))
   foreign-release-between-attempts-e2 s k v a p m =
       let f = held-lease-passes w held l s k v a p m in
       (λ n. let e = hands-granted handed f n in (e, hands-some handed _ e .1), hands-spent handed f)
 
-  pub foreign-release-between-attempts-e3 : leases-authorized w (leasesOf held) → (held-ids (leasesOf held) l → ⊥) → leases-authorized final₃ (leasesOf held)
+  pub foreign-release-between-attempts-e3 : leases-authorized w (holdsOf held) → (held-ids (holdsOf held) l → ⊥) → leases-authorized final₃ (holdsOf held)
   foreign-release-between-attempts-e3 p n =
-      by-place final₃ (leasesOf held) (λ k i. hands-keeps handed k (λ e. n (subst (In (leasesOf held)) e i)) (by-name w (leasesOf held) p k i))
+      by-place final₃ (holdsOf held) (λ k i. hands-keeps handed k (λ e. n (subst (In (holdsOf held)) e i)) (by-name w (holdsOf held) p k i))
 
-  pub foreign-release-between-attempts-e4 : (k : Lease) → result₃ ≡ Granted k → lease-key k ≡ lease-key l
+  pub foreign-release-between-attempts-e4 : (k : Hold) → result₃ ≡ Granted k → lease-key k ≡ lease-key l
   foreign-release-between-attempts-e4 k e = ap lease-key (hands-some handed k e .0)
 
-  pub foreign-release-between-attempts-e5 : valid w → authorized w l → (k : Lease) → result₃ ≡ Granted k → lease-serial l < lease-serial k
+  pub foreign-release-between-attempts-e5 : valid w → authorized w l → (k : Hold) → result₃ ≡ Granted k → lease-serial l < lease-serial k
   foreign-release-between-attempts-e5 v a k e =
       omega (arith, ap lease-serial (hands-some handed k e .0), lives w l (authorized-live w l v a) .high)

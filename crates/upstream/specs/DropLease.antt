@@ -8,7 +8,7 @@ use Rattle.model.specs.Checks.{leaseRules}
 use Rattle.types.specs.declared.Answer.{Answer}
 use Rattle.types.specs.declared.Answer.the-variants.{Done, Refused}
 use Rattle.types.specs.declared.Check.the-variants.{Fine}
-use Rattle.types.specs.declared.Lease.{Lease}
+use Rattle.types.specs.declared.Hold.{Hold}
 use Rattle.types.specs.declared.Refusal.{Refusal}
 use Rattle.types.specs.declared.Refusal.the-variants.{NotHeld}
 use Rattle.history.specs.World as world
@@ -26,14 +26,14 @@ use Rattle.upstream.specs.TryAcquire.{fine-fault}
 
 -- ---- what one release comes to, whatever the table holds; F says that no check of the call applies
 
-pub data Drops (F : Type 0) (w : Authority) (l : Lease) : Answer → Authority → Type 0 where
+pub data Drops (F : Type 0) (w : Authority) (l : Hold) : Answer → Authority → Type 0 where
   drops : {v : Authority} → Gives-up w v (l .cell) (l .serial) → Drops F w l Done v
   barred : (r : Refusal) → (F → ⊥) → Drops F w l (Refused r) w
 
-pub dropped : (w : Authority) (l : Lease) → Sized w → Live w l → Gives-up w (world.step w (released by-caller (l .cell) (l .serial))) (l .cell) (l .serial)
+pub dropped : (w : Authority) (l : Hold) → Sized w → Live w l → Gives-up w (world.step w (released by-caller (l .cell) (l .serial))) (l .cell) (l .serial)
 dropped w l z v = event-step w (released by-caller (l .cell) (l .serial)) z v
 
-module _ {F : Type 0} {w : Authority} {l : Lease} where
+module _ {F : Type 0} {w : Authority} {l : Hold} where
   pub drops-valid : {a : Answer} {v : Authority} → Drops F w l a v → valid w → valid v
   drops-valid (drops x) k = step-valid w _ (Release (l .cell) (l .serial)) k x
   drops-valid (barred r f) k = k
@@ -47,7 +47,7 @@ module _ {F : Type 0} {w : Authority} {l : Lease} where
   drops-stays (barred r f) = refl
 
   -- every other lease stays authorized
-  pub drops-keeps : {a : Answer} {v : Authority} → Drops F w l a v → (k : Lease) → (k ≡ l → ⊥) → authorized w k → authorized v k
+  pub drops-keeps : {a : Answer} {v : Authority} → Drops F w l a v → (k : Hold) → (k ≡ l → ⊥) → authorized w k → authorized v k
   drops-keeps (drops {v = v} x) k n p =
       step-keeps w v (Release (l .cell) (l .serial)) k x (λ r. n (same-lease k l (sym (r .0)) (sym (r .1)))) p
   drops-keeps (barred r f) k n p = p
@@ -58,7 +58,7 @@ module _ {F : Type 0} {w : Authority} {l : Lease} where
 
 -- ---- `drop_lease`
 
-module _ (w : Authority) (l : Lease) where
+module _ (w : Authority) (l : Hold) where
   abbrev result : Answer
   result = answers w (drop-lease l)
 

@@ -3,7 +3,7 @@ use Prim.Native.Nat.{ℕ, zero, suc}
 use mathlib.Core.Path.{_≡_, refl}
 use mathlib.Core.List.{List, [], _∷_}
 use native.Mathlib.Omega.{arith}
-use Rattle.model.specs.Arena.{headOf, leaseOf, leasesOf, bitAt, ownerAt, waitersAt, isIn, isFree, isHeld, stateOf, stateAt, isLive, sameLease, headFits, shapeFits, healthFits, registryFits}
+use Rattle.model.specs.Arena.{headOf, holdOf, holdsOf, bitAt, ownerAt, waitersAt, isIn, isFree, isHeld, stateOf, stateAt, isLive, sameHold, headFits, shapeFits, healthFits, registryFits}
 use Rattle.model.specs.Refusals.{first}
 use Rattle.model.specs.Checks.{notLive, notReleasable, badBindings, heldLeaseRules, lockRules, scriptRules, bucketRules, releaseRules, locksRules}
 use Rattle.model.specs.Foreign.{boundaryOf, runStepsOf}
@@ -37,20 +37,20 @@ met-valid zero i = status-valid 3 (cell 1 1) (held refl (omega arith) (omega ari
 met-valid (suc zero) i = status-valid 3 (cell 1 2) (held refl (omega arith) (omega arith))
 met-valid (suc (suc k)) i = absurd (omega arith)
 
-pub met-authorized : leases-authorized two-held (leasesOf both)
-unfolding leasesOf bitAt ownerAt
+pub met-authorized : leases-authorized two-held (holdsOf both)
+unfolding holdsOf bitAt ownerAt
 met-authorized zero i = record { inside = omega arith; locked = refl; mine = (omega arith, refl) }
 met-authorized (suc zero) i = record { inside = omega arith; locked = refl; mine = (omega arith, refl) }
 met-authorized (suc (suc k)) i = absurd (omega arith)
 
 -- `Checked`: calls with and without a script, by cell, by lease, by key, with held lists
-pub met-checked : (first (rules two-held (drop-preserving (0 ∷ 1 ∷ []) (leaseOf 1 2))) ≡ Fine)
+pub met-checked : (first (rules two-held (drop-preserving (0 ∷ 1 ∷ []) (holdOf 1 2))) ≡ Fine)
     × (first (rules two-held (try-lock [] 0 both 1)) ≡ Fine)
     × (first (rules two-held (transactional (0 ∷ []) [] 0 both 0 1)) ≡ Fine)
     × (first (rules two-held (release-all [] 0 both)) ≡ Fine)
     × (first (rules two-held (acquire-locks (0 ∷ []) [] 0 both (0 ∷ 1 ∷ []) (7 ∷ 7 ∷ []))) ≡ Fine)
-unfolding first shapeFits headFits healthFits registryFits leasesOf notLive notReleasable badBindings heldLeaseRules lockRules scriptRules bucketRules releaseRules
-    locksRules isIn isLive sameLease stateAt stateOf isFree isHeld bitAt ownerAt
+unfolding first shapeFits headFits healthFits registryFits holdsOf notLive notReleasable badBindings heldLeaseRules lockRules scriptRules bucketRules releaseRules
+    locksRules isIn isLive sameHold stateAt stateOf isFree isHeld bitAt ownerAt
 met-checked = (refl, refl, refl, refl, refl)
 
 -- a cell with bit 1 and no owner: a lock answers 9
@@ -58,10 +58,10 @@ abbrev one-damaged : Authority
 one-damaged = worldOf (headOf 1 1 1) (1 ∷ 0 ∷ 0 ∷ []) (0 ∷ [])
 
 pub met-damaged : answers one-damaged (try-lock [] 0 [] 0) ≡ Refused (Damaged 0)
-unfolding first shapeFits headFits healthFits leasesOf notLive lockRules scriptRules boundaryOf runStepsOf waitersAt bitAt ownerAt
+unfolding first shapeFits headFits healthFits holdsOf notLive lockRules scriptRules boundaryOf runStepsOf waitersAt bitAt ownerAt
 met-damaged = try-lock-r1 one-damaged [] 0 [] 0 refl refl (λ v. omega (arith, v .owned .1 refl)) .0
 
 -- scripts of one step on that cell: no check of `environment` applies
 pub met-one-step : One-step one-damaged [] 1 0 0 × One-step one-damaged [] 2 0 1 × One-step one-damaged [] 3 0 7
-unfolding first shapeFits headFits healthFits leasesOf notLive scriptRules
+unfolding first shapeFits headFits healthFits holdsOf notLive scriptRules
 met-one-step = (refl, refl, refl)

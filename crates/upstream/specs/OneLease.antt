@@ -6,14 +6,14 @@ use mathlib.Core.Logic.{inl}
 use native.Mathlib.Omega.{arith}
 use borrow.Author.Tests.{not-false}
 use Rattle.model.specs.Log.{by-caller, released}
-use Rattle.model.specs.Arena.{lastSerial, leaseOf}
+use Rattle.model.specs.Arena.{lastSerial, holdOf}
 use Rattle.model.specs.Answers.{kindOf}
 use Rattle.model.specs.Refusals.{first}
 use Rattle.model.specs.Checks.{leaseRules}
 use Rattle.types.specs.declared.Answer.{Answer}
 use Rattle.types.specs.declared.Answer.the-variants.{Done, Cell, Granted, Busy, Refused}
 use Rattle.types.specs.declared.Check.the-variants.{Fine}
-use Rattle.types.specs.declared.Lease.{Lease}
+use Rattle.types.specs.declared.Hold.{Hold}
 use Rattle.types.specs.declared.Reason.the-variants as reason
 use Rattle.types.specs.declared.Refusal.{Refusal}
 use Rattle.types.specs.declared.Refusal.the-variants.{NotHeld, SerialsSpent}
@@ -33,38 +33,38 @@ use Rattle.upstream.specs.DropLease.{Drops, drops, dropped, drops-keeps}
 
 -- ---- release and take again: what it comes to; F says that no check of the call applies
 
-pub data Hands (F : Type 0) (w : Authority) (l : Lease) : Answer → Authority → Type 0 where
+pub data Hands (F : Type 0) (w : Authority) (l : Hold) : Answer → Authority → Type 0 where
   hands : (u : Authority) {a : Answer} {v : Authority} → Gives-up w u (l .cell) (l .serial) → Tries F u (l .cell) a v → Hands F w l a v
   unheld : (r : Refusal) → (F → ⊥) → Hands F w l (Refused r) w
 
-free-now : (w u : Authority) (l : Lease) → Gives-up w u (l .cell) (l .serial) → Valid-cell (next-serial u) (cells u (l .cell)) × (cells u (l .cell) .bit ≡ 0)
+free-now : (w u : Authority) (l : Hold) → Gives-up w u (l .cell) (l .serial) → Valid-cell (next-serial u) (cells u (l .cell)) × (cells u (l .cell) .bit ≡ 0)
 free-now w u l x =
     let e = step-frees w u (l .cell) (l .serial) x in
     (rw e (record { bits = inl refl; owned = (λ p. absurd (omega arith), λ p. absurd (omega arith)); below = λ p. absurd (omega arith) }), bit-of e)
 
-module _ {F : Type 0} {w : Authority} {l : Lease} where
+module _ {F : Type 0} {w : Authority} {l : Hold} where
   pub hands-valid : {a : Answer} {v : Authority} → Hands F w l a v → valid w → valid v
   hands-valid (hands u x t) k = tries-valid t (step-valid w u (Release (l .cell) (l .serial)) k x)
   hands-valid (unheld r f) k = k
 
   -- what is granted has the lease's cell and the next serial, and is authorized
-  pub hands-some : {a : Answer} {v : Authority} → Hands F w l a v → (k : Lease) → a ≡ Granted k → (k ≡ leaseOf (l .cell) (next-serial w)) × authorized v k
+  pub hands-some : {a : Answer} {v : Authority} → Hands F w l a v → (k : Hold) → a ≡ Granted k → (k ≡ holdOf (l .cell) (next-serial w)) × authorized v k
   hands-some (hands u {v = v} x t) k e =
       let s = tries-some t k e in
-      let n : k ≡ leaseOf (l .cell) (next-serial w) = s .0 ∙ ap (leaseOf (l .cell)) (x .stays) in
+      let n : k ≡ holdOf (l .cell) (next-serial w) = s .0 ∙ ap (holdOf (l .cell)) (x .stays) in
       (n, rw (s .0) (step-grants u v (l .cell) (next-serial u) (s .1)))
   hands-some (unheld r f) k e = absurd (omega (arith, ap kindOf e))
 
   -- every other lease stays authorized
-  pub hands-keeps : {a : Answer} {v : Authority} → Hands F w l a v → (k : Lease) → (k ≡ l → ⊥) → authorized w k → authorized v k
+  pub hands-keeps : {a : Answer} {v : Authority} → Hands F w l a v → (k : Hold) → (k ≡ l → ⊥) → authorized w k → authorized v k
   hands-keeps (hands u x t) k n p = let d : Drops F w l Done u = drops x in tries-keeps t k (drops-keeps d k n p)
   hands-keeps (unheld r f) k n p = p
 
   -- it is granted if a serial remains, else 10, and then the cell is free
-  pub hands-granted : {a : Answer} {v : Authority} → Hands F w l a v → F → next-serial w < lastSerial → a ≡ Granted (leaseOf (l .cell) (next-serial w))
+  pub hands-granted : {a : Answer} {v : Authority} → Hands F w l a v → F → next-serial w < lastSerial → a ≡ Granted (holdOf (l .cell) (next-serial w))
   hands-granted (hands u x t) f n =
       let y = free-now w u l x in
-      tries-free t f (y .0) (y .1) (omega (arith, x .stays)) ∙ ap {B = Answer} (λ s. Granted (leaseOf (l .cell) s)) (x .stays)
+      tries-free t f (y .0) (y .1) (omega (arith, x .stays)) ∙ ap {B = Answer} (λ s. Granted (holdOf (l .cell) s)) (x .stays)
   hands-granted (unheld r m) f n = absurd (m f)
 
   pub hands-spent : {a : Answer} {v : Authority} → Hands F w l a v → F → lastSerial ≤ next-serial w → (a ≡ Refused (SerialsSpent (l .cell))) × (cells v (l .cell) ≡ cell 0 0)
@@ -75,7 +75,7 @@ module _ {F : Type 0} {w : Authority} {l : Lease} where
       (e, subst (λ z. cells z (l .cell) ≡ cell 0 0) (sym same) (step-frees w u (l .cell) (l .serial) x))
   hands-spent (unheld r m) f n = absurd (m f)
 
-module _ (w : Authority) (l : Lease) where
+module _ (w : Authority) (l : Hold) where
   -- ---- `read_permission`
 
   pub read-permission-r1 : Fits w → (Valid-cell (next-serial w) (cells w (lease-key l)) → ⊥) → perform w (read-permission l) ≡ unchanged w (read-permission l) (NotHeld 0)
@@ -164,15 +164,15 @@ module _ (w : Authority) (l : Lease) where
 
   -- the sure grant gains "and a serial remains", else SerialsSpent, and "the release stands and the cell is free"
   pub release-then-handoff-e2 : Fits w → valid w → authorized w l
-      → (next-serial w < lastSerial → (result ≡ Granted (leaseOf (lease-key l) (next-serial w))) × authorized final (leaseOf (lease-key l) (next-serial w)))
+      → (next-serial w < lastSerial → (result ≡ Granted (holdOf (lease-key l) (next-serial w))) × authorized final (holdOf (lease-key l) (next-serial w)))
       × (lastSerial ≤ next-serial w → (result ≡ Refused (SerialsSpent (lease-key l))) × (cells final (lease-key l) ≡ cell 0 0))
   release-then-handoff-e2 s v a =
       let f = lease-passes w l s v a in
       (λ n. let e = hands-granted handed f n in (e, hands-some handed _ e .1), hands-spent handed f)
 
-  pub release-then-handoff-e3 : (k : Lease) → result ≡ Granted k → lease-key k ≡ lease-key l
+  pub release-then-handoff-e3 : (k : Hold) → result ≡ Granted k → lease-key k ≡ lease-key l
   release-then-handoff-e3 k e = ap lease-key (hands-some handed k e .0)
 
-  pub release-then-handoff-e4 : valid w → authorized w l → (k : Lease) → result ≡ Granted k → lease-serial l < lease-serial k
+  pub release-then-handoff-e4 : valid w → authorized w l → (k : Hold) → result ≡ Granted k → lease-serial l < lease-serial k
   release-then-handoff-e4 v a k e =
       omega (arith, ap lease-serial (hands-some handed k e .0), lives w l (authorized-live w l v a) .high)

@@ -10,17 +10,17 @@ use borrow.Author.Tests.{not-false}
 use lib.ListN.{length, take}
 use lib.Seq.{append-snoc}
 use Rattle.model.specs.Log.{Event, by-caller, released}
-use Rattle.model.specs.Arena.{leasesOf, isIn, setCell}
+use Rattle.model.specs.Arena.{holdsOf, isIn, setCell}
 use Rattle.model.specs.Refusals.{first}
 use Rattle.model.specs.Checks.{countIn, badShape, badHealth, badScript, tooManyLeases, notHeld, repeated, notReleasable, releaseRules}
 use Rattle.model.specs.Foreign.{boundaryOf}
-use Rattle.model.specs.Lock.{leaseAt, noLease, giveBackOf}
+use Rattle.model.specs.Lock.{holdAt, noHold, giveBackOf}
 use Rattle.model.specs.Calls.{given, starting}
 use Rattle.types.specs.declared.Check.{Check}
 use Rattle.types.specs.declared.Check.the-variants.{Fault}
 use Rattle.types.specs.declared.Flow.{Flow}
 use Rattle.types.specs.declared.Head.{Head}
-use Rattle.types.specs.declared.Lease.{Lease}
+use Rattle.types.specs.declared.Hold.{Hold}
 use Rattle.types.specs.declared.Refusal.{Refusal}
 use Rattle.types.specs.declared.Refusal.the-variants.{NotHeld, Repeated}
 use Rattle.types.specs.declared.Run.{Run}
@@ -48,32 +48,32 @@ abbrev Nobody : Leases
 Nobody l = ⊥
 
 -- the first n of a list are authorized, and no two of them are on one cell: what upstream asks
-pub record Held (w : Authority) (n : ℕ) (ls : List Lease) : Type 0 where
+pub record Held (w : Authority) (n : ℕ) (ls : List Hold) : Type 0 where
   pub enough : n ≤ length ls
-  pub all : (i : ℕ) → i < n → authorized w (leaseAt ls i)
-  pub distinct : (i j : ℕ) → i < j → j < n → lease-key (leaseAt ls i) ≢ lease-key (leaseAt ls j)
+  pub all : (i : ℕ) → i < n → authorized w (holdAt ls i)
+  pub distinct : (i j : ℕ) → i < j → j < n → lease-key (holdAt ls i) ≢ lease-key (holdAt ls j)
 
 -- they go, one after the other, and none of them comes back
-pub record Gone (w v : Authority) (n : ℕ) (ls : List Lease) : Type 0 where
+pub record Gone (w v : Authority) (n : ℕ) (ls : List Hold) : Type 0 where
   pub goes : Goes Nobody w v
-  pub gone : (i : ℕ) → i < n → is-Some (cells v (leaseAt ls i .cell) .owner) (leaseAt ls i .serial) → ⊥
+  pub gone : (i : ℕ) → i < n → is-Some (cells v (holdAt ls i .cell) .owner) (holdAt ls i .serial) → ⊥
 
 -- the place of a lease that is among the first n
-in-take-at : (ls : List Lease) (n : ℕ) (l : Lease) → In (take n ls) l → (i : ℕ) × (i < n) × (l ≡ leaseAt ls i)
+in-take-at : (ls : List Hold) (n : ℕ) (l : Hold) → In (take n ls) l → (i : ℕ) × (i < n) × (l ≡ holdAt ls i)
 unfolding isIn
 in-take-at ls zero l i = absurd (differ i)
 in-take-at [] (suc n) l i = absurd (differ i)
 in-take-at (k ∷ ls) (suc n) l i = go (in-cases k l (take n ls) i) (in-take-at ls n l)
   where
-    go : (k ≡ l) ⊎ In (take n ls) l → (In (take n ls) l → (i : ℕ) × (i < n) × (l ≡ leaseAt ls i)) → (i : ℕ) × (i < suc n) × (l ≡ leaseAt (k ∷ ls) i)
+    go : (k ≡ l) ⊎ In (take n ls) l → (In (take n ls) l → (i : ℕ) × (i < n) × (l ≡ holdAt ls i)) → (i : ℕ) × (i < suc n) × (l ≡ holdAt (k ∷ ls) i)
     go (inl e) r = (0, omega arith, sym e)
     go (inr j) r = let x = r j in (suc (x .0), omega (arith, x .1), x .2)
 
 module _ (h : Head) (script : List ℕ) where
   -- one release and the boundary after it; `on` is what comes of the others
-  round : (n : ℕ) (ls : List Lease) (r : Run) (t g : List ℕ) → Sized (worldAt h (r .flow .next) t g) → valid (worldAt h (r .flow .next) t g)
+  round : (n : ℕ) (ls : List Hold) (r : Run) (t g : List ℕ) → Sized (worldAt h (r .flow .next) t g) → valid (worldAt h (r .flow .next) t g)
       → Held (worldAt h (r .flow .next) t g) (suc n) ls
-      → let m = boundaryOf (given h script (take n ls)) (r .flow) (setCell t (leaseAt ls n .cell) 0 0) g .seen in
+      → let m = boundaryOf (given h script (take n ls)) (r .flow) (setCell t (holdAt ls n .cell) 0 0) g .seen in
       (end : Authority) → (Sized (of-flow h m) → valid (of-flow h m) → Held (of-flow h m) n ls → Gone (of-flow h m) end n ls)
       → Gone (worldAt h (r .flow .next) t g) end (suc n) ls
   round n ls r t g z v k end on =
@@ -82,8 +82,8 @@ module _ (h : Head) (script : List ℕ) where
       w : Authority
       w = worldAt h (r .flow .next) t g
 
-      l : Lease
-      l = leaseAt ls n
+      l : Hold
+      l = holdAt ls n
 
       event : Event
       event = released by-caller (l .cell) (l .serial)
@@ -98,8 +98,8 @@ module _ (h : Head) (script : List ℕ) where
       one = moved w u (Release (l .cell) (l .serial)) a (λ _ x. absurd x) (sized-now w (event ∷ []) z)
 
       -- the leases that are still to be released
-      left : (i : ℕ) → i < n → authorized u (leaseAt ls i)
-      left i p = step-keeps w u (Release (l .cell) (l .serial)) (leaseAt ls i) a (λ x. k .distinct i n p (omega arith) (sym (x .0))) (k .all i (omega arith))
+      left : (i : ℕ) → i < n → authorized u (holdAt ls i)
+      left i p = step-keeps w u (Release (l .cell) (l .serial)) (holdAt ls i) a (λ x. k .distinct i n p (omega arith) (sym (x .0))) (k .all i (omega arith))
 
       ready-u : Ready (In (take n ls)) u
       ready-u =
@@ -121,18 +121,18 @@ module _ (h : Head) (script : List ℕ) where
           on (b .sized) (r′ .valid-now)
           (record {
             enough = omega (arith, k .enough);
-            all = λ i p. r′ .safe (leaseAt ls i) (in-take ls n i noLease p (omega (arith, k .enough)));
+            all = λ i p. r′ .safe (holdAt ls i) (in-take ls n i noHold p (omega (arith, k .enough)));
             distinct = λ i j p q. k .distinct i j p (omega arith);
           })
 
-      away : (i : ℕ) → i < suc n → Dec (i ≡ n) → is-Some (cells end (leaseAt ls i .cell) .owner) (leaseAt ls i .serial) → ⊥
+      away : (i : ℕ) → i < suc n → Dec (i ≡ n) → is-Some (cells end (holdAt ls i .cell) .owner) (holdAt ls i .serial) → ⊥
       away i p (yes e) x =
           let s = k .all n (omega arith) in
           trace-buries (then (fewer (λ l x. absurd x) b) (rest .goes) .trace) .never (l .cell) (l .serial) (s .inside) (lives w l (authorized-live w l v s) .high)
           (λ y. omega (arith, y .0, y .1, owner-of (step-frees w u (l .cell) (l .serial) a))) (rw e at x)
       away i p (no e) x = rest .gone i (omega arith) x
 
-  pub give-back-goes : (n : ℕ) (ls : List Lease) (r : Run) (t g : List ℕ) → Sized (worldAt h (r .flow .next) t g) → valid (worldAt h (r .flow .next) t g)
+  pub give-back-goes : (n : ℕ) (ls : List Hold) (r : Run) (t g : List ℕ) → Sized (worldAt h (r .flow .next) t g) → valid (worldAt h (r .flow .next) t g)
       → Held (worldAt h (r .flow .next) t g) n ls → Gone (worldAt h (r .flow .next) t g) (of-run h (giveBackOf n (given h script []) ls r t g .seen)) n ls
   unfolding giveBackOf
   give-back-goes zero ls r t g z v k = record { goes = stays z; gone = λ i l. absurd (omega arith) }
@@ -140,8 +140,8 @@ module _ (h : Head) (script : List ℕ) where
 
 -- ---- the checks: 12 and 14 by position
 
-not-releasable-dead : (w : Authority) (n : ℕ) (earlier ls : List Lease) (i : ℕ) → i < length ls
-    → Clear (notReleasable (w .head) (w .table) n earlier (take i ls)) → (Live w (leaseAt ls i) → ⊥)
+not-releasable-dead : (w : Authority) (n : ℕ) (earlier ls : List Hold) (i : ℕ) → i < length ls
+    → Clear (notReleasable (w .head) (w .table) n earlier (take i ls)) → (Live w (holdAt ls i) → ⊥)
     → first (notReleasable (w .head) (w .table) n earlier ls) ≡ Fault (NotHeld (n + i))
 unfolding notReleasable
 not-releasable-dead w n earlier [] i l c d = absurd (omega arith)
@@ -151,9 +151,9 @@ not-releasable-dead w n earlier (k ∷ ls) (suc i) l c d =
     first-skip (notHeld (w .head) (w .table) n k) _ (c .0) ∙ first-skip (repeated n earlier k) _ (c .1 .0)
     ∙ not-releasable-dead w (n + 1) (earlier ++ (k ∷ [])) ls i (omega arith) (c .1 .1) d ∙ rw e
 
-not-releasable-again : (w : Authority) (n : ℕ) (earlier ls : List Lease) (i : ℕ) → i < length ls
-    → Clear (notReleasable (w .head) (w .table) n earlier (take i ls)) → Live w (leaseAt ls i)
-    → isIn (leaseAt ls i) (earlier ++ take i ls) ≡ true → first (notReleasable (w .head) (w .table) n earlier ls) ≡ Fault (Repeated (n + i))
+not-releasable-again : (w : Authority) (n : ℕ) (earlier ls : List Hold) (i : ℕ) → i < length ls
+    → Clear (notReleasable (w .head) (w .table) n earlier (take i ls)) → Live w (holdAt ls i)
+    → isIn (holdAt ls i) (earlier ++ take i ls) ≡ true → first (notReleasable (w .head) (w .table) n earlier ls) ≡ Fault (Repeated (n + i))
 unfolding notReleasable
 not-releasable-again w n earlier [] i l c v d = absurd (omega arith)
 not-releasable-again w n earlier (k ∷ ls) zero l c v d =
@@ -173,8 +173,8 @@ module _ (w : Authority) (script : List ℕ) (place : ℕ) (leases : List ℕ) w
   abbrev final : Authority
   final = leaves w (release-all script place leases)
 
-  abbrev ls : List Lease
-  ls = leasesOf leases
+  abbrev ls : List Hold
+  ls = holdsOf leases
 
   -- the checks before those on the leases
   abbrev Before : Type 0
@@ -194,7 +194,7 @@ module _ (w : Authority) (script : List ℕ) (place : ℕ) (leases : List ℕ) w
 
   -- what upstream asks of the leases
   abbrev Asked : Type 0
-  Asked = leases-authorized w ls × ((i j : ℕ) → i < j → j < length ls → lease-key (leaseAt ls i) ≢ lease-key (leaseAt ls j))
+  Asked = leases-authorized w ls × ((i j : ℕ) → i < j → j < length ls → lease-key (holdAt ls i) ≢ lease-key (holdAt ls j))
 
   gone-all : Sized w → valid w → Asked
       → Gone w (of-run (w .head) (giveBackOf (countIn leases) (given (w .head) script []) ls (starting (w .head) place) (w .table) (w .health) .seen)) (countIn leases) ls
@@ -208,22 +208,22 @@ module _ (w : Authority) (script : List ℕ) (place : ℕ) (leases : List ℕ) w
       by-checks (λ m. Trace Nobody w (m .seen .0)) w (release-all script place leases) (λ r e. ended w) (λ e k. gone-all (fits-sized w (not-false _ (k .0))) v a .goes .trace)
 
   -- valid(old(authority)): 12 with the position, where a lease's cell is damaged
-  pub release-all-r1 : (i : ℕ) → i < length ls → Before → Up-to i → (Valid-cell (next-serial w) (cells w (leaseAt ls i .cell)) → ⊥)
+  pub release-all-r1 : (i : ℕ) → i < length ls → Before → Up-to i → (Valid-cell (next-serial w) (cells w (holdAt ls i .cell)) → ⊥)
       → perform w (release-all script place leases) ≡ unchanged w (release-all script place leases) (NotHeld i)
-  release-all-r1 i l b u n = behind (NotHeld i) b (not-releasable-dead w 0 [] ls i l u (on-damaged w (leaseAt ls i) n) ∙ ap {B = Check} (λ n. Fault (NotHeld n)) (plus-zero i))
+  release-all-r1 i l b u n = behind (NotHeld i) b (not-releasable-dead w 0 [] ls i l u (on-damaged w (holdAt ls i) n) ∙ ap {B = Check} (λ n. Fault (NotHeld n)) (plus-zero i))
 
   -- authorized(old(authority), &leases[i]): 12 with the position
-  pub release-all-r2 : (i : ℕ) → i < length ls → Before → Up-to i → (authorized w (leaseAt ls i) → ⊥)
+  pub release-all-r2 : (i : ℕ) → i < length ls → Before → Up-to i → (authorized w (holdAt ls i) → ⊥)
       → perform w (release-all script place leases) ≡ unchanged w (release-all script place leases) (NotHeld i)
-  release-all-r2 i l b u n = behind (NotHeld i) b (not-releasable-dead w 0 [] ls i l u (unauthorized w (leaseAt ls i) n) ∙ ap {B = Check} (λ n. Fault (NotHeld n)) (plus-zero i))
+  release-all-r2 i l b u n = behind (NotHeld i) b (not-releasable-dead w 0 [] ls i l u (unauthorized w (holdAt ls i) n) ∙ ap {B = Check} (λ n. Fault (NotHeld n)) (plus-zero i))
 
   -- lease_key(&leases[i]) != lease_key(&leases[j]): 14 with the later position; two authorized leases on one cell have one serial
-  pub release-all-r3 : (i j : ℕ) → i < j → j < length ls → Before → Up-to j → valid w → authorized w (leaseAt ls i) → authorized w (leaseAt ls j)
-      → lease-key (leaseAt ls i) ≡ lease-key (leaseAt ls j) → perform w (release-all script place leases) ≡ unchanged w (release-all script place leases) (Repeated j)
+  pub release-all-r3 : (i j : ℕ) → i < j → j < length ls → Before → Up-to j → valid w → authorized w (holdAt ls i) → authorized w (holdAt ls j)
+      → lease-key (holdAt ls i) ≡ lease-key (holdAt ls j) → perform w (release-all script place leases) ≡ unchanged w (release-all script place leases) (Repeated j)
   release-all-r3 i j p q b u v x y e =
-      let same : leaseAt ls i ≡ leaseAt ls j = same-lease (leaseAt ls i) (leaseAt ls j) e (sym (x .mine .1) ∙ ap (λ (k : Key). cells w k .owner) e ∙ y .mine .1) in
+      let same : holdAt ls i ≡ holdAt ls j = same-lease (holdAt ls i) (holdAt ls j) e (sym (x .mine .1) ∙ ap (λ (k : Key). cells w k .owner) e ∙ y .mine .1) in
       behind (Repeated j) b
-      (not-releasable-again w 0 [] ls j q u (authorized-live w (leaseAt ls j) v y) (subst (In (take j ls)) same (in-take ls j i noLease p (omega arith)))
+      (not-releasable-again w 0 [] ls j q u (authorized-live w (holdAt ls j) v y) (subst (In (take j ls)) same (in-take ls j i noHold p (omega arith)))
       ∙ ap {B = Check} (λ n. Fault (Repeated n)) (plus-zero j))
 
   pub release-all-e1 : valid w → Asked → valid final
@@ -233,9 +233,9 @@ module _ (w : Authority) (script : List ℕ) (place : ℕ) (leases : List ℕ) w
   release-all-e2 v a = trace-buries (went v a) .same-keys
 
   pub release-all-e3 : Scripted w script place → tooManyLeases leases .applies ≡ false → valid w → Asked
-      → (i : ℕ) → i < length ls → authorized final (leaseAt ls i) → ⊥
+      → (i : ℕ) → i < length ls → authorized final (holdAt ls i) → ⊥
   unfolding releaseRules
   release-all-e3 s m v a =
-      by-checks (λ m. (i : ℕ) → i < length ls → authorized (m .seen .0) (leaseAt ls i) → ⊥) w (release-all script place leases)
+      by-checks (λ m. (i : ℕ) → i < length ls → authorized (m .seen .0) (holdAt ls i) → ⊥) w (release-all script place leases)
       (λ r e. absurd (fine-fault (release-passes w script place leases s m v (a .0) (a .1)) e))
       (λ e k i l x. gone-all (fits-sized w (not-false _ (k .0))) v a .gone i (omega (arith, leases-few leases)) (x .mine))

@@ -13,13 +13,13 @@ use lib.ListN.{getD, replicate, set}
 use lib.Seq.{getD-set-other}
 use borrow.Author.Tests.{ltb-true}
 use Rattle.choice.specs.Pick.{both}
-use Rattle.model.specs.Arena.{headOf, leaseOf, bitAt, ownerAt, setCell, isFree, isHeld, stateOf, stateAt, isLive, headFits, shapeFits, healthFits}
+use Rattle.model.specs.Arena.{headOf, holdOf, bitAt, ownerAt, setCell, isFree, isHeld, stateOf, stateAt, isLive, headFits, shapeFits, healthFits}
 use Rattle.model.specs.Refusals.{first}
 use Rattle.model.specs.Lock.{takeOf}
 use Rattle.model.specs.Checks.{prepareRules, cellRules, leaseRules}
 use Rattle.model.specs.Calls.{prepareOf, acquireOf, tryAcquireOf, dropLeaseOf}
 use Rattle.types.specs.declared.Answer.the-variants as answer
-use Rattle.types.specs.declared.Lease.{Lease}
+use Rattle.types.specs.declared.Hold.{Hold}
 use Rattle.setpoint.specs.Codec.{isFinite, bytesOf, bodyOf, joinOf, settingOf}
 use Rattle.setpoint.specs.declared.Setpoint.{Setpoint}
 use Rattle.setpoint.specs.declared.Setpoint.the-variants.{Pressure, Speed, Valve}
@@ -50,11 +50,11 @@ old = replicate 26 9
 abbrev fresh : Shift
 fresh = run-shift (shiftOf (cold rubbish) old []) (boot ∷ [])
 
-abbrev one-lease : Lease
-one-lease = leaseOf 1 1
+abbrev one-lease : Hold
+one-lease = holdOf 1 1
 
-abbrev other-lease : Lease
-other-lease = leaseOf 1 2
+abbrev other-lease : Hold
+other-lease = holdOf 1 2
 
 -- 1.5 bar
 abbrev bar : Setpoint
@@ -153,7 +153,7 @@ pub sound-day : (reading the-day 1 ≢ Refused DamagedBook) × (writing the-day 
 sound-day =
     let d = subst (λ (v : Shift).
     ((slot : ℕ) → reading v slot ≢ Refused DamagedBook)
-    × ((slot : ℕ) (l : Lease) (p : Setpoint) → writing v slot l p .0 ≢ Refused DamagedBook)) day-is (never-damaged fresh day book-done same values) in
+    × ((slot : ℕ) (l : Hold) (p : Setpoint) → writing v slot l p .0 ≢ Refused DamagedBook)) day-is (never-damaged fresh day book-done same values) in
     (d .0 1, d .1 1 other-lease bar)
 
 -- ---- `forgets-older-bytes`: the same day over another book
@@ -178,14 +178,14 @@ pub second-done : writing (run-shift first-write (write-setpoint 1 one-lease bar
 unfolding run-shift next-shift next-item preparing perform prepareOf prepareRules first headFits shapeFits healthFits tryAcquireOf acquireOf dropLeaseOf cellRules leaseRules takeOf setCell bitAt ownerAt isFree isHeld stateOf stateAt isLive prepareBookOf bookRules firstFault isBadBook isBadSlot isHolder writeSetpointOf claimRules overRules readSetpointOf slotRules seenRules isFinite readOf readingOf slotAt lineAt fiveAt joinOf settingOf isBlank putOf lineOf bodyOf bytesOf ofBits toBits
 second-done = refl
 
-pub holder : (one-lease .cell ≡ 1) × ((l : Lease) → writing first-write 1 l bar .0 ≡ Written 1 → l ≡ one-lease)
+pub holder : (one-lease .cell ≡ 1) × ((l : Hold) → writing first-write 1 l bar .0 ≡ Written 1 → l ≡ one-lease)
 holder = (
   written-by-holder (first-write .course .world) (first-write .book) 1 one-lease bar 1 first-done .1,
   λ l e. one-writer (first-write .course .world) (first-write .book) (first-write .book) 1 l one-lease bar bar 1 1 e first-done,
 )
 
 differ-leases : one-lease ≢ other-lease
-differ-leases e = let z : _≡_ {A = ℕ} 1 2 = ap (λ (l : Lease). l .serial) e in omega arith
+differ-leases e = let z : _≡_ {A = ℕ} 1 2 = ap (λ (l : Hold). l .serial) e in omega arith
 
 pub given-back-between : Released-between (first-write .course) (run-shift first-write (write-setpoint 1 one-lease bar ∷ change) .course) one-lease
 given-back-between =

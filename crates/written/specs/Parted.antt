@@ -8,7 +8,7 @@ use Rattle.model.specs.Arena.{ownerAt}
 use Rattle.model.specs.Log.{Actor, Event, released}
 use Rattle.types.specs.declared.Answer.{Answer}
 use Rattle.types.specs.declared.Answer.the-variants as answer
-use Rattle.types.specs.declared.Lease.{Lease}
+use Rattle.types.specs.declared.Hold.{Hold}
 use Rattle.types.specs.declared.SalvageAnswer.{SalvageAnswer}
 use Rattle.types.specs.declared.SalvageAnswer.the-variants as salvaged
 use Rattle.slots.specs.Calls.{writeSetpointOf}
@@ -35,7 +35,7 @@ written-by-holder w b slot l p v e = go (writing-is (w .head) (w .table) b slot 
     go (not-written r f) x = let z : _≡_ {A = ℕ} 0 1 = cc in absurd (omega arith)
 
 -- two live leases on one cell are one
-one-holder : (w : World) (l k : Lease) → Live w l → Live w k → l .cell ≡ k .cell → l ≡ k
+one-holder : (w : World) (l k : Hold) → Live w l → Live w k → l .cell ≡ k .cell → l ≡ k
 one-holder w l k x y e =
     let a = lives w l x in
     let b = lives w k y in
@@ -49,10 +49,10 @@ one-writer w b c slot l k p q u v x y =
 
 -- ---- a log releases a lease, or it does not
 
-abbrev Release : Lease → List Event → Type 0
+abbrev Release : Hold → List Event → Type 0
 Release l es = (a : Actor) × (front back : List Event) × (es ≡ front ++ (released a (l .cell) (l .serial) ∷ back))
 
-released-or-not : (l : Lease) (es : List Event) → Unreleased l es ⊎ Release l es
+released-or-not : (l : Hold) (es : List Event) → Unreleased l es ⊎ Release l es
 released-or-not l [] = inl tt
 released-or-not l (e ∷ es) = go (looked l e) (released-or-not l es)
   where
@@ -126,7 +126,7 @@ runs-stretch s (i ∷ is) k = runs-stretch (next-shift s i) is (item-stretch s i
 -- ---- two writers
 
 -- a lease that is live at one point of a stretch and not released since is live at a later one
-still-live : (k d : Course) (l : Lease) → Stretch k → Stretch d → (m : Longer k d) → Live (k .world) l → Unreleased l (m .more) → Live (d .world) l
+still-live : (k d : Course) (l : Hold) → Stretch k → Stretch d → (m : Longer k d) → Live (k .world) l → Unreleased l (m .more) → Live (d .world) l
 still-live k d l x y m v u =
     let g = ledger d y in
     let before = history-of k in

@@ -9,7 +9,7 @@ use lib.ListN.{length, getD}
 use Rattle.model.specs.Arena.{headFits}
 use Rattle.model.specs.Log.{Actor, Event, released}
 use Rattle.types.specs.declared.Head.{Head}
-use Rattle.types.specs.declared.Lease.{Lease}
+use Rattle.types.specs.declared.Hold.{Hold}
 use Rattle.setpoint.specs.Codec.{hasBody}
 use Rattle.setpoint.specs.RoundTrip.{Held}
 use Rattle.setpoint.specs.declared.Setpoint.{Setpoint}
@@ -28,7 +28,7 @@ use Rattle.written.specs.Items.{BookItem, arena-item, prepare-book, writ
 -- what answers a write, and what answers a read; `writeSetpointOf` and `readSetpointOf` are ours. A statement about one call is one of any such
 -- function, so that a wrong one can be seen to fail it
 abbrev pub Writer : Type 0
-Writer = Head → (table book : List ℕ) → ℕ → Lease → Setpoint → BookAnswer × List ℕ
+Writer = Head → (table book : List ℕ) → ℕ → Hold → Setpoint → BookAnswer × List ℕ
 
 abbrev pub Reader : Type 0
 Reader = Head → (book : List ℕ) → ℕ → BookAnswer
@@ -69,20 +69,20 @@ abbrev pub Never-damaged : Type 0
 Never-damaged =
     From-prepared (λ v.
     ((slot : ℕ) → reading v slot ≢ Refused DamagedBook)
-    × ((slot : ℕ) (l : Lease) (p : Setpoint) → writing v slot l p .0 ≢ Refused DamagedBook))
+    × ((slot : ℕ) (l : Hold) (p : Setpoint) → writing v slot l p .0 ≢ Refused DamagedBook))
 
 -- ---- "Writing needs a live lease on the slot's cell"
 
 -- a write that is done named a lease that is live there, on the slot's own cell
 abbrev pub Written-by-holder : Writer → Type 0
 Written-by-holder f =
-    (w : World) (b : List ℕ) (slot : ℕ) (l : Lease) (p : Setpoint) (v : ℕ) → f (w .head) (w .table) b slot l p .0 ≡ Written v
+    (w : World) (b : List ℕ) (slot : ℕ) (l : Hold) (p : Setpoint) (v : ℕ) → f (w .head) (w .table) b slot l p .0 ≡ Written v
     → Live w l × (l .cell ≡ slot)
 
 -- in any world two leases with which a write on one slot is done are the same lease
 abbrev pub One-writer : Writer → Type 0
 One-writer f =
-    (w : World) (b c : List ℕ) (slot : ℕ) (l k : Lease) (p q : Setpoint) (u v : ℕ)
+    (w : World) (b c : List ℕ) (slot : ℕ) (l k : Hold) (p q : Setpoint) (u v : ℕ)
     → f (w .head) (w .table) b slot l p .0 ≡ Written u → f (w .head) (w .table) c slot k q .0 ≡ Written v → l ≡ k
 
 -- the item begins no new stretch: it is no start of the arena's history, a done preparation or a done salvage
@@ -97,7 +97,7 @@ One-stretch s [] = Unit {0}
 One-stretch s (i ∷ is) = Goes-on s i × One-stretch (next-shift s i) is
 
 -- the history of the second is that of the first and some events more, and a release of the lease, naming its cell and serial, is among these
-abbrev pub Released-between : Course → Course → Lease → Type 0
+abbrev pub Released-between : Course → Course → Hold → Type 0
 Released-between k d l =
     (a : Actor) × (front back : List Event) × (history-of d ≡ history-of k ++ (front ++ (released a (l .cell) (l .serial) ∷ back)))
 
@@ -105,7 +105,7 @@ Released-between k d l =
 -- leases, the first lease was released between them
 abbrev pub Writers-parted : Type 0
 Writers-parted =
-    (rubbish : World) (book : List ℕ) (start : Item) (before between : List BookItem) (slot : ℕ) (l k : Lease) (p q : Setpoint) (u v : ℕ)
+    (rubbish : World) (book : List ℕ) (start : Item) (before between : List BookItem) (slot : ℕ) (l k : Hold) (p q : Setpoint) (u v : ℕ)
     → Begins rubbish start
     → let one = run-shift (shiftOf (cold rubbish) book []) (arena-item start ∷ before) in
     let two = run-shift one (write-setpoint slot l p ∷ between) in

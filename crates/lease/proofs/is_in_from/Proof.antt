@@ -3,13 +3,13 @@ use Prim.Native.Nat.{_*_, _-_, _/_}
 use mathlib.Core.Path.{_≡_, refl}
 use lib.ListN.{length, drop}
 use borrow.Author.Needs.{needs}
-use Rattle.model.specs.Arena.{leasesOf, isIn}
+use Rattle.model.specs.Arena.{holdsOf, isIn}
 use Rattle.laws.specs.Checks.{is-in-at, is-in-end}
 use Rattle.lease.proofs.is_in_from.Statement.{statement}
 use Rattle.lease.proofs.is_in_from.Tie as tie
 
 abbrev Inv-loop : tie.InvT-loop
-Inv-loop list from lease i₀ i = isIn lease (leasesOf (drop (2 * i) list)) ≡ isIn lease (leasesOf (drop (2 * from) list))
+Inv-loop list from lease i₀ i = isIn lease (holdsOf (drop (2 * i) list)) ≡ isIn lease (holdsOf (drop (2 * from) list))
 
 abbrev μ-loop : tie.MeasureT-loop
 μ-loop list from lease i₀ i = length list / 2 - i

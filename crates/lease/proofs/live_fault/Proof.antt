@@ -3,7 +3,7 @@ use Prim.Native.Nat.{_≤_, _*_, _-_, _/_}
 use mathlib.Core.Path.{_≡_, refl}
 use lib.ListN.{length, drop}
 use borrow.Author.Needs.{needs}
-use Rattle.model.specs.Arena.{leasesOf}
+use Rattle.model.specs.Arena.{holdsOf}
 use Rattle.model.specs.Checks.{notLive}
 use Rattle.model.specs.Refusals.{first}
 use Rattle.laws.specs.Checks.{not-live-at, not-live-end}
@@ -11,7 +11,7 @@ use Rattle.lease.proofs.live_fault.Statement.{statement}
 use Rattle.lease.proofs.live_fault.Tie as tie
 
 abbrev Inv-loop : tie.InvT-loop
-Inv-loop head table held i₀ i = (i ≤ length held / 2) × (first (notLive head table i (leasesOf (drop (2 * i) held))) ≡ first (notLive head table 0 (leasesOf held)))
+Inv-loop head table held i₀ i = (i ≤ length held / 2) × (first (notLive head table i (holdsOf (drop (2 * i) held))) ≡ first (notLive head table 0 (holdsOf held)))
 
 abbrev μ-loop : tie.MeasureT-loop
 μ-loop head table held i₀ i = length held / 2 - i

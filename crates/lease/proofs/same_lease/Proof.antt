@@ -1,15 +1,15 @@
 -- `lease::same_lease` meets its contract.
 use borrow.Author.Tests.{eq-eqb, ne-eqb}
-use Rattle.model.specs.Arena.{sameLease}
+use Rattle.model.specs.Arena.{sameHold}
 use Rattle.lease.proofs.same_lease.Statement.{statement}
 use Rattle.lease.proofs.same_lease.Tie as tie
 
 returns : tie.Need-returns
-unfolding sameLease
+unfolding sameHold
 returns c = rw (eq-eqb _ _ (c .before .if1 .taken))
 
 returns-2 : tie.Need-returns-2
-unfolding sameLease
+unfolding sameHold
 returns-2 c = rw (ne-eqb _ _ (c .if1 .left))
 
 pub same-lease-spec : {M : Type 1} → statement M

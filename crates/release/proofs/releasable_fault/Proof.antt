@@ -6,7 +6,7 @@ use native.Mathlib.Omega.{arith}
 use lib.ListN.{length, take, drop}
 use lib.Seq.{length-take-le}
 use borrow.Author.Needs.{needs}
-use Rattle.model.specs.Arena.{leasesOf}
+use Rattle.model.specs.Arena.{holdsOf}
 use Rattle.model.specs.Checks.{notReleasable}
 use Rattle.model.specs.Refusals.{first}
 use Rattle.release.proofs.releasable_fault.Statement.{statement}
@@ -16,13 +16,13 @@ use Rattle.release.proofs.releasable_fault.Tie as tie
 abbrev Inv-loop : tie.InvT-loop
 Inv-loop head table leases i₀ i =
     (i ≤ length leases / 2)
-    × (first (notReleasable head table i (leasesOf (take (2 * i) leases)) (leasesOf (drop (2 * i) leases))) ≡ first (notReleasable head table 0 [] (leasesOf leases)))
+    × (first (notReleasable head table i (holdsOf (take (2 * i) leases)) (holdsOf (drop (2 * i) leases))) ≡ first (notReleasable head table 0 [] (holdsOf leases)))
 
 abbrev μ-loop : tie.MeasureT-loop
 μ-loop head table leases i₀ i = length leases / 2 - i
 
 loop-holds : tie.Need-loop-holds Inv-loop μ-loop
-unfolding leasesOf
+unfolding holdsOf
 loop-holds c = (search needs, refl)
 
 mul-e : tie.Need-mul-e Inv-loop μ-loop

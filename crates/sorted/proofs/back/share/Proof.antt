@@ -6,13 +6,13 @@ use lib.Seq.{take-length, take-all}
 use lib.ListN.{length, take, length-set}
 use borrow.Author.Needs.{needs}
 use Rattle.model.specs.Sorted.{sharedOf}
-use Rattle.model.specs.Arena.{leasesOf, wordsOf}
+use Rattle.model.specs.Arena.{holdsOf, wordsOf}
 use Rattle.sorted.specs.Back.{shared-push}
 use Rattle.sorted.proofs.back.share.Statement.{statement}
 use Rattle.sorted.proofs.back.share.Tie as tie
 
 abbrev Inv-loop : tie.InvT-loop
-Inv-loop asked leases grants₀ i₀ grants i = (i ≤ length asked) × ((length grants ≡ length grants₀) × (take (2 * i) grants ≡ wordsOf (sharedOf (leasesOf leases) (take i asked))))
+Inv-loop asked leases grants₀ i₀ grants i = (i ≤ length asked) × ((length grants ≡ length grants₀) × (take (2 * i) grants ≡ wordsOf (sharedOf (holdsOf leases) (take i asked))))
 
 abbrev μ-loop : tie.MeasureT-loop
 μ-loop asked leases grants₀ i₀ grants i = length asked - i
@@ -62,7 +62,7 @@ loop-again c =
     let l = c .before .before .before .loop in
     let a = c .before .before .before .before .before .before .before .args in
     let b : 2 * l .i + 1 < length (l .grants) = omega (arith, c .before .before .loop-test .taken, l .inv .1 .0, c .before .before .before .before .before .before .before .pre) in
-    (search needs, (simp length-set (l .inv .1 .0), rw (c .lease-on .ensures) (shared-push (leasesOf (a .leases .now)) (a .asked .now) (l .grants) (l .i) (c .before .before .loop-test .taken) b (l .inv .1 .1))))
+    (search needs, (simp length-set (l .inv .1 .0), rw (c .lease-on .ensures) (shared-push (holdsOf (a .leases .now)) (a .asked .now) (l .grants) (l .i) (c .before .before .loop-test .taken) b (l .inv .1 .1))))
 
 same-length : tie.Need-same-length Inv-loop μ-loop
 same-length c = search needs
