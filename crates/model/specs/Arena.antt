@@ -73,7 +73,7 @@ stateAt next t c = stateOf next (bitAt t c) (ownerAt t c)
 abbrev pub leaseOf : ℕ → ℕ → ℕ → Lease
 leaseOf c s b = record { cell = c; serial = s; boot = b }
 
--- "A lease with another boot number": the head's preparation was given a different one
+-- "A lease with another boot number" than the head's
 abbrev pub isStale : Head → Lease → Bool
 isStale h l = not (eqb (l .boot) (h .boot))
 

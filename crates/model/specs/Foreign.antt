@@ -59,7 +59,8 @@ stepTakeOf cells next t c =
       gives (stepped (next + 1) 0, setCell t c 1 next))
     else drops next t
 
--- "2 release (cell, serial): legal if that lease is live and not protected."
+-- "2 release (cell, serial): legal if that lease is live and not protected." Document 02, L8: "Script steps mean the head's own boot number.": a step
+-- has no word for another
 unfoldable pub stepReleaseOf : ℕ → List Hold → ℕ → List ℕ → ℕ → ℕ → Made (Stepped × List ℕ)
 stepReleaseOf cells protected next t c s =
     if isLive next cells t (holdOf c s) && not (isIn (holdOf c s) protected) then (do

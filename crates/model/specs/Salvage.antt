@@ -87,6 +87,7 @@ overOf words run = words ++ drop (length words) run
 abbrev pub Salvage : Type 0
 Salvage = SalvageReply × (List ℕ × (List ℕ × (List ℕ × List ℕ)))
 
+-- the head as it was given. Document 02, L8: "Salvage keeps the boot number of the head it was given."
 abbrev pub concluded : Head → SalvageAnswer → SalvageReply
 concluded h a = record { head = h; answer = a }
 
