@@ -105,9 +105,9 @@ module _ (s : Scope) (h : Head) (script held : List ℕ) (taken : List (List ℕ
 unfoldable pub onceByKeyOf : Head → List ℕ → List ℕ → List ℕ → List ℕ → ℕ → List ℕ → ℕ → ℕ → Played × (List ℕ × List ℕ)
 onceByKeyOf h t g registry script place held binding bucket =
     let o = attemptOf (given h script (holdsOf held)) (h .buckets) registry binding bucket (starting h place) t g .seen in
-    (played h (o .0 .run) (answerOf (o .0 .outcome)), o .1)
+    (played h (o .0 .run) (answerOf (h .boot) (o .0 .outcome)), o .1)
 
 unfoldable pub retryByKeyOf : Head → List ℕ → List ℕ → List ℕ → List ℕ → ℕ → List ℕ → ℕ → ℕ → Played × (List ℕ × List ℕ)
 retryByKeyOf h t g registry script place held binding bucket =
     let o = retryOf 4096 0 noneYet (given h script (holdsOf held)) (h .buckets) registry binding bucket (starting h place) t g .seen in
-    (played h (o .0 .run) (answerOf (settled (o .0 .outcome))), o .1)
+    (played h (o .0 .run) (answerOf (h .boot) (settled (o .0 .outcome))), o .1)

@@ -33,7 +33,7 @@ pub record Room (headers cells words bytes n steps script : ℕ) : Type 0 where
 
 -- the scope of a call, by its head and the length of its script
 abbrev pub scopeOf : Head → ℕ → Scope
-scopeOf h script = record { headers = h .headers; buckets = h .buckets; cells = cellsOf h; steps = script / 3 }
+scopeOf h script = record { headers = h .headers; buckets = h .buckets; boot = h .boot; cells = cellsOf h; steps = script / 3 }
 
 -- with a script and protected leases it is a setting
 abbrev pub inScope : Scope → List ℕ → List Hold → Setting

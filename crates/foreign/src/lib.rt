@@ -28,11 +28,12 @@ ghost use Rattle.foreign.specs.Laws.{FlowBound};
 ghost use Rattle.foreign.specs.Marks.{Marked};
 ghost use Rattle.foreign.specs.Fine.{ScriptFine};
 
-// What the steps of a call are given and never change: the arena's sizes, its number of cells, and the number of steps
-// of the script.
+// What the steps of a call are given and never change: the arena's sizes, its boot number, its number of cells, and the
+// number of steps of the script.
 pub struct Scope {
     pub headers: u32,
     pub buckets: u32,
+    pub boot: u32,
     pub cells: u32,
     pub steps: usize,
 }
@@ -40,12 +41,13 @@ pub struct Scope {
 impl Scope {
     // The head whose next serial is this one.
     pub fn head(self, next: u32) -> Head
-        ensures { λ r. ⌜ r ≡ headOf (self .headers) (self .buckets) next ⌝ }
+        ensures { λ r. ⌜ r ≡ headOf (self .headers) (self .buckets) next (self .boot) ⌝ }
     {
         Head {
             headers: self.headers,
             buckets: self.buckets,
             next,
+            boot: self.boot,
         }
     }
 }
@@ -58,6 +60,7 @@ pub fn scope_of(head: Head, script: &[u32]) -> Scope
     Scope {
         headers: head.headers,
         buckets: head.buckets,
+        boot: head.boot,
         cells: head.headers * head.buckets,
         steps: script.len() / 3,
     }
@@ -72,7 +75,7 @@ fn is_in_pairs(taken: &[[u32; 2]; 64], n: usize, lease: Hold) -> bool
 {
     let mut i = 0;
     while i < n {
-        if lease::same_lease(taken[i][0], taken[i][1], lease) {
+        if lease::same_hold(taken[i][0], taken[i][1], lease) {
             return true;
         }
         i += 1;
@@ -85,14 +88,14 @@ fn is_in_pairs(taken: &[[u32; 2]; 64], n: usize, lease: Hold) -> bool
 fn marks_of(held: &[u32]) -> [u8; 256]
     ensures { λ r. ⌜ Marked r (now (held .entry)) ⌝ }
 {
-    if 255 < held.len() / 2 {
+    if 255 < held.len() / 3 {
         return [1; 256];
     }
     let mut marks = [0; 256];
-    let mut i = held.len() / 2;
+    let mut i = held.len() / 3;
     while 0 < i {
         i -= 1;
-        let at = (held[2 * i] % 256) as usize;
+        let at = (held[3 * i] % 256) as usize;
         marks[at] = (i + 1) as u8;
     }
     marks
@@ -129,7 +132,7 @@ fn is_guarded(
     if is_in_pairs(taken, n, lease) {
         return true;
     }
-    lease::same_lease(own.cell, own.serial, lease)
+    lease::same_hold(own.cell, own.serial, lease)
 }
 
 // 1: take a cell, if it is in range and free and a serial remains.
@@ -153,7 +156,7 @@ fn step_take(cells: u32, next: u32, table: &mut [u32], cell: u32) -> Stepped
     Stepped { next, dropped: 1 }
 }
 
-// 2: release a lease, if it is live and not protected.
+// 2: release a lease, if it is live and not protected. A step names cell and serial: it has no boot number to test.
 fn step_release(
     cells: u32,
     next: u32,
@@ -514,7 +517,7 @@ pub fn script_fault(script: &[u32], place: usize) -> Check
     Check::Fine
 }
 
-// 2, and then 3.
+// 2, and then the held list: 3 by its length, then 16 and 3 by position.
 pub fn lists_fault(head: Head, table: &[u32], script: &[u32], place: usize, held: &[u32]) -> Check
     requires { ⌜ shapeFits head (length (now table)) ≡ true ⌝ }
     ensures { λ r. ⌜ r
@@ -605,7 +608,8 @@ pub fn environment(
     }
 }
 
-// The same: its held list is what it protects. A held lease that is not live refuses the call with 3 and its position.
+// The same: its held list is what it protects. A held lease with another boot number refuses the call with 16 and its
+// position, one that is not live with 3 and its position.
 pub fn environment_for_borrows(
     head: Head,
     table: &mut [u32],

@@ -6,6 +6,7 @@ use types::Answer;
 use types::Check;
 use types::Head;
 use types::Hold;
+use types::Lease;
 use types::Outcome;
 use types::Reason;
 use types::Refusal;
@@ -18,11 +19,11 @@ ghost use mathlib.Core.Bool.{true};
 ghost use mathlib.Core.List.{[], _∷_};
 ghost use Prim.Native.Nat.{_+_, _*_, _<_, _≤_};
 ghost use lib.ListN.{length, drop};
-ghost use Rattle.model.specs.Arena.{cellsOf, holdOf, holdsOf, setCell, shapeFits, isLive, sameHold, isIn};
+ghost use Rattle.model.specs.Arena.{cellsOf, holdOf, holdsOf, leasesOf, setCell, shapeFits, isLive, sameHold, isIn};
 ghost use Rattle.model.specs.Refusals.{first};
 ghost use Rattle.model.specs.Lock.{outcomeOf, answerOf};
 ghost use Rattle.model.specs.Checks.{cellRules, leaseRules, heldCellRules, heldLeaseRules, badHeld};
-ghost use Rattle.model.specs.Checks.{notLive, badCell, notHeld, isProtected};
+ghost use Rattle.model.specs.Checks.{notLive, badCell, staleBoot, notHeld, isProtected};
 ghost use Rattle.model.specs.Calls.{acquireOf, tryAcquireOf, dropLeaseOf, readPermissionOf, competingAcquireOf};
 ghost use Rattle.model.specs.Calls.{releaseThenHandoffOf, foreignReleaseOf, acquirePreservingOf, dropPreservingOf};
 ghost use Rattle.lease.specs.Model.{claimAtOf, claimFreeOf, claimReplyOf};
@@ -77,7 +78,7 @@ pub fn claim_at(head: Head, table: &mut [u32], cell: u32) -> Claim
     }
 }
 
-// What an attempt on a cell comes to, and how a call answers it.
+// What an attempt on a cell comes to, and how a call on a head of this boot number answers it.
 pub fn outcome(cell: u32, answer: Take) -> Outcome
     ensures { λ r. ⌜ r ≡ outcomeOf cell answer ⌝ }
 {
@@ -89,11 +90,15 @@ pub fn outcome(cell: u32, answer: Take) -> Outcome
     }
 }
 
-pub fn answer_of(outcome: Outcome) -> Answer
-    ensures { λ r. ⌜ r ≡ answerOf outcome ⌝ }
+pub fn answer_of(boot: u32, outcome: Outcome) -> Answer
+    ensures { λ r. ⌜ r ≡ answerOf boot outcome ⌝ }
 {
     match outcome {
-        Outcome::Granted(lease) => Answer::Granted(lease),
+        Outcome::Granted(hold) => Answer::Granted(Lease {
+            cell: hold.cell,
+            serial: hold.serial,
+            boot,
+        }),
         Outcome::Busy(why) => Answer::Busy(why),
         Outcome::Refused(refusal) => Answer::Refused(refusal),
     }
@@ -105,8 +110,9 @@ fn claim_reply(n: usize, claim: Claim, cell: u32) -> Reply
 {
     let head = claim.head;
     let answer = claim.answer;
+    let boot = head.boot;
     let said = outcome(cell, answer);
-    arena::reply(head, n, answer_of(said))
+    arena::reply(head, n, answer_of(boot, said))
 }
 
 // Attempt number n of a call: one compare-and-set.
@@ -130,23 +136,24 @@ fn hand_on(n: usize, head: Head, table: &mut [u32], cell: u32) -> Reply
 
 // ---- the checks of these calls, in the order of document 01's table
 
-// Whether these are the lease's words.
-pub fn same_lease(cell: u32, serial: u32, lease: Hold) -> bool
-    ensures { λ r. ⌜ r ≡ sameHold (holdOf cell serial) lease ⌝ }
+// Whether these are the words of a hold.
+pub fn same_hold(cell: u32, serial: u32, hold: Hold) -> bool
+    ensures { λ r. ⌜ r ≡ sameHold (holdOf cell serial) hold ⌝ }
 {
-    if cell == lease.cell {
-        return serial == lease.serial;
+    if cell == hold.cell {
+        return serial == hold.serial;
     }
     false
 }
 
-// Whether a lease stands in a list from a position on; the scan ends at the first match.
-pub fn is_in_from(list: &[u32], from: usize, lease: Hold) -> bool
-    ensures { λ r. ⌜ r ≡ isIn lease (holdsOf (drop (2 * from) (now (list .entry)))) ⌝ }
+// Whether a hold stands in a list of leases from a position on; the scan ends at the first match. The boot numbers of
+// the list are not read: they are tested before.
+pub fn is_in_from(list: &[u32], from: usize, hold: Hold) -> bool
+    ensures { λ r. ⌜ r ≡ isIn hold (holdsOf (drop (3 * from) (now (list .entry)))) ⌝ }
 {
     let mut i = from;
-    while i < list.len() / 2 {
-        if same_lease(list[2 * i], list[2 * i + 1], lease) {
+    while i < list.len() / 3 {
+        if same_hold(list[3 * i], list[3 * i + 1], hold) {
             return true;
         }
         i += 1;
@@ -154,14 +161,14 @@ pub fn is_in_from(list: &[u32], from: usize, lease: Hold) -> bool
     false
 }
 
-// Whether a lease stands in a list.
-pub fn is_in(list: &[u32], lease: Hold) -> bool
-    ensures { λ r. ⌜ r ≡ isIn lease (holdsOf (now (list .entry))) ⌝ }
+// Whether a hold stands in a list.
+pub fn is_in(list: &[u32], hold: Hold) -> bool
+    ensures { λ r. ⌜ r ≡ isIn hold (holdsOf (now (list .entry))) ⌝ }
 {
-    is_in_from(list, 0, lease)
+    is_in_from(list, 0, hold)
 }
 
-// Whether a lease is live.
+// Whether a lease of the head's own boot number is live.
 pub fn is_live(head: Head, table: &[u32], cell: u32, serial: u32) -> bool
     requires { ⌜ shapeFits head (length (now table)) ≡ true ⌝ }
     ensures { λ r. ⌜ r ≡ isLive (head .next) (cellsOf head) (now (table .entry)) (holdOf cell serial) ⌝ }
@@ -169,14 +176,17 @@ pub fn is_live(head: Head, table: &[u32], cell: u32, serial: u32) -> bool
     arena::is_live(head.next, head.headers * head.buckets, table, cell, serial)
 }
 
-// The first lease of a held list that is not live.
+// The first lease of a held list that has another boot number or is not live: 16 before 3 at each position.
 fn live_fault(head: Head, table: &[u32], held: &[u32]) -> Check
     requires { ⌜ shapeFits head (length (now table)) ≡ true ⌝ }
-    ensures { λ r. ⌜ r ≡ first (notLive head (now (table .entry)) 0 (holdsOf (now (held .entry)))) ⌝ }
+    ensures { λ r. ⌜ r ≡ first (notLive head (now (table .entry)) 0 (leasesOf (now (held .entry)))) ⌝ }
 {
     let mut i = 0;
-    while i < held.len() / 2 {
-        if is_live(head, table, held[2 * i], held[2 * i + 1]) {
+    while i < held.len() / 3 {
+        if held[3 * i + 2] != head.boot {
+            return Check::Fault(Refusal::StaleBoot(i));
+        }
+        if is_live(head, table, held[3 * i], held[3 * i + 1]) {
             i += 1;
         } else {
             return Check::Fault(Refusal::BadHeld(i));
@@ -190,8 +200,8 @@ pub fn held_fault(head: Head, table: &[u32], held: &[u32]) -> Check
     requires { ⌜ shapeFits head (length (now table)) ≡ true ⌝ }
     ensures { λ r. ⌜ r ≡ first (badHeld head (now (table .entry)) (now (held .entry))) ⌝ }
 {
-    let n = held.len() / 2;
-    if held.len() % 2 != 0 {
+    let n = held.len() / 3;
+    if held.len() % 3 != 0 {
         return Check::Fault(Refusal::BadHeld(n));
     }
     if 64 < n {
@@ -211,11 +221,14 @@ pub fn cell_fault(head: Head, cell: u32) -> Check
     Check::Fine
 }
 
-// A lease to release or read.
-fn lease_fault(head: Head, table: &[u32], lease: Hold) -> Check
+// A lease to release or read: 16, and then 12.
+fn lease_fault(head: Head, table: &[u32], lease: Lease) -> Check
     requires { ⌜ shapeFits head (length (now table)) ≡ true ⌝ }
-    ensures { λ r. ⌜ r ≡ first (notHeld head (now (table .entry)) 0 lease ∷ []) ⌝ }
+    ensures { λ r. ⌜ r ≡ first (staleBoot head 0 lease ∷ notHeld head (now (table .entry)) 0 lease ∷ []) ⌝ }
 {
+    if lease.boot != head.boot {
+        return Check::Fault(Refusal::StaleBoot(0));
+    }
     if is_live(head, table, lease.cell, lease.serial) {
         return Check::Fine;
     }
@@ -231,7 +244,7 @@ fn cell_check(head: Head, table: &[u32], cell: u32) -> Check
     Check::Fault(Refusal::BadShape)
 }
 
-fn lease_check(head: Head, table: &[u32], lease: Hold) -> Check
+fn lease_check(head: Head, table: &[u32], lease: Lease) -> Check
     ensures { λ r. ⌜ r ≡ first (leaseRules head (now (table .entry)) lease) ⌝ }
 {
     if head.shape_fits(table.len()) {
@@ -254,16 +267,20 @@ fn held_cell_check(head: Head, table: &[u32], held: &[u32], cell: u32) -> Check
 }
 
 // Of a live lease that may not be in the held list.
-fn protected_fault(held: &[u32], lease: Hold) -> Check
+fn protected_fault(held: &[u32], lease: Lease) -> Check
     ensures { λ r. ⌜ r ≡ first (isProtected (now (held .entry)) lease ∷ []) ⌝ }
 {
-    if is_in(held, lease) {
+    let hold = Hold {
+        cell: lease.cell,
+        serial: lease.serial,
+    };
+    if is_in(held, hold) {
         return Check::Fault(Refusal::Protected);
     }
     Check::Fine
 }
 
-fn held_lease_check(head: Head, table: &[u32], held: &[u32], lease: Hold) -> Check
+fn held_lease_check(head: Head, table: &[u32], held: &[u32], lease: Lease) -> Check
     ensures { λ r. ⌜ r ≡ first (heldLeaseRules head (now (table .entry)) (now (held .entry)) lease) ⌝ }
 {
     if head.shape_fits(table.len()) {
@@ -276,11 +293,12 @@ fn held_lease_check(head: Head, table: &[u32], held: &[u32], lease: Hold) -> Che
     Check::Fault(Refusal::BadShape)
 }
 
-// 12, and then 13.
-fn drop_fault(head: Head, table: &[u32], held: &[u32], lease: Hold) -> Check
+// 16 and 12, and then 13.
+fn drop_fault(head: Head, table: &[u32], held: &[u32], lease: Lease) -> Check
     requires { ⌜ shapeFits head (length (now table)) ≡ true ⌝ }
     ensures { λ r. ⌜ r
-        ≡ first (notHeld head (now (table .entry)) 0 lease ∷ isProtected (now (held .entry)) lease ∷ []) ⌝ }
+        ≡ first (staleBoot head 0 lease ∷ notHeld head (now (table .entry)) 0 lease
+        ∷ isProtected (now (held .entry)) lease ∷ []) ⌝ }
 {
     let one = lease_fault(head, table, lease);
     match one {
@@ -304,9 +322,9 @@ pub fn try_acquire(head: Head, table: &mut [u32], cell: u32) -> Reply
     }
 }
 
-// One release, and no boundary; who waits for the cell stays noted. A lease that is not live, on a damaged cell too, is
-// refused with 12 and nothing changes.
-pub fn drop_lease(head: Head, table: &mut [u32], lease: Hold) -> Reply
+// One release, and no boundary; who waits for the cell stays noted. A lease with another boot number than the head's is
+// refused with 16, one that is not live, on a damaged cell too, with 12, and nothing changes.
+pub fn drop_lease(head: Head, table: &mut [u32], lease: Lease) -> Reply
     ensures { λ r. ⌜ (r, now (table .exit)) ≡ dropLeaseOf head (now (table .entry)) lease .seen ⌝ }
 {
     let check = lease_check(head, table, lease);
@@ -319,8 +337,9 @@ pub fn drop_lease(head: Head, table: &mut [u32], lease: Hold) -> Reply
     }
 }
 
-// Answers the cell of a live lease and changes nothing; any other lease is refused with 12.
-pub fn read_permission(head: Head, table: &[u32], lease: Hold) -> Reply
+// Answers the cell of a live lease and changes nothing; a lease with another boot number is refused with 16, any other
+// that is not live with 12.
+pub fn read_permission(head: Head, table: &[u32], lease: Lease) -> Reply
     ensures { λ r. ⌜ r ≡ readPermissionOf head (now (table .entry)) lease .seen ⌝ }
 {
     let check = lease_check(head, table, lease);
@@ -331,8 +350,8 @@ pub fn read_permission(head: Head, table: &[u32], lease: Hold) -> Reply
 }
 
 // One compare-and-set of a live lease's cell: it is Busy always, held by the lease's serial, and changes nothing. A
-// lease that is not live is refused with 12 before the attempt.
-pub fn competing_acquire_is_excluded(head: Head, table: &mut [u32], lease: Hold) -> Reply
+// lease with another boot number is refused with 16, one that is not live with 12, before the attempt.
+pub fn competing_acquire_is_excluded(head: Head, table: &mut [u32], lease: Lease) -> Reply
     ensures { λ r. ⌜ (r, now (table .exit)) ≡ competingAcquireOf head (now (table .entry)) lease .seen ⌝ }
 {
     let check = lease_check(head, table, lease);
@@ -343,8 +362,9 @@ pub fn competing_acquire_is_excluded(head: Head, table: &mut [u32], lease: Hold)
 }
 
 // The lease released, and its cell taken anew. With no serial left it is refused with 10, and the release stands: the
-// cell is free. A lease that is not live is refused with 12 and keeps its cell.
-pub fn release_then_handoff(head: Head, table: &mut [u32], lease: Hold) -> Reply
+// cell is free. A lease with another boot number is refused with 16, one that is not live with 12, and nothing is
+// released.
+pub fn release_then_handoff(head: Head, table: &mut [u32], lease: Lease) -> Reply
     ensures { λ r. ⌜ (r, now (table .exit)) ≡ releaseThenHandoffOf head (now (table .entry)) lease .seen ⌝ }
 {
     let check = lease_check(head, table, lease);
@@ -354,13 +374,14 @@ pub fn release_then_handoff(head: Head, table: &mut [u32], lease: Hold) -> Reply
     }
 }
 
-// A try_acquire that is Busy, a foreign release, a try_acquire: two attempts. A lease that the held list has is refused
-// with 13 and keeps its cell; with no serial left the second attempt is refused with 10, and the cell is free.
+// A try_acquire that is Busy, a foreign release, a try_acquire: two attempts. The held list goes first (3, 16), then
+// the lease (16, 12); a lease that the held list has is refused with 13 and keeps its cell. With no serial left the
+// second attempt is refused with 10, and the cell is free.
 pub fn foreign_release_between_attempts(
     head: Head,
     table: &mut [u32],
     held: &[u32],
-    lease: Hold,
+    lease: Lease,
 ) -> Reply
     ensures { λ r. ⌜ (r, now (table .exit))
         ≡ foreignReleaseOf head (now (table .entry)) (now (held .entry)) lease .seen ⌝ }
@@ -376,8 +397,8 @@ pub fn foreign_release_between_attempts(
     }
 }
 
-// try_acquire after the held list's check. A held lease that is not live refuses the call with 3 and its position; the
-// held leases stay live.
+// try_acquire after the held list's check. A held lease with another boot number refuses the call with 16 and its
+// position, one that is not live with 3 and its position; the held leases stay live.
 pub fn acquire_preserving_borrows(head: Head, table: &mut [u32], held: &[u32], cell: u32) -> Reply
     ensures { λ r. ⌜ (r, now (table .exit))
         ≡ acquirePreservingOf head (now (table .entry)) (now (held .entry)) cell .seen ⌝ }
@@ -390,7 +411,7 @@ pub fn acquire_preserving_borrows(head: Head, table: &mut [u32], held: &[u32], c
 }
 
 // drop_lease, but not of a lease in the held list: that is refused with 13, and nothing changes.
-pub fn drop_preserving_borrows(head: Head, table: &mut [u32], held: &[u32], lease: Hold) -> Reply
+pub fn drop_preserving_borrows(head: Head, table: &mut [u32], held: &[u32], lease: Lease) -> Reply
     ensures { λ r. ⌜ (r, now (table .exit))
         ≡ dropPreservingOf head (now (table .entry)) (now (held .entry)) lease .seen ⌝ }
 {

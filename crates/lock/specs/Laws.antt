@@ -145,10 +145,10 @@ pub lock-locked-bound : (o : Locked × (List ℕ × List ℕ)) (e : Setting) (bu
 lock-locked-bound o e buckets f t g c q b = rw q (lock-kept e buckets c f t g b)
 
 -- the compare-and-set as the code makes it, on a whole head
-pub take-claim : (headers buckets next : ℕ) (t : List ℕ) (c : ℕ)
-    → takeOf next t c .seen ≡ (tookOf (claimAtOf (headOf headers buckets next) t c .0 .head .next) (claimAtOf (headOf headers buckets next) t c .0 .answer), claimAtOf (headOf headers buckets next) t c .1)
+pub take-claim : (headers buckets boot next : ℕ) (t : List ℕ) (c : ℕ)
+    → takeOf next t c .seen ≡ (tookOf (claimAtOf (headOf headers buckets next boot) t c .0 .head .next) (claimAtOf (headOf headers buckets next boot) t c .0 .answer), claimAtOf (headOf headers buckets next boot) t c .1)
 unfolding claimAtOf
-take-claim headers buckets next t c = refl
+take-claim headers buckets boot next t c = refl
 
 -- a lease given up leaves the health alone
 pub gave-up : (k : Locked × List ℕ) (f : Flow) (t g : List ℕ) (c : ℕ) (o : Outcome) → k ≡ gaveUp f t c o

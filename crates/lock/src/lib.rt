@@ -348,7 +348,7 @@ fn lock_once(
         boundaries: locked.boundaries,
         yields: 0,
     };
-    foreign::play(head, run, lease::answer_of(answer))
+    foreign::play(head, run, lease::answer_of(head.boot, answer))
 }
 
 // One attempt by cell, with up to three boundaries: Busy where somebody waits, or holds it, then with the owner's

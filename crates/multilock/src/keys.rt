@@ -21,15 +21,16 @@ ghost use Rattle.bucket.specs.Bounds.{callMost};
 ghost use Rattle.bucket.specs.Laws.{RunBound};
 ghost use Rattle.multilock.specs.Locks.{Bound};
 
-// The buffer holds cell and serial for each key, in key order.
-fn grant(taken: [[u32; 2]; 64], n: usize, grants: &mut [u32])
-    requires { ⌜ (n ≤ 64) × (length (now grants) ≡ 2 * n) ⌝ }
-    ensures { λ _. ⌜ now (grants .exit) ≡ wordsOf (pairsOf n 0 taken) ⌝ }
+// The buffer holds cell, serial and boot number for each key, in key order.
+fn grant(taken: [[u32; 2]; 64], n: usize, boot: u32, grants: &mut [u32])
+    requires { ⌜ (n ≤ 64) × (length (now grants) ≡ 3 * n) ⌝ }
+    ensures { λ _. ⌜ now (grants .exit) ≡ wordsOf boot (pairsOf n 0 taken) ⌝ }
 {
     let mut i = 0;
     while i < n {
-        grants[2 * i] = taken[i][0];
-        grants[2 * i + 1] = taken[i][1];
+        grants[3 * i] = taken[i][0];
+        grants[3 * i + 1] = taken[i][1];
+        grants[3 * i + 2] = boot;
         i += 1;
     }
 }
@@ -87,9 +88,9 @@ pub fn lock_keys(
 ) -> Ended
     requires { ⌜ Bound scope (length (now table)) (length (now health)) (length (now script)) (now registry) (now keys)
         × (RunBound (scope .steps) 0 start × ((n ≤ 64) × ((2 * n ≤ length (now keys))
-        × (length (now grants) ≡ 2 * n)))) ⌝ }
+        × (length (now grants) ≡ 3 * n)))) ⌝ }
     ensures { λ r. ⌜ (r, (now (table .exit), (now (health .exit), now (grants .exit))))
-        ≡ locksOf n 0 (inScope scope (now (script .entry)) (holdsOf (now (held .entry)))) (scope .buckets)
+        ≡ locksOf n 0 (inScope scope (now (script .entry)) (holdsOf (now (held .entry)))) (scope .buckets) (scope .boot)
         (now (registry .entry)) (now (keys .entry)) []
         start (now (table .entry)) (now (health .entry)) (now (grants .entry)) .seen ⌝ }
 {
@@ -126,7 +127,7 @@ pub fn lock_keys(
         }
         p += 1;
     }
-    grant(taken, n, grants);
+    grant(taken, n, scope.boot, grants);
     Ended {
         run,
         answer: Answer::AllGranted,

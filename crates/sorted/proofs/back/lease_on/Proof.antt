@@ -12,10 +12,10 @@ use Rattle.sorted.proofs.back.lease_on.Statement.{statement}
 use Rattle.sorted.proofs.back.lease_on.Tie as tie
 
 abbrev Inv-loop : tie.InvT-loop
-Inv-loop leases cell i₀ i = (i ≤ length leases / 2) × (holdOn (holdsOf (drop (2 * i) leases)) cell ≡ holdOn (holdsOf leases) cell)
+Inv-loop leases cell i₀ i = (i ≤ length leases / 3) × (holdOn (holdsOf (drop (3 * i) leases)) cell ≡ holdOn (holdsOf leases) cell)
 
 abbrev μ-loop : tie.MeasureT-loop
-μ-loop leases cell i₀ i = length leases / 2 - i
+μ-loop leases cell i₀ i = length leases / 3 - i
 
 loop-holds : tie.Need-loop-holds Inv-loop μ-loop
 loop-holds c = (search needs, refl)

@@ -1,8 +1,8 @@
--- `lease::same_lease` meets its contract.
+-- `lease::same_hold` meets its contract.
 use borrow.Author.Tests.{eq-eqb, ne-eqb}
 use Rattle.model.specs.Arena.{sameHold}
-use Rattle.lease.proofs.same_lease.Statement.{statement}
-use Rattle.lease.proofs.same_lease.Tie as tie
+use Rattle.lease.proofs.same_hold.Statement.{statement}
+use Rattle.lease.proofs.same_hold.Tie as tie
 
 returns : tie.Need-returns
 unfolding sameHold
@@ -12,5 +12,5 @@ returns-2 : tie.Need-returns-2
 unfolding sameHold
 returns-2 c = rw (ne-eqb _ _ (c .if1 .left))
 
-pub same-lease-spec : {M : Type 1} → statement M
-same-lease-spec = tie.close (tie.spec returns returns-2)
+pub same-hold-spec : {M : Type 1} → statement M
+same-hold-spec = tie.close (tie.spec returns returns-2)
