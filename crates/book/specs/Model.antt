@@ -8,7 +8,7 @@ use lib.ListN.{length}
 use Rattle.laws.specs.Shape.{Shaped, shaped}
 use Rattle.model.specs.Arena.{cellsOf, headFits}
 use Rattle.types.specs.declared.Head.{Head}
-use Rattle.types.specs.declared.Hold.{Hold}
+use Rattle.types.specs.declared.Lease.{Lease}
 use Rattle.setpoint.specs.declared.Setpoint.{Setpoint}
 use Rattle.slots.specs.Layout.{slotsOf, readOf}
 use Rattle.slots.specs.Rules.{firstFault, judgeBook, claimRules, overRules}
@@ -43,7 +43,7 @@ unfoldable pub writeOverOf : ℕ → List ℕ → ℕ → Setpoint → BookAnswe
 writeOverOf n b slot s = judgeBook (firstFault (overRules (readOf n b slot))) (λ r. (Refused r, b)) (writtenOver n b slot s (readOf n b slot))
 
 -- the call, by what the checks on what it was given come to
-pub write-is : (h : Head) (t b : List ℕ) (slot : ℕ) (l : Hold) (s : Setpoint)
+pub write-is : (h : Head) (t b : List ℕ) (slot : ℕ) (l : Lease) (s : Setpoint)
     → writeSetpointOf h t b slot l s ≡ judgeBook (firstFault (claimRules h t (length b) slot l s)) (λ r. (Refused r, b)) (writeOverOf (slotsOf h) b slot s)
 unfolding writeSetpointOf writeOverOf
 write-is h t b slot l s =

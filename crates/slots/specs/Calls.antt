@@ -4,7 +4,7 @@ use Prim.Native.Nat.{ℕ, _+_}
 use mathlib.Core.List.{List}
 use lib.ListN.{length, replicate}
 use Rattle.types.specs.declared.Head.{Head}
-use Rattle.types.specs.declared.Hold.{Hold}
+use Rattle.types.specs.declared.Lease.{Lease}
 use Rattle.setpoint.specs.declared.Setpoint.{Setpoint}
 use Rattle.slots.specs.Layout.{slotsOf, readOf, putOf}
 use Rattle.slots.specs.Rules.{firstFault, judgeBook, versionIn, bookRules, writeRules, readRules}
@@ -22,7 +22,7 @@ prepareBookOf h b = judgeBook (firstFault (bookRules h (length b))) (λ r. (Refu
 abbrev pub writtenOver : ℕ → List ℕ → ℕ → Setpoint → Reading → BookAnswer × List ℕ
 writtenOver n b slot s r = (Written (versionIn r + 1), putOf n b slot s (versionIn r + 1))
 
-unfoldable pub writeSetpointOf : Head → List ℕ → List ℕ → ℕ → Hold → Setpoint → BookAnswer × List ℕ
+unfoldable pub writeSetpointOf : Head → List ℕ → List ℕ → ℕ → Lease → Setpoint → BookAnswer × List ℕ
 writeSetpointOf h t b slot l s =
     judgeBook (firstFault (writeRules h t b slot l s)) (λ r. (Refused r, b)) (writtenOver (slotsOf h) b slot s (readOf (slotsOf h) b slot))
 

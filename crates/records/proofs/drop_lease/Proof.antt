@@ -6,8 +6,8 @@ use denote.Struct.Laws as LL
 use denote.Triple.Spec.{tripleOf}
 use denote.Triple.Table.{entered, cited}
 use Rattle.model.specs.Calls.{dropLeaseOf}
-use Rattle.types.proofs.Hold as L
-use Rattle.types.proofs.Hold.Laws as L′
+use Rattle.types.proofs.Lease as L
+use Rattle.types.proofs.Lease.Laws as L′
 use Rattle.records.specs.Model.{dropSpotOf, dropRuleOf}
 use Rattle.records.specs.Laws.{drop-agrees}
 use Rattle.records.proofs.Face.{Face, SpotAt, RuleAt, face-meets}
