@@ -13,6 +13,7 @@ use Rattle.model.specs.Lock.{holdAt}
 use Rattle.model.specs.Checks.{countIn}
 use Rattle.types.specs.declared.Answer.the-variants.{Granted, AllGranted, Busy, Refused, RefusedAt}
 use Rattle.types.specs.declared.Hold.{Hold}
+use Rattle.types.specs.declared.Lease.{Lease}
 use Rattle.types.specs.declared.Reason.{Reason}
 use Rattle.types.specs.declared.Refusal.{Refusal}
 use Rattle.history.specs.World.{World, Live, Healthy, now, Unreleased, number-of, attempts, takes}
@@ -107,7 +108,7 @@ Reads-again (crew-at-work counts cells turns counters) = ⊥
 
 -- a lease that such a call grants is on a header that is healthy in the health that the call leaves
 abbrev pub Granted-healthy : Build → Type 0
-Granted-healthy f = (w : World) (k : Call) (l : Hold) → Reads-again k → answer-in (f w k) ≡ Granted l → Healthy (world-in (f w k)) (l .cell)
+Granted-healthy f = (w : World) (k : Call) (l : Lease) → Reads-again k → answer-in (f w k) ≡ Granted l → Healthy (world-in (f w k)) (l .cell)
 
 -- the point of a multi-lock's log at which a key's lease is granted: it was taken before, no attempt has begun since, and
 -- there the log ends or the next key's first attempt begins

@@ -1,7 +1,7 @@
 -- Each call of document 01: refused, it changes nothing; else its log is lawful, leads to the world it leaves, and spares its held list.
 use Prim.Native.Nat.{ℕ, zero, suc, _+_, _*_, _≤_, _<_}
 use mathlib.Core.Path.{_≡_, refl, sym, _∙_, subst}
-use mathlib.Core.List.{List, [], _∷_, _++_, append-nil}
+use mathlib.Core.List.{List, [], _∷_, _++_, append-nil, map}
 use mathlib.Core.Bool.{false, not}
 use mathlib.Core.Logic.{_⊎_, inl, inr}
 use native.Mathlib.Decide.{decLt}
@@ -10,17 +10,19 @@ use lib.ListN.{length, take}
 use lib.Seq.{append-snoc}
 use borrow.Author.Tests.{leb-false, not-false}
 use Rattle.model.specs.Log.{Made, by-caller, attempt-begun, released, Event}
-use Rattle.model.specs.Arena.{cellsOf, shapeFits, setCell, isLive, isIn, holdsOf}
+use Rattle.model.specs.Arena.{cellsOf, shapeFits, setCell, holdIn, isLive, isIn, leasesOf, holdsOf}
 use Rattle.model.specs.Foreign.{flowOf}
 use Rattle.model.specs.Lock.{holdAt, noHold, answerOf, settled, attemptLimit, noneYet}
-use Rattle.model.specs.Checks.{countIn, badShape, badHeld, badCell, notReleasable, cellRules, leaseRules, heldCellRules, heldLeaseRules, scriptRules, lockRules, bucketRules, releaseRules, locksRules}
+use Rattle.model.specs.Checks.{countIn, leaseCount, badShape, badHeld, badCell, notReleasable, cellRules, leaseRules, heldCellRules, heldLeaseRules, scriptRules, lockRules, bucketRules, releaseRules, locksRules}
 use Rattle.model.specs.Calls.{starting, acquireOf}
 use Rattle.model.specs.Sorted.{cellsSorted, sortedKeys, firstKey}
 use Rattle.model.specs.Crew.{crewRules, rests, adds, crewAtWorkRules}
 use Rattle.types.specs.declared.Head.{Head}
 use Rattle.types.specs.declared.Hold.{Hold}
+use Rattle.types.specs.declared.Lease.{Lease}
 use Rattle.types.specs.declared.Outcome.{Outcome}
 use Rattle.laws.specs.Shape.{shaped}
+use Rattle.laws.specs.Lists.{holds-are, as-many}
 use Rattle.history.specs.World.{World, worldOf, cells, Live, Lawful, Unreleased, now}
 use Rattle.history.specs.Items.{Call, Says, try-acquire, drop-lease, read-permission, competing-acquire, release-then-handoff, foreign-release, drop-preserving, acquire-preserving, environment, try-lock, transactional, acquire-bucket, release-all, acquire-locks, acquire-sorted, crew, crew-at-work, perform, held-of, Clear, rules}
 use Rattle.history.specs.Statements.{Hands-over, Held-live, log-of}
@@ -36,53 +38,59 @@ use Rattle.history.specs.Shared.{handed-inner}
 -- ---- the leases that `release_all` is given
 
 module _ (h : Head) (t g : List ℕ) where
-  releasable-live : (i : ℕ) (earlier ls : List Hold) → Clear (notReleasable h t i earlier ls) → (j : ℕ) → j < length ls → Live (worldOf h t g) (holdAt ls j)
+  releasable-live : (i : ℕ) (earlier : List Hold) (ls : List Lease) → Clear (notReleasable h t i earlier ls)
+      → (j : ℕ) → j < length ls → Live (worldOf h t g) (holdAt (map holdIn ls) j)
   unfolding notReleasable
   releasable-live i earlier [] c j k = absurd (omega arith)
-  releasable-live i earlier (l ∷ ls) c zero k = not-false (isLive (h .next) (cellsOf h) t l) (c .0)
-  releasable-live i earlier (l ∷ ls) c (suc j) k = releasable-live (i + 1) (earlier ++ (l ∷ [])) ls (c .1 .1) j (omega arith)
+  releasable-live i earlier (l ∷ ls) c zero k = not-false (isLive (h .next) (cellsOf h) t (holdIn l)) (c .1 .0)
+  releasable-live i earlier (l ∷ ls) c (suc j) k = releasable-live (i + 1) (earlier ++ (holdIn l ∷ [])) ls (c .1 .1 .1) j (omega arith)
 
-  releasable-new : (i : ℕ) (earlier ls : List Hold) → Clear (notReleasable h t i earlier ls) → (j : ℕ) → j < length ls → isIn (holdAt ls j) (earlier ++ take j ls) ≡ false
+  releasable-new : (i : ℕ) (earlier : List Hold) (ls : List Lease) → Clear (notReleasable h t i earlier ls)
+      → (j : ℕ) → j < length ls → isIn (holdAt (map holdIn ls) j) (earlier ++ take j (map holdIn ls)) ≡ false
   unfolding notReleasable
   releasable-new i earlier [] c j k = absurd (omega arith)
-  releasable-new i earlier (l ∷ ls) c zero k = rw (append-nil earlier) (c .1 .0)
+  releasable-new i earlier (l ∷ ls) c zero k = rw (append-nil earlier) (c .1 .1 .0)
   releasable-new i earlier (l ∷ ls) c (suc j) k =
-      rw append-snoc at (releasable-new (i + 1) (earlier ++ (l ∷ [])) ls (c .1 .1) j (omega arith))
+      rw append-snoc at (releasable-new (i + 1) (earlier ++ (holdIn l ∷ [])) ls (c .1 .1 .1) j (omega arith))
 
-  releasable : (n : ℕ) (ls : List Hold) → n ≤ length ls → Clear (notReleasable h t 0 [] ls) → Held (worldOf h t g) n ls
-  releasable n ls f c =
+  releasable : (n : ℕ) (ws : List ℕ) → n ≤ length (holdsOf ws) → Clear (notReleasable h t 0 [] (leasesOf ws)) → Held (worldOf h t g) n (holdsOf ws)
+  releasable n ws f c =
       record {
         enough = f;
-        all-live = λ i k. releasable-live 0 [] ls c i (omega arith);
+        all-live = λ i k. subst (λ (ls : List Hold). Live (worldOf h t g) (holdAt ls i)) (sym (holds-are ws)) (releasable-live 0 [] (leasesOf ws) c i (omega (arith, as-many ws)));
         distinct = λ i j a b e. go i j a b e (decLt i j) (decLt j i);
       }
     where
-      clash : (i j : ℕ) → i < j → j < n → holdAt ls i ≡ holdAt ls j → ⊥
-      clash i j a b e =
-          differ (sym (releasable-new 0 [] ls c j (omega arith)) ∙ subst (In (take j ls)) e (in-take ls j i noHold a (omega arith)))
+      new : (j : ℕ) → j < length (holdsOf ws) → isIn (holdAt (holdsOf ws) j) (take j (holdsOf ws)) ≡ false
+      new j k =
+          subst (λ (ls : List Hold). isIn (holdAt ls j) (take j ls) ≡ false) (sym (holds-are ws)) (releasable-new 0 [] (leasesOf ws) c j (omega (arith, as-many ws)))
 
-      go : (i j : ℕ) → i < n → j < n → holdAt ls i ≡ holdAt ls j → Dec (i < j) → Dec (j < i) → i ≡ j
+      clash : (i j : ℕ) → i < j → j < n → holdAt (holdsOf ws) i ≡ holdAt (holdsOf ws) j → ⊥
+      clash i j a b e = differ (sym (new j (omega arith)) ∙ subst (In (take j (holdsOf ws))) e (in-take (holdsOf ws) j i noHold a (omega arith)))
+
+      go : (i j : ℕ) → i < n → j < n → holdAt (holdsOf ws) i ≡ holdAt (holdsOf ws) j → Dec (i < j) → Dec (j < i) → i ≡ j
       go i j a b e (yes p) q = absurd (clash i j p b e)
       go i j a b e (no p) (yes q) = absurd (clash j i q a (sym e))
       go i j a b e (no p) (no q) = omega arith
 
-pub words-leases : (ws : List ℕ) → length ws ≤ 2 * length (holdsOf ws) + 1
+pub words-leases : (ws : List ℕ) → length ws ≤ 3 * length (holdsOf ws) + 2
 unfolding holdsOf
 words-leases [] = omega arith
 words-leases (c ∷ []) = omega arith
-words-leases (c ∷ s ∷ ws) = omega (arith, words-leases ws)
+words-leases (c ∷ s ∷ []) = omega arith
+words-leases (c ∷ s ∷ b ∷ ws) = omega (arith, words-leases ws)
 
 -- ---- what is handed over is live
 
-pub live-won : {n : ℕ} {v : World} {o : Outcome} → Won n v o → (l : Hold) → Hands-over (answerOf o) [] l → Live v l
-live-won {v = v} (won k x i) l e = subst (Live v) e x
-live-won none-yet l e = absurd e
-live-won (no-more r) l e = absurd e
+pub live-won : (boot : ℕ) {n : ℕ} {v : World} {o : Outcome} → Won n v o → (l : Hold) → Hands-over (answerOf boot o) [] l → Live v l
+live-won boot {v = v} (won k x i) l e = subst (Live v) e x
+live-won boot none-yet l e = absurd e
+live-won boot (no-more r) l e = absurd e
 
-live-settled : {n : ℕ} {v : World} {o : Outcome} → Won n v o → (l : Hold) → Hands-over (answerOf (settled o)) [] l → Live v l
-live-settled {v = v} (won k x i) l e = subst (Live v) e x
-live-settled none-yet l e = absurd e
-live-settled (no-more r) l e = absurd e
+live-settled : (boot : ℕ) {n : ℕ} {v : World} {o : Outcome} → Won n v o → (l : Hold) → Hands-over (answerOf boot (settled o)) [] l → Live v l
+live-settled boot {v = v} (won k x i) l e = subst (Live v) e x
+live-settled boot none-yet l e = absurd e
+live-settled boot (no-more r) l e = absurd e
 
 -- ---- each call
 
@@ -95,7 +103,7 @@ module _ (w : World) (good : Fit w) where
   unfolding acquireOf
   acquire-kept P n c l =
       let k = take-kept (w .head) [] P (w .head .next) (w .table) (w .health) c good l in
-      record { kept = chain good (event attempt-begun tt (λ l i v x. x)) (ended (k .kept)); gain = live-won (won-of (k .gain)) }
+      record { kept = chain good (event attempt-begun tt (λ l i v x. x)) (ended (k .kept)); gain = live-won (w .head .boot) (won-of (k .gain)) }
 
   -- a release that spares what is not the lease
   release-kept : (P : Hold → Type 0) (l : Hold) → Live w l → ((k : Hold) → P k → k ≡ l → ⊥)
@@ -123,24 +131,24 @@ none-taken w =
 steps-kept : (w : World) (k : Call) → Fit w → Clear (rules w k) → Said w (In (held-of k)) (steps w k)
 unfolding cellRules leaseRules heldCellRules heldLeaseRules lockRules releaseRules isIn acquireOf
 steps-kept w (try-acquire c) g k = acquire-kept w g (In []) 1 c (leb-false (cells w) c (k .1 .0))
-steps-kept w (drop-lease l) g k = record { kept = release-kept w g (In []) l (is-live w g l (k .1 .0)) (λ _ i _. differ i); gain = λ l x. absurd x }
+steps-kept w (drop-lease l) g k = record { kept = release-kept w g (In []) (holdIn l) (is-live w g (holdIn l) (k .1 .1 .0)) (λ _ i _. differ i); gain = λ l x. absurd x }
 steps-kept w (read-permission l) g k = record { kept = nothing; gain = λ l x. absurd x }
-steps-kept w (competing-acquire l) g k = acquire-kept w g (In []) 1 (l .cell) (inside w g l (k .1 .0))
+steps-kept w (competing-acquire l) g k = acquire-kept w g (In []) 1 (l .cell) (inside w g (holdIn l) (k .1 .1 .0))
 steps-kept w (release-then-handoff l) g k =
-    let a = release-kept w g (In []) l (is-live w g l (k .1 .0)) (λ _ i _. differ i) in
-    followed g a (acquire-kept (worldOf (w .head) (setCell (w .table) (l .cell) 0 0) (w .health)) (kept-fit g a) (In []) 1 (l .cell) (inside w g l (k .1 .0)))
+    let a = release-kept w g (In []) (holdIn l) (is-live w g (holdIn l) (k .1 .1 .0)) (λ _ i _. differ i) in
+    followed g a (acquire-kept (worldOf (w .head) (setCell (w .table) (l .cell) 0 0) (w .health)) (kept-fit g a) (In []) 1 (l .cell) (inside w g (holdIn l) (k .1 .1 .0)))
 steps-kept w (foreign-release held l) g k =
     let c = clear-back (badShape (w .head) (w .table) ∷ badHeld (w .head) (w .table) held) _ k in
     let m = acquireOf 1 (w .head) (w .table) (l .cell) .seen in
     let v = worldOf (m .0 .head) (m .1) (w .health) in
-    let a = acquire-kept w g (λ _. Unit {0}) 1 (l .cell) (inside w g l (c .0)) .kept in
+    let a = acquire-kept w g (λ _. Unit {0}) 1 (l .cell) (inside w g (holdIn l) (c .1 .0)) .kept in
     let g₁ = kept-fit g a in
-    let b = release-kept v g₁ (In (holdsOf held)) l (kept-live g a l tt (is-live w g l (c .0))) (apart-from held l (c .1 .0)) in
+    let b = release-kept v g₁ (In (holdsOf held)) (holdIn l) (kept-live g a (holdIn l) tt (is-live w g (holdIn l) (c .1 .0))) (apart-from held (holdIn l) (c .1 .1 .0)) in
     followed g (weaken (λ _ _ _. tt) a)
-    (followed g₁ b (acquire-kept (worldOf (m .0 .head) (setCell (m .1) (l .cell) 0 0) (w .health)) (kept-fit g₁ b) (In (holdsOf held)) 2 (l .cell) (inside w g l (c .0))))
+    (followed g₁ b (acquire-kept (worldOf (m .0 .head) (setCell (m .1) (l .cell) 0 0) (w .health)) (kept-fit g₁ b) (In (holdsOf held)) 2 (l .cell) (inside w g (holdIn l) (c .1 .0))))
 steps-kept w (drop-preserving held l) g k =
     let c = clear-back (badShape (w .head) (w .table) ∷ badHeld (w .head) (w .table) held) _ k in
-    record { kept = release-kept w g (In (holdsOf held)) l (is-live w g l (c .0)) (apart-from held l (c .1 .0)); gain = λ l x. absurd x }
+    record { kept = release-kept w g (In (holdsOf held)) (holdIn l) (is-live w g (holdIn l) (c .1 .0)) (apart-from held (holdIn l) (c .1 .1 .0)); gain = λ l x. absurd x }
 steps-kept w (acquire-preserving held c) g k =
     acquire-kept w g (In (holdsOf held)) 1 c (leb-false (cells w) c (clear-back (badShape (w .head) (w .table) ∷ badHeld (w .head) (w .table) held) _ k .0))
 steps-kept w (environment script place held) g k =
@@ -148,16 +156,16 @@ steps-kept w (environment script place held) g k =
 steps-kept w (try-lock script place held c) g k =
     let inside = clear-back (scriptRules (w .head) (w .table) (w .health) script place held) (badCell (w .head) c ∷ []) k .0 in
     let m = lock-kept (w .head) script (holdsOf held) (flowOf (w .head .next) place 0) (w .table) (w .health) c g (leb-false (cells w) c inside) in
-    record { kept = chain g (event attempt-begun tt (λ l i v x. x)) (m .kept); gain = live-won (won-of (m .gain)) }
+    record { kept = chain g (event attempt-begun tt (λ l i v x. x)) (m .kept); gain = live-won (w .head .boot) (won-of (m .gain)) }
 steps-kept w (transactional registry script place held binding bucket) g k =
     let m = attempt-kept (w .head) script (holdsOf held) registry binding bucket (starting (w .head) place) (w .table) (w .health) g in
-    record { kept = m .kept; gain = live-won (m .gain) }
+    record { kept = m .kept; gain = live-won (w .head .boot) (m .gain) }
 steps-kept w (acquire-bucket registry script place held binding bucket) g k =
     let m = retry-kept (w .head) script attemptLimit 0 noneYet (holdsOf held) registry binding bucket (starting (w .head) place) (w .table) (w .health) g in
-    record { kept = m .kept; gain = live-settled (m .gain) }
+    record { kept = m .kept; gain = live-settled (w .head .boot) (m .gain) }
 steps-kept w (release-all script place leases) g k =
-    let held = releasable (w .head) (w .table) (w .health) (countIn leases) (holdsOf leases) (omega (arith, words-leases leases)) (k .1 .1 .1 .1) in
-    let m = give-back-kept (w .head) script (countIn leases) [] (holdsOf leases) (starting (w .head) place) (w .table) (w .health) g held in
+    let held = releasable (w .head) (w .table) (w .health) (leaseCount leases) leases (omega (arith, words-leases leases)) (k .1 .1 .1 .1) in
+    let m = give-back-kept (w .head) script (leaseCount leases) [] (holdsOf leases) (starting (w .head) place) (w .table) (w .health) g held in
     record { kept = weaken (λ l i v. absurd (differ i)) (m .kept); gain = λ l x. absurd x }
 steps-kept w (acquire-locks registry script place held keys grants) g k =
     let m = locks-kept (w .head) script (countIn keys) 0 (holdsOf held) [] registry keys (starting (w .head) place) (w .table) (w .health) grants (w .head .next) g (omega arith) (none-taken w) in

@@ -210,14 +210,14 @@ back-counted (suc n) e ls r t g =
 abbrev pub Ends : Run → Made Locks → Type 0
 Ends r m = Counted (counts r) (counts (m .seen .0 .run)) (m .log)
 
-module _ (e : Setting) (buckets : ℕ) (registry keys grants : List ℕ) where
-  pub locks-counted : (left p : ℕ) (taken : List Hold) (r : Run) (t g : List ℕ) → Ends r (locksOf left p e buckets registry keys taken r t g grants)
+module _ (e : Setting) (buckets boot : ℕ) (registry keys grants : List ℕ) where
+  pub locks-counted : (left p : ℕ) (taken : List Hold) (r : Run) (t g : List ℕ) → Ends r (locksOf left p e buckets boot registry keys taken r t g grants)
   unfolding locksOf rollbackOf
   locks-counted zero p taken r t g = none-counted (counts r)
   locks-counted (suc left) p taken r t g =
       let m = retryOf attemptLimit 0 noneYet (protecting e taken) buckets registry (bindingAt keys p) (bucketAt keys p) r t g .seen in
       then-counted (retry-counted (protecting e taken) buckets registry (bindingAt keys p) (bucketAt keys p) attemptLimit 0 noneYet r t g)
-      (go (m .0 .run) (m .1 .0) (m .1 .1) (m .0 .outcome) (λ l. locksOf left (p + 1) e buckets registry keys (taken ++ (l ∷ [])) (m .0 .run) (m .1 .0) (m .1 .1) grants)
+      (go (m .0 .run) (m .1 .0) (m .1 .1) (m .0 .outcome) (λ l. locksOf left (p + 1) e buckets boot registry keys (taken ++ (l ∷ [])) (m .0 .run) (m .1 .0) (m .1 .1) grants)
       (λ l. locks-counted left (p + 1) (taken ++ (l ∷ [])) (m .0 .run) (m .1 .0) (m .1 .1)))
     where
       go : (k : Run) (u w : List ℕ) (x : Outcome) (more : Hold → Made Locks) → ((l : Hold) → Ends k (more l)) → Ends k (afterKey x e taken p k u w grants more)

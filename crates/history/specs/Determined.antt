@@ -7,7 +7,7 @@ use Rattle.model.specs.Crew.{crewOf, crewAtWorkOf}
 use Rattle.model.specs.Sorted.{acquireSortedOf}
 use Rattle.types.specs.declared.CrewReply.{CrewReply}
 use Rattle.types.specs.declared.Head.{Head}
-use Rattle.types.specs.declared.Hold.{Hold}
+use Rattle.types.specs.declared.Lease.{Lease}
 use Rattle.types.specs.declared.Played.{Played}
 use Rattle.types.specs.declared.Reply.{Reply}
 use Rattle.choice.specs.Pick.{determined}
@@ -15,25 +15,25 @@ use Rattle.choice.specs.Pick.{determined}
 pub try-acquire-determined : (h : Head) (t : List ℕ) (c : ℕ) (a b : Reply × List ℕ) → a ≡ tryAcquireOf h t c .seen → b ≡ tryAcquireOf h t c .seen → a ≡ b
 try-acquire-determined h t c a b p q = determined p q
 
-pub drop-lease-determined : (h : Head) (t : List ℕ) (l : Hold) (a b : Reply × List ℕ) → a ≡ dropLeaseOf h t l .seen → b ≡ dropLeaseOf h t l .seen → a ≡ b
+pub drop-lease-determined : (h : Head) (t : List ℕ) (l : Lease) (a b : Reply × List ℕ) → a ≡ dropLeaseOf h t l .seen → b ≡ dropLeaseOf h t l .seen → a ≡ b
 drop-lease-determined h t l a b p q = determined p q
 
-pub read-permission-determined : (h : Head) (t : List ℕ) (l : Hold) (a b : Reply) → a ≡ readPermissionOf h t l .seen → b ≡ readPermissionOf h t l .seen → a ≡ b
+pub read-permission-determined : (h : Head) (t : List ℕ) (l : Lease) (a b : Reply) → a ≡ readPermissionOf h t l .seen → b ≡ readPermissionOf h t l .seen → a ≡ b
 read-permission-determined h t l a b p q = determined p q
 
-pub competing-acquire-determined : (h : Head) (t : List ℕ) (l : Hold) (a b : Reply × List ℕ) → a ≡ competingAcquireOf h t l .seen → b ≡ competingAcquireOf h t l .seen → a ≡ b
+pub competing-acquire-determined : (h : Head) (t : List ℕ) (l : Lease) (a b : Reply × List ℕ) → a ≡ competingAcquireOf h t l .seen → b ≡ competingAcquireOf h t l .seen → a ≡ b
 competing-acquire-determined h t l a b p q = determined p q
 
-pub release-then-handoff-determined : (h : Head) (t : List ℕ) (l : Hold) (a b : Reply × List ℕ) → a ≡ releaseThenHandoffOf h t l .seen → b ≡ releaseThenHandoffOf h t l .seen → a ≡ b
+pub release-then-handoff-determined : (h : Head) (t : List ℕ) (l : Lease) (a b : Reply × List ℕ) → a ≡ releaseThenHandoffOf h t l .seen → b ≡ releaseThenHandoffOf h t l .seen → a ≡ b
 release-then-handoff-determined h t l a b p q = determined p q
 
-pub foreign-release-determined : (h : Head) (t held : List ℕ) (l : Hold) (a b : Reply × List ℕ) → a ≡ foreignReleaseOf h t held l .seen → b ≡ foreignReleaseOf h t held l .seen → a ≡ b
+pub foreign-release-determined : (h : Head) (t held : List ℕ) (l : Lease) (a b : Reply × List ℕ) → a ≡ foreignReleaseOf h t held l .seen → b ≡ foreignReleaseOf h t held l .seen → a ≡ b
 foreign-release-determined h t held l a b p q = determined p q
 
 pub acquire-preserving-determined : (h : Head) (t held : List ℕ) (c : ℕ) (a b : Reply × List ℕ) → a ≡ acquirePreservingOf h t held c .seen → b ≡ acquirePreservingOf h t held c .seen → a ≡ b
 acquire-preserving-determined h t held c a b p q = determined p q
 
-pub drop-preserving-determined : (h : Head) (t held : List ℕ) (l : Hold) (a b : Reply × List ℕ) → a ≡ dropPreservingOf h t held l .seen → b ≡ dropPreservingOf h t held l .seen → a ≡ b
+pub drop-preserving-determined : (h : Head) (t held : List ℕ) (l : Lease) (a b : Reply × List ℕ) → a ≡ dropPreservingOf h t held l .seen → b ≡ dropPreservingOf h t held l .seen → a ≡ b
 drop-preserving-determined h t held l a b p q = determined p q
 
 pub environment-determined : (h : Head) (t g script : List ℕ) (place : ℕ) (held : List ℕ) (a b : Played × (List ℕ × List ℕ)) → a ≡ environmentOf h t g script place held .seen → b ≡ environmentOf h t g script place held .seen → a ≡ b

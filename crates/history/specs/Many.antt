@@ -134,13 +134,13 @@ module _ (h : Head) (script : List ℕ) where
 
   pub locks-kept : (left p : ℕ) (ps taken : List Hold) (registry keys : List ℕ) (r : Run) (t g grants : List ℕ) (first : ℕ)
       → Fit (starts r t g) → first ≤ r .flow .next → Taken (starts r t g) first taken
-      → Gains (of-locks h) (AllLive h) (starts r t g) (λ l. In ps l × (l .serial < first)) (locksOf left p (given h script ps) (h .buckets) registry keys taken r t g grants)
+      → Gains (of-locks h) (AllLive h) (starts r t g) (λ l. In ps l × (l .serial < first)) (locksOf left p (given h script ps) (h .buckets) (h .boot) registry keys taken r t g grants)
   unfolding locksOf
   locks-kept zero p ps taken registry keys r t g grants first good f held =
       record {
         kept = nothing;
         gain = λ l i.
-            let x = in-index taken l noHold (subst (λ z. In z l) (leases-words taken) i) in
+            let x = in-index taken l noHold (subst (λ z. In z l) (leases-words (h .boot) taken) i) in
             subst (Live (starts r t g)) (sym (x .2)) (held .are-held .all-live (x .0) (x .1));
       }
   locks-kept (suc left) p ps taken registry keys r t g grants first good f held =
@@ -160,9 +160,9 @@ module _ (h : Head) (script : List ℕ) where
       go : (o : Outcome) (s : Run) (u x : List ℕ) → Fit (starts s u x) → Taken (starts s u x) first taken → Won (r .flow .next) (starts s u x) o
           → ((l : Hold) → Live (starts s u x) l → r .flow .next ≤ l .serial
           → Gains (of-locks h) (AllLive h) (starts s u x) (λ l. In ps l × (l .serial < first))
-          (locksOf left (p + 1) (given h script ps) (h .buckets) registry keys (taken ++ (l ∷ [])) s u x grants))
+          (locksOf left (p + 1) (given h script ps) (h .buckets) (h .boot) registry keys (taken ++ (l ∷ [])) s u x grants))
           → Gains (of-locks h) (AllLive h) (starts s u x) (λ l. In ps l × (l .serial < first))
-          (afterKey o (given h script ps) taken p s u x grants (λ l. locksOf left (p + 1) (given h script ps) (h .buckets) registry keys (taken ++ (l ∷ [])) s u x grants))
+          (afterKey o (given h script ps) taken p s u x grants (λ l. locksOf left (p + 1) (given h script ps) (h .buckets) (h .boot) registry keys (taken ++ (l ∷ [])) s u x grants))
       go o s u x good′ t (won l y i) more = more l y i
       go o s u x good′ t none-yet more = rollback-kept ps taken _ p s u x grants first good′ t
       go o s u x good′ t (no-more r) more = rollback-kept ps taken r p s u x grants first good′ t

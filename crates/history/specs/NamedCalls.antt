@@ -11,10 +11,10 @@ use borrow.Author.Tests.{eqb-true}
 use Rattle.history.specs.Crew.{crew-plan, crew-at-work-plan}
 use Rattle.model.specs.Crew.{rests, adds}
 use Rattle.model.specs.Log.{Made, Actor, Event, by-script, attempt-begun, boundary-run, yielded, spun, step-dropped, took, released, waiters-set, health-set, held-all, added}
-use Rattle.model.specs.Arena.{holdOf, holdsOf, isIn, setCell, serialRemains, bitAt, ownerAt, isFree, isLive}
+use Rattle.model.specs.Arena.{holdIn, holdOf, holdsOf, isIn, setCell, serialRemains, bitAt, ownerAt, isFree, isLive}
 use Rattle.model.specs.Foreign.{Setting, flowOf, stepTakeOf, stepReleaseOf, stepWaitersOf, stepHealthOf, stepOf}
 use Rattle.model.specs.Lock.{noHold, holdAt, attemptLimit, noneYet}
-use Rattle.model.specs.Checks.{countIn}
+use Rattle.model.specs.Checks.{countIn, leaseCount}
 use Rattle.model.specs.Calls.{given, starting, acquireOf}
 use Rattle.model.specs.Sorted.{cellsSorted, sortedKeys, firstKey}
 use Rattle.types.specs.declared.Head.{Head}
@@ -47,15 +47,15 @@ acquire-told n h t c A = more tt (handed (take-told [] 0 (and-took A attempt-beg
 
 steps-told : (w : World) (k : Call) → Clear (rules w k) → Told (script-of k) (place-of k) (Mine k) (steps w k .log) any
 steps-told w (try-acquire c) _ = acquire-told 1 (w .head) (w .table) c _
-steps-told w (drop-lease l) _ = more (in-at (l ∷ []) 0 (omega arith)) (none tt)
+steps-told w (drop-lease l) _ = more (in-at (holdIn l ∷ []) 0 (omega arith)) (none tt)
 steps-told w (read-permission l) _ = none tt
 steps-told w (competing-acquire l) _ = acquire-told 1 (w .head) (w .table) (l .cell) _
-steps-told w (release-then-handoff l) _ = more (in-at (l ∷ []) 0 (omega arith)) (acquire-told 1 (w .head) (setCell (w .table) (l .cell) 0 0) (l .cell) _)
+steps-told w (release-then-handoff l) _ = more (in-at (holdIn l ∷ []) 0 (omega arith)) (acquire-told 1 (w .head) (setCell (w .table) (l .cell) 0 0) (l .cell) _)
 steps-told w (foreign-release held l) _ =
     let m = acquireOf 1 (w .head) (w .table) (l .cell) .seen in
     andthen (acquire-told 1 (w .head) (w .table) (l .cell) _)
-    (λ B i _. more (i _ _ (in-at (l ∷ []) 0 (omega arith))) (acquire-told 2 (m .0 .head) (setCell (m .1) (l .cell) 0 0) (l .cell) _))
-steps-told w (drop-preserving held l) _ = more (in-at (l ∷ []) 0 (omega arith)) (none tt)
+    (λ B i _. more (i _ _ (in-at (holdIn l ∷ []) 0 (omega arith))) (acquire-told 2 (m .0 .head) (setCell (m .1) (l .cell) 0 0) (l .cell) _))
+steps-told w (drop-preserving held l) _ = more (in-at (holdIn l ∷ []) 0 (omega arith)) (none tt)
 steps-told w (acquire-preserving held c) _ = acquire-told 1 (w .head) (w .table) c _
 steps-told w (environment script place held) _ =
     told (boundary-told (acting w (environment script place held)) place (flowOf (w .head .next) place 0) (w .table) (w .health) _ (omega arith))
@@ -68,17 +68,17 @@ steps-told w (acquire-bucket registry script place held binding bucket) _ =
     let k = acquire-bucket registry script place held binding bucket in
     told (retry-told (acting w k) place (w .head .buckets) registry binding bucket attemptLimit 0 noneYet (starting (w .head) place) (w .table) (w .health) (Mine k) (omega arith))
 steps-told w (release-all script place leases) _ =
-    back-told (countIn leases) (acting w (release-all script place leases)) place (holdsOf leases) (starting (w .head) place) (w .table) (w .health) _ (omega arith)
+    back-told (leaseCount leases) (acting w (release-all script place leases)) place (holdsOf leases) (starting (w .head) place) (w .table) (w .health) _ (omega arith)
     (λ i h. in-at (holdsOf leases) i (omega (arith, words-leases leases)))
 steps-told w (acquire-locks registry script place held keys grants) _ =
     let k = acquire-locks registry script place held keys grants in
-    locks-told (acting w k) place (w .head .buckets) registry keys grants (countIn keys) 0 [] (starting (w .head) place) (w .table) (w .health) (Mine k) (omega arith)
+    locks-told (acting w k) place (w .head .buckets) (w .head .boot) registry keys grants (countIn keys) 0 [] (starting (w .head) place) (w .table) (w .health) (Mine k) (omega arith)
     (λ i h. absurd (omega arith))
 steps-told w (acquire-sorted registry script place held keys grants) _ =
     let k = acquire-sorted registry script place held keys grants in
     judged-at (λ (m : Made (World × Says)). Told script place (Mine k) (m .log) any) (firstKey (countIn keys) 0 (w .head) registry keys) (λ r p _. none tt)
     (λ _.
-    locks-told (acting w k) place (w .head .buckets) registry (sortedKeys (w .head .buckets) registry keys) grants (length (cellsSorted (w .head .buckets) registry keys)) 0 [] (starting (w .head) place) (w .table) (w .health) (Mine k) (omega arith)
+    locks-told (acting w k) place (w .head .buckets) (w .head .boot) registry (sortedKeys (w .head .buckets) registry keys) grants (length (cellsSorted (w .head .buckets) registry keys)) 0 [] (starting (w .head) place) (w .table) (w .health) (Mine k) (omega arith)
     (λ i h. absurd (omega arith)))
 steps-told w (crew counts cells turns) fine = crew-told rests w counts cells turns [] (Mine (crew counts cells turns)) (crew-plan _ _ _ counts cells turns fine)
 steps-told w (crew-at-work counts cells turns counters) fine =

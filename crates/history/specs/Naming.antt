@@ -280,16 +280,16 @@ back-told (suc n) e low ls r t g A b h =
     more (h n (omega arith))
     (andthen (boundary-told (protecting e (take n ls)) low (r .flow) u g _ b) (λ B i d. back-told n e low ls k (m .1 .0) (m .1 .1) B d (λ j q. i _ _ (inl (h j (omega arith))))))
 
-module _ (e : Setting) (low buckets : ℕ) (registry keys grants : List ℕ) where
+module _ (e : Setting) (low buckets boot : ℕ) (registry keys grants : List ℕ) where
   pub locks-told : (left p : ℕ) (taken : List Hold) (r : Run) (t g : List ℕ) (A : Leases) → low ≤ r .flow .place → First (length taken) taken A
-      → Told (e .script) low A (locksOf left p e buckets registry keys taken r t g grants .log) any
+      → Told (e .script) low A (locksOf left p e buckets boot registry keys taken r t g grants .log) any
   unfolding locksOf rollbackOf
   locks-told zero p taken r t g A b h = none tt
   locks-told (suc left) p taken r t g A b h =
       let m = retryOf attemptLimit 0 noneYet (protecting e taken) buckets registry (bindingAt keys p) (bucketAt keys p) r t g .seen in
       andthen (retry-told (protecting e taken) low buckets registry (bindingAt keys p) (bucketAt keys p) attemptLimit 0 noneYet r t g A b)
       (λ B i k. go (m .0 .run) (m .1 .0) (m .1 .1) B (λ j q. i _ _ (h j q)) (m .0 .outcome)
-      (λ l. locksOf left (p + 1) e buckets registry keys (taken ++ (l ∷ [])) (m .0 .run) (m .1 .0) (m .1 .1) grants)
+      (λ l. locksOf left (p + 1) e buckets boot registry keys (taken ++ (l ∷ [])) (m .0 .run) (m .1 .0) (m .1 .1) grants)
       (λ l x. locks-told left (p + 1) (taken ++ (l ∷ [])) (m .0 .run) (m .1 .0) (m .1 .1) B (k .1) x) (k .0) (k .1))
     where
       go : (k : Run) (u w : List ℕ) (B : Leases) → First (length taken) taken B → (x : Outcome) (more : Hold → Made Locks)

@@ -313,21 +313,21 @@ module _ (e : Setting) where
       hand {K = Nobody} (k .settles) (λ l i. k .passes l (rw (take-length taken) i)) (record { settles = none; passes = λ l x. absurd x })
 
 module _ (e : Setting) where
-  pub locks-hands : (left p buckets : ℕ) (registry keys : List ℕ) (taken : List Hold) (r : Run) (t g grants : List ℕ)
-      → Hands of-ended (In taken) (locksOf left p e buckets registry keys taken r t g grants)
+  pub locks-hands : (left p buckets boot : ℕ) (registry keys : List ℕ) (taken : List Hold) (r : Run) (t g grants : List ℕ)
+      → Hands of-ended (In taken) (locksOf left p e buckets boot registry keys taken r t g grants)
   unfolding locksOf
-  locks-hands zero p buckets registry keys taken r t g grants = record { settles = none; passes = λ l i. inl (rw (leases-words taken) i) }
-  locks-hands (suc left) p buckets registry keys taken r t g grants =
+  locks-hands zero p buckets boot registry keys taken r t g grants = record { settles = none; passes = λ l i. inl (rw (leases-words boot taken) i) }
+  locks-hands (suc left) p buckets boot registry keys taken r t g grants =
       let k = retry-hands (protecting e taken) attemptLimit 0 noneYet buckets registry (bindingAt keys p) (bucketAt keys p) r t g in
       let m = retryOf attemptLimit 0 noneYet (protecting e taken) buckets registry (bindingAt keys p) (bucketAt keys p) r t g .seen in
       hand {K = λ l. In taken l ⊎ Given (m .0 .outcome) l} (loosen (λ l x. inr x) (k .settles)) (λ l i. inl (inl i))
       (go (m .0 .outcome) (m .0 .run) (m .1 .0) (m .1 .1)
-      (λ l. locks-hands left (p + 1) buckets registry keys (taken ++ (l ∷ [])) (m .0 .run) (m .1 .0) (m .1 .1) grants))
+      (λ l. locks-hands left (p + 1) buckets boot registry keys (taken ++ (l ∷ [])) (m .0 .run) (m .1 .0) (m .1 .1) grants))
     where
       go : (o : Outcome) (s : Run) (u x : List ℕ)
-          → ((l : Hold) → Hands of-ended (In (taken ++ (l ∷ []))) (locksOf left (p + 1) e buckets registry keys (taken ++ (l ∷ [])) s u x grants))
+          → ((l : Hold) → Hands of-ended (In (taken ++ (l ∷ []))) (locksOf left (p + 1) e buckets boot registry keys (taken ++ (l ∷ [])) s u x grants))
           → Hands of-ended (λ l. In taken l ⊎ Given o l)
-          (afterKey o e taken p s u x grants (λ l. locksOf left (p + 1) e buckets registry keys (taken ++ (l ∷ [])) s u x grants))
+          (afterKey o e taken p s u x grants (λ l. locksOf left (p + 1) e buckets boot registry keys (taken ++ (l ∷ [])) s u x grants))
       go (outcome.Granted k) s u x on =
           record {
             settles = on k .settles;

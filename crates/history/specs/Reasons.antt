@@ -7,7 +7,7 @@ use mathlib.Core.Logic.{_↔_}
 use Rattle.model.specs.Log.{Made, Event, by-caller, took, released}
 use Rattle.model.specs.Arena.{holdOf, waitersAt, stateAt}
 use Rattle.types.specs.declared.Answer.the-variants.{Busy}
-use Rattle.types.specs.declared.Hold.{Hold}
+use Rattle.types.specs.declared.Lease.{Lease}
 use Rattle.types.specs.declared.Reason.{Reason}
 use Rattle.types.specs.declared.Reason.the-variants.{Held, Before, After}
 use Rattle.types.specs.declared.State.the-variants as state
@@ -91,4 +91,4 @@ Late-is-spent f = (w : World) (k : Call) (s : ℕ) → Locks-once k → Whole w 
 
 -- one compare-and-set by itself is Busy only by a holder, and `competing_acquire_is_excluded` names the serial of the lease that it was given
 abbrev pub Own-serial : Build → Type 0
-Own-serial f = (w : World) (l : Hold) (why : Reason) → answer-in (f w (competing-acquire l)) ≡ Busy why → why ≡ Held (l .serial)
+Own-serial f = (w : World) (l : Lease) (why : Reason) → answer-in (f w (competing-acquire l)) ≡ Busy why → why ≡ Held (l .serial)

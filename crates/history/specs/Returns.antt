@@ -8,10 +8,10 @@ use native.Mathlib.Omega.{arith}
 use lib.ListN.{length}
 use borrow.Author.Tests.{not-false}
 use Rattle.model.specs.Log.{Made, Event, by-caller, attempt-begun, took, released}
-use Rattle.model.specs.Arena.{cellsOf, bitAt, ownerAt, isLive, stateAt, setCell, holdsOf, holdOf}
+use Rattle.model.specs.Arena.{cellsOf, holdIn, bitAt, ownerAt, isLive, stateAt, setCell, holdsOf, holdOf}
 use Rattle.model.specs.Foreign.{Setting, protecting, flowOf}
 use Rattle.model.specs.Lock.{takeOf, outcomeOf, answerOf, settled, attemptLimit, noneYet, retryOf, bindingAt, bucketAt, rollbackOf, afterKey, locksOf}
-use Rattle.model.specs.Checks.{countIn, badShape, badHeld, heldLeaseRules}
+use Rattle.model.specs.Checks.{countIn, leaseCount, badShape, badHeld, heldLeaseRules}
 use Rattle.model.specs.Calls.{starting, acquireOf}
 use Rattle.model.specs.Sorted.{cellsSorted, sortedKeys, firstKey, askedFirst, handedBack}
 use Rattle.types.specs.declared.Answer.{Answer}
@@ -58,15 +58,15 @@ gone w es f k (freed-later e {es = xs} g) v = gone (step w e) xs (fit-step w e f
 
 -- ---- what each call hands over
 
-given-over : (o : Outcome) (l : Hold) → Given o l → Hands-over (answerOf o) [] l
-given-over (outcome.Granted k) l e = cc
-given-over (outcome.Busy why) l e = let z : _≡_ {A = ℕ} 0 1 = cc in absurd (omega arith)
-given-over (outcome.Refused r) l e = let z : _≡_ {A = ℕ} 0 1 = cc in absurd (omega arith)
+given-over : (boot : ℕ) (o : Outcome) (l : Hold) → Given o l → Hands-over (answerOf boot o) [] l
+given-over boot (outcome.Granted k) l e = cc
+given-over boot (outcome.Busy why) l e = let z : _≡_ {A = ℕ} 0 1 = cc in absurd (omega arith)
+given-over boot (outcome.Refused r) l e = let z : _≡_ {A = ℕ} 0 1 = cc in absurd (omega arith)
 
-given-settled : (o : Outcome) (l : Hold) → Given o l → Hands-over (answerOf (settled o)) [] l
-given-settled (outcome.Granted k) l e = cc
-given-settled (outcome.Busy why) l e = let z : _≡_ {A = ℕ} 0 1 = cc in absurd (omega arith)
-given-settled (outcome.Refused r) l e = let z : _≡_ {A = ℕ} 0 1 = cc in absurd (omega arith)
+given-settled : (boot : ℕ) (o : Outcome) (l : Hold) → Given o l → Hands-over (answerOf boot (settled o)) [] l
+given-settled boot (outcome.Granted k) l e = cc
+given-settled boot (outcome.Busy why) l e = let z : _≡_ {A = ℕ} 0 1 = cc in absurd (omega arith)
+given-settled boot (outcome.Refused r) l e = let z : _≡_ {A = ℕ} 0 1 = cc in absurd (omega arith)
 
 module _ (h : Head) (t : List ℕ) where
   abbrev Replying : Made (Reply × List ℕ) → Type 0
@@ -75,7 +75,7 @@ module _ (h : Head) (t : List ℕ) where
   acquire-settles : (n c : ℕ) → Replying (acquireOf n h t c)
   unfolding acquireOf
   acquire-settles n c =
-      more attempt-begun tt (join (take-hands (h .next) t c) none (λ l x. inl (given-over (outcomeOf c (takeOf (h .next) t c .seen .0 .answer)) l x)))
+      more attempt-begun tt (join (take-hands (h .next) t c) none (λ l x. inl (given-over (h .boot) (outcomeOf c (takeOf (h .next) t c .seen .0 .answer)) l x)))
 
   -- a cell that a live lease holds is not taken
   acquire-held : (n : ℕ) (l : Hold) → isLive (h .next) (cellsOf h) t l ≡ true → Settles Nobody (acquireOf n h t (l .cell) .log)
@@ -95,32 +95,32 @@ steps-settles w (release-then-handoff l) n k = more _ tt (acquire-settles (w .he
 steps-settles w (foreign-release held l) n k =
     let c = clear-back (badShape (w .head) (w .table) ∷ badHeld (w .head) (w .table) held) _ k in
     let m = acquireOf 1 (w .head) (w .table) (l .cell) .seen in
-    join (acquire-held (w .head) (w .table) 1 l (not-false (isLive (w .head .next) (cells w) (w .table) l) (c .0)))
+    join (acquire-held (w .head) (w .table) 1 (holdIn l) (not-false (isLive (w .head .next) (cells w) (w .table) (holdIn l)) (c .1 .0)))
     (more (released by-caller (l .cell) (l .serial)) tt (acquire-settles (m .0 .head) (setCell (m .1) (l .cell) 0 0) 2 (l .cell))) (λ l x. absurd x)
 steps-settles w (drop-preserving held l) n k = more _ tt none
 steps-settles w (acquire-preserving held c) n k = acquire-settles (w .head) (w .table) 1 c
 steps-settles w (environment script place held) n k =
     quiet (boundary-silent (acting w (environment script place held)) (flowOf (w .head .next) place 0) (w .table) (w .health))
 steps-settles w (try-lock script place held c) n k =
-    more attempt-begun tt (loosen (given-over _) (lock-hands (acting w (try-lock script place held c)) (w .head .buckets) (flowOf (w .head .next) place 0) (w .table) (w .health) c .settles))
+    more attempt-begun tt (loosen (given-over (w .head .boot) _) (lock-hands (acting w (try-lock script place held c)) (w .head .buckets) (flowOf (w .head .next) place 0) (w .table) (w .health) c .settles))
 steps-settles w (transactional registry script place held binding bucket) n k =
     let e = acting w (transactional registry script place held binding bucket) in
-    loosen (given-over _) (attempt-hands e (w .head .buckets) registry binding bucket (starting (w .head) place) (w .table) (w .health) .settles)
+    loosen (given-over (w .head .boot) _) (attempt-hands e (w .head .buckets) registry binding bucket (starting (w .head) place) (w .table) (w .health) .settles)
 steps-settles w (acquire-bucket registry script place held binding bucket) n k =
     let e = acting w (acquire-bucket registry script place held binding bucket) in
-    loosen (given-settled _) (retry-hands e attemptLimit 0 noneYet (w .head .buckets) registry binding bucket (starting (w .head) place) (w .table) (w .health) .settles)
+    loosen (given-settled (w .head .boot) _) (retry-hands e attemptLimit 0 noneYet (w .head .buckets) registry binding bucket (starting (w .head) place) (w .table) (w .health) .settles)
 steps-settles w (release-all script place leases) n k =
-    give-back-hands (acting w (release-all script place leases)) (countIn leases) (holdsOf leases) (starting (w .head) place) (w .table) (w .health)
+    give-back-hands (acting w (release-all script place leases)) (leaseCount leases) (holdsOf leases) (starting (w .head) place) (w .table) (w .health)
     (omega (arith, words-leases leases)) .settles
 steps-settles w (acquire-locks registry script place held keys grants) n k =
     let e = acting w (acquire-locks registry script place held keys grants) in
-    locks-hands e (countIn keys) 0 (w .head .buckets) registry keys [] (starting (w .head) place) (w .table) (w .health) grants .settles
+    locks-hands e (countIn keys) 0 (w .head .buckets) (w .head .boot) registry keys [] (starting (w .head) place) (w .table) (w .health) grants .settles
 steps-settles w (acquire-sorted registry script place held keys grants) n k =
     let e = acting w (acquire-sorted registry script place held keys grants) in
     judged-at (λ (m : Made (World × Says)). Settles (Hands-over (m .seen .1 .answer) (m .seen .1 .grants)) (m .log)) (firstKey (countIn keys) 0 (w .head) registry keys) (λ r p _. none)
     (λ _.
     loosen (inner-handed w registry script place held keys grants)
-    (locks-hands e (length (cellsSorted (w .head .buckets) registry keys)) 0 (w .head .buckets) registry (sortedKeys (w .head .buckets) registry keys) [] (starting (w .head) place) (w .table) (w .health) grants .settles))
+    (locks-hands e (length (cellsSorted (w .head .buckets) registry keys)) 0 (w .head .buckets) (w .head .boot) registry (sortedKeys (w .head .buckets) registry keys) [] (starting (w .head) place) (w .table) (w .health) grants .settles))
 steps-settles w (crew counts cells turns) n k = absurd (n tt)
 steps-settles w (crew-at-work counts cells turns counters) n k = absurd (n tt)
 
@@ -154,18 +154,18 @@ calls-keep-nothing w k c s before after n e = go (settled-at c s before after (s
 
 -- ---- the buffer
 
-locks-buffer : (left p : ℕ) (e : Setting) (buckets : ℕ) (registry keys : List ℕ) (taken : List Hold) (r : Run) (t g grants : List ℕ)
-    → let m = locksOf left p e buckets registry keys taken r t g grants in (m .seen .0 .answer ≡ AllGranted → ⊥) → m .seen .1 .1 .1 ≡ grants
+locks-buffer : (left p : ℕ) (e : Setting) (buckets boot : ℕ) (registry keys : List ℕ) (taken : List Hold) (r : Run) (t g grants : List ℕ)
+    → let m = locksOf left p e buckets boot registry keys taken r t g grants in (m .seen .0 .answer ≡ AllGranted → ⊥) → m .seen .1 .1 .1 ≡ grants
 unfolding locksOf rollbackOf
-locks-buffer zero p e buckets registry keys taken r t g grants n = absurd (n refl)
-locks-buffer (suc left) p e buckets registry keys taken r t g grants n =
+locks-buffer zero p e buckets boot registry keys taken r t g grants n = absurd (n refl)
+locks-buffer (suc left) p e buckets boot registry keys taken r t g grants n =
     let m = retryOf attemptLimit 0 noneYet (protecting e taken) buckets registry (bindingAt keys p) (bucketAt keys p) r t g .seen in
     go (m .0 .outcome) (m .0 .run) (m .1 .0) (m .1 .1)
-    (λ l. locks-buffer left (p + 1) e buckets registry keys (taken ++ (l ∷ [])) (m .0 .run) (m .1 .0) (m .1 .1) grants) n
+    (λ l. locks-buffer left (p + 1) e buckets boot registry keys (taken ++ (l ∷ [])) (m .0 .run) (m .1 .0) (m .1 .1) grants) n
   where
     go : (o : Outcome) (s : Run) (u y : List ℕ)
-        → ((l : Hold) → let m = locksOf left (p + 1) e buckets registry keys (taken ++ (l ∷ [])) s u y grants in (m .seen .0 .answer ≡ AllGranted → ⊥) → m .seen .1 .1 .1 ≡ grants)
-        → let m = afterKey o e taken p s u y grants (λ l. locksOf left (p + 1) e buckets registry keys (taken ++ (l ∷ [])) s u y grants) in
+        → ((l : Hold) → let m = locksOf left (p + 1) e buckets boot registry keys (taken ++ (l ∷ [])) s u y grants in (m .seen .0 .answer ≡ AllGranted → ⊥) → m .seen .1 .1 .1 ≡ grants)
+        → let m = afterKey o e taken p s u y grants (λ l. locksOf left (p + 1) e buckets boot registry keys (taken ++ (l ∷ [])) s u y grants) in
         (m .seen .0 .answer ≡ AllGranted → ⊥) → m .seen .1 .1 .1 ≡ grants
     go (outcome.Granted l) s u y on = on l
     go (outcome.Busy why) s u y on = λ _. refl
@@ -186,15 +186,15 @@ steps-buffer w (transactional registry script place held binding bucket) n = ref
 steps-buffer w (acquire-bucket registry script place held binding bucket) n = refl
 steps-buffer w (release-all script place leases) n = refl
 steps-buffer w (acquire-locks registry script place held keys grants) n =
-    locks-buffer (countIn keys) 0 (acting w (acquire-locks registry script place held keys grants)) (w .head .buckets) registry keys [] (starting (w .head) place) (w .table) (w .health) grants n
+    locks-buffer (countIn keys) 0 (acting w (acquire-locks registry script place held keys grants)) (w .head .buckets) (w .head .boot) registry keys [] (starting (w .head) place) (w .table) (w .health) grants n
 steps-buffer w (acquire-sorted registry script place held keys grants) n =
     judged-at (λ (m : Made (World × Says)). (m .seen .1 .answer ≡ AllGranted → ⊥) → m .seen .1 .grants ≡ grants) (firstKey (countIn keys) 0 (w .head) registry keys) (λ r p _ _. refl)
     (λ _.
     kept _ _ _ (sorted-locks w registry script place held keys grants .seen .0 .answer)
-    (locks-buffer (length (cellsSorted (w .head .buckets) registry keys)) 0 (acting w (acquire-sorted registry script place held keys grants)) (w .head .buckets) registry (sortedKeys (w .head .buckets) registry keys) [] (starting (w .head) place) (w .table) (w .health) grants)) n
+    (locks-buffer (length (cellsSorted (w .head .buckets) registry keys)) 0 (acting w (acquire-sorted registry script place held keys grants)) (w .head .buckets) (w .head .boot) registry (sortedKeys (w .head .buckets) registry keys) [] (starting (w .head) place) (w .table) (w .health) grants)) n
   where
     -- so a refusal hands the buffer back as it was
-    kept : (asked sorted b : List ℕ) (x : Answer) → ((x ≡ AllGranted → ⊥) → b ≡ grants) → (askedFirst x asked sorted ≡ AllGranted → ⊥) → handedBack x asked b ≡ grants
+    kept : (asked sorted b : List ℕ) (x : Answer) → ((x ≡ AllGranted → ⊥) → b ≡ grants) → (askedFirst x asked sorted ≡ AllGranted → ⊥) → handedBack (w .head .boot) x asked b ≡ grants
     kept asked sorted b Done f n = f n
     kept asked sorted b (Cell c) f n = f n
     kept asked sorted b (Granted l) f n = f n

@@ -19,12 +19,13 @@ use Rattle.model.specs.Sorted.{cellOfKey, cellsFrom, cellsAsked, cellsSorted, f
 use Rattle.types.specs.declared.Answer.{Answer}
 use Rattle.types.specs.declared.Answer.the-variants.{Done, Cell, Granted, AllGranted, Busy, Refused, RefusedAt}
 use Rattle.types.specs.declared.Hold.{Hold}
+use Rattle.laws.specs.Checks.{leaseIn}
 use Rattle.laws.specs.Lists.{length-words}
 use Rattle.laws.specs.Sorting.{Rising, isAmong, sorted-is, first-asking, stands-at}
 use Rattle.history.specs.World.{World}
 use Rattle.history.specs.Items.{Says, acquire-locks, acquire-sorted, in-order, any-order, keyCell, perform}
 use Rattle.history.specs.Statements.{Hands-over, Buffer-is}
-use Rattle.history.specs.Tests.{In, in-take, in-index, leases-words}
+use Rattle.history.specs.Tests.{In, in-take, in-index, leases-words, words-boot}
 use Rattle.history.specs.Judged.{judged-at, sorted-locks, performed}
 use Rattle.history.specs.ByKey.{locks-filled}
 
@@ -289,23 +290,23 @@ module _ (w : World) (registry script : List ℕ) (place : ℕ) (held keys grant
   inner-buffer = sorted-locks w registry script place held keys grants .seen .1 .1 .1
 
   pub steps-hand-back : inner-answer ≡ AllGranted
-      → Handed-back (w .head .buckets) registry keys (holdsOf inner-buffer) (holdsOf (handedBack AllGranted (cellsAsked (w .head .buckets) registry keys) inner-buffer))
+      → Handed-back (w .head .buckets) registry keys (holdsOf inner-buffer) (holdsOf (handedBack (w .head .boot) AllGranted (cellsAsked (w .head .buckets) registry keys) inner-buffer))
   steps-hand-back a =
       let b = w .head .buckets in
       let n = length (sorted-cells b registry keys) in
-      let f = locks-filled b registry (chosen-keys b registry keys) n n 0 (omega arith) (given (w .head) script (holdsOf held)) [] (starting (w .head) place) (w .table) (w .health) grants refl
+      let f = locks-filled b (w .head .boot) registry (chosen-keys b registry keys) n n 0 (omega arith) (given (w .head) script (holdsOf held)) [] (starting (w .head) place) (w .table) (w .health) grants refl
       (λ i x. absurd (omega arith)) a in
-      rw (leases-words (sharedOf (holdsOf inner-buffer) (asked-cells b registry keys)))
+      rw (leases-words (w .head .boot) (sharedOf (holdsOf inner-buffer) (asked-cells b registry keys)))
       (handed-back b registry keys (holdsOf inner-buffer) (f .many) (λ i l. f .filled i l ∙ chosen-cell b registry keys i l))
 
   -- what the caller is handed is what the steps hand over
   pub handed-inner : (l : Hold)
-      → Hands-over (askedFirst inner-answer (cellsAsked (w .head .buckets) registry keys) (cellsSorted (w .head .buckets) registry keys)) (handedBack inner-answer (cellsAsked (w .head .buckets) registry keys) inner-buffer) l
+      → Hands-over (askedFirst inner-answer (cellsAsked (w .head .buckets) registry keys) (cellsSorted (w .head .buckets) registry keys)) (handedBack (w .head .boot) inner-answer (cellsAsked (w .head .buckets) registry keys) inner-buffer) l
       → Hands-over inner-answer inner-buffer l
   handed-inner l = go inner-answer (λ e. back-among (w .head .buckets) registry keys (steps-hand-back e) l)
     where
-      go : (a : Answer) → (a ≡ AllGranted → In (holdsOf (handedBack AllGranted (cellsAsked (w .head .buckets) registry keys) inner-buffer)) l → In (holdsOf inner-buffer) l)
-          → Hands-over (askedFirst a (cellsAsked (w .head .buckets) registry keys) (cellsSorted (w .head .buckets) registry keys)) (handedBack a (cellsAsked (w .head .buckets) registry keys) inner-buffer) l
+      go : (a : Answer) → (a ≡ AllGranted → In (holdsOf (handedBack (w .head .boot) AllGranted (cellsAsked (w .head .buckets) registry keys) inner-buffer)) l → In (holdsOf inner-buffer) l)
+          → Hands-over (askedFirst a (cellsAsked (w .head .buckets) registry keys) (cellsSorted (w .head .buckets) registry keys)) (handedBack (w .head .boot) a (cellsAsked (w .head .buckets) registry keys) inner-buffer) l
           → Hands-over a inner-buffer l
       go Done f x = x
       go (Cell c) f x = x
@@ -316,12 +317,12 @@ module _ (w : World) (registry script : List ℕ) (place : ℕ) (held keys grant
       go (RefusedAt r p) f x = x
 
   pub inner-handed : (l : Hold) → Hands-over inner-answer inner-buffer l
-      → Hands-over (askedFirst inner-answer (cellsAsked (w .head .buckets) registry keys) (cellsSorted (w .head .buckets) registry keys)) (handedBack inner-answer (cellsAsked (w .head .buckets) registry keys) inner-buffer) l
+      → Hands-over (askedFirst inner-answer (cellsAsked (w .head .buckets) registry keys) (cellsSorted (w .head .buckets) registry keys)) (handedBack (w .head .boot) inner-answer (cellsAsked (w .head .buckets) registry keys) inner-buffer) l
   inner-handed l = go inner-answer (λ e. among-back (w .head .buckets) registry keys (steps-hand-back e) l)
     where
-      go : (a : Answer) → (a ≡ AllGranted → In (holdsOf inner-buffer) l → In (holdsOf (handedBack AllGranted (cellsAsked (w .head .buckets) registry keys) inner-buffer)) l)
+      go : (a : Answer) → (a ≡ AllGranted → In (holdsOf inner-buffer) l → In (holdsOf (handedBack (w .head .boot) AllGranted (cellsAsked (w .head .buckets) registry keys) inner-buffer)) l)
           → Hands-over a inner-buffer l
-          → Hands-over (askedFirst a (cellsAsked (w .head .buckets) registry keys) (cellsSorted (w .head .buckets) registry keys)) (handedBack a (cellsAsked (w .head .buckets) registry keys) inner-buffer) l
+          → Hands-over (askedFirst a (cellsAsked (w .head .buckets) registry keys) (cellsSorted (w .head .buckets) registry keys)) (handedBack (w .head .boot) a (cellsAsked (w .head .buckets) registry keys) inner-buffer) l
       go Done f x = x
       go (Cell c) f x = x
       go (Granted k) f x = x
@@ -335,8 +336,9 @@ module _ (w : World) (registry script : List ℕ) (place : ℕ) (held keys grant
 abbrev Whole : World → (registry keys : List ℕ) → Made (World × Says) → Type 0
 Whole w registry keys m =
     m .seen .1 .answer ≡ AllGranted
-    → (length (m .seen .1 .grants) ≡ 2 * countIn keys)
+    → (length (m .seen .1 .grants) ≡ 3 * countIn keys)
     × ((p : ℕ) → p < countIn keys → holdAt (holdsOf (m .seen .1 .grants)) p .cell ≡ keyCell (w .head .buckets) registry keys p)
+    × ((p : ℕ) → p < countIn keys → leaseIn (m .seen .1 .grants) p .boot ≡ w .head .boot)
 
 -- only a granted lock is a granted call
 pub all-inner : (asked sorted : List ℕ) (x : Answer) → askedFirst x asked sorted ≡ AllGranted → x ≡ AllGranted
@@ -352,9 +354,9 @@ pub buffers-name : Buffer-is perform
 buffers-name w k _ _ (in-order registry script place held keys grants) =
     performed (Whole w registry keys) w (acquire-locks registry script place held keys grants) (λ r a. let z : _≡_ {A = ℕ} 0 1 = cc in absurd (omega arith))
     (λ _ a.
-    let f = locks-filled (w .head .buckets) registry keys (countIn keys) (countIn keys) 0 (omega arith) (given (w .head) script (holdsOf held)) [] (starting (w .head) place) (w .table) (w .health) grants refl
+    let f = locks-filled (w .head .buckets) (w .head .boot) registry keys (countIn keys) (countIn keys) 0 (omega arith) (given (w .head) script (holdsOf held)) [] (starting (w .head) place) (w .table) (w .health) grants refl
     (λ i x. absurd (omega arith)) a in
-    (f .long, f .filled))
+    (f .long, f .filled, f .own-boot))
 buffers-name w k _ _ (any-order registry script place held keys grants) =
     performed (Whole w registry keys) w (acquire-sorted registry script place held keys grants) (λ r a. let z : _≡_ {A = ℕ} 0 1 = cc in absurd (omega arith))
     (λ _.
@@ -367,12 +369,19 @@ buffers-name w k _ _ (any-order registry script place held keys grants) =
     buffer : List ℕ
     buffer = sorted-locks w registry script place held keys grants .seen .1 .1 .1
 
-    go : (x : Answer) → x ≡ AllGranted → (x ≡ AllGranted → Handed-back (w .head .buckets) registry keys (holdsOf buffer) (holdsOf (handedBack AllGranted asked buffer)))
-        → (length (handedBack x asked buffer) ≡ 2 * countIn keys)
-        × ((p : ℕ) → p < countIn keys → holdAt (holdsOf (handedBack x asked buffer)) p .cell ≡ keyCell (w .head .buckets) registry keys p)
+    -- as many as keys
+    many : Handed-back (w .head .buckets) registry keys (holdsOf buffer) (holdsOf (handedBack (w .head .boot) AllGranted asked buffer))
+        → length (sharedOf (holdsOf buffer) asked) ≡ countIn keys
+    many b = sym (ap length (leases-words (w .head .boot) (sharedOf (holdsOf buffer) asked))) ∙ b .as-many
+
+    go : (x : Answer) → x ≡ AllGranted → (x ≡ AllGranted → Handed-back (w .head .buckets) registry keys (holdsOf buffer) (holdsOf (handedBack (w .head .boot) AllGranted asked buffer)))
+        → (length (handedBack (w .head .boot) x asked buffer) ≡ 3 * countIn keys)
+        × ((p : ℕ) → p < countIn keys → holdAt (holdsOf (handedBack (w .head .boot) x asked buffer)) p .cell ≡ keyCell (w .head .buckets) registry keys p)
+        × ((p : ℕ) → p < countIn keys → leaseIn (handedBack (w .head .boot) x asked buffer) p .boot ≡ w .head .boot)
     go x e h =
         let b = h e in
         rw e (
-          omega (arith, length-words (sharedOf (holdsOf buffer) asked), ap length (leases-words (sharedOf (holdsOf buffer) asked)), b .as-many),
+          omega (arith, length-words (w .head .boot) (sharedOf (holdsOf buffer) asked), many b),
           back-own (w .head .buckets) registry keys b,
+          λ p l. words-boot (w .head .boot) (sharedOf (holdsOf buffer) asked) p (omega (arith, many b)),
         )

@@ -1,5 +1,5 @@
 -- What the model's tests say of a cell, of a lease and of a list of leases, as facts about numbers; and what those facts say of the tests.
-use Prim.Native.Nat.{ℕ, zero, suc, _+_, _≤_, _<_}
+use Prim.Native.Nat.{ℕ, zero, suc, _+_, _*_, _≤_, _<_}
 use mathlib.Core.Path.{_≡_, refl, sym, ap, _∙_}
 use mathlib.Core.List.{List, [], _∷_, _++_}
 use mathlib.Core.Bool.{Bool, true, false, _&&_}
@@ -14,6 +14,7 @@ use Rattle.types.specs.declared.Hold.{Hold}
 use Rattle.types.specs.declared.State.{State}
 use Rattle.types.specs.declared.State.the-variants.{Free, Held, Damaged}
 use Rattle.choice.specs.Pick.{both}
+use Rattle.laws.specs.Lists.{words-back}
 
 -- two constructors of Bool
 pub differ : false ≡ true → ⊥
@@ -195,10 +196,15 @@ in-index (k ∷ ls) l d i = go (in-cases k l ls i) (in-index ls l d)
     go (inr j) r = let x = r j in (suc (x .0), omega (arith, x .1), x .2)
 
 -- leases written as words and read again
-pub leases-words : (ls : List Hold) → holdsOf (wordsOf ls) ≡ ls
-unfolding holdsOf wordsOf
-leases-words [] = refl
-leases-words (l ∷ ls) = ap {B = List Hold} (λ ks. l ∷ ks) (leases-words ls)
+pub leases-words : (boot : ℕ) (ls : List Hold) → holdsOf (wordsOf boot ls) ≡ ls
+leases-words = words-back
+
+-- each with the boot number that they were written with
+pub words-boot : (boot : ℕ) (ls : List Hold) (p : ℕ) → p < length ls → getD (wordsOf boot ls) (3 * p + 2) 0 ≡ boot
+unfolding wordsOf
+words-boot boot [] p k = absurd (omega arith)
+words-boot boot (l ∷ ls) zero k = refl
+words-boot boot (l ∷ ls) (suc p) k = let e : 3 * suc p + 2 ≡ suc (suc (suc (3 * p + 2))) = omega arith in rw e (words-boot boot ls p (omega arith))
 
 -- ---- choices
 

@@ -8,7 +8,7 @@ use native.Mathlib.Omega.{arith}
 use lib.ListN.{length}
 use lib.Seq.{take-length}
 use Rattle.model.specs.Log.{Made, Actor, Event, by-caller, attempt-begun, boundary-run, yielded, spun, step-dropped, took, released, waiters-set, health-set, held-all, added}
-use Rattle.model.specs.Arena.{holdOf, holdsOf, setCell}
+use Rattle.model.specs.Arena.{holdOf, holdIn, holdsOf, setCell}
 use Rattle.model.specs.Foreign.{Setting, protecting, flowOf}
 use Rattle.model.specs.Lock.{takeOf, lockOf, outcomeOf, answerOf, attemptOf, retryOf, attemptLimit, noneYet, settled, holdAt, noHold, rollbackOf, afterKey, bindingAt, bucketAt, locksOf}
 use Rattle.model.specs.Checks.{countIn}
@@ -124,14 +124,14 @@ salvaged-fair (salvaged.Done e n) w v d s = tt
 salvaged-fair salvaged.BadShape w v d s = s .fair
 salvaged-fair salvaged.ReportFull w v d s = s .fair
 
-hands-none : (headers buckets serial : ℕ) (t g : List ℕ) (l : Hold) → Hands-over (preparing headers buckets serial t g .0) [] l → ⊥
+hands-none : (headers buckets serial boot : ℕ) (t g : List ℕ) (l : Hold) → Hands-over (preparing headers buckets serial boot t g .0) [] l → ⊥
 unfolding preparing
-hands-none headers buckets serial t g l = go (came headers buckets serial t g)
+hands-none headers buckets serial boot t g l = go (came headers buckets serial boot t g)
   where
     None : Prepared → Type 0
     None o = Hands-over (o .0 .answer) [] l → ⊥
 
-    go : Came headers buckets serial t g → None (prepareOf headers buckets serial t g .seen)
+    go : Came headers buckets serial boot t g → None (prepareOf headers buckets serial boot t g .seen)
     go (was-done e p) = subst None (sym p) (λ x. x)
     go (was-refused e p) = subst None (sym p) (λ x. x)
 
@@ -139,12 +139,12 @@ item-fair : (d : Course) (i : Item) → Kept-well d → Fair (next-item d i .ori
 unfolding next-item
 item-fair d (call k) s = one-more d _ s (call-honest (d .world) k)
 item-fair d (foreign-step kind place number) s = one-more d _ s (λ l x. absurd x)
-item-fair d (preparation headers buckets serial) s =
-    let p = preparing headers buckets serial (d .world .table) (d .world .health) in
-    prepared-fair (p .0) (p .1) (worldOf (d .world .head) (p .1 .table) (p .1 .health)) d (hands-none headers buckets serial (d .world .table) (d .world .health)) s
-item-fair d (preparation-over headers buckets serial t g) s =
-    let p = preparing headers buckets serial t g in
-    prepared-fair (p .0) (p .1) (d .world) d (hands-none headers buckets serial t g) s
+item-fair d (preparation headers buckets serial boot) s =
+    let p = preparing headers buckets serial boot (d .world .table) (d .world .health) in
+    prepared-fair (p .0) (p .1) (worldOf (d .world .head) (p .1 .table) (p .1 .health)) d (hands-none headers buckets serial boot (d .world .table) (d .world .health)) s
+item-fair d (preparation-over headers buckets serial boot t g) s =
+    let p = preparing headers buckets serial boot t g in
+    prepared-fair (p .0) (p .1) (d .world) d (hands-none headers buckets serial boot t g) s
 item-fair d (salvage paper report list) s =
     let p = salvaging paper (d .world .table) (d .world .health) report list in
     salvaged-fair (p .0) (p .1) (worldOf (d .world .head) (p .1 .table) (p .1 .health)) d s
@@ -293,19 +293,19 @@ One (Busy why) = Unit {0}
 One (Refused r) = Unit {0}
 One (RefusedAt r p) = ⊥
 
-one-of : (o : Outcome) → One (answerOf o)
-one-of (outcome.Granted l) = tt
-one-of (outcome.Busy why) = tt
-one-of (outcome.Refused r) = tt
+one-of : (boot : ℕ) (o : Outcome) → One (answerOf boot o)
+one-of boot (outcome.Granted l) = tt
+one-of boot (outcome.Busy why) = tt
+one-of boot (outcome.Refused r) = tt
 
-one-settled : (o : Outcome) → One (answerOf (settled o))
-one-settled (outcome.Granted l) = tt
-one-settled (outcome.Busy why) = tt
-one-settled (outcome.Refused r) = tt
+one-settled : (boot : ℕ) (o : Outcome) → One (answerOf boot (settled o))
+one-settled boot (outcome.Granted l) = tt
+one-settled boot (outcome.Busy why) = tt
+one-settled boot (outcome.Refused r) = tt
 
 acquire-one : (n : ℕ) (h : Head) (t : List ℕ) (c : ℕ) → One (acquireOf n h t c .seen .0 .answer)
 unfolding acquireOf
-acquire-one n h t c = one-of (outcomeOf c (takeOf (h .next) t c .seen .0 .answer))
+acquire-one n h t c = one-of (h .boot) (outcomeOf c (takeOf (h .next) t c .seen .0 .answer))
 
 steps-one : (w : World) (k : Call) → Asks-one k → One (steps w k .seen .1 .answer)
 steps-one w (try-acquire c) a = acquire-one 1 (w .head) (w .table) c
@@ -320,13 +320,13 @@ steps-one w (drop-preserving held l) a = absurd a
 steps-one w (acquire-preserving held c) a = acquire-one 1 (w .head) (w .table) c
 steps-one w (environment script place held) a = absurd a
 steps-one w (try-lock script place held c) a =
-    one-of (lockOf (acting w (try-lock script place held c)) (w .head .buckets) (flowOf (w .head .next) place 0) (w .table) (w .health) c .seen .0 .answer)
+    one-of (w .head .boot) (lockOf (acting w (try-lock script place held c)) (w .head .buckets) (flowOf (w .head .next) place 0) (w .table) (w .health) c .seen .0 .answer)
 steps-one w (transactional registry script place held binding bucket) a =
     let e = acting w (transactional registry script place held binding bucket) in
-    one-of (attemptOf e (w .head .buckets) registry binding bucket (starting (w .head) place) (w .table) (w .health) .seen .0 .outcome)
+    one-of (w .head .boot) (attemptOf e (w .head .buckets) registry binding bucket (starting (w .head) place) (w .table) (w .health) .seen .0 .outcome)
 steps-one w (acquire-bucket registry script place held binding bucket) a =
     let e = acting w (acquire-bucket registry script place held binding bucket) in
-    one-settled (retryOf attemptLimit 0 noneYet e (w .head .buckets) registry binding bucket (starting (w .head) place) (w .table) (w .health) .seen .0 .outcome)
+    one-settled (w .head .boot) (retryOf attemptLimit 0 noneYet e (w .head .buckets) registry binding bucket (starting (w .head) place) (w .table) (w .health) .seen .0 .outcome)
 steps-one w (release-all script place leases) a = absurd a
 steps-one w (acquire-locks registry script place held keys grants) a = absurd a
 steps-one w (acquire-sorted registry script place held keys grants) a = absurd a
@@ -340,9 +340,9 @@ busy-or-refused w k s a v u = go (answers w k) refl (performed (λ m. One (m .se
     go Done e o = absurd o
     go (Cell c) e o = absurd o
     go (Granted l) e o =
-        let c = grants-name w k l e in
+        let c = grants-name w k l e .0 in
         let m = holdOf (asked w k) (l .serial) in
-        absurd (none-handed w k (asked w k) s (l .serial) v u (subst (λ x. Hands-over x (buffer-in (perform w k)) m) (sym e) (same-lease l m c refl)))
+        absurd (none-handed w k (asked w k) s (l .serial) v u (subst (λ x. Hands-over x (buffer-in (perform w k)) m) (sym e) (same-lease (holdIn l) m c refl)))
     go AllGranted e o = absurd o
     go (Busy why) e o = inl (why, e)
     go (Refused r) e o = inr (r, e)
@@ -358,17 +358,17 @@ All-or-refused (Busy why) = ⊥
 All-or-refused (Refused r) = Unit {0}
 All-or-refused (RefusedAt r p) = Unit {0}
 
-locks-answer : (left p : ℕ) (e : Setting) (buckets : ℕ) (registry keys : List ℕ) (taken : List Hold) (r : Run) (t g grants : List ℕ)
-    → All-or-refused (locksOf left p e buckets registry keys taken r t g grants .seen .0 .answer)
+locks-answer : (left p : ℕ) (e : Setting) (buckets boot : ℕ) (registry keys : List ℕ) (taken : List Hold) (r : Run) (t g grants : List ℕ)
+    → All-or-refused (locksOf left p e buckets boot registry keys taken r t g grants .seen .0 .answer)
 unfolding locksOf rollbackOf
-locks-answer zero p e buckets registry keys taken r t g grants = tt
-locks-answer (suc left) p e buckets registry keys taken r t g grants =
+locks-answer zero p e buckets boot registry keys taken r t g grants = tt
+locks-answer (suc left) p e buckets boot registry keys taken r t g grants =
     let m = retryOf attemptLimit 0 noneYet (protecting e taken) buckets registry (bindingAt keys p) (bucketAt keys p) r t g .seen in
-    go (m .0 .outcome) (m .0 .run) (m .1 .0) (m .1 .1) (λ l. locks-answer left (p + 1) e buckets registry keys (taken ++ (l ∷ [])) (m .0 .run) (m .1 .0) (m .1 .1) grants)
+    go (m .0 .outcome) (m .0 .run) (m .1 .0) (m .1 .1) (λ l. locks-answer left (p + 1) e buckets boot registry keys (taken ++ (l ∷ [])) (m .0 .run) (m .1 .0) (m .1 .1) grants)
   where
     go : (o : Outcome) (s : Run) (u y : List ℕ)
-        → ((l : Hold) → All-or-refused (locksOf left (p + 1) e buckets registry keys (taken ++ (l ∷ [])) s u y grants .seen .0 .answer))
-        → All-or-refused (afterKey o e taken p s u y grants (λ l. locksOf left (p + 1) e buckets registry keys (taken ++ (l ∷ [])) s u y grants) .seen .0 .answer)
+        → ((l : Hold) → All-or-refused (locksOf left (p + 1) e buckets boot registry keys (taken ++ (l ∷ [])) s u y grants .seen .0 .answer))
+        → All-or-refused (afterKey o e taken p s u y grants (λ l. locksOf left (p + 1) e buckets boot registry keys (taken ++ (l ∷ [])) s u y grants) .seen .0 .answer)
     go (outcome.Granted l) s u y on = on l
     go (outcome.Busy why) s u y on = tt
     go (outcome.Refused x) s u y on = tt
@@ -386,14 +386,14 @@ asked-answer asked sorted (RefusedAt r p) o = tt
 all-or-refused : (w : World) (k : Call) (registry keys : List ℕ) → By-keys k registry keys → All-or-refused (answers w k)
 all-or-refused w k _ _ (in-order registry script place held keys grants) =
     performed (λ m. All-or-refused (m .seen .1 .answer)) w (acquire-locks registry script place held keys grants) (λ r. tt)
-    (λ _. locks-answer (countIn keys) 0 (given (w .head) script (holdsOf held)) (w .head .buckets) registry keys [] (starting (w .head) place) (w .table) (w .health) grants)
+    (λ _. locks-answer (countIn keys) 0 (given (w .head) script (holdsOf held)) (w .head .buckets) (w .head .boot) registry keys [] (starting (w .head) place) (w .table) (w .health) grants)
 all-or-refused w k _ _ (any-order registry script place held keys grants) =
     performed (λ m. All-or-refused (m .seen .1 .answer)) w (acquire-sorted registry script place held keys grants) (λ r. tt)
     (λ _.
     judged-at (λ (m : Made (World × Says)). All-or-refused (m .seen .1 .answer)) (firstKey (countIn keys) 0 (w .head) registry keys) (λ r p _. tt)
     (λ _.
     asked-answer (cellsAsked (w .head .buckets) registry keys) (cellsSorted (w .head .buckets) registry keys) (sorted-locks w registry script place held keys grants .seen .0 .answer)
-    (locks-answer (length (cellsSorted (w .head .buckets) registry keys)) 0 (given (w .head) script (holdsOf held)) (w .head .buckets) registry (sortedKeys (w .head .buckets) registry keys) [] (starting (w .head) place) (w .table) (w .health) grants)))
+    (locks-answer (length (cellsSorted (w .head .buckets) registry keys)) 0 (given (w .head) script (holdsOf held)) (w .head .buckets) (w .head .boot) registry (sortedKeys (w .head .buckets) registry keys) [] (starting (w .head) place) (w .table) (w .health) grants)))
 
 pub locks-refused : Locks-refused perform
 locks-refused w k registry keys p s many i v u = go (answers w k) refl (all-or-refused w k registry keys many)

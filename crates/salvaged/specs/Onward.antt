@@ -225,9 +225,9 @@ module _ (k : Course) (x : Stretch k) (s : ℕ) (p : Spent (k .world) s) where
   unfolding next-item
   dead-item (call c) u = dead-after (call-kept (k .world) c .kept)
   dead-item (foreign-step kind place number) u = dead-after (foreign-kept (k .world) kind place number)
-  dead-item (preparation headers buckets serial) u =
-      dead-still (ap (λ (c : Course). c .world) (refused-stays k headers buckets serial u))
-  dead-item (preparation-over headers buckets serial t g) u = dead-still (ap (λ (c : Course). c .world) (not-prepared _ _ _ k u))
+  dead-item (preparation headers buckets serial boot) u =
+      dead-still (ap (λ (c : Course). c .world) (refused-stays k headers buckets serial boot u))
+  dead-item (preparation-over headers buckets serial boot t g) u = dead-still (ap (λ (c : Course). c .world) (not-prepared _ _ _ k u))
   dead-item (salvage h report list) u =
       dead-rescued (salvage h report list) h (k .world .table) (k .world .health) report list (own h report list) (λ b. (u b, not-there h report list b))
   dead-item (salvage-over h t g report list) u = dead-rescued (salvage-over h t g report list) h t g report list (other h t g report list) u

@@ -6,7 +6,7 @@ use mathlib.Core.List.{List, [], _∷_, _++_}
 use mathlib.Core.Bool.{Bool, true, false, _&&_}
 use mathlib.Core.Logic.{_↔_, _⊎_, _≢_}
 use lib.ListN.{length, getD, take, drop, set}
-use Rattle.model.specs.Arena.{cellsOf, holdOf, bitAt, ownerAt, waitersAt, stateAt, shapeFits, healthFits}
+use Rattle.model.specs.Arena.{cellsOf, leaseOf, holdOf, bitAt, ownerAt, waitersAt, stateAt, shapeFits, healthFits}
 use Rattle.model.specs.Salvage.{Salvage, salvageOf, mendedTable, mendedHealth, leftHeld, overOf, concluded, unsalvaged}
 use Rattle.types.specs.declared.Answer.the-variants as answer
 use Rattle.types.specs.declared.Head.{Head}
@@ -187,6 +187,10 @@ Twice =
     → salvageOf h (tableIn m) (healthIn m) report′ list′
     ≡ (concluded h (Done 0 n), (tableIn m, (healthIn m, (report′, overOf (take n (listIn m)) list′)))))
 
+-- document 02, L8: "Salvage keeps the boot number of the head it was given.", done or refused
+abbrev pub Keeps-boot : Type 0
+Keeps-boot = Always (λ h t g report list. salvageOf h t g report list .0 .head .boot ≡ h .boot)
+
 -- ---- no serial owns two cells
 
 -- the owners of the n cells of a list are pairwise different
@@ -205,9 +209,9 @@ Apart-exactly =
 abbrev pub Doubled-apart : Type 0
 Doubled-apart =
     (w : World) (c d s : ℕ) → Shape-fits w → c ≢ d → Live w (holdOf c s) → Live w (holdOf d s)
-    → (answers w (drop-lease (holdOf c s)) ≡ answer.Done)
-    × Free (leaves w (drop-lease (holdOf c s))) c
-    × Live (leaves w (drop-lease (holdOf c s))) (holdOf d s)
+    → (answers w (drop-lease (leaseOf c s (w .head .boot))) ≡ answer.Done)
+    × Free (leaves w (drop-lease (leaseOf c s (w .head .boot)))) c
+    × Live (leaves w (drop-lease (leaseOf c s (w .head .boot)))) (holdOf d s)
 
 -- ---- histories that go on from a salvage: "Demand 2 now starts from a prepared or a salvaged table."
 
@@ -232,6 +236,10 @@ Goes-on-from =
     (d .origin ≡ rescued h t g report list)
     × Lawful (rescued h t g report list) (history-of d)
     × (d .world ≡ now (rescued h t g report list) (history-of d)))
+
+-- and the head in force has the boot number on the paper: a lease of that boot is no stale one
+abbrev pub Boot-from-salvage : Type 0
+Boot-from-salvage = From-salvage (λ h t g report list n d. d .world .head .boot ≡ h .boot)
 
 -- the cells held at the start are those that were listed
 abbrev pub Held-at-start : Type 0
@@ -258,8 +266,8 @@ Dead-stays-dead =
 abbrev pub Spares : ℕ → World → Item → Type 0
 Spares s w (call c) = Unit {0}
 Spares s w (foreign-step kind place number) = Unit {0}
-Spares s w (preparation headers buckets serial) = Begins w (preparation headers buckets serial) → ⊥
-Spares s w (preparation-over headers buckets serial t g) = Begins w (preparation-over headers buckets serial t g) → ⊥
+Spares s w (preparation headers buckets serial boot) = Begins w (preparation headers buckets serial boot) → ⊥
+Spares s w (preparation-over headers buckets serial boot t g) = Begins w (preparation-over headers buckets serial boot t g) → ⊥
 Spares s w (salvage h report list) = Begins w (salvage h report list) → s < h .next
 Spares s w (salvage-over h t g report list) =
     Begins w (salvage-over h t g report list) → (s < h .next) × ((c : ℕ) → Live (worldOf h t g) (holdOf c s) → ⊥)

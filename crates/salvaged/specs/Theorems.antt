@@ -9,9 +9,9 @@ use native.Mathlib.Decide.{decLt}
 use lib.Dec.{ltb}
 use lib.ListN.{length, getD, take, drop, length-append, length-drop, List·getD-append}
 use lib.Seq.{take-at, drop-at, getD-append-add}
-use borrow.Author.Tests.{ltb-true, lt-ltb}
+use borrow.Author.Tests.{ltb-true, lt-ltb, eq-eqb}
 use Rattle.choice.specs.Pick.{both, determined}
-use Rattle.model.specs.Arena.{cellsOf, holdOf, bitAt, ownerAt, stateAt, isLive, shapeFits, healthFits}
+use Rattle.model.specs.Arena.{cellsOf, leaseOf, holdOf, bitAt, ownerAt, stateAt, isLive, shapeFits, healthFits}
 use Rattle.model.specs.Log.{Event, by-caller, released}
 use Rattle.model.specs.Refusals.{first}
 use Rattle.model.specs.Checks.{leaseRules}
@@ -30,9 +30,10 @@ use Rattle.history.specs.Statements.{leaves, rescued}
 use Rattle.history.specs.Callers.{Shape-fits}
 use Rattle.history.specs.Tests.{differ, state-held, alive, live}
 use Rattle.history.specs.Events.{Fit, fit, keep-step}
+use Rattle.history.specs.Logs.{arena-now}
 use Rattle.history.specs.Salvages.{Came, bad, full, done, came, inside, now-whole, now-owned, now-freed, now-kept}
 use Rattle.laws.specs.Salvage.{length-mended, length-mended-health, waiters-mended}
-use Rattle.salvaged.specs.Statements.{answerIn, tableIn, healthIn, listIn, fits, No-room, Bad-shape-exactly, Report-full-exactly, placeIn, oldIn, newIn, Reports, Report-is, Places-are, undone, undoneOf, Rebuilds, Lists, Held-in, Unconfirmed-is, Mends, Mended, Twice, Owners-differ, Apart-exactly, Doubled-apart, other, Held-at-start, Goes-on-from, Counts-from-salvage, Dead-stays-dead, Dead-over-salvages, Apart-from-there, Unconfirmed-alone, Live-over-salvage}
+use Rattle.salvaged.specs.Statements.{answerIn, tableIn, healthIn, listIn, fits, No-room, Bad-shape-exactly, Report-full-exactly, placeIn, oldIn, newIn, Reports, Report-is, Places-are, undone, undoneOf, Rebuilds, Lists, Held-in, Unconfirmed-is, Mends, Mended, Twice, Keeps-boot, Owners-differ, Apart-exactly, Doubled-apart, other, Held-at-start, Goes-on-from, Boot-from-salvage, Counts-from-salvage, Dead-stays-dead, Dead-over-salvages, Apart-from-there, Unconfirmed-alone, Live-over-salvage}
 use Rattle.salvaged.specs.Report.{Lines, lines, told, listed, rising, undone-is, changes-none}
 use Rattle.salvaged.specs.Cells.{table-again, byte-kept, byte-mended, byte-few, health-twice, byte-in, holds-state, holding, state-holds, Picks, picks, pick-held, pick-listed, pick-rising}
 use Rattle.salvaged.specs.Came.{words-are, was-done, changes-are}
@@ -339,16 +340,25 @@ apart-exactly h t g report list e n d = (there, back)
           apart = apart-of h (tableIn m) (healthIn m) (listIn m) list n l o;
         }
 
+pub keeps-boot : Keeps-boot
+keeps-boot h t g report list = go (came h t g report list)
+  where
+    go : Came h t g report list → salvageOf h t g report list .0 .head .boot ≡ h .boot
+    go (bad f p) = ap (λ (m : Salvage). m .0 .head .boot) p
+    go (full f i p) = ap (λ (m : Salvage). m .0 .head .boot) p
+    go (done f i p) = ap (λ (m : Salvage). m .0 .head .boot) p
+
 -- a release of one of two cells with one owner: the call is done, and is the release
 dropped : (w : World) (l : Hold) → Shape-fits w → Live w l
-    → perform w (drop-lease l) .seen ≡ (step w (released by-caller (l .cell) (l .serial)), says answer.Done (countsOf 0 0 0 0) 0 [])
+    → perform w (drop-lease (leaseOf (l .cell) (l .serial) (w .head .boot))) .seen
+    ≡ (step w (released by-caller (l .cell) (l .serial)), says answer.Done (countsOf 0 0 0 0) 0 [])
 unfolding perform dropLeaseOf leaseRules first
-dropped w l f p = rw (f, p)
+dropped w l f p = rw (f, eq-eqb (w .head .boot) (w .head .boot) refl, p)
 
 pub doubled-apart : Doubled-apart
 doubled-apart w c d s f n p q =
     let x = dropped w (holdOf c s) f p in
-    let v : leaves w (drop-lease (holdOf c s)) ≡ step w (released by-caller c s) = ap (λ (a : World × Says). a .0) x in
+    let v : leaves w (drop-lease (leaseOf c s (w .head .boot))) ≡ step w (released by-caller c s) = ap (λ (a : World × Says). a .0) x in
     let fit : Fit w = record { shape = shaped (w .head) (length (w .table)) f } in
     let a = alive (w .head .next) (cellsOf (w .head)) (w .table) (holdOf c s) p in
     let free : Free (step w (released by-caller c s)) c =
@@ -363,6 +373,12 @@ held-at-start = onward.held-at-start
 
 pub goes-on-from : Goes-on-from
 goes-on-from = onward.goes-on-from
+
+pub boot-from-salvage : Boot-from-salvage
+boot-from-salvage k i h t g report list e n items x d on =
+    let o = onward.goes-on-from k i h t g report list e n items x d on in
+    ap (λ (w : World). w .head .boot) (o .2)
+    ∙ ap (λ (j : Head). j .boot) (arena-now (rescued h t g report list) (history-of (run k (i ∷ items))))
 
 pub counts-from-salvage : Counts-from-salvage
 counts-from-salvage = onward.counts-from-salvage

@@ -23,7 +23,7 @@ use Rattle.swaps.specs.Statements.{Same-either-way, Owners-exchanged, Sw
 use Rattle.swaps.specs.Theorems.{two-releases, take-release, two-takes, other-kinds, any-steps, idle-take, logs-recast, steps-retaken, calls-rescripted, environment-retaken}
 
 abbrev arena : ℕ → List ℕ → World
-arena next t = worldOf (headOf 1 2 next) t (0 ∷ [])
+arena next t = worldOf (headOf 1 2 next 6) t (0 ∷ [])
 
 abbrev empty : World
 empty = arena 1 (0 ∷ 0 ∷ 0 ∷ 0 ∷ 0 ∷ 0 ∷ [])
@@ -78,7 +78,7 @@ unfolding stepOf stepWaitersOf setWaiters
 one-waiters = ((refl, (refl, refl)), (refl, (refl, refl)))
 
 -- one header, health set twice: the later number stays
-one-header : Told [] empty (health-step 0 0) (health-step 0 1) 0 0 (worldOf (headOf 1 2 1) (0 ∷ 0 ∷ 0 ∷ 0 ∷ 0 ∷ 0 ∷ []) (1 ∷ []))
+one-header : Told [] empty (health-step 0 0) (health-step 0 1) 0 0 (worldOf (headOf 1 2 1 6) (0 ∷ 0 ∷ 0 ∷ 0 ∷ 0 ∷ 0 ∷ []) (1 ∷ []))
     × Told [] empty (health-step 0 1) (health-step 0 0) 0 0 empty
 unfolding stepOf stepHealthOf
 one-header = ((refl, (refl, refl)), (refl, (refl, refl)))

@@ -9,7 +9,7 @@ use Rattle.model.specs.Arena.{spentTo, serialRemains, stateAt, holdsOf}
 use Rattle.model.specs.Refusals.{first, judge}
 use Rattle.model.specs.Foreign.{flowOf}
 use Rattle.model.specs.Lock.{takeIn, takeOf, attemptLimit, noneYet}
-use Rattle.model.specs.Checks.{countIn, scriptRules, lockRules, bucketRules, releaseRules, locksRules}
+use Rattle.model.specs.Checks.{countIn, leaseCount, scriptRules, lockRules, bucketRules, releaseRules, locksRules}
 use Rattle.model.specs.Calls.{starting, environmentOf, tryLockOf, transactionalOf, acquireBucketOf, releaseAllOf, acquireLocksOf}
 use Rattle.model.specs.Sorted.{cellsSorted, sortedKeys, firstKey, judgeAt, unplayedAt, sortedLocksOf, acquireSortedOf}
 use Rattle.types.specs.declared.Check.{Check}
@@ -111,14 +111,14 @@ module _ {h : Head} {a b : List ℕ} {Good : Ran → Type 0} (tw : Twins h a b G
   release-all-alike : (leases : List ℕ) → releaseAllOf h t g b place leases .seen ≡ releaseAllOf h t g a place leases .seen
   unfolding releaseAllOf releaseRules
   release-all-alike leases =
-      let r = back-alike tw (countIn leases) [] (holdsOf leases) (starting h place) t g x in
+      let r = back-alike tw (leaseCount leases) [] (holdsOf leases) (starting h place) t g x in
       rw e (judged-two (Seen-alike Reply) (first (releaseRules h t g a place leases)) (λ _. refl) (rw (r .equal)))
 
   acquire-locks-alike : (registry held keys grants : List ℕ)
       → acquireLocksOf h t g registry b place held keys grants .seen ≡ acquireLocksOf h t g registry a place held keys grants .seen
   unfolding acquireLocksOf locksRules
   acquire-locks-alike registry held keys grants =
-      let r = locks-alike tw (holdsOf held) (h .buckets) registry keys grants (countIn keys) 0 [] (starting h place) t g x in
+      let r = locks-alike tw (holdsOf held) (h .buckets) (h .boot) registry keys grants (countIn keys) 0 [] (starting h place) t g x in
       rw e (judged-two (Seen-alike (Played × (List ℕ × (List ℕ × List ℕ)))) (first (locksRules h t g registry a place held keys grants)) (λ _. refl) (rw r))
 
   acquire-sorted-alike : (registry held keys grants : List ℕ)
@@ -126,7 +126,7 @@ module _ {h : Head} {a b : List ℕ} {Good : Ran → Type 0} (tw : Twins h a b G
   unfolding acquireSortedOf sortedLocksOf locksRules
   acquire-sorted-alike registry held keys grants =
       let sorted = cellsSorted (h .buckets) registry keys in
-      let r = locks-alike tw (holdsOf held) (h .buckets) registry (sortedKeys (h .buckets) registry keys) grants (length sorted) 0 [] (starting h place) t g x in
+      let r = locks-alike tw (holdsOf held) (h .buckets) (h .boot) registry (sortedKeys (h .buckets) registry keys) grants (length sorted) 0 [] (starting h place) t g x in
       rw e (judged-two (Seen-alike (Played × (List ℕ × (List ℕ × List ℕ)))) (first (locksRules h t g registry a place held keys grants)) (λ _. refl)
       (go (firstKey (countIn keys) 0 h registry keys) (rw r)))
     where

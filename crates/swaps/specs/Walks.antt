@@ -136,9 +136,9 @@ module _ {h : Head} {a b : List ℕ} {Good : Ran → Type 0} (tw : Twins h a b G
       let k = tw .boundaries (ps ++ take n ls) (r .flow) u g (tw .frees (r .flow) t g (holdAt ls n .cell) x) in
       rw (k .equal) (back-alike n ps ls (runOf (m .0) (r .attempts) (r .boundaries + 1) (r .yields)) (m .1 .0) (m .1 .1) (k .good))
 
-  module _ (ps : List Hold) (buckets : ℕ) (registry keys grants : List ℕ) where
+  module _ (ps : List Hold) (buckets boot : ℕ) (registry keys grants : List ℕ) where
     pub locks-alike : (left p : ℕ) (taken : List Hold) (r : Run) (t g : List ℕ) → Good (r .flow, (t, g))
-        → locksOf left p (given h b ps) buckets registry keys taken r t g grants .seen ≡ locksOf left p (given h a ps) buckets registry keys taken r t g grants .seen
+        → locksOf left p (given h b ps) buckets boot registry keys taken r t g grants .seen ≡ locksOf left p (given h a ps) buckets boot registry keys taken r t g grants .seen
     unfolding locksOf rollbackOf
     locks-alike zero p taken r t g x = refl
     locks-alike (suc left) p taken r t g x =
@@ -146,8 +146,8 @@ module _ {h : Head} {a b : List ℕ} {Good : Ran → Type 0} (tw : Twins h a b G
         let k = retry-alike (ps ++ taken) buckets registry (bindingAt keys p) (bucketAt keys p) attemptLimit 0 noneYet r t g x in
         rw (k .equal)
         (go (m .0 .run) (m .1 .0) (m .1 .1) (m .0 .outcome)
-        (λ l. locksOf left (p + 1) (given h a ps) buckets registry keys (taken ++ (l ∷ [])) (m .0 .run) (m .1 .0) (m .1 .1) grants)
-        (λ l. locksOf left (p + 1) (given h b ps) buckets registry keys (taken ++ (l ∷ [])) (m .0 .run) (m .1 .0) (m .1 .1) grants)
+        (λ l. locksOf left (p + 1) (given h a ps) buckets boot registry keys (taken ++ (l ∷ [])) (m .0 .run) (m .1 .0) (m .1 .1) grants)
+        (λ l. locksOf left (p + 1) (given h b ps) buckets boot registry keys (taken ++ (l ∷ [])) (m .0 .run) (m .1 .0) (m .1 .1) grants)
         (λ l. locks-alike left (p + 1) (taken ++ (l ∷ [])) (m .0 .run) (m .1 .0) (m .1 .1) (k .good)) (k .good))
       where
         go : (k : Run) (u w : List ℕ) (y : Outcome) (more more′ : Hold → Made Locks) → ((l : Hold) → more′ l .seen ≡ more l .seen) → Good (k .flow, (u, w))

@@ -5,7 +5,7 @@ use mathlib.Core.List.{List, [], _∷_}
 use lib.Dec.{eqb}
 use Rattle.choice.specs.Choice.{if_then_else_}
 use Rattle.types.specs.declared.Head.{Head}
-use Rattle.types.specs.declared.Hold.{Hold}
+use Rattle.types.specs.declared.Lease.{Lease}
 use Rattle.setpoint.specs.RoundTrip.{Held}
 use Rattle.setpoint.specs.declared.Setpoint.{Setpoint}
 use Rattle.slots.specs.Layout.{slotsOf}
@@ -21,13 +21,13 @@ use Rattle.history.specs.Items.{Item, Course, next-item}
 pub data BookItem : Type 0 where
   arena-item : Item → BookItem
   prepare-book : BookItem
-  write-setpoint : (slot : ℕ) → Hold → Setpoint → BookItem
+  write-setpoint : (slot : ℕ) → Lease → Setpoint → BookItem
   read-setpoint : (slot : ℕ) → BookItem
 
 -- what a book call was, and what it answered
 pub data BookEntry : Type 0 where
   prepared : BookAnswer → BookEntry
-  wrote : (slot : ℕ) → Hold → Setpoint → BookAnswer → BookEntry
+  wrote : (slot : ℕ) → Lease → Setpoint → BookAnswer → BookEntry
   was-read : (slot : ℕ) → BookAnswer → BookEntry
 
 -- the arena's history, the book now, and what the book's calls answered so far, the newest first
@@ -53,7 +53,7 @@ slots-in s = slotsOf (head-of s)
 abbrev pub preparing-book : Shift → BookAnswer × List ℕ
 preparing-book s = prepareBookOf (head-of s) (s .book)
 
-abbrev pub writing : Shift → ℕ → Hold → Setpoint → BookAnswer × List ℕ
+abbrev pub writing : Shift → ℕ → Lease → Setpoint → BookAnswer × List ℕ
 writing s slot l p = writeSetpointOf (head-of s) (world-of s .table) (s .book) slot l p
 
 abbrev pub reading : Shift → ℕ → BookAnswer

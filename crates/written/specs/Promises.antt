@@ -5,7 +5,7 @@ use mathlib.Core.Path.{_≡_, ap}
 use mathlib.Core.List.{List, _∷_}
 use Rattle.choice.specs.Pick.{determined}
 use Rattle.types.specs.declared.Head.{Head}
-use Rattle.types.specs.declared.Hold.{Hold}
+use Rattle.types.specs.declared.Lease.{Lease}
 use Rattle.setpoint.specs.declared.Setpoint.{Setpoint}
 use Rattle.slots.specs.Calls.{prepareBookOf, writeSetpointOf, readSetpointOf}
 use Rattle.slots.specs.declared.BookAnswer.{BookAnswer}
@@ -16,7 +16,7 @@ use Rattle.written.specs.Items.{prepare-book, write-setpoint, read-setpo
 pub prepare-book-determined : (h : Head) (book : List ℕ) (a b : BookAnswer × List ℕ) → a ≡ prepareBookOf h book → b ≡ prepareBookOf h book → a ≡ b
 prepare-book-determined h book a b p q = determined p q
 
-pub write-setpoint-determined : (h : Head) (t book : List ℕ) (slot : ℕ) (l : Hold) (s : Setpoint) (a b : BookAnswer × List ℕ)
+pub write-setpoint-determined : (h : Head) (t book : List ℕ) (slot : ℕ) (l : Lease) (s : Setpoint) (a b : BookAnswer × List ℕ)
     → a ≡ writeSetpointOf h t book slot l s → b ≡ writeSetpointOf h t book slot l s → a ≡ b
 write-setpoint-determined h t book slot l s a b p q = determined p q
 
@@ -31,7 +31,7 @@ module _ (s : Shift) where
   unfolding next-shift
   prepare-book-performs o p = ap (λ (x : BookAnswer × List ℕ). shiftOf (s .course) (x .1) (prepared (x .0) ∷ s .entries)) p
 
-  pub write-setpoint-performs : (slot : ℕ) (l : Hold) (q : Setpoint) (o : BookAnswer × List ℕ)
+  pub write-setpoint-performs : (slot : ℕ) (l : Lease) (q : Setpoint) (o : BookAnswer × List ℕ)
       → o ≡ writeSetpointOf (head-of s) (world-of s .table) (s .book) slot l q
       → shiftOf (s .course) (o .1) (wrote slot l q (o .0) ∷ s .entries) ≡ next-shift s (write-setpoint slot l q)
   unfolding next-shift

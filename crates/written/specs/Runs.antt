@@ -11,7 +11,7 @@ use lib.ListN.{length, replicate, length-replicate}
 use borrow.Author.Tests.{eq-eqb, ne-eqb}
 use Rattle.choice.specs.Choice.{if_then_else_}
 use Rattle.types.specs.declared.Head.{Head}
-use Rattle.types.specs.declared.Hold.{Hold}
+use Rattle.types.specs.declared.Lease.{Lease}
 use Rattle.setpoint.specs.Codec.{hasBody}
 use Rattle.setpoint.specs.RoundTrip.{Held}
 use Rattle.setpoint.specs.declared.Setpoint.{Setpoint}
@@ -78,7 +78,7 @@ module _ (h : Head) (b : List ℕ) (es : List BookEntry) (k : Kept (slotsOf h) h
   next-version : versionIn (readOf n b slot) ≡ writes slot es
   next-version = ap versionIn (k .says slot i) ∙ version-due (last-write slot es) (writes slot es) (k .counts slot)
 
-  module _ (l : Hold) (p : Setpoint) (held : Held p) (whole : hasBody p ≡ true) (v : ℕ) (is : v ≡ writes slot es + 1) where
+  module _ (l : Lease) (p : Setpoint) (held : Held p) (whole : hasBody p ≡ true) (v : ℕ) (is : v ≡ writes slot es + 1) where
     says-on : (t : ℕ) → t < n → readOf n (putOf n b slot p v) t ≡ due (last-write t (wrote slot l p (Written v) ∷ es)) (writes t (wrote slot l p (Written v) ∷ es))
     unfolding last-write writes
     says-on t j = go (ℕ-discrete t slot)
@@ -138,7 +138,7 @@ module _ (n : ℕ) (s : Shift) (k : Kept n (head-of s) (s .book) (s .entries)) w
           subst (λ (m : ℕ). Kept m (head-of s) (replicate (length (s .book)) 0) (prepared Done ∷ s .entries)) (k .slots-are) (begun (head-of s) (s .book) (s .entries) f g)
       go (not-prepared r) = idle (prepared (Refused r)) (λ slot a. refl) (λ slot m. refl) k
 
-  write-kept : (slot : ℕ) (l : Hold) (p : Setpoint) → Held p
+  write-kept : (slot : ℕ) (l : Lease) (p : Setpoint) → Held p
       → Kept n (head-of s) (writing s slot l p .1) (wrote slot l p (writing s slot l p .0) ∷ s .entries)
   write-kept slot l p held = go (writing-is (head-of s) (world-of s .table) (s .book) slot l p)
     where
@@ -304,7 +304,7 @@ module _ (v : Shift) (k : Kept (slots-in v) (head-of v) (v .book) (v .entries)) 
           let q = no-such-slot (head-of v) (v .book) slot (k .head-fits) (past-slots (slots-in v) (length (v .book)) slot (omega arith)) in
           apart (sym q ∙ e)
 
-  sound-write : (slot : ℕ) (l : Hold) (p : Setpoint) → writing v slot l p .0 ≢ Refused DamagedBook
+  sound-write : (slot : ℕ) (l : Lease) (p : Setpoint) → writing v slot l p .0 ≢ Refused DamagedBook
   sound-write slot l p e = go (writing-is (head-of v) (world-of v .table) (v .book) slot l p) e
     where
       go : {o : BookAnswer × List ℕ} → Wrote (head-of v) (world-of v .table) (v .book) slot l p o → o .0 ≡ Refused DamagedBook → ⊥
@@ -320,7 +320,7 @@ never-damaged =
     from-prepared
     (λ v.
     ((slot : ℕ) → reading v slot ≢ Refused DamagedBook)
-    × ((slot : ℕ) (l : Hold) (p : Setpoint) → writing v slot l p .0 ≢ Refused DamagedBook))
+    × ((slot : ℕ) (l : Lease) (p : Setpoint) → writing v slot l p .0 ≢ Refused DamagedBook))
     (λ v k. (sound-read v k, sound-write v k))
 
 -- ---- a slot's thirteen bytes

@@ -6,20 +6,23 @@ use mathlib.Core.Logic.{_≢_, _⊎_, _↔_}
 use mathlib.Core.List.{List, [], _∷_, _++_}
 use mathlib.Core.Bool.{true, false}
 use lib.ListN.{length, getD}
-use Rattle.model.specs.Arena.{headFits}
+use Rattle.model.specs.Arena.{isStale, leaseLive, holdIn, headFits}
 use Rattle.model.specs.Log.{Actor, Event, released}
 use Rattle.types.specs.declared.Head.{Head}
 use Rattle.types.specs.declared.Hold.{Hold}
+use Rattle.types.specs.declared.Lease.{Lease}
 use Rattle.setpoint.specs.Codec.{hasBody}
 use Rattle.setpoint.specs.RoundTrip.{Held}
 use Rattle.setpoint.specs.declared.Setpoint.{Setpoint}
 use Rattle.slots.specs.Layout.{slotsOf, putOf}
-use Rattle.slots.specs.Rules.{isBadSlot}
+use Rattle.slots.specs.Rules.{firstFault, badTable, badSlot, isBadSlot}
 use Rattle.slots.specs.Calls.{writeSetpointOf, readSetpointOf}
 use Rattle.slots.specs.Reads.{Own, Agree}
 use Rattle.slots.specs.declared.BookAnswer.{BookAnswer}
 use Rattle.slots.specs.declared.BookAnswer.the-variants.{Done, Written, Setting, Refused}
-use Rattle.slots.specs.declared.BookRefusal.the-variants.{DamagedBook, NeverWritten}
+use Rattle.slots.specs.declared.BookCheck.the-variants.{Fine}
+use Rattle.slots.specs.declared.BookRefusal.{BookRefusal}
+use Rattle.slots.specs.declared.BookRefusal.the-variants.{StaleBoot, DamagedBook, NeverWritten}
 use Rattle.history.specs.World.{World, Live}
 use Rattle.history.specs.Items.{Item, Course, cold, history-of}
 use Rattle.history.specs.Statements.{Begins}
@@ -28,7 +31,7 @@ use Rattle.written.specs.Items.{BookItem, arena-item, prepare-book, writ
 -- what answers a write, and what answers a read; `writeSetpointOf` and `readSetpointOf` are ours. A statement about one call is one of any such
 -- function, so that a wrong one can be seen to fail it
 abbrev pub Writer : Type 0
-Writer = Head → (table book : List ℕ) → ℕ → Hold → Setpoint → BookAnswer × List ℕ
+Writer = Head → (table book : List ℕ) → ℕ → Lease → Setpoint → BookAnswer × List ℕ
 
 abbrev pub Reader : Type 0
 Reader = Head → (book : List ℕ) → ℕ → BookAnswer
@@ -69,20 +72,34 @@ abbrev pub Never-damaged : Type 0
 Never-damaged =
     From-prepared (λ v.
     ((slot : ℕ) → reading v slot ≢ Refused DamagedBook)
-    × ((slot : ℕ) (l : Hold) (p : Setpoint) → writing v slot l p .0 ≢ Refused DamagedBook))
+    × ((slot : ℕ) (l : Lease) (p : Setpoint) → writing v slot l p .0 ≢ Refused DamagedBook))
 
 -- ---- "Writing needs a live lease on the slot's cell"
 
--- a write that is done named a lease that is live there, on the slot's own cell
+-- a write that is done named a lease that is live there, on the slot's own cell, with the boot number of the head. Document 02, L8: "A lease with
+-- another boot number is refused"
 abbrev pub Written-by-holder : Writer → Type 0
 Written-by-holder f =
-    (w : World) (b : List ℕ) (slot : ℕ) (l : Hold) (p : Setpoint) (v : ℕ) → f (w .head) (w .table) b slot l p .0 ≡ Written v
-    → Live w l × (l .cell ≡ slot)
+    (w : World) (b : List ℕ) (slot : ℕ) (l : Lease) (p : Setpoint) (v : ℕ) → f (w .head) (w .table) b slot l p .0 ≡ Written v
+    → Live w (holdIn l) × (l .cell ≡ slot) × (l .boot ≡ w .head .boot)
+
+-- so a lease that has not the head's boot number, or is not live, writes nothing: it is refused, and every byte of the book stays
+abbrev pub Unowned-writes-nothing : Writer → Type 0
+Unowned-writes-nothing f =
+    (w : World) (b : List ℕ) (slot : ℕ) (l : Lease) (p : Setpoint) → (leaseLive (w .head) (w .table) l ≡ true → ⊥)
+    → (r : BookRefusal) × (f (w .head) (w .table) b slot l p ≡ (Refused r, b))
+
+-- one with another boot number is StaleBoot, once table, book and slot pass
+abbrev pub Stale-writes-nothing : Writer → Type 0
+Stale-writes-nothing f =
+    (w : World) (b : List ℕ) (slot : ℕ) (l : Lease) (p : Setpoint) → isStale (w .head) l ≡ true
+    → firstFault (badTable (w .head) (w .table) ∷ badSlot (w .head) (length b) slot ∷ []) ≡ Fine
+    → f (w .head) (w .table) b slot l p ≡ (Refused StaleBoot, b)
 
 -- in any world two leases with which a write on one slot is done are the same lease
 abbrev pub One-writer : Writer → Type 0
 One-writer f =
-    (w : World) (b c : List ℕ) (slot : ℕ) (l k : Hold) (p q : Setpoint) (u v : ℕ)
+    (w : World) (b c : List ℕ) (slot : ℕ) (l k : Lease) (p q : Setpoint) (u v : ℕ)
     → f (w .head) (w .table) b slot l p .0 ≡ Written u → f (w .head) (w .table) c slot k q .0 ≡ Written v → l ≡ k
 
 -- the item begins no new stretch: it is no start of the arena's history, a done preparation or a done salvage
@@ -105,12 +122,12 @@ Released-between k d l =
 -- leases, the first lease was released between them
 abbrev pub Writers-parted : Type 0
 Writers-parted =
-    (rubbish : World) (book : List ℕ) (start : Item) (before between : List BookItem) (slot : ℕ) (l k : Hold) (p q : Setpoint) (u v : ℕ)
+    (rubbish : World) (book : List ℕ) (start : Item) (before between : List BookItem) (slot : ℕ) (l k : Lease) (p q : Setpoint) (u v : ℕ)
     → Begins rubbish start
     → let one = run-shift (shiftOf (cold rubbish) book []) (arena-item start ∷ before) in
     let two = run-shift one (write-setpoint slot l p ∷ between) in
     writing one slot l p .0 ≡ Written u → writing two slot k q .0 ≡ Written v → l ≢ k → One-stretch (next-shift one (write-setpoint slot l p)) between
-    → Released-between (one .course) (two .course) l
+    → Released-between (one .course) (two .course) (holdIn l)
 
 -- ---- a slot's thirteen bytes
 
