@@ -46,13 +46,13 @@ sorted-healthy w registry script place held keys grants p a l =
     let asked = asked-cells b registry keys in
     let sorted = sorted-cells b registry keys in
     let chosen = chosen-keys b registry keys in
-    let other : List ℕ = replicate (2 * length sorted) 0 in
+    let other : List ℕ = replicate (3 * length sorted) 0 in
     let k = acquire-locks registry script place held chosen other in
     let m = perform w (acquire-sorted registry script place held keys grants) in
     let n = perform w k in
     let i = sorted-place b registry keys p in
     let count = chosen-count b registry keys in
-    let x = as-multilock w registry script place held keys grants other (granted-beyond w registry script place held keys grants (goes w registry script place held keys grants) a) (length-replicate {A = ℕ} (2 * length sorted) 0) in
+    let x = as-multilock w registry script place held keys grants other (granted-beyond w registry script place held keys grants (goes w registry script place held keys grants) a) (length-replicate {A = ℕ} (3 * length sorted) 0) in
     let y = x .1 in
     let all = all-inner asked sorted (answer-in n) (sym (y .answer) ∙ a) in
     let full = buffers-name w k registry chosen (in-order registry script place held chosen other) all in
@@ -60,7 +60,7 @@ sorted-healthy w registry script place held keys grants p a l =
     let back = handed-back b registry keys ls (omega (arith, full .0, count, words-leases (buffer-in n), leases-few (buffer-in n)))
     (λ j d. full .1 j (omega (arith, d, count)) ∙ chosen-cell b registry keys j d) in
     let same : holdAt ls i ≡ holdAt (holdsOf (buffer-in m)) p
-    = sym (ap (λ (ws : List ℕ). holdAt (holdsOf ws) p) (y .handed all) ∙ ap (λ (ks : List Hold). holdAt ks p) (leases-words (sharedOf ls asked)) ∙ back .each p l) in
+    = sym (ap (λ (ws : List ℕ). holdAt (holdsOf ws) p) (y .handed all) ∙ ap (λ (ks : List Hold). holdAt ks p) (leases-words (w .head .boot) (sharedOf ls asked)) ∙ back .each p l) in
     let at = sorted-place-at b registry keys p l in
     let h = locks-grant-healthy w registry script place held chosen other i all (omega (arith, at .0, count)) in
     let g = h .0 in (

@@ -19,6 +19,7 @@ use Rattle.types.specs.declared.Head.{Head}
 use Rattle.types.specs.declared.KeyCheck.the-variants as key
 use Rattle.types.specs.declared.Refusal.{Refusal}
 use Rattle.types.specs.declared.Refusal.the-variants.{BadHeader, InvalidBucket, Repeated}
+use Rattle.laws.specs.Checks.{leaseIn}
 use Rattle.history.specs.World.{World, Live, Healthy, now}
 use Rattle.history.specs.Items.{acquire-locks, acquire-sorted, release-all, keyCell, Says, says, Build, Clear, rules}
 use Rattle.history.specs.Statements.{answer-in, buffer-in, world-in, Rolled-back}
@@ -27,14 +28,14 @@ use Rattle.exact.specs.Statements.{Is-free, Unwaited, Names, leases-from, takes
 
 -- ---- granted: "hand back one lease per key in the caller's order, doubled keys sharing one"
 
--- keys of one cell have one lease
+-- keys of one cell have one lease: all three words of it are the same
 abbrev pub Shares : Build → Type 0
 Shares f =
     (w : World) (registry script : List ℕ) (place : ℕ) (held keys grants : List ℕ) (p q : ℕ)
     → let m = f w (acquire-sorted registry script place held keys grants) in
     let cell = keyCell (w .head .buckets) registry keys in
     answer-in m ≡ AllGranted → p < countIn keys → q < countIn keys → cell p ≡ cell q
-    → holdAt (holdsOf (buffer-in m)) p ≡ holdAt (holdsOf (buffer-in m)) q
+    → leaseIn (buffer-in m) p ≡ leaseIn (buffer-in m) q
 
 -- "lock in rising order": the serials rise with the cells, whatever the order of the keys
 abbrev pub Serials-by-cell : Build → Type 0
@@ -133,14 +134,14 @@ Keys-first f =
 -- ---- beyond its checks the call is multi-lock over the sorted keys
 
 -- m is seen as n is, but for the position that a refusal names and the grant buffer
-pub record As-locks (buckets : ℕ) (registry keys grants : List ℕ) (m n : Made (World × Says)) : Type 0 where
+pub record As-locks (buckets boot : ℕ) (registry keys grants : List ℕ) (m n : Made (World × Says)) : Type 0 where
   pub log : m .log ≡ n .log
   pub world : world-in m ≡ world-in n
   pub counts : m .seen .1 .counts ≡ n .seen .1 .counts
   pub place : m .seen .1 .place ≡ n .seen .1 .place
   -- "a later refusal carries the first position asking for that cell"
   pub answer : answer-in m ≡ askedFirst (answer-in n) (cellsAsked buckets registry keys) (cellsSorted buckets registry keys)
-  pub handed : answer-in n ≡ AllGranted → buffer-in m ≡ wordsOf (sharedOf (holdsOf (buffer-in n)) (cellsAsked buckets registry keys))
+  pub handed : answer-in n ≡ AllGranted → buffer-in m ≡ wordsOf boot (sharedOf (holdsOf (buffer-in n)) (cellsAsked buckets registry keys))
   pub kept : (answer-in n ≡ AllGranted → ⊥) → buffer-in m ≡ grants
 
 -- no check applies and no key is faulty. The buffer of the other call is any that fits
@@ -155,9 +156,9 @@ As-multilock f =
     → let sorted = cellsSorted (w .head .buckets) registry keys in
     let chosen = sortedKeys (w .head .buckets) registry keys in
     let k = acquire-locks registry script place held chosen other in
-    length other ≡ 2 * length sorted
+    length other ≡ 3 * length sorted
     → Clear (rules w k)
-    × As-locks (w .head .buckets) registry keys grants (f w (acquire-sorted registry script place held keys grants)) (f w k)
+    × As-locks (w .head .buckets) (w .head .boot) registry keys grants (f w (acquire-sorted registry script place held keys grants)) (f w k)
     × (countIn chosen ≡ length sorted)
     × (length sorted ≤ countIn keys)
     × ((i : ℕ) → i < length sorted → keyCell (w .head .buckets) registry chosen i ≡ getD sorted i 0)
@@ -179,7 +180,7 @@ Sorted-quiet f =
     Clear (rules w k) → stepsIn script ≤ place
     → ((p : ℕ) → p < countIn keys → Names w registry (bindingAt keys p) (bucketAt keys p) × Unwaited w (keyCell b registry keys p) × Is-free w (keyCell b registry keys p))
     → w .head .next + n ≤ lastSerial
-    → f w k .seen ≡ (now w (takes-of leases), says AllGranted (countsOf n (3 * n) 0 0) place (wordsOf (sharedOf leases (cellsAsked b registry keys))))
+    → f w k .seen ≡ (now w (takes-of leases), says AllGranted (countsOf n (3 * n) 0 0) place (wordsOf (w .head .boot) (sharedOf leases (cellsAsked b registry keys))))
 
 -- ---- refused later: "a later refusal carries the first position asking for that cell"
 
@@ -221,4 +222,4 @@ Once-done f =
     (w : World) (registry script : List ℕ) (place : ℕ) (held keys grants : List ℕ)
     → let m = f w (acquire-sorted registry script place held keys grants) in
     answer-in m ≡ AllGranted
-    → answer-in (f (world-in m) (release-all [] 0 (wordsOf (sharedOf (holdsOf (buffer-in m)) (cellsSorted (w .head .buckets) registry keys))))) ≡ Done
+    → answer-in (f (world-in m) (release-all [] 0 (wordsOf (w .head .boot) (sharedOf (holdsOf (buffer-in m)) (cellsSorted (w .head .buckets) registry keys))))) ≡ Done

@@ -180,13 +180,13 @@ back-only d (suc n) e ls r t g =
 
 -- ---- key by key
 
-module _ (e : Setting) (buckets : ℕ) (registry keys grants : List ℕ) (n : ℕ)
+module _ (e : Setting) (buckets boot : ℕ) (registry keys grants : List ℕ) (n : ℕ)
     (rises : (i : ℕ) → i + 1 < n → keyCell buckets registry keys i < keyCell buckets registry keys (i + 1)) where
   abbrev cell : ℕ → ℕ
   cell = keyCell buckets registry keys
 
   locks-up : (left p : ℕ) → p + left ≡ n → (d : ℕ) → (p < n → d ≤ cell p) → (taken : List Hold) (r : Run) (t g : List ℕ)
-      → Up d (locksOf left p e buckets registry keys taken r t g grants .log)
+      → Up d (locksOf left p e buckets boot registry keys taken r t g grants .log)
   unfolding locksOf rollbackOf
   locks-up zero p h d under taken r t g = λ low l. tt
   locks-up (suc left) p h d under taken r t g =
@@ -199,8 +199,8 @@ module _ (e : Setting) (buckets : ℕ) (registry keys grants : List ℕ) (n : �
       (λ x. locks-up left (p + 1) (omega arith) (cell p) (λ b. omega (arith, rises p b)) (taken ++ (x ∷ [])) (k .0 .run) (k .1 .0) (k .1 .1)))
       low (omega (arith, l, under (omega arith)))
     where
-      go : (o : Outcome) (s : Run) (u w : List ℕ) → ((x : Hold) → Up (cell p) (locksOf left (p + 1) e buckets registry keys (taken ++ (x ∷ [])) s u w grants .log))
-          → Up (cell p) (afterKey o e taken p s u w grants (λ x. locksOf left (p + 1) e buckets registry keys (taken ++ (x ∷ [])) s u w grants) .log)
+      go : (o : Outcome) (s : Run) (u w : List ℕ) → ((x : Hold) → Up (cell p) (locksOf left (p + 1) e buckets boot registry keys (taken ++ (x ∷ [])) s u w grants .log))
+          → Up (cell p) (afterKey o e taken p s u w grants (λ x. locksOf left (p + 1) e buckets boot registry keys (taken ++ (x ∷ [])) s u w grants) .log)
       go (outcome.Granted x) s u w on = on x
       go (outcome.Busy why) s u w on = up-behind (cell p) _ [] (back-only (cell p) (length taken) e taken s u w) (λ low l. tt)
       go (outcome.Refused x) s u w on = up-behind (cell p) _ [] (back-only (cell p) (length taken) e taken s u w) (λ low l. tt)
@@ -222,7 +222,7 @@ climbs w registry script place held keys grants = go (goes w registry script pla
     go (refused-whole r) = tt
     go (refused-key r p c f) = tt
     go (locks c) =
-        locks-up (given (w .head) script (holdsOf held)) b registry (chosen-keys b registry keys) grants (length sorted) rises
+        locks-up (given (w .head) script (holdsOf held)) b (w .head .boot) registry (chosen-keys b registry keys) grants (length sorted) rises
         (length sorted) 0 (omega arith) 0 (λ l. omega arith) [] (starting (w .head) place) (w .table) (w .health) 0 (omega arith)
 
 pub takes-rise : Takes-rise perform

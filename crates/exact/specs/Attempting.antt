@@ -65,17 +65,17 @@ done-with h m = record { seen = (of-run h (m .seen), says Done (counted (m .seen
 
 abbrev pub at-last : Head → Made (With Tried) → Made (World × Says)
 at-last h m =
-    record { seen = (of-tried h (m .seen), says (answerOf (settled (m .seen .0 .outcome))) (counted (m .seen .0 .run)) (m .seen .0 .run .flow .place) []); log = m .log }
+    record { seen = (of-tried h (m .seen), says (answerOf (h .boot) (settled (m .seen .0 .outcome))) (counted (m .seen .0 .run)) (m .seen .0 .run .flow .place) []); log = m .log }
 
-busy-is : (last : Reason) (o : Outcome) → isBusy o ≡ true → answerOf o ≡ Busy (lastOf last o)
-busy-is last (outcome.Granted l) e = absurd (differ e)
-busy-is last (outcome.Busy why) e = refl
-busy-is last (outcome.Refused r) e = absurd (differ e)
+busy-is : (boot : ℕ) (last : Reason) (o : Outcome) → isBusy o ≡ true → answerOf boot o ≡ Busy (lastOf last o)
+busy-is boot last (outcome.Granted l) e = absurd (differ e)
+busy-is boot last (outcome.Busy why) e = refl
+busy-is boot last (outcome.Refused r) e = absurd (differ e)
 
-not-busy : (o : Outcome) → isBusy o ≡ false → (other : Reason) → answerOf o ≡ Busy other → ⊥
-not-busy (outcome.Granted l) e other q = let z : _≡_ {A = ℕ} 0 1 = cc in omega arith
-not-busy (outcome.Busy why) e other q = differ (sym e)
-not-busy (outcome.Refused r) e other q = let z : _≡_ {A = ℕ} 0 1 = cc in omega arith
+not-busy : (boot : ℕ) (o : Outcome) → isBusy o ≡ false → (other : Reason) → answerOf boot o ≡ Busy other → ⊥
+not-busy boot (outcome.Granted l) e other q = let z : _≡_ {A = ℕ} 0 1 = cc in omega arith
+not-busy boot (outcome.Busy why) e other q = differ (sym e)
+not-busy boot (outcome.Refused r) e other q = let z : _≡_ {A = ℕ} 0 1 = cc in omega arith
 
 same-settled : (o : Outcome) → isBusy o ≡ false → settled o ≡ o
 same-settled (outcome.Granted l) e = refl
@@ -143,9 +143,9 @@ module _ (h : Head) (registry script held : List ℕ) (binding bucket : ℕ) whe
       if-cases (λ (o : Made (With Tried)). Tries n p t g i last (at-last h (record { seen = o .seen; log = m .log ++ o .log }))) (isBusy (m .seen .0 .outcome))
       (λ c.
       subst (λ (o : Made (With Tried)). Tries n p t g i last (at-last h (record { seen = o .seen; log = m .log ++ o .log }))) (sym (both-from left i (lastOf last (m .seen .0 .outcome)) r (m .seen .1 .0) (m .seen .1 .1)))
-      (one-busy (lastOf last (m .seen .0 .outcome)) j (busy-is last (m .seen .0 .outcome) c) (pause-is i (r .flow .next) (r .flow .place) (m .seen .1 .0) (m .seen .1 .1))
+      (one-busy (lastOf last (m .seen .0 .outcome)) j (busy-is (h .boot) last (m .seen .0 .outcome) c) (pause-is i (r .flow .next) (r .flow .place) (m .seen .1 .0) (m .seen .1 .1))
       (retry-is left (i + 1) _ (s .flow .next) (s .flow .place) (b .seen .1 .0) (b .seen .1 .1) (omega arith))))
-      (λ c. rw (append-nil (m .log), same-settled (m .seen .0 .outcome) c) (the-last j (not-busy (m .seen .0 .outcome) c)))
+      (λ c. rw (append-nil (m .log), same-settled (m .seen .0 .outcome) c) (the-last j (not-busy (h .boot) (m .seen .0 .outcome) c)))
 
 pub by-steps : (w : World) (registry script : List ℕ) (place : ℕ) (held : List ℕ) (binding bucket : ℕ) (last : Reason)
     → let k = acquire-bucket registry script place held binding bucket in

@@ -7,7 +7,7 @@ use mathlib.Core.List.{List, _∷_, _++_, []}
 use mathlib.Core.Logic.{_↔_}
 use lib.ListN.{length, getD}
 use Rattle.model.specs.Log.{Event, Made, took, released, waiters-set, health-set, held-all, added, spun, yielded, attempt-begun, boundary-run, step-dropped, by-caller, by-script}
-use Rattle.model.specs.Arena.{holdOf, wordsOf}
+use Rattle.model.specs.Arena.{leaseOf, holdOf, holdIn, wordsOf}
 use Rattle.model.specs.Refusals.{numberOf}
 use Rattle.model.specs.Lock.{bindingAt, bucketAt}
 use Rattle.model.specs.Checks.{countIn}
@@ -17,6 +17,7 @@ use Rattle.types.specs.declared.Answer.{Answer}
 use Rattle.types.specs.declared.Answer.the-variants.{Done, Refused, Busy, RefusedAt, Cell, Granted, AllGranted}
 use Rattle.types.specs.declared.Counts.{Counts}
 use Rattle.types.specs.declared.Hold.{Hold}
+use Rattle.types.specs.declared.Lease.{Lease}
 use Rattle.types.specs.declared.Reason.{Reason}
 use Rattle.types.specs.declared.Reason.the-variants as reason
 use Rattle.types.specs.declared.Refusal.{Refusal}
@@ -58,7 +59,7 @@ pub data Ends : Answer → (boundaries : ℕ) (taken released : List Hold) → T
   -- "boundary (protecting the new lease); waiters not 0: release it, Busy; else granted". "waiters seen after it. The last one also gives
   -- the serial that was spent"
   late : (l : Hold) → Ends (Busy (reason.After (l .serial))) 3 (l ∷ []) (l ∷ [])
-  granted : (l : Hold) → Ends (Granted l) 3 (l ∷ []) []
+  granted : (l : Lease) → Ends (Granted l) 3 (holdIn l ∷ []) []
 
 abbrev pub Ending : Made (World × Says) → Type 0
 Ending m = Ends (answer-in m) (m .seen .1 .counts .boundaries) (caller-takes (m .log)) (caller-releases (m .log))
@@ -136,20 +137,24 @@ Reason-of-last f =
 -- ---- multi-lock is `acquire_index_bucket` key by key, each holding what was taken before; and, refused, `drop_lease` and `environment` for each
 -- lease taken, the last first
 
-module _ (f : Build) (registry script held keys grants : List ℕ) where
+-- what was taken, as a lease that the caller names: with the boot number of the head (document 02, L8)
+abbrev pub lease-on : ℕ → Hold → Lease
+lease-on boot l = leaseOf (l .cell) (l .serial) boot
+
+module _ (f : Build) (boot : ℕ) (registry script held keys grants : List ℕ) where
   -- the call for the key at position p, holding what was taken
   abbrev pub key-at : ℕ → List Hold → (place : ℕ) → Call
-  key-at p taken place = acquire-bucket registry script place (held ++ wordsOf taken) (bindingAt keys p) (bucketAt keys p)
+  key-at p taken place = acquire-bucket registry script place (held ++ wordsOf boot taken) (bindingAt keys p) (bucketAt keys p)
 
   abbrev pub locking : ℕ → List Hold → World → (place : ℕ) → Made (World × Says)
   locking p taken w place = f w (key-at p taken place)
 
   -- one lease given back; and one boundary, holding what is not yet given back
   abbrev pub dropping : Hold → World → Made (World × Says)
-  dropping l w = f w (drop-lease l)
+  dropping l w = f w (drop-lease (lease-on boot l))
 
   abbrev pub between : List Hold → World → (place : ℕ) → Made (World × Says)
-  between taken w place = f w (environment script place (held ++ wordsOf taken))
+  between taken w place = f w (environment script place (held ++ wordsOf boot taken))
 
   pub data Gives-back : List Hold → World → (place : ℕ) → Made (World × Says) → Type 0 where
     all-back : {w : World} {place : ℕ} → Gives-back [] w place (record { seen = (w, says Done (countsOf 0 0 0 0) place []); log = [] })
@@ -165,9 +170,9 @@ module _ (f : Build) (registry script held keys grants : List ℕ) where
   -- keys from position p on, with these leases taken; each call passes its checks
   pub data Key-by-key : (p : ℕ) → List Hold → World → (place : ℕ) → Made (World × Says) → Type 0 where
     all-locked : {p : ℕ} {taken : List Hold} {w : World} {place : ℕ} → p ≡ countIn keys
-        → Key-by-key p taken w place (record { seen = (w, says AllGranted (countsOf 0 0 0 0) place (wordsOf taken)); log = [] })
+        → Key-by-key p taken w place (record { seen = (w, says AllGranted (countsOf 0 0 0 0) place (wordsOf boot taken)); log = [] })
     one-locked : {p : ℕ} {taken : List Hold} {w : World} {place : ℕ} {n : Made (World × Says)} (l : Hold) → p < countIn keys
-        → Passes w (key-at p taken place) → answer-in (locking p taken w place) ≡ Granted l
+        → Passes w (key-at p taken place) → answer-in (locking p taken w place) ≡ Granted (lease-on boot l)
         → Key-by-key (p + 1) (taken ++ (l ∷ [])) (world-in (locking p taken w place)) (place-in (locking p taken w place)) n
         → Key-by-key p taken w place (locking p taken w place and-then n)
     one-refused : {p : ℕ} {taken : List Hold} {w : World} {place : ℕ} {n : Made (World × Says)} (r : Refusal) → p < countIn keys
@@ -179,7 +184,7 @@ abbrev pub Locks-as-calls : Build → Type 0
 Locks-as-calls f =
     (w : World) (registry script : List ℕ) (place : ℕ) (held keys grants : List ℕ)
     → let k = acquire-locks registry script place held keys grants in
-    Passes w k → Key-by-key f registry script held keys grants 0 [] w place (f w k)
+    Passes w k → Key-by-key f (w .head .boot) registry script held keys grants 0 [] w place (f w k)
 
 -- ---- what follows for the counts. "after each Busy attempt, a boundary and a spin": the spins in the log are the Busy attempts
 

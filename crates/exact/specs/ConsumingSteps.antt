@@ -9,7 +9,7 @@ use lib.ListN.{length, take}
 use lib.Seq.{take-suc, take-length}
 use borrow.Author.Tests.{eqb-true, eqb-false}
 use Rattle.model.specs.Log.{Made, Event, boundary-run}
-use Rattle.model.specs.Arena.{serialRemains, headerOf, isPoisoned, holdOf, holdsOf, waitersAt, setCell, stateAt}
+use Rattle.model.specs.Arena.{serialRemains, headerOf, isPoisoned, holdOf, holdIn, holdsOf, waitersAt, setCell, stateAt}
 use Rattle.model.specs.Foreign.{stepsIn, kindAt, placeAt, numberAt, flowOf, stepOf, runStepsOf, boundaryOf}
 use Rattle.model.specs.Lock.{takeIn, takeOf, lateOf, afterTake, secondOf, lockOf, outcomeOf, runOf, findOf, attemptAt, attemptOf, spinOf, pauseOf, isBusy, retryOf, attemptLimit, noneYet, noHold, holdAt, giveBackOf, Locks, rollbackOf, afterKey, bindingAt, bucketAt, locksOf}
 use Rattle.model.specs.Calls.{given}
@@ -55,7 +55,7 @@ held-after ps (outcome.Refused r) = ps
 abbrev pub granted-after : List Hold → Answer → List ℕ → List Hold
 granted-after ps Done b = ps
 granted-after ps (Cell c) b = ps
-granted-after ps (Granted l) b = ps ++ (l ∷ [])
+granted-after ps (Granted l) b = ps ++ (holdIn l ∷ [])
 granted-after ps AllGranted b = ps ++ holdsOf b
 granted-after ps (Busy why) b = ps
 granted-after ps (Refused r) b = ps
@@ -212,7 +212,7 @@ module _ (h : Head) (script : List ℕ) where
       Goes qs (r .flow) t g (granted-after ps (m .seen .0 .answer) (m .seen .1 .1 .1)) (m .seen .0 .run .flow)
       (worldAt h (m .seen .0 .run .flow .next) (m .seen .1 .0) (m .seen .1 .1 .0)) (m .log)
 
-  module _ (ps : List Hold) (buckets : ℕ) (registry keys grants : List ℕ) where
+  module _ (ps : List Hold) (buckets boot : ℕ) (registry keys grants : List ℕ) where
     rollback-consumed : (taken : List Hold) (x : Refusal) (p : ℕ) (r : Run) (t g : List ℕ)
         → Ending (ps ++ taken) ps r t g (rollbackOf (given h script ps) taken x p r t g grants)
     unfolding rollbackOf
@@ -221,13 +221,13 @@ module _ (h : Head) (script : List ℕ) where
         (back-consumed (length taken) ps taken r t g (omega arith))) at-rest
 
     pub locks-consumed : (left p : ℕ) (taken : List Hold) (r : Run) (t g : List ℕ)
-        → Ending (ps ++ taken) ps r t g (locksOf left p (given h script ps) buckets registry keys taken r t g grants)
+        → Ending (ps ++ taken) ps r t g (locksOf left p (given h script ps) buckets boot registry keys taken r t g grants)
     unfolding locksOf
-    locks-consumed zero p taken r t g = rw (leases-words taken) at-rest
+    locks-consumed zero p taken r t g = rw (leases-words boot taken) at-rest
     locks-consumed (suc left) p taken r t g =
         let m = retryOf attemptLimit 0 noneYet (given h script (ps ++ taken)) buckets registry (bindingAt keys p) (bucketAt keys p) r t g .seen in
         follow (retry-consumed attemptLimit 0 noneYet (ps ++ taken) buckets registry (bindingAt keys p) (bucketAt keys p) r t g)
-        (go (m .0 .run) (m .1 .0) (m .1 .1) (m .0 .outcome) (λ l. locksOf left (p + 1) (given h script ps) buckets registry keys (taken ++ (l ∷ [])) (m .0 .run) (m .1 .0) (m .1 .1) grants)
+        (go (m .0 .run) (m .1 .0) (m .1 .1) (m .0 .outcome) (λ l. locksOf left (p + 1) (given h script ps) buckets boot registry keys (taken ++ (l ∷ [])) (m .0 .run) (m .1 .0) (m .1 .1) grants)
         (λ l. locks-consumed left (p + 1) (taken ++ (l ∷ [])) (m .0 .run) (m .1 .0) (m .1 .1)))
       where
         go : (k : Run) (u w : List ℕ) (o : Outcome) (more : Hold → Made Locks) → ((l : Hold) → Ending (ps ++ (taken ++ (l ∷ []))) ps k u w (more l))

@@ -186,23 +186,23 @@ module _ (k : Counts) (e : Setting) where
   unfolding rollbackOf
   rollback-on taken x p r t g grants = rw (back-on (length taken) taken r t g)
 
-  pub keys-on : (left p buckets : ℕ) (registry keys : List ℕ) (taken : List Hold) (r : Run) (t g grants : List ℕ)
-      → locksOf left p e buckets registry keys taken (on-run k r) t g grants ≡ locks-on k (locksOf left p e buckets registry keys taken r t g grants)
+  pub keys-on : (left p buckets boot : ℕ) (registry keys : List ℕ) (taken : List Hold) (r : Run) (t g grants : List ℕ)
+      → locksOf left p e buckets boot registry keys taken (on-run k r) t g grants ≡ locks-on k (locksOf left p e buckets boot registry keys taken r t g grants)
   unfolding locksOf
-  keys-on zero p buckets registry keys taken r t g grants = refl
-  keys-on (suc left) p buckets registry keys taken r t g grants =
+  keys-on zero p buckets boot registry keys taken r t g grants = refl
+  keys-on (suc left) p buckets boot registry keys taken r t g grants =
       let m = retryOf attemptLimit 0 noneYet (protecting e taken) buckets registry (bindingAt keys p) (bucketAt keys p) r t g in
       let u = m .seen .1 .0 in
       let v = m .seen .1 .1 in
       rw (retry-on k (protecting e taken) buckets registry (bindingAt keys p) (bucketAt keys p) attemptLimit 0 noneYet r t g)
       (ap (after (m .log)) (go (m .seen .0 .outcome) (m .seen .0 .run) u v
-      (λ l. keys-on left (p + 1) buckets registry keys (taken ++ (l ∷ [])) (m .seen .0 .run) u v grants)))
+      (λ l. keys-on left (p + 1) buckets boot registry keys (taken ++ (l ∷ [])) (m .seen .0 .run) u v grants)))
     where
       go : (o : Outcome) (s : Run) (u v : List ℕ)
-          → ((l : Hold) → locksOf left (p + 1) e buckets registry keys (taken ++ (l ∷ [])) (on-run k s) u v grants
-          ≡ locks-on k (locksOf left (p + 1) e buckets registry keys (taken ++ (l ∷ [])) s u v grants))
-          → afterKey o e taken p (on-run k s) u v grants (λ l. locksOf left (p + 1) e buckets registry keys (taken ++ (l ∷ [])) (on-run k s) u v grants)
-          ≡ locks-on k (afterKey o e taken p s u v grants (λ l. locksOf left (p + 1) e buckets registry keys (taken ++ (l ∷ [])) s u v grants))
+          → ((l : Hold) → locksOf left (p + 1) e buckets boot registry keys (taken ++ (l ∷ [])) (on-run k s) u v grants
+          ≡ locks-on k (locksOf left (p + 1) e buckets boot registry keys (taken ++ (l ∷ [])) s u v grants))
+          → afterKey o e taken p (on-run k s) u v grants (λ l. locksOf left (p + 1) e buckets boot registry keys (taken ++ (l ∷ [])) (on-run k s) u v grants)
+          ≡ locks-on k (afterKey o e taken p s u v grants (λ l. locksOf left (p + 1) e buckets boot registry keys (taken ++ (l ∷ [])) s u v grants))
       go (outcome.Granted l) s u v more = more l
       go (outcome.Busy why) s u v more = rollback-on taken (SerializationFailure why) p s u v grants
       go (outcome.Refused x) s u v more = rollback-on taken x p s u v grants

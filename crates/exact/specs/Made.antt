@@ -2,7 +2,7 @@
 use mathlib.Core.Path.{_≡_}
 use mathlib.Core.List.{append-nil}
 use Rattle.model.specs.Calls.{dropLeaseOf, environmentOf, tryLockOf, transactionalOf, acquireBucketOf, releaseAllOf, acquireLocksOf}
-use Rattle.types.specs.declared.Hold.{Hold}
+use Rattle.types.specs.declared.Lease.{Lease}
 use Rattle.history.specs.World.{World}
 use Rattle.history.specs.Items.{Call, drop-lease, environment, try-lock, transactional, acquire-bucket, release-all, acquire-locks, acquire-sorted, perform, Clear, rules}
 use Rattle.history.specs.Judged.{steps, clear-fine, sorted-made}
@@ -22,6 +22,6 @@ made w (acquire-locks-has registry script place held keys grants) fine =
 made w (acquire-sorted-has registry script place held keys grants) fine =
     sorted-made w registry script place held keys grants (clear-fine (rules w (acquire-sorted registry script place held keys grants)) fine)
 
-pub drop-made : (w : World) (l : Hold) → Clear (rules w (drop-lease l)) → perform w (drop-lease l) ≡ steps w (drop-lease l)
+pub drop-made : (w : World) (l : Lease) → Clear (rules w (drop-lease l)) → perform w (drop-lease l) ≡ steps w (drop-lease l)
 unfolding perform dropLeaseOf
 drop-made w l fine = rw (clear-fine (rules w (drop-lease l)) fine)

@@ -19,7 +19,7 @@ use Rattle.types.specs.declared.Answer.the-variants.{Granted, Busy, Refused}
 use Rattle.types.specs.declared.Flow.{Flow}
 use Rattle.types.specs.declared.Found.{Found}
 use Rattle.types.specs.declared.Found.the-variants as found
-use Rattle.types.specs.declared.Hold.{Hold}
+use Rattle.types.specs.declared.Lease.{Lease}
 use Rattle.types.specs.declared.Locked.{Locked}
 use Rattle.types.specs.declared.Outcome.the-variants as outcome
 use Rattle.types.specs.declared.Reason.{Reason}
@@ -42,7 +42,7 @@ use Rattle.exact.specs.Quiet.{Quiet-lock, was-waited, was-held, was-dama
 
 -- one attempt, as a call says it
 abbrev said : World → With Tried → World × Says
-said w m = (worldOf (spentTo (w .head) (m .0 .run .flow .next)) (m .1 .0) (m .1 .1), says (answerOf (m .0 .outcome)) (countsOf (m .0 .run .attempts) (m .0 .run .boundaries) (m .0 .run .yields) (m .0 .run .flow .dropped)) (m .0 .run .flow .place) [])
+said w m = (worldOf (spentTo (w .head) (m .0 .run .flow .next)) (m .1 .0) (m .1 .1), says (answerOf (w .head .boot) (m .0 .outcome)) (countsOf (m .0 .run .attempts) (m .0 .run .boundaries) (m .0 .run .yields) (m .0 .run .flow .dropped)) (m .0 .run .flow .place) [])
 
 -- one quiet try_lock in a run with a attempts and x boundaries before
 abbrev after : ℕ → ℕ → ℕ → With Locked → With Tried
@@ -203,7 +203,7 @@ data Late : Answer → Type 0 where
   at-once : (why : Reason) → Late (Busy why)
   at-last : (why : Reason) → Late (Refused (SerializationFailure why))
 
-late-granted : {a : Answer} {l : Hold} → Late a → a ≡ Granted l → ⊥
+late-granted : {a : Answer} {l : Lease} → Late a → a ≡ Granted l → ⊥
 late-granted (at-once why) e = let z : _≡_ {A = ℕ} 0 1 = cc in omega arith
 late-granted (at-last why) e = let z : _≡_ {A = ℕ} 0 1 = cc in omega arith
 
@@ -274,7 +274,7 @@ module _ {w : World} {place : ℕ} {waiting : Says} {holding : ℕ → Says} {c 
       }
   exactly busy l p q (at-free u f r) =
       record {
-        granted = λ k. (λ e. ((u, f, r), cc), λ s. ap (λ (y : Hold). Granted y) (sym (s .1)));
+        granted = λ k. (λ e. ((u, f, r), cc), λ s. ap (λ (y : Lease). Granted y) (sym (s .1)));
         waited = (λ e. absurd (late-granted (l .late reason.Before) (sym e)), λ n. absurd (n u));
         held = λ s. (λ e. absurd (late-granted (l .late (reason.Held s)) (sym e)), λ k. absurd (omega (arith, f .0, k .1 .0)));
         not-after = λ s e. late-granted (l .late (reason.After s)) (sym e);

@@ -80,12 +80,12 @@ module _ (e : Setting) (place : ℕ) (quiet : stepsIn (e .script) ≤ place) (d 
 
 -- ---- keys in a row that are ready: multi-lock goes on behind them
 
-module _ (e : Setting) (place : ℕ) (quiet : stepsIn (e .script) ≤ place) (d y : ℕ) (buckets : ℕ) (registry keys g grants : List ℕ) where
+module _ (e : Setting) (place : ℕ) (quiet : stepsIn (e .script) ≤ place) (d y : ℕ) (buckets boot : ℕ) (registry keys g grants : List ℕ) where
   abbrev cell : ℕ → ℕ
   cell p = getD registry (bindingAt keys p) 0 * buckets + bucketAt keys p
 
   abbrev going : ℕ → ℕ → List Hold → ℕ → ℕ → ℕ → List ℕ → Made Locks
-  going left p taken s a x t = locksOf left p e buckets registry keys taken (runOf (flowOf s place d) a x y) t g grants
+  going left p taken s a x t = locksOf left p e buckets boot registry keys taken (runOf (flowOf s place d) a x y) t g grants
 
   same : (left : ℕ) (t : List ℕ) {p p′ s s′ a a′ x x′ : ℕ} {taken taken′ : List Hold} → p ≡ p′ → taken ≡ taken′ → s ≡ s′ → a ≡ a′ → x ≡ x′
       → going left p taken s a x t .seen ≡ going left p′ taken′ s′ a′ x′ t .seen
@@ -150,10 +150,10 @@ abbrev pub said : World → Ended × (List ℕ × (List ℕ × List ℕ)) → Wo
 said w m = (worldOf (spentTo (w .head) (m .0 .run .flow .next)) (m .1 .0) (m .1 .1 .0), says (m .0 .answer) (countsOf (m .0 .run .attempts) (m .0 .run .boundaries) (m .0 .run .yields) (m .0 .run .flow .dropped)) (m .0 .run .flow .place) (m .1 .1 .1))
 
 -- no key is left
-done : (e : Setting) (buckets : ℕ) (registry keys : List ℕ) (p : ℕ) (taken : List Hold) (r : Run) (t g grants : List ℕ)
-    → locksOf 0 p e buckets registry keys taken r t g grants .seen ≡ (endedOf r AllGranted, (t, (g, wordsOf taken)))
+done : (e : Setting) (buckets boot : ℕ) (registry keys : List ℕ) (p : ℕ) (taken : List Hold) (r : Run) (t g grants : List ℕ)
+    → locksOf 0 p e buckets boot registry keys taken r t g grants .seen ≡ (endedOf r AllGranted, (t, (g, wordsOf boot taken)))
 unfolding locksOf
-done e buckets registry keys p taken r t g grants = refl
+done e buckets boot registry keys p taken r t g grants = refl
 
 pub locks-quiet : Locks-quiet perform
 locks-quiet w registry script place held keys grants fine end ready apart few =
@@ -164,8 +164,8 @@ locks-quiet w registry script place held keys grants fine end ready apart few =
     let ls = leases-from cell n 0 s in
     let there : (p : ℕ) → p < n → findOf (w .head .headers) (w .head .buckets) (w .health) registry (bindingAt keys p) (bucketAt keys p) ≡ found.At (cell p)
     = λ p i. let a = ready p i .0 in find-named (w .head .headers) (w .head .buckets) (w .health) registry (bindingAt keys p) (bucketAt keys p) (a .0) (a .1) (a .2) in
-    let all = ready-keys e place end 0 0 (w .head .buckets) registry keys (w .health) grants n apart there n 0 0 [] s 0 0 (w .table) (omega arith)
+    let all = ready-keys e place end 0 0 (w .head .buckets) (w .head .boot) registry keys (w .health) grants n apart there n 0 0 [] s 0 0 (w .table) (omega arith)
     (λ q _ h. let a = ready q (omega arith) in record { unwaited = a .1; no-bit = a .2 .0; no-owner = a .2 .1 }) few in
     ap (λ m. m .seen) (made w (acquire-locks-has registry script place held keys grants) fine)
-    ∙ ap (said w) (rw (add-zero n) at all ∙ done e (w .head .buckets) registry keys (0 + n) ls (runOf (flowOf (s + n) place 0) (0 + n) (0 + 3 * n) 0) (set-all (w .table) ls) (w .health) grants)
+    ∙ ap (said w) (rw (add-zero n) at all ∙ done e (w .head .buckets) (w .head .boot) registry keys (0 + n) ls (runOf (flowOf (s + n) place 0) (0 + n) (0 + 3 * n) 0) (set-all (w .table) ls) (w .health) grants)
     ∙ rw (zero-add n, zero-add (3 * n), now-takes (w .head) (w .health) cell n 0 s (w .table))

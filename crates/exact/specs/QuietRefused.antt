@@ -234,10 +234,10 @@ NotGranted (outcome.Granted l) = ⊥
 NotGranted (outcome.Busy why) = Unit {0}
 NotGranted (outcome.Refused r) = Unit {0}
 
-refused-not : (o : Outcome) (r : Refusal) → answerOf (settled o) ≡ Refused r → NotGranted o
-refused-not (outcome.Granted l) r e = let z : _≡_ {A = ℕ} 0 1 = cc in absurd (omega arith)
-refused-not (outcome.Busy why) r e = tt
-refused-not (outcome.Refused x) r e = tt
+refused-not : (boot : ℕ) (o : Outcome) (r : Refusal) → answerOf boot (settled o) ≡ Refused r → NotGranted o
+refused-not boot (outcome.Granted l) r e = let z : _≡_ {A = ℕ} 0 1 = cc in absurd (omega arith)
+refused-not boot (outcome.Busy why) r e = tt
+refused-not boot (outcome.Refused x) r e = tt
 
 -- a quiet retry that is not granted changes nothing
 module _ (f : Flow) (t g : List ℕ) (buckets : ℕ) (registry : List ℕ) (binding bucket : ℕ) (e : Setting) (quiet : stepsIn (e .script) ≤ f .place) where
@@ -261,7 +261,7 @@ module _ (f : Flow) (t g : List ℕ) (buckets : ℕ) (registry : List ℕ) (bind
           let k = lock-quiet e buckets f t g c quiet in
           subst Unmoved (sym (at-cell f t g buckets registry binding bucket e quiet 0 0 0 c q k refl)) (row c (find-healthy (e .headers) buckets g registry binding bucket c q) k)
 
-module _ (e : Setting) (f : Flow) (quiet : stepsIn (e .script) ≤ f .place) (taken : List Hold) (p : ℕ) (t g grants : List ℕ) where
+module _ (e : Setting) (f : Flow) (quiet : stepsIn (e .script) ≤ f .place) (boot : ℕ) (taken : List Hold) (p : ℕ) (t g grants : List ℕ) where
   abbrev rolled-back : Refusal → ℕ → ℕ → ℕ → Ended × (List ℕ × (List ℕ × List ℕ))
   rolled-back r a x y = (endedOf (runOf f a (x + length taken) y) (RefusedAt r p), (undo (length taken) taken t, (g, grants)))
 
@@ -269,7 +269,7 @@ module _ (e : Setting) (f : Flow) (quiet : stepsIn (e .script) ≤ f .place) (ta
   unfolding rollbackOf
   roll r a x y = rw (back-quiet (length taken) e taken f a x y t g quiet)
 
-  after-refused : (o : Outcome) (r : Refusal) (more : Hold → Made Locks) (a x y : ℕ) → answerOf (settled o) ≡ Refused r
+  after-refused : (o : Outcome) (r : Refusal) (more : Hold → Made Locks) (a x y : ℕ) → answerOf boot (settled o) ≡ Refused r
       → afterKey o e taken p (runOf f a x y) t g grants more .seen ≡ rolled-back r a x y
   after-refused (outcome.Granted l) r more a x y q = let z : _≡_ {A = ℕ} 0 1 = cc in absurd (omega arith)
   after-refused (outcome.Busy why) r more a x y q = let z : SerializationFailure why ≡ r = cc in roll (SerializationFailure why) a x y ∙ ap (λ (k : Refusal). rolled-back k a x y) z
@@ -278,8 +278,8 @@ module _ (e : Setting) (f : Flow) (quiet : stepsIn (e .script) ≤ f .place) (ta
   -- a key whose retry is m, counted on
   refused-here : (left buckets : ℕ) (registry keys : List ℕ) (r : Refusal) (a x : ℕ) (m : With Tried)
       → retryOf attemptLimit 0 noneYet (protecting e taken) buckets registry (bindingAt keys p) (bucketAt keys p) (runOf f a x 0) t g .seen ≡ counted-on a x 0 m
-      → (m .0 .run .flow ≡ f) × (m .1 ≡ (t, g)) → answerOf (settled (m .0 .outcome)) ≡ Refused r
-      → locksOf (suc left) p e buckets registry keys taken (runOf f a x 0) t g grants .seen
+      → (m .0 .run .flow ≡ f) × (m .1 ≡ (t, g)) → answerOf boot (settled (m .0 .outcome)) ≡ Refused r
+      → locksOf (suc left) p e buckets boot registry keys taken (runOf f a x 0) t g grants .seen
       ≡ rolled-back r (a + m .0 .run .attempts) (x + m .0 .run .boundaries) (0 + m .0 .run .yields)
   unfolding locksOf
   refused-here left buckets registry keys r a x m q s k =
@@ -367,15 +367,15 @@ module _ (w : World) (registry script : List ℕ) (place : ℕ) (held keys grant
         let n : j + suc left ≡ countIn keys = omega arith in
         let there : (p : ℕ) → p < j → findOf (w .head .headers) (w .head .buckets) g registry (bindingAt keys p) (bucketAt keys p) ≡ found.At (cell p)
         = λ p i. let a = ready p i .0 in find-named (w .head .headers) (w .head .buckets) g registry (bindingAt keys p) (bucketAt keys p) (a .0) (a .1) (a .2) in
-        let all = ready-keys e place end 0 0 (w .head .buckets) registry keys g grants j apart there j (suc left) 0 [] s 0 0 t (omega arith)
+        let all = ready-keys e place end 0 0 (w .head .buckets) (w .head .boot) registry keys g grants j apart there j (suc left) 0 [] s 0 0 t (omega arith)
         (λ q _ h. let a = ready q (omega arith) in record { unwaited = a .1; no-bit = a .2 .0; no-owner = a .2 .1 }) serials in
         let m = retried f u g (w .head .buckets) registry (bindingAt keys j) (bucketAt keys j) e end 0 0 0 in
         let counted = retry-on f u g (w .head .buckets) registry (bindingAt keys j) (bucketAt keys j) (protecting e ls) e end end j (3 * j) 0 refl in
         let back : undo (length ls) ls u ≡ t = rw (from-length cell j 0 s) (undone cell j s t (λ p i. ready p i .2) apart j (omega arith)) in
         subst (λ (v : World). Says-so (steps v key .seen .1)) (sym (now-takes (w .head) g cell j 0 s t))
         (λ refused.
-        let here = refused-here e f end ls j u g grants left (w .head .buckets) registry keys r j (3 * j) m counted
-        (unmoved f u g (w .head .buckets) registry (bindingAt keys j) (bucketAt keys j) e end (refused-not (m .0 .outcome) r refused)) refused in
+        let here = refused-here e f end (w .head .boot) ls j u g grants left (w .head .buckets) registry keys r j (3 * j) m counted
+        (unmoved f u g (w .head .buckets) registry (bindingAt keys j) (bucketAt keys j) e end (refused-not (w .head .boot) (m .0 .outcome) r refused)) refused in
         ap (λ x. x .seen) (made w (acquire-locks-has registry script place held keys grants) fine)
         ∙ ap (said w) (rw (n, zero-add j, zero-add (3 * j)) at all ∙ here)
         ∙ same-says back (omega (arith, from-length cell j 0 s)) (zero-add (m .0 .run .yields)))

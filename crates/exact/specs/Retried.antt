@@ -21,6 +21,7 @@ use Rattle.types.specs.declared.Flow.{Flow}
 use Rattle.types.specs.declared.Found.{Found}
 use Rattle.types.specs.declared.Found.the-variants as found
 use Rattle.types.specs.declared.Hold.{Hold}
+use Rattle.types.specs.declared.Lease.{Lease}
 use Rattle.types.specs.declared.Locked.{Locked}
 use Rattle.types.specs.declared.Outcome.{Outcome}
 use Rattle.types.specs.declared.Outcome.the-variants as outcome
@@ -254,7 +255,7 @@ module _ (e : Setting) (buckets : ℕ) (registry : List ℕ) (binding bucket : �
       })
 
 -- a grant is not 11, nor is another refusal
-granted-fails : {l : Hold} → Failed (Granted l) → ⊥
+granted-fails : {l : Lease} → Failed (Granted l) → ⊥
 granted-fails (why, e) = let z : _≡_ {A = ℕ} 0 1 = cc in omega arith
 
 else-fails : {r : Refusal} → ((why : Reason) → r ≡ SerializationFailure why → ⊥) → Failed (Refused r) → ⊥
@@ -270,7 +271,7 @@ bucket-retries w registry script place held binding bucket fine =
     (λ q. (z .all q .0, omega (arith, z .all q .1))) (λ q. (z .fewer q .0, omega (arith, z .fewer q .1))))
   where
     go : (o : Outcome) (a y b : ℕ) → y ≡ b / 64 → Else o → (isBusy o ≡ true → (b ≡ 4096) × (a ≡ 4096)) → (isBusy o ≡ false → (b < 4096) × (a ≡ b + 1))
-        → Retries (answerOf (settled o)) a y b
+        → Retries (answerOf (w .head .boot) (settled o)) a y b
     go (outcome.Granted l) a y b yi el all few =
         record {
           yields-are = yi;
@@ -361,15 +362,15 @@ last-key keys b x p f g =
 same-tally : {keys z z′ s s′ : ℕ} {a : Answer} → z ≡ z′ → s ≡ s′ → Keys-retried keys a z s → Keys-retried keys a z′ s′
 same-tally p q k = rw (← p, ← q) k
 
-module _ (e : Setting) (buckets : ℕ) (registry keys grants : List ℕ) where
-  locks-sums : (left p : ℕ) (taken : List Hold) (r : Run) (t g : List ℕ) → Sums left (r .yields) (locksOf left p e buckets registry keys taken r t g grants)
+module _ (e : Setting) (buckets boot : ℕ) (registry keys grants : List ℕ) where
+  locks-sums : (left p : ℕ) (taken : List Hold) (r : Run) (t g : List ℕ) → Sums left (r .yields) (locksOf left p e buckets boot registry keys taken r t g grants)
   unfolding locksOf rollbackOf spins-in
   locks-sums zero p taken r t g = (0, omega arith, none-failed 0 AllGranted (λ (why, q, e). let z : _≡_ {A = ℕ} 0 1 = cc in omega arith))
   locks-sums (suc left) p taken r t g =
       let m = retryOf attemptLimit 0 noneYet (protecting e taken) buckets registry (bindingAt keys p) (bucketAt keys p) r t g in
       let k = retry-ran (protecting e taken) buckets registry (bindingAt keys p) (bucketAt keys p) attemptLimit 0 noneYet r t g in
       go (m .seen .0 .outcome) (m .seen .0 .run) (m .seen .1 .0) (m .seen .1 .1) (m .log) (omega (arith, k .yields-at)) (k .other) (λ q. k .all q .0) (λ q. k .fewer q .0)
-      (λ l. locksOf left (p + 1) e buckets registry keys (taken ++ (l ∷ [])) (m .seen .0 .run) (m .seen .1 .0) (m .seen .1 .1) grants)
+      (λ l. locksOf left (p + 1) e buckets boot registry keys (taken ++ (l ∷ [])) (m .seen .0 .run) (m .seen .1 .0) (m .seen .1 .1) grants)
       (λ l. locks-sums left (p + 1) (taken ++ (l ∷ [])) (m .seen .0 .run) (m .seen .1 .0) (m .seen .1 .1))
     where
       go : (o : Outcome) (k : Run) (u w : List ℕ) (es : List Event) → k .yields ≡ r .yields + spins-in es / 64 → Else o
@@ -398,6 +399,6 @@ module _ (e : Setting) (buckets : ℕ) (registry keys grants : List ℕ) where
 
 pub locks-retry : Locks-retry perform
 locks-retry w registry script place held keys grants fine =
-    let k = locks-sums (given (w .head) script (holdsOf held)) (w .head .buckets) registry keys grants (countIn keys) 0 [] (starting (w .head) place) (w .table) (w .health) in
+    let k = locks-sums (given (w .head) script (holdsOf held)) (w .head .buckets) (w .head .boot) registry keys grants (countIn keys) 0 [] (starting (w .head) place) (w .table) (w .health) in
     subst (λ (x : Made (World × Says)). Keys-retried (countIn keys) (x .seen .1 .answer) (x .seen .1 .counts .yields) (spins-in (x .log)))
     (sym (made w (acquire-locks-has registry script place held keys grants) fine)) (same-tally (omega (arith, k .1)) refl (k .2))

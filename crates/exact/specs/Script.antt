@@ -5,7 +5,7 @@ use mathlib.Core.Path.{_≡_}
 use mathlib.Core.List.{List, _∷_, [], _++_}
 use lib.ListN.{length, getD}
 use Rattle.model.specs.Log.{Event, Made, attempt-begun, yielded, spun, took, by-caller, boundary-run, released, by-script, step-dropped, waiters-set, health-set, held-all, added}
-use Rattle.model.specs.Arena.{holdsOf, wordsOf}
+use Rattle.model.specs.Arena.{holdIn, holdsOf, wordsOf}
 use Rattle.model.specs.Foreign.{stepsIn, kindAt, placeAt, numberAt}
 use Rattle.model.specs.Sorted.{cellsSorted, sharedOf}
 use Rattle.model.specs.Crew.{total}
@@ -70,7 +70,7 @@ pub data Consumed (Own : World → Event → Type 0) (script : List ℕ)
 abbrev pub handed : Answer → List ℕ → List Hold
 handed Done b = []
 handed (Cell c) b = []
-handed (Granted l) b = l ∷ []
+handed (Granted l) b = holdIn l ∷ []
 handed AllGranted b = holdsOf b
 handed (Busy why) b = []
 handed (Refused r) b = []
@@ -84,7 +84,7 @@ as-taken w (transactional-has registry script place held binding bucket) b = b
 as-taken w (acquire-bucket-has registry script place held binding bucket) b = b
 as-taken w (release-all-has script place leases) b = b
 as-taken w (acquire-locks-has registry script place held keys grants) b = b
-as-taken w (acquire-sorted-has registry script place held keys grants) b = wordsOf (sharedOf (holdsOf b) (cellsSorted (w .head .buckets) registry keys))
+as-taken w (acquire-sorted-has registry script place held keys grants) b = wordsOf (w .head .boot) (sharedOf (holdsOf b) (cellsSorted (w .head .buckets) registry keys))
 
 -- protected at first: what the caller holds, and in `release_all` what it gives up; at last: what it holds, and what it is handed. `Own` is what is
 -- known of the caller's own takes and releases

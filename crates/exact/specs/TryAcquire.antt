@@ -9,7 +9,7 @@ use lib.Dec.{leb}
 use borrow.Author.Tests.{ltb-true, ltb-false, leb-true, leb-false}
 use Rattle.choice.specs.Choice.{if_then_else_}
 use Rattle.model.specs.Log.{Made, attempt-begun, gives}
-use Rattle.model.specs.Arena.{lastSerial, serialRemains, spentTo, holdOf, bitAt, ownerAt, stateAt}
+use Rattle.model.specs.Arena.{lastSerial, serialRemains, spentTo, leaseOf, bitAt, ownerAt, stateAt}
 use Rattle.model.specs.Refusals.{first, judge}
 use Rattle.model.specs.Lock.{takeIn, takeOf, outcomeOf, answerOf}
 use Rattle.model.specs.Checks.{cellRules}
@@ -17,7 +17,7 @@ use Rattle.model.specs.Calls.{countsOf, refused, acquireOf, tryAcquireOf}
 use Rattle.types.specs.declared.Answer.the-variants.{Granted, Busy, Refused}
 use Rattle.types.specs.declared.Check.{Check}
 use Rattle.types.specs.declared.Check.the-variants.{Fine, Fault}
-use Rattle.types.specs.declared.Hold.{Hold}
+use Rattle.types.specs.declared.Lease.{Lease}
 use Rattle.types.specs.declared.Reason.{Reason}
 use Rattle.types.specs.declared.Reason.the-variants as reason
 use Rattle.types.specs.declared.Refusal.the-variants.{InvalidBucket, Damaged, SerialsSpent}
@@ -43,7 +43,7 @@ tries w c s = subst After (sym checked) (go (leb (cells w) c) refl)
 
     Of : Made (Took × List ℕ) → Type 0
     Of m = Tries w c (record {
-      seen = (worldOf (spentTo (w .head) (m .seen .0 .next)) (m .seen .1) (w .health), says (answerOf (outcomeOf c (m .seen .0 .answer))) (countsOf 1 0 0 0) 0 []);
+      seen = (worldOf (spentTo (w .head) (m .seen .0 .next)) (m .seen .1) (w .health), says (answerOf (w .head .boot) (outcomeOf c (m .seen .0 .answer))) (countsOf 1 0 0 0) 0 []);
       log = attempt-begun ∷ ((m .log ++ []) ++ []);
     })
 
@@ -59,12 +59,12 @@ tries w c s = subst After (sym checked) (go (leb (cells w) c) refl)
     go false e = on (stands (w .head .next) (bitAt (w .table) c) (ownerAt (w .table) c)) (leb-false (cells w) c e)
 
 module _ {w : World} {c : ℕ} where
-  granted′ : {m : Made (World × Says)} → (l : Hold) → Tries w c m → (m .seen .1 .answer ≡ Granted l) ↔ ((c < cells w) × Is-free w c × (w .head .next < lastSerial) × (l ≡ holdOf c (w .head .next)))
+  granted′ : {m : Made (World × Says)} → (l : Lease) → Tries w c m → (m .seen .1 .answer ≡ Granted l) ↔ ((c < cells w) × Is-free w c × (w .head .next < lastSerial) × (l ≡ leaseOf c (w .head .next) (w .head .boot)))
   granted′ l (outside i) = (λ e. let z : _≡_ {A = ℕ} 0 1 = cc in absurd (omega arith), λ p. absurd (omega (arith, p .0)))
   granted′ l (damaged i x) = (λ e. let z : _≡_ {A = ℕ} 0 1 = cc in absurd (omega arith), λ p. absurd (x .0 (p .1)))
   granted′ l (held i x) = (λ e. let z : _≡_ {A = ℕ} 0 1 = cc in absurd (omega arith), λ p. absurd (omega (arith, x .0, p .1 .0)))
   granted′ l (spent i x r) = (λ e. let z : _≡_ {A = ℕ} 0 1 = cc in absurd (omega arith), λ p. absurd (omega (arith, p .2)))
-  granted′ l (free i x r) = (λ e. (i, x, r, cc), λ p. ap (λ (y : Hold). Granted y) (sym (p .3)))
+  granted′ l (free i x r) = (λ e. (i, x, r, cc), λ p. ap (λ (y : Lease). Granted y) (sym (p .3)))
 
   busy′ : {m : Made (World × Says)} → (why : Reason) → Tries w c m → (m .seen .1 .answer ≡ Busy why) ↔ ((c < cells w) × Is-held w c × (why ≡ reason.Held (ownerAt (w .table) c)))
   busy′ why (outside i) = (λ e. let z : _≡_ {A = ℕ} 0 1 = cc in absurd (omega arith), λ p. absurd (omega (arith, p .0)))

@@ -2,14 +2,14 @@
 use Prim.Native.Nat.{ℕ, zero, suc, _+_, _*_, _≤_, _<_}
 use mathlib.Core.Path.{_≡_, refl, sym, ap, _∙_, subst}
 use mathlib.Core.List.{List, [], _∷_, _++_, append-nil}
-use mathlib.Core.Bool.{true}
+use mathlib.Core.Bool.{true, false, not}
 use mathlib.Core.Logic.{_⊎_, inl, inr}
 use native.Mathlib.Omega.{arith}
 use lib.ListN.{length}
 use lib.Seq.{take-length}
 use borrow.Author.Tests.{eq-eqb, ne-eqb}
 use Rattle.model.specs.Log.{Made, Event, attempt-begun, boundary-run, yielded, spun, step-dropped, took, released, waiters-set, health-set, held-all, added}
-use Rattle.model.specs.Arena.{cellsOf, holdOf, bitAt, ownerAt, setCell, shapeFits}
+use Rattle.model.specs.Arena.{cellsOf, isStale, holdOf, holdIn, leasesOf, holdsOf, bitAt, ownerAt, setCell, shapeFits}
 use Rattle.model.specs.Refusals.{Rule, refusalOf, first}
 use Rattle.model.specs.Lock.{holdAt, noHold}
 use Rattle.model.specs.Calls.{tryAcquireOf, dropLeaseOf, readPermissionOf, competingAcquireOf, releaseThenHandoffOf, foreignReleaseOf, acquirePreservingOf, dropPreservingOf, environmentOf, tryLockOf, transactionalOf, acquireBucketOf, releaseAllOf, acquireLocksOf}
@@ -18,6 +18,7 @@ use Rattle.model.specs.Crew.{crewOf, shiftOf, crewAtWorkOf}
 use Rattle.types.specs.declared.Check.{Check}
 use Rattle.types.specs.declared.Check.the-variants.{Fine, Fault}
 use Rattle.types.specs.declared.Hold.{Hold}
+use Rattle.types.specs.declared.Lease.{Lease}
 use Rattle.types.specs.declared.Refusal.{Refusal}
 use Rattle.laws.specs.Shape.{shaped}
 use Rattle.laws.specs.Words.{length-set-cell, length-set-waiters, bit-set-waiters, owner-set-waiters, Seen, here, there, see}
@@ -28,7 +29,7 @@ use Rattle.history.specs.Items.{Call, Says, perform, try-acquire, drop-lease, r
 use Rattle.history.specs.Tests.{Status, free as is-free, held as is-held, live, free-words, In, in-index, in-take, same-lease}
 use Rattle.history.specs.Events.{good, lives}
 use Rattle.history.specs.Judged.{clear, steps, unchanged, sorted-made}
-use Rattle.upstream.specs.Vocabulary.{Key, Cell, cell, Authority, Leases, next-serial, dom, contains-key, cells, insert, Cells-are, Valid-cell, valid, authorized, Step, Acquire, Release, Observe, step, releases, protected-valid, held-ids, leases-authorized}
+use Rattle.upstream.specs.Vocabulary.{Key, Cell, cell, Authority, Own, leaseAt, Leases, next-serial, dom, contains-key, cells, insert, Cells-are, Valid-cell, valid, authorized, Step, Acquire, Release, Observe, step, releases, protected-valid, held-ids, leases-authorized}
 use Rattle.upstream.specs.Protocol.{Trace, ended, first as one}
 
 -- ---- valid: no cell is damaged
@@ -74,6 +75,19 @@ in-list ls i k = subst (λ z. In z (holdAt ls i)) (take-length ls) (in-take ls (
 pub by-place : (w : Authority) (ls : List Hold) → protected-valid w (held-ids ls) → leases-authorized w ls
 by-place w ls p i k = p (holdAt ls i) (in-list ls i k)
 
+-- ---- leases with their boot numbers, and without
+
+pub own-boot : (w : Authority) (l : Lease) → Own w l → isStale (w .head) l ≡ false
+own-boot w l e = ap not (eq-eqb (l .boot) (w .head .boot) e)
+
+pub hold-at : (ws : List ℕ) (i : ℕ) → holdAt (holdsOf ws) i ≡ holdIn (leaseAt (leasesOf ws) i)
+unfolding holdsOf leasesOf
+hold-at [] i = refl
+hold-at (c ∷ []) i = refl
+hold-at (c ∷ s ∷ []) i = refl
+hold-at (c ∷ s ∷ b ∷ ws) zero = refl
+hold-at (c ∷ s ∷ b ∷ ws) (suc i) = hold-at ws i
+
 -- ---- events: a take is an Acquire, a release a Release, all else an Observe
 
 abbrev pub event-of : Event → Step
@@ -98,7 +112,7 @@ fits-sized w e = let s = shaped (w .head) (length (w .table)) e in (s .words-are
 
 -- a cell written
 pub put-cells : (w : Authority) (n c b o : ℕ) → Sized w → contains-key w c
-    → Cells-are w (worldOf (record { headers = w .head .headers; buckets = w .head .buckets; next = n }) (setCell (w .table) c b o) (w .health)) (insert (cells w) c (cell b o))
+    → Cells-are w (worldOf (record { headers = w .head .headers; buckets = w .head .buckets; next = n; boot = w .head .boot }) (setCell (w .table) c b o) (w .health)) (insert (cells w) c (cell b o))
 put-cells w n c b o z i = record { same-keys = refl; each = λ k l. go k (see (w .table) c b o k (omega arith)) }
   where
     go : (k : Key) → Seen (w .table) c b o k → cell (bitAt (setCell (w .table) c b o) k) (ownerAt (setCell (w .table) c b o) k) ≡ insert (cells w) c (cell b o) k

@@ -372,7 +372,7 @@ pub record Played-by (w after : Authority) (held : List ℕ) (states : List Auth
   pub none-dropped : perform w (environment script 0 held) .seen .1 .counts .dropped ≡ 0
 
 -- every finite legal trace of other actors that fits is some script's
-pub every-environment : (w after : Authority) (held : List ℕ) (states : List Authority) (events : List Step) → Fits w → healthFits (w .head) (length (w .health)) ≡ true → Short held
+pub every-environment : (w after : Authority) (held : List ℕ) (states : List Authority) (events : List Step) → Fits w → healthFits (w .head) (length (w .health)) ≡ true → Short w held
     → valid w → leases-authorized w (holdsOf held) → environment-trace w after (held-ids (holdsOf held)) states events
     → length events ≤ 32768 → next-serial after ≤ lastSerial → (script : List ℕ) × Played-by w after held states events script
 every-environment w after held states events s g b v p r few m = (

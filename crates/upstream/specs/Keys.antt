@@ -9,13 +9,14 @@ use lib.Dec.{leb, eqb}
 use lib.ListN.{getD}
 use borrow.Author.Tests.{leb-true, leb-false, eqb-true, eq-eqb, not-true, not-false}
 use Rattle.model.specs.Log.{Made}
-use Rattle.model.specs.Arena.{cellNumber, holdOf}
+use Rattle.model.specs.Arena.{cellNumber, leaseOf, holdOf, holdIn}
 use Rattle.model.specs.Foreign.{Setting}
 use Rattle.model.specs.Answers.{kindOf}
 use Rattle.model.specs.Lock.{answerOf, findOf, attemptAt, attemptOf, pauseOf, isBusy, retryOf, settled}
 use Rattle.types.specs.declared.Found.{Found}
 use Rattle.types.specs.declared.Found.the-variants as found
 use Rattle.types.specs.declared.Hold.{Hold}
+use Rattle.types.specs.declared.Lease.{Lease}
 use Rattle.types.specs.declared.Answer.the-variants.{Granted}
 use Rattle.types.specs.declared.Outcome.{Outcome}
 use Rattle.types.specs.declared.Outcome.the-variants as outcome
@@ -62,15 +63,15 @@ granted-cell locked.damaged l e = let q : _≡_ {A = ℕ} 0 1 = cc in absurd (om
 granted-cell locked.spent l e = let q : _≡_ {A = ℕ} 0 1 = cc in absurd (omega arith)
 
 -- an answer that grants this lease
-pub answer-granted : (o : Outcome) (l : Hold) → answerOf o ≡ Granted l → o ≡ outcome.Granted l
-answer-granted (outcome.Granted k) l e = let q : k ≡ l = cc in ap (λ (k : Hold). outcome.Granted k) q
-answer-granted (outcome.Busy why) l e = absurd (omega (arith, ap kindOf e))
-answer-granted (outcome.Refused r) l e = absurd (omega (arith, ap kindOf e))
+pub answer-granted : (boot : ℕ) (o : Outcome) (l : Lease) → answerOf boot o ≡ Granted l → o ≡ outcome.Granted (holdIn l)
+answer-granted boot (outcome.Granted k) l e = let q : leaseOf (k .cell) (k .serial) boot ≡ l = cc in ap (λ (x : Lease). outcome.Granted (holdIn x)) q
+answer-granted boot (outcome.Busy why) l e = absurd (omega (arith, ap kindOf e))
+answer-granted boot (outcome.Refused r) l e = absurd (omega (arith, ap kindOf e))
 
-pub settled-granted : (o : Outcome) (l : Hold) → answerOf (settled o) ≡ Granted l → o ≡ outcome.Granted l
-settled-granted (outcome.Granted k) l e = answer-granted (outcome.Granted k) l e
-settled-granted (outcome.Busy why) l e = absurd (omega (arith, ap kindOf e))
-settled-granted (outcome.Refused r) l e = answer-granted (outcome.Refused r) l e
+pub settled-granted : (boot : ℕ) (o : Outcome) (l : Lease) → answerOf boot (settled o) ≡ Granted l → o ≡ outcome.Granted (holdIn l)
+settled-granted boot (outcome.Granted k) l e = answer-granted boot (outcome.Granted k) l e
+settled-granted boot (outcome.Busy why) l e = absurd (omega (arith, ap kindOf e))
+settled-granted boot (outcome.Refused r) l e = answer-granted boot (outcome.Refused r) l e
 
 -- ---- a lease on the key's cell
 

@@ -11,7 +11,7 @@ use lib.Dec.{eqb}
 use lib.ListN.{length, replicate}
 use Rattle.choice.specs.Choice.{if_then_else_}
 use Rattle.model.specs.Log.{by-caller, released}
-use Rattle.model.specs.Arena.{headOf, spentTo, holdOf, holdsOf, bitAt, ownerAt, waitersAt, setCell, isIn, isFree, isHeld, stateOf, stateAt, isLive, headFits, shapeFits, healthFits}
+use Rattle.model.specs.Arena.{headOf, spentTo, leaseOf, holdOf, holdIn, leasesOf, holdsOf, bitAt, ownerAt, waitersAt, setCell, isIn, isFree, isHeld, stateOf, stateAt, isLive, headFits, shapeFits, healthFits}
 use Rattle.model.specs.Answers.{kindOf}
 use Rattle.model.specs.Refusals.{first}
 use Rattle.model.specs.Checks.{notLive, cellRules, notReleasable, heldCellRules, heldLeaseRules, scriptRules, lockRules, releaseRules}
@@ -22,6 +22,7 @@ use Rattle.types.specs.declared.Answer.{Answer}
 use Rattle.types.specs.declared.Answer.the-variants.{Done, Granted, Busy}
 use Rattle.types.specs.declared.Reason.the-variants as reason
 use Rattle.types.specs.declared.Hold.{Hold}
+use Rattle.types.specs.declared.Lease.{Lease}
 use Rattle.history.specs.World as world
 use Rattle.history.specs.World.{worldOf}
 use Rattle.history.specs.Items.{try-acquire, acquire-preserving, drop-preserving, try-lock, release-all, perform}
@@ -29,7 +30,7 @@ use Rattle.history.specs.Statements.{answers, leaves}
 use Rattle.history.specs.Tests.{In, if-cases, differ, same-lease}
 use Rattle.history.specs.Events.{lives}
 use Rattle.laws.specs.Lists.{zero-bit, zero-owner}
-use Rattle.upstream.specs.Vocabulary.{Key, cell, Authority, lease-key, lease-serial, next-serial, dom, contains-key, cells, insert, Cells-are, Valid-cell, valid, authorized, Release, Gives-up, protected-valid, held-ids, leases-authorized}
+use Rattle.upstream.specs.Vocabulary.{Key, cell, Authority, Own, lease-key, lease-serial, next-serial, dom, contains-key, cells, insert, Cells-are, Valid-cell, valid, authorized, Release, Gives-up, protected-valid, held-ids, leases-authorized}
 use Rattle.upstream.specs.Protocol.{Put, here, there, put, bit-of, owner-of, step-valid, step-keeps, step-frees}
 use Rattle.upstream.specs.Bridge.{authorized-live, by-name, by-place, Sized, put-cells, sized-now, event-step}
 use Rattle.choice.specs.Pick.{if-both}
@@ -51,8 +52,8 @@ pub record Ensured-lock (w : Authority) (held : List Hold) (c : Key) (result : A
   pub e1 : valid v
   pub e2 : leases-authorized v held
   pub e3 : dom v ≡ dom w
-  pub e4 : (l : Hold) → result ≡ Granted l → lease-key l ≡ c
-  pub e5 : (l : Hold) → result ≡ Granted l → authorized v l
+  pub e4 : (l : Lease) → result ≡ Granted l → lease-key (holdIn l) ≡ c
+  pub e5 : (l : Lease) → result ≡ Granted l → authorized v (holdIn l)
 
 -- a build of `try_lock`: arena, script, place, held list and cell to answer and arena
 abbrev pub Lock-build : Type 0
@@ -71,19 +72,19 @@ We-accept-lock f =
 
 -- an arena of one cell, free; and one whose cell a foreign holder owns
 abbrev pub one-free : Authority
-one-free = worldOf (headOf 1 1 1) (0 ∷ 0 ∷ 0 ∷ []) (0 ∷ [])
+one-free = worldOf (headOf 1 1 1 5) (0 ∷ 0 ∷ 0 ∷ []) (0 ∷ [])
 
 abbrev pub one-held : Authority
-one-held = worldOf (headOf 1 1 2) (1 ∷ 1 ∷ 0 ∷ []) (0 ∷ [])
+one-held = worldOf (headOf 1 1 2 5) (1 ∷ 1 ∷ 0 ∷ []) (0 ∷ [])
 
 -- what ours answers there
-granted-there : answers one-free (try-lock [] 0 [] 0) ≡ Granted (holdOf 0 1)
-unfolding perform tryLockOf lockRules scriptRules notLive first shapeFits headFits healthFits holdsOf boundaryOf runStepsOf lockOf secondOf takeOf lateOf
+granted-there : answers one-free (try-lock [] 0 [] 0) ≡ Granted (leaseOf 0 1 5)
+unfolding perform tryLockOf lockRules scriptRules notLive first shapeFits headFits healthFits leasesOf holdsOf boundaryOf runStepsOf lockOf secondOf takeOf lateOf
     waitersAt bitAt ownerAt setCell stateAt stateOf isFree isHeld
 granted-there = refl
 
 pub busy-there : answers one-held (try-lock [] 0 [] 0) ≡ Busy (reason.Held 1)
-unfolding perform tryLockOf lockRules scriptRules notLive first shapeFits headFits healthFits holdsOf boundaryOf runStepsOf lockOf secondOf takeOf lateOf
+unfolding perform tryLockOf lockRules scriptRules notLive first shapeFits headFits healthFits leasesOf holdsOf boundaryOf runStepsOf lockOf secondOf takeOf lateOf
     waitersAt bitAt ownerAt setCell stateAt stateOf isFree isHeld
 busy-there = refl
 
@@ -141,16 +142,16 @@ accepted-keeps-when-none w script place held c a =
       e2 = λ i l. tries-keeps t _ (kept i l);
       e3 = tries-keys t ∙ keys;
       e4 = try-lock-e4 w script place held c;
-      e5 = λ l e. tries-keeps t l (try-lock-e5 w script place held c (a .is-valid) l e);
+      e5 = λ l e. tries-keeps t (holdIn l) (try-lock-e5 w script place held c (a .is-valid) l e);
     })
     (record { e1 = ours; e2 = kept; e3 = keys; e4 = try-lock-e4 w script place held c; e5 = try-lock-e5 w script place held c (a .is-valid) })
 
 -- a free cell with a waiter: ours leaves it free
 abbrev pub one-waited : Authority
-one-waited = worldOf (headOf 1 1 1) (0 ∷ 0 ∷ 1 ∷ []) (0 ∷ [])
+one-waited = worldOf (headOf 1 1 1 5) (0 ∷ 0 ∷ 1 ∷ []) (0 ∷ [])
 
 pub rejected-keeps-when-none : We-accept-lock keeps-when-none → ⊥
-unfolding perform tryLockOf lockRules scriptRules notLive first shapeFits headFits healthFits holdsOf boundaryOf runStepsOf lockOf waitersAt tryAcquireOf cellRules acquireOf takeOf bitAt ownerAt setCell
+unfolding perform tryLockOf lockRules scriptRules notLive first shapeFits headFits healthFits leasesOf holdsOf boundaryOf runStepsOf lockOf waitersAt tryAcquireOf cellRules acquireOf takeOf bitAt ownerAt setCell
     stateAt stateOf isFree isHeld
 rejected-keeps-when-none p = omega (arith, ap (λ (x : Answer × Authority). bitAt (x .1 .table) 0) (p one-waited [] 0 [] 0))
 
@@ -163,7 +164,7 @@ overwritten w c = worldOf (spentTo (w .head) (next-serial w + 1)) (setCell (w .t
 abbrev pub steals : Lock-build
 steals w script place held c =
     if isIn (holdOf c (ownerAt (w .table) c)) (holdsOf held) then (Busy (reason.Held (ownerAt (w .table) c)), w)
-    else (Granted (holdOf c (next-serial w)), overwritten w c)
+    else (Granted (leaseOf c (next-serial w) (w .head .boot)), overwritten w c)
 
 module _ (w : Authority) (c : Key) (z : Sized w) (v : valid w) (i : contains-key w c) where
   written : Cells-are w (overwritten w c) (insert (cells w) c (cell 1 (next-serial w)))
@@ -203,12 +204,12 @@ accepted-steals w script place held c a =
       e1 = overwritten-valid w c (a .arena) (a .is-valid) (a .inside);
       e2 = by-place (overwritten w c) (holdsOf held) (overwritten-held w c (a .arena) (a .is-valid) (a .inside) (holdsOf held) e (by-name w (holdsOf held) (a .borrowed)));
       e3 = refl;
-      e4 = λ l q. let k : holdOf c (next-serial w) ≡ l = cc in ap lease-key (sym k);
-      e5 = λ l q. let k : holdOf c (next-serial w) ≡ l = cc in subst (authorized (overwritten w c)) k (overwritten-mine w c (a .arena) (a .is-valid) (a .inside));
+      e4 = λ l q. let k : leaseOf c (next-serial w) (w .head .boot) ≡ l = cc in ap (λ (x : Lease). x .cell) (sym k);
+      e5 = λ l q. let k : leaseOf c (next-serial w) (w .head .boot) ≡ l = cc in subst (λ (x : Lease). authorized (overwritten w c) (holdIn x)) k (overwritten-mine w c (a .arena) (a .is-valid) (a .inside));
     })
 
 -- the foreign holder's cell is taken
-pub steals-indeed : (steals one-held [] 0 [] 0 .0 ≡ Granted (holdOf 0 2)) × (authorized (steals one-held [] 0 [] 0 .1) (holdOf 0 1) → ⊥)
+pub steals-indeed : (steals one-held [] 0 [] 0 .0 ≡ Granted (leaseOf 0 2 5)) × (authorized (steals one-held [] 0 [] 0 .1) (holdOf 0 1) → ⊥)
 unfolding holdsOf isIn ownerAt setCell
 steals-indeed = (refl, λ a. omega (arith, a .mine .1))
 
@@ -223,11 +224,11 @@ pub record Ensured-acquire (w : Authority) (held : List Hold) (c : Key) (result 
   pub e2 : leases-authorized v held
   pub e3 : protected-valid v (held-ids held)
   pub e4 : dom v ≡ dom w
-  pub e5 : cells w c .bit ≡ 0 → (l : Hold) × (result ≡ Granted l)
-  pub e6 : (l : Hold) → result ≡ Granted l → lease-serial l ≡ next-serial w
-  pub e7 : (l : Hold) → result ≡ Granted l → authorized v l
-  pub e8 : (l : Hold) → result ≡ Granted l → lease-key l ≡ c
-  pub e9 : (l : Hold) → result ≡ Granted l → held-ids held (holdOf c (lease-serial l)) → ⊥
+  pub e5 : cells w c .bit ≡ 0 → (l : Lease) × (result ≡ Granted l)
+  pub e6 : (l : Lease) → result ≡ Granted l → lease-serial (holdIn l) ≡ next-serial w
+  pub e7 : (l : Lease) → result ≡ Granted l → authorized v (holdIn l)
+  pub e8 : (l : Lease) → result ≡ Granted l → lease-key (holdIn l) ≡ c
+  pub e9 : (l : Lease) → result ≡ Granted l → held-ids held (holdOf c (lease-serial (holdIn l))) → ⊥
 
 pub accepted-steals-acquire : (w : Authority) (held : List ℕ) (c : Key) → Asked w (holdsOf held) c
     → Ensured-acquire w (holdsOf held) c (steals w [] 0 held c .0) (steals w [] 0 held c .1)
@@ -253,14 +254,14 @@ accepted-steals-acquire w held c a =
       e2 = by-place (overwritten w c) (holdsOf held) kept;
       e3 = kept;
       e4 = refl;
-      e5 = λ b. (holdOf c (next-serial w), refl);
-      e6 = λ l q. let k : holdOf c (next-serial w) ≡ l = cc in ap lease-serial (sym k);
-      e7 = λ l q. let k : holdOf c (next-serial w) ≡ l = cc in subst (authorized (overwritten w c)) k (overwritten-mine w c (a .arena) (a .is-valid) (a .inside));
-      e8 = λ l q. let k : holdOf c (next-serial w) ≡ l = cc in ap lease-key (sym k);
+      e5 = λ b. (leaseOf c (next-serial w) (w .head .boot), refl);
+      e6 = λ l q. let k : leaseOf c (next-serial w) (w .head .boot) ≡ l = cc in ap (λ (x : Lease). x .serial) (sym k);
+      e7 = λ l q. let k : leaseOf c (next-serial w) (w .head .boot) ≡ l = cc in subst (λ (x : Lease). authorized (overwritten w c) (holdIn x)) k (overwritten-mine w c (a .arena) (a .is-valid) (a .inside));
+      e8 = λ l q. let k : leaseOf c (next-serial w) (w .head .boot) ≡ l = cc in ap (λ (x : Lease). x .cell) (sym k);
       -- a held lease has a serial that was issued
       e9 = λ l q i.
-          let k : holdOf c (next-serial w) ≡ l = cc in
-          omega (arith, lives w (holdOf c (lease-serial l)) (authorized-live w (holdOf c (lease-serial l)) (a .is-valid) (safe (holdOf c (lease-serial l)) i)) .high, ap lease-serial k);
+          let k : leaseOf c (next-serial w) (w .head .boot) ≡ l = cc in
+          omega (arith, lives w (holdOf c (l .serial)) (authorized-live w (holdOf c (l .serial)) (a .is-valid) (safe (holdOf c (l .serial)) i)) .high, ap (λ (x : Lease). x .serial) k);
     })
   where
     safe : protected-valid w (held-ids (holdsOf held))
@@ -268,7 +269,7 @@ accepted-steals-acquire w held c a =
 
 pub rejected-steals-acquire : ((w : Authority) (held : List ℕ) (c : Key)
     → steals w [] 0 held c ≡ (answers w (acquire-preserving held c), leaves w (acquire-preserving held c))) → ⊥
-unfolding perform acquirePreservingOf heldCellRules notLive first shapeFits headFits holdsOf isIn acquireOf takeOf bitAt ownerAt stateAt stateOf isFree isHeld
+unfolding perform acquirePreservingOf heldCellRules notLive first shapeFits headFits leasesOf holdsOf isIn acquireOf takeOf bitAt ownerAt stateAt stateOf isFree isHeld
 rejected-steals-acquire p = omega (arith, ap (λ (x : Answer × Authority). kindOf (x .0)) (p one-held [] 0))
 
 -- ---- "`drop_preserving_borrows` and `release_all` may free other cells"
@@ -356,9 +357,9 @@ accepted-frees-too w held l z v a b n =
     safe k i =
         step-keeps w u (Release (l .cell) (l .serial)) k drop (λ r. n (subst (In (holdsOf held)) (same-lease k l (sym (r .0)) (sym (r .1))) i)) (by-name w (holdsOf held) b k i)
 
-pub rejected-frees-too : ((w : Authority) (held : List ℕ) (l : Hold) → frees-too w held l ≡ (answers w (drop-preserving held l), leaves w (drop-preserving held l))) → ⊥
-unfolding perform dropPreservingOf heldLeaseRules notLive first shapeFits headFits holdsOf isIn isLive bitAt ownerAt setCell stateAt stateOf isFree isHeld
-rejected-frees-too p = omega (arith, ap (λ (x : Answer × Authority). bitAt (x .1 .table) 0) (p two-held [] (holdOf 1 2)))
+pub rejected-frees-too : ((w : Authority) (held : List ℕ) (l : Lease) → Own w l → frees-too w held (holdIn l) ≡ (answers w (drop-preserving held l), leaves w (drop-preserving held l))) → ⊥
+unfolding perform dropPreservingOf heldLeaseRules notLive first shapeFits headFits leasesOf holdsOf isIn isLive bitAt ownerAt setCell stateAt stateOf isFree isHeld
+rejected-frees-too p = omega (arith, ap (λ (x : Answer × Authority). bitAt (x .1 .table) 0) (p two-held [] (leaseOf 1 2 5) refl))
 
 -- `release_all`: all cells are freed
 pub record Ensured-release (w : Authority) (leases : List Hold) (v : Authority) : Type 0 where
@@ -381,5 +382,5 @@ accepted-frees-all w leases v =
     }
 
 pub rejected-frees-all : ((w : Authority) (leases : List ℕ) → frees-all w leases ≡ (answers w (release-all [] 0 leases), leaves w (release-all [] 0 leases))) → ⊥
-unfolding perform releaseAllOf releaseRules notReleasable first shapeFits headFits healthFits holdsOf isIn isLive giveBackOf boundaryOf runStepsOf bitAt ownerAt setCell stateAt stateOf isFree isHeld
-rejected-frees-all p = omega (arith, ap (λ (x : Answer × Authority). bitAt (x .1 .table) 0) (p two-held (1 ∷ 2 ∷ [])))
+unfolding perform releaseAllOf releaseRules notReleasable first shapeFits headFits healthFits leasesOf holdsOf isIn isLive giveBackOf boundaryOf runStepsOf bitAt ownerAt setCell stateAt stateOf isFree isHeld
+rejected-frees-all p = omega (arith, ap (λ (x : Answer × Authority). bitAt (x .1 .table) 0) (p two-held (1 ∷ 2 ∷ 5 ∷ [])))

@@ -9,7 +9,7 @@ use borrow.Author.Tests.{not-false}
 use lib.ListN.{length, getD}
 use Rattle.choice.specs.Choice.{if_then_else_}
 use Rattle.model.specs.Log.{Made, gives, _>>=_}
-use Rattle.model.specs.Arena.{holdsOf, bitAt, ownerAt, waitersAt, setCell, isIn, isFree, isHeld, stateOf, stateAt, isLive, headFits, shapeFits, healthFits, registryFits}
+use Rattle.model.specs.Arena.{holdIn, leasesOf, holdsOf, bitAt, ownerAt, waitersAt, setCell, isIn, isFree, isHeld, stateOf, stateAt, isLive, headFits, shapeFits, healthFits, registryFits}
 use Rattle.model.specs.Answers.{kindOf, refusalIn}
 use Rattle.model.specs.Refusals.{first}
 use Rattle.model.specs.Checks.{notLive, cellRules, scriptRules, lockRules, bucketRules}
@@ -20,6 +20,7 @@ use Rattle.types.specs.declared.Answer.{Answer}
 use Rattle.types.specs.declared.Answer.the-variants.{Done, Cell, Granted, AllGranted, Busy, Refused, RefusedAt}
 use Rattle.types.specs.declared.Head.{Head}
 use Rattle.types.specs.declared.Hold.{Hold}
+use Rattle.types.specs.declared.Lease.{Lease}
 use Rattle.types.specs.declared.Outcome.the-variants as outcome
 use Rattle.types.specs.declared.Reason.{Reason}
 use Rattle.types.specs.declared.Refusal.the-variants.{BadShape, SerializationFailure}
@@ -56,7 +57,7 @@ accepted-ignores-waiters w script place held c a =
     }
 
 pub rejected-ignores-waiters : We-accept-lock ignores-waiters → ⊥
-unfolding perform tryLockOf lockRules scriptRules notLive first shapeFits headFits healthFits holdsOf boundaryOf runStepsOf lockOf waitersAt tryAcquireOf cellRules acquireOf takeOf bitAt ownerAt setCell
+unfolding perform tryLockOf lockRules scriptRules notLive first shapeFits headFits healthFits leasesOf holdsOf boundaryOf runStepsOf lockOf waitersAt tryAcquireOf cellRules acquireOf takeOf bitAt ownerAt setCell
     stateAt stateOf isFree isHeld
 rejected-ignores-waiters p = omega (arith, ap (λ (x : Answer × Authority). kindOf (x .0)) (p one-waited [] 0 [] 0))
 
@@ -65,7 +66,7 @@ rejected-ignores-waiters p = omega (arith, ap (λ (x : Answer × Authority). kin
 pub record Asked-bucket (w : Authority) (registry script : List ℕ) (place : ℕ) (held : List ℕ) (binding : ℕ) : Type 0 where
   -- what upstream's types see to
   pub formed : Keyed w registry script place
-  pub short : Short held
+  pub short : Short w held
   pub is-valid : valid w
   pub inside : binding < length registry
   pub borrowed : leases-authorized w (holdsOf held)
@@ -75,8 +76,8 @@ pub record Ensured-bucket (w : Authority) (registry : List ℕ) (held : List Hol
   pub e1 : valid v
   pub e2 : leases-authorized v held
   pub e3 : dom v ≡ dom w
-  pub e4 : (l : Hold) → result ≡ Granted l → authorized v l
-  pub e5 : (l : Hold) → result ≡ Granted l → lease-key l ≡ key-of w (getD registry binding 0) bucket
+  pub e4 : (l : Lease) → result ≡ Granted l → authorized v (holdIn l)
+  pub e5 : (l : Lease) → result ≡ Granted l → lease-key (holdIn l) ≡ key-of w (getD registry binding 0) bucket
 
 -- a build of it: what it leaves, and what it says, with its counts
 abbrev pub Bucket-build : Type 0
@@ -103,7 +104,7 @@ accepted-gives-up w registry script place held binding bucket a =
     record { e1 = a .is-valid; e2 = a .borrowed; e3 = refl; e4 = λ l e. absurd (omega (arith, ap kindOf e)); e5 = λ l e. absurd (omega (arith, ap kindOf e)) }
 
 pub rejected-gives-up : We-accept-bucket gives-up → ⊥
-unfolding perform acquireBucketOf bucketRules notLive first shapeFits headFits healthFits registryFits holdsOf retryOf attemptOf findOf boundaryOf runStepsOf
+unfolding perform acquireBucketOf bucketRules notLive first shapeFits headFits healthFits registryFits leasesOf holdsOf retryOf attemptOf findOf boundaryOf runStepsOf
     lockOf secondOf takeOf lateOf waitersAt bitAt ownerAt setCell stateAt stateOf isFree isHeld
 rejected-gives-up p = omega (arith, ap (λ (x : Authority × Says). kindOf (x .1 .answer)) (p one-free (0 ∷ []) [] 0 [] 0 0))
 
@@ -118,7 +119,7 @@ renumbered (Busy why) = Busy why
 renumbered (Refused r) = Refused BadShape
 renumbered (RefusedAt r p) = RefusedAt BadShape p
 
-renumbered-granted : (a : Answer) (l : Hold) → renumbered a ≡ Granted l → a ≡ Granted l
+renumbered-granted : (a : Answer) (l : Lease) → renumbered a ≡ Granted l → a ≡ Granted l
 renumbered-granted Done l e = e
 renumbered-granted (Cell c) l e = e
 renumbered-granted (Granted k) l e = e
@@ -144,7 +145,7 @@ accepted-renumbers w registry script place held binding bucket a =
 
 -- a bucket that is too large: ours is 8
 pub rejected-renumbers : We-accept-bucket renumbers → ⊥
-unfolding perform acquireBucketOf bucketRules notLive first shapeFits headFits healthFits registryFits holdsOf retryOf attemptOf findOf
+unfolding perform acquireBucketOf bucketRules notLive first shapeFits headFits healthFits registryFits leasesOf holdsOf retryOf attemptOf findOf
 rejected-renumbers p = omega (arith, ap (λ (x : Authority × Says). refusalIn (x .1 .answer)) (p one-free (0 ∷ []) [] 0 [] 0 7))
 
 -- ---- yields: `retryOf` of the model, with a spin after every Busy attempt and no yield
@@ -162,7 +163,7 @@ abbrev pub never-yields : Bucket-build
 never-yields w registry script place held binding bucket =
     let k = spinningOf attemptLimit noneYet (given (w .head) script (holdsOf held)) (w .head .buckets) registry binding bucket (starting (w .head) place) (w .table) (w .health) .seen in
     let r = k .0 .run in
-    (of-tried (w .head) k, says (answerOf (settled (k .0 .outcome))) (countsOf (r .attempts) (r .boundaries) (r .yields) (r .flow .dropped)) (r .flow .place) [])
+    (of-tried (w .head) k, says (answerOf (w .head .boot) (settled (k .0 .outcome))) (countsOf (r .attempts) (r .boundaries) (r .yields) (r .flow .dropped)) (r .flow .place) [])
 
 module _ (h : Head) (script : List ℕ) (ps : List Hold) (registry : List ℕ) (binding bucket : ℕ) where
   spinning-goes : (left : ℕ) (last : Reason) (r : Run) (t g : List ℕ) → Ready (In ps) (worldAt h (r .flow .next) t g)
@@ -197,8 +198,8 @@ accepted-never-yields w registry script place held binding bucket a =
       e1 = trace-valid (m .goes .trace) (a .is-valid);
       e2 = by-place _ (holdsOf held) (trace-keeps (m .goes .trace) (by-name w (holdsOf held) (a .borrowed)));
       e3 = trace-buries (m .goes .trace) .same-keys;
-      e4 = λ l e. m .gain l (settled-granted _ l e);
-      e5 = λ l e. spinning-key (w .head) script (holdsOf held) registry binding bucket attemptLimit noneYet s (w .table) (w .health) l (settled-granted _ l e) .cell-is;
+      e4 = λ l e. m .gain (holdIn l) (settled-granted _ _ l e);
+      e5 = λ l e. spinning-key (w .head) script (holdsOf held) registry binding bucket attemptLimit noneYet s (w .table) (w .health) (holdIn l) (settled-granted _ _ l e) .cell-is;
     }
 
 -- 64 Busy attempts of three boundaries each, and one more for the yield; then the script releases the cell. Ours has
@@ -208,6 +209,6 @@ fives zero rest = rest
 fives (suc n) rest = 5 ∷ 0 ∷ 0 ∷ fives n rest
 
 pub rejected-never-yields : We-accept-bucket never-yields → ⊥
-unfolding perform acquireBucketOf bucketRules notLive first shapeFits headFits healthFits registryFits holdsOf retryOf spinningOf attemptOf findOf pauseOf spinOf
+unfolding perform acquireBucketOf bucketRules notLive first shapeFits headFits healthFits registryFits leasesOf holdsOf retryOf spinningOf attemptOf findOf pauseOf spinOf
     boundaryOf runStepsOf stepOf stepReleaseOf lockOf secondOf takeOf lateOf waitersAt bitAt ownerAt setCell stateAt stateOf isFree isHeld isLive isIn
 rejected-never-yields p = omega (arith, ap (λ (x : Authority × Says). x .1 .counts .yields) (p one-held (0 ∷ []) (fives 193 (2 ∷ 0 ∷ 1 ∷ [])) 0 [] 0 0))

@@ -8,7 +8,7 @@ use native.Mathlib.Omega.{arith}
 use lib.Dec.{eqb}
 use lib.ListN.{getD}
 use Rattle.model.specs.Log.{Made, Event, by-caller, released}
-use Rattle.model.specs.Arena.{lastSerial, cellsOf, cellNumber, headerOf, isPoisoned, holdOf, waitersAt, isIn}
+use Rattle.model.specs.Arena.{lastSerial, cellsOf, cellNumber, headerOf, isPoisoned, leaseOf, holdOf, holdIn, waitersAt, isIn}
 use Rattle.model.specs.Answers.{kindOf}
 use Rattle.model.specs.Foreign.{stepsIn, kindAt, placeAt, numberAt, runStepsOf, boundaryOf, flowOf}
 use Rattle.model.specs.Lock.{takeOf, lateOf, afterTake, secondOf, lockOf, outcomeOf, answerOf, attemptAt, attemptOf, spinOf, pauseOf, isBusy, retryOf, runOf}
@@ -18,6 +18,7 @@ use Rattle.types.specs.declared.Found.{Found}
 use Rattle.types.specs.declared.Found.the-variants as found
 use Rattle.types.specs.declared.Head.{Head}
 use Rattle.types.specs.declared.Hold.{Hold}
+use Rattle.types.specs.declared.Lease.{Lease}
 use Rattle.types.specs.declared.Locked.{Locked}
 use Rattle.types.specs.declared.Outcome.the-variants as outcome
 use Rattle.types.specs.declared.Reason.{Reason}
@@ -147,7 +148,7 @@ module _ (h : Head) (script : List ℕ) where
 
   -- after the compare-and-set: `u` is the state before it
   after-goes : (ps : List Hold) (u : Authority) (a : Take) (f : Flow) (t g : List ℕ) (c : ℕ) → Ready (In ps) u
-      → Tries (Unit {0}) u c (answerOf (outcomeOf c a)) (worldAt h (f .next) t g)
+      → Tries (Unit {0}) u c (answerOf (u .head .boot) (outcomeOf c a)) (worldAt h (f .next) t g)
       → Locks (In ps) u (afterTake a (given h script ps) (h .buckets) f t g c .seen)
   after-goes ps u (taking.Granted s) f t g c r x =
       record { goes = then one (late .goes); gain = late .gain }
@@ -155,15 +156,15 @@ module _ (h : Head) (script : List ℕ) where
       w : Authority
       w = worldAt h (f .next) t g
 
-      grant : (holdOf c s ≡ holdOf c (next-serial u)) × Acquires u w c (next-serial u) × (next-serial u < lastSerial)
-      grant = tries-some x (holdOf c s) refl
+      grant : (leaseOf c s (u .head .boot) ≡ leaseOf c (next-serial u) (u .head .boot)) × Acquires u w c (next-serial u) × (next-serial u < lastSerial)
+      grant = tries-some x (leaseOf c s (u .head .boot)) refl
 
       one : Goes (In ps) u w
       one = moved u w (Acquire c (next-serial u)) (grant .1) (λ l i x. x) (tries-sized x (r .sized))
 
       late : Locks (In ps) w (lateOf (given h script ps) (h .buckets) f t g c s .seen)
       late =
-          late-goes ps f t g c s (ready r one) (subst (authorized w) (sym (grant .0)) (step-grants u w c (next-serial u) (grant .1)))
+          late-goes ps f t g c s (ready r one) (subst (λ (k : Lease). authorized w (holdIn k)) (sym (grant .0)) (step-grants u w c (next-serial u) (grant .1)))
           (λ l i e. omega (arith, r .safe l i .locked, ap (λ (k : Hold). cells u (k .cell) .bit) e, grant .1 .unlocked))
   after-goes ps u (taking.Busy owner) f t g c r x =
       record { goes = subst (Goes (In ps) u) (sym (tries-none x (λ l e. omega (arith, ap kindOf e)))) (stays (r .sized)); gain = λ s e. let q : _≡_ {A = ℕ} 0 1 = cc in absurd (omega arith) }

@@ -5,7 +5,7 @@ use mathlib.Core.List.{List, [], _∷_}
 use mathlib.Core.Bool.{false}
 use native.Mathlib.Omega.{arith}
 use borrow.Author.Tests.{not-false, leb-false, eq-eqb}
-use Rattle.model.specs.Arena.{holdsOf, bitAt, ownerAt, waitersAt, stateOf, stateAt}
+use Rattle.model.specs.Arena.{holdIn, holdsOf, bitAt, ownerAt, waitersAt, stateOf, stateAt}
 use Rattle.model.specs.Answers.{kindOf}
 use Rattle.model.specs.Refusals.{Rule, first}
 use Rattle.model.specs.Checks.{badShape, badHealth, badScript, badHeld, badHeldLength, scriptRules, lockRules}
@@ -16,7 +16,7 @@ use Rattle.types.specs.declared.Answer.{Answer}
 use Rattle.types.specs.declared.Answer.the-variants.{Granted, Refused}
 use Rattle.types.specs.declared.Check.the-variants.{Fine}
 use Rattle.types.specs.declared.Flow.{Flow}
-use Rattle.types.specs.declared.Hold.{Hold}
+use Rattle.types.specs.declared.Lease.{Lease}
 use Rattle.types.specs.declared.Refusal.the-variants.{BadHeld, InvalidBucket, Damaged}
 use Rattle.types.specs.declared.State.{State}
 use Rattle.types.specs.declared.State.the-variants as state
@@ -72,12 +72,12 @@ module _ (w : Authority) (script : List ℕ) (place : ℕ) (held : List ℕ) (c 
   Before = badShape (w .head) (w .table) ∷ badHealth (w .head) (w .health) ∷ badScript script place ∷ badHeld (w .head) (w .table) held
 
   -- what is granted is the cell that was asked for, and it is in the arena, whatever the table holds
-  pub granted-key : (l : Hold) → result ≡ Granted l → (lease-key l ≡ c) × contains-key w c
+  pub granted-key : (l : Lease) → result ≡ Granted l → (lease-key (holdIn l) ≡ c) × contains-key w c
   unfolding lockRules scriptRules
   granted-key l =
-      by-checks (λ m. m .seen .1 .answer ≡ Granted l → (lease-key l ≡ c) × contains-key w c) w (try-lock script place held c) (λ r e q. absurd (omega (arith, ap kindOf q)))
+      by-checks (λ m. m .seen .1 .answer ≡ Granted l → (lease-key (holdIn l) ≡ c) × contains-key w c) w (try-lock script place held c) (λ r e q. absurd (omega (arith, ap kindOf q)))
       (λ e k q. (
-        granted-cell (lock-comes (given (w .head) script (holdsOf held)) (w .head .buckets) c (flowOf (next-serial w) place 0) (w .table) (w .health)) l (answer-granted _ l q),
+        granted-cell (lock-comes (given (w .head) script (holdsOf held)) (w .head .buckets) c (flowOf (next-serial w) place 0) (w .table) (w .health)) (holdIn l) (answer-granted _ _ l q),
         leb-false _ _ (clear-back Before _ k .0),
       ))
 
@@ -88,7 +88,7 @@ module _ (w : Authority) (script : List ℕ) (place : ℕ) (held : List ℕ) (c 
       (λ e k.
       let m = lock-goes (w .head) script (holdsOf held) (flowOf (next-serial w) place 0) (w .table) (w .health) c
       (record { sized = fits-sized w (not-false _ (k .0)); valid-now = v; safe = held-live w held _ (k .1 .1 .1) }) (leb-false _ _ (clear-back Before _ k .0)) in
-      record { trace = m .goes .trace; gain = λ l e. m .gain l (answer-granted _ l e) })
+      record { trace = m .goes .trace; gain = λ l e. m .gain (holdIn l) (answer-granted _ _ l e) })
 
   -- valid(old(authority)): 9, where the cell is damaged when it comes to the compare-and-set
   pub try-lock-r1 : first (rules w (try-lock script place held c)) ≡ Fine
@@ -104,7 +104,7 @@ module _ (w : Authority) (script : List ℕ) (place : ℕ) (held : List ℕ) (c 
       by-checks (λ m. (m .seen .1 .answer ≡ Refused (Damaged c)) × (m .seen .0 ≡ of-flow (w .head) two)) w (try-lock script place held c) (λ r e. absurd (fine-fault f e))
       (λ e k.
       let x = lock-damaged given-all (w .head .buckets) (flowOf (next-serial w) place 0) (w .table) (w .health) c q n in
-      (ap answerOf (x .0), cc))
+      (ap (answerOf (w .head .boot)) (x .0), cc))
 
   -- cells(old(authority)).contains_key(key): 8
   pub try-lock-r2 : Clear Before → (contains-key w c → ⊥) → perform w (try-lock script place held c) ≡ unchanged w (try-lock script place held c) (InvalidBucket c)
@@ -113,7 +113,7 @@ module _ (w : Authority) (script : List ℕ) (place : ℕ) (held : List ℕ) (c 
 
   -- leases_authorized(old(authority), held@): 3, with the first position
   pub try-lock-r3 : (i : ℕ) → Clear (badShape (w .head) (w .table) ∷ badHealth (w .head) (w .health) ∷ badScript script place ∷ []) → badHeldLength held .applies ≡ false
-      → First-bad w (holdsOf held) i → perform w (try-lock script place held c) ≡ unchanged w (try-lock script place held c) (BadHeld i)
+      → First-bad w held i → perform w (try-lock script place held c) ≡ unchanged w (try-lock script place held c) (BadHeld i)
   unfolding lockRules scriptRules
   try-lock-r3 i k b f =
       refused w (try-lock script place held c) (BadHeld i)
@@ -128,8 +128,8 @@ module _ (w : Authority) (script : List ℕ) (place : ℕ) (held : List ℕ) (c 
   pub try-lock-e3 : valid w → dom final ≡ dom w
   try-lock-e3 v = trace-buries (try-lock-went v .trace) .same-keys
 
-  pub try-lock-e4 : (l : Hold) → result ≡ Granted l → lease-key l ≡ c
+  pub try-lock-e4 : (l : Lease) → result ≡ Granted l → lease-key (holdIn l) ≡ c
   try-lock-e4 l e = granted-key l e .0
 
-  pub try-lock-e5 : valid w → (l : Hold) → result ≡ Granted l → authorized final l
+  pub try-lock-e5 : valid w → (l : Lease) → result ≡ Granted l → authorized final (holdIn l)
   try-lock-e5 v l e = try-lock-went v .gain l e

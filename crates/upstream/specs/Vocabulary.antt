@@ -8,12 +8,13 @@ use mathlib.Core.Logic.{_↔_, _⊎_, _≢_}
 use lib.Dec.{eqb}
 use lib.ListN.{length, getD}
 use Rattle.choice.specs.Choice.{if_then_else_}
-use Rattle.model.specs.Arena.{cellsOf, cellNumber, bitAt, ownerAt, isIn}
+use Rattle.model.specs.Arena.{cellsOf, cellNumber, leaseOf, leasesOf, bitAt, ownerAt, isIn}
 use Rattle.model.specs.Lock.{holdAt, bindingAt, bucketAt}
 use Rattle.model.specs.Checks.{countIn}
 use Rattle.types.specs.declared.Answer.{Answer}
 use Rattle.types.specs.declared.Answer.the-variants.{Granted}
 use Rattle.types.specs.declared.Hold.{Hold}
+use Rattle.types.specs.declared.Lease.{Lease}
 use Rattle.history.specs.World.{World}
 
 -- ---- 000: types
@@ -48,7 +49,8 @@ abbrev pub Authority : Type 0
 Authority = World
 
 -- pub tracked struct LeaseToken { ghost key: Key, ghost serial: nat }; pub struct ReadLease { physical: Key, token: Tracked<LeaseToken> }
--- Here two numbers, cell and serial; the key of the token is the key of the lease.
+-- Here two numbers, cell and serial; the key of the token is the key of the lease. The boot number that a lease has besides (document 02, L8) is
+-- not upstream's: `Own` says that it is the head's, and `holdIn` forgets it.
 abbrev pub ReadLease : Type 0
 ReadLease = Hold
 
@@ -92,9 +94,20 @@ pub record Cells-are (before after : Authority) (m : Key → Cell) : Type 0 wher
   pub same-keys : dom after ≡ dom before
   pub each : (k : Key) → contains-key before k → cells after k ≡ m k
 
--- a result: result.is_some() ==> P(result.unwrap()) is written (l : Hold) → result ≡ Granted l → P l
+-- a result: result.is_some() ==> P(result.unwrap()) is written (l : Lease) → result ≡ Granted l → P (holdIn l)
 abbrev pub answers-none : Answer → Type 0
-answers-none a = (l : ReadLease) → a ≡ Granted l → ⊥
+answers-none a = (l : Lease) → a ≡ Granted l → ⊥
+
+-- a lease that is of this boot; upstream knows no other. Document 02, L8: "A lease with another boot number is refused as StaleBoot (16)"
+abbrev pub Own : Authority → Lease → Type 0
+Own a l = l .boot ≡ a .head .boot
+
+abbrev pub leaseAt : List Lease → ℕ → Lease
+leaseAt ls i = getD ls i (leaseOf 0 0 0)
+
+-- all leases of a list as words
+abbrev pub All-own : Authority → List ℕ → Type 0
+All-own a words = (i : ℕ) → i < length (leasesOf words) → Own a (leaseAt (leasesOf words) i)
 
 -- ---- 000: the spec functions
 
