@@ -4,7 +4,7 @@ use desk::Desk;
 use desk::within_bytes;
 use setpoint::Setpoint;
 use slots::BookAnswer;
-use types::Hold;
+use types::Lease;
 
 // A step of the console, no call of document 01: only its own crates call it.
 pub fn prepare_book(desk: Desk, book: &mut [u8]) -> BookAnswer {
@@ -18,7 +18,7 @@ pub fn write_setpoint(
     table: &[u32],
     book: &mut [u8],
     slot: u32,
-    lease: Hold,
+    lease: Lease,
     setpoint: Setpoint,
 ) -> BookAnswer {
     let head = desk.head;

@@ -1,7 +1,7 @@
 // The bench console. The lines of the setpoint book (document 02, L2): what a line orders, and what is not understood.
 use setpoint::Setpoint;
 use text::Numbers;
-use types::Hold;
+use types::Lease;
 ghost use Rattle.io.specs.Counts.{Counts as Within};
 
 // What a line of the book orders. A write names its slot, its lease and the setpoint.
@@ -11,7 +11,7 @@ pub enum Order {
     Byte(usize, u8),
     Show,
     Prepare,
-    Write(u32, Hold, Setpoint),
+    Write(u32, Lease, Setpoint),
     Read(u32),
 }
 
@@ -113,7 +113,7 @@ fn kind_of(word: &[u8]) -> Kind {
 }
 
 // A valve is 0 or 1.
-fn valve_order(slot: u32, lease: Hold, value: u32) -> Order {
+fn valve_order(slot: u32, lease: Lease, value: u32) -> Order {
     if value == 0 {
         return Order::Write(slot, lease, Setpoint::Valve(false));
     }
@@ -123,7 +123,7 @@ fn valve_order(slot: u32, lease: Hold, value: u32) -> Order {
     Order::Unknown
 }
 
-fn kind_order(slot: u32, lease: Hold, kind: Kind, value: u32) -> Order {
+fn kind_order(slot: u32, lease: Lease, kind: Kind, value: u32) -> Order {
     match kind {
         Kind::Pressure => {
             let bar = pressure(value);
@@ -158,12 +158,13 @@ fn kind_at(line: &[u8], at: usize) -> Kind {
 
 // The slot and the lease, the kind behind them, and the value behind that.
 fn said_order(named: Numbers, kind: Kind, value: Numbers) -> Order {
-    let lease = Hold {
+    let lease = Lease {
         cell: named.b,
         serial: named.c,
+        boot: named.d,
     };
     if named.fine {
-        if named.count == 3 {
+        if named.count == 4 {
             if value.count == 1 {
                 return kind_order(named.a, lease, kind, value.a);
             }
@@ -172,15 +173,16 @@ fn said_order(named: Numbers, kind: Kind, value: Numbers) -> Order {
     Order::Unknown
 }
 
-// `write_setpoint SLOT C S KIND VALUE`, from the end of its first word on. (Numbers that are not fine are none.)
+// `write_setpoint SLOT C S BOOT KIND VALUE`, from the end of its first word on. (Numbers that are not fine are none.)
 fn write_order(line: &[u8], at: usize) -> Order {
     let slot = word_end(line, at);
     let cell = word_end(line, slot);
     let serial = word_end(line, cell);
-    let kind = word_end(line, serial);
-    let named = text::read_numbers(&line[..serial], at);
+    let boot = word_end(line, serial);
+    let kind = word_end(line, boot);
+    let named = text::read_numbers(&line[..boot], at);
     let value = text::read_numbers(line, kind);
-    said_order(named, kind_at(line, serial), value)
+    said_order(named, kind_at(line, boot), value)
 }
 
 // What a line orders: Unknown, where it is none of the book's lines or is not understood.

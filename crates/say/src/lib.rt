@@ -6,7 +6,7 @@ use text::put;
 use text::put_form;
 use types::Answer;
 use types::Counts;
-use types::Hold;
+use types::Lease;
 use types::Reason;
 use types::Refusal;
 
@@ -51,9 +51,13 @@ fn refused_at(refusal: Refusal, position: usize, out: &mut [u8], used: usize) ->
     number_after(b" at #", position, out, a)
 }
 
-fn granted(lease: Hold, out: &mut [u8], used: usize) -> usize {
-    let values = [lease.cell as usize, lease.serial as usize];
-    put_form(out, used, b"granted # #", &values)
+fn granted(lease: Lease, out: &mut [u8], used: usize) -> usize {
+    let values = [
+        lease.cell as usize,
+        lease.serial as usize,
+        lease.boot as usize,
+    ];
+    put_form(out, used, b"granted # # #", &values)
 }
 
 fn cell(cell: u32, out: &mut [u8], used: usize) -> usize {

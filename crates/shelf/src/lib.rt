@@ -10,7 +10,7 @@ use order::Order;
 use setpoint::Setpoint;
 use slots::BookAnswer;
 use text::put;
-use types::Hold;
+use types::Lease;
 
 // A line that is none of the book's.
 fn no_line(desk: Desk, used: usize) -> Answered {
@@ -53,7 +53,7 @@ fn write_setpoint(
     table: &[u32],
     book: &mut [u8],
     slot: u32,
-    lease: Hold,
+    lease: Lease,
     setpoint: Setpoint,
     out: &mut [u8],
     used: usize,
