@@ -1,6 +1,7 @@
 /*
  * The lease layer of the skid kernel: the calls of document 01, and of document 02 the setpoint book (L2), keys in any
- * order (L4), salvage (L6), the waveform of the cells (L11) and the crew at work (L13), for C.
+ * order (L4), salvage (L6), the boot number of a lease (L8), the waveform of the cells (L11) and the crew at work
+ * (L13), for C.
  *
  * Link with libskid.a (`rt staticlib skid` writes target/staticlib/libskid.a). The archive is code for x86-64, by the
  * calling convention of Linux there (System V). It asks the host for memcpy and memset, and for nothing else. It has
@@ -12,8 +13,8 @@
  *
  * How a call is made
  * ------------------
- * - The head (headers H, buckets B, next serial) goes in as three numbers, and comes back in the reply's first three
- *   words. A lease is two numbers, cell and serial.
+ * - The head (headers H, buckets B, next serial, boot number) goes in as four numbers, and comes back in the reply's
+ *   first four words. A lease is three numbers: cell, serial, and the boot number of the head that it was given by.
  * - A run is lent as a pointer to its first element and a length. A length counts elements, not bytes.
  * - The last argument is the lent reply: SKID_REPLY_WORDS words, SKID_CREW_WORDS for skid_crew and skid_crew_at_work,
  *   SKID_SALVAGE_WORDS for skid_salvage, SKID_BOOK_WORDS for the calls of the setpoint book, SKID_WAVE_WORDS for
@@ -34,9 +35,11 @@
  * What the caller must see to
  * ---------------------------
  * - Give each call the head, the table and the health that the last call left. After a refused skid_prepare the head
- *   before it stays in force; the three zeros that it hands back are no head.
+ *   before it stays in force; the four zeros that it hands back are no head.
  * - Let one caller at a time work on a table. No call takes a lock or issues a memory barrier.
- * - Throw away the leases from before a preparation.
+ * - Never use a boot number twice: then a lease from before a preparation is refused, by SKID_STALE_BOOT unless an
+ *   earlier check applies, up to the next skid_salvage. A refused skid_prepare uses none up.
+ * - Write no serial from before a preparation into a script: a step has no boot number, and means the head's own.
  * - Keep the last head where a power dip does not reach it, for skid_salvage.
  *
  * The arena
@@ -46,8 +49,8 @@
  * - registry: 0 to 64 header numbers; a binding is a place in it.
  * - script: three words a step (kind, place, number), at most 32,768 steps. `place` counts steps, and the reply says
  *   where the script was left. Kinds: enum skid_step.
- * - held, leases: two words a lease (cell, serial), at most 64 leases.
- * - keys: two words a key (binding, bucket). grants: two words a key (cell, serial).
+ * - held, leases: three words a lease (cell, serial, boot number), at most 64 leases.
+ * - keys: two words a key (binding, bucket). grants: three words a key (cell, serial, boot number).
  *
  * The setpoint book
  * -----------------
@@ -71,7 +74,7 @@ extern "C" {
 #endif
 
 /* The version of header and library together; CHANGELOG.md says what came with which. */
-#define SKID_VERSION "0.15.0"
+#define SKID_VERSION "0.16.0"
 
 /* ---- limits */
 
@@ -100,7 +103,7 @@ extern "C" {
 enum skid_step {
     SKID_STEP_OBSERVE = 0, /* reads neither */
     SKID_STEP_TAKE = 1,    /* a cell; the number is not read */
-    SKID_STEP_RELEASE = 2, /* a cell and its serial */
+    SKID_STEP_RELEASE = 2, /* a cell and its serial; the boot number is the head's own */
     SKID_STEP_WAITERS = 3, /* a cell and its new waiters */
     SKID_STEP_HEALTH = 4,  /* a header and 0 or 1 */
     SKID_STEP_END = 5      /* of a boundary; reads neither */
@@ -108,9 +111,9 @@ enum skid_step {
 
 /* ---- the reply */
 
-#define SKID_REPLY_WORDS 14
-#define SKID_CREW_WORDS 48
-#define SKID_SALVAGE_WORDS 6
+#define SKID_REPLY_WORDS 15
+#define SKID_CREW_WORDS 49
+#define SKID_SALVAGE_WORDS 7
 #define SKID_BOOK_WORDS 4
 #define SKID_WAVE_WORDS 3
 
@@ -119,34 +122,36 @@ enum skid_reply {
     SKID_HEADERS = 0, /* the head */
     SKID_BUCKETS = 1,
     SKID_NEXT = 2,
-    SKID_PLACE = 3,    /* where the script was left; 0 for a call without a script */
-    SKID_ATTEMPTS = 4, /* attempts begun */
-    SKID_BOUNDARIES = 5,
-    SKID_YIELDS = 6,
-    SKID_DROPPED = 7,       /* foreign steps dropped */
-    SKID_KIND = 8,          /* of the answer: enum skid_kind */
-    SKID_CELL = 9,          /* kinds 1 and 2: the cell; else 0, but for a refusal */
-    SKID_REFUSAL = 9,       /* kinds 5 and 6: the refusal's number, enum skid_refusal */
-    SKID_SERIAL = 10,       /* kind 2: the serial; else 0, but for a refusal */
-    SKID_CARRIED = 10,      /* kinds 5 and 6: what the refusal carries */
-    SKID_POSITION = 11,     /* kind 6: the key's position; else 0 */
-    SKID_REASON = 12,       /* kind 4, and SKID_SERIALIZATION_FAILURE: why it was Busy, enum skid_reason; else 0 */
-    SKID_REASON_SERIAL = 13 /* the reason's serial; 0 if it has none */
+    SKID_BOOT = 3,
+    SKID_PLACE = 4,    /* where the script was left; 0 for a call without a script */
+    SKID_ATTEMPTS = 5, /* attempts begun */
+    SKID_BOUNDARIES = 6,
+    SKID_YIELDS = 7,
+    SKID_DROPPED = 8,       /* foreign steps dropped */
+    SKID_KIND = 9,          /* of the answer: enum skid_kind */
+    SKID_CELL = 10,         /* kinds 1 and 2: the cell; else 0, but for a refusal */
+    SKID_REFUSAL = 10,      /* kinds 5 and 6: the refusal's number, enum skid_refusal */
+    SKID_SERIAL = 11,       /* kind 2: the serial; else 0, but for a refusal */
+    SKID_CARRIED = 11,      /* kinds 5 and 6: what the refusal carries */
+    SKID_LEASE_BOOT = 12,   /* kind 2: the lease's boot number, which is the head's; else 0, but for kind 6 */
+    SKID_POSITION = 12,     /* kind 6: the key's position */
+    SKID_REASON = 13,       /* kind 4, and SKID_SERIALIZATION_FAILURE: why it was Busy, enum skid_reason; else 0 */
+    SKID_REASON_SERIAL = 14 /* the reason's serial; 0 if it has none */
 };
 
-/* The crew's reply: words 0 to 2 and 8 to 11 as above, words 3 to 7, 12 and 13 are 0. */
+/* The crew's reply: words 0 to 3 and 9 to 11 as above, words 4 to 8 and 12 to 14 are 0. */
 enum skid_crew_reply {
-    SKID_MOVING = 14,  /* turns that took, released or, at work, added */
-    SKID_IDLE = 15,    /* turns that did none of it */
-    SKID_TAKEN = 16,   /* words 16 to 31: cells taken by members 0 to 15 */
-    SKID_RELEASED = 32 /* words 32 to 47: cells released by members 0 to 15 */
+    SKID_MOVING = 15,  /* turns that took, released or, at work, added */
+    SKID_IDLE = 16,    /* turns that did none of it */
+    SKID_TAKEN = 17,   /* words 17 to 32: cells taken by members 0 to 15 */
+    SKID_RELEASED = 33 /* words 33 to 48: cells released by members 0 to 15 */
 };
 
 /* The kinds of answers. Busy is no refusal; it says why, in SKID_REASON. */
 enum skid_kind {
     SKID_DONE = 0,
     SKID_A_CELL = 1,      /* skid_read_permission: the lease's cell */
-    SKID_GRANTED = 2,     /* cell and serial of the new lease */
+    SKID_GRANTED = 2,     /* cell, serial and boot number of the new lease */
     SKID_ALL_GRANTED = 3, /* multi-lock: the leases are in `grants` */
     SKID_BUSY = 4,
     SKID_REFUSED = 5,
@@ -166,17 +171,18 @@ enum skid_reason {
 };
 
 /*
- * The refusals, by document 01's numbers, with what each carries. 1 to 5, 8 in a call by cell, and 12 to 15 are tested
- * before anything else is done, in the order of the numbers (12 and 14 together, by position); they change nothing and
- * have all counts 0. 6 to 11, but for that 8, end an attempt; they keep foreign steps and spent serials, and the
- * caller holds nothing new. (In skid_acquire_sorted_locks 6 and 8 are tested before any attempt: there they change
- * nothing and have all counts 0.)
+ * The refusals, by document 01's numbers (16 is document 02's, L8), with what each carries. 1 to 5, 8 in a call by
+ * cell, and 12 to 16 are tested before anything else is done, in the order of the numbers, but for 16: after the length
+ * test of its list, position by position, before 3 and 12 at that place (12, 14 and 16 together, by position); they
+ * change nothing and have all counts 0. 6 to 11, but for that 8, end an attempt; they keep foreign steps and spent
+ * serials, and the caller holds nothing new. (In skid_acquire_sorted_locks 6 and 8 are tested before any attempt: there
+ * they change nothing and have all counts 0.)
  */
 enum skid_refusal {
     SKID_BAD_SHAPE = 1,              /* 0: the head or a length breaks the arena's rules */
     SKID_BAD_SCRIPT = 2,             /* 0: no multiple of 3, too many steps, or a place past the end */
-    SKID_BAD_HELD = 3,               /* held list odd or too long: its leases, rounded down; else the first not live */
-    SKID_TOO_MANY = 4,               /* 0: a list of keys or leases odd or too long, or grants of a wrong length */
+    SKID_BAD_HELD = 3,               /* held list not by threes or too long: length / 3; else the first not live */
+    SKID_TOO_MANY = 4,               /* 0: keys odd or leases not by threes, too many, or grants of a wrong length */
     SKID_BAD_BINDING = 5,            /* the first position of a key whose binding is past the registry */
     SKID_BAD_HEADER = 6,             /* the header that the registry names, at least H */
     SKID_POISONED = 7,               /* the header */
@@ -187,15 +193,16 @@ enum skid_refusal {
     SKID_NOT_HELD = 12,              /* the position of a lease that is not live; 0 for one lease */
     SKID_PROTECTED = 13,             /* 0: the lease is live and in the held list */
     SKID_REPEATED = 14,              /* the position of the later of two equal live leases in the list */
-    SKID_BAD_CREW = 15               /* 0 for a limit; the member of a bad list; the turn that names no member */
+    SKID_BAD_CREW = 15,              /* 0 for a limit; the member of a bad list; the turn that names no member */
+    SKID_STALE_BOOT = 16             /* the position of a lease with another boot number than the head's; 0 for one */
 };
 
-/* The salvage's reply: words 0 to 2 the head, as it was given. */
+/* The salvage's reply: words 0 to 3 the head, as it was given. */
 enum skid_salvage_reply {
-    SKID_SALVAGE_KIND = 3,    /* SKID_DONE or SKID_REFUSED */
-    SKID_SALVAGE_CHANGED = 4, /* done: the entries of the report */
-    SKID_SALVAGE_REFUSAL = 4, /* refused: SKID_BAD_SHAPE or SKID_REPORT_FULL */
-    SKID_SALVAGE_HELD = 5     /* done: the cells left held; else 0 */
+    SKID_SALVAGE_KIND = 4,    /* SKID_DONE or SKID_REFUSED */
+    SKID_SALVAGE_CHANGED = 5, /* done: the entries of the report */
+    SKID_SALVAGE_REFUSAL = 5, /* refused: SKID_BAD_SHAPE or SKID_REPORT_FULL */
+    SKID_SALVAGE_HELD = 6     /* done: the cells left held; else 0 */
 };
 
 /* A refusal without a number in document 01; they count on from the setpoint book's. */
@@ -226,9 +233,10 @@ enum skid_setpoint {
 };
 
 /*
- * The refusals of the book's calls. SKID_BAD_SHAPE (1) and SKID_NOT_HELD (12) are document 01's; the others have no
- * number there and count from 101. Tested in the order of this list, SKID_NOT_HELD behind SKID_BAD_SLOT; a read tests
- * SKID_BAD_SHAPE, SKID_BAD_SLOT, SKID_DAMAGED_BOOK, SKID_NEVER_WRITTEN.
+ * The refusals of the book's calls. SKID_BAD_SHAPE (1), SKID_NOT_HELD (12) and SKID_STALE_BOOT (16) are those above;
+ * the others have no number there and count from 101. Tested in the order of this list, SKID_STALE_BOOT and then
+ * SKID_NOT_HELD behind SKID_BAD_SLOT; a read tests SKID_BAD_SHAPE, SKID_BAD_SLOT, SKID_DAMAGED_BOOK,
+ * SKID_NEVER_WRITTEN.
  */
 enum skid_book_refusal {
     SKID_BAD_SLOT = 101,       /* the book too short for its slots or over the limit, or no such slot */
@@ -260,10 +268,11 @@ enum skid_wave_kind {
 
 /*
  * Sets every word of the table and every health byte to 0, whatever they held: Done, with the head (headers, buckets,
- * serial). `serial` is the first serial, 1 to SKID_NO_SERIAL. The table has exactly 3 x headers x buckets words and
- * the health exactly `headers` bytes; else SKID_BAD_SHAPE, a head of three zeros, and no lent word changes.
+ * serial, boot). `serial` is the first serial, 1 to SKID_NO_SERIAL; `boot` is any number, and every lease that is
+ * granted by this head has it. The table has exactly 3 x headers x buckets words and the health exactly `headers`
+ * bytes; else SKID_BAD_SHAPE, a head of four zeros, and no lent word changes.
  */
-void skid_prepare(uint32_t headers, uint32_t buckets, uint32_t serial, uint32_t *table, size_t table_len,
+void skid_prepare(uint32_t headers, uint32_t buckets, uint32_t serial, uint32_t boot, uint32_t *table, size_t table_len,
                   uint8_t *health, size_t health_len, uint64_t reply[SKID_REPLY_WORDS]);
 
 /* ---- salvage after a warm restart (document 02, L6) */
@@ -279,71 +288,80 @@ void skid_prepare(uint32_t headers, uint32_t buckets, uint32_t serial, uint32_t 
  * - unconfirmed: the cells left held, one word each, rising.
  * - Words behind the entries of both are left alone.
  *
+ * The boot number is not tested, and stays what the head says.
+ *
  * Refused: SKID_BAD_SHAPE, where the head or the length of table or health breaks the arena's rules; then
  * SKID_REPORT_FULL, exactly if the report or the list cannot hold all its entries. That is known before the first
  * change: a refusal changes no lent word. A second salvage reports no change.
  *
  * What the caller must see to: the head must be the last one. By an older head, leases issued since look damaged and
- * are freed, and their serials are issued again. A cell left held is not thereby confirmed: its owner is to confirm the
- * lease or to drop it. RAM may have left one serial as the owner of two cells; both stand in the list, and the table
- * says who owns each.
+ * are freed, and their serials are issued again; by one from before the last preparation, leases of that earlier boot
+ * number can be accepted again. A cell left held is not thereby confirmed: its owner is to confirm the lease or to drop
+ * it. RAM may have left one serial as the owner of two cells; both stand in the list, and the table says who owns each.
  */
-void skid_salvage(uint32_t headers, uint32_t buckets, uint32_t next, uint32_t *table, size_t table_len,
+void skid_salvage(uint32_t headers, uint32_t buckets, uint32_t next, uint32_t boot, uint32_t *table, size_t table_len,
                   uint8_t *health, size_t health_len, uint32_t *report, size_t report_len, uint32_t *unconfirmed,
                   size_t unconfirmed_len, uint64_t reply[SKID_SALVAGE_WORDS]);
 
-/* ---- calls without a script. Each changes no word but those of the named cell. */
+/*
+ * ---- calls without a script. Each changes no word but those of the named cell. A live lease is one of the head's own
+ * boot number; another is SKID_STALE_BOOT.
+ */
 
 /* One compare-and-set of a cell: granted, or Busy if it is held, with its owner's serial. */
-void skid_try_acquire(uint32_t headers, uint32_t buckets, uint32_t next, uint32_t *table, size_t table_len,
-                      uint32_t cell, uint64_t reply[SKID_REPLY_WORDS]);
+void skid_try_acquire(uint32_t headers, uint32_t buckets, uint32_t next, uint32_t boot, uint32_t *table,
+                      size_t table_len, uint32_t cell, uint64_t reply[SKID_REPLY_WORDS]);
 
 /* One release of a live lease: Done. */
-void skid_drop_lease(uint32_t headers, uint32_t buckets, uint32_t next, uint32_t *table, size_t table_len,
-                     uint32_t cell, uint32_t serial, uint64_t reply[SKID_REPLY_WORDS]);
+void skid_drop_lease(uint32_t headers, uint32_t buckets, uint32_t next, uint32_t boot, uint32_t *table,
+                     size_t table_len, uint32_t cell, uint32_t serial, uint32_t lease_boot,
+                     uint64_t reply[SKID_REPLY_WORDS]);
 
 /* The cell of a live lease. Changes nothing. */
-void skid_read_permission(uint32_t headers, uint32_t buckets, uint32_t next, const uint32_t *table, size_t table_len,
-                          uint32_t cell, uint32_t serial, uint64_t reply[SKID_REPLY_WORDS]);
+void skid_read_permission(uint32_t headers, uint32_t buckets, uint32_t next, uint32_t boot, const uint32_t *table,
+                          size_t table_len, uint32_t cell, uint32_t serial, uint32_t lease_boot,
+                          uint64_t reply[SKID_REPLY_WORDS]);
 
 /* One compare-and-set of a live lease's cell: it is Busy, held by the lease's serial, and changes nothing. */
-void skid_competing_acquire_is_excluded(uint32_t headers, uint32_t buckets, uint32_t next, uint32_t *table,
-                                        size_t table_len, uint32_t cell, uint32_t serial,
-                                        uint64_t reply[SKID_REPLY_WORDS]);
+void skid_competing_acquire_is_excluded(uint32_t headers, uint32_t buckets, uint32_t next, uint32_t boot,
+                                        uint32_t *table, size_t table_len, uint32_t cell, uint32_t serial,
+                                        uint32_t lease_boot, uint64_t reply[SKID_REPLY_WORDS]);
 
 /* A live lease released, and its cell taken anew. Where no serial remains, the release stands. */
-void skid_release_then_handoff(uint32_t headers, uint32_t buckets, uint32_t next, uint32_t *table, size_t table_len,
-                               uint32_t cell, uint32_t serial, uint64_t reply[SKID_REPLY_WORDS]);
+void skid_release_then_handoff(uint32_t headers, uint32_t buckets, uint32_t next, uint32_t boot, uint32_t *table,
+                               size_t table_len, uint32_t cell, uint32_t serial, uint32_t lease_boot,
+                               uint64_t reply[SKID_REPLY_WORDS]);
 
 /*
  * A compare-and-set of a live lease's cell that is Busy, a release of the lease, which may not be in the held list, and
  * a compare-and-set again. Where no serial remains, the release stands.
  */
-void skid_foreign_release_between_attempts(uint32_t headers, uint32_t buckets, uint32_t next, uint32_t *table,
-                                           size_t table_len, const uint32_t *held, size_t held_len, uint32_t cell,
-                                           uint32_t serial, uint64_t reply[SKID_REPLY_WORDS]);
+void skid_foreign_release_between_attempts(uint32_t headers, uint32_t buckets, uint32_t next, uint32_t boot,
+                                           uint32_t *table, size_t table_len, const uint32_t *held, size_t held_len,
+                                           uint32_t cell, uint32_t serial, uint32_t lease_boot,
+                                           uint64_t reply[SKID_REPLY_WORDS]);
 
 /* skid_try_acquire after the held list's check. */
-void skid_acquire_preserving_borrows(uint32_t headers, uint32_t buckets, uint32_t next, uint32_t *table,
+void skid_acquire_preserving_borrows(uint32_t headers, uint32_t buckets, uint32_t next, uint32_t boot, uint32_t *table,
                                      size_t table_len, const uint32_t *held, size_t held_len, uint32_t cell,
                                      uint64_t reply[SKID_REPLY_WORDS]);
 
 /* skid_drop_lease, but not of a lease in the held list. */
-void skid_drop_preserving_borrows(uint32_t headers, uint32_t buckets, uint32_t next, uint32_t *table, size_t table_len,
-                                  const uint32_t *held, size_t held_len, uint32_t cell, uint32_t serial,
-                                  uint64_t reply[SKID_REPLY_WORDS]);
+void skid_drop_preserving_borrows(uint32_t headers, uint32_t buckets, uint32_t next, uint32_t boot, uint32_t *table,
+                                  size_t table_len, const uint32_t *held, size_t held_len, uint32_t cell,
+                                  uint32_t serial, uint32_t lease_boot, uint64_t reply[SKID_REPLY_WORDS]);
 
 /* ---- calls with a script. Foreign steps run at each boundary, from `place` on; they may change table and health. */
 
 /* One boundary: Done. A foreign release of a lease in the held list is dropped. */
-void skid_environment(uint32_t headers, uint32_t buckets, uint32_t next, uint32_t *table, size_t table_len,
-                      uint8_t *health, size_t health_len, const uint32_t *script, size_t script_len, size_t place,
-                      const uint32_t *held, size_t held_len, uint64_t reply[SKID_REPLY_WORDS]);
+void skid_environment(uint32_t headers, uint32_t buckets, uint32_t next, uint32_t boot, uint32_t *table,
+                      size_t table_len, uint8_t *health, size_t health_len, const uint32_t *script, size_t script_len,
+                      size_t place, const uint32_t *held, size_t held_len, uint64_t reply[SKID_REPLY_WORDS]);
 
 /* The same. */
-void skid_environment_for_borrows(uint32_t headers, uint32_t buckets, uint32_t next, uint32_t *table, size_t table_len,
-                                  uint8_t *health, size_t health_len, const uint32_t *script, size_t script_len,
-                                  size_t place, const uint32_t *held, size_t held_len,
+void skid_environment_for_borrows(uint32_t headers, uint32_t buckets, uint32_t next, uint32_t boot, uint32_t *table,
+                                  size_t table_len, uint8_t *health, size_t health_len, const uint32_t *script,
+                                  size_t script_len, size_t place, const uint32_t *held, size_t held_len,
                                   uint64_t reply[SKID_REPLY_WORDS]);
 
 /*
@@ -351,59 +369,60 @@ void skid_environment_for_borrows(uint32_t headers, uint32_t buckets, uint32_t n
  * waiters. Granted or Busy, or refused. A late SKID_POISONED or Busy releases the cell, and its serial stays spent;
  * Busy gives it as the reason's serial.
  */
-void skid_try_lock(uint32_t headers, uint32_t buckets, uint32_t next, uint32_t *table, size_t table_len,
+void skid_try_lock(uint32_t headers, uint32_t buckets, uint32_t next, uint32_t boot, uint32_t *table, size_t table_len,
                    uint8_t *health, size_t health_len, const uint32_t *script, size_t script_len, size_t place,
                    const uint32_t *held, size_t held_len, uint32_t cell, uint64_t reply[SKID_REPLY_WORDS]);
 
 /* The same. */
-void skid_other_mutex_preserves_leases(uint32_t headers, uint32_t buckets, uint32_t next, uint32_t *table,
-                                       size_t table_len, uint8_t *health, size_t health_len, const uint32_t *script,
-                                       size_t script_len, size_t place, const uint32_t *held, size_t held_len,
-                                       uint32_t cell, uint64_t reply[SKID_REPLY_WORDS]);
+void skid_other_mutex_preserves_leases(uint32_t headers, uint32_t buckets, uint32_t next, uint32_t boot,
+                                       uint32_t *table, size_t table_len, uint8_t *health, size_t health_len,
+                                       const uint32_t *script, size_t script_len, size_t place, const uint32_t *held,
+                                       size_t held_len, uint32_t cell, uint64_t reply[SKID_REPLY_WORDS]);
 
 /*
  * One attempt on a key: header from the registry, then its health, then the bucket, then a try_lock, which reads the
  * health again. SKID_POISONED before the try_lock has taken nothing; after it the serial stays spent.
  */
-void skid_transactional_try_lock_bucket(uint32_t headers, uint32_t buckets, uint32_t next, uint32_t *table,
-                                        size_t table_len, uint8_t *health, size_t health_len, const uint32_t *registry,
-                                        size_t registry_len, const uint32_t *script, size_t script_len, size_t place,
-                                        const uint32_t *held, size_t held_len, uint32_t binding, uint32_t bucket,
-                                        uint64_t reply[SKID_REPLY_WORDS]);
+void skid_transactional_try_lock_bucket(uint32_t headers, uint32_t buckets, uint32_t next, uint32_t boot,
+                                        uint32_t *table, size_t table_len, uint8_t *health, size_t health_len,
+                                        const uint32_t *registry, size_t registry_len, const uint32_t *script,
+                                        size_t script_len, size_t place, const uint32_t *held, size_t held_len,
+                                        uint32_t binding, uint32_t bucket, uint64_t reply[SKID_REPLY_WORDS]);
 
 /*
  * Up to 4,096 attempts on a key, with boundaries, yields and spins between them. Granted or refused, never Busy. A
  * refusal ends it at once, also SKID_POISONED after a try_lock's third boundary. After 4,096 Busy attempts it is
  * SKID_SERIALIZATION_FAILURE, with the last one's reason.
  */
-void skid_acquire_index_bucket(uint32_t headers, uint32_t buckets, uint32_t next, uint32_t *table, size_t table_len,
-                               uint8_t *health, size_t health_len, const uint32_t *registry, size_t registry_len,
-                               const uint32_t *script, size_t script_len, size_t place, const uint32_t *held,
-                               size_t held_len, uint32_t binding, uint32_t bucket, uint64_t reply[SKID_REPLY_WORDS]);
+void skid_acquire_index_bucket(uint32_t headers, uint32_t buckets, uint32_t next, uint32_t boot, uint32_t *table,
+                               size_t table_len, uint8_t *health, size_t health_len, const uint32_t *registry,
+                               size_t registry_len, const uint32_t *script, size_t script_len, size_t place,
+                               const uint32_t *held, size_t held_len, uint32_t binding, uint32_t bucket,
+                               uint64_t reply[SKID_REPLY_WORDS]);
 
 /* All leases of a list released, last first, a boundary after each: Done. Those not yet released are protected. */
-void skid_release_all(uint32_t headers, uint32_t buckets, uint32_t next, uint32_t *table, size_t table_len,
-                      uint8_t *health, size_t health_len, const uint32_t *script, size_t script_len, size_t place,
-                      const uint32_t *leases, size_t leases_len, uint64_t reply[SKID_REPLY_WORDS]);
+void skid_release_all(uint32_t headers, uint32_t buckets, uint32_t next, uint32_t boot, uint32_t *table,
+                      size_t table_len, uint8_t *health, size_t health_len, const uint32_t *script, size_t script_len,
+                      size_t place, const uint32_t *leases, size_t leases_len, uint64_t reply[SKID_REPLY_WORDS]);
 
 /*
  * Multi-lock: the keys in the order given, each as skid_acquire_index_bucket takes it. All granted, and `grants` holds
- * cell and serial for each key, in key order; or refused at a key, all taken leases released as in skid_release_all,
- * and `grants` unchanged. The reason of SKID_SERIALIZATION_FAILURE is that of the refused key. `grants_len` is
- * `keys_len`.
+ * cell, serial and boot number for each key, in key order; or refused at a key, all taken leases released as in
+ * skid_release_all, and `grants` unchanged. The reason of SKID_SERIALIZATION_FAILURE is that of the refused key.
+ * `grants_len` is 3 x keys_len / 2.
  */
-void skid_acquire_index_locks(uint32_t headers, uint32_t buckets, uint32_t next, uint32_t *table, size_t table_len,
-                              uint8_t *health, size_t health_len, const uint32_t *registry, size_t registry_len,
-                              const uint32_t *script, size_t script_len, size_t place, const uint32_t *held,
-                              size_t held_len, const uint32_t *keys, size_t keys_len, uint32_t *grants,
-                              size_t grants_len, uint64_t reply[SKID_REPLY_WORDS]);
+void skid_acquire_index_locks(uint32_t headers, uint32_t buckets, uint32_t next, uint32_t boot, uint32_t *table,
+                              size_t table_len, uint8_t *health, size_t health_len, const uint32_t *registry,
+                              size_t registry_len, const uint32_t *script, size_t script_len, size_t place,
+                              const uint32_t *held, size_t held_len, const uint32_t *keys, size_t keys_len,
+                              uint32_t *grants, size_t grants_len, uint64_t reply[SKID_REPLY_WORDS]);
 
 /*
  * Multi-lock with keys in any order, and doubles (document 02, L4). The keys are resolved to cells; each distinct cell
  * is taken once, in rising order of cells, as skid_acquire_index_locks takes a key. All granted, and `grants` holds
- * cell and serial for each key, in the caller's order: keys of one cell share one lease. So hand each lease to
- * skid_release_all once; the buffer of doubled keys as it stands is SKID_REPEATED. Attempts and boundaries count
- * distinct cells.
+ * cell, serial and boot number for each key, in the caller's order: keys of one cell share one lease. So hand each
+ * lease to skid_release_all once; the buffer of doubled keys as it stands is SKID_REPEATED. Attempts and boundaries
+ * count distinct cells.
  *
  * Checked in this order: what skid_acquire_index_locks checks, every binding among it (SKID_TOO_MANY counts keys as
  * typed); then, before any attempt, position by position, the header (SKID_BAD_HEADER) before the bucket
@@ -411,11 +430,11 @@ void skid_acquire_index_locks(uint32_t headers, uint32_t buckets, uint32_t next,
  * them, has the first position that asks for its cell; all taken leases are released as in skid_release_all. Refused,
  * `grants` is unchanged.
  */
-void skid_acquire_sorted_locks(uint32_t headers, uint32_t buckets, uint32_t next, uint32_t *table, size_t table_len,
-                               uint8_t *health, size_t health_len, const uint32_t *registry, size_t registry_len,
-                               const uint32_t *script, size_t script_len, size_t place, const uint32_t *held,
-                               size_t held_len, const uint32_t *keys, size_t keys_len, uint32_t *grants,
-                               size_t grants_len, uint64_t reply[SKID_REPLY_WORDS]);
+void skid_acquire_sorted_locks(uint32_t headers, uint32_t buckets, uint32_t next, uint32_t boot, uint32_t *table,
+                               size_t table_len, uint8_t *health, size_t health_len, const uint32_t *registry,
+                               size_t registry_len, const uint32_t *script, size_t script_len, size_t place,
+                               const uint32_t *held, size_t held_len, const uint32_t *keys, size_t keys_len,
+                               uint32_t *grants, size_t grants_len, uint64_t reply[SKID_REPLY_WORDS]);
 
 /* ---- the crew */
 
@@ -424,7 +443,7 @@ void skid_acquire_sorted_locks(uint32_t headers, uint32_t buckets, uint32_t next
  * cells: the members' lists one behind the other, each strictly rising. turns: members, by number, in the order of
  * their turns. Done, or SKID_BAD_SHAPE or SKID_BAD_CREW.
  */
-void skid_crew(uint32_t headers, uint32_t buckets, uint32_t next, uint32_t *table, size_t table_len,
+void skid_crew(uint32_t headers, uint32_t buckets, uint32_t next, uint32_t boot, uint32_t *table, size_t table_len,
                const uint8_t *health, size_t health_len, const uint32_t *counts, size_t counts_len,
                const uint32_t *cells, size_t cells_len, const uint32_t *turns, size_t turns_len,
                uint64_t reply[SKID_CREW_WORDS]);
@@ -435,39 +454,39 @@ void skid_crew(uint32_t headers, uint32_t buckets, uint32_t next, uint32_t *tabl
  * counter had when it came to hold all; sums wrap at 65,536. counters: one a cell, so H x B of them, else
  * SKID_BAD_SHAPE. A refusal leaves them as they were.
  */
-void skid_crew_at_work(uint32_t headers, uint32_t buckets, uint32_t next, uint32_t *table, size_t table_len,
-                       const uint8_t *health, size_t health_len, const uint32_t *counts, size_t counts_len,
-                       const uint32_t *cells, size_t cells_len, const uint32_t *turns, size_t turns_len,
-                       uint16_t *counters, size_t counters_len, uint64_t reply[SKID_CREW_WORDS]);
+void skid_crew_at_work(uint32_t headers, uint32_t buckets, uint32_t next, uint32_t boot, uint32_t *table,
+                       size_t table_len, const uint8_t *health, size_t health_len, const uint32_t *counts,
+                       size_t counts_len, const uint32_t *cells, size_t cells_len, const uint32_t *turns,
+                       size_t turns_len, uint16_t *counters, size_t counters_len, uint64_t reply[SKID_CREW_WORDS]);
 
 /* ---- the setpoint book (document 02, L2). No call changes the table, and none takes the health. */
 
 /* Sets every byte of the book to 0, whatever stood there: done. Refused: SKID_BAD_SHAPE for the head, SKID_BAD_SLOT. */
-void skid_prepare_book(uint32_t headers, uint32_t buckets, uint32_t next, uint8_t *book, size_t book_len,
+void skid_prepare_book(uint32_t headers, uint32_t buckets, uint32_t next, uint32_t boot, uint8_t *book, size_t book_len,
                        uint64_t reply[SKID_BOOK_WORDS]);
 
 /*
  * Writes a pressure in bar to a slot, by a live lease on the slot's cell: written, with the slot's new version, one
- * more than its last. Refused, in this order: SKID_BAD_SHAPE, SKID_BAD_SLOT, SKID_NOT_HELD, SKID_NOT_FINITE,
- * SKID_DAMAGED_BOOK, SKID_VERSIONS_SPENT.
+ * more than its last. Refused, in this order: SKID_BAD_SHAPE, SKID_BAD_SLOT, SKID_STALE_BOOT, SKID_NOT_HELD,
+ * SKID_NOT_FINITE, SKID_DAMAGED_BOOK, SKID_VERSIONS_SPENT.
  */
-void skid_write_pressure(uint32_t headers, uint32_t buckets, uint32_t next, const uint32_t *table, size_t table_len,
-                         uint8_t *book, size_t book_len, uint32_t slot, uint32_t cell, uint32_t serial, float bar,
-                         uint64_t reply[SKID_BOOK_WORDS]);
+void skid_write_pressure(uint32_t headers, uint32_t buckets, uint32_t next, uint32_t boot, const uint32_t *table,
+                         size_t table_len, uint8_t *book, size_t book_len, uint32_t slot, uint32_t cell,
+                         uint32_t serial, uint32_t lease_boot, float bar, uint64_t reply[SKID_BOOK_WORDS]);
 
 /* The same with a speed; never SKID_NOT_FINITE. */
-void skid_write_speed(uint32_t headers, uint32_t buckets, uint32_t next, const uint32_t *table, size_t table_len,
-                      uint8_t *book, size_t book_len, uint32_t slot, uint32_t cell, uint32_t serial, uint32_t speed,
-                      uint64_t reply[SKID_BOOK_WORDS]);
+void skid_write_speed(uint32_t headers, uint32_t buckets, uint32_t next, uint32_t boot, const uint32_t *table,
+                      size_t table_len, uint8_t *book, size_t book_len, uint32_t slot, uint32_t cell, uint32_t serial,
+                      uint32_t lease_boot, uint32_t speed, uint64_t reply[SKID_BOOK_WORDS]);
 
 /* The same with a valve, true for open; never SKID_NOT_FINITE. */
-void skid_write_valve(uint32_t headers, uint32_t buckets, uint32_t next, const uint32_t *table, size_t table_len,
-                      uint8_t *book, size_t book_len, uint32_t slot, uint32_t cell, uint32_t serial, bool open,
-                      uint64_t reply[SKID_BOOK_WORDS]);
+void skid_write_valve(uint32_t headers, uint32_t buckets, uint32_t next, uint32_t boot, const uint32_t *table,
+                      size_t table_len, uint8_t *book, size_t book_len, uint32_t slot, uint32_t cell, uint32_t serial,
+                      uint32_t lease_boot, bool open, uint64_t reply[SKID_BOOK_WORDS]);
 
 /* The setpoint of a slot and its version: a setting. It needs no lease and changes nothing. */
-void skid_read_setpoint(uint32_t headers, uint32_t buckets, uint32_t next, const uint8_t *book, size_t book_len,
-                        uint32_t slot, uint64_t reply[SKID_BOOK_WORDS]);
+void skid_read_setpoint(uint32_t headers, uint32_t buckets, uint32_t next, uint32_t boot, const uint8_t *book,
+                        size_t book_len, uint32_t slot, uint64_t reply[SKID_BOOK_WORDS]);
 
 /* ---- the waveform of the cells (document 02, L11) */
 

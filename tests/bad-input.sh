@@ -82,9 +82,9 @@ says 'empty lines'
 printf '#\n# a comment\n#\t\r\0\377\n#' >"$input"
 says 'comments'
 printf 'show' >"$input"
-says 'last line without line feed' 'head 0 0 0'
+says 'last line without line feed' 'head 0 0 0 0'
 printf '\n#\nshow\nshow x' >"$input"
-says 'every line counts' 'head 0 0 0' 'line 4: not understood'
+says 'every line counts' 'head 0 0 0 0' 'line 4: not understood'
 
 # ---- Spaces, tabs, carriage returns
 
@@ -92,7 +92,7 @@ printf '%s\n' ' ' '  ' ' show' 'show ' 'show  ' $'\tshow' $'show\t' $'show\r' $'
     'place  1' 'place 1 ' ' place 1' $'place\t1' $'place 1\t' $'place\r1' $'place 1\r' 'script 5  0 0' 'script 5 0 0 ' 'script ' \
     'held ' 'member ' 'lend ' $'lend\r' 'lend 3  1' $'show\vx' $'show\f' $'show\240' >"$input"
 all_bad 'spaces that are none'
-printf 'prepare 2 4 1\r\nplace 0\r\n\r\n#\r\nshow\r\n' >"$input"
+printf 'prepare 2 4 1 7\r\nplace 0\r\n\r\n#\r\nshow\r\n' >"$input"
 says 'carriage returns before line feeds' 'line 1: not understood' 'line 2: not understood' 'line 3: not understood' 'line 5: not understood'
 printf 'show\rshow' >"$input"
 says 'a carriage return ends no line' 'line 1: not understood'
@@ -103,11 +103,11 @@ says 'zero bytes' 'line 1: not understood' 'line 2: not understood' 'line 3: not
 
 for number in 4294967296 4294967297 4294967300 9999999999 42949672950 18446744073709551615 18446744073709551616 99999999999999999999999 \
     00 01 007 000000000000 04294967295 -1 -0 +1 +0 1. 1.0 1e3 0x1 1_000 1,000 a 1a '' ''\''1' '１'; do
-    printf 'place %s\nram %s\nhead 1 1 %s\nheld 1 %s\nheld %s 1\ntry_acquire %s\nprepare %s 1 1\nmember %s\n' \
-        "$number" "$number" "$number" "$number" "$number" "$number" "$number" "$number"
+    printf 'place %s\nram %s\nhead 1 1 %s 1\nhead 1 1 1 %s\nheld 1 %s\nheld %s 1\ntry_acquire %s\nprepare %s 1 1 1\nprepare 1 1 1 %s\ndrop_lease 1 1 %s\nmember %s\n' \
+        "$number" "$number" "$number" "$number" "$number" "$number" "$number" "$number" "$number" "$number" "$number"
 done >"$input"
 all_bad 'numbers that are none'
-printf 'head 4294967295 4294967295 4294967295\nplace 4294967295\nshow\nlend 3 1\nenvironment\nhead 0 0 0\nplace 0\nenvironment\n' >"$room/part"
+printf 'head 4294967295 4294967295 4294967295 4294967295\nplace 4294967295\nshow\nlend 3 1\nenvironment\nhead 0 0 0 0\nplace 0\nenvironment\n' >"$room/part"
 {
     cat "$room/part"
     printf 'word 0 4294967295\nword 1 0\nword 2 10\nbyte 0 255\nshow\n'
@@ -154,7 +154,7 @@ while read -r word least most_numbers; do
     done
 done >"$input" <<'TABLE'
 ram 1 1
-head 3 3
+head 4 4
 word 2 2
 byte 2 2
 place 1 1
@@ -164,15 +164,15 @@ show 0 0
 map 0 0
 echo 1 1
 help 0 0
-prepare 3 3
+prepare 4 4
 try_acquire 1 1
-drop_lease 2 2
-read_permission 2 2
-competing_acquire_is_excluded 2 2
-release_then_handoff 2 2
-foreign_release_between_attempts 2 2
+drop_lease 3 3
+read_permission 3 3
+competing_acquire_is_excluded 3 3
+release_then_handoff 3 3
+foreign_release_between_attempts 3 3
 acquire_preserving_borrows 1 1
-drop_preserving_borrows 2 2
+drop_preserving_borrows 3 3
 environment 0 0
 environment_for_borrows 0 0
 try_lock 1 1
@@ -194,7 +194,7 @@ unconfirmed 1 1
 salvage 0 0
 TABLE
 # of a setpoint one word is no number
-for count in 0 1 2 3 4 5 6; do echo "write_setpoint$(numbers "$count" 1)"; done >>"$input"
+for count in 0 1 2 3 4 5 6 7; do echo "write_setpoint$(numbers "$count" 1)"; done >>"$input"
 printf 'lend 1\nlend 0\nlend 1 2 3\nlend x\nlend 1 x\necho 2\necho 256\necho 4294967295\necho 4294967296\necho 01\necho x\necho\n' >>"$input"
 all_bad 'too many and too few words'
 for word in ram lend head word byte registry held keys leases turns script place grants member crewless show map echo help prepare try_acquire drop_lease read_permission \
@@ -202,7 +202,7 @@ for word in ram lend head word byte registry held keys leases turns script place
     environment_for_borrows try_lock other_mutex_preserves_leases transactional_try_lock_bucket acquire_index_bucket release_all acquire_index_locks acquire_sorted_locks crew \
     book book_byte show_book prepare_book read_setpoint write_setpoint counters crew_at_work report unconfirmed salvage; do
     # the right count of numbers, the word wrong: longer, shorter, of capitals
-    for rest in '' ' 1' ' 1 1' ' 1 1 1'; do
+    for rest in '' ' 1' ' 1 1' ' 1 1 1' ' 1 1 1 1'; do
         printf '%s\n' "${word}x$rest" "${word%?}$rest" "x$word$rest" "${word#?}$rest" "${word^}$rest" "${word^^}$rest" "$word.$rest"
     done
 done >"$input"
@@ -233,10 +233,10 @@ room_of() {
     fi
 }
 
-arena=$'prepare 2 4 1\nregistry 0 1 1'
-room_of registry registry 80 'prepare 2 4 1' 'transactional_try_lock_bucket 0 0' "refused 1 BadShape 0 next 1 place 0 $counts"
+arena=$'prepare 2 4 1 7\nregistry 0 1 1'
+room_of registry registry 80 'prepare 2 4 1 7' 'transactional_try_lock_bucket 0 0' "refused 1 BadShape 0 next 1 place 0 $counts"
 room_of script script 98400 "$arena" environment "refused 2 BadScript 0 next 1 place 0 $counts"
-room_of held held 300 "$arena" environment "refused 3 BadHeld 150 next 1 place 0 $counts"
+room_of held held 300 "$arena" environment "refused 3 BadHeld 100 next 1 place 0 $counts"
 room_of keys keys 200 "$arena" acquire_index_locks 'grants'
 room_of 'keys, sorted' keys 200 "$arena" acquire_sorted_locks 'grants'
 room_of leases leases 300 "$arena" release_all "refused 4 TooMany 0 next 1 place 0 $counts"
@@ -246,7 +246,7 @@ room_of member member 70 "$arena" crew 'refused 15 BadCrew 0 next 1'
 
 # what document 01 allows at most, and one more
 {
-    printf 'prepare 64 64 1\n'
+    printf 'prepare 64 64 1 1\n'
     echo "registry$(numbers 64)"
     printf 'transactional_try_lock_bucket 63 63\ntransactional_try_lock_bucket 64 0\n'
     echo "registry$(numbers 65)"
@@ -255,20 +255,20 @@ room_of member member 70 "$arena" crew 'refused 15 BadCrew 0 next 1'
     printf 'environment\nplace 32768\nenvironment\nplace 32769\nenvironment\n'
     echo "script$(numbers 98307 0)"
     printf 'environment\nscript\n'
-    echo "held$(numbers 128 1)"
+    echo "held$(numbers 192 1)"
     printf 'environment\n'
-    echo "held$(numbers 130 1)"
+    echo "held$(numbers 195 1)"
     printf 'environment\n'
-    echo "held$(numbers 131 1)"
+    echo "held$(numbers 196 1)"
     printf 'environment\nheld\n'
     echo "registry$(numbers 64)"
     echo "keys$(numbers 128 1)"
-    printf 'grants 128\nacquire_index_locks\n'
+    printf 'grants 192\nacquire_index_locks\n'
     echo "keys$(numbers 130 1)"
-    printf 'grants 130\nacquire_index_locks\nacquire_sorted_locks\ngrants 300\nacquire_index_locks\nacquire_sorted_locks\n'
-    echo "leases$(numbers 128 1)"
+    printf 'grants 195\nacquire_index_locks\nacquire_sorted_locks\ngrants 300\nacquire_index_locks\nacquire_sorted_locks\n'
+    echo "leases$(numbers 192 1)"
     printf 'release_all\n'
-    echo "leases$(numbers 130 1)"
+    echo "leases$(numbers 195 1)"
     printf 'release_all\n'
     echo "member$(numbers 64)"
     printf 'turns 0\ncrew\ncrewless\n'
@@ -285,21 +285,21 @@ compare 'limits of document 01'
 
 # the sorted call: keys count as typed, 64 of one cell are not too many, with one held lease they are
 {
-    printf 'prepare 2 4 1\nregistry 0 1 1\ntry_acquire 7\n'
+    printf 'prepare 2 4 1 8\nregistry 0 1 1\ntry_acquire 7\n'
     echo "keys$(numbers 128 1)"
-    printf 'grants 128\nacquire_sorted_locks\nheld 7 1\nacquire_sorted_locks\n'
+    printf 'grants 192\nacquire_sorted_locks\nheld 7 1 8\nacquire_sorted_locks\n'
     echo "keys$(numbers 126 2)"
-    printf 'grants 126\nacquire_sorted_locks\nkeys 4294967295 0\ngrants 2\nacquire_sorted_locks\nkeys 0 4294967295\nacquire_sorted_locks\nregistry 4294967295\nacquire_sorted_locks\n'
+    printf 'grants 189\nacquire_sorted_locks\nkeys 4294967295 0\ngrants 3\nacquire_sorted_locks\nkeys 0 4294967295\nacquire_sorted_locks\nregistry 4294967295\nacquire_sorted_locks\n'
 } >"$input"
-says 'sorted keys at the limit' "done next 1 place 0 $counts" 'granted 7 1 next 2 place 0 attempts 1 boundaries 0 yields 0 dropped 0' \
-    'granted next 3 place 0 attempts 1 boundaries 3 yields 0 dropped 0' "grants$(numbers 64 '5 2')" \
-    "refused 4 TooMany 0 next 3 place 0 $counts" "grants$(numbers 64 '5 2')" \
-    'granted next 4 place 0 attempts 1 boundaries 3 yields 0 dropped 0' "grants$(numbers 63 '6 3')" \
-    "refused 5 BadBinding 0 next 4 place 0 $counts" 'grants 9 9' "refused 8 InvalidBucket 4294967295 at 0 next 4 place 0 $counts" 'grants 9 9' \
-    "refused 6 BadHeader 4294967295 at 0 next 4 place 0 $counts" 'grants 9 9'
+says 'sorted keys at the limit' "done next 1 place 0 $counts" 'granted 7 1 8 next 2 place 0 attempts 1 boundaries 0 yields 0 dropped 0' \
+    'granted next 3 place 0 attempts 1 boundaries 3 yields 0 dropped 0' "grants$(numbers 64 '5 2 8')" \
+    "refused 4 TooMany 0 next 3 place 0 $counts" "grants$(numbers 64 '5 2 8')" \
+    'granted next 4 place 0 attempts 1 boundaries 3 yields 0 dropped 0' "grants$(numbers 63 '6 3 8')" \
+    "refused 5 BadBinding 0 next 4 place 0 $counts" 'grants 9 9 9' "refused 8 InvalidBucket 4294967295 at 0 next 4 place 0 $counts" 'grants 9 9 9' \
+    "refused 6 BadHeader 4294967295 at 0 next 4 place 0 $counts" 'grants 9 9 9'
 
 # grants, members
-printf 'prepare 2 4 1\ngrants 300\nacquire_index_locks\ngrants 301\ngrants 4294967295\nacquire_index_locks\n' >"$input"
+printf 'prepare 2 4 1 7\ngrants 300\nacquire_index_locks\ngrants 301\ngrants 4294967295\nacquire_index_locks\n' >"$input"
 nines=grants$(numbers 300 9)
 says 'grant buffer' "done next 1 place 0 $counts" "refused 4 TooMany 0 next 1 place 0 $counts" "$nines" 'line 4: not understood' 'line 5: not understood' \
     "refused 4 TooMany 0 next 1 place 0 $counts" "$nines"
@@ -320,7 +320,7 @@ if ! diff <(grep 'not understood' "$room/player") <(printf 'line %s: not underst
 fi
 # counters: the greatest, one more, and a list with one that is none
 {
-    printf 'prepare 1 3 1\nmember 0\nturns 0 0 0\ncounters 65535 0 1\ncrew_at_work\n'
+    printf 'prepare 1 3 1 7\nmember 0\nturns 0 0 0\ncounters 65535 0 1\ncrew_at_work\n'
     for bad in 65536 4294967295 4294967296 x -1 01 ''; do printf 'counters %s\ncounters 1 2 %s\ncounters %s 1 2\n' "$bad" "$bad" "$bad"; done
     printf 'crew_at_work\ncounters\ncrew_at_work\n'
     echo "counters$(numbers 4200 65535)"
@@ -339,13 +339,13 @@ fi
     printf '%s\n' 'salvage 0' 'salvage ' ' salvage' $'salvage\r' 'salvage report' 'report salvage' $'report\t1' $'unconfirmed\t1'
 } >"$input"
 all_bad 'rooms of a salvage that are none'
-printf 'salvage\nreport 37200\nunconfirmed 4200\nsalvage\nreport 37201\nunconfirmed 4201\nsalvage\nprepare 1 1 1\nsalvage\nreport 0\nunconfirmed 0\nsalvage\n' >"$input"
+printf 'salvage\nreport 37200\nunconfirmed 4200\nsalvage\nreport 37201\nunconfirmed 4201\nsalvage\nprepare 1 1 1 7\nsalvage\nreport 0\nunconfirmed 0\nsalvage\n' >"$input"
 full="report$(numbers 37200 9)" list="unconfirmed$(numbers 4200 9)"
 says 'rooms of a salvage' 'refused 1 BadShape 0 next 0' report unconfirmed 'refused 1 BadShape 0 next 0' "$full" "$list" 'line 5: not understood' \
     'line 6: not understood' 'refused 1 BadShape 0 next 0' "$full" "$list" "done next 1 place 0 $counts" 'done 0 0 next 1' "$full" "$list" \
     'done 0 0 next 1' report unconfirmed
 {
-    printf 'prepare 64 64 1\n'
+    printf 'prepare 64 64 1 7\n'
     # bit 2, owner 3 and waiters 4 in each cell, 5 in each byte
     awk 'BEGIN { for (i = 0; i < 12288; i++) print "word", i, i % 3 + 2; for (i = 0; i < 64; i++) print "byte", i, 5 }'
     printf 'report 37055\nunconfirmed 4200\nsalvage\nreport 37056\nunconfirmed 0\nsalvage\nsalvage\n'
@@ -354,15 +354,15 @@ entries="report$(awk 'BEGIN { for (i = 0; i < 12288; i++) printf " %d %d 0", i, 
 says 'the longest report' "done next 1 place 0 $counts" 'refused ReportFull next 1' "report$(numbers 37055 9)" "$list" 'done 12352 0 next 1' "$entries" \
     unconfirmed 'done 0 0 next 1' "$entries" unconfirmed
 {
-    printf 'prepare 64 64 4097\n'
+    printf 'prepare 64 64 4097 7\n'
     # each cell held by a serial of its own
     awk 'BEGIN { for (i = 0; i < 4096; i++) { print "word", 3 * i, 1; print "word", 3 * i + 1, i + 1 } }'
-    printf 'unconfirmed 4095\nsalvage\nunconfirmed 4096\nsalvage\nhead 64 64 4096\nreport 6\nsalvage\n'
+    printf 'unconfirmed 4095\nsalvage\nunconfirmed 4096\nsalvage\nhead 64 64 4096 7\nreport 6\nsalvage\n'
 } >"$input"
 says 'the longest list' "done next 4097 place 0 $counts" 'refused ReportFull next 4097' report "unconfirmed$(numbers 4095 9)" 'done 0 4096 next 4097' report \
     "unconfirmed$(numbers 4096)" 'done 2 4095 next 4096' 'report 12285 1 0 12286 4096 0' "unconfirmed$(numbers 4096)"
 # the book: its room, one more, its ends, and a setpoint's words
-printf 'book 33000\nbook_byte 32999 7\nbook_byte 0 255\nshow_book\nbook 33001\nbook 4294967295\nbook_byte 33000 0\nbook_byte 4294967295 0\nbook_byte 0 256\nprepare 1 1 1\nprepare_book\nread_setpoint 0\nbook 32769\nprepare_book\nbook 32768\nprepare_book\nbook 32785\nshow_book\n' >"$input"
+printf 'book 33000\nbook_byte 32999 7\nbook_byte 0 255\nshow_book\nbook 33001\nbook 4294967295\nbook_byte 33000 0\nbook_byte 4294967295 0\nbook_byte 0 256\nprepare 1 1 1 7\nprepare_book\nread_setpoint 0\nbook 32769\nprepare_book\nbook 32768\nprepare_book\nbook 32785\nshow_book\n' >"$input"
 compare 'ends of the book'
 texts=$((texts + 1))
 if ! diff <(grep 'not understood' "$room/player") <(printf 'line %s: not understood\n' 5 6 7 8 9) ||
@@ -372,33 +372,34 @@ if ! diff <(grep 'not understood' "$room/player") <(printf 'line %s: not underst
     wrong=$((wrong + 1))
 fi
 {
-    for kind in Pressure pressures pressur p 1 '' ' speed' speeds VALVE; do echo "write_setpoint 0 0 1 $kind 1"; done
+    for kind in Pressure pressures pressur p 1 '' ' speed' speeds VALVE; do echo "write_setpoint 0 0 1 1 $kind 1"; done
     for value in '' ' 4294967296' ' -1' ' 1.5' ' NaN' ' 01' ' 1 1' ' speed' '  1' ' 1 ' $' 1\r'; do
-        for kind in pressure speed valve; do echo "write_setpoint 0 0 1 $kind$value"; done
+        for kind in pressure speed valve; do echo "write_setpoint 0 0 1 1 $kind$value"; done
     done
-    for value in 2 256 4294967295; do echo "write_setpoint 0 0 1 valve $value"; done
-    printf '%s\n' 'write_setpoint 0 0 speed 1' 'write_setpoint 0 0 1 1 speed 1' 'write_setpoint speed 0 0 1 1' 'write_setpoint x 0 1 speed 1' \
-        'write_setpoint 0 x 1 speed 1' 'write_setpoint 0 0 x speed 1' 'write_setpoint  0 0 1 speed 1' 'write_setpoint 00 0 1 speed 1' \
-        'write_setpoint 4294967296 0 1 speed 1' ' write_setpoint 0 0 1 speed 1' 'speed 0 0 1 write_setpoint 1'
+    for value in 2 256 4294967295; do echo "write_setpoint 0 0 1 1 valve $value"; done
+    printf '%s\n' 'write_setpoint 0 0 speed 1' 'write_setpoint 0 0 1 speed 1' 'write_setpoint 0 0 1 1 1 speed 1' 'write_setpoint speed 0 0 1 1 1' \
+        'write_setpoint x 0 1 1 speed 1' 'write_setpoint 0 x 1 1 speed 1' 'write_setpoint 0 0 x 1 speed 1' 'write_setpoint 0 0 1 x speed 1' \
+        'write_setpoint  0 0 1 1 speed 1' 'write_setpoint 00 0 1 1 speed 1' 'write_setpoint 4294967296 0 1 1 speed 1' \
+        'write_setpoint 0 0 1 4294967296 speed 1' ' write_setpoint 0 0 1 1 speed 1' 'speed 0 0 1 1 write_setpoint 1'
 } >"$input"
 all_bad 'setpoints that are none'
 {
-    printf 'prepare 1 2 1\nbook 26\nprepare_book\ntry_acquire 1\n'
+    printf 'prepare 1 2 1 7\nbook 26\nprepare_book\ntry_acquire 1\n'
     for bits in 0 1 1069547520 2139095039 2139095040 2139095041 2147483647 2147483648 4286578687 4286578688 4286578689 4294967295; do
-        for kind in pressure speed; do printf 'write_setpoint 1 1 1 %s %s\nread_setpoint 1\n' "$kind" "$bits"; done
+        for kind in pressure speed; do printf 'write_setpoint 1 1 1 7 %s %s\nread_setpoint 1\n' "$kind" "$bits"; done
     done
     printf 'show_book\nram 5\nshow_book\nread_setpoint 0\n'
 } >"$input"
 compare 'pressures by their bits'
 printf 'lend 12601 70\nlend 12600 71\nlend 4294967295 0\nlend 0 4294967295\nlend 1\nlend 1 1 1\n' >"$input"
 all_bad 'lending too much'
-printf 'lend 12600 70\nprepare 2 4 1\nlend 24 2\nprepare 2 4 1\nlend 23 2\nprepare 2 4 1\nlend 24 1\nprepare 2 4 1\ntry_acquire 0\nenvironment\nlend 0 0\nshow\nlend 2 0\nshow\nlend 3 0\nshow\nlend 7 1\nshow\nlend\nshow\n' >"$input"
+printf 'lend 12600 70\nprepare 2 4 1 7\nlend 24 2\nprepare 2 4 1 7\nlend 23 2\nprepare 2 4 1 7\nlend 24 1\nprepare 2 4 1 7\ntry_acquire 0\nenvironment\nlend 0 0\nshow\nlend 2 0\nshow\nlend 3 0\nshow\nlend 7 1\nshow\nlend\nshow\n' >"$input"
 says 'lending' "refused 1 BadShape 0 next 0 place 0 $counts" "done next 1 place 0 $counts" "refused 1 BadShape 0 next 1 place 0 $counts" \
-    "refused 1 BadShape 0 next 1 place 0 $counts" 'granted 0 1 next 2 place 0 attempts 1 boundaries 0 yields 0 dropped 0' \
-    "refused 1 BadShape 0 next 2 place 0 $counts" 'head 2 4 2' 'head 2 4 2' 'head 2 4 2' 'cell 0 1 1 0' 'head 2 4 2' 'cell 0 1 1 0' 'head 2 4 2' 'cell 0 1 1 0'
+    "refused 1 BadShape 0 next 1 place 0 $counts" 'granted 0 1 7 next 2 place 0 attempts 1 boundaries 0 yields 0 dropped 0' \
+    "refused 1 BadShape 0 next 2 place 0 $counts" 'head 2 4 2 7' 'head 2 4 2 7' 'head 2 4 2 7' 'cell 0 1 1 0' 'head 2 4 2 7' 'cell 0 1 1 0' 'head 2 4 2 7' 'cell 0 1 1 0'
 # 3 H B modulo 2^32 is 0, 3 and 6 here; the true product is more than there is
 for head in '65536 65536 1' '1431655766 1 1' '4294967295 4294967295 1' '2147483648 2 1' '64 65 1' '70 60 1' '71 60 1' '4200 1 1' '1 4200 1' '1 4201 1' '0 5 1' '5 0 1'; do
-    printf 'head %s\nshow\nenvironment\nprepare %s\nshow\n' "$head" "$head"
+    printf 'head %s 7\nshow\nenvironment\nprepare %s 7\nshow\n' "$head" "$head"
 done >"$input"
 compare 'lending by heads out of range'
 printf 'ram 0\nlend 12600 70\nshow\nram 4294967295\nshow\nram 1\nshow\nram 4294967296\n' >"$input"
@@ -413,18 +414,18 @@ says 'one line at the limit with its line feed' 'line 1: not understood'
 of_length $most '#' >"$input"
 says 'a comment at the limit'
 { of_length $most '#'; printf '\nshow'; } >"$input"
-says 'a line behind a comment at the limit' 'head 0 0 0'
+says 'a line behind a comment at the limit' 'head 0 0 0 0'
 of_length $most '\n' >"$input"
 says 'line feeds'
 for byte in x '#' ' ' '\0' '\377' '\r' 1; do
     of_length $((most + 1)) "$byte" >"$input"
     says "one byte over the limit, $byte" 'line 1: not understood'
     { printf 'echo 1\n'; of_length $((most + 1)) "$byte"; printf '\nshow\n'; of_length $((3 * most)) "$byte"; } >"$input"
-    says "over the limit, not printed, $byte" 'line 2: not understood' '> show' 'head 0 0 0' 'line 4: not understood'
+    says "over the limit, not printed, $byte" 'line 2: not understood' '> show' 'head 0 0 0 0' 'line 4: not understood'
     { printf 'echo 1\n'; of_length $most "$byte"; printf '\nshow\n'; } >"$input"
     compare "at the limit, printed, $byte"
     texts=$((texts + 1))
-    [ "$(tail -n 2 "$room/player")" = "$(printf '> show\nhead 0 0 0')" ] || {
+    [ "$(tail -n 2 "$room/player")" = "$(printf '> show\nhead 0 0 0 0')" ] || {
         echo "at the limit, printed, $byte: NOT THE TEXT WANTED"
         wrong=$((wrong + 1))
     }
@@ -434,13 +435,13 @@ says 'a number as long as fits' 'line 1: not understood'
 { printf 'place '; of_length $((most - 6)) 0; } >"$input"
 says 'a zero as long as fits' 'line 1: not understood'
 { printf 'place '; of_length $((most - 5)) 0; printf '\nshow\nplace 3\n'; } >"$input"
-says 'a number over the limit' 'line 1: not understood' 'head 0 0 0'
+says 'a number over the limit' 'line 1: not understood' 'head 0 0 0 0'
 for word in script turns held registry keys leases member lend place ram try_lock crew; do
     { printf '%s' "$word"; numbers $(((most - ${#word}) / 2)) 1; } >"$input"
     says "$word as long as fits" 'line 1: not understood'
 done
 # the first 98,400 numbers of a line over the limit would fill the script
-{ printf 'prepare 2 4 1\nscript 5 0 0\nscript'; numbers 800000 0; printf '\nenvironment\n'; } >"$input"
+{ printf 'prepare 2 4 1 7\nscript 5 0 0\nscript'; numbers 800000 0; printf '\nenvironment\n'; } >"$input"
 says 'a list over the limit' "done next 1 place 0 $counts" 'line 3: not understood' 'done next 1 place 1 attempts 0 boundaries 1 yields 0 dropped 0'
 of_length $((most / 2)) x | sed 's/x/x\n/g' >"$input"
 all_bad 'lines of one letter'
@@ -450,8 +451,8 @@ for bytes in 2097152 2097153 3000000 $((5 * most + 1)); do
     of_length "$bytes" '\n' >"$input"
     says "$bytes line feeds"
 done
-{ printf 'prepare 2 4 1\n'; of_length 3000000 '\n'; printf 'show\nx'; } >"$input"
-says '3 MB' "done next 1 place 0 $counts" 'head 2 4 1' 'line 3000003: not understood'
+{ printf 'prepare 2 4 1 7\n'; of_length 3000000 '\n'; printf 'show\nx'; } >"$input"
+says '3 MB' "done next 1 place 0 $counts" 'head 2 4 1 7' 'line 3000003: not understood'
 
 [ "$wrong" -eq 0 ] || {
     echo "bad-input: $wrong WRONG, of $inputs inputs and $texts texts"

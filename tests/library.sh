@@ -1,6 +1,6 @@
 #!/usr/bin/env bash
 # The static library as people use it. Header, Rust face and archive have the same functions; document 01's bench cases and document 02's
-# keys in any order, salvage, crew at work, setpoint book and waveform run through the library from C and from Rust, and each figure is checked. Built things go to target/library.
+# keys in any order, salvage, boot numbers, crew at work, setpoint book and waveform run through the library from C and from Rust, and each figure is checked. Built things go to target/library.
 set -euo pipefail
 cd "$(dirname "$0")/.."
 out=target/library

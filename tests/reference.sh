@@ -20,7 +20,7 @@ quoting=(
     crates/{progress,anyorder,works}/specs/Statements.antt
     crates/setpoint/specs/Codec.antt
     crates/slots/specs/{Layout,Rules,Calls,Cases}.antt
-    crates/{written,salvaged}/specs/Statements.antt
+    crates/{written,salvaged,boots}/specs/Statements.antt
 )
 
 # names_of PAGE..: the names File.name on it

@@ -146,7 +146,7 @@ both "all refusals"
 sed -n 's/^\([0-9]*\) \([A-Za-z]*\) 1$/\1 \2/p' "$room/report" >"$room/names"
 [ "$(wc -l <"$room/names")" = 16 ] || complain "the report does not print sixteen names"
 
-# named WHO: $room/own, lines of number and name, has document 01's fifteen, and no other than the report's
+# named WHO: $room/own, lines of number and name, has document 01's fifteen and L8's, and no other than the report's
 named() {
     sort -n -u "$room/own" -o "$room/own"
     [ "$(head -n 15 "$room/own" | cut -d ' ' -f 1 | tr '\n' ' ')" = "$(seq -s ' ' 1 15) " ] || complain "$1 does not have the numbers 1 to 15"

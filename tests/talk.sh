@@ -62,18 +62,18 @@ counts='attempts 0 boundaries 0 yields 0 dropped 0'
 # ---- echo, map, help
 
 printf 'show\necho 1\nshow\n\n# a remark\nsh ow\necho 2\necho 1\n\377\0\t\necho 0\nshow\necho 1\nshow' >"$input"
-printf '%s\n' 'head 0 0 0' '> show' 'head 0 0 0' '> sh ow' 'line 6: not understood' '> echo 2' 'line 7: not understood' '> echo 1' >"$room/wanted"
-printf '> \377\0\t\nline 9: not understood\n> echo 0\nhead 0 0 0\n> show\nhead 0 0 0\n' >>"$room/wanted"
+printf '%s\n' 'head 0 0 0 0' '> show' 'head 0 0 0 0' '> sh ow' 'line 6: not understood' '> echo 2' 'line 7: not understood' '> echo 1' >"$room/wanted"
+printf '> \377\0\t\nline 9: not understood\n> echo 0\nhead 0 0 0 0\n> show\nhead 0 0 0 0\n' >>"$room/wanted"
 prints echo 'player: 3 lines not understood'
 
 # bit, owner, waiters: free; free with waiters; held; held with waiters; damaged by the bit; by the owner; damaged with waiters
-printf 'map\nprepare 2 4 1\nmap\ntry_acquire 2\ntry_acquire 3\nword 5 1\nword 11 4294967295\nword 12 2\nword 16 1\nword 18 1\nword 19 3\nword 20 7\nbyte 1 200\nmap\n' >"$input"
-printf 'head 2 4 4\nmap\nhead 2 4 0\nmap\nhead 2 4 4\nlend 23 2\nmap\nlend 24 1\nmap\nlend 24 2\nmap\nlend\nhead 65 1 1\nmap\nprepare 3 1 1\nmap\n' >>"$input"
+printf 'map\nprepare 2 4 1 7\nmap\ntry_acquire 2\ntry_acquire 3\nword 5 1\nword 11 4294967295\nword 12 2\nword 16 1\nword 18 1\nword 19 3\nword 20 7\nbyte 1 200\nmap\n' >"$input"
+printf 'head 2 4 4 7\nmap\nhead 2 4 0 7\nmap\nhead 2 4 4 7\nlend 23 2\nmap\nlend 24 1\nmap\nlend 24 2\nmap\nlend\nhead 65 1 1 7\nmap\nprepare 3 1 1 7\nmap\n' >>"$input"
 plays map '' 'no arena' "done next 1 place 0 $counts" 'header 0 healthy ....' 'header 1 healthy ....' \
-    'granted 2 1 next 2 place 0 attempts 1 boundaries 0 yields 0 dropped 0' 'granted 3 2 next 3 place 0 attempts 1 boundaries 0 yields 0 dropped 0' \
+    'granted 2 1 7 next 2 place 0 attempts 1 boundaries 0 yields 0 dropped 0' 'granted 3 2 7 next 3 place 0 attempts 1 boundaries 0 yields 0 dropped 0' \
     'header 0 healthy .w#W' 'header 1 poisoned !!!.' 'header 0 healthy .w#W' 'header 1 poisoned !!W.' 'no arena' 'no arena' 'no arena' \
     'header 0 healthy .w#W' 'header 1 poisoned !!W.' 'no arena' "done next 1 place 0 $counts" 'header 0 healthy .' 'header 1 healthy .' 'header 2 healthy .'
-printf 'prepare 64 64 1\nmap\nprepare 4 1024 1\nmap\n' >"$input"
+printf 'prepare 64 64 1 7\nmap\nprepare 4 1024 1 7\nmap\n' >"$input"
 {
     echo "done next 1 place 0 $counts"
     for header in {0..63}; do echo "header $header healthy $(of_length 64 .)"; done
@@ -107,23 +107,23 @@ for last in '\n' ''; do
     plays 'a line over the limit is not' 'player: 1 lines not understood' 'line 2: not understood'
 done
 # what stands behind a line over the limit is played; a line over the limit changes nothing
-{ printf 'place 7\nplace '; of_length $limit 1; printf '\nprepare 2 4 1\n'; of_length $((3 * limit)) '#'; printf '\nshow\n\nx'; } >"$input"
+{ printf 'place 7\nplace '; of_length $limit 1; printf '\nprepare 2 4 1 7\n'; of_length $((3 * limit)) '#'; printf '\nshow\n\nx'; } >"$input"
 plays 'lines behind lines over the limit' 'player: 3 lines not understood' 'line 2: not understood' "done next 1 place 7 $counts" 'line 4: not understood' \
-    'head 2 4 1' 'line 7: not understood'
+    'head 2 4 1 7' 'line 7: not understood'
 # the same in small pieces
 { printf 'echo 1\n'; for _ in {1..20}; do of_length 65536 x; sleep 0.01; done; printf '\nshow\n'; } | play /dev/stdin >"$room/out" 2>"$room/said"
-{ printf '> '; of_length $limit x; printf '\nline 2: not understood\n> show\nhead 0 0 0\n'; } >"$room/wanted"
+{ printf '> '; of_length $limit x; printf '\nline 2: not understood\n> show\nhead 0 0 0 0\n'; } >"$room/wanted"
 same 'a line at the limit, in pieces' "$room/wanted" "$room/out"
 { for _ in {1..20}; do of_length 65536 '#'; sleep 0.01; done; printf '#'; sleep 0.1; printf '\nshow\n'; } | play /dev/stdin >"$room/out" 2>"$room/said"
-lines 'line 1: not understood' 'head 0 0 0' >"$room/wanted"
+lines 'line 1: not understood' 'head 0 0 0 0' >"$room/wanted"
 same 'a line over the limit, in pieces' "$room/wanted" "$room/out"
 # the longest line that is understood: a script that fills its room
-{ printf 'script'; awk 'BEGIN { for (i = 0; i < 98400; i++) printf " 4294967295" }'; printf '\nprepare 1 1 1\nenvironment\n'; } >"$input"
+{ printf 'script'; awk 'BEGIN { for (i = 0; i < 98400; i++) printf " 4294967295" }'; printf '\nprepare 1 1 1 7\nenvironment\n'; } >"$input"
 plays 'the longest script' '' "done next 1 place 0 $counts" "refused 2 BadScript 0 next 1 place 0 $counts"
 # 3 MB
-{ printf 'prepare 2 4 1\n'; awk 'BEGIN { for (i = 0; i < 180000; i++) print "place " i % 10; for (i = 0; i < 180000; i++) print "# remark" }'; printf 'show\nx\n'; } >"$input"
-plays "$(wc -c <"$input") bytes" 'player: 1 lines not understood' "done next 1 place 0 $counts" 'head 2 4 1' 'line 360003: not understood'
-{ awk 'BEGIN { for (i = 0; i < 60000; i++) print "prepare 2 4 1" }'; } >"$input"
+{ printf 'prepare 2 4 1 7\n'; awk 'BEGIN { for (i = 0; i < 180000; i++) print "place " i % 10; for (i = 0; i < 180000; i++) print "# remark" }'; printf 'show\nx\n'; } >"$input"
+plays "$(wc -c <"$input") bytes" 'player: 1 lines not understood' "done next 1 place 0 $counts" 'head 2 4 1 7' 'line 360003: not understood'
+{ awk 'BEGIN { for (i = 0; i < 60000; i++) print "prepare 2 4 1 7" }'; } >"$input"
 awk -v line="done next 1 place 0 $counts" 'BEGIN { for (i = 0; i < 60000; i++) print line }' >"$room/wanted"
 prints 'much output' ''
 
@@ -156,7 +156,7 @@ play "$input" >"$room/out" 2>/dev/full || complain "standard error lost: status 
 
 # ---- the stack: 2,304 KB, environment and all
 
-{ cat bench/*.txt; printf '\nhelp\nlend 12600 70\nram 3\nshow\nbook 33000\nshow_book\necho 1\n'; of_length 5000 x; printf '\nlend\nprepare 64 64 1\nmap\nram 3\nreport 37200\nunconfirmed 4200\nsalvage\n'; } >"$input"
+{ cat bench/*.txt; printf '\nhelp\nlend 12600 70\nram 3\nshow\nbook 33000\nshow_book\necho 1\n'; of_length 5000 x; printf '\nlend\nprepare 64 64 1 7\nmap\nram 3\nreport 37200\nunconfirmed 4200\nsalvage\n'; } >"$input"
 play "$input" >"$room/wanted" 2>"$room/wanted-said"
 STACK=2304 play "$input" >"$room/out" 2>"$room/said" || complain "a stack of 2,304 KB: status $?"
 same 'a stack of 2,304 KB' "$room/wanted" "$room/out"
@@ -177,14 +177,14 @@ hears() {
 
 # a_talk NAME: question and answer, twice, and then the end of input, by the bytes $2
 a_talk() {
-    printf 'prepare 2 4 1\n' >&8
+    printf 'prepare 2 4 1 7\n' >&8
     hears "$1" "done next 1 place 0 $counts"
     printf 'echo 1\nmap\n' >&8
     hears "$1" 'header 1 healthy ....'
     printf 'sho' >&8
     sleep 0.2
     printf 'w\n' >&8
-    hears "$1" 'head 2 4 1'
+    hears "$1" 'head 2 4 1 7'
     printf '%b' "$2" >&8
 }
 
@@ -199,7 +199,7 @@ coproc TALK { play /dev/stdin 2>/dev/null; }
 with_talk
 a_talk 'through a pipe' 'show'
 exec 8>&-
-hears 'through a pipe, the last line without line feed' 'head 2 4 1'
+hears 'through a pipe, the last line without line feed' 'head 2 4 1 7'
 wait "$pid" || complain "through a pipe: status $?"
 
 if command -v script >/dev/null; then
@@ -227,9 +227,9 @@ ends() {
     cat "$room/out" "$room/said" | grep -q -e "$said" || complain "play.sh, $name: does not say '$said'"
 }
 
-printf 'prepare 2 4 1\nshow\n' >"$input"
-ends 'good lines' 0 'head 2 4 1'
-ends 'a file' 0 'head 2 4 1' "$input"
+printf 'prepare 2 4 1 7\nshow\n' >"$input"
+ends 'good lines' 0 'head 2 4 1 7'
+ends 'a file' 0 'head 2 4 1 7' "$input"
 ends help 0 'usage: bash bench/play.sh' --help
 ends 'a missing file' 2 'there is no file' "$room/missing"
 ends 'a directory' 2 'is a directory' "$room"

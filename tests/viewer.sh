@@ -97,7 +97,7 @@ status 2 "$room/none" 2
 status 2 "$room" 2
 for cells in 0 95 02 -1 x ''; do status 2 bench/skid-day.txt "$cells"; done
 # a line that is not understood, and a last line without its line feed; step 3 is the take
-printf 'prepare 1 2 1\nx\ntry_acquire 1' >"$room/cases"
+printf 'prepare 1 2 1 7\nx\ntry_acquire 1' >"$room/cases"
 status 1 "$room/cases" 2
 [ "$(tail -n 2 "$room/out")" = $'#3\n1"' ] || { echo 'bench/wave.sh: not the take of cell 1 at step 3'; exit 1; }
 awk 'BEGIN { for (i = 0; i < 32768; i++) print "environment" }' >"$room/cases"

@@ -1,6 +1,7 @@
 /*
- * Document 01's bench cases, through skid.h, and of document 02 keys in any order, salvage, the crew at work and the
- * setpoint book, and edges of the calling convention. A line for each case; exit 1 if a figure is not the documents'.
+ * Document 01's bench cases, through skid.h, and of document 02 keys in any order, salvage, boot numbers, the crew at
+ * work and the setpoint book, and edges of the calling convention. A line for each case; exit 1 if a figure is not the
+ * documents'.
  */
 #include <inttypes.h>
 #include <stdio.h>
@@ -10,7 +11,7 @@
 
 /* ---- what is checked */
 
-static int cases, sorts, salvages, works, books, edges, failures;
+static int cases, sorts, salvages, boots, works, books, edges, failures;
 static int bad; /* in the case at hand */
 
 static void check(const char *what, uint64_t got, uint64_t want) {
@@ -35,7 +36,7 @@ static void end(int *count) {
     }
 }
 
-/* ---- the arena of the bench: H 2, B 4, registry 0, 1, 1; every lent run stands between guards */
+/* ---- the arena of the bench: H 2, B 4, registry 0, 1, 1, boot number 5; every lent run stands between guards */
 
 #define PATTERN 0xa5a5a5a5a5a5a5a5u
 #define GUARD 77u
@@ -63,9 +64,10 @@ static struct {
     uint64_t before, words[SKID_BOOK_WORDS], after;
 } told;
 static const uint32_t registry[3] = {0, 1, 1};
-static uint32_t next;
+static uint32_t next, boot;
 
-#define HEAD 2, 4, next
+#define BOOT 5u
+#define HEAD 2, 4, next, boot
 #define TABLE table.words, 24
 #define HEALTH health.bytes, 2
 #define COUNTERS counters.each, 8
@@ -108,7 +110,7 @@ static void called(void) {
         }
     }
     kept();
-    if (reply.words[SKID_HEADERS] != 2 || reply.words[SKID_BUCKETS] != 4) {
+    if (reply.words[SKID_HEADERS] != 2 || reply.words[SKID_BUCKETS] != 4 || reply.words[SKID_BOOT] != boot) {
         printf("ANOTHER HEAD, ");
         bad = 1;
     }
@@ -124,20 +126,27 @@ static void crewed(void) {
         }
     }
     kept();
+    if (crew.words[SKID_BOOT] != boot) {
+        printf("ANOTHER HEAD, ");
+        bad = 1;
+    }
     next = (uint32_t)crew.words[SKID_NEXT];
 }
 
 /* Memory after a cold start holds anything. */
-static void prepare(uint32_t serial) {
+static void prepare_as(uint32_t serial, uint32_t number) {
     memset(&table, 0x5a, sizeof table);
     memset(&health, 0x5a, sizeof health);
     table.before = table.after = GUARD;
     health.before = health.after = GUARD;
     reply.before = reply.after = GUARD;
     crew.before = crew.after = GUARD;
-    skid_prepare(2, 4, serial, TABLE, HEALTH, blank());
+    boot = number;
+    skid_prepare(2, 4, serial, boot, TABLE, HEALTH, blank());
     called();
 }
+
+static void prepare(uint32_t serial) { prepare_as(serial, BOOT); }
 
 static uint64_t word(int i) { return reply.words[i]; }
 
@@ -151,6 +160,7 @@ static void granted(uint32_t cell, uint32_t serial) {
     check("kind", word(SKID_KIND), SKID_GRANTED);
     check("cell", word(SKID_CELL), cell);
     check("serial", word(SKID_SERIAL), serial);
+    check("boot", word(SKID_LEASE_BOOT), boot);
     reason(SKID_REASON_NONE, 0);
 }
 
@@ -199,7 +209,7 @@ static void step(uint32_t kind, uint32_t place, uint32_t number) {
 
 static void key(void) {
     static const uint32_t keys[2] = {0, 2};
-    uint32_t grants[2] = {7, 7};
+    uint32_t grants[3] = {7, 7, 7};
 
     name("key (0,2), acquire_index_bucket");
     prepare(1);
@@ -226,6 +236,7 @@ static void key(void) {
     reason(SKID_REASON_NONE, 0);
     check("cell", grants[0], 2);
     check("serial", grants[1], 1);
+    check("boot", grants[2], BOOT);
     at_next(2);
     check("attempts", word(SKID_ATTEMPTS), 1);
     check("boundaries", word(SKID_BOUNDARIES), 3);
@@ -233,7 +244,7 @@ static void key(void) {
 }
 
 static void again(void) {
-    static const uint32_t held[2] = {2, 1};
+    static const uint32_t held[3] = {2, 1, BOOT};
     name("again, lease 1 held");
     prepare(1);
     acquire(NONE, NONE, 2);
@@ -296,7 +307,7 @@ static void buckets(void) {
 }
 
 static void serials(void) {
-    static const uint32_t held[2] = {2, 4294967294u};
+    static const uint32_t held[3] = {2, 4294967294u, BOOT};
     name("next 4,294,967,295, cell free");
     prepare(SKID_NO_SERIAL);
     acquire(NONE, NONE, 2);
@@ -318,7 +329,7 @@ static void serials(void) {
 
 static void foreign_release(void) {
     static const uint32_t script[12] = {5, 0, 0, 5, 0, 0, 2, 2, 1, 5, 0, 0};
-    static const uint32_t held[2] = {2, 1};
+    static const uint32_t held[3] = {2, 1, BOOT};
     name("cell 2 held by foreign 1, script 5; 5; release (2,1); 5");
     prepare(1);
     step(SKID_STEP_TAKE, 2, 0);
@@ -339,7 +350,8 @@ static void foreign_release(void) {
 
 static void keys(void) {
     static const uint32_t two[4] = {1, 0, 2, 0};
-    uint32_t grants[4] = {7, 7, 7, 7};
+    uint32_t grants[6] = {7, 7, 7, 7, 7, 7};
+    uint32_t i, n = 0;
     name("keys (1,0),(2,0)");
     prepare(1);
     skid_acquire_index_locks(HEAD, TABLE, HEALTH, REGISTRY, NONE, 0, NONE, LIST(two), LIST(grants), blank());
@@ -353,7 +365,10 @@ static void keys(void) {
     check("yields", word(SKID_YIELDS), 64);
     at_next(2);
     free_cells();
-    check("grants as they were", grants[0] == 7 && grants[1] == 7 && grants[2] == 7 && grants[3] == 7, 1);
+    for (i = 0; i < 6; i++) {
+        n += grants[i] == 7;
+    }
+    check("grants as they were", n, 6);
     end(&cases);
 
     name("no keys");
@@ -387,7 +402,7 @@ static void crews(void) {
             bad = 1;
         }
     }
-    for (i = 3; i < SKID_MOVING; i++) {
+    for (i = SKID_PLACE; i < SKID_MOVING; i++) {
         if (crew.words[i] != 0) {
             printf("WORD %d, ", i);
             bad = 1;
@@ -408,15 +423,15 @@ static void crews(void) {
 
 /* ---- keys in any order, and doubles; a grant buffer of nines, so that one that was written shows */
 
-static uint32_t grants[8];
+static uint32_t grants[13];
 
 static void sort_keys(const uint32_t *script, size_t script_len, const uint32_t *keys, size_t keys_len) {
     int i;
-    for (i = 0; i < 8; i++) {
+    for (i = 0; i < 13; i++) {
         grants[i] = 9;
     }
     skid_acquire_sorted_locks(HEAD, TABLE, HEALTH, REGISTRY, script, script_len, 0, NONE, keys, keys_len, grants,
-                              keys_len, blank());
+                              3 * keys_len / 2, blank());
     called();
 }
 
@@ -428,39 +443,44 @@ static void each_granted(const uint32_t *want, size_t words, uint64_t attempts, 
 }
 
 static void refused_at(uint64_t number, uint64_t carried, uint64_t position, uint64_t attempts) {
+    uint32_t i, n = 0;
     check("kind", word(SKID_KIND), SKID_REFUSED_AT);
     check("refusal", word(SKID_REFUSAL), number);
     check("carrying", word(SKID_CARRIED), carried);
     check("position", word(SKID_POSITION), position);
     check("attempts", word(SKID_ATTEMPTS), attempts);
-    check("grants as they were", grants[0] == 9 && grants[1] == 9 && grants[2] == 9 && grants[3] == 9, 1);
+    for (i = 0; i < 13; i++) {
+        n += grants[i] == 9;
+    }
+    check("grants as they were", n, 13);
 }
 
 static void any_order(void) {
-    static const uint32_t two[4] = {1, 0, 2, 0}, shared[4] = {4, 1, 4, 1};
-    static const uint32_t falling[6] = {1, 1, 0, 3, 0, 0}, risen[6] = {5, 3, 3, 2, 0, 1};
-    static const uint32_t three[6] = {1, 0, 0, 2, 2, 0}, doubled[6] = {4, 2, 2, 1, 4, 2}, once[4] = {4, 2, 2, 1};
+    static const uint32_t two[4] = {1, 0, 2, 0}, shared[6] = {4, 1, BOOT, 4, 1, BOOT};
+    static const uint32_t falling[6] = {1, 1, 0, 3, 0, 0}, risen[9] = {5, 3, BOOT, 3, 2, BOOT, 0, 1, BOOT};
+    static const uint32_t three[6] = {1, 0, 0, 2, 2, 0}, doubled[9] = {4, 2, BOOT, 2, 1, BOOT, 4, 2, BOOT};
+    static const uint32_t once[6] = {4, 2, BOOT, 2, 1, BOOT};
 
     name("keys (1,0),(2,0) in any order: one cell, one lease");
     prepare(1);
     sort_keys(NONE, LIST(two));
-    each_granted(shared, 4, 1, 3);
+    each_granted(shared, 6, 1, 3);
     at_next(2);
     end(&sorts);
 
     name("falling keys");
     prepare(1);
     sort_keys(NONE, LIST(falling));
-    each_granted(risen, 6, 3, 9);
+    each_granted(risen, 9, 3, 9);
     at_next(4);
     end(&sorts);
 
     name("three keys, two of them one cell, and their release");
     prepare(1);
     sort_keys(NONE, LIST(three));
-    each_granted(doubled, 6, 2, 6);
+    each_granted(doubled, 9, 2, 6);
     at_next(3);
-    skid_release_all(HEAD, TABLE, HEALTH, NONE, 0, grants, 6, blank());
+    skid_release_all(HEAD, TABLE, HEALTH, NONE, 0, grants, 9, blank());
     called();
     refused(SKID_REPEATED, 2);
     skid_release_all(HEAD, TABLE, HEALTH, NONE, 0, LIST(once), blank());
@@ -477,16 +497,16 @@ static void any_order_refused(void) {
 
     name("a bad bucket at 0 and a bad header at 1, and a bad binding behind them");
     prepare(1);
-    for (i = 0; i < 8; i++) {
+    for (i = 0; i < 13; i++) {
         grants[i] = 9;
     }
-    skid_acquire_sorted_locks(HEAD, TABLE, HEALTH, LIST(strangers), NONE, 0, NONE, LIST(faults), grants, 4, blank());
+    skid_acquire_sorted_locks(HEAD, TABLE, HEALTH, LIST(strangers), NONE, 0, NONE, LIST(faults), grants, 6, blank());
     called();
     refused_at(SKID_INVALID_BUCKET, 4, 0, 0);
-    skid_acquire_sorted_locks(HEAD, TABLE, HEALTH, LIST(strangers), NONE, 0, NONE, faults + 2, 2, grants, 2, blank());
+    skid_acquire_sorted_locks(HEAD, TABLE, HEALTH, LIST(strangers), NONE, 0, NONE, faults + 2, 2, grants, 3, blank());
     called();
     refused_at(SKID_BAD_HEADER, 9, 0, 0);
-    skid_acquire_sorted_locks(HEAD, TABLE, HEALTH, LIST(strangers), NONE, 0, NONE, LIST(unbound), grants, 6, blank());
+    skid_acquire_sorted_locks(HEAD, TABLE, HEALTH, LIST(strangers), NONE, 0, NONE, LIST(unbound), grants, 9, blank());
     called();
     refused(SKID_BAD_BINDING, 2);
     check("attempts", word(SKID_ATTEMPTS), 0);
@@ -532,7 +552,7 @@ static struct {
     uint64_t before, words[SKID_SALVAGE_WORDS], after;
 } found;
 
-/* Given so many words of the report and of the list, all nines: all six words, and what stands behind the entries. */
+/* Given so many words of the report and of the list, all nines: all seven words, and what stands behind the entries. */
 static void salvage(size_t room, size_t cells, uint64_t kind, uint64_t first, uint64_t second) {
     size_t i;
     uint32_t n = 0;
@@ -557,6 +577,7 @@ static void salvage(size_t room, size_t cells, uint64_t kind, uint64_t first, ui
     check("headers", found.words[SKID_HEADERS], 2);
     check("buckets", found.words[SKID_BUCKETS], 4);
     check("next", found.words[SKID_NEXT], next);
+    check("boot", found.words[SKID_BOOT], boot);
     check("kind", found.words[SKID_SALVAGE_KIND], kind);
     check(kind == SKID_DONE ? "changed" : "refusal", found.words[SKID_SALVAGE_CHANGED], first);
     check("held", found.words[SKID_SALVAGE_HELD], second);
@@ -618,10 +639,10 @@ static void salvaged(void) {
     end(&salvages);
 
     name("the owners drop their leases, and cell 4 is taken");
-    skid_drop_lease(HEAD, TABLE, 2, 1, blank());
+    skid_drop_lease(HEAD, TABLE, 2, 1, BOOT, blank());
     called();
     check("kind", word(SKID_KIND), SKID_DONE);
-    skid_drop_lease(HEAD, TABLE, 6, 2, blank());
+    skid_drop_lease(HEAD, TABLE, 6, 2, BOOT, blank());
     called();
     check("kind", word(SKID_KIND), SKID_DONE);
     free_cells();
@@ -640,10 +661,95 @@ static void salvaged(void) {
     end(&salvages);
 
     name("a salvage with nothing lent");
-    skid_salvage(2, 4, 1, NONE, NONE, NONE, NONE, found.words);
+    skid_salvage(2, 4, 1, BOOT, NONE, NONE, NONE, NONE, found.words);
     check("kind", found.words[SKID_SALVAGE_KIND], SKID_REFUSED);
     check("refusal", found.words[SKID_SALVAGE_REFUSAL], SKID_BAD_SHAPE);
     end(&salvages);
+}
+
+/* ---- boot numbers: cells 2 and 5 are held by serials 1 and 2; a lease of another number is refused, live or dead */
+
+static void hold_two(void) {
+    prepare(1);
+    skid_try_acquire(HEAD, TABLE, 2, blank());
+    called();
+    skid_try_acquire(HEAD, TABLE, 5, blank());
+    called();
+}
+
+static void by_lease(void) {
+    name("each call by lease, of another boot number");
+    hold_two();
+    skid_drop_lease(HEAD, TABLE, 2, 1, BOOT - 1, blank());
+    called();
+    refused(SKID_STALE_BOOT, 0);
+    skid_read_permission(HEAD, TABLE, 2, 1, BOOT + 1, blank());
+    called();
+    refused(SKID_STALE_BOOT, 0);
+    skid_competing_acquire_is_excluded(HEAD, TABLE, 2, 1, 0, blank());
+    called();
+    refused(SKID_STALE_BOOT, 0);
+    skid_release_then_handoff(HEAD, TABLE, 2, 1, 4294967295u, blank());
+    called();
+    refused(SKID_STALE_BOOT, 0);
+    skid_foreign_release_between_attempts(HEAD, TABLE, NONE, 2, 1, BOOT - 1, blank());
+    called();
+    refused(SKID_STALE_BOOT, 0);
+    skid_drop_preserving_borrows(HEAD, TABLE, NONE, 9, 9, BOOT - 1, blank()); /* and dead */
+    called();
+    refused(SKID_STALE_BOOT, 0);
+    check("owner of 2", table.words[7], 1);
+    end(&boots);
+}
+
+static void in_lists(void) {
+    static const uint32_t stale[6] = {2, 1, BOOT, 5, 2, BOOT - 1}, dead[6] = {2, 7, BOOT, 5, 2, BOOT - 1};
+    static const uint32_t twice[9] = {2, 1, BOOT, 2, 1, BOOT - 1, 2, 1, BOOT}, both[6] = {2, 1, BOOT, 5, 2, BOOT};
+    name("held lists: after the length, position by position, before 3 at that place");
+    hold_two();
+    skid_acquire_preserving_borrows(HEAD, TABLE, stale, 5, 7, blank());
+    called();
+    refused(SKID_BAD_HELD, 1);
+    skid_acquire_preserving_borrows(HEAD, TABLE, LIST(stale), 9, blank());
+    called();
+    refused(SKID_STALE_BOOT, 1);
+    skid_acquire_preserving_borrows(HEAD, TABLE, LIST(dead), 9, blank());
+    called();
+    refused(SKID_BAD_HELD, 0);
+    skid_drop_preserving_borrows(HEAD, TABLE, LIST(both), 2, 1, BOOT - 1, blank());
+    called();
+    refused(SKID_STALE_BOOT, 0);
+    end(&boots);
+
+    name("release_all: before 12 and 14 at that place");
+    skid_release_all(HEAD, TABLE, HEALTH, NONE, 0, LIST(twice), blank());
+    called();
+    refused(SKID_STALE_BOOT, 1);
+    skid_release_all(HEAD, TABLE, HEALTH, NONE, 0, LIST(dead), blank());
+    called();
+    refused(SKID_NOT_HELD, 0);
+    skid_release_all(HEAD, TABLE, HEALTH, NONE, 0, LIST(both), blank());
+    called();
+    check("kind", word(SKID_KIND), SKID_DONE);
+    free_cells();
+    end(&boots);
+}
+
+static void after_a_preparation(void) {
+    name("a lease from before a preparation, of a cell and a serial that are live again");
+    hold_two();
+    prepare_as(1, BOOT + 1);
+    skid_try_acquire(HEAD, TABLE, 2, blank());
+    called();
+    granted(2, 1);
+    skid_drop_lease(HEAD, TABLE, 2, 1, BOOT, blank());
+    called();
+    refused(SKID_STALE_BOOT, 0);
+    skid_drop_lease(HEAD, TABLE, 2, 1, BOOT + 1, blank());
+    called();
+    check("kind", word(SKID_KIND), SKID_DONE);
+    free_cells();
+    end(&boots);
 }
 
 /* ---- the crew at work: cell 2's counter is 40,000, cell 5's 30,000, all others 7 */
@@ -780,7 +886,7 @@ static float pressure(uint32_t bits) {
 }
 
 static void write_pressure(uint32_t slot, uint32_t cell, uint32_t serial, uint32_t bits) {
-    skid_write_pressure(HEAD, TABLE, BOOK, slot, cell, serial, pressure(bits), blank_book());
+    skid_write_pressure(HEAD, TABLE, BOOK, slot, cell, serial, BOOT, pressure(bits), blank_book());
 }
 
 static void read_slot(uint32_t slot) { skid_read_setpoint(HEAD, BOOK, slot, blank_book()); }
@@ -821,7 +927,7 @@ static void written(void) {
     static const uint8_t body[5] = {1, 0, 0, 192, 63}, line[8] = {74, 0, 5, 0, 1, 0, 0, 0};
     name("the governor writes 1.5 bar");
     open_book();
-    skid_write_pressure(HEAD, TABLE, BOOK, 2, 2, 1, 1.5f, blank_book());
+    skid_write_pressure(HEAD, TABLE, BOOK, 2, 2, 1, BOOT, 1.5f, blank_book());
     tells(SKID_BOOK_WRITTEN, 1, 0, 0);
     check("line", memcmp(book.bytes + 16, line, 8) == 0, 1);
     check("body", memcmp(book.bytes + 74, body, 5) == 0, 1);
@@ -847,14 +953,14 @@ static void written(void) {
     end(&books);
 
     name("a speed, a valve open and shut");
-    skid_write_speed(HEAD, TABLE, BOOK, 2, 2, 1, 4294967295u, blank_book());
+    skid_write_speed(HEAD, TABLE, BOOK, 2, 2, 1, BOOT, 4294967295u, blank_book());
     tells(SKID_BOOK_WRITTEN, 5, 0, 0);
     read_slot(2);
     tells(SKID_BOOK_SETTING, 5, SKID_SPEED, 4294967295u);
-    skid_write_valve(HEAD, TABLE, BOOK, 2, 2, 1, true, blank_book());
+    skid_write_valve(HEAD, TABLE, BOOK, 2, 2, 1, BOOT, true, blank_book());
     read_slot(2);
     tells(SKID_BOOK_SETTING, 6, SKID_VALVE, 1);
-    skid_write_valve(HEAD, TABLE, BOOK, 2, 2, 1, false, blank_book());
+    skid_write_valve(HEAD, TABLE, BOOK, 2, 2, 1, BOOT, false, blank_book());
     read_slot(2);
     tells(SKID_BOOK_SETTING, 7, SKID_VALVE, 0);
     check("bytes of slot 1 not 0", marks(1), 0);
@@ -869,12 +975,14 @@ static void not_written(void) {
     write_pressure(2, 2, 1, 0x3fc00000u);
     book.bytes[74] = 4; /* slot 2's body is damaged */
     memcpy(before, book.bytes, sizeof before);
-    skid_write_pressure(HEAD, table.words, 23, BOOK, 8, 2, 7, pressure(0x7fc00000u), blank_book());
+    skid_write_pressure(HEAD, table.words, 23, BOOK, 8, 2, 7, BOOT - 1, pressure(0x7fc00000u), blank_book());
     no_setting(SKID_BAD_SHAPE);
     write_pressure(8, 2, 7, 0x7fc00000u);
     no_setting(SKID_BAD_SLOT);
-    skid_write_pressure(HEAD, TABLE, book.bytes, 103, 2, 2, 7, pressure(0x7fc00000u), blank_book());
+    skid_write_pressure(HEAD, TABLE, book.bytes, 103, 2, 2, 7, BOOT - 1, pressure(0x7fc00000u), blank_book());
     no_setting(SKID_BAD_SLOT);
+    skid_write_pressure(HEAD, TABLE, BOOK, 2, 2, 7, BOOT - 1, pressure(0x7fc00000u), blank_book());
+    no_setting(SKID_STALE_BOOT);
     write_pressure(2, 2, 7, 0x7fc00000u);
     no_setting(SKID_NOT_HELD);
     write_pressure(3, 2, 1, 0x3fc00000u);
@@ -894,19 +1002,19 @@ static void not_written(void) {
 
     name("another lease on the cell");
     open_book();
-    skid_release_then_handoff(HEAD, TABLE, 2, 1, blank());
+    skid_release_then_handoff(HEAD, TABLE, 2, 1, BOOT, blank());
     called();
-    skid_write_speed(HEAD, TABLE, BOOK, 2, 2, 1, 7, blank_book());
+    skid_write_speed(HEAD, TABLE, BOOK, 2, 2, 1, BOOT, 7, blank_book());
     no_setting(SKID_NOT_HELD);
-    skid_write_valve(HEAD, TABLE, BOOK, 2, 2, 1, true, blank_book());
+    skid_write_valve(HEAD, TABLE, BOOK, 2, 2, 1, BOOT, true, blank_book());
     no_setting(SKID_NOT_HELD);
-    skid_write_speed(HEAD, TABLE, BOOK, 2, 2, 2, 7, blank_book());
+    skid_write_speed(HEAD, TABLE, BOOK, 2, 2, 2, BOOT, 7, blank_book());
     tells(SKID_BOOK_WRITTEN, 1, 0, 0);
     end(&books);
 
     name("the last version");
     memset(book.bytes + 20, 0xff, 4);
-    skid_write_speed(HEAD, TABLE, BOOK, 2, 2, 2, 8, blank_book());
+    skid_write_speed(HEAD, TABLE, BOOK, 2, 2, 2, BOOT, 8, blank_book());
     no_setting(SKID_VERSIONS_SPENT);
     read_slot(2);
     tells(SKID_BOOK_SETTING, 4294967295u, SKID_SPEED, 7);
@@ -917,7 +1025,7 @@ static void not_written(void) {
     no_setting(SKID_BAD_SLOT);
     skid_read_setpoint(HEAD, NONE, 2, blank_book());
     no_setting(SKID_BAD_SLOT);
-    skid_prepare_book(0, 4, 1, BOOK, blank_book());
+    skid_prepare_book(0, 4, 1, BOOT, BOOK, blank_book());
     no_setting(SKID_BAD_SHAPE);
     end(&books);
 }
@@ -926,45 +1034,45 @@ static void not_written(void) {
 
 /* Every word behind the head. */
 static void words(uint64_t place, uint64_t attempts, uint64_t boundaries, uint64_t dropped, uint64_t kind, uint64_t a,
-                  uint64_t b, uint64_t position) {
+                  uint64_t b, uint64_t third) {
     check("place", word(SKID_PLACE), place);
     check("attempts", word(SKID_ATTEMPTS), attempts);
     check("boundaries", word(SKID_BOUNDARIES), boundaries);
     check("yields", word(SKID_YIELDS), 0);
     check("dropped", word(SKID_DROPPED), dropped);
     check("kind", word(SKID_KIND), kind);
-    check("word 9", word(9), a);
-    check("word 10", word(10), b);
-    check("word 11", word(11), position);
+    check("word 10", word(10), a);
+    check("word 11", word(11), b);
+    check("word 12", word(12), third);
     if (kind != SKID_BUSY) {
         reason(SKID_REASON_NONE, 0);
     }
 }
 
 static void without_script(void) {
-    static const uint32_t held[2] = {5, 1}, other[2] = {6, 2};
+    static const uint32_t held[3] = {5, 1, BOOT}, other[3] = {6, 2, BOOT};
     prepare(1);
     name("try_acquire of cell 5");
     skid_try_acquire(HEAD, TABLE, 5, blank());
     called();
     at_next(2);
-    words(0, 1, 0, 0, SKID_GRANTED, 5, 1, 0);
+    words(0, 1, 0, 0, SKID_GRANTED, 5, 1, BOOT);
     end(&edges);
 
     name("read_permission");
-    skid_read_permission(HEAD, TABLE, 5, 1, blank());
+    skid_read_permission(HEAD, TABLE, 5, 1, BOOT, blank());
     called();
     words(0, 0, 0, 0, SKID_A_CELL, 5, 0, 0);
     end(&edges);
 
     name("read_permission, another serial");
-    skid_read_permission(HEAD, TABLE, 5, 2, blank());
+    skid_read_permission(HEAD, TABLE, 5, 2, BOOT, blank());
     called();
     words(0, 0, 0, 0, SKID_REFUSED, SKID_NOT_HELD, 0, 0);
     end(&edges);
 
     name("competing_acquire_is_excluded");
-    skid_competing_acquire_is_excluded(HEAD, TABLE, 5, 1, blank());
+    skid_competing_acquire_is_excluded(HEAD, TABLE, 5, 1, BOOT, blank());
     called();
     words(0, 1, 0, 0, SKID_BUSY, 0, 0, 0);
     reason(SKID_REASON_HELD, 1);
@@ -974,20 +1082,20 @@ static void without_script(void) {
     skid_acquire_preserving_borrows(HEAD, TABLE, LIST(held), 6, blank());
     called();
     at_next(3);
-    words(0, 1, 0, 0, SKID_GRANTED, 6, 2, 0);
+    words(0, 1, 0, 0, SKID_GRANTED, 6, 2, BOOT);
     end(&edges);
 
     name("drop_preserving_borrows of a held lease");
-    skid_drop_preserving_borrows(HEAD, TABLE, LIST(held), 5, 1, blank());
+    skid_drop_preserving_borrows(HEAD, TABLE, LIST(held), 5, 1, BOOT, blank());
     called();
     words(0, 0, 0, 0, SKID_REFUSED, SKID_PROTECTED, 0, 0);
     end(&edges);
 
     name("foreign_release_between_attempts");
-    skid_foreign_release_between_attempts(HEAD, TABLE, LIST(held), 6, 2, blank());
+    skid_foreign_release_between_attempts(HEAD, TABLE, LIST(held), 6, 2, BOOT, blank());
     called();
     at_next(4);
-    words(0, 2, 0, 0, SKID_GRANTED, 6, 3, 0);
+    words(0, 2, 0, 0, SKID_GRANTED, 6, 3, BOOT);
     end(&edges);
 
     name("a held list whose lease was released");
@@ -997,20 +1105,20 @@ static void without_script(void) {
     end(&edges);
 
     name("release_then_handoff");
-    skid_release_then_handoff(HEAD, TABLE, 5, 1, blank());
+    skid_release_then_handoff(HEAD, TABLE, 5, 1, BOOT, blank());
     called();
     at_next(5);
-    words(0, 1, 0, 0, SKID_GRANTED, 5, 4, 0);
+    words(0, 1, 0, 0, SKID_GRANTED, 5, 4, BOOT);
     end(&edges);
 
     name("drop_lease");
-    skid_drop_lease(HEAD, TABLE, 5, 4, blank());
+    skid_drop_lease(HEAD, TABLE, 5, 4, BOOT, blank());
     called();
     words(0, 0, 0, 0, SKID_DONE, 0, 0, 0);
     end(&edges);
 
     name("drop_preserving_borrows, no held list");
-    skid_drop_preserving_borrows(HEAD, TABLE, NONE, 6, 3, blank());
+    skid_drop_preserving_borrows(HEAD, TABLE, NONE, 6, 3, BOOT, blank());
     called();
     words(0, 0, 0, 0, SKID_DONE, 0, 0, 0);
     free_cells();
@@ -1019,7 +1127,7 @@ static void without_script(void) {
 
 static void with_script(void) {
     static const uint32_t script[12] = {0, 0, 0, 2, 3, 1, 9, 9, 9, 4, 1, 1};
-    static const uint32_t held[2] = {3, 1}, leases[4] = {3, 1, 4, 3};
+    static const uint32_t held[3] = {3, 1, BOOT}, leases[6] = {3, 1, BOOT, 4, 3, BOOT};
     prepare(1);
     skid_try_acquire(HEAD, TABLE, 3, blank());
     called();
@@ -1047,7 +1155,7 @@ static void with_script(void) {
     health.bytes[1] = 0;
     skid_other_mutex_preserves_leases(HEAD, TABLE, HEALTH, NONE, 0, LIST(held), 4, blank());
     called();
-    words(0, 1, 3, 0, SKID_GRANTED, 4, 3, 0);
+    words(0, 1, 3, 0, SKID_GRANTED, 4, 3, BOOT);
     end(&edges);
 
     name("release_all");
@@ -1076,17 +1184,18 @@ static void with_script(void) {
     end(&edges);
 }
 
-/* A refused preparation: three zeros for a head, and nothing else changes. */
+/* A refused preparation: four zeros for a head, and nothing else changes. */
 static void refused_preparation(void) {
     uint32_t i, n = 0;
     name("prepare with one word too few");
     prepare(1);
     memset(table.words, 0x5a, sizeof table.words);
-    skid_prepare(2, 4, 1, table.words, 23, HEALTH, blank());
+    skid_prepare(2, 4, 1, BOOT, table.words, 23, HEALTH, blank());
     kept();
     check("headers", word(SKID_HEADERS), 0);
     check("buckets", word(SKID_BUCKETS), 0);
     at_next(0);
+    check("boot", word(SKID_BOOT), 0);
     words(0, 0, 0, 0, SKID_REFUSED, SKID_BAD_SHAPE, 0, 0);
     for (i = 0; i < 24; i++) {
         n += table.words[i] == 0x5a5a5a5au;
@@ -1095,7 +1204,7 @@ static void refused_preparation(void) {
     end(&edges);
 
     name("a call with nothing lent");
-    skid_try_lock(2, 4, 1, NONE, NONE, NONE, 0, NONE, 2, blank());
+    skid_try_lock(2, 4, 1, BOOT, NONE, NONE, NONE, 0, NONE, 2, blank());
     called();
     words(0, 0, 0, 0, SKID_REFUSED, SKID_BAD_SHAPE, 0, 0);
     end(&edges);
@@ -1123,6 +1232,9 @@ int main(void) {
     any_order();
     any_order_refused();
     salvaged();
+    by_lease();
+    in_lists();
+    after_a_preparation();
     at_work();
     unwritten();
     written();
@@ -1136,6 +1248,7 @@ int main(void) {
     }
     printf("keys in any order in C: %d passed\n", sorts);
     printf("salvage in C: %d passed\n", salvages);
+    printf("boot numbers in C: %d passed\n", boots);
     printf("crew at work in C: %d passed\n", works);
     printf("setpoint book in C: %d passed\n", books);
     printf("edges in C: %d passed\n", edges);

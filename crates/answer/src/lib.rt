@@ -1,6 +1,7 @@
 // The lines of the console that print: a call of document 01 and its answer, and the views of the arena.
 use desk::Desk;
 use text::Numbers;
+use types::Lease;
 use verbs::Scripted;
 use verbs::Small;
 use verbs::Verb;
@@ -69,13 +70,13 @@ fn prepare(
     out: &mut [u8],
     used: usize,
 ) -> Answered {
-    let told = ask::prepare(desk, table, health, got.a, got.b, got.c);
+    let told = ask::prepare(desk, table, health, got.a, got.b, got.c, got.d);
     let after = told.desk;
     let n = say::told(told, out, used);
     quiet(after, n)
 }
 
-// A call without a script.
+// A call without a script, by the lease or the cell that the line names.
 fn small(
     desk: Desk,
     call: Small,
@@ -85,7 +86,12 @@ fn small(
     out: &mut [u8],
     used: usize,
 ) -> Answered {
-    let told = ask::small_call(desk, call, table, lists, got.a, got.b);
+    let lease = Lease {
+        cell: got.a,
+        serial: got.b,
+        boot: got.c,
+    };
+    let told = ask::small_call(desk, call, table, lists, lease);
     let after = told.desk;
     let n = say::told(told, out, used);
     quiet(after, n)

@@ -241,7 +241,7 @@ callers-finish-at-work h t g callers counters rounds k r =
 -- ---- two callers, falling keys and a double: cells 5, 3, 5 and cells 3, 0
 
 abbrev bench : Head
-bench = headOf 2 4 1
+bench = headOf 2 4 1 5
 
 abbrev two-callers : List Caller
 two-callers = record { registry = 0 ∷ 1 ∷ 1 ∷ []; keys = 1 ∷ 1 ∷ 0 ∷ 3 ∷ 2 ∷ 1 ∷ [] } ∷ record { registry = 0 ∷ []; keys = 0 ∷ 3 ∷ 0 ∷ 0 ∷ [] } ∷ []

@@ -1,28 +1,31 @@
 -- A granted call: which lease each key is handed back, and in which order the cells were taken.
-use Prim.Native.Nat.{ℕ, _+_, _<_}
-use mathlib.Core.Path.{_≡_, sym, ap, _∙_, subst}
+use Prim.Native.Nat.{ℕ, zero, suc, _+_, _*_, _<_}
+use mathlib.Core.Path.{_≡_, refl, sym, ap, _∙_, subst}
 use mathlib.Core.List.{List, [], _∷_, _++_, append-assoc}
 use mathlib.Core.Logic.{_≢_}
 use native.Mathlib.Decide.{decLt}
 use native.Mathlib.Omega.{arith}
 use lib.ListN.{length}
 use Rattle.model.specs.Log.{Made, Event, by-caller, took}
-use Rattle.model.specs.Arena.{leasesOf}
-use Rattle.model.specs.Lock.{leaseAt}
+use Rattle.model.specs.Arena.{leaseOf, holdIn, holdsOf, wordsOf}
+use Rattle.model.specs.Lock.{holdAt}
 use Rattle.model.specs.Checks.{countIn}
 use Rattle.model.specs.Calls.{given, starting}
-use Rattle.model.specs.Sorted.{firstAsking, handedBack}
+use Rattle.model.specs.Sorted.{firstAsking, handedBack, sharedOf}
 use Rattle.types.specs.declared.Answer.{Answer}
 use Rattle.types.specs.declared.Answer.the-variants.{AllGranted}
+use Rattle.types.specs.declared.Hold.{Hold}
 use Rattle.types.specs.declared.Lease.{Lease}
+use Rattle.laws.specs.Checks.{leaseIn}
+use Rattle.laws.specs.Lists.{words-back}
 use Rattle.history.specs.World.{World, number-of, takes}
-use Rattle.history.specs.Items.{Says, acquire-sorted, keyCell, perform}
+use Rattle.history.specs.Items.{Says, acquire-sorted, any-order, keyCell, perform}
 use Rattle.history.specs.Statements.{buffer-in, Hands-over}
 use Rattle.history.specs.Judged.{sorted-locks}
 use Rattle.history.specs.Calls.{call-kept}
 use Rattle.history.specs.Handed.{Taken-in}
 use Rattle.history.specs.HandedCalls.{call-came, locks-serials}
-use Rattle.history.specs.Shared.{Handed-back, asked-cells, sorted-cells, chosen-keys, sorted-rises, sorted-place, sorted-place-at, rising-earlier, all-inner, in-place, steps-hand-back, back-own}
+use Rattle.history.specs.Shared.{Handed-back, asked-cells, sorted-cells, chosen-keys, sorted-rises, sorted-place, sorted-place-at, rising-earlier, all-inner, in-place, steps-hand-back, back-own, buffers-name}
 use Rattle.anyorder.specs.Statements.{Shares, Serials-by-cell, Apart-by-cell, Taken-rising, Each-key-live}
 use Rattle.anyorder.specs.Runs.{Goes, refused-whole, refused-key, locks, goes}
 
@@ -53,16 +56,17 @@ module _ (w : World) (registry script : List ℕ) (place : ℕ) (held keys grant
   abbrev said : Made (World × Says)
   said = perform w (acquire-sorted registry script place held keys grants)
 
-  abbrev inner-leases : List Lease
-  inner-leases = leasesOf (sorted-locks w registry script place held keys grants .seen .1 .1 .1)
+  abbrev inner-leases : List Hold
+  inner-leases = holdsOf (sorted-locks w registry script place held keys grants .seen .1 .1 .1)
 
-  abbrev leases : List Lease
-  leases = leasesOf (buffer-in said)
+  abbrev leases : List Hold
+  leases = holdsOf (buffer-in said)
 
   -- the locks were all granted, and their leases handed back by key
   record Granted-so (m : Made (World × Says)) : Type 0 where
     inner : sorted-locks w registry script place held keys grants .seen .0 .answer ≡ AllGranted
-    back : Handed-back b registry keys inner-leases (leasesOf (buffer-in m))
+    back : Handed-back b registry keys inner-leases (holdsOf (buffer-in m))
+    words : buffer-in m ≡ wordsOf (w .head .boot) (holdsOf (buffer-in m))
 
   granted : said .seen .1 .answer ≡ AllGranted → Granted-so said
   granted = go (goes w registry script place held keys grants)
@@ -75,31 +79,37 @@ module _ (w : World) (registry script : List ℕ) (place : ℕ) (held keys grant
           let e = all-inner (asked-cells b registry keys) (sorted-cells b registry keys) (o .0 .answer) a in
           record {
             inner = e;
-            back = subst (λ (x : Answer). Handed-back b registry keys inner-leases (leasesOf (handedBack x (asked-cells b registry keys) (o .1 .1 .1)))) (sym e)
+            back = subst (λ (x : Answer). Handed-back b registry keys inner-leases (holdsOf (handedBack (w .head .boot) x (asked-cells b registry keys) (o .1 .1 .1)))) (sym e)
                 (steps-hand-back w registry script place held keys grants e);
+            words = subst (λ (x : Answer). let ws = handedBack (w .head .boot) x (asked-cells b registry keys) (o .1 .1 .1) in ws ≡ wordsOf (w .head .boot) (holdsOf ws)) (sym e)
+                (ap (wordsOf (w .head .boot)) (sym (words-back (w .head .boot) (sharedOf inner-leases (asked-cells b registry keys)))));
           }
 
   pub handed-so : said .seen .1 .answer ≡ AllGranted
-      → Handed-back b registry keys (leasesOf (sorted-locks w registry script place held keys grants .seen .1 .1 .1)) (leasesOf (buffer-in said))
+      → Handed-back b registry keys (holdsOf (sorted-locks w registry script place held keys grants .seen .1 .1 .1)) (holdsOf (buffer-in said))
   handed-so a = granted a .back
 
-  key-shares : (p q : ℕ) → said .seen .1 .answer ≡ AllGranted → p < countIn keys → q < countIn keys → cell p ≡ cell q → leaseAt leases p ≡ leaseAt leases q
+  -- the buffer is its cells and serials, each with the head's boot number
+  pub words-so : said .seen .1 .answer ≡ AllGranted → buffer-in said ≡ wordsOf (w .head .boot) (holdsOf (buffer-in said))
+  words-so a = granted a .words
+
+  pub key-shares : (p q : ℕ) → said .seen .1 .answer ≡ AllGranted → p < countIn keys → q < countIn keys → cell p ≡ cell q → holdAt leases p ≡ holdAt leases q
   key-shares p q a x y e =
       let h = granted a .back in
-      h .each p x ∙ ap (λ (c : ℕ). leaseAt inner-leases (firstAsking (sorted-cells b registry keys) c)) e ∙ sym (h .each q y)
+      h .each p x ∙ ap (λ (c : ℕ). holdAt inner-leases (firstAsking (sorted-cells b registry keys) c)) e ∙ sym (h .each q y)
 
-  key-serials : (p q : ℕ) → said .seen .1 .answer ≡ AllGranted → p < countIn keys → q < countIn keys → cell p < cell q → leaseAt leases p .serial < leaseAt leases q .serial
+  key-serials : (p q : ℕ) → said .seen .1 .answer ≡ AllGranted → p < countIn keys → q < countIn keys → cell p < cell q → holdAt leases p .serial < holdAt leases q .serial
   key-serials p q a x y l =
       let g = granted a in
       let h = g .back in
       let i = sorted-place-at b registry keys p x in
       let j = sorted-place-at b registry keys q y in
       let before = rising-earlier (sorted-cells b registry keys) (sorted-rises b registry keys) (sorted-place b registry keys p) (sorted-place b registry keys q) (i .0) (j .0) (omega (arith, i .1, j .1, l)) in
-      let rise = locks-serials (length (sorted-cells b registry keys)) (given (w .head) script (leasesOf held)) b registry (chosen-keys b registry keys) (starting (w .head) place) (w .table) (w .health) grants
+      let rise = locks-serials (length (sorted-cells b registry keys)) (given (w .head) script (holdsOf held)) b (w .head .boot) registry (chosen-keys b registry keys) (starting (w .head) place) (w .table) (w .health) grants
       (sorted-place b registry keys p) (sorted-place b registry keys q) (g .inner) before (omega (arith, j .0, h .many)) in
-      omega (arith, ap (λ (k : Lease). k .serial) (h .each p x), ap (λ (k : Lease). k .serial) (h .each q y), rise)
+      omega (arith, ap (λ (k : Hold). k .serial) (h .each p x), ap (λ (k : Hold). k .serial) (h .each q y), rise)
 
-  key-apart : (p q : ℕ) → said .seen .1 .answer ≡ AllGranted → p < countIn keys → q < countIn keys → cell p ≢ cell q → leaseAt leases p .serial ≢ leaseAt leases q .serial
+  key-apart : (p q : ℕ) → said .seen .1 .answer ≡ AllGranted → p < countIn keys → q < countIn keys → cell p ≢ cell q → holdAt leases p .serial ≢ holdAt leases q .serial
   key-apart p q a x y n e = go (decLt (cell p) (cell q)) (decLt (cell q) (cell p))
     where
       go : Dec (cell p < cell q) → Dec (cell q < cell p) → ⊥
@@ -108,16 +118,16 @@ module _ (w : World) (registry script : List ℕ) (place : ℕ) (held keys grant
       go (no l) (no d) = n (omega arith)
 
   -- a key's lease was taken in the call
-  key-handed : (p : ℕ) → said .seen .1 .answer ≡ AllGranted → p < countIn keys → Hands-over (said .seen .1 .answer) (buffer-in said) (leaseAt leases p)
-  key-handed p a x = subst (λ (z : Answer). Hands-over z (buffer-in said) (leaseAt leases p)) (sym a) (in-place leases p (omega (arith, granted a .back .as-many, x)))
+  key-handed : (p : ℕ) → said .seen .1 .answer ≡ AllGranted → p < countIn keys → Hands-over (said .seen .1 .answer) (buffer-in said) (holdAt leases p)
+  key-handed p a x = subst (λ (z : Answer). Hands-over z (buffer-in said) (holdAt leases p)) (sym a) (in-place leases p (omega (arith, granted a .back .as-many, x)))
 
-  key-own : (p : ℕ) → said .seen .1 .answer ≡ AllGranted → p < countIn keys → leaseAt leases p .cell ≡ cell p
+  key-own : (p : ℕ) → said .seen .1 .answer ≡ AllGranted → p < countIn keys → holdAt leases p .cell ≡ cell p
   key-own p a x = back-own b registry keys (granted a .back) p x
 
   abbrev Both-taken : (c d s t : ℕ) → Type 0
   Both-taken c d s t = (x y z : List Event) × (said .log ≡ x ++ (took by-caller c s ∷ (y ++ (took by-caller d t ∷ z))))
 
-  taken-behind : (l k : Lease) → Taken-in (w .head .next) l (said .log) → Taken-in (w .head .next) k (said .log) → l .serial < k .serial → Both-taken (l .cell) (k .cell) (l .serial) (k .serial)
+  taken-behind : (l k : Hold) → Taken-in (w .head .next) l (said .log) → Taken-in (w .head .next) k (said .log) → l .serial < k .serial → Both-taken (l .cell) (k .cell) (l .serial) (k .serial)
   taken-behind l k t u less =
       let m = parts-ordered (t .before) (u .before) (t .after) (u .after) (took by-caller (l .cell) (l .serial)) (took by-caller (k .cell) (k .serial)) (sym (t .parts) ∙ u .parts)
       (omega (arith, t .was-next, u .was-next, less)) in (
@@ -128,17 +138,38 @@ module _ (w : World) (registry script : List ℕ) (place : ℕ) (held keys grant
       )
 
   key-taken : (p q : ℕ) → said .seen .1 .answer ≡ AllGranted → p < countIn keys → q < countIn keys → cell p < cell q
-      → Both-taken (cell p) (cell q) (leaseAt leases p .serial) (leaseAt leases q .serial)
+      → Both-taken (cell p) (cell q) (holdAt leases p .serial) (holdAt leases q .serial)
   key-taken p q a x y l =
       let k = acquire-sorted registry script place held keys grants in
-      let t = call-came w k (leaseAt leases p) (key-handed p a x) in
-      let u = call-came w k (leaseAt leases q) (key-handed q a y) in
-      subst (λ (c : ℕ). Both-taken c (cell q) (leaseAt leases p .serial) (leaseAt leases q .serial)) (key-own p a x)
-      (subst (λ (d : ℕ). Both-taken (leaseAt leases p .cell) d (leaseAt leases p .serial) (leaseAt leases q .serial)) (key-own q a y)
-      (taken-behind (leaseAt leases p) (leaseAt leases q) t u (key-serials p q a x y l)))
+      let t = call-came w k (holdAt leases p) (key-handed p a x) in
+      let u = call-came w k (holdAt leases q) (key-handed q a y) in
+      subst (λ (c : ℕ). Both-taken c (cell q) (holdAt leases p .serial) (holdAt leases q .serial)) (key-own p a x)
+      (subst (λ (d : ℕ). Both-taken (holdAt leases p .cell) d (holdAt leases p .serial) (holdAt leases q .serial)) (key-own q a y)
+      (taken-behind (holdAt leases p) (holdAt leases q) t u (key-serials p q a x y l)))
+
+-- a lease in a run of words, without its boot number; and all of it
+hold-in : (ws : List ℕ) (p : ℕ) → 3 * p + 2 < length ws → holdAt (holdsOf ws) p ≡ holdIn (leaseIn ws p)
+unfolding holdsOf
+hold-in [] p l = absurd (omega arith)
+hold-in (c ∷ []) p l = absurd (omega arith)
+hold-in (c ∷ s ∷ []) p l = absurd (omega arith)
+hold-in (c ∷ s ∷ b ∷ ws) zero l = refl
+hold-in (c ∷ s ∷ b ∷ ws) (suc p) l =
+    let x : 3 * suc p ≡ suc (suc (suc (3 * p))) = omega arith in
+    let y : 3 * suc p + 1 ≡ suc (suc (suc (3 * p + 1))) = omega arith in
+    rw (y, x) (hold-in ws p (omega arith))
+
+whole-lease : (l k : Lease) → holdIn l ≡ holdIn k → l .boot ≡ k .boot → l ≡ k
+whole-lease l k e b = ap (λ (x : Hold). leaseOf (x .cell) (x .serial) (l .boot)) e ∙ ap (leaseOf (k .cell) (k .serial)) b
 
 pub shares : Shares perform
-shares = key-shares
+shares w registry script place held keys grants p q a x y e =
+    let k = acquire-sorted registry script place held keys grants in
+    let words = buffer-in (perform w k) in
+    let full = buffers-name w k registry keys (any-order registry script place held keys grants) a in
+    whole-lease (leaseIn words p) (leaseIn words q)
+    (sym (hold-in words p (omega (arith, full .0, x))) ∙ key-shares w registry script place held keys grants p q a x y e ∙ hold-in words q (omega (arith, full .0, y)))
+    (full .2 p x ∙ sym (full .2 q y))
 
 pub serials-by-cell : Serials-by-cell perform
 serials-by-cell = key-serials
@@ -152,4 +183,4 @@ taken-rising = key-taken
 pub each-key-live : Each-key-live perform
 each-key-live w registry script place held keys grants p a x =
     let k = acquire-sorted registry script place held keys grants in
-    (key-own w registry script place held keys grants p a x, call-kept w k .gain (leaseAt (leases w registry script place held keys grants) p) (key-handed w registry script place held keys grants p a x))
+    (key-own w registry script place held keys grants p a x, call-kept w k .gain (holdAt (leases w registry script place held keys grants) p) (key-handed w registry script place held keys grants p a x))

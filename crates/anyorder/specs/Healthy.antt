@@ -6,11 +6,11 @@ use native.Mathlib.Decide.{decLt}
 use native.Mathlib.Omega.{arith}
 use lib.ListN.{length, getD, replicate, length-replicate}
 use Rattle.model.specs.Log.{Event}
-use Rattle.model.specs.Arena.{leasesOf}
-use Rattle.model.specs.Lock.{leaseAt}
+use Rattle.model.specs.Arena.{holdsOf}
+use Rattle.model.specs.Lock.{holdAt}
 use Rattle.model.specs.Checks.{countIn}
 use Rattle.model.specs.Sorted.{sharedOf}
-use Rattle.types.specs.declared.Lease.{Lease}
+use Rattle.types.specs.declared.Hold.{Hold}
 use Rattle.history.specs.World.{World, Healthy, now}
 use Rattle.history.specs.Items.{acquire-locks, acquire-sorted, in-order, keyCell, perform}
 use Rattle.history.specs.Statements.{answer-in, buffer-in, world-in}
@@ -46,26 +46,26 @@ sorted-healthy w registry script place held keys grants p a l =
     let asked = asked-cells b registry keys in
     let sorted = sorted-cells b registry keys in
     let chosen = chosen-keys b registry keys in
-    let other : List ℕ = replicate (2 * length sorted) 0 in
+    let other : List ℕ = replicate (3 * length sorted) 0 in
     let k = acquire-locks registry script place held chosen other in
     let m = perform w (acquire-sorted registry script place held keys grants) in
     let n = perform w k in
     let i = sorted-place b registry keys p in
     let count = chosen-count b registry keys in
-    let x = as-multilock w registry script place held keys grants other (granted-beyond w registry script place held keys grants (goes w registry script place held keys grants) a) (length-replicate {A = ℕ} (2 * length sorted) 0) in
+    let x = as-multilock w registry script place held keys grants other (granted-beyond w registry script place held keys grants (goes w registry script place held keys grants) a) (length-replicate {A = ℕ} (3 * length sorted) 0) in
     let y = x .1 in
     let all = all-inner asked sorted (answer-in n) (sym (y .answer) ∙ a) in
     let full = buffers-name w k registry chosen (in-order registry script place held chosen other) all in
-    let ls = leasesOf (buffer-in n) in
+    let ls = holdsOf (buffer-in n) in
     let back = handed-back b registry keys ls (omega (arith, full .0, count, words-leases (buffer-in n), leases-few (buffer-in n)))
     (λ j d. full .1 j (omega (arith, d, count)) ∙ chosen-cell b registry keys j d) in
-    let same : leaseAt ls i ≡ leaseAt (leasesOf (buffer-in m)) p
-    = sym (ap (λ (ws : List ℕ). leaseAt (leasesOf ws) p) (y .handed all) ∙ ap (λ (ks : List Lease). leaseAt ks p) (leases-words (sharedOf ls asked)) ∙ back .each p l) in
+    let same : holdAt ls i ≡ holdAt (holdsOf (buffer-in m)) p
+    = sym (ap (λ (ws : List ℕ). holdAt (holdsOf ws) p) (y .handed all) ∙ ap (λ (ks : List Hold). holdAt ks p) (leases-words (w .head .boot) (sharedOf ls asked)) ∙ back .each p l) in
     let at = sorted-place-at b registry keys p l in
     let h = locks-grant-healthy w registry script place held chosen other i all (omega (arith, at .0, count)) in
     let g = h .0 in (
-      subst (λ (z : Lease). (before after : List Event) × (m .log ≡ before ++ after) × Grant-point z before after × Healthy (now w before) (z .cell)) same (g .0, g .1, y .log ∙ g .2, g .3, g .4),
+      subst (λ (z : Hold). (before after : List Event) × (m .log ≡ before ++ after) × Grant-point z before after × Healthy (now w before) (z .cell)) same (g .0, g .1, y .log ∙ g .2, g .3, g .4),
       λ high.
-          subst (λ (v : World). Healthy v (leaseAt (leasesOf (buffer-in m)) p .cell)) (sym (y .world))
-          (subst (λ (z : Lease). Healthy (world-in n) (z .cell)) same (h .1 (omega (arith, highest-last b registry keys p l high, count)))),
+          subst (λ (v : World). Healthy v (holdAt (holdsOf (buffer-in m)) p .cell)) (sym (y .world))
+          (subst (λ (z : Hold). Healthy (world-in n) (z .cell)) same (h .1 (omega (arith, highest-last b registry keys p l high, count)))),
     )

@@ -4,7 +4,7 @@ use mathlib.Core.Path.{_≡_, refl, sym, ap, _∙_, subst}
 use mathlib.Core.List.{List}
 use native.Mathlib.Omega.{arith}
 use lib.ListN.{length, replicate, length-replicate}
-use Rattle.model.specs.Arena.{leasesOf, wordsOf}
+use Rattle.model.specs.Arena.{holdsOf, wordsOf}
 use Rattle.model.specs.Lock.{bindingAt, bucketAt}
 use Rattle.model.specs.Checks.{countIn}
 use Rattle.model.specs.Calls.{countsOf}
@@ -12,7 +12,7 @@ use Rattle.model.specs.Sorted.{firstAsking, sharedOf, askedFirst}
 use Rattle.types.specs.declared.Answer.{Answer}
 use Rattle.types.specs.declared.Answer.the-variants.{AllGranted}
 use Rattle.types.specs.declared.Counts.{Counts}
-use Rattle.types.specs.declared.Lease.{Lease}
+use Rattle.types.specs.declared.Hold.{Hold}
 use Rattle.history.specs.World.{World, now}
 use Rattle.history.specs.Items.{Says, says, acquire-locks, acquire-sorted, keyCell, perform}
 use Rattle.history.specs.Tests.{leases-words}
@@ -67,22 +67,22 @@ sorted-quiet w registry script place held keys grants fine end ready few =
     let asked = asked-cells b registry keys in
     let n = length sorted in
     let chosen = chosen-keys b registry keys in
-    let other : List ℕ = replicate (2 * n) 0 in
+    let other : List ℕ = replicate (3 * n) 0 in
     let k = acquire-locks registry script place held chosen other in
     let cell = keyCell b registry chosen in
     let leases = leases-from (sorted-cell b registry keys) n 0 s in
     let inside = all-inside (w .head) registry keys (λ q l. let a = ready q l .0 in (a .0, a .2)) in
-    let x = as-multilock w registry script place held keys grants other (fine, inside) (length-replicate {A = ℕ} (2 * n) 0) in
+    let x = as-multilock w registry script place held keys grants other (fine, inside) (length-replicate {A = ℕ} (3 * n) 0) in
     let y = x .1 in
     let count = chosen-count b registry keys in
     let q = locks-quiet w registry script place held chosen other (x .0) end (λ p l. chosen-ready w registry keys ready p (omega (arith, l, count)))
     (λ p q i j e. chosen-apart w registry keys ready p q (omega (arith, i, count)) (omega (arith, j, count)) e) (omega (arith, few, count)) in
-    let by-count : perform w k .seen ≡ (now w (takes-of (leases-from cell n 0 s)), says AllGranted (countsOf n (3 * n) 0 0) place (wordsOf (leases-from cell n 0 s)))
-    = subst (λ (j : ℕ). perform w k .seen ≡ (now w (takes-of (leases-from cell j 0 s)), says AllGranted (countsOf j (3 * j) 0 0) place (wordsOf (leases-from cell j 0 s)))) count q in
-    let seen : perform w k .seen ≡ (now w (takes-of leases), says AllGranted (countsOf n (3 * n) 0 0) place (wordsOf leases))
-    = subst (λ (ls : List Lease). perform w k .seen ≡ (now w (takes-of ls), says AllGranted (countsOf n (3 * n) 0 0) place (wordsOf ls)))
+    let by-count : perform w k .seen ≡ (now w (takes-of (leases-from cell n 0 s)), says AllGranted (countsOf n (3 * n) 0 0) place (wordsOf (w .head .boot) (leases-from cell n 0 s)))
+    = subst (λ (j : ℕ). perform w k .seen ≡ (now w (takes-of (leases-from cell j 0 s)), says AllGranted (countsOf j (3 * j) 0 0) place (wordsOf (w .head .boot) (leases-from cell j 0 s)))) count q in
+    let seen : perform w k .seen ≡ (now w (takes-of leases), says AllGranted (countsOf n (3 * n) 0 0) place (wordsOf (w .head .boot) leases))
+    = subst (λ (ls : List Hold). perform w k .seen ≡ (now w (takes-of ls), says AllGranted (countsOf n (3 * n) 0 0) place (wordsOf (w .head .boot) ls)))
     (same-from cell (sorted-cell b registry keys) n 0 s (λ i l. chosen-cell b registry keys i (omega arith))) by-count in
-    let buffer = ap (λ (m : World × Says). wordsOf (sharedOf (leasesOf (m .1 .grants)) asked)) seen ∙ ap (λ (ls : List Lease). wordsOf (sharedOf ls asked)) (leases-words leases) in
+    let buffer = ap (λ (m : World × Says). wordsOf (w .head .boot) (sharedOf (holdsOf (m .1 .grants)) asked)) seen ∙ ap (λ (ls : List Hold). wordsOf (w .head .boot) (sharedOf ls asked)) (leases-words (w .head .boot) leases) in
     whole (perform w (acquire-sorted registry script place held keys grants) .seen) _ _ _ _ _ (y .world ∙ ap (λ (m : World × Says). m .0) seen)
     (y .answer ∙ ap (λ (m : World × Says). askedFirst (m .1 .answer) asked sorted) seen) (y .counts ∙ ap (λ (m : World × Says). m .1 .counts) seen) (y .place ∙ ap (λ (m : World × Says). m .1 .place) seen)
     (y .handed (ap (λ (m : World × Says). m .1 .answer) seen) ∙ buffer)

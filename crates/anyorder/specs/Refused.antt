@@ -8,7 +8,7 @@ use lib.ListN.{length, getD, replicate, length-replicate}
 use borrow.Author.Tests.{lt-leb}
 use Rattle.choice.specs.Pick.{if-both}
 use Rattle.model.specs.Log.{Made, Event}
-use Rattle.model.specs.Arena.{isPoisoned, leasesOf}
+use Rattle.model.specs.Arena.{isPoisoned, holdsOf}
 use Rattle.model.specs.Refusals.{first}
 use Rattle.model.specs.Foreign.{Setting, protecting}
 use Rattle.model.specs.Lock.{findOf, attemptAt, attemptOf, pauseOf, isBusy, retryOf, attemptLimit, noneYet, rollbackOf, afterKey, bindingAt, bucketAt, Locks, locksOf}
@@ -22,7 +22,7 @@ use Rattle.types.specs.declared.Check.the-variants.{Fine, Fault}
 use Rattle.types.specs.declared.Found.{Found}
 use Rattle.types.specs.declared.Found.the-variants as found
 use Rattle.types.specs.declared.KeyCheck.{KeyCheck}
-use Rattle.types.specs.declared.Lease.{Lease}
+use Rattle.types.specs.declared.Hold.{Hold}
 use Rattle.types.specs.declared.Outcome.{Outcome}
 use Rattle.types.specs.declared.Outcome.the-variants as outcome
 use Rattle.types.specs.declared.Reason.{Reason}
@@ -97,19 +97,19 @@ Answers-otherwise (Busy why) = Unit {0}
 Answers-otherwise (Refused r) = Unit {0}
 Answers-otherwise (RefusedAt r p) = Tests-key r → ⊥
 
-locks-otherwise : (left p : ℕ) (e : Setting) (buckets : ℕ) (registry keys : List ℕ)
+locks-otherwise : (left p : ℕ) (e : Setting) (buckets boot : ℕ) (registry keys : List ℕ)
     → ((i : ℕ) → i < p + left → (headerOfKey registry keys i < e .headers) × (bucketAt keys i < buckets))
-    → (taken : List Lease) (r : Run) (t g grants : List ℕ) → Answers-otherwise (locksOf left p e buckets registry keys taken r t g grants .seen .0 .answer)
+    → (taken : List Hold) (r : Run) (t g grants : List ℕ) → Answers-otherwise (locksOf left p e buckets boot registry keys taken r t g grants .seen .0 .answer)
 unfolding locksOf rollbackOf
-locks-otherwise zero p e buckets registry keys f taken r t g grants = tt
-locks-otherwise (suc left) p e buckets registry keys f taken r t g grants =
+locks-otherwise zero p e buckets boot registry keys f taken r t g grants = tt
+locks-otherwise (suc left) p e buckets boot registry keys f taken r t g grants =
     let k = f p (omega arith) in
     let m = retryOf attemptLimit 0 noneYet (protecting e taken) buckets registry (bindingAt keys p) (bucketAt keys p) r t g .seen in
     go (m .0 .outcome) (m .0 .run) (m .1 .0) (m .1 .1) (retry-otherwise (protecting e taken) buckets registry (bindingAt keys p) (bucketAt keys p) (k .0) (k .1) attemptLimit 0 noneYet r t g)
-    (λ l. locksOf left (p + 1) e buckets registry keys (taken ++ (l ∷ [])) (m .0 .run) (m .1 .0) (m .1 .1) grants)
-    (λ l. locks-otherwise left (p + 1) e buckets registry keys (λ i j. f i (omega arith)) (taken ++ (l ∷ [])) (m .0 .run) (m .1 .0) (m .1 .1) grants)
+    (λ l. locksOf left (p + 1) e buckets boot registry keys (taken ++ (l ∷ [])) (m .0 .run) (m .1 .0) (m .1 .1) grants)
+    (λ l. locks-otherwise left (p + 1) e buckets boot registry keys (λ i j. f i (omega arith)) (taken ++ (l ∷ [])) (m .0 .run) (m .1 .0) (m .1 .1) grants)
   where
-    go : (x : Outcome) (s : Run) (u w : List ℕ) → Otherwise x → (more : Lease → Made Locks) → ((l : Lease) → Answers-otherwise (more l .seen .0 .answer))
+    go : (x : Outcome) (s : Run) (u w : List ℕ) → Otherwise x → (more : Hold → Made Locks) → ((l : Hold) → Answers-otherwise (more l .seen .0 .answer))
         → Answers-otherwise (afterKey x e taken p s u w grants more .seen .0 .answer)
     go (outcome.Granted l) s u w o more h = h l
     go (outcome.Busy why) s u w o more h = none-of (λ e. omega arith) (λ e. omega arith)
@@ -138,7 +138,7 @@ module _ (w : World) (registry script : List ℕ) (place : ℕ) (held keys grant
       → Answers-otherwise (askedFirst (sorted-locks w registry script place held keys grants .seen .0 .answer) (asked-cells b registry keys) (sorted-cells b registry keys))
   steps-otherwise c =
       asked-otherwise (asked-cells b registry keys) (sorted-cells b registry keys) (sorted-locks w registry script place held keys grants .seen .0 .answer)
-      (locks-otherwise (length (sorted-cells b registry keys)) 0 (given (w .head) script (leasesOf held)) b registry (chosen-keys b registry keys) (λ i l. chosen-inside c i (omega arith)) [] (starting (w .head) place) (w .table) (w .health) grants)
+      (locks-otherwise (length (sorted-cells b registry keys)) 0 (given (w .head) script (holdsOf held)) b (w .head .boot) registry (chosen-keys b registry keys) (λ i l. chosen-inside c i (omega arith)) [] (starting (w .head) place) (w .table) (w .health) grants)
 
   -- ---- exactly then
 
@@ -216,9 +216,9 @@ later-position w registry script place held keys grants r p a n =
     let b = w .head .buckets in
     let m = perform w (acquire-sorted registry script place held keys grants) in
     let chosen = chosen-keys b registry keys in
-    let other : List ℕ = replicate (2 * length (sorted-cells b registry keys)) 0 in
+    let other : List ℕ = replicate (3 * length (sorted-cells b registry keys)) 0 in
     let c = beyond w registry script place held keys grants r p (goes w registry script place held keys grants) a n in
-    let y = as-multilock w registry script place held keys grants other c (length-replicate {A = ℕ} (2 * length (sorted-cells b registry keys)) 0) .1 in
+    let y = as-multilock w registry script place held keys grants other c (length-replicate {A = ℕ} (3 * length (sorted-cells b registry keys)) 0) .1 in
     let x = refused-inner (asked-cells b registry keys) (sorted-cells b registry keys) (answer-in (perform w (acquire-locks registry script place held chosen other))) r p (sym (y .answer) ∙ a) in
     let back = locks-roll-back w registry script place held chosen other r (x .0) (x .1) in (
       subst (λ (q : ℕ). Refused-later b registry keys q (m .log)) (x .2)
@@ -237,16 +237,16 @@ Positioned (Busy why) = Unit {0}
 Positioned (Refused r) = ⊥
 Positioned (RefusedAt r p) = Unit {0}
 
-locks-positioned : (left p : ℕ) (e : Setting) (buckets : ℕ) (registry keys : List ℕ) (taken : List Lease) (r : Run) (t g grants : List ℕ)
-    → Positioned (locksOf left p e buckets registry keys taken r t g grants .seen .0 .answer)
+locks-positioned : (left p : ℕ) (e : Setting) (buckets boot : ℕ) (registry keys : List ℕ) (taken : List Hold) (r : Run) (t g grants : List ℕ)
+    → Positioned (locksOf left p e buckets boot registry keys taken r t g grants .seen .0 .answer)
 unfolding locksOf rollbackOf
-locks-positioned zero p e buckets registry keys taken r t g grants = tt
-locks-positioned (suc left) p e buckets registry keys taken r t g grants =
+locks-positioned zero p e buckets boot registry keys taken r t g grants = tt
+locks-positioned (suc left) p e buckets boot registry keys taken r t g grants =
     let m = retryOf attemptLimit 0 noneYet (protecting e taken) buckets registry (bindingAt keys p) (bucketAt keys p) r t g .seen in
-    go (m .0 .outcome) (m .0 .run) (m .1 .0) (m .1 .1) (λ l. locksOf left (p + 1) e buckets registry keys (taken ++ (l ∷ [])) (m .0 .run) (m .1 .0) (m .1 .1) grants)
-    (λ l. locks-positioned left (p + 1) e buckets registry keys (taken ++ (l ∷ [])) (m .0 .run) (m .1 .0) (m .1 .1) grants)
+    go (m .0 .outcome) (m .0 .run) (m .1 .0) (m .1 .1) (λ l. locksOf left (p + 1) e buckets boot registry keys (taken ++ (l ∷ [])) (m .0 .run) (m .1 .0) (m .1 .1) grants)
+    (λ l. locks-positioned left (p + 1) e buckets boot registry keys (taken ++ (l ∷ [])) (m .0 .run) (m .1 .0) (m .1 .1) grants)
   where
-    go : (x : Outcome) (s : Run) (u w : List ℕ) (more : Lease → Made Locks) → ((l : Lease) → Positioned (more l .seen .0 .answer))
+    go : (x : Outcome) (s : Run) (u w : List ℕ) (more : Hold → Made Locks) → ((l : Hold) → Positioned (more l .seen .0 .answer))
         → Positioned (afterKey x e taken p s u w grants more .seen .0 .answer)
     go (outcome.Granted l) s u w more h = h l
     go (outcome.Busy why) s u w more h = tt
@@ -280,12 +280,12 @@ module _ (w : World) (registry script : List ℕ) (place : ℕ) (held keys grant
       (judged-at (λ (m : Made (World × Says)). Positioned (answer-in m)) (firstKey (countIn keys) 0 (w .head) registry keys) (λ r p _. tt)
       (λ _.
       asked-positioned (asked-cells (w .head .buckets) registry keys) (sorted-cells (w .head .buckets) registry keys) (sorted-locks w registry script place held keys grants .seen .0 .answer)
-      (locks-positioned (length (sorted-cells (w .head .buckets) registry keys)) 0 (given (w .head) script (leasesOf held)) (w .head .buckets) registry (chosen-keys (w .head .buckets) registry keys) [] (starting (w .head) place) (w .table) (w .health) grants)))
+      (locks-positioned (length (sorted-cells (w .head .buckets) registry keys)) 0 (given (w .head) script (holdsOf held)) (w .head .buckets) (w .head .boot) registry (chosen-keys (w .head .buckets) registry keys) [] (starting (w .head) place) (w .table) (w .health) grants)))
 
   typed-positioned : first (rules w typed-call) ≡ Fine → Positioned (answer-in (perform w typed-call))
   typed-positioned e =
       subst (λ (m : Made (World × Says)). Positioned (answer-in m)) (sym (made w (acquire-locks-has registry script place held keys grants) (clear (rules w typed-call) e)))
-      (locks-positioned (countIn keys) 0 (given (w .head) script (leasesOf held)) (w .head .buckets) registry keys [] (starting (w .head) place) (w .table) (w .health) grants)
+      (locks-positioned (countIn keys) 0 (given (w .head) script (holdsOf held)) (w .head .buckets) (w .head .boot) registry keys [] (starting (w .head) place) (w .table) (w .health) grants)
 
 pub checks-as-typed : Checks-as-typed perform
 checks-as-typed w registry script place held keys grants r = go (first (rules w (acquire-locks registry script place held keys grants))) refl

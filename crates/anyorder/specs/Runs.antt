@@ -10,17 +10,17 @@ use lib.ListN.{length}
 use borrow.Author.Tests.{ltb-false, le-ltb, eq-eqb}
 use Rattle.choice.specs.Pick.{neither}
 use Rattle.model.specs.Log.{Made}
-use Rattle.model.specs.Arena.{leasesOf, wordsOf}
+use Rattle.model.specs.Arena.{leasesOf, holdsOf, wordsOf}
 use Rattle.model.specs.Foreign.{Setting, protecting}
 use Rattle.model.specs.Lock.{Locks, afterKey, rollbackOf, retryOf, attemptLimit, noneYet, bindingAt, bucketAt, locksOf}
-use Rattle.model.specs.Checks.{countIn, isOdd, tooManyKeys, notLive, badBindings, locksRules}
+use Rattle.model.specs.Checks.{countIn, leaseCount, isOdd, tooManyKeys, notLive, badBindings, locksRules}
 use Rattle.model.specs.Calls.{given, starting, played}
 use Rattle.model.specs.Sorted.{firstKey, judgeAt, sharedOf, handedBack}
 use Rattle.types.specs.declared.Answer.{Answer}
 use Rattle.types.specs.declared.Answer.the-variants.{Done, Cell, Granted, AllGranted, Busy, Refused, RefusedAt}
 use Rattle.types.specs.declared.KeyCheck.{KeyCheck}
 use Rattle.types.specs.declared.KeyCheck.the-variants as key
-use Rattle.types.specs.declared.Lease.{Lease}
+use Rattle.types.specs.declared.Hold.{Hold}
 use Rattle.types.specs.declared.Outcome.{Outcome}
 use Rattle.types.specs.declared.Outcome.the-variants as outcome
 use Rattle.types.specs.declared.Refusal.{Refusal}
@@ -76,11 +76,11 @@ kept (RefusedAt r q) own other = other
 abbrev swapped : Made Locks → List ℕ → Made Locks
 swapped m b = let o = m .seen in record { seen = (o .0, (o .1 .0, (o .1 .1 .0, kept (o .0 .answer) (o .1 .1 .1) b))); log = m .log }
 
-module _ (e : Setting) (buckets : ℕ) (registry keys : List ℕ) (a b : List ℕ) where
-  abbrev on : ℕ → ℕ → List Lease → Run → List ℕ → List ℕ → List ℕ → Made Locks
-  on left p taken r t g buffer = locksOf left p e buckets registry keys taken r t g buffer
+module _ (e : Setting) (buckets boot : ℕ) (registry keys : List ℕ) (a b : List ℕ) where
+  abbrev on : ℕ → ℕ → List Hold → Run → List ℕ → List ℕ → List ℕ → Made Locks
+  on left p taken r t g buffer = locksOf left p e buckets boot registry keys taken r t g buffer
 
-  locks-swapped : (left p : ℕ) (taken : List Lease) (r : Run) (t g : List ℕ) → on left p taken r t g b ≡ swapped (on left p taken r t g a) b
+  locks-swapped : (left p : ℕ) (taken : List Hold) (r : Run) (t g : List ℕ) → on left p taken r t g b ≡ swapped (on left p taken r t g a) b
   unfolding locksOf rollbackOf
   locks-swapped zero p taken r t g = refl
   locks-swapped (suc left) p taken r t g =
@@ -89,24 +89,24 @@ module _ (e : Setting) (buckets : ℕ) (registry keys : List ℕ) (a b : List �
       ap (λ (z : Made Locks). record { seen = z .seen; log = m .log ++ z .log })
       (go (k .0 .outcome) (k .0 .run) (k .1 .0) (k .1 .1) (λ l. locks-swapped left (p + 1) (taken ++ (l ∷ [])) (k .0 .run) (k .1 .0) (k .1 .1)))
     where
-      go : (o : Outcome) (q : Run) (u w : List ℕ) → ((l : Lease) → on left (p + 1) (taken ++ (l ∷ [])) q u w b ≡ swapped (on left (p + 1) (taken ++ (l ∷ [])) q u w a) b)
-          → afterKey o e taken p q u w b (λ l. locksOf left (p + 1) e buckets registry keys (taken ++ (l ∷ [])) q u w b)
-          ≡ swapped (afterKey o e taken p q u w a (λ l. locksOf left (p + 1) e buckets registry keys (taken ++ (l ∷ [])) q u w a)) b
+      go : (o : Outcome) (q : Run) (u w : List ℕ) → ((l : Hold) → on left (p + 1) (taken ++ (l ∷ [])) q u w b ≡ swapped (on left (p + 1) (taken ++ (l ∷ [])) q u w a) b)
+          → afterKey o e taken p q u w b (λ l. locksOf left (p + 1) e buckets boot registry keys (taken ++ (l ∷ [])) q u w b)
+          ≡ swapped (afterKey o e taken p q u w a (λ l. locksOf left (p + 1) e buckets boot registry keys (taken ++ (l ∷ [])) q u w a)) b
       go (outcome.Granted l) q u w more = more l
       go (outcome.Busy why) q u w more = refl
       go (outcome.Refused x) q u w more = refl
 
-handed-all : (x : Answer) (asked own other : List ℕ) → x ≡ AllGranted → handedBack x asked (kept x own other) ≡ wordsOf (sharedOf (leasesOf own) asked)
-handed-all x asked own other e = rw e
+handed-all : (boot : ℕ) (x : Answer) (asked own other : List ℕ) → x ≡ AllGranted → handedBack boot x asked (kept x own other) ≡ wordsOf boot (sharedOf (holdsOf own) asked)
+handed-all boot x asked own other e = rw e
 
-handed-none : (x : Answer) (asked own other : List ℕ) → (x ≡ AllGranted → ⊥) → handedBack x asked (kept x own other) ≡ other
-handed-none Done asked own other n = refl
-handed-none (Cell c) asked own other n = refl
-handed-none (Granted l) asked own other n = refl
-handed-none AllGranted asked own other n = absurd (n refl)
-handed-none (Busy why) asked own other n = refl
-handed-none (Refused r) asked own other n = refl
-handed-none (RefusedAt r q) asked own other n = refl
+handed-none : (boot : ℕ) (x : Answer) (asked own other : List ℕ) → (x ≡ AllGranted → ⊥) → handedBack boot x asked (kept x own other) ≡ other
+handed-none boot Done asked own other n = refl
+handed-none boot (Cell c) asked own other n = refl
+handed-none boot (Granted l) asked own other n = refl
+handed-none boot AllGranted asked own other n = absurd (n refl)
+handed-none boot (Busy why) asked own other n = refl
+handed-none boot (Refused r) asked own other n = refl
+handed-none boot (RefusedAt r q) asked own other n = refl
 
 -- ---- the checks of multi-lock over the sorted keys
 
@@ -125,17 +125,17 @@ module _ (w : World) (registry script : List ℕ) (place : ℕ) (held keys grant
   abbrev chosen-call : Call
   chosen-call = acquire-locks registry script place held (chosen-keys b registry keys) other
 
-  chosen-passes : length other ≡ 2 * n → Clear (rules w (acquire-sorted registry script place held keys grants)) → Clear (rules w chosen-call)
+  chosen-passes : length other ≡ 3 * n → Clear (rules w (acquire-sorted registry script place held keys grants)) → Clear (rules w chosen-call)
   unfolding locksRules
   chosen-passes fit c =
       let live = notLive (w .head) (w .table) 0 (leasesOf held) in
       let rest = clear-back live _ (c .1 .1 .1 .1 .1) in
-      let test = neither (isOdd keys || ltb 64 (countIn held + countIn keys)) (not (eqb (length grants) (2 * countIn keys))) (rest .0) .0 in
-      let few = ltb-false 64 (countIn held + countIn keys) (neither (isOdd keys) (ltb 64 (countIn held + countIn keys)) test .1) in
+      let test = neither (isOdd keys || ltb 64 (leaseCount held + countIn keys)) (not (eqb (length grants) (3 * countIn keys))) (rest .0) .0 in
+      let few = ltb-false 64 (leaseCount held + countIn keys) (neither (isOdd keys) (ltb 64 (leaseCount held + countIn keys)) test .1) in
       let long = chosen-length b registry keys in
       let short = sorted-few b registry keys in
       let fits : tooManyKeys held (chosen-keys b registry keys) other .applies ≡ false
-      = rw (long, eq-eqb ((2 * n) % 2) 0 (omega arith), le-ltb 64 (countIn held + (2 * n) / 2) (omega (arith, few, short)), eq-eqb (length other) (2 * ((2 * n) / 2)) (omega (arith, fit))) in
+      = rw (long, eq-eqb ((2 * n) % 2) 0 (omega arith), le-ltb 64 (leaseCount held + (2 * n) / 2) (omega (arith, few, short)), eq-eqb (length other) (3 * ((2 * n) / 2)) (omega (arith, fit))) in
       let bound = bindings-pass (countIn (chosen-keys b registry keys)) 0 registry (chosen-keys b registry keys)
       (λ i l.
       let k : i < n = omega (arith, l, chosen-count b registry keys) in
@@ -150,25 +150,25 @@ module _ (w : World) (registry script : List ℕ) (place : ℕ) (held keys grant
   abbrev inner : List ℕ → Made Locks
   inner buffer = sorted-locks w registry script place held keys buffer
 
-  chosen-made : length other ≡ 2 * n → Clear (rules w (acquire-sorted registry script place held keys grants)) → perform w chosen-call ≡ seen-as plainly (inner other)
+  chosen-made : length other ≡ 3 * n → Clear (rules w (acquire-sorted registry script place held keys grants)) → perform w chosen-call ≡ seen-as plainly (inner other)
   chosen-made fit c =
       made w (acquire-locks-has registry script place held (chosen-keys b registry keys) other) (chosen-passes fit c)
-      ∙ ap (λ (k : ℕ). seen-as plainly (locksOf k 0 (given (w .head) script (leasesOf held)) b registry (chosen-keys b registry keys) [] (starting (w .head) place) (w .table) (w .health) other))
+      ∙ ap (λ (k : ℕ). seen-as plainly (locksOf k 0 (given (w .head) script (holdsOf held)) b (w .head .boot) registry (chosen-keys b registry keys) [] (starting (w .head) place) (w .table) (w .health) other))
       (chosen-count b registry keys)
 
-  as-locks : As-locks b registry keys grants (seen-as (as-asked w registry keys) (inner grants)) (seen-as plainly (inner other))
+  as-locks : As-locks b (w .head .boot) registry keys grants (seen-as (as-asked w registry keys) (inner grants)) (seen-as plainly (inner other))
   as-locks =
       let o = inner other .seen in
-      subst (λ (z : Made Locks). As-locks b registry keys grants (seen-as (as-asked w registry keys) z) (seen-as plainly (inner other)))
-      (sym (locks-swapped (given (w .head) script (leasesOf held)) b registry (chosen-keys b registry keys) other grants n 0 [] (starting (w .head) place) (w .table) (w .health)))
+      subst (λ (z : Made Locks). As-locks b (w .head .boot) registry keys grants (seen-as (as-asked w registry keys) z) (seen-as plainly (inner other)))
+      (sym (locks-swapped (given (w .head) script (holdsOf held)) b (w .head .boot) registry (chosen-keys b registry keys) other grants n 0 [] (starting (w .head) place) (w .table) (w .health)))
       (record {
         log = refl;
         world = refl;
         counts = refl;
         place = refl;
         answer = refl;
-        handed = handed-all (o .0 .answer) (asked-cells b registry keys) (o .1 .1 .1) grants;
-        kept = handed-none (o .0 .answer) (asked-cells b registry keys) (o .1 .1 .1) grants;
+        handed = handed-all (w .head .boot) (o .0 .answer) (asked-cells b registry keys) (o .1 .1 .1) grants;
+        kept = handed-none (w .head .boot) (o .0 .answer) (asked-cells b registry keys) (o .1 .1 .1) grants;
       })
 
 pub as-multilock : As-multilock perform

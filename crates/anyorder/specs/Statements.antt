@@ -7,10 +7,10 @@ use mathlib.Core.List.{List, [], _∷_, _++_}
 use mathlib.Core.Logic.{_≢_, _⊎_, _↔_}
 use lib.ListN.{length, getD}
 use Rattle.model.specs.Log.{Made, Event, by-caller, took}
-use Rattle.model.specs.Arena.{lastSerial, leasesOf, wordsOf}
+use Rattle.model.specs.Arena.{lastSerial, holdsOf, wordsOf}
 use Rattle.model.specs.Refusals.{numberOf}
 use Rattle.model.specs.Foreign.{stepsIn}
-use Rattle.model.specs.Lock.{leaseAt, bindingAt, bucketAt}
+use Rattle.model.specs.Lock.{holdAt, bindingAt, bucketAt}
 use Rattle.model.specs.Checks.{countIn}
 use Rattle.model.specs.Calls.{countsOf}
 use Rattle.model.specs.Sorted.{headerOfKey, cellsAsked, cellsSorted, sortedKeys, firstKey, sharedOf, askedFirst}
@@ -19,6 +19,7 @@ use Rattle.types.specs.declared.Head.{Head}
 use Rattle.types.specs.declared.KeyCheck.the-variants as key
 use Rattle.types.specs.declared.Refusal.{Refusal}
 use Rattle.types.specs.declared.Refusal.the-variants.{BadHeader, InvalidBucket, Repeated}
+use Rattle.laws.specs.Checks.{leaseIn}
 use Rattle.history.specs.World.{World, Live, Healthy, now}
 use Rattle.history.specs.Items.{acquire-locks, acquire-sorted, release-all, keyCell, Says, says, Build, Clear, rules}
 use Rattle.history.specs.Statements.{answer-in, buffer-in, world-in, Rolled-back}
@@ -27,14 +28,14 @@ use Rattle.exact.specs.Statements.{Is-free, Unwaited, Names, leases-from, takes
 
 -- ---- granted: "hand back one lease per key in the caller's order, doubled keys sharing one"
 
--- keys of one cell have one lease
+-- keys of one cell have one lease: all three words of it are the same
 abbrev pub Shares : Build → Type 0
 Shares f =
     (w : World) (registry script : List ℕ) (place : ℕ) (held keys grants : List ℕ) (p q : ℕ)
     → let m = f w (acquire-sorted registry script place held keys grants) in
     let cell = keyCell (w .head .buckets) registry keys in
     answer-in m ≡ AllGranted → p < countIn keys → q < countIn keys → cell p ≡ cell q
-    → leaseAt (leasesOf (buffer-in m)) p ≡ leaseAt (leasesOf (buffer-in m)) q
+    → leaseIn (buffer-in m) p ≡ leaseIn (buffer-in m) q
 
 -- "lock in rising order": the serials rise with the cells, whatever the order of the keys
 abbrev pub Serials-by-cell : Build → Type 0
@@ -43,7 +44,7 @@ Serials-by-cell f =
     → let m = f w (acquire-sorted registry script place held keys grants) in
     let cell = keyCell (w .head .buckets) registry keys in
     answer-in m ≡ AllGranted → p < countIn keys → q < countIn keys → cell p < cell q
-    → leaseAt (leasesOf (buffer-in m)) p .serial < leaseAt (leasesOf (buffer-in m)) q .serial
+    → holdAt (holdsOf (buffer-in m)) p .serial < holdAt (holdsOf (buffer-in m)) q .serial
 
 -- so keys of two cells have two serials
 abbrev pub Apart-by-cell : Build → Type 0
@@ -52,7 +53,7 @@ Apart-by-cell f =
     → let m = f w (acquire-sorted registry script place held keys grants) in
     let cell = keyCell (w .head .buckets) registry keys in
     answer-in m ≡ AllGranted → p < countIn keys → q < countIn keys → cell p ≢ cell q
-    → leaseAt (leasesOf (buffer-in m)) p .serial ≢ leaseAt (leasesOf (buffer-in m)) q .serial
+    → holdAt (holdsOf (buffer-in m)) p .serial ≢ holdAt (holdsOf (buffer-in m)) q .serial
 
 -- the same from the log: the lower cell was taken first
 abbrev pub Taken-rising : Build → Type 0
@@ -60,8 +61,8 @@ Taken-rising f =
     (w : World) (registry script : List ℕ) (place : ℕ) (held keys grants : List ℕ) (p q : ℕ)
     → let m = f w (acquire-sorted registry script place held keys grants) in
     let cell = keyCell (w .head .buckets) registry keys in
-    let l = leaseAt (leasesOf (buffer-in m)) p in
-    let k = leaseAt (leasesOf (buffer-in m)) q in
+    let l = holdAt (holdsOf (buffer-in m)) p in
+    let k = holdAt (holdsOf (buffer-in m)) q in
     answer-in m ≡ AllGranted → p < countIn keys → q < countIn keys → cell p < cell q
     → (x y z : List Event) × (m .log ≡ x ++ (took by-caller (cell p) (l .serial) ∷ (y ++ (took by-caller (cell q) (k .serial) ∷ z))))
 
@@ -78,7 +79,7 @@ abbrev pub Each-key-live : Build → Type 0
 Each-key-live f =
     (w : World) (registry script : List ℕ) (place : ℕ) (held keys grants : List ℕ) (p : ℕ)
     → let m = f w (acquire-sorted registry script place held keys grants) in
-    let l = leaseAt (leasesOf (buffer-in m)) p in
+    let l = holdAt (holdsOf (buffer-in m)) p in
     answer-in m ≡ AllGranted → p < countIn keys → (l .cell ≡ keyCell (w .head .buckets) registry keys p) × Live (world-in m) l
 
 -- document 02, L3: each key's lease is on a header that is healthy at the point of its grant, and that of the highest cell in the health that the call
@@ -88,7 +89,7 @@ Sorted-healthy f =
     (w : World) (registry script : List ℕ) (place : ℕ) (held keys grants : List ℕ) (p : ℕ)
     → let m = f w (acquire-sorted registry script place held keys grants) in
     let cell = keyCell (w .head .buckets) registry keys in
-    let l = leaseAt (leasesOf (buffer-in m)) p in
+    let l = holdAt (holdsOf (buffer-in m)) p in
     answer-in m ≡ AllGranted → p < countIn keys
     → ((before after : List Event) × (m .log ≡ before ++ after) × Grant-point l before after × Healthy (now w before) (l .cell))
     × (((q : ℕ) → q < countIn keys → cell q ≤ cell p) → Healthy (world-in m) (l .cell))
@@ -133,14 +134,14 @@ Keys-first f =
 -- ---- beyond its checks the call is multi-lock over the sorted keys
 
 -- m is seen as n is, but for the position that a refusal names and the grant buffer
-pub record As-locks (buckets : ℕ) (registry keys grants : List ℕ) (m n : Made (World × Says)) : Type 0 where
+pub record As-locks (buckets boot : ℕ) (registry keys grants : List ℕ) (m n : Made (World × Says)) : Type 0 where
   pub log : m .log ≡ n .log
   pub world : world-in m ≡ world-in n
   pub counts : m .seen .1 .counts ≡ n .seen .1 .counts
   pub place : m .seen .1 .place ≡ n .seen .1 .place
   -- "a later refusal carries the first position asking for that cell"
   pub answer : answer-in m ≡ askedFirst (answer-in n) (cellsAsked buckets registry keys) (cellsSorted buckets registry keys)
-  pub handed : answer-in n ≡ AllGranted → buffer-in m ≡ wordsOf (sharedOf (leasesOf (buffer-in n)) (cellsAsked buckets registry keys))
+  pub handed : answer-in n ≡ AllGranted → buffer-in m ≡ wordsOf boot (sharedOf (holdsOf (buffer-in n)) (cellsAsked buckets registry keys))
   pub kept : (answer-in n ≡ AllGranted → ⊥) → buffer-in m ≡ grants
 
 -- no check applies and no key is faulty. The buffer of the other call is any that fits
@@ -155,9 +156,9 @@ As-multilock f =
     → let sorted = cellsSorted (w .head .buckets) registry keys in
     let chosen = sortedKeys (w .head .buckets) registry keys in
     let k = acquire-locks registry script place held chosen other in
-    length other ≡ 2 * length sorted
+    length other ≡ 3 * length sorted
     → Clear (rules w k)
-    × As-locks (w .head .buckets) registry keys grants (f w (acquire-sorted registry script place held keys grants)) (f w k)
+    × As-locks (w .head .buckets) (w .head .boot) registry keys grants (f w (acquire-sorted registry script place held keys grants)) (f w k)
     × (countIn chosen ≡ length sorted)
     × (length sorted ≤ countIn keys)
     × ((i : ℕ) → i < length sorted → keyCell (w .head .buckets) registry chosen i ≡ getD sorted i 0)
@@ -179,7 +180,7 @@ Sorted-quiet f =
     Clear (rules w k) → stepsIn script ≤ place
     → ((p : ℕ) → p < countIn keys → Names w registry (bindingAt keys p) (bucketAt keys p) × Unwaited w (keyCell b registry keys p) × Is-free w (keyCell b registry keys p))
     → w .head .next + n ≤ lastSerial
-    → f w k .seen ≡ (now w (takes-of leases), says AllGranted (countsOf n (3 * n) 0 0) place (wordsOf (sharedOf leases (cellsAsked b registry keys))))
+    → f w k .seen ≡ (now w (takes-of leases), says AllGranted (countsOf n (3 * n) 0 0) place (wordsOf (w .head .boot) (sharedOf leases (cellsAsked b registry keys))))
 
 -- ---- refused later: "a later refusal carries the first position asking for that cell"
 
@@ -221,4 +222,4 @@ Once-done f =
     (w : World) (registry script : List ℕ) (place : ℕ) (held keys grants : List ℕ)
     → let m = f w (acquire-sorted registry script place held keys grants) in
     answer-in m ≡ AllGranted
-    → answer-in (f (world-in m) (release-all [] 0 (wordsOf (sharedOf (leasesOf (buffer-in m)) (cellsSorted (w .head .buckets) registry keys))))) ≡ Done
+    → answer-in (f (world-in m) (release-all [] 0 (wordsOf (w .head .boot) (sharedOf (holdsOf (buffer-in m)) (cellsSorted (w .head .buckets) registry keys))))) ≡ Done

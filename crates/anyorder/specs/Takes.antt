@@ -8,14 +8,14 @@ use lib.Dec.{eqb}
 use lib.ListN.{length, take}
 use Rattle.choice.specs.Pick.{if-both}
 use Rattle.model.specs.Log.{Made, Event, by-caller, by-script, attempt-begun, boundary-run, yielded, spun, step-dropped, took, released, waiters-set, health-set, held-all, added}
-use Rattle.model.specs.Arena.{serialRemains, headerOf, isPoisoned, waitersAt, setCell, stateAt, leaseOf, leasesOf}
+use Rattle.model.specs.Arena.{serialRemains, headerOf, isPoisoned, waitersAt, setCell, stateAt, holdOf, holdsOf}
 use Rattle.model.specs.Foreign.{Setting, protecting, flowOf, boundaryOf}
-use Rattle.model.specs.Lock.{takeIn, takeOf, afterTake, lateOf, secondOf, lockOf, runOf, findOf, attemptAt, attemptOf, spinOf, pauseOf, isBusy, retryOf, leaseAt, giveBackOf, rollbackOf, afterKey, bindingAt, bucketAt, attemptLimit, noneYet, locksOf}
+use Rattle.model.specs.Lock.{takeIn, takeOf, afterTake, lateOf, secondOf, lockOf, runOf, findOf, attemptAt, attemptOf, spinOf, pauseOf, isBusy, retryOf, holdAt, giveBackOf, rollbackOf, afterKey, bindingAt, bucketAt, attemptLimit, noneYet, locksOf}
 use Rattle.model.specs.Calls.{given, starting}
 use Rattle.types.specs.declared.Flow.{Flow}
 use Rattle.types.specs.declared.Found.{Found}
 use Rattle.types.specs.declared.Found.the-variants as found
-use Rattle.types.specs.declared.Lease.{Lease}
+use Rattle.types.specs.declared.Hold.{Hold}
 use Rattle.types.specs.declared.Locked.{Locked}
 use Rattle.types.specs.declared.Outcome.{Outcome}
 use Rattle.types.specs.declared.Outcome.the-variants as outcome
@@ -109,8 +109,8 @@ module _ (e : Setting) (buckets : ℕ) (c : ℕ) where
   late-only : (f : Flow) (t g : List ℕ) (s : ℕ) → Locking (lateOf e buckets f t g c s)
   unfolding lateOf
   late-only f t g s =
-      let m = boundaryOf (protecting e (leaseOf c s ∷ [])) f t g .seen in
-      every-append (boundary-only c (protecting e (leaseOf c s ∷ [])) f t g)
+      let m = boundaryOf (protecting e (holdOf c s ∷ [])) f t g .seen in
+      every-append (boundary-only c (protecting e (holdOf c s ∷ [])) f t g)
       (if-both Locking (isPoisoned (m .1 .1) (headerOf buckets c)) (also _ (inl (λ low. refl)) end)
       (if-both Locking (eqb (waitersAt (m .1 .0) c) 0) end (also _ (inl (λ low. refl)) end)))
 
@@ -169,24 +169,24 @@ module _ (e : Setting) (buckets : ℕ) (registry : List ℕ) (binding bucket : �
       (if-both (λ (x : Made (Tried × (List ℕ × List ℕ))). Every (Only own) (x .log)) (isBusy (m .0 .outcome))
       (every-append (pause-only i (m .0 .run) (m .1 .0) (m .1 .1)) (retry-only left (i + 1) _ (p .0) (p .1 .0) (p .1 .1))) end)
 
-back-only : (d n : ℕ) (e : Setting) (ls : List Lease) (r : Run) (t g : List ℕ) → Every (Only d) (giveBackOf n e ls r t g .log)
+back-only : (d n : ℕ) (e : Setting) (ls : List Hold) (r : Run) (t g : List ℕ) → Every (Only d) (giveBackOf n e ls r t g .log)
 unfolding giveBackOf
 back-only d zero e ls r t g = end
 back-only d (suc n) e ls r t g =
-    let u = setCell t (leaseAt ls n .cell) 0 0 in
+    let u = setCell t (holdAt ls n .cell) 0 0 in
     let m = boundaryOf (protecting e (take n ls)) (r .flow) u g .seen in
     also _ (inl (λ low. refl))
     (every-append (boundary-only d (protecting e (take n ls)) (r .flow) u g) (back-only d n e ls (runOf (m .0) (r .attempts) (r .boundaries + 1) (r .yields)) (m .1 .0) (m .1 .1)))
 
 -- ---- key by key
 
-module _ (e : Setting) (buckets : ℕ) (registry keys grants : List ℕ) (n : ℕ)
+module _ (e : Setting) (buckets boot : ℕ) (registry keys grants : List ℕ) (n : ℕ)
     (rises : (i : ℕ) → i + 1 < n → keyCell buckets registry keys i < keyCell buckets registry keys (i + 1)) where
   abbrev cell : ℕ → ℕ
   cell = keyCell buckets registry keys
 
-  locks-up : (left p : ℕ) → p + left ≡ n → (d : ℕ) → (p < n → d ≤ cell p) → (taken : List Lease) (r : Run) (t g : List ℕ)
-      → Up d (locksOf left p e buckets registry keys taken r t g grants .log)
+  locks-up : (left p : ℕ) → p + left ≡ n → (d : ℕ) → (p < n → d ≤ cell p) → (taken : List Hold) (r : Run) (t g : List ℕ)
+      → Up d (locksOf left p e buckets boot registry keys taken r t g grants .log)
   unfolding locksOf rollbackOf
   locks-up zero p h d under taken r t g = λ low l. tt
   locks-up (suc left) p h d under taken r t g =
@@ -199,8 +199,8 @@ module _ (e : Setting) (buckets : ℕ) (registry keys grants : List ℕ) (n : �
       (λ x. locks-up left (p + 1) (omega arith) (cell p) (λ b. omega (arith, rises p b)) (taken ++ (x ∷ [])) (k .0 .run) (k .1 .0) (k .1 .1)))
       low (omega (arith, l, under (omega arith)))
     where
-      go : (o : Outcome) (s : Run) (u w : List ℕ) → ((x : Lease) → Up (cell p) (locksOf left (p + 1) e buckets registry keys (taken ++ (x ∷ [])) s u w grants .log))
-          → Up (cell p) (afterKey o e taken p s u w grants (λ x. locksOf left (p + 1) e buckets registry keys (taken ++ (x ∷ [])) s u w grants) .log)
+      go : (o : Outcome) (s : Run) (u w : List ℕ) → ((x : Hold) → Up (cell p) (locksOf left (p + 1) e buckets boot registry keys (taken ++ (x ∷ [])) s u w grants .log))
+          → Up (cell p) (afterKey o e taken p s u w grants (λ x. locksOf left (p + 1) e buckets boot registry keys (taken ++ (x ∷ [])) s u w grants) .log)
       go (outcome.Granted x) s u w on = on x
       go (outcome.Busy why) s u w on = up-behind (cell p) _ [] (back-only (cell p) (length taken) e taken s u w) (λ low l. tt)
       go (outcome.Refused x) s u w on = up-behind (cell p) _ [] (back-only (cell p) (length taken) e taken s u w) (λ low l. tt)
@@ -222,7 +222,7 @@ climbs w registry script place held keys grants = go (goes w registry script pla
     go (refused-whole r) = tt
     go (refused-key r p c f) = tt
     go (locks c) =
-        locks-up (given (w .head) script (leasesOf held)) b registry (chosen-keys b registry keys) grants (length sorted) rises
+        locks-up (given (w .head) script (holdsOf held)) b (w .head .boot) registry (chosen-keys b registry keys) grants (length sorted) rises
         (length sorted) 0 (omega arith) 0 (λ l. omega arith) [] (starting (w .head) place) (w .table) (w .health) 0 (omega arith)
 
 pub takes-rise : Takes-rise perform

@@ -13,7 +13,7 @@ ghost use mathlib.Core.Path.{_≡_};
 ghost use mathlib.Core.List.{[], _∷_};
 ghost use Prim.Native.Nat.{_+_, _*_, _<_, _≤_};
 ghost use lib.ListN.{length, replicate};
-ghost use Rattle.model.specs.Arena.{leaseOf, bitAt, ownerAt, waitersAt, setCell};
+ghost use Rattle.model.specs.Arena.{holdOf, bitAt, ownerAt, waitersAt, setCell};
 ghost use Rattle.model.specs.Arena.{setWaiters, isFree, stateOf, stateAt, isLive};
 ghost use Rattle.model.specs.Refusals.{first};
 ghost use Rattle.model.specs.Checks.{badShape, badHealth};
@@ -112,10 +112,10 @@ pub fn state_at(next: u32, table: &[u32], cell: u32) -> State
     state_of(next, b, o)
 }
 
-// Whether a lease is live.
+// Whether a lease of the head's own boot number is live.
 pub fn is_live(next: u32, cells: u32, table: &[u32], cell: u32, serial: u32) -> bool
     requires { ⌜ 3 * cells ≤ length (now table) ⌝ }
-    ensures { λ r. ⌜ r ≡ isLive next cells (now (table .entry)) (leaseOf cell serial) ⌝ }
+    ensures { λ r. ⌜ r ≡ isLive next cells (now (table .entry)) (holdOf cell serial) ⌝ }
 {
     if cell < cells {
         let s = state_at(next, table, cell);
@@ -184,27 +184,31 @@ pub fn zero_bytes(bytes: &mut [u8])
     }
 }
 
-// Sets every table word and health byte to 0, whatever stood there. A head or a length that keeps no rule of the arena
-// is refused with 1: no lent word changes, and the head handed back is three zeros.
+// Sets every table word and health byte to 0, whatever stood there, and hands back a head with the boot number given
+// (any number is one). A head or a length that keeps no rule of the arena is refused with 1: no lent word changes, and
+// the head handed back is four zeros.
 pub fn prepare(
     headers: u32,
     buckets: u32,
     serial: u32,
+    boot: u32,
     table: &mut [u32],
     health: &mut [u8],
 ) -> Reply
     ensures { λ r. ⌜ (r, (now (table .exit), now (health .exit)))
-        ≡ prepareOf headers buckets serial (now (table .entry)) (now (health .entry)) .seen ⌝ }
+        ≡ prepareOf headers buckets serial boot (now (table .entry)) (now (health .entry)) .seen ⌝ }
 {
     let head = Head {
         headers,
         buckets,
         next: serial,
+        boot,
     };
     let none = Head {
         headers: 0,
         buckets: 0,
         next: 0,
+        boot: 0,
     };
     let check = arena_fault(head, table, health);
     match check {

@@ -39,10 +39,18 @@ pub fn prepare(
     headers: u32,
     buckets: u32,
     serial: u32,
+    boot: u32,
 ) -> Told {
     let t = desk.lent_words(headers, buckets, table);
     let g = desk.lent_bytes(headers, health);
-    let reply = arena::prepare(headers, buckets, serial, &mut table[..t], &mut health[..g]);
+    let reply = arena::prepare(
+        headers,
+        buckets,
+        serial,
+        boot,
+        &mut table[..t],
+        &mut health[..g],
+    );
     let before = desk.head;
     let head = head_after(before, reply);
     let counts = reply.counts;
@@ -54,16 +62,9 @@ pub fn prepare(
     }
 }
 
-// A call without a script, on the lent table.
-fn small_reply(
-    call: Small,
-    head: Head,
-    table: &mut [u32],
-    held: &[u32],
-    cell: u32,
-    serial: u32,
-) -> Reply {
-    let lease = Lease { cell, serial };
+// A call without a script, on the lent table. A call by cell takes the cell alone.
+fn small_reply(call: Small, head: Head, table: &mut [u32], held: &[u32], lease: Lease) -> Reply {
+    let cell = lease.cell;
     match call {
         Small::TryAcquire => lease::try_acquire(head, table, cell),
         Small::DropLease => lease::drop_lease(head, table, lease),
@@ -79,18 +80,11 @@ fn small_reply(
 }
 
 // A step of the console, no call of document 01: only its own crates call it.
-pub fn small_call(
-    desk: Desk,
-    call: Small,
-    table: &mut [u32],
-    lists: &[u32],
-    cell: u32,
-    serial: u32,
-) -> Told {
+pub fn small_call(desk: Desk, call: Small, table: &mut [u32], lists: &[u32], lease: Lease) -> Told {
     let head = desk.head;
     let t = desk.lent_words(head.headers, head.buckets, table);
     let held = part(lists, HELD, desk.held);
-    let reply = small_reply(call, head, &mut table[..t], held, cell, serial);
+    let reply = small_reply(call, head, &mut table[..t], held, lease);
     let after = reply.head;
     let counts = reply.counts;
     let answer = reply.answer;

@@ -15,7 +15,7 @@ ghost use Prim.Native.Nat.{_+_, _*_, _≤_, _<_};
 ghost use mathlib.Core.Bool.{true};
 ghost use lib.ListN.{length};
 ghost use lib.Seq.{sets};
-ghost use Rattle.model.specs.Arena.{headFits, shapeFits};
+ghost use Rattle.model.specs.Arena.{headFits, shapeFits, holdIn};
 ghost use Rattle.setpoint.specs.Codec.{hasBody};
 ghost use Rattle.slots.specs.Layout.{slotsOf, bytesFor, slotAt, isBlank, readingOf, readOf, lineOf, putOf};
 ghost use Rattle.slots.specs.Rules.{firstFault, isBadBook, isBadSlot, isHolder, versionIn};
@@ -219,10 +219,10 @@ fn put(n: usize, book: &mut [u8], slot: usize, s: Setpoint, version: u32)
 
 // ---- writing
 
-// Whether the lease is live and on the slot's cell.
+// Whether a lease of the head's own boot number is live and on the slot's cell.
 fn is_holder(head: Head, table: &[u32], slot: u32, lease: Lease) -> bool
     requires { ⌜ shapeFits head (length (now table)) ≡ true ⌝ }
-    ensures { λ r. ⌜ r ≡ isHolder head (now (table .entry)) slot lease ⌝ }
+    ensures { λ r. ⌜ r ≡ isHolder head (now (table .entry)) slot (holdIn lease) ⌝ }
 {
     let cell = lease.cell;
     if lease::is_live(head, table, cell, lease.serial) {
@@ -231,7 +231,7 @@ fn is_holder(head: Head, table: &[u32], slot: u32, lease: Lease) -> bool
     false
 }
 
-// The checks of a write on what it is given: 1, BadSlot, 12, NotFinite.
+// The checks of a write on what it is given: 1, BadSlot, 16, 12, NotFinite.
 fn claim_check(
     head: Head,
     table: &[u32],
@@ -245,6 +245,9 @@ fn claim_check(
     if head.shape_fits(table.len()) {
         if is_bad_slot(slots(head), size, slot as usize) {
             return BookCheck::Fault(BookRefusal::BadSlot);
+        }
+        if lease.boot != head.boot {
+            return BookCheck::Fault(BookRefusal::StaleBoot);
         }
         if is_holder(head, table, slot, lease) {
             if setpoint::has_body(setpoint) {
@@ -304,8 +307,9 @@ fn write_over(n: usize, book: &mut [u8], slot: usize, s: Setpoint) -> BookAnswer
     }
 }
 
-// Writes a setpoint to a slot by a live lease on its cell, and answers the new version. Refused it changes no byte. The
-// table is only read; the health is not taken.
+// Writes a setpoint to a slot by a live lease on its cell, and answers the new version. A lease with another boot
+// number than the head's is StaleBoot, before NotHeld. Refused it changes no byte. The table is only read; the health
+// is not taken.
 pub fn write_setpoint(
     head: Head,
     table: &[u32],

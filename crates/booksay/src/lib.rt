@@ -11,11 +11,12 @@ ghost use lib.ListN.{length};
 
 // ---- the line of a call
 
-// BadShape and NotHeld have document 01's numbers and carry 0; the others have a name alone.
+// BadShape, NotHeld and StaleBoot have their numbers and carry 0; the others have a name alone.
 fn refused(refusal: BookRefusal, out: &mut [u8], used: usize) -> usize {
     match refusal {
         BookRefusal::BadShape => put(out, used, b"refused 1 BadShape 0\n"),
         BookRefusal::BadSlot => put(out, used, b"refused BadSlot\n"),
+        BookRefusal::StaleBoot => put(out, used, b"refused 16 StaleBoot 0\n"),
         BookRefusal::NotHeld => put(out, used, b"refused 12 NotHeld 0\n"),
         BookRefusal::NotFinite => put(out, used, b"refused NotFinite\n"),
         BookRefusal::DamagedBook => put(out, used, b"refused DamagedBook\n"),

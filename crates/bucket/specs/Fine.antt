@@ -5,7 +5,7 @@ use mathlib.Core.List.{List, [], _∷_}
 use native.Mathlib.Omega.{arith}
 use lib.ListN.{getD, length}
 use borrow.Author.Tests.{leb-false}
-use Rattle.model.specs.Arena.{leasesOf}
+use Rattle.model.specs.Arena.{holdsOf}
 use Rattle.model.specs.Lock.{findOf, attemptAt, attemptOf, noneYet, retryOf, answerOf, settled}
 use Rattle.model.specs.Refusals.{Rule, first}
 use Rattle.model.specs.Checks.{badShape, badHealth, badRegistry, badScript, badHeld, badBinding, bucketRules}
@@ -89,25 +89,25 @@ fine-key s h words bytes registry script place binding n e f b m =
 -- what a call that has taken nothing gives its steps is what document 01 gives them
 module _ (s : Scope) (h : Head) (script held : List ℕ) (taken : List (List ℕ)) (registry : List ℕ) (binding bucket : ℕ) (r : Run) (t g : List ℕ) (e : s ≡ scopeOf h (length script)) where
   pub once-given : (k : Found) → k ≡ findOf (s .headers) (s .buckets) g (getD registry binding 0 ∷ []) 0 bucket
-      → attemptAt k (settingOf s script held taken 0) (s .buckets) r t g .seen ≡ attemptOf (given h script (leasesOf held)) (h .buckets) registry binding bucket r t g .seen
+      → attemptAt k (settingOf s script held taken 0) (s .buckets) r t g .seen ≡ attemptOf (given h script (holdsOf held)) (h .buckets) registry binding bucket r t g .seen
   unfolding attemptOf findOf
   once-given k f =
       rw (f, scope-none s h script held taken e)
-      (ap (λ (x : Scope). attemptAt (findOf (x .headers) (x .buckets) g registry binding bucket) (given h script (leasesOf held)) (x .buckets) r t g .seen) e)
+      (ap (λ (x : Scope). attemptAt (findOf (x .headers) (x .buckets) g registry binding bucket) (given h script (holdsOf held)) (x .buckets) r t g .seen) e)
 
   pub retry-given : (left i : ℕ) (last : Reason)
-      → retryOf left i last (settingOf s script held taken 0) (s .buckets) registry binding bucket r t g .seen ≡ retryOf left i last (given h script (leasesOf held)) (h .buckets) registry binding bucket r t g .seen
+      → retryOf left i last (settingOf s script held taken 0) (s .buckets) registry binding bucket r t g .seen ≡ retryOf left i last (given h script (holdsOf held)) (h .buckets) registry binding bucket r t g .seen
   retry-given left i last =
       rw (scope-none s h script held taken e)
-      (ap (λ (x : Scope). retryOf left i last (given h script (leasesOf held)) (x .buckets) registry binding bucket r t g .seen) e)
+      (ap (λ (x : Scope). retryOf left i last (given h script (holdsOf held)) (x .buckets) registry binding bucket r t g .seen) e)
 
 -- the steps of the two calls, once their checks are fine
 unfoldable pub onceByKeyOf : Head → List ℕ → List ℕ → List ℕ → List ℕ → ℕ → List ℕ → ℕ → ℕ → Played × (List ℕ × List ℕ)
 onceByKeyOf h t g registry script place held binding bucket =
-    let o = attemptOf (given h script (leasesOf held)) (h .buckets) registry binding bucket (starting h place) t g .seen in
-    (played h (o .0 .run) (answerOf (o .0 .outcome)), o .1)
+    let o = attemptOf (given h script (holdsOf held)) (h .buckets) registry binding bucket (starting h place) t g .seen in
+    (played h (o .0 .run) (answerOf (h .boot) (o .0 .outcome)), o .1)
 
 unfoldable pub retryByKeyOf : Head → List ℕ → List ℕ → List ℕ → List ℕ → ℕ → List ℕ → ℕ → ℕ → Played × (List ℕ × List ℕ)
 retryByKeyOf h t g registry script place held binding bucket =
-    let o = retryOf 4096 0 noneYet (given h script (leasesOf held)) (h .buckets) registry binding bucket (starting h place) t g .seen in
-    (played h (o .0 .run) (answerOf (settled (o .0 .outcome))), o .1)
+    let o = retryOf 4096 0 noneYet (given h script (holdsOf held)) (h .buckets) registry binding bucket (starting h place) t g .seen in
+    (played h (o .0 .run) (answerOf (h .boot) (settled (o .0 .outcome))), o .1)

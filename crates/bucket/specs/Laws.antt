@@ -15,7 +15,7 @@ use Rattle.model.specs.Lock.{takeOf, lockOf, runOf, triedOf, findOf, attemptAt,
 use Rattle.types.specs.declared.Flow.{Flow}
 use Rattle.types.specs.declared.Found.{Found}
 use Rattle.types.specs.declared.Found.the-variants as found
-use Rattle.types.specs.declared.Lease.{Lease}
+use Rattle.types.specs.declared.Hold.{Hold}
 use Rattle.types.specs.declared.Locked.{Locked}
 use Rattle.types.specs.declared.Outcome.{Outcome}
 use Rattle.types.specs.declared.Outcome.the-variants as outcome
@@ -85,7 +85,7 @@ module _ (e : Setting) where
       (more-run-bound _ (most + 1) (most + 2) _ (omega arith) (spin-run-bound most r t g b))
 
 -- as a caller has it: steps, and a promise
-module _ (headers cells steps : ℕ) (script : List ℕ) (ps : List Lease) (n : steps ≡ length script / 3) where
+module _ (headers cells steps : ℕ) (script : List ℕ) (ps : List Hold) (n : steps ≡ length script / 3) where
   pub attempt-goes : (o : Trial × (List ℕ × List ℕ)) (k : Found) (buckets most : ℕ) (r : Run) (t g : List ℕ)
       → o ≡ trialOf (attemptAt k (setting headers cells script ps) buckets r t g .seen) → RunBound steps most r → RunBound steps (most + 3) (o .0 .run)
   unfolding trialOf asideOf
@@ -158,7 +158,7 @@ turn-run-bound e i buckets registry binding bucket most r t g b =
     (more-run-bound _ (most + 3 + 2) (most + 5) _ (omega arith) (pause-run-bound e i (most + 3) (o .0 .run) (o .1 .0) (o .1 .1) c))
     (more-run-bound _ (most + 3) (most + 5) _ (omega arith) c)
 
-pub turn-goes : (headers cells steps : ℕ) (script : List ℕ) (ps : List Lease) → steps ≡ length script / 3
+pub turn-goes : (headers cells steps : ℕ) (script : List ℕ) (ps : List Hold) → steps ≡ length script / 3
     → (o : Trial × (List ℕ × List ℕ)) (i buckets : ℕ) (registry : List ℕ) (binding bucket most : ℕ) (r : Run) (t g : List ℕ)
     → o ≡ againOf i (setting headers cells script ps) buckets registry binding bucket r t g → RunBound steps most r → RunBound steps (most + 5) (o .0 .run)
 turn-goes headers cells steps script ps n o i buckets registry binding bucket most r t g q b =

@@ -100,7 +100,7 @@ fn once_by_key(
     let tried = attempt_once(scope, start, table, health, script, held, &taken, 0, found);
     let run = tried.run;
     let outcome = tried.outcome;
-    foreign::play(head, run, lease::answer_of(outcome))
+    foreign::play(head, run, lease::answer_of(head.boot, outcome))
 }
 
 // All attempts of a call whose checks are fine.
@@ -139,7 +139,7 @@ fn retry_by_key(
     let run = tried.run;
     let outcome = tried.outcome;
     let last = settle(outcome);
-    foreign::play(head, run, lease::answer_of(last))
+    foreign::play(head, run, lease::answer_of(head.boot, last))
 }
 
 // One attempt by key: the header from the registry (6 if there is none), its health (7 if poisoned), the bucket (8 if

@@ -19,15 +19,15 @@ use Rattle.builds.specs.Wrong.{sevens-unfinished, first-only, moves-one}
 pub sevens-falls : Tells sevens-unfinished → ⊥
 unfolding bitAt ownerAt waitersAt setCell isFree isHeld stateOf stateAt headFits shapeFits healthFits first runStepsOf boundaryOf takeOf lateOf secondOf lockOf total startOf allWithin risesFrom badLists badTurns crewRules tryTurnOf heldAllOf releaseTurnOf turnOf turnsOf takenOf releasedOf shiftOf crewOf own-log number-of
 sevens-falls h =
-    let e : _≡_ {A = ℕ} 7 0 = h (headOf 2 4 1) (replicate 24 0) (replicate 2 0) (2 ∷ 2 ∷ []) (2 ∷ 5 ∷ 2 ∷ 5 ∷ []) [] refl .taken 0 (omega arith) in
+    let e : _≡_ {A = ℕ} 7 0 = h (headOf 2 4 1 6) (replicate 24 0) (replicate 2 0) (2 ∷ 2 ∷ []) (2 ∷ 5 ∷ 2 ∷ 5 ∷ []) [] refl .taken 0 (omega arith) in
     omega arith
 
 -- "a crew that moves one member falls to demand 3": eight rounds that name both members, and the second has taken nothing
-named : (n : ℕ) (before : List ℕ) → Rounds-after moves-one (headOf 2 4 1) (replicate 24 0) (replicate 2 0) (2 ∷ 2 ∷ []) (2 ∷ 5 ∷ 2 ∷ 5 ∷ []) before (replicate n (0 ∷ 1 ∷ []))
+named : (n : ℕ) (before : List ℕ) → Rounds-after moves-one (headOf 2 4 1 6) (replicate 24 0) (replicate 2 0) (2 ∷ 2 ∷ []) (2 ∷ 5 ∷ 2 ∷ 5 ∷ []) before (replicate n (0 ∷ 1 ∷ []))
 named zero before = tt
 named (suc n) before = (everyone, named n (before ++ (0 ∷ 1 ∷ [])))
   where
-    everyone : (m : ℕ) → Unfinished-told (λ turns. moves-one (headOf 2 4 1) (replicate 24 0) (replicate 2 0) (2 ∷ 2 ∷ []) (2 ∷ 5 ∷ 2 ∷ 5 ∷ []) turns .seen .0) (2 ∷ 2 ∷ []) before m → In m (0 ∷ 1 ∷ [])
+    everyone : (m : ℕ) → Unfinished-told (λ turns. moves-one (headOf 2 4 1 6) (replicate 24 0) (replicate 2 0) (2 ∷ 2 ∷ []) (2 ∷ 5 ∷ 2 ∷ 5 ∷ []) turns .seen .0) (2 ∷ 2 ∷ []) before m → In m (0 ∷ 1 ∷ [])
     everyone zero u = inl refl
     everyone (suc zero) u = inr (inl refl)
     everyone (suc (suc m)) u = absurd (omega (arith, u .0))
@@ -36,5 +36,5 @@ pub moves-one-falls : Demand-3 moves-one → ⊥
 unfolding bitAt ownerAt waitersAt setCell isFree isHeld stateOf stateAt headFits shapeFits healthFits first runStepsOf boundaryOf takeOf lateOf secondOf lockOf total startOf allWithin risesFrom badLists badTurns crewRules tryTurnOf heldAllOf releaseTurnOf turnOf turnsOf takenOf releasedOf shiftOf crewOf first-only
 moves-one-falls h =
     let rounds : List (List ℕ) = replicate 8 (0 ∷ 1 ∷ []) in
-    let e : _≡_ {A = ℕ} 0 2 = h (headOf 2 4 1) (replicate 24 0) (replicate 2 0) (2 ∷ 2 ∷ []) (2 ∷ 5 ∷ 2 ∷ 5 ∷ []) rounds (opened (flat rounds) refl) (named 8 []) (omega arith) .taken 1 (omega arith) in
+    let e : _≡_ {A = ℕ} 0 2 = h (headOf 2 4 1 6) (replicate 24 0) (replicate 2 0) (2 ∷ 2 ∷ []) (2 ∷ 5 ∷ 2 ∷ 5 ∷ []) rounds (opened (flat rounds) refl) (named 8 []) (omega arith) .taken 1 (omega arith) in
     omega arith

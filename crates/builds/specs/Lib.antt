@@ -2,4 +2,5 @@ pub mod Wrong
 pub mod Falls
 pub mod Reasons
 pub mod Orders
+pub mod Boots
 pub mod Crews

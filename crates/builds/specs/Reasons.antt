@@ -7,7 +7,7 @@ use native.Mathlib.Decide.{decLt}
 use native.Mathlib.Omega.{arith}
 use lib.ListN.{replicate}
 use Rattle.model.specs.Log.{Made}
-use Rattle.model.specs.Arena.{headOf, leasesOf, bitAt, ownerAt, waitersAt, setCell, setWaiters, isFree, isHeld, stateOf, stateAt, headFits, shapeFits, healthFits, registryFits}
+use Rattle.model.specs.Arena.{headOf, leasesOf, holdsOf, bitAt, ownerAt, waitersAt, setCell, setWaiters, isFree, isHeld, stateOf, stateAt, headFits, shapeFits, healthFits, registryFits}
 use Rattle.model.specs.Refusals.{first}
 use Rattle.model.specs.Foreign.{stepWaitersOf, stepOf, runStepsOf, boundaryOf}
 use Rattle.model.specs.Lock.{noneYet, takeOf, lateOf, secondOf, lockOf, findOf, attemptOf}
@@ -32,10 +32,10 @@ use Rattle.builds.specs.Falls.{registry, held}
 -- ---- before and after exchanged: waiters of cell 2 stay 1
 
 abbrev waited : World
-waited = worldOf (headOf 2 4 1) (setWaiters (replicate 24 0) 2 1) (replicate 2 0)
+waited = worldOf (headOf 2 4 1 5) (setWaiters (replicate 24 0) 2 1) (replicate 2 0)
 
 pub exchanges-reasons-falls : Try-lock-exactly exchanges-reasons → ⊥
-unfolding perform bitAt ownerAt waitersAt setWaiters isFree isHeld stateOf stateAt leasesOf headFits shapeFits healthFits first runStepsOf boundaryOf takeOf lateOf secondOf lockOf notLive scriptRules lockRules tryLockOf
+unfolding perform bitAt ownerAt waitersAt setWaiters isFree isHeld stateOf stateAt leasesOf holdsOf headFits shapeFits healthFits first runStepsOf boundaryOf takeOf lateOf secondOf lockOf notLive scriptRules lockRules tryLockOf
 exchanges-reasons-falls h =
     let e : Busy (reason.After 1) ≡ Busy reason.Before = h waited [] 0 [] 2 (passes waited (try-lock [] 0 [] 2) refl) (omega arith) .0 .waited .1 (λ q. omega (arith, q)) in
     let z : _≡_ {A = ℕ} 0 1 = cc in
@@ -54,7 +54,7 @@ names-next-falls h =
 -- its waiters to 0. So the first attempt says before, and all others held
 
 abbrev both : World
-both = worldOf (headOf 2 4 2) (setWaiters (setCell (replicate 24 0) 2 1 1) 2 1) (replicate 2 0)
+both = worldOf (headOf 2 4 2 5) (setWaiters (setCell (replicate 24 0) 2 1 1) 2 1) (replicate 2 0)
 
 abbrev script : List ℕ
 script = 5 ∷ 0 ∷ 0 ∷ 3 ∷ 2 ∷ 0 ∷ []
@@ -70,19 +70,19 @@ asking = acquire-bucket registry script 0 [] 0 2
 
 -- the first attempt, its spin; and the same in the world behind them, which they leave as it is
 first-try : trying both 0 .seen ≡ (both, says (Busy reason.Before) (countsOf 1 1 0 0) 1 [])
-unfolding perform bitAt ownerAt waitersAt setCell setWaiters isFree isHeld stateOf stateAt leasesOf headFits shapeFits healthFits registryFits first stepWaitersOf stepOf runStepsOf boundaryOf takeOf lateOf secondOf lockOf findOf attemptOf notLive scriptRules bucketRules transactionalOf
+unfolding perform bitAt ownerAt waitersAt setCell setWaiters isFree isHeld stateOf stateAt leasesOf holdsOf headFits shapeFits healthFits registryFits first stepWaitersOf stepOf runStepsOf boundaryOf takeOf lateOf secondOf lockOf findOf attemptOf notLive scriptRules bucketRules transactionalOf
 first-try = refl
 
 first-rest : resting both 1 .seen ≡ (held, says Done (countsOf 0 1 0 0) 2 [])
-unfolding perform bitAt ownerAt waitersAt setCell setWaiters leasesOf headFits shapeFits healthFits first stepWaitersOf stepOf runStepsOf boundaryOf notLive scriptRules environmentOf
+unfolding perform bitAt ownerAt waitersAt setCell setWaiters leasesOf holdsOf headFits shapeFits healthFits first stepWaitersOf stepOf runStepsOf boundaryOf notLive scriptRules environmentOf
 first-rest = refl
 
 next-try : trying held 2 .seen ≡ (held, says (Busy (reason.Held 1)) (countsOf 1 2 0 0) 2 [])
-unfolding perform bitAt ownerAt waitersAt setCell setWaiters isFree isHeld stateOf stateAt leasesOf headFits shapeFits healthFits registryFits first stepWaitersOf stepOf runStepsOf boundaryOf takeOf lateOf secondOf lockOf findOf attemptOf notLive scriptRules bucketRules transactionalOf
+unfolding perform bitAt ownerAt waitersAt setCell setWaiters isFree isHeld stateOf stateAt leasesOf holdsOf headFits shapeFits healthFits registryFits first stepWaitersOf stepOf runStepsOf boundaryOf takeOf lateOf secondOf lockOf findOf attemptOf notLive scriptRules bucketRules transactionalOf
 next-try = refl
 
 next-rest : resting held 2 .seen ≡ (held, says Done (countsOf 0 1 0 0) 2 [])
-unfolding perform bitAt ownerAt waitersAt setCell setWaiters leasesOf headFits shapeFits healthFits first stepWaitersOf stepOf runStepsOf boundaryOf notLive scriptRules environmentOf
+unfolding perform bitAt ownerAt waitersAt setCell setWaiters leasesOf holdsOf headFits shapeFits healthFits first stepWaitersOf stepOf runStepsOf boundaryOf notLive scriptRules environmentOf
 next-rest = refl
 
 -- where attempts and boundaries are: at the start, and behind the first spin
@@ -157,7 +157,7 @@ all-end z k (then-more this b x rest) = others-end (first-pause z (then-at tryin
 -- ---- ours answers held, so the wrong build says before
 
 asks : Passes both asking
-unfolding bitAt ownerAt setCell setWaiters leasesOf headFits shapeFits healthFits registryFits first notLive bucketRules
+unfolding bitAt ownerAt setCell setWaiters leasesOf holdsOf headFits shapeFits healthFits registryFits first notLive bucketRules
 asks = passes both asking refl
 
 ours-says : answer-in (perform both asking) ≡ Refused (SerializationFailure (reason.Held 1))

@@ -1,6 +1,6 @@
 -- Wrong builds: answering functions of the calls' own types, each wrong in one thing. "Slips to be ruled out" and "Idle builds the promises must
--- reject" of document 01, slips that document 02, L1, L3 and L4, invite, and six slips of definitions that an earlier set of
--- theorems let pass. `Falls`, `Reasons`, `Orders` and `Crews` prove which theorem each fails. Where nothing else is said a build does as ours does.
+-- reject" of document 01, slips that document 02, L1, L3, L4 and L8, invite, and six slips of definitions that an earlier set of
+-- theorems let pass. `Falls`, `Reasons`, `Orders`, `Boots` and `Crews` prove which theorem each fails. Where nothing else is said a build does as ours does.
 use Prim.Native.Nat.{ℕ, zero, suc, _+_, _-_, _%_}
 use mathlib.Core.List.{List, [], _∷_, _++_}
 use mathlib.Core.Bool.{_||_}
@@ -8,7 +8,7 @@ use lib.Dec.{leb, eqb}
 use lib.ListN.{length, getD, replicate}
 use Rattle.choice.specs.Choice.{if_then_else_}
 use Rattle.model.specs.Log.{Made, Event, by-caller, by-script, attempt-begun, boundary-run, yielded, spun, step-dropped, took, released, waiters-set, health-set, held-all, added, gives, note, _>>=_, _>>_}
-use Rattle.model.specs.Arena.{spentTo, leaseOf, leasesOf, ownerAt, setCell}
+use Rattle.model.specs.Arena.{headOf, spentTo, leaseOf, holdsOf, ownerAt, setCell}
 use Rattle.model.specs.Refusals.{numberOf}
 use Rattle.model.specs.Answers.{refusalIn}
 use Rattle.model.specs.Foreign.{Setting, boundaryOf}
@@ -20,6 +20,7 @@ use Rattle.types.specs.declared.Answer.{Answer}
 use Rattle.types.specs.declared.Answer.the-variants.{Done, Cell, Granted, AllGranted, Busy, Refused, RefusedAt}
 use Rattle.types.specs.declared.Counts.{Counts}
 use Rattle.types.specs.declared.CrewReply.{CrewReply}
+use Rattle.types.specs.declared.Hold.{Hold}
 use Rattle.types.specs.declared.Lease.{Lease}
 use Rattle.types.specs.declared.Outcome.the-variants as outcome
 use Rattle.types.specs.declared.Reason.{Reason}
@@ -29,7 +30,7 @@ use Rattle.types.specs.declared.Refusal.the-variants as refusal
 use Rattle.types.specs.declared.Run.{Run}
 use Rattle.types.specs.declared.Tried.{Tried}
 use Rattle.history.specs.World.{World, worldOf, now, caller-releases}
-use Rattle.history.specs.Items.{try-acquire, drop-lease, read-permission, competing-acquire, release-then-handoff, foreign-release, drop-preserving, acquire-preserving, environment, try-lock, transactional, acquire-bucket, release-all, acquire-locks, acquire-sorted, crew, crew-at-work, asked, cellOf, place-of, Says, says, perform, foreign, Build, Stepper}
+use Rattle.history.specs.Items.{Call, try-acquire, drop-lease, read-permission, competing-acquire, release-then-handoff, foreign-release, drop-preserving, acquire-preserving, environment, try-lock, transactional, acquire-bucket, release-all, acquire-locks, acquire-sorted, crew, crew-at-work, asked, cellOf, place-of, Says, says, perform, foreign, Build, Stepper}
 use Rattle.history.specs.Statements.{Crew-build, answer-in}
 
 -- ---- the same with another answer, and the like
@@ -58,25 +59,25 @@ always-busy w k = record { seen = (w, says (Busy reason.Before) (countsOf 1 0 0 
 
 -- "One grant for all"
 abbrev pub one-for-all : Build
-one-for-all w k = record { seen = (w, says (Granted (leaseOf 0 1)) (countsOf 0 0 0 0) (place-of k) []); log = [] }
+one-for-all w k = record { seen = (w, says (Granted (leaseOf 0 1 (w .head .boot))) (countsOf 0 0 0 0) (place-of k) []); log = [] }
 
 -- "One that writes nothing"
 abbrev pub writes-nothing : Build
 writes-nothing w k = leaving w (perform w k)
 
 -- "One that takes the first key and feigns the rest": made-up leases on the other keys' cells
-unfoldable pub feigned : (buckets : ℕ) (registry : List ℕ) (serial : ℕ) (keys : List ℕ) → List ℕ
-feigned buckets registry s [] = []
-feigned buckets registry s (b ∷ []) = []
-feigned buckets registry s (b ∷ k ∷ keys) = cellOf buckets registry b k ∷ s ∷ feigned buckets registry (s + 1) keys
+unfoldable pub feigned : (buckets boot : ℕ) (registry : List ℕ) (serial : ℕ) (keys : List ℕ) → List ℕ
+feigned buckets boot registry s [] = []
+feigned buckets boot registry s (b ∷ []) = []
+feigned buckets boot registry s (b ∷ k ∷ keys) = cellOf buckets registry b k ∷ s ∷ boot ∷ feigned buckets boot registry (s + 1) keys
 
 abbrev pub first-key-only : World → (registry script : List ℕ) (place : ℕ) (held keys grants : List ℕ) → Made (World × Says)
 first-key-only w registry script place held [] grants = perform w (acquire-locks registry script place held [] grants)
 first-key-only w registry script place held (b ∷ []) grants = perform w (acquire-locks registry script place held (b ∷ []) grants)
 first-key-only w registry script place held (b ∷ k ∷ keys) grants =
-    let m = perform w (acquire-locks registry script place held (b ∷ k ∷ []) (0 ∷ 0 ∷ [])) in
+    let m = perform w (acquire-locks registry script place held (b ∷ k ∷ []) (0 ∷ 0 ∷ 0 ∷ [])) in
     let s = m .seen .1 in
-    record { seen = (m .seen .0, says (s .answer) (s .counts) (s .place) (s .grants ++ feigned (w .head .buckets) registry (m .seen .0 .head .next) keys)); log = m .log }
+    record { seen = (m .seen .0, says (s .answer) (s .counts) (s .place) (s .grants ++ feigned (w .head .buckets) (w .head .boot) registry (m .seen .0 .head .next) keys)); log = m .log }
 
 -- "Counts made up"
 abbrev pub counts-made-up : Build
@@ -88,7 +89,7 @@ counts-made-up w k = counting (countsOf 7 7 7 7) (perform w k)
 abbrev pub one-fewer : World → World
 one-fewer w = worldOf (spentTo (w .head) (w .head .next - 1)) (w .table) (w .health)
 
-abbrev pub if-late : Answer → List Lease → World → World
+abbrev pub if-late : Answer → List Hold → World → World
 if-late (Busy why) (l ∷ ls) w = one-fewer w
 if-late (Busy why) [] w = w
 if-late Done ls w = w
@@ -149,10 +150,10 @@ retryAt remainder (suc left) i last e buckets registry binding bucket r t g = do
 
 abbrev pub retries-at : ℕ → World → (registry script : List ℕ) (place : ℕ) (held : List ℕ) (binding bucket : ℕ) → Made (World × Says)
 retries-at remainder w registry script place held binding bucket = do
-  (k, (t, g)) ← retryAt remainder attemptLimit 0 noneYet (given (w .head) script (leasesOf held)) (w .head .buckets) registry binding bucket (starting (w .head) place) (w .table) (w .health)
+  (k, (t, g)) ← retryAt remainder attemptLimit 0 noneYet (given (w .head) script (holdsOf held)) (w .head .buckets) registry binding bucket (starting (w .head) place) (w .table) (w .health)
   gives (
     worldOf (spentTo (w .head) (k .run .flow .next)) t g,
-    says (answerOf (settled (k .outcome))) (countsOf (k .run .attempts) (k .run .boundaries) (k .run .yields) (k .run .flow .dropped)) (k .run .flow .place) [],
+    says (answerOf (w .head .boot) (settled (k .outcome))) (countsOf (k .run .attempts) (k .run .boundaries) (k .run .yields) (k .run .flow .dropped)) (k .run .flow .place) [],
   )
 
 -- ---- by kind of call: one of them done otherwise
@@ -234,7 +235,7 @@ own-leases =
     others our-drop our-key our-once our-locks λ w registry script place held keys grants.
     let m = our-sorted w registry script place held keys grants in
     let s = m .seen .1 in
-    let own = feigned (w .head .buckets) registry (w .head .next) keys in
+    let own = feigned (w .head .buckets) (w .head .boot) registry (w .head .next) keys in
     record { seen = (m .seen .0, says (s .answer) (s .counts) (s .place) (if-granted (s .answer) own (s .grants))); log = m .log }
 
 -- a later refusal, not with 6 or 8, with the cell's place in the sorted list, in place of the caller's position
@@ -256,7 +257,7 @@ sorted-position =
 -- ---- document 02, L3: "A header went bad before the grant, and the governor wrote into it."
 
 -- what is done otherwise where a call answers 7 after a take: `f` of the lease that it releases first
-abbrev pub at-seven : (Lease → Made (World × Says)) → List Lease → Made (World × Says) → Made (World × Says)
+abbrev pub at-seven : (Hold → Made (World × Says)) → List Hold → Made (World × Says) → Made (World × Says)
 at-seven f [] m = m
 at-seven f (l ∷ ls) m = if eqb (refusalIn (m .seen .1 .answer)) 7 then f l else m
 
@@ -265,7 +266,7 @@ abbrev pub reads-once : Build
 reads-once w k =
     let m = perform w k in
     let s = m .seen .1 in
-    at-seven (λ l. record { seen = (now w (skipping (m .log)), says (Granted l) (s .counts) (s .place) (s .grants)); log = skipping (m .log) }) (caller-releases (m .log)) m
+    at-seven (λ l. record { seen = (now w (skipping (m .log)), says (Granted (leaseOf (l .cell) (l .serial) (w .head .boot))) (s .counts) (s .place) (s .grants)); log = skipping (m .log) }) (caller-releases (m .log)) m
 
 -- "refuse with 7", and the lease is not released
 abbrev pub keeps-at-seven : Build
@@ -296,6 +297,7 @@ instead-of-failed f (refusal.NotHeld i) = refusal.NotHeld i
 instead-of-failed f refusal.Protected = refusal.Protected
 instead-of-failed f (refusal.Repeated i) = refusal.Repeated i
 instead-of-failed f (refusal.BadCrew i) = refusal.BadCrew i
+instead-of-failed f (refusal.StaleBoot i) = refusal.StaleBoot i
 
 -- another reason, of Busy and of 11
 abbrev pub reworded : (Reason → Reason) → Answer → Answer
@@ -341,6 +343,77 @@ first-reason =
     (λ w registry script place held binding bucket. answering (λ s. reworded (busy-by (answer-in (our-once w registry script place held binding bucket))) (s .answer)) (our-key w registry script place held binding bucket))
     our-once our-locks our-sorted
 
+-- ---- document 02, L8: "A lease with another boot number is refused", and a grant has the head's
+
+-- the leases in a list of words, all with this boot number
+unfoldable pub rebooted : ℕ → List ℕ → List ℕ
+rebooted boot [] = []
+rebooted boot (c ∷ []) = c ∷ []
+rebooted boot (c ∷ s ∷ []) = c ∷ s ∷ []
+rebooted boot (c ∷ s ∷ b ∷ ws) = c ∷ s ∷ boot ∷ rebooted boot ws
+
+abbrev pub with-boot : ℕ → Lease → Lease
+with-boot boot l = leaseOf (l .cell) (l .serial) boot
+
+-- a lease is tested by its cell and serial alone: whatever boot number it has, it is taken for one of this boot
+abbrev pub ignoring-boot : ℕ → Call → Call
+ignoring-boot b (try-acquire c) = try-acquire c
+ignoring-boot b (drop-lease l) = drop-lease (with-boot b l)
+ignoring-boot b (read-permission l) = read-permission (with-boot b l)
+ignoring-boot b (competing-acquire l) = competing-acquire (with-boot b l)
+ignoring-boot b (release-then-handoff l) = release-then-handoff (with-boot b l)
+ignoring-boot b (foreign-release held l) = foreign-release (rebooted b held) (with-boot b l)
+ignoring-boot b (drop-preserving held l) = drop-preserving (rebooted b held) (with-boot b l)
+ignoring-boot b (acquire-preserving held c) = acquire-preserving (rebooted b held) c
+ignoring-boot b (environment script place held) = environment script place (rebooted b held)
+ignoring-boot b (try-lock script place held c) = try-lock script place (rebooted b held) c
+ignoring-boot b (transactional registry script place held binding bucket) = transactional registry script place (rebooted b held) binding bucket
+ignoring-boot b (acquire-bucket registry script place held binding bucket) = acquire-bucket registry script place (rebooted b held) binding bucket
+ignoring-boot b (release-all script place leases) = release-all script place (rebooted b leases)
+ignoring-boot b (acquire-locks registry script place held keys grants) = acquire-locks registry script place (rebooted b held) keys grants
+ignoring-boot b (acquire-sorted registry script place held keys grants) = acquire-sorted registry script place (rebooted b held) keys grants
+ignoring-boot b (crew counts cells turns) = crew counts cells turns
+ignoring-boot b (crew-at-work counts cells turns counters) = crew-at-work counts cells turns counters
+
+abbrev pub ignores-boot : Build
+ignores-boot w k = perform w (ignoring-boot (w .head .boot) k)
+
+-- it refuses such a lease, but as one that is not live
+abbrev pub as-not-held : Answer → Answer
+as-not-held Done = Done
+as-not-held (Cell c) = Cell c
+as-not-held (Granted l) = Granted l
+as-not-held AllGranted = AllGranted
+as-not-held (Busy why) = Busy why
+as-not-held (Refused r) = if eqb (numberOf r) 16 then Refused (refusal.NotHeld 0) else Refused r
+as-not-held (RefusedAt r p) = RefusedAt r p
+
+abbrev pub twelve-for-sixteen : Build
+twelve-for-sixteen w k = answering (λ s. as-not-held (s .answer)) (perform w k)
+
+-- grants with boot number 0, and so in the buffer
+abbrev pub without-boot : Answer → Answer
+without-boot Done = Done
+without-boot (Cell c) = Cell c
+without-boot (Granted l) = Granted (with-boot 0 l)
+without-boot AllGranted = AllGranted
+without-boot (Busy why) = Busy why
+without-boot (Refused r) = Refused r
+without-boot (RefusedAt r p) = RefusedAt r p
+
+abbrev pub boot-zero : Build
+boot-zero w k =
+    let m = perform w k in
+    let s = m .seen .1 in
+    record { seen = (m .seen .0, says (without-boot (s .answer)) (s .counts) (s .place) (if-granted (s .answer) (rebooted 0 (s .grants)) (s .grants))); log = m .log }
+
+-- the head that a call hands back has boot number 0
+abbrev pub loses-boot : Build
+loses-boot w k =
+    let m = perform w k in
+    let v = m .seen .0 in
+    leaving (worldOf (headOf (v .head .headers) (v .head .buckets) (v .head .next) 0) (v .table) (v .health)) m
+
 -- ---- six slips of definitions that no theorem caught once
 
 -- a `try_lock` of a held cell answers Granted with the present owner's lease
@@ -354,7 +427,7 @@ granting l (Refused r) = Refused r
 granting l (RefusedAt r p) = RefusedAt r p
 
 abbrev pub owners-lease : Build
-owners-lease w k = answering (λ s. granting (leaseOf (asked w k) (ownerAt (w .table) (asked w k))) (s .answer)) (perform w k)
+owners-lease w k = answering (λ s. granting (leaseOf (asked w k) (ownerAt (w .table) (asked w k)) (w .head .boot)) (s .answer)) (perform w k)
 
 -- `acquire_index_bucket` answers 10 in place of 11
 abbrev pub ten : Answer → Answer

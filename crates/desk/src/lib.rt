@@ -170,6 +170,7 @@ pub fn first_desk() -> Desk {
             headers: 0,
             buckets: 0,
             next: 0,
+            boot: 0,
         },
         place: 0,
         echo: false,

@@ -9,7 +9,7 @@ use native.Mathlib.Omega.{arith}
 use lib.Dec.{eqb}
 use borrow.Author.Tests.{eqb-true, eqb-false}
 use Rattle.model.specs.Log.{Made, yielded, note, _>>=_, _>>_, spun}
-use Rattle.model.specs.Arena.{leasesOf}
+use Rattle.model.specs.Arena.{holdsOf}
 use Rattle.model.specs.Foreign.{Setting, flowOf, boundaryOf}
 use Rattle.model.specs.Lock.{answerOf, settled, runOf, triedOf, attemptOf, spinOf, pauseOf, isBusy, lastOf, retryOf, attemptLimit, noneYet}
 use Rattle.model.specs.Checks.{bucketRules}
@@ -65,17 +65,17 @@ done-with h m = record { seen = (of-run h (m .seen), says Done (counted (m .seen
 
 abbrev pub at-last : Head → Made (With Tried) → Made (World × Says)
 at-last h m =
-    record { seen = (of-tried h (m .seen), says (answerOf (settled (m .seen .0 .outcome))) (counted (m .seen .0 .run)) (m .seen .0 .run .flow .place) []); log = m .log }
+    record { seen = (of-tried h (m .seen), says (answerOf (h .boot) (settled (m .seen .0 .outcome))) (counted (m .seen .0 .run)) (m .seen .0 .run .flow .place) []); log = m .log }
 
-busy-is : (last : Reason) (o : Outcome) → isBusy o ≡ true → answerOf o ≡ Busy (lastOf last o)
-busy-is last (outcome.Granted l) e = absurd (differ e)
-busy-is last (outcome.Busy why) e = refl
-busy-is last (outcome.Refused r) e = absurd (differ e)
+busy-is : (boot : ℕ) (last : Reason) (o : Outcome) → isBusy o ≡ true → answerOf boot o ≡ Busy (lastOf last o)
+busy-is boot last (outcome.Granted l) e = absurd (differ e)
+busy-is boot last (outcome.Busy why) e = refl
+busy-is boot last (outcome.Refused r) e = absurd (differ e)
 
-not-busy : (o : Outcome) → isBusy o ≡ false → (other : Reason) → answerOf o ≡ Busy other → ⊥
-not-busy (outcome.Granted l) e other q = let z : _≡_ {A = ℕ} 0 1 = cc in omega arith
-not-busy (outcome.Busy why) e other q = differ (sym e)
-not-busy (outcome.Refused r) e other q = let z : _≡_ {A = ℕ} 0 1 = cc in omega arith
+not-busy : (boot : ℕ) (o : Outcome) → isBusy o ≡ false → (other : Reason) → answerOf boot o ≡ Busy other → ⊥
+not-busy boot (outcome.Granted l) e other q = let z : _≡_ {A = ℕ} 0 1 = cc in omega arith
+not-busy boot (outcome.Busy why) e other q = differ (sym e)
+not-busy boot (outcome.Refused r) e other q = let z : _≡_ {A = ℕ} 0 1 = cc in omega arith
 
 same-settled : (o : Outcome) → isBusy o ≡ false → settled o ≡ o
 same-settled (outcome.Granted l) e = refl
@@ -84,7 +84,7 @@ same-settled (outcome.Refused r) e = refl
 
 module _ (h : Head) (registry script held : List ℕ) (binding bucket : ℕ) where
   abbrev e : Setting
-  e = given h script (leasesOf held)
+  e = given h script (holdsOf held)
 
   abbrev Pauses : ℕ → ℕ → List ℕ → List ℕ → ℕ → Made (World × Says) → Type 0
   Pauses n p t g i = Pause (attempting registry script held binding bucket) (bounding script held) i (worldAt h n t g) p
@@ -143,16 +143,16 @@ module _ (h : Head) (registry script held : List ℕ) (binding bucket : ℕ) whe
       if-cases (λ (o : Made (With Tried)). Tries n p t g i last (at-last h (record { seen = o .seen; log = m .log ++ o .log }))) (isBusy (m .seen .0 .outcome))
       (λ c.
       subst (λ (o : Made (With Tried)). Tries n p t g i last (at-last h (record { seen = o .seen; log = m .log ++ o .log }))) (sym (both-from left i (lastOf last (m .seen .0 .outcome)) r (m .seen .1 .0) (m .seen .1 .1)))
-      (one-busy (lastOf last (m .seen .0 .outcome)) j (busy-is last (m .seen .0 .outcome) c) (pause-is i (r .flow .next) (r .flow .place) (m .seen .1 .0) (m .seen .1 .1))
+      (one-busy (lastOf last (m .seen .0 .outcome)) j (busy-is (h .boot) last (m .seen .0 .outcome) c) (pause-is i (r .flow .next) (r .flow .place) (m .seen .1 .0) (m .seen .1 .1))
       (retry-is left (i + 1) _ (s .flow .next) (s .flow .place) (b .seen .1 .0) (b .seen .1 .1) (omega arith))))
-      (λ c. rw (append-nil (m .log), same-settled (m .seen .0 .outcome) c) (the-last j (not-busy (m .seen .0 .outcome) c)))
+      (λ c. rw (append-nil (m .log), same-settled (m .seen .0 .outcome) c) (the-last j (not-busy (h .boot) (m .seen .0 .outcome) c)))
 
 pub by-steps : (w : World) (registry script : List ℕ) (place : ℕ) (held : List ℕ) (binding bucket : ℕ) (last : Reason)
     → let k = acquire-bucket registry script place held binding bucket in
     Passes w k → Attempts (attempting registry script held binding bucket) (bounding script held) 0 last w place (perform w k)
 by-steps w registry script place held binding bucket last fine =
     let h = w .head in
-    let e = given h script (leasesOf held) in
+    let e = given h script (holdsOf held) in
     subst (Attempts (attempting registry script held binding bucket) (bounding script held) 0 last w place)
     (ap (at-last h) (retry-first 4095 0 last noneYet e (h .buckets) registry binding bucket (nil (h .next) place) (w .table) (w .health))
     ∙ sym (made w (acquire-bucket-has registry script place held binding bucket) fine))
@@ -208,7 +208,7 @@ module _ (registry script held : List ℕ) (binding bucket : ℕ) where
 
   boundary-fine : (w : World) (p : ℕ) → Fine-at w p → Passes w (environment script p held)
   unfolding bucketRules
-  boundary-fine w p k = boundary-on held (nothing {w = w} {P = In (leasesOf held)}) registry script p p binding (in-script script p (k .1 .1 .1 .0)) k
+  boundary-fine w p k = boundary-on held (nothing {w = w} {P = In (holdsOf held)}) registry script p p binding (in-script script p (k .1 .1 .1 .0)) k
 
   calling-is : (w : World) (p : ℕ) → Fine-at w p → calling w p ≡ attempting registry script held binding bucket w p
   calling-is w p k = made w (transactional-has registry script p held binding bucket) k

@@ -7,7 +7,7 @@ use mathlib.Core.List.{List, _∷_, _++_, []}
 use mathlib.Core.Logic.{_↔_}
 use lib.ListN.{length, getD}
 use Rattle.model.specs.Log.{Event, Made, took, released, waiters-set, health-set, held-all, added, spun, yielded, attempt-begun, boundary-run, step-dropped, by-caller, by-script}
-use Rattle.model.specs.Arena.{leaseOf, wordsOf}
+use Rattle.model.specs.Arena.{leaseOf, holdOf, holdIn, wordsOf}
 use Rattle.model.specs.Refusals.{numberOf}
 use Rattle.model.specs.Lock.{bindingAt, bucketAt}
 use Rattle.model.specs.Checks.{countIn}
@@ -16,6 +16,7 @@ use Rattle.model.specs.Crew.{total}
 use Rattle.types.specs.declared.Answer.{Answer}
 use Rattle.types.specs.declared.Answer.the-variants.{Done, Refused, Busy, RefusedAt, Cell, Granted, AllGranted}
 use Rattle.types.specs.declared.Counts.{Counts}
+use Rattle.types.specs.declared.Hold.{Hold}
 use Rattle.types.specs.declared.Lease.{Lease}
 use Rattle.types.specs.declared.Reason.{Reason}
 use Rattle.types.specs.declared.Reason.the-variants as reason
@@ -29,14 +30,14 @@ use Rattle.exact.specs.Script.{place-in}
 
 -- ---- how one attempt ends: its boundaries, the cells that the caller takes in it, and those that it releases
 
-unfoldable pub caller-takes : List Event → List Lease
+unfoldable pub caller-takes : List Event → List Hold
 caller-takes [] = []
 caller-takes (attempt-begun ∷ es) = caller-takes es
 caller-takes (boundary-run ∷ es) = caller-takes es
 caller-takes (yielded ∷ es) = caller-takes es
 caller-takes (spun ∷ es) = caller-takes es
 caller-takes (step-dropped ∷ es) = caller-takes es
-caller-takes (took by-caller c s ∷ es) = leaseOf c s ∷ caller-takes es
+caller-takes (took by-caller c s ∷ es) = holdOf c s ∷ caller-takes es
 caller-takes (took by-script c s ∷ es) = caller-takes es
 caller-takes (released a c s ∷ es) = caller-takes es
 caller-takes (waiters-set c n ∷ es) = caller-takes es
@@ -44,7 +45,7 @@ caller-takes (health-set i n ∷ es) = caller-takes es
 caller-takes (held-all m ∷ es) = caller-takes es
 caller-takes (added m c v ∷ es) = caller-takes es
 
-pub data Ends : Answer → (boundaries : ℕ) (taken released : List Lease) → Type 0 where
+pub data Ends : Answer → (boundaries : ℕ) (taken released : List Hold) → Type 0 where
   -- 6, 7, 8: the key names no cell of a header that is healthy at the first reading
   no-cell : (r : Refusal) → 6 ≤ numberOf r → numberOf r ≤ 8 → Ends (Refused r) 0 [] []
   -- "boundary; waiters not 0: Busy". Document 02, L1: "waiters seen before the compare-and-set"
@@ -54,11 +55,11 @@ pub data Ends : Answer → (boundaries : ℕ) (taken released : List Lease) → 
   not-takable : (r : Refusal) → 9 ≤ numberOf r → numberOf r ≤ 10 → Ends (Refused r) 2 [] []
   -- document 02, L3: "Read it again after the third boundary, before the waiters. If poisoned, release the lease and
   -- refuse with 7"
-  poisoned : (l : Lease) (header : ℕ) → Ends (Refused (Poisoned header)) 3 (l ∷ []) (l ∷ [])
+  poisoned : (l : Hold) (header : ℕ) → Ends (Refused (Poisoned header)) 3 (l ∷ []) (l ∷ [])
   -- "boundary (protecting the new lease); waiters not 0: release it, Busy; else granted". "waiters seen after it. The last one also gives
   -- the serial that was spent"
-  late : (l : Lease) → Ends (Busy (reason.After (l .serial))) 3 (l ∷ []) (l ∷ [])
-  granted : (l : Lease) → Ends (Granted l) 3 (l ∷ []) []
+  late : (l : Hold) → Ends (Busy (reason.After (l .serial))) 3 (l ∷ []) (l ∷ [])
+  granted : (l : Lease) → Ends (Granted l) 3 (holdIn l ∷ []) []
 
 abbrev pub Ending : Made (World × Says) → Type 0
 Ending m = Ends (answer-in m) (m .seen .1 .counts .boundaries) (caller-takes (m .log)) (caller-releases (m .log))
@@ -136,24 +137,28 @@ Reason-of-last f =
 -- ---- multi-lock is `acquire_index_bucket` key by key, each holding what was taken before; and, refused, `drop_lease` and `environment` for each
 -- lease taken, the last first
 
-module _ (f : Build) (registry script held keys grants : List ℕ) where
-  -- the call for the key at position p, holding what was taken
-  abbrev pub key-at : ℕ → List Lease → (place : ℕ) → Call
-  key-at p taken place = acquire-bucket registry script place (held ++ wordsOf taken) (bindingAt keys p) (bucketAt keys p)
+-- what was taken, as a lease that the caller names: with the boot number of the head (document 02, L8)
+abbrev pub lease-on : ℕ → Hold → Lease
+lease-on boot l = leaseOf (l .cell) (l .serial) boot
 
-  abbrev pub locking : ℕ → List Lease → World → (place : ℕ) → Made (World × Says)
+module _ (f : Build) (boot : ℕ) (registry script held keys grants : List ℕ) where
+  -- the call for the key at position p, holding what was taken
+  abbrev pub key-at : ℕ → List Hold → (place : ℕ) → Call
+  key-at p taken place = acquire-bucket registry script place (held ++ wordsOf boot taken) (bindingAt keys p) (bucketAt keys p)
+
+  abbrev pub locking : ℕ → List Hold → World → (place : ℕ) → Made (World × Says)
   locking p taken w place = f w (key-at p taken place)
 
   -- one lease given back; and one boundary, holding what is not yet given back
-  abbrev pub dropping : Lease → World → Made (World × Says)
-  dropping l w = f w (drop-lease l)
+  abbrev pub dropping : Hold → World → Made (World × Says)
+  dropping l w = f w (drop-lease (lease-on boot l))
 
-  abbrev pub between : List Lease → World → (place : ℕ) → Made (World × Says)
-  between taken w place = f w (environment script place (held ++ wordsOf taken))
+  abbrev pub between : List Hold → World → (place : ℕ) → Made (World × Says)
+  between taken w place = f w (environment script place (held ++ wordsOf boot taken))
 
-  pub data Gives-back : List Lease → World → (place : ℕ) → Made (World × Says) → Type 0 where
+  pub data Gives-back : List Hold → World → (place : ℕ) → Made (World × Says) → Type 0 where
     all-back : {w : World} {place : ℕ} → Gives-back [] w place (record { seen = (w, says Done (countsOf 0 0 0 0) place []); log = [] })
-    one-back : {ls : List Lease} {w v : World} {place : ℕ} {n : Made (World × Says)} (l : Lease)
+    one-back : {ls : List Hold} {w v : World} {place : ℕ} {n : Made (World × Says)} (l : Hold)
         → answer-in (dropping l w) ≡ Done → v ≡ world-in (dropping l w) → answer-in (between ls v place) ≡ Done
         → Gives-back ls (world-in (between ls v place)) (place-in (between ls v place)) n
         → Gives-back (ls ++ (l ∷ [])) w place (dropping l w and-then (between ls v place and-then n))
@@ -163,14 +168,14 @@ module _ (f : Build) (registry script held keys grants : List ℕ) where
   refused-at r p m = record { seen = (m .seen .0, says (RefusedAt r p) (m .seen .1 .counts) (m .seen .1 .place) grants); log = m .log }
 
   -- keys from position p on, with these leases taken; each call passes its checks
-  pub data Key-by-key : (p : ℕ) → List Lease → World → (place : ℕ) → Made (World × Says) → Type 0 where
-    all-locked : {p : ℕ} {taken : List Lease} {w : World} {place : ℕ} → p ≡ countIn keys
-        → Key-by-key p taken w place (record { seen = (w, says AllGranted (countsOf 0 0 0 0) place (wordsOf taken)); log = [] })
-    one-locked : {p : ℕ} {taken : List Lease} {w : World} {place : ℕ} {n : Made (World × Says)} (l : Lease) → p < countIn keys
-        → Passes w (key-at p taken place) → answer-in (locking p taken w place) ≡ Granted l
+  pub data Key-by-key : (p : ℕ) → List Hold → World → (place : ℕ) → Made (World × Says) → Type 0 where
+    all-locked : {p : ℕ} {taken : List Hold} {w : World} {place : ℕ} → p ≡ countIn keys
+        → Key-by-key p taken w place (record { seen = (w, says AllGranted (countsOf 0 0 0 0) place (wordsOf boot taken)); log = [] })
+    one-locked : {p : ℕ} {taken : List Hold} {w : World} {place : ℕ} {n : Made (World × Says)} (l : Hold) → p < countIn keys
+        → Passes w (key-at p taken place) → answer-in (locking p taken w place) ≡ Granted (lease-on boot l)
         → Key-by-key (p + 1) (taken ++ (l ∷ [])) (world-in (locking p taken w place)) (place-in (locking p taken w place)) n
         → Key-by-key p taken w place (locking p taken w place and-then n)
-    one-refused : {p : ℕ} {taken : List Lease} {w : World} {place : ℕ} {n : Made (World × Says)} (r : Refusal) → p < countIn keys
+    one-refused : {p : ℕ} {taken : List Hold} {w : World} {place : ℕ} {n : Made (World × Says)} (r : Refusal) → p < countIn keys
         → Passes w (key-at p taken place) → answer-in (locking p taken w place) ≡ Refused r
         → Gives-back taken (world-in (locking p taken w place)) (place-in (locking p taken w place)) n
         → Key-by-key p taken w place (refused-at r p (locking p taken w place and-then n))
@@ -179,7 +184,7 @@ abbrev pub Locks-as-calls : Build → Type 0
 Locks-as-calls f =
     (w : World) (registry script : List ℕ) (place : ℕ) (held keys grants : List ℕ)
     → let k = acquire-locks registry script place held keys grants in
-    Passes w k → Key-by-key f registry script held keys grants 0 [] w place (f w k)
+    Passes w k → Key-by-key f (w .head .boot) registry script held keys grants 0 [] w place (f w k)
 
 -- ---- what follows for the counts. "after each Busy attempt, a boundary and a spin": the spins in the log are the Busy attempts
 

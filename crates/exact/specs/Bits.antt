@@ -76,11 +76,11 @@ bits-left w k c l = rw (lawful-always w k .1) (left-now w (perform w k .log) c l
 
 abbrev pub Bits-prepared : Type 0
 Bits-prepared =
-    (headers buckets serial : ℕ) (t g : List ℕ) (c : ℕ) → Left (bitAt t c) (bitAt (prepareOf headers buckets serial t g .seen .1 .0) c)
+    (headers buckets serial boot : ℕ) (t g : List ℕ) (c : ℕ) → Left (bitAt t c) (bitAt (prepareOf headers buckets serial boot t g .seen .1 .0) c)
 
 pub bits-prepared : Bits-prepared
-bits-prepared headers buckets serial t g c = go (came headers buckets serial t g)
+bits-prepared headers buckets serial boot t g c = go (came headers buckets serial boot t g)
   where
-    go : Came headers buckets serial t g → Left (bitAt t c) (bitAt (prepareOf headers buckets serial t g .seen .1 .0) c)
+    go : Came headers buckets serial boot t g → Left (bitAt t c) (bitAt (prepareOf headers buckets serial boot t g .seen .1 .0) c)
     go (was-done e p) = a-bit (rw (p, zero-bit (3 * (headers * buckets)) c) (omega arith))
     go (was-refused e p) = as-it-was (ap (λ (o : Outcome). bitAt (o .1 .0) c) p)

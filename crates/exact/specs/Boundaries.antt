@@ -9,13 +9,14 @@ use native.Mathlib.Omega.{arith}
 use lib.ListN.{length, getD, length-append, List·getD-append}
 use lib.Seq.{getD-append-add}
 use Rattle.model.specs.Log.{Made, spun, yielded}
-use Rattle.model.specs.Arena.{leasesOf, wordsOf}
+use Rattle.model.specs.Arena.{holdsOf, wordsOf}
 use Rattle.model.specs.Foreign.{flowOf}
 use Rattle.model.specs.Lock.{noneYet, bindingAt, bucketAt}
 use Rattle.model.specs.Calls.{countsOf, given, starting}
 use Rattle.model.specs.Crew.{total}
 use Rattle.types.specs.declared.Answer.{Answer}
 use Rattle.types.specs.declared.Answer.the-variants.{Done}
+use Rattle.types.specs.declared.Hold.{Hold}
 use Rattle.types.specs.declared.Lease.{Lease}
 use Rattle.types.specs.declared.Reason.{Reason}
 use Rattle.laws.specs.Crew.{total-append}
@@ -24,7 +25,7 @@ use Rattle.history.specs.Items.{Says, perform, acquire-bucket, drop-lease, envi
 use Rattle.history.specs.Statements.{answer-in}
 use Rattle.history.specs.Judged.{performed}
 use Rattle.exact.specs.Script.{acquire-bucket-has}
-use Rattle.exact.specs.Attempts.{Ends, no-cell, waited, held, not-takable, poisoned, late, granted, _and-then_, spin, yield, Pause, only-spins, also-yields, Attempts, all-busy, the-last, one-busy, locking, between, Gives-back, all-back, one-back, Key-by-key, all-locked, one-locked, one-refused, spins-in, Boundaries-add, Bucket-boundaries, rolled-back, Locks-boundaries}
+use Rattle.exact.specs.Attempts.{Ends, no-cell, waited, held, not-takable, poisoned, late, granted, lease-on, _and-then_, spin, yield, Pause, only-spins, also-yields, Attempts, all-busy, the-last, one-busy, locking, between, Gives-back, all-back, one-back, Key-by-key, all-locked, one-locked, one-refused, spins-in, Boundaries-add, Bucket-boundaries, rolled-back, Locks-boundaries}
 use Rattle.exact.specs.Made.{made}
 use Rattle.exact.specs.Retried.{spins-append, boundary-still, attempt-one}
 use Rattle.exact.specs.Ending.{tried-ends}
@@ -64,7 +65,7 @@ adds-then m n a b =
 
 -- ---- attempts
 
-ends-few : {a : Answer} {n : ℕ} {ts rs : List Lease} → Ends a n ts rs → n ≤ 3
+ends-few : {a : Answer} {n : ℕ} {ts rs : List Hold} → Ends a n ts rs → n ≤ 3
 ends-few (no-cell r i j) = omega arith
 ends-few waited = omega arith
 ends-few (held s) = omega arith
@@ -132,9 +133,9 @@ module _ (attempt between : World → ℕ → Made (World × Says)) (tries : (w 
 module _ (registry script words : List ℕ) (binding bucket : ℕ) where
   attempt-counts : (w : World) (p : ℕ) → Attempt-counts (attempting registry script words binding bucket w p)
   attempt-counts w p =
-      let e = given (w .head) script (leasesOf words) in
+      let e = given (w .head) script (holdsOf words) in
       let k = attempt-one e (w .head .buckets) registry binding bucket (starting (w .head) p) (w .table) (w .health) in
-      let n = ends-few (tried-ends e (w .head .buckets) registry binding bucket (starting (w .head) p) (w .table) (w .health) refl) in
+      let n = ends-few (tried-ends e (w .head .buckets) (w .head .boot) registry binding bucket (starting (w .head) p) (w .table) (w .health) refl) in
       record { one = omega (arith, k .one-attempt); few = n; none = k .no-yield; calm = k .no-spin }
 
 boundary-counts : (script words : List ℕ) (w : World) (p : ℕ) → Boundary-counts (bounding script words w p)
@@ -143,7 +144,7 @@ boundary-counts script words w p =
       no-attempt = refl;
       one = refl;
       none = refl;
-      calm = boundary-still (given (w .head) script (leasesOf words)) (flowOf (w .head .next) p 0) (w .table) (w .health) .none;
+      calm = boundary-still (given (w .head) script (holdsOf words)) (flowOf (w .head .next) p 0) (w .table) (w .health) .none;
     }
 
 pub bucket-boundaries : Bucket-boundaries perform
@@ -171,34 +172,34 @@ bound-adds w script place words =
     performed (λ m. answer-in m ≡ Done → Adds 1 m) w (environment script place words) (λ r a. let z : _≡_ {A = ℕ} 0 1 = cc in absurd (omega arith))
     (λ _ _. boundary-adds (bounding script words w place) refl (omega (arith, boundary-counts script words w place .calm)))
 
-module _ (registry script words keys grants : List ℕ) where
-  abbrev locks : ℕ → List Lease → World → ℕ → Made (World × Says)
-  locks = locking perform registry script words keys grants
+module _ (boot : ℕ) (registry script words keys grants : List ℕ) where
+  abbrev locks : ℕ → List Hold → World → ℕ → Made (World × Says)
+  locks = locking perform boot registry script words keys grants
 
-  abbrev bounds : List Lease → World → ℕ → Made (World × Says)
-  bounds = between perform registry script words keys grants
+  abbrev bounds : List Hold → World → ℕ → Made (World × Says)
+  bounds = between perform boot registry script words keys grants
 
-  back-adds : {ls : List Lease} {w : World} {place : ℕ} {m : Made (World × Says)} → Gives-back perform registry script words keys grants ls w place m → Adds (length ls) m
+  back-adds : {ls : List Hold} {w : World} {place : ℕ} {m : Made (World × Says)} → Gives-back perform boot registry script words keys grants ls w place m → Adds (length ls) m
   unfolding spins-in
   back-adds all-back = adds-none
   back-adds (one-back {ls = ls} {w = w} {v = v} {place = place} {n = n} l a q b rest) =
       let z : 0 + (1 + length ls) ≡ length (ls ++ (l ∷ [])) = omega (arith, length-append ls (l ∷ [])) in
-      subst (λ k. Adds k (perform w (drop-lease l) and-then (bounds ls v place and-then n))) z
-      (adds-then (perform w (drop-lease l)) (bounds ls v place and-then n) (drop-adds w l)
-      (adds-then (bounds ls v place) n (bound-adds v script place (words ++ wordsOf ls) b) (back-adds rest)))
+      subst (λ k. Adds k (perform w (drop-lease (lease-on boot l)) and-then (bounds ls v place and-then n))) z
+      (adds-then (perform w (drop-lease (lease-on boot l))) (bounds ls v place and-then n) (drop-adds w (lease-on boot l))
+      (adds-then (bounds ls v place) n (bound-adds v script place (words ++ wordsOf boot ls) b) (back-adds rest)))
 
-  keys-add : {p : ℕ} {taken : List Lease} {w : World} {place : ℕ} {m : Made (World × Says)} → length taken ≡ p
-      → Key-by-key perform registry script words keys grants p taken w place m → Adds (rolled-back (answer-in m)) m
+  keys-add : {p : ℕ} {taken : List Hold} {w : World} {place : ℕ} {m : Made (World × Says)} → length taken ≡ p
+      → Key-by-key perform boot registry script words keys grants p taken w place m → Adds (rolled-back (answer-in m)) m
   unfolding spins-in
   keys-add z (all-locked e) = adds-none
   keys-add z (one-locked {p = p} {taken = taken} {w = w} {place = place} {n = n} l b fine a rest) =
       subst (λ k. Adds k (locks p taken w place and-then n)) (zero-add (rolled-back (answer-in n)))
-      (adds-then (locks p taken w place) n (key-adds w registry script place (words ++ wordsOf taken) (bindingAt keys p) (bucketAt keys p))
+      (adds-then (locks p taken w place) n (key-adds w registry script place (words ++ wordsOf boot taken) (bindingAt keys p) (bucketAt keys p))
       (keys-add (omega (arith, length-append taken (l ∷ []))) rest))
   keys-add z (one-refused {p = p} {taken = taken} {w = w} {place = place} {n = n} r b fine a rest) =
       let e : 0 + length taken ≡ p = omega arith in
       subst (λ k. Adds k (locks p taken w place and-then n)) e
-      (adds-then (locks p taken w place) n (key-adds w registry script place (words ++ wordsOf taken) (bindingAt keys p) (bucketAt keys p)) (back-adds rest))
+      (adds-then (locks p taken w place) n (key-adds w registry script place (words ++ wordsOf boot taken) (bindingAt keys p) (bucketAt keys p)) (back-adds rest))
 
 pub locks-boundaries : Locks-boundaries perform
-locks-boundaries w registry script place words keys grants fine = keys-add registry script words keys grants refl (locks-as-calls w registry script place words keys grants fine)
+locks-boundaries w registry script place words keys grants fine = keys-add (w .head .boot) registry script words keys grants refl (locks-as-calls w registry script place words keys grants fine)

@@ -9,14 +9,14 @@ use lib.Dec.{eqb}
 use lib.ListN.{length, take}
 use Rattle.choice.specs.Choice.{if_then_else_}
 use Rattle.model.specs.Log.{Made, Event, by-caller, attempt-begun, yielded, released}
-use Rattle.model.specs.Arena.{headerOf, isPoisoned, leaseOf, setCell, waitersAt}
+use Rattle.model.specs.Arena.{headerOf, isPoisoned, holdOf, setCell, waitersAt}
 use Rattle.model.specs.Foreign.{Setting, protecting, stepsIn, kindAt, placeAt, numberAt, flowOf, stepOf, runStepsOf, boundaryOf}
-use Rattle.model.specs.Lock.{takeOf, lockedOf, lateOf, afterTake, secondOf, lockOf, runOf, triedOf, findOf, attemptAt, attemptOf, spinOf, pauseOf, isBusy, retryOf, attemptLimit, noneYet, leaseAt, giveBackOf, Locks, endedOf, rollbackOf, afterKey, bindingAt, bucketAt, locksOf}
+use Rattle.model.specs.Lock.{takeOf, lockedOf, lateOf, afterTake, secondOf, lockOf, runOf, triedOf, findOf, attemptAt, attemptOf, spinOf, pauseOf, isBusy, retryOf, attemptLimit, noneYet, holdAt, giveBackOf, Locks, endedOf, rollbackOf, afterKey, bindingAt, bucketAt, locksOf}
 use Rattle.types.specs.declared.Counts.{Counts}
 use Rattle.types.specs.declared.Flow.{Flow}
 use Rattle.types.specs.declared.Found.{Found}
 use Rattle.types.specs.declared.Found.the-variants as found
-use Rattle.types.specs.declared.Lease.{Lease}
+use Rattle.types.specs.declared.Hold.{Hold}
 use Rattle.types.specs.declared.Locked.{Locked}
 use Rattle.types.specs.declared.Outcome.{Outcome}
 use Rattle.types.specs.declared.Outcome.the-variants as outcome
@@ -91,7 +91,7 @@ module _ (d : ℕ) where
       → lateOf e buckets (on-flow d f) t g c s ≡ lock-on d (lateOf e buckets f t g c s)
   unfolding lateOf
   late-on e buckets f t g c s =
-      let q = protecting e (leaseOf c s ∷ []) in
+      let q = protecting e (holdOf c s ∷ []) in
       let m = boundaryOf q f t g in
       rw (boundary-on q f t g) (ap (after (m .log)) (if-on (shift d) (isPoisoned (m .seen .1 .1) (headerOf buckets c)) refl
       (if-on (shift d) (eqb (waitersAt (m .seen .1 .0) c) 0) refl refl)))
@@ -170,39 +170,39 @@ abbrev pub locks-on : Counts → Made Locks → Made Locks
 locks-on k = seen-by (λ m. (endedOf (on-run k (m .0 .run)) (m .0 .answer), m .1))
 
 module _ (k : Counts) (e : Setting) where
-  pub back-on : (n : ℕ) (ls : List Lease) (r : Run) (t g : List ℕ) → giveBackOf n e ls (on-run k r) t g ≡ run-on k (giveBackOf n e ls r t g)
+  pub back-on : (n : ℕ) (ls : List Hold) (r : Run) (t g : List ℕ) → giveBackOf n e ls (on-run k r) t g ≡ run-on k (giveBackOf n e ls r t g)
   unfolding giveBackOf
   back-on zero ls r t g = refl
   back-on (suc n) ls r t g =
-      let l = leaseAt ls n in
+      let l = holdAt ls n in
       let q = protecting e (take n ls) in
       let b = boundaryOf q (r .flow) (setCell t (l .cell) 0 0) g in
       rw (boundary-on (k .dropped) q (r .flow) (setCell t (l .cell) 0 0) g, assoc (k .boundaries) (r .boundaries) 1)
       (ap (λ (m : Made (With Run)). after (released by-caller (l .cell) (l .serial) ∷ []) (after (b .log) m))
       (back-on n ls (runOf (b .seen .0) (r .attempts) (r .boundaries + 1) (r .yields)) (b .seen .1 .0) (b .seen .1 .1)))
 
-  rollback-on : (taken : List Lease) (x : Refusal) (p : ℕ) (r : Run) (t g grants : List ℕ)
+  rollback-on : (taken : List Hold) (x : Refusal) (p : ℕ) (r : Run) (t g grants : List ℕ)
       → rollbackOf e taken x p (on-run k r) t g grants ≡ locks-on k (rollbackOf e taken x p r t g grants)
   unfolding rollbackOf
   rollback-on taken x p r t g grants = rw (back-on (length taken) taken r t g)
 
-  pub keys-on : (left p buckets : ℕ) (registry keys : List ℕ) (taken : List Lease) (r : Run) (t g grants : List ℕ)
-      → locksOf left p e buckets registry keys taken (on-run k r) t g grants ≡ locks-on k (locksOf left p e buckets registry keys taken r t g grants)
+  pub keys-on : (left p buckets boot : ℕ) (registry keys : List ℕ) (taken : List Hold) (r : Run) (t g grants : List ℕ)
+      → locksOf left p e buckets boot registry keys taken (on-run k r) t g grants ≡ locks-on k (locksOf left p e buckets boot registry keys taken r t g grants)
   unfolding locksOf
-  keys-on zero p buckets registry keys taken r t g grants = refl
-  keys-on (suc left) p buckets registry keys taken r t g grants =
+  keys-on zero p buckets boot registry keys taken r t g grants = refl
+  keys-on (suc left) p buckets boot registry keys taken r t g grants =
       let m = retryOf attemptLimit 0 noneYet (protecting e taken) buckets registry (bindingAt keys p) (bucketAt keys p) r t g in
       let u = m .seen .1 .0 in
       let v = m .seen .1 .1 in
       rw (retry-on k (protecting e taken) buckets registry (bindingAt keys p) (bucketAt keys p) attemptLimit 0 noneYet r t g)
       (ap (after (m .log)) (go (m .seen .0 .outcome) (m .seen .0 .run) u v
-      (λ l. keys-on left (p + 1) buckets registry keys (taken ++ (l ∷ [])) (m .seen .0 .run) u v grants)))
+      (λ l. keys-on left (p + 1) buckets boot registry keys (taken ++ (l ∷ [])) (m .seen .0 .run) u v grants)))
     where
       go : (o : Outcome) (s : Run) (u v : List ℕ)
-          → ((l : Lease) → locksOf left (p + 1) e buckets registry keys (taken ++ (l ∷ [])) (on-run k s) u v grants
-          ≡ locks-on k (locksOf left (p + 1) e buckets registry keys (taken ++ (l ∷ [])) s u v grants))
-          → afterKey o e taken p (on-run k s) u v grants (λ l. locksOf left (p + 1) e buckets registry keys (taken ++ (l ∷ [])) (on-run k s) u v grants)
-          ≡ locks-on k (afterKey o e taken p s u v grants (λ l. locksOf left (p + 1) e buckets registry keys (taken ++ (l ∷ [])) s u v grants))
+          → ((l : Hold) → locksOf left (p + 1) e buckets boot registry keys (taken ++ (l ∷ [])) (on-run k s) u v grants
+          ≡ locks-on k (locksOf left (p + 1) e buckets boot registry keys (taken ++ (l ∷ [])) s u v grants))
+          → afterKey o e taken p (on-run k s) u v grants (λ l. locksOf left (p + 1) e buckets boot registry keys (taken ++ (l ∷ [])) (on-run k s) u v grants)
+          ≡ locks-on k (afterKey o e taken p s u v grants (λ l. locksOf left (p + 1) e buckets boot registry keys (taken ++ (l ∷ [])) s u v grants))
       go (outcome.Granted l) s u v more = more l
       go (outcome.Busy why) s u v more = rollback-on taken (SerializationFailure why) p s u v grants
       go (outcome.Refused x) s u v more = rollback-on taken x p s u v grants

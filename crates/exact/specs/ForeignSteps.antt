@@ -8,11 +8,11 @@ use native.Mathlib.Omega.{arith}
 use lib.Dec.{ltb, leb, eqb}
 use borrow.Author.Tests.{ltb-true, leb-true, eqb-true, eqb-false, lt-ltb, le-leb, eq-eqb, not-true}
 use Rattle.model.specs.Log.{Made, Event, by-script, attempt-begun, boundary-run, yielded, spun, step-dropped, took, released, waiters-set, health-set, held-all, added}
-use Rattle.model.specs.Arena.{lastSerial, serialRemains, cellsOf, leaseOf, bitAt, ownerAt, isFree, isLive, isIn}
+use Rattle.model.specs.Arena.{lastSerial, serialRemains, cellsOf, holdOf, bitAt, ownerAt, isFree, isLive, isIn}
 use Rattle.model.specs.Foreign.{stepTakeOf, stepReleaseOf, stepWaitersOf, stepHealthOf, stepOf}
 use Rattle.model.specs.Calls.{given}
 use Rattle.types.specs.declared.Head.{Head}
-use Rattle.types.specs.declared.Lease.{Lease}
+use Rattle.types.specs.declared.Hold.{Hold}
 use Rattle.types.specs.declared.Stepped.{Stepped}
 use Rattle.choice.specs.Pick.{both}
 use Rattle.history.specs.World.{World, Legal, step}
@@ -29,7 +29,7 @@ asks-kind (set-waiters c s) = (omega arith, omega arith)
 asks-kind (set-health c s) = (omega arith, omega arith)
 
 -- `stepOf` is such a step, on any arena
-module _ (h : Head) (script : List ℕ) (ps : List Lease) (n : ℕ) (t g : List ℕ) where
+module _ (h : Head) (script : List ℕ) (ps : List Hold) (n : ℕ) (t g : List ℕ) where
   abbrev before : World
   before = worldAt h n t g
 
@@ -67,9 +67,9 @@ module _ (h : Head) (script : List ℕ) (ps : List Lease) (n : ℕ) (t g : List 
   release-is : (c s : ℕ) → OnTable 2 c s (stepReleaseOf (cellsOf h) ps n t c s)
   unfolding stepReleaseOf
   release-is c s =
-      if-cases (OnTable 2 c s) (isLive n (cellsOf h) t (leaseOf c s) && not (isIn (leaseOf c s) ps))
+      if-cases (OnTable 2 c s) (isLive n (cellsOf h) t (holdOf c s) && not (isIn (holdOf c s) ps))
       (λ e.
-      let p = both (isLive n (cellsOf h) t (leaseOf c s)) (not (isIn (leaseOf c s) ps)) e in
+      let p = both (isLive n (cellsOf h) t (holdOf c s)) (not (isIn (holdOf c s) ps)) e in
       performed (released by-script c s) (release-it c s) (p .0, not-true _ (p .1)))
       (λ e. gone (released by-script c s) (release-it c s) only (λ l. differ (sym e ∙ rw (l .0, l .1))))
     where
@@ -118,7 +118,7 @@ module _ (h : Head) (script : List ℕ) (ps : List Lease) (n : ℕ) (t g : List 
       none : (kind ≡ 1 → ⊥) → (kind ≡ 2 → ⊥) → (kind ≡ 3 → ⊥) → (kind ≡ 4 → ⊥) → (1 ≤ kind) × (kind ≤ 4) → ⊥
       none a b c d r = omega (arith, r .0, r .1)
 
-allowed-legal : (w : World) (ps : List Lease) (e : Event) → Allowed w ps e → Legal w e
+allowed-legal : (w : World) (ps : List Hold) (e : Event) → Allowed w ps e → Legal w e
 allowed-legal w ps attempt-begun l = l
 allowed-legal w ps boundary-run l = l
 allowed-legal w ps yielded l = l

@@ -11,15 +11,15 @@ use lib.ListN.{length, take, length-append}
 use lib.Seq.{take-length, take-suc, length-take-le, getD-take}
 use borrow.Author.Tests.{ltb-false, not-false}
 use Rattle.model.specs.Log.{Made, Event, by-caller, released}
-use Rattle.model.specs.Arena.{leasesOf, wordsOf, setCell}
+use Rattle.model.specs.Arena.{leasesOf, holdsOf, wordsOf, setCell}
 use Rattle.model.specs.Foreign.{Setting, protecting, stepsIn, flowOf, boundaryOf}
-use Rattle.model.specs.Lock.{noLease, leaseAt, attemptLimit, noneYet, retryOf, giveBackOf, Locks, endedOf, rollbackOf, afterKey, bindingAt, bucketAt, locksOf, settled, answerOf, runOf}
-use Rattle.model.specs.Checks.{countIn, isOdd, locksRules, leaseRules, notLive}
+use Rattle.model.specs.Lock.{noHold, holdAt, attemptLimit, noneYet, retryOf, giveBackOf, Locks, endedOf, rollbackOf, afterKey, bindingAt, bucketAt, locksOf, settled, answerOf, runOf}
+use Rattle.model.specs.Checks.{countIn, leaseCount, isOdd, locksRules, leaseRules, notLive}
 use Rattle.model.specs.Calls.{countsOf, given}
 use Rattle.types.specs.declared.Answer.the-variants.{Done, Granted, Refused, RefusedAt}
 use Rattle.types.specs.declared.Counts.{Counts}
 use Rattle.types.specs.declared.Head.{Head}
-use Rattle.types.specs.declared.Lease.{Lease}
+use Rattle.types.specs.declared.Hold.{Hold}
 use Rattle.types.specs.declared.Outcome.{Outcome}
 use Rattle.types.specs.declared.Refusal.{Refusal}
 use Rattle.types.specs.declared.Refusal.the-variants.{SerializationFailure}
@@ -38,70 +38,70 @@ use Rattle.history.specs.Steps.{With, worldAt, of-run, of-tried, Won, won, none
 use Rattle.history.specs.Many.{Held, of-locks, one-more}
 use Rattle.exact.specs.Statements.{Passes}
 use Rattle.exact.specs.Script.{acquire-bucket-has, acquire-locks-has, environment-has, place-in}
-use Rattle.exact.specs.Attempts.{added-up, _and-then_, locking, dropping, between, Gives-back, all-back, one-back, refused-at, Key-by-key, all-locked, one-locked, one-refused, Locks-as-calls, key-at}
+use Rattle.exact.specs.Attempts.{lease-on, added-up, _and-then_, locking, dropping, between, Gives-back, all-back, one-back, refused-at, Key-by-key, all-locked, one-locked, one-refused, Locks-as-calls, key-at}
 use Rattle.exact.specs.Made.{made, drop-made}
-use Rattle.exact.specs.Passing.{clear-live, boundary-on, even, holding-more, in-script, key-passes, leases-append}
+use Rattle.exact.specs.Passing.{clear-live, boundary-on, divides, own-boot, holding-more, in-script, key-passes, leases-append}
 use Rattle.exact.specs.Passing as passing
 use Rattle.exact.specs.ScriptFacts.{place-goes}
 use Rattle.exact.specs.CountedOn.{run-on, locks-on, back-on, keys-on}
 use Rattle.exact.specs.Attempting.{nil, counted, from-nil, done-with, at-last}
 
 -- from a run that counts: the same from one that has counted nothing, counted on
-back-from : (e : Setting) (n : ℕ) (ls : List Lease) (r : Run) (t g : List ℕ)
+back-from : (e : Setting) (n : ℕ) (ls : List Hold) (r : Run) (t g : List ℕ)
     → giveBackOf n e ls r t g ≡ run-on (counted r) (giveBackOf n e ls (nil (r .flow .next) (r .flow .place)) t g)
 back-from e n ls r t g = rw (from-nil r) at (back-on (counted r) e n ls (nil (r .flow .next) (r .flow .place)) t g)
 
-keys-from : (e : Setting) (left p buckets : ℕ) (registry keys : List ℕ) (taken : List Lease) (r : Run) (t g grants : List ℕ)
-    → locksOf left p e buckets registry keys taken r t g grants
-    ≡ locks-on (counted r) (locksOf left p e buckets registry keys taken (nil (r .flow .next) (r .flow .place)) t g grants)
-keys-from e left p buckets registry keys taken r t g grants =
-    rw (from-nil r) at (keys-on (counted r) e left p buckets registry keys taken (nil (r .flow .next) (r .flow .place)) t g grants)
+keys-from : (e : Setting) (left p buckets boot : ℕ) (registry keys : List ℕ) (taken : List Hold) (r : Run) (t g grants : List ℕ)
+    → locksOf left p e buckets boot registry keys taken r t g grants
+    ≡ locks-on (counted r) (locksOf left p e buckets boot registry keys taken (nil (r .flow .next) (r .flow .place)) t g grants)
+keys-from e left p buckets boot registry keys taken r t g grants =
+    rw (from-nil r) at (keys-on (counted r) e left p buckets boot registry keys taken (nil (r .flow .next) (r .flow .place)) t g grants)
 
 none-added : (c : Counts) → added-up (countsOf 0 0 0 0) c ≡ c
 none-added c = rw (zero-add (c .attempts), zero-add (c .boundaries), zero-add (c .yields), zero-add (c .dropped))
 
 -- a lease of the first n of a list, by its place
-in-first-of : (P : Lease → Type 0) (n : ℕ) (ls : List Lease) → n ≤ length ls → ((i : ℕ) → i < n → P (leaseAt ls i)) → (l : Lease) → In (take n ls) l → P l
+in-first-of : (P : Hold → Type 0) (n : ℕ) (ls : List Hold) → n ≤ length ls → ((i : ℕ) → i < n → P (holdAt ls i)) → (l : Hold) → In (take n ls) l → P l
 in-first-of P n ls b all l i =
-    let x = in-index (take n ls) l noLease i in
+    let x = in-index (take n ls) l noHold i in
     let y : x .0 < n = omega (arith, x .1, length-take-le n ls b) in
-    subst P (sym (x .2 ∙ getD-take n ls (x .0) noLease y)) (all (x .0) y)
+    subst P (sym (x .2 ∙ getD-take n ls (x .0) noHold y)) (all (x .0) y)
 
 module _ (h : Head) (registry script held keys grants : List ℕ) where
   abbrev e : Setting
-  e = given h script (leasesOf held)
+  e = given h script (holdsOf held)
 
   -- ---- the ways of `Key-by-key` and `Gives-back`, for what a call is known to be
 
-  abbrev Goes : ℕ → List Lease → World → ℕ → Made (World × Says) → Type 0
-  Goes = Key-by-key perform registry script held keys grants
+  abbrev Goes : ℕ → List Hold → World → ℕ → Made (World × Says) → Type 0
+  Goes = Key-by-key perform (h .boot) registry script held keys grants
 
-  abbrev Backs : List Lease → World → ℕ → Made (World × Says) → Type 0
-  Backs = Gives-back perform registry script held keys grants
+  abbrev Backs : List Hold → World → ℕ → Made (World × Says) → Type 0
+  Backs = Gives-back perform (h .boot) registry script held keys grants
 
-  abbrev locks-it : ℕ → List Lease → World → ℕ → Made (World × Says)
-  locks-it = locking perform registry script held keys grants
+  abbrev locks-it : ℕ → List Hold → World → ℕ → Made (World × Says)
+  locks-it = locking perform (h .boot) registry script held keys grants
 
-  abbrev drops-it : Lease → World → Made (World × Says)
-  drops-it = dropping perform registry script held keys grants
+  abbrev drops-it : Hold → World → Made (World × Says)
+  drops-it = dropping perform (h .boot) registry script held keys grants
 
-  abbrev bounds : List Lease → World → ℕ → Made (World × Says)
-  bounds = between perform registry script held keys grants
+  abbrev bounds : List Hold → World → ℕ → Made (World × Says)
+  bounds = between perform (h .boot) registry script held keys grants
 
-  locked-as : {p : ℕ} {taken : List Lease} {w : World} {place : ℕ} {x n : Made (World × Says)} (l : Lease) → p < countIn keys → Passes w (key-at perform registry script held keys grants p taken place) → locks-it p taken w place ≡ x
-      → answer-in x ≡ Granted l → Goes (p + 1) (taken ++ (l ∷ [])) (world-in x) (place-in x) n → Goes p taken w place (x and-then n)
+  locked-as : {p : ℕ} {taken : List Hold} {w : World} {place : ℕ} {x n : Made (World × Says)} (l : Hold) → p < countIn keys → Passes w (key-at perform (h .boot) registry script held keys grants p taken place) → locks-it p taken w place ≡ x
+      → answer-in x ≡ Granted (lease-on (h .boot) l) → Goes (p + 1) (taken ++ (l ∷ [])) (world-in x) (place-in x) n → Goes p taken w place (x and-then n)
   locked-as {p} {taken} {w} {place} {x} {n} l b fine q =
-      subst (λ (y : Made (World × Says)). answer-in y ≡ Granted l → Goes (p + 1) (taken ++ (l ∷ [])) (world-in y) (place-in y) n → Goes p taken w place (y and-then n)) q
+      subst (λ (y : Made (World × Says)). answer-in y ≡ Granted (lease-on (h .boot) l) → Goes (p + 1) (taken ++ (l ∷ [])) (world-in y) (place-in y) n → Goes p taken w place (y and-then n)) q
       (one-locked l b fine)
 
-  refused-as : {p : ℕ} {taken : List Lease} {w : World} {place : ℕ} {x n : Made (World × Says)} (r : Refusal) → p < countIn keys → Passes w (key-at perform registry script held keys grants p taken place) → locks-it p taken w place ≡ x
-      → answer-in x ≡ Refused r → Backs taken (world-in x) (place-in x) n → Goes p taken w place (refused-at perform registry script held keys grants r p (x and-then n))
+  refused-as : {p : ℕ} {taken : List Hold} {w : World} {place : ℕ} {x n : Made (World × Says)} (r : Refusal) → p < countIn keys → Passes w (key-at perform (h .boot) registry script held keys grants p taken place) → locks-it p taken w place ≡ x
+      → answer-in x ≡ Refused r → Backs taken (world-in x) (place-in x) n → Goes p taken w place (refused-at perform (h .boot) registry script held keys grants r p (x and-then n))
   refused-as {p} {taken} {w} {place} {x} {n} r b fine q =
       subst (λ (y : Made (World × Says)). answer-in y ≡ Refused r → Backs taken (world-in y) (place-in y) n
-      → Goes p taken w place (refused-at perform registry script held keys grants r p (y and-then n))) q
+      → Goes p taken w place (refused-at perform (h .boot) registry script held keys grants r p (y and-then n))) q
       (one-refused r b fine)
 
-  back-as : {ls : List Lease} {w : World} {place : ℕ} {x y n : Made (World × Says)} (l : Lease) → drops-it l w ≡ x → answer-in x ≡ Done
+  back-as : {ls : List Hold} {w : World} {place : ℕ} {x y n : Made (World × Says)} (l : Hold) → drops-it l w ≡ x → answer-in x ≡ Done
       → bounds ls (world-in x) place ≡ y → answer-in y ≡ Done → Backs ls (world-in y) (place-in y) n → Backs (ls ++ (l ∷ [])) w place (x and-then (y and-then n))
   back-as {ls} {w} {place} {x} {y} {n} l q =
       subst (λ (x : Made (World × Says)). answer-in x ≡ Done → bounds ls (world-in x) place ≡ y → answer-in y ≡ Done → Backs ls (world-in y) (place-in y) n
@@ -111,17 +111,18 @@ module _ (h : Head) (registry script held keys grants : List ℕ) where
 
   -- ---- where a multi-lock stands: the first n of these leases are taken and not given back
 
-  record Standing (first : ℕ) (v : World) (place n : ℕ) (ls : List Lease) : Type 0 where
+  record Standing (first : ℕ) (v : World) (place n : ℕ) (ls : List Hold) : Type 0 where
     passes : Passes v (acquire-locks registry script place held keys grants)
+    own : v .head .boot ≡ h .boot
     mine : Held v n ls
-    young : (i : ℕ) → i < n → first ≤ leaseAt ls i .serial
+    young : (i : ℕ) → i < n → first ≤ holdAt ls i .serial
     few : n ≤ countIn keys
 
   -- what the caller held is older
   abbrev Older : ℕ → Type 0
-  Older first = (l : Lease) → In (leasesOf held) l → l .serial < first
+  Older first = (l : Hold) → In (holdsOf held) l → l .serial < first
 
-  module _ {first : ℕ} {v : World} {place n : ℕ} {ls : List Lease} (s : Standing first v place n ls) where
+  module _ {first : ℕ} {v : World} {place n : ℕ} {ls : List Hold} (s : Standing first v place n ls) where
     shape-stands : Fit v
     unfolding locksRules
     shape-stands = record { shape = shaped (v .head) (length (v .table)) (not-false _ (s .passes .0)) }
@@ -130,36 +131,38 @@ module _ (h : Head) (registry script held keys grants : List ℕ) where
     unfolding locksRules
     inside = in-script script place (s .passes .1 .1 .1 .0)
 
-    two-words : length held % 2 ≡ 0
+    whole-leases : length held % 3 ≡ 0
     unfolding locksRules
-    two-words = even held (s .passes .1 .1 .1 .1 .0)
+    whole-leases = divides held (s .passes .1 .1 .1 .1 .0)
 
-    taken-live : (l : Lease) → In (take n ls) l → Live v l
+    taken-live : (l : Hold) → In (take n ls) l → Live v l
     taken-live = in-first-of (Live v) n ls (s .mine .enough) (s .mine .all-live)
 
     -- held and taken are at most 64
-    room : countIn held + length (take n ls) ≤ 64
+    room : leaseCount held + length (take n ls) ≤ 64
     unfolding locksRules
     room =
         let many = clear-back (notLive (v .head) (v .table) 0 (leasesOf held)) _ (s .passes .1 .1 .1 .1 .1) .0 in
-        let two = neither (isOdd keys || ltb 64 (countIn held + countIn keys)) (not (eqb (length grants) (2 * countIn keys))) many in
-        omega (arith, ltb-false 64 (countIn held + countIn keys) (neither (isOdd keys) (ltb 64 (countIn held + countIn keys)) (two .0) .1), s .few, length-take-le n ls (s .mine .enough))
+        let two = neither (isOdd keys || ltb 64 (leaseCount held + countIn keys)) (not (eqb (length grants) (3 * countIn keys))) many in
+        omega (arith, ltb-false 64 (leaseCount held + countIn keys) (neither (isOdd keys) (ltb 64 (leaseCount held + countIn keys)) (two .0) .1), s .few, length-take-le n ls (s .mine .enough))
 
     module _ (p : ℕ) (b : p < countIn keys) where
-      key-fine : Passes v (acquire-bucket registry script place (held ++ wordsOf (take n ls)) (bindingAt keys p) (bucketAt keys p))
+      key-fine : Passes v (acquire-bucket registry script place (held ++ wordsOf (h .boot) (take n ls)) (bindingAt keys p) (bucketAt keys p))
       key-fine =
-          holding-more v registry script place held (bindingAt keys p) (take n ls) room taken-live (key-passes v registry script place held keys grants p b (s .passes))
+          subst (λ (boot : ℕ). Passes v (acquire-bucket registry script place (held ++ wordsOf boot (take n ls)) (bindingAt keys p) (bucketAt keys p))) (s .own)
+          (holding-more v registry script place held (bindingAt keys p) (take n ls) room taken-live (key-passes v registry script place held keys grants p b (s .passes)))
 
-      boundary-fine : Passes v (environment script place (held ++ wordsOf (take n ls)))
+      boundary-fine : Passes v (environment script place (held ++ wordsOf (h .boot) (take n ls)))
       boundary-fine =
-          boundary-on (held ++ wordsOf (take n ls)) (nothing {w = v} {P = In (leasesOf (held ++ wordsOf (take n ls)))}) registry script place place (bindingAt keys p) inside key-fine
+          boundary-on (held ++ wordsOf (h .boot) (take n ls)) (nothing {w = v} {P = In (holdsOf (held ++ wordsOf (h .boot) (take n ls)))}) registry script place place (bindingAt keys p) inside key-fine
 
     -- after lawful events that spare what is held and the first m of what is taken
-    moved : {u : World} {es : List Event} (q m : ℕ) → q ≤ stepsIn script → m ≤ n → Kept v (In (leasesOf held)) u es
-        → ((i : ℕ) → i < m → Live u (leaseAt ls i)) → Standing first u q m ls
+    moved : {u : World} {es : List Event} (q m : ℕ) → q ≤ stepsIn script → m ≤ n → Kept v (In (holdsOf held)) u es
+        → ((i : ℕ) → i < m → Live u (holdAt ls i)) → Standing first u q m ls
     moved q m i b k live =
         record {
           passes = passing.locks-on held k registry script place q keys grants i (s .passes);
+          own = passing.same-boot held k ∙ s .own;
           mine = record { enough = omega (arith, s .mine .enough); all-live = live; distinct = λ i j x y. s .mine .distinct i j (omega arith) (omega arith) };
           young = λ i x. s .young i (omega arith);
           few = omega (arith, s .few);
@@ -167,34 +170,35 @@ module _ (h : Head) (registry script held keys grants : List ℕ) where
 
   -- ---- giving back
 
-  gives-back : {first : ℕ} → Older first → (p : ℕ) → p < countIn keys → (n s place : ℕ) (t g : List ℕ) (ls : List Lease) → Standing first (worldAt h s t g) place n ls
+  gives-back : {first : ℕ} → Older first → (p : ℕ) → p < countIn keys → (n s place : ℕ) (t g : List ℕ) (ls : List Hold) → Standing first (worldAt h s t g) place n ls
       → Backs (take n ls) (worldAt h s t g) place (done-with h (giveBackOf n e ls (nil s place) t g))
   unfolding giveBackOf leaseRules locksRules
   gives-back old p b zero s place t g ls st = all-back
   gives-back {first} old p b (suc n) s place t g ls st =
       let v = worldAt h s t g in
-      let l = leaseAt ls n in
+      let l = holdAt ls n in
       let u = setCell t (l .cell) 0 0 in
       let live = st .mine .all-live n (omega arith) in
+      let named = lease-on (h .boot) l in
       let gone : Kept v (λ k. k ≡ l → ⊥) (worldAt h s u g) (released by-caller (l .cell) (l .serial) ∷ []) =
       event (released by-caller (l .cell) (l .serial)) live (λ k f _ x. f x) in
       let dropped : Standing first (worldAt h s u g) place n ls =
-      moved st place n (inside st) (omega arith) (weaken (λ k i _ x. omega (arith, old k i, st .young n (omega arith), ap (λ (y : Lease). y .serial) x)) gone)
-      (λ i x. kept-live (shape-stands st) gone (leaseAt ls i) (λ y. omega (arith, st .mine .distinct i n (omega arith) (omega arith) y)) (st .mine .all-live i (omega arith))) in
+      moved st place n (inside st) (omega arith) (weaken (λ k i _ x. omega (arith, old k i, st .young n (omega arith), ap (λ (y : Hold). y .serial) x)) gone)
+      (λ i x. kept-live (shape-stands st) gone (holdAt ls i) (λ y. omega (arith, st .mine .distinct i n (omega arith) (omega arith) y)) (st .mine .all-live i (omega arith))) in
       let c = boundaryOf (protecting e (take n ls)) (flowOf s place 0) u g in
       let f = c .seen .0 in
-      let kept = boundary-kept h script (leasesOf held ++ take n ls) (flowOf s place 0) u g (shape-stands dropped) .kept in
-      let call = environment script place (held ++ wordsOf (take n ls)) in
+      let kept = boundary-kept h script (holdsOf held ++ take n ls) (flowOf s place 0) u g (shape-stands dropped) .kept in
+      let call = environment script place (held ++ wordsOf (h .boot) (take n ls)) in
       let is : bounds (take n ls) (worldAt h s u g) place ≡ done-with h (record { seen = (runOf f 0 1 0, c .seen .1); log = c .log }) =
-      made (worldAt h s u g) (environment-has script place (held ++ wordsOf (take n ls))) (boundary-fine dropped p b)
-      ∙ ap (λ (ps : List Lease). let c = boundaryOf (given h script ps) (flowOf s place 0) u g in done-with h (record { seen = (runOf (c .seen .0) 0 1 0, c .seen .1); log = c .log }))
-      (leases-append held (take n ls) (two-words dropped)) in
+      made (worldAt h s u g) (environment-has script place (held ++ wordsOf (h .boot) (take n ls))) (boundary-fine dropped p b)
+      ∙ ap (λ (ps : List Hold). let c = boundaryOf (given h script ps) (flowOf s place 0) u g in done-with h (record { seen = (runOf (c .seen .0) 0 1 0, c .seen .1); log = c .log }))
+      (leases-append (h .boot) held (take n ls) (whole-leases dropped)) in
       let within = subst (λ (x : Made (World × Says)). place-in x ≤ stepsIn script) is
-      (place-goes (worldAt h s u g) call (environment-has script place (held ++ wordsOf (take n ls))) (boundary-fine dropped p b) .1) in
+      (place-goes (worldAt h s u g) call (environment-has script place (held ++ wordsOf (h .boot) (take n ls))) (boundary-fine dropped p b) .1) in
       let rest = gives-back old p b n (f .next) (f .place) (c .seen .1 .0) (c .seen .1 .1) ls
-      (moved dropped (f .place) n within (omega arith) (weaken (λ k i _. in-left k (leasesOf held) (take n ls) i) kept)
+      (moved dropped (f .place) n within (omega arith) (weaken (λ k i _. in-left k (holdsOf held) (take n ls) i) kept)
       (λ i x.
-      kept-live (shape-stands dropped) kept (leaseAt ls i) (in-right (leaseAt ls i) (leasesOf held) (take n ls) (in-take ls n i noLease x (omega (arith, st .mine .enough))))
+      kept-live (shape-stands dropped) kept (holdAt ls i) (in-right (holdAt ls i) (holdsOf held) (take n ls) (in-take ls n i noHold x (omega (arith, st .mine .enough))))
       (dropped .mine .all-live i x))) in
       let m = giveBackOf n e ls (nil (f .next) (f .place)) (c .seen .1 .0) (c .seen .1 .1) in
       let whole =
@@ -202,9 +206,9 @@ module _ (h : Head) (registry script held keys grants : List ℕ) where
       (none-added (added-up (countsOf 0 1 0 (f .dropped)) (counted (m .seen .0))))
       ∙ ap (λ (k : Made (With Run)). done-with h (record { seen = k .seen; log = released by-caller (l .cell) (l .serial) ∷ (c .log ++ k .log) }))
       (sym (back-from e n ls (runOf f 0 1 0) (c .seen .1 .0) (c .seen .1 .1))) in
-      subst (λ (ks : List Lease). Backs ks v place (done-with h (giveBackOf (suc n) e ls (nil s place) t g))) (sym (take-suc ls n noLease (omega (arith, st .mine .enough))))
+      subst (λ (ks : List Hold). Backs ks v place (done-with h (giveBackOf (suc n) e ls (nil s place) t g))) (sym (take-suc ls n noHold (omega (arith, st .mine .enough))))
       (subst (Backs (take n ls ++ (l ∷ [])) v place) whole
-      (back-as l (drop-made v l (st .passes .0, (ap not live, tt))) refl is refl rest))
+      (back-as l (drop-made v named (st .passes .0, (own-boot h named refl, (ap not live, tt)))) refl is refl rest))
 
   -- ---- locking
 
@@ -221,11 +225,11 @@ module _ (h : Head) (registry script held keys grants : List ℕ) where
   then-locks m o = as-locks (record { seen = o .seen; log = m .log ++ o .log })
 
   -- the keys behind position p, from the run r, with one lease more
-  abbrev more : ℕ → ℕ → List Lease → Made (With Tried) → Run → Lease → Made Locks
-  more left p taken m r l = locksOf left (p + 1) e (h .buckets) registry keys (taken ++ (l ∷ [])) r (m .seen .1 .0) (m .seen .1 .1) grants
+  abbrev more : ℕ → ℕ → List Hold → Made (With Tried) → Run → Hold → Made Locks
+  more left p taken m r l = locksOf left (p + 1) e (h .buckets) (h .boot) registry keys (taken ++ (l ∷ [])) r (m .seen .1 .0) (m .seen .1 .1) grants
 
-  module _ {first : ℕ} (old : Older first) (p : ℕ) (b : p < countIn keys) (taken : List Lease) (w : World) (place : ℕ) (m : Made (With Tried))
-      (fine : Passes w (key-at perform registry script held keys grants p taken place)) (is : locks-it p taken w place ≡ at-last h m) (st : Standing first (of-tried h (m .seen)) (m .seen .0 .run .flow .place) (length taken) taken) where
+  module _ {first : ℕ} (old : Older first) (p : ℕ) (b : p < countIn keys) (taken : List Hold) (w : World) (place : ℕ) (m : Made (With Tried))
+      (fine : Passes w (key-at perform (h .boot) registry script held keys grants p taken place)) (is : locks-it p taken w place ≡ at-last h m) (st : Standing first (of-tried h (m .seen)) (m .seen .0 .run .flow .place) (length taken) taken) where
     rolls-back : (x : Refusal) → answer-in (at-last h m) ≡ Refused x
         → Goes p taken w place (then-locks m (rollbackOf e taken x p (m .seen .0 .run) (m .seen .1 .0) (m .seen .1 .1) grants))
     unfolding rollbackOf
@@ -236,23 +240,23 @@ module _ (h : Head) (registry script held keys grants : List ℕ) where
         (sym (back-from e (length taken) taken r (m .seen .1 .0) (m .seen .1 .1)))
         (rw (append-nil (back .log))
         (refused-as x b fine is a
-        (subst (λ (ls : List Lease). Backs ls (of-tried h (m .seen)) (r .flow .place) (done-with h back)) (take-length taken)
+        (subst (λ (ls : List Hold). Backs ls (of-tried h (m .seen)) (r .flow .place) (done-with h back)) (take-length taken)
         (gives-back old p b (length taken) (r .flow .next) (r .flow .place) (m .seen .1 .0) (m .seen .1 .1) taken st))))
 
     after-key : {c : ℕ} (left : ℕ) (o : Outcome) → m .seen .0 .outcome ≡ o → Won c (of-tried h (m .seen)) o
-        → ((l : Lease) → Live (of-tried h (m .seen)) l → c ≤ l .serial
+        → ((l : Hold) → Live (of-tried h (m .seen)) l → c ≤ l .serial
         → Goes (p + 1) (taken ++ (l ∷ [])) (of-tried h (m .seen)) (m .seen .0 .run .flow .place) (as-locks (more left p taken m (nil (m .seen .0 .run .flow .next) (m .seen .0 .run .flow .place)) l)))
         → Goes p taken w place (then-locks m (afterKey o e taken p (m .seen .0 .run) (m .seen .1 .0) (m .seen .1 .1) grants (more left p taken m (m .seen .0 .run))))
     after-key left o q (won l x i) on =
         subst (λ (k : Made Locks). Goes p taken w place (then-locks m k))
-        (sym (keys-from e left (p + 1) (h .buckets) registry keys (taken ++ (l ∷ [])) (m .seen .0 .run) (m .seen .1 .0) (m .seen .1 .1) grants))
-        (locked-as l b fine is (ap (λ (z : Outcome). answerOf (settled z)) q) (on l x i))
-    after-key left o q (none-yet {why = why}) on = rolls-back (SerializationFailure why) (ap (λ (z : Outcome). answerOf (settled z)) q)
-    after-key left o q (no-more r) on = rolls-back r (ap (λ (z : Outcome). answerOf (settled z)) q)
+        (sym (keys-from e left (p + 1) (h .buckets) (h .boot) registry keys (taken ++ (l ∷ [])) (m .seen .0 .run) (m .seen .1 .0) (m .seen .1 .1) grants))
+        (locked-as l b fine is (ap (λ (z : Outcome). answerOf (h .boot) (settled z)) q) (on l x i))
+    after-key left o q (none-yet {why = why}) on = rolls-back (SerializationFailure why) (ap (λ (z : Outcome). answerOf (h .boot) (settled z)) q)
+    after-key left o q (no-more r) on = rolls-back r (ap (λ (z : Outcome). answerOf (h .boot) (settled z)) q)
 
-  locks-are : {first : ℕ} → Older first → (left p n place : ℕ) (t g : List ℕ) (taken : List Lease) → p + left ≡ countIn keys → length taken ≡ p → first ≤ n
+  locks-are : {first : ℕ} → Older first → (left p n place : ℕ) (t g : List ℕ) (taken : List Hold) → p + left ≡ countIn keys → length taken ≡ p → first ≤ n
       → Standing first (worldAt h n t g) place (length taken) taken
-      → Goes p taken (worldAt h n t g) place (as-locks (locksOf left p e (h .buckets) registry keys taken (nil n place) t g grants))
+      → Goes p taken (worldAt h n t g) place (as-locks (locksOf left p e (h .buckets) (h .boot) registry keys taken (nil n place) t g grants))
   unfolding locksOf
   locks-are old zero p n place t g taken l k f st = let z : p ≡ countIn keys = omega arith in all-locked z
   locks-are {first} old (suc left) p n place t g taken l k f st =
@@ -260,35 +264,36 @@ module _ (h : Head) (registry script held keys grants : List ℕ) where
       let b : p < countIn keys = omega arith in
       let m = retryOf attemptLimit 0 noneYet (protecting e taken) (h .buckets) registry (bindingAt keys p) (bucketAt keys p) (nil n place) t g in
       let s = m .seen .0 .run .flow in
-      let kept = retry-kept h script attemptLimit 0 noneYet (leasesOf held ++ taken) registry (bindingAt keys p) (bucketAt keys p) (nil n place) t g (shape-stands st) in
-      let call = acquire-bucket registry script place (held ++ wordsOf taken) (bindingAt keys p) (bucketAt keys p) in
-      let has = acquire-bucket-has registry script place (held ++ wordsOf taken) (bindingAt keys p) (bucketAt keys p) in
+      let kept = retry-kept h script attemptLimit 0 noneYet (holdsOf held ++ taken) registry (bindingAt keys p) (bucketAt keys p) (nil n place) t g (shape-stands st) in
+      let call = acquire-bucket registry script place (held ++ wordsOf (h .boot) taken) (bindingAt keys p) (bucketAt keys p) in
+      let has = acquire-bucket-has registry script place (held ++ wordsOf (h .boot) taken) (bindingAt keys p) (bucketAt keys p) in
       let fine : Passes v call =
-      subst (λ (ls : List Lease). Passes v (acquire-bucket registry script place (held ++ wordsOf ls) (bindingAt keys p) (bucketAt keys p))) (take-length taken) (key-fine st p b) in
+      subst (λ (ls : List Hold). Passes v (acquire-bucket registry script place (held ++ wordsOf (h .boot) ls) (bindingAt keys p) (bucketAt keys p))) (take-length taken) (key-fine st p b) in
       let is : locks-it p taken v place ≡ at-last h m =
       made v has fine
-      ∙ ap (λ (ps : List Lease). at-last h (retryOf attemptLimit 0 noneYet (given h script ps) (h .buckets) registry (bindingAt keys p) (bucketAt keys p) (nil n place) t g))
-      (leases-append held taken (two-words st)) in
+      ∙ ap (λ (ps : List Hold). at-last h (retryOf attemptLimit 0 noneYet (given h script ps) (h .buckets) registry (bindingAt keys p) (bucketAt keys p) (nil n place) t g))
+      (leases-append (h .boot) held taken (whole-leases st)) in
       let within = subst (λ (x : Made (World × Says)). place-in x ≤ stepsIn script) is (place-goes v call has fine .1) in
-      let still : (i : ℕ) → i < length taken → Live (of-tried h (m .seen)) (leaseAt taken i) = λ i j.
-      kept-live (shape-stands st) (kept .kept) (leaseAt taken i)
-      (in-right (leaseAt taken i) (leasesOf held) taken (subst (λ (x : List Lease). In x (leaseAt taken i)) (take-length taken) (in-take taken (length taken) i noLease j j)))
+      let still : (i : ℕ) → i < length taken → Live (of-tried h (m .seen)) (holdAt taken i) = λ i j.
+      kept-live (shape-stands st) (kept .kept) (holdAt taken i)
+      (in-right (holdAt taken i) (holdsOf held) taken (subst (λ (x : List Hold). In x (holdAt taken i)) (take-length taken) (in-take taken (length taken) i noHold j j)))
       (st .mine .all-live i j) in
-      let now = moved st (s .place) (length taken) within (omega arith) (weaken (λ c i _. in-left c (leasesOf held) taken i) (kept .kept)) still in
+      let now = moved st (s .place) (length taken) within (omega arith) (weaken (λ c i _. in-left c (holdsOf held) taken i) (kept .kept)) still in
       after-key old p b taken v place m fine is now left (m .seen .0 .outcome) refl (kept .gain)
       (λ c x i.
       let all = one-more {w = v} {ls = taken} c (record { are-held = st .mine; young = st .young }) still f x i in
       locks-are old left (p + 1) (s .next) (s .place) (m .seen .1 .0) (m .seen .1 .1) (taken ++ (c ∷ [])) (omega arith) (omega (arith, length-append taken (c ∷ []))) (omega (arith, kept-next (kept .kept)))
-      (record { passes = now .passes; mine = all .are-held; young = all .young; few = omega (arith, length-append taken (c ∷ [])) }))
+      (record { passes = now .passes; own = refl; mine = all .are-held; young = all .young; few = omega (arith, length-append taken (c ∷ [])) }))
 
 pub locks-as-calls : Locks-as-calls perform
 unfolding locksRules
 locks-as-calls w registry script place held keys grants fine =
-    let old = clear-live (w .head) (w .table) 0 (leasesOf held) (clear-front (notLive (w .head) (w .table) 0 (leasesOf held)) _ (fine .1 .1 .1 .1 .1)) in
-    subst (Key-by-key perform registry script held keys grants 0 [] w place) (sym (made w (acquire-locks-has registry script place held keys grants) fine))
+    let old = clear-live (w .head) (w .table) held (clear-front (notLive (w .head) (w .table) 0 (leasesOf held)) _ (fine .1 .1 .1 .1 .1)) in
+    subst (Key-by-key perform (w .head .boot) registry script held keys grants 0 [] w place) (sym (made w (acquire-locks-has registry script place held keys grants) fine))
     (locks-are (w .head) registry script held keys grants (λ l i. lives w l (old l i) .high) (countIn keys) 0 (w .head .next) place (w .table) (w .health) [] (omega arith) refl (omega arith)
     (record {
       passes = fine;
+      own = refl;
       mine = record { enough = omega arith; all-live = λ i x. absurd (omega arith); distinct = λ i j x. absurd (omega arith) };
       young = λ i x. absurd (omega arith);
       few = omega arith;

@@ -8,7 +8,7 @@ use Rattle.model.specs.Refusals.{numberOf}
 use Rattle.model.specs.Lock.{noneYet}
 use Rattle.types.specs.declared.Answer.{Answer}
 use Rattle.types.specs.declared.Answer.the-variants.{Busy, Refused}
-use Rattle.types.specs.declared.Lease.{Lease}
+use Rattle.types.specs.declared.Hold.{Hold}
 use Rattle.types.specs.declared.Reason.{Reason}
 use Rattle.types.specs.declared.Refusal.the-variants.{SerializationFailure}
 use Rattle.history.specs.World.{World}
@@ -20,7 +20,7 @@ use Rattle.exact.specs.Ending.{attempt-ends}
 use Rattle.exact.specs.Attempting.{calling, waiting, Fine-at, calling-fine, waiting-fine, bucket-attempts}
 
 -- no attempt ends by 11
-ends-not : {a : Answer} {n : ℕ} {ts rs : List Lease} {why : Reason} → Ends a n ts rs → a ≡ Refused (SerializationFailure why) → ⊥
+ends-not : {a : Answer} {n : ℕ} {ts rs : List Hold} {why : Reason} → Ends a n ts rs → a ≡ Refused (SerializationFailure why) → ⊥
 ends-not {why = why} (no-cell r i j) e = let z : r ≡ SerializationFailure why = cc in omega (arith, ap numberOf z, j)
 ends-not waited e = let z : _≡_ {A = ℕ} 0 1 = cc in omega arith
 ends-not (held s) e = let z : _≡_ {A = ℕ} 0 1 = cc in omega arith

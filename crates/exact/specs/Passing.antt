@@ -1,7 +1,7 @@
 -- Checks go on passing: over lawful events that spare the held leases, and from one place of the script to another.
 use Prim.Native.Nat.{zero, suc, _<_, ℕ, _+_, _≤_, _%_, _*_, _/_}
 use mathlib.Core.Path.{_≡_, refl, ap, _∙_, subst}
-use mathlib.Core.List.{List, [], _∷_, _++_}
+use mathlib.Core.List.{List, [], _∷_, _++_, map}
 use mathlib.Core.Bool.{true, false, not, _||_}
 use mathlib.Core.Logic.{inl, inr}
 use native.Mathlib.Decide.{ℕ-discrete}
@@ -10,37 +10,62 @@ use lib.Dec.{ltb, eqb}
 use lib.ListN.{length, length-set, length-append}
 use borrow.Author.Tests.{not-false, le-ltb, ltb-false, eqb-true, eq-eqb}
 use Rattle.model.specs.Log.{Event, attempt-begun, boundary-run, yielded, spun, step-dropped, took, released, waiters-set, health-set, held-all, added}
-use Rattle.model.specs.Arena.{cellsOf, shapeFits, healthFits, isLive, leasesOf, isIn, wordsOf, leaseOf}
+use Rattle.model.specs.Arena.{cellsOf, shapeFits, healthFits, isStale, isLive, leasesOf, holdsOf, isIn, wordsOf, holdOf, holdIn}
 use Rattle.model.specs.Foreign.{stepsIn}
 use Rattle.model.specs.Lock.{bindingAt}
-use Rattle.model.specs.Checks.{notLive, badScript, bucketRules, scriptRules, badBindings, locksRules, badBinding, countIn, badHeldLength, isOdd}
+use Rattle.model.specs.Checks.{notLive, badScript, bucketRules, scriptRules, badBindings, locksRules, badBinding, countIn, leaseCount, badHeldLength, isUneven}
 use Rattle.types.specs.declared.Head.{Head}
+use Rattle.types.specs.declared.Hold.{Hold}
 use Rattle.types.specs.declared.Lease.{Lease}
 use Rattle.choice.specs.Pick.{neither}
 use Rattle.laws.specs.Shape.{shaped}
-use Rattle.laws.specs.Lists.{length-words}
+use Rattle.laws.specs.Lists.{length-words, holds-are, words-back}
 use Rattle.history.specs.World.{World, step, now}
 use Rattle.history.specs.Items.{Clear}
-use Rattle.history.specs.Tests.{In, in-first, in-rest, in-cases, differ, leases-words, in-either}
+use Rattle.history.specs.Tests.{In, in-first, in-rest, in-cases, differ, in-either}
 use Rattle.history.specs.Events.{Fit, fits}
 use Rattle.history.specs.Logs.{Kept, kept-fit, kept-live, arena-now}
 use Rattle.history.specs.Judged.{clear-front, clear-back, clear-append}
 
 -- ---- the held list
 
-pub live-clear : (h : Head) (t : List ℕ) (i : ℕ) (ls : List Lease) → ((l : Lease) → In ls l → isLive (h .next) (cellsOf h) t l ≡ true) → Clear (notLive h t i ls)
-unfolding notLive
-live-clear h t i [] f = tt
-live-clear h t i (l ∷ ls) f = (ap not (f l (in-first l ls)), live-clear h t (i + 1) ls (λ k j. f k (in-rest l k ls j)))
+-- all leases of a list have this boot number
+abbrev pub All-of : ℕ → List Lease → Type 0
+All-of boot [] = Unit {0}
+All-of boot (l ∷ ls) = (l .boot ≡ boot) × All-of boot ls
 
-pub clear-live : (h : Head) (t : List ℕ) (i : ℕ) (ls : List Lease) → Clear (notLive h t i ls) → (l : Lease) → In ls l → isLive (h .next) (cellsOf h) t l ≡ true
+-- a lease of the head's boot number is not stale
+pub own-boot : (h : Head) (l : Lease) → l .boot ≡ h .boot → isStale h l ≡ false
+own-boot h l e = ap not (eq-eqb (l .boot) (h .boot) e)
+
+leases-clear : (h : Head) (t : List ℕ) (i : ℕ) (ls : List Lease) → All-of (h .boot) ls → ((l : Hold) → In (map holdIn ls) l → isLive (h .next) (cellsOf h) t l ≡ true)
+    → Clear (notLive h t i ls)
+unfolding notLive
+leases-clear h t i [] o f = tt
+leases-clear h t i (l ∷ ls) o f =
+    (own-boot h l (o .0), (ap not (f (holdIn l) (in-first (holdIn l) (map holdIn ls))), leases-clear h t (i + 1) ls (o .1) (λ k j. f k (in-rest (holdIn l) k (map holdIn ls) j))))
+
+clear-leases : (h : Head) (t : List ℕ) (i : ℕ) (ls : List Lease) → Clear (notLive h t i ls) → (l : Hold) → In (map holdIn ls) l → isLive (h .next) (cellsOf h) t l ≡ true
 unfolding notLive isIn
-clear-live h t i [] c l j = absurd (differ j)
-clear-live h t i (k ∷ ls) c l j =
-    elim (in-cases k l ls j) [
-      | inl e ↦ subst (λ (x : Lease). isLive (h .next) (cellsOf h) t x ≡ true) e (not-false (isLive (h .next) (cellsOf h) t k) (c .0))
-      | inr r ↦ clear-live h t (i + 1) ls (c .1) l r
+clear-leases h t i [] c l j = absurd (differ j)
+clear-leases h t i (k ∷ ls) c l j =
+    elim (in-cases (holdIn k) l (map holdIn ls) j) [
+      | inl e ↦ subst (λ (x : Hold). isLive (h .next) (cellsOf h) t x ≡ true) e (not-false (isLive (h .next) (cellsOf h) t (holdIn k)) (c .1 .0))
+      | inr r ↦ clear-leases h t (i + 1) ls (c .1 .1) l r
     ]
+
+clear-own : (h : Head) (t : List ℕ) (i : ℕ) (ls : List Lease) → Clear (notLive h t i ls) → All-of (h .boot) ls
+unfolding notLive
+clear-own h t i [] c = tt
+clear-own h t i (l ∷ ls) c = (eqb-true (l .boot) (h .boot) (not-false _ (c .0)), clear-own h t (i + 1) ls (c .1 .1))
+
+-- the same of a list as words: its leases are of the head's boot number, and its holds are live
+pub live-clear : (h : Head) (t held : List ℕ) → All-of (h .boot) (leasesOf held) → ((l : Hold) → In (holdsOf held) l → isLive (h .next) (cellsOf h) t l ≡ true)
+    → Clear (notLive h t 0 (leasesOf held))
+live-clear h t held o f = leases-clear h t 0 (leasesOf held) o (rw (holds-are held) at f)
+
+pub clear-live : (h : Head) (t held : List ℕ) → Clear (notLive h t 0 (leasesOf held)) → (l : Hold) → In (holdsOf held) l → isLive (h .next) (cellsOf h) t l ≡ true
+clear-live h t held c = rw (holds-are held) (clear-leases h t 0 (leasesOf held) c)
 
 -- ---- the arena
 
@@ -61,7 +86,7 @@ health-now : (w : World) (es : List Event) → length (now w es .health) ≡ len
 health-now w [] = refl
 health-now w (e ∷ es) = health-now (step w e) es ∙ one-health w e
 
-module _ {w v : World} {es : List Event} (held : List ℕ) (k : Kept w (In (leasesOf held)) v es) where
+module _ {w v : World} {es : List Event} (held : List ℕ) (k : Kept w (In (holdsOf held)) v es) where
   shape-fit : not (shapeFits (w .head) (length (w .table))) ≡ false → Fit w
   shape-fit e = record { shape = shaped (w .head) (length (w .table)) (not-false _ e) }
 
@@ -75,8 +100,14 @@ module _ {w v : World} {es : List Event} (held : List ℕ) (k : Kept w (In (leas
       let headers : v .head .headers ≡ w .head .headers = ap (λ (x : World). x .head .headers) (k .leads) ∙ ap (λ (h : Head). h .headers) (arena-now w es) in
       rw (bytes, headers) e
 
+  -- no event changes the boot number
+  pub same-boot : v .head .boot ≡ w .head .boot
+  same-boot = ap (λ (x : World). x .head .boot) (k .leads) ∙ ap (λ (h : Head). h .boot) (arena-now w es)
+
   held-on : Fit w → Clear (notLive (w .head) (w .table) 0 (leasesOf held)) → Clear (notLive (v .head) (v .table) 0 (leasesOf held))
-  held-on g c = live-clear (v .head) (v .table) 0 (leasesOf held) (λ l i. kept-live g k l i (clear-live (w .head) (w .table) 0 (leasesOf held) c l i))
+  held-on g c =
+      live-clear (v .head) (v .table) held (rw same-boot (clear-own (w .head) (w .table) 0 (leasesOf held) c))
+      (λ l i. kept-live g k l i (clear-live (w .head) (w .table) held c l i))
 
   script-on : (script : List ℕ) (place p : ℕ) → p ≤ stepsIn script → badScript script place .applies ≡ false → badScript script p .applies ≡ false
   script-on script place p inside e =
@@ -140,29 +171,44 @@ in-script script place e =
 -- ---- leases taken in the call are held behind the caller's
 
 -- a held list that passed has no word left over
-pub even : (held : List ℕ) → badHeldLength held .applies ≡ false → length held % 2 ≡ 0
-even held e = eqb-true (length held % 2) 0 (not-false _ (neither (isOdd held) (ltb 64 (countIn held)) e .0))
+pub divides : (held : List ℕ) → badHeldLength held .applies ≡ false → length held % 3 ≡ 0
+divides held e = eqb-true (length held % 3) 0 (not-false _ (neither (isUneven held) (ltb 64 (leaseCount held)) e .0))
 
-pub leases-append : (held : List ℕ) (ls : List Lease) → length held % 2 ≡ 0 → leasesOf (held ++ wordsOf ls) ≡ leasesOf held ++ ls
+pub leases-append : (boot : ℕ) (held : List ℕ) (ls : List Hold) → length held % 3 ≡ 0 → holdsOf (held ++ wordsOf boot ls) ≡ holdsOf held ++ ls
+unfolding holdsOf
+leases-append boot [] ls e = words-back boot ls
+leases-append boot (c ∷ []) ls e = absurd (omega arith)
+leases-append boot (c ∷ s ∷ []) ls e = absurd (omega arith)
+leases-append boot (c ∷ s ∷ b ∷ ws) ls e = ap {B = List Hold} (λ ks. holdOf c s ∷ ks) (leases-append boot ws ls (omega arith))
+
+words-own : (boot : ℕ) (ls : List Hold) → All-of boot (leasesOf (wordsOf boot ls))
+unfolding leasesOf wordsOf
+words-own boot [] = tt
+words-own boot (l ∷ ls) = (refl, words-own boot ls)
+
+own-append : (boot : ℕ) (held : List ℕ) (ls : List Hold) → length held % 3 ≡ 0 → All-of boot (leasesOf held) → All-of boot (leasesOf (held ++ wordsOf boot ls))
 unfolding leasesOf
-leases-append [] ls e = leases-words ls
-leases-append (c ∷ []) ls e = absurd (omega arith)
-leases-append (c ∷ s ∷ ws) ls e = ap {B = List Lease} (λ ks. leaseOf c s ∷ ks) (leases-append ws ls (omega arith))
+own-append boot [] ls e o = words-own boot ls
+own-append boot (c ∷ []) ls e o = absurd (omega arith)
+own-append boot (c ∷ s ∷ []) ls e o = absurd (omega arith)
+own-append boot (c ∷ s ∷ b ∷ ws) ls e o = (o .0, own-append boot ws ls (omega arith) (o .1))
 
 -- the checks of a call by key, holding leases besides that are live and not too many
-pub holding-more : (w : World) (registry script : List ℕ) (place : ℕ) (held : List ℕ) (binding : ℕ) (ls : List Lease) → countIn held + length ls ≤ 64
-    → ((l : Lease) → In ls l → isLive (w .head .next) (cellsOf (w .head)) (w .table) l ≡ true)
+pub holding-more : (w : World) (registry script : List ℕ) (place : ℕ) (held : List ℕ) (binding : ℕ) (ls : List Hold) → leaseCount held + length ls ≤ 64
+    → ((l : Hold) → In ls l → isLive (w .head .next) (cellsOf (w .head)) (w .table) l ≡ true)
     → Clear (bucketRules (w .head) (w .table) (w .health) registry script place held binding)
-    → Clear (bucketRules (w .head) (w .table) (w .health) registry script place (held ++ wordsOf ls) binding)
+    → Clear (bucketRules (w .head) (w .table) (w .health) registry script place (held ++ wordsOf (w .head .boot) ls) binding)
 unfolding bucketRules
 holding-more w registry script place held binding ls few live c =
     let old = notLive (w .head) (w .table) 0 (leasesOf held) in
-    let front = clear-live (w .head) (w .table) 0 (leasesOf held) (clear-front old _ (c .1 .1 .1 .1 .1)) in
+    let passed = clear-front old _ (c .1 .1 .1 .1 .1) in
+    let front = clear-live (w .head) (w .table) held passed in
     let last = clear-back old _ (c .1 .1 .1 .1 .1) in
-    let two = even held (c .1 .1 .1 .1 .0) in
-    let many : length (held ++ wordsOf ls) ≡ length held + 2 * length ls = omega (arith, length-append held (wordsOf ls), length-words ls) in
-    let fits : badHeldLength (held ++ wordsOf ls) .applies ≡ false
-    = rw (many, eq-eqb ((length held + 2 * length ls) % 2) 0 (omega arith)) (le-ltb 64 ((length held + 2 * length ls) / 2) (omega arith)) in
-    let all = live-clear (w .head) (w .table) 0 (leasesOf (held ++ wordsOf ls))
-    (λ l i. elim (in-either l (leasesOf held) ls (subst (λ (ks : List Lease). In ks l) (leases-append held ls two) i)) [ inl j ↦ front l j | inr j ↦ live l j ]) in
-    (c .0, (c .1 .0, (c .1 .1 .0, (c .1 .1 .1 .0, (fits, clear-append (notLive (w .head) (w .table) 0 (leasesOf (held ++ wordsOf ls))) (badBinding registry 0 binding ∷ []) all last)))))
+    let whole = divides held (c .1 .1 .1 .1 .0) in
+    let more = held ++ wordsOf (w .head .boot) ls in
+    let many : length more ≡ length held + 3 * length ls = omega (arith, length-append held (wordsOf (w .head .boot) ls), length-words (w .head .boot) ls) in
+    let fits : badHeldLength more .applies ≡ false
+    = rw (many, eq-eqb ((length held + 3 * length ls) % 3) 0 (omega arith)) (le-ltb 64 ((length held + 3 * length ls) / 3) (omega arith)) in
+    let all = live-clear (w .head) (w .table) more (own-append (w .head .boot) held ls whole (clear-own (w .head) (w .table) 0 (leasesOf held) passed))
+    (λ l i. elim (in-either l (holdsOf held) ls (subst (λ (ks : List Hold). In ks l) (leases-append (w .head .boot) held ls whole) i)) [ inl j ↦ front l j | inr j ↦ live l j ]) in
+    (c .0, (c .1 .0, (c .1 .1 .0, (c .1 .1 .1 .0, (fits, clear-append (notLive (w .head) (w .table) 0 (leasesOf more)) (badBinding registry 0 binding ∷ []) all last)))))

@@ -13,7 +13,7 @@ use Rattle.choice.specs.Choice.{if_then_else_}
 use lib.ListN.{getD, set}
 use lib.Seq.{set-set, set-getD}
 use Rattle.model.specs.Log.{Made, boundary-run}
-use Rattle.model.specs.Arena.{lastSerial, serialRemains, headerOf, leaseOf, bitAt, ownerAt, waitersAt, setCell, stateAt}
+use Rattle.model.specs.Arena.{lastSerial, serialRemains, headerOf, holdOf, bitAt, ownerAt, waitersAt, setCell, stateAt}
 use Rattle.model.specs.Foreign.{Setting, protecting, stepsIn, flowOf, runStepsOf, boundaryOf}
 use Rattle.model.specs.Lock.{takeIn, takeOf, lockedOf, lateOf, afterTake, secondOf, lockOf, runOf, triedOf, attemptOf, spinOf, pauseOf, retryOf}
 use Rattle.types.specs.declared.Flow.{Flow}
@@ -65,23 +65,23 @@ pub data Quiet-lock (buckets : ℕ) (f : Flow) (t g : List ℕ) (c : ℕ) : With
   was-spent : waitersAt t c ≡ 0 → bitAt t c ≡ 0 → ownerAt t c ≡ 0 → lastSerial ≤ f .next
       → Quiet-lock buckets f t g c (lockedOf f 2 (outcome.Refused (refusal.SerialsSpent c)), (t, g))
   was-free : waitersAt t c ≡ 0 → bitAt t c ≡ 0 → ownerAt t c ≡ 0 → f .next < lastSerial → getD g (headerOf buckets c) 0 ≡ 0
-      → Quiet-lock buckets f t g c (lockedOf (flowOf (f .next + 1) (f .place) (f .dropped)) 3 (outcome.Granted (leaseOf c (f .next))), (setCell t c 1 (f .next), g))
+      → Quiet-lock buckets f t g c (lockedOf (flowOf (f .next + 1) (f .place) (f .dropped)) 3 (outcome.Granted (holdOf c (f .next))), (setCell t c 1 (f .next), g))
   was-sick : waitersAt t c ≡ 0 → bitAt t c ≡ 0 → ownerAt t c ≡ 0 → f .next < lastSerial → (getD g (headerOf buckets c) 0 ≡ 0 → ⊥)
       → Quiet-lock buckets f t g c (lockedOf (flowOf (f .next + 1) (f .place) (f .dropped)) 3 (outcome.Refused (refusal.Poisoned (headerOf buckets c))), (t, g))
 
 module _ (e : Setting) (buckets : ℕ) (f : Flow) (t g : List ℕ) (c : ℕ) (quiet : stepsIn (e .script) ≤ f .place) where
   late-quiet : (n : ℕ) (u : List ℕ) (s : ℕ) → waitersAt u c ≡ 0 → getD g (headerOf buckets c) 0 ≡ 0
-      → lateOf e buckets (flowOf n (f .place) (f .dropped)) u g c s .seen ≡ (lockedOf (flowOf n (f .place) (f .dropped)) 3 (outcome.Granted (leaseOf c s)), (u, g))
+      → lateOf e buckets (flowOf n (f .place) (f .dropped)) u g c s .seen ≡ (lockedOf (flowOf n (f .place) (f .dropped)) 3 (outcome.Granted (holdOf c s)), (u, g))
   unfolding lateOf
   late-quiet n u s w h =
-      rw (boundary-quiet (protecting e (leaseOf c s ∷ [])) (flowOf n (f .place) (f .dropped)) u g quiet, eq-eqb (getD g (headerOf buckets c) 0) 0 h, eq-eqb (waitersAt u c) 0 w)
+      rw (boundary-quiet (protecting e (holdOf c s ∷ [])) (flowOf n (f .place) (f .dropped)) u g quiet, eq-eqb (getD g (headerOf buckets c) 0) 0 h, eq-eqb (waitersAt u c) 0 w)
 
   late-sick : (n : ℕ) (u : List ℕ) (s : ℕ) → (getD g (headerOf buckets c) 0 ≡ 0 → ⊥)
       → lateOf e buckets (flowOf n (f .place) (f .dropped)) u g c s .seen
       ≡ (lockedOf (flowOf n (f .place) (f .dropped)) 3 (outcome.Refused (refusal.Poisoned (headerOf buckets c))), (setCell u c 0 0, g))
   unfolding lateOf
   late-sick n u s h =
-      rw (boundary-quiet (protecting e (leaseOf c s ∷ [])) (flowOf n (f .place) (f .dropped)) u g quiet, ne-eqb (getD g (headerOf buckets c) 0) 0 h)
+      rw (boundary-quiet (protecting e (holdOf c s ∷ [])) (flowOf n (f .place) (f .dropped)) u g quiet, ne-eqb (getD g (headerOf buckets c) 0) 0 h)
 
   pub lock-quiet : Quiet-lock buckets f t g c (lockOf e buckets f t g c .seen)
   unfolding lockOf secondOf takeOf stateAt

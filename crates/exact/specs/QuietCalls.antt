@@ -10,7 +10,7 @@ use native.Mathlib.Omega.{arith}
 use lib.Dec.{leb}
 use lib.ListN.{getD}
 use borrow.Author.Tests.{leb-true, leb-false, eqb-true, eqb-false, not-true, not-false}
-use Rattle.model.specs.Arena.{spentTo, headerOf, isPoisoned, leasesOf, ownerAt}
+use Rattle.model.specs.Arena.{spentTo, headerOf, isPoisoned, holdsOf, ownerAt}
 use Rattle.model.specs.Foreign.{Setting, stepsIn, flowOf}
 use Rattle.model.specs.Lock.{lockedOf, lockOf, answerOf, settled, runOf, triedOf, findOf, attemptAt, attemptOf, isBusy, noneYet, retryOf}
 use Rattle.model.specs.Calls.{countsOf, given, starting}
@@ -42,7 +42,7 @@ use Rattle.exact.specs.Quiet.{Quiet-lock, was-waited, was-held, was-dama
 
 -- one attempt, as a call says it
 abbrev said : World → With Tried → World × Says
-said w m = (worldOf (spentTo (w .head) (m .0 .run .flow .next)) (m .1 .0) (m .1 .1), says (answerOf (m .0 .outcome)) (countsOf (m .0 .run .attempts) (m .0 .run .boundaries) (m .0 .run .yields) (m .0 .run .flow .dropped)) (m .0 .run .flow .place) [])
+said w m = (worldOf (spentTo (w .head) (m .0 .run .flow .next)) (m .1 .0) (m .1 .1), says (answerOf (w .head .boot) (m .0 .outcome)) (countsOf (m .0 .run .attempts) (m .0 .run .boundaries) (m .0 .run .yields) (m .0 .run .flow .dropped)) (m .0 .run .flow .place) [])
 
 -- one quiet try_lock in a run with a attempts and x boundaries before
 abbrev after : ℕ → ℕ → ℕ → With Locked → With Tried
@@ -70,8 +70,8 @@ sound-row h (sound-cell n y) = y
 pub try-lock-quiet : Try-lock-quiet perform
 try-lock-quiet w script place held c fine end =
     subst (By-cell w c place (Row-of w place c)) (sym (ap (λ m. m .seen) (made w (try-lock-has script place held c) fine)))
-    (rw (zero-add (lockOf (given (w .head) script (leasesOf held)) (w .head .buckets) (flowOf (w .head .next) place 0) (w .table) (w .health) c .seen .0 .boundaries))
-    at (lock-row w place c (lock-quiet (given (w .head) script (leasesOf held)) (w .head .buckets) (flowOf (w .head .next) place 0) (w .table) (w .health) c end)))
+    (rw (zero-add (lockOf (given (w .head) script (holdsOf held)) (w .head .buckets) (flowOf (w .head .next) place 0) (w .table) (w .health) c .seen .0 .boundaries))
+    at (lock-row w place c (lock-quiet (given (w .head) script (holdsOf held)) (w .head .buckets) (flowOf (w .head .next) place 0) (w .table) (w .health) c end)))
 
 -- what a key names, in words
 pub data Keyed (headers buckets : ℕ) (g registry : List ℕ) (binding bucket : ℕ) : Found → Type 0 where
@@ -113,13 +113,13 @@ transactional-quiet w registry script place held binding bucket fine end =
     Row = Quietly w place (busy-after reason.Before place 1) (λ s. busy-after (reason.Held s) place 2)
 
     go : {x : Found} → Keyed (w .head .headers) (w .head .buckets) (w .health) registry binding bucket x
-        → By-key w registry binding bucket place Row (said w (attemptAt x (given (w .head) script (leasesOf held)) (w .head .buckets) (starting (w .head) place) (w .table) (w .health) .seen))
+        → By-key w registry binding bucket place Row (said w (attemptAt x (given (w .head) script (holdsOf held)) (w .head .buckets) (starting (w .head) place) (w .table) (w .health) .seen))
     go (no-header p) = bad-header p
     go (sick p q) = is-poisoned p q
     go (no-bucket p q r) = bad-bucket p q r
     go (at-cell p q r) =
         names p q r (sound-row (key-healthy w registry binding bucket q r)
-        (lock-row w place _ (lock-quiet (given (w .head) script (leasesOf held)) (w .head .buckets) (flowOf (w .head .next) place 0) (w .table) (w .health) _ end)))
+        (lock-row w place _ (lock-quiet (given (w .head) script (holdsOf held)) (w .head .buckets) (flowOf (w .head .next) place 0) (w .table) (w .health) _ end)))
 
 -- ---- retrying
 
@@ -144,7 +144,7 @@ said-at-last w m = said w (triedOf (m .0 .run) (settled (m .0 .outcome)), m .1)
 
 module _ (w : World) (registry script : List ℕ) (place : ℕ) (held : List ℕ) (binding bucket : ℕ) (end : stepsIn script ≤ place) where
   abbrev around : Setting
-  around = given (w .head) script (leasesOf held)
+  around = given (w .head) script (holdsOf held)
 
   abbrev from : Flow
   from = flowOf (w .head .next) place 0

@@ -9,9 +9,9 @@ use native.Mathlib.Nat.{add-zero, zero-add}
 use native.Mathlib.Omega.{arith}
 use lib.ListN.{length, take, getD}
 use Rattle.model.specs.Log.{Made}
-use Rattle.model.specs.Arena.{spentTo, headerOf, leaseOf, leasesOf, bitAt, ownerAt, setCell, cellsOf, lastSerial, stateAt}
+use Rattle.model.specs.Arena.{spentTo, headerOf, holdOf, holdsOf, bitAt, ownerAt, setCell, cellsOf, lastSerial, stateAt}
 use Rattle.model.specs.Foreign.{Setting, protecting, stepsIn, flowOf}
-use Rattle.model.specs.Lock.{lockedOf, lockOf, answerOf, settled, runOf, triedOf, findOf, attemptAt, isBusy, retryOf, attemptLimit, noneYet, leaseAt, giveBackOf, rollbackOf, bindingAt, bucketAt, afterKey, endedOf, Locks, locksOf}
+use Rattle.model.specs.Lock.{lockedOf, lockOf, answerOf, settled, runOf, triedOf, findOf, attemptAt, isBusy, retryOf, attemptLimit, noneYet, holdAt, giveBackOf, rollbackOf, bindingAt, bucketAt, afterKey, endedOf, Locks, locksOf}
 use Rattle.model.specs.Checks.{countIn, locksRules}
 use Rattle.model.specs.Calls.{countsOf, given}
 use Rattle.types.specs.declared.Answer.{Answer}
@@ -21,7 +21,7 @@ use Rattle.types.specs.declared.Flow.{Flow}
 use Rattle.types.specs.declared.Found.{Found}
 use Rattle.types.specs.declared.Found.the-variants as found
 use Rattle.types.specs.declared.Head.{Head}
-use Rattle.types.specs.declared.Lease.{Lease}
+use Rattle.types.specs.declared.Hold.{Hold}
 use Rattle.types.specs.declared.Locked.{Locked}
 use Rattle.types.specs.declared.Outcome.{Outcome}
 use Rattle.types.specs.declared.Outcome.the-variants as outcome
@@ -154,22 +154,22 @@ module _ (f : Flow) (t g : List ℕ) (buckets : ℕ) (registry : List ℕ) (bind
 
 -- ---- giving back where nothing happens between
 
-unfoldable undo : ℕ → List Lease → List ℕ → List ℕ
+unfoldable undo : ℕ → List Hold → List ℕ → List ℕ
 undo zero ls u = u
-undo (suc n) ls u = undo n ls (setCell u (leaseAt ls n .cell) 0 0)
+undo (suc n) ls u = undo n ls (setCell u (holdAt ls n .cell) 0 0)
 
-back-quiet : (n : ℕ) (e : Setting) (ls : List Lease) (f : Flow) (a x y : ℕ) (u g : List ℕ) → stepsIn (e .script) ≤ f .place
+back-quiet : (n : ℕ) (e : Setting) (ls : List Hold) (f : Flow) (a x y : ℕ) (u g : List ℕ) → stepsIn (e .script) ≤ f .place
     → giveBackOf n e ls (runOf f a x y) u g .seen ≡ (runOf f a (x + n) y, (undo n ls u, g))
 unfolding giveBackOf undo
 back-quiet zero e ls f a x y u g q = rw (add-zero x)
 back-quiet (suc n) e ls f a x y u g q =
     let k : x + 1 + n ≡ x + suc n = omega arith in
-    let v = setCell u (leaseAt ls n .cell) 0 0 in
+    let v = setCell u (holdAt ls n .cell) 0 0 in
     rw (boundary-quiet (protecting e (take n ls)) f v g q, back-quiet n e ls f a (x + 1) y v g q, k)
 
 -- ---- all leases of keys in a row are given back
 
-set-all-end : (t : List ℕ) (ls : List Lease) (l : Lease) → set-all t (ls ++ (l ∷ [])) ≡ setCell (set-all t ls) (l .cell) 1 (l .serial)
+set-all-end : (t : List ℕ) (ls : List Hold) (l : Hold) → set-all t (ls ++ (l ∷ [])) ≡ setCell (set-all t ls) (l .cell) 1 (l .serial)
 unfolding set-all
 set-all-end t [] l = refl
 set-all-end t (k ∷ ls) l = set-all-end (setCell t (k .cell) 1 (k .serial)) ls l
@@ -184,17 +184,17 @@ module _ (cell : ℕ → ℕ) where
   unfolding leases-from
   from-take zero j p s l = refl
   from-take (suc n) zero p s l = absurd (omega arith)
-  from-take (suc n) (suc j) p s l = ap (λ (ls : List Lease). leaseOf (cell p) s ∷ ls) (from-take n j (p + 1) (s + 1) (omega arith))
+  from-take (suc n) (suc j) p s l = ap (λ (ls : List Hold). holdOf (cell p) s ∷ ls) (from-take n j (p + 1) (s + 1) (omega arith))
 
-  from-end : (n p s : ℕ) → leases-from cell (suc n) p s ≡ leases-from cell n p s ++ (leaseOf (cell (p + n)) (s + n) ∷ [])
+  from-end : (n p s : ℕ) → leases-from cell (suc n) p s ≡ leases-from cell n p s ++ (holdOf (cell (p + n)) (s + n) ∷ [])
   unfolding leases-from
   from-end zero p s = rw (add-zero p, add-zero s)
   from-end (suc n) p s =
       let a : p + 1 + n ≡ p + suc n = omega arith in
       let b : s + 1 + n ≡ s + suc n = omega arith in
-      ap (λ (ls : List Lease). leaseOf (cell p) s ∷ ls) (from-end n (p + 1) (s + 1) ∙ rw (a, b))
+      ap (λ (ls : List Hold). holdOf (cell p) s ∷ ls) (from-end n (p + 1) (s + 1) ∙ rw (a, b))
 
-  from-at : (n j p s : ℕ) → n < j → leaseAt (leases-from cell j p s) n .cell ≡ cell (p + n)
+  from-at : (n j p s : ℕ) → n < j → holdAt (leases-from cell j p s) n .cell ≡ cell (p + n)
   unfolding leases-from
   from-at n zero p s l = absurd (omega arith)
   from-at zero (suc j) p s l = rw (add-zero p)
@@ -222,9 +222,9 @@ module _ (cell : ℕ → ℕ) where
         let u = set-all t (leases-from cell n 0 s) in
         let k = untouched n 0 s t (cell n) (λ i a b e. absurd (omega (arith, apart n i (omega arith) (omega arith) e))) in
         let was = taken-back u (cell n) (s + n) (k .0 ∙ free n (omega arith) .0) (k .1 ∙ free n (omega arith) .1) in
-        let at-n : leaseAt (leases-from cell j 0 s) n .cell ≡ cell n = rw (zero-add n) at (from-at n j 0 s (omega arith)) in
+        let at-n : holdAt (leases-from cell j 0 s) n .cell ≡ cell n = rw (zero-add n) at (from-at n j 0 s (omega arith)) in
         let end : set-all t (leases-from cell (suc n) 0 s) ≡ setCell u (cell n) 1 (s + n)
-        = rw (zero-add n) at (ap (set-all t) (from-end n 0 s) ∙ set-all-end t (leases-from cell n 0 s) (leaseOf (cell (0 + n)) (s + n))) in
+        = rw (zero-add n) at (ap (set-all t) (from-end n 0 s) ∙ set-all-end t (leases-from cell n 0 s) (holdOf (cell (0 + n)) (s + n))) in
         ap (undo n (leases-from cell j 0 s)) (rw (at-n, end) was) ∙ undone n (omega arith)
 
 -- ---- a refusal at a key
@@ -234,10 +234,10 @@ NotGranted (outcome.Granted l) = ⊥
 NotGranted (outcome.Busy why) = Unit {0}
 NotGranted (outcome.Refused r) = Unit {0}
 
-refused-not : (o : Outcome) (r : Refusal) → answerOf (settled o) ≡ Refused r → NotGranted o
-refused-not (outcome.Granted l) r e = let z : _≡_ {A = ℕ} 0 1 = cc in absurd (omega arith)
-refused-not (outcome.Busy why) r e = tt
-refused-not (outcome.Refused x) r e = tt
+refused-not : (boot : ℕ) (o : Outcome) (r : Refusal) → answerOf boot (settled o) ≡ Refused r → NotGranted o
+refused-not boot (outcome.Granted l) r e = let z : _≡_ {A = ℕ} 0 1 = cc in absurd (omega arith)
+refused-not boot (outcome.Busy why) r e = tt
+refused-not boot (outcome.Refused x) r e = tt
 
 -- a quiet retry that is not granted changes nothing
 module _ (f : Flow) (t g : List ℕ) (buckets : ℕ) (registry : List ℕ) (binding bucket : ℕ) (e : Setting) (quiet : stepsIn (e .script) ≤ f .place) where
@@ -261,7 +261,7 @@ module _ (f : Flow) (t g : List ℕ) (buckets : ℕ) (registry : List ℕ) (bind
           let k = lock-quiet e buckets f t g c quiet in
           subst Unmoved (sym (at-cell f t g buckets registry binding bucket e quiet 0 0 0 c q k refl)) (row c (find-healthy (e .headers) buckets g registry binding bucket c q) k)
 
-module _ (e : Setting) (f : Flow) (quiet : stepsIn (e .script) ≤ f .place) (taken : List Lease) (p : ℕ) (t g grants : List ℕ) where
+module _ (e : Setting) (f : Flow) (quiet : stepsIn (e .script) ≤ f .place) (boot : ℕ) (taken : List Hold) (p : ℕ) (t g grants : List ℕ) where
   abbrev rolled-back : Refusal → ℕ → ℕ → ℕ → Ended × (List ℕ × (List ℕ × List ℕ))
   rolled-back r a x y = (endedOf (runOf f a (x + length taken) y) (RefusedAt r p), (undo (length taken) taken t, (g, grants)))
 
@@ -269,7 +269,7 @@ module _ (e : Setting) (f : Flow) (quiet : stepsIn (e .script) ≤ f .place) (ta
   unfolding rollbackOf
   roll r a x y = rw (back-quiet (length taken) e taken f a x y t g quiet)
 
-  after-refused : (o : Outcome) (r : Refusal) (more : Lease → Made Locks) (a x y : ℕ) → answerOf (settled o) ≡ Refused r
+  after-refused : (o : Outcome) (r : Refusal) (more : Hold → Made Locks) (a x y : ℕ) → answerOf boot (settled o) ≡ Refused r
       → afterKey o e taken p (runOf f a x y) t g grants more .seen ≡ rolled-back r a x y
   after-refused (outcome.Granted l) r more a x y q = let z : _≡_ {A = ℕ} 0 1 = cc in absurd (omega arith)
   after-refused (outcome.Busy why) r more a x y q = let z : SerializationFailure why ≡ r = cc in roll (SerializationFailure why) a x y ∙ ap (λ (k : Refusal). rolled-back k a x y) z
@@ -278,8 +278,8 @@ module _ (e : Setting) (f : Flow) (quiet : stepsIn (e .script) ≤ f .place) (ta
   -- a key whose retry is m, counted on
   refused-here : (left buckets : ℕ) (registry keys : List ℕ) (r : Refusal) (a x : ℕ) (m : With Tried)
       → retryOf attemptLimit 0 noneYet (protecting e taken) buckets registry (bindingAt keys p) (bucketAt keys p) (runOf f a x 0) t g .seen ≡ counted-on a x 0 m
-      → (m .0 .run .flow ≡ f) × (m .1 ≡ (t, g)) → answerOf (settled (m .0 .outcome)) ≡ Refused r
-      → locksOf (suc left) p e buckets registry keys taken (runOf f a x 0) t g grants .seen
+      → (m .0 .run .flow ≡ f) × (m .1 ≡ (t, g)) → answerOf boot (settled (m .0 .outcome)) ≡ Refused r
+      → locksOf (suc left) p e buckets boot registry keys taken (runOf f a x 0) t g grants .seen
       ≡ rolled-back r (a + m .0 .run .attempts) (x + m .0 .run .boundaries) (0 + m .0 .run .yields)
   unfolding locksOf
   refused-here left buckets registry keys r a x m q s k =
@@ -291,7 +291,7 @@ same-says p q r = cc
 
 -- ---- the takes before the refused key: lawful, and they release nothing
 
-takes-release-none : (cell : ℕ → ℕ) (j p s : ℕ) (l : Lease) → Unreleased l (takes-of (leases-from cell j p s))
+takes-release-none : (cell : ℕ → ℕ) (j p s : ℕ) (l : Hold) → Unreleased l (takes-of (leases-from cell j p s))
 unfolding leases-from
 takes-release-none cell zero p s l = tt
 takes-release-none cell (suc j) p s l = (λ z. z, takes-release-none cell j (p + 1) (s + 1) l)
@@ -344,7 +344,7 @@ module _ (w : World) (registry script : List ℕ) (place : ℕ) (held keys grant
     key-fine : Clear (rules then-world key)
     key-fine =
         let ls = takes-of (leases-from cell j 0 (w .head .next)) in
-        let k : Kept w (In (leasesOf held)) then-world ls = record {
+        let k : Kept w (In (holdsOf held)) then-world ls = record {
           lawful = takes-lawful (w .head) (w .health) cell j apart
               (λ p i. let a = ready p i .0 in place-inside (w .head .headers) (w .head .buckets) (getD registry (bindingAt keys p) 0) (bucketAt keys p) (a .0) (a .2))
               j 0 (w .head .next) (w .table) (omega arith) (λ q _ h. ready q (omega arith) .2) serials;
@@ -359,7 +359,7 @@ module _ (w : World) (registry script : List ℕ) (place : ℕ) (held keys grant
         let s = w .head .next in
         let t = w .table in
         let g = w .health in
-        let e = given (w .head) script (leasesOf held) in
+        let e = given (w .head) script (holdsOf held) in
         let ls = leases-from cell j 0 s in
         let u = set-all t ls in
         let f = flowOf (s + j) place 0 in
@@ -367,15 +367,15 @@ module _ (w : World) (registry script : List ℕ) (place : ℕ) (held keys grant
         let n : j + suc left ≡ countIn keys = omega arith in
         let there : (p : ℕ) → p < j → findOf (w .head .headers) (w .head .buckets) g registry (bindingAt keys p) (bucketAt keys p) ≡ found.At (cell p)
         = λ p i. let a = ready p i .0 in find-named (w .head .headers) (w .head .buckets) g registry (bindingAt keys p) (bucketAt keys p) (a .0) (a .1) (a .2) in
-        let all = ready-keys e place end 0 0 (w .head .buckets) registry keys g grants j apart there j (suc left) 0 [] s 0 0 t (omega arith)
+        let all = ready-keys e place end 0 0 (w .head .buckets) (w .head .boot) registry keys g grants j apart there j (suc left) 0 [] s 0 0 t (omega arith)
         (λ q _ h. let a = ready q (omega arith) in record { unwaited = a .1; no-bit = a .2 .0; no-owner = a .2 .1 }) serials in
         let m = retried f u g (w .head .buckets) registry (bindingAt keys j) (bucketAt keys j) e end 0 0 0 in
         let counted = retry-on f u g (w .head .buckets) registry (bindingAt keys j) (bucketAt keys j) (protecting e ls) e end end j (3 * j) 0 refl in
         let back : undo (length ls) ls u ≡ t = rw (from-length cell j 0 s) (undone cell j s t (λ p i. ready p i .2) apart j (omega arith)) in
         subst (λ (v : World). Says-so (steps v key .seen .1)) (sym (now-takes (w .head) g cell j 0 s t))
         (λ refused.
-        let here = refused-here e f end ls j u g grants left (w .head .buckets) registry keys r j (3 * j) m counted
-        (unmoved f u g (w .head .buckets) registry (bindingAt keys j) (bucketAt keys j) e end (refused-not (m .0 .outcome) r refused)) refused in
+        let here = refused-here e f end (w .head .boot) ls j u g grants left (w .head .buckets) registry keys r j (3 * j) m counted
+        (unmoved f u g (w .head .buckets) registry (bindingAt keys j) (bucketAt keys j) e end (refused-not (w .head .boot) (m .0 .outcome) r refused)) refused in
         ap (λ x. x .seen) (made w (acquire-locks-has registry script place held keys grants) fine)
         ∙ ap (said w) (rw (n, zero-add j, zero-add (3 * j)) at all ∙ here)
         ∙ same-says back (omega (arith, from-length cell j 0 s)) (zero-add (m .0 .run .yields)))

@@ -9,9 +9,9 @@ use lib.Dec.{ltb, leb, eqb}
 use lib.ListN.{length, getD, take}
 use borrow.Author.Tests.{eqb-true, eqb-false}
 use Rattle.model.specs.Log.{Made, Event, yielded, spun}
-use Rattle.model.specs.Arena.{serialRemains, headerOf, isPoisoned, leaseOf, leasesOf, bitAt, ownerAt, waitersAt, setCell, stateAt, isFree, isLive, isIn}
+use Rattle.model.specs.Arena.{serialRemains, headerOf, isPoisoned, holdOf, holdsOf, bitAt, ownerAt, waitersAt, setCell, stateAt, isFree, isLive, isIn}
 use Rattle.model.specs.Foreign.{Setting, protecting, stepsIn, kindAt, placeAt, numberAt, flowOf, stepTakeOf, stepReleaseOf, stepWaitersOf, stepHealthOf, stepOf, runStepsOf, boundaryOf}
-use Rattle.model.specs.Lock.{takeIn, takeOf, lateOf, afterTake, secondOf, lockOf, answerOf, settled, runOf, findOf, attemptAt, attemptOf, spinOf, pauseOf, isBusy, lastOf, retryOf, attemptLimit, noneYet, leaseAt, giveBackOf, Locks, rollbackOf, afterKey, bindingAt, bucketAt, locksOf}
+use Rattle.model.specs.Lock.{takeIn, takeOf, lateOf, afterTake, secondOf, lockOf, answerOf, settled, runOf, findOf, attemptAt, attemptOf, spinOf, pauseOf, isBusy, lastOf, retryOf, attemptLimit, noneYet, holdAt, giveBackOf, Locks, rollbackOf, afterKey, bindingAt, bucketAt, locksOf}
 use Rattle.model.specs.Checks.{countIn}
 use Rattle.model.specs.Calls.{given, starting}
 use Rattle.model.specs.Crew.{total}
@@ -20,6 +20,7 @@ use Rattle.types.specs.declared.Answer.the-variants.{Granted, AllGranted, Refus
 use Rattle.types.specs.declared.Flow.{Flow}
 use Rattle.types.specs.declared.Found.{Found}
 use Rattle.types.specs.declared.Found.the-variants as found
+use Rattle.types.specs.declared.Hold.{Hold}
 use Rattle.types.specs.declared.Lease.{Lease}
 use Rattle.types.specs.declared.Locked.{Locked}
 use Rattle.types.specs.declared.Outcome.{Outcome}
@@ -67,7 +68,7 @@ module _ (e : Setting) where
   step-still n t g kind place number =
       if-both P (eqb kind 0) (record { none = refl })
       (if-both P (eqb kind 1) (if-both P′ (ltb place (e .cells) && isFree (bitAt t place) (ownerAt t place) && serialRemains n) (record { none = refl }) (record { none = refl }))
-      (if-both P (eqb kind 2) (if-both P′ (isLive n (e .cells) t (leaseOf place number) && not (isIn (leaseOf place number) (e .protected))) (record { none = refl }) (record { none = refl }))
+      (if-both P (eqb kind 2) (if-both P′ (isLive n (e .cells) t (holdOf place number) && not (isIn (holdOf place number) (e .protected))) (record { none = refl }) (record { none = refl }))
       (if-both P (eqb kind 3) (if-both P′ (ltb place (e .cells)) (record { none = refl }) (record { none = refl }))
       (if-both P (eqb kind 4) (if-both P′ (ltb place (e .headers) && leb number 1) (record { none = refl }) (record { none = refl }))
       (if-both P (eqb kind 5) (record { none = refl }) (record { none = refl }))))))
@@ -108,7 +109,7 @@ module _ (e : Setting) (buckets : ℕ) where
   late-still : (f : Flow) (t g : List ℕ) (c s : ℕ) → Quiet (lateOf e buckets f t g c s)
   unfolding lateOf spins-in
   late-still f t g c s =
-      let q = protecting e (leaseOf c s ∷ []) in
+      let q = protecting e (holdOf c s ∷ []) in
       let m = boundaryOf q f t g .seen in
       two-still (boundary-still q f t g) (if-both Quiet (isPoisoned (m .1 .1) (headerOf buckets c)) (record { none = refl })
       (if-both Quiet (eqb (waitersAt (m .1 .0) c) 0) (record { none = refl }) (record { none = refl })))
@@ -262,15 +263,15 @@ else-fails {r} n (why, e) = let z : r ≡ SerializationFailure why = cc in n why
 
 pub bucket-retries : Bucket-retries perform
 bucket-retries w registry script place held binding bucket fine =
-    let m = retryOf attemptLimit 0 noneYet (given (w .head) script (leasesOf held)) (w .head .buckets) registry binding bucket (starting (w .head) place) (w .table) (w .health) in
-    let z = retry-ran (given (w .head) script (leasesOf held)) (w .head .buckets) registry binding bucket attemptLimit 0 noneYet (starting (w .head) place) (w .table) (w .health) in
+    let m = retryOf attemptLimit 0 noneYet (given (w .head) script (holdsOf held)) (w .head .buckets) registry binding bucket (starting (w .head) place) (w .table) (w .health) in
+    let z = retry-ran (given (w .head) script (holdsOf held)) (w .head .buckets) registry binding bucket attemptLimit 0 noneYet (starting (w .head) place) (w .table) (w .health) in
     subst (λ (x : Made (World × Says)). Retries (x .seen .1 .answer) (x .seen .1 .counts .attempts) (x .seen .1 .counts .yields) (spins-in (x .log)))
     (sym (made w (acquire-bucket-has registry script place held binding bucket) fine))
     (go (m .seen .0 .outcome) (m .seen .0 .run .attempts) (m .seen .0 .run .yields) (spins-in (m .log)) (omega (arith, z .yields-at)) (z .other)
     (λ q. (z .all q .0, omega (arith, z .all q .1))) (λ q. (z .fewer q .0, omega (arith, z .fewer q .1))))
   where
     go : (o : Outcome) (a y b : ℕ) → y ≡ b / 64 → Else o → (isBusy o ≡ true → (b ≡ 4096) × (a ≡ 4096)) → (isBusy o ≡ false → (b < 4096) × (a ≡ b + 1))
-        → Retries (answerOf (settled o)) a y b
+        → Retries (answerOf (w .head .boot) (settled o)) a y b
     go (outcome.Granted l) a y b yi el all few =
         record {
           yields-are = yi;
@@ -297,11 +298,11 @@ record Backed (r : Run) (m : Made (With Run)) : Type 0 where
   calm : NoSpins (m .log)
   same : m .seen .0 .yields ≡ r .yields
 
-back-still : (n : ℕ) (e : Setting) (ls : List Lease) (r : Run) (t g : List ℕ) → Backed r (giveBackOf n e ls r t g)
+back-still : (n : ℕ) (e : Setting) (ls : List Hold) (r : Run) (t g : List ℕ) → Backed r (giveBackOf n e ls r t g)
 unfolding giveBackOf spins-in
 back-still zero e ls r t g = record { calm = record { none = refl }; same = refl }
 back-still (suc n) e ls r t g =
-    let l = leaseAt ls n in
+    let l = holdAt ls n in
     let u = setCell t (l .cell) 0 0 in
     let q = protecting e (take n ls) in
     let m = boundaryOf q (r .flow) u g .seen in
@@ -361,19 +362,19 @@ last-key keys b x p f g =
 same-tally : {keys z z′ s s′ : ℕ} {a : Answer} → z ≡ z′ → s ≡ s′ → Keys-retried keys a z s → Keys-retried keys a z′ s′
 same-tally p q k = rw (← p, ← q) k
 
-module _ (e : Setting) (buckets : ℕ) (registry keys grants : List ℕ) where
-  locks-sums : (left p : ℕ) (taken : List Lease) (r : Run) (t g : List ℕ) → Sums left (r .yields) (locksOf left p e buckets registry keys taken r t g grants)
+module _ (e : Setting) (buckets boot : ℕ) (registry keys grants : List ℕ) where
+  locks-sums : (left p : ℕ) (taken : List Hold) (r : Run) (t g : List ℕ) → Sums left (r .yields) (locksOf left p e buckets boot registry keys taken r t g grants)
   unfolding locksOf rollbackOf spins-in
   locks-sums zero p taken r t g = (0, omega arith, none-failed 0 AllGranted (λ (why, q, e). let z : _≡_ {A = ℕ} 0 1 = cc in omega arith))
   locks-sums (suc left) p taken r t g =
       let m = retryOf attemptLimit 0 noneYet (protecting e taken) buckets registry (bindingAt keys p) (bucketAt keys p) r t g in
       let k = retry-ran (protecting e taken) buckets registry (bindingAt keys p) (bucketAt keys p) attemptLimit 0 noneYet r t g in
       go (m .seen .0 .outcome) (m .seen .0 .run) (m .seen .1 .0) (m .seen .1 .1) (m .log) (omega (arith, k .yields-at)) (k .other) (λ q. k .all q .0) (λ q. k .fewer q .0)
-      (λ l. locksOf left (p + 1) e buckets registry keys (taken ++ (l ∷ [])) (m .seen .0 .run) (m .seen .1 .0) (m .seen .1 .1) grants)
+      (λ l. locksOf left (p + 1) e buckets boot registry keys (taken ++ (l ∷ [])) (m .seen .0 .run) (m .seen .1 .0) (m .seen .1 .1) grants)
       (λ l. locks-sums left (p + 1) (taken ++ (l ∷ [])) (m .seen .0 .run) (m .seen .1 .0) (m .seen .1 .1))
     where
       go : (o : Outcome) (k : Run) (u w : List ℕ) (es : List Event) → k .yields ≡ r .yields + spins-in es / 64 → Else o
-          → (isBusy o ≡ true → spins-in es ≡ 4096) → (isBusy o ≡ false → spins-in es < 4096) → (more : Lease → Made Locks) → ((l : Lease) → Sums left (k .yields) (more l))
+          → (isBusy o ≡ true → spins-in es ≡ 4096) → (isBusy o ≡ false → spins-in es < 4096) → (more : Hold → Made Locks) → ((l : Hold) → Sums left (k .yields) (more l))
           → let m = afterKey o e taken p k u w grants more in
           Sums (suc left) (r .yields) (record { seen = m .seen; log = es ++ m .log })
       go (outcome.Granted l) k u w es y el all few more on =
@@ -398,6 +399,6 @@ module _ (e : Setting) (buckets : ℕ) (registry keys grants : List ℕ) where
 
 pub locks-retry : Locks-retry perform
 locks-retry w registry script place held keys grants fine =
-    let k = locks-sums (given (w .head) script (leasesOf held)) (w .head .buckets) registry keys grants (countIn keys) 0 [] (starting (w .head) place) (w .table) (w .health) in
+    let k = locks-sums (given (w .head) script (holdsOf held)) (w .head .buckets) (w .head .boot) registry keys grants (countIn keys) 0 [] (starting (w .head) place) (w .table) (w .health) in
     subst (λ (x : Made (World × Says)). Keys-retried (countIn keys) (x .seen .1 .answer) (x .seen .1 .counts .yields) (spins-in (x .log)))
     (sym (made w (acquire-locks-has registry script place held keys grants) fine)) (same-tally (omega (arith, k .1)) refl (k .2))

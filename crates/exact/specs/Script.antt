@@ -5,13 +5,13 @@ use mathlib.Core.Path.{_≡_}
 use mathlib.Core.List.{List, _∷_, [], _++_}
 use lib.ListN.{length, getD}
 use Rattle.model.specs.Log.{Event, Made, attempt-begun, yielded, spun, took, by-caller, boundary-run, released, by-script, step-dropped, waiters-set, health-set, held-all, added}
-use Rattle.model.specs.Arena.{leasesOf, wordsOf}
+use Rattle.model.specs.Arena.{holdIn, holdsOf, wordsOf}
 use Rattle.model.specs.Foreign.{stepsIn, kindAt, placeAt, numberAt}
 use Rattle.model.specs.Sorted.{cellsSorted, sharedOf}
 use Rattle.model.specs.Crew.{total}
 use Rattle.types.specs.declared.Answer.{Answer}
 use Rattle.types.specs.declared.Answer.the-variants.{Done, Busy, Refused, Cell, Granted, AllGranted, RefusedAt}
-use Rattle.types.specs.declared.Lease.{Lease}
+use Rattle.types.specs.declared.Hold.{Hold}
 use Rattle.history.specs.World.{World, step, now, Legal}
 use Rattle.history.specs.Items.{Build, Call, Says, environment, place-of, script-of, try-lock, held-of, transactional, acquire-bucket, given-up, release-all, acquire-locks, acquire-sorted}
 use Rattle.exact.specs.Statements.{Passes, Stepping}
@@ -33,7 +33,7 @@ place-in m = m .seen .1 .place
 -- ---- where a script stands: its place and the steps dropped so far, with the world there
 
 -- one boundary, from (p, d, w) to (q, c, v), while `ps` are protected; `es` is what its steps leave in the log
-pub data Boundary (script : List ℕ) (ps : List Lease) : (p d : ℕ) (w : World) (q c : ℕ) (v : World) → List Event → Type 0 where
+pub data Boundary (script : List ℕ) (ps : List Hold) : (p d : ℕ) (w : World) (q c : ℕ) (v : World) → List Event → Type 0 where
   -- "past the end it is quiet"
   at-end : {p d : ℕ} {w : World} → stepsIn script ≤ p → Boundary script ps p d w p d w []
   -- "up to and including the next 5"
@@ -53,25 +53,25 @@ pub data Counted-only : Event → Type 0 where
 -- given up": what it takes is added behind, what it gives up is the last. `Own` is what is known of the caller's own takes and releases: that
 -- each is legal in the world in which it happens, where a call is spoken of
 pub data Consumed (Own : World → Event → Type 0) (script : List ℕ)
-    : (ps : List Lease) (p d : ℕ) (w : World) (rs : List Lease) (q c : ℕ) (v : World) → List Event → Type 0 where
-  at-rest : {ps : List Lease} {p d : ℕ} {w : World} → Consumed Own script ps p d w ps p d w []
-  counts : {ps rs : List Lease} {p d q c : ℕ} {w v : World} {es : List Event} {e : Event} → Counted-only e
+    : (ps : List Hold) (p d : ℕ) (w : World) (rs : List Hold) (q c : ℕ) (v : World) → List Event → Type 0 where
+  at-rest : {ps : List Hold} {p d : ℕ} {w : World} → Consumed Own script ps p d w ps p d w []
+  counts : {ps rs : List Hold} {p d q c : ℕ} {w v : World} {es : List Event} {e : Event} → Counted-only e
       → Consumed Own script ps p d w rs q c v es → Consumed Own script ps p d w rs q c v (e ∷ es)
-  takes : {ps rs : List Lease} {p d q c : ℕ} {w v : World} {es : List Event} (l : Lease) → Own w (took by-caller (l .cell) (l .serial))
+  takes : {ps rs : List Hold} {p d q c : ℕ} {w v : World} {es : List Event} (l : Hold) → Own w (took by-caller (l .cell) (l .serial))
       → Consumed Own script (ps ++ (l ∷ [])) p d (step w (took by-caller (l .cell) (l .serial))) rs q c v es
       → Consumed Own script ps p d w rs q c v (took by-caller (l .cell) (l .serial) ∷ es)
-  gives-up : {ps rs : List Lease} {p d q c : ℕ} {w v : World} {es : List Event} (l : Lease) → Own w (released by-caller (l .cell) (l .serial))
+  gives-up : {ps rs : List Hold} {p d q c : ℕ} {w v : World} {es : List Event} (l : Hold) → Own w (released by-caller (l .cell) (l .serial))
       → Consumed Own script ps p d (step w (released by-caller (l .cell) (l .serial))) rs q c v es
       → Consumed Own script (ps ++ (l ∷ [])) p d w rs q c v (released by-caller (l .cell) (l .serial) ∷ es)
-  boundary : {ps rs : List Lease} {p d x y q c : ℕ} {w u v : World} {es fs : List Event} → Boundary script ps p d w x y u es
+  boundary : {ps rs : List Hold} {p d x y q c : ℕ} {w u v : World} {es fs : List Event} → Boundary script ps p d w x y u es
       → Consumed Own script ps x y u rs q c v fs → Consumed Own script ps p d w rs q c v (boundary-run ∷ (es ++ fs))
 
 -- the leases that an answer hands over, with the grant buffer
-abbrev pub handed : Answer → List ℕ → List Lease
+abbrev pub handed : Answer → List ℕ → List Hold
 handed Done b = []
 handed (Cell c) b = []
-handed (Granted l) b = l ∷ []
-handed AllGranted b = leasesOf b
+handed (Granted l) b = holdIn l ∷ []
+handed AllGranted b = holdsOf b
 handed (Busy why) b = []
 handed (Refused r) b = []
 handed (RefusedAt r p) b = []
@@ -84,7 +84,7 @@ as-taken w (transactional-has registry script place held binding bucket) b = b
 as-taken w (acquire-bucket-has registry script place held binding bucket) b = b
 as-taken w (release-all-has script place leases) b = b
 as-taken w (acquire-locks-has registry script place held keys grants) b = b
-as-taken w (acquire-sorted-has registry script place held keys grants) b = wordsOf (sharedOf (leasesOf b) (cellsSorted (w .head .buckets) registry keys))
+as-taken w (acquire-sorted-has registry script place held keys grants) b = wordsOf (w .head .boot) (sharedOf (holdsOf b) (cellsSorted (w .head .buckets) registry keys))
 
 -- protected at first: what the caller holds, and in `release_all` what it gives up; at last: what it holds, and what it is handed. `Own` is what is
 -- known of the caller's own takes and releases
@@ -110,7 +110,7 @@ pub record Turn (script : List ℕ) (w : World) (log : List Event) (x : ℕ) : T
   pub before : List Event
   pub own : List Event
   pub after : List Event
-  pub protected : List Lease
+  pub protected : List Hold
   pub leaves : World
   pub lost : ℕ
   pub parts : log ≡ before ++ (own ++ after)

@@ -12,7 +12,7 @@ use Rattle.model.specs.Log.{Event, by-caller, by-script, attempt-begun, boundar
 use Rattle.model.specs.Foreign.{stepsIn, kindAt, placeAt, numberAt}
 use Rattle.model.specs.Checks.{scriptRules, lockRules, bucketRules, releaseRules, locksRules}
 use Rattle.model.specs.Crew.{total}
-use Rattle.types.specs.declared.Lease.{Lease}
+use Rattle.types.specs.declared.Hold.{Hold}
 use Rattle.laws.specs.Crew.{total-append}
 use Rattle.history.specs.World.{World, now, Legal}
 use Rattle.history.specs.Items.{Call, script-of, place-of, perform, Clear, rules}
@@ -66,7 +66,7 @@ module _ {script : List ℕ} {x : ℕ} where
         turn = t .turn;
       }
 
-  boundary-turn : {ps : List Lease} {p d q c : ℕ} {w v : World} {es : List Event} → Boundary script ps p d w q c v es → p ≤ x → x < q → Turn script w es x
+  boundary-turn : {ps : List Hold} {p d q c : ℕ} {w v : World} {es : List Event} → Boundary script ps p d w q c v es → p ≤ x → x < q → Turn script w es x
   boundary-turn (at-end i) l m = absurd (omega arith)
   boundary-turn {ps} {p} {w = w} (at-five i k) l m =
       let z : p ≡ x = omega arith in
@@ -87,7 +87,7 @@ module _ {script : List ℕ} {x : ℕ} where
           }
       go (no z) r = later es (step-now s) (r (omega arith))
 
-  pub turns : {ps rs : List Lease} {p d q c : ℕ} {w v : World} {es : List Event} → Consumed Legal script ps p d w rs q c v es → p ≤ x → x < q → Turn script w es x
+  pub turns : {ps rs : List Hold} {p d q c : ℕ} {w v : World} {es : List Event} → Consumed Legal script ps p d w rs q c v es → p ≤ x → x < q → Turn script w es x
   turns at-rest l m = absurd (omega arith)
   turns (counts attempts-one k) l m = later (attempt-begun ∷ []) refl (turns k l m)
   turns (counts yields-once k) l m = later (yielded ∷ []) refl (turns k l m)
@@ -130,20 +130,20 @@ module _ (script : List ℕ) where
   asked p (set-waiters c n) k a b = (p, omega arith, omega arith, k, a, b)
   asked p (set-health i n) k a b = (p, omega arith, omega arith, k, a, b)
 
-  step-points : {ps : List Lease} {w v : World} {x : ℕ} {es : List Event} (p : ℕ)
+  step-points : {ps : List Hold} {w v : World} {x : ℕ} {es : List Event} (p : ℕ)
       → Stepping w ps (kindAt script p) (placeAt script p) (numberAt script p) v es x → Every (Points script p (p + 1)) es
   step-points p (looks z) = end
   step-points p (ends z) = end
   step-points p (performed e a l) = also e (asked p a refl refl refl) end
   step-points p (dropped i j n) = also step-dropped (p, omega arith, omega arith) end
 
-  boundary-points : {ps : List Lease} {p d q c : ℕ} {w v : World} {es : List Event} → Boundary script ps p d w q c v es → Every (Points script p q) es
+  boundary-points : {ps : List Hold} {p d q c : ℕ} {w v : World} {es : List Event} → Boundary script ps p d w q c v es → Every (Points script p q) es
   boundary-points (at-end i) = end
   boundary-points (at-five i k) = end
   boundary-points {p = p} (one-step {q = q} {es = es} {fs = fs} i k s b) =
       every-append (all-wider (omega arith) (boundary-rises b) (step-points p s)) (all-wider (omega arith) (omega arith) (boundary-points b))
 
-  points : {ps rs : List Lease} {p d q c : ℕ} {w v : World} {es : List Event} → Consumed Legal script ps p d w rs q c v es → Every (Points script p q) es
+  points : {ps rs : List Hold} {p d q c : ℕ} {w v : World} {es : List Event} → Consumed Legal script ps p d w rs q c v es → Every (Points script p q) es
   points at-rest = end
   points (counts attempts-one k) = also _ tt (points k)
   points (counts yields-once k) = also _ tt (points k)
@@ -189,7 +189,7 @@ module _ {script : List ℕ} where
           (later es z (k .0), k .1 ∙ sym (getD-append-add (a .marks) (b .marks) m 0) ∙ rw e′)
 
   -- one step
-  one-mark : {w v : World} {ps : List Lease} {p d x : ℕ} {es : List Event} → Stepping w ps (kindAt script p) (placeAt script p) (numberAt script p) v es x
+  one-mark : {w v : World} {ps : List Hold} {p d x : ℕ} {es : List Event} → Stepping w ps (kindAt script p) (placeAt script p) (numberAt script p) v es x
       → Tally script w es p (p + 1) d (d + x)
   unfolding total
   one-mark {w} {v} {ps} {p} {d} {x} {es} s =
@@ -201,12 +201,12 @@ module _ {script : List ℕ} where
           rw (z, add-zero p)
           (record { before = []; own = es; after = []; protected = ps; leaves = v; lost = x; parts = sym (append-nil es); turn = s }, refl)
 
-  boundary-tally : {ps : List Lease} {p d q c : ℕ} {w v : World} {es : List Event} → Boundary script ps p d w q c v es → Tally script w es p q d c
+  boundary-tally : {ps : List Hold} {p d q c : ℕ} {w v : World} {es : List Event} → Boundary script ps p d w q c v es → Tally script w es p q d c
   boundary-tally (at-end i) = no-marks
   boundary-tally {ps = ps} {p = p} {d = d} {w = w} (at-five i k) = rw (add-zero d) at (one-mark {w = w} {v = w} {ps = ps} {p = p} {d = d} (ends k))
   boundary-tally (one-step {es = es} {fs = fs} i k s b) = tally-then es fs (step-now s) (one-mark s) (boundary-tally b)
 
-  tally : {ps rs : List Lease} {p d q c : ℕ} {w v : World} {es : List Event} → Consumed Legal script ps p d w rs q c v es → Tally script w es p q d c
+  tally : {ps rs : List Hold} {p d q c : ℕ} {w v : World} {es : List Event} → Consumed Legal script ps p d w rs q c v es → Tally script w es p q d c
   tally at-rest = no-marks
   tally (counts attempts-one k) = tally-later (attempt-begun ∷ []) refl (tally k)
   tally (counts yields-once k) = tally-later (yielded ∷ []) refl (tally k)

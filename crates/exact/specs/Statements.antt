@@ -9,13 +9,14 @@ use mathlib.Core.Bool.{false}
 use mathlib.Core.Logic.{_↔_}
 use lib.ListN.{getD}
 use Rattle.model.specs.Log.{Event, Made, took, by-caller, by-script, attempt-begun, released, waiters-set, health-set, held-all, added, yielded, spun, boundary-run, step-dropped}
-use Rattle.model.specs.Arena.{bitAt, headerOf, waitersAt, lastSerial, isIn, leaseOf, spentTo, ownerAt, wordsOf}
+use Rattle.model.specs.Arena.{bitAt, headerOf, waitersAt, lastSerial, isIn, leaseOf, holdOf, spentTo, ownerAt, wordsOf}
 use Rattle.model.specs.Foreign.{stepsIn}
 use Rattle.model.specs.Lock.{bindingAt, bucketAt}
 use Rattle.model.specs.Checks.{countIn}
 use Rattle.model.specs.Calls.{countsOf}
 use Rattle.types.specs.declared.Answer.{Answer}
 use Rattle.types.specs.declared.Answer.the-variants.{Busy, Refused, Granted, AllGranted, RefusedAt}
+use Rattle.types.specs.declared.Hold.{Hold}
 use Rattle.types.specs.declared.Lease.{Lease}
 use Rattle.types.specs.declared.Reason.{Reason}
 use Rattle.types.specs.declared.Reason.the-variants as reason
@@ -51,7 +52,7 @@ stays w a = record { seen = (w, says a (countsOf 1 0 0 0) 0 []); log = attempt-b
 abbrev pub takes-it : World → ℕ → Made (World × Says)
 takes-it w c =
     let e = took by-caller c (w .head .next) in
-    record { seen = (step w e, says (Granted (leaseOf c (w .head .next))) (countsOf 1 0 0 0) 0 []); log = attempt-begun ∷ e ∷ [] }
+    record { seen = (step w e, says (Granted (leaseOf c (w .head .next) (w .head .boot))) (countsOf 1 0 0 0) 0 []); log = attempt-begun ∷ e ∷ [] }
 
 -- the cell is not there: refused before any attempt
 abbrev pub no-cell : World → ℕ → Made (World × Says)
@@ -68,7 +69,7 @@ pub data Tries (w : World) (c : ℕ) : Made (World × Says) → Type 0 where
 
 -- an exactly-if for each answer
 pub record Answered (f : Build) (w : World) (c : ℕ) : Type 0 where
-  pub granted : (l : Lease) → (answer-in (f w (try-acquire c)) ≡ Granted l) ↔ ((c < cells w) × Is-free w c × (w .head .next < lastSerial) × (l ≡ leaseOf c (w .head .next)))
+  pub granted : (l : Lease) → (answer-in (f w (try-acquire c)) ≡ Granted l) ↔ ((c < cells w) × Is-free w c × (w .head .next < lastSerial) × (l ≡ leaseOf c (w .head .next) (w .head .boot)))
   pub busy : (why : Reason) → (answer-in (f w (try-acquire c)) ≡ Busy why) ↔ ((c < cells w) × Is-held w c × (why ≡ reason.Held (ownerAt (w .table) c)))
   pub damaged : (d : ℕ) → (answer-in (f w (try-acquire c)) ≡ Refused (Damaged d)) ↔ ((c < cells w) × Is-damaged w c × (d ≡ c))
   pub spent : (d : ℕ) → (answer-in (f w (try-acquire c)) ≡ Refused (SerialsSpent d)) ↔ ((c < cells w) × Is-free w c × (lastSerial ≤ w .head .next) × (d ≡ c))
@@ -88,21 +89,21 @@ pub data Asks (w : World) : (kind place number : ℕ) → Event → Type 0 where
   set-health : (i n : ℕ) → Asks w 4 i n (health-set i n)
 
 -- legal in this world, while these leases are protected: "2 release (cell, serial): legal if that lease is live and not protected"
-abbrev pub Allowed : World → List Lease → Event → Type 0
+abbrev pub Allowed : World → List Hold → Event → Type 0
 Allowed w ps attempt-begun = Legal w attempt-begun
 Allowed w ps boundary-run = Legal w boundary-run
 Allowed w ps yielded = Legal w yielded
 Allowed w ps spun = Legal w spun
 Allowed w ps step-dropped = Legal w step-dropped
 Allowed w ps (took a c s) = Legal w (took a c s)
-Allowed w ps (released a c s) = Legal w (released a c s) × (isIn (leaseOf c s) ps ≡ false)
+Allowed w ps (released a c s) = Legal w (released a c s) × (isIn (holdOf c s) ps ≡ false)
 Allowed w ps (waiters-set c n) = Legal w (waiters-set c n)
 Allowed w ps (health-set i n) = Legal w (health-set i n)
 Allowed w ps (held-all m) = Legal w (held-all m)
 Allowed w ps (added m c v) = Legal w (added m c v)
 
 -- one step: the world that it leaves, its log, and 1 where it was dropped
-pub data Stepping (w : World) (ps : List Lease) (kind place number : ℕ) : World → List Event → ℕ → Type 0 where
+pub data Stepping (w : World) (ps : List Hold) (kind place number : ℕ) : World → List Event → ℕ → Type 0 where
   -- "0 observe", "5 end of boundary"
   looks : kind ≡ 0 → Stepping w ps kind place number w [] 0
   ends : kind ≡ 5 → Stepping w ps kind place number w [] 0
@@ -144,7 +145,7 @@ pub data Quietly (w : World) (place : ℕ) (waiting : Says) (holding : ℕ → S
   at-spent : Unwaited w c → Is-free w c → lastSerial ≤ w .head .next
       → Quietly w place waiting holding c (w, says (Refused (SerialsSpent c)) (countsOf 1 2 0 0) place [])
   at-free : Unwaited w c → Is-free w c → w .head .next < lastSerial
-      → Quietly w place waiting holding c (step w (took by-caller c (w .head .next)), says (Granted (leaseOf c (w .head .next))) (countsOf 1 3 0 0) place [])
+      → Quietly w place waiting holding c (step w (took by-caller c (w .head .next)), says (Granted (leaseOf c (w .head .next) (w .head .boot))) (countsOf 1 3 0 0) place [])
 
 -- ---- the table of a call by cell: document 02, L3, "A call by cell reads the health of its cell's header there", which
 -- is after the third boundary. A cell that would be granted is then 7 if its header is poisoned: the table is as before,
@@ -213,7 +214,7 @@ Names w registry binding bucket =
 -- what an answer is, by the state of the cell; `Must` is what a grant asks, `busy` what is said for a reason. The script is at its end: nothing sets
 -- waiters behind the compare-and-set
 pub record Locks-exactly (w : World) (c : ℕ) (Must : Type 0) (busy : Reason → Answer) (a : Answer) : Type 0 where
-  pub granted : (l : Lease) → (a ≡ Granted l) ↔ (Must × (l ≡ leaseOf c (w .head .next)))
+  pub granted : (l : Lease) → (a ≡ Granted l) ↔ (Must × (l ≡ leaseOf c (w .head .next) (w .head .boot)))
   pub waited : (a ≡ busy reason.Before) ↔ (Unwaited w c → ⊥)
   pub held : (s : ℕ) → (a ≡ busy (reason.Held s)) ↔ (Unwaited w c × Is-held w c × (s ≡ ownerAt (w .table) c))
   pub not-after : (s : ℕ) → a ≡ busy (reason.After s) → ⊥
@@ -240,12 +241,12 @@ Acquire-bucket-exactly f =
 -- ---- multi-lock, its script at its end: keys that name different ready cells are all granted, with the next serials in key order
 
 -- `left` leases from position p on, with serials from s on
-unfoldable pub leases-from : (ℕ → ℕ) → ℕ → ℕ → ℕ → List Lease
+unfoldable pub leases-from : (ℕ → ℕ) → ℕ → ℕ → ℕ → List Hold
 leases-from cell zero p s = []
-leases-from cell (suc left) p s = leaseOf (cell p) s ∷ leases-from cell left (p + 1) (s + 1)
+leases-from cell (suc left) p s = holdOf (cell p) s ∷ leases-from cell left (p + 1) (s + 1)
 
 -- these leases taken by the caller, one after the other
-abbrev pub takes-of : List Lease → List Event
+abbrev pub takes-of : List Hold → List Event
 takes-of [] = []
 takes-of (l ∷ ls) = took by-caller (l .cell) (l .serial) ∷ takes-of ls
 
@@ -261,7 +262,7 @@ Locks-quiet f =
     → ((p : ℕ) → p < n → Names w registry (bindingAt keys p) (bucketAt keys p) × Unwaited w (cell p) × Is-free w (cell p))
     → ((p q : ℕ) → p < n → q < n → cell p ≡ cell q → p ≡ q)
     → w .head .next + n ≤ lastSerial
-    → f w k .seen ≡ (now w (takes-of leases), says AllGranted (countsOf n (3 * n) 0 0) place (wordsOf leases))
+    → f w k .seen ≡ (now w (takes-of leases), says AllGranted (countsOf n (3 * n) 0 0) place (wordsOf (w .head .boot) leases))
 
 -- ---- and refused at the first key that is not ready: the keys before it were ready, and it is refused as `acquire_index_bucket` refuses it then
 

@@ -43,7 +43,7 @@ tries w c s = subst After (sym checked) (go (leb (cells w) c) refl)
 
     Of : Made (Took × List ℕ) → Type 0
     Of m = Tries w c (record {
-      seen = (worldOf (spentTo (w .head) (m .seen .0 .next)) (m .seen .1) (w .health), says (answerOf (outcomeOf c (m .seen .0 .answer))) (countsOf 1 0 0 0) 0 []);
+      seen = (worldOf (spentTo (w .head) (m .seen .0 .next)) (m .seen .1) (w .health), says (answerOf (w .head .boot) (outcomeOf c (m .seen .0 .answer))) (countsOf 1 0 0 0) 0 []);
       log = attempt-begun ∷ ((m .log ++ []) ++ []);
     })
 
@@ -59,7 +59,7 @@ tries w c s = subst After (sym checked) (go (leb (cells w) c) refl)
     go false e = on (stands (w .head .next) (bitAt (w .table) c) (ownerAt (w .table) c)) (leb-false (cells w) c e)
 
 module _ {w : World} {c : ℕ} where
-  granted′ : {m : Made (World × Says)} → (l : Lease) → Tries w c m → (m .seen .1 .answer ≡ Granted l) ↔ ((c < cells w) × Is-free w c × (w .head .next < lastSerial) × (l ≡ leaseOf c (w .head .next)))
+  granted′ : {m : Made (World × Says)} → (l : Lease) → Tries w c m → (m .seen .1 .answer ≡ Granted l) ↔ ((c < cells w) × Is-free w c × (w .head .next < lastSerial) × (l ≡ leaseOf c (w .head .next) (w .head .boot)))
   granted′ l (outside i) = (λ e. let z : _≡_ {A = ℕ} 0 1 = cc in absurd (omega arith), λ p. absurd (omega (arith, p .0)))
   granted′ l (damaged i x) = (λ e. let z : _≡_ {A = ℕ} 0 1 = cc in absurd (omega arith), λ p. absurd (x .0 (p .1)))
   granted′ l (held i x) = (λ e. let z : _≡_ {A = ℕ} 0 1 = cc in absurd (omega arith), λ p. absurd (omega (arith, x .0, p .1 .0)))

@@ -7,14 +7,14 @@ use native.Mathlib.Omega.{arith}
 use lib.Dec.{ltb, eqb}
 use lib.ListN.{length}
 use borrow.Author.Tests.{ltb-false}
-use Rattle.model.specs.Arena.{cellsOf, leasesOf}
+use Rattle.model.specs.Arena.{cellsOf, holdsOf}
 use Rattle.model.specs.Refusals.{Rule, first}
 use Rattle.model.specs.Checks.{badShape, badHealth, badScript, scriptRules}
 use Rattle.model.specs.Foreign.{stepsIn, flowOf}
 use Rattle.types.specs.declared.Check.the-variants.{Fine}
 use Rattle.model.specs.Calls.{given}
 use Rattle.types.specs.declared.Head.{Head}
-use Rattle.types.specs.declared.Lease.{Lease}
+use Rattle.types.specs.declared.Hold.{Hold}
 use Rattle.foreign.specs.declared.Scope.{Scope}
 use Rattle.choice.specs.Pick.{neither}
 use Rattle.laws.specs.Shape.{Shaped}
@@ -50,9 +50,9 @@ script-fine h t g script place held e =
     record { shape = s .0; bytes-are = s .1; in-script = p .0; few-steps = p .1 }
 
 -- nothing taken yet
-pub guards-none : (held : List ℕ) (taken : List (List ℕ)) → guardsOf held taken 0 ≡ leasesOf held
+pub guards-none : (held : List ℕ) (taken : List (List ℕ)) → guardsOf held taken 0 ≡ holdsOf held
 unfolding guardsOf pairsOf
-guards-none held taken = append-nil (leasesOf held)
+guards-none held taken = append-nil (holdsOf held)
 
 -- room for the steps
 pub fine-room : (h : Head) (words bytes script place n : ℕ) → ScriptFine h words bytes script place → n ≤ 64 → Room (h .headers) (cellsOf h) words bytes n (script / 3) script
@@ -72,11 +72,11 @@ module _ (s : Scope) (h : Head) (words bytes script place n : ℕ) (e : s ≡ sc
   scope-flow-bound = rw e (fine-flow-bound h words bytes script place f)
 
 -- the setting that the steps get is the one of document 01
-pub scope-given : (s : Scope) (h : Head) (script : List ℕ) (protected : List Lease) → s ≡ scopeOf h (length script) → inScope s script protected ≡ given h script protected
+pub scope-given : (s : Scope) (h : Head) (script : List ℕ) (protected : List Hold) → s ≡ scopeOf h (length script) → inScope s script protected ≡ given h script protected
 scope-given s h script protected e = ap (λ (x : Scope). inScope x script protected) e
 
 -- nothing taken yet
 pub scope-none : (s : Scope) (h : Head) (script held : List ℕ) (taken : List (List ℕ)) → s ≡ scopeOf h (length script)
-    → settingOf s script held taken 0 ≡ given h script (leasesOf held)
+    → settingOf s script held taken 0 ≡ given h script (holdsOf held)
 scope-none s h script held taken e =
     scope-given s h script (guardsOf held taken 0) e ∙ ap (given h script) (guards-none held taken)

@@ -11,10 +11,10 @@ use native.Mathlib.Decide.{ℕ-discrete}
 use borrow.Author.Tests.{leb-true, ne-eqb}
 use Rattle.choice.specs.Choice.{if_then_else_}
 use Rattle.model.specs.Log.{Made}
-use Rattle.model.specs.Arena.{serialRemains, bitAt, ownerAt, leaseOf, leasesOf, sameLease, isIn, isLive, heldBy, stateAt, stateOf, isFree, isHeld}
+use Rattle.model.specs.Arena.{serialRemains, bitAt, ownerAt, holdOf, holdsOf, sameHold, isIn, isLive, heldBy, stateAt, stateOf, isFree, isHeld}
 use Rattle.model.specs.Foreign.{Setting, setting, flowOf, stepReleaseOf, stepTakeOf, stepWaitersOf, stepHealthOf, stepOf, runStepsOf, boundaryOf, kindAt, placeAt, numberAt, stepsIn}
 use Rattle.types.specs.declared.Flow.{Flow}
-use Rattle.types.specs.declared.Lease.{Lease}
+use Rattle.types.specs.declared.Hold.{Hold}
 use Rattle.types.specs.declared.State.the-variants as state
 use Rattle.types.specs.declared.Stepped.{Stepped}
 use Rattle.choice.specs.Pick.{if-both}
@@ -27,10 +27,10 @@ or-false : (b : Bool) → (if b then true else false) ≡ b
 or-false true = refl
 or-false false = refl
 
-pub is-in-append : (l : Lease) (xs ys : List Lease) → isIn l (xs ++ ys) ≡ (if isIn l xs then true else isIn l ys)
+pub is-in-append : (l : Hold) (xs ys : List Hold) → isIn l (xs ++ ys) ≡ (if isIn l xs then true else isIn l ys)
 unfolding isIn
 is-in-append l [] ys = refl
-is-in-append l (x ∷ xs) ys = go (sameLease x l) (is-in-append l xs ys)
+is-in-append l (x ∷ xs) ys = go (sameHold x l) (is-in-append l xs ys)
   where
     go : (b : Bool) → isIn l (xs ++ ys) ≡ (if isIn l xs then true else isIn l ys)
         → (if b then true else isIn l (xs ++ ys)) ≡ (if (if b then true else isIn l xs) then true else isIn l ys)
@@ -39,7 +39,7 @@ is-in-append l (x ∷ xs) ys = go (sameLease x l) (is-in-append l xs ys)
 
 -- the pairs from place i on
 pub pairs-at : (a : List (List ℕ)) (n i : ℕ) → i < n
-    → pairsOf (n - i) i a ≡ leaseOf (getD (getD a i []) 0 0) (getD (getD a i []) 1 0) ∷ pairsOf (n - (i + 1)) (i + 1) a
+    → pairsOf (n - i) i a ≡ holdOf (getD (getD a i []) 0 0) (getD (getD a i []) 1 0) ∷ pairsOf (n - (i + 1)) (i + 1) a
 unfolding pairsOf
 pairs-at a n i l = let e : n - i ≡ suc (n - (i + 1)) = omega arith in rw e
 
@@ -48,12 +48,12 @@ unfolding pairsOf
 pairs-end a n i h = let e : n - i ≡ 0 = omega arith in rw e
 
 -- a protected lease is held, taken, or the call's own
-pub guarded-is : (l : Lease) (held : List ℕ) (taken : List (List ℕ)) (n : ℕ) (own : Lease)
+pub guarded-is : (l : Hold) (held : List ℕ) (taken : List (List ℕ)) (n : ℕ) (own : Hold)
     → isIn l (guardsOf held taken n ++ (own ∷ []))
-    ≡ (if isIn l (leasesOf held) then true else if isIn l (pairsOf n 0 taken) then true else sameLease own l)
+    ≡ (if isIn l (holdsOf held) then true else if isIn l (pairsOf n 0 taken) then true else sameHold own l)
 unfolding guardsOf isIn
 guarded-is l held taken n own =
-    rw (append-assoc (leasesOf held) (pairsOf n 0 taken) (own ∷ []), is-in-append l (leasesOf held) (pairsOf n 0 taken ++ (own ∷ [])), is-in-append l (pairsOf n 0 taken) (own ∷ []), or-false (sameLease own l))
+    rw (append-assoc (holdsOf held) (pairsOf n 0 taken) (own ∷ []), is-in-append l (holdsOf held) (pairsOf n 0 taken ++ (own ∷ [])), is-in-append l (pairsOf n 0 taken) (own ∷ []), or-false (sameHold own l))
 
 -- ---- a lease of no serial protects nothing
 
@@ -68,7 +68,7 @@ never-held next b o = go (isFree b o) (eqb b 1) (leb 1 o) (ltb o next) refl
     go false true false z e = refl
     go false false y z e = refl
 
-never-live : (next cells : ℕ) (t : List ℕ) (c : ℕ) → isLive next cells t (leaseOf c 0) ≡ false
+never-live : (next cells : ℕ) (t : List ℕ) (c : ℕ) → isLive next cells t (holdOf c 0) ≡ false
 unfolding isLive stateAt
 never-live next cells t c = go (ltb c cells)
   where
@@ -77,29 +77,29 @@ never-live next cells t c = go (ltb c cells)
     go false = refl
 
 -- so protecting (0, 0) too changes no release
-not-zero : (c s : ℕ) → (s ≡ 0 → ⊥) → isIn (leaseOf c s) (leaseOf 0 0 ∷ []) ≡ false
-unfolding isIn sameLease
+not-zero : (c s : ℕ) → (s ≡ 0 → ⊥) → isIn (holdOf c s) (holdOf 0 0 ∷ []) ≡ false
+unfolding isIn sameHold
 not-zero c s n = rw (ne-eqb 0 s (λ e. n (sym e))) (go (eqb 0 c))
   where
     go : (b : Bool) → (if b && false then true else false) ≡ false
     go true = refl
     go false = refl
 
-in-too : (c s : ℕ) (ps : List Lease) → (s ≡ 0 → ⊥) → isIn (leaseOf c s) (ps ++ (leaseOf 0 0 ∷ [])) ≡ isIn (leaseOf c s) ps
-in-too c s ps n = is-in-append (leaseOf c s) ps (leaseOf 0 0 ∷ []) ∙ ap (λ b. if isIn (leaseOf c s) ps then true else b) (not-zero c s n) ∙ or-false (isIn (leaseOf c s) ps)
+in-too : (c s : ℕ) (ps : List Hold) → (s ≡ 0 → ⊥) → isIn (holdOf c s) (ps ++ (holdOf 0 0 ∷ [])) ≡ isIn (holdOf c s) ps
+in-too c s ps n = is-in-append (holdOf c s) ps (holdOf 0 0 ∷ []) ∙ ap (λ b. if isIn (holdOf c s) ps then true else b) (not-zero c s n) ∙ or-false (isIn (holdOf c s) ps)
 
-release-zero : (cells : ℕ) (ps : List Lease) (next : ℕ) (t : List ℕ) (c s : ℕ)
-    → stepReleaseOf cells (ps ++ (leaseOf 0 0 ∷ [])) next t c s ≡ stepReleaseOf cells ps next t c s
+release-zero : (cells : ℕ) (ps : List Hold) (next : ℕ) (t : List ℕ) (c s : ℕ)
+    → stepReleaseOf cells (ps ++ (holdOf 0 0 ∷ [])) next t c s ≡ stepReleaseOf cells ps next t c s
 unfolding stepReleaseOf
 release-zero cells ps next t c s = go (ℕ-discrete s 0)
   where
-    go : Dec (s ≡ 0) → stepReleaseOf cells (ps ++ (leaseOf 0 0 ∷ [])) next t c s ≡ stepReleaseOf cells ps next t c s
+    go : Dec (s ≡ 0) → stepReleaseOf cells (ps ++ (holdOf 0 0 ∷ [])) next t c s ≡ stepReleaseOf cells ps next t c s
     go (yes e) = rw (e, never-live next cells t c)
     go (no e) = rw (in-too c s ps e)
 
-module _ (headers cells : ℕ) (script : List ℕ) (ps : List Lease) where
+module _ (headers cells : ℕ) (script : List ℕ) (ps : List Hold) where
   abbrev with-zero : Setting
-  with-zero = setting headers cells script (ps ++ (leaseOf 0 0 ∷ []))
+  with-zero = setting headers cells script (ps ++ (holdOf 0 0 ∷ []))
 
   step-zero : (next : ℕ) (t g : List ℕ) (k p q : ℕ) → stepOf with-zero next t g k p q ≡ stepOf (setting headers cells script ps) next t g k p q
   unfolding stepOf
@@ -135,7 +135,7 @@ module _ (e : Setting) (f : Flow) (t g : List ℕ) where
   boundary-quiet l = steps-end (stepsIn (e .script)) l
 
 -- the same, with the step as the code calls it: a step reads nothing of the script but its own words
-module _ (headers cells : ℕ) (script : List ℕ) (ps : List Lease) (f : Flow) (t g : List ℕ) where
+module _ (headers cells : ℕ) (script : List ℕ) (ps : List Hold) (f : Flow) (t g : List ℕ) where
   abbrev alone : Stepped × (List ℕ × List ℕ)
   alone = stepOf (setting headers cells [] ps) (f .next) t g (kindAt script (f .place)) (placeAt script (f .place)) (numberAt script (f .place)) .seen
 
@@ -151,7 +151,7 @@ module _ (headers cells : ℕ) (script : List ℕ) (ps : List Lease) (f : Flow) 
       ∙ rw n (ap (λ (o : Stepped × (List ℕ × List ℕ)). runStepsOf (steps - (f .place + 1)) (setting headers cells script ps) (flowOf (o .0 .next) (f .place + 1) (f .dropped + o .0 .dropped)) (o .1 .0) (o .1 .1) .seen) same-step)
 
 -- only a release asks what is protected
-pub step-unguarded : (headers cells : ℕ) (ps : List Lease) (next : ℕ) (t g : List ℕ) (kind place number : ℕ) → kind ≢ 2
+pub step-unguarded : (headers cells : ℕ) (ps : List Hold) (next : ℕ) (t g : List ℕ) (kind place number : ℕ) → kind ≢ 2
     → stepOf (setting headers cells [] ps) next t g kind place number .seen ≡ stepOf (setting headers cells [] []) next t g kind place number .seen
 unfolding stepOf
 step-unguarded headers cells ps next t g kind place number n = rw (ne-eqb kind 2 n)
@@ -168,9 +168,9 @@ take-few : (cells next : ℕ) (t : List ℕ) (c : ℕ) → Few (stepTakeOf cells
 unfolding stepTakeOf
 take-few cells next t c = if-both Few (ltb c cells && isFree (bitAt t c) (ownerAt t c) && serialRemains next) (omega arith) (omega arith)
 
-release-few : (cells : ℕ) (ps : List Lease) (next : ℕ) (t : List ℕ) (c s : ℕ) → Few (stepReleaseOf cells ps next t c s)
+release-few : (cells : ℕ) (ps : List Hold) (next : ℕ) (t : List ℕ) (c s : ℕ) → Few (stepReleaseOf cells ps next t c s)
 unfolding stepReleaseOf
-release-few cells ps next t c s = if-both Few (isLive next cells t (leaseOf c s) && not (isIn (leaseOf c s) ps)) (omega arith) (omega arith)
+release-few cells ps next t c s = if-both Few (isLive next cells t (holdOf c s) && not (isIn (holdOf c s) ps)) (omega arith) (omega arith)
 
 waiters-few : (cells next : ℕ) (t : List ℕ) (c n : ℕ) → Few (stepWaitersOf cells next t c n)
 unfolding stepWaitersOf
@@ -232,6 +232,6 @@ pub record Walk (e : Setting) (steps : ℕ) (f₀ : Flow) (t₀ g₀ : List ℕ)
   pub rest : runStepsOf (steps - f .place) e f t g .seen ≡ runStepsOf (steps - f₀ .place) e f₀ t₀ g₀ .seen
 
 -- the same, as the code lends a script and its number of steps
-pub boundary-goes : (o : Flow × (List ℕ × List ℕ)) (headers cells steps : ℕ) (script : List ℕ) (ps : List Lease) (f : Flow) (t g : List ℕ)
+pub boundary-goes : (o : Flow × (List ℕ × List ℕ)) (headers cells steps : ℕ) (script : List ℕ) (ps : List Hold) (f : Flow) (t g : List ℕ)
     → steps ≡ length script / 3 → o ≡ boundaryOf (setting headers cells script ps) f t g .seen → FlowBound steps f → FlowBound steps (o .0)
 boundary-goes o headers cells steps script ps f t g n q b = rw n (boundary-flow-bound o (setting headers cells script ps) f t g q (rw (← n) b))

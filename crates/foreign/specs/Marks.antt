@@ -12,13 +12,13 @@ use lib.ListN.{length, getD, set, drop, replicate, getD-replicate}
 use lib.Seq.{getD-set-same, getD-set-other}
 use borrow.Author.Tests.{ne-eqb}
 use Rattle.choice.specs.Choice.{if_then_else_}
-use Rattle.model.specs.Arena.{leaseOf, leasesOf, sameLease, isIn}
-use Rattle.types.specs.declared.Lease.{Lease}
+use Rattle.model.specs.Arena.{holdOf, holdsOf, sameHold, isIn}
+use Rattle.types.specs.declared.Hold.{Hold}
 use Rattle.laws.specs.Checks.{is-in-at, is-in-end}
 
 -- the cell at a position of a list, and its remainder
 abbrev pub cellAt : List ℕ → ℕ → ℕ
-cellAt list i = getD list (2 * i) 0
+cellAt list i = getD list (3 * i) 0
 
 abbrev pub markOf : List ℕ → ℕ → ℕ
 markOf marks c = getD marks (c % 256) 0
@@ -27,7 +27,7 @@ markOf marks c = getD marks (c % 256) 0
 -- and at most one more than the position
 pub record Noted (marks list : List ℕ) (k : ℕ) : Type 0 where
   pub low : (c : ℕ) → markOf marks c < 256
-  pub from : (i : ℕ) → k ≤ i → 2 * i + 1 < length list → (0 < markOf marks (cellAt list i)) × (markOf marks (cellAt list i) ≤ i + 1)
+  pub from : (i : ℕ) → k ≤ i → 3 * i + 2 < length list → (0 < markOf marks (cellAt list i)) × (markOf marks (cellAt list i) ≤ i + 1)
 
 -- marks of a whole list: 0 only where no listed lease has that remainder, else one more than a position before which none has it
 abbrev pub Marked : List ℕ → List ℕ → Type 0
@@ -51,7 +51,7 @@ module _ (marks list : List ℕ) (k : ℕ) (size : length marks ≡ 256) (fits :
       go (yes e) = rw e (omega (arith, here))
       go (no e) = omega (arith, other c e, n .low c)
 
-  more-from : (i : ℕ) → k ≤ i → 2 * i + 1 < length list → (0 < markOf more (cellAt list i)) × (markOf more (cellAt list i) ≤ i + 1)
+  more-from : (i : ℕ) → k ≤ i → 3 * i + 2 < length list → (0 < markOf more (cellAt list i)) × (markOf more (cellAt list i) ≤ i + 1)
   more-from i l b = go (ℕ-discrete (cellAt list i % 256) (cellAt list k % 256))
     where
       go : Dec (cellAt list i % 256 ≡ cellAt list k % 256) → (0 < markOf more (cellAt list i)) × (markOf more (cellAt list i) ≤ i + 1)
@@ -66,38 +66,38 @@ module _ (marks list : List ℕ) (k : ℕ) (size : length marks ≡ 256) (fits :
   note-one = record { low = more-low; from = more-from }
 
 -- no marks yet, and none asked for
-pub none-noted : (list : List ℕ) (k : ℕ) → length list ≤ 2 * k + 1 → Noted (replicate 256 0) list k
+pub none-noted : (list : List ℕ) (k : ℕ) → length list ≤ 3 * k + 2 → Noted (replicate 256 0) list k
 none-noted list k l =
     record { low = λ c. let e : markOf (replicate 256 0) c ≡ 0 = getD-replicate 256 (c % 256) 0 0 (omega arith) in omega (arith, e); from = λ i h b. absurd (omega arith) }
 
 -- ---- a scan may start where the first of its cell can stand
 
-not-same : (c s : ℕ) (l : Lease) → c ≢ l .cell → sameLease (leaseOf c s) l ≡ false
-unfolding sameLease
+not-same : (c s : ℕ) (l : Hold) → c ≢ l .cell → sameHold (holdOf c s) l ≡ false
+unfolding sameHold
 not-same c s l n = rw (ne-eqb c (l .cell) n)
 
-one-less : (l : Lease) (list : List ℕ) (k : ℕ) → (2 * k + 1 < length list → cellAt list k ≢ l .cell)
-    → isIn l (leasesOf (drop (2 * k) list)) ≡ isIn l (leasesOf (drop (2 * (k + 1)) list))
-one-less l list k h = go (decLt (2 * k + 1) (length list))
+one-less : (l : Hold) (list : List ℕ) (k : ℕ) → (3 * k + 2 < length list → cellAt list k ≢ l .cell)
+    → isIn l (holdsOf (drop (3 * k) list)) ≡ isIn l (holdsOf (drop (3 * (k + 1)) list))
+one-less l list k h = go (decLt (3 * k + 2) (length list))
   where
-    go : Dec (2 * k + 1 < length list) → isIn l (leasesOf (drop (2 * k) list)) ≡ isIn l (leasesOf (drop (2 * (k + 1)) list))
-    go (yes b) = is-in-at l list k b ∙ rw (not-same (cellAt list k) (getD list (2 * k + 1) 0) l (h b))
+    go : Dec (3 * k + 2 < length list) → isIn l (holdsOf (drop (3 * k) list)) ≡ isIn l (holdsOf (drop (3 * (k + 1)) list))
+    go (yes b) = is-in-at l list k b ∙ rw (not-same (cellAt list k) (getD list (3 * k + 1) 0) l (h b))
     go (no b) = is-in-end l list k (omega arith) ∙ sym (is-in-end l list (k + 1) (omega arith))
 
-skip : (l : Lease) (list : List ℕ) (k : ℕ) → ((i : ℕ) → i < k → 2 * i + 1 < length list → cellAt list i ≢ l .cell)
-    → isIn l (leasesOf list) ≡ isIn l (leasesOf (drop (2 * k) list))
+skip : (l : Hold) (list : List ℕ) (k : ℕ) → ((i : ℕ) → i < k → 3 * i + 2 < length list → cellAt list i ≢ l .cell)
+    → isIn l (holdsOf list) ≡ isIn l (holdsOf (drop (3 * k) list))
 skip l list zero h = refl
 skip l list (suc k) h =
     let e : suc k ≡ k + 1 = omega arith in
     skip l list k (λ i b. h i (omega arith)) ∙ rw e (one-less l list k (h k (omega arith)))
 
 -- no mark: no listed lease has that cell
-pub unmarked : (marks list : List ℕ) (l : Lease) → Marked marks list → markOf marks (l .cell) ≡ 0 → isIn l (leasesOf list) ≡ false
+pub unmarked : (marks list : List ℕ) (l : Hold) → Marked marks list → markOf marks (l .cell) ≡ 0 → isIn l (holdsOf list) ≡ false
 unmarked marks list l m e =
-    skip l list (length list / 2 + 1) (λ i b c q. absurd (omega (arith, m .from i (omega arith) c .0, ap (markOf marks) q, e))) ∙ is-in-end l list (length list / 2 + 1) (omega arith)
+    skip l list (length list / 3 + 1) (λ i b c q. absurd (omega (arith, m .from i (omega arith) c .0, ap (markOf marks) q, e))) ∙ is-in-end l list (length list / 3 + 1) (omega arith)
 
 -- a mark: the list may be read from there on
-pub marked : (marks list : List ℕ) (l : Lease) → Marked marks list → isIn l (leasesOf list) ≡ isIn l (leasesOf (drop (2 * (markOf marks (l .cell) - 1)) list))
+pub marked : (marks list : List ℕ) (l : Hold) → Marked marks list → isIn l (holdsOf list) ≡ isIn l (holdsOf (drop (3 * (markOf marks (l .cell) - 1)) list))
 marked marks list l m = skip l list (markOf marks (l .cell) - 1) (λ i b c q. absurd (omega (arith, m .from i (omega arith) c .1, ap (markOf marks) q)))
 
 -- all marks at the front say nothing, and are right of every list

@@ -7,7 +7,7 @@ use types::Check;
 use types::Counts;
 use types::Flow;
 use types::Head;
-use types::Lease;
+use types::Hold;
 use types::Played;
 use types::Refusal;
 use types::Run;
@@ -17,7 +17,7 @@ ghost use mathlib.Core.Bool.{true};
 ghost use mathlib.Core.List.{[], _∷_, _++_};
 ghost use Prim.Native.Nat.{_+_, _*_, _-_, _/_, _<_, _≤_};
 ghost use lib.ListN.{length};
-ghost use Rattle.model.specs.Arena.{shapeFits, isIn, cellsOf, headOf, leasesOf};
+ghost use Rattle.model.specs.Arena.{shapeFits, isIn, cellsOf, headOf, holdsOf};
 ghost use Rattle.model.specs.Refusals.{first};
 ghost use Rattle.model.specs.Checks.{badScript, badHeld, scriptRules};
 ghost use Rattle.model.specs.Foreign.{setting, protecting, flowOf, stepTakeOf, stepReleaseOf};
@@ -28,11 +28,12 @@ ghost use Rattle.foreign.specs.Laws.{FlowBound};
 ghost use Rattle.foreign.specs.Marks.{Marked};
 ghost use Rattle.foreign.specs.Fine.{ScriptFine};
 
-// What the steps of a call are given and never change: the arena's sizes, its number of cells, and the number of steps
-// of the script.
+// What the steps of a call are given and never change: the arena's sizes, its boot number, its number of cells, and the
+// number of steps of the script.
 pub struct Scope {
     pub headers: u32,
     pub buckets: u32,
+    pub boot: u32,
     pub cells: u32,
     pub steps: usize,
 }
@@ -40,12 +41,13 @@ pub struct Scope {
 impl Scope {
     // The head whose next serial is this one.
     pub fn head(self, next: u32) -> Head
-        ensures { λ r. ⌜ r ≡ headOf (self .headers) (self .buckets) next ⌝ }
+        ensures { λ r. ⌜ r ≡ headOf (self .headers) (self .buckets) next (self .boot) ⌝ }
     {
         Head {
             headers: self.headers,
             buckets: self.buckets,
             next,
+            boot: self.boot,
         }
     }
 }
@@ -58,6 +60,7 @@ pub fn scope_of(head: Head, script: &[u32]) -> Scope
     Scope {
         headers: head.headers,
         buckets: head.buckets,
+        boot: head.boot,
         cells: head.headers * head.buckets,
         steps: script.len() / 3,
     }
@@ -66,13 +69,13 @@ pub fn scope_of(head: Head, script: &[u32]) -> Scope
 // ---- one step
 
 // Whether a lease is among the first n pairs.
-fn is_in_pairs(taken: &[[u32; 2]; 64], n: usize, lease: Lease) -> bool
+fn is_in_pairs(taken: &[[u32; 2]; 64], n: usize, lease: Hold) -> bool
     requires { ⌜ n ≤ 64 ⌝ }
     ensures { λ r. ⌜ r ≡ isIn lease (pairsOf n 0 (now (taken .entry))) ⌝ }
 {
     let mut i = 0;
     while i < n {
-        if lease::same_lease(taken[i][0], taken[i][1], lease) {
+        if lease::same_hold(taken[i][0], taken[i][1], lease) {
             return true;
         }
         i += 1;
@@ -85,23 +88,23 @@ fn is_in_pairs(taken: &[[u32; 2]; 64], n: usize, lease: Lease) -> bool
 fn marks_of(held: &[u32]) -> [u8; 256]
     ensures { λ r. ⌜ Marked r (now (held .entry)) ⌝ }
 {
-    if 255 < held.len() / 2 {
+    if 255 < held.len() / 3 {
         return [1; 256];
     }
     let mut marks = [0; 256];
-    let mut i = held.len() / 2;
+    let mut i = held.len() / 3;
     while 0 < i {
         i -= 1;
-        let at = (held[2 * i] % 256) as usize;
+        let at = (held[3 * i] % 256) as usize;
         marks[at] = (i + 1) as u8;
     }
     marks
 }
 
 // Whether a lease is held: without a mark it is not, and no lease is looked at; else up to the first match.
-fn is_held(held: &[u32], marks: &[u8; 256], lease: Lease) -> bool
+fn is_held(held: &[u32], marks: &[u8; 256], lease: Hold) -> bool
     requires { ⌜ Marked (now marks) (now held) ⌝ }
-    ensures { λ r. ⌜ r ≡ isIn lease (leasesOf (now (held .entry))) ⌝ }
+    ensures { λ r. ⌜ r ≡ isIn lease (holdsOf (now (held .entry))) ⌝ }
 {
     let at = (lease.cell % 256) as usize;
     let mark = marks[at];
@@ -117,8 +120,8 @@ fn is_guarded(
     marks: &[u8; 256],
     taken: &[[u32; 2]; 64],
     n: usize,
-    own: Lease,
-    lease: Lease,
+    own: Hold,
+    lease: Hold,
 ) -> bool
     requires { ⌜ (n ≤ 64) × Marked (now marks) (now held) ⌝ }
     ensures { λ r. ⌜ r ≡ isIn lease (guardsOf (now (held .entry)) (now (taken .entry)) n ++ (own ∷ [])) ⌝ }
@@ -129,7 +132,7 @@ fn is_guarded(
     if is_in_pairs(taken, n, lease) {
         return true;
     }
-    lease::same_lease(own.cell, own.serial, lease)
+    lease::same_hold(own.cell, own.serial, lease)
 }
 
 // 1: take a cell, if it is in range and free and a serial remains.
@@ -153,17 +156,17 @@ fn step_take(cells: u32, next: u32, table: &mut [u32], cell: u32) -> Stepped
     Stepped { next, dropped: 1 }
 }
 
-// 2: release a lease, if it is live and not protected.
+// 2: release a lease, if it is live and not protected. A step names cell and serial: it has no boot number to test.
 fn step_release(
     cells: u32,
     next: u32,
     table: &mut [u32],
-    lease: Lease,
+    lease: Hold,
     held: &[u32],
     marks: &[u8; 256],
     taken: &[[u32; 2]; 64],
     n: usize,
-    own: Lease,
+    own: Hold,
 ) -> Stepped
     requires { ⌜ (3 * cells ≤ length (now table)) × ((n ≤ 64) × Marked (now marks) (now held)) ⌝ }
     ensures { λ r. ⌜ (r, now (table .exit))
@@ -254,7 +257,7 @@ fn step(
     marks: &[u8; 256],
     taken: &[[u32; 2]; 64],
     n: usize,
-    own: Lease,
+    own: Hold,
 ) -> Stepped
     requires { ⌜ (3 * cells ≤ length (now table)) × ((headers ≤ length (now health))
         × ((n ≤ 64) × ((kind ≡ 5 → ⊥) × Marked (now marks) (now held)))) ⌝ }
@@ -263,7 +266,7 @@ fn step(
         next (now (table .entry)) (now (health .entry)) kind place number .seen ⌝ }
 {
     if kind == 2 {
-        let lease = Lease {
+        let lease = Hold {
             cell: place,
             serial: number,
         };
@@ -288,7 +291,7 @@ fn run_marked(
     held: &[u32],
     taken: &[[u32; 2]; 64],
     n: usize,
-    own: Lease,
+    own: Hold,
 ) -> Flow
     requires { ⌜ Room headers cells (length (now table)) (length (now health)) n steps (length (now script))
         × FlowBound steps (flowOf start place before) ⌝ }
@@ -351,7 +354,7 @@ fn run_steps(
     held: &[u32],
     taken: &[[u32; 2]; 64],
     n: usize,
-    own: Lease,
+    own: Hold,
 ) -> Flow
     requires { ⌜ Room headers cells (length (now table)) (length (now health)) n steps (length (now script))
         × FlowBound steps (flowOf start place before) ⌝ }
@@ -429,7 +432,7 @@ pub fn boundary(
         flow (now (table .entry)) (now (health .entry)) .seen ⌝ }
 {
     if flow.place < scope.steps {
-        let none = Lease { cell: 0, serial: 0 };
+        let none = Hold { cell: 0, serial: 0 };
         return run_steps(
             scope.headers,
             scope.cells,
@@ -463,7 +466,7 @@ pub fn protecting_boundary(
     held: &[u32],
     taken: &[[u32; 2]; 64],
     n: usize,
-    own: Lease,
+    own: Hold,
 ) -> Flow
     requires { ⌜ RoomIn scope (length (now table)) (length (now health)) n (length (now script))
         × FlowBound (scope .steps) flow ⌝ }
@@ -514,7 +517,7 @@ pub fn script_fault(script: &[u32], place: usize) -> Check
     Check::Fine
 }
 
-// 2, and then 3.
+// 2, and then the held list: 3 by its length, then 16 and 3 by position.
 pub fn lists_fault(head: Head, table: &[u32], script: &[u32], place: usize, held: &[u32]) -> Check
     requires { ⌜ shapeFits head (length (now table)) ≡ true ⌝ }
     ensures { λ r. ⌜ r
@@ -605,7 +608,8 @@ pub fn environment(
     }
 }
 
-// The same: its held list is what it protects. A held lease that is not live refuses the call with 3 and its position.
+// The same: its held list is what it protects. A held lease with another boot number refuses the call with 16 and its
+// position, one that is not live with 3 and its position.
 pub fn environment_for_borrows(
     head: Head,
     table: &mut [u32],

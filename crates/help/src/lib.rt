@@ -22,7 +22,7 @@ fn ram_lines(out: &mut [u8], used: usize) -> usize {
         word I V: store table word I, as bad RAM would\n\
         byte I V: store health byte I, as bad RAM would\n\
         lend T G: lend T words and G bytes; lend alone: what the head asks for\n\
-        head H B NEXT: put this head in force\n",
+        head H B NEXT BOOT: put this head in force\n",
     )
 }
 
@@ -33,10 +33,10 @@ fn list_lines(out: &mut [u8], used: usize) -> usize {
         b"registry N..: header numbers; a binding is a place in this list\n\
         script N..: foreign steps, each kind, place, number; the place becomes 0\n\
         place P: the place in the script, in steps\n\
-        held N..: leases that the caller holds, each cell, serial\n\
+        held N..: leases that the caller holds, each cell, serial, boot number\n\
         keys N..: keys of acquire_index_locks and acquire_sorted_locks, each binding, bucket\n\
-        grants N: a grant buffer of N words, two for each key\n\
-        leases N..: leases of release_all, each cell, serial\n",
+        grants N: a grant buffer of N words, three for each key\n\
+        leases N..: leases of release_all, each cell, serial, boot number\n",
     )
 }
 
@@ -57,12 +57,12 @@ fn cell_lines(out: &mut [u8], used: usize) -> usize {
     put(
         out,
         used,
-        b"prepare H B FIRST: H headers of B buckets, serials from FIRST\n\
+        b"prepare H B FIRST BOOT: H headers of B buckets, serials from FIRST, leases with this boot number\n\
         try_acquire C: take cell C if it is free\n\
-        drop_lease C S: give the lease of cell C, serial S, back\n\
-        read_permission C S: the cell of a live lease\n\
-        competing_acquire_is_excluded C S: a second take of that cell, which is busy\n\
-        release_then_handoff C S: give it back and take it again\n",
+        drop_lease C S BOOT: give the lease of cell C, serial S, boot number BOOT, back\n\
+        read_permission C S BOOT: the cell of a live lease\n\
+        competing_acquire_is_excluded C S BOOT: a second take of that cell, which is busy\n\
+        release_then_handoff C S BOOT: give it back and take it again\n",
     )
 }
 
@@ -70,9 +70,9 @@ fn held_lines(out: &mut [u8], used: usize) -> usize {
     put(
         out,
         used,
-        b"foreign_release_between_attempts C S: a busy take, the release, a take\n\
+        b"foreign_release_between_attempts C S BOOT: a busy take, the release, a take\n\
         acquire_preserving_borrows C: try_acquire, after the held list's check\n\
-        drop_preserving_borrows C S: drop_lease, not of a lease in the held list\n\
+        drop_preserving_borrows C S BOOT: drop_lease, not of a lease in the held list\n\
         environment: one boundary of the script\n\
         environment_for_borrows: the same\n",
     )
@@ -117,7 +117,7 @@ fn book_lines(out: &mut [u8], used: usize) -> usize {
         out,
         used,
         b"prepare_book: set the lent book to zeros\n\
-        write_setpoint SLOT C S KIND VALUE: pressure (the 32 bits of an f32), speed or valve (0, 1), by the lease\n\
+        write_setpoint SLOT C S BOOT KIND VALUE: pressure (bits of an f32), speed or valve (0, 1), by the lease\n\
         read_setpoint SLOT: the setpoint of a slot and its version\n",
     )
 }

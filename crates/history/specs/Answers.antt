@@ -7,11 +7,12 @@ use mathlib.Core.List.{List, [], _∷_, _++_}
 use mathlib.Core.Logic.{_⊎_}
 use lib.ListN.{length}
 use Rattle.model.specs.Log.{Actor, Event, by-caller, attempt-begun, took, released}
-use Rattle.model.specs.Arena.{leaseOf, leasesOf}
+use Rattle.model.specs.Arena.{holdOf, holdsOf}
 use Rattle.model.specs.Answers.{refusalIn}
-use Rattle.model.specs.Lock.{leaseAt}
+use Rattle.model.specs.Lock.{holdAt}
 use Rattle.model.specs.Checks.{countIn}
 use Rattle.types.specs.declared.Answer.the-variants.{Granted, AllGranted, Busy, Refused, RefusedAt}
+use Rattle.types.specs.declared.Hold.{Hold}
 use Rattle.types.specs.declared.Lease.{Lease}
 use Rattle.types.specs.declared.Reason.{Reason}
 use Rattle.types.specs.declared.Refusal.{Refusal}
@@ -25,7 +26,7 @@ use Rattle.history.specs.Statements.{Through, answer-in, buffer-in, worl
 -- lease that somebody else holds, or one made up
 abbrev pub Handed-over : Build → Type 0
 Handed-over f =
-    (w : World) (k : Call) (l : Lease) → Gives (f w k) l
+    (w : World) (k : Call) (l : Hold) → Gives (f w k) l
     → (before after : List Event) × (f w k .log ≡ before ++ (took by-caller (l .cell) (l .serial) ∷ after)) × (l .serial ≡ now w before .head .next)
 
 -- "keys in the order given": the serials in multi-lock's granted buffer rise from each position to each later one. Those of the sorted call
@@ -35,12 +36,12 @@ Serials-rise f =
     (w : World) (registry script : List ℕ) (place : ℕ) (held keys grants : List ℕ) (i j : ℕ)
     → let m = f w (acquire-locks registry script place held keys grants) in
     answer-in m ≡ AllGranted
-    → let ls = leasesOf (buffer-in m) in i < j → j < length ls → leaseAt ls i .serial < leaseAt ls j .serial
+    → let ls = holdsOf (buffer-in m) in i < j → j < length ls → holdAt ls i .serial < holdAt ls j .serial
 
 -- while (c, s) is live, no answer hands over a lease on c unless the call's own log releases (c, s) first
 abbrev pub Not-over-live : Build → Type 0
 Not-over-live f =
-    (w : World) (k : Call) (c s s′ : ℕ) → Live w (leaseOf c s) → Gives (f w k) (leaseOf c s′)
+    (w : World) (k : Call) (c s s′ : ℕ) → Live w (holdOf c s) → Gives (f w k) (holdOf c s′)
     → (a : Actor) × (before middle after : List Event)
     × (f w k .log ≡ before ++ (released a c s ∷ (middle ++ (took by-caller c s′ ∷ after))))
 
@@ -69,7 +70,7 @@ Asks-one (crew-at-work counts cells turns counters) = ⊥
 abbrev pub Busy-or-refused : Build → Type 0
 Busy-or-refused f =
     (w : World) (k : Call) (s : ℕ) → Asks-one k
-    → let l = leaseOf (asked w k) s in
+    → let l = holdOf (asked w k) s in
     Live w l → Unreleased l (f w k .log)
     → ((why : Reason) × (answer-in (f w k) ≡ Busy why)) ⊎ ((r : Refusal) × (answer-in (f w k) ≡ Refused r))
 
@@ -78,7 +79,7 @@ abbrev pub Locks-refused : Build → Type 0
 Locks-refused f =
     (w : World) (k : Call) (registry keys : List ℕ) (p s : ℕ) → By-keys k registry keys → p < countIn keys
     → let m = f w k in
-    let l = leaseOf (keyCell (w .head .buckets) registry keys p) s in
+    let l = holdOf (keyCell (w .head .buckets) registry keys p) s in
     Live w l → Unreleased l (m .log)
     → ((r : Refusal) × (answer-in m ≡ Refused r)) ⊎ ((r : Refusal) × (q : ℕ) × (answer-in m ≡ RefusedAt r q))
 
@@ -111,7 +112,7 @@ Granted-healthy f = (w : World) (k : Call) (l : Lease) → Reads-again k → ans
 
 -- the point of a multi-lock's log at which a key's lease is granted: it was taken before, no attempt has begun since, and
 -- there the log ends or the next key's first attempt begins
-pub record Grant-point (l : Lease) (before after : List Event) : Type 0 where
+pub record Grant-point (l : Hold) (before after : List Event) : Type 0 where
   pub front : List Event
   pub tail : List Event
   pub taken : before ≡ front ++ (took by-caller (l .cell) (l .serial) ∷ tail)
@@ -125,7 +126,7 @@ abbrev pub Locks-healthy : Build → Type 0
 Locks-healthy f =
     (w : World) (registry script : List ℕ) (place : ℕ) (held keys grants : List ℕ) (p : ℕ)
     → let m = f w (acquire-locks registry script place held keys grants) in
-    let l = leaseAt (leasesOf (buffer-in m)) p in
+    let l = holdAt (holdsOf (buffer-in m)) p in
     answer-in m ≡ AllGranted → p < countIn keys
     → ((before after : List Event) × (m .log ≡ before ++ after) × Grant-point l before after × Healthy (now w before) (l .cell))
     × (p + 1 ≡ countIn keys → Healthy (world-in m) (l .cell))
@@ -140,14 +141,14 @@ Poisoned-holds-nothing f =
 -- ---- a history, with what each item said
 
 -- this entry hands this lease over
-abbrev pub Hands : Entry → Lease → Type 0
+abbrev pub Hands : Entry → Hold → Type 0
 Hands e = Hands-over (e .said .answer) (e .said .grants)
 
 -- no lease is handed over twice: the serials that answers hand over rise from each answer to each later one of the stretch
 abbrev pub Never-twice : Type 0
 Never-twice =
     Through (λ d.
-    (x y z : List Entry) (i j : Entry) (l k : Lease) → d .entries ≡ x ++ (i ∷ (y ++ (j ∷ z)))
+    (x y z : List Entry) (i j : Entry) (l k : Hold) → d .entries ≡ x ++ (i ∷ (y ++ (j ∷ z)))
     → Hands i l → Hands j k → l .serial < k .serial)
 
 -- nor does one answer hand over two leases on one cell
@@ -155,7 +156,7 @@ abbrev pub Once-each : Type 0
 Once-each =
     Through (λ d.
     (x z : List Entry) (i : Entry) (c s s′ : ℕ) → d .entries ≡ x ++ (i ∷ z)
-    → Hands i (leaseOf c s) → Hands i (leaseOf c s′) → s ≡ s′)
+    → Hands i (holdOf c s) → Hands i (holdOf c s′) → s ≡ s′)
 
 -- "two writers drive one valve": an answer hands over (c, s), a later one hands over a lease on c, whoever calls. Then (c, s) was released in
 -- between, and only then was the second lease taken
@@ -163,7 +164,7 @@ abbrev pub Two-writers : Type 0
 Two-writers =
     Through (λ d.
     (x y z : List Entry) (i j : Entry) (c s s′ : ℕ) → d .entries ≡ x ++ (i ∷ (y ++ (j ∷ z)))
-    → Hands i (leaseOf c s) → Hands j (leaseOf c s′)
+    → Hands i (holdOf c s) → Hands j (holdOf c s′)
     → (a : Actor) × (before middle after : List Event)
     × (events-of y ++ j .events ≡ before ++ (released a c s ∷ (middle ++ (took by-caller c s′ ∷ after)))))
 
@@ -173,7 +174,7 @@ abbrev pub None-takes : Type 0
 None-takes =
     Through (λ d.
     (x z : List Entry) (i : Entry) (c s s′ : ℕ) (b : Actor) (between after : List Event) → d .entries ≡ x ++ (i ∷ z)
-    → Hands i (leaseOf c s) → events-of z ≡ between ++ (took b c s′ ∷ after)
+    → Hands i (holdOf c s) → events-of z ≡ between ++ (took b c s′ ∷ after)
     → (a : Actor) × (before middle : List Event) × (between ≡ before ++ (released a c s ∷ middle)))
 
 -- so, from the answer that hands (c, s) over up to the first event that releases (c, s): no other answer hands over a lease on c, whoever
@@ -182,8 +183,8 @@ abbrev pub Alone-until-released : Type 0
 Alone-until-released =
     Through (λ d.
     (x y z : List Entry) (i j : Entry) (c s : ℕ) → d .entries ≡ x ++ (i ∷ (y ++ (j ∷ z)))
-    → Hands i (leaseOf c s) → Unreleased (leaseOf c s) (events-of y ++ j .events)
-    → ((s′ : ℕ) → Hands j (leaseOf c s′) → ⊥)
+    → Hands i (holdOf c s) → Unreleased (holdOf c s) (events-of y ++ j .events)
+    → ((s′ : ℕ) → Hands j (holdOf c s′) → ⊥)
     × ((b : Actor) (s′ : ℕ) (before after : List Event) → events-of y ++ j .events ≡ before ++ (took b c s′ ∷ after) → ⊥))
 
 -- and of any two takes of one cell, by callers, scripts or crews: the first lease was released in between

@@ -1,7 +1,7 @@
 -- Each call of document 01: refused, it changes nothing; else its log is lawful, leads to the world it leaves, and spares its held list.
 use Prim.Native.Nat.{ℕ, zero, suc, _+_, _*_, _≤_, _<_}
 use mathlib.Core.Path.{_≡_, refl, sym, _∙_, subst}
-use mathlib.Core.List.{List, [], _∷_, _++_, append-nil}
+use mathlib.Core.List.{List, [], _∷_, _++_, append-nil, map}
 use mathlib.Core.Bool.{false, not}
 use mathlib.Core.Logic.{_⊎_, inl, inr}
 use native.Mathlib.Decide.{decLt}
@@ -10,17 +10,19 @@ use lib.ListN.{length, take}
 use lib.Seq.{append-snoc}
 use borrow.Author.Tests.{leb-false, not-false}
 use Rattle.model.specs.Log.{Made, by-caller, attempt-begun, released, Event}
-use Rattle.model.specs.Arena.{cellsOf, shapeFits, setCell, isLive, isIn, leasesOf}
+use Rattle.model.specs.Arena.{cellsOf, shapeFits, setCell, holdIn, isLive, isIn, leasesOf, holdsOf}
 use Rattle.model.specs.Foreign.{flowOf}
-use Rattle.model.specs.Lock.{leaseAt, noLease, answerOf, settled, attemptLimit, noneYet}
-use Rattle.model.specs.Checks.{countIn, badShape, badHeld, badCell, notReleasable, cellRules, leaseRules, heldCellRules, heldLeaseRules, scriptRules, lockRules, bucketRules, releaseRules, locksRules}
+use Rattle.model.specs.Lock.{holdAt, noHold, answerOf, settled, attemptLimit, noneYet}
+use Rattle.model.specs.Checks.{countIn, leaseCount, badShape, badHeld, badCell, notReleasable, cellRules, leaseRules, heldCellRules, heldLeaseRules, scriptRules, lockRules, bucketRules, releaseRules, locksRules}
 use Rattle.model.specs.Calls.{starting, acquireOf}
 use Rattle.model.specs.Sorted.{cellsSorted, sortedKeys, firstKey}
 use Rattle.model.specs.Crew.{crewRules, rests, adds, crewAtWorkRules}
 use Rattle.types.specs.declared.Head.{Head}
+use Rattle.types.specs.declared.Hold.{Hold}
 use Rattle.types.specs.declared.Lease.{Lease}
 use Rattle.types.specs.declared.Outcome.{Outcome}
 use Rattle.laws.specs.Shape.{shaped}
+use Rattle.laws.specs.Lists.{holds-are, as-many}
 use Rattle.history.specs.World.{World, worldOf, cells, Live, Lawful, Unreleased, now}
 use Rattle.history.specs.Items.{Call, Says, try-acquire, drop-lease, read-permission, competing-acquire, release-then-handoff, foreign-release, drop-preserving, acquire-preserving, environment, try-lock, transactional, acquire-bucket, release-all, acquire-locks, acquire-sorted, crew, crew-at-work, perform, held-of, Clear, rules}
 use Rattle.history.specs.Statements.{Hands-over, Held-live, log-of}
@@ -36,81 +38,87 @@ use Rattle.history.specs.Shared.{handed-inner}
 -- ---- the leases that `release_all` is given
 
 module _ (h : Head) (t g : List ℕ) where
-  releasable-live : (i : ℕ) (earlier ls : List Lease) → Clear (notReleasable h t i earlier ls) → (j : ℕ) → j < length ls → Live (worldOf h t g) (leaseAt ls j)
+  releasable-live : (i : ℕ) (earlier : List Hold) (ls : List Lease) → Clear (notReleasable h t i earlier ls)
+      → (j : ℕ) → j < length ls → Live (worldOf h t g) (holdAt (map holdIn ls) j)
   unfolding notReleasable
   releasable-live i earlier [] c j k = absurd (omega arith)
-  releasable-live i earlier (l ∷ ls) c zero k = not-false (isLive (h .next) (cellsOf h) t l) (c .0)
-  releasable-live i earlier (l ∷ ls) c (suc j) k = releasable-live (i + 1) (earlier ++ (l ∷ [])) ls (c .1 .1) j (omega arith)
+  releasable-live i earlier (l ∷ ls) c zero k = not-false (isLive (h .next) (cellsOf h) t (holdIn l)) (c .1 .0)
+  releasable-live i earlier (l ∷ ls) c (suc j) k = releasable-live (i + 1) (earlier ++ (holdIn l ∷ [])) ls (c .1 .1 .1) j (omega arith)
 
-  releasable-new : (i : ℕ) (earlier ls : List Lease) → Clear (notReleasable h t i earlier ls) → (j : ℕ) → j < length ls → isIn (leaseAt ls j) (earlier ++ take j ls) ≡ false
+  releasable-new : (i : ℕ) (earlier : List Hold) (ls : List Lease) → Clear (notReleasable h t i earlier ls)
+      → (j : ℕ) → j < length ls → isIn (holdAt (map holdIn ls) j) (earlier ++ take j (map holdIn ls)) ≡ false
   unfolding notReleasable
   releasable-new i earlier [] c j k = absurd (omega arith)
-  releasable-new i earlier (l ∷ ls) c zero k = rw (append-nil earlier) (c .1 .0)
+  releasable-new i earlier (l ∷ ls) c zero k = rw (append-nil earlier) (c .1 .1 .0)
   releasable-new i earlier (l ∷ ls) c (suc j) k =
-      rw append-snoc at (releasable-new (i + 1) (earlier ++ (l ∷ [])) ls (c .1 .1) j (omega arith))
+      rw append-snoc at (releasable-new (i + 1) (earlier ++ (holdIn l ∷ [])) ls (c .1 .1 .1) j (omega arith))
 
-  releasable : (n : ℕ) (ls : List Lease) → n ≤ length ls → Clear (notReleasable h t 0 [] ls) → Held (worldOf h t g) n ls
-  releasable n ls f c =
+  releasable : (n : ℕ) (ws : List ℕ) → n ≤ length (holdsOf ws) → Clear (notReleasable h t 0 [] (leasesOf ws)) → Held (worldOf h t g) n (holdsOf ws)
+  releasable n ws f c =
       record {
         enough = f;
-        all-live = λ i k. releasable-live 0 [] ls c i (omega arith);
+        all-live = λ i k. subst (λ (ls : List Hold). Live (worldOf h t g) (holdAt ls i)) (sym (holds-are ws)) (releasable-live 0 [] (leasesOf ws) c i (omega (arith, as-many ws)));
         distinct = λ i j a b e. go i j a b e (decLt i j) (decLt j i);
       }
     where
-      clash : (i j : ℕ) → i < j → j < n → leaseAt ls i ≡ leaseAt ls j → ⊥
-      clash i j a b e =
-          differ (sym (releasable-new 0 [] ls c j (omega arith)) ∙ subst (In (take j ls)) e (in-take ls j i noLease a (omega arith)))
+      new : (j : ℕ) → j < length (holdsOf ws) → isIn (holdAt (holdsOf ws) j) (take j (holdsOf ws)) ≡ false
+      new j k =
+          subst (λ (ls : List Hold). isIn (holdAt ls j) (take j ls) ≡ false) (sym (holds-are ws)) (releasable-new 0 [] (leasesOf ws) c j (omega (arith, as-many ws)))
 
-      go : (i j : ℕ) → i < n → j < n → leaseAt ls i ≡ leaseAt ls j → Dec (i < j) → Dec (j < i) → i ≡ j
+      clash : (i j : ℕ) → i < j → j < n → holdAt (holdsOf ws) i ≡ holdAt (holdsOf ws) j → ⊥
+      clash i j a b e = differ (sym (new j (omega arith)) ∙ subst (In (take j (holdsOf ws))) e (in-take (holdsOf ws) j i noHold a (omega arith)))
+
+      go : (i j : ℕ) → i < n → j < n → holdAt (holdsOf ws) i ≡ holdAt (holdsOf ws) j → Dec (i < j) → Dec (j < i) → i ≡ j
       go i j a b e (yes p) q = absurd (clash i j p b e)
       go i j a b e (no p) (yes q) = absurd (clash j i q a (sym e))
       go i j a b e (no p) (no q) = omega arith
 
-pub words-leases : (ws : List ℕ) → length ws ≤ 2 * length (leasesOf ws) + 1
-unfolding leasesOf
+pub words-leases : (ws : List ℕ) → length ws ≤ 3 * length (holdsOf ws) + 2
+unfolding holdsOf
 words-leases [] = omega arith
 words-leases (c ∷ []) = omega arith
-words-leases (c ∷ s ∷ ws) = omega (arith, words-leases ws)
+words-leases (c ∷ s ∷ []) = omega arith
+words-leases (c ∷ s ∷ b ∷ ws) = omega (arith, words-leases ws)
 
 -- ---- what is handed over is live
 
-pub live-won : {n : ℕ} {v : World} {o : Outcome} → Won n v o → (l : Lease) → Hands-over (answerOf o) [] l → Live v l
-live-won {v = v} (won k x i) l e = subst (Live v) e x
-live-won none-yet l e = absurd e
-live-won (no-more r) l e = absurd e
+pub live-won : (boot : ℕ) {n : ℕ} {v : World} {o : Outcome} → Won n v o → (l : Hold) → Hands-over (answerOf boot o) [] l → Live v l
+live-won boot {v = v} (won k x i) l e = subst (Live v) e x
+live-won boot none-yet l e = absurd e
+live-won boot (no-more r) l e = absurd e
 
-live-settled : {n : ℕ} {v : World} {o : Outcome} → Won n v o → (l : Lease) → Hands-over (answerOf (settled o)) [] l → Live v l
-live-settled {v = v} (won k x i) l e = subst (Live v) e x
-live-settled none-yet l e = absurd e
-live-settled (no-more r) l e = absurd e
+live-settled : (boot : ℕ) {n : ℕ} {v : World} {o : Outcome} → Won n v o → (l : Hold) → Hands-over (answerOf boot (settled o)) [] l → Live v l
+live-settled boot {v = v} (won k x i) l e = subst (Live v) e x
+live-settled boot none-yet l e = absurd e
+live-settled boot (no-more r) l e = absurd e
 
 -- ---- each call
 
 -- its log is lawful, leads to the world it leaves and spares what is P, and every lease that it hands over is live then
-abbrev pub Said : World → (Lease → Type 0) → Made (World × Says) → Type 0
-Said = Gains (λ a. a .0) (λ a. (l : Lease) → Hands-over (a .1 .answer) (a .1 .grants) l → Live (a .0) l)
+abbrev pub Said : World → (Hold → Type 0) → Made (World × Says) → Type 0
+Said = Gains (λ a. a .0) (λ a. (l : Hold) → Hands-over (a .1 .answer) (a .1 .grants) l → Live (a .0) l)
 
 module _ (w : World) (good : Fit w) where
-  acquire-kept : (P : Lease → Type 0) (n c : ℕ) → c < cells w → Said w P (seen-as (reply w) (acquireOf n (w .head) (w .table) c))
+  acquire-kept : (P : Hold → Type 0) (n c : ℕ) → c < cells w → Said w P (seen-as (reply w) (acquireOf n (w .head) (w .table) c))
   unfolding acquireOf
   acquire-kept P n c l =
       let k = take-kept (w .head) [] P (w .head .next) (w .table) (w .health) c good l in
-      record { kept = chain good (event attempt-begun tt (λ l i v x. x)) (ended (k .kept)); gain = live-won (won-of (k .gain)) }
+      record { kept = chain good (event attempt-begun tt (λ l i v x. x)) (ended (k .kept)); gain = live-won (w .head .boot) (won-of (k .gain)) }
 
   -- a release that spares what is not the lease
-  release-kept : (P : Lease → Type 0) (l : Lease) → Live w l → ((k : Lease) → P k → k ≡ l → ⊥)
+  release-kept : (P : Hold → Type 0) (l : Hold) → Live w l → ((k : Hold) → P k → k ≡ l → ⊥)
       → Kept w P (worldOf (w .head) (setCell (w .table) (l .cell) 0 0) (w .health)) (released by-caller (l .cell) (l .serial) ∷ [])
   release-kept P l v n = event (released by-caller (l .cell) (l .serial)) v (λ k p _ x. n k p x)
 
-  is-live : (l : Lease) → not (isLive (w .head .next) (cells w) (w .table) l) ≡ false → Live w l
+  is-live : (l : Hold) → not (isLive (w .head .next) (cells w) (w .table) l) ≡ false → Live w l
   is-live l e = not-false (isLive (w .head .next) (cells w) (w .table) l) e
 
-  inside : (l : Lease) → not (isLive (w .head .next) (cells w) (w .table) l) ≡ false → l .cell < cells w
+  inside : (l : Hold) → not (isLive (w .head .next) (cells w) (w .table) l) ≡ false → l .cell < cells w
   inside l e = lives w l (is-live l e) .in-range
 
 -- a lease that may be released beside a held list
-apart-from : (held : List ℕ) (l : Lease) → isIn l (leasesOf held) ≡ false → (k : Lease) → In (leasesOf held) k → k ≡ l → ⊥
-apart-from held l n k i e = differ (sym n ∙ subst (In (leasesOf held)) e i)
+apart-from : (held : List ℕ) (l : Hold) → isIn l (holdsOf held) ≡ false → (k : Hold) → In (holdsOf held) k → k ≡ l → ⊥
+apart-from held l n k i e = differ (sym n ∙ subst (In (holdsOf held)) e i)
 
 -- a multi-lock begins with nothing taken
 none-taken : (w : World) → Taken w (w .head .next) []
@@ -123,50 +131,50 @@ none-taken w =
 steps-kept : (w : World) (k : Call) → Fit w → Clear (rules w k) → Said w (In (held-of k)) (steps w k)
 unfolding cellRules leaseRules heldCellRules heldLeaseRules lockRules releaseRules isIn acquireOf
 steps-kept w (try-acquire c) g k = acquire-kept w g (In []) 1 c (leb-false (cells w) c (k .1 .0))
-steps-kept w (drop-lease l) g k = record { kept = release-kept w g (In []) l (is-live w g l (k .1 .0)) (λ _ i _. differ i); gain = λ l x. absurd x }
+steps-kept w (drop-lease l) g k = record { kept = release-kept w g (In []) (holdIn l) (is-live w g (holdIn l) (k .1 .1 .0)) (λ _ i _. differ i); gain = λ l x. absurd x }
 steps-kept w (read-permission l) g k = record { kept = nothing; gain = λ l x. absurd x }
-steps-kept w (competing-acquire l) g k = acquire-kept w g (In []) 1 (l .cell) (inside w g l (k .1 .0))
+steps-kept w (competing-acquire l) g k = acquire-kept w g (In []) 1 (l .cell) (inside w g (holdIn l) (k .1 .1 .0))
 steps-kept w (release-then-handoff l) g k =
-    let a = release-kept w g (In []) l (is-live w g l (k .1 .0)) (λ _ i _. differ i) in
-    followed g a (acquire-kept (worldOf (w .head) (setCell (w .table) (l .cell) 0 0) (w .health)) (kept-fit g a) (In []) 1 (l .cell) (inside w g l (k .1 .0)))
+    let a = release-kept w g (In []) (holdIn l) (is-live w g (holdIn l) (k .1 .1 .0)) (λ _ i _. differ i) in
+    followed g a (acquire-kept (worldOf (w .head) (setCell (w .table) (l .cell) 0 0) (w .health)) (kept-fit g a) (In []) 1 (l .cell) (inside w g (holdIn l) (k .1 .1 .0)))
 steps-kept w (foreign-release held l) g k =
     let c = clear-back (badShape (w .head) (w .table) ∷ badHeld (w .head) (w .table) held) _ k in
     let m = acquireOf 1 (w .head) (w .table) (l .cell) .seen in
     let v = worldOf (m .0 .head) (m .1) (w .health) in
-    let a = acquire-kept w g (λ _. Unit {0}) 1 (l .cell) (inside w g l (c .0)) .kept in
+    let a = acquire-kept w g (λ _. Unit {0}) 1 (l .cell) (inside w g (holdIn l) (c .1 .0)) .kept in
     let g₁ = kept-fit g a in
-    let b = release-kept v g₁ (In (leasesOf held)) l (kept-live g a l tt (is-live w g l (c .0))) (apart-from held l (c .1 .0)) in
+    let b = release-kept v g₁ (In (holdsOf held)) (holdIn l) (kept-live g a (holdIn l) tt (is-live w g (holdIn l) (c .1 .0))) (apart-from held (holdIn l) (c .1 .1 .0)) in
     followed g (weaken (λ _ _ _. tt) a)
-    (followed g₁ b (acquire-kept (worldOf (m .0 .head) (setCell (m .1) (l .cell) 0 0) (w .health)) (kept-fit g₁ b) (In (leasesOf held)) 2 (l .cell) (inside w g l (c .0))))
+    (followed g₁ b (acquire-kept (worldOf (m .0 .head) (setCell (m .1) (l .cell) 0 0) (w .health)) (kept-fit g₁ b) (In (holdsOf held)) 2 (l .cell) (inside w g (holdIn l) (c .1 .0))))
 steps-kept w (drop-preserving held l) g k =
     let c = clear-back (badShape (w .head) (w .table) ∷ badHeld (w .head) (w .table) held) _ k in
-    record { kept = release-kept w g (In (leasesOf held)) l (is-live w g l (c .0)) (apart-from held l (c .1 .0)); gain = λ l x. absurd x }
+    record { kept = release-kept w g (In (holdsOf held)) (holdIn l) (is-live w g (holdIn l) (c .1 .0)) (apart-from held (holdIn l) (c .1 .1 .0)); gain = λ l x. absurd x }
 steps-kept w (acquire-preserving held c) g k =
-    acquire-kept w g (In (leasesOf held)) 1 c (leb-false (cells w) c (clear-back (badShape (w .head) (w .table) ∷ badHeld (w .head) (w .table) held) _ k .0))
+    acquire-kept w g (In (holdsOf held)) 1 c (leb-false (cells w) c (clear-back (badShape (w .head) (w .table) ∷ badHeld (w .head) (w .table) held) _ k .0))
 steps-kept w (environment script place held) g k =
-    record { kept = boundary-kept (w .head) script (leasesOf held) (flowOf (w .head .next) place 0) (w .table) (w .health) g .kept; gain = λ l x. absurd x }
+    record { kept = boundary-kept (w .head) script (holdsOf held) (flowOf (w .head .next) place 0) (w .table) (w .health) g .kept; gain = λ l x. absurd x }
 steps-kept w (try-lock script place held c) g k =
     let inside = clear-back (scriptRules (w .head) (w .table) (w .health) script place held) (badCell (w .head) c ∷ []) k .0 in
-    let m = lock-kept (w .head) script (leasesOf held) (flowOf (w .head .next) place 0) (w .table) (w .health) c g (leb-false (cells w) c inside) in
-    record { kept = chain g (event attempt-begun tt (λ l i v x. x)) (m .kept); gain = live-won (won-of (m .gain)) }
+    let m = lock-kept (w .head) script (holdsOf held) (flowOf (w .head .next) place 0) (w .table) (w .health) c g (leb-false (cells w) c inside) in
+    record { kept = chain g (event attempt-begun tt (λ l i v x. x)) (m .kept); gain = live-won (w .head .boot) (won-of (m .gain)) }
 steps-kept w (transactional registry script place held binding bucket) g k =
-    let m = attempt-kept (w .head) script (leasesOf held) registry binding bucket (starting (w .head) place) (w .table) (w .health) g in
-    record { kept = m .kept; gain = live-won (m .gain) }
+    let m = attempt-kept (w .head) script (holdsOf held) registry binding bucket (starting (w .head) place) (w .table) (w .health) g in
+    record { kept = m .kept; gain = live-won (w .head .boot) (m .gain) }
 steps-kept w (acquire-bucket registry script place held binding bucket) g k =
-    let m = retry-kept (w .head) script attemptLimit 0 noneYet (leasesOf held) registry binding bucket (starting (w .head) place) (w .table) (w .health) g in
-    record { kept = m .kept; gain = live-settled (m .gain) }
+    let m = retry-kept (w .head) script attemptLimit 0 noneYet (holdsOf held) registry binding bucket (starting (w .head) place) (w .table) (w .health) g in
+    record { kept = m .kept; gain = live-settled (w .head .boot) (m .gain) }
 steps-kept w (release-all script place leases) g k =
-    let held = releasable (w .head) (w .table) (w .health) (countIn leases) (leasesOf leases) (omega (arith, words-leases leases)) (k .1 .1 .1 .1) in
-    let m = give-back-kept (w .head) script (countIn leases) [] (leasesOf leases) (starting (w .head) place) (w .table) (w .health) g held in
+    let held = releasable (w .head) (w .table) (w .health) (leaseCount leases) leases (omega (arith, words-leases leases)) (k .1 .1 .1 .1) in
+    let m = give-back-kept (w .head) script (leaseCount leases) [] (holdsOf leases) (starting (w .head) place) (w .table) (w .health) g held in
     record { kept = weaken (λ l i v. absurd (differ i)) (m .kept); gain = λ l x. absurd x }
 steps-kept w (acquire-locks registry script place held keys grants) g k =
-    let m = locks-kept (w .head) script (countIn keys) 0 (leasesOf held) [] registry keys (starting (w .head) place) (w .table) (w .health) grants (w .head .next) g (omega arith) (none-taken w) in
+    let m = locks-kept (w .head) script (countIn keys) 0 (holdsOf held) [] registry keys (starting (w .head) place) (w .table) (w .health) grants (w .head .next) g (omega arith) (none-taken w) in
     record { kept = weaken (λ l i v. (i, lives w l v .high)) (m .kept); gain = m .gain }
 steps-kept w (acquire-sorted registry script place held keys grants) g k =
     let n = length (cellsSorted (w .head .buckets) registry keys) in
     let chosen = sortedKeys (w .head .buckets) registry keys in
-    let m = locks-kept (w .head) script n 0 (leasesOf held) [] registry chosen (starting (w .head) place) (w .table) (w .health) grants (w .head .next) g (omega arith) (none-taken w) in
-    judged-at (Said w (In (leasesOf held))) (firstKey (countIn keys) 0 (w .head) registry keys) (λ r p _. record { kept = nothing; gain = λ l x. absurd x })
+    let m = locks-kept (w .head) script n 0 (holdsOf held) [] registry chosen (starting (w .head) place) (w .table) (w .health) grants (w .head .next) g (omega arith) (none-taken w) in
+    judged-at (Said w (In (holdsOf held))) (firstKey (countIn keys) 0 (w .head) registry keys) (λ r p _. record { kept = nothing; gain = λ l x. absurd x })
     (λ _. record { kept = weaken (λ l i v. (i, lives w l v .high)) (m .kept); gain = λ l x. m .gain l (handed-inner w registry script place held keys grants l x) })
 steps-kept w (crew counts lists turns) g k =
     record { kept = crew-kept rests (w .head) (w .table) (w .health) counts lists turns [] g (crew-plan _ _ _ counts lists turns k); gain = λ l x. absurd x }

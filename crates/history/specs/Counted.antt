@@ -7,15 +7,15 @@ use native.Mathlib.Omega.{arith}
 use lib.Dec.{ltb, leb, eqb}
 use lib.ListN.{length, take}
 use Rattle.model.specs.Log.{Made, Event, attempt-begun, yielded, released, by-caller, note, _>>_}
-use Rattle.model.specs.Arena.{serialRemains, headerOf, isPoisoned, bitAt, ownerAt, waitersAt, setCell, stateAt, isFree, isLive, isIn, leaseOf}
+use Rattle.model.specs.Arena.{serialRemains, headerOf, isPoisoned, bitAt, ownerAt, waitersAt, setCell, stateAt, isFree, isLive, isIn, holdOf}
 use Rattle.model.specs.Foreign.{Setting, protecting, stepsIn, kindAt, placeAt, numberAt, flowOf, stepTakeOf, stepReleaseOf, stepWaitersOf, stepHealthOf, stepOf, runStepsOf, boundaryOf}
-use Rattle.model.specs.Lock.{takeIn, takeOf, afterTake, lateOf, secondOf, lockOf, runOf, findOf, attemptAt, attemptOf, spinOf, pauseOf, isBusy, retryOf, leaseAt, giveBackOf, rollbackOf, afterKey, bindingAt, bucketAt, attemptLimit, noneYet, Locks, locksOf}
+use Rattle.model.specs.Lock.{takeIn, takeOf, afterTake, lateOf, secondOf, lockOf, runOf, findOf, attemptAt, attemptOf, spinOf, pauseOf, isBusy, retryOf, holdAt, giveBackOf, rollbackOf, afterKey, bindingAt, bucketAt, attemptLimit, noneYet, Locks, locksOf}
 use Rattle.model.specs.Calls.{countsOf}
 use Rattle.types.specs.declared.Counts.{Counts}
 use Rattle.types.specs.declared.Flow.{Flow}
 use Rattle.types.specs.declared.Found.{Found}
 use Rattle.types.specs.declared.Found.the-variants as found
-use Rattle.types.specs.declared.Lease.{Lease}
+use Rattle.types.specs.declared.Hold.{Hold}
 use Rattle.types.specs.declared.Locked.{Locked}
 use Rattle.types.specs.declared.Outcome.{Outcome}
 use Rattle.types.specs.declared.Outcome.the-variants as outcome
@@ -70,7 +70,7 @@ module _ (a b y d : ℕ) where
   step-counted e n t g kind c s =
       if-both Step (eqb kind 0) (omega arith) (
       if-both Step (eqb kind 1) (if-both Lone (ltb c (e .cells) && isFree (bitAt t c) (ownerAt t c) && serialRemains n) (omega arith) (omega arith)) (
-      if-both Step (eqb kind 2) (if-both Lone (isLive n (e .cells) t (leaseOf c s) && not (isIn (leaseOf c s) (e .protected))) (omega arith) (omega arith)) (
+      if-both Step (eqb kind 2) (if-both Lone (isLive n (e .cells) t (holdOf c s) && not (isIn (holdOf c s) (e .protected))) (omega arith) (omega arith)) (
       if-both Step (eqb kind 3) (if-both Lone (ltb c (e .cells)) (omega arith) (omega arith)) (
       if-both Step (eqb kind 4) (if-both Lone (ltb c (e .headers) && leb s 1) (omega arith) (omega arith)) (
       if-both Step (eqb kind 5) (omega arith) (omega arith))))))
@@ -115,8 +115,8 @@ module _ (a b y : ℕ) where
   late-counted : (e : Setting) (buckets : ℕ) (f : Flow) (t g : List ℕ) (c s : ℕ) → Locking 2 (f .dropped) (lateOf e buckets f t g c s)
   unfolding lateOf number-of
   late-counted e buckets f t g c s =
-      let m = boundaryOf (protecting e (leaseOf c s ∷ [])) f t g .seen in
-      then-counted (boundary-counted (protecting e (leaseOf c s ∷ [])) f t g a (b + 2) (b + 3) y (omega arith))
+      let m = boundaryOf (protecting e (holdOf c s ∷ [])) f t g .seen in
+      then-counted (boundary-counted (protecting e (holdOf c s ∷ [])) f t g a (b + 2) (b + 3) y (omega arith))
       (if-both (Locking 3 (m .0 .dropped)) (isPoisoned (m .1 .1) (headerOf buckets c)) (omega arith)
       (if-both (Locking 3 (m .0 .dropped)) (eqb (waitersAt (m .1 .0) c) 0) (omega arith) (omega arith)))
 
@@ -196,31 +196,31 @@ module _ (e : Setting) where
 
 -- ---- giving back, and multi-lock
 
-pub back-counted : (n : ℕ) (e : Setting) (ls : List Lease) (r : Run) (t g : List ℕ) → Runs r (giveBackOf n e ls r t g)
+pub back-counted : (n : ℕ) (e : Setting) (ls : List Hold) (r : Run) (t g : List ℕ) → Runs r (giveBackOf n e ls r t g)
 unfolding giveBackOf number-of
 back-counted zero e ls r t g = none-counted (counts r)
 back-counted (suc n) e ls r t g =
-    let u = setCell t (leaseAt ls n .cell) 0 0 in
+    let u = setCell t (holdAt ls n .cell) 0 0 in
     let m = boundaryOf (protecting e (take n ls)) (r .flow) u g .seen in
     let k = runOf (m .0) (r .attempts) (r .boundaries + 1) (r .yields) in
-    then-counted {q = counts r} {xs = released by-caller (leaseAt ls n .cell) (leaseAt ls n .serial) ∷ []} (omega arith)
+    then-counted {q = counts r} {xs = released by-caller (holdAt ls n .cell) (holdAt ls n .serial) ∷ []} (omega arith)
     (then-counted (boundary-counted (protecting e (take n ls)) (r .flow) u g (r .attempts) (r .boundaries) (r .boundaries + 1) (r .yields) refl)
     (back-counted n e ls k (m .1 .0) (m .1 .1)))
 
 abbrev pub Ends : Run → Made Locks → Type 0
 Ends r m = Counted (counts r) (counts (m .seen .0 .run)) (m .log)
 
-module _ (e : Setting) (buckets : ℕ) (registry keys grants : List ℕ) where
-  pub locks-counted : (left p : ℕ) (taken : List Lease) (r : Run) (t g : List ℕ) → Ends r (locksOf left p e buckets registry keys taken r t g grants)
+module _ (e : Setting) (buckets boot : ℕ) (registry keys grants : List ℕ) where
+  pub locks-counted : (left p : ℕ) (taken : List Hold) (r : Run) (t g : List ℕ) → Ends r (locksOf left p e buckets boot registry keys taken r t g grants)
   unfolding locksOf rollbackOf
   locks-counted zero p taken r t g = none-counted (counts r)
   locks-counted (suc left) p taken r t g =
       let m = retryOf attemptLimit 0 noneYet (protecting e taken) buckets registry (bindingAt keys p) (bucketAt keys p) r t g .seen in
       then-counted (retry-counted (protecting e taken) buckets registry (bindingAt keys p) (bucketAt keys p) attemptLimit 0 noneYet r t g)
-      (go (m .0 .run) (m .1 .0) (m .1 .1) (m .0 .outcome) (λ l. locksOf left (p + 1) e buckets registry keys (taken ++ (l ∷ [])) (m .0 .run) (m .1 .0) (m .1 .1) grants)
+      (go (m .0 .run) (m .1 .0) (m .1 .1) (m .0 .outcome) (λ l. locksOf left (p + 1) e buckets boot registry keys (taken ++ (l ∷ [])) (m .0 .run) (m .1 .0) (m .1 .1) grants)
       (λ l. locks-counted left (p + 1) (taken ++ (l ∷ [])) (m .0 .run) (m .1 .0) (m .1 .1)))
     where
-      go : (k : Run) (u w : List ℕ) (x : Outcome) (more : Lease → Made Locks) → ((l : Lease) → Ends k (more l)) → Ends k (afterKey x e taken p k u w grants more)
+      go : (k : Run) (u w : List ℕ) (x : Outcome) (more : Hold → Made Locks) → ((l : Hold) → Ends k (more l)) → Ends k (afterKey x e taken p k u w grants more)
       go k u w (outcome.Granted l) more h = h l
       go k u w (outcome.Busy why) more h = then-counted (back-counted (length taken) e taken k u w) (none-counted _)
       go k u w (outcome.Refused x) more h = then-counted (back-counted (length taken) e taken k u w) (none-counted _)

@@ -5,10 +5,10 @@ use mathlib.Core.List.{List, [], _∷_}
 use native.Mathlib.Omega.{arith}
 use lib.ListN.{length}
 use Rattle.model.specs.Log.{Made, by-caller, attempt-begun, released}
-use Rattle.model.specs.Arena.{leasesOf, setCell}
+use Rattle.model.specs.Arena.{holdsOf, setCell}
 use Rattle.model.specs.Foreign.{flowOf}
 use Rattle.model.specs.Lock.{attemptLimit, noneYet}
-use Rattle.model.specs.Checks.{countIn}
+use Rattle.model.specs.Checks.{countIn, leaseCount}
 use Rattle.model.specs.Calls.{countsOf, starting, acquireOf}
 use Rattle.model.specs.Sorted.{cellsSorted, sortedKeys, firstKey}
 use Rattle.types.specs.declared.Counts.{Counts}
@@ -58,15 +58,15 @@ steps-counted w (acquire-bucket registry script place held binding bucket) _ =
     let k = acquire-bucket registry script place held binding bucket in
     retry-counted (acting w k) (w .head .buckets) registry binding bucket attemptLimit 0 noneYet (starting (w .head) place) (w .table) (w .health)
 steps-counted w (release-all script place leases) _ =
-    back-counted (countIn leases) (acting w (release-all script place leases)) (leasesOf leases) (starting (w .head) place) (w .table) (w .health)
+    back-counted (leaseCount leases) (acting w (release-all script place leases)) (holdsOf leases) (starting (w .head) place) (w .table) (w .health)
 steps-counted w (acquire-locks registry script place held keys grants) _ =
     let k = acquire-locks registry script place held keys grants in
-    locks-counted (acting w k) (w .head .buckets) registry keys grants (countIn keys) 0 [] (starting (w .head) place) (w .table) (w .health)
+    locks-counted (acting w k) (w .head .buckets) (w .head .boot) registry keys grants (countIn keys) 0 [] (starting (w .head) place) (w .table) (w .health)
 steps-counted w (acquire-sorted registry script place held keys grants) _ =
     let k = acquire-sorted registry script place held keys grants in
     judged-at (λ (m : Made (World × Says)). Counted nothing (m .seen .1 .counts) (m .log)) (firstKey (countIn keys) 0 (w .head) registry keys) (λ r p _. none-counted nothing)
     (λ _.
-    locks-counted (acting w k) (w .head .buckets) registry (sortedKeys (w .head .buckets) registry keys) grants (length (cellsSorted (w .head .buckets) registry keys)) 0 [] (starting (w .head) place) (w .table) (w .health))
+    locks-counted (acting w k) (w .head .buckets) (w .head .boot) registry (sortedKeys (w .head .buckets) registry keys) grants (length (cellsSorted (w .head .buckets) registry keys)) 0 [] (starting (w .head) place) (w .table) (w .health))
 steps-counted w (crew counts cells turns) n = absurd (n tt)
 steps-counted w (crew-at-work counts cells turns counters) n = absurd (n tt)
 

@@ -6,13 +6,13 @@ use native.Mathlib.Omega.{arith}
 use lib.Dec.{eqb}
 use lib.ListN.{length, replicate, length-replicate}
 use Rattle.model.specs.Log.{Actor, Event, took}
-use Rattle.model.specs.Arena.{cellsOf, headOf, leaseOf, bitAt, shapeFits, healthFits}
+use Rattle.model.specs.Arena.{cellsOf, headOf, holdOf, bitAt, shapeFits, healthFits}
 use Rattle.model.specs.Calls.{prepareOf}
 use Rattle.model.specs.Salvage.{Salvage, entriesOf, leftHeld, mendOf, salvageOf}
 use Rattle.types.specs.declared.Answer.{Answer}
 use Rattle.types.specs.declared.Answer.the-variants.{Done, Cell, Granted, AllGranted, Busy, Refused, RefusedAt}
 use Rattle.types.specs.declared.Head.{Head}
-use Rattle.types.specs.declared.Lease.{Lease}
+use Rattle.types.specs.declared.Hold.{Hold}
 use Rattle.types.specs.declared.SalvageAnswer.{SalvageAnswer}
 use Rattle.types.specs.declared.SalvageAnswer.the-variants as salvaged
 use Rattle.choice.specs.Pick.{both}
@@ -49,11 +49,11 @@ unfolding bits
 zero-bits zero m = refl
 zero-bits (suc n) m = omega (arith, ap (λ (b : ℕ). one (eqb b 1)) (zero-bit m n), zero-bits n m)
 
-module _ (headers buckets serial : ℕ) where
+module _ (headers buckets serial boot : ℕ) where
   abbrev prepared : World
-  prepared = worldOf (headOf headers buckets serial) (replicate (3 * (headers * buckets)) 0) (replicate headers 0)
+  prepared = worldOf (headOf headers buckets serial boot) (replicate (3 * (headers * buckets)) 0) (replicate headers 0)
 
-  prepared-good : {words : ℕ} → Shaped (headOf headers buckets serial) words → Good prepared
+  prepared-good : {words : ℕ} → Shaped (headOf headers buckets serial boot) words → Good prepared
   prepared-good s =
       record {
         shape = record {
@@ -70,24 +70,24 @@ module _ (headers buckets serial : ℕ) where
         status = λ c _. free (zero-bit (3 * (headers * buckets)) c) (zero-owner (3 * (headers * buckets)) c);
       }
 
-  begins : {words : ℕ} → Shaped (headOf headers buckets serial) words → Stretch (cold prepared)
+  begins : {words : ℕ} → Shaped (headOf headers buckets serial boot) words → Stretch (cold prepared)
   begins d = record { begun = by-preparation refl; good = prepared-good d; lawful = tt; leads = refl }
 
   -- done, it begins a stretch; refused, the one before goes on in the world that stays
   pub preparation-stretch : (t g : List ℕ) (v : World) (k : Course)
-      → let p = preparing headers buckets serial t g in
+      → let p = preparing headers buckets serial boot t g in
       ((p .0 ≡ Done → ⊥) → Stretch (noted k [] (saying (p .0)) v)) → Stretch (prepared-by (p .0) (p .1) v k)
   unfolding preparing
-  preparation-stretch t g v k = go (came headers buckets serial t g)
+  preparation-stretch t g v k = go (came headers buckets serial boot t g)
     where
       After : Outcome → Type 0
       After o =
           ((o .0 .answer ≡ Done → ⊥) → Stretch (noted k [] (saying (o .0 .answer)) v))
           → Stretch (prepared-by (o .0 .answer) (worldOf (o .0 .head) (o .1 .0) (o .1 .1)) v k)
 
-      go : Came headers buckets serial t g → After (prepareOf headers buckets serial t g .seen)
+      go : Came headers buckets serial boot t g → After (prepareOf headers buckets serial boot t g .seen)
       go (was-done e p) =
-          let h = headOf headers buckets serial in
+          let h = headOf headers buckets serial boot in
           subst After (sym p) (λ _. begins (shaped h (length t) (both (shapeFits h (length t)) (healthFits h (length g)) e .0)))
       go (was-refused e p) = subst After (sym p) (λ s. s (λ d. let z : _≡_ {A = ℕ} 0 1 = cc in omega arith))
 
@@ -135,7 +135,7 @@ one-entry : (xs : List Entry) (e : Entry) → events-of (xs ++ (e ∷ [])) ≡ e
 one-entry xs e = events-append xs (e ∷ []) ∙ ap (λ (es : List Event). events-of xs ++ es) (append-nil (e .events))
 
 -- the events of an item, behind those before
-goes-on : (k : Course) {P : Lease → Type 0} {v : World} {es : List Event} (said : Says) → Stretch k → Kept (k .world) P v es → Stretch (noted k es said v)
+goes-on : (k : Course) {P : Hold → Type 0} {v : World} {es : List Event} (said : Says) → Stretch k → Kept (k .world) P v es → Stretch (noted k es said v)
 goes-on k {P} {v} {es} said s m =
     let e = one-entry (k .entries) (entryOf es said) in
     record {
@@ -152,14 +152,14 @@ stays : (k : Course) (said : Says) → Stretch k → Stretch (noted k [] said (k
 stays k said s = goes-on k {P = In []} said s nothing
 
 -- the runs that a refused preparation hands back, under the head before, are the arena as it was
-handed-back : (w : World) (headers buckets serial : ℕ)
-    → let p = preparing headers buckets serial (w .table) (w .health) in
+handed-back : (w : World) (headers buckets serial boot : ℕ)
+    → let p = preparing headers buckets serial boot (w .table) (w .health) in
     (p .0 ≡ Done → ⊥) → worldOf (w .head) (p .1 .table) (p .1 .health) ≡ w
 unfolding preparing
-handed-back w headers buckets serial n = go (came headers buckets serial (w .table) (w .health))
+handed-back w headers buckets serial boot n = go (came headers buckets serial boot (w .table) (w .health))
   where
-    go : Came headers buckets serial (w .table) (w .health)
-        → let o = prepareOf headers buckets serial (w .table) (w .health) .seen in worldOf (w .head) (o .1 .0) (o .1 .1) ≡ w
+    go : Came headers buckets serial boot (w .table) (w .health)
+        → let o = prepareOf headers buckets serial boot (w .table) (w .health) .seen in worldOf (w .head) (o .1 .0) (o .1 .1) ≡ w
     go (was-done e p) = absurd (n (ap (λ (o : Outcome). o .0 .answer) p))
     go (was-refused e p) = ap (λ (o : Outcome). worldOf (w .head) (o .1 .0) (o .1 .1)) p
 
@@ -181,12 +181,12 @@ item-stretch : (k : Course) (i : Item) → Stretch k → Stretch (next-item k i)
 unfolding next-item
 item-stretch k (call c) s = goes-on k _ s (call-kept (k .world) c .kept)
 item-stretch k (foreign-step kind place number) s = goes-on k _ s (foreign-kept (k .world) kind place number)
-item-stretch k (preparation headers buckets serial) s =
-    preparation-stretch headers buckets serial (k .world .table) (k .world .health) _ k
+item-stretch k (preparation headers buckets serial boot) s =
+    preparation-stretch headers buckets serial boot (k .world .table) (k .world .health) _ k
     (λ n.
-    let a = preparing headers buckets serial (k .world .table) (k .world .health) .0 in
-    subst (λ v. Stretch (noted k [] (saying a) v)) (sym (handed-back (k .world) headers buckets serial n)) (stays k (saying a) s))
-item-stretch k (preparation-over headers buckets serial t g) s = preparation-stretch headers buckets serial t g (k .world) k (λ _. stays k _ s)
+    let a = preparing headers buckets serial boot (k .world .table) (k .world .health) .0 in
+    subst (λ v. Stretch (noted k [] (saying a) v)) (sym (handed-back (k .world) headers buckets serial boot n)) (stays k (saying a) s))
+item-stretch k (preparation-over headers buckets serial boot t g) s = preparation-stretch headers buckets serial boot t g (k .world) k (λ _. stays k _ s)
 item-stretch k (salvage paper report list) s =
     salvage-stretch paper (k .world .table) (k .world .health) report list _ k
     (λ n. subst (λ v. Stretch (courseOf (k .origin) (k .entries) v)) (sym (salvage-handed-back (k .world) paper report list n)) s)
@@ -256,9 +256,9 @@ pub begun : (k : Course) (i : Item) → Begins (k .world) i → Stretch (next-it
 unfolding next-item
 begun k (call c) d = absurd d
 begun k (foreign-step kind place number) d = absurd d
-begun k (preparation headers buckets serial) d =
-    preparation-stretch headers buckets serial (k .world .table) (k .world .health) _ k (λ n. absurd (n d))
-begun k (preparation-over headers buckets serial t g) d = preparation-stretch headers buckets serial t g (k .world) k (λ n. absurd (n d))
+begun k (preparation headers buckets serial boot) d =
+    preparation-stretch headers buckets serial boot (k .world .table) (k .world .health) _ k (λ n. absurd (n d))
+begun k (preparation-over headers buckets serial boot t g) d = preparation-stretch headers buckets serial boot t g (k .world) k (λ n. absurd (n d))
 begun k (salvage paper report list) d = salvage-stretch paper (k .world .table) (k .world .health) report list _ k (λ n. absurd (n d))
 begun k (salvage-over paper t g report list) d = salvage-stretch paper t g report list (k .world) k (λ n. absurd (n d))
 
@@ -273,8 +273,8 @@ pub nothing-yet : (k : Course) (i : Item) → Begins (k .world) i → next-item 
 unfolding next-item
 nothing-yet k (call c) d = absurd d
 nothing-yet k (foreign-step kind place number) d = absurd d
-nothing-yet k (preparation headers buckets serial) d = prepared-yet _ _ _ k d
-nothing-yet k (preparation-over headers buckets serial t g) d = prepared-yet _ _ _ k d
+nothing-yet k (preparation headers buckets serial boot) d = prepared-yet _ _ _ k d
+nothing-yet k (preparation-over headers buckets serial boot t g) d = prepared-yet _ _ _ k d
 nothing-yet k (salvage paper report list) d = salvaged-yet _ _ _ k (d .0) (d .1) (d .2)
 nothing-yet k (salvage-over paper t g report list) d = salvaged-yet _ _ _ k (d .0) (d .1) (d .2)
 
@@ -291,12 +291,12 @@ sound-if-apart rubbish start items d a before after e =
 
 pub prepared-fresh : Prepared-fresh
 unfolding preparing
-prepared-fresh headers buckets serial t g d =
-    subst (λ (o : Outcome). Fresh (worldOf (o .0 .head) (o .1 .0) (o .1 .1))) (sym (prepare-done headers buckets serial t g d)) refl
+prepared-fresh headers buckets serial boot t g d =
+    subst (λ (o : Outcome). Fresh (worldOf (o .0 .head) (o .1 .0) (o .1 .1))) (sym (prepare-done headers buckets serial boot t g d)) refl
 
 fresh-apart : (w : World) → Fresh w → Apart w
 fresh-apart w f c d s x y =
-    absurd (omega (arith, lives w (leaseOf c s) x .bit-is, ap (λ (v : World). bitAt (v .table) c) f, zero-bit (3 * cells w) c))
+    absurd (omega (arith, lives w (holdOf c s) x .bit-is, ap (λ (v : World). bitAt (v .table) c) f, zero-bit (3 * cells w) c))
 
 pub prepared-sound : Prepared-sound
 prepared-sound rubbish start items d f = sound-if-apart rubbish start items d (fresh-apart _ f)
@@ -308,14 +308,14 @@ prepared-counted rubbish start items d f =
 
 pub histories-forget : Forgets
 unfolding run next-item preparing
-histories-forget rubbish rubbish′ headers buckets serial items d d′ = ap (λ k. run k items) (begins rubbish d ∙ sym (begins rubbish′ d′))
+histories-forget rubbish rubbish′ headers buckets serial boot items d d′ = ap (λ k. run k items) (begins rubbish d ∙ sym (begins rubbish′ d′))
   where
     after : World → Outcome → Course
     after w o = prepared-by (o .0 .answer) (worldOf (o .0 .head) (o .1 .0) (o .1 .1)) (worldOf (w .head) (o .1 .0) (o .1 .1)) (cold w)
 
-    begins : (w : World) → preparing headers buckets serial (w .table) (w .health) .0 ≡ Done
-        → next-item (cold w) (preparation headers buckets serial) ≡ cold (prepared headers buckets serial)
-    begins w d = ap (after w) (prepare-done headers buckets serial (w .table) (w .health) d)
+    begins : (w : World) → preparing headers buckets serial boot (w .table) (w .health) .0 ≡ Done
+        → next-item (cold w) (preparation headers buckets serial boot) ≡ cold (prepared headers buckets serial boot)
+    begins w d = ap (after w) (prepare-done headers buckets serial boot (w .table) (w .health) d)
 
 -- ---- an item that is no start
 
@@ -336,9 +336,9 @@ not-salvaged salvaged.ReportFull w v k n = refl
 
 pub refused-stays : Refused-stays
 unfolding next-item
-refused-stays k headers buckets serial n =
-    let p = preparing headers buckets serial (k .world .table) (k .world .health) in
-    not-prepared (p .0) (p .1) _ k n ∙ ap (λ (v : World). noted k [] (saying (p .0)) v) (handed-back (k .world) headers buckets serial n)
+refused-stays k headers buckets serial boot n =
+    let p = preparing headers buckets serial boot (k .world .table) (k .world .health) in
+    not-prepared (p .0) (p .1) _ k n ∙ ap (λ (v : World). noted k [] (saying (p .0)) v) (handed-back (k .world) headers buckets serial boot n)
 
 pub salvage-refused-stays : Salvage-refused-stays
 unfolding next-item
@@ -351,8 +351,8 @@ origin-stays : (k : Course) (i : Item) → (Begins (k .world) i → ⊥) → nex
 unfolding next-item
 origin-stays k (call c) n = refl
 origin-stays k (foreign-step kind place number) n = refl
-origin-stays k (preparation headers buckets serial) n = ap (λ (d : Course). d .origin) (not-prepared _ _ _ k n)
-origin-stays k (preparation-over headers buckets serial t g) n = ap (λ (d : Course). d .origin) (not-prepared _ _ _ k n)
+origin-stays k (preparation headers buckets serial boot) n = ap (λ (d : Course). d .origin) (not-prepared _ _ _ k n)
+origin-stays k (preparation-over headers buckets serial boot t g) n = ap (λ (d : Course). d .origin) (not-prepared _ _ _ k n)
 origin-stays k (salvage paper report list) n = ap (λ (d : Course). d .origin) (not-salvaged _ _ _ k n)
 origin-stays k (salvage-over paper t g report list) n = ap (λ (d : Course). d .origin) (not-salvaged _ _ _ k n)
 
@@ -363,25 +363,25 @@ origin-kept k (i ∷ is) n = origin-kept (next-item k i) is (n .1) ∙ origin-st
 
 -- ---- the stretch that a done preparation began
 
-begins-prepared : (k : Course) {i : Item} {headers buckets serial : ℕ} {t g : List ℕ} → Prepares (k .world) headers buckets serial i t g
-    → preparing headers buckets serial t g .0 ≡ Done → Begins (k .world) i × (next-item k i ≡ cold (preparing headers buckets serial t g .1))
+begins-prepared : (k : Course) {i : Item} {headers buckets serial boot : ℕ} {t g : List ℕ} → Prepares (k .world) headers buckets serial boot i t g
+    → preparing headers buckets serial boot t g .0 ≡ Done → Begins (k .world) i × (next-item k i ≡ cold (preparing headers buckets serial boot t g .1))
 unfolding next-item
-begins-prepared k {headers = headers} {buckets = buckets} {serial = serial} own-runs d =
-    let p = preparing headers buckets serial (k .world .table) (k .world .health) in
+begins-prepared k {headers = headers} {buckets = buckets} {serial = serial} {boot = boot} own-runs d =
+    let p = preparing headers buckets serial boot (k .world .table) (k .world .health) in
     (d, ap (λ (a : Answer). prepared-by a (p .1) (worldOf (k .world .head) (p .1 .table) (p .1 .health)) k) d)
-begins-prepared k {headers = headers} {buckets = buckets} {serial = serial} (other-runs t g) d =
-    (d, ap (λ (a : Answer). prepared-by a (preparing headers buckets serial t g .1) (k .world) k) d)
+begins-prepared k {headers = headers} {buckets = buckets} {serial = serial} {boot = boot} (other-runs t g) d =
+    (d, ap (λ (a : Answer). prepared-by a (preparing headers buckets serial boot t g .1) (k .world) k) d)
 
-prepared-head : (headers buckets serial : ℕ) (t g : List ℕ) → preparing headers buckets serial t g .0 ≡ Done
-    → preparing headers buckets serial t g .1 .head ≡ headOf headers buckets serial
+prepared-head : (headers buckets serial boot : ℕ) (t g : List ℕ) → preparing headers buckets serial boot t g .0 ≡ Done
+    → preparing headers buckets serial boot t g .1 .head ≡ headOf headers buckets serial boot
 unfolding preparing
-prepared-head headers buckets serial t g d = ap (λ (o : Outcome). o .0 .head) (prepare-done headers buckets serial t g d)
+prepared-head headers buckets serial boot t g d = ap (λ (o : Outcome). o .0 .head) (prepare-done headers buckets serial boot t g d)
 
 pub prepared-begins : Prepared-begins
 unfolding run
-prepared-begins k i headers buckets serial t g items x d on =
+prepared-begins k i headers buckets serial boot t g items x d on =
     let b = begins-prepared k x d in
     let o = origin-kept (next-item k i) items on ∙ ap (λ (c : Course). c .origin) (b .1) in
-    let h = ap (λ (w : World). w .head) o ∙ prepared-head headers buckets serial t g d in
+    let h = ap (λ (w : World). w .head) o ∙ prepared-head headers buckets serial boot t g d in
     let l = ledger (run (next-item k i) items) (run-stretch (next-item k i) items (begun k i (b .0))) in
-    (o, subst Fresh (sym o) (prepared-fresh headers buckets serial t g d), h, omega (arith, l .issued, ap (λ (x : Head). x .next) h))
+    (o, subst Fresh (sym o) (prepared-fresh headers buckets serial boot t g d), h, omega (arith, l .issued, ap (λ (x : Head). x .next) h))

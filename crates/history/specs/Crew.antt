@@ -11,13 +11,13 @@ use lib.Seq.{getD-set-same, getD-set-other}
 use borrow.Author.Tests.{ltb-true, ltb-false, leb-false}
 use Rattle.choice.specs.Choice.{if_then_else_}
 use Rattle.model.specs.Log.{Made, Event, by-caller, attempt-begun, boundary-run, released, held-all, added, note, gives, _>>_}
-use Rattle.model.specs.Arena.{cellsOf, headerOf, isPoisoned, leaseOf, setCell, waitersAt, isIn}
+use Rattle.model.specs.Arena.{cellsOf, headerOf, isPoisoned, holdOf, setCell, waitersAt, isIn}
 use Rattle.model.specs.Foreign.{flowOf, runStepsOf, boundaryOf}
 use Rattle.model.specs.Lock.{takeOf, lateOf, afterTake, secondOf, lockOf}
 use Rattle.model.specs.Calls.{given}
 use Rattle.model.specs.Crew.{Work, addsOf, movesOf, total, startOf, countOf, badLimits, badLists, badTurns, planRules, crewRules, crewAtWorkRules, Crew, crewStart, moved, isFull, afterTry, tryTurnOf, heldAllOf, addTurnOf, releaseTurnOf, turnOf, turnsOf}
 use Rattle.types.specs.declared.Head.{Head}
-use Rattle.types.specs.declared.Lease.{Lease}
+use Rattle.types.specs.declared.Hold.{Hold}
 use Rattle.types.specs.declared.Locked.{Locked}
 use Rattle.types.specs.declared.Outcome.{Outcome}
 use Rattle.types.specs.declared.Take.{Take}
@@ -85,8 +85,8 @@ abbrev pub Holds : Work → List ℕ → List ℕ → ℕ → ℕ → Type 0
 Holds work counts made m j = (j < countOf counts m) × (j < getD made m 0) × (j + getD made m 0 < movesOf work (countOf counts m))
 
 -- the lease noted at a place
-abbrev pub noted : List ℕ → List ℕ → ℕ → Lease
-noted cells serials k = leaseOf (getD cells k 0) (getD serials k 0)
+abbrev pub noted : List ℕ → List ℕ → ℕ → Hold
+noted cells serials k = holdOf (getD cells k 0) (getD serials k 0)
 
 pub record Safe (work : Work) (counts cells : List ℕ) (w : World) (made serials : List ℕ) : Type 0 where
   pub good : Fit w
@@ -111,7 +111,7 @@ moves made m k l = go (ℕ-discrete k m)
 -- where a member has noted one more: the lease noted at a place that is held then
 data Noted (work : Work) (counts cells made serials : List ℕ) (m x i j : ℕ) : Type 0 where
   new-one : i ≡ m → j ≡ getD made m 0
-      → noted cells (set serials (startOf counts m + getD made m 0) x) (startOf counts i + j) ≡ leaseOf (getD cells (startOf counts m + getD made m 0) 0) x
+      → noted cells (set serials (startOf counts m + getD made m 0) x) (startOf counts i + j) ≡ holdOf (getD cells (startOf counts m + getD made m 0) 0) x
       → Noted work counts cells made serials m x i j
   old-one : Holds work counts made i j
       → noted cells (set serials (startOf counts m + getD made m 0) x) (startOf counts i + j) ≡ noted cells serials (startOf counts i + j)
@@ -121,24 +121,24 @@ data Noted (work : Work) (counts cells made serials : List ℕ) (m x i j : ℕ) 
 
 module _ (h : Head) (n : ℕ) (t g : List ℕ) (c : ℕ) where
   -- what is protected makes no difference
-  late-same : (ps : List Lease) (k d : ℕ) (u : List ℕ) (s : ℕ) → lateOf (given h [] ps) (h .buckets) (flowOf k 0 d) u g c s ≡ lateOf (given h [] []) (h .buckets) (flowOf k 0 d) u g c s
+  late-same : (ps : List Hold) (k d : ℕ) (u : List ℕ) (s : ℕ) → lateOf (given h [] ps) (h .buckets) (flowOf k 0 d) u g c s ≡ lateOf (given h [] []) (h .buckets) (flowOf k 0 d) u g c s
   unfolding lateOf boundaryOf runStepsOf
   late-same ps k d u s = refl
 
-  after-same : (ps : List Lease) (a : Take) (k d : ℕ) (u : List ℕ) → afterTake a (given h [] ps) (h .buckets) (flowOf k 0 d) u g c ≡ afterTake a (given h [] []) (h .buckets) (flowOf k 0 d) u g c
+  after-same : (ps : List Hold) (a : Take) (k d : ℕ) (u : List ℕ) → afterTake a (given h [] ps) (h .buckets) (flowOf k 0 d) u g c ≡ afterTake a (given h [] []) (h .buckets) (flowOf k 0 d) u g c
   after-same ps (taking.Granted s) k d u = late-same ps k d u s
   after-same ps (taking.Busy owner) k d u = refl
   after-same ps taking.Damaged k d u = refl
   after-same ps taking.Spent k d u = refl
 
-  second-same : (ps : List Lease) → secondOf (given h [] ps) (h .buckets) (flowOf n 0 0) t g c ≡ secondOf (given h [] []) (h .buckets) (flowOf n 0 0) t g c
+  second-same : (ps : List Hold) → secondOf (given h [] ps) (h .buckets) (flowOf n 0 0) t g c ≡ secondOf (given h [] []) (h .buckets) (flowOf n 0 0) t g c
   unfolding secondOf boundaryOf runStepsOf
   second-same ps =
       let k = takeOf n t c in
       ap (λ (m : Made (With Locked)). record { seen = m .seen; log = (boundary-run ∷ []) ++ (k .log ++ m .log) })
       (after-same ps (k .seen .0 .answer) (k .seen .0 .next) 0 (k .seen .1))
 
-  lock-same : (ps : List Lease) → lockOf (given h [] ps) (h .buckets) (flowOf n 0 0) t g c ≡ lockOf (given h [] []) (h .buckets) (flowOf n 0 0) t g c
+  lock-same : (ps : List Hold) → lockOf (given h [] ps) (h .buckets) (flowOf n 0 0) t g c ≡ lockOf (given h [] []) (h .buckets) (flowOf n 0 0) t g c
   unfolding lockOf boundaryOf runStepsOf
   lock-same ps = rw (second-same ps)
 
@@ -195,7 +195,7 @@ module _ (work : Work) (h : Head) (counts cells : List ℕ) (lim : Limits h coun
     done = getD made m 0
 
     -- a take: the next cell's lease is noted
-    taken-safe : (x : ℕ) → Kept w (λ _. Unit {0}) v es → done < countOf counts m → Live v (leaseOf (getD cells (startOf counts m + done) 0) x) → w .head .next ≤ x
+    taken-safe : (x : ℕ) → Kept w (λ _. Unit {0}) v es → done < countOf counts m → Live v (holdOf (getD cells (startOf counts m + done) 0) x) → w .head .next ≤ x
         → Safe work counts cells v (moved made m) (set serials (startOf counts m + done) x)
     taken-safe x k l new young =
         record {
@@ -209,14 +209,14 @@ module _ (work : Work) (h : Head) (counts cells : List ℕ) (lim : Limits h coun
         p : ℕ
         p = startOf counts m + done
 
-        after : ℕ → Lease
+        after : ℕ → Hold
         after q = noted cells (set serials p x) q
 
         Which : ℕ → ℕ → Type 0
         Which i j = Noted work counts cells made serials m x i j
 
         unmoved : (q : ℕ) → (q ≡ p → ⊥) → after q ≡ noted cells serials q
-        unmoved q n = ap (leaseOf (getD cells q 0)) (getD-set-other serials p q x 0 n)
+        unmoved q n = ap (holdOf (getD cells q 0)) (getD-set-other serials p q x 0 n)
 
         which : (i j : ℕ) → Holds work counts (moved made m) i j → Which i j
         which i j a = go (moves made m i (member made m (s .many-members) (omega arith))) (ℕ-discrete j done)
@@ -224,7 +224,7 @@ module _ (work : Work) (h : Head) (counts cells : List ℕ) (lim : Limits h coun
             go : Moves made m i → Dec (j ≡ done) → Which i j
             go (mine e f) (yes d) =
                 let q : startOf counts i + j ≡ p = cc in
-                new-one e d (rw q (ap (leaseOf (getD cells p 0)) (getD-set-same serials p x 0 (omega (arith, start-fits counts m, lim .small, s .many-places)))))
+                new-one e d (rw q (ap (holdOf (getD cells p 0)) (getD-set-same serials p x 0 (omega (arith, start-fits counts m, lim .small, s .many-places)))))
             go (mine e f) (no d) =
                 let e₁ : getD made i 0 ≡ done = ap (λ (z : ℕ). getD made z 0) e in
                 let e₂ : countOf counts i ≡ countOf counts m = ap (countOf counts) e in
@@ -240,12 +240,12 @@ module _ (work : Work) (h : Head) (counts cells : List ℕ) (lim : Limits h coun
 
         apart : (i j i′ j′ : ℕ) → Which i j → Which i′ j′ → after (startOf counts i + j) ≡ after (startOf counts i′ + j′) → (i ≡ i′) × (j ≡ j′)
         apart i j i′ j′ (new-one a b e) (new-one c d f) q = (omega arith, omega arith)
-        apart i j i′ j′ (new-one a b e) (old-one c f) q = absurd (omega (arith, old i′ j′ c, ap (λ (z : Lease). z .serial) (sym e ∙ q ∙ f)))
-        apart i j i′ j′ (old-one a e) (new-one c d f) q = absurd (omega (arith, old i j a, ap (λ (z : Lease). z .serial) (sym e ∙ q ∙ f)))
+        apart i j i′ j′ (new-one a b e) (old-one c f) q = absurd (omega (arith, old i′ j′ c, ap (λ (z : Hold). z .serial) (sym e ∙ q ∙ f)))
+        apart i j i′ j′ (old-one a e) (new-one c d f) q = absurd (omega (arith, old i j a, ap (λ (z : Hold). z .serial) (sym e ∙ q ∙ f)))
         apart i j i′ j′ (old-one a e) (old-one c f) q = s .distinct i j i′ j′ a c (sym e ∙ q ∙ f)
 
     -- an add, or a release: what is held after it was held before
-    later-safe : {P : Lease → Type 0} → Kept w P v es → countOf counts m ≤ done → done < movesOf work (countOf counts m)
+    later-safe : {P : Hold → Type 0} → Kept w P v es → countOf counts m ≤ done → done < movesOf work (countOf counts m)
         → ((i j : ℕ) → Holds work counts (moved made m) i j → Holds work counts made i j → P (noted cells serials (startOf counts i + j)))
         → Safe work counts cells v (moved made m) serials
     later-safe k a b spared =

@@ -10,9 +10,9 @@ use lib.Dec.{eqb}
 use lib.ListN.{length, length-set}
 use borrow.Author.Tests.{le-leb, eq-eqb}
 use Rattle.model.specs.Log.{Actor, Event, attempt-begun, boundary-run, yielded, spun, step-dropped, took, released, waiters-set, health-set, held-all, added}
-use Rattle.model.specs.Arena.{lastSerial, cellsOf, headFits, shapeFits, healthFits, spentTo, leaseOf, bitAt, ownerAt, setCell, setWaiters, stateAt, isLive}
+use Rattle.model.specs.Arena.{lastSerial, cellsOf, headFits, shapeFits, healthFits, spentTo, holdOf, bitAt, ownerAt, setCell, setWaiters, stateAt, isLive}
 use Rattle.types.specs.declared.Head.{Head}
-use Rattle.types.specs.declared.Lease.{Lease}
+use Rattle.types.specs.declared.Hold.{Hold}
 use Rattle.laws.specs.Shape.{Shaped, shaped, healthy}
 use Rattle.laws.specs.Words.{length-set-cell, length-set-waiters, bit-set, bit-set-other, owner-set-other, bit-set-waiters, owner-set-waiters, Seen, here, there, see}
 use Rattle.history.specs.World.{World, cells, Live, Legal, step, Whole, Apart, one, bits, Kind, kind-of, code, takes, releases, Releases, Spent}
@@ -63,7 +63,7 @@ whole w g =
     }
 
 -- the facts of a live lease
-pub lives : (w : World) (l : Lease) → Live w l → Alive (w .head .next) (cells w) (w .table) l
+pub lives : (w : World) (l : Hold) → Live w l → Alive (w .head .next) (cells w) (w .table) l
 lives w l v = alive (w .head .next) (cells w) (w .table) l v
 
 pub older : {b o n : ℕ} → Status b o n → Status b o (n + 1)
@@ -120,7 +120,7 @@ good-step w (took a c s) g l =
       status = status-put (cells w) (w .head .next + 1) (w .table) c 1 s (g .shape .words-are) (held refl (omega (arith, g .shape .low)) (omega arith)) (λ d k. older (g .status d k));
     }
 good-step w (released a c s) g l =
-    let i = lives w (leaseOf c s) l .in-range in
+    let i = lives w (holdOf c s) l .in-range in
     record {
       shape = reshaped (w .head) (w .head .next) (length (w .table)) (length (setCell (w .table) c 0 0)) (g .shape) (g .shape .low) (g .shape .high) (length-set-cell (w .table) c 0 0);
       health-is = g .health-is;
@@ -169,12 +169,12 @@ same-arena w (added m c v) = refl
 -- ---- leases
 
 -- live words in another table, with the next serial no lower
-pub moved-live : (next cells next′ : ℕ) (t u : List ℕ) (l : Lease) → Alive next cells t l → next ≤ next′
+pub moved-live : (next cells next′ : ℕ) (t u : List ℕ) (l : Hold) → Alive next cells t l → next ≤ next′
     → bitAt u (l .cell) ≡ bitAt t (l .cell) → ownerAt u (l .cell) ≡ ownerAt t (l .cell) → isLive next′ cells u l ≡ true
 moved-live next cells next′ t u l a n p q =
     live next′ cells u l (record { in-range = a .in-range; bit-is = p ∙ a .bit-is; owner-is = q ∙ a .owner-is; low = a .low; high = omega (arith, a .high) })
 
-pub keep-step : (w : World) (e : Event) (l : Lease) → Fit w → Legal w e → Live w l → (Releases l e → ⊥) → Live (step w e) l
+pub keep-step : (w : World) (e : Event) (l : Hold) → Fit w → Legal w e → Live w l → (Releases l e → ⊥) → Live (step w e) l
 keep-step w attempt-begun l g k v n = v
 keep-step w boundary-run l g k v n = v
 keep-step w yielded l g k v n = v
@@ -188,11 +188,11 @@ keep-step w (took a c s) l g k v n = go (see (w .table) c 1 s (l .cell) (omega (
         absurd (omega (arith, x .bit-is))
     go (there e p q) x = moved-live (w .head .next) (cells w) (w .head .next + 1) (w .table) (setCell (w .table) c 1 s) l x (omega arith) p q
 keep-step w (released a c s) l g k v n =
-    go (see (w .table) c 0 0 (l .cell) (omega (arith, at w g c (lives w (leaseOf c s) k .in-range)))) (lives w l v) (lives w (leaseOf c s) k)
+    go (see (w .table) c 0 0 (l .cell) (omega (arith, at w g c (lives w (holdOf c s) k .in-range)))) (lives w l v) (lives w (holdOf c s) k)
   where
-    go : Seen (w .table) c 0 0 (l .cell) → Alive (w .head .next) (cells w) (w .table) l → Alive (w .head .next) (cells w) (w .table) (leaseOf c s)
+    go : Seen (w .table) c 0 0 (l .cell) → Alive (w .head .next) (cells w) (w .table) l → Alive (w .head .next) (cells w) (w .table) (holdOf c s)
         → Live (step w (released a c s)) l
-    go (here e p q) x y = absurd (n (same-lease l (leaseOf c s) e (sym (x .owner-is) ∙ ap (ownerAt (w .table)) e ∙ y .owner-is)))
+    go (here e p q) x y = absurd (n (same-lease l (holdOf c s) e (sym (x .owner-is) ∙ ap (ownerAt (w .table)) e ∙ y .owner-is)))
     go (there e p q) x y = moved-live (w .head .next) (cells w) (w .head .next) (w .table) (setCell (w .table) c 0 0) l x (omega arith) p q
 keep-step w (waiters-set c n) l g k v u =
     moved-live (w .head .next) (cells w) (w .head .next) (w .table) (setWaiters (w .table) c n) l (lives w l v) (omega arith)
@@ -202,7 +202,7 @@ keep-step w (held-all i) l g k v n = v
 keep-step w (added i d x) l g k v n = v
 
 -- a live lease after an event was live before it, or its serial is the one just issued
-pub live-before : (w : World) (e : Event) (l : Lease) → Fit w → Legal w e → Live (step w e) l → l .serial < w .head .next → Live w l
+pub live-before : (w : World) (e : Event) (l : Hold) → Fit w → Legal w e → Live (step w e) l → l .serial < w .head .next → Live w l
 live-before w attempt-begun l g k v o = v
 live-before w boundary-run l g k v o = v
 live-before w yielded l g k v o = v
@@ -215,7 +215,7 @@ live-before w (took a c s) l g k v o = go (see (w .table) c 1 s (l .cell) (omega
     go (there e p q) x =
         live (w .head .next) (cells w) (w .table) l (record { in-range = x .in-range; bit-is = sym p ∙ x .bit-is; owner-is = sym q ∙ x .owner-is; low = x .low; high = o })
 live-before w (released a c s) l g k v o =
-    go (see (w .table) c 0 0 (l .cell) (omega (arith, at w g c (lives w (leaseOf c s) k .in-range)))) (lives (step w (released a c s)) l v)
+    go (see (w .table) c 0 0 (l .cell) (omega (arith, at w g c (lives w (holdOf c s) k .in-range)))) (lives (step w (released a c s)) l v)
   where
     go : Seen (w .table) c 0 0 (l .cell) → Alive (w .head .next) (cells w) (setCell (w .table) c 0 0) l → Live w l
     go (here e p q) x = absurd (omega (arith, x .bit-is))
@@ -250,40 +250,40 @@ pub spent-step : (w : World) (e : Event) (s : ℕ) → Fit w → Legal w e → S
 spent-step w e s g k p =
     record {
       was-issued = omega (arith, p .was-issued, next-step w e);
-      owns-none = λ c v. p .owns-none c (live-before w e (leaseOf c s) g k v (p .was-issued));
+      owns-none = λ c v. p .owns-none c (live-before w e (holdOf c s) g k v (p .was-issued));
     }
 
 -- ---- no serial owns two cells
 
 -- a serial that an event issues is the cell's that it took
 pub new-owner : (w : World) (a : Actor) (c s : ℕ) → Good w → Legal w (took a c s) → (d n : ℕ) → (n < w .head .next → ⊥)
-    → Live (step w (took a c s)) (leaseOf d n) → d ≡ c
-new-owner w a c s g k d n old v = go (see (w .table) c 1 s d (omega (arith, at w (fit g) c (k .0 .0)))) (lives (step w (took a c s)) (leaseOf d n) v)
+    → Live (step w (took a c s)) (holdOf d n) → d ≡ c
+new-owner w a c s g k d n old v = go (see (w .table) c 1 s d (omega (arith, at w (fit g) c (k .0 .0)))) (lives (step w (took a c s)) (holdOf d n) v)
   where
-    go : Seen (w .table) c 1 s d → Alive (w .head .next + 1) (cells w) (setCell (w .table) c 1 s) (leaseOf d n) → d ≡ c
+    go : Seen (w .table) c 1 s d → Alive (w .head .next + 1) (cells w) (setCell (w .table) c 1 s) (holdOf d n) → d ≡ c
     go (here e p q) x = e
     go (there e p q) x =
         absurd (old (omega (arith, x .owner-is, issued (g .status d (x .in-range)) (sym p ∙ x .bit-is) .1)))
 
 late-apart : (w : World) (e : Event) → Good w → Legal w e → (c d s : ℕ) → (s < w .head .next → ⊥)
-    → Live (step w e) (leaseOf c s) → Live (step w e) (leaseOf d s) → c ≡ d
-late-apart w attempt-begun g k c d s n x y = absurd (n (lives w (leaseOf c s) x .high))
-late-apart w boundary-run g k c d s n x y = absurd (n (lives w (leaseOf c s) x .high))
-late-apart w yielded g k c d s n x y = absurd (n (lives w (leaseOf c s) x .high))
-late-apart w spun g k c d s n x y = absurd (n (lives w (leaseOf c s) x .high))
-late-apart w step-dropped g k c d s n x y = absurd (n (lives w (leaseOf c s) x .high))
+    → Live (step w e) (holdOf c s) → Live (step w e) (holdOf d s) → c ≡ d
+late-apart w attempt-begun g k c d s n x y = absurd (n (lives w (holdOf c s) x .high))
+late-apart w boundary-run g k c d s n x y = absurd (n (lives w (holdOf c s) x .high))
+late-apart w yielded g k c d s n x y = absurd (n (lives w (holdOf c s) x .high))
+late-apart w spun g k c d s n x y = absurd (n (lives w (holdOf c s) x .high))
+late-apart w step-dropped g k c d s n x y = absurd (n (lives w (holdOf c s) x .high))
 late-apart w (took a i m) g k c d s n x y = new-owner w a i m g k c s n x ∙ sym (new-owner w a i m g k d s n y)
-late-apart w (released a i m) g k c d s n x y = absurd (n (lives (step w (released a i m)) (leaseOf c s) x .high))
-late-apart w (waiters-set i m) g k c d s n x y = absurd (n (lives (step w (waiters-set i m)) (leaseOf c s) x .high))
-late-apart w (health-set i m) g k c d s n x y = absurd (n (lives w (leaseOf c s) x .high))
-late-apart w (held-all i) g k c d s n x y = absurd (n (lives w (leaseOf c s) x .high))
-late-apart w (added i j v) g k c d s n x y = absurd (n (lives w (leaseOf c s) x .high))
+late-apart w (released a i m) g k c d s n x y = absurd (n (lives (step w (released a i m)) (holdOf c s) x .high))
+late-apart w (waiters-set i m) g k c d s n x y = absurd (n (lives (step w (waiters-set i m)) (holdOf c s) x .high))
+late-apart w (health-set i m) g k c d s n x y = absurd (n (lives w (holdOf c s) x .high))
+late-apart w (held-all i) g k c d s n x y = absurd (n (lives w (holdOf c s) x .high))
+late-apart w (added i j v) g k c d s n x y = absurd (n (lives w (holdOf c s) x .high))
 
 pub apart-step : (w : World) (e : Event) → Good w → Legal w e → Apart w → Apart (step w e)
 apart-step w e g k a c d s x y = go (decLt s (w .head .next))
   where
     go : Dec (s < w .head .next) → c ≡ d
-    go (yes o) = a c d s (live-before w e (leaseOf c s) (fit g) k x o) (live-before w e (leaseOf d s) (fit g) k y o)
+    go (yes o) = a c d s (live-before w e (holdOf c s) (fit g) k x o) (live-before w e (holdOf d s) (fit g) k y o)
     go (no n) = late-apart w e g k c d s n x y
 
 pub bits-same : (n : ℕ) (t u : List ℕ) → ((d : ℕ) → d < n → bitAt t d ≡ bitAt u d) → bits n t ≡ bits n u
@@ -318,7 +318,7 @@ bits-step w step-dropped g k = refl
 bits-step w (took a c s) g k =
     omega (arith, bits-put (cells w) (w .table) c 1 s (k .0 .0) (at w g c (k .0 .0)), ap (λ (x : ℕ). one (eqb x 1)) (free-words (w .head .next) (w .table) c (k .0 .1) .0))
 bits-step w (released a c s) g k =
-    let i = lives w (leaseOf c s) k in
+    let i = lives w (holdOf c s) k in
     omega (arith, bits-put (cells w) (w .table) c 0 0 (i .in-range) (at w g c (i .in-range)), ap (λ (x : ℕ). one (eqb x 1)) (i .bit-is))
 bits-step w (waiters-set c n) g k = ap (λ (x : ℕ). x + 0) (bits-same (cells w) (setWaiters (w .table) c n) (w .table) (λ d l. bit-set-waiters (w .table) c n d))
 bits-step w (health-set i n) g k = refl
@@ -326,11 +326,11 @@ bits-step w (held-all m) g k = refl
 bits-step w (added m c v) g k = refl
 
 -- the lease that a take makes
-pub taken-live : (w : World) (a : Actor) (c : ℕ) → Fit w → c < cells w → Live (step w (took a c (w .head .next))) (leaseOf c (w .head .next))
+pub taken-live : (w : World) (a : Actor) (c : ℕ) → Fit w → c < cells w → Live (step w (took a c (w .head .next))) (holdOf c (w .head .next))
 taken-live w a c g l = go (see (w .table) c 1 (w .head .next) c (omega (arith, at w g c l)))
   where
-    go : Seen (w .table) c 1 (w .head .next) c → Live (step w (took a c (w .head .next))) (leaseOf c (w .head .next))
+    go : Seen (w .table) c 1 (w .head .next) c → Live (step w (took a c (w .head .next))) (holdOf c (w .head .next))
     go (here e p q) =
-        live (w .head .next + 1) (cells w) (setCell (w .table) c 1 (w .head .next)) (leaseOf c (w .head .next))
+        live (w .head .next + 1) (cells w) (setCell (w .table) c 1 (w .head .next)) (holdOf c (w .head .next))
         (record { in-range = l; bit-is = p; owner-is = q; low = g .shape .low; high = omega arith })
     go (there e p q) = absurd (e refl)

@@ -3,9 +3,10 @@ use Prim.Native.Nat.{ℕ, _+_}
 use mathlib.Core.Path.{_≡_}
 use mathlib.Core.List.{List, [], _∷_, _++_}
 use mathlib.Core.Bool.{false}
+use mathlib.Core.Logic.{_⊎_}
 use lib.ListN.{getD}
 use Rattle.model.specs.Log.{Made, Event, gives, _>>=_, _>>_}
-use Rattle.model.specs.Arena.{cellNumber, spentTo, leasesOf}
+use Rattle.model.specs.Arena.{cellNumber, spentTo, holdIn, leasesOf, holdsOf}
 use Rattle.model.specs.Refusals.{Rule}
 use Rattle.model.specs.Foreign.{stepOf}
 use Rattle.model.specs.Lock.{bindingAt, bucketAt}
@@ -18,6 +19,7 @@ use Rattle.types.specs.declared.Answer.{Answer}
 use Rattle.types.specs.declared.Answer.the-variants.{Done, Cell, Granted, AllGranted, Busy, Refused, RefusedAt}
 use Rattle.types.specs.declared.Counts.{Counts}
 use Rattle.types.specs.declared.Head.{Head}
+use Rattle.types.specs.declared.Hold.{Hold}
 use Rattle.types.specs.declared.Lease.{Lease}
 use Rattle.types.specs.declared.SalvageAnswer.{SalvageAnswer}
 use Rattle.types.specs.declared.SalvageAnswer.the-variants as salvaged
@@ -81,45 +83,70 @@ place-of (acquire-sorted registry script place held keys grants) = place
 place-of (crew counts cells turns) = 0
 place-of (crew-at-work counts cells turns counters) = 0
 
--- the held list of a call
-abbrev pub held-of : Call → List Lease
+-- the held list of a call, as cells and serials
+abbrev pub held-of : Call → List Hold
 held-of (try-acquire c) = []
 held-of (drop-lease l) = []
 held-of (read-permission l) = []
 held-of (competing-acquire l) = []
 held-of (release-then-handoff l) = []
-held-of (foreign-release held l) = leasesOf held
-held-of (drop-preserving held l) = leasesOf held
-held-of (acquire-preserving held c) = leasesOf held
-held-of (environment script place held) = leasesOf held
-held-of (try-lock script place held c) = leasesOf held
-held-of (transactional registry script place held binding bucket) = leasesOf held
-held-of (acquire-bucket registry script place held binding bucket) = leasesOf held
+held-of (foreign-release held l) = holdsOf held
+held-of (drop-preserving held l) = holdsOf held
+held-of (acquire-preserving held c) = holdsOf held
+held-of (environment script place held) = holdsOf held
+held-of (try-lock script place held c) = holdsOf held
+held-of (transactional registry script place held binding bucket) = holdsOf held
+held-of (acquire-bucket registry script place held binding bucket) = holdsOf held
 held-of (release-all script place leases) = []
-held-of (acquire-locks registry script place held keys grants) = leasesOf held
-held-of (acquire-sorted registry script place held keys grants) = leasesOf held
+held-of (acquire-locks registry script place held keys grants) = holdsOf held
+held-of (acquire-sorted registry script place held keys grants) = holdsOf held
 held-of (crew counts cells turns) = []
 held-of (crew-at-work counts cells turns counters) = []
 
--- the leases that a call is given to give up
-abbrev pub given-up : Call → List Lease
+-- the leases that a call is given to give up, as cells and serials
+abbrev pub given-up : Call → List Hold
 given-up (try-acquire c) = []
-given-up (drop-lease l) = l ∷ []
+given-up (drop-lease l) = holdIn l ∷ []
 given-up (read-permission l) = []
 given-up (competing-acquire l) = []
-given-up (release-then-handoff l) = l ∷ []
-given-up (foreign-release held l) = l ∷ []
-given-up (drop-preserving held l) = l ∷ []
+given-up (release-then-handoff l) = holdIn l ∷ []
+given-up (foreign-release held l) = holdIn l ∷ []
+given-up (drop-preserving held l) = holdIn l ∷ []
 given-up (acquire-preserving held c) = []
 given-up (environment script place held) = []
 given-up (try-lock script place held c) = []
 given-up (transactional registry script place held binding bucket) = []
 given-up (acquire-bucket registry script place held binding bucket) = []
-given-up (release-all script place leases) = leasesOf leases
+given-up (release-all script place leases) = holdsOf leases
 given-up (acquire-locks registry script place held keys grants) = []
 given-up (acquire-sorted registry script place held keys grants) = []
 given-up (crew counts cells turns) = []
 given-up (crew-at-work counts cells turns counters) = []
+
+-- a lease of a list
+abbrev pub Among : Lease → List Lease → Type 0
+Among l [] = ⊥
+Among l (k ∷ ks) = (k ≡ l) ⊎ Among l ks
+
+-- the leases that a call names, with their boot numbers: the one that it is given, and those of its list
+abbrev pub Names-lease : Call → Lease → Type 0
+Names-lease (try-acquire c) l = ⊥
+Names-lease (drop-lease m) l = m ≡ l
+Names-lease (read-permission m) l = m ≡ l
+Names-lease (competing-acquire m) l = m ≡ l
+Names-lease (release-then-handoff m) l = m ≡ l
+Names-lease (foreign-release held m) l = (m ≡ l) ⊎ Among l (leasesOf held)
+Names-lease (drop-preserving held m) l = (m ≡ l) ⊎ Among l (leasesOf held)
+Names-lease (acquire-preserving held c) l = Among l (leasesOf held)
+Names-lease (environment script place held) l = Among l (leasesOf held)
+Names-lease (try-lock script place held c) l = Among l (leasesOf held)
+Names-lease (transactional registry script place held binding bucket) l = Among l (leasesOf held)
+Names-lease (acquire-bucket registry script place held binding bucket) l = Among l (leasesOf held)
+Names-lease (release-all script place leases) l = Among l (leasesOf leases)
+Names-lease (acquire-locks registry script place held keys grants) l = Among l (leasesOf held)
+Names-lease (acquire-sorted registry script place held keys grants) l = Among l (leasesOf held)
+Names-lease (crew counts cells turns) l = ⊥
+Names-lease (crew-at-work counts cells turns counters) l = ⊥
 
 -- the buffer that a call was given
 abbrev pub buffer : Call → List ℕ
@@ -332,8 +359,8 @@ pub data Item : Type 0 where
   call : Call → Item
   foreign-step : (kind place number : ℕ) → Item
   -- a preparation of the arena's own runs; of other runs that are lent in their place, whatever they hold
-  preparation : (headers buckets serial : ℕ) → Item
-  preparation-over : (headers buckets serial : ℕ) (table health : List ℕ) → Item
+  preparation : (headers buckets serial boot : ℕ) → Item
+  preparation-over : (headers buckets serial boot : ℕ) (table health : List ℕ) → Item
   -- "Power dips, RAM mostly survives, and I hold the last head on paper.": a salvage of the arena's own runs; of what the dip left in their
   -- place, whatever it is
   salvage : (paper : Head) (report list : List ℕ) → Item
@@ -377,9 +404,9 @@ abbrev pub saying : Answer → Says
 saying a = says a (countsOf 0 0 0 0) 0 []
 
 -- what a preparation answers, and the world of the head and the runs that it hands back
-unfoldable pub preparing : ℕ → ℕ → ℕ → List ℕ → List ℕ → Answer × World
-preparing headers buckets serial t g =
-    let o = prepareOf headers buckets serial t g .seen in
+unfoldable pub preparing : ℕ → ℕ → ℕ → ℕ → List ℕ → List ℕ → Answer × World
+preparing headers buckets serial boot t g =
+    let o = prepareOf headers buckets serial boot t g .seen in
     (o .0 .answer, worldOf (o .0 .head) (o .1 .0) (o .1 .1))
 
 -- done: a new stretch begins in the prepared world; refused: the stretch goes on in the world that stays
@@ -409,11 +436,11 @@ salvaged-by salvaged.ReportFull w v k = courseOf (k .origin) (k .entries) v
 unfoldable pub next-item : Course → Item → Course
 next-item k (call c) = let m = perform (k .world) c in noted k (m .log) (m .seen .1) (m .seen .0)
 next-item k (foreign-step kind place number) = let m = foreign (k .world) kind place number in noted k (m .log) (saying Done) (m .seen)
-next-item k (preparation headers buckets serial) =
-    let p = preparing headers buckets serial (k .world .table) (k .world .health) in
+next-item k (preparation headers buckets serial boot) =
+    let p = preparing headers buckets serial boot (k .world .table) (k .world .health) in
     prepared-by (p .0) (p .1) (worldOf (k .world .head) (p .1 .table) (p .1 .health)) k
-next-item k (preparation-over headers buckets serial t g) =
-    let p = preparing headers buckets serial t g in
+next-item k (preparation-over headers buckets serial boot t g) =
+    let p = preparing headers buckets serial boot t g in
     prepared-by (p .0) (p .1) (k .world) k
 next-item k (salvage paper report list) =
     let p = salvaging paper (k .world .table) (k .world .health) report list in

@@ -7,11 +7,11 @@ use native.Mathlib.Omega.{arith}
 use lib.ListN.{length}
 use Rattle.choice.specs.Choice.{if_then_else_}
 use Rattle.model.specs.Log.{Made, by-caller, attempt-begun, released, gives, note, _>>=_, _>>_}
-use Rattle.model.specs.Arena.{spentTo, setCell, leasesOf}
+use Rattle.model.specs.Arena.{spentTo, setCell, holdsOf}
 use Rattle.model.specs.Refusals.{Rule, refusalOf, first, judge}
 use Rattle.model.specs.Foreign.{Setting, flowOf, boundaryOf}
 use Rattle.model.specs.Lock.{lockOf, answerOf, runOf, attemptOf, attemptLimit, noneYet, retryOf, settled, giveBackOf, Locks, locksOf}
-use Rattle.model.specs.Checks.{countIn}
+use Rattle.model.specs.Checks.{countIn, leaseCount}
 use Rattle.model.specs.Calls.{countsOf, given, starting, replied, played, refused, acquireOf, tryAcquireOf, dropLeaseOf, readPermissionOf, competingAcquireOf, releaseThenHandoffOf, foreignReleaseOf, acquirePreservingOf, dropPreservingOf, environmentOf, tryLockOf, transactionalOf, acquireBucketOf, releaseAllOf, acquireLocksOf}
 use Rattle.model.specs.Sorted.{cellsAsked, cellsSorted, sortedKeys, firstKey, judgeAt, unplayedAt, askedFirst, handedBack, sortedLocksOf, acquireSortedOf}
 use Rattle.model.specs.Crew.{Work, rests, adds, crewStart, turnsOf, shiftOf, crewOf, crewAtWorkOf}
@@ -55,14 +55,18 @@ pub clear-back : (xs ys : List Rule) → Clear (xs ++ ys) → Clear ys
 clear-back [] ys c = c
 clear-back (x ∷ xs) ys c = clear-back xs ys (c .1)
 
--- a call that is refused, or whose checks found nothing
-pub judged : {A : Type 0} (P : A → Type 0) (rules : List Rule) {refused : Refusal → A} {steps : A}
-    → ((r : Refusal) → P (refused r)) → (Clear rules → P steps) → P (judge (first rules) refused steps)
-judged P rules {refused} {steps} r s = go (first rules) refl
+-- a call that is refused, by the first rule that applies, or whose checks found nothing
+pub judged-by : {A : Type 0} (P : A → Type 0) (rules : List Rule) {refused : Refusal → A} {steps : A}
+    → ((r : Refusal) → first rules ≡ Fault r → P (refused r)) → (Clear rules → P steps) → P (judge (first rules) refused steps)
+judged-by P rules {refused} {steps} r s = go (first rules) refl
   where
     go : (k : Check) → first rules ≡ k → P (judge k refused steps)
     go Fine e = s (clear rules e)
-    go (Fault x) e = r x
+    go (Fault x) e = r x e
+
+pub judged : {A : Type 0} (P : A → Type 0) (rules : List Rule) {refused : Refusal → A} {steps : A}
+    → ((r : Refusal) → P (refused r)) → (Clear rules → P steps) → P (judge (first rules) refused steps)
+judged P rules r s = judged-by P rules (λ x _. r x) s
 
 -- the same of the sorted call, whose keys' headers and buckets are tested by position behind
 pub judged-at : {A : Type 0} (P : A → Type 0) (k : KeyCheck) {refused : Refusal → ℕ → A} {steps : A}
@@ -116,7 +120,7 @@ shifted work w counts cells turns counters =
 -- multi-lock's own steps over the sorted keys, and how the caller sees them: by the keys as they were typed
 abbrev pub sorted-locks : World → (registry script : List ℕ) (place : ℕ) (held keys grants : List ℕ) → Made Locks
 sorted-locks w registry script place held keys grants =
-    locksOf (length (cellsSorted (w .head .buckets) registry keys)) 0 (given (w .head) script (leasesOf held)) (w .head .buckets) registry (sortedKeys (w .head .buckets) registry keys) []
+    locksOf (length (cellsSorted (w .head .buckets) registry keys)) 0 (given (w .head) script (holdsOf held)) (w .head .buckets) (w .head .boot) registry (sortedKeys (w .head .buckets) registry keys) []
     (starting (w .head) place) (w .table) (w .health) grants
 
 abbrev pub as-asked : World → (registry keys : List ℕ) → Locks → World × Says
@@ -124,7 +128,7 @@ as-asked w registry keys m =
     let asked = cellsAsked (w .head .buckets) registry keys in
     grant (
       played (w .head) (m .0 .run) (askedFirst (m .0 .answer) asked (cellsSorted (w .head .buckets) registry keys)),
-      (m .1 .0, (m .1 .1 .0, handedBack (m .0 .answer) asked (m .1 .1 .1))),
+      (m .1 .0, (m .1 .1 .0, handedBack (w .head .boot) (m .0 .answer) asked (m .1 .1 .1))),
     )
 
 -- the steps of each call
@@ -151,20 +155,20 @@ steps w (environment script place held) =
     (boundaryOf (acting w (environment script place held)) (flowOf (w .head .next) place 0) (w .table) (w .health))
 steps w (try-lock script place held c) = do
   note attempt-begun
-  seen-as (λ m. play (played (w .head) (runOf (m .0 .flow) 1 (m .0 .boundaries) 0) (answerOf (m .0 .answer)), m .1))
+  seen-as (λ m. play (played (w .head) (runOf (m .0 .flow) 1 (m .0 .boundaries) 0) (answerOf (w .head .boot) (m .0 .answer)), m .1))
       (lockOf (acting w (try-lock script place held c)) (w .head .buckets) (flowOf (w .head .next) place 0) (w .table) (w .health) c)
 steps w (transactional registry script place held binding bucket) =
-    seen-as (λ m. play (played (w .head) (m .0 .run) (answerOf (m .0 .outcome)), m .1))
+    seen-as (λ m. play (played (w .head) (m .0 .run) (answerOf (w .head .boot) (m .0 .outcome)), m .1))
     (attemptOf (acting w (transactional registry script place held binding bucket)) (w .head .buckets) registry binding bucket (starting (w .head) place) (w .table) (w .health))
 steps w (acquire-bucket registry script place held binding bucket) =
-    seen-as (λ m. play (played (w .head) (m .0 .run) (answerOf (settled (m .0 .outcome))), m .1))
+    seen-as (λ m. play (played (w .head) (m .0 .run) (answerOf (w .head .boot) (settled (m .0 .outcome))), m .1))
     (retryOf attemptLimit 0 noneYet (acting w (acquire-bucket registry script place held binding bucket)) (w .head .buckets) registry binding bucket (starting (w .head) place) (w .table) (w .health))
 steps w (release-all script place leases) =
     seen-as (λ m. play (played (w .head) (m .0) answer.Done, m .1))
-    (giveBackOf (countIn leases) (acting w (release-all script place leases)) (leasesOf leases) (starting (w .head) place) (w .table) (w .health))
+    (giveBackOf (leaseCount leases) (acting w (release-all script place leases)) (holdsOf leases) (starting (w .head) place) (w .table) (w .health))
 steps w (acquire-locks registry script place held keys grants) =
     seen-as (λ m. grant (played (w .head) (m .0 .run) (m .0 .answer), m .1))
-    (locksOf (countIn keys) 0 (acting w (acquire-locks registry script place held keys grants)) (w .head .buckets) registry keys [] (starting (w .head) place) (w .table) (w .health) grants)
+    (locksOf (countIn keys) 0 (acting w (acquire-locks registry script place held keys grants)) (w .head .buckets) (w .head .boot) registry keys [] (starting (w .head) place) (w .table) (w .health) grants)
 steps w (acquire-sorted registry script place held keys grants) =
     judgeAt (firstKey (countIn keys) 0 (w .head) registry keys) (unchanged-at w (acquire-sorted registry script place held keys grants))
     (seen-as (as-asked w registry keys) (sorted-locks w registry script place held keys grants))
@@ -190,28 +194,31 @@ module _ (P : Made (World × Says) → Type 0) (w : World) where
   abbrev By : {A : Type 0} → (A → World × Says) → Made A → Type 0
   By f m = P (m >>= λ a. gives (f a))
 
-  pub performed : (k : Call) → ((r : Refusal) → P (unchanged w k r)) → (Clear (rules w k) → P (steps w k)) → P (perform w k)
+  pub performed-by : (k : Call) → ((r : Refusal) → first (rules w k) ≡ Fault r → P (unchanged w k r)) → (Clear (rules w k) → P (steps w k)) → P (perform w k)
   unfolding perform tryAcquireOf dropLeaseOf readPermissionOf competingAcquireOf releaseThenHandoffOf foreignReleaseOf acquirePreservingOf dropPreservingOf
       environmentOf tryLockOf transactionalOf acquireBucketOf releaseAllOf acquireLocksOf acquireSortedOf shiftOf crewOf crewAtWorkOf
-  performed (try-acquire c) x y = judged (By (reply w)) (rules w (try-acquire c)) x (λ fine. rw append-nil (y fine))
-  performed (drop-lease l) x y = judged (By (reply w)) (rules w (drop-lease l)) x y
-  performed (read-permission l) x y = judged (By (read w)) (rules w (read-permission l)) x y
-  performed (competing-acquire l) x y = judged (By (reply w)) (rules w (competing-acquire l)) x (λ fine. rw append-nil (y fine))
-  performed (release-then-handoff l) x y = judged (By (reply w)) (rules w (release-then-handoff l)) x (λ fine. rw append-nil (y fine))
-  performed (foreign-release held l) x y = judged (By (reply w)) (rules w (foreign-release held l)) x (λ fine. rw append-nil (y fine))
-  performed (drop-preserving held l) x y = judged (By (reply w)) (rules w (drop-preserving held l)) x y
-  performed (acquire-preserving held c) x y = judged (By (reply w)) (rules w (acquire-preserving held c)) x (λ fine. rw append-nil (y fine))
-  performed (environment script place held) x y = judged (By play) (rules w (environment script place held)) x (λ fine. simp append-nil (y fine))
-  performed (try-lock script place held c) x y = judged (By play) (rules w (try-lock script place held c)) x (λ fine. rw (append-nil, append-nil) (y fine))
-  performed (transactional registry script place held binding bucket) x y =
-      judged (By play) (rules w (transactional registry script place held binding bucket)) x (λ fine. simp append-nil (y fine))
-  performed (acquire-bucket registry script place held binding bucket) x y =
-      judged (By play) (rules w (acquire-bucket registry script place held binding bucket)) x (λ fine. simp append-nil (y fine))
-  performed (release-all script place leases) x y = judged (By play) (rules w (release-all script place leases)) x (λ fine. simp append-nil (y fine))
-  performed (acquire-locks registry script place held keys grants) x y =
-      judged (By grant) (rules w (acquire-locks registry script place held keys grants)) x (λ fine. simp append-nil (y fine))
-  performed (acquire-sorted registry script place held keys grants) x y =
-      judged (By grant) (rules w (acquire-sorted registry script place held keys grants)) x
+  performed-by (try-acquire c) x y = judged-by (By (reply w)) (rules w (try-acquire c)) x (λ fine. rw append-nil (y fine))
+  performed-by (drop-lease l) x y = judged-by (By (reply w)) (rules w (drop-lease l)) x y
+  performed-by (read-permission l) x y = judged-by (By (read w)) (rules w (read-permission l)) x y
+  performed-by (competing-acquire l) x y = judged-by (By (reply w)) (rules w (competing-acquire l)) x (λ fine. rw append-nil (y fine))
+  performed-by (release-then-handoff l) x y = judged-by (By (reply w)) (rules w (release-then-handoff l)) x (λ fine. rw append-nil (y fine))
+  performed-by (foreign-release held l) x y = judged-by (By (reply w)) (rules w (foreign-release held l)) x (λ fine. rw append-nil (y fine))
+  performed-by (drop-preserving held l) x y = judged-by (By (reply w)) (rules w (drop-preserving held l)) x y
+  performed-by (acquire-preserving held c) x y = judged-by (By (reply w)) (rules w (acquire-preserving held c)) x (λ fine. rw append-nil (y fine))
+  performed-by (environment script place held) x y = judged-by (By play) (rules w (environment script place held)) x (λ fine. simp append-nil (y fine))
+  performed-by (try-lock script place held c) x y = judged-by (By play) (rules w (try-lock script place held c)) x (λ fine. rw (append-nil, append-nil) (y fine))
+  performed-by (transactional registry script place held binding bucket) x y =
+      judged-by (By play) (rules w (transactional registry script place held binding bucket)) x (λ fine. simp append-nil (y fine))
+  performed-by (acquire-bucket registry script place held binding bucket) x y =
+      judged-by (By play) (rules w (acquire-bucket registry script place held binding bucket)) x (λ fine. simp append-nil (y fine))
+  performed-by (release-all script place leases) x y = judged-by (By play) (rules w (release-all script place leases)) x (λ fine. simp append-nil (y fine))
+  performed-by (acquire-locks registry script place held keys grants) x y =
+      judged-by (By grant) (rules w (acquire-locks registry script place held keys grants)) x (λ fine. simp append-nil (y fine))
+  performed-by (acquire-sorted registry script place held keys grants) x y =
+      judged-by (By grant) (rules w (acquire-sorted registry script place held keys grants)) x
       (λ fine. subst P (sym (sorted-steps w registry script place held keys grants (firstKey (countIn keys) 0 (w .head) registry keys))) (y fine))
-  performed (crew counts cells turns) x y = judged (By (crewed w)) (rules w (crew counts cells turns)) x (λ fine. simp append-nil (y fine))
-  performed (crew-at-work counts cells turns counters) x y = judged (By (worked w)) (rules w (crew-at-work counts cells turns counters)) x (λ fine. simp append-nil (y fine))
+  performed-by (crew counts cells turns) x y = judged-by (By (crewed w)) (rules w (crew counts cells turns)) x (λ fine. simp append-nil (y fine))
+  performed-by (crew-at-work counts cells turns counters) x y = judged-by (By (worked w)) (rules w (crew-at-work counts cells turns counters)) x (λ fine. simp append-nil (y fine))
+
+  pub performed : (k : Call) → ((r : Refusal) → P (unchanged w k r)) → (Clear (rules w k) → P (steps w k)) → P (perform w k)
+  performed k x y = performed-by k (λ r _. x r) y

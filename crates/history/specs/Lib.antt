@@ -36,3 +36,4 @@ pub mod Refused
 pub mod Naming
 pub mod NamingCrew
 pub mod NamedCalls
+pub mod Boots

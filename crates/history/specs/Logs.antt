@@ -5,7 +5,7 @@ use mathlib.Core.List.{List, [], _∷_, _++_, append-nil}
 use native.Mathlib.Omega.{arith}
 use Rattle.model.specs.Log.{Event}
 use Rattle.model.specs.Arena.{spentTo}
-use Rattle.types.specs.declared.Lease.{Lease}
+use Rattle.types.specs.declared.Hold.{Hold}
 use Rattle.history.specs.World.{World, cells, Live, Apart, Legal, step, now, Lawful, bits, takes, releases, number-of, Releases, Unreleased, Spent}
 use Rattle.history.specs.Events.{Good, good-step, apart-step, Fit, fit-step, same-arena, keep-step, live-before, next-step, spent-step, bits-step}
 
@@ -23,11 +23,11 @@ pub lawful-split : (w : World) (xs ys : List Event) → Lawful w (xs ++ ys) → 
 lawful-split w [] ys p = (tt, p)
 lawful-split w (x ∷ xs) ys p = let r = lawful-split (step w x) xs ys (p .1) in ((p .0, r .0), r .1)
 
-pub unreleased-append : (l : Lease) (xs ys : List Event) → Unreleased l xs → Unreleased l ys → Unreleased l (xs ++ ys)
+pub unreleased-append : (l : Hold) (xs ys : List Event) → Unreleased l xs → Unreleased l ys → Unreleased l (xs ++ ys)
 unreleased-append l [] ys p q = q
 unreleased-append l (x ∷ xs) ys p q = (p .0, unreleased-append l xs ys (p .1) q)
 
-pub unreleased-front : (l : Lease) (xs ys : List Event) → Unreleased l (xs ++ ys) → Unreleased l xs
+pub unreleased-front : (l : Hold) (xs ys : List Event) → Unreleased l (xs ++ ys) → Unreleased l xs
 unreleased-front l [] ys p = tt
 unreleased-front l (x ∷ xs) ys p = (p .0, unreleased-front l xs ys (p .1))
 
@@ -62,12 +62,12 @@ bits-now w (e ∷ es) g t =
     let same : cells (step w e) ≡ cells w = ap (λ h. h .headers * h .buckets) (same-arena w e) in
     omega (arith, rw same at (bits-now (step w e) es (fit-step w e g (t .0)) (t .1)), bits-step w e g (t .0))
 
-pub keep-now : (w : World) (es : List Event) (l : Lease) → Fit w → Lawful w es → Live w l → Unreleased l es → Live (now w es) l
+pub keep-now : (w : World) (es : List Event) (l : Hold) → Fit w → Lawful w es → Live w l → Unreleased l es → Live (now w es) l
 keep-now w [] l g t v u = v
 keep-now w (e ∷ es) l g t v u = keep-now (step w e) es l (fit-step w e g (t .0)) (t .1) (keep-step w e l g (t .0) v (u .0)) (u .1)
 
 -- a live lease behind a log was live before it, if its serial was issued before
-pub live-back : (w : World) (es : List Event) (l : Lease) → Fit w → Lawful w es → l .serial < w .head .next → Live (now w es) l → Live w l
+pub live-back : (w : World) (es : List Event) (l : Hold) → Fit w → Lawful w es → l .serial < w .head .next → Live (now w es) l → Live w l
 live-back w [] l g t o v = v
 live-back w (e ∷ es) l g t o v =
     live-before w e l g (t .0) (live-back (step w e) es l (fit-step w e g (t .0)) (t .1) (omega (arith, next-step w e)) v) o
@@ -79,31 +79,31 @@ spent-now w (e ∷ es) s g t p = spent-now (step w e) es s (fit-step w e g (t .0
 -- ---- what every step of a call keeps: its log is lawful and leads from the world w to the world v; a lease that is live in w and that P
 -- protects is not released
 
-pub record Kept (w : World) (P : Lease → Type 0) (v : World) (log : List Event) : Type 0 where
+pub record Kept (w : World) (P : Hold → Type 0) (v : World) (log : List Event) : Type 0 where
   pub lawful : Lawful w log
   pub leads : v ≡ now w log
-  pub spares : (l : Lease) → P l → Live w l → Unreleased l log
+  pub spares : (l : Hold) → P l → Live w l → Unreleased l log
 
-pub nothing : {w : World} {P : Lease → Type 0} → Kept w P w []
+pub nothing : {w : World} {P : Hold → Type 0} → Kept w P w []
 nothing = record { lawful = tt; leads = refl; spares = λ l p v. tt }
 
-pub event : {w : World} {P : Lease → Type 0} (e : Event) → Legal w e → ((l : Lease) → P l → Live w l → Releases l e → ⊥) → Kept w P (step w e) (e ∷ [])
+pub event : {w : World} {P : Hold → Type 0} (e : Event) → Legal w e → ((l : Hold) → P l → Live w l → Releases l e → ⊥) → Kept w P (step w e) (e ∷ [])
 event e k n = record { lawful = (k, tt); leads = refl; spares = λ l p v. (n l p v, tt) }
 
-pub kept-fit : {w v : World} {P : Lease → Type 0} {es : List Event} → Fit w → Kept w P v es → Fit v
+pub kept-fit : {w v : World} {P : Hold → Type 0} {es : List Event} → Fit w → Kept w P v es → Fit v
 kept-fit {w} {v} {P} {es} g k = rw (k .leads) (fit-now w es g (k .lawful))
 
-pub kept-live : {w v : World} {P : Lease → Type 0} {es : List Event} → Fit w → Kept w P v es → (l : Lease) → P l → Live w l → Live v l
+pub kept-live : {w v : World} {P : Hold → Type 0} {es : List Event} → Fit w → Kept w P v es → (l : Hold) → P l → Live w l → Live v l
 kept-live {w} {v} {P} {es} g k l p x = subst (λ u. Live u l) (sym (k .leads)) (keep-now w es l g (k .lawful) x (k .spares l p x))
 
-pub kept-next : {w v : World} {P : Lease → Type 0} {es : List Event} → Kept w P v es → w .head .next ≤ v .head .next
+pub kept-next : {w v : World} {P : Hold → Type 0} {es : List Event} → Kept w P v es → w .head .next ≤ v .head .next
 kept-next {w} {v} {P} {es} k = omega (arith, ap (λ u. u .head .next) (k .leads), next-now w es)
 
-pub weaken : {w v : World} {P Q : Lease → Type 0} {es : List Event} → ((l : Lease) → Q l → Live w l → P l) → Kept w P v es → Kept w Q v es
+pub weaken : {w v : World} {P Q : Hold → Type 0} {es : List Event} → ((l : Hold) → Q l → Live w l → P l) → Kept w P v es → Kept w Q v es
 weaken f k = record { lawful = k .lawful; leads = k .leads; spares = λ l q x. k .spares l (f l q x) x }
 
 -- one after the other
-pub chain : {w v u : World} {P : Lease → Type 0} {xs ys : List Event} → Fit w → Kept w P v xs → Kept v P u ys → Kept w P u (xs ++ ys)
+pub chain : {w v u : World} {P : Hold → Type 0} {xs ys : List Event} → Fit w → Kept w P v xs → Kept v P u ys → Kept w P u (xs ++ ys)
 chain {w} {v} {u} {P} {xs} {ys} g a b =
     record {
       lawful = lawful-append w xs ys (a .lawful) (subst (λ x. Lawful x ys) (a .leads) (b .lawful));
@@ -111,5 +111,5 @@ chain {w} {v} {u} {P} {xs} {ys} g a b =
       spares = λ l p x. unreleased-append l xs ys (a .spares l p x) (b .spares l p (kept-live g a l p x));
     }
 
-pub ended : {w v : World} {P : Lease → Type 0} {es : List Event} → Kept w P v es → Kept w P v (es ++ [])
+pub ended : {w v : World} {P : Hold → Type 0} {es : List Event} → Kept w P v es → Kept w P v (es ++ [])
 ended {w} {v} {P} {es} k = subst (Kept w P v) (sym (append-nil es)) k

@@ -11,14 +11,14 @@ use borrow.Author.Tests.{eqb-true}
 use Rattle.history.specs.Crew.{crew-plan, crew-at-work-plan}
 use Rattle.model.specs.Crew.{rests, adds}
 use Rattle.model.specs.Log.{Made, Actor, Event, by-script, attempt-begun, boundary-run, yielded, spun, step-dropped, took, released, waiters-set, health-set, held-all, added}
-use Rattle.model.specs.Arena.{leaseOf, leasesOf, isIn, setCell, serialRemains, bitAt, ownerAt, isFree, isLive}
+use Rattle.model.specs.Arena.{holdIn, holdOf, holdsOf, isIn, setCell, serialRemains, bitAt, ownerAt, isFree, isLive}
 use Rattle.model.specs.Foreign.{Setting, flowOf, stepTakeOf, stepReleaseOf, stepWaitersOf, stepHealthOf, stepOf}
-use Rattle.model.specs.Lock.{noLease, leaseAt, attemptLimit, noneYet}
-use Rattle.model.specs.Checks.{countIn}
+use Rattle.model.specs.Lock.{noHold, holdAt, attemptLimit, noneYet}
+use Rattle.model.specs.Checks.{countIn, leaseCount}
 use Rattle.model.specs.Calls.{given, starting, acquireOf}
 use Rattle.model.specs.Sorted.{cellsSorted, sortedKeys, firstKey}
 use Rattle.types.specs.declared.Head.{Head}
-use Rattle.types.specs.declared.Lease.{Lease}
+use Rattle.types.specs.declared.Hold.{Hold}
 use Rattle.types.specs.declared.Stepped.{Stepped}
 use Rattle.choice.specs.Pick.{if-both}
 use Rattle.history.specs.World.{World}
@@ -32,14 +32,14 @@ use Rattle.history.specs.NamingCrew.{crew-told}
 
 -- ---- leases in a list
 
-in-at : (ls : List Lease) (i : ℕ) → i < length ls → isIn (leaseAt ls i) ls ≡ true
-in-at ls i h = rw (take-length ls) at (in-take ls (length ls) i noLease h h)
+in-at : (ls : List Hold) (i : ℕ) → i < length ls → isIn (holdAt ls i) ls ≡ true
+in-at ls i h = rw (take-length ls) at (in-take ls (length ls) i noHold h h)
 
 -- ---- the calls
 
 -- the leases that a call was given to give up
 abbrev Mine : Call → Leases
-Mine k c s = isIn (leaseOf c s) (given-up k) ≡ true
+Mine k c s = isIn (holdOf c s) (given-up k) ≡ true
 
 acquire-told : (n : ℕ) (h : Head) (t : List ℕ) (c : ℕ) (A : Leases) → Told [] 0 A (acquireOf n h t c .log) any
 unfolding acquireOf
@@ -47,15 +47,15 @@ acquire-told n h t c A = more tt (handed (take-told [] 0 (and-took A attempt-beg
 
 steps-told : (w : World) (k : Call) → Clear (rules w k) → Told (script-of k) (place-of k) (Mine k) (steps w k .log) any
 steps-told w (try-acquire c) _ = acquire-told 1 (w .head) (w .table) c _
-steps-told w (drop-lease l) _ = more (in-at (l ∷ []) 0 (omega arith)) (none tt)
+steps-told w (drop-lease l) _ = more (in-at (holdIn l ∷ []) 0 (omega arith)) (none tt)
 steps-told w (read-permission l) _ = none tt
 steps-told w (competing-acquire l) _ = acquire-told 1 (w .head) (w .table) (l .cell) _
-steps-told w (release-then-handoff l) _ = more (in-at (l ∷ []) 0 (omega arith)) (acquire-told 1 (w .head) (setCell (w .table) (l .cell) 0 0) (l .cell) _)
+steps-told w (release-then-handoff l) _ = more (in-at (holdIn l ∷ []) 0 (omega arith)) (acquire-told 1 (w .head) (setCell (w .table) (l .cell) 0 0) (l .cell) _)
 steps-told w (foreign-release held l) _ =
     let m = acquireOf 1 (w .head) (w .table) (l .cell) .seen in
     andthen (acquire-told 1 (w .head) (w .table) (l .cell) _)
-    (λ B i _. more (i _ _ (in-at (l ∷ []) 0 (omega arith))) (acquire-told 2 (m .0 .head) (setCell (m .1) (l .cell) 0 0) (l .cell) _))
-steps-told w (drop-preserving held l) _ = more (in-at (l ∷ []) 0 (omega arith)) (none tt)
+    (λ B i _. more (i _ _ (in-at (holdIn l ∷ []) 0 (omega arith))) (acquire-told 2 (m .0 .head) (setCell (m .1) (l .cell) 0 0) (l .cell) _))
+steps-told w (drop-preserving held l) _ = more (in-at (holdIn l ∷ []) 0 (omega arith)) (none tt)
 steps-told w (acquire-preserving held c) _ = acquire-told 1 (w .head) (w .table) c _
 steps-told w (environment script place held) _ =
     told (boundary-told (acting w (environment script place held)) place (flowOf (w .head .next) place 0) (w .table) (w .health) _ (omega arith))
@@ -68,17 +68,17 @@ steps-told w (acquire-bucket registry script place held binding bucket) _ =
     let k = acquire-bucket registry script place held binding bucket in
     told (retry-told (acting w k) place (w .head .buckets) registry binding bucket attemptLimit 0 noneYet (starting (w .head) place) (w .table) (w .health) (Mine k) (omega arith))
 steps-told w (release-all script place leases) _ =
-    back-told (countIn leases) (acting w (release-all script place leases)) place (leasesOf leases) (starting (w .head) place) (w .table) (w .health) _ (omega arith)
-    (λ i h. in-at (leasesOf leases) i (omega (arith, words-leases leases)))
+    back-told (leaseCount leases) (acting w (release-all script place leases)) place (holdsOf leases) (starting (w .head) place) (w .table) (w .health) _ (omega arith)
+    (λ i h. in-at (holdsOf leases) i (omega (arith, words-leases leases)))
 steps-told w (acquire-locks registry script place held keys grants) _ =
     let k = acquire-locks registry script place held keys grants in
-    locks-told (acting w k) place (w .head .buckets) registry keys grants (countIn keys) 0 [] (starting (w .head) place) (w .table) (w .health) (Mine k) (omega arith)
+    locks-told (acting w k) place (w .head .buckets) (w .head .boot) registry keys grants (countIn keys) 0 [] (starting (w .head) place) (w .table) (w .health) (Mine k) (omega arith)
     (λ i h. absurd (omega arith))
 steps-told w (acquire-sorted registry script place held keys grants) _ =
     let k = acquire-sorted registry script place held keys grants in
     judged-at (λ (m : Made (World × Says)). Told script place (Mine k) (m .log) any) (firstKey (countIn keys) 0 (w .head) registry keys) (λ r p _. none tt)
     (λ _.
-    locks-told (acting w k) place (w .head .buckets) registry (sortedKeys (w .head .buckets) registry keys) grants (length (cellsSorted (w .head .buckets) registry keys)) 0 [] (starting (w .head) place) (w .table) (w .health) (Mine k) (omega arith)
+    locks-told (acting w k) place (w .head .buckets) (w .head .boot) registry (sortedKeys (w .head .buckets) registry keys) grants (length (cellsSorted (w .head .buckets) registry keys)) 0 [] (starting (w .head) place) (w .table) (w .health) (Mine k) (omega arith)
     (λ i h. absurd (omega arith)))
 steps-told w (crew counts cells turns) fine = crew-told rests w counts cells turns [] (Mine (crew counts cells turns)) (crew-plan _ _ _ counts cells turns fine)
 steps-told w (crew-at-work counts cells turns counters) fine =
@@ -126,7 +126,7 @@ module _ (kind place number : ℕ) where
       if-both Step (eqb kind 0) empty (
       if-both Step (eqb kind 1) (if-both Lone (ltb place (e .cells) && isFree (bitAt t place) (ownerAt t place) && serialRemains n) (lone _ tt) (lone _ tt)) (
       if-cases Step (eqb kind 2)
-      (λ two. if-both Lone (isLive n (e .cells) t (leaseOf place number) && not (isIn (leaseOf place number) (e .protected))) (lone _ (refl, eqb-true kind 2 two, refl, refl)) (lone _ tt)) (λ _.
+      (λ two. if-both Lone (isLive n (e .cells) t (holdOf place number) && not (isIn (holdOf place number) (e .protected))) (lone _ (refl, eqb-true kind 2 two, refl, refl)) (lone _ tt)) (λ _.
       if-both Step (eqb kind 3) (if-both Lone (ltb place (e .cells)) (lone _ tt) (lone _ tt)) (
       if-both Step (eqb kind 4) (if-both Lone (ltb place (e .headers) && leb number 1) (lone _ tt) (lone _ tt)) (
       if-both Step (eqb kind 5) empty (lone _ tt))))))

@@ -9,13 +9,13 @@ use lib.Dec.{ltb, leb, eqb}
 use lib.ListN.{length, take}
 use borrow.Author.Tests.{eqb-true}
 use Rattle.model.specs.Log.{Made, Event, by-caller, by-script, attempt-begun, boundary-run, yielded, spun, step-dropped, took, released, waiters-set, health-set, held-all, added}
-use Rattle.model.specs.Arena.{serialRemains, headerOf, isPoisoned, bitAt, ownerAt, waitersAt, setCell, stateAt, isFree, isLive, isIn, leaseOf}
+use Rattle.model.specs.Arena.{serialRemains, headerOf, isPoisoned, bitAt, ownerAt, waitersAt, setCell, stateAt, isFree, isLive, isIn, holdOf}
 use Rattle.model.specs.Foreign.{Setting, protecting, stepsIn, kindAt, placeAt, numberAt, flowOf, stepTakeOf, stepReleaseOf, stepWaitersOf, stepHealthOf, stepOf, runStepsOf, boundaryOf}
-use Rattle.model.specs.Lock.{takeIn, takeOf, afterTake, lateOf, secondOf, lockOf, outcomeOf, runOf, findOf, attemptAt, attemptOf, spinOf, pauseOf, isBusy, retryOf, leaseAt, giveBackOf, rollbackOf, afterKey, bindingAt, bucketAt, attemptLimit, noneYet, Locks, locksOf}
+use Rattle.model.specs.Lock.{takeIn, takeOf, afterTake, lateOf, secondOf, lockOf, outcomeOf, runOf, findOf, attemptAt, attemptOf, spinOf, pauseOf, isBusy, retryOf, holdAt, giveBackOf, rollbackOf, afterKey, bindingAt, bucketAt, attemptLimit, noneYet, Locks, locksOf}
 use Rattle.types.specs.declared.Flow.{Flow}
 use Rattle.types.specs.declared.Found.{Found}
 use Rattle.types.specs.declared.Found.the-variants as found
-use Rattle.types.specs.declared.Lease.{Lease}
+use Rattle.types.specs.declared.Hold.{Hold}
 use Rattle.types.specs.declared.Locked.{Locked}
 use Rattle.types.specs.declared.Outcome.{Outcome}
 use Rattle.types.specs.declared.Outcome.the-variants as outcome
@@ -134,7 +134,7 @@ step-told e low n t g p A b l =
     if-both Step (eqb kind 0) (none tt) (
     if-both Step (eqb kind 1) (if-both Lone (ltb c (e .cells) && isFree (bitAt t c) (ownerAt t c) && serialRemains n) (more tt (none tt)) (more tt (none tt))) (
     if-cases Step (eqb kind 2)
-    (λ two. if-both Lone (isLive n (e .cells) t (leaseOf c s) && not (isIn (leaseOf c s) (e .protected))) (more (p, b, l, eqb-true kind 2 two, refl, refl) (none tt)) (more tt (none tt))) (λ _.
+    (λ two. if-both Lone (isLive n (e .cells) t (holdOf c s) && not (isIn (holdOf c s) (e .protected))) (more (p, b, l, eqb-true kind 2 two, refl, refl) (none tt)) (more tt (none tt))) (λ _.
     if-both Step (eqb kind 3) (if-both Lone (ltb c (e .cells)) (more tt (none tt)) (more tt (none tt))) (
     if-both Step (eqb kind 4) (if-both Lone (ltb c (e .headers) && leb s 1) (more tt (none tt)) (more tt (none tt))) (
     if-both Step (eqb kind 5) (none tt) (more tt (none tt)))))))
@@ -187,8 +187,8 @@ module _ (e : Setting) (buckets low : ℕ) where
   late-told : (f : Flow) (t g : List ℕ) (c s : ℕ) (A : Leases) → low ≤ f .place → A c s → Locking (e .script) low A (lateOf e buckets f t g c s)
   unfolding lateOf
   late-told f t g c s A b h =
-      let m = boundaryOf (protecting e (leaseOf c s ∷ [])) f t g .seen in
-      andthen (boundary-told (protecting e (leaseOf c s ∷ [])) low f t g A b)
+      let m = boundaryOf (protecting e (holdOf c s ∷ [])) f t g .seen in
+      andthen (boundary-told (protecting e (holdOf c s ∷ [])) low f t g A b)
       (λ B i k. if-both (Locking (e .script) low B) (isPoisoned (m .1 .1) (headerOf buckets c)) (more (i c s h) (none (tt, k)))
       (if-both (Locking (e .script) low B) (eqb (waitersAt (m .1 .0) c) 0) (none (i c s h, k)) (more (i c s h) (none (tt, k)))))
 
@@ -260,40 +260,40 @@ module _ (e : Setting) (low : ℕ) where
 -- ---- giving back, and multi-lock
 
 -- the first n leases of a list may be released
-abbrev pub First : ℕ → List Lease → Post
-First n ls A = (i : ℕ) → i < n → A (leaseAt ls i .cell) (leaseAt ls i .serial)
+abbrev pub First : ℕ → List Hold → Post
+First n ls A = (i : ℕ) → i < n → A (holdAt ls i .cell) (holdAt ls i .serial)
 
-one-more : (A : Leases) (ls : List Lease) (l : Lease) → First (length ls) ls A → A (l .cell) (l .serial) → First (length (ls ++ (l ∷ []))) (ls ++ (l ∷ [])) A
+one-more : (A : Leases) (ls : List Hold) (l : Hold) → First (length ls) ls A → A (l .cell) (l .serial) → First (length (ls ++ (l ∷ []))) (ls ++ (l ∷ [])) A
 one-more A [] l h a zero k = a
 one-more A [] l h a (suc i) k = absurd (omega arith)
 one-more A (x ∷ xs) l h a zero k = h zero (omega arith)
 one-more A (x ∷ xs) l h a (suc i) k = one-more A xs l (λ j q. h (suc j) (omega arith)) a i (omega arith)
 
-pub back-told : (n : ℕ) (e : Setting) (low : ℕ) (ls : List Lease) (r : Run) (t g : List ℕ) (A : Leases) → low ≤ r .flow .place → First n ls A
+pub back-told : (n : ℕ) (e : Setting) (low : ℕ) (ls : List Hold) (r : Run) (t g : List ℕ) (A : Leases) → low ≤ r .flow .place → First n ls A
     → Told (e .script) low A (giveBackOf n e ls r t g .log) any
 unfolding giveBackOf
 back-told zero e low ls r t g A b h = none tt
 back-told (suc n) e low ls r t g A b h =
-    let u = setCell t (leaseAt ls n .cell) 0 0 in
+    let u = setCell t (holdAt ls n .cell) 0 0 in
     let m = boundaryOf (protecting e (take n ls)) (r .flow) u g .seen in
     let k = runOf (m .0) (r .attempts) (r .boundaries + 1) (r .yields) in
     more (h n (omega arith))
     (andthen (boundary-told (protecting e (take n ls)) low (r .flow) u g _ b) (λ B i d. back-told n e low ls k (m .1 .0) (m .1 .1) B d (λ j q. i _ _ (inl (h j (omega arith))))))
 
-module _ (e : Setting) (low buckets : ℕ) (registry keys grants : List ℕ) where
-  pub locks-told : (left p : ℕ) (taken : List Lease) (r : Run) (t g : List ℕ) (A : Leases) → low ≤ r .flow .place → First (length taken) taken A
-      → Told (e .script) low A (locksOf left p e buckets registry keys taken r t g grants .log) any
+module _ (e : Setting) (low buckets boot : ℕ) (registry keys grants : List ℕ) where
+  pub locks-told : (left p : ℕ) (taken : List Hold) (r : Run) (t g : List ℕ) (A : Leases) → low ≤ r .flow .place → First (length taken) taken A
+      → Told (e .script) low A (locksOf left p e buckets boot registry keys taken r t g grants .log) any
   unfolding locksOf rollbackOf
   locks-told zero p taken r t g A b h = none tt
   locks-told (suc left) p taken r t g A b h =
       let m = retryOf attemptLimit 0 noneYet (protecting e taken) buckets registry (bindingAt keys p) (bucketAt keys p) r t g .seen in
       andthen (retry-told (protecting e taken) low buckets registry (bindingAt keys p) (bucketAt keys p) attemptLimit 0 noneYet r t g A b)
       (λ B i k. go (m .0 .run) (m .1 .0) (m .1 .1) B (λ j q. i _ _ (h j q)) (m .0 .outcome)
-      (λ l. locksOf left (p + 1) e buckets registry keys (taken ++ (l ∷ [])) (m .0 .run) (m .1 .0) (m .1 .1) grants)
+      (λ l. locksOf left (p + 1) e buckets boot registry keys (taken ++ (l ∷ [])) (m .0 .run) (m .1 .0) (m .1 .1) grants)
       (λ l x. locks-told left (p + 1) (taken ++ (l ∷ [])) (m .0 .run) (m .1 .0) (m .1 .1) B (k .1) x) (k .0) (k .1))
     where
-      go : (k : Run) (u w : List ℕ) (B : Leases) → First (length taken) taken B → (x : Outcome) (more : Lease → Made Locks)
-          → ((l : Lease) → First (length (taken ++ (l ∷ []))) (taken ++ (l ∷ [])) B → Told (e .script) low B (more l .log) any)
+      go : (k : Run) (u w : List ℕ) (B : Leases) → First (length taken) taken B → (x : Outcome) (more : Hold → Made Locks)
+          → ((l : Hold) → First (length (taken ++ (l ∷ []))) (taken ++ (l ∷ [])) B → Told (e .script) low B (more l .log) any)
           → Given x B → low ≤ k .flow .place → Told (e .script) low B (afterKey x e taken p k u w grants more .log) any
       go k u w B h (outcome.Granted l) next f a d = f l (one-more B taken l h a)
       go k u w B h (outcome.Busy why) next f a d = handed (back-told (length taken) e low taken k u w B d h)

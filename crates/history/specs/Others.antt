@@ -8,13 +8,15 @@ use lib.Dec.{ltb}
 use lib.ListN.{length}
 use borrow.Author.Tests.{ltb-true, leb-false, lt-ltb, lt-leb, le-leb, eq-eqb, not-false}
 use Rattle.model.specs.Log.{Made, Event, by-caller, by-script, attempt-begun, boundary-run, yielded, spun, step-dropped, took, released, waiters-set, health-set, held-all, added}
-use Rattle.model.specs.Arena.{lastSerial, serialRemains, spentTo, leaseOf, bitAt, ownerAt, isFree, isLive, isIn, stateAt}
+use Rattle.model.specs.Arena.{leaseOf, holdIn, lastSerial, serialRemains, spentTo, holdOf, bitAt, ownerAt, isFree, isLive, isIn, stateAt}
 use Rattle.model.specs.Refusals.{first}
 use Rattle.model.specs.Foreign.{stepTakeOf, stepReleaseOf, stepWaitersOf, stepHealthOf, stepOf}
 use Rattle.model.specs.Lock.{takeIn, takeOf}
 use Rattle.model.specs.Checks.{cellRules, leaseRules}
 use Rattle.model.specs.Calls.{countsOf, acquireOf, tryAcquireOf, dropLeaseOf}
 use Rattle.types.specs.declared.Answer.the-variants.{Done, Granted}
+use Rattle.types.specs.declared.Head.{Head}
+use Rattle.types.specs.declared.Hold.{Hold}
 use Rattle.types.specs.declared.Lease.{Lease}
 use Rattle.types.specs.declared.State.{State}
 use Rattle.types.specs.declared.State.the-variants as state
@@ -26,7 +28,7 @@ use Rattle.history.specs.Items.{Says, says, try-acquire, drop-lease, per
 use Rattle.history.specs.Statements.{answers, leaves, log-of}
 use Rattle.history.specs.Callers.{Shape-fits, Takes-alike, Take-is-call, Releases-alike, Release-is-call, single, singles, replay, replays, By-single-calls, Histories-single, Played-singly}
 use Rattle.history.specs.Tests.{differ, free-words, is-free-state, if-cases}
-use Rattle.history.specs.Events.{Fit, fit, fit-step, fits, good}
+use Rattle.history.specs.Events.{Fit, fit, fit-step, fits, good, same-arena}
 use Rattle.history.specs.Logs.{lawful-split}
 use Rattle.history.specs.Judged.{performed}
 use Rattle.history.specs.Calls.{at-point}
@@ -37,15 +39,15 @@ use Rattle.history.specs.Writers.{through}
 
 pub taken-alone : (w : World) (c : ℕ) → Shape-fits w → Free w c → w .head .next < lastSerial
     → perform w (try-acquire c)
-    ≡ record { seen = (step w (took by-caller c (w .head .next)), says (Granted (leaseOf c (w .head .next))) (countsOf 1 0 0 0) 0 []); log = attempt-begun ∷ took by-caller c (w .head .next) ∷ [] }
+    ≡ record { seen = (step w (took by-caller c (w .head .next)), says (Granted (leaseOf c (w .head .next) (w .head .boot))) (countsOf 1 0 0 0) 0 []); log = attempt-begun ∷ took by-caller c (w .head .next) ∷ [] }
 unfolding perform tryAcquireOf cellRules first acquireOf takeOf
 taken-alone w c s f l = rw (s, lt-leb (cells w) c (f .0), f .1, lt-ltb (w .head .next) lastSerial l)
 
-pub released-alone : (w : World) (c s : ℕ) → Shape-fits w → Live w (leaseOf c s)
-    → perform w (drop-lease (leaseOf c s))
+pub released-alone : (w : World) (c s : ℕ) → Shape-fits w → Live w (holdOf c s)
+    → perform w (drop-lease (leaseOf c s (w .head .boot)))
     ≡ record { seen = (step w (released by-caller c s), says Done (countsOf 0 0 0 0) 0 []); log = released by-caller c s ∷ [] }
 unfolding perform dropLeaseOf leaseRules first
-released-alone w c s f l = rw (f, l)
+released-alone w c s f l = rw (f, eq-eqb (w .head .boot) (w .head .boot) refl, l)
 
 -- a cell that cannot be taken: all stays
 not-taken : (w : World) (c : ℕ) → (Free w c → w .head .next < lastSerial → ⊥) → leaves w (try-acquire c) ≡ w
@@ -60,9 +62,9 @@ not-taken w c n = performed (λ m. m .seen .0 ≡ w) w (try-acquire c) (λ r. re
     go (state.Held o) e i = refl
     go state.Free e i = if-cases Of (serialRemains (w .head .next)) (λ r. absurd (n (i, e) (ltb-true (w .head .next) lastSerial r))) (λ r. refl)
 
-not-released : (w : World) (l : Lease) → isLive (w .head .next) (cells w) (w .table) l ≡ false → leaves w (drop-lease l) ≡ w
+not-released : (w : World) (l : Lease) → isLive (w .head .next) (cells w) (w .table) (holdIn l) ≡ false → leaves w (drop-lease l) ≡ w
 unfolding leaseRules
-not-released w l n = performed (λ m. m .seen .0 ≡ w) w (drop-lease l) (λ r. refl) (λ k. absurd (differ (sym n ∙ not-false _ (k .1 .0))))
+not-released w l n = performed (λ m. m .seen .0 ≡ w) w (drop-lease l) (λ r. refl) (λ k. absurd (differ (sym n ∙ not-false _ (k .1 .1 .0))))
 
 -- ---- a lone foreign step
 
@@ -104,39 +106,39 @@ pub take-is-call : Take-is-call foreign
 take-is-call w c number s fit = go (foreign-take w c number)
   where
     go : {m : Made World} → Foreign-take w c m → m .log ≡ took by-script c s ∷ []
-        → (answers w (try-acquire c) ≡ Granted (leaseOf c s)) × (log-of w (try-acquire c) ≡ attempt-begun ∷ took by-caller c s ∷ [])
+        → (answers w (try-acquire c) ≡ Granted (leaseOf c s (w .head .boot))) × (log-of w (try-acquire c) ≡ attempt-begun ∷ took by-caller c s ∷ [])
     go (performed-take f l) e =
         let n : w .head .next ≡ s = cc in
         let p = taken-alone w c fit f l in
-        subst (λ (x : ℕ). (answers w (try-acquire c) ≡ Granted (leaseOf c x)) × (log-of w (try-acquire c) ≡ attempt-begun ∷ took by-caller c x ∷ [])) n
+        subst (λ (x : ℕ). (answers w (try-acquire c) ≡ Granted (leaseOf c x (w .head .boot))) × (log-of w (try-acquire c) ≡ attempt-begun ∷ took by-caller c x ∷ [])) n
         (ap (λ (m : Made (World × Says)). m .seen .1 .answer) p, ap (λ (m : Made (World × Says)). m .log) p)
     go (dropped-take n) e = let z : _≡_ {A = ℕ} 0 1 = cc in absurd (omega arith)
 
 -- what a foreign release comes to: nobody's lease is protected between calls
 data Foreign-release (w : World) (c s : ℕ) : Made World → Type 0 where
-  performed-release : Live w (leaseOf c s) → Foreign-release w c s (record { seen = step w (released by-script c s); log = released by-script c s ∷ [] })
-  dropped-release : isLive (w .head .next) (cells w) (w .table) (leaseOf c s) ≡ false → Foreign-release w c s (record { seen = w; log = step-dropped ∷ [] })
+  performed-release : Live w (holdOf c s) → Foreign-release w c s (record { seen = step w (released by-script c s); log = released by-script c s ∷ [] })
+  dropped-release : isLive (w .head .next) (cells w) (w .table) (holdOf c s) ≡ false → Foreign-release w c s (record { seen = w; log = step-dropped ∷ [] })
 
 foreign-release : (w : World) (c s : ℕ) → Foreign-release w c s (foreign w 2 c s)
 unfolding foreign stepOf stepReleaseOf isIn
-foreign-release w c s = go (isLive (w .head .next) (cells w) (w .table) (leaseOf c s)) refl
+foreign-release w c s = go (isLive (w .head .next) (cells w) (w .table) (holdOf c s)) refl
   where
-    go : (b : Bool) → isLive (w .head .next) (cells w) (w .table) (leaseOf c s) ≡ b → Foreign-release w c s (foreign w 2 c s)
+    go : (b : Bool) → isLive (w .head .next) (cells w) (w .table) (holdOf c s) ≡ b → Foreign-release w c s (foreign w 2 c s)
     go true e = rw e (performed-release e)
     go false e = rw e (dropped-release e)
 
 pub releases-alike : Releases-alike foreign
 releases-alike w c s fit = go (foreign-release w c s)
   where
-    go : {m : Made World} → Foreign-release w c s m → m .seen ≡ leaves w (drop-lease (leaseOf c s))
+    go : {m : Made World} → Foreign-release w c s m → m .seen ≡ leaves w (drop-lease (leaseOf c s (w .head .boot)))
     go (performed-release v) = sym (ap (λ (m : Made (World × Says)). m .seen .0) (released-alone w c s fit v))
-    go (dropped-release n) = sym (not-released w (leaseOf c s) n)
+    go (dropped-release n) = sym (not-released w (leaseOf c s (w .head .boot)) n)
 
 pub release-is-call : Release-is-call foreign
 release-is-call w c s fit = go (foreign-release w c s)
   where
     go : {m : Made World} → Foreign-release w c s m → m .log ≡ released by-script c s ∷ []
-        → (answers w (drop-lease (leaseOf c s)) ≡ Done) × (log-of w (drop-lease (leaseOf c s)) ≡ released by-caller c s ∷ [])
+        → (answers w (drop-lease (leaseOf c s (w .head .boot))) ≡ Done) × (log-of w (drop-lease (leaseOf c s (w .head .boot))) ≡ released by-caller c s ∷ [])
     go (performed-release v) e =
         let p = released-alone w c s fit v in
         (ap (λ (m : Made (World × Says)). m .seen .1 .answer) p, ap (λ (m : Made (World × Says)). m .log) p)
@@ -181,7 +183,7 @@ stepped k kind place number {v} {es} p =
       left = ap (λ (m : Made World). m .seen) p;
     }
 
-replayed : (k : Course) (e : Event) → Fit (k .world) → Legal (k .world) e → Plays k (single e) (replay e) (step (k .world) e)
+replayed : (k : Course) (e : Event) → Fit (k .world) → Legal (k .world) e → Plays k (single (k .world .head .boot) e) (replay e) (step (k .world) e)
 unfolding run next-item
 replayed k attempt-begun g l = no-item k
 replayed k boundary-run g l = no-item k
@@ -193,7 +195,7 @@ replayed k (took a c s) g l =
     rw (l .1 .0) (called k (try-acquire c) (taken-alone w c (fits (w .head) (length (w .table)) (g .shape)) (l .0) (subst (λ (x : ℕ). x < lastSerial) (l .1 .0) (l .1 .1))))
 replayed k (released a c s) g l =
     let w = k .world in
-    called k (drop-lease (leaseOf c s)) (released-alone w c s (fits (w .head) (length (w .table)) (g .shape)) l)
+    called k (drop-lease (leaseOf c s (w .head .boot))) (released-alone w c s (fits (w .head) (length (w .table)) (g .shape)) l)
 replayed k (waiters-set c n) g l = stepped k 3 c n (waiters-alone (k .world) c n l)
 replayed k (health-set i n) g l = stepped k 4 i n (health-alone (k .world) i n l)
 replayed k (held-all m) g l = no-item k
@@ -204,16 +206,20 @@ unfolding run
 run-append k [] ys = refl
 run-append k (x ∷ xs) ys = run-append (next-item k x) xs ys
 
-log-replayed : (k : Course) (es : List Event) → Fit (k .world) → Lawful (k .world) es → Plays k (singles es) (replays es) (now (k .world) es)
+log-replayed : (k : Course) (es : List Event) → Fit (k .world) → Lawful (k .world) es → Plays k (singles (k .world .head .boot) es) (replays es) (now (k .world) es)
 log-replayed k [] g l = no-item k
 log-replayed k (e ∷ es) g l =
+    let boot = k .world .head .boot in
     let one = replayed k e g (l .0) in
-    let j = run k (single e) in
+    let j = run k (single boot e) in
     let all = log-replayed j es (subst Fit (sym (one .left)) (fit-step (k .world) e g (l .0))) (subst (λ (v : World). Lawful v es) (sym (one .left)) (l .1)) in
-    let parts = run-append k (single e) (singles es) in
+    -- the boot number is the one before
+    let same : j .world .head .boot ≡ boot = ap (λ (v : World). v .head .boot) (one .left) ∙ ap (λ (h : Head). h .boot) (same-arena (k .world) e) in
+    let parts = run-append k (single boot e) (singles boot es) in
+    let on = ap (λ (b : ℕ). run j (singles b es)) same in
     record {
-      did = ap history-of parts ∙ all .did ∙ ap (λ (l : List Event). l ++ replays es) (one .did) ∙ append-assoc (history-of k) (replay e) (replays es);
-      left = ap (λ (c : Course). c .world) parts ∙ all .left ∙ ap (λ (v : World). now v es) (one .left);
+      did = ap history-of (parts ∙ sym on) ∙ all .did ∙ ap (λ (l : List Event). l ++ replays es) (one .did) ∙ append-assoc (history-of k) (replay e) (replays es);
+      left = ap (λ (c : Course). c .world) (parts ∙ sym on) ∙ all .left ∙ ap (λ (v : World). now v es) (one .left);
     }
 
 played-singly : (w : World) (es : List Event) → Fit w → Lawful w es → Played-singly w es

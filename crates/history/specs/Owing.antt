@@ -9,13 +9,13 @@ use lib.Dec.{ltb, leb, eqb}
 use lib.ListN.{length, take}
 use lib.Seq.{take-suc, take-length}
 use Rattle.model.specs.Log.{Made, Event, by-caller, by-script, attempt-begun, boundary-run, yielded, spun, step-dropped, took, released, waiters-set, health-set, held-all, added}
-use Rattle.model.specs.Arena.{serialRemains, headerOf, isPoisoned, leaseOf, bitAt, ownerAt, waitersAt, setCell, isFree, isLive, isIn, stateAt}
+use Rattle.model.specs.Arena.{serialRemains, headerOf, isPoisoned, holdOf, bitAt, ownerAt, waitersAt, setCell, isFree, isLive, isIn, stateAt}
 use Rattle.model.specs.Foreign.{Setting, protecting, stepsIn, kindAt, placeAt, numberAt, stepTakeOf, stepReleaseOf, stepWaitersOf, stepHealthOf, stepOf, runStepsOf, boundaryOf, flowOf}
-use Rattle.model.specs.Lock.{takeIn, takeOf, lateOf, afterTake, secondOf, lockOf, outcomeOf, findOf, attemptAt, attemptOf, spinOf, pauseOf, isBusy, retryOf, runOf, attemptLimit, noneYet, noLease, leaseAt, giveBackOf, Locks, rollbackOf, afterKey, bindingAt, bucketAt, locksOf}
+use Rattle.model.specs.Lock.{takeIn, takeOf, lateOf, afterTake, secondOf, lockOf, outcomeOf, findOf, attemptAt, attemptOf, spinOf, pauseOf, isBusy, retryOf, runOf, attemptLimit, noneYet, noHold, holdAt, giveBackOf, Locks, rollbackOf, afterKey, bindingAt, bucketAt, locksOf}
 use Rattle.types.specs.declared.Flow.{Flow}
 use Rattle.types.specs.declared.Found.{Found}
 use Rattle.types.specs.declared.Found.the-variants as found
-use Rattle.types.specs.declared.Lease.{Lease}
+use Rattle.types.specs.declared.Hold.{Hold}
 use Rattle.types.specs.declared.Locked.{Locked}
 use Rattle.types.specs.declared.Outcome.{Outcome}
 use Rattle.types.specs.declared.Outcome.the-variants as outcome
@@ -37,18 +37,18 @@ use Rattle.history.specs.Steps.{With}
 -- ---- logs
 
 -- the caller releases this cell with this serial
-pub data Frees (l : Lease) : List Event → Type 0 where
+pub data Frees (l : Hold) : List Event → Type 0 where
   freed-here : (es : List Event) → Frees l (released by-caller (l .cell) (l .serial) ∷ es)
   freed-later : (e : Event) {es : List Event} → Frees l es → Frees l (e ∷ es)
 
 -- what an event leaves to do, where L are the leases handed over at the end
-abbrev pub Owed : (Lease → Type 0) → Event → List Event → Type 0
+abbrev pub Owed : (Hold → Type 0) → Event → List Event → Type 0
 Owed L attempt-begun es = Unit {0}
 Owed L boundary-run es = Unit {0}
 Owed L yielded es = Unit {0}
 Owed L spun es = Unit {0}
 Owed L step-dropped es = Unit {0}
-Owed L (took by-caller c s) es = L (leaseOf c s) ⊎ Frees (leaseOf c s) es
+Owed L (took by-caller c s) es = L (holdOf c s) ⊎ Frees (holdOf c s) es
 Owed L (took by-script c s) es = Unit {0}
 Owed L (released a c s) es = Unit {0}
 Owed L (waiters-set c n) es = Unit {0}
@@ -56,30 +56,30 @@ Owed L (health-set i n) es = Unit {0}
 Owed L (held-all m) es = Unit {0}
 Owed L (added m c v) es = Unit {0}
 
-pub data Settles (L : Lease → Type 0) : List Event → Type 0 where
+pub data Settles (L : Hold → Type 0) : List Event → Type 0 where
   none : Settles L []
   more : (e : Event) {es : List Event} → Owed L e es → Settles L es → Settles L (e ∷ es)
 
-pub frees-left : {l : Lease} {xs : List Event} (ys : List Event) → Frees l xs → Frees l (xs ++ ys)
+pub frees-left : {l : Hold} {xs : List Event} (ys : List Event) → Frees l xs → Frees l (xs ++ ys)
 frees-left ys (freed-here es) = freed-here (es ++ ys)
 frees-left ys (freed-later e f) = freed-later e (frees-left ys f)
 
-pub frees-right : {l : Lease} (xs : List Event) {ys : List Event} → Frees l ys → Frees l (xs ++ ys)
+pub frees-right : {l : Hold} (xs : List Event) {ys : List Event} → Frees l ys → Frees l (xs ++ ys)
 frees-right [] f = f
 frees-right (x ∷ xs) f = freed-later x (frees-right xs f)
 
 -- where it is released
-pub freed-at : {l : Lease} {es : List Event} → Frees l es → (m n : List Event) × (es ≡ m ++ (released by-caller (l .cell) (l .serial) ∷ n))
+pub freed-at : {l : Hold} {es : List Event} → Frees l es → (m n : List Event) × (es ≡ m ++ (released by-caller (l .cell) (l .serial) ∷ n))
 freed-at (freed-here es) = ([], es, refl)
 freed-at (freed-later e f) = let r = freed-at f in (e ∷ r .0, r .1, ap {B = List Event} (λ es. e ∷ es) (r .2))
 
-joined-owed : {L M : Lease → Type 0} (e : Event) (xs ys : List Event) → ((l : Lease) → L l → M l ⊎ Frees l ys) → Owed L e xs → Owed M e (xs ++ ys)
+joined-owed : {L M : Hold → Type 0} (e : Event) (xs ys : List Event) → ((l : Hold) → L l → M l ⊎ Frees l ys) → Owed L e xs → Owed M e (xs ++ ys)
 joined-owed attempt-begun xs ys f o = tt
 joined-owed boundary-run xs ys f o = tt
 joined-owed yielded xs ys f o = tt
 joined-owed spun xs ys f o = tt
 joined-owed step-dropped xs ys f o = tt
-joined-owed (took by-caller c s) xs ys f (inl x) = elim (f (leaseOf c s) x) [ inl y ↦ inl y | inr y ↦ inr (frees-right xs y) ]
+joined-owed (took by-caller c s) xs ys f (inl x) = elim (f (holdOf c s) x) [ inl y ↦ inl y | inr y ↦ inr (frees-right xs y) ]
 joined-owed (took by-caller c s) xs ys f (inr x) = inr (frees-left ys x)
 joined-owed (took by-script c s) xs ys f o = tt
 joined-owed (released a c s) xs ys f o = tt
@@ -88,42 +88,42 @@ joined-owed (health-set i n) xs ys f o = tt
 joined-owed (held-all m) xs ys f o = tt
 joined-owed (added m c v) xs ys f o = tt
 
-pub join : {L M : Lease → Type 0} {xs ys : List Event} → Settles L xs → Settles M ys → ((l : Lease) → L l → M l ⊎ Frees l ys) → Settles M (xs ++ ys)
+pub join : {L M : Hold → Type 0} {xs ys : List Event} → Settles L xs → Settles M ys → ((l : Hold) → L l → M l ⊎ Frees l ys) → Settles M (xs ++ ys)
 join none b f = b
 join {ys = ys} (more e {es = xs} o a) b f = more e (joined-owed e xs ys f o) (join a b f)
 
 -- at a take by the caller
-pub settled-at : {L : Lease → Type 0} (c s : ℕ) (before after : List Event) → Settles L (before ++ (took by-caller c s ∷ after))
-    → L (leaseOf c s) ⊎ Frees (leaseOf c s) after
+pub settled-at : {L : Hold → Type 0} (c s : ℕ) (before after : List Event) → Settles L (before ++ (took by-caller c s ∷ after))
+    → L (holdOf c s) ⊎ Frees (holdOf c s) after
 settled-at c s [] after (more e o a) = o
 settled-at c s (x ∷ before) after (more e o a) = settled-at c s before after a
 
-abbrev pub Nobody : Lease → Type 0
+abbrev pub Nobody : Hold → Type 0
 Nobody l = ⊥
 
 -- a definition of the model hands over L of what it gives; leases that are handed to it go on to L, or it releases them
-pub record Hands {A : Type 0} (L : A → Lease → Type 0) (before : Lease → Type 0) (m : Made A) : Type 0 where
+pub record Hands {A : Type 0} (L : A → Hold → Type 0) (before : Hold → Type 0) (m : Made A) : Type 0 where
   pub settles : Settles (L (m .seen)) (m .log)
-  pub passes : (l : Lease) → before l → L (m .seen) l ⊎ Frees l (m .log)
+  pub passes : (l : Hold) → before l → L (m .seen) l ⊎ Frees l (m .log)
 
 -- one after the other
-pub hand : {A : Type 0} {L : A → Lease → Type 0} {K before : Lease → Type 0} {xs : List Event} {m : Made A}
-    → Settles K xs → ((l : Lease) → before l → K l ⊎ Frees l xs) → Hands L K m → Hands L before (record { seen = m .seen; log = xs ++ m .log })
+pub hand : {A : Type 0} {L : A → Hold → Type 0} {K before : Hold → Type 0} {xs : List Event} {m : Made A}
+    → Settles K xs → ((l : Hold) → before l → K l ⊎ Frees l xs) → Hands L K m → Hands L before (record { seen = m .seen; log = xs ++ m .log })
 hand {L = L} {before = before} {xs = xs} {m = m} a f b =
     record { settles = join a (b .settles) (b .passes); passes = λ l x. elim (f l x) [ inl y ↦ on (b .passes l y) | inr y ↦ inr (frees-left (m .log) y) ] }
   where
-    on : {l : Lease} → L (m .seen) l ⊎ Frees l (m .log) → L (m .seen) l ⊎ Frees l (xs ++ m .log)
+    on : {l : Hold} → L (m .seen) l ⊎ Frees l (m .log) → L (m .seen) l ⊎ Frees l (xs ++ m .log)
     on (inl y) = inl y
     on (inr y) = inr (frees-right xs y)
 
-pub loosen : {L M : Lease → Type 0} {es : List Event} → ((l : Lease) → L l → M l) → Settles L es → Settles M es
+pub loosen : {L M : Hold → Type 0} {es : List Event} → ((l : Hold) → L l → M l) → Settles L es → Settles M es
 loosen {es = es} f a = subst (Settles _) (append-nil es) (join a none (λ l x. inl (f l x)))
 
 -- a part in which the caller takes nothing
-pub quiet : {K : Lease → Type 0} {es : List Event} → Settles Nobody es → Settles K es
+pub quiet : {K : Hold → Type 0} {es : List Event} → Settles Nobody es → Settles K es
 quiet a = loosen (λ l x. absurd x) a
 
-pub after-quiet : {A : Type 0} {L : A → Lease → Type 0} {before : Lease → Type 0} {xs : List Event} {m : Made A}
+pub after-quiet : {A : Type 0} {L : A → Hold → Type 0} {before : Hold → Type 0} {xs : List Event} {m : Made A}
     → Settles Nobody xs → Hands L before m → Hands L before (record { seen = m .seen; log = xs ++ m .log })
 after-quiet a b = hand (quiet a) (λ l x. inl x) b
 
@@ -141,7 +141,7 @@ module _ (e : Setting) where
   step-silent n t g kind place number =
       if-both P (eqb kind 0) none
       (if-both P (eqb kind 1) (silent-end (if-both P′ (ltb place (e .cells) && isFree (bitAt t place) (ownerAt t place) && serialRemains n) (more _ tt none) (more _ tt none)))
-      (if-both P (eqb kind 2) (silent-end (if-both P′ (isLive n (e .cells) t (leaseOf place number) && not (isIn (leaseOf place number) (e .protected))) (more _ tt none) (more _ tt none)))
+      (if-both P (eqb kind 2) (silent-end (if-both P′ (isLive n (e .cells) t (holdOf place number) && not (isIn (holdOf place number) (e .protected))) (more _ tt none) (more _ tt none)))
       (if-both P (eqb kind 3) (silent-end (if-both P′ (ltb place (e .cells)) (more _ tt none) (more _ tt none)))
       (if-both P (eqb kind 4) (silent-end (if-both P′ (ltb place (e .headers) && leb number 1) (more _ tt none) (more _ tt none)))
       (if-both P (eqb kind 5) none (more _ tt none))))))
@@ -169,10 +169,10 @@ module _ (e : Setting) where
 -- ---- a lock
 
 -- what an outcome hands over
-abbrev pub Given : Outcome → Lease → Type 0
+abbrev pub Given : Outcome → Hold → Type 0
 Given o l = o ≡ outcome.Granted l
 
-abbrev of-take : ℕ → Take → Lease → Type 0
+abbrev of-take : ℕ → Take → Hold → Type 0
 of-take c a = Given (outcomeOf c a)
 
 pub take-hands : (n : ℕ) (t : List ℕ) (c : ℕ) → Settles (of-take c (takeOf n t c .seen .0 .answer)) (takeOf n t c .log)
@@ -188,37 +188,37 @@ take-hands n t c = go (stateAt n t c)
     go state.Free = if-both P (serialRemains n) (more (took by-caller c n) (inl refl) none) none
 
 -- an outcome that is no grant
-pub no-grant : {why : Reason} {l : Lease} → outcome.Busy why ≡ outcome.Granted l → ⊥
+pub no-grant : {why : Reason} {l : Hold} → outcome.Busy why ≡ outcome.Granted l → ⊥
 no-grant e = let z : _≡_ {A = ℕ} 0 1 = cc in omega arith
 
-pub no-refused : {r : Refusal} {l : Lease} → outcome.Refused r ≡ outcome.Granted l → ⊥
+pub no-refused : {r : Refusal} {l : Hold} → outcome.Refused r ≡ outcome.Granted l → ⊥
 no-refused e = let z : _≡_ {A = ℕ} 0 1 = cc in omega arith
 
-abbrev of-locked : With Locked → Lease → Type 0
+abbrev of-locked : With Locked → Hold → Type 0
 of-locked a = Given (a .0 .answer)
 
-abbrev of-tried : With Tried → Lease → Type 0
+abbrev of-tried : With Tried → Hold → Type 0
 of-tried a = Given (a .0 .outcome)
 
-abbrev pub of-ended : Locks → Lease → Type 0
+abbrev pub of-ended : Locks → Hold → Type 0
 of-ended a = Hands-over (a .0 .answer) (a .1 .1 .1)
 
 module _ (e : Setting) (buckets : ℕ) where
-  late-hands : (f : Flow) (t g : List ℕ) (c s : ℕ) → Hands of-locked (λ l. leaseOf c s ≡ l) (lateOf e buckets f t g c s)
+  late-hands : (f : Flow) (t g : List ℕ) (c s : ℕ) → Hands of-locked (λ l. holdOf c s ≡ l) (lateOf e buckets f t g c s)
   unfolding lateOf
   late-hands f t g c s =
-      let m = boundaryOf (protecting e (leaseOf c s ∷ [])) f t g .seen in
-      after-quiet (boundary-silent (protecting e (leaseOf c s ∷ [])) f t g)
-      (if-both (Hands of-locked (λ l. leaseOf c s ≡ l)) (isPoisoned (m .1 .1) (headerOf buckets c))
+      let m = boundaryOf (protecting e (holdOf c s ∷ [])) f t g .seen in
+      after-quiet (boundary-silent (protecting e (holdOf c s ∷ [])) f t g)
+      (if-both (Hands of-locked (λ l. holdOf c s ≡ l)) (isPoisoned (m .1 .1) (headerOf buckets c))
       (record { settles = more (released by-caller c s) tt none; passes = λ l x. inr (subst (λ k. Frees k (released by-caller c s ∷ [])) x (freed-here [])) })
-      (if-both (Hands of-locked (λ l. leaseOf c s ≡ l)) (eqb (waitersAt (m .1 .0) c) 0)
+      (if-both (Hands of-locked (λ l. holdOf c s ≡ l)) (eqb (waitersAt (m .1 .0) c) 0)
       (record { settles = none; passes = λ l x. inl (ap {B = Outcome} (λ k. outcome.Granted k) x) })
       (record { settles = more (released by-caller c s) tt none; passes = λ l x. inr (subst (λ k. Frees k (released by-caller c s ∷ [])) x (freed-here [])) })))
 
   after-hands : (a : Take) (f : Flow) (t g : List ℕ) (c : ℕ) → Hands of-locked (of-take c a) (afterTake a e buckets f t g c)
   after-hands (taking.Granted s) f t g c =
       let k = late-hands f t g c s in
-      record { settles = k .settles; passes = λ l x. k .passes l (let y : leaseOf c s ≡ l = cc in y) }
+      record { settles = k .settles; passes = λ l x. k .passes l (let y : holdOf c s ≡ l = cc in y) }
   after-hands (taking.Busy owner) f t g c = record { settles = none; passes = λ l x. inl x }
   after-hands taking.Damaged f t g c = record { settles = none; passes = λ l x. inl x }
   after-hands taking.Spent f t g c = record { settles = none; passes = λ l x. inl x }
@@ -288,46 +288,46 @@ module _ (e : Setting) where
 
   -- ---- `release_all` and multi-lock
 
-  pub give-back-hands : (n : ℕ) (ls : List Lease) (r : Run) (t g : List ℕ) → n ≤ length ls
+  pub give-back-hands : (n : ℕ) (ls : List Hold) (r : Run) (t g : List ℕ) → n ≤ length ls
       → Hands (λ a. Nobody) (In (take n ls)) (giveBackOf n e ls r t g)
   unfolding giveBackOf isIn
   give-back-hands zero ls r t g k = record { settles = none; passes = λ l x. absurd (differ x) }
   give-back-hands (suc n) ls r t g k =
-      let l = leaseAt ls n in
+      let l = holdAt ls n in
       let u = setCell t (l .cell) 0 0 in
       let m = boundaryOf (protecting e (take n ls)) (r .flow) u g .seen in
       let rest = give-back-hands n ls (runOf (m .0) (r .attempts) (r .boundaries + 1) (r .yields)) (m .1 .0) (m .1 .1) (omega arith) in
       hand {K = In (take n ls)} (more (released by-caller (l .cell) (l .serial)) tt none)
-      (λ x i. go x (in-either x (take n ls) (l ∷ []) (subst (λ z. In z x) (take-suc ls n noLease (omega arith)) i)))
+      (λ x i. go x (in-either x (take n ls) (l ∷ []) (subst (λ z. In z x) (take-suc ls n noHold (omega arith)) i)))
       (after-quiet (boundary-silent (protecting e (take n ls)) (r .flow) u g) rest)
     where
-      go : (x : Lease) → In (take n ls) x ⊎ In (leaseAt ls n ∷ []) x → In (take n ls) x ⊎ Frees x (released by-caller (leaseAt ls n .cell) (leaseAt ls n .serial) ∷ [])
+      go : (x : Hold) → In (take n ls) x ⊎ In (holdAt ls n ∷ []) x → In (take n ls) x ⊎ Frees x (released by-caller (holdAt ls n .cell) (holdAt ls n .serial) ∷ [])
       go x (inl i) = inl i
-      go x (inr i) = inr (elim (in-cases (leaseAt ls n) x [] i)
-          [ inl q ↦ subst (λ z. Frees z (released by-caller (leaseAt ls n .cell) (leaseAt ls n .serial) ∷ [])) q (freed-here []) | inr z ↦ absurd (differ z) ])
+      go x (inr i) = inr (elim (in-cases (holdAt ls n) x [] i)
+          [ inl q ↦ subst (λ z. Frees z (released by-caller (holdAt ls n .cell) (holdAt ls n .serial) ∷ [])) q (freed-here []) | inr z ↦ absurd (differ z) ])
 
-  rollback-hands : (taken : List Lease) (x : Refusal) (p : ℕ) (r : Run) (t g grants : List ℕ) → Hands of-ended (In taken) (rollbackOf e taken x p r t g grants)
+  rollback-hands : (taken : List Hold) (x : Refusal) (p : ℕ) (r : Run) (t g grants : List ℕ) → Hands of-ended (In taken) (rollbackOf e taken x p r t g grants)
   unfolding rollbackOf
   rollback-hands taken x p r t g grants =
       let k = give-back-hands (length taken) taken r t g (omega arith) in
       hand {K = Nobody} (k .settles) (λ l i. k .passes l (rw (take-length taken) i)) (record { settles = none; passes = λ l x. absurd x })
 
 module _ (e : Setting) where
-  pub locks-hands : (left p buckets : ℕ) (registry keys : List ℕ) (taken : List Lease) (r : Run) (t g grants : List ℕ)
-      → Hands of-ended (In taken) (locksOf left p e buckets registry keys taken r t g grants)
+  pub locks-hands : (left p buckets boot : ℕ) (registry keys : List ℕ) (taken : List Hold) (r : Run) (t g grants : List ℕ)
+      → Hands of-ended (In taken) (locksOf left p e buckets boot registry keys taken r t g grants)
   unfolding locksOf
-  locks-hands zero p buckets registry keys taken r t g grants = record { settles = none; passes = λ l i. inl (rw (leases-words taken) i) }
-  locks-hands (suc left) p buckets registry keys taken r t g grants =
+  locks-hands zero p buckets boot registry keys taken r t g grants = record { settles = none; passes = λ l i. inl (rw (leases-words boot taken) i) }
+  locks-hands (suc left) p buckets boot registry keys taken r t g grants =
       let k = retry-hands (protecting e taken) attemptLimit 0 noneYet buckets registry (bindingAt keys p) (bucketAt keys p) r t g in
       let m = retryOf attemptLimit 0 noneYet (protecting e taken) buckets registry (bindingAt keys p) (bucketAt keys p) r t g .seen in
       hand {K = λ l. In taken l ⊎ Given (m .0 .outcome) l} (loosen (λ l x. inr x) (k .settles)) (λ l i. inl (inl i))
       (go (m .0 .outcome) (m .0 .run) (m .1 .0) (m .1 .1)
-      (λ l. locks-hands left (p + 1) buckets registry keys (taken ++ (l ∷ [])) (m .0 .run) (m .1 .0) (m .1 .1) grants))
+      (λ l. locks-hands left (p + 1) buckets boot registry keys (taken ++ (l ∷ [])) (m .0 .run) (m .1 .0) (m .1 .1) grants))
     where
       go : (o : Outcome) (s : Run) (u x : List ℕ)
-          → ((l : Lease) → Hands of-ended (In (taken ++ (l ∷ []))) (locksOf left (p + 1) e buckets registry keys (taken ++ (l ∷ [])) s u x grants))
+          → ((l : Hold) → Hands of-ended (In (taken ++ (l ∷ []))) (locksOf left (p + 1) e buckets boot registry keys (taken ++ (l ∷ [])) s u x grants))
           → Hands of-ended (λ l. In taken l ⊎ Given o l)
-          (afterKey o e taken p s u x grants (λ l. locksOf left (p + 1) e buckets registry keys (taken ++ (l ∷ [])) s u x grants))
+          (afterKey o e taken p s u x grants (λ l. locksOf left (p + 1) e buckets boot registry keys (taken ++ (l ∷ [])) s u x grants))
       go (outcome.Granted k) s u x on =
           record {
             settles = on k .settles;

@@ -5,7 +5,7 @@ use mathlib.Core.Path.{_≡_}
 use mathlib.Core.List.{List, [], _∷_, _++_}
 use mathlib.Core.Logic.{_↔_}
 use Rattle.model.specs.Log.{Made, Event, by-caller, took, released}
-use Rattle.model.specs.Arena.{leaseOf, waitersAt, stateAt}
+use Rattle.model.specs.Arena.{holdOf, waitersAt, stateAt}
 use Rattle.types.specs.declared.Answer.the-variants.{Busy}
 use Rattle.types.specs.declared.Lease.{Lease}
 use Rattle.types.specs.declared.Reason.{Reason}
@@ -83,7 +83,7 @@ Early-takes-nothing f =
 
 -- `held s`: the lease (cell, s) is live there
 abbrev pub Holder-lives : Build → Type 0
-Holder-lives f = (w : World) (k : Call) (s : ℕ) → Locks-once k → answer-in (f w k) ≡ Busy (Held s) → Live (world-in (f w k)) (leaseOf (asked w k) s)
+Holder-lives f = (w : World) (k : Call) (s : ℕ) → Locks-once k → answer-in (f w k) ≡ Busy (Held s) → Live (world-in (f w k)) (holdOf (asked w k) s)
 
 -- `after s`: from an arena with no damaged cell, the serial was issued and owns nothing afterwards
 abbrev pub Late-is-spent : Build → Type 0

@@ -1,4 +1,4 @@
--- Refusals 1 to 5, 8 by cell, 12 to 15 come from a call's checks alone, and these change nothing: its steps refuse with 9 or 10, by key with 6 to 11.
+-- Refusals 1 to 5, 8 by cell, 12 to 16 come from a call's checks alone, and these change nothing: its steps refuse with 9 or 10, by key with 6 to 11.
 use Prim.Native.Nat.{ℕ, zero, suc, _+_, _≤_}
 use mathlib.Core.Path.{_≡_, ap}
 use mathlib.Core.List.{List, [], _∷_, _++_}
@@ -21,7 +21,7 @@ use Rattle.types.specs.declared.CrewReply.{CrewReply}
 use Rattle.types.specs.declared.Found.{Found}
 use Rattle.types.specs.declared.Found.the-variants as found
 use Rattle.types.specs.declared.Head.{Head}
-use Rattle.types.specs.declared.Lease.{Lease}
+use Rattle.types.specs.declared.Hold.{Hold}
 use Rattle.types.specs.declared.Outcome.{Outcome}
 use Rattle.types.specs.declared.Outcome.the-variants as outcome
 use Rattle.types.specs.declared.Reason.{Reason}
@@ -61,10 +61,10 @@ OfAnswer P (answer.Busy why) = Unit {0}
 OfAnswer P (answer.Refused r) = P r
 OfAnswer P (answer.RefusedAt r p) = Unit {0}
 
-answer-late : (P : Refusal → Type 0) (o : Outcome) → OfOutcome P o → OfAnswer P (answerOf o)
-answer-late P (outcome.Granted l) h = tt
-answer-late P (outcome.Busy why) h = tt
-answer-late P (outcome.Refused r) h = h
+answer-late : (P : Refusal → Type 0) (boot : ℕ) (o : Outcome) → OfOutcome P o → OfAnswer P (answerOf boot o)
+answer-late P boot (outcome.Granted l) h = tt
+answer-late P boot (outcome.Busy why) h = tt
+answer-late P boot (outcome.Refused r) h = h
 
 take-late : (c : ℕ) (x : Take) → OfOutcome Late-by-cell (outcomeOf c x)
 take-late c (taking.Granted s) = tt
@@ -81,7 +81,7 @@ lock-late spent = ((omega arith, omega arith), λ q. omega arith)
 
 acquire-late : (n : ℕ) (h : Head) (t : List ℕ) (c : ℕ) → OfAnswer Late-by-cell (acquireOf n h t c .seen .0 .answer)
 unfolding acquireOf
-acquire-late n h t c = let x = takeOf (h .next) t c .seen .0 .answer in answer-late Late-by-cell (outcomeOf c x) (take-late c x)
+acquire-late n h t c = let x = takeOf (h .next) t c .seen .0 .answer in answer-late Late-by-cell (h .boot) (outcomeOf c x) (take-late c x)
 
 -- by key
 abbrev OfFound : Found → Type 0
@@ -121,16 +121,16 @@ settled-late (outcome.Busy why) h = omega arith
 settled-late (outcome.Refused r) h = h
 
 -- multi-lock names the key's position: these are other answers
-locks-late : (P : Refusal → Type 0) (left p : ℕ) (e : Setting) (buckets : ℕ) (registry keys : List ℕ) (taken : List Lease) (r : Run) (t g grants : List ℕ)
-    → OfAnswer P (locksOf left p e buckets registry keys taken r t g grants .seen .0 .answer)
+locks-late : (P : Refusal → Type 0) (left p : ℕ) (e : Setting) (buckets boot : ℕ) (registry keys : List ℕ) (taken : List Hold) (r : Run) (t g grants : List ℕ)
+    → OfAnswer P (locksOf left p e buckets boot registry keys taken r t g grants .seen .0 .answer)
 unfolding locksOf rollbackOf
-locks-late P zero p e buckets registry keys taken r t g grants = tt
-locks-late P (suc left) p e buckets registry keys taken r t g grants =
+locks-late P zero p e buckets boot registry keys taken r t g grants = tt
+locks-late P (suc left) p e buckets boot registry keys taken r t g grants =
     let m = retryOf attemptLimit 0 noneYet (protecting e taken) buckets registry (bindingAt keys p) (bucketAt keys p) r t g .seen in
-    go (m .0 .run) (m .1 .0) (m .1 .1) (m .0 .outcome) (λ l. locksOf left (p + 1) e buckets registry keys (taken ++ (l ∷ [])) (m .0 .run) (m .1 .0) (m .1 .1) grants)
-    (λ l. locks-late P left (p + 1) e buckets registry keys (taken ++ (l ∷ [])) (m .0 .run) (m .1 .0) (m .1 .1) grants)
+    go (m .0 .run) (m .1 .0) (m .1 .1) (m .0 .outcome) (λ l. locksOf left (p + 1) e buckets boot registry keys (taken ++ (l ∷ [])) (m .0 .run) (m .1 .0) (m .1 .1) grants)
+    (λ l. locks-late P left (p + 1) e buckets boot registry keys (taken ++ (l ∷ [])) (m .0 .run) (m .1 .0) (m .1 .1) grants)
   where
-    go : (k : Run) (u w : List ℕ) (x : Outcome) (more : Lease → Made Locks) → ((l : Lease) → OfAnswer P (more l .seen .0 .answer))
+    go : (k : Run) (u w : List ℕ) (x : Outcome) (more : Hold → Made Locks) → ((l : Hold) → OfAnswer P (more l .seen .0 .answer))
         → OfAnswer P (afterKey x e taken p k u w grants more .seen .0 .answer)
     go k u w (outcome.Granted l) more h = h l
     go k u w (outcome.Busy why) more h = tt
@@ -167,26 +167,26 @@ steps-late w (environment script place held) = inl tt
 steps-late w (try-lock script place held c) =
     let e = acting w (try-lock script place held c) in
     let f = flowOf (w .head .next) place 0 in
-    inl (answer-late Late-by-cell (lockOf e (w .head .buckets) f (w .table) (w .health) c .seen .0 .answer) (lock-late (lock-comes e (w .head .buckets) c f (w .table) (w .health))))
+    inl (answer-late Late-by-cell (w .head .boot) (lockOf e (w .head .buckets) f (w .table) (w .health) c .seen .0 .answer) (lock-late (lock-comes e (w .head .buckets) c f (w .table) (w .health))))
 steps-late w (transactional registry script place held binding bucket) =
     let e = acting w (transactional registry script place held binding bucket) in
     let o = attemptOf e (w .head .buckets) registry binding bucket (starting (w .head) place) (w .table) (w .health) .seen .0 .outcome in
-    inr (λ z. z, answer-late Late o (attempt-late e (w .head .buckets) registry binding bucket (starting (w .head) place) (w .table) (w .health)))
+    inr (λ z. z, answer-late Late (w .head .boot) o (attempt-late e (w .head .buckets) registry binding bucket (starting (w .head) place) (w .table) (w .health)))
 steps-late w (acquire-bucket registry script place held binding bucket) =
     let e = acting w (acquire-bucket registry script place held binding bucket) in
     let o = retryOf attemptLimit 0 noneYet e (w .head .buckets) registry binding bucket (starting (w .head) place) (w .table) (w .health) .seen .0 .outcome in
     let late = retry-late e (w .head .buckets) registry binding bucket attemptLimit 0 noneYet (starting (w .head) place) (w .table) (w .health) in
-    inr (λ z. z, answer-late Late (settled o) (settled-late o late))
+    inr (λ z. z, answer-late Late (w .head .boot) (settled o) (settled-late o late))
 steps-late w (release-all script place leases) = inl tt
 steps-late w (acquire-locks registry script place held keys grants) =
     let e = acting w (acquire-locks registry script place held keys grants) in
-    inl (locks-late Late-by-cell (countIn keys) 0 e (w .head .buckets) registry keys [] (starting (w .head) place) (w .table) (w .health) grants)
+    inl (locks-late Late-by-cell (countIn keys) 0 e (w .head .buckets) (w .head .boot) registry keys [] (starting (w .head) place) (w .table) (w .health) grants)
 steps-late w (acquire-sorted registry script place held keys grants) =
     let e = acting w (acquire-sorted registry script place held keys grants) in
     inl (judged-at (λ (m : Made (World × Says)). OfAnswer Late-by-cell (m .seen .1 .answer)) (firstKey (countIn keys) 0 (w .head) registry keys) (λ r p _. tt)
     (λ _.
     asked-late Late-by-cell (cellsAsked (w .head .buckets) registry keys) (cellsSorted (w .head .buckets) registry keys) (sorted-locks w registry script place held keys grants .seen .0 .answer)
-    (locks-late Late-by-cell (length (cellsSorted (w .head .buckets) registry keys)) 0 e (w .head .buckets) registry (sortedKeys (w .head .buckets) registry keys) [] (starting (w .head) place) (w .table) (w .health) grants)))
+    (locks-late Late-by-cell (length (cellsSorted (w .head .buckets) registry keys)) 0 e (w .head .buckets) (w .head .boot) registry (sortedKeys (w .head .buckets) registry keys) [] (starting (w .head) place) (w .table) (w .health) grants)))
 steps-late w (crew counts cells turns) = inl tt
 steps-late w (crew-at-work counts cells turns counters) = inl tt
 

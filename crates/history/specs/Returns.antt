@@ -8,16 +8,16 @@ use native.Mathlib.Omega.{arith}
 use lib.ListN.{length}
 use borrow.Author.Tests.{not-false}
 use Rattle.model.specs.Log.{Made, Event, by-caller, attempt-begun, took, released}
-use Rattle.model.specs.Arena.{cellsOf, bitAt, ownerAt, isLive, stateAt, setCell, leasesOf, leaseOf}
+use Rattle.model.specs.Arena.{cellsOf, holdIn, bitAt, ownerAt, isLive, stateAt, setCell, holdsOf, holdOf}
 use Rattle.model.specs.Foreign.{Setting, protecting, flowOf}
 use Rattle.model.specs.Lock.{takeOf, outcomeOf, answerOf, settled, attemptLimit, noneYet, retryOf, bindingAt, bucketAt, rollbackOf, afterKey, locksOf}
-use Rattle.model.specs.Checks.{countIn, badShape, badHeld, heldLeaseRules}
+use Rattle.model.specs.Checks.{countIn, leaseCount, badShape, badHeld, heldLeaseRules}
 use Rattle.model.specs.Calls.{starting, acquireOf}
 use Rattle.model.specs.Sorted.{cellsSorted, sortedKeys, firstKey, askedFirst, handedBack}
 use Rattle.types.specs.declared.Answer.{Answer}
 use Rattle.types.specs.declared.Answer.the-variants.{Done, Cell, Granted, AllGranted, Busy, Refused, RefusedAt}
 use Rattle.types.specs.declared.Head.{Head}
-use Rattle.types.specs.declared.Lease.{Lease}
+use Rattle.types.specs.declared.Hold.{Hold}
 use Rattle.types.specs.declared.Outcome.{Outcome}
 use Rattle.types.specs.declared.Outcome.the-variants as outcome
 use Rattle.types.specs.declared.Reply.{Reply}
@@ -36,13 +36,13 @@ use Rattle.history.specs.Owing.{Frees, freed-here, freed-later, Settles,
 -- ---- what is released is gone
 
 -- a lease whose serial was issued and that is not live never is again
-dead : (w : World) (es : List Event) (l : Lease) → Fit w → Lawful w es → l .serial < w .head .next → (Live w l → ⊥) → Live (now w es) l → ⊥
+dead : (w : World) (es : List Event) (l : Hold) → Fit w → Lawful w es → l .serial < w .head .next → (Live w l → ⊥) → Live (now w es) l → ⊥
 dead w [] l f k i n v = n v
 dead w (e ∷ es) l f k i n v =
     dead (step w e) es l (fit-step w e f (k .0)) (k .1) (omega (arith, next-step w e)) (λ x. n (live-before w e l f (k .0) x i)) v
 
 -- a cell that was released is free
-pub released-dead : (w : World) (l : Lease) → Fit w → Live w l → Live (step w (released by-caller (l .cell) (l .serial))) l → ⊥
+pub released-dead : (w : World) (l : Hold) → Fit w → Live w l → Live (step w (released by-caller (l .cell) (l .serial))) l → ⊥
 released-dead w l f v u =
     go (see (w .table) (l .cell) 0 0 (l .cell) (omega (arith, at w f (l .cell) (lives w l v .in-range)))) (lives (step w (released by-caller (l .cell) (l .serial))) l u)
   where
@@ -50,7 +50,7 @@ released-dead w l f v u =
     go (here e p q) a = omega (arith, a .bit-is)
     go (there e p q) a = e refl
 
-gone : {l : Lease} (w : World) (es : List Event) → Fit w → Lawful w es → Frees l es → Live (now w es) l → ⊥
+gone : {l : Hold} (w : World) (es : List Event) → Fit w → Lawful w es → Frees l es → Live (now w es) l → ⊥
 gone {l} w es f k (freed-here xs) v =
     let e = released by-caller (l .cell) (l .serial) in
     dead (step w e) xs l (fit-step w e f (k .0)) (k .1) (lives w l (k .0) .high) (released-dead w l f (k .0)) v
@@ -58,15 +58,15 @@ gone w es f k (freed-later e {es = xs} g) v = gone (step w e) xs (fit-step w e f
 
 -- ---- what each call hands over
 
-given-over : (o : Outcome) (l : Lease) → Given o l → Hands-over (answerOf o) [] l
-given-over (outcome.Granted k) l e = cc
-given-over (outcome.Busy why) l e = let z : _≡_ {A = ℕ} 0 1 = cc in absurd (omega arith)
-given-over (outcome.Refused r) l e = let z : _≡_ {A = ℕ} 0 1 = cc in absurd (omega arith)
+given-over : (boot : ℕ) (o : Outcome) (l : Hold) → Given o l → Hands-over (answerOf boot o) [] l
+given-over boot (outcome.Granted k) l e = cc
+given-over boot (outcome.Busy why) l e = let z : _≡_ {A = ℕ} 0 1 = cc in absurd (omega arith)
+given-over boot (outcome.Refused r) l e = let z : _≡_ {A = ℕ} 0 1 = cc in absurd (omega arith)
 
-given-settled : (o : Outcome) (l : Lease) → Given o l → Hands-over (answerOf (settled o)) [] l
-given-settled (outcome.Granted k) l e = cc
-given-settled (outcome.Busy why) l e = let z : _≡_ {A = ℕ} 0 1 = cc in absurd (omega arith)
-given-settled (outcome.Refused r) l e = let z : _≡_ {A = ℕ} 0 1 = cc in absurd (omega arith)
+given-settled : (boot : ℕ) (o : Outcome) (l : Hold) → Given o l → Hands-over (answerOf boot (settled o)) [] l
+given-settled boot (outcome.Granted k) l e = cc
+given-settled boot (outcome.Busy why) l e = let z : _≡_ {A = ℕ} 0 1 = cc in absurd (omega arith)
+given-settled boot (outcome.Refused r) l e = let z : _≡_ {A = ℕ} 0 1 = cc in absurd (omega arith)
 
 module _ (h : Head) (t : List ℕ) where
   abbrev Replying : Made (Reply × List ℕ) → Type 0
@@ -75,10 +75,10 @@ module _ (h : Head) (t : List ℕ) where
   acquire-settles : (n c : ℕ) → Replying (acquireOf n h t c)
   unfolding acquireOf
   acquire-settles n c =
-      more attempt-begun tt (join (take-hands (h .next) t c) none (λ l x. inl (given-over (outcomeOf c (takeOf (h .next) t c .seen .0 .answer)) l x)))
+      more attempt-begun tt (join (take-hands (h .next) t c) none (λ l x. inl (given-over (h .boot) (outcomeOf c (takeOf (h .next) t c .seen .0 .answer)) l x)))
 
   -- a cell that a live lease holds is not taken
-  acquire-held : (n : ℕ) (l : Lease) → isLive (h .next) (cellsOf h) t l ≡ true → Settles Nobody (acquireOf n h t (l .cell) .log)
+  acquire-held : (n : ℕ) (l : Hold) → isLive (h .next) (cellsOf h) t l ≡ true → Settles Nobody (acquireOf n h t (l .cell) .log)
   unfolding acquireOf takeOf stateAt
   acquire-held n l v =
       let a = alive (h .next) (cellsOf h) t l v in
@@ -95,32 +95,32 @@ steps-settles w (release-then-handoff l) n k = more _ tt (acquire-settles (w .he
 steps-settles w (foreign-release held l) n k =
     let c = clear-back (badShape (w .head) (w .table) ∷ badHeld (w .head) (w .table) held) _ k in
     let m = acquireOf 1 (w .head) (w .table) (l .cell) .seen in
-    join (acquire-held (w .head) (w .table) 1 l (not-false (isLive (w .head .next) (cells w) (w .table) l) (c .0)))
+    join (acquire-held (w .head) (w .table) 1 (holdIn l) (not-false (isLive (w .head .next) (cells w) (w .table) (holdIn l)) (c .1 .0)))
     (more (released by-caller (l .cell) (l .serial)) tt (acquire-settles (m .0 .head) (setCell (m .1) (l .cell) 0 0) 2 (l .cell))) (λ l x. absurd x)
 steps-settles w (drop-preserving held l) n k = more _ tt none
 steps-settles w (acquire-preserving held c) n k = acquire-settles (w .head) (w .table) 1 c
 steps-settles w (environment script place held) n k =
     quiet (boundary-silent (acting w (environment script place held)) (flowOf (w .head .next) place 0) (w .table) (w .health))
 steps-settles w (try-lock script place held c) n k =
-    more attempt-begun tt (loosen (given-over _) (lock-hands (acting w (try-lock script place held c)) (w .head .buckets) (flowOf (w .head .next) place 0) (w .table) (w .health) c .settles))
+    more attempt-begun tt (loosen (given-over (w .head .boot) _) (lock-hands (acting w (try-lock script place held c)) (w .head .buckets) (flowOf (w .head .next) place 0) (w .table) (w .health) c .settles))
 steps-settles w (transactional registry script place held binding bucket) n k =
     let e = acting w (transactional registry script place held binding bucket) in
-    loosen (given-over _) (attempt-hands e (w .head .buckets) registry binding bucket (starting (w .head) place) (w .table) (w .health) .settles)
+    loosen (given-over (w .head .boot) _) (attempt-hands e (w .head .buckets) registry binding bucket (starting (w .head) place) (w .table) (w .health) .settles)
 steps-settles w (acquire-bucket registry script place held binding bucket) n k =
     let e = acting w (acquire-bucket registry script place held binding bucket) in
-    loosen (given-settled _) (retry-hands e attemptLimit 0 noneYet (w .head .buckets) registry binding bucket (starting (w .head) place) (w .table) (w .health) .settles)
+    loosen (given-settled (w .head .boot) _) (retry-hands e attemptLimit 0 noneYet (w .head .buckets) registry binding bucket (starting (w .head) place) (w .table) (w .health) .settles)
 steps-settles w (release-all script place leases) n k =
-    give-back-hands (acting w (release-all script place leases)) (countIn leases) (leasesOf leases) (starting (w .head) place) (w .table) (w .health)
+    give-back-hands (acting w (release-all script place leases)) (leaseCount leases) (holdsOf leases) (starting (w .head) place) (w .table) (w .health)
     (omega (arith, words-leases leases)) .settles
 steps-settles w (acquire-locks registry script place held keys grants) n k =
     let e = acting w (acquire-locks registry script place held keys grants) in
-    locks-hands e (countIn keys) 0 (w .head .buckets) registry keys [] (starting (w .head) place) (w .table) (w .health) grants .settles
+    locks-hands e (countIn keys) 0 (w .head .buckets) (w .head .boot) registry keys [] (starting (w .head) place) (w .table) (w .health) grants .settles
 steps-settles w (acquire-sorted registry script place held keys grants) n k =
     let e = acting w (acquire-sorted registry script place held keys grants) in
     judged-at (λ (m : Made (World × Says)). Settles (Hands-over (m .seen .1 .answer) (m .seen .1 .grants)) (m .log)) (firstKey (countIn keys) 0 (w .head) registry keys) (λ r p _. none)
     (λ _.
     loosen (inner-handed w registry script place held keys grants)
-    (locks-hands e (length (cellsSorted (w .head .buckets) registry keys)) 0 (w .head .buckets) registry (sortedKeys (w .head .buckets) registry keys) [] (starting (w .head) place) (w .table) (w .health) grants .settles))
+    (locks-hands e (length (cellsSorted (w .head .buckets) registry keys)) 0 (w .head .buckets) (w .head .boot) registry (sortedKeys (w .head .buckets) registry keys) [] (starting (w .head) place) (w .table) (w .health) grants .settles))
 steps-settles w (crew counts cells turns) n k = absurd (n tt)
 steps-settles w (crew-at-work counts cells turns counters) n k = absurd (n tt)
 
@@ -138,34 +138,34 @@ pub calls-keep-nothing : Nothing-kept perform
 calls-keep-nothing w k c s before after n e = go (settled-at c s before after (subst (Settles (Gives (perform w k))) e (call-settles w k n)))
   where
     Out : Type 0
-    Out = Given-back c s after × (Live (leaves w k) (leaseOf c s) → ⊥)
+    Out = Given-back c s after × (Live (leaves w k) (holdOf c s) → ⊥)
 
     -- the call did something, so its shape fits
-    back : (log-of w k ≡ []) ⊎ Fit w → Frees (leaseOf c s) after → Out
+    back : (log-of w k ≡ []) ⊎ Fit w → Frees (holdOf c s) after → Out
     back (inl z) f = absurd (not-empty (took by-caller c s) before after (sym z ∙ e))
     back (inr g) f =
         let p = call-kept w k .kept in
-        let all = subst (Frees (leaseOf c s)) (sym e) (frees-right before (freed-later (took by-caller c s) f)) in
-        (freed-at f, λ v. gone w (log-of w k) g (p .lawful) all (subst (λ u. Live u (leaseOf c s)) (p .leads) v))
+        let all = subst (Frees (holdOf c s)) (sym e) (frees-right before (freed-later (took by-caller c s) f)) in
+        (freed-at f, λ v. gone w (log-of w k) g (p .lawful) all (subst (λ u. Live u (holdOf c s)) (p .leads) v))
 
-    go : Gives (perform w k) (leaseOf c s) ⊎ Frees (leaseOf c s) after → (Gives (perform w k) (leaseOf c s) × Live (leaves w k) (leaseOf c s)) ⊎ Out
-    go (inl x) = inl (x, call-kept w k .gain (leaseOf c s) x)
+    go : Gives (perform w k) (holdOf c s) ⊎ Frees (holdOf c s) after → (Gives (perform w k) (holdOf c s) × Live (leaves w k) (holdOf c s)) ⊎ Out
+    go (inl x) = inl (x, call-kept w k .gain (holdOf c s) x)
     go (inr f) = inr (back (call-fit w k) f)
 
 -- ---- the buffer
 
-locks-buffer : (left p : ℕ) (e : Setting) (buckets : ℕ) (registry keys : List ℕ) (taken : List Lease) (r : Run) (t g grants : List ℕ)
-    → let m = locksOf left p e buckets registry keys taken r t g grants in (m .seen .0 .answer ≡ AllGranted → ⊥) → m .seen .1 .1 .1 ≡ grants
+locks-buffer : (left p : ℕ) (e : Setting) (buckets boot : ℕ) (registry keys : List ℕ) (taken : List Hold) (r : Run) (t g grants : List ℕ)
+    → let m = locksOf left p e buckets boot registry keys taken r t g grants in (m .seen .0 .answer ≡ AllGranted → ⊥) → m .seen .1 .1 .1 ≡ grants
 unfolding locksOf rollbackOf
-locks-buffer zero p e buckets registry keys taken r t g grants n = absurd (n refl)
-locks-buffer (suc left) p e buckets registry keys taken r t g grants n =
+locks-buffer zero p e buckets boot registry keys taken r t g grants n = absurd (n refl)
+locks-buffer (suc left) p e buckets boot registry keys taken r t g grants n =
     let m = retryOf attemptLimit 0 noneYet (protecting e taken) buckets registry (bindingAt keys p) (bucketAt keys p) r t g .seen in
     go (m .0 .outcome) (m .0 .run) (m .1 .0) (m .1 .1)
-    (λ l. locks-buffer left (p + 1) e buckets registry keys (taken ++ (l ∷ [])) (m .0 .run) (m .1 .0) (m .1 .1) grants) n
+    (λ l. locks-buffer left (p + 1) e buckets boot registry keys (taken ++ (l ∷ [])) (m .0 .run) (m .1 .0) (m .1 .1) grants) n
   where
     go : (o : Outcome) (s : Run) (u y : List ℕ)
-        → ((l : Lease) → let m = locksOf left (p + 1) e buckets registry keys (taken ++ (l ∷ [])) s u y grants in (m .seen .0 .answer ≡ AllGranted → ⊥) → m .seen .1 .1 .1 ≡ grants)
-        → let m = afterKey o e taken p s u y grants (λ l. locksOf left (p + 1) e buckets registry keys (taken ++ (l ∷ [])) s u y grants) in
+        → ((l : Hold) → let m = locksOf left (p + 1) e buckets boot registry keys (taken ++ (l ∷ [])) s u y grants in (m .seen .0 .answer ≡ AllGranted → ⊥) → m .seen .1 .1 .1 ≡ grants)
+        → let m = afterKey o e taken p s u y grants (λ l. locksOf left (p + 1) e buckets boot registry keys (taken ++ (l ∷ [])) s u y grants) in
         (m .seen .0 .answer ≡ AllGranted → ⊥) → m .seen .1 .1 .1 ≡ grants
     go (outcome.Granted l) s u y on = on l
     go (outcome.Busy why) s u y on = λ _. refl
@@ -186,15 +186,15 @@ steps-buffer w (transactional registry script place held binding bucket) n = ref
 steps-buffer w (acquire-bucket registry script place held binding bucket) n = refl
 steps-buffer w (release-all script place leases) n = refl
 steps-buffer w (acquire-locks registry script place held keys grants) n =
-    locks-buffer (countIn keys) 0 (acting w (acquire-locks registry script place held keys grants)) (w .head .buckets) registry keys [] (starting (w .head) place) (w .table) (w .health) grants n
+    locks-buffer (countIn keys) 0 (acting w (acquire-locks registry script place held keys grants)) (w .head .buckets) (w .head .boot) registry keys [] (starting (w .head) place) (w .table) (w .health) grants n
 steps-buffer w (acquire-sorted registry script place held keys grants) n =
     judged-at (λ (m : Made (World × Says)). (m .seen .1 .answer ≡ AllGranted → ⊥) → m .seen .1 .grants ≡ grants) (firstKey (countIn keys) 0 (w .head) registry keys) (λ r p _ _. refl)
     (λ _.
     kept _ _ _ (sorted-locks w registry script place held keys grants .seen .0 .answer)
-    (locks-buffer (length (cellsSorted (w .head .buckets) registry keys)) 0 (acting w (acquire-sorted registry script place held keys grants)) (w .head .buckets) registry (sortedKeys (w .head .buckets) registry keys) [] (starting (w .head) place) (w .table) (w .health) grants)) n
+    (locks-buffer (length (cellsSorted (w .head .buckets) registry keys)) 0 (acting w (acquire-sorted registry script place held keys grants)) (w .head .buckets) (w .head .boot) registry (sortedKeys (w .head .buckets) registry keys) [] (starting (w .head) place) (w .table) (w .health) grants)) n
   where
     -- so a refusal hands the buffer back as it was
-    kept : (asked sorted b : List ℕ) (x : Answer) → ((x ≡ AllGranted → ⊥) → b ≡ grants) → (askedFirst x asked sorted ≡ AllGranted → ⊥) → handedBack x asked b ≡ grants
+    kept : (asked sorted b : List ℕ) (x : Answer) → ((x ≡ AllGranted → ⊥) → b ≡ grants) → (askedFirst x asked sorted ≡ AllGranted → ⊥) → handedBack (w .head .boot) x asked b ≡ grants
     kept asked sorted b Done f n = f n
     kept asked sorted b (Cell c) f n = f n
     kept asked sorted b (Granted l) f n = f n
@@ -213,7 +213,7 @@ buffer-kept w k = performed (λ m. (m .seen .1 .answer ≡ AllGranted → ⊥) �
 fails-not-all : (a : Answer) → Fails a → a ≡ AllGranted → ⊥
 fails-not-all a f e = subst Fails e f
 
-fails-hands-none : (a : Answer) (b : List ℕ) (l : Lease) → Fails a → Hands-over a b l → ⊥
+fails-hands-none : (a : Answer) (b : List ℕ) (l : Hold) → Fails a → Hands-over a b l → ⊥
 fails-hands-none Done b l f h = f
 fails-hands-none (Cell c) b l f h = f
 fails-hands-none (Granted k) b l f h = f
@@ -226,7 +226,7 @@ pub calls-leave-nothing : Nothing-new perform
 calls-leave-nothing w k n f = (
   buffer-kept w k (fails-not-all (answers w k) f),
   λ c s before after e. elim (calls-keep-nothing w k c s before after n e) [
-    | inl x ↦ absurd (fails-hands-none (answers w k) (buffer-in (perform w k)) (leaseOf c s) f (x .0))
+    | inl x ↦ absurd (fails-hands-none (answers w k) (buffer-in (perform w k)) (holdOf c s) f (x .0))
     | inr y ↦ y
   ],
 )

@@ -11,20 +11,21 @@ use lib.ListN.{length, getD}
 use lib.Seq.{take-length}
 use Rattle.choice.specs.Choice.{if_then_else_}
 use Rattle.model.specs.Log.{Made}
-use Rattle.model.specs.Arena.{leasesOf}
-use Rattle.model.specs.Lock.{noLease, leaseAt, bindingAt, bucketAt}
+use Rattle.model.specs.Arena.{holdsOf}
+use Rattle.model.specs.Lock.{noHold, holdAt, bindingAt, bucketAt}
 use Rattle.model.specs.Checks.{countIn}
 use Rattle.model.specs.Calls.{given, starting}
-use Rattle.model.specs.Sorted.{cellOfKey, cellsFrom, cellsAsked, cellsSorted, firstAsking, keysFor, sortedKeys, firstKey, leaseOn, sharedOf, askedFirst, handedBack}
+use Rattle.model.specs.Sorted.{cellOfKey, cellsFrom, cellsAsked, cellsSorted, firstAsking, keysFor, sortedKeys, firstKey, holdOn, sharedOf, askedFirst, handedBack}
 use Rattle.types.specs.declared.Answer.{Answer}
 use Rattle.types.specs.declared.Answer.the-variants.{Done, Cell, Granted, AllGranted, Busy, Refused, RefusedAt}
-use Rattle.types.specs.declared.Lease.{Lease}
+use Rattle.types.specs.declared.Hold.{Hold}
+use Rattle.laws.specs.Checks.{leaseIn}
 use Rattle.laws.specs.Lists.{length-words}
 use Rattle.laws.specs.Sorting.{Rising, isAmong, sorted-is, first-asking, stands-at}
 use Rattle.history.specs.World.{World}
 use Rattle.history.specs.Items.{Says, acquire-locks, acquire-sorted, in-order, any-order, keyCell, perform}
 use Rattle.history.specs.Statements.{Hands-over, Buffer-is}
-use Rattle.history.specs.Tests.{In, in-take, in-index, leases-words}
+use Rattle.history.specs.Tests.{In, in-take, in-index, leases-words, words-boot}
 use Rattle.history.specs.Judged.{judged-at, sorted-locks, performed}
 use Rattle.history.specs.ByKey.{locks-filled}
 
@@ -166,21 +167,21 @@ module _ (buckets : ℕ) (registry keys : List ℕ) where
 
 -- ---- the lease of a cell
 
-abbrev cells-in : List Lease → List ℕ
+abbrev cells-in : List Hold → List ℕ
 cells-in [] = []
 cells-in (l ∷ ls) = l .cell ∷ cells-in ls
 
 -- the lease on a cell stands at the first place that has the cell
-on-place : (ls : List Lease) (c : ℕ) → leaseOn ls c ≡ leaseAt ls (firstAsking (cells-in ls) c)
-unfolding leaseOn firstAsking
+on-place : (ls : List Hold) (c : ℕ) → holdOn ls c ≡ holdAt ls (firstAsking (cells-in ls) c)
+unfolding holdOn firstAsking
 on-place [] c = refl
 on-place (l ∷ ls) c = go (eqb (l .cell) c) (on-place ls c)
   where
-    go : (b : Bool) → leaseOn ls c ≡ leaseAt ls (firstAsking (cells-in ls) c) → (if b then l else leaseOn ls c) ≡ leaseAt (l ∷ ls) (if b then 0 else suc (firstAsking (cells-in ls) c))
+    go : (b : Bool) → holdOn ls c ≡ holdAt ls (firstAsking (cells-in ls) c) → (if b then l else holdOn ls c) ≡ holdAt (l ∷ ls) (if b then 0 else suc (firstAsking (cells-in ls) c))
     go true e = refl
     go false e = e
 
-cells-are : (ls : List Lease) (cs : List ℕ) → length ls ≡ length cs → ((i : ℕ) → i < length cs → leaseAt ls i .cell ≡ getD cs i 0) → cells-in ls ≡ cs
+cells-are : (ls : List Hold) (cs : List ℕ) → length ls ≡ length cs → ((i : ℕ) → i < length cs → holdAt ls i .cell ≡ getD cs i 0) → cells-in ls ≡ cs
 cells-are [] [] n f = refl
 cells-are [] (c ∷ cs) n f = absurd (omega arith)
 cells-are (l ∷ ls) [] n f = absurd (omega arith)
@@ -189,18 +190,18 @@ cells-are (l ∷ ls) (c ∷ cs) n f =
     let b : cells-in ls ≡ cs = cells-are ls cs (omega arith) (λ i k. f (suc i) (omega arith)) in
     rw (a, b)
 
-shared-many : (ls : List Lease) (cs : List ℕ) → length (sharedOf ls cs) ≡ length cs
+shared-many : (ls : List Hold) (cs : List ℕ) → length (sharedOf ls cs) ≡ length cs
 unfolding sharedOf
 shared-many ls [] = refl
 shared-many ls (c ∷ cs) = ap suc (shared-many ls cs)
 
-shared-at : (ls : List Lease) (cs : List ℕ) (p : ℕ) → p < length cs → leaseAt (sharedOf ls cs) p ≡ leaseOn ls (getD cs p 0)
+shared-at : (ls : List Hold) (cs : List ℕ) (p : ℕ) → p < length cs → holdAt (sharedOf ls cs) p ≡ holdOn ls (getD cs p 0)
 unfolding sharedOf
 shared-at ls [] p l = absurd (omega arith)
 shared-at ls (c ∷ cs) zero l = refl
 shared-at ls (c ∷ cs) (suc p) l = shared-at ls cs p (omega arith)
 
-same-leases : (ls ks : List Lease) → length ls ≡ length ks → ((i : ℕ) → i < length ls → leaseAt ls i ≡ leaseAt ks i) → ls ≡ ks
+same-leases : (ls ks : List Hold) → length ls ≡ length ks → ((i : ℕ) → i < length ls → holdAt ls i ≡ holdAt ks i) → ls ≡ ks
 same-leases [] [] n f = refl
 same-leases [] (k ∷ ks) n f = absurd (omega arith)
 same-leases (l ∷ ls) [] n f = absurd (omega arith)
@@ -209,21 +210,21 @@ same-leases (l ∷ ls) (k ∷ ks) n f =
     let b : ls ≡ ks = same-leases ls ks (omega arith) (λ i j. f (suc i) (omega arith)) in
     rw (a, b)
 
-pub in-place : (ls : List Lease) (i : ℕ) → i < length ls → In ls (leaseAt ls i)
-in-place ls i l = subst (λ (x : List Lease). In x (leaseAt ls i)) (take-length ls) (in-take ls (length ls) i noLease l l)
+pub in-place : (ls : List Hold) (i : ℕ) → i < length ls → In ls (holdAt ls i)
+in-place ls i l = subst (λ (x : List Hold). In x (holdAt ls i)) (take-length ls) (in-take ls (length ls) i noHold l l)
 
 -- ---- what is handed back
 
 -- one lease per key, from the leases of the distinct cells
-pub record Handed-back (buckets : ℕ) (registry keys : List ℕ) (leases back : List Lease) : Type 0 where
+pub record Handed-back (buckets : ℕ) (registry keys : List ℕ) (leases back : List Hold) : Type 0 where
   pub many : length leases ≡ length (cellsSorted buckets registry keys)
-  pub own : (i : ℕ) → i < length (cellsSorted buckets registry keys) → leaseAt leases i .cell ≡ getD (cellsSorted buckets registry keys) i 0
+  pub own : (i : ℕ) → i < length (cellsSorted buckets registry keys) → holdAt leases i .cell ≡ getD (cellsSorted buckets registry keys) i 0
   pub as-many : length back ≡ countIn keys
-  pub each : (p : ℕ) → p < countIn keys → leaseAt back p ≡ leaseAt leases (sorted-place buckets registry keys p)
+  pub each : (p : ℕ) → p < countIn keys → holdAt back p ≡ holdAt leases (sorted-place buckets registry keys p)
 
 module _ (buckets : ℕ) (registry keys : List ℕ) where
-  pub handed-back : (ls : List Lease) → length ls ≡ length (sorted-cells buckets registry keys)
-      → ((i : ℕ) → i < length (sorted-cells buckets registry keys) → leaseAt ls i .cell ≡ getD (sorted-cells buckets registry keys) i 0)
+  pub handed-back : (ls : List Hold) → length ls ≡ length (sorted-cells buckets registry keys)
+      → ((i : ℕ) → i < length (sorted-cells buckets registry keys) → holdAt ls i .cell ≡ getD (sorted-cells buckets registry keys) i 0)
       → Handed-back buckets registry keys ls (sharedOf ls (asked-cells buckets registry keys))
   handed-back ls n own =
       record {
@@ -231,32 +232,32 @@ module _ (buckets : ℕ) (registry keys : List ℕ) where
         own = own;
         as-many = shared-many ls (asked-cells buckets registry keys) ∙ asked-length buckets registry keys;
         each = λ p l.
-            shared-at ls (asked-cells buckets registry keys) p (omega (arith, asked-length buckets registry keys, l)) ∙ ap (leaseOn ls) (asked-at buckets registry keys p l)
-            ∙ on-place ls (keyCell buckets registry keys p) ∙ ap (λ (cs : List ℕ). leaseAt ls (firstAsking cs (keyCell buckets registry keys p))) (cells-are ls (sorted-cells buckets registry keys) n own);
+            shared-at ls (asked-cells buckets registry keys) p (omega (arith, asked-length buckets registry keys, l)) ∙ ap (holdOn ls) (asked-at buckets registry keys p l)
+            ∙ on-place ls (keyCell buckets registry keys p) ∙ ap (λ (cs : List ℕ). holdAt ls (firstAsking cs (keyCell buckets registry keys p))) (cells-are ls (sorted-cells buckets registry keys) n own);
       }
 
-  module _ {leases back : List Lease} (h : Handed-back buckets registry keys leases back) where
+  module _ {leases back : List Hold} (h : Handed-back buckets registry keys leases back) where
     -- nothing is made up, and nothing is lost
-    pub back-among : (l : Lease) → In back l → In leases l
+    pub back-among : (l : Hold) → In back l → In leases l
     back-among l i =
-        let x = in-index back l noLease i in
+        let x = in-index back l noHold i in
         let p : x .0 < countIn keys = omega (arith, x .1, h .as-many) in
         let q = sorted-place-at buckets registry keys (x .0) p in
         subst (In leases) (sym (x .2 ∙ h .each (x .0) p)) (in-place leases (sorted-place buckets registry keys (x .0)) (omega (arith, q .0, h .many)))
 
-    pub among-back : (l : Lease) → In leases l → In back l
+    pub among-back : (l : Hold) → In leases l → In back l
     among-back l i =
-        let x = in-index leases l noLease i in
+        let x = in-index leases l noHold i in
         let b : x .0 < length (sorted-cells buckets registry keys) = omega (arith, x .1, h .many) in
         let f = first-place-at buckets registry keys (x .0) b in
-        let e = h .each (first-place buckets registry keys (x .0)) (f .0) ∙ ap (leaseAt leases) (sorted-place-of buckets registry keys (x .0) b) in
+        let e = h .each (first-place buckets registry keys (x .0)) (f .0) ∙ ap (holdAt leases) (sorted-place-of buckets registry keys (x .0) b) in
         subst (In back) (e ∙ sym (x .2)) (in-place back (first-place buckets registry keys (x .0)) (omega (arith, f .0, h .as-many)))
 
     -- a key's lease is on the key's own cell
-    pub back-own : (p : ℕ) → p < countIn keys → leaseAt back p .cell ≡ keyCell buckets registry keys p
+    pub back-own : (p : ℕ) → p < countIn keys → holdAt back p .cell ≡ keyCell buckets registry keys p
     back-own p l =
         let q = sorted-place-at buckets registry keys p l in
-        ap (λ (x : Lease). x .cell) (h .each p l) ∙ h .own (sorted-place buckets registry keys p) (q .0) ∙ q .1
+        ap (λ (x : Hold). x .cell) (h .each p l) ∙ h .own (sorted-place buckets registry keys p) (q .0) ∙ q .1
 
     -- of each cell once, in rising order, they are the leases again
     pub back-once : sharedOf back (sorted-cells buckets registry keys) ≡ leases
@@ -274,10 +275,10 @@ module _ (buckets : ℕ) (registry keys : List ℕ) where
             cells-are back asked (h .as-many ∙ sym (asked-length buckets registry keys))
             (λ p l. let k : p < countIn keys = omega (arith, asked-length buckets registry keys, l) in back-own p k ∙ sym (asked-at buckets registry keys p k))
 
-        at : (i : ℕ) → i < length sorted → leaseAt (sharedOf back sorted) i ≡ leaseAt leases i
+        at : (i : ℕ) → i < length sorted → holdAt (sharedOf back sorted) i ≡ holdAt leases i
         at i l =
-            shared-at back sorted i l ∙ on-place back (getD sorted i 0) ∙ ap (λ (cs : List ℕ). leaseAt back (firstAsking cs (getD sorted i 0))) cells
-            ∙ h .each (first-place buckets registry keys i) (first-place-at buckets registry keys i l .0) ∙ ap (leaseAt leases) (sorted-place-of buckets registry keys i l)
+            shared-at back sorted i l ∙ on-place back (getD sorted i 0) ∙ ap (λ (cs : List ℕ). holdAt back (firstAsking cs (getD sorted i 0))) cells
+            ∙ h .each (first-place buckets registry keys i) (first-place-at buckets registry keys i l .0) ∙ ap (holdAt leases) (sorted-place-of buckets registry keys i l)
 
 -- ---- of the call's steps
 
@@ -289,23 +290,23 @@ module _ (w : World) (registry script : List ℕ) (place : ℕ) (held keys grant
   inner-buffer = sorted-locks w registry script place held keys grants .seen .1 .1 .1
 
   pub steps-hand-back : inner-answer ≡ AllGranted
-      → Handed-back (w .head .buckets) registry keys (leasesOf inner-buffer) (leasesOf (handedBack AllGranted (cellsAsked (w .head .buckets) registry keys) inner-buffer))
+      → Handed-back (w .head .buckets) registry keys (holdsOf inner-buffer) (holdsOf (handedBack (w .head .boot) AllGranted (cellsAsked (w .head .buckets) registry keys) inner-buffer))
   steps-hand-back a =
       let b = w .head .buckets in
       let n = length (sorted-cells b registry keys) in
-      let f = locks-filled b registry (chosen-keys b registry keys) n n 0 (omega arith) (given (w .head) script (leasesOf held)) [] (starting (w .head) place) (w .table) (w .health) grants refl
+      let f = locks-filled b (w .head .boot) registry (chosen-keys b registry keys) n n 0 (omega arith) (given (w .head) script (holdsOf held)) [] (starting (w .head) place) (w .table) (w .health) grants refl
       (λ i x. absurd (omega arith)) a in
-      rw (leases-words (sharedOf (leasesOf inner-buffer) (asked-cells b registry keys)))
-      (handed-back b registry keys (leasesOf inner-buffer) (f .many) (λ i l. f .filled i l ∙ chosen-cell b registry keys i l))
+      rw (leases-words (w .head .boot) (sharedOf (holdsOf inner-buffer) (asked-cells b registry keys)))
+      (handed-back b registry keys (holdsOf inner-buffer) (f .many) (λ i l. f .filled i l ∙ chosen-cell b registry keys i l))
 
   -- what the caller is handed is what the steps hand over
-  pub handed-inner : (l : Lease)
-      → Hands-over (askedFirst inner-answer (cellsAsked (w .head .buckets) registry keys) (cellsSorted (w .head .buckets) registry keys)) (handedBack inner-answer (cellsAsked (w .head .buckets) registry keys) inner-buffer) l
+  pub handed-inner : (l : Hold)
+      → Hands-over (askedFirst inner-answer (cellsAsked (w .head .buckets) registry keys) (cellsSorted (w .head .buckets) registry keys)) (handedBack (w .head .boot) inner-answer (cellsAsked (w .head .buckets) registry keys) inner-buffer) l
       → Hands-over inner-answer inner-buffer l
   handed-inner l = go inner-answer (λ e. back-among (w .head .buckets) registry keys (steps-hand-back e) l)
     where
-      go : (a : Answer) → (a ≡ AllGranted → In (leasesOf (handedBack AllGranted (cellsAsked (w .head .buckets) registry keys) inner-buffer)) l → In (leasesOf inner-buffer) l)
-          → Hands-over (askedFirst a (cellsAsked (w .head .buckets) registry keys) (cellsSorted (w .head .buckets) registry keys)) (handedBack a (cellsAsked (w .head .buckets) registry keys) inner-buffer) l
+      go : (a : Answer) → (a ≡ AllGranted → In (holdsOf (handedBack (w .head .boot) AllGranted (cellsAsked (w .head .buckets) registry keys) inner-buffer)) l → In (holdsOf inner-buffer) l)
+          → Hands-over (askedFirst a (cellsAsked (w .head .buckets) registry keys) (cellsSorted (w .head .buckets) registry keys)) (handedBack (w .head .boot) a (cellsAsked (w .head .buckets) registry keys) inner-buffer) l
           → Hands-over a inner-buffer l
       go Done f x = x
       go (Cell c) f x = x
@@ -315,13 +316,13 @@ module _ (w : World) (registry script : List ℕ) (place : ℕ) (held keys grant
       go (Refused r) f x = x
       go (RefusedAt r p) f x = x
 
-  pub inner-handed : (l : Lease) → Hands-over inner-answer inner-buffer l
-      → Hands-over (askedFirst inner-answer (cellsAsked (w .head .buckets) registry keys) (cellsSorted (w .head .buckets) registry keys)) (handedBack inner-answer (cellsAsked (w .head .buckets) registry keys) inner-buffer) l
+  pub inner-handed : (l : Hold) → Hands-over inner-answer inner-buffer l
+      → Hands-over (askedFirst inner-answer (cellsAsked (w .head .buckets) registry keys) (cellsSorted (w .head .buckets) registry keys)) (handedBack (w .head .boot) inner-answer (cellsAsked (w .head .buckets) registry keys) inner-buffer) l
   inner-handed l = go inner-answer (λ e. among-back (w .head .buckets) registry keys (steps-hand-back e) l)
     where
-      go : (a : Answer) → (a ≡ AllGranted → In (leasesOf inner-buffer) l → In (leasesOf (handedBack AllGranted (cellsAsked (w .head .buckets) registry keys) inner-buffer)) l)
+      go : (a : Answer) → (a ≡ AllGranted → In (holdsOf inner-buffer) l → In (holdsOf (handedBack (w .head .boot) AllGranted (cellsAsked (w .head .buckets) registry keys) inner-buffer)) l)
           → Hands-over a inner-buffer l
-          → Hands-over (askedFirst a (cellsAsked (w .head .buckets) registry keys) (cellsSorted (w .head .buckets) registry keys)) (handedBack a (cellsAsked (w .head .buckets) registry keys) inner-buffer) l
+          → Hands-over (askedFirst a (cellsAsked (w .head .buckets) registry keys) (cellsSorted (w .head .buckets) registry keys)) (handedBack (w .head .boot) a (cellsAsked (w .head .buckets) registry keys) inner-buffer) l
       go Done f x = x
       go (Cell c) f x = x
       go (Granted k) f x = x
@@ -335,8 +336,9 @@ module _ (w : World) (registry script : List ℕ) (place : ℕ) (held keys grant
 abbrev Whole : World → (registry keys : List ℕ) → Made (World × Says) → Type 0
 Whole w registry keys m =
     m .seen .1 .answer ≡ AllGranted
-    → (length (m .seen .1 .grants) ≡ 2 * countIn keys)
-    × ((p : ℕ) → p < countIn keys → leaseAt (leasesOf (m .seen .1 .grants)) p .cell ≡ keyCell (w .head .buckets) registry keys p)
+    → (length (m .seen .1 .grants) ≡ 3 * countIn keys)
+    × ((p : ℕ) → p < countIn keys → holdAt (holdsOf (m .seen .1 .grants)) p .cell ≡ keyCell (w .head .buckets) registry keys p)
+    × ((p : ℕ) → p < countIn keys → leaseIn (m .seen .1 .grants) p .boot ≡ w .head .boot)
 
 -- only a granted lock is a granted call
 pub all-inner : (asked sorted : List ℕ) (x : Answer) → askedFirst x asked sorted ≡ AllGranted → x ≡ AllGranted
@@ -352,9 +354,9 @@ pub buffers-name : Buffer-is perform
 buffers-name w k _ _ (in-order registry script place held keys grants) =
     performed (Whole w registry keys) w (acquire-locks registry script place held keys grants) (λ r a. let z : _≡_ {A = ℕ} 0 1 = cc in absurd (omega arith))
     (λ _ a.
-    let f = locks-filled (w .head .buckets) registry keys (countIn keys) (countIn keys) 0 (omega arith) (given (w .head) script (leasesOf held)) [] (starting (w .head) place) (w .table) (w .health) grants refl
+    let f = locks-filled (w .head .buckets) (w .head .boot) registry keys (countIn keys) (countIn keys) 0 (omega arith) (given (w .head) script (holdsOf held)) [] (starting (w .head) place) (w .table) (w .health) grants refl
     (λ i x. absurd (omega arith)) a in
-    (f .long, f .filled))
+    (f .long, f .filled, f .own-boot))
 buffers-name w k _ _ (any-order registry script place held keys grants) =
     performed (Whole w registry keys) w (acquire-sorted registry script place held keys grants) (λ r a. let z : _≡_ {A = ℕ} 0 1 = cc in absurd (omega arith))
     (λ _.
@@ -367,12 +369,19 @@ buffers-name w k _ _ (any-order registry script place held keys grants) =
     buffer : List ℕ
     buffer = sorted-locks w registry script place held keys grants .seen .1 .1 .1
 
-    go : (x : Answer) → x ≡ AllGranted → (x ≡ AllGranted → Handed-back (w .head .buckets) registry keys (leasesOf buffer) (leasesOf (handedBack AllGranted asked buffer)))
-        → (length (handedBack x asked buffer) ≡ 2 * countIn keys)
-        × ((p : ℕ) → p < countIn keys → leaseAt (leasesOf (handedBack x asked buffer)) p .cell ≡ keyCell (w .head .buckets) registry keys p)
+    -- as many as keys
+    many : Handed-back (w .head .buckets) registry keys (holdsOf buffer) (holdsOf (handedBack (w .head .boot) AllGranted asked buffer))
+        → length (sharedOf (holdsOf buffer) asked) ≡ countIn keys
+    many b = sym (ap length (leases-words (w .head .boot) (sharedOf (holdsOf buffer) asked))) ∙ b .as-many
+
+    go : (x : Answer) → x ≡ AllGranted → (x ≡ AllGranted → Handed-back (w .head .buckets) registry keys (holdsOf buffer) (holdsOf (handedBack (w .head .boot) AllGranted asked buffer)))
+        → (length (handedBack (w .head .boot) x asked buffer) ≡ 3 * countIn keys)
+        × ((p : ℕ) → p < countIn keys → holdAt (holdsOf (handedBack (w .head .boot) x asked buffer)) p .cell ≡ keyCell (w .head .buckets) registry keys p)
+        × ((p : ℕ) → p < countIn keys → leaseIn (handedBack (w .head .boot) x asked buffer) p .boot ≡ w .head .boot)
     go x e h =
         let b = h e in
         rw e (
-          omega (arith, length-words (sharedOf (leasesOf buffer) asked), ap length (leases-words (sharedOf (leasesOf buffer) asked)), b .as-many),
+          omega (arith, length-words (w .head .boot) (sharedOf (holdsOf buffer) asked), many b),
           back-own (w .head .buckets) registry keys b,
+          λ p l. words-boot (w .head .boot) (sharedOf (holdsOf buffer) asked) p (omega (arith, many b)),
         )

@@ -6,23 +6,27 @@ use mathlib.Core.Path.{_≡_}
 use mathlib.Core.List.{List, [], _∷_, _++_, reverse}
 use mathlib.Core.Bool.{true}
 use mathlib.Core.Logic.{_⊎_}
-use lib.ListN.{length, replicate}
+use lib.ListN.{length, take, replicate}
 use Rattle.model.specs.Log.{Made, Actor, Event, by-caller, by-script, took, released}
-use Rattle.model.specs.Arena.{headOf, leaseOf, leasesOf, isIn}
-use Rattle.model.specs.Refusals.{numberOf}
+use Rattle.model.specs.Arena.{headOf, isStale, leaseLive, holdOf, holdIn, leasesOf, holdsOf, isIn, shapeFits}
+use Rattle.model.specs.Refusals.{Rule, numberOf, first}
 use Rattle.model.specs.Foreign.{stepsIn, kindAt, placeAt, numberAt}
-use Rattle.model.specs.Lock.{leaseAt}
-use Rattle.model.specs.Checks.{countIn}
+use Rattle.model.specs.Lock.{holdAt}
+use Rattle.model.specs.Checks.{countIn, badShape, badHealth, badRegistry, badScript, badHeldLength, badHeld, notLive, tooManyLeases, notReleasable}
 use Rattle.model.specs.Calls.{countsOf}
 use Rattle.model.specs.Salvage.{salvageOf}
 use Rattle.types.specs.declared.Answer.{Answer}
 use Rattle.types.specs.declared.Answer.the-variants.{Done, Cell, Granted, AllGranted, Busy, Refused, RefusedAt}
 use Rattle.types.specs.declared.CrewReply.{CrewReply}
 use Rattle.types.specs.declared.Head.{Head}
+use Rattle.types.specs.declared.Hold.{Hold}
 use Rattle.types.specs.declared.Lease.{Lease}
 use Rattle.types.specs.declared.Refusal.{Refusal}
+use Rattle.types.specs.declared.Refusal.the-variants.{StaleBoot}
+use Rattle.types.specs.declared.Check.the-variants.{Fine}
+use Rattle.laws.specs.Checks.{leaseIn}
 use Rattle.history.specs.World.{World, worldOf, cells, Live, now, Lawful, Sound, Spent, Unreleased, caller-releases, bits, number-of, attempts, boundaries, yields, drops, takes, releases, Whole, Apart}
-use Rattle.history.specs.Items.{Call, release-all, acquire-locks, By-keys, script-of, place-of, held-of, given-up, buffer, ByCell, IsCrew, asked, keyCell, Says, saying, perform, Build, Stepper, Item, preparation, Course, cold, noted, history-of, preparing, next-item, run, call, foreign-step, preparation-over, salvage, salvage-over, salvaging}
+use Rattle.history.specs.Items.{Call, try-acquire, drop-lease, read-permission, competing-acquire, release-then-handoff, foreign-release, drop-preserving, acquire-preserving, environment, try-lock, transactional, acquire-bucket, release-all, acquire-locks, acquire-sorted, crew, crew-at-work, Names-lease, By-keys, script-of, place-of, held-of, given-up, buffer, ByCell, IsCrew, asked, keyCell, Says, saying, perform, Build, Stepper, Item, preparation, Course, cold, noted, history-of, preparing, next-item, run, call, foreign-step, preparation-over, salvage, salvage-over, salvaging}
 use Rattle.types.specs.declared.SalvageAnswer.the-variants as salvaged
 
 -- ---- where a stretch of a history begins: "Demand 2 now starts from a prepared or a salvaged table."
@@ -31,8 +35,8 @@ use Rattle.types.specs.declared.SalvageAnswer.the-variants as salvaged
 abbrev pub Begins : World → Item → Type 0
 Begins w (call c) = ⊥
 Begins w (foreign-step kind place number) = ⊥
-Begins w (preparation headers buckets serial) = preparing headers buckets serial (w .table) (w .health) .0 ≡ Done
-Begins w (preparation-over headers buckets serial t g) = preparing headers buckets serial t g .0 ≡ Done
+Begins w (preparation headers buckets serial boot) = preparing headers buckets serial boot (w .table) (w .health) .0 ≡ Done
+Begins w (preparation-over headers buckets serial boot t g) = preparing headers buckets serial boot t g .0 ≡ Done
 Begins w (salvage paper report list) = (e n : ℕ) × (salvaging paper (w .table) (w .health) report list .0 ≡ salvaged.Done e n)
 Begins w (salvage-over paper t g report list) = (e n : ℕ) × (salvaging paper t g report list .0 ≡ salvaged.Done e n)
 
@@ -68,7 +72,7 @@ pub record Ledger (k : Course) : Type 0 where
   -- at every point, if at the first: no serial owns two cells
   pub apart : Apart (k .origin) → (before after : List Event) → history-of k ≡ before ++ after → Apart (now (k .origin) before)
   -- "until the next preparation a lease keeps its cell up to a release naming its cell and serial"
-  pub keeps : (l : Lease) (before middle after : List Event) → history-of k ≡ before ++ (middle ++ after)
+  pub keeps : (l : Hold) (before middle after : List Event) → history-of k ≡ before ++ (middle ++ after)
       → Live (now (k .origin) before) l → Unreleased l middle → Live (now (k .origin) (before ++ middle)) l
   -- "a serial that was issued and owns nothing never owns again"; "For a salvaged one, a dead serial below next stays dead from there on, up
   -- to the next preparation"
@@ -101,7 +105,7 @@ Sound-if-apart =
 -- what a preparation that is done leaves
 abbrev pub Prepared-fresh : Type 0
 Prepared-fresh =
-    (headers buckets serial : ℕ) (t g : List ℕ) → preparing headers buckets serial t g .0 ≡ Done → Fresh (preparing headers buckets serial t g .1)
+    (headers buckets serial boot : ℕ) (t g : List ℕ) → preparing headers buckets serial boot t g .0 ≡ Done → Fresh (preparing headers buckets serial boot t g .1)
 
 -- there no cell is held, so no serial owns two: sound at every point
 abbrev pub Prepared-sound : Type 0
@@ -116,35 +120,35 @@ Prepared-counted =
     → bits (cells (k .world)) (k .world .table) + number-of releases (history-of k) ≡ number-of takes (history-of k))
 
 -- the item is a preparation with these numbers, of the arena's own runs or of others that are lent in their place
-pub data Prepares (w : World) (headers buckets serial : ℕ) : Item → List ℕ → List ℕ → Type 0 where
-  own-runs : Prepares w headers buckets serial (preparation headers buckets serial) (w .table) (w .health)
-  other-runs : (t g : List ℕ) → Prepares w headers buckets serial (preparation-over headers buckets serial t g) t g
+pub data Prepares (w : World) (headers buckets serial boot : ℕ) : Item → List ℕ → List ℕ → Type 0 where
+  own-runs : Prepares w headers buckets serial boot (preparation headers buckets serial boot) (w .table) (w .health)
+  other-runs : (t g : List ℕ) → Prepares w headers buckets serial boot (preparation-over headers buckets serial boot t g) t g
 
 -- every stretch that a done preparation began, whatever came before it, is from a preparation: up to the next start it begins with what the
 -- preparation left, nothing but zeros under the head asked for. So "next minus first serial = takes in the history"
 abbrev pub Prepared-begins : Type 0
 Prepared-begins =
-    (k : Course) (i : Item) (headers buckets serial : ℕ) (t g : List ℕ) (items : List Item) → Prepares (k .world) headers buckets serial i t g
-    → preparing headers buckets serial t g .0 ≡ Done → No-start (next-item k i) items
+    (k : Course) (i : Item) (headers buckets serial boot : ℕ) (t g : List ℕ) (items : List Item) → Prepares (k .world) headers buckets serial boot i t g
+    → preparing headers buckets serial boot t g .0 ≡ Done → No-start (next-item k i) items
     → let d = run k (i ∷ items) in
-    (d .origin ≡ preparing headers buckets serial t g .1) × Fresh (d .origin) × (d .origin .head ≡ headOf headers buckets serial)
+    (d .origin ≡ preparing headers buckets serial boot t g .1) × Fresh (d .origin) × (d .origin .head ≡ headOf headers buckets serial boot)
     × (d .world .head .next ≡ serial + number-of takes (history-of d))
 
 -- "nothing afterwards depends on what stood there before"
 abbrev pub Forgets : Type 0
 Forgets =
-    (rubbish rubbish′ : World) (headers buckets serial : ℕ) (items : List Item)
-    → preparing headers buckets serial (rubbish .table) (rubbish .health) .0 ≡ Done
-    → preparing headers buckets serial (rubbish′ .table) (rubbish′ .health) .0 ≡ Done
-    → run (cold rubbish) (preparation headers buckets serial ∷ items) ≡ run (cold rubbish′) (preparation headers buckets serial ∷ items)
+    (rubbish rubbish′ : World) (headers buckets serial boot : ℕ) (items : List Item)
+    → preparing headers buckets serial boot (rubbish .table) (rubbish .health) .0 ≡ Done
+    → preparing headers buckets serial boot (rubbish′ .table) (rubbish′ .health) .0 ≡ Done
+    → run (cold rubbish) (preparation headers buckets serial boot ∷ items) ≡ run (cold rubbish′) (preparation headers buckets serial boot ∷ items)
 
 -- "A refused preparation changes no lent word .. and the head before it stays the one in force": the item, which reads the runs that the
 -- preparation hands back, leaves the world as it was
 abbrev pub Refused-stays : Type 0
 Refused-stays =
-    (k : Course) (headers buckets serial : ℕ)
-    → let a = preparing headers buckets serial (k .world .table) (k .world .health) .0 in
-    (a ≡ Done → ⊥) → next-item k (preparation headers buckets serial) ≡ noted k [] (saying a) (k .world)
+    (k : Course) (headers buckets serial boot : ℕ)
+    → let a = preparing headers buckets serial boot (k .world .table) (k .world .health) .0 in
+    (a ≡ Done → ⊥) → next-item k (preparation headers buckets serial boot) ≡ noted k [] (saying a) (k .world)
 
 -- "refuse ReportFull before the first change": a refused salvage, which reads the runs that the salvage hands back, leaves the history as it was
 abbrev pub Salvage-refused-stays : Type 0
@@ -188,7 +192,8 @@ Counts-are f =
     → let log = f w k .log in
     f w k .seen .1 .counts ≡ countsOf (number-of attempts log) (number-of boundaries log) (number-of yields log) (number-of drops log)
 
--- ---- "Refusals 1 to 5, 8 (by cell), 12 to 15 change nothing, all counts 0." The script's place and the grant buffer are as they were given.
+-- ---- "Refusals 1 to 5, 8 (by cell), 12 to 15 change nothing, all counts 0." Document 02, L8: so does 16. The script's place and the grant buffer are as
+-- they were given.
 
 abbrev pub Early : Call → Refusal → Type 0
 Early k r = (numberOf r ≤ 5) ⊎ (((numberOf r ≡ 8) × ByCell k) ⊎ (12 ≤ numberOf r))
@@ -221,36 +226,38 @@ Crew-at-work-refused f =
 
 -- ---- what a grant is
 
--- "Cell number = header x B + bucket.": a grant names the cell that was asked for, by key the key's own
+-- "Cell number = header x B + bucket.": a grant names the cell that was asked for, by key the key's own. Document 02, L8: "The head and every lease
+-- gain a boot number": a grant has the head's
 abbrev pub Grant-is : Build → Type 0
-Grant-is f = (w : World) (k : Call) (l : Lease) → answer-in (f w k) ≡ Granted l → l .cell ≡ asked w k
+Grant-is f = (w : World) (k : Call) (l : Lease) → answer-in (f w k) ≡ Granted l → (l .cell ≡ asked w k) × (l .boot ≡ w .head .boot)
 
 -- "On a grant, multi-lock's buffer holds cell and serial for each key, in key order". Document 02, L4: "hand back one lease per key in the
--- caller's order"
+-- caller's order". L8: three words a lease, the third the head's boot number
 abbrev pub Buffer-is : Build → Type 0
 Buffer-is f =
     (w : World) (k : Call) (registry keys : List ℕ) → By-keys k registry keys
     → let m = f w k in
     answer-in m ≡ AllGranted
-    → (length (buffer-in m) ≡ 2 * countIn keys)
-    × ((p : ℕ) → p < countIn keys → leaseAt (leasesOf (buffer-in m)) p .cell ≡ keyCell (w .head .buckets) registry keys p)
+    → (length (buffer-in m) ≡ 3 * countIn keys)
+    × ((p : ℕ) → p < countIn keys → holdAt (holdsOf (buffer-in m)) p .cell ≡ keyCell (w .head .buckets) registry keys p)
+    × ((p : ℕ) → p < countIn keys → leaseIn (buffer-in m) p .boot ≡ w .head .boot)
 
--- whether an answer, with the grant buffer, hands this lease over
-abbrev pub Hands-over : Answer → List ℕ → Lease → Type 0
+-- whether an answer, with the grant buffer, hands over a lease with this cell and serial; its boot number is the head's (`Grant-is`, `Buffer-is`)
+abbrev pub Hands-over : Answer → List ℕ → Hold → Type 0
 Hands-over Done grants l = ⊥
 Hands-over (Cell c) grants l = ⊥
-Hands-over (Granted m) grants l = m ≡ l
-Hands-over AllGranted grants l = isIn l (leasesOf grants) ≡ true
+Hands-over (Granted m) grants l = holdIn m ≡ l
+Hands-over AllGranted grants l = isIn l (holdsOf grants) ≡ true
 Hands-over (Busy why) grants l = ⊥
 Hands-over (Refused r) grants l = ⊥
 Hands-over (RefusedAt r p) grants l = ⊥
 
-abbrev pub Gives : Made (World × Says) → Lease → Type 0
+abbrev pub Gives : Made (World × Says) → Hold → Type 0
 Gives m = Hands-over (answer-in m) (buffer-in m)
 
 -- what is handed over is live in the world that the call leaves
 abbrev pub Given-live : Build → Type 0
-Given-live f = (w : World) (k : Call) (l : Lease) → Gives (f w k) l → Live (world-in (f w k)) l
+Given-live f = (w : World) (k : Call) (l : Hold) → Gives (f w k) l → Live (world-in (f w k)) l
 
 -- ---- "one that takes a cell, answers nothing and keeps it" is ruled out: what a call takes and does not hand over, it gives back
 
@@ -263,8 +270,8 @@ abbrev pub Nothing-kept : Build → Type 0
 Nothing-kept f =
     (w : World) (k : Call) (c s : ℕ) (before after : List Event) → (IsCrew k → ⊥)
     → f w k .log ≡ before ++ (took by-caller c s ∷ after)
-    → (Gives (f w k) (leaseOf c s) × Live (world-in (f w k)) (leaseOf c s))
-    ⊎ (Given-back c s after × (Live (world-in (f w k)) (leaseOf c s) → ⊥))
+    → (Gives (f w k) (holdOf c s) × Live (world-in (f w k)) (holdOf c s))
+    ⊎ (Given-back c s after × (Live (world-in (f w k)) (holdOf c s) → ⊥))
 
 -- "6 to 11 .. the caller holds nothing new; the grant buffer is unchanged", and so for Busy
 abbrev pub Fails : Answer → Type 0
@@ -281,7 +288,7 @@ abbrev pub Nothing-held : Call → Made (World × Says) → Type 0
 Nothing-held k m =
     (buffer-in m ≡ buffer k)
     × ((c s : ℕ) (before after : List Event) → m .log ≡ before ++ (took by-caller c s ∷ after)
-    → Given-back c s after × (Live (world-in m) (leaseOf c s) → ⊥))
+    → Given-back c s after × (Live (world-in m) (holdOf c s) → ⊥))
 
 abbrev pub Nothing-new : Build → Type 0
 Nothing-new f = (w : World) (k : Call) → (IsCrew k → ⊥) → Fails (answer-in (f w k)) → Nothing-held k (f w k)
@@ -292,7 +299,7 @@ abbrev pub Falling-all : Build → Type 0
 Falling-all f =
     (w : World) (script : List ℕ) (place : ℕ) (leases : List ℕ)
     → let m = f w (release-all script place leases) in
-    answer-in m ≡ Done → caller-releases (m .log) ≡ reverse (leasesOf leases)
+    answer-in m ≡ Done → caller-releases (m .log) ≡ reverse (holdsOf leases)
 
 -- "On a refusal at position p all taken leases are released as in `release_all`": the log of a refused multi-lock parts in two. The keys
 -- before the position p were locked in the first part, each its own cell, and every other lease taken there was given back there; the second
@@ -300,14 +307,14 @@ Falling-all f =
 pub record Rolled-back (buckets : ℕ) (registry keys : List ℕ) (p : ℕ) (log : List Event) : Type 0 where
   pub locking : List Event
   pub rollback : List Event
-  pub leases : List Lease
+  pub leases : List Hold
   pub parts : log ≡ locking ++ rollback
   pub position : p < countIn keys
   pub many : length leases ≡ p
-  pub own : (i : ℕ) → i < p → leaseAt leases i .cell ≡ keyCell buckets registry keys i
-  pub taken : (l : Lease) → isIn l leases ≡ true → (m n : List Event) × (locking ≡ m ++ (took by-caller (l .cell) (l .serial) ∷ n))
+  pub own : (i : ℕ) → i < p → holdAt leases i .cell ≡ keyCell buckets registry keys i
+  pub taken : (l : Hold) → isIn l leases ≡ true → (m n : List Event) × (locking ≡ m ++ (took by-caller (l .cell) (l .serial) ∷ n))
   pub others : (c s : ℕ) (before after : List Event) → locking ≡ before ++ (took by-caller c s ∷ after)
-      → (isIn (leaseOf c s) leases ≡ true) ⊎ Given-back c s after
+      → (isIn (holdOf c s) leases ≡ true) ⊎ Given-back c s after
   pub last-first : caller-releases rollback ≡ reverse leases
   pub none-taken : (c s : ℕ) (before after : List Event) → rollback ≡ before ++ (took by-caller c s ∷ after) → ⊥
 
@@ -328,7 +335,7 @@ Named f =
     (w : World) (k : Call) (c s : ℕ) (before after : List Event)
     → (f w k .log ≡ before ++ (released by-script c s ∷ after) → By-step (script-of k) (place-of k) c s)
     × (f w k .log ≡ before ++ (released by-caller c s ∷ after)
-    → (isIn (leaseOf c s) (given-up k) ≡ true) ⊎ ((m n : List Event) × (before ≡ m ++ (took by-caller c s ∷ n))))
+    → (isIn (holdOf c s) (given-up k) ≡ true) ⊎ ((m n : List Event) × (before ≡ m ++ (took by-caller c s ∷ n))))
 
 -- a lone foreign step releases only what it names
 abbrev pub Named-alone : Stepper → Type 0
@@ -341,5 +348,98 @@ Named-alone f =
 
 abbrev pub Held-live : Build → Type 0
 Held-live f =
-    (w : World) (k : Call) (l : Lease) (before after : List Event) → isIn l (held-of k) ≡ true → Live w l
+    (w : World) (k : Call) (l : Hold) (before after : List Event) → isIn l (held-of k) ≡ true → Live w l
     → f w k .log ≡ before ++ after → Live (now w before) l
+
+-- ---- document 02, L8: boot numbers
+
+-- no call changes the head's boot number, and no lone foreign step does
+abbrev pub Boot-stays : Build → Type 0
+Boot-stays f = (w : World) (k : Call) → world-in (f w k) .head .boot ≡ w .head .boot
+
+abbrev pub Boot-stays-alone : Stepper → Type 0
+Boot-stays-alone f = (w : World) (kind place number : ℕ) → f w kind place number .seen .head .boot ≡ w .head .boot
+
+-- a lease that has not the head's boot number, or is not live: wherever a call is given one, as the lease that it is about or in its list, it is refused, hands
+-- nothing over, changes nothing and has no counts
+abbrev pub Refused-unowned : Build → Type 0
+Refused-unowned f =
+    (w : World) (k : Call) (l : Lease) → Names-lease k l → (leaseLive (w .head) (w .table) l ≡ true → ⊥)
+    → (r : Refusal) × Early k r
+    × (f w k ≡ record { seen = (w, record { answer = Refused r; counts = countsOf 0 0 0 0; place = place-of k; grants = buffer k }); log = [] })
+
+-- "A lease with another boot number is refused": wherever a call is given one, as the lease that it is about or in its list, it changes nothing, hands
+-- nothing over and has no counts. The refusal is 16, unless a test before that one refuses (`Stale-is-16`)
+abbrev pub Refused-stale : Build → Type 0
+Refused-stale f =
+    (w : World) (k : Call) (l : Lease) → Names-lease k l → isStale (w .head) l ≡ true
+    → (r : Refusal) × Early k r
+    × (f w k ≡ record { seen = (w, record { answer = Refused r; counts = countsOf 0 0 0 0; place = place-of k; grants = buffer k }); log = [] })
+
+-- the calls that are given one lease and no list
+abbrev pub One-lease : Call → Lease → Type 0
+One-lease (try-acquire c) l = ⊥
+One-lease (drop-lease m) l = m ≡ l
+One-lease (read-permission m) l = m ≡ l
+One-lease (competing-acquire m) l = m ≡ l
+One-lease (release-then-handoff m) l = m ≡ l
+One-lease (foreign-release held m) l = ⊥
+One-lease (drop-preserving held m) l = ⊥
+One-lease (acquire-preserving held c) l = ⊥
+One-lease (environment script place held) l = ⊥
+One-lease (try-lock script place held c) l = ⊥
+One-lease (transactional registry script place held binding bucket) l = ⊥
+One-lease (acquire-bucket registry script place held binding bucket) l = ⊥
+One-lease (release-all script place leases) l = ⊥
+One-lease (acquire-locks registry script place held keys grants) l = ⊥
+One-lease (acquire-sorted registry script place held keys grants) l = ⊥
+One-lease (crew counts cells turns) l = ⊥
+One-lease (crew-at-work counts cells turns counters) l = ⊥
+
+-- the calls that are given one lease beside a held list
+pub data Beside : Call → (held : List ℕ) → Lease → Type 0 where
+  releases-between : (held : List ℕ) (l : Lease) → Beside (foreign-release held l) held l
+  drops-beside : (held : List ℕ) (l : Lease) → Beside (drop-preserving held l) held l
+
+-- the tests of head and runs, and of a script; with a registry; of a held list up to position i: each lease before has the head's boot number and is live
+abbrev pub scripted : World → List ℕ → ℕ → List Rule
+scripted w script place = badShape (w .head) (w .table) ∷ badHealth (w .head) (w .health) ∷ badScript script place ∷ []
+
+abbrev pub keyed : World → List ℕ → List ℕ → ℕ → List Rule
+keyed w registry script place = badShape (w .head) (w .table) ∷ badHealth (w .head) (w .health) ∷ badRegistry registry ∷ badScript script place ∷ []
+
+abbrev pub held-before : World → List ℕ → ℕ → List Rule
+held-before w held i = badHeldLength held ∷ notLive (w .head) (w .table) 0 (take i (leasesOf held))
+
+-- the calls that are given a list of leases: its words, and what is tested before the lease at position i of it
+pub data Listed (w : World) : Call → (leases : List ℕ) → (ℕ → List Rule) → Type 0 where
+  beside-release : (held : List ℕ) (l : Lease) → Listed w (foreign-release held l) held (λ i. badShape (w .head) (w .table) ∷ held-before w held i)
+  beside-drop : (held : List ℕ) (l : Lease) → Listed w (drop-preserving held l) held (λ i. badShape (w .head) (w .table) ∷ held-before w held i)
+  beside-acquire : (held : List ℕ) (c : ℕ) → Listed w (acquire-preserving held c) held (λ i. badShape (w .head) (w .table) ∷ held-before w held i)
+  in-environment : (script : List ℕ) (place : ℕ) (held : List ℕ) → Listed w (environment script place held) held (λ i. scripted w script place ++ held-before w held i)
+  in-lock : (script : List ℕ) (place : ℕ) (held : List ℕ) (c : ℕ) → Listed w (try-lock script place held c) held (λ i. scripted w script place ++ held-before w held i)
+  in-attempt : (registry script : List ℕ) (place : ℕ) (held : List ℕ) (binding bucket : ℕ)
+      → Listed w (transactional registry script place held binding bucket) held (λ i. keyed w registry script place ++ held-before w held i)
+  in-attempts : (registry script : List ℕ) (place : ℕ) (held : List ℕ) (binding bucket : ℕ)
+      → Listed w (acquire-bucket registry script place held binding bucket) held (λ i. keyed w registry script place ++ held-before w held i)
+  in-locks : (registry script : List ℕ) (place : ℕ) (held keys grants : List ℕ)
+      → Listed w (acquire-locks registry script place held keys grants) held (λ i. keyed w registry script place ++ held-before w held i)
+  in-sorted : (registry script : List ℕ) (place : ℕ) (held keys grants : List ℕ)
+      → Listed w (acquire-sorted registry script place held keys grants) held (λ i. keyed w registry script place ++ held-before w held i)
+  to-release : (script : List ℕ) (place : ℕ) (leases : List ℕ)
+      → Listed w (release-all script place leases) leases
+      (λ i. scripted w script place ++ (tooManyLeases leases ∷ notReleasable (w .head) (w .table) 0 [] (take i (leasesOf leases))))
+
+-- "with its position, nothing changed and all counts 0: after the length tests, position by position, before 3 and 12 at that place"; 0 for one lease
+pub record Stale-is-16 (f : Build) : Type 0 where
+  -- one lease: the shape fits
+  pub alone : (w : World) (k : Call) (l : Lease) → One-lease k l → shapeFits (w .head) (length (w .table)) ≡ true → isStale (w .head) l ≡ true
+      → answer-in (f w k) ≡ Refused (StaleBoot 0)
+  -- beside a held list: the shape fits, and the held list is fine
+  pub beside : (w : World) (k : Call) (held : List ℕ) (l : Lease) → Beside k held l
+      → first (badShape (w .head) (w .table) ∷ badHeld (w .head) (w .table) held) ≡ Fine → isStale (w .head) l ≡ true
+      → answer-in (f w k) ≡ Refused (StaleBoot 0)
+  -- in a list: what comes before is fine
+  pub listed : (w : World) (k : Call) (leases : List ℕ) (before : ℕ → List Rule) (i : ℕ) → Listed w k leases before
+      → 3 * i + 2 < length leases → first (before i) ≡ Fine → isStale (w .head) (leaseIn leases i) ≡ true
+      → answer-in (f w k) ≡ Refused (StaleBoot i)

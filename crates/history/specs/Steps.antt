@@ -7,7 +7,7 @@ use native.Mathlib.Omega.{arith}
 use lib.Dec.{ltb, leb, eqb}
 use borrow.Author.Tests.{ltb-true, leb-true, not-true}
 use Rattle.model.specs.Log.{Made, Event, by-caller, by-script, attempt-begun, boundary-run, yielded, spun, step-dropped, took, released, waiters-set, health-set}
-use Rattle.model.specs.Arena.{serialRemains, cellsOf, spentTo, leaseOf, headerOf, isPoisoned, bitAt, ownerAt, waitersAt, isFree, isLive, isIn, stateAt}
+use Rattle.model.specs.Arena.{serialRemains, cellsOf, spentTo, holdOf, headerOf, isPoisoned, bitAt, ownerAt, waitersAt, isFree, isLive, isIn, stateAt}
 use Rattle.model.specs.Foreign.{stepsIn, kindAt, placeAt, numberAt, stepTakeOf, stepReleaseOf, stepWaitersOf, stepHealthOf, stepOf, runStepsOf, boundaryOf, flowOf}
 use Rattle.model.specs.Lock.{takeIn, takeOf, lateOf, afterTake, secondOf, lockOf, outcomeOf, findOf, attemptAt, attemptOf, spinOf, pauseOf, isBusy, retryOf, runOf}
 use Rattle.model.specs.Calls.{given}
@@ -15,7 +15,7 @@ use Rattle.types.specs.declared.Flow.{Flow}
 use Rattle.types.specs.declared.Found.{Found}
 use Rattle.types.specs.declared.Found.the-variants as found
 use Rattle.types.specs.declared.Head.{Head}
-use Rattle.types.specs.declared.Lease.{Lease}
+use Rattle.types.specs.declared.Hold.{Hold}
 use Rattle.types.specs.declared.Locked.{Locked}
 use Rattle.types.specs.declared.Outcome.{Outcome}
 use Rattle.types.specs.declared.Outcome.the-variants as outcome
@@ -41,16 +41,16 @@ abbrev pub worldAt : Head → ℕ → List ℕ → List ℕ → World
 worldAt h n t g = worldOf (spentTo h n) t g
 
 -- a definition of the model, run from the world w, keeps what `Kept` says; `world` reads the world that it leaves in what it gives
-pub record Leads {A : Type 0} (world : A → World) (w : World) (P : Lease → Type 0) (m : Made A) : Type 0 where
+pub record Leads {A : Type 0} (world : A → World) (w : World) (P : Hold → Type 0) (m : Made A) : Type 0 where
   pub kept : Kept w P (world (m .seen)) (m .log)
 
 -- and what it gives has Q
-pub record Gains {A : Type 0} (world : A → World) (Q : A → Type 0) (w : World) (P : Lease → Type 0) (m : Made A) : Type 0 where
+pub record Gains {A : Type 0} (world : A → World) (Q : A → Type 0) (w : World) (P : Hold → Type 0) (m : Made A) : Type 0 where
   pub kept : Kept w P (world (m .seen)) (m .log)
   pub gain : Q (m .seen)
 
 -- one after the other: what the second gives is what both give
-pub followed : {A : Type 0} {world : A → World} {Q : A → Type 0} {w v : World} {P : Lease → Type 0} {xs : List Event} {m : Made A}
+pub followed : {A : Type 0} {world : A → World} {Q : A → Type 0} {w v : World} {P : Hold → Type 0} {xs : List Event} {m : Made A}
     → Fit w → Kept w P v xs → Gains world Q v P m → Gains world Q w P (record { seen = m .seen; log = xs ++ m .log })
 followed g a b = record { kept = chain g a (b .kept); gain = b .gain }
 
@@ -80,17 +80,17 @@ of-took h g a = worldAt h (a .0 .next) (a .1) g
 
 -- of cell c; of any cell
 pub data Gained (n : ℕ) (v : World) (c : ℕ) : Outcome → Type 0 where
-  gained : (s : ℕ) → Live v (leaseOf c s) → n ≤ s → Gained n v c (outcome.Granted (leaseOf c s))
+  gained : (s : ℕ) → Live v (holdOf c s) → n ≤ s → Gained n v c (outcome.Granted (holdOf c s))
   was-busy : {why : Reason} → Gained n v c (outcome.Busy why)
   was-refused : (r : Refusal) → Gained n v c (outcome.Refused r)
 
 pub data Won (n : ℕ) (v : World) : Outcome → Type 0 where
-  won : (l : Lease) → Live v l → n ≤ l .serial → Won n v (outcome.Granted l)
+  won : (l : Hold) → Live v l → n ≤ l .serial → Won n v (outcome.Granted l)
   none-yet : {why : Reason} → Won n v (outcome.Busy why)
   no-more : (r : Refusal) → Won n v (outcome.Refused r)
 
 pub won-of : {n : ℕ} {v : World} {c : ℕ} {o : Outcome} → Gained n v c o → Won n v o
-won-of {c = c} (gained s x l) = won (leaseOf c s) x l
+won-of {c = c} (gained s x l) = won (holdOf c s) x l
 won-of was-busy = none-yet
 won-of (was-refused r) = no-more r
 
@@ -107,7 +107,7 @@ won-from k (no-more r) = no-more r
 -- ---- foreign steps
 
 module _ (h : Head) (script : List ℕ) where
-  module _ (ps : List Lease) (n : ℕ) (t g : List ℕ) where
+  module _ (ps : List Hold) (n : ℕ) (t g : List ℕ) where
     abbrev before : World
     before = worldAt h n t g
 
@@ -130,9 +130,9 @@ module _ (h : Head) (script : List ℕ) where
     release-step : (c s : ℕ) → OnTable (stepReleaseOf (cellsOf h) ps n t c s)
     unfolding stepReleaseOf
     release-step c s =
-        if-cases OnTable (isLive n (cellsOf h) t (leaseOf c s) && not (isIn (leaseOf c s) ps))
+        if-cases OnTable (isLive n (cellsOf h) t (holdOf c s) && not (isIn (holdOf c s) ps))
         (λ e.
-        let p = both (isLive n (cellsOf h) t (leaseOf c s)) (not (isIn (leaseOf c s) ps)) e in
+        let p = both (isLive n (cellsOf h) t (holdOf c s)) (not (isIn (holdOf c s) ps)) e in
         record { kept = event (released by-script c s) (p .0) (λ l i v x. differ (sym (not-true _ (p .1)) ∙ subst (In ps) x i)) })
         (λ e. record { kept = event step-dropped tt (λ l i v x. x) })
 
@@ -166,10 +166,10 @@ module _ (h : Head) (script : List ℕ) where
 
   -- ---- a boundary
 
-  abbrev Flowing : World → List Lease → Made (Flow × (List ℕ × List ℕ)) → Type 0
+  abbrev Flowing : World → List Hold → Made (Flow × (List ℕ × List ℕ)) → Type 0
   Flowing w ps = Leads (of-flow h) w (In ps)
 
-  steps-kept : (left : ℕ) (ps : List Lease) (f : Flow) (t g : List ℕ) → Fit (worldAt h (f .next) t g)
+  steps-kept : (left : ℕ) (ps : List Hold) (f : Flow) (t g : List ℕ) → Fit (worldAt h (f .next) t g)
       → Flowing (worldAt h (f .next) t g) ps (runStepsOf left (given h script ps) f t g)
   unfolding runStepsOf
   steps-kept zero ps f t g good = record { kept = nothing }
@@ -179,7 +179,7 @@ module _ (h : Head) (script : List ℕ) where
       if-both (Flowing (worldAt h (f .next) t g) ps) (eqb kind 5) (record { kept = nothing })
       (record { kept = chain good one (steps-kept left ps _ _ _ (kept-fit good one) .kept) })
 
-  pub boundary-kept : (ps : List Lease) (f : Flow) (t g : List ℕ) → Fit (worldAt h (f .next) t g)
+  pub boundary-kept : (ps : List Hold) (f : Flow) (t g : List ℕ) → Fit (worldAt h (f .next) t g)
       → Flowing (worldAt h (f .next) t g) ps (boundaryOf (given h script ps) f t g)
   unfolding boundaryOf
   boundary-kept ps f t g good =
@@ -187,7 +187,7 @@ module _ (h : Head) (script : List ℕ) where
 
   -- ---- a lock
 
-  pub take-kept : (P : Lease → Type 0) (n : ℕ) (t g : List ℕ) (c : ℕ) → Fit (worldAt h n t g) → c < cellsOf h
+  pub take-kept : (P : Hold → Type 0) (n : ℕ) (t g : List ℕ) (c : ℕ) → Fit (worldAt h n t g) → c < cellsOf h
       → Gains (of-took h g) (λ a. Gained n (of-took h g a) c (outcomeOf c (a .0 .answer))) (worldAt h n t g) P (takeOf n t c)
   unfolding takeOf
   take-kept P n t g c good l = go (stateAt n t c) refl
@@ -205,39 +205,39 @@ module _ (h : Head) (script : List ℕ) where
           })
           (λ r. record { kept = nothing; gain = was-refused _ })
 
-  abbrev Locking : ℕ → World → (Lease → Type 0) → ℕ → Made (With Locked) → Type 0
+  abbrev Locking : ℕ → World → (Hold → Type 0) → ℕ → Made (With Locked) → Type 0
   Locking n w P c = Gains (of-locked h) (λ a. Gained n (of-locked h a) c (a .0 .answer)) w P
 
-  late-kept : (ps : List Lease) (f : Flow) (t g : List ℕ) (c s n : ℕ) → Fit (worldAt h (f .next) t g) → Live (worldAt h (f .next) t g) (leaseOf c s) → n ≤ s
-      → Locking n (worldAt h (f .next) t g) (λ l. In ps l × (l ≡ leaseOf c s → ⊥)) c (lateOf (given h script ps) (h .buckets) f t g c s)
+  late-kept : (ps : List Hold) (f : Flow) (t g : List ℕ) (c s n : ℕ) → Fit (worldAt h (f .next) t g) → Live (worldAt h (f .next) t g) (holdOf c s) → n ≤ s
+      → Locking n (worldAt h (f .next) t g) (λ l. In ps l × (l ≡ holdOf c s → ⊥)) c (lateOf (given h script ps) (h .buckets) f t g c s)
   unfolding lateOf
   late-kept ps f t g c s n good v l =
-      let new = leaseOf c s in
+      let new = holdOf c s in
       let m = boundaryOf (given h script (ps ++ (new ∷ []))) f t g in
       let b = boundary-kept (ps ++ (new ∷ [])) f t g good .kept in
       let still = kept-live good b new (in-right new ps (new ∷ []) (in-first new [])) v in
-      let P : Lease → Type 0 = λ (l : Lease). In ps l × (l ≡ leaseOf c s → ⊥) in
+      let P : Hold → Type 0 = λ (l : Hold). In ps l × (l ≡ holdOf c s → ⊥) in
       followed good (weaken (λ k p _. in-left k ps (new ∷ []) (p .0)) b)
       (if-both (Locking n (of-flow h (m .seen)) P c) (isPoisoned (m .seen .1 .1) (headerOf (h .buckets) c))
       (record { kept = event (released by-caller c s) still (λ k p _ x. p .1 x); gain = was-refused _ })
       (if-both (Locking n (of-flow h (m .seen)) P c) (eqb (waitersAt (m .seen .1 .0) c) 0) (record { kept = nothing; gain = gained s still l })
       (record { kept = event (released by-caller c s) still (λ k p _ x. p .1 x); gain = was-busy })))
 
-  after-kept : (ps : List Lease) (a : Take) (f : Flow) (t g : List ℕ) (c n m : ℕ) → Fit (worldAt h (f .next) t g)
+  after-kept : (ps : List Hold) (a : Take) (f : Flow) (t g : List ℕ) (c n m : ℕ) → Fit (worldAt h (f .next) t g)
       → Gained n (worldAt h (f .next) t g) c (outcomeOf c a) → m ≤ n
       → Locking m (worldAt h (f .next) t g) (λ l. In ps l × (l .serial < m)) c (afterTake a (given h script ps) (h .buckets) f t g c)
   after-kept ps (taking.Granted s) f t g c n m good (gained u x i) l =
       let r = late-kept ps f t g c s m good x (omega arith) in
-      record { kept = weaken (λ k p _. (p .0, λ e. omega (arith, ap (λ (z : Lease). z .serial) e, p .1))) (r .kept); gain = r .gain }
+      record { kept = weaken (λ k p _. (p .0, λ e. omega (arith, ap (λ (z : Hold). z .serial) e, p .1))) (r .kept); gain = r .gain }
   after-kept ps (taking.Busy owner) f t g c n m good y l = record { kept = nothing; gain = was-busy }
   after-kept ps taking.Damaged f t g c n m good y l = record { kept = nothing; gain = was-refused _ }
   after-kept ps taking.Spent f t g c n m good y l = record { kept = nothing; gain = was-refused _ }
 
-  second-kept : (ps : List Lease) (f : Flow) (t g : List ℕ) (c : ℕ) → Fit (worldAt h (f .next) t g) → c < cellsOf h
+  second-kept : (ps : List Hold) (f : Flow) (t g : List ℕ) (c : ℕ) → Fit (worldAt h (f .next) t g) → c < cellsOf h
       → Locking (f .next) (worldAt h (f .next) t g) (In ps) c (secondOf (given h script ps) (h .buckets) f t g c)
   unfolding secondOf
   second-kept ps f t g c good l =
-      let P : Lease → Type 0 = λ (l : Lease). In ps l × (l .serial < f .next) in
+      let P : Hold → Type 0 = λ (l : Hold). In ps l × (l .serial < f .next) in
       let m = boundaryOf (given h script ps) f t g in
       let b = boundary-kept ps f t g good .kept in
       let good′ = kept-fit good b in
@@ -250,7 +250,7 @@ module _ (h : Head) (script : List ℕ) where
         gain = r .gain;
       }
 
-  pub lock-kept : (ps : List Lease) (f : Flow) (t g : List ℕ) (c : ℕ) → Fit (worldAt h (f .next) t g) → c < cellsOf h
+  pub lock-kept : (ps : List Hold) (f : Flow) (t g : List ℕ) (c : ℕ) → Fit (worldAt h (f .next) t g) → c < cellsOf h
       → Locking (f .next) (worldAt h (f .next) t g) (In ps) c (lockOf (given h script ps) (h .buckets) f t g c)
   unfolding lockOf
   lock-kept ps f t g c good l =
@@ -264,20 +264,20 @@ module _ (h : Head) (script : List ℕ) where
 
   -- ---- attempts by key
 
-  abbrev Trying : ℕ → World → List Lease → Made (With Tried) → Type 0
+  abbrev Trying : ℕ → World → List Hold → Made (With Tried) → Type 0
   Trying n w ps = Gains (of-tried h) (λ a. Won n (of-tried h a) (a .0 .outcome)) w (In ps)
 
   abbrev starts : Run → List ℕ → List ℕ → World
   starts r t g = worldAt h (r .flow .next) t g
 
-  attempt-at : (ps : List Lease) (x : Found) (r : Run) (t g : List ℕ) → Fit (starts r t g) → ((c : ℕ) → x ≡ found.At c → c < cellsOf h)
+  attempt-at : (ps : List Hold) (x : Found) (r : Run) (t g : List ℕ) → Fit (starts r t g) → ((c : ℕ) → x ≡ found.At c → c < cellsOf h)
       → Trying (r .flow .next) (starts r t g) ps (attemptAt x (given h script ps) (h .buckets) r t g)
   attempt-at ps (found.Fault x) r t g good l = record { kept = nothing; gain = no-more x }
   attempt-at ps (found.At c) r t g good l =
       let k = lock-kept ps (r .flow) t g c good (l c refl) in
       record { kept = ended (k .kept); gain = won-of (k .gain) }
 
-  pub attempt-kept : (ps : List Lease) (registry : List ℕ) (binding bucket : ℕ) (r : Run) (t g : List ℕ) → Fit (starts r t g)
+  pub attempt-kept : (ps : List Hold) (registry : List ℕ) (binding bucket : ℕ) (r : Run) (t g : List ℕ) → Fit (starts r t g)
       → Trying (r .flow .next) (starts r t g) ps (attemptOf (given h script ps) (h .buckets) registry binding bucket r t g)
   unfolding attemptOf
   attempt-kept ps registry binding bucket r t g good =
@@ -285,15 +285,15 @@ module _ (h : Head) (script : List ℕ) where
       (find-inside (h .headers) (h .buckets) g registry binding bucket) in
       record { kept = chain good (event attempt-begun tt (λ l i v x. x)) (k .kept); gain = k .gain }
 
-  abbrev Running : World → List Lease → Made (With Run) → Type 0
+  abbrev Running : World → List Hold → Made (With Run) → Type 0
   Running w ps = Leads (of-run h) w (In ps)
 
-  spin-kept : (ps : List Lease) (r : Run) (t g : List ℕ) → Fit (starts r t g) → Running (starts r t g) ps (spinOf (given h script ps) r t g)
+  spin-kept : (ps : List Hold) (r : Run) (t g : List ℕ) → Fit (starts r t g) → Running (starts r t g) ps (spinOf (given h script ps) r t g)
   unfolding spinOf
   spin-kept ps r t g good =
       record { kept = chain good (boundary-kept ps (r .flow) t g good .kept) (event spun tt (λ l i v x. x)) }
 
-  pause-kept : (ps : List Lease) (i : ℕ) (r : Run) (t g : List ℕ) → Fit (starts r t g) → Running (starts r t g) ps (pauseOf (given h script ps) i r t g)
+  pause-kept : (ps : List Hold) (i : ℕ) (r : Run) (t g : List ℕ) → Fit (starts r t g) → Running (starts r t g) ps (pauseOf (given h script ps) i r t g)
   unfolding pauseOf
   pause-kept ps i r t g good =
       let m = boundaryOf (given h script ps) (r .flow) t g in
@@ -302,7 +302,7 @@ module _ (h : Head) (script : List ℕ) where
       if-both (Running (starts r t g) ps) (eqb (i % 64) 63)
       (record { kept = chain good b (chain (kept-fit good b) (event yielded tt (λ l i v x. x)) (s .kept)) }) (spin-kept ps r t g good)
 
-  pub retry-kept : (left i : ℕ) (last : Reason) (ps : List Lease) (registry : List ℕ) (binding bucket : ℕ) (r : Run) (t g : List ℕ) → Fit (starts r t g)
+  pub retry-kept : (left i : ℕ) (last : Reason) (ps : List Hold) (registry : List ℕ) (binding bucket : ℕ) (r : Run) (t g : List ℕ) → Fit (starts r t g)
       → Trying (r .flow .next) (starts r t g) ps (retryOf left i last (given h script ps) (h .buckets) registry binding bucket r t g)
   unfolding retryOf
   retry-kept zero i last ps registry binding bucket r t g good = record { kept = nothing; gain = none-yet }

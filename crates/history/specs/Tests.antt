@@ -1,5 +1,5 @@
 -- What the model's tests say of a cell, of a lease and of a list of leases, as facts about numbers; and what those facts say of the tests.
-use Prim.Native.Nat.{ℕ, zero, suc, _+_, _≤_, _<_}
+use Prim.Native.Nat.{ℕ, zero, suc, _+_, _*_, _≤_, _<_}
 use mathlib.Core.Path.{_≡_, refl, sym, ap, _∙_}
 use mathlib.Core.List.{List, [], _∷_, _++_}
 use mathlib.Core.Bool.{Bool, true, false, _&&_}
@@ -9,11 +9,12 @@ use lib.Dec.{ltb, leb, eqb}
 use lib.ListN.{length, getD, take}
 use borrow.Author.Tests.{ltb-true, leb-true, eqb-true, lt-ltb, le-leb, eq-eqb}
 use Rattle.choice.specs.Choice.{if_then_else_}
-use Rattle.model.specs.Arena.{bitAt, ownerAt, isFree, isHeld, stateOf, stateAt, heldBy, isLive, leaseOf, sameLease, isIn, leasesOf, wordsOf}
-use Rattle.types.specs.declared.Lease.{Lease}
+use Rattle.model.specs.Arena.{bitAt, ownerAt, isFree, isHeld, stateOf, stateAt, heldBy, isLive, holdOf, sameHold, isIn, holdsOf, wordsOf}
+use Rattle.types.specs.declared.Hold.{Hold}
 use Rattle.types.specs.declared.State.{State}
 use Rattle.types.specs.declared.State.the-variants.{Free, Held, Damaged}
 use Rattle.choice.specs.Pick.{both}
+use Rattle.laws.specs.Lists.{words-back}
 
 -- two constructors of Bool
 pub differ : false ≡ true → ⊥
@@ -92,14 +93,14 @@ is-free-state next t c e =
 
 -- ---- a live lease
 
-pub record Alive (next cells : ℕ) (t : List ℕ) (l : Lease) : Type 0 where
+pub record Alive (next cells : ℕ) (t : List ℕ) (l : Hold) : Type 0 where
   pub in-range : l .cell < cells
   pub bit-is : bitAt t (l .cell) ≡ 1
   pub owner-is : ownerAt t (l .cell) ≡ l .serial
   pub low : 1 ≤ l .serial
   pub high : l .serial < next
 
-pub alive : (next cells : ℕ) (t : List ℕ) (l : Lease) → isLive next cells t l ≡ true → Alive next cells t l
+pub alive : (next cells : ℕ) (t : List ℕ) (l : Hold) → isLive next cells t l ≡ true → Alive next cells t l
 unfolding isLive stateAt
 alive next cells t l e =
     let p = both (ltb (l .cell) cells) (heldBy (stateAt next t (l .cell)) (l .serial)) e in
@@ -112,51 +113,51 @@ alive next cells t l e =
         record { in-range = i; bit-is = x; owner-is = q; low = omega arith; high = omega arith }
     go (is-damaged f g) i e = absurd (differ e)
 
-pub live : (next cells : ℕ) (t : List ℕ) (l : Lease) → Alive next cells t l → isLive next cells t l ≡ true
+pub live : (next cells : ℕ) (t : List ℕ) (l : Hold) → Alive next cells t l → isLive next cells t l ≡ true
 unfolding isLive stateAt
 live next cells t l a =
     rw (lt-ltb (l .cell) cells (a .in-range), state-held next (bitAt t (l .cell)) (ownerAt t (l .cell)) (a .bit-is) (omega arith) (omega arith), eq-eqb (ownerAt t (l .cell)) (l .serial) (a .owner-is))
 
 -- ---- leases and lists of them
 
-pub same-lease : (l k : Lease) → l .cell ≡ k .cell → l .serial ≡ k .serial → l ≡ k
-same-lease l k p q = ap (λ (x : ℕ). leaseOf x (l .serial)) p ∙ ap (leaseOf (k .cell)) q
+pub same-lease : (l k : Hold) → l .cell ≡ k .cell → l .serial ≡ k .serial → l ≡ k
+same-lease l k p q = ap (λ (x : ℕ). holdOf x (l .serial)) p ∙ ap (holdOf (k .cell)) q
 
-pub same-true : (l k : Lease) → sameLease l k ≡ true → l ≡ k
-unfolding sameLease
+pub same-true : (l k : Hold) → sameHold l k ≡ true → l ≡ k
+unfolding sameHold
 same-true l k e =
     let p = both (eqb (l .cell) (k .cell)) (eqb (l .serial) (k .serial)) e in
     same-lease l k (eqb-true _ _ (p .0)) (eqb-true _ _ (p .1))
 
-pub same-refl : (l : Lease) → sameLease l l ≡ true
-unfolding sameLease
+pub same-refl : (l : Hold) → sameHold l l ≡ true
+unfolding sameHold
 same-refl l = rw (eq-eqb (l .cell) (l .cell) refl, eq-eqb (l .serial) (l .serial) refl)
 
 -- the lease stands in the list
-abbrev pub In : List Lease → Lease → Type 0
+abbrev pub In : List Hold → Hold → Type 0
 In ls l = isIn l ls ≡ true
 
-pub in-first : (l : Lease) (ls : List Lease) → In (l ∷ ls) l
+pub in-first : (l : Hold) (ls : List Hold) → In (l ∷ ls) l
 unfolding isIn
 in-first l ls = rw (same-refl l)
 
-pub in-rest : (k l : Lease) (ls : List Lease) → In ls l → In (k ∷ ls) l
+pub in-rest : (k l : Hold) (ls : List Hold) → In ls l → In (k ∷ ls) l
 unfolding isIn
-in-rest k l ls i = go (sameLease k l)
+in-rest k l ls i = go (sameHold k l)
   where
     go : (b : Bool) → (if b then true else isIn l ls) ≡ true
     go true = refl
     go false = i
 
-pub in-cases : (k l : Lease) (ls : List Lease) → In (k ∷ ls) l → (k ≡ l) ⊎ In ls l
+pub in-cases : (k l : Hold) (ls : List Hold) → In (k ∷ ls) l → (k ≡ l) ⊎ In ls l
 unfolding isIn
-in-cases k l ls i = go (sameLease k l) refl i
+in-cases k l ls i = go (sameHold k l) refl i
   where
-    go : (b : Bool) → sameLease k l ≡ b → (if b then true else isIn l ls) ≡ true → (k ≡ l) ⊎ In ls l
+    go : (b : Bool) → sameHold k l ≡ b → (if b then true else isIn l ls) ≡ true → (k ≡ l) ⊎ In ls l
     go true e j = inl (same-true k l e)
     go false e j = inr j
 
-pub in-left : (l : Lease) (ls ks : List Lease) → In ls l → In (ls ++ ks) l
+pub in-left : (l : Hold) (ls ks : List Hold) → In ls l → In (ls ++ ks) l
 unfolding isIn
 in-left l [] ks i = absurd (differ i)
 in-left l (k ∷ ls) ks i = go (in-cases k l ls i) (in-left l ls ks)
@@ -165,11 +166,11 @@ in-left l (k ∷ ls) ks i = go (in-cases k l ls i) (in-left l ls ks)
     go (inl e) r = rw e (in-first l (ls ++ ks))
     go (inr j) r = in-rest k l (ls ++ ks) (r j)
 
-pub in-right : (l : Lease) (ls ks : List Lease) → In ks l → In (ls ++ ks) l
+pub in-right : (l : Hold) (ls ks : List Hold) → In ks l → In (ls ++ ks) l
 in-right l [] ks i = i
 in-right l (k ∷ ls) ks i = in-rest k l (ls ++ ks) (in-right l ls ks i)
 
-pub in-either : (l : Lease) (ls ks : List Lease) → In (ls ++ ks) l → In ls l ⊎ In ks l
+pub in-either : (l : Hold) (ls ks : List Hold) → In (ls ++ ks) l → In ls l ⊎ In ks l
 in-either l [] ks i = inr i
 in-either l (k ∷ ls) ks i = go (in-cases k l (ls ++ ks) i) (in-either l ls ks)
   where
@@ -178,14 +179,14 @@ in-either l (k ∷ ls) ks i = go (in-cases k l (ls ++ ks) i) (in-either l ls ks)
     go (inr j) r = elim (r j) [ inl x ↦ inl (in-rest k l ls x) | inr x ↦ inr x ]
 
 -- the i-th of a list is in its first n
-pub in-take : (ls : List Lease) (n i : ℕ) (d : Lease) → i < n → i < length ls → In (take n ls) (getD ls i d)
+pub in-take : (ls : List Hold) (n i : ℕ) (d : Hold) → i < n → i < length ls → In (take n ls) (getD ls i d)
 in-take [] n i d p q = absurd (omega arith)
 in-take (k ∷ ls) zero i d p q = absurd (omega arith)
 in-take (k ∷ ls) (suc n) zero d p q = in-first k (take n ls)
 in-take (k ∷ ls) (suc n) (suc i) d p q = in-rest k (getD ls i d) (take n ls) (in-take ls n i d (omega arith) (omega arith))
 
 -- a lease of a list has a place in it
-pub in-index : (ls : List Lease) (l d : Lease) → In ls l → (i : ℕ) × (i < length ls) × (l ≡ getD ls i d)
+pub in-index : (ls : List Hold) (l d : Hold) → In ls l → (i : ℕ) × (i < length ls) × (l ≡ getD ls i d)
 unfolding isIn
 in-index [] l d i = absurd (differ i)
 in-index (k ∷ ls) l d i = go (in-cases k l ls i) (in-index ls l d)
@@ -195,10 +196,15 @@ in-index (k ∷ ls) l d i = go (in-cases k l ls i) (in-index ls l d)
     go (inr j) r = let x = r j in (suc (x .0), omega (arith, x .1), x .2)
 
 -- leases written as words and read again
-pub leases-words : (ls : List Lease) → leasesOf (wordsOf ls) ≡ ls
-unfolding leasesOf wordsOf
-leases-words [] = refl
-leases-words (l ∷ ls) = ap {B = List Lease} (λ ks. l ∷ ks) (leases-words ls)
+pub leases-words : (boot : ℕ) (ls : List Hold) → holdsOf (wordsOf boot ls) ≡ ls
+leases-words = words-back
+
+-- each with the boot number that they were written with
+pub words-boot : (boot : ℕ) (ls : List Hold) (p : ℕ) → p < length ls → getD (wordsOf boot ls) (3 * p + 2) 0 ≡ boot
+unfolding wordsOf
+words-boot boot [] p k = absurd (omega arith)
+words-boot boot (l ∷ ls) zero k = refl
+words-boot boot (l ∷ ls) (suc p) k = let e : 3 * suc p + 2 ≡ suc (suc (suc (3 * p + 2))) = omega arith in rw e (words-boot boot ls p (omega arith))
 
 -- ---- choices
 

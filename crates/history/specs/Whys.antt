@@ -9,7 +9,7 @@ use lib.Dec.{ltb}
 use lib.ListN.{getD, List·getD-eq-default}
 use borrow.Author.Tests.{not-false, ltb-true, ltb-false}
 use Rattle.model.specs.Log.{Event, by-caller, by-script, attempt-begun, boundary-run, yielded, spun, step-dropped, took, released, waiters-set, health-set, held-all, added}
-use Rattle.model.specs.Arena.{headerOf, leaseOf, bitAt, ownerAt, waitersAt, stateAt, isLive}
+use Rattle.model.specs.Arena.{holdIn, headerOf, holdOf, bitAt, ownerAt, waitersAt, stateAt, isLive}
 use Rattle.model.specs.Lock.{takeOf}
 use Rattle.model.specs.Checks.{leaseRules}
 use Rattle.model.specs.Calls.{acquireOf}
@@ -83,7 +83,7 @@ module _ {buckets c : ℕ} {a : Answer} {b : ℕ} {log : List Event} {next : ℕ
   before-says (unlooked r e n f) q = let z : _≡_ {A = ℕ} 0 1 = cc in absurd (omega arith)
   before-says (holder s e n f h) q = let z : _≡_ {A = ℕ} 0 1 = cc in absurd (omega arith)
   before-says (stopped r e n f h) q = let z : _≡_ {A = ℕ} 0 1 = cc in absurd (omega arith)
-  before-says (granted s e n h) q = let z : _≡_ {A = ℕ} 0 1 = cc in absurd (omega arith)
+  before-says (granted s b′ e n h) q = let z : _≡_ {A = ℕ} 0 1 = cc in absurd (omega arith)
   before-says (late s x y e n p h w) q = let z : _≡_ {A = ℕ} 0 1 = cc in absurd (omega arith)
   before-says (poisoned s x y r e n p h) q = let z : _≡_ {A = ℕ} 0 1 = cc in absurd (omega arith)
 
@@ -92,7 +92,7 @@ module _ {buckets c : ℕ} {a : Answer} {b : ℕ} {log : List Event} {next : ℕ
   before-since (unlooked r e n f) q = absurd (omega arith)
   before-since (holder s e n f h) q = absurd (omega arith)
   before-since (stopped r e n f h) q = absurd (omega arith)
-  before-since (granted s e n h) q = absurd (omega arith)
+  before-since (granted s b′ e n h) q = absurd (omega arith)
   before-since (late s x y e n p h w) q = absurd (omega arith)
   before-since (poisoned s x y r e n p h) q = absurd (omega arith)
 
@@ -101,7 +101,7 @@ module _ {buckets c : ℕ} {a : Answer} {b : ℕ} {log : List Event} {next : ℕ
   held-says s (unlooked r e n f) q = let z : _≡_ {A = ℕ} 0 1 = cc in absurd (omega arith)
   held-says s (waited e n f w) q = let z : _≡_ {A = ℕ} 0 1 = cc in absurd (omega arith)
   held-says s (stopped r e n f h) q = let z : _≡_ {A = ℕ} 0 1 = cc in absurd (omega arith)
-  held-says s (granted o e n h) q = let z : _≡_ {A = ℕ} 0 1 = cc in absurd (omega arith)
+  held-says s (granted o b′ e n h) q = let z : _≡_ {A = ℕ} 0 1 = cc in absurd (omega arith)
   held-says s (late o x y e n p h w) q = let z : _≡_ {A = ℕ} 0 1 = cc in absurd (omega arith)
   held-says s (poisoned o x y r e n p h) q = let z : _≡_ {A = ℕ} 0 1 = cc in absurd (omega arith)
 
@@ -110,7 +110,7 @@ module _ {buckets c : ℕ} {a : Answer} {b : ℕ} {log : List Event} {next : ℕ
   held-since s (unlooked r e n f) q k = absurd (omega arith)
   held-since s (waited e n f w) q k = absurd (omega arith)
   held-since s (stopped r e n f h) q k = absurd (h s k)
-  held-since s (granted o e n h) q k = absurd (omega arith)
+  held-since s (granted o b′ e n h) q k = absurd (omega arith)
   held-since s (late o x y e n p h w) q k = absurd (omega arith)
   held-since s (poisoned o x y r e n p h) q k = absurd (omega arith)
 
@@ -120,7 +120,7 @@ module _ {buckets c : ℕ} {a : Answer} {b : ℕ} {log : List Event} {next : ℕ
   before-still (unlooked r e n f) q = f
   before-still (holder s e n f h) q = f
   before-still (stopped r e n f h) q = f
-  before-still (granted s e n h) q = let z : _≡_ {A = ℕ} 0 1 = cc in absurd (omega arith)
+  before-still (granted s b′ e n h) q = let z : _≡_ {A = ℕ} 0 1 = cc in absurd (omega arith)
   before-still (late s x y e n p h w) q = let z : _≡_ {A = ℕ} 0 1 = cc in absurd (omega arith)
   before-still (poisoned s x y r e n p h) q = let z : _≡_ {A = ℕ} 0 1 = cc in absurd (omega arith)
 
@@ -129,7 +129,7 @@ module _ {buckets c : ℕ} {a : Answer} {b : ℕ} {log : List Event} {next : ℕ
   held-still s (unlooked r e n f) q = f
   held-still s (holder o e n f h) q = f
   held-still s (stopped r e n f h) q = f
-  held-still s (granted o e n h) q = let z : _≡_ {A = ℕ} 0 1 = cc in absurd (omega arith)
+  held-still s (granted o b′ e n h) q = let z : _≡_ {A = ℕ} 0 1 = cc in absurd (omega arith)
   held-still s (late o x y e n p h w) q = let z : _≡_ {A = ℕ} 0 1 = cc in absurd (omega arith)
   held-still s (poisoned o x y r e n p h) q = let z : _≡_ {A = ℕ} 0 1 = cc in absurd (omega arith)
 
@@ -141,7 +141,7 @@ module _ {buckets c : ℕ} {a : Answer} {b : ℕ} {log : List Event} {next : ℕ
   after-says s (waited e n f w) q = let z : _≡_ {A = ℕ} 0 1 = cc in absurd (omega arith)
   after-says s (holder o e n f h) q = let z : _≡_ {A = ℕ} 0 1 = cc in absurd (omega arith)
   after-says s (stopped r e n f h) q = let z : _≡_ {A = ℕ} 0 1 = cc in absurd (omega arith)
-  after-says s (granted o e n h) q = let z : _≡_ {A = ℕ} 0 1 = cc in absurd (omega arith)
+  after-says s (granted o b′ e n h) q = let z : _≡_ {A = ℕ} 0 1 = cc in absurd (omega arith)
   after-says s (poisoned o x y r e n p h) q = let z : _≡_ {A = ℕ} 0 1 = cc in absurd (omega arith)
 
   after-since : (s : ℕ) (xs : List Event) → Looks buckets c a b log next t g → log ≡ xs ++ (released by-caller c s ∷ []) → getD g (headerOf buckets c) 0 ≡ 0 → a ≡ Busy (After s)
@@ -154,7 +154,7 @@ module _ {buckets c : ℕ} {a : Answer} {b : ℕ} {log : List Event} {next : ℕ
   after-since s xs (waited e n f w) q k = absurd (not-foreign xs c s f q)
   after-since s xs (holder o e n f h) q k = absurd (not-foreign xs c s f q)
   after-since s xs (stopped r e n f h) q k = absurd (not-foreign xs c s f q)
-  after-since s xs (granted o e n h) q k = absurd (ends-released xs c s (subst (λ (l : List Event). caller-releases l ≡ []) q h))
+  after-since s xs (granted o b′ e n h) q k = absurd (ends-released xs c s (subst (λ (l : List Event). caller-releases l ≡ []) q h))
 
 -- ---- of a call: just before its last release, header and waiters are as the call leaves them
 
@@ -234,16 +234,16 @@ looked-fit w k o n = elim (call-fit w k) [ inl e ↦ absurd (n (none e)) | inr f
     none e = ap (λ (x : Counts). x .boundaries) (calls-counted w k (not-crew k o)) ∙ ap (number-of boundaries) e
 
 -- a held cell is in range: behind the table there is no bit
-held-lives : (v : World) (c s : ℕ) → Fit v → stateAt (v .head .next) (v .table) c ≡ state.Held s → Live v (leaseOf c s)
+held-lives : (v : World) (c s : ℕ) → Fit v → stateAt (v .head .next) (v .table) c ≡ state.Held s → Live v (holdOf c s)
 unfolding stateAt bitAt
 held-lives v c s f e = go (stands (v .head .next) (bitAt (v .table) c) (ownerAt (v .table) c)) e
   where
-    go : {x : State} → Stands (v .head .next) (bitAt (v .table) c) (ownerAt (v .table) c) x → x ≡ state.Held s → Live v (leaseOf c s)
+    go : {x : State} → Stands (v .head .next) (bitAt (v .table) c) (ownerAt (v .table) c) x → x ≡ state.Held s → Live v (holdOf c s)
     go (is-free x y) q = let z : _≡_ {A = ℕ} 0 1 = cc in absurd (omega arith)
     go (is-damaged x y) q = let z : _≡_ {A = ℕ} 0 1 = cc in absurd (omega arith)
     go (is-held b l h) q =
         let i : ownerAt (v .table) c ≡ s = cc in
-        live (v .head .next) (cells v) (v .table) (leaseOf c s)
+        live (v .head .next) (cells v) (v .table) (holdOf c s)
         (record { in-range = inside (ltb c (cells v)) refl; bit-is = b; owner-is = i; low = omega arith; high = omega arith })
       where
         inside : (x : Bool) → ltb c (cells v) ≡ x → c < cells v
@@ -262,16 +262,16 @@ holder-lives w k s o q =
 
 -- the serial that a take issued is live nowhere else behind it: where no cell is damaged, no owner was the next serial before
 sole : (w : World) (c s : ℕ) (log front behind : List Event) → log ≡ front ++ (took by-caller c s ∷ behind) → Good w → Lawful w log
-    → (d : ℕ) → Live (now w log) (leaseOf d s) → d ≡ c
+    → (d : ℕ) → Live (now w log) (holdOf d s) → d ≡ c
 sole w c s log front behind e g t d v =
     let e′ = took by-caller c s in
     let u = now w front in
     let parts = lawful-split w front (e′ ∷ behind) (subst (Lawful w) e t) in
     let legal = parts .1 .0 in
     let then = good-now w front g (parts .0) in
-    let last : Live (now (step u e′) behind) (leaseOf d s) = subst (λ (x : World). Live x (leaseOf d s)) (ap (now w) e ∙ now-append w front (e′ ∷ behind)) v in
+    let last : Live (now (step u e′) behind) (holdOf d s) = subst (λ (x : World). Live x (holdOf d s)) (ap (now w) e ∙ now-append w front (e′ ∷ behind)) v in
     new-owner u by-caller c s then legal d s (λ o. omega (arith, legal .1 .0))
-    (live-back (step u e′) behind (leaseOf d s) (fit (good-step u e′ then legal)) (parts .1 .1) (omega (arith, legal .1 .0)) last)
+    (live-back (step u e′) behind (holdOf d s) (fit (good-step u e′ then legal)) (parts .1 .1) (omega (arith, legal .1 .0)) last)
 
 pub late-is-spent : Late-is-spent perform
 late-is-spent w k s o whole q =
@@ -281,14 +281,14 @@ late-is-spent w k s o whole q =
     let e = released by-caller c s in
     let lawful = lawful-split w (x .up-to) (e ∷ []) (subst (Lawful w) (x .gives-up) (call-kept w k .kept .lawful)) in
     let g = good-now w (x .up-to) (good w whole) (lawful .0) in
-    let alive-then = lives u (leaseOf c s) (lawful .1 .0) in
+    let alive-then = lives u (holdOf c s) (lawful .1 .0) in
     subst (λ (v : World). Spent v s) (sym (left w k c s (x .up-to) (x .gives-up)))
     (record {
       was-issued = alive-then .high;
       owns-none = λ d l.
-          let before = live-before u e (leaseOf d s) (fit g) (lawful .1 .0) l (alive-then .high) in
+          let before = live-before u e (holdOf d s) (fit g) (lawful .1 .0) l (alive-then .high) in
           let same : d ≡ c = sole w c s (x .up-to) (x .front) (x .behind) (x .taken) (good w whole) (lawful .0) d before in
-          released-dead u (leaseOf c s) (fit g) (lawful .1 .0) (subst (λ (n : ℕ). Live (step u e) (leaseOf n s)) same l);
+          released-dead u (holdOf c s) (fit g) (lawful .1 .0) (subst (λ (n : ℕ). Live (step u e) (holdOf n s)) same l);
     })
 
 -- ---- one compare-and-set by itself
@@ -298,10 +298,10 @@ unfolding leaseRules acquireOf takeOf stateAt
 own-serial w l why =
     performed (λ m. answer-in m ≡ Busy why → why ≡ Held (l .serial)) w (competing-acquire l)
     (λ r q. let z : _≡_ {A = ℕ} 0 1 = cc in absurd (omega arith))
-    (λ fine. met (not-false (isLive (w .head .next) (cells w) (w .table) l) (fine .1 .0)))
+    (λ fine. met (not-false (isLive (w .head .next) (cells w) (w .table) (holdIn l)) (fine .1 .1 .0)))
   where
-    met : isLive (w .head .next) (cells w) (w .table) l ≡ true → acquireOf 1 (w .head) (w .table) (l .cell) .seen .0 .answer ≡ Busy why → why ≡ Held (l .serial)
+    met : isLive (w .head .next) (cells w) (w .table) (holdIn l) ≡ true → acquireOf 1 (w .head) (w .table) (l .cell) .seen .0 .answer ≡ Busy why → why ≡ Held (l .serial)
     met v =
-        let a = alive (w .head .next) (cells w) (w .table) l v in
+        let a = alive (w .head .next) (cells w) (w .table) (holdIn l) v in
         let h = state-held (w .head .next) (bitAt (w .table) (l .cell)) (ownerAt (w .table) (l .cell)) (a .bit-is) (omega arith) (omega arith) in
         rw (h, a .owner-is) (λ q. cc)

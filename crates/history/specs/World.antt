@@ -6,9 +6,9 @@ use mathlib.Core.Bool.{Bool, true, false}
 use lib.Dec.{eqb}
 use lib.ListN.{length, getD, set}
 use Rattle.model.specs.Log.{Event, by-caller, by-script, attempt-begun, boundary-run, yielded, spun, step-dropped, took, released, waiters-set, health-set, held-all, added}
-use Rattle.model.specs.Arena.{lastSerial, cellsOf, spentTo, leaseOf, headerOf, bitAt, setCell, setWaiters, stateAt, isLive, shapeFits, healthFits}
+use Rattle.model.specs.Arena.{lastSerial, cellsOf, spentTo, holdOf, headerOf, bitAt, setCell, setWaiters, stateAt, isLive, shapeFits, healthFits}
 use Rattle.types.specs.declared.Head.{Head}
-use Rattle.types.specs.declared.Lease.{Lease}
+use Rattle.types.specs.declared.Hold.{Hold}
 use Rattle.types.specs.declared.State.the-variants as state
 
 pub record World : Type 0 where
@@ -26,7 +26,7 @@ cells w = cellsOf (w .head)
 abbrev pub Free : World → ℕ → Type 0
 Free w c = (c < cells w) × (stateAt (w .head .next) (w .table) c ≡ state.Free)
 
-abbrev pub Live : World → Lease → Type 0
+abbrev pub Live : World → Hold → Type 0
 Live w l = isLive (w .head .next) (cells w) (w .table) l ≡ true
 
 -- "0 is healthy": the health byte of a cell's header
@@ -42,7 +42,7 @@ Legal w yielded = Unit {0}
 Legal w spun = Unit {0}
 Legal w step-dropped = Unit {0}
 Legal w (took a c s) = Free w c × ((s ≡ w .head .next) × (s < lastSerial))
-Legal w (released a c s) = Live w (leaseOf c s)
+Legal w (released a c s) = Live w (holdOf c s)
 Legal w (waiters-set c n) = c < cells w
 Legal w (health-set i n) = (i < w .head .headers) × (n ≤ 1)
 Legal w (held-all m) = Unit {0}
@@ -81,7 +81,7 @@ pub record Whole (w : World) : Type 0 where
 
 -- the third: a history from a preparation has it; one from a salvage, exactly if the salvaged arena has it
 abbrev pub Apart : World → Type 0
-Apart w = (c d s : ℕ) → Live w (leaseOf c s) → Live w (leaseOf d s) → c ≡ d
+Apart w = (c d s : ℕ) → Live w (holdOf c s) → Live w (holdOf d s) → c ≡ d
 
 pub record Sound (w : World) : Type 0 where
   pub whole : Whole w
@@ -131,26 +131,26 @@ number-of k (e ∷ es) = one (eqb (code (kind-of e)) (code k)) + number-of k es
 
 -- ---- what a log does with a lease
 
-abbrev pub Releases : Lease → Event → Type 0
+abbrev pub Releases : Hold → Event → Type 0
 Releases l attempt-begun = ⊥
 Releases l boundary-run = ⊥
 Releases l yielded = ⊥
 Releases l spun = ⊥
 Releases l step-dropped = ⊥
 Releases l (took a c s) = ⊥
-Releases l (released a c s) = l ≡ leaseOf c s
+Releases l (released a c s) = l ≡ holdOf c s
 Releases l (waiters-set c n) = ⊥
 Releases l (health-set i n) = ⊥
 Releases l (held-all m) = ⊥
 Releases l (added m c v) = ⊥
 
 -- no event of it releases this cell with this serial
-abbrev pub Unreleased : Lease → List Event → Type 0
+abbrev pub Unreleased : Hold → List Event → Type 0
 Unreleased l [] = Unit {0}
 Unreleased l (e ∷ es) = (Releases l e → ⊥) × Unreleased l es
 
 -- what the caller releases, in the order of the log
-unfoldable pub caller-releases : List Event → List Lease
+unfoldable pub caller-releases : List Event → List Hold
 caller-releases [] = []
 caller-releases (attempt-begun ∷ es) = caller-releases es
 caller-releases (boundary-run ∷ es) = caller-releases es
@@ -158,7 +158,7 @@ caller-releases (yielded ∷ es) = caller-releases es
 caller-releases (spun ∷ es) = caller-releases es
 caller-releases (step-dropped ∷ es) = caller-releases es
 caller-releases (took a c s ∷ es) = caller-releases es
-caller-releases (released by-caller c s ∷ es) = leaseOf c s ∷ caller-releases es
+caller-releases (released by-caller c s ∷ es) = holdOf c s ∷ caller-releases es
 caller-releases (released by-script c s ∷ es) = caller-releases es
 caller-releases (waiters-set c n ∷ es) = caller-releases es
 caller-releases (health-set i n ∷ es) = caller-releases es
@@ -168,4 +168,4 @@ caller-releases (added m c v ∷ es) = caller-releases es
 -- "a serial that was issued and owns nothing"
 pub record Spent (w : World) (s : ℕ) : Type 0 where
   pub was-issued : s < w .head .next
-  pub owns-none : (c : ℕ) → Live w (leaseOf c s) → ⊥
+  pub owns-none : (c : ℕ) → Live w (holdOf c s) → ⊥

@@ -8,16 +8,16 @@ use native.Mathlib.Omega.{arith}
 use lib.ListN.{length}
 use lib.Seq.{take-length}
 use Rattle.model.specs.Log.{Made, Actor, Event, by-caller, attempt-begun, boundary-run, yielded, spun, step-dropped, took, released, waiters-set, health-set, held-all, added}
-use Rattle.model.specs.Arena.{leaseOf, leasesOf, setCell}
+use Rattle.model.specs.Arena.{holdOf, holdIn, holdsOf, setCell}
 use Rattle.model.specs.Foreign.{Setting, protecting, flowOf}
-use Rattle.model.specs.Lock.{takeOf, lockOf, outcomeOf, answerOf, attemptOf, retryOf, attemptLimit, noneYet, settled, leaseAt, noLease, rollbackOf, afterKey, bindingAt, bucketAt, locksOf}
+use Rattle.model.specs.Lock.{takeOf, lockOf, outcomeOf, answerOf, attemptOf, retryOf, attemptLimit, noneYet, settled, holdAt, noHold, rollbackOf, afterKey, bindingAt, bucketAt, locksOf}
 use Rattle.model.specs.Checks.{countIn}
 use Rattle.model.specs.Calls.{given, starting, acquireOf, prepareOf}
 use Rattle.model.specs.Sorted.{cellsAsked, cellsSorted, sortedKeys, firstKey, askedFirst}
 use Rattle.types.specs.declared.Answer.{Answer}
 use Rattle.types.specs.declared.Answer.the-variants.{Done, Cell, Granted, AllGranted, Busy, Refused, RefusedAt}
 use Rattle.types.specs.declared.Head.{Head}
-use Rattle.types.specs.declared.Lease.{Lease}
+use Rattle.types.specs.declared.Hold.{Hold}
 use Rattle.types.specs.declared.Outcome.{Outcome}
 use Rattle.types.specs.declared.Outcome.the-variants as outcome
 use Rattle.types.specs.declared.Reason.{Reason}
@@ -45,7 +45,7 @@ use Rattle.history.specs.HandedCalls.{call-came}
 -- ---- one log: between a live lease and the next take of its cell stands a release of it
 
 -- an event releases this lease, or not
-pub looked : (l : Lease) (e : Event) → (Releases l e → ⊥) ⊎ ((a : Actor) × (e ≡ released a (l .cell) (l .serial)))
+pub looked : (l : Hold) (e : Event) → (Releases l e → ⊥) ⊎ ((a : Actor) × (e ≡ released a (l .cell) (l .serial)))
 looked l attempt-begun = inl (λ x. x)
 looked l boundary-run = inl (λ x. x)
 looked l yielded = inl (λ x. x)
@@ -56,24 +56,24 @@ looked l (released a c s) = go (ℕ-discrete (l .cell) c) (ℕ-discrete (l .seri
   where
     go : Dec (l .cell ≡ c) → Dec (l .serial ≡ s) → (Releases l (released a c s) → ⊥) ⊎ ((b : Actor) × (released a c s ≡ released b (l .cell) (l .serial)))
     go (yes p) (yes q) = inr (a, rw (p, q))
-    go (yes p) (no q) = inl (λ x. q (ap (λ (k : Lease). k .serial) x))
-    go (no p) q = inl (λ x. p (ap (λ (k : Lease). k .cell) x))
+    go (yes p) (no q) = inl (λ x. q (ap (λ (k : Hold). k .serial) x))
+    go (no p) q = inl (λ x. p (ap (λ (k : Hold). k .cell) x))
 looked l (waiters-set c n) = inl (λ x. x)
 looked l (health-set i n) = inl (λ x. x)
 looked l (held-all m) = inl (λ x. x)
 looked l (added m c v) = inl (λ x. x)
 
-pub parted : (w : World) (c s s′ : ℕ) (b : Actor) (between after : List Event) → Fit w → Live w (leaseOf c s) → Lawful w (between ++ (took b c s′ ∷ after))
+pub parted : (w : World) (c s s′ : ℕ) (b : Actor) (between after : List Event) → Fit w → Live w (holdOf c s) → Lawful w (between ++ (took b c s′ ∷ after))
     → (a : Actor) × (before middle : List Event) × (between ≡ before ++ (released a c s ∷ middle))
 parted w c s s′ b [] after g v k =
-    absurd (omega (arith, lives w (leaseOf c s) v .bit-is, free-words (w .head .next) (w .table) c (k .0 .0 .1) .0))
+    absurd (omega (arith, lives w (holdOf c s) v .bit-is, free-words (w .head .next) (w .table) c (k .0 .0 .1) .0))
 parted w c s s′ b (e ∷ es) after g v k =
-    go (looked (leaseOf c s) e) (λ n. parted (step w e) c s s′ b es after (fit-step w e g (k .0)) (keep-step w e (leaseOf c s) g (k .0) v n) (k .1))
+    go (looked (holdOf c s) e) (λ n. parted (step w e) c s s′ b es after (fit-step w e g (k .0)) (keep-step w e (holdOf c s) g (k .0) v n) (k .1))
   where
     Out : List Event → Type 0
     Out xs = (a : Actor) × (before middle : List Event) × (xs ≡ before ++ (released a c s ∷ middle))
 
-    go : (Releases (leaseOf c s) e → ⊥) ⊎ ((a : Actor) × (e ≡ released a c s)) → ((Releases (leaseOf c s) e → ⊥) → Out es) → Out (e ∷ es)
+    go : (Releases (holdOf c s) e → ⊥) ⊎ ((a : Actor) × (e ≡ released a c s)) → ((Releases (holdOf c s) e → ⊥) → Out es) → Out (e ∷ es)
     go (inr r) on = (r .0, [], es, ap (λ (x : Event). x ∷ es) (r .1))
     go (inl n) on = let r = on n in (r .0, e ∷ r .1, r .2, ap (λ (x : List Event). e ∷ x) (r .3))
 
@@ -81,7 +81,7 @@ parted w c s s′ b (e ∷ es) after g v k =
 
 -- from the world w on, each entry took what it hands over, and left it live
 abbrev pub Honest : World → Entry → Type 0
-Honest w e = (l : Lease) → Hands e l → Taken-in (w .head .next) l (e .events) × Live (now w (e .events)) l
+Honest w e = (l : Hold) → Hands e l → Taken-in (w .head .next) l (e .events) × Live (now w (e .events)) l
 
 abbrev pub Fair : World → List Entry → Type 0
 Fair w [] = Unit {0}
@@ -108,7 +108,7 @@ one-more : (d : Course) (e : Entry) → Kept-well d → Honest (d .world) e → 
 one-more d e s h = fair-append (d .origin) (d .entries) (e ∷ []) (s .fair) (subst (λ w. Honest w e) (s .stretch .leads) h, tt)
 
 -- a preparation hands nothing over
-prepared-fair : (a : Answer) (w v : World) (d : Course) → ((l : Lease) → Hands-over a [] l → ⊥) → Kept-well d
+prepared-fair : (a : Answer) (w v : World) (d : Course) → ((l : Hold) → Hands-over a [] l → ⊥) → Kept-well d
     → Fair (prepared-by a w v d .origin) (prepared-by a w v d .entries)
 prepared-fair Done w v d h s = tt
 prepared-fair (Cell c) w v d h s = one-more d _ s (λ l x. absurd (h l x))
@@ -124,14 +124,14 @@ salvaged-fair (salvaged.Done e n) w v d s = tt
 salvaged-fair salvaged.BadShape w v d s = s .fair
 salvaged-fair salvaged.ReportFull w v d s = s .fair
 
-hands-none : (headers buckets serial : ℕ) (t g : List ℕ) (l : Lease) → Hands-over (preparing headers buckets serial t g .0) [] l → ⊥
+hands-none : (headers buckets serial boot : ℕ) (t g : List ℕ) (l : Hold) → Hands-over (preparing headers buckets serial boot t g .0) [] l → ⊥
 unfolding preparing
-hands-none headers buckets serial t g l = go (came headers buckets serial t g)
+hands-none headers buckets serial boot t g l = go (came headers buckets serial boot t g)
   where
     None : Prepared → Type 0
     None o = Hands-over (o .0 .answer) [] l → ⊥
 
-    go : Came headers buckets serial t g → None (prepareOf headers buckets serial t g .seen)
+    go : Came headers buckets serial boot t g → None (prepareOf headers buckets serial boot t g .seen)
     go (was-done e p) = subst None (sym p) (λ x. x)
     go (was-refused e p) = subst None (sym p) (λ x. x)
 
@@ -139,12 +139,12 @@ item-fair : (d : Course) (i : Item) → Kept-well d → Fair (next-item d i .ori
 unfolding next-item
 item-fair d (call k) s = one-more d _ s (call-honest (d .world) k)
 item-fair d (foreign-step kind place number) s = one-more d _ s (λ l x. absurd x)
-item-fair d (preparation headers buckets serial) s =
-    let p = preparing headers buckets serial (d .world .table) (d .world .health) in
-    prepared-fair (p .0) (p .1) (worldOf (d .world .head) (p .1 .table) (p .1 .health)) d (hands-none headers buckets serial (d .world .table) (d .world .health)) s
-item-fair d (preparation-over headers buckets serial t g) s =
-    let p = preparing headers buckets serial t g in
-    prepared-fair (p .0) (p .1) (d .world) d (hands-none headers buckets serial t g) s
+item-fair d (preparation headers buckets serial boot) s =
+    let p = preparing headers buckets serial boot (d .world .table) (d .world .health) in
+    prepared-fair (p .0) (p .1) (worldOf (d .world .head) (p .1 .table) (p .1 .health)) d (hands-none headers buckets serial boot (d .world .table) (d .world .health)) s
+item-fair d (preparation-over headers buckets serial boot t g) s =
+    let p = preparing headers buckets serial boot t g in
+    prepared-fair (p .0) (p .1) (d .world) d (hands-none headers buckets serial boot t g) s
 item-fair d (salvage paper report list) s =
     let p = salvaging paper (d .world .table) (d .world .health) report list in
     salvaged-fair (p .0) (p .1) (worldOf (d .world .head) (p .1 .table) (p .1 .health)) d s
@@ -214,21 +214,21 @@ once-each rubbish start items d x z i c s s′ e p q =
     let w = run (cold rubbish) (start ∷ items) in
     let v = now (now (w .origin) (events-of x)) (i .events) in
     let a = at w x z i (through rubbish start items d) e in
-    sym (lives v (leaseOf c s) (a .honest (leaseOf c s) p .1) .owner-is) ∙ lives v (leaseOf c s′) (a .honest (leaseOf c s′) q .1) .owner-is
+    sym (lives v (holdOf c s) (a .honest (holdOf c s) p .1) .owner-is) ∙ lives v (holdOf c s′) (a .honest (holdOf c s′) q .1) .owner-is
 
 pub none-takes : None-takes
 none-takes rubbish start items d x z i c s s′ b between after e p q =
     let w = run (cold rubbish) (start ∷ items) in
     let v = now (now (w .origin) (events-of x)) (i .events) in
     let a = at w x z i (through rubbish start items d) e in
-    parted v c s s′ b between after (a .fits) (a .honest (leaseOf c s) p .1) (subst (Lawful v) q (a .lawful))
+    parted v c s s′ b between after (a .fits) (a .honest (holdOf c s) p .1) (subst (Lawful v) q (a .lawful))
 
 pub two-writers : Two-writers
 two-writers rubbish start items d x y z i j c s s′ e p q =
     let w = run (cold rubbish) (start ∷ items) in
     let v = now (now (w .origin) (events-of x)) (i .events) in
     let a = at w x (y ++ (j ∷ z)) i (through rubbish start items d) e in
-    let k = fair-split v y (j ∷ z) (a .fair) .0 (leaseOf c s′) q .0 in
+    let k = fair-split v y (j ∷ z) (a .fair) .0 (holdOf c s′) q .0 in
     let es = events-of y in
     let new = took by-caller c s′ in
     let whole = events-append y (j ∷ z) ∙ seam es (j .events) (k .before) (k .after) (events-of z) new (k .parts) in
@@ -236,7 +236,7 @@ two-writers rubbish start items d x y z i j c s s′ e p q =
     (r .0, r .1, r .2, k .after, spliced es (j .events) (k .before) (k .after) (r .1) (r .2) new (released (r .0) c s) (k .parts) (r .3))
 
 -- a log with a release of the lease is no log without one
-was-released : (c s : ℕ) (a : Actor) (before after : List Event) → Unreleased (leaseOf c s) (before ++ (released a c s ∷ after)) → ⊥
+was-released : (c s : ℕ) (a : Actor) (before after : List Event) → Unreleased (holdOf c s) (before ++ (released a c s ∷ after)) → ⊥
 was-released c s a [] after u = u .0 refl
 was-released c s a (e ∷ es) after u = was-released c s a es after (u .1)
 
@@ -244,13 +244,13 @@ pub alone-until-released : Alone-until-released
 alone-until-released rubbish start items d x y z i j c s e p u = (
   λ s′ q.
       let r = two-writers rubbish start items d x y z i j c s s′ e p q in
-      was-released c s (r .0) (r .1) _ (subst (Unreleased (leaseOf c s)) (r .4) u),
+      was-released c s (r .0) (r .1) _ (subst (Unreleased (holdOf c s)) (r .4) u),
   λ b s′ before after q.
       let whole : events-of (y ++ (j ∷ z)) ≡ before ++ (took b c s′ ∷ (after ++ events-of z))
       = events-append y (j ∷ z) ∙ sym (append-assoc (events-of y) (j .events) (events-of z)) ∙ ap (λ (l : List Event). l ++ events-of z) q ∙ append-assoc before (took b c s′ ∷ after) (events-of z) in
       let r = none-takes rubbish start items d x (y ++ (j ∷ z)) i c s s′ b before (after ++ events-of z) e p whole in
       was-released c s (r .0) (r .1) (r .2 ++ (took b c s′ ∷ after))
-      (subst (Unreleased (leaseOf c s)) (q ∙ ap (λ (l : List Event). l ++ (took b c s′ ∷ after)) (r .3) ∙ append-assoc (r .1) (released (r .0) c s ∷ r .2) (took b c s′ ∷ after)) u),
+      (subst (Unreleased (holdOf c s)) (q ∙ ap (λ (l : List Event). l ++ (took b c s′ ∷ after)) (r .3) ∙ append-assoc (r .1) (released (r .0) c s ∷ r .2) (took b c s′ ∷ after)) u),
 )
 
 pub takes-parted : Takes-parted
@@ -261,27 +261,27 @@ takes-parted rubbish start items d c s s′ a b x between z e =
     let v = now (w .origin) x in
     let v-fits = fit-now (w .origin) x (fit (k .good)) (p .0) in
     let same : s ≡ v .head .next = p .1 .0 .1 .0 in
-    let new : Live (step v (took a c s)) (leaseOf c s) = rw same (taken-live v a c v-fits (p .1 .0 .0 .0)) in
+    let new : Live (step v (took a c s)) (holdOf c s) = rw same (taken-live v a c v-fits (p .1 .0 .0 .0)) in
     parted (step v (took a c s)) c s s′ b between z (fit-step v (took a c s) v-fits (p .1 .0)) new (p .1 .1)
 
 -- ---- one call over a live lease
 
 pub not-over-live : Not-over-live perform
-not-over-live w k c s s′ v x = go (call-fit w k) (call-came w k (leaseOf c s′) x)
+not-over-live w k c s s′ v x = go (call-fit w k) (call-came w k (holdOf c s′) x)
   where
     Out : Type 0
     Out = (a : Actor) × (before middle after : List Event) × (log-of w k ≡ before ++ (released a c s ∷ (middle ++ (took by-caller c s′ ∷ after))))
 
-    go : (log-of w k ≡ []) ⊎ Fit w → Taken-in (w .head .next) (leaseOf c s′) (log-of w k) → Out
+    go : (log-of w k ≡ []) ⊎ Fit w → Taken-in (w .head .next) (holdOf c s′) (log-of w k) → Out
     go (inl z) t = absurd (not-empty (took by-caller c s′) (t .before) (t .after) (sym z ∙ t .parts))
     go (inr f) t =
         let r = parted w c s s′ by-caller (t .before) (t .after) f v (subst (Lawful w) (t .parts) (call-kept w k .kept .lawful)) in
         (r .0, r .1, r .2, t .after, spliced [] (log-of w k) (t .before) (t .after) (r .1) (r .2) (took by-caller c s′) (released (r .0) c s) (t .parts) (r .3))
 
-none-handed : (w : World) (k : Call) (c s s′ : ℕ) → Live w (leaseOf c s) → Unreleased (leaseOf c s) (log-of w k) → Gives (perform w k) (leaseOf c s′) → ⊥
+none-handed : (w : World) (k : Call) (c s s′ : ℕ) → Live w (holdOf c s) → Unreleased (holdOf c s) (log-of w k) → Gives (perform w k) (holdOf c s′) → ⊥
 none-handed w k c s s′ v u x =
     let r = not-over-live w k c s s′ v x in
-    was-released c s (r .0) (r .1) _ (subst (Unreleased (leaseOf c s)) (r .4) u)
+    was-released c s (r .0) (r .1) _ (subst (Unreleased (holdOf c s)) (r .4) u)
 
 -- what such a call answers
 abbrev One : Answer → Type 0
@@ -293,19 +293,19 @@ One (Busy why) = Unit {0}
 One (Refused r) = Unit {0}
 One (RefusedAt r p) = ⊥
 
-one-of : (o : Outcome) → One (answerOf o)
-one-of (outcome.Granted l) = tt
-one-of (outcome.Busy why) = tt
-one-of (outcome.Refused r) = tt
+one-of : (boot : ℕ) (o : Outcome) → One (answerOf boot o)
+one-of boot (outcome.Granted l) = tt
+one-of boot (outcome.Busy why) = tt
+one-of boot (outcome.Refused r) = tt
 
-one-settled : (o : Outcome) → One (answerOf (settled o))
-one-settled (outcome.Granted l) = tt
-one-settled (outcome.Busy why) = tt
-one-settled (outcome.Refused r) = tt
+one-settled : (boot : ℕ) (o : Outcome) → One (answerOf boot (settled o))
+one-settled boot (outcome.Granted l) = tt
+one-settled boot (outcome.Busy why) = tt
+one-settled boot (outcome.Refused r) = tt
 
 acquire-one : (n : ℕ) (h : Head) (t : List ℕ) (c : ℕ) → One (acquireOf n h t c .seen .0 .answer)
 unfolding acquireOf
-acquire-one n h t c = one-of (outcomeOf c (takeOf (h .next) t c .seen .0 .answer))
+acquire-one n h t c = one-of (h .boot) (outcomeOf c (takeOf (h .next) t c .seen .0 .answer))
 
 steps-one : (w : World) (k : Call) → Asks-one k → One (steps w k .seen .1 .answer)
 steps-one w (try-acquire c) a = acquire-one 1 (w .head) (w .table) c
@@ -320,13 +320,13 @@ steps-one w (drop-preserving held l) a = absurd a
 steps-one w (acquire-preserving held c) a = acquire-one 1 (w .head) (w .table) c
 steps-one w (environment script place held) a = absurd a
 steps-one w (try-lock script place held c) a =
-    one-of (lockOf (acting w (try-lock script place held c)) (w .head .buckets) (flowOf (w .head .next) place 0) (w .table) (w .health) c .seen .0 .answer)
+    one-of (w .head .boot) (lockOf (acting w (try-lock script place held c)) (w .head .buckets) (flowOf (w .head .next) place 0) (w .table) (w .health) c .seen .0 .answer)
 steps-one w (transactional registry script place held binding bucket) a =
     let e = acting w (transactional registry script place held binding bucket) in
-    one-of (attemptOf e (w .head .buckets) registry binding bucket (starting (w .head) place) (w .table) (w .health) .seen .0 .outcome)
+    one-of (w .head .boot) (attemptOf e (w .head .buckets) registry binding bucket (starting (w .head) place) (w .table) (w .health) .seen .0 .outcome)
 steps-one w (acquire-bucket registry script place held binding bucket) a =
     let e = acting w (acquire-bucket registry script place held binding bucket) in
-    one-settled (retryOf attemptLimit 0 noneYet e (w .head .buckets) registry binding bucket (starting (w .head) place) (w .table) (w .health) .seen .0 .outcome)
+    one-settled (w .head .boot) (retryOf attemptLimit 0 noneYet e (w .head .buckets) registry binding bucket (starting (w .head) place) (w .table) (w .health) .seen .0 .outcome)
 steps-one w (release-all script place leases) a = absurd a
 steps-one w (acquire-locks registry script place held keys grants) a = absurd a
 steps-one w (acquire-sorted registry script place held keys grants) a = absurd a
@@ -340,9 +340,9 @@ busy-or-refused w k s a v u = go (answers w k) refl (performed (λ m. One (m .se
     go Done e o = absurd o
     go (Cell c) e o = absurd o
     go (Granted l) e o =
-        let c = grants-name w k l e in
-        let m = leaseOf (asked w k) (l .serial) in
-        absurd (none-handed w k (asked w k) s (l .serial) v u (subst (λ x. Hands-over x (buffer-in (perform w k)) m) (sym e) (same-lease l m c refl)))
+        let c = grants-name w k l e .0 in
+        let m = holdOf (asked w k) (l .serial) in
+        absurd (none-handed w k (asked w k) s (l .serial) v u (subst (λ x. Hands-over x (buffer-in (perform w k)) m) (sym e) (same-lease (holdIn l) m c refl)))
     go AllGranted e o = absurd o
     go (Busy why) e o = inl (why, e)
     go (Refused r) e o = inr (r, e)
@@ -358,17 +358,17 @@ All-or-refused (Busy why) = ⊥
 All-or-refused (Refused r) = Unit {0}
 All-or-refused (RefusedAt r p) = Unit {0}
 
-locks-answer : (left p : ℕ) (e : Setting) (buckets : ℕ) (registry keys : List ℕ) (taken : List Lease) (r : Run) (t g grants : List ℕ)
-    → All-or-refused (locksOf left p e buckets registry keys taken r t g grants .seen .0 .answer)
+locks-answer : (left p : ℕ) (e : Setting) (buckets boot : ℕ) (registry keys : List ℕ) (taken : List Hold) (r : Run) (t g grants : List ℕ)
+    → All-or-refused (locksOf left p e buckets boot registry keys taken r t g grants .seen .0 .answer)
 unfolding locksOf rollbackOf
-locks-answer zero p e buckets registry keys taken r t g grants = tt
-locks-answer (suc left) p e buckets registry keys taken r t g grants =
+locks-answer zero p e buckets boot registry keys taken r t g grants = tt
+locks-answer (suc left) p e buckets boot registry keys taken r t g grants =
     let m = retryOf attemptLimit 0 noneYet (protecting e taken) buckets registry (bindingAt keys p) (bucketAt keys p) r t g .seen in
-    go (m .0 .outcome) (m .0 .run) (m .1 .0) (m .1 .1) (λ l. locks-answer left (p + 1) e buckets registry keys (taken ++ (l ∷ [])) (m .0 .run) (m .1 .0) (m .1 .1) grants)
+    go (m .0 .outcome) (m .0 .run) (m .1 .0) (m .1 .1) (λ l. locks-answer left (p + 1) e buckets boot registry keys (taken ++ (l ∷ [])) (m .0 .run) (m .1 .0) (m .1 .1) grants)
   where
     go : (o : Outcome) (s : Run) (u y : List ℕ)
-        → ((l : Lease) → All-or-refused (locksOf left (p + 1) e buckets registry keys (taken ++ (l ∷ [])) s u y grants .seen .0 .answer))
-        → All-or-refused (afterKey o e taken p s u y grants (λ l. locksOf left (p + 1) e buckets registry keys (taken ++ (l ∷ [])) s u y grants) .seen .0 .answer)
+        → ((l : Hold) → All-or-refused (locksOf left (p + 1) e buckets boot registry keys (taken ++ (l ∷ [])) s u y grants .seen .0 .answer))
+        → All-or-refused (afterKey o e taken p s u y grants (λ l. locksOf left (p + 1) e buckets boot registry keys (taken ++ (l ∷ [])) s u y grants) .seen .0 .answer)
     go (outcome.Granted l) s u y on = on l
     go (outcome.Busy why) s u y on = tt
     go (outcome.Refused x) s u y on = tt
@@ -386,14 +386,14 @@ asked-answer asked sorted (RefusedAt r p) o = tt
 all-or-refused : (w : World) (k : Call) (registry keys : List ℕ) → By-keys k registry keys → All-or-refused (answers w k)
 all-or-refused w k _ _ (in-order registry script place held keys grants) =
     performed (λ m. All-or-refused (m .seen .1 .answer)) w (acquire-locks registry script place held keys grants) (λ r. tt)
-    (λ _. locks-answer (countIn keys) 0 (given (w .head) script (leasesOf held)) (w .head .buckets) registry keys [] (starting (w .head) place) (w .table) (w .health) grants)
+    (λ _. locks-answer (countIn keys) 0 (given (w .head) script (holdsOf held)) (w .head .buckets) (w .head .boot) registry keys [] (starting (w .head) place) (w .table) (w .health) grants)
 all-or-refused w k _ _ (any-order registry script place held keys grants) =
     performed (λ m. All-or-refused (m .seen .1 .answer)) w (acquire-sorted registry script place held keys grants) (λ r. tt)
     (λ _.
     judged-at (λ (m : Made (World × Says)). All-or-refused (m .seen .1 .answer)) (firstKey (countIn keys) 0 (w .head) registry keys) (λ r p _. tt)
     (λ _.
     asked-answer (cellsAsked (w .head .buckets) registry keys) (cellsSorted (w .head .buckets) registry keys) (sorted-locks w registry script place held keys grants .seen .0 .answer)
-    (locks-answer (length (cellsSorted (w .head .buckets) registry keys)) 0 (given (w .head) script (leasesOf held)) (w .head .buckets) registry (sortedKeys (w .head .buckets) registry keys) [] (starting (w .head) place) (w .table) (w .health) grants)))
+    (locks-answer (length (cellsSorted (w .head .buckets) registry keys)) 0 (given (w .head) script (holdsOf held)) (w .head .buckets) (w .head .boot) registry (sortedKeys (w .head .buckets) registry keys) [] (starting (w .head) place) (w .table) (w .health) grants)))
 
 pub locks-refused : Locks-refused perform
 locks-refused w k registry keys p s many i v u = go (answers w k) refl (all-or-refused w k registry keys many)
@@ -401,8 +401,8 @@ locks-refused w k registry keys p s many i v u = go (answers w k) refl (all-or-r
     c : ℕ
     c = keyCell (w .head .buckets) registry keys p
 
-    ls : List Lease
-    ls = leasesOf (buffer-in (perform w k))
+    ls : List Hold
+    ls = holdsOf (buffer-in (perform w k))
 
     go : (x : Answer) → answers w k ≡ x → All-or-refused x → ((r : Refusal) × (answers w k ≡ Refused r)) ⊎ ((r : Refusal) × (q : ℕ) × (answers w k ≡ RefusedAt r q))
     go Done e o = absurd o
@@ -410,10 +410,10 @@ locks-refused w k registry keys p s many i v u = go (answers w k) refl (all-or-r
     go (Granted l) e o = absurd o
     go AllGranted e o =
         let b = buffers-name w k registry keys many e in
-        let l = leaseAt ls p in
+        let l = holdAt ls p in
         let n : p < length ls = omega (arith, words-leases (buffer-in (perform w k)), b .0) in
-        let stands : In ls l = subst (λ x. In x l) (take-length ls) (in-take ls (length ls) p noLease n n) in
-        let m = leaseOf c (l .serial) in
+        let stands : In ls l = subst (λ x. In x l) (take-length ls) (in-take ls (length ls) p noHold n n) in
+        let m = holdOf c (l .serial) in
         let here : In ls m = subst (In ls) (same-lease l m (b .1 p i) refl) stands in
         absurd (none-handed w k c s (l .serial) v u (subst (λ x. Hands-over x (buffer-in (perform w k)) m) (sym e) here))
     go (Busy why) e o = absurd o

@@ -10,12 +10,13 @@ use lib.ListN.{length, getD, drop, length-drop}
 use lib.Seq.{drop-cons}
 use borrow.Author.Tests.{leb-false, ltb-true, not-false}
 use Rattle.choice.specs.Choice.{if_then_else_}
-use Rattle.model.specs.Arena.{cellsOf, leaseOf, shapeFits, healthFits, isLive, leasesOf, sameLease, isIn, heldBy, stateAt}
+use Rattle.model.specs.Arena.{cellsOf, leaseOf, isStale, holdOf, holdIn, shapeFits, healthFits, isLive, leasesOf, holdsOf, sameHold, isIn, heldBy, stateAt}
 use Rattle.model.specs.Refusals.{Rule, refusalOf, first}
 use Rattle.model.specs.Checks.{badShape, badHealth, notLive, cellRules, leaseRules, heldCellRules, heldLeaseRules, badHeld}
 use Rattle.types.specs.declared.Check.{Check}
 use Rattle.types.specs.declared.Check.the-variants.{Fine, Fault}
 use Rattle.types.specs.declared.Head.{Head}
+use Rattle.types.specs.declared.Hold.{Hold}
 use Rattle.types.specs.declared.Lease.{Lease}
 use Rattle.types.specs.declared.Refusal.the-variants as refusal
 use Rattle.choice.specs.Pick.{both}
@@ -100,45 +101,68 @@ drop-two l n b =
     drop-cons l n 0 (omega arith)
     ∙ ap (λ (r : List ℕ). getD l n 0 ∷ r) (rw (← add-one n) (drop-cons l (n + 1) 0 b ∙ ap (λ (k : ℕ). getD l (n + 1) 0 ∷ drop k l) (let e : suc (n + 1) ≡ n + 2 = omega arith in e)))
 
-pub leases-at : (l : List ℕ) (i : ℕ) → 2 * i + 1 < length l
-    → leasesOf (drop (2 * i) l) ≡ leaseOf (getD l (2 * i) 0) (getD l (2 * i + 1) 0) ∷ leasesOf (drop (2 * (i + 1)) l)
-unfolding leasesOf
-leases-at l i b = let e : 2 * i + 2 ≡ 2 * (i + 1) = omega arith in rw (drop-two l (2 * i) b, e)
+pub drop-three : (l : List ℕ) (n : ℕ) → n + 2 < length l → drop n l ≡ getD l n 0 ∷ getD l (n + 1) 0 ∷ getD l (n + 2) 0 ∷ drop (n + 3) l
+drop-three l n b =
+    drop-two l n (omega arith)
+    ∙ ap (λ (r : List ℕ). getD l n 0 ∷ getD l (n + 1) 0 ∷ r) (drop-cons l (n + 2) 0 b ∙ ap (λ (k : ℕ). getD l (n + 2) 0 ∷ drop k l) (let e : suc (n + 2) ≡ n + 3 = omega arith in e))
 
-pub leases-end : (l : List ℕ) (i : ℕ) → length l ≤ 2 * i + 1 → leasesOf (drop (2 * i) l) ≡ []
-leases-end l i b = short (drop (2 * i) l) (simp length-drop (omega arith))
+-- the lease at position i of a list, and its hold
+abbrev pub leaseIn : List ℕ → ℕ → Lease
+leaseIn l i = leaseOf (getD l (3 * i) 0) (getD l (3 * i + 1) 0) (getD l (3 * i + 2) 0)
+
+pub leases-at : (l : List ℕ) (i : ℕ) → 3 * i + 2 < length l → leasesOf (drop (3 * i) l) ≡ leaseIn l i ∷ leasesOf (drop (3 * (i + 1)) l)
+unfolding leasesOf
+leases-at l i b = let e : 3 * i + 3 ≡ 3 * (i + 1) = omega arith in rw (drop-three l (3 * i) b, e)
+
+pub holds-at : (l : List ℕ) (i : ℕ) → 3 * i + 2 < length l → holdsOf (drop (3 * i) l) ≡ holdIn (leaseIn l i) ∷ holdsOf (drop (3 * (i + 1)) l)
+unfolding holdsOf
+holds-at l i b = let e : 3 * i + 3 ≡ 3 * (i + 1) = omega arith in rw (drop-three l (3 * i) b, e)
+
+pub leases-end : (l : List ℕ) (i : ℕ) → length l ≤ 3 * i + 2 → leasesOf (drop (3 * i) l) ≡ []
+leases-end l i b = short (drop (3 * i) l) (simp length-drop (omega arith))
   where
-    short : (r : List ℕ) → length r < 2 → leasesOf r ≡ []
+    short : (r : List ℕ) → length r < 3 → leasesOf r ≡ []
     short [] h = unfold leasesOf in refl
     short (a ∷ []) h = unfold leasesOf in refl
-    short (a ∷ b ∷ r) h = absurd (omega arith)
+    short (a ∷ b ∷ []) h = unfold leasesOf in refl
+    short (a ∷ b ∷ c ∷ r) h = absurd (omega arith)
 
--- 3 at position i, and from there on
-pub not-live-at : (h : Head) (t held : List ℕ) (i : ℕ) → 2 * i + 1 < length held
-    → first (notLive h t i (leasesOf (drop (2 * i) held)))
-    ≡ (if not (isLive (h .next) (cellsOf h) t (leaseOf (getD held (2 * i) 0) (getD held (2 * i + 1) 0))) then Fault (refusal.BadHeld i)
-    else first (notLive h t (i + 1) (leasesOf (drop (2 * (i + 1)) held))))
+pub holds-end : (l : List ℕ) (i : ℕ) → length l ≤ 3 * i + 2 → holdsOf (drop (3 * i) l) ≡ []
+holds-end l i b = short (drop (3 * i) l) (simp length-drop (omega arith))
+  where
+    short : (r : List ℕ) → length r < 3 → holdsOf r ≡ []
+    short [] h = unfold holdsOf in refl
+    short (a ∷ []) h = unfold holdsOf in refl
+    short (a ∷ b ∷ []) h = unfold holdsOf in refl
+    short (a ∷ b ∷ c ∷ r) h = absurd (omega arith)
+
+-- 16 and 3 at position i, and from there on
+pub not-live-at : (h : Head) (t held : List ℕ) (i : ℕ) → 3 * i + 2 < length held
+    → first (notLive h t i (leasesOf (drop (3 * i) held)))
+    ≡ (if isStale h (leaseIn held i) then Fault (refusal.StaleBoot i)
+    else if not (isLive (h .next) (cellsOf h) t (holdIn (leaseIn held i))) then Fault (refusal.BadHeld i)
+    else first (notLive h t (i + 1) (leasesOf (drop (3 * (i + 1)) held))))
 unfolding first notLive
 not-live-at h t held i b = rw (leases-at held i b)
 
-pub not-live-end : (h : Head) (t held : List ℕ) (i : ℕ) → length held ≤ 2 * i + 1 → first (notLive h t i (leasesOf (drop (2 * i) held))) ≡ Fine
+pub not-live-end : (h : Head) (t held : List ℕ) (i : ℕ) → length held ≤ 3 * i + 2 → first (notLive h t i (leasesOf (drop (3 * i) held))) ≡ Fine
 unfolding first notLive
 not-live-end h t held i b = rw (leases-end held i b)
 
--- whether a lease stands at position i or later
-pub is-in-at : (l : Lease) (list : List ℕ) (i : ℕ) → 2 * i + 1 < length list
-    → isIn l (leasesOf (drop (2 * i) list))
-    ≡ (if sameLease (leaseOf (getD list (2 * i) 0) (getD list (2 * i + 1) 0)) l then true else isIn l (leasesOf (drop (2 * (i + 1)) list)))
+-- whether a hold stands at position i or later
+pub is-in-at : (l : Hold) (list : List ℕ) (i : ℕ) → 3 * i + 2 < length list
+    → isIn l (holdsOf (drop (3 * i) list))
+    ≡ (if sameHold (holdIn (leaseIn list i)) l then true else isIn l (holdsOf (drop (3 * (i + 1)) list)))
 unfolding isIn
-is-in-at l list i b = rw (leases-at list i b)
+is-in-at l list i b = rw (holds-at list i b)
 
-pub is-in-end : (l : Lease) (list : List ℕ) (i : ℕ) → length list ≤ 2 * i + 1 → isIn l (leasesOf (drop (2 * i) list)) ≡ false
+pub is-in-end : (l : Hold) (list : List ℕ) (i : ℕ) → length list ≤ 3 * i + 2 → isIn l (holdsOf (drop (3 * i) list)) ≡ false
 unfolding isIn
-is-in-end l list i b = rw (leases-end list i b)
+is-in-end l list i b = rw (holds-end list i b)
 
 -- ---- what a call knows once its checks are fine
 
-pub live-inside : (next cells : ℕ) (t : List ℕ) (l : Lease) → isLive next cells t l ≡ true → l .cell < cells
+pub live-inside : (next cells : ℕ) (t : List ℕ) (l : Hold) → isLive next cells t l ≡ true → l .cell < cells
 unfolding isLive
 live-inside next cells t l e = ltb-true _ _ (both (ltb (l .cell) cells) (heldBy (stateAt next t (l .cell)) (l .serial)) e .0)
 
@@ -155,7 +179,8 @@ cell-fine h t c e =
 
 pub record LeaseFine (h : Head) (t : List ℕ) (l : Lease) : Type 0 where
   pub shape : Shaped h (length t)
-  pub live : isLive (h .next) (cellsOf h) t l ≡ true
+  pub own : isStale h l ≡ false
+  pub live : isLive (h .next) (cellsOf h) t (holdIn l) ≡ true
   pub inside : l .cell < cellsOf h
 
 pub lease-fine : (h : Head) (t : List ℕ) (l : Lease) → first (leaseRules h t l) ≡ Fine → LeaseFine h t l
@@ -163,8 +188,9 @@ unfolding leaseRules
 lease-fine h t l e =
     let a = fine-rest _ _ e in
     let b = fine-rest _ _ (a .1) in
-    let v = not-false _ (b .0) in
-    record { shape = shaped h (length t) (not-false _ (a .0)); live = v; inside = live-inside _ _ _ _ v }
+    let d = fine-rest _ _ (b .1) in
+    let v = not-false _ (d .0) in
+    record { shape = shaped h (length t) (not-false _ (a .0)); own = b .0; live = v; inside = live-inside _ _ _ _ v }
 
 pub held-cell-fine : (h : Head) (t held : List ℕ) (c : ℕ) → first (heldCellRules h t held c) ≡ Fine → CellFine h t c
 unfolding heldCellRules
@@ -180,5 +206,6 @@ held-lease-fine h t held l e =
     let a = fine-rest _ _ e in
     let b = fine-append (badHeld h t held) _ (a .1) in
     let d = fine-rest _ _ (b .1) in
-    let v = not-false _ (d .0) in
-    record { shape = shaped h (length t) (not-false _ (a .0)); live = v; inside = live-inside _ _ _ _ v }
+    let k = fine-rest _ _ (d .1) in
+    let v = not-false _ (k .0) in
+    record { shape = shaped h (length t) (not-false _ (a .0)); own = d .0; live = v; inside = live-inside _ _ _ _ v }

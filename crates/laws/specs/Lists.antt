@@ -1,13 +1,13 @@
 -- Runs of words, and the leases in them: one step of a walk, lengths, and a run of zeros.
 use Prim.Native.Nat.{ℕ, zero, suc, _+_, _*_, _≤_, _<_}
-use mathlib.Core.Path.{_≡_, refl}
-use mathlib.Core.List.{List, [], _∷_}
+use mathlib.Core.Path.{_≡_, refl, ap}
+use mathlib.Core.List.{List, [], _∷_, map}
 use native.Mathlib.Omega.{arith}
 use native.Mathlib.Numerals.{add-one}
 use lib.ListN.{length, getD, drop, replicate}
 use lib.Seq.{drop-cons}
-use Rattle.model.specs.Arena.{bitAt, ownerAt, leasesOf, wordsOf}
-use Rattle.types.specs.declared.Lease.{Lease}
+use Rattle.model.specs.Arena.{bitAt, ownerAt, holdIn, leasesOf, holdsOf, wordsOf}
+use Rattle.types.specs.declared.Hold.{Hold}
 
 -- what is left from place i on begins with what stands there
 pub drop-one : (l : List ℕ) (i : ℕ) → i < length l → drop i l ≡ getD l i 0 ∷ drop (i + 1) l
@@ -15,17 +15,40 @@ drop-one l i b = rw (add-one i) (drop-cons l i 0 b)
 
 -- ---- leases as words
 
-pub length-words : (ls : List Lease) → length (wordsOf ls) ≡ 2 * length ls
+pub length-words : (boot : ℕ) (ls : List Hold) → length (wordsOf boot ls) ≡ 3 * length ls
 unfolding wordsOf
-length-words [] = refl
-length-words (l ∷ ls) = omega (arith, length-words ls)
+length-words boot [] = refl
+length-words boot (l ∷ ls) = omega (arith, length-words boot ls)
 
--- a word left over is no lease
-pub leases-few : (ws : List ℕ) → 2 * length (leasesOf ws) ≤ length ws
-unfolding leasesOf
+-- words left over are no lease
+pub leases-few : (ws : List ℕ) → 3 * length (holdsOf ws) ≤ length ws
+unfolding holdsOf
 leases-few [] = omega arith
 leases-few (c ∷ []) = omega arith
-leases-few (c ∷ s ∷ ws) = omega (arith, leases-few ws)
+leases-few (c ∷ s ∷ []) = omega arith
+leases-few (c ∷ s ∷ b ∷ ws) = omega (arith, leases-few ws)
+
+-- the holds of a list are its leases without their boot numbers
+pub holds-are : (ws : List ℕ) → holdsOf ws ≡ map holdIn (leasesOf ws)
+unfolding holdsOf leasesOf
+holds-are [] = refl
+holds-are (c ∷ []) = refl
+holds-are (c ∷ s ∷ []) = refl
+holds-are (c ∷ s ∷ b ∷ ws) = ap {B = List Hold} (λ ls. record { cell = c; serial = s } ∷ ls) (holds-are ws)
+
+-- there are as many
+pub as-many : (ws : List ℕ) → length (leasesOf ws) ≡ length (holdsOf ws)
+unfolding holdsOf leasesOf
+as-many [] = refl
+as-many (c ∷ []) = refl
+as-many (c ∷ s ∷ []) = refl
+as-many (c ∷ s ∷ b ∷ ws) = ap suc (as-many ws)
+
+-- what a call took is read back as it was taken
+pub words-back : (boot : ℕ) (ls : List Hold) → holdsOf (wordsOf boot ls) ≡ ls
+unfolding holdsOf wordsOf
+words-back boot [] = refl
+words-back boot (l ∷ ls) = ap {B = List Hold} (λ ks. l ∷ ks) (words-back boot ls)
 
 -- ---- a run of zeros: every cell is free
 

@@ -8,7 +8,7 @@ use lib.ListN.{getD}
 use borrow.Author.Tests.{eqb-true, eqb-false}
 use Rattle.choice.specs.Choice.{if_then_else_}
 use Rattle.model.specs.Log.{Made, gives, _>>=_}
-use Rattle.model.specs.Arena.{headerOf, leaseOf, waitersAt}
+use Rattle.model.specs.Arena.{headerOf, holdOf, waitersAt}
 use Rattle.model.specs.Foreign.{Setting, protecting, boundaryOf, flowOf}
 use Rattle.model.specs.Lock.{takeOf, lockedOf, giveUpOf, lateOf, afterTake, secondOf, lockOf, attemptOf, pauseOf, isBusy, lastOf, retryOf}
 use Rattle.types.specs.declared.Flow.{Flow}
@@ -27,7 +27,7 @@ use Rattle.choice.specs.Pick.{if-both}
 -- a lock of cell c that leaves the health g: a grant is of that cell, and its header is healthy then; 7 carries its
 -- header, which is not; 9 and 10 carry the cell
 pub data Comes (buckets c : ℕ) (g : List ℕ) : Outcome → Type 0 where
-  granted : (s : ℕ) → getD g (headerOf buckets c) 0 ≡ 0 → Comes buckets c g (outcome.Granted (leaseOf c s))
+  granted : (s : ℕ) → getD g (headerOf buckets c) 0 ≡ 0 → Comes buckets c g (outcome.Granted (holdOf c s))
   busy : (why : Reason) → Comes buckets c g (outcome.Busy why)
   poisoned : (getD g (headerOf buckets c) 0 ≡ 0 → ⊥) → Comes buckets c g (outcome.Refused (refusal.Poisoned (headerOf buckets c)))
   damaged : Comes buckets c g (outcome.Refused (refusal.Damaged c))
@@ -40,11 +40,11 @@ module _ (e : Setting) (buckets c : ℕ) where
   late-comes : (f : Flow) (t g : List ℕ) (s : ℕ) → Locking (lateOf e buckets f t g c s)
   unfolding lateOf
   late-comes f t g s =
-      let m = boundaryOf (protecting e (leaseOf c s ∷ [])) f t g .seen in
+      let m = boundaryOf (protecting e (holdOf c s ∷ [])) f t g .seen in
       go (m .0) (m .1 .0) (m .1 .1) (eqb (getD (m .1 .1) (headerOf buckets c) 0) 0) refl
     where
       go : (k : Flow) (u w : List ℕ) (x : Bool) → eqb (getD w (headerOf buckets c) 0) 0 ≡ x
-          → Locking (if not x then giveUpOf (outcome.Refused (refusal.Poisoned (headerOf buckets c))) k u w c s else if eqb (waitersAt u c) 0 then gives (lockedOf k 3 (outcome.Granted (leaseOf c s)), (u, w)) else giveUpOf (outcome.Busy (reason.After s)) k u w c s)
+          → Locking (if not x then giveUpOf (outcome.Refused (refusal.Poisoned (headerOf buckets c))) k u w c s else if eqb (waitersAt u c) 0 then gives (lockedOf k 3 (outcome.Granted (holdOf c s)), (u, w)) else giveUpOf (outcome.Busy (reason.After s)) k u w c s)
       go k u w true q = if-both Locking (eqb (waitersAt u c) 0) (granted s (eqb-true _ _ q)) (busy (reason.After s))
       go k u w false q = poisoned (eqb-false _ _ q)
 

@@ -33,11 +33,11 @@ six (Busy why) = refl
 six (Refused r) = refl
 six (RefusedAt r p) = refl
 
--- fourteen words, the last six of them read from the answer's
+-- fifteen words, the last six of them read from the answer's
 pub laid : (h : Head) (place : ℕ) (k : Counts) (a : Answer) (ws : List ℕ) → ws ≡ answerWords a
-    → h .headers ∷ h .buckets ∷ h .next ∷ place ∷ k .attempts ∷ k .boundaries ∷ k .yields ∷ k .dropped ∷ getD ws 0 0 ∷ getD ws 1 0 ∷ getD ws 2 0 ∷ getD ws 3 0 ∷ getD ws 4 0 ∷ getD ws 5 0 ∷ []
+    → h .headers ∷ h .buckets ∷ h .next ∷ h .boot ∷ place ∷ k .attempts ∷ k .boundaries ∷ k .yields ∷ k .dropped ∷ getD ws 0 0 ∷ getD ws 1 0 ∷ getD ws 2 0 ∷ getD ws 3 0 ∷ getD ws 4 0 ∷ getD ws 5 0 ∷ []
     ≡ resultWords h place k a
-laid h place k a ws e = rw e (ap (λ (r : List ℕ). h .headers ∷ h .buckets ∷ h .next ∷ place ∷ k .attempts ∷ k .boundaries ∷ k .yields ∷ k .dropped ∷ r) (six a))
+laid h place k a ws e = rw e (ap (λ (r : List ℕ). h .headers ∷ h .buckets ∷ h .next ∷ h .boot ∷ place ∷ k .attempts ∷ k .boundaries ∷ k .yields ∷ k .dropped ∷ r) (six a))
 
 -- a salvage's answer has three
 pub three : (a : SalvageAnswer) → getD (salvagedWords a) 0 0 ∷ getD (salvagedWords a) 1 0 ∷ getD (salvagedWords a) 2 0 ∷ [] ≡ salvagedWords a
@@ -46,9 +46,9 @@ three salvaged.BadShape = refl
 three salvaged.ReportFull = refl
 
 pub salvage-laid : (r : SalvageReply) (ws : List ℕ) → ws ≡ salvagedWords (r .answer)
-    → r .head .headers ∷ r .head .buckets ∷ r .head .next ∷ getD ws 0 0 ∷ getD ws 1 0 ∷ getD ws 2 0 ∷ [] ≡ salvageWords r
+    → r .head .headers ∷ r .head .buckets ∷ r .head .next ∷ r .head .boot ∷ getD ws 0 0 ∷ getD ws 1 0 ∷ getD ws 2 0 ∷ [] ≡ salvageWords r
 unfolding salvageWords
-salvage-laid r ws e = rw e (ap (λ (s : List ℕ). r .head .headers ∷ r .head .buckets ∷ r .head .next ∷ s) (three (r .answer)))
+salvage-laid r ws e = rw e (ap (λ (s : List ℕ). r .head .headers ∷ r .head .buckets ∷ r .head .next ∷ r .head .boot ∷ s) (three (r .answer)))
 
 -- one turn and the end of the loop that stores the counts of the members
 pub put-at : (at i : ℕ) (ns ws : List ℕ) → i < 16
@@ -67,16 +67,16 @@ put-end at i ns ws l = let e : 16 - i ≡ 0 = omega arith in rw e
 pub crew-laid : (r : CrewReply) (ws : List ℕ) → ws ≡ answerWords (r .answer)
     → sets
     (sets
-    (set (set (set (set (set (set (set (set (set (set (set (replicate 48 0) 0 (r .head .headers)) 1 (r .head .buckets)) 2 (r .head .next)) 8 (getD ws 0 0)) 9 (getD ws 1 0)) 10 (getD ws 2 0)) 11 (getD ws 3 0)) 12 (getD ws 4 0)) 13 (getD ws 5 0)) 14 (r .moving)) 15 (r .idle))
-    16
+    (set (set (set (set (set (set (set (set (set (set (set (set (replicate 49 0) 0 (r .head .headers)) 1 (r .head .buckets)) 2 (r .head .next)) 3 (r .head .boot)) 9 (getD ws 0 0)) 10 (getD ws 1 0)) 11 (getD ws 2 0)) 12 (getD ws 3 0)) 13 (getD ws 4 0)) 14 (getD ws 5 0)) 15 (r .moving)) 16 (r .idle))
+    17
     (eachOf 16 0 (r .taken)))
-    32
+    33
     (eachOf 16 0 (r .released))
     ≡ crewWords r
 unfolding eachOf crewWords
 crew-laid r ws e =
     rw e
-    (ap (λ (a : List ℕ). r .head .headers ∷ r .head .buckets ∷ r .head .next ∷ 0 ∷ 0 ∷ 0 ∷ 0 ∷ 0 ∷ (a ++ (r .moving ∷ r .idle ∷ (eachOf 16 0 (r .taken) ++ eachOf 16 0 (r .released)))))
+    (ap (λ (a : List ℕ). r .head .headers ∷ r .head .buckets ∷ r .head .next ∷ r .head .boot ∷ 0 ∷ 0 ∷ 0 ∷ 0 ∷ 0 ∷ (a ++ (r .moving ∷ r .idle ∷ (eachOf 16 0 (r .taken) ++ eachOf 16 0 (r .released)))))
     (six (r .answer)))
 
 -- what a preparation and a write answer is no setting, so its words ask for nothing; of a read it is `told-whole`

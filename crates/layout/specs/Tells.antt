@@ -59,7 +59,7 @@ answerIn ws =
     let why = reasonOf (getD ws 4 0) (getD ws 5 0) in
     if eqb kind 0 then Done
     else if eqb kind 1 then Cell (getD ws 1 0)
-    else if eqb kind 2 then Granted (leaseOf (getD ws 1 0) (getD ws 2 0))
+    else if eqb kind 2 then Granted (leaseOf (getD ws 1 0) (getD ws 2 0) (getD ws 3 0))
     else if eqb kind 3 then AllGranted
     else if eqb kind 4 then Busy why
     else if eqb kind 5 then Refused (refusalWith why (getD ws 1 0) (getD ws 2 0))
@@ -75,29 +75,29 @@ answer-back (Busy why) = ap Busy (reason-is why)
 answer-back (Refused r) = ap Refused (refusal-is r)
 answer-back (RefusedAt r p) = ap (λ (x : Refusal). RefusedAt x p) (refusal-is r)
 
--- the reply that fourteen words tell
+-- the reply that fifteen words tell
 abbrev pub playedIn : List ℕ → Played
 playedIn ws =
     record {
-      head = headOf (getD ws 0 0) (getD ws 1 0) (getD ws 2 0);
-      place = getD ws 3 0;
-      counts = countsOf (getD ws 4 0) (getD ws 5 0) (getD ws 6 0) (getD ws 7 0);
-      answer = answerIn (drop 8 ws);
+      head = headOf (getD ws 0 0) (getD ws 1 0) (getD ws 2 0) (getD ws 3 0);
+      place = getD ws 4 0;
+      counts = countsOf (getD ws 5 0) (getD ws 6 0) (getD ws 7 0) (getD ws 8 0);
+      answer = answerIn (drop 9 ws);
     }
 
 abbrev pub replyIn : List ℕ → Reply
 replyIn ws = record { head = playedIn ws .head; counts = playedIn ws .counts; answer = playedIn ws .answer }
 
--- the crew's reply that forty-eight words tell
+-- the crew's reply that forty-nine words tell
 abbrev pub crewIn : List ℕ → CrewReply
 crewIn ws =
     record {
       head = playedIn ws .head;
-      moving = getD ws 14 0;
-      idle = getD ws 15 0;
-      taken = take 16 (drop 16 ws);
-      released = drop 32 ws;
-      answer = answerIn (take 6 (drop 8 ws));
+      moving = getD ws 15 0;
+      idle = getD ws 16 0;
+      taken = take 16 (drop 17 ws);
+      released = drop 33 ws;
+      answer = answerIn (take 6 (drop 9 ws));
     }
 
 played-back : (r : Played) → playedIn (playedWords r) ≡ r
@@ -150,7 +150,7 @@ each-rest (suc n) i l e = ap (λ (r : List ℕ). getD l i 0 ∷ r) (each-rest n 
 crew-back : (r : CrewReply) → Sixteen r → crewIn (crewWords r) ≡ r
 unfolding crewWords eachOf
 crew-back r x =
-    ap (λ (ws : List ℕ). crewIn (r .head .headers ∷ r .head .buckets ∷ r .head .next ∷ 0 ∷ 0 ∷ 0 ∷ 0 ∷ 0 ∷ (ws ++ (r .moving ∷ r .idle ∷ (eachOf 16 0 (r .taken) ++ eachOf 16 0 (r .released)))))) (sym (six (r .answer)))
+    ap (λ (ws : List ℕ). crewIn (r .head .headers ∷ r .head .buckets ∷ r .head .next ∷ r .head .boot ∷ 0 ∷ 0 ∷ 0 ∷ 0 ∷ 0 ∷ (ws ++ (r .moving ∷ r .idle ∷ (eachOf 16 0 (r .taken) ++ eachOf 16 0 (r .released)))))) (sym (six (r .answer)))
     ∙ ap (λ (a : Answer). record { head = r .head; moving = r .moving; idle = r .idle; taken = eachOf 16 0 (r .taken); released = eachOf 16 0 (r .released); answer = a }) (answer-back (r .answer))
     ∙ ap (λ (l : List ℕ). record { head = r .head; moving = r .moving; idle = r .idle; taken = l; released = eachOf 16 0 (r .released); answer = r .answer }) (each-rest 16 0 (r .taken) (x .taken))
     ∙ ap (λ (l : List ℕ). record { head = r .head; moving = r .moving; idle = r .idle; taken = r .taken; released = l; answer = r .answer }) (each-rest 16 0 (r .released) (x .released))
@@ -158,12 +158,12 @@ crew-back r x =
 pub crew-tells : (r s : CrewReply) → Sixteen r → Sixteen s → crewWords r ≡ crewWords s → r ≡ s
 crew-tells r s x y e = sym (crew-back r x) ∙ ap crewIn e ∙ crew-back s y
 
--- the salvage's answer that three words tell, and its reply that six do
+-- the salvage's answer that three words tell, and its reply that seven do
 abbrev pub salvagedIn : List ℕ → SalvageAnswer
 salvagedIn ws = if eqb (getD ws 0 0) 0 then salvaged.Done (getD ws 1 0) (getD ws 2 0) else if eqb (getD ws 1 0) 1 then salvaged.BadShape else salvaged.ReportFull
 
 abbrev pub salvageIn : List ℕ → SalvageReply
-salvageIn ws = record { head = headOf (getD ws 0 0) (getD ws 1 0) (getD ws 2 0); answer = salvagedIn (drop 3 ws) }
+salvageIn ws = record { head = headOf (getD ws 0 0) (getD ws 1 0) (getD ws 2 0) (getD ws 3 0); answer = salvagedIn (drop 4 ws) }
 
 salvaged-back : (a : SalvageAnswer) → salvagedIn (salvagedWords a) ≡ a
 salvaged-back (salvaged.Done changed held) = refl
@@ -181,6 +181,7 @@ salvage-tells r s e = sym (salvage-back r) ∙ ap salvageIn e ∙ salvage-back s
 abbrev pub bookFault : ℕ → BookRefusal
 bookFault n =
     if eqb n 1 then fault.BadShape
+    else if eqb n 16 then fault.StaleBoot
     else if eqb n 12 then fault.NotHeld
     else if eqb n 101 then fault.BadSlot
     else if eqb n 102 then fault.NotFinite
@@ -191,6 +192,7 @@ bookFault n =
 fault-back : (r : BookRefusal) → bookFault (bookNumber r) ≡ r
 fault-back fault.BadShape = refl
 fault-back fault.BadSlot = refl
+fault-back fault.StaleBoot = refl
 fault-back fault.NotHeld = refl
 fault-back fault.NotFinite = refl
 fault-back fault.DamagedBook = refl

@@ -35,20 +35,21 @@ busyWords number s = 4 ∷ 0 ∷ 0 ∷ 0 ∷ number ∷ s ∷ []
 abbrev pub refusalWords : ℕ → Refusal → ℕ → List ℕ
 refusalWords kind r position = kind ∷ numberOf r ∷ carriedOf r ∷ position ∷ getD (refusalReason r) 0 0 ∷ getD (refusalReason r) 1 0 ∷ []
 
--- words 8 to 13: the kind of the answer; the cell, or the refusal's number; the serial, or what the refusal carries; the key's position;
--- the number of the reason why it was Busy, 0 for none; the reason's serial, 0 for none
+-- words 9 to 14: the kind of the answer; the cell, or the refusal's number; the serial, or what the refusal carries; the boot number of a
+-- lease that was granted (document 02, L8), or the key's position; the number of the reason why it was Busy, 0 for none; the reason's
+-- serial, 0 for none
 abbrev pub answerWords : Answer → List ℕ
 answerWords Done = 0 ∷ 0 ∷ 0 ∷ 0 ∷ 0 ∷ 0 ∷ []
 answerWords (Cell c) = 1 ∷ c ∷ 0 ∷ 0 ∷ 0 ∷ 0 ∷ []
-answerWords (Granted l) = 2 ∷ l .cell ∷ l .serial ∷ 0 ∷ 0 ∷ 0 ∷ []
+answerWords (Granted l) = 2 ∷ l .cell ∷ l .serial ∷ l .boot ∷ 0 ∷ 0 ∷ []
 answerWords AllGranted = 3 ∷ 0 ∷ 0 ∷ 0 ∷ 0 ∷ 0 ∷ []
 answerWords (Busy why) = busyWords (reasonNumber why) (reasonSerial why)
 answerWords (Refused r) = refusalWords 5 r 0
 answerWords (RefusedAt r p) = refusalWords 6 r p
 
--- words 0 to 2 the head, 3 the place, 4 to 7 the counts, and then the answer
+-- words 0 to 3 the head, 4 the place, 5 to 8 the counts, and then the answer
 abbrev pub resultWords : Head → ℕ → Counts → Answer → List ℕ
-resultWords h place k a = h .headers ∷ h .buckets ∷ h .next ∷ place ∷ k .attempts ∷ k .boundaries ∷ k .yields ∷ k .dropped ∷ answerWords a
+resultWords h place k a = h .headers ∷ h .buckets ∷ h .next ∷ h .boot ∷ place ∷ k .attempts ∷ k .boundaries ∷ k .yields ∷ k .dropped ∷ answerWords a
 
 -- of a call without a script: place 0
 unfoldable pub replyWords : Reply → List ℕ
@@ -63,8 +64,8 @@ unfoldable pub eachOf : ℕ → ℕ → List ℕ → List ℕ
 eachOf zero m l = []
 eachOf (suc left) m l = getD l m 0 ∷ eachOf left (m + 1) l
 
--- of the crew: no place, no counts and no reason; words 14 and 15 the moving and the idle turns, 16 to 31 what members 0 to 15 took, 32 to
--- 47 what they released
+-- of the crew: no place, no counts and no reason; words 15 and 16 the moving and the idle turns, 17 to 32 what members 0 to 15 took, 33 to
+-- 48 what they released
 unfoldable pub crewWords : CrewReply → List ℕ
 crewWords r = resultWords (r .head) 0 (countsOf 0 0 0 0) (r .answer) ++ (r .moving ∷ r .idle ∷ (eachOf 16 0 (r .taken) ++ eachOf 16 0 (r .released)))
 
@@ -75,15 +76,16 @@ salvagedWords (salvaged.Done changed held) = 0 ∷ changed ∷ held ∷ []
 salvagedWords salvaged.BadShape = 5 ∷ 1 ∷ 0 ∷ []
 salvagedWords salvaged.ReportFull = 5 ∷ 106 ∷ 0 ∷ []
 
--- words 0 to 2 the head, as it was given
+-- words 0 to 3 the head, as it was given
 unfoldable pub salvageWords : SalvageReply → List ℕ
-salvageWords r = r .head .headers ∷ r .head .buckets ∷ r .head .next ∷ salvagedWords (r .answer)
+salvageWords r = r .head .headers ∷ r .head .buckets ∷ r .head .next ∷ r .head .boot ∷ salvagedWords (r .answer)
 
--- a refusal of the setpoint book: "1" and "12" are document 01's numbers; those without a number count from 101, in the order of their names
+-- a refusal of the setpoint book: "1" and "12" are document 01's numbers, 16 is L8's; those without a number count from 101, in the order of their names
 -- in document 02, "BadSlot", "NotFinite", "DamagedBook", "VersionsSpent", and then "NeverWritten"
 abbrev pub bookNumber : BookRefusal → ℕ
 bookNumber fault.BadShape = 1
 bookNumber fault.BadSlot = 101
+bookNumber fault.StaleBoot = 16
 bookNumber fault.NotHeld = 12
 bookNumber fault.NotFinite = 102
 bookNumber fault.DamagedBook = 103

@@ -45,7 +45,7 @@ claim-free h t c e = rw e (go (serialRemains (h .next)) refl)
 
 -- the result of attempt number n of a call, on its cell
 abbrev pub claimReplyOf : ℕ → Claim → ℕ → Reply
-claimReplyOf n k c = replied (k .head) n (answerOf (outcomeOf c (k .answer)))
+claimReplyOf n k c = replied (k .head) n (answerOf (k .head .boot) (outcomeOf c (k .answer)))
 
 pub acquire-is : (n : ℕ) (h : Head) (t : List ℕ) (c : ℕ) → acquireOf n h t c .seen ≡ (claimReplyOf n (claimAtOf h t c .0) c, claimAtOf h t c .1)
 unfolding acquireOf claimAtOf

@@ -5,6 +5,7 @@
 use types::Answer;
 use types::Check;
 use types::Head;
+use types::Hold;
 use types::Lease;
 use types::Outcome;
 use types::Reason;
@@ -18,11 +19,11 @@ ghost use mathlib.Core.Bool.{true};
 ghost use mathlib.Core.List.{[], _∷_};
 ghost use Prim.Native.Nat.{_+_, _*_, _<_, _≤_};
 ghost use lib.ListN.{length, drop};
-ghost use Rattle.model.specs.Arena.{cellsOf, leaseOf, leasesOf, setCell, shapeFits, isLive, sameLease, isIn};
+ghost use Rattle.model.specs.Arena.{cellsOf, holdOf, holdsOf, leasesOf, setCell, shapeFits, isLive, sameHold, isIn};
 ghost use Rattle.model.specs.Refusals.{first};
 ghost use Rattle.model.specs.Lock.{outcomeOf, answerOf};
 ghost use Rattle.model.specs.Checks.{cellRules, leaseRules, heldCellRules, heldLeaseRules, badHeld};
-ghost use Rattle.model.specs.Checks.{notLive, badCell, notHeld, isProtected};
+ghost use Rattle.model.specs.Checks.{notLive, badCell, staleBoot, notHeld, isProtected};
 ghost use Rattle.model.specs.Calls.{acquireOf, tryAcquireOf, dropLeaseOf, readPermissionOf, competingAcquireOf};
 ghost use Rattle.model.specs.Calls.{releaseThenHandoffOf, foreignReleaseOf, acquirePreservingOf, dropPreservingOf};
 ghost use Rattle.lease.specs.Model.{claimAtOf, claimFreeOf, claimReplyOf};
@@ -77,23 +78,27 @@ pub fn claim_at(head: Head, table: &mut [u32], cell: u32) -> Claim
     }
 }
 
-// What an attempt on a cell comes to, and how a call answers it.
+// What an attempt on a cell comes to, and how a call on a head of this boot number answers it.
 pub fn outcome(cell: u32, answer: Take) -> Outcome
     ensures { λ r. ⌜ r ≡ outcomeOf cell answer ⌝ }
 {
     match answer {
-        Take::Granted(serial) => Outcome::Granted(Lease { cell, serial }),
+        Take::Granted(serial) => Outcome::Granted(Hold { cell, serial }),
         Take::Busy(owner) => Outcome::Busy(Reason::Held(owner)),
         Take::Damaged => Outcome::Refused(Refusal::Damaged(cell)),
         Take::Spent => Outcome::Refused(Refusal::SerialsSpent(cell)),
     }
 }
 
-pub fn answer_of(outcome: Outcome) -> Answer
-    ensures { λ r. ⌜ r ≡ answerOf outcome ⌝ }
+pub fn answer_of(boot: u32, outcome: Outcome) -> Answer
+    ensures { λ r. ⌜ r ≡ answerOf boot outcome ⌝ }
 {
     match outcome {
-        Outcome::Granted(lease) => Answer::Granted(lease),
+        Outcome::Granted(hold) => Answer::Granted(Lease {
+            cell: hold.cell,
+            serial: hold.serial,
+            boot,
+        }),
         Outcome::Busy(why) => Answer::Busy(why),
         Outcome::Refused(refusal) => Answer::Refused(refusal),
     }
@@ -105,8 +110,9 @@ fn claim_reply(n: usize, claim: Claim, cell: u32) -> Reply
 {
     let head = claim.head;
     let answer = claim.answer;
+    let boot = head.boot;
     let said = outcome(cell, answer);
-    arena::reply(head, n, answer_of(said))
+    arena::reply(head, n, answer_of(boot, said))
 }
 
 // Attempt number n of a call: one compare-and-set.
@@ -130,23 +136,24 @@ fn hand_on(n: usize, head: Head, table: &mut [u32], cell: u32) -> Reply
 
 // ---- the checks of these calls, in the order of document 01's table
 
-// Whether these are the lease's words.
-pub fn same_lease(cell: u32, serial: u32, lease: Lease) -> bool
-    ensures { λ r. ⌜ r ≡ sameLease (leaseOf cell serial) lease ⌝ }
+// Whether these are the words of a hold.
+pub fn same_hold(cell: u32, serial: u32, hold: Hold) -> bool
+    ensures { λ r. ⌜ r ≡ sameHold (holdOf cell serial) hold ⌝ }
 {
-    if cell == lease.cell {
-        return serial == lease.serial;
+    if cell == hold.cell {
+        return serial == hold.serial;
     }
     false
 }
 
-// Whether a lease stands in a list from a position on; the scan ends at the first match.
-pub fn is_in_from(list: &[u32], from: usize, lease: Lease) -> bool
-    ensures { λ r. ⌜ r ≡ isIn lease (leasesOf (drop (2 * from) (now (list .entry)))) ⌝ }
+// Whether a hold stands in a list of leases from a position on; the scan ends at the first match. The boot numbers of
+// the list are not read: they are tested before.
+pub fn is_in_from(list: &[u32], from: usize, hold: Hold) -> bool
+    ensures { λ r. ⌜ r ≡ isIn hold (holdsOf (drop (3 * from) (now (list .entry)))) ⌝ }
 {
     let mut i = from;
-    while i < list.len() / 2 {
-        if same_lease(list[2 * i], list[2 * i + 1], lease) {
+    while i < list.len() / 3 {
+        if same_hold(list[3 * i], list[3 * i + 1], hold) {
             return true;
         }
         i += 1;
@@ -154,29 +161,32 @@ pub fn is_in_from(list: &[u32], from: usize, lease: Lease) -> bool
     false
 }
 
-// Whether a lease stands in a list.
-pub fn is_in(list: &[u32], lease: Lease) -> bool
-    ensures { λ r. ⌜ r ≡ isIn lease (leasesOf (now (list .entry))) ⌝ }
+// Whether a hold stands in a list.
+pub fn is_in(list: &[u32], hold: Hold) -> bool
+    ensures { λ r. ⌜ r ≡ isIn hold (holdsOf (now (list .entry))) ⌝ }
 {
-    is_in_from(list, 0, lease)
+    is_in_from(list, 0, hold)
 }
 
-// Whether a lease is live.
+// Whether a lease of the head's own boot number is live.
 pub fn is_live(head: Head, table: &[u32], cell: u32, serial: u32) -> bool
     requires { ⌜ shapeFits head (length (now table)) ≡ true ⌝ }
-    ensures { λ r. ⌜ r ≡ isLive (head .next) (cellsOf head) (now (table .entry)) (leaseOf cell serial) ⌝ }
+    ensures { λ r. ⌜ r ≡ isLive (head .next) (cellsOf head) (now (table .entry)) (holdOf cell serial) ⌝ }
 {
     arena::is_live(head.next, head.headers * head.buckets, table, cell, serial)
 }
 
-// The first lease of a held list that is not live.
+// The first lease of a held list that has another boot number or is not live: 16 before 3 at each position.
 fn live_fault(head: Head, table: &[u32], held: &[u32]) -> Check
     requires { ⌜ shapeFits head (length (now table)) ≡ true ⌝ }
     ensures { λ r. ⌜ r ≡ first (notLive head (now (table .entry)) 0 (leasesOf (now (held .entry)))) ⌝ }
 {
     let mut i = 0;
-    while i < held.len() / 2 {
-        if is_live(head, table, held[2 * i], held[2 * i + 1]) {
+    while i < held.len() / 3 {
+        if held[3 * i + 2] != head.boot {
+            return Check::Fault(Refusal::StaleBoot(i));
+        }
+        if is_live(head, table, held[3 * i], held[3 * i + 1]) {
             i += 1;
         } else {
             return Check::Fault(Refusal::BadHeld(i));
@@ -190,8 +200,8 @@ pub fn held_fault(head: Head, table: &[u32], held: &[u32]) -> Check
     requires { ⌜ shapeFits head (length (now table)) ≡ true ⌝ }
     ensures { λ r. ⌜ r ≡ first (badHeld head (now (table .entry)) (now (held .entry))) ⌝ }
 {
-    let n = held.len() / 2;
-    if held.len() % 2 != 0 {
+    let n = held.len() / 3;
+    if held.len() % 3 != 0 {
         return Check::Fault(Refusal::BadHeld(n));
     }
     if 64 < n {
@@ -211,11 +221,14 @@ pub fn cell_fault(head: Head, cell: u32) -> Check
     Check::Fine
 }
 
-// A lease to release or read.
+// A lease to release or read: 16, and then 12.
 fn lease_fault(head: Head, table: &[u32], lease: Lease) -> Check
     requires { ⌜ shapeFits head (length (now table)) ≡ true ⌝ }
-    ensures { λ r. ⌜ r ≡ first (notHeld head (now (table .entry)) 0 lease ∷ []) ⌝ }
+    ensures { λ r. ⌜ r ≡ first (staleBoot head 0 lease ∷ notHeld head (now (table .entry)) 0 lease ∷ []) ⌝ }
 {
+    if lease.boot != head.boot {
+        return Check::Fault(Refusal::StaleBoot(0));
+    }
     if is_live(head, table, lease.cell, lease.serial) {
         return Check::Fine;
     }
@@ -257,7 +270,11 @@ fn held_cell_check(head: Head, table: &[u32], held: &[u32], cell: u32) -> Check
 fn protected_fault(held: &[u32], lease: Lease) -> Check
     ensures { λ r. ⌜ r ≡ first (isProtected (now (held .entry)) lease ∷ []) ⌝ }
 {
-    if is_in(held, lease) {
+    let hold = Hold {
+        cell: lease.cell,
+        serial: lease.serial,
+    };
+    if is_in(held, hold) {
         return Check::Fault(Refusal::Protected);
     }
     Check::Fine
@@ -276,11 +293,12 @@ fn held_lease_check(head: Head, table: &[u32], held: &[u32], lease: Lease) -> Ch
     Check::Fault(Refusal::BadShape)
 }
 
-// 12, and then 13.
+// 16 and 12, and then 13.
 fn drop_fault(head: Head, table: &[u32], held: &[u32], lease: Lease) -> Check
     requires { ⌜ shapeFits head (length (now table)) ≡ true ⌝ }
     ensures { λ r. ⌜ r
-        ≡ first (notHeld head (now (table .entry)) 0 lease ∷ isProtected (now (held .entry)) lease ∷ []) ⌝ }
+        ≡ first (staleBoot head 0 lease ∷ notHeld head (now (table .entry)) 0 lease
+        ∷ isProtected (now (held .entry)) lease ∷ []) ⌝ }
 {
     let one = lease_fault(head, table, lease);
     match one {
@@ -304,8 +322,8 @@ pub fn try_acquire(head: Head, table: &mut [u32], cell: u32) -> Reply
     }
 }
 
-// One release, and no boundary; who waits for the cell stays noted. A lease that is not live, on a damaged cell too, is
-// refused with 12 and nothing changes.
+// One release, and no boundary; who waits for the cell stays noted. A lease with another boot number than the head's is
+// refused with 16, one that is not live, on a damaged cell too, with 12, and nothing changes.
 pub fn drop_lease(head: Head, table: &mut [u32], lease: Lease) -> Reply
     ensures { λ r. ⌜ (r, now (table .exit)) ≡ dropLeaseOf head (now (table .entry)) lease .seen ⌝ }
 {
@@ -319,7 +337,8 @@ pub fn drop_lease(head: Head, table: &mut [u32], lease: Lease) -> Reply
     }
 }
 
-// Answers the cell of a live lease and changes nothing; any other lease is refused with 12.
+// Answers the cell of a live lease and changes nothing; a lease with another boot number is refused with 16, any other
+// that is not live with 12.
 pub fn read_permission(head: Head, table: &[u32], lease: Lease) -> Reply
     ensures { λ r. ⌜ r ≡ readPermissionOf head (now (table .entry)) lease .seen ⌝ }
 {
@@ -331,7 +350,7 @@ pub fn read_permission(head: Head, table: &[u32], lease: Lease) -> Reply
 }
 
 // One compare-and-set of a live lease's cell: it is Busy always, held by the lease's serial, and changes nothing. A
-// lease that is not live is refused with 12 before the attempt.
+// lease with another boot number is refused with 16, one that is not live with 12, before the attempt.
 pub fn competing_acquire_is_excluded(head: Head, table: &mut [u32], lease: Lease) -> Reply
     ensures { λ r. ⌜ (r, now (table .exit)) ≡ competingAcquireOf head (now (table .entry)) lease .seen ⌝ }
 {
@@ -343,7 +362,8 @@ pub fn competing_acquire_is_excluded(head: Head, table: &mut [u32], lease: Lease
 }
 
 // The lease released, and its cell taken anew. With no serial left it is refused with 10, and the release stands: the
-// cell is free. A lease that is not live is refused with 12 and keeps its cell.
+// cell is free. A lease with another boot number is refused with 16, one that is not live with 12, and nothing is
+// released.
 pub fn release_then_handoff(head: Head, table: &mut [u32], lease: Lease) -> Reply
     ensures { λ r. ⌜ (r, now (table .exit)) ≡ releaseThenHandoffOf head (now (table .entry)) lease .seen ⌝ }
 {
@@ -354,8 +374,9 @@ pub fn release_then_handoff(head: Head, table: &mut [u32], lease: Lease) -> Repl
     }
 }
 
-// A try_acquire that is Busy, a foreign release, a try_acquire: two attempts. A lease that the held list has is refused
-// with 13 and keeps its cell; with no serial left the second attempt is refused with 10, and the cell is free.
+// A try_acquire that is Busy, a foreign release, a try_acquire: two attempts. The held list goes first (3, 16), then
+// the lease (16, 12); a lease that the held list has is refused with 13 and keeps its cell. With no serial left the
+// second attempt is refused with 10, and the cell is free.
 pub fn foreign_release_between_attempts(
     head: Head,
     table: &mut [u32],
@@ -376,8 +397,8 @@ pub fn foreign_release_between_attempts(
     }
 }
 
-// try_acquire after the held list's check. A held lease that is not live refuses the call with 3 and its position; the
-// held leases stay live.
+// try_acquire after the held list's check. A held lease with another boot number refuses the call with 16 and its
+// position, one that is not live with 3 and its position; the held leases stay live.
 pub fn acquire_preserving_borrows(head: Head, table: &mut [u32], held: &[u32], cell: u32) -> Reply
     ensures { λ r. ⌜ (r, now (table .exit))
         ≡ acquirePreservingOf head (now (table .entry)) (now (held .entry)) cell .seen ⌝ }

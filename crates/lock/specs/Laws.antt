@@ -10,7 +10,7 @@ use lib.ListN.{getD}
 use borrow.Author.Tests.{eq-eqb, eqb-true}
 use Rattle.choice.specs.Choice.{if_then_else_}
 use Rattle.model.specs.Log.{Made}
-use Rattle.model.specs.Arena.{leaseOf, headerOf, isPoisoned, waitersAt, setCell, headOf, stateAt, serialRemains}
+use Rattle.model.specs.Arena.{holdOf, headerOf, isPoisoned, waitersAt, setCell, headOf, stateAt, serialRemains}
 use Rattle.model.specs.Foreign.{Setting, protecting, flowOf, stepsIn, boundaryOf}
 use Rattle.model.specs.Lock.{takeIn, takeOf, tookOf, outcomeOf, lateOf, afterTake, secondOf, lockOf, lockedOf}
 use Rattle.types.specs.declared.Flow.{Flow}
@@ -48,9 +48,9 @@ module _ (next : ℕ) (t : List ℕ) (c d : ℕ) where
 
 module _ (e : Setting) (buckets : ℕ) (g : List ℕ) (c : ℕ) (healthy : getD g (headerOf buckets c) 0 ≡ 0) where
   late-quiet : (f : Flow) (t : List ℕ) (s : ℕ) → stepsIn (e .script) ≤ f .place → waitersAt t c ≡ 0
-      → lateOf e buckets f t g c s .seen ≡ (lockedOf f 3 (outcome.Granted (leaseOf c s)), (t, g))
+      → lateOf e buckets f t g c s .seen ≡ (lockedOf f 3 (outcome.Granted (holdOf c s)), (t, g))
   unfolding lateOf
-  late-quiet f t s l w = rw (boundary-quiet (protecting e (leaseOf c s ∷ [])) f t g l, eq-eqb _ _ healthy, eq-eqb _ _ w)
+  late-quiet f t s l w = rw (boundary-quiet (protecting e (holdOf c s ∷ [])) f t g l, eq-eqb _ _ healthy, eq-eqb _ _ w)
 
   after-quiet : (a : Take) (f : Flow) (t : List ℕ) → stepsIn (e .script) ≤ f .place → waitersAt t c ≡ 0
       → afterTake a e buckets f t g c .seen ≡ (lockedOf f (boundariesFor a) (outcomeOf c a), (t, g))
@@ -112,7 +112,7 @@ module _ (e : Setting) (buckets c : ℕ) where
   late-kept : (f : Flow) (t g : List ℕ) (s : ℕ) → FlowBound (stepsIn (e .script)) f → Kept (lateOf e buckets f t g c s)
   unfolding lateOf
   late-kept f t g s b =
-      let q = protecting e (leaseOf c s ∷ []) in
+      let q = protecting e (holdOf c s ∷ []) in
       let p = boundary-flow-bound _ q f t g refl b in
       let o = boundaryOf q f t g .seen in
       if-both Kept (isPoisoned (o .1 .1) (headerOf buckets c)) (record { flow-bound = p; few = omega arith })
@@ -145,10 +145,10 @@ pub lock-locked-bound : (o : Locked × (List ℕ × List ℕ)) (e : Setting) (bu
 lock-locked-bound o e buckets f t g c q b = rw q (lock-kept e buckets c f t g b)
 
 -- the compare-and-set as the code makes it, on a whole head
-pub take-claim : (headers buckets next : ℕ) (t : List ℕ) (c : ℕ)
-    → takeOf next t c .seen ≡ (tookOf (claimAtOf (headOf headers buckets next) t c .0 .head .next) (claimAtOf (headOf headers buckets next) t c .0 .answer), claimAtOf (headOf headers buckets next) t c .1)
+pub take-claim : (headers buckets boot next : ℕ) (t : List ℕ) (c : ℕ)
+    → takeOf next t c .seen ≡ (tookOf (claimAtOf (headOf headers buckets next boot) t c .0 .head .next) (claimAtOf (headOf headers buckets next boot) t c .0 .answer), claimAtOf (headOf headers buckets next boot) t c .1)
 unfolding claimAtOf
-take-claim headers buckets next t c = refl
+take-claim headers buckets boot next t c = refl
 
 -- a lease given up leaves the health alone
 pub gave-up : (k : Locked × List ℕ) (f : Flow) (t g : List ℕ) (c : ℕ) (o : Outcome) → k ≡ gaveUp f t c o

@@ -7,7 +7,7 @@ use foreign::Scope;
 use types::Check;
 use types::Flow;
 use types::Head;
-use types::Lease;
+use types::Hold;
 use types::Locked;
 use types::Outcome;
 use types::Played;
@@ -18,7 +18,7 @@ use types::Take;
 ghost use mathlib.Core.Path.{_≡_};
 ghost use Prim.Native.Nat.{_+_, _*_, _<_};
 ghost use lib.ListN.{length};
-ghost use Rattle.model.specs.Arena.{leasesOf};
+ghost use Rattle.model.specs.Arena.{holdsOf};
 ghost use Rattle.model.specs.Refusals.{first};
 ghost use Rattle.model.specs.Checks.{lockRules};
 ghost use Rattle.model.specs.Lock.{lockedOf, lateOf, secondOf, lockOf};
@@ -52,7 +52,7 @@ fn late(
     held: &[u32],
     taken: &[[u32; 2]; 64],
     n: usize,
-    own: Lease,
+    own: Hold,
 ) -> Locked
     requires { ⌜ RoomIn scope (length (now table)) (length (now health)) n (length (now script))
         × (FlowBound (scope .steps) flow × CellIn scope (own .cell)) ⌝ }
@@ -131,7 +131,7 @@ fn second(
     };
     match answer {
         Take::Granted(serial) => {
-            let own = Lease { cell, serial };
+            let own = Hold { cell, serial };
             late(scope, on, table, health, script, held, taken, n, own)
         }
         Take::Busy(owner) => stopped(on, Outcome::Busy(Reason::Held(owner))),
@@ -219,7 +219,7 @@ pub fn quiet_outcome(cell: u32, answer: Quietly) -> Outcome
     ensures { λ r. ⌜ r ≡ quietOutcomeOf cell answer ⌝ }
 {
     match answer {
-        Quietly::Granted(serial) => Outcome::Granted(Lease { cell, serial }),
+        Quietly::Granted(serial) => Outcome::Granted(Hold { cell, serial }),
         Quietly::Held(owner) => Outcome::Busy(Reason::Held(owner)),
         Quietly::Waited => Outcome::Busy(Reason::Before),
         Quietly::Damaged => Outcome::Refused(Refusal::Damaged(cell)),
@@ -305,7 +305,7 @@ fn lock_alone(
     requires { ⌜ RoomIn scope (length (now table)) (length (now health)) 0 (length (now script))
         × (FlowBound (scope .steps) flow × CellIn scope cell) ⌝ }
     ensures { λ r. ⌜ (r, (now (table .exit), now (health .exit)))
-        ≡ lockOf (inScope scope (now (script .entry)) (leasesOf (now (held .entry))))
+        ≡ lockOf (inScope scope (now (script .entry)) (holdsOf (now (held .entry))))
         (scope .buckets) flow (now (table .entry)) (now (health .entry)) cell .seen ⌝ }
 {
     if scope.steps <= flow.place {
@@ -348,7 +348,7 @@ fn lock_once(
         boundaries: locked.boundaries,
         yields: 0,
     };
-    foreign::play(head, run, lease::answer_of(answer))
+    foreign::play(head, run, lease::answer_of(head.boot, answer))
 }
 
 // One attempt by cell, with up to three boundaries: Busy where somebody waits, or holds it, then with the owner's

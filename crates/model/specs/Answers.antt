@@ -25,11 +25,11 @@ kindOf (Busy why) = 4
 kindOf (Refused r) = 5
 kindOf (RefusedAt r p) = 6
 
--- what an answer gives: a cell; cell and serial; what a refusal carries, and multi-lock's position behind it
+-- what an answer gives: a cell; cell, serial and boot number; what a refusal carries, and multi-lock's position behind it
 abbrev pub valuesOf : Answer → List ℕ
 valuesOf Done = []
 valuesOf (Cell c) = c ∷ []
-valuesOf (Granted l) = l .cell ∷ l .serial ∷ []
+valuesOf (Granted l) = l .cell ∷ l .serial ∷ l .boot ∷ []
 valuesOf AllGranted = []
 valuesOf (Busy why) = []
 valuesOf (Refused r) = carriedOf r ∷ []

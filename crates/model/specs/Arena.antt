@@ -7,6 +7,8 @@ use lib.ListN.{getD, set}
 use Rattle.choice.specs.Choice.{if_then_else_}
 pub use Rattle.types.specs.Head.{lastSerial, serialRemains, within, cellsOf, headOf, spentTo}
 unfoldable pub use Rattle.types.specs.Head.{headFits, shapeFits, healthFits, issueOf}
+use Rattle.types.specs.declared.Head.{Head}
+use Rattle.types.specs.declared.Hold.{Hold}
 use Rattle.types.specs.declared.Lease.{Lease}
 use Rattle.types.specs.declared.State.{State}
 use Rattle.types.specs.declared.State.the-variants.{Free, Held, Damaged}
@@ -66,34 +68,59 @@ stateOf next bit owner =
 unfoldable pub stateAt : ℕ → List ℕ → ℕ → State
 stateAt next t c = stateOf next (bitAt t c) (ownerAt t c)
 
--- ---- leases
+-- ---- leases. Document 02, L8: "The head and every lease gain a boot number"
 
-abbrev pub leaseOf : ℕ → ℕ → Lease
-leaseOf c s = record { cell = c; serial = s }
+abbrev pub leaseOf : ℕ → ℕ → ℕ → Lease
+leaseOf c s b = record { cell = c; serial = s; boot = b }
+
+-- "A lease with another boot number" than the head's
+abbrev pub isStale : Head → Lease → Bool
+isStale h l = not (eqb (l .boot) (h .boot))
+
+-- a lease of the head's own boot number, as the steps of a call go by it: cell and serial
+abbrev pub holdOf : ℕ → ℕ → Hold
+holdOf c s = record { cell = c; serial = s }
+
+abbrev pub holdIn : Lease → Hold
+holdIn l = holdOf (l .cell) (l .serial)
 
 abbrev pub heldBy : State → ℕ → Bool
 heldBy Free s = false
 heldBy (Held owner) s = eqb owner s
 heldBy Damaged s = false
 
--- "A lease (cell, serial) is live if the cell is held by that serial." "A lease whose cell is out of range is not live"
-unfoldable pub isLive : ℕ → ℕ → List ℕ → Lease → Bool
+-- "A lease (cell, serial) is live if the cell is held by that serial." "A lease whose cell is out of range is not live".
+-- With its boot number: `leaseLive`, below
+unfoldable pub isLive : ℕ → ℕ → List ℕ → Hold → Bool
 isLive next cells t l = ltb (l .cell) cells && heldBy (stateAt next t (l .cell)) (l .serial)
 
--- a lease's words in a list: cell, serial; a word left over is no lease
+-- "three words a lease in all lists": cell, serial, boot number; words left over are no lease
 unfoldable pub leasesOf : List ℕ → List Lease
 leasesOf [] = []
 leasesOf (c ∷ []) = []
-leasesOf (c ∷ s ∷ ws) = leaseOf c s ∷ leasesOf ws
+leasesOf (c ∷ s ∷ []) = []
+leasesOf (c ∷ s ∷ b ∷ ws) = leaseOf c s b ∷ leasesOf ws
 
-unfoldable pub wordsOf : List Lease → List ℕ
-wordsOf [] = []
-wordsOf (l ∷ ls) = l .cell ∷ l .serial ∷ wordsOf ls
+-- the same without the boot numbers (laws, `holds-are`)
+unfoldable pub holdsOf : List ℕ → List Hold
+holdsOf [] = []
+holdsOf (c ∷ []) = []
+holdsOf (c ∷ s ∷ []) = []
+holdsOf (c ∷ s ∷ b ∷ ws) = holdOf c s ∷ holdsOf ws
 
-unfoldable pub sameLease : Lease → Lease → Bool
-sameLease a b = eqb (a .cell) (b .cell) && eqb (a .serial) (b .serial)
+-- what a call took, as words: each lease has the head's boot number
+unfoldable pub wordsOf : ℕ → List Hold → List ℕ
+wordsOf boot [] = []
+wordsOf boot (l ∷ ls) = l .cell ∷ l .serial ∷ boot ∷ wordsOf boot ls
 
--- whether a lease stands in a list
-unfoldable pub isIn : Lease → List Lease → Bool
+unfoldable pub sameHold : Hold → Hold → Bool
+sameHold a b = eqb (a .cell) (b .cell) && eqb (a .serial) (b .serial)
+
+-- document 02, L8: a lease that calls accept has the head's boot number and is live
+abbrev pub leaseLive : Head → List ℕ → Lease → Bool
+leaseLive h t l = not (isStale h l) && isLive (h .next) (cellsOf h) t (holdIn l)
+
+-- whether a hold stands in a list
+unfoldable pub isIn : Hold → List Hold → Bool
 isIn l [] = false
-isIn l (k ∷ ks) = if sameLease k l then true else isIn l ks
+isIn l (k ∷ ks) = if sameHold k l then true else isIn l ks

@@ -1,6 +1,6 @@
 -- Document 01, "Bench cases": the sentences marked *, as one computed list of (call, what must come out). `further` is a list of our own in
 -- the same form, for slips that no marked sentence meets; `secondReading` has the sentences of document 02, L3, `reasons` those of L1 and
--- `atWork` those of L13.
+-- `atWork` those of L13, `booted` those of L8.
 use Prim.Native.Nat.{ℕ, zero, suc}
 use mathlib.Core.Path.{_≡_, refl}
 use mathlib.Core.List.{List, [], _∷_, _++_}
@@ -9,7 +9,7 @@ use lib.Dec.{eqb}
 use lib.ListN.{getD, replicate}
 use Rattle.choice.specs.Choice.{if_then_else_}
 use Rattle.model.specs.Log.{Made, gives}
-use Rattle.model.specs.Arena.{headOf, leaseOf, bitAt, ownerAt, waitersAt, setCell, setWaiters, isFree, isHeld, stateOf, stateAt, isLive, leasesOf, wordsOf, sameLease, isIn, headFits, shapeFits, healthFits, registryFits}
+use Rattle.model.specs.Arena.{headOf, leaseOf, holdOf, bitAt, ownerAt, waitersAt, setCell, setWaiters, isFree, isHeld, stateOf, stateAt, isLive, leasesOf, holdsOf, wordsOf, sameHold, isIn, headFits, shapeFits, healthFits, registryFits}
 use Rattle.model.specs.Refusals.{first}
 use Rattle.model.specs.Answers.{refusalIn, kindOf, valuesOf, reasonIn}
 use Rattle.model.specs.Foreign.{stepTakeOf, stepReleaseOf, stepWaitersOf, stepHealthOf, stepOf, runStepsOf, boundaryOf}
@@ -101,6 +101,9 @@ cell o = getD (o .lease) 0 0
 abbrev serial : Out → ℕ
 serial o = getD (o .lease) 1 0
 
+abbrev boot : Out → ℕ
+boot o = getD (o .lease) 2 0
+
 abbrev refusal : Out → ℕ
 refusal o = refusalIn (o .answer)
 
@@ -119,6 +122,9 @@ by o = getD (reasonIn (o .answer)) 1 0
 
 abbrev next : Out → ℕ
 next o = o .head .next
+
+abbrev headBoot : Out → ℕ
+headBoot o = o .head .boot
 
 abbrev place : Out → ℕ
 place o = o .at
@@ -176,17 +182,17 @@ abbrev pub every : List Case → Bool
 every [] = true
 every (k ∷ ks) = allAgree (k .figures) (k .calls) && every ks
 
--- ---- "Arena: H 2, B 4, registry 0, 1, 1, first serial 1, empty script unless said."
+-- ---- "Arena: H 2, B 4, registry 0, 1, 1, first serial 1, empty script unless said."; boot number 5
 
 abbrev bench : ℕ → Head
-bench next = headOf 2 4 next
+bench next = headOf 2 4 next 5
 
 -- prepared, from a table of rubbish
 abbrev prepared : List ℕ
-prepared = prepareOf 2 4 1 (replicate 24 7) (replicate 2 7) .seen .1 .0
+prepared = prepareOf 2 4 1 5 (replicate 24 7) (replicate 2 7) .seen .1 .0
 
 abbrev healthy : List ℕ
-healthy = prepareOf 2 4 1 (replicate 24 7) (replicate 2 7) .seen .1 .1
+healthy = prepareOf 2 4 1 5 (replicate 24 7) (replicate 2 7) .seen .1 .1
 
 abbrev registry : List ℕ
 registry = 0 ∷ 1 ∷ 1 ∷ []
@@ -195,7 +201,7 @@ registry = 0 ∷ 1 ∷ 1 ∷ []
 abbrev byKeyAgain : ℕ → List ℕ → List ℕ → List ℕ → List ℕ → ℕ → ℕ → List Out
 byKeyAgain n t g script held binding bucket =
     fromPlayed (acquireBucketOf (bench n) t g registry script 0 held binding bucket)
-    ∷ fromLocks (acquireLocksOf (bench n) t g registry script 0 held (binding ∷ bucket ∷ []) (9 ∷ 9 ∷ []))
+    ∷ fromLocks (acquireLocksOf (bench n) t g registry script 0 held (binding ∷ bucket ∷ []) (9 ∷ 9 ∷ 9 ∷ []))
     ∷ []
 
 -- and, where one attempt decides, `transactional_try_lock_bucket`
@@ -251,7 +257,7 @@ abbrev used : List ℕ
 used = setWaiters (setCell (setCell prepared 0 1 1) 2 1 2) 5 1
 
 abbrev dropLease : List ℕ → ℕ → ℕ → List Out
-dropLease t c s = fromReply (dropLeaseOf (bench 3) t (leaseOf c s)) ∷ []
+dropLease t c s = fromReply (dropLeaseOf (bench 3) t (leaseOf c s 5)) ∷ []
 
 abbrev tryAcquire : List ℕ → ℕ → List Out
 tryAcquire t c = fromReply (tryAcquireOf (bench 3) t c) ∷ []
@@ -265,7 +271,7 @@ releaseAll leases = fromPlayed (releaseAllOf (bench 3) used healthy [] 0 leases)
 abbrev pub further : List Case
 further =
     -- a rollback releases every lease taken, the last too, and leaves the buffer as it was
-    (byKeys prepared (0 ∷ 0 ∷ 1 ∷ 1 ∷ 0 ∷ 9 ∷ []) (9 ∷ 8 ∷ 9 ∷ 9 ∷ 9 ∷ 9 ∷ []) give (refusal is 8 ∷ carries is 9 ∷ position is 2 ∷ attempts is 3 ∷ boundaries is 8 ∷ next is 3 ∷ bit 0 is 0 ∷ bit 5 is 0 ∷ cell is 9 ∷ serial is 8 ∷ []))
+    (byKeys prepared (0 ∷ 0 ∷ 1 ∷ 1 ∷ 0 ∷ 9 ∷ []) (9 ∷ 8 ∷ 7 ∷ 9 ∷ 9 ∷ 9 ∷ 9 ∷ 9 ∷ 9 ∷ []) give (refusal is 8 ∷ carries is 9 ∷ position is 2 ∷ attempts is 3 ∷ boundaries is 8 ∷ next is 3 ∷ bit 0 is 0 ∷ bit 5 is 0 ∷ cell is 9 ∷ serial is 8 ∷ []))
     -- a release compares the serial, and clears bit and owner
     ∷ (dropLease used 2 1 give (refusal is 12 ∷ carries is 0 ∷ bit 2 is 1 ∷ owner 2 is 2 ∷ []))
     ∷ (dropLease used 2 2 give (done is 1 ∷ bit 2 is 0 ∷ owner 2 is 0 ∷ bit 0 is 1 ∷ next is 3 ∷ []))
@@ -280,26 +286,26 @@ further =
     -- waiters are read before the cell
     ∷ (fromPlayed (tryLockOf (bench 3) used healthy [] 0 [] 5) ∷ [] give (busy is 1 ∷ why is 2 ∷ by is 0 ∷ attempts is 1 ∷ boundaries is 1 ∷ next is 3 ∷ []))
     -- steps: a take, a release by another serial, a protected release, a release, health 2, kind 6, a place out of range; nothing behind the 5
-    ∷ (play (1 ∷ 3 ∷ 7 ∷ 2 ∷ 2 ∷ 1 ∷ 2 ∷ 0 ∷ 1 ∷ 2 ∷ 2 ∷ 2 ∷ 4 ∷ 0 ∷ 2 ∷ 6 ∷ 0 ∷ 0 ∷ 3 ∷ 8 ∷ 1 ∷ 0 ∷ 9 ∷ 9 ∷ 5 ∷ 9 ∷ 9 ∷ 1 ∷ 4 ∷ 0 ∷ []) (0 ∷ 1 ∷ []) give (done is 1 ∷ dropped is 5 ∷ place is 9 ∷ boundaries is 1 ∷ next is 4 ∷ owner 3 is 3 ∷ bit 2 is 0 ∷ bit 0 is 1 ∷ bit 4 is 0 ∷ []))
+    ∷ (play (1 ∷ 3 ∷ 7 ∷ 2 ∷ 2 ∷ 1 ∷ 2 ∷ 0 ∷ 1 ∷ 2 ∷ 2 ∷ 2 ∷ 4 ∷ 0 ∷ 2 ∷ 6 ∷ 0 ∷ 0 ∷ 3 ∷ 8 ∷ 1 ∷ 0 ∷ 9 ∷ 9 ∷ 5 ∷ 9 ∷ 9 ∷ 1 ∷ 4 ∷ 0 ∷ []) (0 ∷ 1 ∷ 5 ∷ []) give (done is 1 ∷ dropped is 5 ∷ place is 9 ∷ boundaries is 1 ∷ next is 4 ∷ owner 3 is 3 ∷ bit 2 is 0 ∷ bit 0 is 1 ∷ bit 4 is 0 ∷ []))
     -- a place past the script's end
     ∷ (fromPlayed (environmentOf (bench 3) used healthy (5 ∷ 0 ∷ 0 ∷ []) 2 []) ∷ [] give (refusal is 2 ∷ place is 2 ∷ boundaries is 0 ∷ []))
     -- a list to release: in order of position, 12 before 14 at one place
-    ∷ (releaseAll (0 ∷ 1 ∷ 0 ∷ 1 ∷ 7 ∷ 7 ∷ []) give (refusal is 14 ∷ carries is 1 ∷ bit 0 is 1 ∷ []))
-    ∷ (releaseAll (0 ∷ 1 ∷ 7 ∷ 7 ∷ 0 ∷ 1 ∷ []) give (refusal is 12 ∷ carries is 1 ∷ bit 0 is 1 ∷ []))
-    ∷ (releaseAll (0 ∷ 1 ∷ 2 ∷ 2 ∷ []) give (done is 1 ∷ boundaries is 2 ∷ attempts is 0 ∷ bit 0 is 0 ∷ bit 2 is 0 ∷ next is 3 ∷ []))
-    -- a held list: odd carries its count, else the first lease not live
-    ∷ (play [] (0 ∷ 1 ∷ 7 ∷ []) give (refusal is 3 ∷ carries is 1 ∷ boundaries is 0 ∷ []))
-    ∷ (play [] (0 ∷ 1 ∷ 2 ∷ 1 ∷ 7 ∷ 7 ∷ []) give (refusal is 3 ∷ carries is 1 ∷ []))
+    ∷ (releaseAll (0 ∷ 1 ∷ 5 ∷ 0 ∷ 1 ∷ 5 ∷ 7 ∷ 7 ∷ 5 ∷ []) give (refusal is 14 ∷ carries is 1 ∷ bit 0 is 1 ∷ []))
+    ∷ (releaseAll (0 ∷ 1 ∷ 5 ∷ 7 ∷ 7 ∷ 5 ∷ 0 ∷ 1 ∷ 5 ∷ []) give (refusal is 12 ∷ carries is 1 ∷ bit 0 is 1 ∷ []))
+    ∷ (releaseAll (0 ∷ 1 ∷ 5 ∷ 2 ∷ 2 ∷ 5 ∷ []) give (done is 1 ∷ boundaries is 2 ∷ attempts is 0 ∷ bit 0 is 0 ∷ bit 2 is 0 ∷ next is 3 ∷ []))
+    -- a held list: one that does not divide by three carries its count, else the first lease not live
+    ∷ (play [] (0 ∷ 1 ∷ 5 ∷ 7 ∷ []) ++ play [] (0 ∷ 1 ∷ 5 ∷ 2 ∷ 2 ∷ []) give (refusal is 3 ∷ carries is 1 ∷ boundaries is 0 ∷ []))
+    ∷ (play [] (0 ∷ 1 ∷ 5 ∷ 2 ∷ 1 ∷ 5 ∷ 7 ∷ 7 ∷ 5 ∷ []) give (refusal is 3 ∷ carries is 1 ∷ []))
     -- a held list and a registry that are one too long
-    ∷ (play [] (replicate 130 7) give (refusal is 3 ∷ carries is 65 ∷ []))
+    ∷ (play [] (replicate 195 7) give (refusal is 3 ∷ carries is 65 ∷ []))
     ∷ (fromPlayed (acquireBucketOf (bench 3) used healthy (replicate 65 0) [] 0 [] 0 3) ∷ [] give (refusal is 1 ∷ attempts is 0 ∷ []))
     -- the small calls
-    ∷ (fromRead (readPermissionOf (bench 3) (setCell used 5 1 1) (leaseOf 5 1)) ∷ [] give (carries is 5 ∷ refusal is 0 ∷ attempts is 0 ∷ next is 3 ∷ []))
-    ∷ (fromReply (competingAcquireOf (bench 3) used (leaseOf 2 2)) ∷ [] give (busy is 1 ∷ why is 1 ∷ by is 2 ∷ attempts is 1 ∷ owner 2 is 2 ∷ next is 3 ∷ []))
-    ∷ (fromReply (releaseThenHandoffOf (bench 3) used (leaseOf 2 2)) ∷ [] give (granted is 1 ∷ cell is 2 ∷ serial is 3 ∷ attempts is 1 ∷ next is 4 ∷ owner 2 is 3 ∷ []))
-    ∷ (fromReply (foreignReleaseOf (bench 3) used (0 ∷ 1 ∷ []) (leaseOf 2 2)) ∷ [] give (granted is 1 ∷ serial is 3 ∷ attempts is 2 ∷ next is 4 ∷ []))
-    ∷ (fromReply (foreignReleaseOf (bench 3) used (2 ∷ 2 ∷ []) (leaseOf 2 2)) ∷ fromReply (dropPreservingOf (bench 3) used (2 ∷ 2 ∷ []) (leaseOf 2 2)) ∷ [] give (refusal is 13 ∷ carries is 0 ∷ attempts is 0 ∷ owner 2 is 2 ∷ []))
-    ∷ (fromReply (releaseThenHandoffOf (bench 4_294_967_295) used (leaseOf 2 2)) ∷ [] give (refusal is 10 ∷ carries is 2 ∷ attempts is 1 ∷ bit 2 is 0 ∷ []))
+    ∷ (fromRead (readPermissionOf (bench 3) (setCell used 5 1 1) (leaseOf 5 1 5)) ∷ [] give (carries is 5 ∷ refusal is 0 ∷ attempts is 0 ∷ next is 3 ∷ []))
+    ∷ (fromReply (competingAcquireOf (bench 3) used (leaseOf 2 2 5)) ∷ [] give (busy is 1 ∷ why is 1 ∷ by is 2 ∷ attempts is 1 ∷ owner 2 is 2 ∷ next is 3 ∷ []))
+    ∷ (fromReply (releaseThenHandoffOf (bench 3) used (leaseOf 2 2 5)) ∷ [] give (granted is 1 ∷ cell is 2 ∷ serial is 3 ∷ attempts is 1 ∷ next is 4 ∷ owner 2 is 3 ∷ []))
+    ∷ (fromReply (foreignReleaseOf (bench 3) used (0 ∷ 1 ∷ 5 ∷ []) (leaseOf 2 2 5)) ∷ [] give (granted is 1 ∷ serial is 3 ∷ attempts is 2 ∷ next is 4 ∷ []))
+    ∷ (fromReply (foreignReleaseOf (bench 3) used (2 ∷ 2 ∷ 5 ∷ []) (leaseOf 2 2 5)) ∷ fromReply (dropPreservingOf (bench 3) used (2 ∷ 2 ∷ 5 ∷ []) (leaseOf 2 2 5)) ∷ [] give (refusal is 13 ∷ carries is 0 ∷ attempts is 0 ∷ owner 2 is 2 ∷ []))
+    ∷ (fromReply (releaseThenHandoffOf (bench 4_294_967_295) used (leaseOf 2 2 5)) ∷ [] give (refusal is 10 ∷ carries is 2 ∷ attempts is 1 ∷ bit 2 is 0 ∷ []))
     -- a crew: releases last first, so the second member gets cell 5 only when the first gave it back
     ∷ (crew (2 ∷ 1 ∷ []) (2 ∷ 5 ∷ 5 ∷ []) (0 ∷ 0 ∷ 1 ∷ 0 ∷ 1 ∷ []) give (moving is 4 ∷ idle is 1 ∷ owner 2 is 1 ∷ owner 5 is 3 ∷ next is 4 ∷ []))
     -- a list that names a cell twice does not rise
@@ -351,7 +357,7 @@ secondReading =
     ∷ (byKeyAgain 2 (setCell prepared 6 1 1) healthy (end ++ end ++ free ++ end ++ poison) [] 1 2 give (refusal is 7 ∷ carries is 1 ∷ attempts is 2 ∷ boundaries is 6 ∷ next is 3 ∷ bit 6 is 0 ∷ []))
     ∷ (byKeyAgain 2 (setCell prepared 6 1 1) healthy (end ++ end ++ free ++ poison) [] 1 2 give (refusal is 7 ∷ carries is 1 ∷ attempts is 2 ∷ boundaries is 3 ∷ next is 2 ∷ bit 6 is 0 ∷ []))
     -- at the second key of multi-lock: the lease of the first is given back too, and both serials stay spent
-    ∷ (fromLocks (acquireLocksOf (bench 1) prepared healthy registry (end ++ end ++ end ++ end ++ end ++ poison) 0 [] (0 ∷ 2 ∷ 1 ∷ 2 ∷ []) (9 ∷ 8 ∷ 9 ∷ 9 ∷ [])) ∷ [] give (refusal is 7 ∷ carries is 1 ∷ position is 1 ∷ attempts is 2 ∷ boundaries is 7 ∷ next is 3 ∷ bit 2 is 0 ∷ bit 6 is 0 ∷ cell is 9 ∷ serial is 8 ∷ []))
+    ∷ (fromLocks (acquireLocksOf (bench 1) prepared healthy registry (end ++ end ++ end ++ end ++ end ++ poison) 0 [] (0 ∷ 2 ∷ 1 ∷ 2 ∷ []) (9 ∷ 8 ∷ 7 ∷ 9 ∷ 9 ∷ 9 ∷ [])) ∷ [] give (refusal is 7 ∷ carries is 1 ∷ position is 1 ∷ attempts is 2 ∷ boundaries is 7 ∷ next is 3 ∷ bit 2 is 0 ∷ bit 6 is 0 ∷ cell is 9 ∷ serial is 8 ∷ []))
     -- a header poisoned all along: a call by cell takes and runs all three boundaries, one by key reads it first
     ∷ (tryLockIn sick [] 6 give (refusal is 7 ∷ carries is 1 ∷ attempts is 1 ∷ boundaries is 3 ∷ next is 2 ∷ bit 6 is 0 ∷ owner 6 is 0 ∷ []))
     ∷ (byKey 1 prepared sick 1 2 give (refusal is 7 ∷ carries is 1 ∷ attempts is 1 ∷ boundaries is 0 ∷ next is 1 ∷ []))
@@ -382,12 +388,12 @@ leave = 3 ∷ 2 ∷ 0 ∷ []
 abbrev retried : ℕ → ℕ → List ℕ → List ℕ → List Out
 retried left n t script =
     let m = retryOf left 0 noneYet (given (bench n) script []) 4 registry 0 2 (starting (bench n) 0) t healthy in
-    fromPlayed (record { seen = (played (bench n) (m .seen .0 .run) (answerOf (settled (m .seen .0 .outcome))), m .seen .1); log = m .log }) ∷ []
+    fromPlayed (record { seen = (played (bench n) (m .seen .0 .run) (answerOf 5 (settled (m .seen .0 .outcome))), m .seen .1); log = m .log }) ∷ []
 
 -- multi-lock at its key number 1, with cell 0 taken as its first: after attempts that were all Busy, the last for this reason
 abbrev keyBusy : Reason → List Out
 keyBusy why =
-    let m = afterKey (outcome.Busy why) (given (bench 3) [] []) (leaseOf 0 1 ∷ []) 1 (starting (bench 3) 0) used healthy (9 ∷ 8 ∷ 9 ∷ 9 ∷ []) (λ l. gives (endedOf (starting (bench 3) 0) answer.Done, (used, (healthy, [])))) in
+    let m = afterKey (outcome.Busy why) (given (bench 3) [] []) (holdOf 0 1 ∷ []) 1 (starting (bench 3) 0) used healthy (9 ∷ 8 ∷ 7 ∷ 9 ∷ 9 ∷ 9 ∷ []) (λ l. gives (endedOf (starting (bench 3) 0) answer.Done, (used, (healthy, [])))) in
     fromLocks (record { seen = (played (bench 3) (m .seen .0 .run) (m .seen .0 .answer), m .seen .1); log = m .log }) ∷ []
 
 abbrev pub reasons : List Case
@@ -405,7 +411,7 @@ reasons =
     ∷ (fromPlayed (transactionalOf (bench 3) used healthy registry [] 0 [] 0 2) ∷ [] give (busy is 1 ∷ why is 1 ∷ by is 2 ∷ boundaries is 2 ∷ []))
     ∷ (fromPlayed (transactionalOf (bench 3) used healthy registry (end ++ end ++ wait ++ end) 0 [] 1 2) ∷ [] give (busy is 1 ∷ why is 3 ∷ by is 3 ∷ boundaries is 3 ∷ []))
     -- a compare-and-set by itself
-    ∷ (fromReply (acquirePreservingOf (bench 3) used (0 ∷ 1 ∷ []) 2) ∷ [] give (busy is 1 ∷ why is 1 ∷ by is 2 ∷ []))
+    ∷ (fromReply (acquirePreservingOf (bench 3) used (0 ∷ 1 ∷ 5 ∷ []) 2) ∷ [] give (busy is 1 ∷ why is 1 ∷ by is 2 ∷ []))
     -- "the reason of the last Busy attempt": held, then waited for; waited for, then held; waited for, then taken too late
     ∷ (retried 2 2 (setCell prepared 2 1 1) (end ++ end ++ come ++ end) give (refusal is 11 ∷ carries is 4096 ∷ why is 2 ∷ by is 0 ∷ attempts is 2 ∷ boundaries is 5 ∷ []))
     ∷ (retried 2 2 (setCell prepared 2 1 1) (come ++ end ++ leave ++ end) give (refusal is 11 ∷ why is 1 ∷ by is 1 ∷ attempts is 2 ∷ boundaries is 5 ∷ []))
@@ -462,7 +468,69 @@ atWork =
     ∷ (crewAtWork (2 ∷ 1 ∷ []) (2 ∷ 5 ∷ 5 ∷ []) (0 ∷ 0 ∷ 0 ∷ 0 ∷ 0 ∷ 1 ∷ 1 ∷ 1 ∷ 0 ∷ []) counters give (moving is 9 ∷ holder 0 is 0 ∷ holder 1 is 1 ∷ holder 2 is 99 ∷ []))
     ∷ []
 
+-- ---- document 02, L8: a boot number in every lease. Cells 0 and 2 are held by serials 1 and 2 in `used`, and the arena's boot number is 5
+
+-- a preparation with these numbers, on a table of rubbish
+abbrev preparing : ℕ → ℕ → ℕ → ℕ → List Out
+preparing headers buckets serial b =
+    let m = prepareOf headers buckets serial b (replicate 24 7) (replicate 2 7) in
+    fromReply (record { seen = (m .seen .0, m .seen .1 .0); log = m .log }) ∷ []
+
+-- a lease with this boot number to a call that takes one
+abbrev dropStale : ℕ → ℕ → ℕ → List Out
+dropStale c s b = fromReply (dropLeaseOf (bench 3) used (leaseOf c s b)) ∷ []
+
+-- the other calls that take one lease, without a held list
+abbrev byLease : ℕ → ℕ → ℕ → List Out
+byLease c s b =
+    fromReply (competingAcquireOf (bench 3) used (leaseOf c s b))
+    ∷ fromReply (releaseThenHandoffOf (bench 3) used (leaseOf c s b))
+    ∷ []
+
+-- with a held list
+abbrev byHeld : List ℕ → ℕ → ℕ → ℕ → List Out
+byHeld held c s b =
+    fromReply (foreignReleaseOf (bench 3) used held (leaseOf c s b))
+    ∷ fromReply (dropPreservingOf (bench 3) used held (leaseOf c s b))
+    ∷ []
+
+abbrev pub booted : List Case
+booted =
+    -- "preparing takes it", and a grant has it
+    (fromReply (tryAcquireOf (prepareOf 2 4 1 6 prepared healthy .seen .0 .head) prepared 2) ∷ [] give (granted is 1 ∷ cell is 2 ∷ serial is 1 ∷ boot is 6 ∷ next is 2 ∷ headBoot is 6 ∷ []))
+    ∷ (byKey 1 prepared healthy 0 2 ++ tryLock [] 2 give (granted is 1 ∷ boot is 5 ∷ headBoot is 5 ∷ []))
+    -- "(refused: four zeros)"
+    ∷ (preparing 0 4 1 6 ++ preparing 2 4 0 6 give (refusal is 1 ∷ next is 0 ∷ headBoot is 0 ∷ bit 2 is 7 ∷ []))
+    -- live but for its boot number: 16, and nothing changes
+    ∷ (dropStale 2 2 6 ++ dropStale 2 2 0 ++ byLease 2 2 4 ++ byHeld (0 ∷ 1 ∷ 5 ∷ []) 2 2 6 give (refusal is 16 ∷ carries is 0 ∷ attempts is 0 ∷ next is 3 ∷ bit 2 is 1 ∷ owner 2 is 2 ∷ headBoot is 5 ∷ []))
+    ∷ (fromRead (readPermissionOf (bench 3) used (leaseOf 2 2 6)) ∷ [] give (refusal is 16 ∷ carries is 0 ∷ next is 3 ∷ []))
+    -- stale and dead: 16, not 12
+    ∷ (dropStale 2 1 6 ++ dropStale 8 1 6 ++ byHeld [] 2 1 6 give (refusal is 16 ∷ carries is 0 ∷ owner 2 is 2 ∷ []))
+    -- in a held list, at position 1 behind a live one; a dead one before it is 3, and at one place 16 comes before 3
+    ∷ (play [] (0 ∷ 1 ∷ 5 ∷ 2 ∷ 2 ∷ 6 ∷ []) ++ play [] (0 ∷ 1 ∷ 5 ∷ 2 ∷ 1 ∷ 6 ∷ []) ++ byHeld (0 ∷ 1 ∷ 5 ∷ 2 ∷ 2 ∷ 6 ∷ []) 0 1 5 give (refusal is 16 ∷ carries is 1 ∷ boundaries is 0 ∷ next is 3 ∷ bit 0 is 1 ∷ []))
+    ∷ (play [] (0 ∷ 2 ∷ 5 ∷ 2 ∷ 2 ∷ 6 ∷ []) give (refusal is 3 ∷ carries is 0 ∷ []))
+    -- the held list before the lease
+    ∷ (byHeld (0 ∷ 1 ∷ 5 ∷ 2 ∷ 1 ∷ 5 ∷ []) 2 2 6 give (refusal is 3 ∷ carries is 1 ∷ []))
+    -- in a list to release: before 12 and 14 at its place, behind them at an earlier one
+    ∷ (releaseAll (0 ∷ 1 ∷ 5 ∷ 2 ∷ 1 ∷ 6 ∷ []) ++ releaseAll (0 ∷ 1 ∷ 5 ∷ 0 ∷ 1 ∷ 6 ∷ []) give (refusal is 16 ∷ carries is 1 ∷ bit 0 is 1 ∷ boundaries is 0 ∷ []))
+    ∷ (releaseAll (0 ∷ 2 ∷ 5 ∷ 2 ∷ 2 ∷ 6 ∷ []) give (refusal is 12 ∷ carries is 0 ∷ []))
+    ∷ (releaseAll (0 ∷ 1 ∷ 5 ∷ 0 ∷ 1 ∷ 5 ∷ 2 ∷ 2 ∷ 6 ∷ []) give (refusal is 14 ∷ carries is 1 ∷ []))
+    -- "Lease lists must now divide by three": two words are 3, with a count of 0, and 4; a stale lease behind a wrong length is not looked at
+    ∷ (play [] (0 ∷ 1 ∷ []) ++ byHeld (0 ∷ 1 ∷ []) 2 2 6 give (refusal is 3 ∷ carries is 0 ∷ []))
+    ∷ (releaseAll (0 ∷ 1 ∷ []) ++ releaseAll (0 ∷ 1 ∷ 6 ∷ 0 ∷ []) give (refusal is 4 ∷ carries is 0 ∷ bit 0 is 1 ∷ []))
+    -- a stale held lease before 4: the length test of its own list comes first, no other
+    ∷ (fromLocks (acquireLocksOf (bench 3) used healthy registry [] 0 (0 ∷ 1 ∷ 6 ∷ []) (0 ∷ []) []) ∷ [] give (refusal is 16 ∷ carries is 0 ∷ []))
+    -- "the grant buffer has three words a key"
+    ∷ (byKeys prepared (0 ∷ 2 ∷ []) (9 ∷ 9 ∷ []) give (refusal is 4 ∷ carries is 0 ∷ attempts is 0 ∷ []))
+    -- boot number 0 is as good as any
+    ∷ (fromReply (dropLeaseOf (headOf 2 4 3 0) used (leaseOf 2 2 0)) ∷ [] give (done is 1 ∷ bit 2 is 0 ∷ []))
+    ∷ (fromReply (tryAcquireOf (headOf 2 4 3 0) used 3) ∷ [] give (granted is 1 ∷ boot is 0 ∷ headBoot is 0 ∷ []))
+    ∷ (fromReply (dropLeaseOf (headOf 2 4 3 0) used (leaseOf 2 2 5)) ∷ [] give (refusal is 16 ∷ bit 2 is 1 ∷ []))
+    -- "Script steps mean the head's own boot number": a release of (2, 2), which has no word for another
+    ∷ (play (2 ∷ 2 ∷ 2 ∷ []) [] give (done is 1 ∷ dropped is 0 ∷ bit 2 is 0 ∷ []))
+    ∷ []
+
 -- every figure of every case holds of the definitions
-pub cases-hold : (every cases ≡ true) × (every further ≡ true) × (every secondReading ≡ true) × (every reasons ≡ true) × (every atWork ≡ true)
-unfolding bitAt ownerAt waitersAt setCell setWaiters isFree isHeld stateOf stateAt isLive leasesOf wordsOf sameLease isIn headFits shapeFits healthFits registryFits first stepTakeOf stepReleaseOf stepWaitersOf stepHealthOf stepOf runStepsOf boundaryOf takeOf lateOf secondOf lockOf findOf attemptOf spinOf pauseOf retryOf giveBackOf rollbackOf locksOf notLive badBindings notReleasable prepareRules cellRules leaseRules heldCellRules heldLeaseRules scriptRules lockRules bucketRules releaseRules locksRules prepareOf acquireOf tryAcquireOf dropLeaseOf readPermissionOf competingAcquireOf releaseThenHandoffOf foreignReleaseOf acquirePreservingOf dropPreservingOf environmentOf tryLockOf transactionalOf acquireBucketOf releaseAllOf acquireLocksOf total startOf allWithin risesFrom badLists badTurns crewRules tryTurnOf releaseTurnOf turnOf turnsOf takenOf releasedOf crewOf summedOf crewAtWorkRules heldAllOf addTurnOf shiftOf crewAtWorkOf orderOf
-cases-hold = (refl, refl, refl, refl, refl)
+pub cases-hold : (every cases ≡ true) × (every further ≡ true) × (every secondReading ≡ true) × (every reasons ≡ true) × (every atWork ≡ true) × (every booted ≡ true)
+unfolding bitAt ownerAt waitersAt setCell setWaiters isFree isHeld stateOf stateAt isLive leasesOf holdsOf wordsOf sameHold isIn headFits shapeFits healthFits registryFits first stepTakeOf stepReleaseOf stepWaitersOf stepHealthOf stepOf runStepsOf boundaryOf takeOf lateOf secondOf lockOf findOf attemptOf spinOf pauseOf retryOf giveBackOf rollbackOf locksOf notLive badBindings notReleasable prepareRules cellRules leaseRules heldCellRules heldLeaseRules scriptRules lockRules bucketRules releaseRules locksRules prepareOf acquireOf tryAcquireOf dropLeaseOf readPermissionOf competingAcquireOf releaseThenHandoffOf foreignReleaseOf acquirePreservingOf dropPreservingOf environmentOf tryLockOf transactionalOf acquireBucketOf releaseAllOf acquireLocksOf total startOf allWithin risesFrom badLists badTurns crewRules tryTurnOf releaseTurnOf turnOf turnsOf takenOf releasedOf crewOf summedOf crewAtWorkRules heldAllOf addTurnOf shiftOf crewAtWorkOf orderOf
+cases-hold = (refl, refl, refl, refl, refl, refl)

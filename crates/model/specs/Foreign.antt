@@ -6,9 +6,9 @@ use lib.Dec.{ltb, leb, eqb}
 use lib.ListN.{length, getD, set}
 use Rattle.choice.specs.Choice.{if_then_else_}
 use Rattle.model.specs.Log.{Made, by-script, boundary-run, step-dropped, took, released, waiters-set, health-set, gives, note, _>>=_, _>>_}
-use Rattle.model.specs.Arena.{serialRemains, bitAt, ownerAt, setCell, setWaiters, isFree, isLive, isIn, leaseOf}
+use Rattle.model.specs.Arena.{serialRemains, bitAt, ownerAt, setCell, setWaiters, isFree, isLive, isIn, holdOf}
 use Rattle.types.specs.declared.Flow.{Flow}
-use Rattle.types.specs.declared.Lease.{Lease}
+use Rattle.types.specs.declared.Hold.{Hold}
 use Rattle.types.specs.declared.Stepped.{Stepped}
 
 -- what the steps of a call are given and never change
@@ -17,13 +17,13 @@ pub record Setting : Type 0 where
   pub cells : ℕ
   pub script : List ℕ
   -- "Protected: the caller's held leases, those this call has taken, in `release_all` those it was given, and never those it has given up."
-  pub protected : List Lease
+  pub protected : List Hold
 
-abbrev pub setting : ℕ → ℕ → List ℕ → List Lease → Setting
+abbrev pub setting : ℕ → ℕ → List ℕ → List Hold → Setting
 setting h c s ps = record { headers = h; cells = c; script = s; protected = ps }
 
 -- the same, and these leases protected too
-abbrev pub protecting : Setting → List Lease → Setting
+abbrev pub protecting : Setting → List Hold → Setting
 protecting e ls = setting (e .headers) (e .cells) (e .script) (e .protected ++ ls)
 
 -- ---- the script: "three words a step (kind, place, number)", "with a place counted in steps"
@@ -59,10 +59,11 @@ stepTakeOf cells next t c =
       gives (stepped (next + 1) 0, setCell t c 1 next))
     else drops next t
 
--- "2 release (cell, serial): legal if that lease is live and not protected."
-unfoldable pub stepReleaseOf : ℕ → List Lease → ℕ → List ℕ → ℕ → ℕ → Made (Stepped × List ℕ)
+-- "2 release (cell, serial): legal if that lease is live and not protected." Document 02, L8: "Script steps mean the head's own boot number.": a step
+-- has no word for another
+unfoldable pub stepReleaseOf : ℕ → List Hold → ℕ → List ℕ → ℕ → ℕ → Made (Stepped × List ℕ)
 stepReleaseOf cells protected next t c s =
-    if isLive next cells t (leaseOf c s) && not (isIn (leaseOf c s) protected) then (do
+    if isLive next cells t (holdOf c s) && not (isIn (holdOf c s) protected) then (do
       note (released by-script c s)
       gives (stepped next 0, setCell t c 0 0))
     else drops next t

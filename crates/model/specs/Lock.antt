@@ -7,7 +7,7 @@ use lib.Dec.{leb, eqb}
 use lib.ListN.{length, getD, take}
 use Rattle.choice.specs.Choice.{if_then_else_}
 use Rattle.model.specs.Log.{Made, by-caller, attempt-begun, yielded, spun, took, released, gives, note, _>>=_, _>>_}
-use Rattle.model.specs.Arena.{serialRemains, cellNumber, headerOf, isPoisoned, waitersAt, setCell, stateAt, leaseOf, wordsOf}
+use Rattle.model.specs.Arena.{serialRemains, cellNumber, headerOf, isPoisoned, waitersAt, setCell, stateAt, leaseOf, holdOf, wordsOf}
 use Rattle.model.specs.Foreign.{Setting, protecting, flowOf, boundaryOf}
 use Rattle.types.specs.declared.Answer.{Answer}
 use Rattle.types.specs.declared.Answer.the-variants as answer
@@ -15,7 +15,7 @@ use Rattle.types.specs.declared.Ended.{Ended}
 use Rattle.types.specs.declared.Flow.{Flow}
 use Rattle.types.specs.declared.Found.{Found}
 use Rattle.types.specs.declared.Found.the-variants as found
-use Rattle.types.specs.declared.Lease.{Lease}
+use Rattle.types.specs.declared.Hold.{Hold}
 use Rattle.types.specs.declared.Locked.{Locked}
 use Rattle.types.specs.declared.Outcome.{Outcome}
 use Rattle.types.specs.declared.Outcome.the-variants as outcome
@@ -52,7 +52,7 @@ takeOf next t c = takeIn (stateAt next t c) next t c
 
 -- what a compare-and-set on a cell comes to; 9 and 10 carry the cell
 abbrev pub outcomeOf : ℕ → Take → Outcome
-outcomeOf c (taking.Granted s) = outcome.Granted (leaseOf c s)
+outcomeOf c (taking.Granted s) = outcome.Granted (holdOf c s)
 outcomeOf c (taking.Busy owner) = outcome.Busy (reason.Held owner)
 outcomeOf c taking.Damaged = outcome.Refused (refusal.Damaged c)
 outcomeOf c taking.Spent = outcome.Refused (refusal.SerialsSpent c)
@@ -74,9 +74,9 @@ giveUpOf o f t g c s = do
 -- that was spent."
 unfoldable pub lateOf : Setting → ℕ → Flow → List ℕ → List ℕ → ℕ → ℕ → Made (Locked × (List ℕ × List ℕ))
 lateOf e buckets f t g c s = do
-  (k, (u, w)) ← boundaryOf (protecting e (leaseOf c s ∷ [])) f t g
+  (k, (u, w)) ← boundaryOf (protecting e (holdOf c s ∷ [])) f t g
   if isPoisoned w (headerOf buckets c) then giveUpOf (outcome.Refused (refusal.Poisoned (headerOf buckets c))) k u w c s
-      else if eqb (waitersAt u c) 0 then gives (lockedOf k 3 (outcome.Granted (leaseOf c s)), (u, w))
+      else if eqb (waitersAt u c) 0 then gives (lockedOf k 3 (outcome.Granted (holdOf c s)), (u, w))
       else giveUpOf (outcome.Busy (reason.After s)) k u w c s
 
 -- after try_acquire: a grant goes on, anything else ends the try_lock after two boundaries
@@ -100,10 +100,11 @@ lockOf e buckets f t g c = do
   if eqb (waitersAt u c) 0 then secondOf e buckets k u w c
       else gives (lockedOf k 1 (outcome.Busy reason.Before), (u, w))
 
-abbrev pub answerOf : Outcome → Answer
-answerOf (outcome.Granted l) = answer.Granted l
-answerOf (outcome.Busy why) = answer.Busy why
-answerOf (outcome.Refused r) = answer.Refused r
+-- what an attempt comes to, as the answer of a call on a head of this boot number
+abbrev pub answerOf : ℕ → Outcome → Answer
+answerOf boot (outcome.Granted l) = answer.Granted (leaseOf (l .cell) (l .serial) boot)
+answerOf boot (outcome.Busy why) = answer.Busy why
+answerOf boot (outcome.Refused r) = answer.Refused r
 
 -- ---- `transactional_try_lock_bucket`: one attempt by key
 
@@ -188,18 +189,18 @@ settled (outcome.Refused r) = outcome.Refused r
 
 -- ---- `release_all`, and multi-lock's rollback
 
-abbrev pub noLease : Lease
-noLease = leaseOf 0 0
+abbrev pub noHold : Hold
+noHold = holdOf 0 0
 
-abbrev pub leaseAt : List Lease → ℕ → Lease
-leaseAt ls i = getD ls i noLease
+abbrev pub holdAt : List Hold → ℕ → Hold
+holdAt ls i = getD ls i noHold
 
 -- "last first, a boundary after each release": the first n of `ls` are still to be released, and protected until then
-unfoldable pub giveBackOf : ℕ → Setting → List Lease → Run → List ℕ → List ℕ → Made (Run × (List ℕ × List ℕ))
+unfoldable pub giveBackOf : ℕ → Setting → List Hold → Run → List ℕ → List ℕ → Made (Run × (List ℕ × List ℕ))
 giveBackOf zero e ls r t g = gives (r, (t, g))
 giveBackOf (suc n) e ls r t g = do
-  note (released by-caller (leaseAt ls n .cell) (leaseAt ls n .serial))
-  (f, (u, w)) ← boundaryOf (protecting e (take n ls)) (r .flow) (setCell t (leaseAt ls n .cell) 0 0) g
+  note (released by-caller (holdAt ls n .cell) (holdAt ls n .serial))
+  (f, (u, w)) ← boundaryOf (protecting e (take n ls)) (r .flow) (setCell t (holdAt ls n .cell) 0 0) g
   giveBackOf n e ls (runOf f (r .attempts) (r .boundaries + 1) (r .yields)) u w
 
 -- ---- `acquire_index_locks`
@@ -212,13 +213,13 @@ abbrev pub endedOf : Run → Answer → Ended
 endedOf r a = record { run = r; answer = a }
 
 -- "On a refusal at position p all taken leases are released as in `release_all`." "the grant buffer is unchanged; multi-lock adds the key's position"
-unfoldable pub rollbackOf : Setting → List Lease → Refusal → ℕ → Run → List ℕ → List ℕ → List ℕ → Made Locks
+unfoldable pub rollbackOf : Setting → List Hold → Refusal → ℕ → Run → List ℕ → List ℕ → List ℕ → Made Locks
 rollbackOf e taken x p r t g grants = do
   (k, (u, w)) ← giveBackOf (length taken) e taken r t g
   gives (endedOf k (answer.RefusedAt x p), (u, (w, grants)))
 
 -- after one key: a lease goes on to the next key, a refusal rolls back
-abbrev pub afterKey : Outcome → Setting → List Lease → ℕ → Run → List ℕ → List ℕ → List ℕ → (Lease → Made Locks) → Made Locks
+abbrev pub afterKey : Outcome → Setting → List Hold → ℕ → Run → List ℕ → List ℕ → List ℕ → (Hold → Made Locks) → Made Locks
 afterKey (outcome.Granted l) e taken p r t g grants more = more l
 afterKey (outcome.Busy why) e taken p r t g grants more = rollbackOf e taken (refusal.SerializationFailure why) p r t g grants
 afterKey (outcome.Refused x) e taken p r t g grants more = rollbackOf e taken x p r t g grants
@@ -231,9 +232,9 @@ abbrev pub bucketAt : List ℕ → ℕ → ℕ
 bucketAt keys p = getD keys (2 * p + 1) 0
 
 -- "keys in the order given": `left` keys from position p on, with the leases taken so far.
--- "On a grant, multi-lock's buffer holds cell and serial for each key, in key order"
-unfoldable pub locksOf : ℕ → ℕ → Setting → ℕ → List ℕ → List ℕ → List Lease → Run → List ℕ → List ℕ → List ℕ → Made Locks
-locksOf zero p e buckets registry keys taken r t g grants = gives (endedOf r answer.AllGranted, (t, (g, wordsOf taken)))
-locksOf (suc left) p e buckets registry keys taken r t g grants = do
+-- "On a grant, multi-lock's buffer holds cell and serial for each key, in key order"; document 02, L8: and the head's boot number
+unfoldable pub locksOf : ℕ → ℕ → Setting → ℕ → ℕ → List ℕ → List ℕ → List Hold → Run → List ℕ → List ℕ → List ℕ → Made Locks
+locksOf zero p e buckets boot registry keys taken r t g grants = gives (endedOf r answer.AllGranted, (t, (g, wordsOf boot taken)))
+locksOf (suc left) p e buckets boot registry keys taken r t g grants = do
   (k, (u, w)) ← retryOf attemptLimit 0 noneYet (protecting e taken) buckets registry (bindingAt keys p) (bucketAt keys p) r t g
-  afterKey (k .outcome) e taken p (k .run) u w grants λ l. locksOf left (p + 1) e buckets registry keys (taken ++ (l ∷ [])) (k .run) u w grants
+  afterKey (k .outcome) e taken p (k .run) u w grants λ l. locksOf left (p + 1) e buckets boot registry keys (taken ++ (l ∷ [])) (k .run) u w grants

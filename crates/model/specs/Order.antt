@@ -4,25 +4,26 @@ use Prim.Native.Nat.{ℕ, zero, suc, _+_}
 use mathlib.Core.Path.{_≡_, refl, ap}
 use mathlib.Core.List.{List, [], _∷_, _++_, map}
 use lib.ListN.{length, getD, replicate}
-use Rattle.model.specs.Arena.{leasesOf}
+use Rattle.model.specs.Arena.{holdIn, leasesOf}
 use Rattle.model.specs.Refusals.{Rule, reasonNumber, reasonSerial, reasonOf, refusalWith, numberOf, carriedOf, refusalReason}
 use Rattle.model.specs.Checks.{countIn, notLive, badBindings, notReleasable, prepareRules, cellRules, leaseRules, heldCellRules, heldLeaseRules, scriptRules, lockRules, bucketRules, releaseRules, locksRules}
 use Rattle.model.specs.Crew.{badLists, badTurns, crewRules, crewAtWorkRules}
 use Rattle.types.specs.declared.Head.{Head}
+use Rattle.types.specs.declared.Hold.{Hold}
 use Rattle.types.specs.declared.Lease.{Lease}
 use Rattle.types.specs.declared.Reason.{Reason}
 use Rattle.types.specs.declared.Reason.the-variants as reason
 use Rattle.types.specs.declared.Refusal.{Refusal}
-use Rattle.types.specs.declared.Refusal.the-variants.{BadShape, BadScript, BadHeld, TooMany, BadBinding, BadHeader, Poisoned, InvalidBucket, Damaged, SerialsSpent, SerializationFailure, NotHeld, Protected, Repeated, BadCrew}
+use Rattle.types.specs.declared.Refusal.the-variants.{BadShape, BadScript, BadHeld, TooMany, BadBinding, BadHeader, Poisoned, InvalidBucket, Damaged, SerialsSpent, SerializationFailure, NotHeld, Protected, Repeated, BadCrew, StaleBoot}
 
 abbrev numbers : List ℕ
-numbers = 1 ∷ 2 ∷ 3 ∷ 4 ∷ 5 ∷ 6 ∷ 7 ∷ 8 ∷ 9 ∷ 10 ∷ 11 ∷ 12 ∷ 13 ∷ 14 ∷ 15 ∷ []
+numbers = 1 ∷ 2 ∷ 3 ∷ 4 ∷ 5 ∷ 6 ∷ 7 ∷ 8 ∷ 9 ∷ 10 ∷ 11 ∷ 12 ∷ 13 ∷ 14 ∷ 15 ∷ 16 ∷ []
 
 -- the columns "no." and "carries"
 pub numbers-are : (k : ℕ) (why : Reason) → map (λ n. numberOf (refusalWith why n k)) numbers ≡ numbers
 numbers-are k why = refl
 
-pub carries-are : (k : ℕ) (why : Reason) → map (λ n. carriedOf (refusalWith why n k)) numbers ≡ 0 ∷ 0 ∷ k ∷ 0 ∷ k ∷ k ∷ k ∷ k ∷ k ∷ k ∷ 4096 ∷ k ∷ 0 ∷ k ∷ k ∷ []
+pub carries-are : (k : ℕ) (why : Reason) → map (λ n. carriedOf (refusalWith why n k)) numbers ≡ 0 ∷ 0 ∷ k ∷ 0 ∷ k ∷ k ∷ k ∷ k ∷ k ∷ k ∷ 4096 ∷ k ∷ 0 ∷ k ∷ k ∷ k ∷ []
 carries-are k why = refl
 
 -- number and serial tell a reason
@@ -48,6 +49,7 @@ refusal-is (NotHeld k) = refl
 refusal-is Protected = refl
 refusal-is (Repeated k) = refl
 refusal-is (BadCrew k) = refl
+refusal-is (StaleBoot k) = refl
 
 -- ---- the order of each call's checks
 
@@ -55,29 +57,34 @@ abbrev pub numbersOf : List Rule → List ℕ
 numbersOf [] = []
 numbersOf (r ∷ rs) = r .number ∷ numbersOf rs
 
--- n times 12 and 14
+-- n times 16 and this number
+abbrev pub staleOr : ℕ → ℕ → List ℕ
+staleOr number zero = []
+staleOr number (suc n) = 16 ∷ number ∷ staleOr number n
+
+-- n times 16, 12 and 14
 abbrev pub together : ℕ → List ℕ
 together zero = []
-together (suc n) = 12 ∷ 14 ∷ together n
+together (suc n) = 16 ∷ 12 ∷ 14 ∷ together n
 
 numbers-append : (xs ys : List Rule) → numbersOf (xs ++ ys) ≡ numbersOf xs ++ numbersOf ys
 numbers-append [] ys = refl
 numbers-append (x ∷ xs) ys = ap {B = List ℕ} (λ l. x .number ∷ l) (numbers-append xs ys)
 
-not-live : (h : Head) (t : List ℕ) (i : ℕ) (ls : List Lease) → numbersOf (notLive h t i ls) ≡ replicate (length ls) 3
+not-live : (h : Head) (t : List ℕ) (i : ℕ) (ls : List Lease) → numbersOf (notLive h t i ls) ≡ staleOr 3 (length ls)
 unfolding notLive
 not-live h t i [] = refl
-not-live h t i (l ∷ ls) = ap {B = List ℕ} (λ n. 3 ∷ n) (not-live h t (i + 1) ls)
+not-live h t i (l ∷ ls) = ap {B = List ℕ} (λ n. 16 ∷ 3 ∷ n) (not-live h t (i + 1) ls)
 
 bad-bindings : (left i : ℕ) (registry keys : List ℕ) → numbersOf (badBindings left i registry keys) ≡ replicate left 5
 unfolding badBindings
 bad-bindings zero i registry keys = refl
 bad-bindings (suc left) i registry keys = ap {B = List ℕ} (λ n. 5 ∷ n) (bad-bindings left (i + 1) registry keys)
 
-not-releasable : (h : Head) (t : List ℕ) (i : ℕ) (earlier ls : List Lease) → numbersOf (notReleasable h t i earlier ls) ≡ together (length ls)
+not-releasable : (h : Head) (t : List ℕ) (i : ℕ) (earlier : List Hold) (ls : List Lease) → numbersOf (notReleasable h t i earlier ls) ≡ together (length ls)
 unfolding notReleasable
 not-releasable h t i earlier [] = refl
-not-releasable h t i earlier (l ∷ ls) = ap {B = List ℕ} (λ n. 12 ∷ 14 ∷ n) (not-releasable h t (i + 1) (earlier ++ (l ∷ [])) ls)
+not-releasable h t i earlier (l ∷ ls) = ap {B = List ℕ} (λ n. 16 ∷ 12 ∷ 14 ∷ n) (not-releasable h t (i + 1) (earlier ++ (holdIn l ∷ [])) ls)
 
 bad-lists : (left m inside : ℕ) (counts cells : List ℕ) → numbersOf (badLists left m inside counts cells) ≡ replicate left 15
 unfolding badLists
@@ -90,9 +97,9 @@ bad-turns members i [] = refl
 bad-turns members i (m ∷ ms) = ap {B = List ℕ} (λ n. 15 ∷ n) (bad-turns members (i + 1) ms)
 
 module _ (h : Head) (t g registry script : List ℕ) (place : ℕ) (held keys grants leases : List ℕ) (l : Lease) (c binding : ℕ) where
-  -- one 3 for each held lease
-  abbrev threes : List ℕ
-  threes = replicate (length (leasesOf held)) 3
+  -- 16 and 3 for each held lease
+  abbrev heldOnes : List ℕ
+  heldOnes = staleOr 3 (length (leasesOf held))
 
   pub prepare-order : numbersOf (prepareRules h t g) ≡ 1 ∷ 1 ∷ []
   unfolding prepareRules
@@ -102,27 +109,27 @@ module _ (h : Head) (t g registry script : List ℕ) (place : ℕ) (held keys gr
   unfolding cellRules
   cell-order = refl
 
-  pub lease-order : numbersOf (leaseRules h t l) ≡ 1 ∷ 12 ∷ []
+  pub lease-order : numbersOf (leaseRules h t l) ≡ 1 ∷ 16 ∷ 12 ∷ []
   unfolding leaseRules
   lease-order = refl
 
-  pub held-cell-order : numbersOf (heldCellRules h t held c) ≡ 1 ∷ 3 ∷ (threes ++ (8 ∷ []))
+  pub held-cell-order : numbersOf (heldCellRules h t held c) ≡ 1 ∷ 3 ∷ (heldOnes ++ (8 ∷ []))
   unfolding heldCellRules
   held-cell-order = rw (numbers-append (notLive h t 0 (leasesOf held)) _, not-live)
 
-  pub held-lease-order : numbersOf (heldLeaseRules h t held l) ≡ 1 ∷ 3 ∷ (threes ++ (12 ∷ 13 ∷ []))
+  pub held-lease-order : numbersOf (heldLeaseRules h t held l) ≡ 1 ∷ 3 ∷ (heldOnes ++ (16 ∷ 12 ∷ 13 ∷ []))
   unfolding heldLeaseRules
   held-lease-order = rw (numbers-append (notLive h t 0 (leasesOf held)) _, not-live)
 
-  pub script-order : numbersOf (scriptRules h t g script place held) ≡ 1 ∷ 1 ∷ 2 ∷ 3 ∷ threes
+  pub script-order : numbersOf (scriptRules h t g script place held) ≡ 1 ∷ 1 ∷ 2 ∷ 3 ∷ heldOnes
   unfolding scriptRules
   script-order = rw not-live
 
-  pub lock-order : numbersOf (lockRules h t g script place held c) ≡ 1 ∷ 1 ∷ 2 ∷ 3 ∷ (threes ++ (8 ∷ []))
+  pub lock-order : numbersOf (lockRules h t g script place held c) ≡ 1 ∷ 1 ∷ 2 ∷ 3 ∷ (heldOnes ++ (8 ∷ []))
   unfolding lockRules scriptRules
   lock-order = rw (numbers-append (notLive h t 0 (leasesOf held)) _, not-live)
 
-  pub bucket-order : numbersOf (bucketRules h t g registry script place held binding) ≡ 1 ∷ 1 ∷ 1 ∷ 2 ∷ 3 ∷ (threes ++ (5 ∷ []))
+  pub bucket-order : numbersOf (bucketRules h t g registry script place held binding) ≡ 1 ∷ 1 ∷ 1 ∷ 2 ∷ 3 ∷ (heldOnes ++ (5 ∷ []))
   unfolding bucketRules
   bucket-order = rw (numbers-append (notLive h t 0 (leasesOf held)) _, not-live)
 
@@ -132,7 +139,7 @@ module _ (h : Head) (t g registry script : List ℕ) (place : ℕ) (held keys gr
 
   -- and one 5 for each key
   pub locks-order : numbersOf (locksRules h t g registry script place held keys grants)
-      ≡ 1 ∷ 1 ∷ 1 ∷ 2 ∷ 3 ∷ (threes ++ (4 ∷ replicate (countIn keys) 5))
+      ≡ 1 ∷ 1 ∷ 1 ∷ 2 ∷ 3 ∷ (heldOnes ++ (4 ∷ replicate (countIn keys) 5))
   unfolding locksRules
   locks-order = rw (numbers-append (notLive h t 0 (leasesOf held)) _, not-live, bad-bindings)
 

@@ -10,7 +10,7 @@ use Rattle.types.specs.declared.Check.the-variants.{Fine, Fault}
 use Rattle.types.specs.declared.Reason.{Reason}
 use Rattle.types.specs.declared.Reason.the-variants as reason
 use Rattle.types.specs.declared.Refusal.{Refusal}
-use Rattle.types.specs.declared.Refusal.the-variants.{BadShape, BadScript, BadHeld, TooMany, BadBinding, BadHeader, Poisoned, InvalidBucket, Damaged, SerialsSpent, SerializationFailure, NotHeld, Protected, Repeated, BadCrew}
+use Rattle.types.specs.declared.Refusal.the-variants.{BadShape, BadScript, BadHeld, TooMany, BadBinding, BadHeader, Poisoned, InvalidBucket, Damaged, SerialsSpent, SerializationFailure, NotHeld, Protected, Repeated, BadCrew, StaleBoot}
 
 -- ---- document 02, L1: "Split the word: held, with the owner's serial; waiters seen before the compare-and-set; waiters seen after it. The last
 -- one also gives the serial that was spent."
@@ -38,7 +38,8 @@ refusalWith why number k =
     else if eqb number 12 then NotHeld k
     else if eqb number 13 then Protected
     else if eqb number 14 then Repeated k
-    else BadCrew k
+    else if eqb number 15 then BadCrew k
+    else StaleBoot k
 
 -- the number of the reason that a refusal gives, and its serial: only 11 gives one, the others 0 and 0
 abbrev pub refusalReason : Refusal → List ℕ
@@ -57,6 +58,7 @@ refusalReason (NotHeld k) = 0 ∷ 0 ∷ []
 refusalReason Protected = 0 ∷ 0 ∷ []
 refusalReason (Repeated k) = 0 ∷ 0 ∷ []
 refusalReason (BadCrew k) = 0 ∷ 0 ∷ []
+refusalReason (StaleBoot k) = 0 ∷ 0 ∷ []
 
 -- the column "when": a check is a number, what it carries, and the test that makes it apply
 pub record Rule : Type 0 where

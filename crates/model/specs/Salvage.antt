@@ -87,6 +87,7 @@ overOf words run = words ++ drop (length words) run
 abbrev pub Salvage : Type 0
 Salvage = SalvageReply × (List ℕ × (List ℕ × (List ℕ × List ℕ)))
 
+-- the head as it was given. Document 02, L8: "Salvage keeps the boot number of the head it was given."
 abbrev pub concluded : Head → SalvageAnswer → SalvageReply
 concluded h a = record { head = h; answer = a }
 
@@ -122,7 +123,7 @@ salvageOf h t g report list =
 -- ---- cases: two headers of three cells, the next serial 9
 
 abbrev paper : Head
-paper = headOf 2 3 9
+paper = headOf 2 3 9 5
 
 -- held; bit 2; free and waited for; held by a serial not yet issued; held and waited for; free with an owner
 abbrev found : List ℕ
@@ -150,7 +151,7 @@ pub record Cases : Type 0 where
   -- "place, old, new, in rising order, health places counting on from the table's"
   pub reported : changesOf paper found sick ≡ entries
   -- a word that does not change has no entry: a damaged cell of bit 2, owner 0 and no waiters has one
-  pub one-entry : changesOf (headOf 1 1 9) (2 ∷ 0 ∷ 0 ∷ []) (0 ∷ []) ≡ 0 ∷ 2 ∷ 0 ∷ []
+  pub one-entry : changesOf (headOf 1 1 9 5) (2 ∷ 0 ∷ 0 ∷ []) (0 ∷ []) ≡ 0 ∷ 2 ∷ 0 ∷ []
   -- "Cells left held are listed apart as unconfirmed."
   pub held-listed : leftHeld 9 6 found ≡ 0 ∷ 4 ∷ []
   -- two cells held by one owner are sound, each by itself

@@ -8,15 +8,15 @@ use native.Mathlib.Omega.{arith}
 use lib.Dec.{ltb, eqb}
 use lib.ListN.{length}
 use borrow.Author.Tests.{leb-false, ltb-false, eqb-true, not-false}
-use Rattle.model.specs.Arena.{leasesOf}
+use Rattle.model.specs.Arena.{holdsOf}
 use Rattle.model.specs.Refusals.{first}
-use Rattle.model.specs.Checks.{countIn, isOdd, badShape, badHealth, badRegistry, badScript, badHeld, tooManyKeys, badBinding, badBindings, locksRules}
+use Rattle.model.specs.Checks.{leaseCount, countIn, isOdd, badShape, badHealth, badRegistry, badScript, badHeld, tooManyKeys, badBinding, badBindings, locksRules}
 use Rattle.model.specs.Lock.{bindingAt, locksOf}
 use Rattle.model.specs.Calls.{starting, given, played}
 use Rattle.types.specs.declared.Check.{Check}
 use Rattle.types.specs.declared.Check.the-variants.{Fine}
 use Rattle.types.specs.declared.Head.{Head}
-use Rattle.types.specs.declared.Lease.{Lease}
+use Rattle.types.specs.declared.Hold.{Hold}
 use Rattle.types.specs.declared.Played.{Played}
 use Rattle.types.specs.declared.Run.{Run}
 use Rattle.choice.specs.Pick.{neither}
@@ -64,7 +64,7 @@ locks-then h t g registry script place held keys grants =
 pub record LocksFine (h : Head) (words bytes script place : ℕ) (registry keys : List ℕ) (grants : ℕ) : Type 0 where
   pub script-ok : ScriptFine h words bytes script place
   pub few : countIn keys ≤ 64
-  pub grants-are : grants ≡ 2 * countIn keys
+  pub grants-are : grants ≡ 3 * countIn keys
   pub bound : (i : ℕ) → 2 * i + 1 < length keys → bindingAt keys i < length registry
 
 pub locks-fine : (h : Head) (t g registry script : List ℕ) (place : ℕ) (held keys grants : List ℕ)
@@ -74,9 +74,9 @@ unfolding locksRules keyRules
 locks-fine h t g registry script place held keys grants e =
     let a = fine-append (keyRules h t g registry script place held) (tooManyKeys held keys grants ∷ badBindings (countIn keys) 0 registry keys) e in
     let b = fine-rest _ _ (a .1) in
-    let m = neither (isOdd keys || ltb 64 (countIn held + countIn keys)) (not (eqb (length grants) (2 * countIn keys))) (b .0) in
-    let o = neither (isOdd keys) (ltb 64 (countIn held + countIn keys)) (m .0) in
-    let f : countIn held + countIn keys ≤ 64 = ltb-false _ _ (o .1) in
+    let m = neither (isOdd keys || ltb 64 (leaseCount held + countIn keys)) (not (eqb (length grants) (3 * countIn keys))) (b .0) in
+    let o = neither (isOdd keys) (ltb 64 (leaseCount held + countIn keys)) (m .0) in
+    let f : leaseCount held + countIn keys ≤ 64 = ltb-false _ _ (o .1) in
     record {
       script-ok = key-fine h t g registry script place held (a .0);
       few = omega arith;
@@ -92,11 +92,11 @@ fine-bound s h words bytes script place registry keys grants e f =
 -- the steps, once the checks are fine
 unfoldable pub locksOnceOf : Head → List ℕ → List ℕ → List ℕ → List ℕ → ℕ → List ℕ → List ℕ → List ℕ → Played × (List ℕ × (List ℕ × List ℕ))
 locksOnceOf h t g registry script place held keys grants =
-    let o = locksOf (countIn keys) 0 (given h script (leasesOf held)) (h .buckets) registry keys [] (starting h place) t g grants .seen in
+    let o = locksOf (countIn keys) 0 (given h script (holdsOf held)) (h .buckets) (h .boot) registry keys [] (starting h place) t g grants .seen in
     (played h (o .0 .run) (o .0 .answer), o .1)
 
 -- the same, by the scope that the steps are given
 pub locks-given : (s : Scope) (h : Head) (script : List ℕ) → s ≡ scopeOf h (length script)
-    → (n : ℕ) (ps : List Lease) (registry keys : List ℕ) (r : Run) (t g grants : List ℕ)
-    → locksOf n 0 (inScope s script ps) (s .buckets) registry keys [] r t g grants ≡ locksOf n 0 (given h script ps) (h .buckets) registry keys [] r t g grants
-locks-given s h script e n ps registry keys r t g grants = ap (λ (x : Scope). locksOf n 0 (inScope x script ps) (x .buckets) registry keys [] r t g grants) e
+    → (n : ℕ) (ps : List Hold) (registry keys : List ℕ) (r : Run) (t g grants : List ℕ)
+    → locksOf n 0 (inScope s script ps) (s .buckets) (s .boot) registry keys [] r t g grants ≡ locksOf n 0 (given h script ps) (h .buckets) (h .boot) registry keys [] r t g grants
+locks-given s h script e n ps registry keys r t g grants = ap (λ (x : Scope). locksOf n 0 (inScope x script ps) (x .buckets) (x .boot) registry keys [] r t g grants) e

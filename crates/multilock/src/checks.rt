@@ -10,7 +10,7 @@ ghost use Rattle.model.specs.Refusals.{first};
 ghost use Rattle.model.specs.Checks.{countIn, tooManyKeys, badBindings, locksRules};
 ghost use Rattle.laws.specs.Checks.{or-else};
 
-// 4: keys odd, too many, or a buffer that is not two words a key.
+// 4: keys odd, too many with the held leases, or a buffer that is not three words a key.
 fn keys_fault(held: &[u32], keys: &[u32], grants: &[u32]) -> Check
     ensures { λ r. ⌜ r ≡ first (tooManyKeys (now (held .entry)) (now (keys .entry)) (now (grants .entry)) ∷ []) ⌝ }
 {
@@ -18,10 +18,10 @@ fn keys_fault(held: &[u32], keys: &[u32], grants: &[u32]) -> Check
     if keys.len() % 2 != 0 {
         return Check::Fault(Refusal::TooMany);
     }
-    if 64 < held.len() / 2 + n {
+    if 64 < held.len() / 3 + n {
         return Check::Fault(Refusal::TooMany);
     }
-    if grants.len() != 2 * n {
+    if grants.len() != 3 * n {
         return Check::Fault(Refusal::TooMany);
     }
     Check::Fine

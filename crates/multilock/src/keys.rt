@@ -13,7 +13,7 @@ ghost use mathlib.Core.Path.{_≡_};
 ghost use mathlib.Core.List.{[]};
 ghost use Prim.Native.Nat.{_+_, _*_, _<_, _≤_};
 ghost use lib.ListN.{length};
-ghost use Rattle.model.specs.Arena.{leasesOf, wordsOf};
+ghost use Rattle.model.specs.Arena.{holdsOf, wordsOf};
 ghost use Rattle.model.specs.Foreign.{protecting};
 ghost use Rattle.model.specs.Lock.{noneYet, retryOf, bindingAt, bucketAt, locksOf};
 ghost use Rattle.foreign.specs.Model.{pairsOf, inScope};
@@ -21,15 +21,16 @@ ghost use Rattle.bucket.specs.Bounds.{callMost};
 ghost use Rattle.bucket.specs.Laws.{RunBound};
 ghost use Rattle.multilock.specs.Locks.{Bound};
 
-// The buffer holds cell and serial for each key, in key order.
-fn grant(taken: [[u32; 2]; 64], n: usize, grants: &mut [u32])
-    requires { ⌜ (n ≤ 64) × (length (now grants) ≡ 2 * n) ⌝ }
-    ensures { λ _. ⌜ now (grants .exit) ≡ wordsOf (pairsOf n 0 taken) ⌝ }
+// The buffer holds cell, serial and boot number for each key, in key order.
+fn grant(taken: [[u32; 2]; 64], n: usize, boot: u32, grants: &mut [u32])
+    requires { ⌜ (n ≤ 64) × (length (now grants) ≡ 3 * n) ⌝ }
+    ensures { λ _. ⌜ now (grants .exit) ≡ wordsOf boot (pairsOf n 0 taken) ⌝ }
 {
     let mut i = 0;
     while i < n {
-        grants[2 * i] = taken[i][0];
-        grants[2 * i + 1] = taken[i][1];
+        grants[3 * i] = taken[i][0];
+        grants[3 * i + 1] = taken[i][1];
+        grants[3 * i + 2] = boot;
         i += 1;
     }
 }
@@ -50,7 +51,7 @@ fn try_key(
     requires { ⌜ Bound scope (length (now table)) (length (now health)) (length (now script)) (now registry) (now keys)
         × (RunBound (scope .steps) callMost run × ((p < 64) × (2 * p + 1 < length (now keys)))) ⌝ }
     ensures { λ r. ⌜ (r, (now (table .exit), now (health .exit)))
-        ≡ retryOf 4096 0 noneYet (protecting (inScope scope (now (script .entry)) (leasesOf (now (held .entry))))
+        ≡ retryOf 4096 0 noneYet (protecting (inScope scope (now (script .entry)) (holdsOf (now (held .entry))))
         (pairsOf p 0 (now (taken .entry)))) (scope .buckets) (now (registry .entry))
         (bindingAt (now (keys .entry)) p) (bucketAt (now (keys .entry)) p)
         run (now (table .entry)) (now (health .entry)) .seen ⌝ }
@@ -87,9 +88,9 @@ pub fn lock_keys(
 ) -> Ended
     requires { ⌜ Bound scope (length (now table)) (length (now health)) (length (now script)) (now registry) (now keys)
         × (RunBound (scope .steps) 0 start × ((n ≤ 64) × ((2 * n ≤ length (now keys))
-        × (length (now grants) ≡ 2 * n)))) ⌝ }
+        × (length (now grants) ≡ 3 * n)))) ⌝ }
     ensures { λ r. ⌜ (r, (now (table .exit), (now (health .exit), now (grants .exit))))
-        ≡ locksOf n 0 (inScope scope (now (script .entry)) (leasesOf (now (held .entry)))) (scope .buckets)
+        ≡ locksOf n 0 (inScope scope (now (script .entry)) (holdsOf (now (held .entry)))) (scope .buckets) (scope .boot)
         (now (registry .entry)) (now (keys .entry)) []
         start (now (table .entry)) (now (health .entry)) (now (grants .entry)) .seen ⌝ }
 {
@@ -126,7 +127,7 @@ pub fn lock_keys(
         }
         p += 1;
     }
-    grant(taken, n, grants);
+    grant(taken, n, scope.boot, grants);
     Ended {
         run,
         answer: Answer::AllGranted,

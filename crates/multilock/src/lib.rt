@@ -60,8 +60,8 @@ fn locks_once(
 }
 
 // The keys in the order given, all or none. A refusal at a position gives back all that was taken, last first, and
-// leaves the grant buffer as it was; 11 has the reason of that key's last attempt. On a grant the buffer has cell and
-// serial of each key, in key order.
+// leaves the grant buffer as it was; 11 has the reason of that key's last attempt. On a grant the buffer has cell,
+// serial and boot number of each key, in key order.
 pub fn acquire_index_locks(
     head: Head,
     table: &mut [u32],

@@ -10,7 +10,7 @@ ghost use mathlib.Core.Path.{_≡_};
 ghost use mathlib.Core.List.{[]};
 ghost use Prim.Native.Nat.{ℕ, _<_};
 ghost use lib.ListN.{length, getD};
-ghost use Rattle.model.specs.Arena.{leasesOf};
+ghost use Rattle.model.specs.Arena.{holdsOf};
 ghost use Rattle.model.specs.Refusals.{first};
 ghost use Rattle.model.specs.Lock.{giveBackOf};
 ghost use Rattle.foreign.specs.Model.{pairsOf, inScope, RoomIn};
@@ -32,7 +32,7 @@ fn give_pairs(
     requires { ⌜ RoomIn scope (length (now table)) (length (now health)) n (length (now script))
         × (RunBound (scope .steps) callMost start × ((i : ℕ) → i < n → getD (getD taken i []) 0 0 < scope .cells)) ⌝ }
     ensures { λ r. ⌜ (r, (now (table .exit), now (health .exit)))
-        ≡ giveBackOf n (inScope scope (now (script .entry)) (leasesOf (now (held .entry)))) (pairsOf n 0 taken)
+        ≡ giveBackOf n (inScope scope (now (script .entry)) (holdsOf (now (held .entry)))) (pairsOf n 0 taken)
         start (now (table .entry)) (now (health .entry)) .seen ⌝ }
 {
     let mut run = start;
@@ -61,7 +61,7 @@ pub fn roll_back(
     requires { ⌜ RoomIn scope (length (now table)) (length (now health)) n (length (now script))
         × (RunBound (scope .steps) callMost run × ((i : ℕ) → i < n → getD (getD taken i []) 0 0 < scope .cells)) ⌝ }
     ensures { λ r. ⌜ (r, (now (table .exit), now (health .exit)))
-        ≡ rollBackOf (inScope scope (now (script .entry)) (leasesOf (now (held .entry)))) (pairsOf n 0 taken)
+        ≡ rollBackOf (inScope scope (now (script .entry)) (holdsOf (now (held .entry)))) (pairsOf n 0 taken)
         refusal n run (now (table .entry)) (now (health .entry)) ⌝ }
 {
     let after = give_pairs(scope, run, table, health, script, held, taken, n);

@@ -161,9 +161,10 @@ fn said_order(named: Numbers, kind: Kind, value: Numbers) -> Order {
     let lease = Lease {
         cell: named.b,
         serial: named.c,
+        boot: named.d,
     };
     if named.fine {
-        if named.count == 3 {
+        if named.count == 4 {
             if value.count == 1 {
                 return kind_order(named.a, lease, kind, value.a);
             }
@@ -172,15 +173,16 @@ fn said_order(named: Numbers, kind: Kind, value: Numbers) -> Order {
     Order::Unknown
 }
 
-// `write_setpoint SLOT C S KIND VALUE`, from the end of its first word on. (Numbers that are not fine are none.)
+// `write_setpoint SLOT C S BOOT KIND VALUE`, from the end of its first word on. (Numbers that are not fine are none.)
 fn write_order(line: &[u8], at: usize) -> Order {
     let slot = word_end(line, at);
     let cell = word_end(line, slot);
     let serial = word_end(line, cell);
-    let kind = word_end(line, serial);
-    let named = text::read_numbers(&line[..serial], at);
+    let boot = word_end(line, serial);
+    let kind = word_end(line, boot);
+    let named = text::read_numbers(&line[..boot], at);
     let value = text::read_numbers(line, kind);
-    said_order(named, kind_at(line, serial), value)
+    said_order(named, kind_at(line, boot), value)
 }
 
 // What a line orders: Unknown, where it is none of the book's lines or is not understood.

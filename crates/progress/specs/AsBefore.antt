@@ -9,7 +9,7 @@ use lib.ListN.{getD}
 use borrow.Author.Tests.{eqb-true, eq-eqb, not-false}
 use Rattle.choice.specs.Choice.{if_then_else_}
 use Rattle.model.specs.Log.{Made, attempt-begun, boundary-run, gives, note, _>>=_, _>>_}
-use Rattle.model.specs.Arena.{headerOf, isPoisoned, leaseOf, waitersAt}
+use Rattle.model.specs.Arena.{headerOf, isPoisoned, holdOf, waitersAt}
 use Rattle.model.specs.Foreign.{Setting, setting, protecting, flowOf, runStepsOf, boundaryOf}
 use Rattle.model.specs.Lock.{takeOf, lockedOf, outcomeOf, giveUpOf, lateOf, afterTake, secondOf, lockOf}
 use Rattle.model.specs.Crew.{Crew, idled, afterTry, tryTurnOf}
@@ -26,8 +26,8 @@ use Rattle.history.specs.Steps.{With}
 
 abbrev late-before : Setting → Flow → List ℕ → List ℕ → ℕ → ℕ → Made (With Locked)
 late-before e f t g c s = do
-  (k, (u, w)) ← boundaryOf (protecting e (leaseOf c s ∷ [])) f t g
-  if eqb (waitersAt u c) 0 then gives (lockedOf k 3 (outcome.Granted (leaseOf c s)), (u, w))
+  (k, (u, w)) ← boundaryOf (protecting e (holdOf c s ∷ [])) f t g
+  if eqb (waitersAt u c) 0 then gives (lockedOf k 3 (outcome.Granted (holdOf c s)), (u, w))
       else giveUpOf (outcome.Busy (reason.After s)) k u w c s
 
 abbrev after-before : Take → Setting → Flow → List ℕ → List ℕ → ℕ → Made (With Locked)

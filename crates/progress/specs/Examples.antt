@@ -15,7 +15,7 @@ use Rattle.laws.specs.Lists.{zeros}
 use Rattle.progress.specs.Statements.{In, flat, Unfinished-told, Rounds-told, Open, Met, Met-at-work}
 
 abbrev bench : Head
-bench = headOf 2 4 1
+bench = headOf 2 4 1 6
 
 abbrev table : List ℕ
 table = replicate 24 0

@@ -8,16 +8,17 @@ use borrow.Author.Tests.{le-leb, lt-leb, le-ltb, lt-ltb, leb-true, leb-false}
 use lib.Dec.{leb}
 use lib.ListN.{length, getD, set}
 use lib.Seq.{set-getD}
-use Rattle.model.specs.Arena.{serialRemains, cellsOf, headOf, spentTo, headFits, shapeFits, bitAt, ownerAt, waitersAt, setCell, isFree, isHeld, stateOf, stateAt, leaseOf, heldBy, isLive, issueOf}
-use Rattle.model.specs.Refusals.{first}
+use Rattle.model.specs.Arena.{serialRemains, cellsOf, headOf, spentTo, headFits, shapeFits, bitAt, ownerAt, waitersAt, setCell, isFree, isHeld, stateOf, stateAt, leaseOf, isStale, holdIn, heldBy, isLive, issueOf}
+use Rattle.model.specs.Refusals.{Rule, first}
 use Rattle.model.specs.Lock.{takeIn, takeOf, outcomeOf, answerOf}
-use Rattle.model.specs.Checks.{badCell, notHeld, cellRules, leaseRules}
+use Rattle.model.specs.Checks.{badCell, staleBoot, notHeld, cellRules, leaseRules}
 use Rattle.model.specs.Calls.{replied, refused, acquireOf, tryAcquireOf, dropLeaseOf}
 use Rattle.types.specs.declared.Answer.the-variants.{Done, Granted}
 use Rattle.types.specs.declared.Check.the-variants.{Fine}
 use Rattle.types.specs.declared.Head.{Head}
+use Rattle.types.specs.declared.Hold.{Hold}
 use Rattle.types.specs.declared.Lease.{Lease}
-use Rattle.types.specs.declared.Refusal.the-variants.{BadShape, InvalidBucket, NotHeld}
+use Rattle.types.specs.declared.Refusal.the-variants.{BadShape, InvalidBucket, NotHeld, StaleBoot}
 use Rattle.types.specs.declared.Reply.{Reply}
 use Rattle.types.specs.declared.State.{State}
 use Rattle.types.specs.declared.State.the-variants.{Free, Held, Damaged}
@@ -130,7 +131,7 @@ written l c k = (k .reply, spelled (set l c (k .cell)))
 
 -- what document 01's call makes of a compare-and-set
 abbrev answered : Head → ℕ → Took × List ℕ → Reply × List ℕ
-answered h c k = (replied (spentTo h (k .0 .next)) 1 (answerOf (outcomeOf c (k .0 .answer))), k .1)
+answered h c k = (replied (spentTo h (k .0 .next)) 1 (answerOf (h .boot) (outcomeOf c (k .0 .answer))), k .1)
 
 take-free : (h : Head) (l : List Cell) (c : ℕ) (b : Bool) → serialRemains (h .next) ≡ b
     → written l c (takeFreeOf h (getD l c none) c) ≡ answered h c (takeIn Free (h .next) (spelled l) c .seen)
@@ -178,51 +179,62 @@ take-agrees h l c = go (shapeFits h (3 * length l)) refl (leb (length l) c) refl
 -- ---- a single release
 
 -- whether the record of a lease is held by its serial
-abbrev heldIn : Head → List Cell → Lease → Bool
+abbrev heldIn : Head → List Cell → Hold → Bool
 heldIn h l x = heldBy (stateOf (h .next) (getD l (x .cell) none .bit) (getD l (x .cell) none .owner)) (x .serial)
 
-live-outside : (h : Head) (l : List Cell) (x : Lease) → shapeFits h (3 * length l) ≡ true → length l ≤ x .cell → isLive (h .next) (cellsOf h) (spelled l) x ≡ false
+live-outside : (h : Head) (l : List Cell) (x : Hold) → shapeFits h (3 * length l) ≡ true → length l ≤ x .cell → isLive (h .next) (cellsOf h) (spelled l) x ≡ false
 unfolding isLive
 live-outside h l x p b = rw (records-are h (length l) p, le-ltb (x .cell) (length l) b)
 
-live-inside : (h : Head) (l : List Cell) (x : Lease) → shapeFits h (3 * length l) ≡ true → x .cell < length l → isLive (h .next) (cellsOf h) (spelled l) x ≡ heldIn h l x
+live-inside : (h : Head) (l : List Cell) (x : Hold) → shapeFits h (3 * length l) ≡ true → x .cell < length l → isLive (h .next) (cellsOf h) (spelled l) x ≡ heldIn h l x
 unfolding isLive
 live-inside h l x p b = rw (records-are h (length l) p, lt-ltb (x .cell) (length l) b, state-spelled (h .next) l (x .cell))
 
 abbrev Drops : Head → List Cell → Lease → Type 0
 Drops h l x = given (callOf dropSpotOf dropRuleOf h l x) ≡ dropLeaseOf h (spelled l) x .seen
 
--- the four ways: refused for the shape, for the cell, because another or nobody holds it, and released
-drop-misfit : (h : Head) (l : List Cell) (x : Lease) → shapeFits h (3 * length l) ≡ false → Drops h l x
+-- what is tested behind the shape, and behind the boot number
+abbrev behind : Head → List Cell → Lease → List Rule
+behind h l x = staleBoot h 0 x ∷ notHeld h (spelled l) 0 x ∷ []
+
+-- the five ways: refused for the shape, for the boot number, for the cell, because another or nobody holds it, and released
+drop-misfit : (h : Head) (l : List Cell) (x : Lease) (b : Bool) → isStale h x ≡ b → shapeFits h (3 * length l) ≡ false → Drops h l x
 unfolding callOf dropSpotOf spotOf dropLeaseOf leaseRules
-drop-misfit h l x p = rw (p, le-leb (length l) (length l) (omega arith), shape-bad h (spelled l) (notHeld h (spelled l) 0 x ∷ []) (fits-spelled h l false p))
+drop-misfit h l x true f p = rw (shape-bad h (spelled l) (behind h l x) (fits-spelled h l false p), f, p, le-leb (length l) (length l) (omega arith))
+drop-misfit h l x false f p = rw (shape-bad h (spelled l) (behind h l x) (fits-spelled h l false p), f, p, le-leb (length l) (length l) (omega arith))
 
-drop-outside : (h : Head) (l : List Cell) (x : Lease) → shapeFits h (3 * length l) ≡ true → length l ≤ x .cell → Drops h l x
+drop-earlier : (h : Head) (l : List Cell) (x : Lease) → isStale h x ≡ true → shapeFits h (3 * length l) ≡ true → Drops h l x
 unfolding callOf dropSpotOf spotOf dropLeaseOf leaseRules
-drop-outside h l x p b =
-    rw (p, le-leb (length l) (x .cell) b, shape-ok h (spelled l) (notHeld h (spelled l) 0 x ∷ []) (fits-spelled h l true p), first-hit (notHeld h (spelled l) 0 x) [] (ap not (live-outside h l x p b)))
+drop-earlier h l x f p =
+    rw (shape-ok h (spelled l) (behind h l x) (fits-spelled h l true p), first-hit (staleBoot h 0 x) (notHeld h (spelled l) 0 x ∷ []) f, f, p, le-leb (length l) (length l) (omega arith))
 
-drop-loose : (h : Head) (l : List Cell) (x : Lease) → shapeFits h (3 * length l) ≡ true → x .cell < length l → heldIn h l x ≡ false → Drops h l x
-unfolding callOf dropSpotOf spotOf dropLeaseOf leaseRules dropRuleOf
-drop-loose h l x p b q =
-    rw (p, lt-leb (length l) (x .cell) b, shape-ok h (spelled l) (notHeld h (spelled l) 0 x ∷ []) (fits-spelled h l true p), first-hit (notHeld h (spelled l) 0 x) [] (ap not (live-inside h l x p b ∙ q)), q, set-getD l (x .cell) none)
+drop-outside : (h : Head) (l : List Cell) (x : Lease) → isStale h x ≡ false → shapeFits h (3 * length l) ≡ true → length l ≤ x .cell → Drops h l x
+unfolding callOf dropSpotOf spotOf dropLeaseOf leaseRules
+drop-outside h l x f p b =
+    rw (shape-ok h (spelled l) (behind h l x) (fits-spelled h l true p), first-skip (staleBoot h 0 x) (notHeld h (spelled l) 0 x ∷ []) f, first-hit (notHeld h (spelled l) 0 x) [] (ap not (live-outside h l (holdIn x) p b)), f, p, le-leb (length l) (x .cell) b)
 
-drop-held : (h : Head) (l : List Cell) (x : Lease) → shapeFits h (3 * length l) ≡ true → x .cell < length l → heldIn h l x ≡ true → Drops h l x
+drop-loose : (h : Head) (l : List Cell) (x : Lease) → isStale h x ≡ false → shapeFits h (3 * length l) ≡ true → x .cell < length l → heldIn h l (holdIn x) ≡ false → Drops h l x
 unfolding callOf dropSpotOf spotOf dropLeaseOf leaseRules dropRuleOf
-drop-held h l x p b q =
-    rw (p, lt-leb (length l) (x .cell) b, shape-ok h (spelled l) (notHeld h (spelled l) 0 x ∷ []) (fits-spelled h l true p), first-skip (notHeld h (spelled l) 0 x) [] (ap not (live-inside h l x p b ∙ q)), no-rule, q, set-spelled l (x .cell) 0 0)
+drop-loose h l x f p b q =
+    rw (shape-ok h (spelled l) (behind h l x) (fits-spelled h l true p), first-skip (staleBoot h 0 x) (notHeld h (spelled l) 0 x ∷ []) f, first-hit (notHeld h (spelled l) 0 x) [] (ap not (live-inside h l (holdIn x) p b ∙ q)), f, p, lt-leb (length l) (x .cell) b, q, set-getD l (x .cell) none)
+
+drop-held : (h : Head) (l : List Cell) (x : Lease) → isStale h x ≡ false → shapeFits h (3 * length l) ≡ true → x .cell < length l → heldIn h l (holdIn x) ≡ true → Drops h l x
+unfolding callOf dropSpotOf spotOf dropLeaseOf leaseRules dropRuleOf
+drop-held h l x f p b q =
+    rw (shape-ok h (spelled l) (behind h l x) (fits-spelled h l true p), first-skip (staleBoot h 0 x) (notHeld h (spelled l) 0 x ∷ []) f, first-skip (notHeld h (spelled l) 0 x) [] (ap not (live-inside h l (holdIn x) p b ∙ q)), no-rule, f, p, lt-leb (length l) (x .cell) b, q, set-spelled l (x .cell) 0 0)
 
 pub drop-agrees : (h : Head) (l : List Cell) (x : Lease) → given (callOf dropSpotOf dropRuleOf h l x) ≡ dropLeaseOf h (spelled l) x .seen
-drop-agrees h l x = go (shapeFits h (3 * length l)) refl (leb (length l) (x .cell)) refl
+drop-agrees h l x = go (shapeFits h (3 * length l)) refl (isStale h x) refl (leb (length l) (x .cell)) refl
   where
-    inside : shapeFits h (3 * length l) ≡ true → x .cell < length l → (t : Bool) → heldIn h l x ≡ t → Drops h l x
-    inside p b true q = drop-held h l x p b q
-    inside p b false q = drop-loose h l x p b q
+    inside : isStale h x ≡ false → shapeFits h (3 * length l) ≡ true → x .cell < length l → (t : Bool) → heldIn h l (holdIn x) ≡ t → Drops h l x
+    inside f p b true q = drop-held h l x f p b q
+    inside f p b false q = drop-loose h l x f p b q
 
-    go : (a : Bool) → shapeFits h (3 * length l) ≡ a → (b : Bool) → leb (length l) (x .cell) ≡ b → Drops h l x
-    go false p b q = drop-misfit h l x p
-    go true p true q = drop-outside h l x p (leb-true _ _ q)
-    go true p false q = inside p (leb-false _ _ q) (heldIn h l x) refl
+    go : (a : Bool) → shapeFits h (3 * length l) ≡ a → (o : Bool) → isStale h x ≡ o → (b : Bool) → leb (length l) (x .cell) ≡ b → Drops h l x
+    go false p o f b q = drop-misfit h l x o f p
+    go true p true f b q = drop-earlier h l x f p
+    go true p false f true q = drop-outside h l x f p (leb-true _ _ q)
+    go true p false f false q = inside f p (leb-false _ _ q) (heldIn h l (holdIn x)) refl
 
 -- ---- what the promises fix
 
@@ -239,24 +251,30 @@ abbrev taken : List Cell
 taken = cellOf 1 5 7 ∷ none ∷ []
 
 -- a take of cell 0
-take-first : tryAcquireOf (headOf 1 2 5) (spelled two) 0 .seen ≡ given (replied (headOf 1 2 6) 1 (Granted (leaseOf 0 5)), taken)
+take-first : tryAcquireOf (headOf 1 2 5 9) (spelled two) 0 .seen ≡ given (replied (headOf 1 2 6 9) 1 (Granted (leaseOf 0 5 9)), taken)
 unfolding tryAcquireOf cellRules first shapeFits headFits acquireOf takeOf stateAt stateOf isFree bitAt ownerAt setCell spelled
 take-first = refl
 
 -- its release; with another serial it is refused and changes nothing
-drop-first : dropLeaseOf (headOf 1 2 6) (spelled taken) (leaseOf 0 5) .seen ≡ given (replied (headOf 1 2 6) 0 Done, two)
+drop-first : dropLeaseOf (headOf 1 2 6 9) (spelled taken) (leaseOf 0 5 9) .seen ≡ given (replied (headOf 1 2 6 9) 0 Done, two)
 unfolding dropLeaseOf leaseRules first shapeFits headFits isLive stateAt stateOf isFree isHeld bitAt ownerAt setCell spelled
 drop-first = refl
 
-drop-stale : dropLeaseOf (headOf 1 2 6) (spelled taken) (leaseOf 0 4) .seen ≡ given (refused (headOf 1 2 6) (NotHeld 0), taken)
+drop-other : dropLeaseOf (headOf 1 2 6 9) (spelled taken) (leaseOf 0 4 9) .seen ≡ given (refused (headOf 1 2 6 9) (NotHeld 0), taken)
 unfolding dropLeaseOf leaseRules first shapeFits headFits isLive stateAt stateOf isFree isHeld bitAt ownerAt spelled
-drop-stale = refl
+drop-other = refl
+
+-- with another boot number it is 16, of a cell past the end too
+drop-stale : (dropLeaseOf (headOf 1 2 6 9) (spelled taken) (leaseOf 0 5 8) .seen ≡ given (refused (headOf 1 2 6 9) (StaleBoot 0), taken))
+    × (dropLeaseOf (headOf 1 2 6 9) (spelled taken) (leaseOf 2 4 8) .seen ≡ given (refused (headOf 1 2 6 9) (StaleBoot 0), taken))
+unfolding dropLeaseOf leaseRules first shapeFits headFits isLive stateAt stateOf isFree isHeld bitAt ownerAt spelled
+drop-stale = (refl, refl)
 
 -- cell 2 of two, and a third record
-take-past : tryAcquireOf (headOf 1 2 5) (spelled two) 2 .seen ≡ given (refused (headOf 1 2 5) (InvalidBucket 2), two)
+take-past : tryAcquireOf (headOf 1 2 5 9) (spelled two) 2 .seen ≡ given (refused (headOf 1 2 5 9) (InvalidBucket 2), two)
 unfolding tryAcquireOf cellRules first shapeFits headFits spelled
 take-past = refl
 
-take-three : tryAcquireOf (headOf 1 2 5) (spelled (none ∷ two)) 0 .seen ≡ given (refused (headOf 1 2 5) BadShape, none ∷ two)
+take-three : tryAcquireOf (headOf 1 2 5 9) (spelled (none ∷ two)) 0 .seen ≡ given (refused (headOf 1 2 5 9) BadShape, none ∷ two)
 unfolding tryAcquireOf cellRules first shapeFits headFits spelled
 take-three = refl

@@ -5,14 +5,14 @@ use mathlib.Core.List.{List, [], _∷_}
 use lib.Dec.{leb}
 use lib.ListN.{length, getD, set}
 use Rattle.choice.specs.Choice.{if_then_else_}
-use Rattle.model.specs.Arena.{shapeFits, stateOf, heldBy, issueOf}
+use Rattle.model.specs.Arena.{shapeFits, stateOf, isStale, heldBy, issueOf}
 use Rattle.model.specs.Lock.{outcomeOf, answerOf}
 use Rattle.model.specs.Calls.{replied, refused}
 use Rattle.types.specs.declared.Answer.the-variants.{Done}
 use Rattle.types.specs.declared.Head.{Head}
 use Rattle.types.specs.declared.Lease.{Lease}
 use Rattle.types.specs.declared.Refusal.{Refusal}
-use Rattle.types.specs.declared.Refusal.the-variants.{BadShape, InvalidBucket, NotHeld}
+use Rattle.types.specs.declared.Refusal.the-variants.{BadShape, InvalidBucket, NotHeld, StaleBoot}
 use Rattle.types.specs.declared.Reply.{Reply}
 use Rattle.types.specs.declared.Serial.{Serial}
 use Rattle.types.specs.declared.Serial.the-variants as serial
@@ -50,8 +50,11 @@ spotOf h n c x =
 unfoldable pub takeSpotOf : Head → ℕ → ℕ → Spot
 takeSpotOf h n c = spotOf h n c (InvalidBucket c)
 
+-- 16 comes before 12, and no record is read for it: past the end
 unfoldable pub dropSpotOf : Head → ℕ → Lease → Spot
-dropSpotOf h n l = spotOf h n (l .cell) (NotHeld 0)
+dropSpotOf h n l =
+    if isStale h l then spot n (spotOf h n (l .cell) (StaleBoot 0) .refused)
+    else spotOf h n (l .cell) (NotHeld 0)
 
 -- ---- the rules on one record
 
@@ -60,7 +63,7 @@ changed c r = record { cell = c; reply = r }
 
 -- the reply of the one attempt of a take
 abbrev pub takeReplyOf : Head → ℕ → Take → Reply
-takeReplyOf h n a = replied h 1 (answerOf (outcomeOf n a))
+takeReplyOf h n a = replied h 1 (answerOf (h .boot) (outcomeOf n a))
 
 abbrev pub serve : Serial → Head → Cell → ℕ → Changed
 serve (serial.Issued s) h c n = changed (cellOf 1 s (c .waiters)) (takeReplyOf h n (taking.Granted s))

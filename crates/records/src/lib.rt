@@ -1,8 +1,6 @@
 // A thin face over the core: the cells as a lent slice of records. A single take and a single release give the answers
-// of
-// `lease` on the table of words that the records spell. All rules are on one record by value; the two calls at the end
-// only
-// copy the record out and write it back.
+// of `lease` on the table of words that the records spell. All rules are on one record by value; the two calls at the
+// end only copy the record out and write it back.
 use types::Answer;
 use types::Head;
 use types::Lease;
@@ -51,8 +49,7 @@ fn shape_fits(head: Head, n: usize) -> bool
 }
 
 // Where the record of a cell stands. The refusal is for a cell out of range; where the arena's rules are broken the
-// place is
-// past the end, so that no record is read.
+// place is past the end, so that no record is read.
 fn find(head: Head, n: usize, cell: u32, refusal: Refusal) -> Spot
     ensures { λ r. ⌜ r ≡ spotOf head n cell refusal ⌝ }
 {
@@ -74,10 +71,19 @@ fn take_spot(head: Head, n: usize, cell: u32) -> Spot
     find(head, n, cell, Refusal::InvalidBucket(cell))
 }
 
-// 12 for a lease whose cell is out of range.
+// 12 for a lease whose cell is out of range. A lease with another boot number than the head's is refused with 16 before
+// that: its place is past the end, so that no record is read.
 fn drop_spot(head: Head, n: usize, lease: Lease) -> Spot
     ensures { λ r. ⌜ r ≡ dropSpotOf head n lease ⌝ }
 {
+    if lease.boot != head.boot {
+        let stale = find(head, n, lease.cell, Refusal::StaleBoot(0));
+        let answer = stale.refused;
+        return Spot {
+            at: n,
+            refused: answer,
+        };
+    }
     find(head, n, lease.cell, Refusal::NotHeld(0))
 }
 
@@ -88,7 +94,7 @@ fn take_reply(head: Head, cell: u32, answer: Take) -> Reply
     ensures { λ r. ⌜ r ≡ takeReplyOf head cell answer ⌝ }
 {
     let said = lease::outcome(cell, answer);
-    arena::reply(head, 1, lease::answer_of(said))
+    arena::reply(head, 1, lease::answer_of(head.boot, said))
 }
 
 // Of a record that is free: the head issues the next serial, if one remains.
@@ -145,7 +151,8 @@ fn held_by(next: u32, c: Cell, serial: u32) -> bool
     }
 }
 
-// Of a record that is held by the lease's serial: nobody owns it after. Of another: 12.
+// Of a record that is held by the lease's serial: nobody owns it after. Of another: 12. The boot number is tested
+// before.
 fn drop_rule(head: Head, c: Cell, lease: Lease) -> Changed
     ensures { λ r. ⌜ r ≡ dropRuleOf head c lease ⌝ }
 {
@@ -179,7 +186,8 @@ pub fn try_acquire(head: Head, cells: &mut [Cell], cell: u32) -> Reply
     changed.reply
 }
 
-// One release, as `lease::drop_lease`; a lease that is not live is refused with 12, and no record changes.
+// One release, as `lease::drop_lease`; a lease with another boot number than the head's is refused with 16, one that is
+// not live with 12, and no record changes.
 pub fn drop_lease(head: Head, cells: &mut [Cell], lease: Lease) -> Reply
     ensures { λ r. ⌜ (r, spelled (now (cells .exit))) ≡ dropLeaseOf head (spelled (now (cells .entry))) lease .seen ⌝ }
 {

@@ -8,21 +8,21 @@ use lib.Dec.{ltb}
 use lib.ListN.{length, getD, take, drop}
 use borrow.Author.Tests.{ltb-false, not-false}
 use Rattle.choice.specs.Choice.{if_then_else_}
-use Rattle.model.specs.Arena.{cellsOf, leaseOf, leasesOf, isLive, isIn, setCell}
+use Rattle.model.specs.Arena.{cellsOf, isStale, holdOf, holdIn, holdsOf, leasesOf, isLive, isIn, setCell}
 use Rattle.model.specs.Refusals.{Rule, first}
-use Rattle.model.specs.Checks.{countIn, isOdd, badShape, badHealth, badScript, tooManyLeases, notReleasable, releaseRules}
+use Rattle.model.specs.Checks.{leaseCount, isUneven, badShape, badHealth, badScript, tooManyLeases, notReleasable, releaseRules}
 use Rattle.model.specs.Foreign.{Setting, protecting, boundaryOf}
-use Rattle.model.specs.Lock.{runOf, leaseAt, giveBackOf}
+use Rattle.model.specs.Lock.{runOf, holdAt, giveBackOf}
 use Rattle.model.specs.Calls.{starting, given, played}
 use Rattle.types.specs.declared.Answer.the-variants.{Done}
 use Rattle.types.specs.declared.Check.the-variants.{Fine, Fault}
 use Rattle.types.specs.declared.Head.{Head}
-use Rattle.types.specs.declared.Lease.{Lease}
+use Rattle.types.specs.declared.Hold.{Hold}
 use Rattle.types.specs.declared.Played.{Played}
 use Rattle.types.specs.declared.Refusal.the-variants as refusal
 use Rattle.types.specs.declared.Run.{Run}
 use Rattle.choice.specs.Pick.{neither}
-use Rattle.laws.specs.Checks.{or-else, fine-rest, fine-append, arena-fine, leases-at, leases-end, live-inside}
+use Rattle.laws.specs.Checks.{or-else, fine-rest, fine-append, arena-fine, leaseIn, leases-at, leases-end, live-inside}
 use Rattle.foreign.specs.declared.Scope.{Scope}
 use Rattle.foreign.specs.Model.{settingOf, inScope, RoomIn}
 use Rattle.foreign.specs.Laws.{boundary-goes}
@@ -32,51 +32,51 @@ use Rattle.bucket.specs.Laws.{RunBound}
 
 -- ---- the first leases of a list, and the lease at a position
 
-pub take-leases : (l : List ℕ) (i : ℕ) → leasesOf (take (2 * i) l) ≡ take i (leasesOf l)
-unfolding leasesOf
+pub take-leases : (l : List ℕ) (i : ℕ) → holdsOf (take (3 * i) l) ≡ take i (holdsOf l)
+unfolding holdsOf
 take-leases l zero = refl
-take-leases [] (suc i) = let e : 2 * suc i ≡ suc (suc (2 * i)) = omega arith in rw e
-take-leases (c ∷ []) (suc i) = let e : 2 * suc i ≡ suc (suc (2 * i)) = omega arith in rw e
-take-leases (c ∷ s ∷ l) (suc i) = let e : 2 * suc i ≡ suc (suc (2 * i)) = omega arith in rw (e, take-leases l i)
+take-leases [] (suc i) = let e : 3 * suc i ≡ suc (suc (suc (3 * i))) = omega arith in rw e
+take-leases (c ∷ []) (suc i) = let e : 3 * suc i ≡ suc (suc (suc (3 * i))) = omega arith in rw e
+take-leases (c ∷ s ∷ []) (suc i) = let e : 3 * suc i ≡ suc (suc (suc (3 * i))) = omega arith in rw e
+take-leases (c ∷ s ∷ b ∷ l) (suc i) = let e : 3 * suc i ≡ suc (suc (suc (3 * i))) = omega arith in rw (e, take-leases l i)
 
-pub lease-at : (l : List ℕ) (i : ℕ) → 2 * i + 1 < length l → leaseAt (leasesOf l) i ≡ leaseOf (getD l (2 * i) 0) (getD l (2 * i + 1) 0)
-unfolding leasesOf
-lease-at [] i b = absurd (omega arith)
-lease-at (c ∷ []) i b = absurd (omega arith)
-lease-at (c ∷ s ∷ l) zero b = refl
-lease-at (c ∷ s ∷ l) (suc i) b =
-    let e : 2 * suc i ≡ suc (suc (2 * i)) = omega arith in
-    let f : 2 * suc i + 1 ≡ suc (suc (2 * i + 1)) = omega arith in
+pub lease-at : (l : List ℕ) (i : ℕ) → 3 * i + 2 < length l → holdAt (holdsOf l) i ≡ holdIn (leaseIn l i)
+unfolding holdsOf
+lease-at [] i h = absurd (omega arith)
+lease-at (c ∷ []) i h = absurd (omega arith)
+lease-at (c ∷ s ∷ []) i h = absurd (omega arith)
+lease-at (c ∷ s ∷ b ∷ l) zero h = refl
+lease-at (c ∷ s ∷ b ∷ l) (suc i) h =
+    let e : 3 * suc i ≡ suc (suc (suc (3 * i))) = omega arith in
+    let f : 3 * suc i + 1 ≡ suc (suc (suc (3 * i + 1))) = omega arith in
     rw (f, e) (lease-at l i (omega arith))
 
-pub more-leases : (l : List ℕ) (i : ℕ) → 2 * i + 1 < length l
-    → leasesOf (take (2 * (i + 1)) l) ≡ leasesOf (take (2 * i) l) ++ (leaseOf (getD l (2 * i) 0) (getD l (2 * i + 1) 0) ∷ [])
-unfolding leasesOf
-more-leases [] i b = absurd (omega arith)
-more-leases (c ∷ []) i b = absurd (omega arith)
-more-leases (c ∷ s ∷ l) zero b = refl
-more-leases (c ∷ s ∷ l) (suc i) b =
-    let e : 2 * suc i ≡ suc (suc (2 * i)) = omega arith in
-    let f : 2 * suc i + 1 ≡ suc (suc (2 * i + 1)) = omega arith in
-    let g : 2 * (suc i + 1) ≡ suc (suc (2 * (i + 1))) = omega arith in
-    rw (g, f, e) (ap (λ (r : List Lease). leaseOf c s ∷ r) (more-leases l i (omega arith)))
+pub more-leases : (l : List ℕ) (i : ℕ) → 3 * i + 2 < length l → holdsOf (take (3 * (i + 1)) l) ≡ holdsOf (take (3 * i) l) ++ (holdIn (leaseIn l i) ∷ [])
+unfolding holdsOf
+more-leases [] i h = absurd (omega arith)
+more-leases (c ∷ []) i h = absurd (omega arith)
+more-leases (c ∷ s ∷ []) i h = absurd (omega arith)
+more-leases (c ∷ s ∷ b ∷ l) zero h = refl
+more-leases (c ∷ s ∷ b ∷ l) (suc i) h =
+    let e : 3 * suc i ≡ suc (suc (suc (3 * i))) = omega arith in
+    let f : 3 * suc i + 1 ≡ suc (suc (suc (3 * i + 1))) = omega arith in
+    let g : 3 * (suc i + 1) ≡ suc (suc (suc (3 * (i + 1)))) = omega arith in
+    rw (g, f, e) (ap (λ (r : List Hold). holdOf c s ∷ r) (more-leases l i (omega arith)))
 
--- ---- 12 and 14 at position i, and from there on
+-- ---- 16, 12 and 14 at position i, and from there on
 
 module _ (h : Head) (t leases : List ℕ) (i : ℕ) where
-  abbrev here : Lease
-  here = leaseOf (getD leases (2 * i) 0) (getD leases (2 * i + 1) 0)
-
-  pub releasable-at : 2 * i + 1 < length leases
-      → first (notReleasable h t i (leasesOf (take (2 * i) leases)) (leasesOf (drop (2 * i) leases)))
-      ≡ (if not (isLive (h .next) (cellsOf h) t here) then Fault (refusal.NotHeld i)
-      else if isIn here (leasesOf (take (2 * i) leases)) then Fault (refusal.Repeated i)
-      else first (notReleasable h t (i + 1) (leasesOf (take (2 * (i + 1)) leases)) (leasesOf (drop (2 * (i + 1)) leases))))
+  pub releasable-at : 3 * i + 2 < length leases
+      → first (notReleasable h t i (holdsOf (take (3 * i) leases)) (leasesOf (drop (3 * i) leases)))
+      ≡ (if isStale h (leaseIn leases i) then Fault (refusal.StaleBoot i)
+      else if not (isLive (h .next) (cellsOf h) t (holdIn (leaseIn leases i))) then Fault (refusal.NotHeld i)
+      else if isIn (holdIn (leaseIn leases i)) (holdsOf (take (3 * i) leases)) then Fault (refusal.Repeated i)
+      else first (notReleasable h t (i + 1) (holdsOf (take (3 * (i + 1)) leases)) (leasesOf (drop (3 * (i + 1)) leases))))
   unfolding first notReleasable
   releasable-at b = rw (leases-at leases i b, more-leases leases i b)
 
-  pub releasable-end : length leases ≤ 2 * i + 1
-      → first (notReleasable h t i (leasesOf (take (2 * i) leases)) (leasesOf (drop (2 * i) leases))) ≡ Fine
+  pub releasable-end : length leases ≤ 3 * i + 2
+      → first (notReleasable h t i (holdsOf (take (3 * i) leases)) (leasesOf (drop (3 * i) leases))) ≡ Fine
   unfolding first notReleasable
   releasable-end b = rw (leases-end leases i b)
 
@@ -84,26 +84,27 @@ module _ (h : Head) (t leases : List ℕ) (i : ℕ) where
 
 -- every lease of a list has its cell in the arena
 abbrev pub Inside : ℕ → List ℕ → Type 0
-Inside cells leases = (i : ℕ) → 2 * i + 1 < length leases → getD leases (2 * i) 0 < cells
+Inside cells leases = (i : ℕ) → 3 * i + 2 < length leases → getD leases (3 * i) 0 < cells
 
-releasable-inside : (h : Head) (t : List ℕ) (n : ℕ) (earlier : List Lease) (l : List ℕ) → first (notReleasable h t n earlier (leasesOf l)) ≡ Fine → Inside (cellsOf h) l
+releasable-inside : (h : Head) (t : List ℕ) (n : ℕ) (earlier : List Hold) (l : List ℕ) → first (notReleasable h t n earlier (leasesOf l)) ≡ Fine → Inside (cellsOf h) l
 unfolding notReleasable leasesOf
-releasable-inside h t n earlier [] e i b = absurd (omega arith)
-releasable-inside h t n earlier (c ∷ []) e i b = absurd (omega arith)
-releasable-inside h t n earlier (c ∷ s ∷ l) e zero b = live-inside (h .next) (cellsOf h) t (leaseOf c s) (not-false _ (fine-rest _ _ e .0))
-releasable-inside h t n earlier (c ∷ s ∷ l) e (suc i) b =
-    let k : 2 * suc i ≡ suc (suc (2 * i)) = omega arith in
-    rw k (releasable-inside h t (n + 1) (earlier ++ (leaseOf c s ∷ [])) l (fine-rest _ _ (fine-rest _ _ e .1) .1) i (omega arith))
+releasable-inside h t n earlier [] e i k = absurd (omega arith)
+releasable-inside h t n earlier (c ∷ []) e i k = absurd (omega arith)
+releasable-inside h t n earlier (c ∷ s ∷ []) e i k = absurd (omega arith)
+releasable-inside h t n earlier (c ∷ s ∷ b ∷ l) e zero k = live-inside (h .next) (cellsOf h) t (holdOf c s) (not-false _ (fine-rest _ _ (fine-rest _ _ e .1) .0))
+releasable-inside h t n earlier (c ∷ s ∷ b ∷ l) e (suc i) k =
+    let z : 3 * suc i ≡ suc (suc (suc (3 * i))) = omega arith in
+    rw z (releasable-inside h t (n + 1) (earlier ++ (holdOf c s ∷ [])) l (fine-rest _ _ (fine-rest _ _ (fine-rest _ _ e .1) .1) .1) i (omega arith))
 
-few-leases : (leases : List ℕ) → tooManyLeases leases .applies ≡ false → countIn leases ≤ 64
-few-leases leases e = ltb-false _ _ (neither (isOdd leases) (ltb 64 (countIn leases)) e .1)
+few-leases : (leases : List ℕ) → tooManyLeases leases .applies ≡ false → leaseCount leases ≤ 64
+few-leases leases e = ltb-false _ _ (neither (isUneven leases) (ltb 64 (leaseCount leases)) e .1)
 
 pub record ReleaseFine (h : Head) (words bytes script place : ℕ) (leases : List ℕ) : Type 0 where
   pub script-ok : ScriptFine h words bytes script place
-  pub few : length leases / 2 ≤ 64
+  pub few : length leases / 3 ≤ 64
   pub inside : Inside (cellsOf h) leases
 
--- 4, 12 and 14
+-- 4, 16, 12 and 14
 unfoldable pub leasesRules : Head → List ℕ → List ℕ → List Rule
 leasesRules h t leases = tooManyLeases leases ∷ notReleasable h t 0 [] (leasesOf leases)
 
@@ -134,7 +135,7 @@ giveOneOf e r t g c =
     let o = boundaryOf e (r .flow) (setCell t c 0 0) g .seen in
     (runOf (o .0) (r .attempts) (r .boundaries + 1) (r .yields), o .1)
 
-pub give-one-goes : (s : Scope) (script : List ℕ) (ps : List Lease) → s .steps ≡ length script / 3
+pub give-one-goes : (s : Scope) (script : List ℕ) (ps : List Hold) → s .steps ≡ length script / 3
     → (o : Run × (List ℕ × List ℕ)) (most : ℕ) (r : Run) (t g : List ℕ) (c : ℕ)
     → o ≡ giveOneOf (inScope s script ps) r t g c → RunBound (s .steps) most r → RunBound (s .steps) (most + 1) (o .0)
 unfolding giveOneOf
@@ -148,13 +149,13 @@ give-one-goes s script ps n o most r t g c q b =
     })
 
 -- one turn from the end: lease m is released, the m before it stay protected
-pub give-back-at : (k m : ℕ) (e : Setting) (ls : List Lease) (r : Run) (t g : List ℕ) (o : Run × (List ℕ × List ℕ)) → k ≡ m + 1
-    → o ≡ giveOneOf (protecting e (take m ls)) r t g (leaseAt ls m .cell)
+pub give-back-at : (k m : ℕ) (e : Setting) (ls : List Hold) (r : Run) (t g : List ℕ) (o : Run × (List ℕ × List ℕ)) → k ≡ m + 1
+    → o ≡ giveOneOf (protecting e (take m ls)) r t g (holdAt ls m .cell)
     → giveBackOf k e ls r t g .seen ≡ giveBackOf m e ls (o .0) (o .1 .0) (o .1 .1) .seen
 unfolding giveBackOf giveOneOf
 give-back-at k m e ls r t g o l q = let s : k ≡ suc m = omega arith in rw (s, q)
 
-pub give-back-end : (k : ℕ) (e : Setting) (ls : List Lease) (r : Run) (t g : List ℕ) → k ≤ 0 → giveBackOf k e ls r t g .seen ≡ (r, (t, g))
+pub give-back-end : (k : ℕ) (e : Setting) (ls : List Hold) (r : Run) (t g : List ℕ) → k ≤ 0 → giveBackOf k e ls r t g .seen ≡ (r, (t, g))
 unfolding giveBackOf
 give-back-end k e ls r t g l = let s : k ≡ 0 = omega arith in rw s
 
@@ -164,7 +165,7 @@ pub room-for : (s : Scope) {words words₀ bytes bytes₀ n script : ℕ} → wo
 room-for s p q k = rw (p, q) k
 
 -- where the loop stands, with k leases still to be released: what remains from here is what the whole comes to
-pub record Giving (e : Setting) (steps : ℕ) (ls : List Lease) (n : ℕ) (r₀ : Run) (t₀ g₀ : List ℕ) (k : ℕ) (r : Run) (t g : List ℕ) : Type 0 where
+pub record Giving (e : Setting) (steps : ℕ) (ls : List Hold) (n : ℕ) (r₀ : Run) (t₀ g₀ : List ℕ) (k : ℕ) (r : Run) (t g : List ℕ) : Type 0 where
   pub run-bound : RunBound steps (callMost + (n - k)) r
   pub few : k ≤ n
   pub words : length t ≡ length t₀
@@ -173,16 +174,16 @@ pub record Giving (e : Setting) (steps : ℕ) (ls : List Lease) (n : ℕ) (r₀ 
 
 -- the same turn as the code makes it: the leases are a lent list, and its first m are lent as the protected ones
 pub give-list-at : (k m : ℕ) (s : Scope) (script leases : List ℕ) (taken : List (List ℕ)) (r : Run) (t g : List ℕ) (o : Run × (List ℕ × List ℕ))
-    → k ≡ m + 1 → 2 * m + 1 < length leases
-    → o ≡ giveOneOf (settingOf s script (take (2 * m) leases) taken 0) r t g (getD leases (2 * m) 0)
-    → giveBackOf k (inScope s script []) (leasesOf leases) r t g .seen
-    ≡ giveBackOf m (inScope s script []) (leasesOf leases) (o .0) (o .1 .0) (o .1 .1) .seen
+    → k ≡ m + 1 → 3 * m + 2 < length leases
+    → o ≡ giveOneOf (settingOf s script (take (3 * m) leases) taken 0) r t g (getD leases (3 * m) 0)
+    → giveBackOf k (inScope s script []) (holdsOf leases) r t g .seen
+    ≡ giveBackOf m (inScope s script []) (holdsOf leases) (o .0) (o .1 .0) (o .1 .1) .seen
 give-list-at k m s script leases taken r t g o l b q =
-    give-back-at k m (inScope s script []) (leasesOf leases) r t g o l
-    (q ∙ rw (guards-none (take (2 * m) leases) taken, take-leases leases m, lease-at leases m b))
+    give-back-at k m (inScope s script []) (holdsOf leases) r t g o l
+    (q ∙ rw (guards-none (take (3 * m) leases) taken, take-leases leases m, lease-at leases m b))
 
 -- the steps of the call, once its checks are fine
 unfoldable pub releaseOnceOf : Head → List ℕ → List ℕ → List ℕ → ℕ → List ℕ → Played × (List ℕ × List ℕ)
 releaseOnceOf h t g script place leases =
-    let o = giveBackOf (countIn leases) (given h script []) (leasesOf leases) (starting h place) t g .seen in
+    let o = giveBackOf (leaseCount leases) (given h script []) (holdsOf leases) (starting h place) t g .seen in
     (played h (o .0) Done, o .1)

@@ -7,7 +7,7 @@ use foreign::Scope;
 use types::Answer;
 use types::Check;
 use types::Head;
-use types::Lease;
+use types::Hold;
 use types::Played;
 use types::Refusal;
 use types::Run;
@@ -16,7 +16,7 @@ ghost use mathlib.Core.Bool.{true};
 ghost use mathlib.Core.List.{[], _∷_};
 ghost use Prim.Native.Nat.{_/_, _<_, _≤_};
 ghost use lib.ListN.{length};
-ghost use Rattle.model.specs.Arena.{leasesOf, shapeFits};
+ghost use Rattle.model.specs.Arena.{holdsOf, leasesOf, shapeFits};
 ghost use Rattle.model.specs.Refusals.{first};
 ghost use Rattle.model.specs.Checks.{badScript, notReleasable, releaseRules};
 ghost use Rattle.model.specs.Lock.{giveBackOf};
@@ -69,18 +69,18 @@ pub fn give_back(
     leases: &[u32],
 ) -> Run
     requires { ⌜ RoomIn scope (length (now table)) (length (now health)) 0 (length (now script))
-        × (RunBound (scope .steps) callMost start × ((length (now leases) / 2 ≤ 64) × Inside (scope .cells)
+        × (RunBound (scope .steps) callMost start × ((length (now leases) / 3 ≤ 64) × Inside (scope .cells)
         (now leases))) ⌝ }
     ensures { λ r. ⌜ (r, (now (table .exit), now (health .exit)))
-        ≡ giveBackOf (length (now (leases .entry)) / 2) (inScope scope (now (script .entry)) [])
-        (leasesOf (now (leases .entry))) start (now (table .entry)) (now (health .entry)) .seen ⌝ }
+        ≡ giveBackOf (length (now (leases .entry)) / 3) (inScope scope (now (script .entry)) [])
+        (holdsOf (now (leases .entry))) start (now (table .entry)) (now (health .entry)) .seen ⌝ }
 {
     let none = [[0; 2]; 64];
     let mut run = start;
-    let mut k = leases.len() / 2;
+    let mut k = leases.len() / 3;
     while 0 < k {
         k -= 1;
-        let e = 2 * k;
+        let e = 3 * k;
         run = give_one(
             scope,
             run,
@@ -98,18 +98,21 @@ pub fn give_back(
 
 // ---- the checks, in the order of document 01's table
 
-// 12 and 14, tested together by position.
+// 16, 12 and 14, tested together by position.
 fn releasable_fault(head: Head, table: &[u32], leases: &[u32]) -> Check
     requires { ⌜ shapeFits head (length (now table)) ≡ true ⌝ }
     ensures { λ r. ⌜ r ≡ first (notReleasable head (now (table .entry)) 0 [] (leasesOf (now (leases .entry)))) ⌝ }
 {
     let mut i = 0;
-    while i < leases.len() / 2 {
-        let e = 2 * i;
+    while i < leases.len() / 3 {
+        let e = 3 * i;
+        if leases[e + 2] != head.boot {
+            return Check::Fault(Refusal::StaleBoot(i));
+        }
         let cell = leases[e];
         let serial = leases[e + 1];
         if lease::is_live(head, table, cell, serial) {
-            let lease = Lease { cell, serial };
+            let lease = Hold { cell, serial };
             if lease::is_in(&leases[..e], lease) {
                 return Check::Fault(Refusal::Repeated(i));
             }
@@ -121,15 +124,15 @@ fn releasable_fault(head: Head, table: &[u32], leases: &[u32]) -> Check
     Check::Fine
 }
 
-// 4, and then 12 and 14.
+// 4, and then 16, 12 and 14.
 fn leases_fault(head: Head, table: &[u32], leases: &[u32]) -> Check
     requires { ⌜ shapeFits head (length (now table)) ≡ true ⌝ }
     ensures { λ r. ⌜ r ≡ first (leasesRules head (now (table .entry)) (now (leases .entry))) ⌝ }
 {
-    if leases.len() % 2 != 0 {
+    if leases.len() % 3 != 0 {
         return Check::Fault(Refusal::TooMany);
     }
-    if 64 < leases.len() / 2 {
+    if 64 < leases.len() / 3 {
         return Check::Fault(Refusal::TooMany);
     }
     releasable_fault(head, table, leases)
@@ -197,8 +200,8 @@ fn release_once(
     foreign::play(head, run, Answer::Done)
 }
 
-// Releases a list of leases, last first, with a boundary after each. Any lease that is not live (12) or that stands
-// earlier in the list (14) refuses the whole list, nothing released.
+// Releases a list of leases, last first, with a boundary after each. Any lease with another boot number (16), that is
+// not live (12) or that stands earlier in the list (14) refuses the whole list, nothing released.
 pub fn release_all(
     head: Head,
     table: &mut [u32],

@@ -6,7 +6,7 @@ use mathlib.Core.Bool.{false}
 use native.Mathlib.Omega.{arith}
 use lib.ListN.{getD, take, replicate}
 use Rattle.model.specs.Log.{Actor, Event, by-caller, attempt-begun, took, released}
-use Rattle.model.specs.Arena.{headOf, leaseOf, bitAt, ownerAt, setCell, isFree, isHeld, stateOf, stateAt, isLive, headFits, shapeFits, healthFits}
+use Rattle.model.specs.Arena.{headOf, leaseOf, holdOf, bitAt, ownerAt, setCell, isFree, isHeld, stateOf, stateAt, isLive, headFits, shapeFits, healthFits}
 use Rattle.model.specs.Refusals.{first}
 use Rattle.model.specs.Lock.{takeOf}
 use Rattle.model.specs.Checks.{prepareRules, cellRules, leaseRules}
@@ -23,11 +23,11 @@ use Rattle.history.specs.Tests.{differ}
 use Rattle.history.specs.Events.{lives}
 use Rattle.history.specs.Callers.{Shape-fits}
 use Rattle.salvaged.specs.Statements.{answerIn, tableIn, healthIn, reportIn, listIn, No-room, undoneOf, Mends, Owners-differ, Salvages, other, All-spare}
-use Rattle.salvaged.specs.Theorems.{report-full-exactly, rebuilds, mended, twice, apart-exactly, doubled-apart, goes-on-from, counts-from-salvage, dead-stays-dead, dead-over-salvages, apart-from-there, unconfirmed-alone, live-over-salvage}
+use Rattle.salvaged.specs.Theorems.{report-full-exactly, rebuilds, mended, twice, apart-exactly, doubled-apart, keeps-boot, boot-from-salvage, goes-on-from, counts-from-salvage, dead-stays-dead, dead-over-salvages, apart-from-there, unconfirmed-alone, live-over-salvage}
 
--- one header of three cells, the next serial 9
+-- one header of three cells, the next serial 9, boot number 6
 abbrev paper : Head
-paper = headOf 1 3 9
+paper = headOf 1 3 9 6
 
 -- held by 5; damaged and waited for; held by 8 and waited for; header 0 has byte 7
 abbrev found : List ℕ
@@ -63,8 +63,8 @@ pub record Figures : Type 0 where
   pub doubled-done : answerIn by-one-owner ≡ Done 0 2
   pub one-owner : ownerAt (tableIn by-one-owner) (getD (listIn by-one-owner) 0 0) ≡ ownerAt (tableIn by-one-owner) (getD (listIn by-one-owner) 1 0)
   pub left-fits : Shape-fits left
-  pub first-live : Live left (leaseOf 0 5)
-  pub last-live : Live left (leaseOf 2 5)
+  pub first-live : Live left (holdOf 0 5)
+  pub last-live : Live left (holdOf 2 5)
 
 pub figures : Figures
 unfolding bitAt ownerAt isFree isHeld stateOf stateAt isLive headFits shapeFits healthFits first prepareRules keptOf mendedCell mendedTable mendedByte mendedHealth changeOf changesFrom changesOf heldFrom leftHeld overOf isReportFull mendOf goOverOf salvageOf
@@ -122,9 +122,9 @@ not-sound s =
     omega arith
 
 -- the first cell is released; the last one's lease, of the same serial, is live
-pub other-live : (answers left (drop-lease (leaseOf 0 5)) ≡ answer.Done)
-    × Free (leaves left (drop-lease (leaseOf 0 5))) 0
-    × Live (leaves left (drop-lease (leaseOf 0 5))) (leaseOf 2 5)
+pub other-live : (answers left (drop-lease (leaseOf 0 5 6)) ≡ answer.Done)
+    × Free (leaves left (drop-lease (leaseOf 0 5 6))) 0
+    × Live (leaves left (drop-lease (leaseOf 0 5 6))) (holdOf 2 5)
 other-live = doubled-apart left 0 2 5 (figures .left-fits) (λ e. omega arith) (figures .first-live) (figures .last-live)
 
 -- ---- any items before it, any after it: cells 0 and 2 are taken; the dip leaves waiters of cell 1, damages the bit of cell 2 and makes the
@@ -132,16 +132,16 @@ other-live = doubled-apart left 0 2 5 (figures .left-fits) (λ e. omega arith) (
 -- drops it; the lease (2,2) is lost, and refused; cell 2 is granted anew
 
 abbrev rubbish : World
-rubbish = worldOf (headOf 7 7 7) (replicate 9 7) (7 ∷ [])
+rubbish = worldOf (headOf 7 7 7 7) (replicate 9 7) (7 ∷ [])
 
 abbrev boot : Item
-boot = preparation 1 3 1
+boot = preparation 1 3 1 6
 
 abbrev before-dip : Course
 before-dip = run (cold rubbish) (boot ∷ call (try-acquire 0) ∷ call (try-acquire 2) ∷ [])
 
 abbrev on-paper : Head
-on-paper = headOf 1 3 3
+on-paper = headOf 1 3 3 6
 
 abbrev after-dip : List ℕ
 after-dip = 1 ∷ 1 ∷ 0 ∷ 0 ∷ 0 ∷ 4 ∷ 7 ∷ 2 ∷ 0 ∷ []
@@ -153,7 +153,7 @@ abbrev went-over : Salvage
 went-over = salvageOf on-paper after-dip (7 ∷ []) (replicate 12 77) (replicate 2 77)
 
 abbrev afterwards : List Item
-afterwards = call (drop-lease (leaseOf 0 1)) ∷ call (drop-lease (leaseOf 2 2)) ∷ call (try-acquire 2) ∷ []
+afterwards = call (drop-lease (leaseOf 0 1 6)) ∷ call (drop-lease (leaseOf 2 2 6)) ∷ call (try-acquire 2) ∷ []
 
 -- the salvaged world: cell 0 held by 1, the header poisoned
 abbrev salvaged-world : World
@@ -163,20 +163,20 @@ abbrev entries-then : List Entry
 entries-then =
     entryOf (released by-caller 0 1 ∷ []) (saying answer.Done)
     ∷ entryOf [] (saying (answer.Refused (NotHeld 0)))
-    ∷ entryOf (attempt-begun ∷ took by-caller 2 3 ∷ []) (says (answer.Granted (leaseOf 2 3)) (countsOf 1 0 0 0) 0 [])
+    ∷ entryOf (attempt-begun ∷ took by-caller 2 3 ∷ []) (says (answer.Granted (leaseOf 2 3 6)) (countsOf 1 0 0 0) 0 [])
     ∷ []
 
 abbrev went-on : Course
-went-on = courseOf salvaged-world entries-then (worldOf (headOf 1 3 4) (0 ∷ 0 ∷ 0 ∷ 0 ∷ 0 ∷ 0 ∷ 1 ∷ 3 ∷ 0 ∷ []) (1 ∷ []))
+went-on = courseOf salvaged-world entries-then (worldOf (headOf 1 3 4 6) (0 ∷ 0 ∷ 0 ∷ 0 ∷ 0 ∷ 0 ∷ 1 ∷ 3 ∷ 0 ∷ []) (1 ∷ []))
 
 pub record Story : Type 0 where
   -- before the dip both leases are live
-  pub lives-before : Live (before-dip .world) (leaseOf 0 1) × Live (before-dip .world) (leaseOf 2 2)
+  pub lives-before : Live (before-dip .world) (holdOf 0 1) × Live (before-dip .world) (holdOf 2 2)
   pub is-done : answerIn went-over ≡ Done 4 1
   pub is-listed : listIn went-over ≡ 0 ∷ 77 ∷ []
   pub begins-anew : next-item before-dip rescue ≡ cold salvaged-world
   pub is-rescued : rescued on-paper after-dip (7 ∷ []) (replicate 12 77) (replicate 2 77) ≡ salvaged-world
-  pub lives-after : Live salvaged-world (leaseOf 0 1)
+  pub lives-after : Live salvaged-world (holdOf 0 1)
   pub goes-on : run before-dip (rescue ∷ afterwards) ≡ went-on
 
 pub story : Story
@@ -208,6 +208,14 @@ goes-on-then =
     subst (λ (w : World). (end .origin ≡ w) × Lawful w (history-of end) × (end .world ≡ now w (history-of end))) (story .is-rescued)
     (goes-on-from before-dip rescue on-paper after-dip (7 ∷ []) (replicate 12 77) (replicate 2 77) 4 1 afterwards is-salvage (story .is-done) no-start)
 
+-- `keeps-boot`, `boot-from-salvage`: the head handed back, and the one at the end, have the boot number on the paper, 6, and the lease that was dropped
+-- then has it
+pub boot-then : (salvageOf on-paper after-dip (7 ∷ []) (replicate 12 77) (replicate 2 77) .0 .head .boot ≡ 6) × (end .world .head .boot ≡ 6)
+boot-then = (
+  keeps-boot on-paper after-dip (7 ∷ []) (replicate 12 77) (replicate 2 77),
+  boot-from-salvage before-dip rescue on-paper after-dip (7 ∷ []) (replicate 12 77) (replicate 2 77) 4 1 afterwards is-salvage (story .is-done) no-start,
+)
+
 -- `counts-from-salvage`: one cell is held at the start
 pub counted-then : (end .world .head .next ≡ 3 + number-of takes (history-of end))
     × (bits (cells (end .world)) (end .world .table) + number-of releases (history-of end) ≡ 1 + number-of takes (history-of end))
@@ -215,18 +223,18 @@ counted-then =
     counts-from-salvage before-dip rescue on-paper after-dip (7 ∷ []) (replicate 12 77) (replicate 2 77) 4 1 afterwards is-salvage (story .is-done) no-start
 
 -- `dead-stays-dead`: serial 2 lost its cell in the dip, and owns none at any point since
-lost : (c : ℕ) → Live salvaged-world (leaseOf c 2) → ⊥
+lost : (c : ℕ) → Live salvaged-world (holdOf c 2) → ⊥
 unfolding bitAt ownerAt isFree isHeld stateOf stateAt isLive
 lost zero v = differ v
 lost (suc zero) v = differ v
 lost (suc (suc zero)) v = differ v
-lost (suc (suc (suc c))) v = omega (arith, lives salvaged-world (leaseOf (suc (suc (suc c))) 2) v .in-range)
+lost (suc (suc (suc c))) v = omega (arith, lives salvaged-world (holdOf (suc (suc (suc c))) 2) v .in-range)
 
-pub dead-then : (before after : List Event) → history-of end ≡ before ++ after → (c : ℕ) → Live (now salvaged-world before) (leaseOf c 2) → ⊥
+pub dead-then : (before after : List Event) → history-of end ≡ before ++ after → (c : ℕ) → Live (now salvaged-world before) (holdOf c 2) → ⊥
 dead-then =
-    subst (λ (w : World). (before after : List Event) → history-of end ≡ before ++ after → (c : ℕ) → Live (now w before) (leaseOf c 2) → ⊥) (story .is-rescued)
+    subst (λ (w : World). (before after : List Event) → history-of end ≡ before ++ after → (c : ℕ) → Live (now w before) (holdOf c 2) → ⊥) (story .is-rescued)
     (dead-stays-dead before-dip rescue on-paper after-dip (7 ∷ []) (replicate 12 77) (replicate 2 77) 4 1 afterwards is-salvage (story .is-done) no-start 2 (omega arith)
-    (subst (λ (w : World). (c : ℕ) → Live w (leaseOf c 2) → ⊥) (sym (story .is-rescued)) lost))
+    (subst (λ (w : World). (c : ℕ) → Live w (holdOf c 2) → ⊥) (sym (story .is-rescued)) lost))
 
 -- `apart-from-there`: one cell is listed, so no serial owns two at any point since
 pub apart-then : (before after : List Event) → history-of end ≡ before ++ after → Apart (now salvaged-world before)
@@ -237,7 +245,7 @@ apart-then =
 
 -- `unconfirmed-alone`: cell 0 is Busy, its lease is dropped, and then it is granted
 abbrev valve : List Item
-valve = call (try-acquire 0) ∷ call (drop-lease (leaseOf 0 1)) ∷ call (try-acquire 0) ∷ []
+valve = call (try-acquire 0) ∷ call (drop-lease (leaseOf 0 1 6)) ∷ call (try-acquire 0) ∷ []
 
 valve-is : history-of (run before-dip (rescue ∷ valve)) ≡ (attempt-begun ∷ released by-caller 0 1 ∷ attempt-begun ∷ []) ++ (took by-caller 0 3 ∷ [])
 unfolding run next-item preparing salvaging perform bitAt ownerAt setCell isFree isHeld stateOf stateAt isLive headFits shapeFits healthFits first prepareRules cellRules leaseRules prepareOf acquireOf takeOf tryAcquireOf dropLeaseOf keptOf mendedCell mendedTable mendedByte mendedHealth changeOf changesFrom changesOf heldFrom leftHeld overOf isReportFull mendOf goOverOf salvageOf
@@ -247,27 +255,27 @@ pub valve-released : (a : Actor) × (before middle : List Event)
     × (attempt-begun ∷ released by-caller 0 1 ∷ attempt-begun ∷ [] ≡ before ++ (released a 0 1 ∷ middle))
 valve-released =
     unconfirmed-alone before-dip rescue on-paper after-dip (7 ∷ []) (replicate 12 77) (replicate 2 77) 4 1 valve is-salvage (story .is-done) (λ z. z, (λ z. z, (λ z. z, tt)))
-    0 1 3 by-caller (attempt-begun ∷ released by-caller 0 1 ∷ attempt-begun ∷ []) [] (subst (λ (w : World). Live w (leaseOf 0 1)) (sym (story .is-rescued)) (story .lives-after)) valve-is
+    0 1 3 by-caller (attempt-begun ∷ released by-caller 0 1 ∷ attempt-begun ∷ []) [] (subst (λ (w : World). Live w (holdOf 0 1)) (sym (story .is-rescued)) (story .lives-after)) valve-is
 
 -- `live-over-salvage`: a salvage with the head in force, over the arena's own runs, keeps the lease of cell 2
-pub lives-then : (salvaging (headOf 1 3 4) (went-on .world .table) (went-on .world .health) [] (77 ∷ []) .0 ≡ Done 0 1)
-    × Live (went-on .world) (leaseOf 2 3)
+pub lives-then : (salvaging (headOf 1 3 4 6) (went-on .world .table) (went-on .world .health) [] (77 ∷ []) .0 ≡ Done 0 1)
+    × Live (went-on .world) (holdOf 2 3)
 unfolding salvaging bitAt ownerAt isFree isHeld stateOf stateAt isLive headFits shapeFits healthFits first prepareRules keptOf mendedCell mendedTable mendedByte mendedHealth changeOf changesFrom changesOf heldFrom leftHeld overOf isReportFull mendOf goOverOf salvageOf
 lives-then = (refl, refl)
 
-pub lives-on-then : Live (next-item went-on (salvage (headOf 1 3 4) [] (77 ∷ [])) .world) (leaseOf 2 3)
-lives-on-then = live-over-salvage went-on [] (77 ∷ []) (leaseOf 2 3) (0, 1, lives-then .0) .1 (lives-then .1)
+pub lives-on-then : Live (next-item went-on (salvage (headOf 1 3 4 6) [] (77 ∷ [])) .world) (holdOf 2 3)
+lives-on-then = live-over-salvage went-on [] (77 ∷ []) (holdOf 2 3) (0, 1, lives-then .0) .1 (lives-then .1)
 
 -- and with an older head, whose next serial is 3, it does not: the owner 3 is not below it, the cell is damaged and becomes free
-pub ended-by-older : next-item went-on (salvage (headOf 1 3 3) (replicate 6 77) []) ≡ cold (worldOf (headOf 1 3 3) (replicate 9 0) (1 ∷ []))
+pub ended-by-older : next-item went-on (salvage (headOf 1 3 3 6) (replicate 6 77) []) ≡ cold (worldOf (headOf 1 3 3 6) (replicate 9 0) (1 ∷ []))
 unfolding next-item salvaging bitAt ownerAt isFree isHeld stateOf stateAt headFits shapeFits healthFits first prepareRules keptOf mendedCell mendedTable mendedByte mendedHealth changeOf changesFrom changesOf heldFrom leftHeld overOf isReportFull mendOf goOverOf salvageOf
 ended-by-older = refl
 
 -- `dead-over-salvages`: that salvage, and cell 0 taken; then a dip that leaves cell 2 alone held, by 3, and a salvage of that; serial 2 is dead
 abbrev more : List Item
 more =
-    salvage (headOf 1 3 4) [] (77 ∷ []) ∷ call (try-acquire 0)
-    ∷ salvage-over (headOf 1 3 5) (went-on .world .table) (9 ∷ []) (replicate 3 77) (77 ∷ []) ∷ []
+    salvage (headOf 1 3 4 6) [] (77 ∷ []) ∷ call (try-acquire 0)
+    ∷ salvage-over (headOf 1 3 5 6) (went-on .world .table) (9 ∷ []) (replicate 3 77) (77 ∷ []) ∷ []
 
 abbrev whole-day : List Item
 whole-day = call (try-acquire 0) ∷ call (try-acquire 2) ∷ rescue ∷ afterwards
@@ -280,24 +288,24 @@ starts-day : Begins rubbish boot
 unfolding preparing prepareOf prepareRules first headFits shapeFits healthFits
 starts-day = refl
 
-still-lost : (c : ℕ) → Live (went-on .world) (leaseOf c 2) → ⊥
+still-lost : (c : ℕ) → Live (went-on .world) (holdOf c 2) → ⊥
 unfolding bitAt ownerAt isFree isHeld stateOf stateAt isLive
 still-lost zero v = differ v
 still-lost (suc zero) v = differ v
 still-lost (suc (suc zero)) v = differ v
-still-lost (suc (suc (suc c))) v = omega (arith, lives (went-on .world) (leaseOf (suc (suc (suc c))) 2) v .in-range)
+still-lost (suc (suc (suc c))) v = omega (arith, lives (went-on .world) (holdOf (suc (suc (suc c))) 2) v .in-range)
 
 -- the second dip's salvage is done too, and no lease of serial 2 stands in what that dip left
-pub second-done : salvaging (headOf 1 3 5) (went-on .world .table) (9 ∷ []) (replicate 3 77) (77 ∷ []) .0 ≡ Done 1 1
+pub second-done : salvaging (headOf 1 3 5 6) (went-on .world .table) (9 ∷ []) (replicate 3 77) (77 ∷ []) .0 ≡ Done 1 1
 unfolding salvaging bitAt ownerAt isFree isHeld stateOf stateAt headFits shapeFits healthFits first prepareRules keptOf mendedCell mendedTable mendedByte mendedHealth changeOf changesFrom changesOf heldFrom leftHeld overOf isReportFull mendOf goOverOf salvageOf
 second-done = refl
 
-not-left : (c : ℕ) → Live (worldOf (headOf 1 3 5) (went-on .world .table) (9 ∷ [])) (leaseOf c 2) → ⊥
+not-left : (c : ℕ) → Live (worldOf (headOf 1 3 5 6) (went-on .world .table) (9 ∷ [])) (holdOf c 2) → ⊥
 unfolding bitAt ownerAt isFree isHeld stateOf stateAt isLive
 not-left zero v = differ v
 not-left (suc zero) v = differ v
 not-left (suc (suc zero)) v = differ v
-not-left (suc (suc (suc c))) v = omega (arith, lives (worldOf (headOf 1 3 5) (went-on .world .table) (9 ∷ [])) (leaseOf (suc (suc (suc c))) 2) v .in-range)
+not-left (suc (suc (suc c))) v = omega (arith, lives (worldOf (headOf 1 3 5 6) (went-on .world .table) (9 ∷ [])) (holdOf (suc (suc (suc c))) 2) v .in-range)
 
 pub dead-over-then : Spent (run went-on more .world) 2
 dead-over-then =
@@ -308,10 +316,10 @@ dead-over-then =
 -- and what it does not say: one cell, free, serial 1 dead. A dip writes 1 and 1 into its bit and owner, and a salvage of what it left keeps them:
 -- serial 1 owns again, and no preparation stands between
 abbrev one-free : World
-one-free = worldOf (headOf 1 1 2) (0 ∷ 0 ∷ 0 ∷ []) (0 ∷ [])
+one-free = worldOf (headOf 1 1 2 6) (0 ∷ 0 ∷ 0 ∷ []) (0 ∷ [])
 
-pub revived : (next-item (cold one-free) (salvage (headOf 1 1 2) [] []) ≡ cold one-free)
-    × (isLive 2 1 (one-free .table) (leaseOf 0 1) ≡ false)
-    × Live (next-item (cold one-free) (salvage-over (headOf 1 1 2) (1 ∷ 1 ∷ 0 ∷ []) (0 ∷ []) [] (77 ∷ [])) .world) (leaseOf 0 1)
+pub revived : (next-item (cold one-free) (salvage (headOf 1 1 2 6) [] []) ≡ cold one-free)
+    × (isLive 2 1 (one-free .table) (holdOf 0 1) ≡ false)
+    × Live (next-item (cold one-free) (salvage-over (headOf 1 1 2 6) (1 ∷ 1 ∷ 0 ∷ []) (0 ∷ []) [] (77 ∷ [])) .world) (holdOf 0 1)
 unfolding next-item salvaging bitAt ownerAt isFree isHeld stateOf stateAt isLive headFits shapeFits healthFits first prepareRules keptOf mendedCell mendedTable mendedByte mendedHealth changeOf changesFrom changesOf heldFrom leftHeld overOf isReportFull mendOf goOverOf salvageOf
 revived = (refl, refl, refl)

@@ -6,11 +6,11 @@ use mathlib.Core.Bool.{true}
 use mathlib.Core.Logic.{inl, inr}
 use native.Mathlib.Omega.{arith}
 use lib.ListN.{length}
-use Rattle.model.specs.Arena.{cellsOf, leaseOf, bitAt, ownerAt, stateAt, isLive}
+use Rattle.model.specs.Arena.{cellsOf, holdOf, bitAt, ownerAt, stateAt, isLive}
 use Rattle.model.specs.Log.{Event}
 use Rattle.model.specs.Salvage.{Salvage, mendedTable, mendOf, salvageOf}
 use Rattle.types.specs.declared.Head.{Head}
-use Rattle.types.specs.declared.Lease.{Lease}
+use Rattle.types.specs.declared.Hold.{Hold}
 use Rattle.types.specs.declared.SalvageAnswer.{SalvageAnswer}
 use Rattle.types.specs.declared.SalvageAnswer.the-variants.{Done, BadShape, ReportFull}
 use Rattle.types.specs.declared.State.the-variants as state
@@ -103,18 +103,18 @@ dead-stays-dead k i h t g report list e n items x d on s low none before after p
     let l = kept k i h t g report list e n items x d on in
     let dead : Spent (rescued h t g report list) s = record { was-issued = low; owns-none = none } in
     l .never s [] before after p (subst (λ (w : World). Spent w s) (sym o) dead) .owns-none c
-    (subst (λ (w : World). Live (now w before) (leaseOf c s)) (sym o) v)
+    (subst (λ (w : World). Live (now w before) (holdOf c s)) (sym o) v)
 
 pub unconfirmed-alone : Unconfirmed-alone
 unconfirmed-alone k i h t g report list e n items x d on c s s′ b between after v p =
     let o = begins-there k i h t g report list e n items x d on in
     let l = kept k i h t g report list e n items x d on in
     let w = run k (i ∷ items) .origin in
-    parted w c s s′ b between after (fit (good w (l .whole [] (history-of (run k (i ∷ items))) refl))) (subst (λ (u : World). Live u (leaseOf c s)) (sym o) v)
+    parted w c s s′ b between after (fit (good w (l .whole [] (history-of (run k (i ∷ items))) refl))) (subst (λ (u : World). Live u (holdOf c s)) (sym o) v)
     (subst (Lawful w) p (l .lawful))
 
 -- ---- a lease, by the words of its cell: mended, they are the same, or were damaged and are zeros
-module _ (h : Head) (t : List ℕ) (s : Shaped h (length t)) (l : Lease) where
+module _ (h : Head) (t : List ℕ) (s : Shaped h (length t)) (l : Hold) where
   abbrev after : List ℕ
   after = mendedTable (h .next) t
 
@@ -165,7 +165,7 @@ module _ (k : Course) (x : Stretch k) (s : ℕ) (p : Spent (k .world) s) where
   fits-now = subst Fit (sym (x .leads)) (fit-now (k .origin) (history-of k) (fit (x .good)) (x .lawful))
 
   -- over the events of an item
-  dead-after : {P : Lease → Type 0} {v : World} {es : List Event} → Kept (k .world) P v es → Spent v s
+  dead-after : {P : Hold → Type 0} {v : World} {es : List Event} → Kept (k .world) P v es → Spent v s
   dead-after {P} {v} {es} m = subst (λ (w : World). Spent w s) (sym (m .leads)) (spent-now (k .world) es s fits-now (m .lawful) p)
 
   -- over an item that leaves the world as it was
@@ -180,7 +180,7 @@ module _ (k : Course) (x : Stretch k) (s : ℕ) (p : Spent (k .world) s) where
   dead-refused (other h t g report list) n = dead-still (ap (λ (c : Course). c .world) (not-salvaged _ _ _ k n))
 
   dead-rescued : (i : Item) (h : Head) (t g report list : List ℕ) → Salvages (k .world) i h t g report list
-      → (Begins (k .world) i → (s < h .next) × ((c : ℕ) → Live (worldOf h t g) (leaseOf c s) → ⊥)) → Spent (next-item k i .world) s
+      → (Begins (k .world) i → (s < h .next) × ((c : ℕ) → Live (worldOf h t g) (holdOf c s) → ⊥)) → Spent (next-item k i .world) s
   unfolding mendOf
   dead-rescued i h t g report list x u = go (came h t g report list)
     where
@@ -199,20 +199,20 @@ module _ (k : Course) (x : Stretch k) (s : ℕ) (p : Spent (k .world) s) where
             was-issued = y .0;
             owns-none = λ c v.
                 y .1 c
-                (live (h .next) (cellsOf h) t (leaseOf c s)
-                (lived h t (o .shape) (leaseOf c s) (subst (λ (u : List ℕ). isLive (h .next) (cellsOf h) u (leaseOf c s) ≡ true) (o .table-is) v)));
+                (live (h .next) (cellsOf h) t (holdOf c s)
+                (lived h t (o .shape) (holdOf c s) (subst (λ (u : List ℕ). isLive (h .next) (cellsOf h) u (holdOf c s) ≡ true) (o .table-is) v)));
           })
 
   -- under another head too, the arena's own runs have no cell of it
   not-there : (h : Head) (report list : List ℕ) → Begins (k .world) (salvage h report list) → (c : ℕ)
-      → Live (worldOf h (k .world .table) (k .world .health)) (leaseOf c s) → ⊥
+      → Live (worldOf h (k .world .table) (k .world .health)) (holdOf c s) → ⊥
   unfolding salvaging
   not-there h report list b c v =
       let w = k .world in
       let o = was-done h (w .table) (w .health) report list (b .0) (b .1) (b .2) in
-      let a = alive (h .next) (cellsOf h) (w .table) (leaseOf c s) v in
+      let a = alive (h .next) (cellsOf h) (w .table) (holdOf c s) v in
       p .owns-none c
-      (live (w .head .next) (cells w) (w .table) (leaseOf c s)
+      (live (w .head .next) (cells w) (w .table) (holdOf c s)
       (record {
         in-range = omega (arith, a .in-range, o .shape .words-are, fits-now .shape .words-are);
         bit-is = a .bit-is;
@@ -225,9 +225,9 @@ module _ (k : Course) (x : Stretch k) (s : ℕ) (p : Spent (k .world) s) where
   unfolding next-item
   dead-item (call c) u = dead-after (call-kept (k .world) c .kept)
   dead-item (foreign-step kind place number) u = dead-after (foreign-kept (k .world) kind place number)
-  dead-item (preparation headers buckets serial) u =
-      dead-still (ap (λ (c : Course). c .world) (refused-stays k headers buckets serial u))
-  dead-item (preparation-over headers buckets serial t g) u = dead-still (ap (λ (c : Course). c .world) (not-prepared _ _ _ k u))
+  dead-item (preparation headers buckets serial boot) u =
+      dead-still (ap (λ (c : Course). c .world) (refused-stays k headers buckets serial boot u))
+  dead-item (preparation-over headers buckets serial boot t g) u = dead-still (ap (λ (c : Course). c .world) (not-prepared _ _ _ k u))
   dead-item (salvage h report list) u =
       dead-rescued (salvage h report list) h (k .world .table) (k .world .health) report list (own h report list) (λ b. (u b, not-there h report list b))
   dead-item (salvage-over h t g report list) u = dead-rescued (salvage-over h t g report list) h t g report list (other h t g report list) u

@@ -6,7 +6,7 @@ use mathlib.Core.List.{List, [], _∷_, _++_}
 use mathlib.Core.Bool.{Bool, true, false, _&&_}
 use mathlib.Core.Logic.{_↔_, _⊎_, _≢_}
 use lib.ListN.{length, getD, take, drop, set}
-use Rattle.model.specs.Arena.{cellsOf, leaseOf, bitAt, ownerAt, waitersAt, stateAt, shapeFits, healthFits}
+use Rattle.model.specs.Arena.{cellsOf, leaseOf, holdOf, bitAt, ownerAt, waitersAt, stateAt, shapeFits, healthFits}
 use Rattle.model.specs.Salvage.{Salvage, salvageOf, mendedTable, mendedHealth, leftHeld, overOf, concluded, unsalvaged}
 use Rattle.types.specs.declared.Answer.the-variants as answer
 use Rattle.types.specs.declared.Head.{Head}
@@ -14,7 +14,7 @@ use Rattle.types.specs.declared.SalvageAnswer.{SalvageAnswer}
 use Rattle.types.specs.declared.SalvageAnswer.the-variants.{Done, BadShape, ReportFull}
 use Rattle.types.specs.declared.State.the-variants as state
 use Rattle.model.specs.Log.{Actor, Event, took, released}
-use Rattle.types.specs.declared.Lease.{Lease}
+use Rattle.types.specs.declared.Hold.{Hold}
 use Rattle.history.specs.World.{World, worldOf, cells, Free, Live, Apart, Sound, now, Lawful, Spent, bits, number-of, takes, releases}
 use Rattle.history.specs.Items.{drop-lease, Item, call, foreign-step, preparation, preparation-over, salvage, salvage-over, Course, history-of, next-item, run}
 use Rattle.history.specs.Statements.{answers, leaves, rescued, Begins, No-start, Through}
@@ -187,6 +187,10 @@ Twice =
     → salvageOf h (tableIn m) (healthIn m) report′ list′
     ≡ (concluded h (Done 0 n), (tableIn m, (healthIn m, (report′, overOf (take n (listIn m)) list′)))))
 
+-- document 02, L8: "Salvage keeps the boot number of the head it was given.", done or refused
+abbrev pub Keeps-boot : Type 0
+Keeps-boot = Always (λ h t g report list. salvageOf h t g report list .0 .head .boot ≡ h .boot)
+
 -- ---- no serial owns two cells
 
 -- the owners of the n cells of a list are pairwise different
@@ -204,10 +208,10 @@ Apart-exactly =
 -- where two cells have one owner, `drop_lease` of one is done, frees that cell, and leaves the other's lease live
 abbrev pub Doubled-apart : Type 0
 Doubled-apart =
-    (w : World) (c d s : ℕ) → Shape-fits w → c ≢ d → Live w (leaseOf c s) → Live w (leaseOf d s)
-    → (answers w (drop-lease (leaseOf c s)) ≡ answer.Done)
-    × Free (leaves w (drop-lease (leaseOf c s))) c
-    × Live (leaves w (drop-lease (leaseOf c s))) (leaseOf d s)
+    (w : World) (c d s : ℕ) → Shape-fits w → c ≢ d → Live w (holdOf c s) → Live w (holdOf d s)
+    → (answers w (drop-lease (leaseOf c s (w .head .boot))) ≡ answer.Done)
+    × Free (leaves w (drop-lease (leaseOf c s (w .head .boot)))) c
+    × Live (leaves w (drop-lease (leaseOf c s (w .head .boot)))) (holdOf d s)
 
 -- ---- histories that go on from a salvage: "Demand 2 now starts from a prepared or a salvaged table."
 
@@ -233,6 +237,10 @@ Goes-on-from =
     × Lawful (rescued h t g report list) (history-of d)
     × (d .world ≡ now (rescued h t g report list) (history-of d)))
 
+-- and the head in force has the boot number on the paper: a lease of that boot is no stale one
+abbrev pub Boot-from-salvage : Type 0
+Boot-from-salvage = From-salvage (λ h t g report list n d. d .world .head .boot ≡ h .boot)
+
 -- the cells held at the start are those that were listed
 abbrev pub Held-at-start : Type 0
 Held-at-start = When-done (λ h t g report list e n. bits (cellsOf h) (tableIn (salvageOf h t g report list)) ≡ n)
@@ -248,9 +256,9 @@ Counts-from-salvage =
 abbrev pub Dead-stays-dead : Type 0
 Dead-stays-dead =
     From-salvage (λ h t g report list n d.
-    (s : ℕ) → s < h .next → ((c : ℕ) → Live (rescued h t g report list) (leaseOf c s) → ⊥)
+    (s : ℕ) → s < h .next → ((c : ℕ) → Live (rescued h t g report list) (holdOf c s) → ⊥)
     → (before after : List Event) → history-of d ≡ before ++ after
-    → (c : ℕ) → Live (now (rescued h t g report list) before) (leaseOf c s) → ⊥)
+    → (c : ℕ) → Live (now (rescued h t g report list) before) (holdOf c s) → ⊥)
 
 -- "up to the next preparation": the item is no preparation that is done, and a salvage that is done has the serial below the next one on its
 -- paper; where it goes over what a dip left, no cell there has it as its owner. A dip may write a dead serial into a cell, and a salvage of what it
@@ -258,11 +266,11 @@ Dead-stays-dead =
 abbrev pub Spares : ℕ → World → Item → Type 0
 Spares s w (call c) = Unit {0}
 Spares s w (foreign-step kind place number) = Unit {0}
-Spares s w (preparation headers buckets serial) = Begins w (preparation headers buckets serial) → ⊥
-Spares s w (preparation-over headers buckets serial t g) = Begins w (preparation-over headers buckets serial t g) → ⊥
+Spares s w (preparation headers buckets serial boot) = Begins w (preparation headers buckets serial boot) → ⊥
+Spares s w (preparation-over headers buckets serial boot t g) = Begins w (preparation-over headers buckets serial boot t g) → ⊥
 Spares s w (salvage h report list) = Begins w (salvage h report list) → s < h .next
 Spares s w (salvage-over h t g report list) =
-    Begins w (salvage-over h t g report list) → (s < h .next) × ((c : ℕ) → Live (worldOf h t g) (leaseOf c s) → ⊥)
+    Begins w (salvage-over h t g report list) → (s < h .next) × ((c : ℕ) → Live (worldOf h t g) (holdOf c s) → ⊥)
 
 abbrev pub All-spare : ℕ → Course → List Item → Type 0
 All-spare s k [] = Unit {0}
@@ -285,7 +293,7 @@ Apart-from-there =
 abbrev pub Unconfirmed-alone : Type 0
 Unconfirmed-alone =
     From-salvage (λ h t g report list n d.
-    (c s s′ : ℕ) (b : Actor) (between after : List Event) → Live (rescued h t g report list) (leaseOf c s)
+    (c s s′ : ℕ) (b : Actor) (between after : List Event) → Live (rescued h t g report list) (holdOf c s)
     → history-of d ≡ between ++ (took b c s′ ∷ after)
     → (a : Actor) × (before middle : List Event) × (between ≡ before ++ (released a c s ∷ middle)))
 
@@ -293,5 +301,5 @@ Unconfirmed-alone =
 -- So a dip that spared the words loses no lease and revives none
 abbrev pub Live-over-salvage : Type 0
 Live-over-salvage =
-    (k : Course) (report list : List ℕ) (l : Lease) → Begins (k .world) (salvage (k .world .head) report list)
+    (k : Course) (report list : List ℕ) (l : Hold) → Begins (k .world) (salvage (k .world .head) report list)
     → Live (next-item k (salvage (k .world .head) report list) .world) l ↔ Live (k .world) l

@@ -9,9 +9,9 @@ use native.Mathlib.Decide.{decLt}
 use lib.Dec.{ltb}
 use lib.ListN.{length, getD, take, drop, length-append, length-drop, List·getD-append}
 use lib.Seq.{take-at, drop-at, getD-append-add}
-use borrow.Author.Tests.{ltb-true, lt-ltb}
+use borrow.Author.Tests.{ltb-true, lt-ltb, eq-eqb}
 use Rattle.choice.specs.Pick.{both, determined}
-use Rattle.model.specs.Arena.{cellsOf, leaseOf, bitAt, ownerAt, stateAt, isLive, shapeFits, healthFits}
+use Rattle.model.specs.Arena.{cellsOf, leaseOf, holdOf, bitAt, ownerAt, stateAt, isLive, shapeFits, healthFits}
 use Rattle.model.specs.Log.{Event, by-caller, released}
 use Rattle.model.specs.Refusals.{first}
 use Rattle.model.specs.Checks.{leaseRules}
@@ -19,7 +19,7 @@ use Rattle.model.specs.Calls.{countsOf, dropLeaseOf}
 use Rattle.model.specs.Salvage.{Salvage, mendedTable, mendedHealth, changesOf, entriesOf, leftHeld, overOf, isReportFull, unsalvaged, concluded, mendOf, salvageOf}
 use Rattle.types.specs.declared.Answer.the-variants as answer
 use Rattle.types.specs.declared.Head.{Head}
-use Rattle.types.specs.declared.Lease.{Lease}
+use Rattle.types.specs.declared.Hold.{Hold}
 use Rattle.types.specs.declared.SalvageAnswer.{SalvageAnswer}
 use Rattle.types.specs.declared.SalvageAnswer.the-variants.{Done, BadShape, ReportFull}
 use Rattle.laws.specs.Shape.{Shaped, shaped}
@@ -30,9 +30,10 @@ use Rattle.history.specs.Statements.{leaves, rescued}
 use Rattle.history.specs.Callers.{Shape-fits}
 use Rattle.history.specs.Tests.{differ, state-held, alive, live}
 use Rattle.history.specs.Events.{Fit, fit, keep-step}
+use Rattle.history.specs.Logs.{arena-now}
 use Rattle.history.specs.Salvages.{Came, bad, full, done, came, inside, now-whole, now-owned, now-freed, now-kept}
 use Rattle.laws.specs.Salvage.{length-mended, length-mended-health, waiters-mended}
-use Rattle.salvaged.specs.Statements.{answerIn, tableIn, healthIn, listIn, fits, No-room, Bad-shape-exactly, Report-full-exactly, placeIn, oldIn, newIn, Reports, Report-is, Places-are, undone, undoneOf, Rebuilds, Lists, Held-in, Unconfirmed-is, Mends, Mended, Twice, Owners-differ, Apart-exactly, Doubled-apart, other, Held-at-start, Goes-on-from, Counts-from-salvage, Dead-stays-dead, Dead-over-salvages, Apart-from-there, Unconfirmed-alone, Live-over-salvage}
+use Rattle.salvaged.specs.Statements.{answerIn, tableIn, healthIn, listIn, fits, No-room, Bad-shape-exactly, Report-full-exactly, placeIn, oldIn, newIn, Reports, Report-is, Places-are, undone, undoneOf, Rebuilds, Lists, Held-in, Unconfirmed-is, Mends, Mended, Twice, Keeps-boot, Owners-differ, Apart-exactly, Doubled-apart, other, Held-at-start, Goes-on-from, Boot-from-salvage, Counts-from-salvage, Dead-stays-dead, Dead-over-salvages, Apart-from-there, Unconfirmed-alone, Live-over-salvage}
 use Rattle.salvaged.specs.Report.{Lines, lines, told, listed, rising, undone-is, changes-none}
 use Rattle.salvaged.specs.Cells.{table-again, byte-kept, byte-mended, byte-few, health-twice, byte-in, holds-state, holding, state-holds, Picks, picks, pick-held, pick-listed, pick-rising}
 use Rattle.salvaged.specs.Came.{words-are, was-done, changes-are}
@@ -277,16 +278,16 @@ twice h t g report list e n d report′ list′ l =
 -- ---- no serial owns two cells
 
 -- the lease of a held cell is live
-live-held : (h : Head) (u v : List ℕ) (c : ℕ) → c < cellsOf h → Held-in h u c → Live (worldOf h u v) (leaseOf c (ownerAt u c))
+live-held : (h : Head) (u v : List ℕ) (c : ℕ) → c < cellsOf h → Held-in h u c → Live (worldOf h u v) (holdOf c (ownerAt u c))
 live-held h u v c l s =
     let k = holding (h .next) u c s in
-    live (h .next) (cellsOf h) u (leaseOf c (ownerAt u c)) (record { in-range = l; bit-is = k .bit-is; owner-is = refl; low = k .low; high = k .high })
+    live (h .next) (cellsOf h) u (holdOf c (ownerAt u c)) (record { in-range = l; bit-is = k .bit-is; owner-is = refl; low = k .low; high = k .high })
 
 -- and a live lease is of a held cell
-held-live : (h : Head) (u : List ℕ) (c s : ℕ) → isLive (h .next) (cellsOf h) u (leaseOf c s) ≡ true → (c < cellsOf h) × Held-in h u c × (ownerAt u c ≡ s)
+held-live : (h : Head) (u : List ℕ) (c s : ℕ) → isLive (h .next) (cellsOf h) u (holdOf c s) ≡ true → (c < cellsOf h) × Held-in h u c × (ownerAt u c ≡ s)
 unfolding stateAt
 held-live h u c s e =
-    let a = alive (h .next) (cellsOf h) u (leaseOf c s) e in
+    let a = alive (h .next) (cellsOf h) u (holdOf c s) e in
     let o = a .owner-is in
     (a .in-range, state-held (h .next) (bitAt u c) (ownerAt u c) (a .bit-is) (omega (arith, a .low)) (omega (arith, a .high)), o)
 
@@ -339,21 +340,30 @@ apart-exactly h t g report list e n d = (there, back)
           apart = apart-of h (tableIn m) (healthIn m) (listIn m) list n l o;
         }
 
+pub keeps-boot : Keeps-boot
+keeps-boot h t g report list = go (came h t g report list)
+  where
+    go : Came h t g report list → salvageOf h t g report list .0 .head .boot ≡ h .boot
+    go (bad f p) = ap (λ (m : Salvage). m .0 .head .boot) p
+    go (full f i p) = ap (λ (m : Salvage). m .0 .head .boot) p
+    go (done f i p) = ap (λ (m : Salvage). m .0 .head .boot) p
+
 -- a release of one of two cells with one owner: the call is done, and is the release
-dropped : (w : World) (l : Lease) → Shape-fits w → Live w l
-    → perform w (drop-lease l) .seen ≡ (step w (released by-caller (l .cell) (l .serial)), says answer.Done (countsOf 0 0 0 0) 0 [])
+dropped : (w : World) (l : Hold) → Shape-fits w → Live w l
+    → perform w (drop-lease (leaseOf (l .cell) (l .serial) (w .head .boot))) .seen
+    ≡ (step w (released by-caller (l .cell) (l .serial)), says answer.Done (countsOf 0 0 0 0) 0 [])
 unfolding perform dropLeaseOf leaseRules first
-dropped w l f p = rw (f, p)
+dropped w l f p = rw (f, eq-eqb (w .head .boot) (w .head .boot) refl, p)
 
 pub doubled-apart : Doubled-apart
 doubled-apart w c d s f n p q =
-    let x = dropped w (leaseOf c s) f p in
-    let v : leaves w (drop-lease (leaseOf c s)) ≡ step w (released by-caller c s) = ap (λ (a : World × Says). a .0) x in
+    let x = dropped w (holdOf c s) f p in
+    let v : leaves w (drop-lease (leaseOf c s (w .head .boot))) ≡ step w (released by-caller c s) = ap (λ (a : World × Says). a .0) x in
     let fit : Fit w = record { shape = shaped (w .head) (length (w .table)) f } in
-    let a = alive (w .head .next) (cellsOf (w .head)) (w .table) (leaseOf c s) p in
+    let a = alive (w .head .next) (cellsOf (w .head)) (w .table) (holdOf c s) p in
     let free : Free (step w (released by-caller c s)) c =
     (a .in-range, state-freed (w .head .next) (w .table) c (omega (arith, fit .shape .words-are, a .in-range))) in
-    let other = keep-step w (released by-caller c s) (leaseOf d s) fit p q (λ e. n (sym (ap (λ (k : Lease). k .cell) e))) in
+    let other = keep-step w (released by-caller c s) (holdOf d s) fit p q (λ e. n (sym (ap (λ (k : Hold). k .cell) e))) in
     (ap (λ (z : World × Says). z .1 .answer) x, rw v free, rw v other)
 
 -- ---- histories that go on from a salvage
@@ -363,6 +373,12 @@ held-at-start = onward.held-at-start
 
 pub goes-on-from : Goes-on-from
 goes-on-from = onward.goes-on-from
+
+pub boot-from-salvage : Boot-from-salvage
+boot-from-salvage k i h t g report list e n items x d on =
+    let o = onward.goes-on-from k i h t g report list e n items x d on in
+    ap (λ (w : World). w .head .boot) (o .2)
+    ∙ ap (λ (j : Head). j .boot) (arena-now (rescued h t g report list) (history-of (run k (i ∷ items))))
 
 pub counts-from-salvage : Counts-from-salvage
 counts-from-salvage = onward.counts-from-salvage

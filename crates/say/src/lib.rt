@@ -52,8 +52,12 @@ fn refused_at(refusal: Refusal, position: usize, out: &mut [u8], used: usize) ->
 }
 
 fn granted(lease: Lease, out: &mut [u8], used: usize) -> usize {
-    let values = [lease.cell as usize, lease.serial as usize];
-    put_form(out, used, b"granted # #", &values)
+    let values = [
+        lease.cell as usize,
+        lease.serial as usize,
+        lease.boot as usize,
+    ];
+    put_form(out, used, b"granted # # #", &values)
 }
 
 fn cell(cell: u32, out: &mut [u8], used: usize) -> usize {

@@ -89,6 +89,7 @@ fn head(desk: Desk, got: Numbers) -> Desk {
         headers: got.a,
         buckets: got.b,
         next: got.c,
+        boot: got.d,
     };
     desk.with_head(next)
 }

@@ -11,8 +11,9 @@ fn head_line(head: Head, out: &mut [u8], used: usize) -> usize {
         head.headers as usize,
         head.buckets as usize,
         head.next as usize,
+        head.boot as usize,
     ];
-    put_form(out, used, b"head # # #\n", &values)
+    put_form(out, used, b"head # # # #\n", &values)
 }
 
 fn blank(bit: u32, owner: u32, waiters: u32) -> bool {

@@ -1,6 +1,6 @@
 // The calls of document 01, and document 02's keys in any order, salvage, crew at work, setpoint book and waveform, for
-// a kernel in C or Rust; include/skid.h declares them. Only numbers and lent runs cross: the head goes in as three
-// numbers, a lease as two, and the last parameter is the lent reply, whose words crate `layout` lays out. Each is
+// a kernel in C or Rust; include/skid.h declares them. Only numbers and lent runs cross: the head goes in as four
+// numbers, a lease as three, and the last parameter is the lent reply, whose words crate `layout` lays out. Each is
 // thin: it makes the head, makes the call, and writes the reply's words.
 use setpoint::Setpoint;
 use types::Head;
@@ -22,20 +22,21 @@ ghost use Rattle.layout.specs.Words.{undumpedWords, told};
 
 // ---- preparing
 
-// Refused with 1 it changes no lent word and replies a head of three zeros.
+// Refused with 1 it changes no lent word and replies a head of four zeros.
 #[no_mangle]
 pub extern "C" fn skid_prepare(
     headers: u32,
     buckets: u32,
     serial: u32,
+    boot: u32,
     table: &mut [u32],
     health: &mut [u8],
-    reply: &mut [u64; 14],
+    reply: &mut [u64; 15],
 )
     ensures { λ _. ⌜ (now (reply .exit), (now (table .exit), now (health .exit)))
-        ≡ told replyWords (prepareOf headers buckets serial (now (table .entry)) (now (health .entry)) .seen) ⌝ }
+        ≡ told replyWords (prepareOf headers buckets serial boot (now (table .entry)) (now (health .entry)) .seen) ⌝ }
 {
-    let r = arena::prepare(headers, buckets, serial, table, health);
+    let r = arena::prepare(headers, buckets, serial, boot, table, health);
     *reply = words::reply_words(r);
 }
 
@@ -46,11 +47,12 @@ pub extern "C" fn skid_salvage(
     headers: u32,
     buckets: u32,
     next: u32,
+    boot: u32,
     table: &mut [u32],
     health: &mut [u8],
     report: &mut [u32],
     unconfirmed: &mut [u32],
-    reply: &mut [u64; 6],
+    reply: &mut [u64; 7],
 )
     ensures { λ _. ⌜ (
       now (reply .exit),
@@ -62,13 +64,14 @@ pub extern "C" fn skid_salvage(
         ),
       ),
     )
-        ≡ told salvageWords (salvageOf (headOf headers buckets next) (now (table .entry)) (now (health .entry))
+        ≡ told salvageWords (salvageOf (headOf headers buckets next boot) (now (table .entry)) (now (health .entry))
         (now (report .entry)) (now (unconfirmed .entry))) ⌝ }
 {
     let head = Head {
         headers,
         buckets,
         next,
+        boot,
     };
     let r = salvage::salvage(head, table, health, report, unconfirmed);
     *reply = words::salvage_words(r);
@@ -82,68 +85,85 @@ pub extern "C" fn skid_try_acquire(
     headers: u32,
     buckets: u32,
     next: u32,
+    boot: u32,
     table: &mut [u32],
     cell: u32,
-    reply: &mut [u64; 14],
+    reply: &mut [u64; 15],
 )
     ensures { λ _. ⌜ (now (reply .exit), now (table .exit))
-        ≡ told replyWords (tryAcquireOf (headOf headers buckets next) (now (table .entry)) cell .seen) ⌝ }
+        ≡ told replyWords (tryAcquireOf (headOf headers buckets next boot) (now (table .entry)) cell .seen) ⌝ }
 {
     let head = Head {
         headers,
         buckets,
         next,
+        boot,
     };
     let r = lease::try_acquire(head, table, cell);
     *reply = words::reply_words(r);
 }
 
-// A lease that is not live is refused with 12, and nothing changes.
+// A lease with another boot number than the head's is refused with 16, one that is not live with 12, and nothing
+// changes; so in every call by lease.
 #[no_mangle]
 pub extern "C" fn skid_drop_lease(
     headers: u32,
     buckets: u32,
     next: u32,
+    boot: u32,
     table: &mut [u32],
     cell: u32,
     serial: u32,
-    reply: &mut [u64; 14],
+    lease_boot: u32,
+    reply: &mut [u64; 15],
 )
     ensures { λ _. ⌜ (now (reply .exit), now (table .exit))
-        ≡ told replyWords (dropLeaseOf (headOf headers buckets next) (now (table .entry)) (leaseOf cell serial)
-        .seen) ⌝ }
+        ≡ told replyWords (dropLeaseOf (headOf headers buckets next boot) (now (table .entry))
+        (leaseOf cell serial «lease_boot») .seen) ⌝ }
 {
     let head = Head {
         headers,
         buckets,
         next,
+        boot,
     };
-    let lease = Lease { cell, serial };
+    let lease = Lease {
+        cell,
+        serial,
+        boot: lease_boot,
+    };
     let r = lease::drop_lease(head, table, lease);
     *reply = words::reply_words(r);
 }
 
-// Changes nothing; a lease that is not live is refused with 12.
+// Changes nothing; a lease with another boot number is refused with 16, one that is not live with 12.
 #[no_mangle]
 pub extern "C" fn skid_read_permission(
     headers: u32,
     buckets: u32,
     next: u32,
+    boot: u32,
     table: &[u32],
     cell: u32,
     serial: u32,
-    reply: &mut [u64; 14],
+    lease_boot: u32,
+    reply: &mut [u64; 15],
 )
     ensures { λ _. ⌜ now (reply .exit)
-        ≡ replyWords (readPermissionOf (headOf headers buckets next) (now (table .entry)) (leaseOf cell serial)
-        .seen) ⌝ }
+        ≡ replyWords (readPermissionOf (headOf headers buckets next boot) (now (table .entry))
+        (leaseOf cell serial «lease_boot») .seen) ⌝ }
 {
     let head = Head {
         headers,
         buckets,
         next,
+        boot,
     };
-    let lease = Lease { cell, serial };
+    let lease = Lease {
+        cell,
+        serial,
+        boot: lease_boot,
+    };
     let r = lease::read_permission(head, table, lease);
     *reply = words::reply_words(r);
 }
@@ -154,21 +174,28 @@ pub extern "C" fn skid_competing_acquire_is_excluded(
     headers: u32,
     buckets: u32,
     next: u32,
+    boot: u32,
     table: &mut [u32],
     cell: u32,
     serial: u32,
-    reply: &mut [u64; 14],
+    lease_boot: u32,
+    reply: &mut [u64; 15],
 )
     ensures { λ _. ⌜ (now (reply .exit), now (table .exit))
-        ≡ told replyWords (competingAcquireOf (headOf headers buckets next) (now (table .entry))
-        (leaseOf cell serial) .seen) ⌝ }
+        ≡ told replyWords (competingAcquireOf (headOf headers buckets next boot) (now (table .entry))
+        (leaseOf cell serial «lease_boot») .seen) ⌝ }
 {
     let head = Head {
         headers,
         buckets,
         next,
+        boot,
     };
-    let lease = Lease { cell, serial };
+    let lease = Lease {
+        cell,
+        serial,
+        boot: lease_boot,
+    };
     let r = lease::competing_acquire_is_excluded(head, table, lease);
     *reply = words::reply_words(r);
 }
@@ -179,21 +206,28 @@ pub extern "C" fn skid_release_then_handoff(
     headers: u32,
     buckets: u32,
     next: u32,
+    boot: u32,
     table: &mut [u32],
     cell: u32,
     serial: u32,
-    reply: &mut [u64; 14],
+    lease_boot: u32,
+    reply: &mut [u64; 15],
 )
     ensures { λ _. ⌜ (now (reply .exit), now (table .exit))
-        ≡ told replyWords (releaseThenHandoffOf (headOf headers buckets next) (now (table .entry))
-        (leaseOf cell serial) .seen) ⌝ }
+        ≡ told replyWords (releaseThenHandoffOf (headOf headers buckets next boot) (now (table .entry))
+        (leaseOf cell serial «lease_boot») .seen) ⌝ }
 {
     let head = Head {
         headers,
         buckets,
         next,
+        boot,
     };
-    let lease = Lease { cell, serial };
+    let lease = Lease {
+        cell,
+        serial,
+        boot: lease_boot,
+    };
     let r = lease::release_then_handoff(head, table, lease);
     *reply = words::reply_words(r);
 }
@@ -204,45 +238,55 @@ pub extern "C" fn skid_foreign_release_between_attempts(
     headers: u32,
     buckets: u32,
     next: u32,
+    boot: u32,
     table: &mut [u32],
     held: &[u32],
     cell: u32,
     serial: u32,
-    reply: &mut [u64; 14],
+    lease_boot: u32,
+    reply: &mut [u64; 15],
 )
     ensures { λ _. ⌜ (now (reply .exit), now (table .exit))
-        ≡ told replyWords (foreignReleaseOf (headOf headers buckets next) (now (table .entry))
-        (now (held .entry)) (leaseOf cell serial) .seen) ⌝ }
+        ≡ told replyWords (foreignReleaseOf (headOf headers buckets next boot) (now (table .entry))
+        (now (held .entry)) (leaseOf cell serial «lease_boot») .seen) ⌝ }
 {
     let head = Head {
         headers,
         buckets,
         next,
+        boot,
     };
-    let lease = Lease { cell, serial };
+    let lease = Lease {
+        cell,
+        serial,
+        boot: lease_boot,
+    };
     let r = lease::foreign_release_between_attempts(head, table, held, lease);
     *reply = words::reply_words(r);
 }
 
-// A held lease that is not live is refused with 3 and its position.
+// A held lease with another boot number is refused with 16 and its position, one that is not live with 3 and its
+// position; so in every call with a held list.
 #[no_mangle]
 pub extern "C" fn skid_acquire_preserving_borrows(
     headers: u32,
     buckets: u32,
     next: u32,
+    boot: u32,
     table: &mut [u32],
     held: &[u32],
     cell: u32,
-    reply: &mut [u64; 14],
+    reply: &mut [u64; 15],
 )
     ensures { λ _. ⌜ (now (reply .exit), now (table .exit))
-        ≡ told replyWords (acquirePreservingOf (headOf headers buckets next) (now (table .entry))
+        ≡ told replyWords (acquirePreservingOf (headOf headers buckets next boot) (now (table .entry))
         (now (held .entry)) cell .seen) ⌝ }
 {
     let head = Head {
         headers,
         buckets,
         next,
+        boot,
     };
     let r = lease::acquire_preserving_borrows(head, table, held, cell);
     *reply = words::reply_words(r);
@@ -254,22 +298,29 @@ pub extern "C" fn skid_drop_preserving_borrows(
     headers: u32,
     buckets: u32,
     next: u32,
+    boot: u32,
     table: &mut [u32],
     held: &[u32],
     cell: u32,
     serial: u32,
-    reply: &mut [u64; 14],
+    lease_boot: u32,
+    reply: &mut [u64; 15],
 )
     ensures { λ _. ⌜ (now (reply .exit), now (table .exit))
-        ≡ told replyWords (dropPreservingOf (headOf headers buckets next) (now (table .entry))
-        (now (held .entry)) (leaseOf cell serial) .seen) ⌝ }
+        ≡ told replyWords (dropPreservingOf (headOf headers buckets next boot) (now (table .entry))
+        (now (held .entry)) (leaseOf cell serial «lease_boot») .seen) ⌝ }
 {
     let head = Head {
         headers,
         buckets,
         next,
+        boot,
     };
-    let lease = Lease { cell, serial };
+    let lease = Lease {
+        cell,
+        serial,
+        boot: lease_boot,
+    };
     let r = lease::drop_preserving_borrows(head, table, held, lease);
     *reply = words::reply_words(r);
 }
@@ -282,21 +333,23 @@ pub extern "C" fn skid_environment(
     headers: u32,
     buckets: u32,
     next: u32,
+    boot: u32,
     table: &mut [u32],
     health: &mut [u8],
     script: &[u32],
     place: usize,
     held: &[u32],
-    reply: &mut [u64; 14],
+    reply: &mut [u64; 15],
 )
     ensures { λ _. ⌜ (now (reply .exit), (now (table .exit), now (health .exit)))
-        ≡ told playedWords (environmentOf (headOf headers buckets next) (now (table .entry))
+        ≡ told playedWords (environmentOf (headOf headers buckets next boot) (now (table .entry))
         (now (health .entry)) (now (script .entry)) place (now (held .entry)) .seen) ⌝ }
 {
     let head = Head {
         headers,
         buckets,
         next,
+        boot,
     };
     let r = foreign::environment(head, table, health, script, place, held);
     *reply = words::played_words(r);
@@ -304,27 +357,28 @@ pub extern "C" fn skid_environment(
 
 // The same call under its other name. It goes through the first, so that the inner call has one caller and is compiled
 // into it.
-// The same call by its other name.
 #[no_mangle]
 pub extern "C" fn skid_environment_for_borrows(
     headers: u32,
     buckets: u32,
     next: u32,
+    boot: u32,
     table: &mut [u32],
     health: &mut [u8],
     script: &[u32],
     place: usize,
     held: &[u32],
-    reply: &mut [u64; 14],
+    reply: &mut [u64; 15],
 )
     ensures { λ _. ⌜ (now (reply .exit), (now (table .exit), now (health .exit)))
-        ≡ told playedWords (environmentOf (headOf headers buckets next) (now (table .entry))
+        ≡ told playedWords (environmentOf (headOf headers buckets next boot) (now (table .entry))
         (now (health .entry)) (now (script .entry)) place (now (held .entry)) .seen) ⌝ }
 {
     skid_environment(
         headers,
         buckets,
         next,
+        boot,
         table,
         health,
         script,
@@ -341,50 +395,53 @@ pub extern "C" fn skid_try_lock(
     headers: u32,
     buckets: u32,
     next: u32,
+    boot: u32,
     table: &mut [u32],
     health: &mut [u8],
     script: &[u32],
     place: usize,
     held: &[u32],
     cell: u32,
-    reply: &mut [u64; 14],
+    reply: &mut [u64; 15],
 )
     ensures { λ _. ⌜ (now (reply .exit), (now (table .exit), now (health .exit)))
-        ≡ told playedWords (tryLockOf (headOf headers buckets next) (now (table .entry)) (now (health .entry))
+        ≡ told playedWords (tryLockOf (headOf headers buckets next boot) (now (table .entry)) (now (health .entry))
         (now (script .entry)) place (now (held .entry)) cell .seen) ⌝ }
 {
     let head = Head {
         headers,
         buckets,
         next,
+        boot,
     };
     let r = lock::try_lock(head, table, health, script, place, held, cell);
     *reply = words::played_words(r);
 }
 
-// So too.
-// The same call by its other name.
+// The same call under its other name, likewise.
 #[no_mangle]
 pub extern "C" fn skid_other_mutex_preserves_leases(
     headers: u32,
     buckets: u32,
     next: u32,
+    boot: u32,
     table: &mut [u32],
     health: &mut [u8],
     script: &[u32],
     place: usize,
     held: &[u32],
     cell: u32,
-    reply: &mut [u64; 14],
+    reply: &mut [u64; 15],
 )
     ensures { λ _. ⌜ (now (reply .exit), (now (table .exit), now (health .exit)))
-        ≡ told playedWords (tryLockOf (headOf headers buckets next) (now (table .entry)) (now (health .entry))
+        ≡ told playedWords (tryLockOf (headOf headers buckets next boot) (now (table .entry)) (now (health .entry))
         (now (script .entry)) place (now (held .entry)) cell .seen) ⌝ }
 {
     skid_try_lock(
         headers,
         buckets,
         next,
+        boot,
         table,
         health,
         script,
@@ -402,6 +459,7 @@ pub extern "C" fn skid_transactional_try_lock_bucket(
     headers: u32,
     buckets: u32,
     next: u32,
+    boot: u32,
     table: &mut [u32],
     health: &mut [u8],
     registry: &[u32],
@@ -410,10 +468,10 @@ pub extern "C" fn skid_transactional_try_lock_bucket(
     held: &[u32],
     binding: u32,
     bucket: u32,
-    reply: &mut [u64; 14],
+    reply: &mut [u64; 15],
 )
     ensures { λ _. ⌜ (now (reply .exit), (now (table .exit), now (health .exit)))
-        ≡ told playedWords (transactionalOf (headOf headers buckets next) (now (table .entry))
+        ≡ told playedWords (transactionalOf (headOf headers buckets next boot) (now (table .entry))
         (now (health .entry)) (now (registry .entry)) (now (script .entry)) place (now (held .entry)) binding
         bucket .seen) ⌝ }
 {
@@ -421,6 +479,7 @@ pub extern "C" fn skid_transactional_try_lock_bucket(
         headers,
         buckets,
         next,
+        boot,
     };
     let r = bucket::transactional_try_lock_bucket(
         head,
@@ -443,6 +502,7 @@ pub extern "C" fn skid_acquire_index_bucket(
     headers: u32,
     buckets: u32,
     next: u32,
+    boot: u32,
     table: &mut [u32],
     health: &mut [u8],
     registry: &[u32],
@@ -451,10 +511,10 @@ pub extern "C" fn skid_acquire_index_bucket(
     held: &[u32],
     binding: u32,
     bucket: u32,
-    reply: &mut [u64; 14],
+    reply: &mut [u64; 15],
 )
     ensures { λ _. ⌜ (now (reply .exit), (now (table .exit), now (health .exit)))
-        ≡ told playedWords (acquireBucketOf (headOf headers buckets next) (now (table .entry))
+        ≡ told playedWords (acquireBucketOf (headOf headers buckets next boot) (now (table .entry))
         (now (health .entry)) (now (registry .entry)) (now (script .entry)) place (now (held .entry)) binding
         bucket .seen) ⌝ }
 {
@@ -462,6 +522,7 @@ pub extern "C" fn skid_acquire_index_bucket(
         headers,
         buckets,
         next,
+        boot,
     };
     let r = bucket::acquire_index_bucket(
         head,
@@ -477,38 +538,41 @@ pub extern "C" fn skid_acquire_index_bucket(
     *reply = words::played_words(r);
 }
 
-// Any lease that is not live, or stands twice, refuses the whole list, nothing released.
+// Any lease with another boot number, or that is not live, or stands twice, refuses the whole list, nothing released.
 #[no_mangle]
 pub extern "C" fn skid_release_all(
     headers: u32,
     buckets: u32,
     next: u32,
+    boot: u32,
     table: &mut [u32],
     health: &mut [u8],
     script: &[u32],
     place: usize,
     leases: &[u32],
-    reply: &mut [u64; 14],
+    reply: &mut [u64; 15],
 )
     ensures { λ _. ⌜ (now (reply .exit), (now (table .exit), now (health .exit)))
-        ≡ told playedWords (releaseAllOf (headOf headers buckets next) (now (table .entry))
+        ≡ told playedWords (releaseAllOf (headOf headers buckets next boot) (now (table .entry))
         (now (health .entry)) (now (script .entry)) place (now (leases .entry)) .seen) ⌝ }
 {
     let head = Head {
         headers,
         buckets,
         next,
+        boot,
     };
     let r = release::release_all(head, table, health, script, place, leases);
     *reply = words::played_words(r);
 }
 
-// All keys or none; a refusal leaves the grant buffer as it was.
+// All keys or none, three words a grant; a refusal leaves the grant buffer as it was.
 #[no_mangle]
 pub extern "C" fn skid_acquire_index_locks(
     headers: u32,
     buckets: u32,
     next: u32,
+    boot: u32,
     table: &mut [u32],
     health: &mut [u8],
     registry: &[u32],
@@ -517,10 +581,10 @@ pub extern "C" fn skid_acquire_index_locks(
     held: &[u32],
     keys: &[u32],
     grants: &mut [u32],
-    reply: &mut [u64; 14],
+    reply: &mut [u64; 15],
 )
     ensures { λ _. ⌜ (now (reply .exit), (now (table .exit), (now (health .exit), now (grants .exit))))
-        ≡ told playedWords (acquireLocksOf (headOf headers buckets next) (now (table .entry))
+        ≡ told playedWords (acquireLocksOf (headOf headers buckets next boot) (now (table .entry))
         (now (health .entry)) (now (registry .entry)) (now (script .entry)) place (now (held .entry))
         (now (keys .entry)) (now (grants .entry)) .seen) ⌝ }
 {
@@ -528,6 +592,7 @@ pub extern "C" fn skid_acquire_index_locks(
         headers,
         buckets,
         next,
+        boot,
     };
     let r = multilock::acquire_index_locks(
         head,
@@ -550,6 +615,7 @@ pub extern "C" fn skid_acquire_sorted_locks(
     headers: u32,
     buckets: u32,
     next: u32,
+    boot: u32,
     table: &mut [u32],
     health: &mut [u8],
     registry: &[u32],
@@ -558,10 +624,10 @@ pub extern "C" fn skid_acquire_sorted_locks(
     held: &[u32],
     keys: &[u32],
     grants: &mut [u32],
-    reply: &mut [u64; 14],
+    reply: &mut [u64; 15],
 )
     ensures { λ _. ⌜ (now (reply .exit), (now (table .exit), (now (health .exit), now (grants .exit))))
-        ≡ told playedWords (acquireSortedOf (headOf headers buckets next) (now (table .entry))
+        ≡ told playedWords (acquireSortedOf (headOf headers buckets next boot) (now (table .entry))
         (now (health .entry)) (now (registry .entry)) (now (script .entry)) place (now (held .entry))
         (now (keys .entry)) (now (grants .entry)) .seen) ⌝ }
 {
@@ -569,6 +635,7 @@ pub extern "C" fn skid_acquire_sorted_locks(
         headers,
         buckets,
         next,
+        boot,
     };
     let r = sorted::acquire_sorted_locks(
         head,
@@ -592,21 +659,23 @@ pub extern "C" fn skid_crew(
     headers: u32,
     buckets: u32,
     next: u32,
+    boot: u32,
     table: &mut [u32],
     health: &[u8],
     counts: &[u32],
     cells: &[u32],
     turns: &[u32],
-    reply: &mut [u64; 48],
+    reply: &mut [u64; 49],
 )
     ensures { λ _. ⌜ (now (reply .exit), now (table .exit))
-        ≡ told crewWords (crewOf (headOf headers buckets next) (now (table .entry)) (now (health .entry))
+        ≡ told crewWords (crewOf (headOf headers buckets next boot) (now (table .entry)) (now (health .entry))
         (now (counts .entry)) (now (cells .entry)) (now (turns .entry)) .seen) ⌝ }
 {
     let head = Head {
         headers,
         buckets,
         next,
+        boot,
     };
     let r = crew::crew(head, table, health, counts, cells, turns);
     *reply = words::crew_words(r);
@@ -619,16 +688,17 @@ pub extern "C" fn skid_crew_at_work(
     headers: u32,
     buckets: u32,
     next: u32,
+    boot: u32,
     table: &mut [u32],
     health: &[u8],
     counts: &[u32],
     cells: &[u32],
     turns: &[u32],
     counters: &mut [u16],
-    reply: &mut [u64; 48],
+    reply: &mut [u64; 49],
 )
     ensures { λ _. ⌜ (now (reply .exit), (now (table .exit), now (counters .exit)))
-        ≡ told crewWords (crewAtWorkOf (headOf headers buckets next) (now (table .entry))
+        ≡ told crewWords (crewAtWorkOf (headOf headers buckets next boot) (now (table .entry))
         (now (health .entry)) (now (counts .entry)) (now (cells .entry)) (now (turns .entry))
         (now (counters .entry)) .seen) ⌝ }
 {
@@ -636,6 +706,7 @@ pub extern "C" fn skid_crew_at_work(
         headers,
         buckets,
         next,
+        boot,
     };
     let r = work::crew_at_work(head, table, health, counts, cells, turns, counters);
     *reply = words::crew_words(r);
@@ -649,46 +720,55 @@ pub extern "C" fn skid_prepare_book(
     headers: u32,
     buckets: u32,
     next: u32,
+    boot: u32,
     book: &mut [u8],
     reply: &mut [u64; 4],
 )
     ensures { λ _. ⌜ (now (reply .exit), now (book .exit))
-        ≡ told bookWords (prepareBookOf (headOf headers buckets next) (now (book .entry))) ⌝ }
+        ≡ told bookWords (prepareBookOf (headOf headers buckets next boot) (now (book .entry))) ⌝ }
 {
     let head = Head {
         headers,
         buckets,
         next,
+        boot,
     };
     let r = book::prepare_book(head, book);
     *reply = words::book_words(r);
 }
 
-// A pressure that is not finite is NotFinite. The table is only read, and a refusal changes no byte. Each sort of
-// setpoint has a call of its own, so that no wrong kind can cross.
+// A lease with another boot number is 16, before 12; a pressure that is not finite is NotFinite. The table is only
+// read, and a refusal changes no byte. Each sort of setpoint has a call of its own, so that no wrong kind can cross.
 #[no_mangle]
 pub extern "C" fn skid_write_pressure(
     headers: u32,
     buckets: u32,
     next: u32,
+    boot: u32,
     table: &[u32],
     book: &mut [u8],
     slot: u32,
     cell: u32,
     serial: u32,
+    lease_boot: u32,
     bar: f32,
     reply: &mut [u64; 4],
 )
     ensures { λ _. ⌜ (now (reply .exit), now (book .exit))
-        ≡ told bookWords (writeSetpointOf (headOf headers buckets next) (now (table .entry))
-        (now (book .entry)) slot (leaseOf cell serial) (Pressure bar)) ⌝ }
+        ≡ told bookWords (writeSetpointOf (headOf headers buckets next boot) (now (table .entry))
+        (now (book .entry)) slot (leaseOf cell serial «lease_boot») (Pressure bar)) ⌝ }
 {
     let head = Head {
         headers,
         buckets,
         next,
+        boot,
     };
-    let lease = Lease { cell, serial };
+    let lease = Lease {
+        cell,
+        serial,
+        boot: lease_boot,
+    };
     let r = book::write_setpoint(head, table, book, slot, lease, Setpoint::Pressure(bar));
     *reply = words::book_words(r);
 }
@@ -699,24 +779,31 @@ pub extern "C" fn skid_write_speed(
     headers: u32,
     buckets: u32,
     next: u32,
+    boot: u32,
     table: &[u32],
     book: &mut [u8],
     slot: u32,
     cell: u32,
     serial: u32,
+    lease_boot: u32,
     speed: u32,
     reply: &mut [u64; 4],
 )
     ensures { λ _. ⌜ (now (reply .exit), now (book .exit))
-        ≡ told bookWords (writeSetpointOf (headOf headers buckets next) (now (table .entry))
-        (now (book .entry)) slot (leaseOf cell serial) (Speed speed)) ⌝ }
+        ≡ told bookWords (writeSetpointOf (headOf headers buckets next boot) (now (table .entry))
+        (now (book .entry)) slot (leaseOf cell serial «lease_boot») (Speed speed)) ⌝ }
 {
     let head = Head {
         headers,
         buckets,
         next,
+        boot,
     };
-    let lease = Lease { cell, serial };
+    let lease = Lease {
+        cell,
+        serial,
+        boot: lease_boot,
+    };
     let r = book::write_setpoint(head, table, book, slot, lease, Setpoint::Speed(speed));
     *reply = words::book_words(r);
 }
@@ -727,24 +814,31 @@ pub extern "C" fn skid_write_valve(
     headers: u32,
     buckets: u32,
     next: u32,
+    boot: u32,
     table: &[u32],
     book: &mut [u8],
     slot: u32,
     cell: u32,
     serial: u32,
+    lease_boot: u32,
     opened: bool,
     reply: &mut [u64; 4],
 )
     ensures { λ _. ⌜ (now (reply .exit), now (book .exit))
-        ≡ told bookWords (writeSetpointOf (headOf headers buckets next) (now (table .entry))
-        (now (book .entry)) slot (leaseOf cell serial) (Valve opened)) ⌝ }
+        ≡ told bookWords (writeSetpointOf (headOf headers buckets next boot) (now (table .entry))
+        (now (book .entry)) slot (leaseOf cell serial «lease_boot») (Valve opened)) ⌝ }
 {
     let head = Head {
         headers,
         buckets,
         next,
+        boot,
     };
-    let lease = Lease { cell, serial };
+    let lease = Lease {
+        cell,
+        serial,
+        boot: lease_boot,
+    };
     let r = book::write_setpoint(head, table, book, slot, lease, Setpoint::Valve(opened));
     *reply = words::book_words(r);
 }
@@ -755,17 +849,19 @@ pub extern "C" fn skid_read_setpoint(
     headers: u32,
     buckets: u32,
     next: u32,
+    boot: u32,
     book: &[u8],
     slot: u32,
     reply: &mut [u64; 4],
 )
     ensures { λ _. ⌜ now (reply .exit)
-        ≡ bookWords (readSetpointOf (headOf headers buckets next) (now (book .entry)) slot) ⌝ }
+        ≡ bookWords (readSetpointOf (headOf headers buckets next boot) (now (book .entry)) slot) ⌝ }
 {
     let head = Head {
         headers,
         buckets,
         next,
+        boot,
     };
     let r = book::read_setpoint(head, book, slot);
     *reply = words::book_words(r);

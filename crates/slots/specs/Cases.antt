@@ -1,4 +1,5 @@
--- Document 02, L2, computed: each sentence has a case. Two slots: an arena of one header with two buckets, whose cell 1 is held by serial 1.
+-- Document 02, L2, computed: each sentence has a case. Two slots: an arena of one header with two buckets, whose cell 1 is held by serial 1;
+-- the boot number is 5.
 use Prim.Native.Nat.{ℕ}
 use mathlib.Core.Path.{_≡_, refl}
 use mathlib.Core.List.{List, [], _∷_, _++_}
@@ -17,16 +18,16 @@ use Rattle.slots.specs.Rules.{firstFault, isBadBook, isBadSlot, isHolder
 use Rattle.slots.specs.Calls.{prepareBookOf, writeSetpointOf, readSetpointOf}
 use Rattle.slots.specs.declared.BookAnswer.{BookAnswer}
 use Rattle.slots.specs.declared.BookAnswer.the-variants.{Done, Written, Setting, Refused}
-use Rattle.slots.specs.declared.BookRefusal.the-variants.{BadShape, BadSlot, NotHeld, NotFinite, DamagedBook, VersionsSpent, NeverWritten}
+use Rattle.slots.specs.declared.BookRefusal.the-variants.{BadShape, BadSlot, StaleBoot, NotHeld, NotFinite, DamagedBook, VersionsSpent, NeverWritten}
 
 abbrev head : Head
-head = headOf 1 2 2
+head = headOf 1 2 2 5
 
 abbrev table : List ℕ
 table = 0 ∷ 0 ∷ 0 ∷ 1 ∷ 1 ∷ 0 ∷ []
 
 abbrev lease : Lease
-lease = leaseOf 1 1
+lease = leaseOf 1 1 5
 
 -- 1.5 bar, and 258 turns
 abbrev bar : Setpoint
@@ -47,7 +48,7 @@ read b slot = readSetpointOf head b slot
 
 -- ---- "at most 32,768 bytes, one slot for each cell, at most the first 64"
 
-pub slots-are : (slotsOf head ≡ 2) × (slotsOf (headOf 4 16 1) ≡ 64) × (slotsOf (headOf 64 64 1) ≡ 64)
+pub slots-are : (slotsOf head ≡ 2) × (slotsOf (headOf 4 16 1 0) ≡ 64) × (slotsOf (headOf 64 64 1 0) ≡ 64)
 slots-are = (refl, refl, refl)
 
 pub sizes : (isBadBook 2 26 ≡ false) × (isBadBook 2 25 ≡ true) × (isBadBook 64 32768 ≡ false) × (isBadBook 64 32769 ≡ true)
@@ -102,14 +103,21 @@ unfolding readSetpointOf slotRules seenRules firstFault isBadBook isBadSlot head
 fits-no-rule = (refl, refl, refl, refl, refl, refl, refl, refl, refl, refl)
 
 -- a read refuses 1, then BadSlot
-pub read-refused : (readSetpointOf (headOf 0 2 2) [] 9 ≡ Refused BadShape) × (read [] 0 ≡ Refused BadSlot) × (read zeros 2 ≡ Refused BadSlot)
+pub read-refused : (readSetpointOf (headOf 0 2 2 5) [] 9 ≡ Refused BadShape) × (read [] 0 ≡ Refused BadSlot) × (read zeros 2 ≡ Refused BadSlot)
 unfolding readSetpointOf slotRules seenRules firstFault isBadBook isBadSlot headFits readOf readingOf slotAt lineAt fiveAt joinOf settingOf isBlank
 read-refused = (refl, refl, refl)
 
 -- ---- "Its refusals in order", "and refusals change nothing": each case keeps what the next has wrong
 
 abbrev nowhere : Lease
-nowhere = leaseOf 1 7
+nowhere = leaseOf 1 7 5
+
+-- from before this head's preparation: as live as `lease`, or as dead as `nowhere`
+abbrev earlier : Lease
+earlier = leaseOf 1 1 4
+
+abbrev gone : Lease
+gone = leaseOf 1 7 4
 
 abbrev bad : Setpoint
 bad = Pressure nan
@@ -127,6 +135,14 @@ pub write-refused : (writeSetpointOf head [] torn 2 nowhere bad ≡ (Refused Bad
     × (write torn turns ≡ (Refused DamagedBook, torn)) × (write full turns ≡ (Refused VersionsSpent, full))
 unfolding writeSetpointOf claimRules overRules firstFault isBadBook isBadSlot isHolder isLive stateAt stateOf isFree isHeld bitAt ownerAt headFits shapeFits isFinite readOf readingOf slotAt lineAt fiveAt joinOf settingOf isBlank putOf lineOf bodyOf bytesOf
 write-refused = (refl, refl, refl, refl, refl, refl)
+
+-- L8, "before 3 and 12 at that place": a stale lease is StaleBoot, live (in the right cell or not) or dead, before NotHeld; a lease of a
+-- later boot number too; BadShape and BadSlot come before it
+pub stale : (writeSetpointOf head table torn 1 earlier bad ≡ (Refused StaleBoot, torn)) × (writeSetpointOf head table torn 1 gone bad ≡ (Refused StaleBoot, torn))
+    × (writeSetpointOf head table twice 0 earlier turns ≡ (Refused StaleBoot, twice)) × (writeSetpointOf head table twice 1 (leaseOf 1 1 6) turns ≡ (Refused StaleBoot, twice))
+    × (writeSetpointOf head [] torn 2 gone bad ≡ (Refused BadShape, torn)) × (writeSetpointOf head table torn 2 gone bad ≡ (Refused BadSlot, torn))
+unfolding writeSetpointOf claimRules overRules firstFault isBadBook isBadSlot isHolder isLive stateAt stateOf isFree isHeld bitAt ownerAt headFits shapeFits isFinite readOf readingOf slotAt lineAt fiveAt joinOf settingOf isBlank putOf lineOf bodyOf bytesOf
+stale = (refl, refl, refl, refl, refl, refl)
 
 -- "a live lease on the slot's cell": a live lease on another cell is 12 too
 pub neighbour : writeSetpointOf head table twice 0 lease turns ≡ (Refused NotHeld, twice)
@@ -151,6 +167,6 @@ last-version = refl
 -- ---- "Preparing the book writes all of it": what lies behind the last body too
 
 pub prepared : (prepareBookOf head (replicate 26 9) ≡ (Done, zeros)) × (prepareBookOf head (replicate 28 9) ≡ (Done, replicate 28 0))
-    × (prepareBookOf (headOf 1 2 0) [] ≡ (Refused BadShape, [])) × (prepareBookOf head (replicate 25 9) ≡ (Refused BadSlot, replicate 25 9))
+    × (prepareBookOf (headOf 1 2 0 5) [] ≡ (Refused BadShape, [])) × (prepareBookOf head (replicate 25 9) ≡ (Refused BadSlot, replicate 25 9))
 unfolding prepareBookOf bookRules firstFault isBadBook headFits
 prepared = (refl, refl, refl, refl)

@@ -9,7 +9,7 @@ use lib.ListN.{length}
 use borrow.Author.Tests.{leb-false, ltb-false, eqb-true, eqb-false, eq-eqb, not-false, lt-leb, le-ltb, le-leb}
 use Rattle.choice.specs.Choice.{if_then_else_}
 use Rattle.choice.specs.Pick.{both, neither}
-use Rattle.model.specs.Arena.{cellsOf, headFits, shapeFits, isLive}
+use Rattle.model.specs.Arena.{cellsOf, headFits, shapeFits, isStale, holdIn, isLive}
 use Rattle.types.specs.declared.Head.{Head}
 use Rattle.types.specs.declared.Lease.{Lease}
 use Rattle.setpoint.specs.Codec.{hasBody}
@@ -101,7 +101,8 @@ past-slots n size slot l = rw (le-leb n slot l) (go (isBadBook n size))
 pub record ClaimFine (h : Head) (t : List ℕ) (size slot : ℕ) (l : Lease) (s : Setpoint) : Type 0 where
   pub shape : shapeFits h (length t) ≡ true
   pub slot-is : SlotFine (slotsOf h) size slot
-  pub live : isLive (h .next) (cellsOf h) t l ≡ true
+  pub fresh : isStale h l ≡ false
+  pub live : isLive (h .next) (cellsOf h) t (holdIn l) ≡ true
   pub own : l .cell ≡ slot
   pub whole : hasBody s ≡ true
 
@@ -112,8 +113,9 @@ claim-fine h t size slot l s e =
     let b = no-fault _ _ (a .1) in
     let c = no-fault _ _ (b .1) in
     let d = no-fault _ _ (c .1) in
-    let v = both (isLive (h .next) (cellsOf h) t l) (eqb (l .cell) slot) (not-false _ (c .0)) in
-    record { shape = not-false _ (a .0); slot-is = slot-fine (slotsOf h) size slot (b .0); live = v .0; own = eqb-true _ _ (v .1); whole = not-false _ (d .0) }
+    let f = no-fault _ _ (d .1) in
+    let v = both (isLive (h .next) (cellsOf h) t (holdIn l)) (eqb (l .cell) slot) (not-false _ (d .0)) in
+    record { shape = not-false _ (a .0); slot-is = slot-fine (slotsOf h) size slot (b .0); fresh = c .0; live = v .0; own = eqb-true _ _ (v .1); whole = not-false _ (f .0) }
 
 pub record OverFine (r : Reading) : Type 0 where
   pub sound : isRubbish r ≡ false

@@ -7,7 +7,7 @@ use native.Mathlib.Omega.{arith}
 use lib.Dec.{eqb}
 use lib.ListN.{length, replicate}
 use Rattle.choice.specs.Choice.{if_then_else_}
-use Rattle.model.specs.Arena.{headFits, shapeFits}
+use Rattle.model.specs.Arena.{headFits, shapeFits, isStale, holdIn}
 use Rattle.types.specs.declared.Head.{Head}
 use Rattle.types.specs.declared.Lease.{Lease}
 use Rattle.setpoint.specs.Codec.{hasBody}
@@ -22,7 +22,7 @@ use Rattle.slots.specs.declared.BookAnswer.the-variants.{Done, Written, 
 use Rattle.slots.specs.declared.BookCheck.{BookCheck}
 use Rattle.slots.specs.declared.BookCheck.the-variants.{Fine, Fault}
 use Rattle.slots.specs.declared.BookRefusal.{BookRefusal}
-use Rattle.slots.specs.declared.BookRefusal.the-variants.{BadShape, BadSlot, NotHeld, NotFinite, DamagedBook, VersionsSpent, NeverWritten}
+use Rattle.slots.specs.declared.BookRefusal.the-variants.{BadShape, BadSlot, StaleBoot, NotHeld, NotFinite, DamagedBook, VersionsSpent, NeverWritten}
 use Rattle.slots.specs.declared.Reading.{Reading}
 use Rattle.slots.specs.declared.Reading.the-variants.{Holds, Blank, Rubbish}
 
@@ -67,15 +67,16 @@ module _ (h : Head) (t b : List ℕ) (slot : ℕ) (l : Lease) (s : Setpoint) whe
   -- which refusals the two lists give
   claims-sound : firstFault (claimRules h t (length b) slot l s) ≡ Fault DamagedBook → ⊥
   unfolding claimRules firstFault
-  claims-sound = go (shapeFits h (length t)) (isBadSlot (slotsOf h) (length b) slot) (isHolder h t slot l) (hasBody s)
+  claims-sound = go (shapeFits h (length t)) (isBadSlot (slotsOf h) (length b) slot) (isStale h l) (isHolder h t slot (holdIn l)) (hasBody s)
     where
-      go : (x y z w : Bool)
-          → (if not x then Fault BadShape else if y then Fault BadSlot else if not z then Fault NotHeld else if not w then Fault NotFinite else Fine) ≡ Fault DamagedBook → ⊥
-      go true true z w e = let z : _≡_ {A = ℕ} 0 1 = cc in omega arith
-      go true false true true e = let z : _≡_ {A = ℕ} 0 1 = cc in omega arith
-      go true false true false e = let z : _≡_ {A = ℕ} 0 1 = cc in omega arith
-      go true false false w e = let z : _≡_ {A = ℕ} 0 1 = cc in omega arith
-      go false y z w e = let z : _≡_ {A = ℕ} 0 1 = cc in omega arith
+      go : (x y o z w : Bool)
+          → (if not x then Fault BadShape else if y then Fault BadSlot else if o then Fault StaleBoot else if not z then Fault NotHeld else if not w then Fault NotFinite else Fine) ≡ Fault DamagedBook → ⊥
+      go true true o z w e = let z : _≡_ {A = ℕ} 0 1 = cc in omega arith
+      go true false true z w e = let z : _≡_ {A = ℕ} 0 1 = cc in omega arith
+      go true false false true true e = let z : _≡_ {A = ℕ} 0 1 = cc in omega arith
+      go true false false true false e = let z : _≡_ {A = ℕ} 0 1 = cc in omega arith
+      go true false false false w e = let z : _≡_ {A = ℕ} 0 1 = cc in omega arith
+      go false y o z w e = let z : _≡_ {A = ℕ} 0 1 = cc in omega arith
 
   over-damaged : firstFault (overRules said) ≡ Fault DamagedBook → isRubbish said ≡ true
   unfolding overRules firstFault

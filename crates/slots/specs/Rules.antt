@@ -5,8 +5,9 @@ use mathlib.Core.Bool.{Bool, true, false, not, _&&_, _||_}
 use lib.Dec.{ltb, leb, eqb}
 use lib.ListN.{length}
 use Rattle.choice.specs.Choice.{if_then_else_}
-use Rattle.model.specs.Arena.{cellsOf, headFits, shapeFits, isLive}
+use Rattle.model.specs.Arena.{cellsOf, headFits, shapeFits, isStale, holdIn, isLive}
 use Rattle.types.specs.declared.Head.{Head}
+use Rattle.types.specs.declared.Hold.{Hold}
 use Rattle.types.specs.declared.Lease.{Lease}
 use Rattle.setpoint.specs.Codec.{hasBody}
 use Rattle.setpoint.specs.declared.Setpoint.{Setpoint}
@@ -14,7 +15,7 @@ use Rattle.slots.specs.Layout.{slotsOf, bytesFor, readOf}
 use Rattle.slots.specs.declared.BookCheck.{BookCheck}
 use Rattle.slots.specs.declared.BookCheck.the-variants.{Fine, Fault}
 use Rattle.slots.specs.declared.BookRefusal.{BookRefusal}
-use Rattle.slots.specs.declared.BookRefusal.the-variants.{BadShape, BadSlot, NotHeld, NotFinite, DamagedBook, VersionsSpent, NeverWritten}
+use Rattle.slots.specs.declared.BookRefusal.the-variants.{BadShape, BadSlot, StaleBoot, NotHeld, NotFinite, DamagedBook, VersionsSpent, NeverWritten}
 use Rattle.slots.specs.declared.Reading.{Reading}
 use Rattle.slots.specs.declared.Reading.the-variants.{Holds, Blank, Rubbish}
 
@@ -60,13 +61,19 @@ badBook h size = refuse BadSlot when isBadBook (slotsOf h) size
 abbrev pub badSlot : Head → ℕ → ℕ → BookRule
 badSlot h size slot = refuse BadSlot when isBadSlot (slotsOf h) size slot
 
+-- ---- 16. L8: "A lease with another boot number is refused as StaleBoot (16) .. before 3 and 12 at that place"
+
+abbrev pub staleLease : Head → Lease → BookRule
+staleLease h l = refuse StaleBoot when isStale h l
+
 -- ---- 12: "Writing needs a live lease on the slot's cell"
 
-unfoldable pub isHolder : Head → List ℕ → ℕ → Lease → Bool
+unfoldable pub isHolder : Head → List ℕ → ℕ → Hold → Bool
 isHolder h t slot l = isLive (h .next) (cellsOf h) t l && eqb (l .cell) slot
 
+-- its boot number is tested before
 abbrev pub notHolder : Head → List ℕ → ℕ → Lease → BookRule
-notHolder h t slot l = refuse NotHeld when not (isHolder h t slot l)
+notHolder h t slot l = refuse NotHeld when not (isHolder h t slot (holdIn l))
 
 -- ---- "A pressure that is not finite: NotFinite."
 
@@ -113,7 +120,7 @@ bookRules h size = badHead h ∷ badBook h size ∷ []
 
 -- `write_setpoint`: on what it is given, then on what its slot says
 unfoldable pub claimRules : Head → List ℕ → ℕ → ℕ → Lease → Setpoint → List BookRule
-claimRules h t size slot l s = badTable h t ∷ badSlot h size slot ∷ notHolder h t slot l ∷ notFinite s ∷ []
+claimRules h t size slot l s = badTable h t ∷ badSlot h size slot ∷ staleLease h l ∷ notHolder h t slot l ∷ notFinite s ∷ []
 
 unfoldable pub overRules : Reading → List BookRule
 overRules r = damaged r ∷ spent r ∷ []

@@ -2,10 +2,12 @@
 // specs/: L2 itself, as definitions, with computed cases, and laws about them for the calls and the theory alike.
 use setpoint::Setpoint;
 
-// The refusals of the book's calls. BadShape is document 01's number 1 and NotHeld its 12; the others have no number.
+// The refusals of the book's calls. BadShape is document 01's number 1, NotHeld its 12 and StaleBoot document
+// 02's 16 (L8); the others have no number.
 pub enum BookRefusal {
     BadShape,
     BadSlot,
+    StaleBoot,
     NotHeld,
     NotFinite,
     DamagedBook,

@@ -6,7 +6,7 @@ use native.Mathlib.Omega.{arith}
 use lib.ListN.{length, take, length-append}
 use lib.Seq.{take-at}
 use Rattle.model.specs.Log.{Made, gives}
-use Rattle.model.specs.Arena.{leasesOf}
+use Rattle.model.specs.Arena.{holdsOf}
 use Rattle.model.specs.Checks.{countIn}
 use Rattle.model.specs.Foreign.{Setting}
 use Rattle.model.specs.Lock.{Locks, bindingAt, locksOf}
@@ -60,10 +60,10 @@ module _ (h : Head) (registry keys : List ℕ) (m : ℕ) (asked sorted chosen : 
   sorted-bound s words bytes script place grants e l f = record { key = fine-bound s h words bytes script place registry keys grants e l .key; bound = chosen-bound f }
 
 -- a refusal's position is one of the sorted keys'
-pub placed-in : (o : Locks) (m : ℕ) (e : Setting) (buckets : ℕ) (registry keys : List ℕ) (r : Run) (t g own : List ℕ) → o ≡ locksOf m 0 e buckets registry keys [] r t g own .seen → Placed m (o .0 .answer)
-placed-in o m e buckets registry keys r t g own q =
+pub placed-in : (o : Locks) (m : ℕ) (e : Setting) (buckets boot : ℕ) (registry keys : List ℕ) (r : Run) (t g own : List ℕ) → o ≡ locksOf m 0 e buckets boot registry keys [] r t g own .seen → Placed m (o .0 .answer)
+placed-in o m e buckets boot registry keys r t g own q =
     let z : 0 + m ≡ m = omega arith in
-    subst (λ (k : Locks). Placed m (k .0 .answer)) (sym q) (subst (λ (n : ℕ). Placed n (locksOf m 0 e buckets registry keys [] r t g own .seen .0 .answer)) z (locks-placed e buckets registry keys own own m 0 [] r t g))
+    subst (λ (k : Locks). Placed m (k .0 .answer)) (sym q) (subst (λ (n : ℕ). Placed n (locksOf m 0 e buckets boot registry keys [] r t g own .seen .0 .answer)) z (locks-placed e buckets boot registry keys own own m 0 [] r t g))
 
 -- ---- the buffer of the call's own: its front was lent, and comes back
 
@@ -79,13 +79,13 @@ front-length front rest k e = sym (ap length (take-at front rest k e) ∙ e)
 pub sorted-ends : (h : Head) (t g registry script : List ℕ) (place : ℕ) (held keys grants : List ℕ) (s : Scope) (start : Run) (m : ℕ) (asked sorted chosen own : List ℕ)
     (ended : Ended) (u w leases : List ℕ) (result : Played) (after : List ℕ)
     → s ≡ scopeOf h (length script) → start ≡ starting h place → Ordered (h .buckets) registry keys m asked sorted chosen
-    → (ended, (u, (w, leases))) ≡ locksOf m 0 (inScope s script (leasesOf held)) (s .buckets) registry (take (2 * m) chosen) [] start t g own .seen
+    → (ended, (u, (w, leases))) ≡ locksOf m 0 (inScope s script (holdsOf held)) (s .buckets) (s .boot) registry (take (2 * m) chosen) [] start t g own .seen
     → (result, after) ≡ backOf h ended (take (countIn keys) asked) (take m sorted) leases grants
     → (result, (u, (w, after))) ≡ sortedLocksOf h t g registry script place held keys grants .seen
 sorted-ends h t g registry script place held keys grants s start m asked sorted chosen own ended u w leases result after e r o q b =
     let as-locks : Locks = (ended, (u, (w, leases))) in
-    let k : as-locks ≡ locksOf (length (cellsSorted (h .buckets) registry keys)) 0 (given h script (leasesOf held)) (h .buckets) registry (sortedKeys (h .buckets) registry keys) [] (starting h place) t g own .seen =
-    q ∙ rw (locks-given s h script e m (leasesOf held) registry (take (2 * m) chosen) start t g own, r, o .chosen-are, ← o .count-is) in
+    let k : as-locks ≡ locksOf (length (cellsSorted (h .buckets) registry keys)) 0 (given h script (holdsOf held)) (h .buckets) (h .boot) registry (sortedKeys (h .buckets) registry keys) [] (starting h place) t g own .seen =
+    q ∙ rw (locks-given s h script e m (holdsOf held) registry (take (2 * m) chosen) start t g own, r, o .chosen-are, ← o .count-is) in
     let d : (result, after) ≡ backOf h ended (cellsAsked (h .buckets) registry keys) (cellsSorted (h .buckets) registry keys) leases grants =
     b ∙ ap (λ (z : List ℕ). backOf h ended z (take m sorted) leases grants) (o .asked-are) ∙ ap (λ (z : List ℕ). backOf h ended (cellsAsked (h .buckets) registry keys) z leases grants) (o .sorted-are) in
     ap (λ (z : Played × List ℕ). (z .0, (u, (w, z .1)))) d

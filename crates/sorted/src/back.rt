@@ -1,47 +1,49 @@
-// What was locked, for the caller: one lease for each key, in the caller's order, or the refusal's position.
+// What was locked, for the caller: one lease for each key, in the caller's order, or the refusal's position. The leases
+// of one call have one boot number, the head's.
 // Functions with a `requires` are steps: calls have tested the shape, and a step tests nothing twice.
 // Nothing here is reached from outside the crate.
 use crate::order::first_asking;
 use types::Answer;
 use types::Ended;
 use types::Head;
-use types::Lease;
+use types::Hold;
 use types::Played;
 ghost use mathlib.Core.Path.{_≡_};
 ghost use Prim.Native.Nat.{_*_};
 ghost use lib.ListN.{length};
-ghost use Rattle.model.specs.Arena.{leasesOf, wordsOf};
-ghost use Rattle.model.specs.Sorted.{leaseOn, sharedOf};
+ghost use Rattle.model.specs.Arena.{holdsOf, wordsOf};
+ghost use Rattle.model.specs.Sorted.{holdOn, sharedOf};
 ghost use Rattle.sorted.specs.Back.{backOf, Placed};
 
-// The lease of a cell, among leases.
-fn lease_on(leases: &[u32], cell: u32) -> Lease
-    ensures { λ r. ⌜ r ≡ leaseOn (leasesOf (now (leases .entry))) cell ⌝ }
+// The lease of a cell, among leases, without its boot number.
+fn lease_on(leases: &[u32], cell: u32) -> Hold
+    ensures { λ r. ⌜ r ≡ holdOn (holdsOf (now (leases .entry))) cell ⌝ }
 {
     let mut i = 0;
-    while i < leases.len() / 2 {
-        if leases[2 * i] == cell {
-            return Lease {
-                cell: leases[2 * i],
-                serial: leases[2 * i + 1],
+    while i < leases.len() / 3 {
+        if leases[3 * i] == cell {
+            return Hold {
+                cell: leases[3 * i],
+                serial: leases[3 * i + 1],
             };
         }
         i += 1;
     }
-    Lease { cell: 0, serial: 0 }
+    Hold { cell: 0, serial: 0 }
 }
 
 // One lease for each key; keys of one cell share one.
-fn share(asked: &[u32], leases: &[u32], grants: &mut [u32])
-    requires { ⌜ length (now grants) ≡ 2 * length (now asked) ⌝ }
+fn share(boot: u32, asked: &[u32], leases: &[u32], grants: &mut [u32])
+    requires { ⌜ length (now grants) ≡ 3 * length (now asked) ⌝ }
     ensures { λ _. ⌜ now (grants .exit)
-        ≡ wordsOf (sharedOf (leasesOf (now (leases .entry))) (now (asked .entry))) ⌝ }
+        ≡ wordsOf boot (sharedOf (holdsOf (now (leases .entry))) (now (asked .entry))) ⌝ }
 {
     let mut i = 0;
     while i < asked.len() {
         let lease = lease_on(leases, asked[i]);
-        grants[2 * i] = lease.cell;
-        grants[2 * i + 1] = lease.serial;
+        grants[3 * i] = lease.cell;
+        grants[3 * i + 1] = lease.serial;
+        grants[3 * i + 2] = boot;
         i += 1;
     }
 }
@@ -55,7 +57,7 @@ pub fn finish(
     leases: &[u32],
     grants: &mut [u32],
 ) -> Played
-    requires { ⌜ (length (now grants) ≡ 2 * length (now asked)) × Placed (length (now sorted)) (ended .answer) ⌝ }
+    requires { ⌜ (length (now grants) ≡ 3 * length (now asked)) × Placed (length (now sorted)) (ended .answer) ⌝ }
     ensures { λ r. ⌜ (r, now (grants .exit)) ≡ backOf head ended (now (asked .entry)) (now (sorted .entry))
         (now (leases .entry)) (now (grants .entry)) ⌝ }
 {
@@ -63,7 +65,7 @@ pub fn finish(
     let answer = ended.answer;
     match answer {
         Answer::AllGranted => {
-            share(asked, leases, grants);
+            share(head.boot, asked, leases, grants);
             foreign::play(head, run, Answer::AllGranted)
         }
         Answer::RefusedAt(refusal, q) => {

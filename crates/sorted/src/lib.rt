@@ -40,11 +40,18 @@ fn unplay_at(head: Head, place: usize, refusal: Refusal, p: usize) -> Played
     }
 }
 
-// Room for the words of 64 keys or leases. It is made apart, so that its words are not met one by one.
+// Room for the words of 64 keys. It is made apart, so that its words are not met one by one.
 fn room() -> [u32; 128]
     ensures { λ r. ⌜ length r ≡ 128 ⌝ }
 {
     [0; 128]
+}
+
+// Room for the words of 64 leases.
+fn lease_room() -> [u32; 192]
+    ensures { λ r. ⌜ length r ≡ 192 ⌝ }
+{
+    [0; 192]
 }
 
 // The steps of a call whose checks are fine.
@@ -69,9 +76,10 @@ fn sorted_once(
     let mut asked = room();
     let mut sorted = room();
     let mut chosen = room();
-    let mut leases = room();
+    let mut leases = lease_room();
     let m = order(head, registry, keys, &mut asked, &mut sorted, &mut chosen);
     let words = 2 * m;
+    let granted = 3 * m;
     let scope = foreign::scope_of(head, script);
     let start = bucket::starting(head, place);
     let ended = multilock::keys::lock_keys(
@@ -84,14 +92,14 @@ fn sorted_once(
         registry,
         &chosen[..words],
         m,
-        &mut leases[..words],
+        &mut leases[..granted],
     );
     finish(
         head,
         ended,
         &asked[..n],
         &sorted[..m],
-        &leases[..words],
+        &leases[..granted],
         grants,
     )
 }
@@ -133,10 +141,10 @@ fn sorted_checked(
 
 // ---- the call
 
-// Keys in any order, all or none, each distinct cell locked once, in rising order. On a grant the buffer has cell and
-// serial for each key, in the caller's order; keys of one cell share one lease, which `release_all` takes once. A bad
-// header or bucket is refused before any attempt, at its position; a later refusal carries the first position asking
-// for that cell, gives back all that was taken, and leaves the buffer as it was.
+// Keys in any order, all or none, each distinct cell locked once, in rising order. On a grant the buffer has cell,
+// serial and boot number for each key, in the caller's order; keys of one cell share one lease, which `release_all`
+// takes once. A bad header or bucket is refused before any attempt, at its position; a later refusal carries the first
+// position asking for that cell, gives back all that was taken, and leaves the buffer as it was.
 pub fn acquire_sorted_locks(
     head: Head,
     table: &mut [u32],

@@ -9,9 +9,9 @@ use lib.Dec.{ltb, leb, eqb}
 use borrow.Author.Tests.{ltb-true, ltb-false, leb-true, eqb-true, lt-ltb, le-ltb, eq-eqb}
 use Rattle.choice.specs.Choice.{if_then_else_}
 use Rattle.model.specs.Log.{Made, Event, by-script, spun, step-dropped, took, released, waiters-set, health-set}
-use Rattle.model.specs.Arena.{serialRemains, lastSerial, spentTo, leaseOf, bitAt, ownerAt, isFree, isLive, isIn}
+use Rattle.model.specs.Arena.{serialRemains, lastSerial, spentTo, holdOf, bitAt, ownerAt, isFree, isLive, isIn}
 use Rattle.model.specs.Foreign.{stepOf, stepTakeOf, stepReleaseOf, stepWaitersOf, stepHealthOf}
-use Rattle.types.specs.declared.Lease.{Lease}
+use Rattle.types.specs.declared.Hold.{Hold}
 use Rattle.types.specs.declared.Stepped.{Stepped}
 use Rattle.choice.specs.Pick.{both}
 use Rattle.laws.specs.Words.{bit-set-other, owner-set-other, bit-set-waiters, owner-set-waiters}
@@ -42,11 +42,11 @@ read s =
     else never
 
 -- the model's test
-abbrev pub legal : List Lease → World → Act → Bool
+abbrev pub legal : List Hold → World → Act → Bool
 legal ps w idle = true
 legal ps w never = false
 legal ps w (takes c) = ltb c (cells w) && isFree (bitAt (w .table) c) (ownerAt (w .table) c) && serialRemains (w .head .next)
-legal ps w (frees c s) = isLive (w .head .next) (cells w) (w .table) (leaseOf c s) && not (isIn (leaseOf c s) ps)
+legal ps w (frees c s) = isLive (w .head .next) (cells w) (w .table) (holdOf c s) && not (isIn (holdOf c s) ps)
 legal ps w (waits c n) = ltb c (cells w)
 legal ps w (heals i n) = ltb i (w .head .headers) && leb n 1
 
@@ -72,7 +72,7 @@ missed false = 1
 abbrev outcome : World → Made (Stepped × (List ℕ × List ℕ)) → World × ℕ
 outcome w m = (worldOf (spentTo (w .head) (m .seen .0 .next)) (m .seen .1 .0) (m .seen .1 .1), m .seen .0 .dropped)
 
-abbrev effect : List Lease → World → Act → World × ℕ
+abbrev effect : List Hold → World → Act → World × ℕ
 effect ps w a = (settle (legal ps w a) w (event w a), missed (legal ps w a))
 
 settled : {A : Type 0} (f : A → World × ℕ) (b : Bool) {x y : A} (w : World) (e : Event) → f x ≡ (step w e, 0) → f y ≡ (w, 1)
@@ -81,15 +81,15 @@ settled f true w e p q = p
 settled f false w e p q = q
 
 -- an equation as a record: a choice inside it shows its branches
-record Comes (ps : List Lease) (w : World) (m : Made (Stepped × (List ℕ × List ℕ))) (a : Act) : Type 0 where
+record Comes (ps : List Hold) (w : World) (m : Made (Stepped × (List ℕ × List ℕ))) (a : Act) : Type 0 where
   is : outcome w m ≡ effect ps w a
 
-by : {ps : List Lease} {w : World} (b : Bool) {x y : Made (Stepped × (List ℕ × List ℕ))} {a c : Act} → Comes ps w x a → Comes ps w y c
+by : {ps : List Hold} {w : World} (b : Bool) {x y : Made (Stepped × (List ℕ × List ℕ))} {a c : Act} → Comes ps w x a → Comes ps w y c
     → Comes ps w (if b then x else y) (if b then a else c)
 by true p q = p
 by false p q = q
 
-comes : (ps : List Lease) (w : World) (s : Step) → Comes ps w (does ps w s) (read s)
+comes : (ps : List Hold) (w : World) (s : Step) → Comes ps w (does ps w s) (read s)
 unfolding stepOf read stepTakeOf stepReleaseOf stepWaitersOf stepHealthOf
 comes ps w s =
     by (eqb (s .kind) 0) (record { is = refl })
@@ -105,12 +105,12 @@ comes ps w s =
     on-health : Made (Stepped × List ℕ) → World × ℕ
     on-health m = (worldOf (spentTo (w .head) (m .seen .0 .next)) (w .table) (m .seen .1), m .seen .0 .dropped)
 
-done : (ps : List Lease) (w : World) (s : Step) → outcome w (does ps w s) ≡ effect ps w (read s)
+done : (ps : List Hold) (w : World) (s : Step) → outcome w (does ps w s) ≡ effect ps w (read s)
 done ps w s = comes ps w s .is
 
 -- ---- the test does not hang on an event elsewhere
 
-legal-kept : (ps : List Lease) (w : World) (e : Event) (a : Act) → Fine w → Apart e (event w a) → legal ps (step w e) a ≡ legal ps w a
+legal-kept : (ps : List Hold) (w : World) (e : Event) (a : Act) → Fine w → Apart e (event w a) → legal ps (step w e) a ≡ legal ps w a
 legal-kept ps w e idle g x = refl
 legal-kept ps w e never g x = refl
 legal-kept ps w e (takes c) g (quiet-first q) = rw (quiet-step w q)
@@ -146,14 +146,14 @@ event-kept w e (waits c n) x = refl
 event-kept w e (heals i n) x = refl
 
 -- a step whose test holds is a legal event
-pub is-legal : (ps : List Lease) (w : World) (a : Act) → legal ps w a ≡ true → Legal w (event w a)
+pub is-legal : (ps : List Hold) (w : World) (a : Act) → legal ps w a ≡ true → Legal w (event w a)
 is-legal ps w idle l = tt
 is-legal ps w never l = tt
 is-legal ps w (takes c) l =
     let p = both (ltb c (cells w) && isFree (bitAt (w .table) c) (ownerAt (w .table) c)) (serialRemains (w .head .next)) l in
     let q = both (ltb c (cells w)) (isFree (bitAt (w .table) c) (ownerAt (w .table) c)) (p .0) in
     ((ltb-true c (cells w) (q .0), is-free-state (w .head .next) (w .table) c (q .1)), (refl, ltb-true (w .head .next) _ (p .1)))
-is-legal ps w (frees c s) l = both (isLive (w .head .next) (cells w) (w .table) (leaseOf c s)) (not (isIn (leaseOf c s) ps)) l .0
+is-legal ps w (frees c s) l = both (isLive (w .head .next) (cells w) (w .table) (holdOf c s)) (not (isIn (holdOf c s) ps)) l .0
 is-legal ps w (waits c n) l = ltb-true c (cells w) l
 is-legal ps w (heals i n) l =
     let p = both (ltb i (w .head .headers)) (leb n 1) l in
@@ -161,7 +161,7 @@ is-legal ps w (heals i n) l =
 
 -- ---- two acts
 
-module _ (ps : List Lease) where
+module _ (ps : List Hold) where
   abbrev pub acted : World → Act → World
   acted w a = settle (legal ps w a) w (event w a)
 
@@ -248,16 +248,16 @@ apart-of w (reads-heal x) (reads-free y) p = health-release
 apart-of w (reads-heal x) (reads-wait y) p = health-waiters
 apart-of w (reads-heal x) (reads-heal y) p = health-health (p .on-health x y)
 
-pub leaves-is : (ps : List Lease) (w : World) (s : Step) → leaves ps w s ≡ acted ps w (read s)
+pub leaves-is : (ps : List Hold) (w : World) (s : Step) → leaves ps w s ≡ acted ps w (read s)
 leaves-is ps w s = ap (λ (o : World × ℕ). o .0) (done ps w s)
 
-pub dropped-is : (ps : List Lease) (w : World) (s : Step) → dropped ps w s ≡ missed (legal ps w (read s))
+pub dropped-is : (ps : List Hold) (w : World) (s : Step) → dropped ps w s ≡ missed (legal ps w (read s))
 dropped-is ps w s = ap (λ (o : World × ℕ). o .1) (done ps w s)
 
-pub fine-leaves : (ps : List Lease) (w : World) (s : Step) → Fine w → Fine (leaves ps w s)
+pub fine-leaves : (ps : List Hold) (w : World) (s : Step) → Fine w → Fine (leaves ps w s)
 fine-leaves ps w s g = subst (λ (v : World). Fine v) (sym (leaves-is ps w s)) (fine-acted ps w (read s) g)
 
-pub swapped : (ps : List Lease) (w : World) (s t : Step) → Fine w → Parted s t → Swapped ps w s t
+pub swapped : (ps : List Hold) (w : World) (s t : Step) → Fine w → Parted s t → Swapped ps w s t
 swapped ps w s t g p =
     record {
       state = twice t s ∙ sym (acted-swap ps w (read s) (read t) g x) ∙ sym (twice s t);
@@ -283,7 +283,7 @@ any-steps-swap ps w s t g p = swapped ps w s t (fine w g) p
 
 -- ---- two takes
 
-takes-free : (ps : List Lease) (w : World) (c : ℕ) → Legal w (took by-script c (w .head .next)) → legal ps w (takes c) ≡ true
+takes-free : (ps : List Hold) (w : World) (c : ℕ) → Legal w (took by-script c (w .head .next)) → legal ps w (takes c) ≡ true
 unfolding isFree
 takes-free ps w c l =
     let f = free-words (w .head .next) (w .table) c (l .0 .1) in
@@ -294,13 +294,13 @@ not-missed true e = refl
 not-missed false e = absurd (omega arith)
 
 -- both orders of two legal takes, as events
-pub record Takes-both-ways (ps : List Lease) (w : World) (s t : Step) (c d : ℕ) : Type 0 where
+pub record Takes-both-ways (ps : List Hold) (w : World) (s t : Step) (c d : ℕ) : Type 0 where
   pub events : Both w (took by-script c (w .head .next)) (took by-script d (w .head .next + 1))
   pub one-way : leaves ps (leaves ps w s) t ≡ step (step w (took by-script c (w .head .next))) (took by-script d (w .head .next + 1))
   pub other-way : leaves ps (leaves ps w t) s ≡ step (step w (took by-script d (w .head .next))) (took by-script c (w .head .next + 1))
   pub exchange : Owners-exchanged ps w s t c d
 
-pub takes-both-ways : (ps : List Lease) (w : World) (c n d m : ℕ) → Fine w → c ≢ d → Both-legal ps w (take-step c n) (take-step d m)
+pub takes-both-ways : (ps : List Hold) (w : World) (c n d m : ℕ) → Fine w → c ≢ d → Both-legal ps w (take-step c n) (take-step d m)
     → Takes-both-ways ps w (take-step c n) (take-step d m) c d
 unfolding read
 takes-both-ways ps w c n d m g x p =
@@ -372,7 +372,7 @@ spent-stays true n e = ne-ltb n e
     ne-ltb : (n : ℕ) → serialRemains n ≡ false → serialRemains (n + 1) ≡ false
     ne-ltb n e = le-ltb (n + 1) lastSerial (omega (arith, ltb-false n lastSerial e))
 
-module _ (ps : List Lease) (w : World) where
+module _ (ps : List Hold) (w : World) where
   -- a take that would be dropped is dropped behind a take of another cell too
   still-missed : (c d : ℕ) → c ≢ d → legal ps w (takes c) ≡ false → legal ps (acted ps w (takes d)) (takes c) ≡ false
   still-missed c d x e = go (legal ps w (takes d))
@@ -387,7 +387,7 @@ module _ (ps : List Lease) (w : World) where
   acted-missed a e = ap (λ (b : Bool). settle b w (event w a)) e
 
 -- s is dropped, t is any take of another cell: nothing of s is seen in either order
-idle-beside : (ps : List Lease) (w : World) (c n d m : ℕ) → c ≢ d → legal ps w (takes c) ≡ false → Swapped ps w (take-step c n) (take-step d m)
+idle-beside : (ps : List Hold) (w : World) (c n d m : ℕ) → c ≢ d → legal ps w (takes c) ≡ false → Swapped ps w (take-step c n) (take-step d m)
 unfolding read
 idle-beside ps w c n d m x e =
     let s = take-step c n in
@@ -400,7 +400,7 @@ idle-beside ps w c n d m x e =
       second-drop = ap (λ (v : World). dropped ps v t) nothing;
     }
 
-turned : {ps : List Lease} {w : World} {s t : Step} → Swapped ps w s t → Swapped ps w t s
+turned : {ps : List Hold} {w : World} {s t : Step} → Swapped ps w s t → Swapped ps w t s
 turned x = record { state = sym (x .state); first-drop = x .second-drop; second-drop = x .first-drop }
 
 pub idle-take-swap : Idle-take

@@ -14,7 +14,7 @@ use Rattle.model.specs.Foreign.{Setting, stepsIn, kindAt, placeAt, numberAt, fl
 use Rattle.model.specs.Calls.{given}
 use Rattle.types.specs.declared.Flow.{Flow}
 use Rattle.types.specs.declared.Head.{Head}
-use Rattle.types.specs.declared.Lease.{Lease}
+use Rattle.types.specs.declared.Hold.{Hold}
 use Rattle.types.specs.declared.Stepped.{Stepped}
 use Rattle.history.specs.World.{World, worldOf}
 use Rattle.swaps.specs.Steps.{Step, stepWords, leaves, dropped, after-all, dropped-in, Shuffled, same, neighbours, behind, onward}
@@ -121,7 +121,7 @@ unfolding runStepsOf
 turn-last left e f t g x = rw (eq-eqb (kindAt (e .script) (f .place)) 5 x)
 
 -- a step reads nothing of the script itself
-unscripted : (h : Head) (script : List ℕ) (ps : List Lease) (n : ℕ) (t g : List ℕ) (k q m : ℕ)
+unscripted : (h : Head) (script : List ℕ) (ps : List Hold) (n : ℕ) (t g : List ℕ) (k q m : ℕ)
     → stepOf (given h script ps) n t g k q m ≡ stepOf (given h [] ps) n t g k q m
 unfolding stepOf
 unscripted h script ps n t g k q m = refl
@@ -130,7 +130,7 @@ unscripted h script ps n t g k q m = refl
 abbrev pub goes-on : ℕ → Setting → World → ℕ → ℕ → Ran
 goes-on more e v p d = runStepsOf more e (flowOf (v .head .next) p d) (v .table) (v .health) .seen
 
-pub play : (left more : ℕ) (ps : List Lease) (script : List ℕ) (w : World) (p d : ℕ) (ss : List Step) → left ≡ length ss + more → Stand script p ss
+pub play : (left more : ℕ) (ps : List Hold) (script : List ℕ) (w : World) (p d : ℕ) (ss : List Step) → left ≡ length ss + more → Stand script p ss
     → Unended ss
     → goes-on left (given (w .head) script ps) w p d
     ≡ goes-on more (given (w .head) script ps) (after-all ps w ss) (p + length ss) (d + dropped-in ps w ss)
@@ -169,12 +169,12 @@ shuffled-length (behind r) = ap suc (shuffled-length r)
 shuffled-length (onward r q) = shuffled-length q ∙ shuffled-length r
 
 -- the world behind them, with the head as the call holds it
-head-after : (ps : List Lease) (w : World) (ss : List Step) → after-all ps w ss .head ≡ spentTo (w .head) (after-all ps w ss .head .next)
+head-after : (ps : List Hold) (w : World) (ss : List Step) → after-all ps w ss .head ≡ spentTo (w .head) (after-all ps w ss .head .next)
 unfolding after-all
 head-after ps w [] = refl
 head-after ps w (s ∷ ss) = head-after ps (leaves ps w s) ss
 
-fine-after : (ps : List Lease) (w : World) (ss : List Step) → Fine w
+fine-after : (ps : List Hold) (w : World) (ss : List Step) → Fine w
     → Fine (worldOf (spentTo (w .head) (after-all ps w ss .head .next)) (after-all ps w ss .table) (after-all ps w ss .health))
 fine-after ps w ss f = subst (λ (h : Head). Fine (worldOf h (after-all ps w ss .table) (after-all ps w ss .health))) (head-after ps w ss) (fine-all ps w ss f)
 
@@ -223,7 +223,7 @@ module _ (h : Head) (pre ss ts post : List Step) (unended : Unended ss) (shuffle
   steps-other : stepsIn other ≡ length pre + (length ss + length post)
   steps-other = steps-in pre ts post ∙ ap (λ (n : ℕ). length pre + (n + length post)) (shuffled-length shuffle-is)
 
-  module _ (ps : List Lease) where
+  module _ (ps : List Hold) where
     abbrev Runs-alike : ℕ → Flow → List ℕ → List ℕ → Type 0
     Runs-alike left f t g = Same OutsideFine (runStepsOf left (given h one ps) f t g .seen) (runStepsOf left (given h other ps) f t g .seen)
 

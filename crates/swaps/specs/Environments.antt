@@ -9,7 +9,7 @@ use lib.ListN.{length, getD}
 use borrow.Author.Tests.{eqb-true}
 use Rattle.choice.specs.Choice.{if_then_else_}
 use Rattle.model.specs.Log.{Made, gives, _>>=_}
-use Rattle.model.specs.Arena.{leasesOf}
+use Rattle.model.specs.Arena.{holdsOf}
 use Rattle.model.specs.Refusals.{first, judge}
 use Rattle.model.specs.Foreign.{Setting, stepsIn, kindAt, flowOf, runStepsOf, boundaryOf}
 use Rattle.model.specs.Lock.{runOf}
@@ -18,7 +18,7 @@ use Rattle.model.specs.Calls.{given, played, unplayed, environmentOf}
 use Rattle.types.specs.declared.Answer.the-variants.{Done}
 use Rattle.types.specs.declared.Check.{Check}
 use Rattle.types.specs.declared.Check.the-variants as check
-use Rattle.types.specs.declared.Lease.{Lease}
+use Rattle.types.specs.declared.Hold.{Hold}
 use Rattle.types.specs.declared.Played.{Played}
 use Rattle.types.specs.declared.Refusal.{Refusal}
 use Rattle.history.specs.World.{World}
@@ -69,7 +69,7 @@ unfolding renamed-steps
 renamed-length to [] = refl
 renamed-length to (s ∷ ss) = ap suc (renamed-length to ss)
 
-retaken-unended : {ps : List Lease} {w : World} {ss ts : List Step} → Retaken ps w ss ts → Unended ss → Unended ts
+retaken-unended : {ps : List Hold} {w : World} {ss ts : List Step} → Retaken ps w ss ts → Unended ss → Unended ts
 retaken-unended same u = u
 retaken-unended (neighbours p) u = (u .1 .0, (u .0, u .1 .1))
 retaken-unended (two-takes {ss = ss} x p q) u = (u .1 .0, (u .0, renamed-unended _ ss (u .1 .1)))
@@ -77,7 +77,7 @@ retaken-unended (idle-take x p) u = (u .1 .0, (u .0, u .1 .1))
 retaken-unended (behind r) u = (u .0, retaken-unended r (u .1))
 retaken-unended (onward r q) u = retaken-unended q (retaken-unended r u)
 
-retaken-length : {ps : List Lease} {w : World} {ss ts : List Step} → Retaken ps w ss ts → length ts ≡ length ss
+retaken-length : {ps : List Hold} {w : World} {ss ts : List Step} → Retaken ps w ss ts → length ts ≡ length ss
 retaken-length same = refl
 retaken-length (neighbours p) = refl
 retaken-length (two-takes {ss = ss} x p q) = ap (λ (n : ℕ). suc (suc n)) (renamed-length _ ss)
@@ -100,8 +100,8 @@ unfolding environmentOf scriptRules
 environment-retake w held pre ss ts post g u x y r =
     rw (same-length pre ss ts post (retaken-length r)) (go (first (scriptRules (w .head) (w .table) (w .health) (scriptOf (pre ++ (ss ++ post))) (length pre) held)))
   where
-    ps : List Lease
-    ps = leasesOf held
+    ps : List Hold
+    ps = holdsOf held
 
     runs : List Step → Made (Played × (List ℕ × List ℕ))
     runs xs = do

@@ -6,10 +6,10 @@ use mathlib.Core.List.{List, [], _∷_, _++_}
 use mathlib.Core.Logic.{_≢_, inl, inr}
 use native.Mathlib.Omega.{arith}
 use Rattle.model.specs.Log.{Event, by-caller, by-script, took, released}
-use Rattle.model.specs.Arena.{headOf, leaseOf, leasesOf, bitAt, ownerAt, setCell, setWaiters, isFree, isHeld, stateOf, stateAt, isLive, sameLease, isIn, headFits, shapeFits}
+use Rattle.model.specs.Arena.{headOf, holdOf, holdsOf, bitAt, ownerAt, setCell, setWaiters, isFree, isHeld, stateOf, stateAt, isLive, sameHold, isIn, headFits, shapeFits}
 use Rattle.model.specs.Foreign.{flowOf, stepTakeOf, stepReleaseOf, stepWaitersOf, stepHealthOf, stepOf, runStepsOf, boundaryOf}
 use Rattle.model.specs.Calls.{given, environmentOf}
-use Rattle.types.specs.declared.Lease.{Lease}
+use Rattle.types.specs.declared.Hold.{Hold}
 use Rattle.types.specs.declared.State.the-variants as state
 use Rattle.history.specs.World.{World, worldOf, Lawful}
 use Rattle.history.specs.Items.{try-lock, perform}
@@ -23,7 +23,7 @@ use Rattle.swaps.specs.Statements.{Same-either-way, Owners-exchanged, Sw
 use Rattle.swaps.specs.Theorems.{two-releases, take-release, two-takes, other-kinds, any-steps, idle-take, logs-recast, steps-retaken, calls-rescripted, environment-retaken}
 
 abbrev arena : ℕ → List ℕ → World
-arena next t = worldOf (headOf 1 2 next) t (0 ∷ [])
+arena next t = worldOf (headOf 1 2 next 6) t (0 ∷ [])
 
 abbrev empty : World
 empty = arena 1 (0 ∷ 0 ∷ 0 ∷ 0 ∷ 0 ∷ 0 ∷ [])
@@ -54,7 +54,7 @@ abbrev release-0 : Step
 release-0 = release-step 0 1
 
 -- the numbers dropped of two steps in this order, and the world left
-abbrev Told : List Lease → World → Step → Step → ℕ → ℕ → World → Type 0
+abbrev Told : List Hold → World → Step → Step → ℕ → ℕ → World → Type 0
 Told ps w s t x y v = (dropped ps w s ≡ x) × ((dropped ps (leaves ps w s) t ≡ y) × (leaves ps (leaves ps w s) t ≡ v))
 
 -- ---- why the cells differ
@@ -62,13 +62,13 @@ Told ps w s t x y v = (dropped ps w s ≡ x) × ((dropped ps (leaves ps w s) t �
 -- one cell: released and then taken, both legal; the other way round the take is dropped, and the cell ends free
 one-cell : Told [] one-held release-0 take-0 0 0 (arena 3 (1 ∷ 2 ∷ 0 ∷ 0 ∷ 0 ∷ 0 ∷ []))
     × Told [] one-held take-0 release-0 1 0 (arena 2 (0 ∷ 0 ∷ 0 ∷ 0 ∷ 0 ∷ 0 ∷ []))
-unfolding stepOf stepTakeOf stepReleaseOf bitAt ownerAt setCell isFree isHeld stateOf stateAt isLive sameLease isIn
+unfolding stepOf stepTakeOf stepReleaseOf bitAt ownerAt setCell isFree isHeld stateOf stateAt isLive sameHold isIn
 one-cell = ((refl, (refl, refl)), (refl, (refl, refl)))
 
 -- one cell: the release is legal only behind the take
 one-order : Told [] empty take-0 release-0 0 0 (arena 2 (0 ∷ 0 ∷ 0 ∷ 0 ∷ 0 ∷ 0 ∷ []))
     × Told [] empty release-0 take-0 1 0 (arena 2 (1 ∷ 1 ∷ 0 ∷ 0 ∷ 0 ∷ 0 ∷ []))
-unfolding stepOf stepTakeOf stepReleaseOf bitAt ownerAt setCell isFree isHeld stateOf stateAt isLive sameLease isIn
+unfolding stepOf stepTakeOf stepReleaseOf bitAt ownerAt setCell isFree isHeld stateOf stateAt isLive sameHold isIn
 one-order = ((refl, (refl, refl)), (refl, (refl, refl)))
 
 -- one cell, waiters set twice: the later number stays
@@ -78,7 +78,7 @@ unfolding stepOf stepWaitersOf setWaiters
 one-waiters = ((refl, (refl, refl)), (refl, (refl, refl)))
 
 -- one header, health set twice: the later number stays
-one-header : Told [] empty (health-step 0 0) (health-step 0 1) 0 0 (worldOf (headOf 1 2 1) (0 ∷ 0 ∷ 0 ∷ 0 ∷ 0 ∷ 0 ∷ []) (1 ∷ []))
+one-header : Told [] empty (health-step 0 0) (health-step 0 1) 0 0 (worldOf (headOf 1 2 1 6) (0 ∷ 0 ∷ 0 ∷ 0 ∷ 0 ∷ 0 ∷ []) (1 ∷ []))
     × Told [] empty (health-step 0 1) (health-step 0 0) 0 0 empty
 unfolding stepOf stepHealthOf
 one-header = ((refl, (refl, refl)), (refl, (refl, refl)))
@@ -102,28 +102,28 @@ owners-exchanged = ((refl, (refl, refl)), (refl, (refl, refl)))
 -- taking cell 0 issues the serial that stands in cell 1, and so mends it; before that its release is dropped
 a-damaged-cell : Told [] damaged take-0 (release-step 1 2) 0 0 (arena 3 (1 ∷ 2 ∷ 0 ∷ 0 ∷ 0 ∷ 0 ∷ []))
     × Told [] damaged (release-step 1 2) take-0 1 0 (arena 3 (1 ∷ 2 ∷ 0 ∷ 1 ∷ 2 ∷ 0 ∷ []))
-unfolding stepOf stepTakeOf stepReleaseOf bitAt ownerAt setCell isFree isHeld stateOf stateAt isLive sameLease isIn
+unfolding stepOf stepTakeOf stepReleaseOf bitAt ownerAt setCell isFree isHeld stateOf stateAt isLive sameHold isIn
 a-damaged-cell = ((refl, (refl, refl)), (refl, (refl, refl)))
 
 -- ---- why the protected set is fixed
 
 -- nothing protected in one order, (0, 1) in the other: what was legal is dropped
 another-set : Told [] one-held take-1 release-0 0 0 (arena 3 (0 ∷ 0 ∷ 0 ∷ 1 ∷ 2 ∷ 0 ∷ []))
-    × Told (leaseOf 0 1 ∷ []) one-held release-0 take-1 1 0 (arena 3 (1 ∷ 1 ∷ 0 ∷ 1 ∷ 2 ∷ 0 ∷ []))
-unfolding stepOf stepTakeOf stepReleaseOf bitAt ownerAt setCell isFree isHeld stateOf stateAt isLive sameLease isIn
+    × Told (holdOf 0 1 ∷ []) one-held release-0 take-1 1 0 (arena 3 (1 ∷ 1 ∷ 0 ∷ 1 ∷ 2 ∷ 0 ∷ []))
+unfolding stepOf stepTakeOf stepReleaseOf bitAt ownerAt setCell isFree isHeld stateOf stateAt isLive sameHold isIn
 another-set = ((refl, (refl, refl)), (refl, (refl, refl)))
 
 -- ---- why releases behind two exchanged takes are renamed, and why protected leases are from before
 
 -- a release that goes on naming serial 1 meets the other cell's: it is dropped
 not-renamed : (dropped-in [] empty (take-0 ∷ take-1 ∷ release-0 ∷ []) ≡ 0) × (dropped-in [] empty (take-1 ∷ take-0 ∷ release-0 ∷ []) ≡ 1)
-unfolding dropped-in stepOf stepTakeOf stepReleaseOf bitAt ownerAt setCell isFree isHeld stateOf stateAt isLive sameLease isIn
+unfolding dropped-in stepOf stepTakeOf stepReleaseOf bitAt ownerAt setCell isFree isHeld stateOf stateAt isLive sameHold isIn
 not-renamed = (refl, refl)
 
 -- the lease (0, 1) is protected before serial 1 is issued: the release is dropped in one order, and its renaming is legal in the other
-not-older : (dropped-in (leaseOf 0 1 ∷ []) empty (take-0 ∷ take-1 ∷ release-0 ∷ []) ≡ 1)
-    × (dropped-in (leaseOf 0 1 ∷ []) empty (take-1 ∷ take-0 ∷ renamed-steps (flip 1) (release-0 ∷ [])) ≡ 0)
-unfolding dropped-in renamed-steps renamed-step flip stepOf stepTakeOf stepReleaseOf bitAt ownerAt setCell isFree isHeld stateOf stateAt isLive sameLease isIn
+not-older : (dropped-in (holdOf 0 1 ∷ []) empty (take-0 ∷ take-1 ∷ release-0 ∷ []) ≡ 1)
+    × (dropped-in (holdOf 0 1 ∷ []) empty (take-1 ∷ take-0 ∷ renamed-steps (flip 1) (release-0 ∷ [])) ≡ 0)
+unfolding dropped-in renamed-steps renamed-step flip stepOf stepTakeOf stepReleaseOf bitAt ownerAt setCell isFree isHeld stateOf stateAt isLive sameHold isIn
 not-older = (refl, refl)
 
 -- ---- why a script is shuffled between two ends of boundaries, and not around the place at which a call begins
@@ -175,7 +175,7 @@ apart e = omega arith
 
 -- cell 1 is taken, cell 0 is released: either way
 take-and-release : Same-either-way [] one-held take-1 release-0
-unfolding stepOf stepTakeOf stepReleaseOf bitAt ownerAt setCell isFree isHeld stateOf stateAt isLive sameLease isIn
+unfolding stepOf stepTakeOf stepReleaseOf bitAt ownerAt setCell isFree isHeld stateOf stateAt isLive sameHold isIn
 take-and-release = take-release 1 0 0 1 (λ e. omega arith) [] one-held whole-held (record { first-legal = refl; second-legal = refl })
 
 -- both cells are taken
@@ -185,7 +185,7 @@ both-taken = two-takes [] empty 0 0 1 0 whole-empty apart (record { first-legal 
 
 -- both are released
 two-released : Same-either-way [] both-held release-0 (release-step 1 2)
-unfolding stepOf stepReleaseOf bitAt ownerAt setCell isHeld stateOf stateAt isLive sameLease isIn isFree
+unfolding stepOf stepReleaseOf bitAt ownerAt setCell isHeld stateOf stateAt isLive sameHold isIn isFree
 two-released = two-releases 0 1 1 2 apart [] both-held whole-both (record { first-legal = refl; second-legal = refl })
 
 -- cell 0 is held, so its take is dropped either way
@@ -227,7 +227,7 @@ release-take-parted =
     record { one-take = λ x y. omega arith; on-bits = λ x y e. omega arith; on-waiters = λ x y. omega arith; on-health = λ x y. omega arith }
 
 noon-retaken : Retaken [] empty noon other-noon
-unfolding flip renamed-steps renamed-step stepOf stepTakeOf stepReleaseOf bitAt ownerAt setCell isFree isHeld stateOf stateAt isLive sameLease isIn
+unfolding flip renamed-steps renamed-step stepOf stepTakeOf stepReleaseOf bitAt ownerAt setCell isFree isHeld stateOf stateAt isLive sameHold isIn
 noon-retaken =
     renaming.onward (renaming.behind (renaming.behind (renaming.two-takes apart refl refl)))
     (renaming.onward (renaming.behind (renaming.neighbours release-take-parted)) (renaming.two-takes apart refl refl))
@@ -263,5 +263,5 @@ evening-same =
 -- the list of noon as a script: an `environment` over it
 noon-environment : Reply-renamed empty (environmentOf (empty .head) (empty .table) (empty .health) (scriptOf ([] ++ (noon ++ before))) 0 [] .seen)
     (environmentOf (empty .head) (empty .table) (empty .health) (scriptOf ([] ++ (other-noon ++ before))) 0 [] .seen)
-unfolding leasesOf
+unfolding holdsOf
 noon-environment = environment-retaken empty [] [] noon other-noon before whole-empty ((λ e. omega arith), ((λ e. omega arith), ((λ e. omega arith), ((λ e. omega arith), tt)))) refl tt noon-retaken

@@ -8,7 +8,7 @@ use lib.Dec.{ltb}
 use lib.ListN.{length}
 use borrow.Author.Tests.{ltb-true}
 use Rattle.model.specs.Log.{Event, attempt-begun, boundary-run, yielded, spun, step-dropped, took, released, waiters-set, health-set, held-all, added}
-use Rattle.model.specs.Arena.{cellsOf, leaseOf, bitAt, ownerAt, setCell, stateOf, stateAt, heldBy, isLive}
+use Rattle.model.specs.Arena.{cellsOf, holdOf, bitAt, ownerAt, setCell, stateOf, stateAt, heldBy, isLive}
 use Rattle.laws.specs.Shape.{shaped}
 use Rattle.laws.specs.Words.{length-set-cell, length-set-waiters, bit-set-other, owner-set-other, bit-set-waiters, owner-set-waiters}
 use Rattle.history.specs.World.{World, worldOf, cells, Legal, step, Whole as Arena-whole}
@@ -78,7 +78,7 @@ same-cells w e = ap cellsOf (same-arena w e)
 
 -- a lease of a cell that the event leaves alone is live after it exactly if it was live before
 pub live-kept : (w : World) (e : Event) (c s : ℕ) → Fine w → Away e c
-    → isLive (step w e .head .next) (cells (step w e)) (step w e .table) (leaseOf c s) ≡ isLive (w .head .next) (cells w) (w .table) (leaseOf c s)
+    → isLive (step w e .head .next) (cells (step w e)) (step w e .table) (holdOf c s) ≡ isLive (w .head .next) (cells w) (w .table) (holdOf c s)
 unfolding isLive
 live-kept w e c s f a = rw (same-cells w e) (go (ltb c (cells w)) refl)
   where

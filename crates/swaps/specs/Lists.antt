@@ -3,7 +3,7 @@ use mathlib.Core.Path.{_≡_, refl, sym, ap, _∙_, subst}
 use mathlib.Core.List.{List, [], _∷_}
 use native.Mathlib.Omega.{arith}
 use Rattle.model.specs.Log.{Event}
-use Rattle.types.specs.declared.Lease.{Lease}
+use Rattle.types.specs.declared.Hold.{Hold}
 use Rattle.history.specs.World.{World, step, now, Lawful, number-of}
 use Rattle.history.specs.Items.{foreign-step, next-item, run, foreign}
 use Rattle.swaps.specs.Steps.{Step, leaves, after-all, dropped-in, Shuffled}
@@ -39,7 +39,7 @@ logs-reorder w es fs g r l = alike w (fine w g) r l
 
 -- ---- lists of steps
 
-pub shuffle : (ps : List Lease) (w : World) {ss ts : List Step} → Fine w → Shuffled ss ts
+pub shuffle : (ps : List Hold) (w : World) {ss ts : List Step} → Fine w → Shuffled ss ts
     → (after-all ps w ts ≡ after-all ps w ss) × (dropped-in ps w ts ≡ dropped-in ps w ss)
 unfolding after-all dropped-in
 shuffle ps w g steps.same = (refl, refl)
@@ -56,7 +56,7 @@ shuffle ps w g (steps.onward r q) =
     let j = shuffle ps w g q in
     (j .0 ∙ i .0, j .1 ∙ i .1)
 
-pub fine-all : (ps : List Lease) (w : World) (ss : List Step) → Fine w → Fine (after-all ps w ss)
+pub fine-all : (ps : List Hold) (w : World) (ss : List Step) → Fine w → Fine (after-all ps w ss)
 unfolding after-all
 fine-all ps w [] f = f
 fine-all ps w (s ∷ ss) f = fine-all ps (leaves ps w s) ss (fine-leaves ps w s f)

@@ -8,7 +8,7 @@ use native.Mathlib.Omega.{arith}
 use lib.ListN.{length, set, getD}
 use borrow.Author.Tests.{eq-eqb, ne-eqb}
 use Rattle.model.specs.Log.{Actor, Event, attempt-begun, boundary-run, yielded, spun, step-dropped, took, released, waiters-set, health-set, held-all, added}
-use Rattle.model.specs.Arena.{spentTo, cellsOf, leaseOf, bitAt, ownerAt, waitersAt, setCell, setWaiters, stateAt}
+use Rattle.model.specs.Arena.{spentTo, cellsOf, holdOf, bitAt, ownerAt, waitersAt, setCell, setWaiters, stateAt}
 use Rattle.types.specs.declared.Head.{Head}
 use Rattle.laws.specs.Words.{length-set-cell, length-set-waiters, waiters-set-cell, bit-set-waiters, owner-set-waiters, waiters-set-same, waiters-set-other, Seen, here, there, see}
 use Rattle.history.specs.World.{World, worldOf, cells, Legal, step, now, Lawful}
@@ -277,9 +277,9 @@ follow {to = to} w v (took a c s) f z o r l =
       },
     )
 follow {to = to} w v (released a c s) f z o r l =
-    let x = alive (w .head .next) (cells w) (w .table) (leaseOf c s) l in
+    let x = alive (w .head .next) (cells w) (w .table) (holdOf c s) l in
     let i : c < cells w = x .in-range in (
-      live (v .head .next) (cells v) (v .table) (leaseOf c (to s))
+      live (v .head .next) (cells v) (v .table) (holdOf c (to s))
           (record {
             in-range = inside to w v f r c i;
             bit-is = r .bits c i ∙ x .bit-is;

@@ -6,7 +6,7 @@ use mathlib.Core.Logic.{_≢_, _⊎_}
 use lib.Dec.{eqb}
 use Rattle.choice.specs.Choice.{if_then_else_}
 use Rattle.model.specs.Log.{Actor, Event, attempt-begun, boundary-run, yielded, spun, step-dropped, took, released, waiters-set, health-set, held-all, added}
-use Rattle.types.specs.declared.Lease.{Lease}
+use Rattle.types.specs.declared.Hold.{Hold}
 use Rattle.history.specs.World.{World}
 use Rattle.swaps.specs.Steps.{Step, stepWords, take-step, leaves, dropped, Parted}
 use Rattle.swaps.specs.Logs.{Apart}
@@ -74,7 +74,7 @@ pub data Recast : List Event → List Event → Type 0 where
 
 -- The same of lists of steps. Which serial a take gets, and whether it is legal, hangs on the world in which it happens, so the relation
 -- carries the world. Two takes of which one is dropped before them both are exchanged with nothing renamed.
-pub data Retaken (ps : List Lease) : World → List Step → List Step → Type 0 where
+pub data Retaken (ps : List Hold) : World → List Step → List Step → Type 0 where
   same : {w : World} {ss : List Step} → Retaken ps w ss ss
   neighbours : {w : World} {s t : Step} {ss : List Step} → Parted s t → Retaken ps w (s ∷ t ∷ ss) (t ∷ s ∷ ss)
   two-takes : {w : World} {c d n m : ℕ} {ss : List Step} → c ≢ d
@@ -87,6 +87,6 @@ pub data Retaken (ps : List Lease) : World → List Step → List Step → Type 
   onward : {w : World} {ss ts us : List Step} → Retaken ps w ss ts → Retaken ps w ts us → Retaken ps w ss us
 
 -- the protected leases are from before: their serials were issued before the trace
-abbrev pub Older : ℕ → List Lease → Type 0
+abbrev pub Older : ℕ → List Hold → Type 0
 Older old [] = Unit {0}
 Older old (l ∷ ls) = (l .serial < old) × Older old ls

@@ -5,11 +5,11 @@ use mathlib.Core.List.{List, [], _++_}
 use native.Mathlib.Omega.{arith}
 use lib.ListN.{length}
 use Rattle.model.specs.Log.{Made, gives}
-use Rattle.model.specs.Arena.{spentTo, serialRemains, stateAt, leasesOf}
+use Rattle.model.specs.Arena.{spentTo, serialRemains, stateAt, holdsOf}
 use Rattle.model.specs.Refusals.{first, judge}
 use Rattle.model.specs.Foreign.{flowOf}
 use Rattle.model.specs.Lock.{takeIn, takeOf, attemptLimit, noneYet}
-use Rattle.model.specs.Checks.{countIn, scriptRules, lockRules, bucketRules, releaseRules, locksRules}
+use Rattle.model.specs.Checks.{countIn, leaseCount, scriptRules, lockRules, bucketRules, releaseRules, locksRules}
 use Rattle.model.specs.Calls.{starting, environmentOf, tryLockOf, transactionalOf, acquireBucketOf, releaseAllOf, acquireLocksOf}
 use Rattle.model.specs.Sorted.{cellsSorted, sortedKeys, firstKey, judgeAt, unplayedAt, sortedLocksOf, acquireSortedOf}
 use Rattle.types.specs.declared.Check.{Check}
@@ -85,40 +85,40 @@ module _ {h : Head} {a b : List ℕ} {Good : Ran → Type 0} (tw : Twins h a b G
   environment-alike : (held : List ℕ) → environmentOf h t g b place held .seen ≡ environmentOf h t g a place held .seen
   unfolding environmentOf scriptRules
   environment-alike held =
-      let r = tw .boundaries (leasesOf held) (flowOf (h .next) place 0) t g x in
+      let r = tw .boundaries (holdsOf held) (flowOf (h .next) place 0) t g x in
       rw e (judged-two (Seen-alike Reply) (first (scriptRules h t g a place held)) (λ _. refl) (rw (r .equal)))
 
   try-lock-alike : (held : List ℕ) (c : ℕ) → tryLockOf h t g b place held c .seen ≡ tryLockOf h t g a place held c .seen
   unfolding tryLockOf lockRules scriptRules
   try-lock-alike held c =
-      let r = lock-alike tw (leasesOf held) (h .buckets) (flowOf (h .next) place 0) t g c x in
+      let r = lock-alike tw (holdsOf held) (h .buckets) (flowOf (h .next) place 0) t g c x in
       rw e (judged-two (Seen-alike Reply) (first (lockRules h t g a place held c)) (λ _. refl) (rw (r .equal)))
 
   transactional-alike : (registry held : List ℕ) (binding bucket : ℕ)
       → transactionalOf h t g registry b place held binding bucket .seen ≡ transactionalOf h t g registry a place held binding bucket .seen
   unfolding transactionalOf bucketRules
   transactional-alike registry held binding bucket =
-      let r = attempt-alike tw (leasesOf held) (h .buckets) registry binding bucket (starting h place) t g x in
+      let r = attempt-alike tw (holdsOf held) (h .buckets) registry binding bucket (starting h place) t g x in
       rw e (judged-two (Seen-alike Reply) (first (bucketRules h t g registry a place held binding)) (λ _. refl) (rw (r .equal)))
 
   acquire-bucket-alike : (registry held : List ℕ) (binding bucket : ℕ)
       → acquireBucketOf h t g registry b place held binding bucket .seen ≡ acquireBucketOf h t g registry a place held binding bucket .seen
   unfolding acquireBucketOf bucketRules
   acquire-bucket-alike registry held binding bucket =
-      let r = retry-alike tw (leasesOf held) (h .buckets) registry binding bucket attemptLimit 0 noneYet (starting h place) t g x in
+      let r = retry-alike tw (holdsOf held) (h .buckets) registry binding bucket attemptLimit 0 noneYet (starting h place) t g x in
       rw e (judged-two (Seen-alike Reply) (first (bucketRules h t g registry a place held binding)) (λ _. refl) (rw (r .equal)))
 
   release-all-alike : (leases : List ℕ) → releaseAllOf h t g b place leases .seen ≡ releaseAllOf h t g a place leases .seen
   unfolding releaseAllOf releaseRules
   release-all-alike leases =
-      let r = back-alike tw (countIn leases) [] (leasesOf leases) (starting h place) t g x in
+      let r = back-alike tw (leaseCount leases) [] (holdsOf leases) (starting h place) t g x in
       rw e (judged-two (Seen-alike Reply) (first (releaseRules h t g a place leases)) (λ _. refl) (rw (r .equal)))
 
   acquire-locks-alike : (registry held keys grants : List ℕ)
       → acquireLocksOf h t g registry b place held keys grants .seen ≡ acquireLocksOf h t g registry a place held keys grants .seen
   unfolding acquireLocksOf locksRules
   acquire-locks-alike registry held keys grants =
-      let r = locks-alike tw (leasesOf held) (h .buckets) registry keys grants (countIn keys) 0 [] (starting h place) t g x in
+      let r = locks-alike tw (holdsOf held) (h .buckets) (h .boot) registry keys grants (countIn keys) 0 [] (starting h place) t g x in
       rw e (judged-two (Seen-alike (Played × (List ℕ × (List ℕ × List ℕ)))) (first (locksRules h t g registry a place held keys grants)) (λ _. refl) (rw r))
 
   acquire-sorted-alike : (registry held keys grants : List ℕ)
@@ -126,7 +126,7 @@ module _ {h : Head} {a b : List ℕ} {Good : Ran → Type 0} (tw : Twins h a b G
   unfolding acquireSortedOf sortedLocksOf locksRules
   acquire-sorted-alike registry held keys grants =
       let sorted = cellsSorted (h .buckets) registry keys in
-      let r = locks-alike tw (leasesOf held) (h .buckets) registry (sortedKeys (h .buckets) registry keys) grants (length sorted) 0 [] (starting h place) t g x in
+      let r = locks-alike tw (holdsOf held) (h .buckets) (h .boot) registry (sortedKeys (h .buckets) registry keys) grants (length sorted) 0 [] (starting h place) t g x in
       rw e (judged-two (Seen-alike (Played × (List ℕ × (List ℕ × List ℕ)))) (first (locksRules h t g registry a place held keys grants)) (λ _. refl)
       (go (firstKey (countIn keys) 0 h registry keys) (rw r)))
     where

@@ -10,9 +10,9 @@ use lib.Dec.{ltb, leb, eqb}
 use borrow.Author.Tests.{eqb-true, eq-eqb, ltb-true}
 use Rattle.choice.specs.Choice.{if_then_else_}
 use Rattle.model.specs.Log.{Event, by-script, took, released}
-use Rattle.model.specs.Arena.{leaseOf, cellsOf, bitAt, ownerAt, isFree, isLive, isIn, sameLease, serialRemains}
+use Rattle.model.specs.Arena.{holdOf, cellsOf, bitAt, ownerAt, isFree, isLive, isIn, sameHold, serialRemains}
 use Rattle.types.specs.declared.Head.{Head}
-use Rattle.types.specs.declared.Lease.{Lease}
+use Rattle.types.specs.declared.Hold.{Hold}
 use Rattle.history.specs.World.{World, cells, step}
 use Rattle.history.specs.Tests.{alive, live}
 use Rattle.swaps.specs.Steps.{Step, stepWords, take-step, leaves, dropped, after-all, dropped-in}
@@ -38,8 +38,8 @@ renamed-act to (waits c n) = waits c n
 renamed-act to (heals i n) = heals i n
 
 module _ {old next : ℕ} {to back : ℕ → ℕ} (z : Serials old next to back) where
-  in-renamed : (c s : ℕ) (ps : List Lease) → Older old ps → isIn (leaseOf c (to s)) ps ≡ isIn (leaseOf c s) ps
-  unfolding isIn sameLease
+  in-renamed : (c s : ℕ) (ps : List Hold) → Older old ps → isIn (holdOf c (to s)) ps ≡ isIn (holdOf c s) ps
+  unfolding isIn sameHold
   in-renamed c s [] o = refl
   in-renamed c s (l ∷ ls) o = rw (same, in-renamed c s ls (o .1))
     where
@@ -51,17 +51,17 @@ module _ {old next : ℕ} {to back : ℕ → ℕ} (z : Serials old next to back)
 
 -- a renamed lease is live in the renamed world exactly if the lease is live
 live-renamed : {old : ℕ} {to back : ℕ → ℕ} (w v : World) (c s : ℕ) → Fine w → Serials old (w .head .next) to back → 1 ≤ old → Renamed to w v
-    → isLive (v .head .next) (cells v) (v .table) (leaseOf c (to s)) ≡ isLive (w .head .next) (cells w) (w .table) (leaseOf c s)
+    → isLive (v .head .next) (cells v) (v .table) (holdOf c (to s)) ≡ isLive (w .head .next) (cells w) (w .table) (holdOf c s)
 live-renamed {old} {to} {back} w v c s f z o r =
-    same-test (isLive (v .head .next) (cells v) (v .table) (leaseOf c (to s))) (isLive (w .head .next) (cells w) (w .table) (leaseOf c s)) back-way
+    same-test (isLive (v .head .next) (cells v) (v .table) (holdOf c (to s))) (isLive (w .head .next) (cells w) (w .table) (holdOf c s)) back-way
     (λ l. follow w v (released by-script c s) f z o r l .0)
   where
-    back-way : isLive (v .head .next) (cells v) (v .table) (leaseOf c (to s)) ≡ true → isLive (w .head .next) (cells w) (w .table) (leaseOf c s) ≡ true
+    back-way : isLive (v .head .next) (cells v) (v .table) (holdOf c (to s)) ≡ true → isLive (w .head .next) (cells w) (w .table) (holdOf c s) ≡ true
     back-way l =
-        let x = alive (v .head .next) (cells v) (v .table) (leaseOf c (to s)) l in
+        let x = alive (v .head .next) (cells v) (v .table) (holdOf c (to s)) l in
         let i : c < cells w = subst (λ (h : Head). c < cellsOf h) (r .head) (x .in-range) in
         let zero-stays : to 0 ≡ 0 = z .old-stay 0 (omega arith) in
-        live (w .head .next) (cells w) (w .table) (leaseOf c s)
+        live (w .head .next) (cells w) (w .table) (holdOf c s)
         (record {
           in-range = i;
           bit-is = sym (r .bits c i) ∙ x .bit-is;
@@ -84,7 +84,7 @@ live-renamed {old} {to} {back} w v c s f z o r =
             go (yes k) = k
             go (no k) = absurd (omega (arith, z .new-stay s (omega arith), ap (λ (h : Head). h .next) (r .head)))
 
-module _ {old : ℕ} {to back : ℕ → ℕ} (ps : List Lease) (w v : World) (f : Fine w) (z : Serials old (w .head .next) to back) (o : 1 ≤ old) (r : Renamed to w v) (y : Older old ps) where
+module _ {old : ℕ} {to back : ℕ → ℕ} (ps : List Hold) (w v : World) (f : Fine w) (z : Serials old (w .head .next) to back) (o : 1 ≤ old) (r : Renamed to w v) (y : Older old ps) where
   free-renamed : (c : ℕ) → (ltb c (cells w) && isFree (bitAt (v .table) c) (ownerAt (v .table) c)) ≡ (ltb c (cells w) && isFree (bitAt (w .table) c) (ownerAt (w .table) c))
   unfolding isFree
   free-renamed c = go (ltb c (cells w)) refl
@@ -149,7 +149,7 @@ read-renamed to s = go (eqb (s .kind) 2) refl
     go true e = rw (eqb-true (s .kind) 2 e)
     go false e = rw e (kinds (eqb (s .kind) 0) (eqb (s .kind) 1) (eqb (s .kind) 3) (eqb (s .kind) 4) (eqb (s .kind) 5))
 
-grows-leaves : (ps : List Lease) (w : World) (s : Step) → w .head .next ≤ leaves ps w s .head .next
+grows-leaves : (ps : List Hold) (w : World) (s : Step) → w .head .next ≤ leaves ps w s .head .next
 grows-leaves ps w s = subst (λ (v : World). w .head .next ≤ v .head .next) (sym (leaves-is ps w s)) (go (legal ps w (read s)))
   where
     go : (b : Bool) → w .head .next ≤ settle b w (event w (read s)) .head .next
@@ -157,7 +157,7 @@ grows-leaves ps w s = subst (λ (v : World). w .head .next ≤ v .head .next) (s
     go false = omega arith
 
 -- the same list in two worlds that differ by a renaming: they go on differing by it, and as many steps are dropped
-follow-steps : {old : ℕ} {to back : ℕ → ℕ} (ps : List Lease) (w v : World) (ss : List Step) → Fine w → Serials old (w .head .next) to back → 1 ≤ old
+follow-steps : {old : ℕ} {to back : ℕ → ℕ} (ps : List Hold) (w v : World) (ss : List Step) → Fine w → Serials old (w .head .next) to back → 1 ≤ old
     → Renamed to w v → Older old ps
     → Renamed to (after-all ps w ss) (after-all ps v (renamed-steps to ss)) × (dropped-in ps v (renamed-steps to ss) ≡ dropped-in ps w ss)
 unfolding after-all dropped-in renamed-steps
@@ -176,7 +176,7 @@ follow-steps {to = to} ps w v (s ∷ ss) f z o r y =
 -- ---- one exchange, and what follows it
 
 -- the statement with the worlds compared cell by cell
-record Renamed-steps (ps : List Lease) (w : World) (ss ts : List Step) : Type 0 where
+record Renamed-steps (ps : List Hold) (w : World) (ss ts : List Step) : Type 0 where
   to : ℕ → ℕ
   back : ℕ → ℕ
   serials : Serials (w .head .next) (after-all ps w ss .head .next) to back
@@ -184,25 +184,25 @@ record Renamed-steps (ps : List Lease) (w : World) (ss ts : List Step) : Type 0 
   drops : dropped-in ps w ts ≡ dropped-in ps w ss
 
 -- the same world and as many dropped: nothing is renamed
-unmoved : (ps : List Lease) (w : World) (ss ts : List Step) → after-all ps w ts ≡ after-all ps w ss → dropped-in ps w ts ≡ dropped-in ps w ss
+unmoved : (ps : List Hold) (w : World) (ss ts : List Step) → after-all ps w ts ≡ after-all ps w ss → dropped-in ps w ts ≡ dropped-in ps w ss
     → Renamed-steps ps w ss ts
 unmoved ps w ss ts e d =
     record { to = λ s. s; back = λ s. s; serials = identity _ _; world = unrenamed (after-all ps w ss) (after-all ps w ts) e; drops = d }
 
 -- two neighbours exchanged that leave the same world
-beside : (ps : List Lease) (w : World) (s t : Step) (ss : List Step) → Swapped ps w s t → Renamed-steps ps w (s ∷ t ∷ ss) (t ∷ s ∷ ss)
+beside : (ps : List Hold) (w : World) (s t : Step) (ss : List Step) → Swapped ps w s t → Renamed-steps ps w (s ∷ t ∷ ss) (t ∷ s ∷ ss)
 unfolding after-all dropped-in
 beside ps w s t ss x =
     unmoved ps w (s ∷ t ∷ ss) (t ∷ s ∷ ss) (ap (λ (v : World). after-all ps v ss) (x .state))
     (omega (arith, x .first-drop, x .second-drop, ap (λ (v : World). dropped-in ps v ss) (x .state)))
 
-grows-all : (ps : List Lease) (w : World) (ss : List Step) → w .head .next ≤ after-all ps w ss .head .next
+grows-all : (ps : List Hold) (w : World) (ss : List Step) → w .head .next ≤ after-all ps w ss .head .next
 unfolding after-all
 grows-all ps w [] = omega arith
 grows-all ps w (s ∷ ss) = omega (arith, grows-leaves ps w s, grows-all ps (leaves ps w s) ss)
 
 -- two takes exchanged, and the steps behind them renamed
-exchange : (ps : List Lease) (w : World) (c n d m : ℕ) (ss : List Step) → Fine w → c ≢ d → Older (w .head .next) ps
+exchange : (ps : List Hold) (w : World) (c n d m : ℕ) (ss : List Step) → Fine w → c ≢ d → Older (w .head .next) ps
     → Both-legal ps w (take-step c n) (take-step d m)
     → Renamed-steps ps w (take-step c n ∷ take-step d m ∷ ss) (take-step d m ∷ take-step c n ∷ renamed-steps (flip (w .head .next)) ss)
 unfolding after-all dropped-in
@@ -228,11 +228,11 @@ exchange ps w c n d m ss f x y l =
 
 -- ---- any number of exchanges
 
-older-still : (m n : ℕ) (ps : List Lease) → m ≤ n → Older m ps → Older n ps
+older-still : (m n : ℕ) (ps : List Hold) → m ≤ n → Older m ps → Older n ps
 older-still m n [] l y = tt
 older-still m n (p ∷ ps) l y = (omega (arith, y .0), older-still m n ps l (y .1))
 
-retake : (ps : List Lease) (w : World) {ss ts : List Step} → Fine w → Older (w .head .next) ps → Retaken ps w ss ts → Renamed-steps ps w ss ts
+retake : (ps : List Hold) (w : World) {ss ts : List Step} → Fine w → Older (w .head .next) ps → Retaken ps w ss ts → Renamed-steps ps w ss ts
 unfolding after-all dropped-in
 retake ps w {ss = ss} f y same = unmoved ps w ss ss refl refl
 retake ps w f y (neighbours {s = s} {t = t} {ss = ss} p) = beside ps w s t ss (swapped ps w s t f p)

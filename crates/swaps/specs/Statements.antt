@@ -6,10 +6,10 @@ use mathlib.Core.List.{List, [], _∷_, _++_}
 use mathlib.Core.Logic.{_≢_, _⊎_}
 use lib.ListN.{length}
 use Rattle.model.specs.Log.{Actor, Event, took}
-use Rattle.model.specs.Arena.{bitAt, ownerAt, waitersAt, leasesOf}
+use Rattle.model.specs.Arena.{bitAt, ownerAt, waitersAt, holdsOf}
 use Rattle.model.specs.Foreign.{flowOf, boundaryOf}
 use Rattle.model.specs.Calls.{given, environmentOf}
-use Rattle.types.specs.declared.Lease.{Lease}
+use Rattle.types.specs.declared.Hold.{Hold}
 use Rattle.types.specs.declared.Played.{Played}
 use Rattle.history.specs.World.{World, Live, step, now, Lawful, Whole as Arena-whole, Kind, number-of}
 use Rattle.history.specs.Items.{Call, perform, foreign-step, Item, Course, run}
@@ -25,17 +25,17 @@ Sound-whole = (w : World) → Arena-whole w → Whole w
 -- ---- two foreign steps. "Releases keep their protected set fixed across the swap": one list `ps` for both orders.
 
 -- "both legal in the first order": each in the state in which it happens
-pub record Both-legal (ps : List Lease) (w : World) (s t : Step) : Type 0 where
+pub record Both-legal (ps : List Hold) (w : World) (s t : Step) : Type 0 where
   pub first-legal : dropped ps w s ≡ 0
   pub second-legal : dropped ps (leaves ps w s) t ≡ 0
 
 -- "the same state either way": both legal in the other order too, and the same head, table and health
-pub record Same-either-way (ps : List Lease) (w : World) (s t : Step) : Type 0 where
+pub record Same-either-way (ps : List Hold) (w : World) (s t : Step) : Type 0 where
   pub legal : Both-legal ps w t s
   pub state : leaves ps (leaves ps w t) s ≡ leaves ps (leaves ps w s) t
 
 abbrev pub Swap : Step → Step → Type 0
-Swap s t = (ps : List Lease) (w : World) → Whole w → Both-legal ps w s t → Same-either-way ps w s t
+Swap s t = (ps : List Hold) (w : World) → Whole w → Both-legal ps w s t → Same-either-way ps w s t
 
 -- "for steps on two different cells .. two releases give the same state either way"
 abbrev pub Two-releases : Type 0
@@ -88,13 +88,13 @@ Two-healths = (i n j m : ℕ) → i ≢ j → Swap (health-step i n) (health-ste
 
 -- "Two takes give the same bits and next serial but exchange the two owners, the named exception": both legal in the other order, the same
 -- head and health, and one table is the other with those two owner words exchanged
-pub record Owners-exchanged (ps : List Lease) (w : World) (s t : Step) (c d : ℕ) : Type 0 where
+pub record Owners-exchanged (ps : List Hold) (w : World) (s t : Step) (c d : ℕ) : Type 0 where
   pub legal : Both-legal ps w t s
   pub state : leaves ps (leaves ps w t) s ≡ on-table (exchanged c d) (leaves ps (leaves ps w s) t)
 
 abbrev pub Two-takes : Type 0
 Two-takes =
-    (ps : List Lease) (w : World) (c n d m : ℕ) → Whole w → c ≢ d
+    (ps : List Hold) (w : World) (c n d m : ℕ) → Whole w → c ≢ d
     → Both-legal ps w (take-step c n) (take-step d m) → Owners-exchanged ps w (take-step c n) (take-step d m) c d
 
 -- what `exchanged` does to a table, word by word
@@ -110,7 +110,7 @@ Exchanged-words = (c d : ℕ) (t : List ℕ) → c ≢ d → 3 * c + 1 < length 
 
 -- ---- steps with any words, legal or not: the same world either way, and each step is dropped in both orders or in none
 
-pub record Swapped (ps : List Lease) (w : World) (s t : Step) : Type 0 where
+pub record Swapped (ps : List Hold) (w : World) (s t : Step) : Type 0 where
   pub state : leaves ps (leaves ps w t) s ≡ leaves ps (leaves ps w s) t
   pub first-drop : dropped ps (leaves ps w t) s ≡ dropped ps w s
   pub second-drop : dropped ps (leaves ps w s) t ≡ dropped ps w t
@@ -124,12 +124,12 @@ abbrev pub Other-kinds : Type 0
 Other-kinds = (s t : Step) → (s .kind ≡ 0) ⊎ (5 ≤ s .kind) → Parted s t
 
 abbrev pub Any-steps : Type 0
-Any-steps = (ps : List Lease) (w : World) (s t : Step) → Whole w → Parted s t → Swapped ps w s t
+Any-steps = (ps : List Hold) (w : World) (s t : Step) → Whole w → Parted s t → Swapped ps w s t
 
 -- two takes of which one is dropped in the state before them both
 abbrev pub Idle-take : Type 0
 Idle-take =
-    (ps : List Lease) (w : World) (c n d m : ℕ) → c ≢ d
+    (ps : List Hold) (w : World) (c n d m : ℕ) → c ≢ d
     → (dropped ps w (take-step c n) ≡ 1) ⊎ (dropped ps w (take-step d m) ≡ 1) → Swapped ps w (take-step c n) (take-step d m)
 
 -- ---- two events, by caller or script
@@ -158,7 +158,7 @@ Logs-reordered = (w : World) (es fs : List Event) → Whole w → Reordered es f
 
 abbrev pub Steps-shuffled : Type 0
 Steps-shuffled =
-    (ps : List Lease) (w : World) (ss ts : List Step) → Whole w → Shuffled ss ts
+    (ps : List Hold) (w : World) (ss ts : List Step) → Whole w → Shuffled ss ts
     → (after-all ps w ts ≡ after-all ps w ss) × (dropped-in ps w ts ≡ dropped-in ps w ss)
 
 -- the lone foreign steps of a history: nobody's lease is protected
@@ -186,7 +186,7 @@ pub record Alike-renamed (w : World) (es fs : List Event) : Type 0 where
 abbrev pub Logs-recast : Type 0
 Logs-recast = (w : World) (es fs : List Event) → Whole w → Recast es fs → Lawful w es → Alike-renamed w es fs
 
-pub record Steps-renamed (ps : List Lease) (w : World) (ss ts : List Step) : Type 0 where
+pub record Steps-renamed (ps : List Hold) (w : World) (ss ts : List Step) : Type 0 where
   pub to : ℕ → ℕ
   pub back : ℕ → ℕ
   pub serials : Serials (w .head .next) (after-all ps w ss .head .next) to back
@@ -196,15 +196,15 @@ pub record Steps-renamed (ps : List Lease) (w : World) (ss ts : List Step) : Typ
 -- the protected leases are from before the list, as every live lease is (`live-older`)
 abbrev pub Steps-retaken : Type 0
 Steps-retaken =
-    (ps : List Lease) (w : World) (ss ts : List Step) → Whole w → Older (w .head .next) ps → Retaken ps w ss ts → Steps-renamed ps w ss ts
+    (ps : List Hold) (w : World) (ss ts : List Step) → Whole w → Older (w .head .next) ps → Retaken ps w ss ts → Steps-renamed ps w ss ts
 
 -- every lease that is live was issued before
-abbrev pub All-live : World → List Lease → Type 0
+abbrev pub All-live : World → List Hold → Type 0
 All-live w [] = Unit {0}
 All-live w (l ∷ ls) = Live w l × All-live w ls
 
 abbrev pub Live-older : Type 0
-Live-older = (w : World) (ps : List Lease) → All-live w ps → Older (w .head .next) ps
+Live-older = (w : World) (ps : List Hold) → All-live w ps → Older (w .head .next) ps
 
 -- what `renamed-owners` does to a table of n cells, word by word
 pub record Renames (to : ℕ → ℕ) (n : ℕ) (t : List ℕ) : Type 0 where
@@ -226,7 +226,7 @@ Issued-stay =
 
 abbrev pub Boundary-runs : Type 0
 Boundary-runs =
-    (ps : List Lease) (w : World) (pre ss post : List Step) (d : ℕ) → Unended ss → Ended post
+    (ps : List Hold) (w : World) (pre ss post : List Step) (d : ℕ) → Unended ss → Ended post
     → let v = after-all ps w ss in
     boundaryOf (given (w .head) (scriptOf (pre ++ (ss ++ post))) ps) (flowOf (w .head .next) (length pre) d) (w .table) (w .health) .seen
     ≡ (flowOf (v .head .next) (length pre + length ss + ends post) (d + dropped-in ps w ss), (v .table, v .health))
@@ -251,6 +251,6 @@ pub record Reply-renamed (w : World) (o p : Played × (List ℕ × List ℕ)) : 
 abbrev pub Environment-retaken : Type 0
 Environment-retaken =
     (w : World) (held : List ℕ) (pre ss ts post : List Step) → Whole w → Unended ss → Ended post
-    → Older (w .head .next) (leasesOf held) → Retaken (leasesOf held) w ss ts
+    → Older (w .head .next) (holdsOf held) → Retaken (holdsOf held) w ss ts
     → Reply-renamed w (environmentOf (w .head) (w .table) (w .health) (scriptOf (pre ++ (ss ++ post))) (length pre) held .seen)
     (environmentOf (w .head) (w .table) (w .health) (scriptOf (pre ++ (ts ++ post))) (length pre) held .seen)

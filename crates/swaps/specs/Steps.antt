@@ -9,7 +9,7 @@ use Rattle.model.specs.Log.{Made}
 use Rattle.model.specs.Arena.{shapeFits, spentTo, ownerAt, stateAt}
 use Rattle.model.specs.Foreign.{stepOf}
 use Rattle.model.specs.Calls.{given}
-use Rattle.types.specs.declared.Lease.{Lease}
+use Rattle.types.specs.declared.Hold.{Hold}
 use Rattle.types.specs.declared.State.the-variants as state
 use Rattle.types.specs.declared.Stepped.{Stepped}
 use Rattle.history.specs.World.{World, worldOf, cells}
@@ -46,15 +46,15 @@ abbrev pub health-step : ℕ → ℕ → Step
 health-step i n = stepWords 4 i n
 
 -- the definition of a step, in this world and with these leases protected
-abbrev pub does : List Lease → World → Step → Made (Stepped × (List ℕ × List ℕ))
+abbrev pub does : List Hold → World → Step → Made (Stepped × (List ℕ × List ℕ))
 does ps w s = stepOf (given (w .head) [] ps) (w .head .next) (w .table) (w .health) (s .kind) (s .place) (s .number)
 
 -- the world it leaves: head, table and health
-abbrev pub leaves : List Lease → World → Step → World
+abbrev pub leaves : List Hold → World → Step → World
 leaves ps w s = worldOf (spentTo (w .head) (does ps w s .seen .0 .next)) (does ps w s .seen .1 .0) (does ps w s .seen .1 .1)
 
 -- "Place out of range, another kind, or not legal: dropped, counted": 1 if it is dropped, 0 if it is legal
-abbrev pub dropped : List Lease → World → Step → ℕ
+abbrev pub dropped : List Hold → World → Step → ℕ
 dropped ps w s = does ps w s .seen .0 .dropped
 
 -- ---- a table in which only owners differ
@@ -83,11 +83,11 @@ pub record Parted (s t : Step) : Type 0 where
 
 -- ---- lists of steps, oldest first
 
-unfoldable pub after-all : List Lease → World → List Step → World
+unfoldable pub after-all : List Hold → World → List Step → World
 after-all ps w [] = w
 after-all ps w (s ∷ ss) = after-all ps (leaves ps w s) ss
 
-unfoldable pub dropped-in : List Lease → World → List Step → ℕ
+unfoldable pub dropped-in : List Hold → World → List Step → ℕ
 dropped-in ps w [] = 0
 dropped-in ps w (s ∷ ss) = dropped ps w s + dropped-in ps (leaves ps w s) ss
 

@@ -7,15 +7,15 @@ use lib.Dec.{eqb}
 use lib.ListN.{length, take}
 use Rattle.choice.specs.Choice.{if_then_else_}
 use Rattle.model.specs.Log.{Made}
-use Rattle.model.specs.Arena.{headerOf, isPoisoned, waitersAt, setCell, leaseOf}
+use Rattle.model.specs.Arena.{headerOf, isPoisoned, waitersAt, setCell, holdOf}
 use Rattle.model.specs.Foreign.{flowOf, boundaryOf}
-use Rattle.model.specs.Lock.{takeOf, afterTake, lateOf, secondOf, lockOf, runOf, findOf, attemptAt, attemptOf, spinOf, pauseOf, isBusy, retryOf, leaseAt, giveBackOf, rollbackOf, afterKey, bindingAt, bucketAt, attemptLimit, noneYet, Locks, locksOf}
+use Rattle.model.specs.Lock.{takeOf, afterTake, lateOf, secondOf, lockOf, runOf, findOf, attemptAt, attemptOf, spinOf, pauseOf, isBusy, retryOf, holdAt, giveBackOf, rollbackOf, afterKey, bindingAt, bucketAt, attemptLimit, noneYet, Locks, locksOf}
 use Rattle.model.specs.Calls.{given}
 use Rattle.types.specs.declared.Flow.{Flow}
 use Rattle.types.specs.declared.Found.{Found}
 use Rattle.types.specs.declared.Found.the-variants as found
 use Rattle.types.specs.declared.Head.{Head}
-use Rattle.types.specs.declared.Lease.{Lease}
+use Rattle.types.specs.declared.Hold.{Hold}
 use Rattle.types.specs.declared.Locked.{Locked}
 use Rattle.types.specs.declared.Outcome.{Outcome}
 use Rattle.types.specs.declared.Outcome.the-variants as outcome
@@ -28,7 +28,7 @@ use Rattle.swaps.specs.Boundaries.{Ran, Same}
 
 -- two scripts, and what a call keeps up: then a boundary over either gives one result, and it is kept up by boundaries, takes and releases
 pub record Twins (h : Head) (a b : List ℕ) (Good : Ran → Type 0) : Type 0 where
-  pub boundaries : (ps : List Lease) (f : Flow) (t g : List ℕ) → Good (f, (t, g))
+  pub boundaries : (ps : List Hold) (f : Flow) (t g : List ℕ) → Good (f, (t, g))
       → Same Good (boundaryOf (given h a ps) f t g .seen) (boundaryOf (given h b ps) f t g .seen)
   pub takes : (f : Flow) (t g : List ℕ) (c : ℕ) → Good (f, (t, g))
       → Good (flowOf (takeOf (f .next) t c .seen .0 .next) (f .place) (f .dropped), (takeOf (f .next) t c .seen .1, g))
@@ -45,11 +45,11 @@ module _ {h : Head} {a b : List ℕ} {Good : Ran → Type 0} (tw : Twins h a b G
   abbrev Locking : Made (Locked × (List ℕ × List ℕ)) → Made (Locked × (List ℕ × List ℕ)) → Type 0
   Locking m n = Same (λ (o : Locked × (List ℕ × List ℕ)). Good (o .0 .flow, o .1)) (m .seen) (n .seen)
 
-  late-alike : (ps : List Lease) (buckets : ℕ) (f : Flow) (t g : List ℕ) (c s : ℕ) → Good (f, (t, g))
+  late-alike : (ps : List Hold) (buckets : ℕ) (f : Flow) (t g : List ℕ) (c s : ℕ) → Good (f, (t, g))
       → Locking (lateOf (given h a ps) buckets f t g c s) (lateOf (given h b ps) buckets f t g c s)
   unfolding lateOf
   late-alike ps buckets f t g c s x =
-      let qs = ps ++ (leaseOf c s ∷ []) in
+      let qs = ps ++ (holdOf c s ∷ []) in
       let m = boundaryOf (given h a qs) f t g .seen in
       let r = tw .boundaries qs f t g x in
       rw (r .equal)
@@ -57,7 +57,7 @@ module _ {h : Head} {a b : List ℕ} {Good : Ran → Type 0} (tw : Twins h a b G
       (if-two Locking (eqb (waitersAt (m .1 .0) c) 0) (record { equal = refl; good = r .good })
       (record { equal = refl; good = tw .frees (m .0) (m .1 .0) (m .1 .1) c (r .good) })))
 
-  second-alike : (ps : List Lease) (buckets : ℕ) (f : Flow) (t g : List ℕ) (c : ℕ) → Good (f, (t, g))
+  second-alike : (ps : List Hold) (buckets : ℕ) (f : Flow) (t g : List ℕ) (c : ℕ) → Good (f, (t, g))
       → Locking (secondOf (given h a ps) buckets f t g c) (secondOf (given h b ps) buckets f t g c)
   unfolding secondOf
   second-alike ps buckets f t g c x =
@@ -73,7 +73,7 @@ module _ {h : Head} {a b : List ℕ} {Good : Ran → Type 0} (tw : Twins h a b G
       go taking.Damaged f t g x = record { equal = refl; good = x }
       go taking.Spent f t g x = record { equal = refl; good = x }
 
-  pub lock-alike : (ps : List Lease) (buckets : ℕ) (f : Flow) (t g : List ℕ) (c : ℕ) → Good (f, (t, g))
+  pub lock-alike : (ps : List Hold) (buckets : ℕ) (f : Flow) (t g : List ℕ) (c : ℕ) → Good (f, (t, g))
       → Locking (lockOf (given h a ps) buckets f t g c) (lockOf (given h b ps) buckets f t g c)
   unfolding lockOf
   lock-alike ps buckets f t g c x =
@@ -90,7 +90,7 @@ module _ {h : Head} {a b : List ℕ} {Good : Ran → Type 0} (tw : Twins h a b G
   abbrev Running : Made (Run × (List ℕ × List ℕ)) → Made (Run × (List ℕ × List ℕ)) → Type 0
   Running m n = Same (λ (o : Run × (List ℕ × List ℕ)). Good (o .0 .flow, o .1)) (m .seen) (n .seen)
 
-  module _ (ps : List Lease) (buckets : ℕ) (registry : List ℕ) (binding bucket : ℕ) where
+  module _ (ps : List Hold) (buckets : ℕ) (registry : List ℕ) (binding bucket : ℕ) where
     pub attempt-alike : (r : Run) (t g : List ℕ) → Good (r .flow, (t, g))
         → Trying (attemptOf (given h a ps) buckets registry binding bucket r t g) (attemptOf (given h b ps) buckets registry binding bucket r t g)
     unfolding attemptOf
@@ -126,19 +126,19 @@ module _ {h : Head} {a b : List ℕ} {Good : Ran → Type 0} (tw : Twins h a b G
 
   -- ---- giving back, and multi-lock
 
-  pub back-alike : (n : ℕ) (ps ls : List Lease) (r : Run) (t g : List ℕ) → Good (r .flow, (t, g))
+  pub back-alike : (n : ℕ) (ps ls : List Hold) (r : Run) (t g : List ℕ) → Good (r .flow, (t, g))
       → Running (giveBackOf n (given h a ps) ls r t g) (giveBackOf n (given h b ps) ls r t g)
   unfolding giveBackOf
   back-alike zero ps ls r t g x = record { equal = refl; good = x }
   back-alike (suc n) ps ls r t g x =
-      let u = setCell t (leaseAt ls n .cell) 0 0 in
+      let u = setCell t (holdAt ls n .cell) 0 0 in
       let m = boundaryOf (given h a (ps ++ take n ls)) (r .flow) u g .seen in
-      let k = tw .boundaries (ps ++ take n ls) (r .flow) u g (tw .frees (r .flow) t g (leaseAt ls n .cell) x) in
+      let k = tw .boundaries (ps ++ take n ls) (r .flow) u g (tw .frees (r .flow) t g (holdAt ls n .cell) x) in
       rw (k .equal) (back-alike n ps ls (runOf (m .0) (r .attempts) (r .boundaries + 1) (r .yields)) (m .1 .0) (m .1 .1) (k .good))
 
-  module _ (ps : List Lease) (buckets : ℕ) (registry keys grants : List ℕ) where
-    pub locks-alike : (left p : ℕ) (taken : List Lease) (r : Run) (t g : List ℕ) → Good (r .flow, (t, g))
-        → locksOf left p (given h b ps) buckets registry keys taken r t g grants .seen ≡ locksOf left p (given h a ps) buckets registry keys taken r t g grants .seen
+  module _ (ps : List Hold) (buckets boot : ℕ) (registry keys grants : List ℕ) where
+    pub locks-alike : (left p : ℕ) (taken : List Hold) (r : Run) (t g : List ℕ) → Good (r .flow, (t, g))
+        → locksOf left p (given h b ps) buckets boot registry keys taken r t g grants .seen ≡ locksOf left p (given h a ps) buckets boot registry keys taken r t g grants .seen
     unfolding locksOf rollbackOf
     locks-alike zero p taken r t g x = refl
     locks-alike (suc left) p taken r t g x =
@@ -146,11 +146,11 @@ module _ {h : Head} {a b : List ℕ} {Good : Ran → Type 0} (tw : Twins h a b G
         let k = retry-alike (ps ++ taken) buckets registry (bindingAt keys p) (bucketAt keys p) attemptLimit 0 noneYet r t g x in
         rw (k .equal)
         (go (m .0 .run) (m .1 .0) (m .1 .1) (m .0 .outcome)
-        (λ l. locksOf left (p + 1) (given h a ps) buckets registry keys (taken ++ (l ∷ [])) (m .0 .run) (m .1 .0) (m .1 .1) grants)
-        (λ l. locksOf left (p + 1) (given h b ps) buckets registry keys (taken ++ (l ∷ [])) (m .0 .run) (m .1 .0) (m .1 .1) grants)
+        (λ l. locksOf left (p + 1) (given h a ps) buckets boot registry keys (taken ++ (l ∷ [])) (m .0 .run) (m .1 .0) (m .1 .1) grants)
+        (λ l. locksOf left (p + 1) (given h b ps) buckets boot registry keys (taken ++ (l ∷ [])) (m .0 .run) (m .1 .0) (m .1 .1) grants)
         (λ l. locks-alike left (p + 1) (taken ++ (l ∷ [])) (m .0 .run) (m .1 .0) (m .1 .1) (k .good)) (k .good))
       where
-        go : (k : Run) (u w : List ℕ) (y : Outcome) (more more′ : Lease → Made Locks) → ((l : Lease) → more′ l .seen ≡ more l .seen) → Good (k .flow, (u, w))
+        go : (k : Run) (u w : List ℕ) (y : Outcome) (more more′ : Hold → Made Locks) → ((l : Hold) → more′ l .seen ≡ more l .seen) → Good (k .flow, (u, w))
             → afterKey y (given h b ps) taken p k u w grants more′ .seen ≡ afterKey y (given h a ps) taken p k u w grants more .seen
         go k u w (outcome.Granted l) more more′ f x = f l
         go k u w (outcome.Busy why) more more′ f x = let r = back-alike (length taken) ps taken k u w x in rw (r .equal)

@@ -146,7 +146,8 @@ unfolding withOf
 with-count got v =
     if-both (λ (o : Numbers). o .count ≡ got .count + 1) (eqb (got .count) 0) refl
     (if-both (λ (o : Numbers). o .count ≡ got .count + 1) (eqb (got .count) 1) refl
-    (if-both (λ (o : Numbers). o .count ≡ got .count + 1) (eqb (got .count) 2) refl refl))
+    (if-both (λ (o : Numbers). o .count ≡ got .count + 1) (eqb (got .count) 2) refl
+    (if-both (λ (o : Numbers). o .count ≡ got .count + 1) (eqb (got .count) 3) refl refl)))
 
 pub numbers-end : (n : ℕ) (got : Numbers) (l : List ℕ) (i : ℕ) → length l ≤ i → numbersFrom n got (drop i l) ≡ got
 unfolding numbersFrom

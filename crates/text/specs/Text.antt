@@ -43,15 +43,19 @@ unfoldable pub spacedOf : List ℕ → Number
 spacedOf l = if eqb (getD l 0 0) 32 then readNumberOf (drop 1 l) else noNumber
 
 abbrev pub counted : Bool → Numbers
-counted fine = record { fine = fine; count = 0; a = 0; b = 0; c = 0 }
+counted fine = record { fine = fine; count = 0; a = 0; b = 0; c = 0; d = 0 }
 
--- one number more; the first three are kept
+abbrev pub firstFour : ℕ → ℕ → ℕ → ℕ → ℕ → Numbers
+firstFour count a b c d = record { fine = true; count = count; a = a; b = b; c = c; d = d }
+
+-- one number more; the first four are kept
 unfoldable pub withOf : Numbers → ℕ → Numbers
 withOf got value =
-    if eqb (got .count) 0 then record { fine = true; count = got .count + 1; a = value; b = 0; c = 0 } else
-    if eqb (got .count) 1 then record { fine = true; count = got .count + 1; a = got .a; b = value; c = 0 } else
-    if eqb (got .count) 2 then record { fine = true; count = got .count + 1; a = got .a; b = got .b; c = value } else
-    record { fine = true; count = got .count + 1; a = got .a; b = got .b; c = got .c }
+    if eqb (got .count) 0 then firstFour (got .count + 1) value 0 0 0 else
+    if eqb (got .count) 1 then firstFour (got .count + 1) (got .a) value 0 0 else
+    if eqb (got .count) 2 then firstFour (got .count + 1) (got .a) (got .b) value 0 else
+    if eqb (got .count) 3 then firstFour (got .count + 1) (got .a) (got .b) (got .c) value else
+    firstFour (got .count + 1) (got .a) (got .b) (got .c) (got .d)
 
 -- the numbers to the end, in at most n turns, of which each takes a byte or more
 unfoldable pub numbersFrom : ℕ → Numbers → List ℕ → Numbers

@@ -8,7 +8,7 @@ ghost use lib.Dec.{eqb, ltb, leb};
 ghost use lib.ListN.{length, getD, drop};
 ghost use Rattle.io.specs.Counts.{Counts};
 ghost use Rattle.text.specs.Text.{before, isDigit, noNumber, endedNumberOf, readNumberOf, spacedOf, withOf};
-ghost use Rattle.text.specs.Text.{counted};
+ghost use Rattle.text.specs.Text.{counted, firstFour};
 ghost use Rattle.text.specs.Text.{numbersFrom};
 
 // A number that was read: whether one stands there, its value, and how many digits it has.
@@ -18,13 +18,14 @@ pub struct Number {
     pub digits: usize,
 }
 
-// The numbers of a line: whether the line has nothing else, how many there are, and the first three.
+// The numbers of a line: whether the line has nothing else, how many there are, and the first four.
 pub struct Numbers {
     pub fine: bool,
     pub count: usize,
     pub a: u32,
     pub b: u32,
     pub c: u32,
+    pub d: u32,
 }
 
 // ---- splitting
@@ -146,6 +147,21 @@ fn no_numbers(fine: bool) -> Numbers
         a: 0,
         b: 0,
         c: 0,
+        d: 0,
+    }
+}
+
+// So many numbers, and the first four of them.
+fn first_four(count: usize, a: u32, b: u32, c: u32, d: u32) -> Numbers
+    ensures { λ r. ⌜ r ≡ firstFour count a b c d ⌝ }
+{
+    Numbers {
+        fine: true,
+        count,
+        a,
+        b,
+        c,
+        d,
     }
 }
 
@@ -156,39 +172,18 @@ fn with(got: Numbers, value: u32) -> Numbers
 {
     let count = got.count + 1;
     if got.count == 0 {
-        return Numbers {
-            fine: true,
-            count,
-            a: value,
-            b: 0,
-            c: 0,
-        };
+        return first_four(count, value, 0, 0, 0);
     }
     if got.count == 1 {
-        return Numbers {
-            fine: true,
-            count,
-            a: got.a,
-            b: value,
-            c: 0,
-        };
+        return first_four(count, got.a, value, 0, 0);
     }
     if got.count == 2 {
-        return Numbers {
-            fine: true,
-            count,
-            a: got.a,
-            b: got.b,
-            c: value,
-        };
+        return first_four(count, got.a, got.b, value, 0);
     }
-    Numbers {
-        fine: true,
-        count,
-        a: got.a,
-        b: got.b,
-        c: got.c,
+    if got.count == 3 {
+        return first_four(count, got.a, got.b, got.c, value);
     }
+    first_four(count, got.a, got.b, got.c, got.d)
 }
 
 // The number behind one space, at `at`.

@@ -37,12 +37,12 @@ shapeFits h words = headFits h && eqb words (3 * cellsOf h)
 unfoldable pub healthFits : Head → ℕ → Bool
 healthFits h bytes = eqb bytes (h .headers)
 
-abbrev pub headOf : ℕ → ℕ → ℕ → Head
-headOf h b n = record { headers = h; buckets = b; next = n }
+abbrev pub headOf : ℕ → ℕ → ℕ → ℕ → Head
+headOf h b n k = record { headers = h; buckets = b; next = n; boot = k }
 
--- the same arena with another next serial
+-- the same arena with another next serial; the boot number stays
 abbrev pub spentTo : Head → ℕ → Head
-spentTo h n = headOf (h .headers) (h .buckets) n
+spentTo h n = headOf (h .headers) (h .buckets) n (h .boot)
 
 -- "next serial issued": the serial, and the head without it
 unfoldable pub issueOf : Head → Issue

@@ -3,7 +3,7 @@ use Prim.Native.Nat.{ℕ}
 use Rattle.types.specs.declared.Reason.{Reason}
 use Rattle.types.specs.declared.Reason.the-variants as reason
 use Rattle.types.specs.declared.Refusal.{Refusal}
-use Rattle.types.specs.declared.Refusal.the-variants.{BadShape, BadScript, BadHeld, TooMany, BadBinding, BadHeader, Poisoned, InvalidBucket, Damaged, SerialsSpent, SerializationFailure, NotHeld, Protected, Repeated, BadCrew}
+use Rattle.types.specs.declared.Refusal.the-variants.{BadShape, BadScript, BadHeld, TooMany, BadBinding, BadHeader, Poisoned, InvalidBucket, Damaged, SerialsSpent, SerializationFailure, NotHeld, Protected, Repeated, BadCrew, StaleBoot}
 
 -- a reason's number
 abbrev pub reasonNumber : Reason → ℕ
@@ -17,7 +17,7 @@ reasonSerial (reason.Held s) = s
 reasonSerial reason.Before = 0
 reasonSerial (reason.After s) = s
 
--- document 01, "Numbers of the refusals", the columns "no." and "carries"
+-- document 01, "Numbers of the refusals", the columns "no." and "carries"; 16 is of document 02, L8
 abbrev pub numberOf : Refusal → ℕ
 numberOf BadShape = 1
 numberOf BadScript = 2
@@ -34,6 +34,7 @@ numberOf (NotHeld k) = 12
 numberOf Protected = 13
 numberOf (Repeated k) = 14
 numberOf (BadCrew k) = 15
+numberOf (StaleBoot k) = 16
 
 abbrev pub carriedOf : Refusal → ℕ
 carriedOf BadShape = 0
@@ -51,3 +52,4 @@ carriedOf (NotHeld k) = k
 carriedOf Protected = 0
 carriedOf (Repeated k) = k
 carriedOf (BadCrew k) = k
+carriedOf (StaleBoot k) = k

@@ -4,15 +4,24 @@ ghost use mathlib.Core.Path.{_≡_};
 ghost use Rattle.types.specs.Head.{serialRemains, shapeFits, healthFits, issueOf, spentTo};
 ghost use Rattle.types.specs.Numbers.{reasonNumber, reasonSerial, numberOf, carriedOf};
 
-// The head: header slots H, buckets per header B, and the next serial. It is handed over and given back by value.
+// The head: header slots H, buckets per header B, the next serial, and the boot number that its preparation was given
+// (document 02, L8). It is handed over and given back by value.
 pub struct Head {
     pub headers: u32,
     pub buckets: u32,
     pub next: u32,
+    pub boot: u32,
 }
 
-// A lease: a cell and the serial that owns it.
+// A lease, as callers hold it: a cell, the serial that owns it, and the boot number of the head that gave it.
 pub struct Lease {
+    pub cell: u32,
+    pub serial: u32,
+    pub boot: u32,
+}
+
+// What is left of a lease where its boot number is known to be the head's: the steps inside a call go by these pairs.
+pub struct Hold {
     pub cell: u32,
     pub serial: u32,
 }
@@ -44,7 +53,7 @@ pub enum Reason {
     After(u32),
 }
 
-// The fifteen refusals, with what each carries (11 carries 4,096, which is the same for all, and the reason of the last
+// The sixteen refusals, with what each carries (11 carries 4,096, which is the same for all, and the reason of the last
 // attempt).
 pub enum Refusal {
     BadShape,
@@ -62,6 +71,7 @@ pub enum Refusal {
     Protected,
     Repeated(usize),
     BadCrew(usize),
+    StaleBoot(usize),
 }
 
 // What the checks of a call come to.
@@ -145,7 +155,7 @@ pub struct Took {
 
 // What an attempt comes to.
 pub enum Outcome {
-    Granted(Lease),
+    Granted(Hold),
     Busy(Reason),
     Refused(Refusal),
 }
@@ -253,6 +263,7 @@ impl Head {
             headers: self.headers,
             buckets: self.buckets,
             next,
+            boot: self.boot,
         }
     }
 }
@@ -302,6 +313,7 @@ impl Refusal {
             Refusal::Protected => 13,
             Refusal::Repeated(_) => 14,
             Refusal::BadCrew(_) => 15,
+            Refusal::StaleBoot(_) => 16,
         }
     }
 
@@ -325,6 +337,7 @@ impl Refusal {
             Refusal::Protected => 0,
             Refusal::Repeated(n) => n,
             Refusal::BadCrew(n) => n,
+            Refusal::StaleBoot(n) => n,
         }
     }
 }

@@ -7,7 +7,7 @@ use mathlib.Core.Bool.{false, not}
 use native.Mathlib.Omega.{arith}
 use borrow.Author.Tests.{not-false, leb-false}
 use Rattle.model.specs.Log.{by-caller, released}
-use Rattle.model.specs.Arena.{lastSerial, leaseOf, leasesOf, setCell}
+use Rattle.model.specs.Arena.{lastSerial, leaseOf, holdOf, holdIn, holdsOf, setCell}
 use Rattle.model.specs.Refusals.{Rule, first}
 use Rattle.model.specs.Checks.{badShape, badHeld, badHeldLength, heldCellRules, heldLeaseRules}
 use Rattle.model.specs.Calls.{acquireOf}
@@ -23,7 +23,7 @@ use Rattle.history.specs.Statements.{answers, leaves}
 use Rattle.history.specs.Judged.{clear-back, unchanged}
 use Rattle.history.specs.Tests.{In}
 use Rattle.history.specs.Events.{lives}
-use Rattle.upstream.specs.Vocabulary.{Key, cell, Authority, lease-key, lease-serial, next-serial, dom, contains-key, cells, Valid-cell, valid, authorized, protected-valid, held-ids, leases-authorized}
+use Rattle.upstream.specs.Vocabulary.{Key, cell, Authority, Own, lease-key, lease-serial, next-serial, dom, contains-key, cells, Valid-cell, valid, authorized, protected-valid, held-ids, leases-authorized}
 use Rattle.upstream.specs.Protocol.{step-grants, step-frees, bit-of}
 use Rattle.upstream.specs.Bridge.{live-cell, authorized-live, by-name, by-place, fits-sized, sized-now, refused, by-checks}
 use Rattle.upstream.specs.Refusing.{unauthorized, on-damaged, Fits, not-held, First-bad, held-refused, cell-refused, protected-refused}
@@ -65,7 +65,7 @@ module _ (w : Authority) (held : List ℕ) (c : Key) where
   acquire-preserving-borrows-r2 k n = refused w (acquire-preserving held c) (InvalidBucket c) (cell-refused (Before w held) w c k n)
 
   -- leases_authorized(old(authority), held@): 3, with the first position
-  pub acquire-preserving-borrows-r3 : (i : ℕ) → Fits w → badHeldLength held .applies ≡ false → First-bad w (leasesOf held) i
+  pub acquire-preserving-borrows-r3 : (i : ℕ) → Fits w → badHeldLength held .applies ≡ false → First-bad w held i
       → perform w (acquire-preserving held c) ≡ unchanged w (acquire-preserving held c) (BadHeld i)
   unfolding heldCellRules
   acquire-preserving-borrows-r3 i s b f =
@@ -74,32 +74,32 @@ module _ (w : Authority) (held : List ℕ) (c : Key) where
   pub acquire-preserving-borrows-e1 : valid w → valid final₁
   acquire-preserving-borrows-e1 = tries-valid tried
 
-  pub acquire-preserving-borrows-e2 : leases-authorized w (leasesOf held) → leases-authorized final₁ (leasesOf held)
+  pub acquire-preserving-borrows-e2 : leases-authorized w (holdsOf held) → leases-authorized final₁ (holdsOf held)
   acquire-preserving-borrows-e2 p i l = tries-keeps tried _ (p i l)
 
-  pub acquire-preserving-borrows-e3 : leases-authorized w (leasesOf held) → protected-valid final₁ (held-ids (leasesOf held))
-  acquire-preserving-borrows-e3 p = by-name final₁ (leasesOf held) (acquire-preserving-borrows-e2 p)
+  pub acquire-preserving-borrows-e3 : leases-authorized w (holdsOf held) → protected-valid final₁ (held-ids (holdsOf held))
+  acquire-preserving-borrows-e3 p = by-name final₁ (holdsOf held) (acquire-preserving-borrows-e2 p)
 
   pub acquire-preserving-borrows-e4 : dom final₁ ≡ dom w
   acquire-preserving-borrows-e4 = tries-keys tried
 
   -- "gain 'and a serial remains', else SerialsSpent"
-  pub acquire-preserving-borrows-e5 : Fits w → Short held → valid w → contains-key w c → leases-authorized w (leasesOf held) → cells w c .bit ≡ 0
-      → (next-serial w < lastSerial → result₁ ≡ Granted (leaseOf c (next-serial w))) × (lastSerial ≤ next-serial w → result₁ ≡ Refused (SerialsSpent c))
+  pub acquire-preserving-borrows-e5 : Fits w → Short w held → valid w → contains-key w c → leases-authorized w (holdsOf held) → cells w c .bit ≡ 0
+      → (next-serial w < lastSerial → result₁ ≡ Granted (leaseOf c (next-serial w) (w .head .boot))) × (lastSerial ≤ next-serial w → result₁ ≡ Refused (SerialsSpent c))
   acquire-preserving-borrows-e5 s k v i p b = let f = held-cell-passes w held c s k v i p in (tries-free tried f (v c i) b, tries-spent tried f (v c i) b)
 
-  pub acquire-preserving-borrows-e6 : (l : Lease) → result₁ ≡ Granted l → lease-serial l ≡ next-serial w
-  acquire-preserving-borrows-e6 l e = ap lease-serial (tries-some tried l e .0)
+  pub acquire-preserving-borrows-e6 : (l : Lease) → result₁ ≡ Granted l → lease-serial (holdIn l) ≡ next-serial w
+  acquire-preserving-borrows-e6 l e = ap (λ (k : Lease). k .serial) (tries-some tried l e .0)
 
-  pub acquire-preserving-borrows-e7 : (l : Lease) → result₁ ≡ Granted l → authorized final₁ l
+  pub acquire-preserving-borrows-e7 : (l : Lease) → result₁ ≡ Granted l → authorized final₁ (holdIn l)
   acquire-preserving-borrows-e7 l e = let x = tries-some tried l e in rw (x .0) (step-grants w final₁ c (next-serial w) (x .1))
 
-  pub acquire-preserving-borrows-e8 : (l : Lease) → result₁ ≡ Granted l → lease-key l ≡ c
-  acquire-preserving-borrows-e8 l e = ap lease-key (tries-some tried l e .0)
+  pub acquire-preserving-borrows-e8 : (l : Lease) → result₁ ≡ Granted l → lease-key (holdIn l) ≡ c
+  acquire-preserving-borrows-e8 l e = ap (λ (k : Lease). k .cell) (tries-some tried l e .0)
 
-  pub acquire-preserving-borrows-e9 : leases-authorized w (leasesOf held) → (l : Lease) → result₁ ≡ Granted l → held-ids (leasesOf held) (leaseOf c (lease-serial l)) → ⊥
+  pub acquire-preserving-borrows-e9 : leases-authorized w (holdsOf held) → (l : Lease) → result₁ ≡ Granted l → held-ids (holdsOf held) (holdOf c (lease-serial (holdIn l))) → ⊥
   acquire-preserving-borrows-e9 p l e i =
-      omega (arith, by-name w (leasesOf held) p (leaseOf c (lease-serial l)) i .locked, tries-some tried l e .1 .unlocked)
+      omega (arith, by-name w (holdsOf held) p (holdOf c (lease-serial (holdIn l))) i .locked, tries-some tried l e .1 .unlocked)
 
 -- ---- `drop_preserving_borrows`
 
@@ -113,55 +113,55 @@ module _ (w : Authority) (held : List ℕ) (l : Lease) where
   abbrev final₂ : Authority
   final₂ = leaves w (drop-preserving held l)
 
-  dropping : Drops Checked₂ w l result₂ final₂
+  dropping : Drops Checked₂ w (holdIn l) result₂ final₂
   unfolding heldLeaseRules
   dropping =
-      by-checks (λ m. Drops Checked₂ w l (m .seen .1 .answer) (m .seen .0)) w (drop-preserving held l) (λ r e. drop.barred r (λ f. fine-fault f e))
-      (λ e k. drops (dropped w l (fits-sized w (not-false _ (k .0))) (not-false _ (clear-back (Before w held) _ k .0))))
+      by-checks (λ m. Drops Checked₂ w (holdIn l) (m .seen .1 .answer) (m .seen .0)) w (drop-preserving held l) (λ r e. drop.barred r (λ f. fine-fault f e))
+      (λ e k. drops (dropped w (holdIn l) (fits-sized w (not-false _ (k .0))) (not-false _ (clear-back (Before w held) _ k .1 .0))))
 
   -- valid(old(authority)): 12, where the lease's cell is damaged
-  pub drop-preserving-borrows-r1 : Clear (Before w held) → (Valid-cell (next-serial w) (cells w (lease-key l)) → ⊥)
+  pub drop-preserving-borrows-r1 : Clear (Before w held) → Own w l → (Valid-cell (next-serial w) (cells w (lease-key (holdIn l))) → ⊥)
       → perform w (drop-preserving held l) ≡ unchanged w (drop-preserving held l) (NotHeld 0)
   unfolding heldLeaseRules
-  drop-preserving-borrows-r1 k n = refused w (drop-preserving held l) (NotHeld 0) (not-held (Before w held) w 0 l _ k (on-damaged w l n))
+  drop-preserving-borrows-r1 k o n = refused w (drop-preserving held l) (NotHeld 0) (not-held (Before w held) w 0 l _ k o (on-damaged w (holdIn l) n))
 
   -- authorized(old(authority), &lease): 12
-  pub drop-preserving-borrows-r2 : Clear (Before w held) → (authorized w l → ⊥) → perform w (drop-preserving held l) ≡ unchanged w (drop-preserving held l) (NotHeld 0)
+  pub drop-preserving-borrows-r2 : Clear (Before w held) → Own w l → (authorized w (holdIn l) → ⊥) → perform w (drop-preserving held l) ≡ unchanged w (drop-preserving held l) (NotHeld 0)
   unfolding heldLeaseRules
-  drop-preserving-borrows-r2 k n = refused w (drop-preserving held l) (NotHeld 0) (not-held (Before w held) w 0 l _ k (unauthorized w l n))
+  drop-preserving-borrows-r2 k o n = refused w (drop-preserving held l) (NotHeld 0) (not-held (Before w held) w 0 l _ k o (unauthorized w (holdIn l) n))
 
   -- leases_authorized(old(authority), held@): 3, with the first position
-  pub drop-preserving-borrows-r3 : (i : ℕ) → Fits w → badHeldLength held .applies ≡ false → First-bad w (leasesOf held) i
+  pub drop-preserving-borrows-r3 : (i : ℕ) → Fits w → badHeldLength held .applies ≡ false → First-bad w held i
       → perform w (drop-preserving held l) ≡ unchanged w (drop-preserving held l) (BadHeld i)
   unfolding heldLeaseRules
   drop-preserving-borrows-r3 i s b f =
       refused w (drop-preserving held l) (BadHeld i) (held-refused (badShape (w .head) (w .table) ∷ []) w held i _ (ap not s, tt) b f)
 
   -- !held_ids(held@).contains((lease_key(&lease), lease_serial(&lease))): 13
-  pub drop-preserving-borrows-r4 : Clear (Before w held) → valid w → authorized w l → held-ids (leasesOf held) l
+  pub drop-preserving-borrows-r4 : Clear (Before w held) → valid w → Own w l → authorized w (holdIn l) → held-ids (holdsOf held) (holdIn l)
       → perform w (drop-preserving held l) ≡ unchanged w (drop-preserving held l) Protected
   unfolding heldLeaseRules
-  drop-preserving-borrows-r4 k v a i = refused w (drop-preserving held l) Protected (protected-refused (Before w held) w held l k (authorized-live w l v a) i)
+  drop-preserving-borrows-r4 k v o a i = refused w (drop-preserving held l) Protected (protected-refused (Before w held) w held l k o (authorized-live w (holdIn l) v a) i)
 
   pub drop-preserving-borrows-e1 : valid w → valid final₂
   drop-preserving-borrows-e1 = drops-valid dropping
 
-  pub drop-preserving-borrows-e3 : leases-authorized w (leasesOf held) → (held-ids (leasesOf held) l → ⊥) → protected-valid final₂ (held-ids (leasesOf held))
-  drop-preserving-borrows-e3 p n k i = drops-keeps dropping k (λ e. n (subst (In (leasesOf held)) e i)) (by-name w (leasesOf held) p k i)
+  pub drop-preserving-borrows-e3 : leases-authorized w (holdsOf held) → (held-ids (holdsOf held) (holdIn l) → ⊥) → protected-valid final₂ (held-ids (holdsOf held))
+  drop-preserving-borrows-e3 p n k i = drops-keeps dropping k (λ e. n (subst (In (holdsOf held)) e i)) (by-name w (holdsOf held) p k i)
 
-  pub drop-preserving-borrows-e2 : leases-authorized w (leasesOf held) → (held-ids (leasesOf held) l → ⊥) → leases-authorized final₂ (leasesOf held)
-  drop-preserving-borrows-e2 p n = by-place final₂ (leasesOf held) (drop-preserving-borrows-e3 p n)
+  pub drop-preserving-borrows-e2 : leases-authorized w (holdsOf held) → (held-ids (holdsOf held) (holdIn l) → ⊥) → leases-authorized final₂ (holdsOf held)
+  drop-preserving-borrows-e2 p n = by-place final₂ (holdsOf held) (drop-preserving-borrows-e3 p n)
 
   pub drop-preserving-borrows-e4 : dom final₂ ≡ dom w
   drop-preserving-borrows-e4 = go dropping
     where
-      go : {a : Answer} {v : Authority} → Drops Checked₂ w l a v → dom v ≡ dom w
+      go : {a : Answer} {v : Authority} → Drops Checked₂ w (holdIn l) a v → dom v ≡ dom w
       go (drops x) = x .written .same-keys
       go (drop.barred r f) = refl
 
-  pub drop-preserving-borrows-e5 : Fits w → Short held → valid w → authorized w l → leases-authorized w (leasesOf held) → (held-ids (leasesOf held) l → ⊥)
-      → cells final₂ (lease-key l) .bit ≡ 0
-  drop-preserving-borrows-e5 s k v a p n = bit-of (step-frees w final₂ (l .cell) (l .serial) (drops-done dropping (held-lease-passes w held l s k v a p n) .1))
+  pub drop-preserving-borrows-e5 : Fits w → Short w held → valid w → Own w l → authorized w (holdIn l) → leases-authorized w (holdsOf held) → (held-ids (holdsOf held) (holdIn l) → ⊥)
+      → cells final₂ (lease-key (holdIn l)) .bit ≡ 0
+  drop-preserving-borrows-e5 s k v o a p n = bit-of (step-frees w final₂ (l .cell) (l .serial) (drops-done dropping (held-lease-passes w held l s k v o a p n) .1))
 
   pub drop-preserving-borrows-e6 : next-serial final₂ ≡ next-serial w
   drop-preserving-borrows-e6 = drops-stays dropping
@@ -182,58 +182,58 @@ module _ (w : Authority) (held : List ℕ) (l : Lease) where
   abbrev Then : Authority → Type 0
   Then v =
       let m = acquireOf 2 (v .head) (setCell (v .table) (l .cell) 0 0) (l .cell) .seen in
-      Hands Checked₃ w l (m .0 .answer) (worldOf (m .0 .head) (m .1) (v .health))
+      Hands Checked₃ w (holdIn l) (m .0 .answer) (worldOf (m .0 .head) (m .1) (v .health))
 
-  handed : Hands Checked₃ w l result₃ final₃
+  handed : Hands Checked₃ w (holdIn l) result₃ final₃
   unfolding heldLeaseRules
   handed =
-      by-checks (λ m. Hands Checked₃ w l (m .seen .1 .answer) (m .seen .0)) w (foreign-release held l) (λ r e. unheld r (λ f. fine-fault f e))
+      by-checks (λ m. Hands Checked₃ w (holdIn l) (m .seen .1 .answer) (m .seen .0)) w (foreign-release held l) (λ r e. unheld r (λ f. fine-fault f e))
       (λ e k.
       let z = fits-sized w (not-false _ (k .0)) in
-      let v : Live w l = not-false _ (clear-back (Before w held) _ k .0) in
-      let x = lives w l v in
+      let v : Live w (holdIn l) = not-false _ (clear-back (Before w held) _ k .1 .0) in
+      let x = lives w (holdIn l) v in
       let event = released by-caller (l .cell) (l .serial) in
-      let one = tries-held (acquired Checked₃ 1 w (l .cell) z (x .in-range)) e (live-cell w l v) (x .bit-is) in
-      subst Then (sym (one .1)) (hands (world.step w event) (dropped w l z v) (acquired Checked₃ 2 (world.step w event) (l .cell) (sized-now w (event ∷ []) z) (x .in-range))))
+      let one = tries-held (acquired Checked₃ 1 w (l .cell) z (x .in-range)) e (live-cell w (holdIn l) v) (x .bit-is) in
+      subst Then (sym (one .1)) (hands (world.step w event) refl (dropped w (holdIn l) z v) (acquired Checked₃ 2 (world.step w event) (l .cell) (sized-now w (event ∷ []) z) (x .in-range))))
 
-  pub foreign-release-between-attempts-r1 : Clear (Before w held) → (Valid-cell (next-serial w) (cells w (lease-key l)) → ⊥)
+  pub foreign-release-between-attempts-r1 : Clear (Before w held) → Own w l → (Valid-cell (next-serial w) (cells w (lease-key (holdIn l))) → ⊥)
       → perform w (foreign-release held l) ≡ unchanged w (foreign-release held l) (NotHeld 0)
   unfolding heldLeaseRules
-  foreign-release-between-attempts-r1 k n = refused w (foreign-release held l) (NotHeld 0) (not-held (Before w held) w 0 l _ k (on-damaged w l n))
+  foreign-release-between-attempts-r1 k o n = refused w (foreign-release held l) (NotHeld 0) (not-held (Before w held) w 0 l _ k o (on-damaged w (holdIn l) n))
 
-  pub foreign-release-between-attempts-r2 : Clear (Before w held) → (authorized w l → ⊥) → perform w (foreign-release held l) ≡ unchanged w (foreign-release held l) (NotHeld 0)
+  pub foreign-release-between-attempts-r2 : Clear (Before w held) → Own w l → (authorized w (holdIn l) → ⊥) → perform w (foreign-release held l) ≡ unchanged w (foreign-release held l) (NotHeld 0)
   unfolding heldLeaseRules
-  foreign-release-between-attempts-r2 k n = refused w (foreign-release held l) (NotHeld 0) (not-held (Before w held) w 0 l _ k (unauthorized w l n))
+  foreign-release-between-attempts-r2 k o n = refused w (foreign-release held l) (NotHeld 0) (not-held (Before w held) w 0 l _ k o (unauthorized w (holdIn l) n))
 
-  pub foreign-release-between-attempts-r3 : (i : ℕ) → Fits w → badHeldLength held .applies ≡ false → First-bad w (leasesOf held) i
+  pub foreign-release-between-attempts-r3 : (i : ℕ) → Fits w → badHeldLength held .applies ≡ false → First-bad w held i
       → perform w (foreign-release held l) ≡ unchanged w (foreign-release held l) (BadHeld i)
   unfolding heldLeaseRules
   foreign-release-between-attempts-r3 i s b f =
       refused w (foreign-release held l) (BadHeld i) (held-refused (badShape (w .head) (w .table) ∷ []) w held i _ (ap not s, tt) b f)
 
-  pub foreign-release-between-attempts-r4 : Clear (Before w held) → valid w → authorized w l → held-ids (leasesOf held) l
+  pub foreign-release-between-attempts-r4 : Clear (Before w held) → valid w → Own w l → authorized w (holdIn l) → held-ids (holdsOf held) (holdIn l)
       → perform w (foreign-release held l) ≡ unchanged w (foreign-release held l) Protected
   unfolding heldLeaseRules
-  foreign-release-between-attempts-r4 k v a i = refused w (foreign-release held l) Protected (protected-refused (Before w held) w held l k (authorized-live w l v a) i)
+  foreign-release-between-attempts-r4 k v o a i = refused w (foreign-release held l) Protected (protected-refused (Before w held) w held l k o (authorized-live w (holdIn l) v a) i)
 
   pub foreign-release-between-attempts-e1 : valid w → valid final₃
   foreign-release-between-attempts-e1 = hands-valid handed
 
   -- the sure grant gains "and a serial remains", else SerialsSpent, and "the release stands and the cell is free"
-  pub foreign-release-between-attempts-e2 : Fits w → Short held → valid w → authorized w l → leases-authorized w (leasesOf held) → (held-ids (leasesOf held) l → ⊥)
-      → (next-serial w < lastSerial → (result₃ ≡ Granted (leaseOf (lease-key l) (next-serial w))) × authorized final₃ (leaseOf (lease-key l) (next-serial w)))
-      × (lastSerial ≤ next-serial w → (result₃ ≡ Refused (SerialsSpent (lease-key l))) × (cells final₃ (lease-key l) ≡ cell 0 0))
-  foreign-release-between-attempts-e2 s k v a p m =
-      let f = held-lease-passes w held l s k v a p m in
+  pub foreign-release-between-attempts-e2 : Fits w → Short w held → valid w → Own w l → authorized w (holdIn l) → leases-authorized w (holdsOf held) → (held-ids (holdsOf held) (holdIn l) → ⊥)
+      → (next-serial w < lastSerial → (result₃ ≡ Granted (leaseOf (lease-key (holdIn l)) (next-serial w) (w .head .boot))) × authorized final₃ (holdOf (lease-key (holdIn l)) (next-serial w)))
+      × (lastSerial ≤ next-serial w → (result₃ ≡ Refused (SerialsSpent (lease-key (holdIn l)))) × (cells final₃ (lease-key (holdIn l)) ≡ cell 0 0))
+  foreign-release-between-attempts-e2 s k v o a p m =
+      let f = held-lease-passes w held l s k v o a p m in
       (λ n. let e = hands-granted handed f n in (e, hands-some handed _ e .1), hands-spent handed f)
 
-  pub foreign-release-between-attempts-e3 : leases-authorized w (leasesOf held) → (held-ids (leasesOf held) l → ⊥) → leases-authorized final₃ (leasesOf held)
+  pub foreign-release-between-attempts-e3 : leases-authorized w (holdsOf held) → (held-ids (holdsOf held) (holdIn l) → ⊥) → leases-authorized final₃ (holdsOf held)
   foreign-release-between-attempts-e3 p n =
-      by-place final₃ (leasesOf held) (λ k i. hands-keeps handed k (λ e. n (subst (In (leasesOf held)) e i)) (by-name w (leasesOf held) p k i))
+      by-place final₃ (holdsOf held) (λ k i. hands-keeps handed k (λ e. n (subst (In (holdsOf held)) e i)) (by-name w (holdsOf held) p k i))
 
-  pub foreign-release-between-attempts-e4 : (k : Lease) → result₃ ≡ Granted k → lease-key k ≡ lease-key l
-  foreign-release-between-attempts-e4 k e = ap lease-key (hands-some handed k e .0)
+  pub foreign-release-between-attempts-e4 : (k : Lease) → result₃ ≡ Granted k → lease-key (holdIn k) ≡ lease-key (holdIn l)
+  foreign-release-between-attempts-e4 k e = ap (λ (x : Lease). x .cell) (hands-some handed k e .0)
 
-  pub foreign-release-between-attempts-e5 : valid w → authorized w l → (k : Lease) → result₃ ≡ Granted k → lease-serial l < lease-serial k
+  pub foreign-release-between-attempts-e5 : valid w → authorized w (holdIn l) → (k : Lease) → result₃ ≡ Granted k → lease-serial (holdIn l) < lease-serial (holdIn k)
   foreign-release-between-attempts-e5 v a k e =
-      omega (arith, ap lease-serial (hands-some handed k e .0), lives w l (authorized-live w l v a) .high)
+      omega (arith, ap (λ (x : Lease). x .serial) (hands-some handed k e .0), lives w (holdIn l) (authorized-live w (holdIn l) v a) .high)

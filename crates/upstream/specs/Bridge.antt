@@ -2,21 +2,22 @@
 use Prim.Native.Nat.{ℕ, zero, suc, _+_, _*_, _≤_, _<_}
 use mathlib.Core.Path.{_≡_, refl, sym, ap, _∙_, subst}
 use mathlib.Core.List.{List, [], _∷_, _++_, append-nil}
-use mathlib.Core.Bool.{true}
+use mathlib.Core.Bool.{true, false, not}
 use mathlib.Core.Logic.{_⊎_, inl, inr}
 use native.Mathlib.Omega.{arith}
 use lib.ListN.{length}
 use lib.Seq.{take-length}
 use borrow.Author.Tests.{eq-eqb, ne-eqb}
 use Rattle.model.specs.Log.{Made, Event, attempt-begun, boundary-run, yielded, spun, step-dropped, took, released, waiters-set, health-set, held-all, added}
-use Rattle.model.specs.Arena.{cellsOf, leaseOf, bitAt, ownerAt, setCell, shapeFits}
+use Rattle.model.specs.Arena.{cellsOf, isStale, holdOf, holdIn, leasesOf, holdsOf, bitAt, ownerAt, setCell, shapeFits}
 use Rattle.model.specs.Refusals.{Rule, refusalOf, first}
-use Rattle.model.specs.Lock.{leaseAt, noLease}
+use Rattle.model.specs.Lock.{holdAt, noHold}
 use Rattle.model.specs.Calls.{tryAcquireOf, dropLeaseOf, readPermissionOf, competingAcquireOf, releaseThenHandoffOf, foreignReleaseOf, acquirePreservingOf, dropPreservingOf, environmentOf, tryLockOf, transactionalOf, acquireBucketOf, releaseAllOf, acquireLocksOf}
 use Rattle.model.specs.Sorted.{acquireSortedOf}
 use Rattle.model.specs.Crew.{crewOf, shiftOf, crewAtWorkOf}
 use Rattle.types.specs.declared.Check.{Check}
 use Rattle.types.specs.declared.Check.the-variants.{Fine, Fault}
+use Rattle.types.specs.declared.Hold.{Hold}
 use Rattle.types.specs.declared.Lease.{Lease}
 use Rattle.types.specs.declared.Refusal.{Refusal}
 use Rattle.laws.specs.Shape.{shaped}
@@ -28,7 +29,7 @@ use Rattle.history.specs.Items.{Call, Says, perform, try-acquire, drop-lease, r
 use Rattle.history.specs.Tests.{Status, free as is-free, held as is-held, live, free-words, In, in-index, in-take, same-lease}
 use Rattle.history.specs.Events.{good, lives}
 use Rattle.history.specs.Judged.{clear, steps, unchanged, sorted-made}
-use Rattle.upstream.specs.Vocabulary.{Key, Cell, cell, Authority, Leases, next-serial, dom, contains-key, cells, insert, Cells-are, Valid-cell, valid, authorized, Step, Acquire, Release, Observe, step, releases, protected-valid, held-ids, leases-authorized}
+use Rattle.upstream.specs.Vocabulary.{Key, Cell, cell, Authority, Own, leaseAt, Leases, next-serial, dom, contains-key, cells, insert, Cells-are, Valid-cell, valid, authorized, Step, Acquire, Release, Observe, step, releases, protected-valid, held-ids, leases-authorized}
 use Rattle.upstream.specs.Protocol.{Trace, ended, first as one}
 
 -- ---- valid: no cell is damaged
@@ -50,29 +51,42 @@ sound-valid w s k i = status-valid (next-serial w) (cells w k) (good w s .status
 
 -- ---- authorized: the lease is live
 
-pub authorized-live : (w : Authority) (l : Lease) → valid w → authorized w l → Live w l
+pub authorized-live : (w : Authority) (l : Hold) → valid w → authorized w l → Live w l
 authorized-live w l v a =
     live (next-serial w) (dom w) (w .table) l
     (record { in-range = a .inside; bit-is = a .locked; owner-is = a .mine .1; low = a .mine .0; high = omega (arith, v (l .cell) (a .inside) .below (omega (arith, a .mine)), a .mine) })
 
-pub live-authorized : (w : Authority) (l : Lease) → Live w l → authorized w l
+pub live-authorized : (w : Authority) (l : Hold) → Live w l → authorized w l
 live-authorized w l x = let a = lives w l x in record { inside = a .in-range; locked = a .bit-is; mine = (a .low, a .owner-is) }
 
 -- its cell is valid
-pub live-cell : (w : Authority) (l : Lease) → Live w l → Valid-cell (next-serial w) (cells w (l .cell))
+pub live-cell : (w : Authority) (l : Hold) → Live w l → Valid-cell (next-serial w) (cells w (l .cell))
 live-cell w l x =
     let a = lives w l x in
     status-valid (next-serial w) (cells w (l .cell)) (is-held (a .bit-is) (omega (arith, a .owner-is, a .low)) (omega (arith, a .owner-is, a .high)))
 
 -- a list of authorized leases protects each of them, by place or by name
-pub by-name : (w : Authority) (ls : List Lease) → leases-authorized w ls → protected-valid w (held-ids ls)
-by-name w ls p l i = let x = in-index ls l noLease i in subst (authorized w) (sym (x .2)) (p (x .0) (x .1))
+pub by-name : (w : Authority) (ls : List Hold) → leases-authorized w ls → protected-valid w (held-ids ls)
+by-name w ls p l i = let x = in-index ls l noHold i in subst (authorized w) (sym (x .2)) (p (x .0) (x .1))
 
-in-list : (ls : List Lease) (i : ℕ) → i < length ls → In ls (leaseAt ls i)
-in-list ls i k = subst (λ z. In z (leaseAt ls i)) (take-length ls) (in-take ls (length ls) i noLease k k)
+in-list : (ls : List Hold) (i : ℕ) → i < length ls → In ls (holdAt ls i)
+in-list ls i k = subst (λ z. In z (holdAt ls i)) (take-length ls) (in-take ls (length ls) i noHold k k)
 
-pub by-place : (w : Authority) (ls : List Lease) → protected-valid w (held-ids ls) → leases-authorized w ls
-by-place w ls p i k = p (leaseAt ls i) (in-list ls i k)
+pub by-place : (w : Authority) (ls : List Hold) → protected-valid w (held-ids ls) → leases-authorized w ls
+by-place w ls p i k = p (holdAt ls i) (in-list ls i k)
+
+-- ---- leases with their boot numbers, and without
+
+pub own-boot : (w : Authority) (l : Lease) → Own w l → isStale (w .head) l ≡ false
+own-boot w l e = ap not (eq-eqb (l .boot) (w .head .boot) e)
+
+pub hold-at : (ws : List ℕ) (i : ℕ) → holdAt (holdsOf ws) i ≡ holdIn (leaseAt (leasesOf ws) i)
+unfolding holdsOf leasesOf
+hold-at [] i = refl
+hold-at (c ∷ []) i = refl
+hold-at (c ∷ s ∷ []) i = refl
+hold-at (c ∷ s ∷ b ∷ ws) zero = refl
+hold-at (c ∷ s ∷ b ∷ ws) (suc i) = hold-at ws i
 
 -- ---- events: a take is an Acquire, a release a Release, all else an Observe
 
@@ -98,7 +112,7 @@ fits-sized w e = let s = shaped (w .head) (length (w .table)) e in (s .words-are
 
 -- a cell written
 pub put-cells : (w : Authority) (n c b o : ℕ) → Sized w → contains-key w c
-    → Cells-are w (worldOf (record { headers = w .head .headers; buckets = w .head .buckets; next = n }) (setCell (w .table) c b o) (w .health)) (insert (cells w) c (cell b o))
+    → Cells-are w (worldOf (record { headers = w .head .headers; buckets = w .head .buckets; next = n; boot = w .head .boot }) (setCell (w .table) c b o) (w .health)) (insert (cells w) c (cell b o))
 put-cells w n c b o z i = record { same-keys = refl; each = λ k l. go k (see (w .table) c b o k (omega arith)) }
   where
     go : (k : Key) → Seen (w .table) c b o k → cell (bitAt (setCell (w .table) c b o) k) (ownerAt (setCell (w .table) c b o) k) ≡ insert (cells w) c (cell b o) k
@@ -130,7 +144,7 @@ event-step w (took a c s) z k =
       written = put-cells w (next-serial w + 1) c 1 s z (k .0 .0);
     }
 event-step w (released a c s) z k =
-    let x = lives w (leaseOf c s) k in
+    let x = lives w (holdOf c s) k in
     record { inside = x .in-range; locked = x .bit-is; owner-is = (x .low, x .owner-is); stays = refl; written = put-cells w (next-serial w) c 0 0 z (x .in-range) }
 event-step w (waiters-set c n) z k =
     record { same = record { same-keys = refl; each = λ k i. rw (bit-set-waiters (w .table) c n k, owner-set-waiters (w .table) c n k) }; stays = refl }
@@ -155,21 +169,21 @@ pub sized-now : (w : Authority) (es : List Event) → Sized w → Sized (now w e
 sized-now w [] z = z
 sized-now w (e ∷ es) z = sized-now (world.step w e) es (sized-step w e z)
 
-released-is : (e : Event) (l : Lease) → (world.Releases l e → ⊥) → releases (event-of e) (l .cell) (l .serial) → ⊥
+released-is : (e : Event) (l : Hold) → (world.Releases l e → ⊥) → releases (event-of e) (l .cell) (l .serial) → ⊥
 released-is attempt-begun l n r = r
 released-is boundary-run l n r = r
 released-is yielded l n r = r
 released-is spun l n r = r
 released-is step-dropped l n r = r
 released-is (took a c s) l n r = r
-released-is (released a c s) l n r = n (same-lease l (leaseOf c s) (sym (r .0)) (sym (r .1)))
+released-is (released a c s) l n r = n (same-lease l (holdOf c s) (sym (r .0)) (sym (r .1)))
 released-is (waiters-set c k) l n r = r
 released-is (health-set i k) l n r = r
 released-is (held-all m) l n r = r
 released-is (added m c v) l n r = r
 
 -- a lawful log is a trace of upstream's steps
-pub lawful-trace : (protected : Leases) (w : Authority) (es : List Event) → Sized w → Lawful w es → ((l : Lease) → protected l → Unreleased l es)
+pub lawful-trace : (protected : Leases) (w : Authority) (es : List Event) → Sized w → Lawful w es → ((l : Hold) → protected l → Unreleased l es)
     → Trace protected w (now w es)
 lawful-trace protected w [] z k u = ended w
 lawful-trace protected w (e ∷ es) z k u =

@@ -7,7 +7,7 @@ use mathlib.Core.Logic.{_↔_}
 use native.Mathlib.Omega.{arith}
 use borrow.Author.Tests.{not-false, le-leb}
 use lib.ListN.{length, getD}
-use Rattle.model.specs.Arena.{leasesOf, waitersAt}
+use Rattle.model.specs.Arena.{holdIn, holdsOf, waitersAt}
 use Rattle.model.specs.Answers.{kindOf}
 use Rattle.model.specs.Refusals.{Rule, first}
 use Rattle.model.specs.Checks.{badShape, badHealth, badRegistry, badScript, badHeld, badHeldLength, badBinding, bucketRules}
@@ -19,6 +19,7 @@ use Rattle.types.specs.declared.Check.the-variants.{Fine, Fault}
 use Rattle.types.specs.declared.Counts.{Counts}
 use Rattle.types.specs.declared.Found.{Found}
 use Rattle.types.specs.declared.Found.the-variants as found
+use Rattle.types.specs.declared.Hold.{Hold}
 use Rattle.types.specs.declared.Lease.{Lease}
 use Rattle.types.specs.declared.Outcome.{Outcome}
 use Rattle.types.specs.declared.Outcome.the-variants as outcome
@@ -60,7 +61,7 @@ module _ (w : Authority) (registry script : List ℕ) (place : ℕ) (held : List
   Checked = first (rules w one) ≡ Fine
 
   abbrev setting : Setting
-  setting = given (w .head) script (leasesOf held)
+  setting = given (w .head) script (holdsOf held)
 
   abbrev begun : Run
   begun = starting (w .head) place
@@ -72,40 +73,40 @@ module _ (w : Authority) (registry script : List ℕ) (place : ℕ) (held : List
   abbrev find₁ : Found
   find₁ = findOf (w .head .headers) (w .head .buckets) (w .health) registry binding bucket
 
-  begins : valid w → Clear (rules w one) → Ready (held-ids (leasesOf held)) w
+  begins : valid w → Clear (rules w one) → Ready (held-ids (holdsOf held)) w
   unfolding bucketRules
   begins v k = record { sized = fits-sized w (not-false _ (k .0)); valid-now = v; safe = held-live w held _ (k .1 .1 .1 .1) }
 
   -- what is granted is authorized
-  one-went : valid w → Went w (leasesOf held) (answers w one) (leaves w one)
+  one-went : valid w → Went w (holdsOf held) (answers w one) (leaves w one)
   one-went v =
-      by-checks (λ m. Went w (leasesOf held) (m .seen .1 .answer) (m .seen .0)) w one (λ r e. unmoved r)
+      by-checks (λ m. Went w (holdsOf held) (m .seen .1 .answer) (m .seen .0)) w one (λ r e. unmoved r)
       (λ e k.
-      let m = attempt-goes (w .head) script (leasesOf held) registry binding bucket begun (w .table) (w .health) (begins v k) in
-      record { trace = m .goes .trace; gain = λ l e. m .gain l (answer-granted _ l e) })
+      let m = attempt-goes (w .head) script (holdsOf held) registry binding bucket begun (w .table) (w .health) (begins v k) in
+      record { trace = m .goes .trace; gain = λ l e. m .gain (holdIn l) (answer-granted _ _ l e) })
 
-  many-went : valid w → Went w (leasesOf held) (answers w many) (leaves w many)
+  many-went : valid w → Went w (holdsOf held) (answers w many) (leaves w many)
   many-went v =
-      by-checks (λ m. Went w (leasesOf held) (m .seen .1 .answer) (m .seen .0)) w many (λ r e. unmoved r)
+      by-checks (λ m. Went w (holdsOf held) (m .seen .1 .answer) (m .seen .0)) w many (λ r e. unmoved r)
       (λ e k.
-      let m = retry-goes (w .head) script attemptLimit 0 noneYet (leasesOf held) registry binding bucket begun (w .table) (w .health) (begins v k) in
-      record { trace = m .goes .trace; gain = λ l e. m .gain l (settled-granted _ l e) })
+      let m = retry-goes (w .head) script attemptLimit 0 noneYet (holdsOf held) registry binding bucket begun (w .table) (w .health) (begins v k) in
+      record { trace = m .goes .trace; gain = λ l e. m .gain (holdIn l) (settled-granted _ _ l e) })
 
   -- and is on the key's cell, whatever the table holds
-  abbrev OfKey : Lease → Type 0
+  abbrev OfKey : Hold → Type 0
   OfKey = Granted-at (w .head .headers) (w .head .buckets) registry binding bucket
 
-  one-key : (l : Lease) → answers w one ≡ Granted l → OfKey l
+  one-key : (l : Lease) → answers w one ≡ Granted l → OfKey (holdIn l)
   one-key l =
-      by-checks (λ m. m .seen .1 .answer ≡ Granted l → OfKey l) w one (λ r e q. absurd (omega (arith, ap kindOf q)))
-      (λ e k q. attempt-key setting (w .head .buckets) registry binding bucket begun (w .table) (w .health) l (answer-granted _ l q))
+      by-checks (λ m. m .seen .1 .answer ≡ Granted l → OfKey (holdIn l)) w one (λ r e q. absurd (omega (arith, ap kindOf q)))
+      (λ e k q. attempt-key setting (w .head .buckets) registry binding bucket begun (w .table) (w .health) (holdIn l) (answer-granted _ _ l q))
 
-  many-key : (l : Lease) → answers w many ≡ Granted l → OfKey l
+  many-key : (l : Lease) → answers w many ≡ Granted l → OfKey (holdIn l)
   many-key l =
-      by-checks (λ m. m .seen .1 .answer ≡ Granted l → OfKey l) w many (λ r e q. absurd (omega (arith, ap kindOf q)))
-      (λ e k q. retry-key setting (w .head .buckets) registry binding bucket attemptLimit 0 noneYet begun (w .table) (w .health) l (settled-granted _ l q))
+      by-checks (λ m. m .seen .1 .answer ≡ Granted l → OfKey (holdIn l)) w many (λ r e q. absurd (omega (arith, ap kindOf q)))
+      (λ e k q. retry-key setting (w .head .buckets) registry binding bucket attemptLimit 0 noneYet begun (w .table) (w .health) (holdIn l) (settled-granted _ _ l q))
 
-  inside-arena : (l : Lease) → OfKey l → contains-key w (lease-key l)
+  inside-arena : (l : Hold) → OfKey l → contains-key w (lease-key l)
   inside-arena l k = rw (k .cell-is) (place-inside (w .head .headers) (w .head .buckets) header₁ bucket (k .header-inside) (k .bucket-inside))
 
   -- ---- an attempt that comes to a refusal; "A refusal ends it at once"
@@ -120,11 +121,11 @@ module _ (w : Authority) (registry script : List ℕ) (place : ℕ) (held : List
 
   one-refused : Checked → (x : Refusal) → attempted ≡ outcome.Refused x → answers w one ≡ Refused x
   one-refused f x a =
-      by-checks (λ m. m .seen .1 .answer ≡ Refused x) w one (λ r e. absurd (fine-fault f e)) (λ e k. ap answerOf a)
+      by-checks (λ m. m .seen .1 .answer ≡ Refused x) w one (λ r e. absurd (fine-fault f e)) (λ e k. ap (answerOf (w .head .boot)) a)
 
   many-refused : Checked → (x : Refusal) → attempted ≡ outcome.Refused x → answers w many ≡ Refused x
   many-refused f x a =
-      by-checks (λ m. m .seen .1 .answer ≡ Refused x) w many (λ r e. absurd (fine-fault f e)) (λ e k. ap (λ (o : Outcome). answerOf (settled o)) (at-once 4095 x a))
+      by-checks (λ m. m .seen .1 .answer ≡ Refused x) w many (λ r e. absurd (fine-fault f e)) (λ e k. ap (λ (o : Outcome). answerOf (w .head .boot) (settled o)) (at-once 4095 x a))
 
   bad-key : (x : Refusal) → find₁ ≡ found.Fault x → attempted ≡ outcome.Refused x
   unfolding attemptOf
@@ -168,12 +169,12 @@ module _ (w : Authority) (registry script : List ℕ) (place : ℕ) (held : List
   abbrev Before-held : List Rule
   Before-held = badShape (w .head) (w .table) ∷ badHealth (w .head) (w .health) ∷ badRegistry registry ∷ badScript script place ∷ []
 
-  unheld : (i : ℕ) → Clear Before-held → badHeldLength held .applies ≡ false → First-bad w (leasesOf held) i → first (rules w one) ≡ Fault (BadHeld i)
+  unheld : (i : ℕ) → Clear Before-held → badHeldLength held .applies ≡ false → First-bad w held i → first (rules w one) ≡ Fault (BadHeld i)
   unfolding bucketRules
   unheld i k b f = held-refused Before-held w held i _ k b f
 
   -- leases_authorized(old(authority), held@): 3, with the first position
-  pub transactional-try-lock-bucket-r3 : (i : ℕ) → Clear Before-held → badHeldLength held .applies ≡ false → First-bad w (leasesOf held) i → perform w one ≡ unchanged w one (BadHeld i)
+  pub transactional-try-lock-bucket-r3 : (i : ℕ) → Clear Before-held → badHeldLength held .applies ≡ false → First-bad w held i → perform w one ≡ unchanged w one (BadHeld i)
   transactional-try-lock-bucket-r3 i k b f = refused w one (BadHeld i) (unheld i k b f)
 
   -- physical_domain(driver, old(authority)): 6 with the header, where the key's header is not in the arena
@@ -183,16 +184,16 @@ module _ (w : Authority) (registry script : List ℕ) (place : ℕ) (held : List
   pub transactional-try-lock-bucket-e1 : valid w → valid (leaves w one)
   transactional-try-lock-bucket-e1 v = trace-valid (one-went v .trace) v
 
-  pub transactional-try-lock-bucket-e2 : valid w → leases-authorized w (leasesOf held) → leases-authorized (leaves w one) (leasesOf held)
-  transactional-try-lock-bucket-e2 v p = by-place (leaves w one) (leasesOf held) (trace-keeps (one-went v .trace) (by-name w (leasesOf held) p))
+  pub transactional-try-lock-bucket-e2 : valid w → leases-authorized w (holdsOf held) → leases-authorized (leaves w one) (holdsOf held)
+  transactional-try-lock-bucket-e2 v p = by-place (leaves w one) (holdsOf held) (trace-keeps (one-went v .trace) (by-name w (holdsOf held) p))
 
   pub transactional-try-lock-bucket-e3 : valid w → dom (leaves w one) ≡ dom w
   transactional-try-lock-bucket-e3 v = trace-buries (one-went v .trace) .same-keys
 
-  pub transactional-try-lock-bucket-e4 : valid w → (l : Lease) → answers w one ≡ Granted l → authorized (leaves w one) l
+  pub transactional-try-lock-bucket-e4 : valid w → (l : Lease) → answers w one ≡ Granted l → authorized (leaves w one) (holdIn l)
   transactional-try-lock-bucket-e4 v l e = one-went v .gain l e
 
-  pub transactional-try-lock-bucket-e5 : (l : Lease) → answers w one ≡ Granted l → lease-key l ≡ key-of w header₁ bucket
+  pub transactional-try-lock-bucket-e5 : (l : Lease) → answers w one ≡ Granted l → lease-key (holdIn l) ≡ key-of w header₁ bucket
   transactional-try-lock-bucket-e5 l e = one-key l e .cell-is
 
   -- ---- `acquire_index_bucket`
@@ -203,7 +204,7 @@ module _ (w : Authority) (registry script : List ℕ) (place : ℕ) (held : List
   pub acquire-index-bucket-r2 : Clear Before → length registry ≤ binding → perform w many ≡ unchanged w many (BadBinding 0)
   acquire-index-bucket-r2 k l = refused w many (BadBinding 0) (past l k)
 
-  pub acquire-index-bucket-r3 : (i : ℕ) → Clear Before-held → badHeldLength held .applies ≡ false → First-bad w (leasesOf held) i → perform w many ≡ unchanged w many (BadHeld i)
+  pub acquire-index-bucket-r3 : (i : ℕ) → Clear Before-held → badHeldLength held .applies ≡ false → First-bad w held i → perform w many ≡ unchanged w many (BadHeld i)
   acquire-index-bucket-r3 i k b f = refused w many (BadHeld i) (unheld i k b f)
 
   pub acquire-index-bucket-r4 : Checked → w .head .headers ≤ header₁ → answers w many ≡ Refused (BadHeader header₁)
@@ -212,16 +213,16 @@ module _ (w : Authority) (registry script : List ℕ) (place : ℕ) (held : List
   pub acquire-index-bucket-e1 : valid w → valid (leaves w many)
   acquire-index-bucket-e1 v = trace-valid (many-went v .trace) v
 
-  pub acquire-index-bucket-e2 : valid w → leases-authorized w (leasesOf held) → leases-authorized (leaves w many) (leasesOf held)
-  acquire-index-bucket-e2 v p = by-place (leaves w many) (leasesOf held) (trace-keeps (many-went v .trace) (by-name w (leasesOf held) p))
+  pub acquire-index-bucket-e2 : valid w → leases-authorized w (holdsOf held) → leases-authorized (leaves w many) (holdsOf held)
+  acquire-index-bucket-e2 v p = by-place (leaves w many) (holdsOf held) (trace-keeps (many-went v .trace) (by-name w (holdsOf held) p))
 
   pub acquire-index-bucket-e3 : valid w → dom (leaves w many) ≡ dom w
   acquire-index-bucket-e3 v = trace-buries (many-went v .trace) .same-keys
 
-  pub acquire-index-bucket-e4 : valid w → (l : Lease) → answers w many ≡ Granted l → authorized (leaves w many) l
+  pub acquire-index-bucket-e4 : valid w → (l : Lease) → answers w many ≡ Granted l → authorized (leaves w many) (holdIn l)
   acquire-index-bucket-e4 v l e = many-went v .gain l e
 
-  pub acquire-index-bucket-e5 : (l : Lease) → answers w many ≡ Granted l → lease-key l ≡ key-of w header₁ bucket
+  pub acquire-index-bucket-e5 : (l : Lease) → answers w many ≡ Granted l → lease-key (holdIn l) ≡ key-of w header₁ bucket
   acquire-index-bucket-e5 l e = many-key l e .cell-is
 
   -- driver.yield_now(): a yield is an event of the log, and the reply counts them
@@ -231,22 +232,22 @@ module _ (w : Authority) (registry script : List ℕ) (place : ℕ) (held : List
   -- ---- the same calls in 001, which asks nothing of the table
 
   -- physical == physical(driver.registry(), (binding, bucket))
-  pub guards-transactional-e1 : (l : Lease) → answers w one ≡ Granted l → guards-place (w .head .buckets) l (physical registry (binding, bucket))
+  pub guards-transactional-e1 : (l : Lease) → answers w one ≡ Granted l → guards-place (w .head .buckets) (holdIn l) (physical registry (binding, bucket))
   guards-transactional-e1 l e = let k = one-key l e in (k .cell-is, k .bucket-inside)
 
   -- arena == driver.arena(): the cell is in the arena
-  pub guards-transactional-e2 : (l : Lease) → answers w one ≡ Granted l → contains-key w (lease-key l)
-  guards-transactional-e2 l e = inside-arena l (one-key l e)
+  pub guards-transactional-e2 : (l : Lease) → answers w one ≡ Granted l → contains-key w (lease-key (holdIn l))
+  guards-transactional-e2 l e = inside-arena (holdIn l) (one-key l e)
 
   -- bucket < driver.bucket_count()
   pub guards-transactional-e3 : (l : Lease) → answers w one ≡ Granted l → bucket < w .head .buckets
   guards-transactional-e3 l e = one-key l e .bucket-inside
 
-  pub guards-acquire-bucket-e1 : (l : Lease) → answers w many ≡ Granted l → guards-place (w .head .buckets) l (physical registry (binding, bucket))
+  pub guards-acquire-bucket-e1 : (l : Lease) → answers w many ≡ Granted l → guards-place (w .head .buckets) (holdIn l) (physical registry (binding, bucket))
   guards-acquire-bucket-e1 l e = let k = many-key l e in (k .cell-is, k .bucket-inside)
 
-  pub guards-acquire-bucket-e2 : (l : Lease) → answers w many ≡ Granted l → contains-key w (lease-key l)
-  guards-acquire-bucket-e2 l e = inside-arena l (many-key l e)
+  pub guards-acquire-bucket-e2 : (l : Lease) → answers w many ≡ Granted l → contains-key w (lease-key (holdIn l))
+  guards-acquire-bucket-e2 l e = inside-arena (holdIn l) (many-key l e)
 
   pub guards-acquire-bucket-e3 : (l : Lease) → answers w many ≡ Granted l → bucket < w .head .buckets
   guards-acquire-bucket-e3 l e = many-key l e .bucket-inside

@@ -9,13 +9,13 @@ use native.Mathlib.Decide.{ℕ-discrete}
 use borrow.Author.Tests.{lt-ltb}
 use lib.Dec.{ltb}
 use Rattle.model.specs.Log.{Made, Event, attempt-begun, boundary-run, yielded, spun, step-dropped, took, released, waiters-set, health-set, held-all, added}
-use Rattle.model.specs.Arena.{serialRemains, leaseOf, leasesOf, bitAt, ownerAt, setWaiters, isFree, isLive, isIn}
+use Rattle.model.specs.Arena.{serialRemains, holdOf, holdsOf, bitAt, ownerAt, setWaiters, isFree, isLive, isIn}
 use Rattle.model.specs.Refusals.{first}
 use Rattle.model.specs.Calls.{countsOf}
 use Rattle.model.specs.Foreign.{drops, stepTakeOf, stepReleaseOf, stepWaitersOf, stepOf, runStepsOf, boundaryOf}
 use Rattle.types.specs.declared.Answer.the-variants.{Done}
 use Rattle.types.specs.declared.Check.the-variants.{Fine}
-use Rattle.types.specs.declared.Lease.{Lease}
+use Rattle.types.specs.declared.Hold.{Hold}
 use Rattle.types.specs.declared.Stepped.{Stepped}
 use Rattle.choice.specs.Pick.{both}
 use Rattle.laws.specs.Words.{bit-set-other, owner-set-other, bit-set-waiters, owner-set-waiters}
@@ -54,7 +54,7 @@ untouched w (took a d s) c k n = go (ℕ-discrete c d)
 untouched w (released a d s) c k n = go (ℕ-discrete c d)
   where
     go : Dec (c ≡ d) → cells (world.step w (released a d s)) c ≡ cells w c
-    go (yes e) = absurd (n (subst (λ z. Valid-cell (next-serial w) (cells w z)) (sym e) (live-cell w (leaseOf d s) k)))
+    go (yes e) = absurd (n (subst (λ z. Valid-cell (next-serial w) (cells w z)) (sym e) (live-cell w (holdOf d s) k)))
     go (no e) = rw (bit-set-other (w .table) d 0 0 c e, owner-set-other (w .table) d 0 0 c e)
 untouched w (waiters-set d m) c k n = rw (bit-set-waiters (w .table) d m c, owner-set-waiters (w .table) d m c)
 untouched w (health-set i m) c k n = refl
@@ -80,12 +80,12 @@ take-dropped w c n =
     let x = free-words (next-serial w) (w .table) c (is-free-state (next-serial w) (w .table) c (q .1)) in
     absurd (n (status-valid (next-serial w) (cells w c) (is-free (x .0) (x .1))))) (λ e. refl)
 
-release-dropped : (w : Authority) (ps : List Lease) (c : Key) (s : ℕ) → (Valid-cell (next-serial w) (cells w c) → ⊥)
+release-dropped : (w : Authority) (ps : List Hold) (c : Key) (s : ℕ) → (Valid-cell (next-serial w) (cells w c) → ⊥)
     → stepReleaseOf (dom w) ps (next-serial w) (w .table) c s ≡ drops (next-serial w) (w .table)
 unfolding stepReleaseOf
 release-dropped w ps c s n =
-    if-cases (λ (m : Made (Stepped × List ℕ)). m ≡ drops (next-serial w) (w .table)) (isLive (next-serial w) (dom w) (w .table) (leaseOf c s) && not (isIn (leaseOf c s) ps))
-    (λ e. absurd (on-damaged w (leaseOf c s) n (both (isLive (next-serial w) (dom w) (w .table) (leaseOf c s)) (not (isIn (leaseOf c s) ps)) e .0))) (λ e. refl)
+    if-cases (λ (m : Made (Stepped × List ℕ)). m ≡ drops (next-serial w) (w .table)) (isLive (next-serial w) (dom w) (w .table) (holdOf c s) && not (isIn (holdOf c s) ps))
+    (λ e. absurd (on-damaged w (holdOf c s) n (both (isLive (next-serial w) (dom w) (w .table) (holdOf c s)) (not (isIn (holdOf c s) ps)) e .0))) (λ e. refl)
 
 -- ---- the call
 
@@ -109,7 +109,7 @@ module _ (w : Authority) (held : List ℕ) (c number : ℕ) where
   unfolding boundaryOf runStepsOf stepOf
   release-goes f n =
       by-checks (λ m. m .seen ≡ (w, says Done (countsOf 0 1 0 1) 1 [])) w (environment (2 ∷ c ∷ number ∷ []) 0 held) (λ r e. absurd (fine-fault f e))
-      (λ e k. rw (release-dropped w (leasesOf held) c number n))
+      (λ e k. rw (release-dropped w (holdsOf held) c number n))
 
   waiters-goes : One-step w held 3 c number → contains-key w c → Leaves w held 3 c number (worldOf (w .head) (setWaiters (w .table) c number) (w .health)) 0
   unfolding boundaryOf runStepsOf stepOf stepWaitersOf

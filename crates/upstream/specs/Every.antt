@@ -12,7 +12,7 @@ use lib.Dec.{eqb}
 use lib.ListN.{length, getD, length-append}
 use lib.Seq.{getD-append-add}
 use Rattle.choice.specs.Choice.{if_then_else_}
-use Rattle.model.specs.Arena.{lastSerial, cellsOf, leaseOf, leasesOf, bitAt, ownerAt, setCell, isFree, isLive, isIn, healthFits}
+use Rattle.model.specs.Arena.{lastSerial, cellsOf, holdOf, holdsOf, bitAt, ownerAt, setCell, isFree, isLive, isIn, healthFits}
 use Rattle.model.specs.Refusals.{first}
 use Rattle.model.specs.Checks.{badScript}
 use Rattle.model.specs.Foreign.{Setting, stepsIn, kindAt, placeAt, numberAt, stepped, flowOf, stepTakeOf, stepReleaseOf, stepOf, runStepsOf, boundaryOf}
@@ -20,7 +20,7 @@ use Rattle.model.specs.Calls.{given}
 use Rattle.types.specs.declared.Check.the-variants.{Fine}
 use Rattle.types.specs.declared.Flow.{Flow}
 use Rattle.types.specs.declared.Head.{Head}
-use Rattle.types.specs.declared.Lease.{Lease}
+use Rattle.types.specs.declared.Hold.{Hold}
 use Rattle.laws.specs.Shape.{Shaped, shaped}
 use Rattle.laws.specs.Words.{length-set-cell}
 use Rattle.history.specs.Items.{environment, perform, rules}
@@ -101,12 +101,12 @@ take-made : (n : ℕ) (t : List ℕ) (total c : ℕ) → c < total → bitAt t c
 unfolding stepTakeOf isFree
 take-made n t total c i b o s = rw (lt-ltb c total i, eq-eqb (bitAt t c) 0 b, eq-eqb (ownerAt t c) 0 o, lt-ltb n lastSerial s)
 
-release-made : (n : ℕ) (t : List ℕ) (total : ℕ) (ps : List Lease) (c s : ℕ) → isLive n total t (leaseOf c s) ≡ true → isIn (leaseOf c s) ps ≡ false
+release-made : (n : ℕ) (t : List ℕ) (total : ℕ) (ps : List Hold) (c s : ℕ) → isLive n total t (holdOf c s) ≡ true → isIn (holdOf c s) ps ≡ false
     → stepReleaseOf total ps n t c s .seen ≡ (stepped n 0, setCell t c 0 0)
 unfolding stepReleaseOf
 release-made n t total ps c s l p = rw (l, p)
 
-module _ (h : Head) (script : List ℕ) (ps : List Lease) where
+module _ (h : Head) (script : List ℕ) (ps : List Hold) where
   abbrev around : Setting
   around = given h script ps
 
@@ -145,7 +145,7 @@ module _ (h : Head) (script : List ℕ) (ps : List Lease) where
       record {
         next = n;
         table = setCell t k 0 0;
-        made = rw (release-made n t (cellsOf h) ps k s live (not-so _ (λ i. spared (leaseOf k s) i (refl, refl))));
+        made = rw (release-made n t (cellsOf h) ps k s live (not-so _ (λ i. spared (holdOf k s) i (refl, refl))));
         sized = (length-set-cell t k 0 0 ∙ z .0, z .1);
         alike = record {
           same = written-alike a b u (worldAt h n (setCell t k 0 0) g) k (cell 0 0) (cell 0 0) (l .same) (x .written) (put-cells u n k 0 0 z (still .inside)) refl;
@@ -156,11 +156,11 @@ module _ (h : Head) (script : List ℕ) (ps : List Lease) where
       u : Authority
       u = worldAt h n t g
 
-      still : authorized u (leaseOf k s)
-      still = step-keeps a u Observe (leaseOf k s) l (λ y. y) (record { inside = x .inside; locked = x .locked; mine = x .owner-is })
+      still : authorized u (holdOf k s)
+      still = step-keeps a u Observe (holdOf k s) l (λ y. y) (record { inside = x .inside; locked = x .locked; mine = x .owner-is })
 
-      live : isLive n (cellsOf h) t (leaseOf k s) ≡ true
-      live = authorized-live u (leaseOf k s) (step-valid a u Observe v l) still
+      live : isLive n (cellsOf h) t (holdOf k s) ≡ true
+      live = authorized-live u (holdOf k s) (step-valid a u Observe v l) still
   does Observe n t g a b z l v x spared r =
       record {
         next = n;
@@ -294,7 +294,7 @@ reads-for pre k (e ∷ es) post l = (
 )
 
 -- a boundary anywhere in a script, at whatever call: any words before it, the events, a 5, and any words behind
-pub between-does : (h : Head) (ps : List Lease) (pre : List ℕ) (k : ℕ) (post : List ℕ) (n d : ℕ) (t g : List ℕ) (events : List Step) (states : List Authority) (a b : Authority)
+pub between-does : (h : Head) (ps : List Hold) (pre : List ℕ) (k : ℕ) (post : List ℕ) (n d : ℕ) (t g : List ℕ) (events : List Step) (states : List Authority) (a b : Authority)
     → length pre ≡ 3 * k → environment-trace a b (In ps) states events → Sized (worldAt h n t g) → Alike a (worldAt h n t g) → valid a → next-serial b ≤ lastSerial
     → Bounded h (pre ++ (script-for events ++ (5 ∷ 0 ∷ 0 ∷ post))) ps n k d t g b (k + length events + 1)
 between-does h ps pre k post n d t g events states a b e r z l v m =
@@ -320,7 +320,7 @@ script-formed : (script : List ℕ) → length script % 3 ≡ 0 → stepsIn scri
 script-formed script e k = rw (eq-eqb (length script % 3) 0 e, le-ltb 32768 (stepsIn script) k, le-ltb (stepsIn script) 0 (omega arith))
 
 -- its words are u32
-words-fit : (events : List Step) (states : List Authority) (a b : Authority) (ps : List Lease) → environment-trace a b (In ps) states events → valid a → dom a ≤ lastSerial → next-serial b ≤ lastSerial
+words-fit : (events : List Step) (states : List Authority) (a b : Authority) (ps : List Hold) → environment-trace a b (In ps) states events → valid a → dom a ≤ lastSerial → next-serial b ≤ lastSerial
     → (i : ℕ) → getD (script-for events) i 0 ≤ lastSerial
 unfolding script-for
 words-fit [] states a b ps r v k m i = omega arith
@@ -367,21 +367,21 @@ pub record Played-by (w after : Authority) (held : List ℕ) (states : List Auth
   pub passes : first (rules w (environment script 0 held)) ≡ Fine
   -- after its first i steps the state is the trace's; at the end it is what the call leaves, and no step was dropped
   pub states-are : (i : ℕ) → i ≤ length events
-      → Alike (getD states i w) (of-flow (w .head) (runStepsOf i (given (w .head) script (leasesOf held)) (flowOf (next-serial w) 0 0) (w .table) (w .health) .seen))
+      → Alike (getD states i w) (of-flow (w .head) (runStepsOf i (given (w .head) script (holdsOf held)) (flowOf (next-serial w) 0 0) (w .table) (w .health) .seen))
   pub ends : Alike after (leaves w (environment script 0 held))
   pub none-dropped : perform w (environment script 0 held) .seen .1 .counts .dropped ≡ 0
 
 -- every finite legal trace of other actors that fits is some script's
-pub every-environment : (w after : Authority) (held : List ℕ) (states : List Authority) (events : List Step) → Fits w → healthFits (w .head) (length (w .health)) ≡ true → Short held
-    → valid w → leases-authorized w (leasesOf held) → environment-trace w after (held-ids (leasesOf held)) states events
+pub every-environment : (w after : Authority) (held : List ℕ) (states : List Authority) (events : List Step) → Fits w → healthFits (w .head) (length (w .health)) ≡ true → Short w held
+    → valid w → leases-authorized w (holdsOf held) → environment-trace w after (held-ids (holdsOf held)) states events
     → length events ≤ 32768 → next-serial after ≤ lastSerial → (script : List ℕ) × Played-by w after held states events script
 every-environment w after held states events s g b v p r few m = (
   script,
   record {
     as-many = many;
-    words = words-fit events states w after (leasesOf held) r v (omega (arith, shape .few-cells)) m;
+    words = words-fit events states w after (holdsOf held) r v (omega (arith, shape .few-cells)) m;
     passes = passes;
-    states-are = λ i l. prefix-does (w .head) script (leasesOf held) i (next-serial w) (w .table) (w .health) events states w after r l reading (fits-sized w s) alike-self v m;
+    states-are = λ i l. prefix-does (w .head) script (holdsOf held) i (next-serial w) (w .table) (w .health) events states w after r l reading (fits-sized w s) alike-self v m;
     ends = whole .0;
     none-dropped = whole .1;
   },
@@ -405,9 +405,9 @@ every-environment w after held states events s g b v p r few m = (
     alike-self : Alike w w
     alike-self = record { same = record { same-keys = refl; each = λ k i. refl }; stays = refl }
 
-    boundary : Bounded (w .head) script (leasesOf held) (next-serial w) 0 0 (w .table) (w .health) after (0 + length events)
+    boundary : Bounded (w .head) script (holdsOf held) (next-serial w) 0 0 (w .table) (w .health) after (0 + length events)
     boundary =
-        boundary-does (w .head) script (leasesOf held) (next-serial w) 0 0 (w .table) (w .health) events states w after (0 + length events) r reading
+        boundary-does (w .head) script (holdsOf held) (next-serial w) 0 0 (w .table) (w .health) events states w after (0 + length events) r reading
         (at-end (many ∙ (let z : length events ≡ 0 + length events = omega arith in z))) (fits-sized w s) alike-self v m
 
     whole : Alike after (leaves w (environment script 0 held)) × (perform w (environment script 0 held) .seen .1 .counts .dropped ≡ 0)

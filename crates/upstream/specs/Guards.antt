@@ -10,26 +10,27 @@ use native.Mathlib.Nat.{mul-le-mul-right, suc-mul, div-add-mod', mod-lt}
 use borrow.Author.Tests.{le-leb, lt-leb}
 use lib.ListN.{length, getD, length-append, List·getD-append}
 use lib.Seq.{getD-append-seam}
-use Rattle.model.specs.Arena.{cellNumber, leasesOf, wordsOf}
+use Rattle.model.specs.Arena.{cellNumber, holdIn, holdsOf, wordsOf}
 use Rattle.model.specs.Answers.{kindOf}
 use Rattle.model.specs.Refusals.{Rule, first}
 use Rattle.model.specs.Checks.{countIn, badShape, badHealth, badRegistry, badScript, badHeld, tooManyKeys, badBinding, badBindings, locksRules}
 use Rattle.model.specs.Foreign.{Setting, protecting}
-use Rattle.model.specs.Lock.{noLease, leaseAt, bindingAt, bucketAt, attemptLimit, noneYet, retryOf, rollbackOf, afterKey, locksOf, Locks}
+use Rattle.model.specs.Lock.{noHold, holdAt, bindingAt, bucketAt, attemptLimit, noneYet, retryOf, rollbackOf, afterKey, locksOf, Locks}
 use Rattle.model.specs.Calls.{given, starting}
 use Rattle.types.specs.declared.Answer.the-variants.{Granted, AllGranted}
 use Rattle.types.specs.declared.Check.{Check}
 use Rattle.types.specs.declared.Check.the-variants.{Fault}
+use Rattle.types.specs.declared.Hold.{Hold}
 use Rattle.types.specs.declared.Lease.{Lease}
 use Rattle.types.specs.declared.Outcome.{Outcome}
 use Rattle.types.specs.declared.Outcome.the-variants as outcome
 use Rattle.types.specs.declared.Refusal.the-variants.{BadBinding}
 use Rattle.types.specs.declared.Run.{Run}
 use Rattle.laws.specs.Checks.{first-hit, first-skip}
+use Rattle.laws.specs.Lists.{words-back}
 use Rattle.history.specs.Items.{Call, try-lock, acquire-locks, perform, Clear}
 use Rattle.history.specs.Statements.{answers}
 use Rattle.history.specs.Judged.{unchanged}
-use Rattle.history.specs.Tests.{leases-words}
 use Rattle.laws.specs.Keys.{place-inside}
 use Rattle.upstream.specs.Vocabulary.{Key, Authority, Pair, Guard, lease-key, contains-key, key-at, guards-place, guards-match, all-guards-in, physical-members, guard-members}
 use Rattle.upstream.specs.Bridge.{refused, by-checks}
@@ -72,44 +73,44 @@ slot-only headers buckets c header bucket i b e =
 
 module _ (w : Authority) (script : List ℕ) (place : ℕ) (held : List ℕ) where
   -- r.unwrap().physical == slot, where the slot is that of the cell that is asked for
-  pub guards-try-lock-e1 : (c : Key) (l : Guard) → answers w (try-lock script place held c) ≡ Granted l → guards-place (w .head .buckets) l (slot-of (w .head .buckets) c)
+  pub guards-try-lock-e1 : (c : Key) (l : Lease) → answers w (try-lock script place held c) ≡ Granted l → guards-place (w .head .buckets) (holdIn l) (slot-of (w .head .buckets) c)
   guards-try-lock-e1 c l e =
       let k = granted-key w script place held c l e in
       let s = slot-is (w .head .headers) (w .head .buckets) c (k .1) in
       (k .0 ∙ sym (s .0), s .1)
 
   -- r.unwrap().arena == self.arena(): its cell is in the arena
-  pub guards-try-lock-e2 : (c : Key) (l : Guard) → answers w (try-lock script place held c) ≡ Granted l → contains-key w (lease-key l)
+  pub guards-try-lock-e2 : (c : Key) (l : Lease) → answers w (try-lock script place held c) ≡ Granted l → contains-key w (lease-key (holdIn l))
   guards-try-lock-e2 c l e = let k = granted-key w script place held c l e in rw (k .0) (k .1)
 
 -- ---- `acquire_index_locks`
 
 -- the leases that a multi-lock hands over, in key order
-pub record Matches (headers buckets : ℕ) (registry keys : List ℕ) (n : ℕ) (ls : List Lease) : Type 0 where
+pub record Matches (headers buckets : ℕ) (registry keys : List ℕ) (n : ℕ) (ls : List Hold) : Type 0 where
   pub as-many : length ls ≡ n
-  pub each : (i : ℕ) → i < n → Granted-at headers buckets registry (bindingAt keys i) (bucketAt keys i) (leaseAt ls i)
+  pub each : (i : ℕ) → i < n → Granted-at headers buckets registry (bindingAt keys i) (bucketAt keys i) (holdAt ls i)
 
-module _ (e : Setting) (buckets : ℕ) (registry keys grants : List ℕ) where
+module _ (e : Setting) (buckets boot : ℕ) (registry keys grants : List ℕ) where
   abbrev Good : ℕ → Locks → Type 0
-  Good n a = a .0 .answer ≡ AllGranted → (ls : List Lease) × (a .1 .1 .1 ≡ wordsOf ls) × Matches (e .headers) buckets registry keys n ls
+  Good n a = a .0 .answer ≡ AllGranted → (ls : List Hold) × (a .1 .1 .1 ≡ wordsOf boot ls) × Matches (e .headers) buckets registry keys n ls
 
   -- one key more
-  matched : (p : ℕ) (taken : List Lease) (l : Lease) → Matches (e .headers) buckets registry keys p taken
+  matched : (p : ℕ) (taken : List Hold) (l : Hold) → Matches (e .headers) buckets registry keys p taken
       → Granted-at (e .headers) buckets registry (bindingAt keys p) (bucketAt keys p) l → Matches (e .headers) buckets registry keys (p + 1) (taken ++ (l ∷ []))
   matched p taken l m k = record { as-many = length-append taken (l ∷ []) ∙ ap (λ (n : ℕ). n + 1) (m .as-many); each = λ i b. go i b (ℕ-discrete i p) }
     where
-      go : (i : ℕ) → i < p + 1 → Dec (i ≡ p) → Granted-at (e .headers) buckets registry (bindingAt keys i) (bucketAt keys i) (leaseAt (taken ++ (l ∷ [])) i)
+      go : (i : ℕ) → i < p + 1 → Dec (i ≡ p) → Granted-at (e .headers) buckets registry (bindingAt keys i) (bucketAt keys i) (holdAt (taken ++ (l ∷ [])) i)
       go i b (yes q) =
           let z : i ≡ length taken = q ∙ sym (m .as-many) in
-          subst (λ n. Granted-at (e .headers) buckets registry (bindingAt keys n) (bucketAt keys n) (leaseAt (taken ++ (l ∷ [])) n)) (sym q)
+          subst (λ n. Granted-at (e .headers) buckets registry (bindingAt keys n) (bucketAt keys n) (holdAt (taken ++ (l ∷ [])) n)) (sym q)
           (subst (Granted-at (e .headers) buckets registry (bindingAt keys p) (bucketAt keys p))
-          (sym (ap (λ (n : ℕ). leaseAt (taken ++ (l ∷ [])) n) (sym (m .as-many)) ∙ getD-append-seam taken l [] noLease)) k)
+          (sym (ap (λ (n : ℕ). holdAt (taken ++ (l ∷ [])) n) (sym (m .as-many)) ∙ getD-append-seam taken l [] noHold)) k)
       go i b (no q) =
           subst (Granted-at (e .headers) buckets registry (bindingAt keys i) (bucketAt keys i))
-          (sym (List·getD-append taken (l ∷ []) noLease i (omega (arith, m .as-many)))) (m .each i (omega arith))
+          (sym (List·getD-append taken (l ∷ []) noHold i (omega (arith, m .as-many)))) (m .each i (omega arith))
 
-  locks-match : (left p n : ℕ) (taken : List Lease) (r : Run) (t g : List ℕ) → n ≡ p + left → Matches (e .headers) buckets registry keys p taken
-      → Good n (locksOf left p e buckets registry keys taken r t g grants .seen)
+  locks-match : (left p n : ℕ) (taken : List Hold) (r : Run) (t g : List ℕ) → n ≡ p + left → Matches (e .headers) buckets registry keys p taken
+      → Good n (locksOf left p e buckets boot registry keys taken r t g grants .seen)
   unfolding locksOf rollbackOf
   locks-match zero p n taken r t g s m = λ q. (taken, refl, subst (λ k. Matches (e .headers) buckets registry keys k taken) (let z : p ≡ n = omega arith in z) m)
   locks-match (suc left) p n taken r t g s m =
@@ -118,10 +119,10 @@ module _ (e : Setting) (buckets : ℕ) (registry keys grants : List ℕ) where
       (λ l x. locks-match left (p + 1) n (taken ++ (l ∷ [])) (k .0 .run) (k .1 .0) (k .1 .1) (omega arith) (matched p taken l m x))
     where
       go : (o : Outcome) (run : Run) (u v : List ℕ)
-          → ((l : Lease) → o ≡ outcome.Granted l → Granted-at (e .headers) buckets registry (bindingAt keys p) (bucketAt keys p) l)
-          → ((l : Lease) → Granted-at (e .headers) buckets registry (bindingAt keys p) (bucketAt keys p) l
-          → Good n (locksOf left (p + 1) e buckets registry keys (taken ++ (l ∷ [])) run u v grants .seen))
-          → Good n (afterKey o e taken p run u v grants (λ l. locksOf left (p + 1) e buckets registry keys (taken ++ (l ∷ [])) run u v grants) .seen)
+          → ((l : Hold) → o ≡ outcome.Granted l → Granted-at (e .headers) buckets registry (bindingAt keys p) (bucketAt keys p) l)
+          → ((l : Hold) → Granted-at (e .headers) buckets registry (bindingAt keys p) (bucketAt keys p) l
+          → Good n (locksOf left (p + 1) e buckets boot registry keys (taken ++ (l ∷ [])) run u v grants .seen))
+          → Good n (afterKey o e taken p run u v grants (λ l. locksOf left (p + 1) e buckets boot registry keys (taken ++ (l ∷ [])) run u v grants) .seen)
       go (outcome.Granted l) run u v k on = on l (k l refl)
       go (outcome.Busy why) run u v k on = λ q. absurd (omega (arith, ap kindOf q))
       go (outcome.Refused x) run u v k on = λ q. absurd (omega (arith, ap kindOf q))
@@ -150,7 +151,7 @@ module _ (w : Authority) (registry script : List ℕ) (place : ℕ) (held keys g
 
   -- the guards that are handed over: the leases in the grant buffer
   abbrev guards : List Guard
-  guards = leasesOf (perform w call .seen .1 .grants)
+  guards = holdsOf (perform w call .seen .1 .grants)
 
   abbrev Before : List Rule
   Before = badShape (w .head) (w .table) ∷ badHealth (w .head) (w .health) ∷ badRegistry registry ∷ badScript script place ∷ badHeld (w .head) (w .table) held
@@ -167,12 +168,12 @@ module _ (w : Authority) (registry script : List ℕ) (place : ℕ) (held keys g
 
   all-match : answers w call ≡ AllGranted → Matches (w .head .headers) (w .head .buckets) registry keys (countIn keys) guards
   all-match =
-      by-checks (λ m. m .seen .1 .answer ≡ AllGranted → Matches (w .head .headers) (w .head .buckets) registry keys (countIn keys) (leasesOf (m .seen .1 .grants))) w call
+      by-checks (λ m. m .seen .1 .answer ≡ AllGranted → Matches (w .head .headers) (w .head .buckets) registry keys (countIn keys) (holdsOf (m .seen .1 .grants))) w call
       (λ r e q. absurd (omega (arith, ap kindOf q)))
       (λ e k q.
-      let x = locks-match (given (w .head) script (leasesOf held)) (w .head .buckets) registry keys grants (countIn keys) 0 (countIn keys) [] (starting (w .head) place) (w .table) (w .health)
+      let x = locks-match (given (w .head) script (holdsOf held)) (w .head .buckets) (w .head .boot) registry keys grants (countIn keys) 0 (countIn keys) [] (starting (w .head) place) (w .table) (w .health)
       (omega arith) (record { as-many = refl; each = λ i l. absurd (omega arith) }) q in
-      subst (Matches (w .head .headers) (w .head .buckets) registry keys (countIn keys)) (sym (ap leasesOf (x .1) ∙ leases-words (x .0))) (x .2))
+      subst (Matches (w .head .headers) (w .head .buckets) registry keys (countIn keys)) (sym (ap holdsOf (x .1) ∙ words-back (w .head .boot) (x .0))) (x .2))
 
   pub acquire-index-locks-e1 : answers w call ≡ AllGranted → guards-match (w .head .buckets) registry keys guards
   acquire-index-locks-e1 q = let m = all-match q in (m .as-many, λ i l. (m .each i l .cell-is, m .each i l .bucket-inside))
@@ -188,7 +189,7 @@ module _ (w : Authority) (registry script : List ℕ) (place : ℕ) (held keys g
 
   -- so the guards are on the physical places of the keys, and (`members-only`) on no others
   pub members-match : answers w call ≡ AllGranted → (p : Pair) → physical-members registry keys p → guard-members (w .head .buckets) guards p
-  members-match q p x = let m = acquire-index-locks-e1 q in (x .0, omega (arith, m .0, x .1), subst (guards-place (w .head .buckets) (leaseAt guards (x .0))) (sym (x .2)) (m .1 (x .0) (x .1)))
+  members-match q p x = let m = acquire-index-locks-e1 q in (x .0, omega (arith, m .0, x .1), subst (guards-place (w .head .buckets) (holdAt guards (x .0))) (sym (x .2)) (m .1 (x .0) (x .1)))
 
   pub members-only : answers w call ≡ AllGranted → (p : Pair) → guard-members (w .head .buckets) guards p → physical-members registry keys p
   members-only q p x =

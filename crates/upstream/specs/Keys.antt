@@ -9,12 +9,13 @@ use lib.Dec.{leb, eqb}
 use lib.ListN.{getD}
 use borrow.Author.Tests.{leb-true, leb-false, eqb-true, eq-eqb, not-true, not-false}
 use Rattle.model.specs.Log.{Made}
-use Rattle.model.specs.Arena.{cellNumber, leaseOf}
+use Rattle.model.specs.Arena.{cellNumber, leaseOf, holdOf, holdIn}
 use Rattle.model.specs.Foreign.{Setting}
 use Rattle.model.specs.Answers.{kindOf}
 use Rattle.model.specs.Lock.{answerOf, findOf, attemptAt, attemptOf, pauseOf, isBusy, retryOf, settled}
 use Rattle.types.specs.declared.Found.{Found}
 use Rattle.types.specs.declared.Found.the-variants as found
+use Rattle.types.specs.declared.Hold.{Hold}
 use Rattle.types.specs.declared.Lease.{Lease}
 use Rattle.types.specs.declared.Answer.the-variants.{Granted}
 use Rattle.types.specs.declared.Outcome.{Outcome}
@@ -54,34 +55,34 @@ finds headers buckets g registry binding bucket =
     P f = Finds headers buckets g registry binding bucket f
 
 -- the cell of a lease that a lock granted
-pub granted-cell : {buckets c : ℕ} {g : List ℕ} {o : Outcome} → Comes buckets c g o → (l : Lease) → o ≡ outcome.Granted l → l .cell ≡ c
-granted-cell {c = c} (locked.granted s h) l e = let q : leaseOf c s ≡ l = cc in sym (ap (λ (k : Lease). k .cell) q)
+pub granted-cell : {buckets c : ℕ} {g : List ℕ} {o : Outcome} → Comes buckets c g o → (l : Hold) → o ≡ outcome.Granted l → l .cell ≡ c
+granted-cell {c = c} (locked.granted s h) l e = let q : holdOf c s ≡ l = cc in sym (ap (λ (k : Hold). k .cell) q)
 granted-cell (locked.busy why) l e = let q : _≡_ {A = ℕ} 0 1 = cc in absurd (omega arith)
 granted-cell (locked.poisoned h) l e = let q : _≡_ {A = ℕ} 0 1 = cc in absurd (omega arith)
 granted-cell locked.damaged l e = let q : _≡_ {A = ℕ} 0 1 = cc in absurd (omega arith)
 granted-cell locked.spent l e = let q : _≡_ {A = ℕ} 0 1 = cc in absurd (omega arith)
 
 -- an answer that grants this lease
-pub answer-granted : (o : Outcome) (l : Lease) → answerOf o ≡ Granted l → o ≡ outcome.Granted l
-answer-granted (outcome.Granted k) l e = let q : k ≡ l = cc in ap (λ (k : Lease). outcome.Granted k) q
-answer-granted (outcome.Busy why) l e = absurd (omega (arith, ap kindOf e))
-answer-granted (outcome.Refused r) l e = absurd (omega (arith, ap kindOf e))
+pub answer-granted : (boot : ℕ) (o : Outcome) (l : Lease) → answerOf boot o ≡ Granted l → o ≡ outcome.Granted (holdIn l)
+answer-granted boot (outcome.Granted k) l e = let q : leaseOf (k .cell) (k .serial) boot ≡ l = cc in ap (λ (x : Lease). outcome.Granted (holdIn x)) q
+answer-granted boot (outcome.Busy why) l e = absurd (omega (arith, ap kindOf e))
+answer-granted boot (outcome.Refused r) l e = absurd (omega (arith, ap kindOf e))
 
-pub settled-granted : (o : Outcome) (l : Lease) → answerOf (settled o) ≡ Granted l → o ≡ outcome.Granted l
-settled-granted (outcome.Granted k) l e = answer-granted (outcome.Granted k) l e
-settled-granted (outcome.Busy why) l e = absurd (omega (arith, ap kindOf e))
-settled-granted (outcome.Refused r) l e = answer-granted (outcome.Refused r) l e
+pub settled-granted : (boot : ℕ) (o : Outcome) (l : Lease) → answerOf boot (settled o) ≡ Granted l → o ≡ outcome.Granted (holdIn l)
+settled-granted boot (outcome.Granted k) l e = answer-granted boot (outcome.Granted k) l e
+settled-granted boot (outcome.Busy why) l e = absurd (omega (arith, ap kindOf e))
+settled-granted boot (outcome.Refused r) l e = answer-granted boot (outcome.Refused r) l e
 
 -- ---- a lease on the key's cell
 
-pub record Granted-at (headers buckets : ℕ) (registry : List ℕ) (binding bucket : ℕ) (l : Lease) : Type 0 where
+pub record Granted-at (headers buckets : ℕ) (registry : List ℕ) (binding bucket : ℕ) (l : Hold) : Type 0 where
   pub header-inside : getD registry binding 0 < headers
   pub bucket-inside : bucket < buckets
   pub cell-is : l .cell ≡ cellNumber buckets (getD registry binding 0) bucket
 
 module _ (e : Setting) (buckets : ℕ) (registry : List ℕ) (binding bucket : ℕ) where
   abbrev Keyed : With Tried → Type 0
-  Keyed a = (l : Lease) → a .0 .outcome ≡ outcome.Granted l → Granted-at (e .headers) buckets registry binding bucket l
+  Keyed a = (l : Hold) → a .0 .outcome ≡ outcome.Granted l → Granted-at (e .headers) buckets registry binding bucket l
 
   pub attempt-key : (r : Run) (t g : List ℕ) → Keyed (attemptOf e buckets registry binding bucket r t g .seen)
   unfolding attemptOf

@@ -9,7 +9,7 @@ use borrow.Author.Tests.{not-false}
 use lib.ListN.{length, getD}
 use Rattle.choice.specs.Choice.{if_then_else_}
 use Rattle.model.specs.Log.{Made, gives, _>>=_}
-use Rattle.model.specs.Arena.{leasesOf, bitAt, ownerAt, waitersAt, setCell, isIn, isFree, isHeld, stateOf, stateAt, isLive, headFits, shapeFits, healthFits, registryFits}
+use Rattle.model.specs.Arena.{holdIn, leasesOf, holdsOf, bitAt, ownerAt, waitersAt, setCell, isIn, isFree, isHeld, stateOf, stateAt, isLive, headFits, shapeFits, healthFits, registryFits}
 use Rattle.model.specs.Answers.{kindOf, refusalIn}
 use Rattle.model.specs.Refusals.{first}
 use Rattle.model.specs.Checks.{notLive, cellRules, scriptRules, lockRules, bucketRules}
@@ -19,6 +19,7 @@ use Rattle.model.specs.Calls.{countsOf, given, starting, acquireOf, tryAcquireO
 use Rattle.types.specs.declared.Answer.{Answer}
 use Rattle.types.specs.declared.Answer.the-variants.{Done, Cell, Granted, AllGranted, Busy, Refused, RefusedAt}
 use Rattle.types.specs.declared.Head.{Head}
+use Rattle.types.specs.declared.Hold.{Hold}
 use Rattle.types.specs.declared.Lease.{Lease}
 use Rattle.types.specs.declared.Outcome.the-variants as outcome
 use Rattle.types.specs.declared.Reason.{Reason}
@@ -56,7 +57,7 @@ accepted-ignores-waiters w script place held c a =
     }
 
 pub rejected-ignores-waiters : We-accept-lock ignores-waiters → ⊥
-unfolding perform tryLockOf lockRules scriptRules notLive first shapeFits headFits healthFits leasesOf boundaryOf runStepsOf lockOf waitersAt tryAcquireOf cellRules acquireOf takeOf bitAt ownerAt setCell
+unfolding perform tryLockOf lockRules scriptRules notLive first shapeFits headFits healthFits leasesOf holdsOf boundaryOf runStepsOf lockOf waitersAt tryAcquireOf cellRules acquireOf takeOf bitAt ownerAt setCell
     stateAt stateOf isFree isHeld
 rejected-ignores-waiters p = omega (arith, ap (λ (x : Answer × Authority). kindOf (x .0)) (p one-waited [] 0 [] 0))
 
@@ -65,18 +66,18 @@ rejected-ignores-waiters p = omega (arith, ap (λ (x : Answer × Authority). kin
 pub record Asked-bucket (w : Authority) (registry script : List ℕ) (place : ℕ) (held : List ℕ) (binding : ℕ) : Type 0 where
   -- what upstream's types see to
   pub formed : Keyed w registry script place
-  pub short : Short held
+  pub short : Short w held
   pub is-valid : valid w
   pub inside : binding < length registry
-  pub borrowed : leases-authorized w (leasesOf held)
+  pub borrowed : leases-authorized w (holdsOf held)
   pub all-there : physical-domain registry w
 
-pub record Ensured-bucket (w : Authority) (registry : List ℕ) (held : List Lease) (binding bucket : ℕ) (result : Answer) (v : Authority) : Type 0 where
+pub record Ensured-bucket (w : Authority) (registry : List ℕ) (held : List Hold) (binding bucket : ℕ) (result : Answer) (v : Authority) : Type 0 where
   pub e1 : valid v
   pub e2 : leases-authorized v held
   pub e3 : dom v ≡ dom w
-  pub e4 : (l : Lease) → result ≡ Granted l → authorized v l
-  pub e5 : (l : Lease) → result ≡ Granted l → lease-key l ≡ key-of w (getD registry binding 0) bucket
+  pub e4 : (l : Lease) → result ≡ Granted l → authorized v (holdIn l)
+  pub e5 : (l : Lease) → result ≡ Granted l → lease-key (holdIn l) ≡ key-of w (getD registry binding 0) bucket
 
 -- a build of it: what it leaves, and what it says, with its counts
 abbrev pub Bucket-build : Type 0
@@ -85,7 +86,7 @@ Bucket-build = Authority → (registry script : List ℕ) (place : ℕ) (held : 
 abbrev pub Upstream-accepts-bucket : Bucket-build → Type 0
 Upstream-accepts-bucket f =
     (w : Authority) (registry script : List ℕ) (place : ℕ) (held : List ℕ) (binding bucket : ℕ) → Asked-bucket w registry script place held binding
-    → let m = f w registry script place held binding bucket in Ensured-bucket w registry (leasesOf held) binding bucket (m .1 .answer) (m .0)
+    → let m = f w registry script place held binding bucket in Ensured-bucket w registry (holdsOf held) binding bucket (m .1 .answer) (m .0)
 
 -- our promise
 abbrev pub We-accept-bucket : Bucket-build → Type 0
@@ -103,7 +104,7 @@ accepted-gives-up w registry script place held binding bucket a =
     record { e1 = a .is-valid; e2 = a .borrowed; e3 = refl; e4 = λ l e. absurd (omega (arith, ap kindOf e)); e5 = λ l e. absurd (omega (arith, ap kindOf e)) }
 
 pub rejected-gives-up : We-accept-bucket gives-up → ⊥
-unfolding perform acquireBucketOf bucketRules notLive first shapeFits headFits healthFits registryFits leasesOf retryOf attemptOf findOf boundaryOf runStepsOf
+unfolding perform acquireBucketOf bucketRules notLive first shapeFits headFits healthFits registryFits leasesOf holdsOf retryOf attemptOf findOf boundaryOf runStepsOf
     lockOf secondOf takeOf lateOf waitersAt bitAt ownerAt setCell stateAt stateOf isFree isHeld
 rejected-gives-up p = omega (arith, ap (λ (x : Authority × Says). kindOf (x .1 .answer)) (p one-free (0 ∷ []) [] 0 [] 0 0))
 
@@ -144,7 +145,7 @@ accepted-renumbers w registry script place held binding bucket a =
 
 -- a bucket that is too large: ours is 8
 pub rejected-renumbers : We-accept-bucket renumbers → ⊥
-unfolding perform acquireBucketOf bucketRules notLive first shapeFits headFits healthFits registryFits leasesOf retryOf attemptOf findOf
+unfolding perform acquireBucketOf bucketRules notLive first shapeFits headFits healthFits registryFits leasesOf holdsOf retryOf attemptOf findOf
 rejected-renumbers p = omega (arith, ap (λ (x : Authority × Says). refusalIn (x .1 .answer)) (p one-free (0 ∷ []) [] 0 [] 0 7))
 
 -- ---- yields: `retryOf` of the model, with a spin after every Busy attempt and no yield
@@ -160,11 +161,11 @@ spinningOf (suc left) last e buckets registry binding bucket r t g = do
 
 abbrev pub never-yields : Bucket-build
 never-yields w registry script place held binding bucket =
-    let k = spinningOf attemptLimit noneYet (given (w .head) script (leasesOf held)) (w .head .buckets) registry binding bucket (starting (w .head) place) (w .table) (w .health) .seen in
+    let k = spinningOf attemptLimit noneYet (given (w .head) script (holdsOf held)) (w .head .buckets) registry binding bucket (starting (w .head) place) (w .table) (w .health) .seen in
     let r = k .0 .run in
-    (of-tried (w .head) k, says (answerOf (settled (k .0 .outcome))) (countsOf (r .attempts) (r .boundaries) (r .yields) (r .flow .dropped)) (r .flow .place) [])
+    (of-tried (w .head) k, says (answerOf (w .head .boot) (settled (k .0 .outcome))) (countsOf (r .attempts) (r .boundaries) (r .yields) (r .flow .dropped)) (r .flow .place) [])
 
-module _ (h : Head) (script : List ℕ) (ps : List Lease) (registry : List ℕ) (binding bucket : ℕ) where
+module _ (h : Head) (script : List ℕ) (ps : List Hold) (registry : List ℕ) (binding bucket : ℕ) where
   spinning-goes : (left : ℕ) (last : Reason) (r : Run) (t g : List ℕ) → Ready (In ps) (worldAt h (r .flow .next) t g)
       → Attempts h script (In ps) (worldAt h (r .flow .next) t g) (spinningOf left last (given h script ps) (h .buckets) registry binding bucket r t g .seen)
   unfolding spinningOf
@@ -178,7 +179,7 @@ module _ (h : Head) (script : List ℕ) (ps : List Lease) (registry : List ℕ) 
       if-both (λ (x : Made (With Tried)). Attempts h script (In ps) (worldAt h (r .flow .next) t g) (x .seen)) (isBusy (m .0 .outcome))
       (record { goes = (then) (a .goes) ((then) b (again .goes)); gain = again .gain }) (record { goes = a .goes; gain = a .gain })
 
-  spinning-key : (left : ℕ) (last : Reason) (r : Run) (t g : List ℕ) (l : Lease) → spinningOf left last (given h script ps) (h .buckets) registry binding bucket r t g .seen .0 .outcome ≡ outcome.Granted l
+  spinning-key : (left : ℕ) (last : Reason) (r : Run) (t g : List ℕ) (l : Hold) → spinningOf left last (given h script ps) (h .buckets) registry binding bucket r t g .seen .0 .outcome ≡ outcome.Granted l
       → Granted-at (h .headers) (h .buckets) registry binding bucket l
   unfolding spinningOf
   spinning-key zero last r t g l = λ q. let z : _≡_ {A = ℕ} 0 1 = cc in absurd (omega arith)
@@ -191,14 +192,14 @@ module _ (h : Head) (script : List ℕ) (ps : List Lease) (registry : List ℕ) 
 pub accepted-never-yields : Upstream-accepts-bucket never-yields
 accepted-never-yields w registry script place held binding bucket a =
     let s = starting (w .head) place in
-    let m = spinning-goes (w .head) script (leasesOf held) registry binding bucket attemptLimit noneYet s (w .table) (w .health)
-    (record { sized = fits-sized w (not-false _ (a .formed .0)); valid-now = a .is-valid; safe = by-name w (leasesOf held) (a .borrowed) }) in
+    let m = spinning-goes (w .head) script (holdsOf held) registry binding bucket attemptLimit noneYet s (w .table) (w .health)
+    (record { sized = fits-sized w (not-false _ (a .formed .0)); valid-now = a .is-valid; safe = by-name w (holdsOf held) (a .borrowed) }) in
     record {
       e1 = trace-valid (m .goes .trace) (a .is-valid);
-      e2 = by-place _ (leasesOf held) (trace-keeps (m .goes .trace) (by-name w (leasesOf held) (a .borrowed)));
+      e2 = by-place _ (holdsOf held) (trace-keeps (m .goes .trace) (by-name w (holdsOf held) (a .borrowed)));
       e3 = trace-buries (m .goes .trace) .same-keys;
-      e4 = λ l e. m .gain l (settled-granted _ l e);
-      e5 = λ l e. spinning-key (w .head) script (leasesOf held) registry binding bucket attemptLimit noneYet s (w .table) (w .health) l (settled-granted _ l e) .cell-is;
+      e4 = λ l e. m .gain (holdIn l) (settled-granted _ _ l e);
+      e5 = λ l e. spinning-key (w .head) script (holdsOf held) registry binding bucket attemptLimit noneYet s (w .table) (w .health) (holdIn l) (settled-granted _ _ l e) .cell-is;
     }
 
 -- 64 Busy attempts of three boundaries each, and one more for the yield; then the script releases the cell. Ours has
@@ -208,6 +209,6 @@ fives zero rest = rest
 fives (suc n) rest = 5 ∷ 0 ∷ 0 ∷ fives n rest
 
 pub rejected-never-yields : We-accept-bucket never-yields → ⊥
-unfolding perform acquireBucketOf bucketRules notLive first shapeFits headFits healthFits registryFits leasesOf retryOf spinningOf attemptOf findOf pauseOf spinOf
+unfolding perform acquireBucketOf bucketRules notLive first shapeFits headFits healthFits registryFits leasesOf holdsOf retryOf spinningOf attemptOf findOf pauseOf spinOf
     boundaryOf runStepsOf stepOf stepReleaseOf lockOf secondOf takeOf lateOf waitersAt bitAt ownerAt setCell stateAt stateOf isFree isHeld isLive isIn
 rejected-never-yields p = omega (arith, ap (λ (x : Authority × Says). x .1 .counts .yields) (p one-held (0 ∷ []) (fives 193 (2 ∷ 0 ∷ 1 ∷ [])) 0 [] 0 0))

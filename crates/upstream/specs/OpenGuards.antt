@@ -10,7 +10,7 @@ use borrow.Author.Tests.{ltb-true}
 use lib.Dec.{ltb}
 use lib.ListN.{length, getD}
 use Rattle.choice.specs.Choice.{if_then_else_}
-use Rattle.model.specs.Arena.{cellNumber, leaseOf, leasesOf, wordsOf, bitAt, ownerAt, waitersAt, setCell, isFree, isHeld, stateOf, stateAt, headFits, shapeFits, healthFits, registryFits}
+use Rattle.model.specs.Arena.{cellNumber, leaseOf, holdOf, leasesOf, holdsOf, wordsOf, bitAt, ownerAt, waitersAt, setCell, isFree, isHeld, stateOf, stateAt, headFits, shapeFits, healthFits, registryFits}
 use Rattle.model.specs.Answers.{kindOf}
 use Rattle.model.specs.Refusals.{first}
 use Rattle.model.specs.Checks.{countIn, notLive, badBindings, locksRules}
@@ -19,6 +19,7 @@ use Rattle.model.specs.Lock.{bucketAt, takeOf, lateOf, secondOf, lockOf, findOf
 use Rattle.model.specs.Calls.{countsOf, acquireLocksOf}
 use Rattle.types.specs.declared.Answer.{Answer}
 use Rattle.types.specs.declared.Answer.the-variants.{Granted, AllGranted}
+use Rattle.types.specs.declared.Hold.{Hold}
 use Rattle.types.specs.declared.Lease.{Lease}
 use Rattle.choice.specs.Pick.{both}
 use Rattle.history.specs.Items.{acquire-locks, Says, says, perform}
@@ -48,11 +49,14 @@ pub accepted-feigns : (arena : ℕ) (slot : Pair) → Ensured-guard arena slot (
 accepted-feigns arena slot g e = let k : plain arena slot ≡ g = cc in (ap (λ (x : Plain-guard). x .physical-pair) (sym k), ap (λ (x : Plain-guard). x .arena) (sym k))
 
 -- the same here, with a lease for the guard
-abbrev as-lease : ℕ → Plain-guard → Lease
-as-lease buckets g = leaseOf (cellNumber buckets (g .physical-pair .0) (g .physical-pair .1)) 1
+abbrev as-hold : ℕ → Plain-guard → Hold
+as-hold buckets g = holdOf (cellNumber buckets (g .physical-pair .0) (g .physical-pair .1)) 1
+
+abbrev as-lease : (boot buckets : ℕ) → Plain-guard → Lease
+as-lease boot buckets g = leaseOf (as-hold buckets g .cell) (as-hold buckets g .serial) boot
 
 abbrev pub feigns : Lock-build
-feigns w script place held c = (Granted (as-lease (w .head .buckets) (plain 0 (slot-of (w .head .buckets) c))), w)
+feigns w script place held c = (Granted (as-lease (w .head .boot) (w .head .buckets) (plain 0 (slot-of (w .head .buckets) c))), w)
 
 -- two callers get one guard
 pub nobody-excluded : (w : Authority) (c : Key) → feigns (feigns w [] 0 [] c .1) [] 0 [] c ≡ feigns w [] 0 [] c
@@ -134,17 +138,17 @@ module _ (arena count : ℕ) (registry keys : List ℕ) where
       here i l = each n 0 i l ∙ ap (λ (m : ℕ). plain arena (physical registry (key-at keys m))) (let z : 0 + i ≡ i = omega arith in z)
 
 -- the same here, with leases for the guards
-abbrev as-leases : ℕ → List Plain-guard → List Lease
+abbrev as-leases : ℕ → List Plain-guard → List Hold
 as-leases buckets [] = []
-as-leases buckets (g ∷ gs) = as-lease buckets g ∷ as-leases buckets gs
+as-leases buckets (g ∷ gs) = as-hold buckets g ∷ as-leases buckets gs
 
 abbrev pub feigns-all : Authority → (registry script : List ℕ) (place : ℕ) (held keys grants : List ℕ) → Authority × Says
 feigns-all w registry script place held keys grants =
-    (w, says AllGranted (countsOf 0 0 0 0) place (wordsOf (as-leases (w .head .buckets) (guards-from 0 (w .head .buckets) registry keys (countIn keys) 0))))
+    (w, says AllGranted (countsOf 0 0 0 0) place (wordsOf (w .head .boot) (as-leases (w .head .buckets) (guards-from 0 (w .head .buckets) registry keys (countIn keys) 0))))
 
 -- one free cell: ours takes it
 pub rejected-feigns-all : ((w : Authority) (registry script : List ℕ) (place : ℕ) (held keys grants : List ℕ)
     → feigns-all w registry script place held keys grants ≡ perform w (acquire-locks registry script place held keys grants) .seen) → ⊥
-unfolding perform acquireLocksOf locksRules notLive badBindings first shapeFits headFits healthFits registryFits leasesOf wordsOf locksOf retryOf attemptOf findOf boundaryOf runStepsOf
+unfolding perform acquireLocksOf locksRules notLive badBindings first shapeFits headFits healthFits registryFits leasesOf holdsOf wordsOf locksOf retryOf attemptOf findOf boundaryOf runStepsOf
     lockOf secondOf takeOf lateOf waitersAt bitAt ownerAt setCell stateAt stateOf isFree isHeld
-rejected-feigns-all p = omega (arith, ap (λ (x : Authority × Says). bitAt (x .0 .table) 0) (p one-free (0 ∷ []) [] 0 [] (0 ∷ 0 ∷ []) (7 ∷ 7 ∷ [])))
+rejected-feigns-all p = omega (arith, ap (λ (x : Authority × Says). bitAt (x .0 .table) 0) (p one-free (0 ∷ []) [] 0 [] (0 ∷ 0 ∷ []) (7 ∷ 7 ∷ 7 ∷ [])))

@@ -9,7 +9,7 @@ use native.Mathlib.Omega.{arith}
 use native.Mathlib.Decide.{ℕ-discrete}
 use lib.ListN.{length, getD}
 use borrow.Author.Tests.{eq-eqb, ne-eqb}
-use Rattle.types.specs.declared.Lease.{Lease}
+use Rattle.types.specs.declared.Hold.{Hold}
 use Rattle.upstream.specs.Vocabulary.{Key, Cell, cell, is-Some, Authority, LeaseId, Leases, next-serial, dom, contains-key, cells, insert, Cells-are, Valid-cell, valid, authorized, framed, Step, Acquire, Release, Observe, Acquires, Gives-up, step, releases, protected-valid, environment-trace, legal-environment, no-resurrection}
 
 -- ---- a map with one cell written
@@ -82,7 +82,7 @@ step-valid b a Observe v x k i =
     older (omega (arith, x .stays)) (x .same .each k inside) (v k inside)
 
 -- a lease that the step does not release stays authorized
-pub step-keeps : (before after : Authority) (e : Step) (l : Lease) → step before after e → (releases e (l .cell) (l .serial) → ⊥) → authorized before l → authorized after l
+pub step-keeps : (before after : Authority) (e : Step) (l : Hold) → step before after e → (releases e (l .cell) (l .serial) → ⊥) → authorized before l → authorized after l
 step-keeps b a (Acquire key s) l x n p = go (put b a key (cell 1 s) (l .cell) (x .written) (p .inside))
   where
     go : Put b a key (cell 1 s) (l .cell) → authorized a l

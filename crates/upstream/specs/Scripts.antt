@@ -8,7 +8,7 @@ use native.Mathlib.Omega.{arith}
 use lib.Dec.{eqb}
 use lib.ListN.{getD}
 use Rattle.model.specs.Log.{Made, Event, by-caller, released}
-use Rattle.model.specs.Arena.{lastSerial, cellsOf, cellNumber, headerOf, isPoisoned, leaseOf, waitersAt, isIn}
+use Rattle.model.specs.Arena.{lastSerial, cellsOf, cellNumber, headerOf, isPoisoned, leaseOf, holdOf, holdIn, waitersAt, isIn}
 use Rattle.model.specs.Answers.{kindOf}
 use Rattle.model.specs.Foreign.{stepsIn, kindAt, placeAt, numberAt, runStepsOf, boundaryOf, flowOf}
 use Rattle.model.specs.Lock.{takeOf, lateOf, afterTake, secondOf, lockOf, outcomeOf, answerOf, attemptAt, attemptOf, spinOf, pauseOf, isBusy, retryOf, runOf}
@@ -17,6 +17,7 @@ use Rattle.types.specs.declared.Flow.{Flow}
 use Rattle.types.specs.declared.Found.{Found}
 use Rattle.types.specs.declared.Found.the-variants as found
 use Rattle.types.specs.declared.Head.{Head}
+use Rattle.types.specs.declared.Hold.{Hold}
 use Rattle.types.specs.declared.Lease.{Lease}
 use Rattle.types.specs.declared.Locked.{Locked}
 use Rattle.types.specs.declared.Outcome.the-variants as outcome
@@ -51,10 +52,10 @@ module _ {P : Leases} where
   then a b = record { trace = join (a .trace) (b .trace); sized = b .sized }
 
   -- one step
-  pub moved : (w v : Authority) (e : Step) → step w v e → ((l : Lease) → P l → releases e (l .cell) (l .serial) → ⊥) → Sized v → Goes P w v
+  pub moved : (w v : Authority) (e : Step) → step w v e → ((l : Hold) → P l → releases e (l .cell) (l .serial) → ⊥) → Sized v → Goes P w v
   moved w v e x n z = record { trace = first w v v e x n (ended v); sized = z }
 
-  pub fewer : {Q : Leases} {w v : Authority} → ((l : Lease) → Q l → P l) → Goes P w v → Goes Q w v
+  pub fewer : {Q : Leases} {w v : Authority} → ((l : Hold) → Q l → P l) → Goes P w v → Goes Q w v
   fewer f a = record { trace = loosen f (a .trace); sized = a .sized }
 
   kept-goes : {w v : Authority} {log : List Event} → Sized w → valid w → protected-valid w P → Kept w P v log → Goes P w v
@@ -76,7 +77,7 @@ ready r g = record { sized = g .sized; valid-now = trace-valid (g .trace) (r .va
 -- ---- boundaries
 
 module _ (h : Head) (script : List ℕ) where
-  steps-go : (left : ℕ) (ps : List Lease) (f : Flow) (t g : List ℕ) → Ready (In ps) (worldAt h (f .next) t g)
+  steps-go : (left : ℕ) (ps : List Hold) (f : Flow) (t g : List ℕ) → Ready (In ps) (worldAt h (f .next) t g)
       → Goes (In ps) (worldAt h (f .next) t g) (of-flow h (runStepsOf left (given h script ps) f t g .seen))
   unfolding runStepsOf
   steps-go zero ps f t g r = stays (r .sized)
@@ -86,7 +87,7 @@ module _ (h : Head) (script : List ℕ) where
       if-both (λ (m : Made (With Flow)). Goes (In ps) (worldAt h (f .next) t g) (of-flow h (m .seen))) (eqb kind 5) (stays (r .sized))
       (then one (steps-go left ps _ _ _ (ready r one)))
 
-  pub boundary-goes : (ps : List Lease) (f : Flow) (t g : List ℕ) → Ready (In ps) (worldAt h (f .next) t g)
+  pub boundary-goes : (ps : List Hold) (f : Flow) (t g : List ℕ) → Ready (In ps) (worldAt h (f .next) t g)
       → Goes (In ps) (worldAt h (f .next) t g) (of-flow h (boundaryOf (given h script ps) f t g .seen))
   unfolding boundaryOf
   boundary-goes ps f t g r = steps-go (stepsIn script - f .place) ps f t g r
@@ -95,14 +96,14 @@ module _ (h : Head) (script : List ℕ) where
 
   pub record Locks (P : Leases) (w : Authority) (a : With Locked) : Type 0 where
     pub goes : Goes P w (of-locked h a)
-    pub gain : (l : Lease) → a .0 .answer ≡ outcome.Granted l → authorized (of-locked h a) l
+    pub gain : (l : Hold) → a .0 .answer ≡ outcome.Granted l → authorized (of-locked h a) l
 
   -- the same of a definition of the model
   abbrev Locking : Leases → Authority → Made (With Locked) → Type 0
   Locking P w m = Locks P w (m .seen)
 
-  late-goes : (ps : List Lease) (f : Flow) (t g : List ℕ) (c s : ℕ) → Ready (In ps) (worldAt h (f .next) t g) → authorized (worldAt h (f .next) t g) (leaseOf c s)
-      → ((l : Lease) → In ps l → l ≡ leaseOf c s → ⊥) → Locks (In ps) (worldAt h (f .next) t g) (lateOf (given h script ps) (h .buckets) f t g c s .seen)
+  late-goes : (ps : List Hold) (f : Flow) (t g : List ℕ) (c s : ℕ) → Ready (In ps) (worldAt h (f .next) t g) → authorized (worldAt h (f .next) t g) (holdOf c s)
+      → ((l : Hold) → In ps l → l ≡ holdOf c s → ⊥) → Locks (In ps) (worldAt h (f .next) t g) (lateOf (given h script ps) (h .buckets) f t g c s .seen)
   unfolding lateOf isIn
   late-goes ps f t g c s r a apart =
       if-both (Locking (In ps) w) (isPoisoned (m .1 .1) (headerOf (h .buckets) c)) (record { goes = back; gain = λ x e. let q : _≡_ {A = ℕ} 0 1 = cc in absurd (omega arith) })
@@ -113,8 +114,8 @@ module _ (h : Head) (script : List ℕ) where
       w : Authority
       w = worldAt h (f .next) t g
 
-      new : Lease
-      new = leaseOf c s
+      new : Hold
+      new = holdOf c s
 
       event : Event
       event = released by-caller c s
@@ -122,7 +123,7 @@ module _ (h : Head) (script : List ℕ) where
       m : With Flow
       m = boundaryOf (given h script (ps ++ (new ∷ []))) f t g .seen
 
-      safe : (l : Lease) → In ps l ⊎ In (new ∷ []) l → authorized w l
+      safe : (l : Hold) → In ps l ⊎ In (new ∷ []) l → authorized w l
       safe l (inl i) = r .safe l i
       safe l (inr i) = elim (in-cases new l [] i) [ inl e ↦ subst (authorized w) e a | inr z ↦ absurd (differ z) ]
 
@@ -146,8 +147,8 @@ module _ (h : Head) (script : List ℕ) where
           (λ l i x. apart l i (same-lease l new (sym (x .0)) (sym (x .1)))) (sized-now (of-flow h m) (event ∷ []) (b .sized)))
 
   -- after the compare-and-set: `u` is the state before it
-  after-goes : (ps : List Lease) (u : Authority) (a : Take) (f : Flow) (t g : List ℕ) (c : ℕ) → Ready (In ps) u
-      → Tries (Unit {0}) u c (answerOf (outcomeOf c a)) (worldAt h (f .next) t g)
+  after-goes : (ps : List Hold) (u : Authority) (a : Take) (f : Flow) (t g : List ℕ) (c : ℕ) → Ready (In ps) u
+      → Tries (Unit {0}) u c (answerOf (u .head .boot) (outcomeOf c a)) (worldAt h (f .next) t g)
       → Locks (In ps) u (afterTake a (given h script ps) (h .buckets) f t g c .seen)
   after-goes ps u (taking.Granted s) f t g c r x =
       record { goes = then one (late .goes); gain = late .gain }
@@ -155,16 +156,16 @@ module _ (h : Head) (script : List ℕ) where
       w : Authority
       w = worldAt h (f .next) t g
 
-      grant : (leaseOf c s ≡ leaseOf c (next-serial u)) × Acquires u w c (next-serial u) × (next-serial u < lastSerial)
-      grant = tries-some x (leaseOf c s) refl
+      grant : (leaseOf c s (u .head .boot) ≡ leaseOf c (next-serial u) (u .head .boot)) × Acquires u w c (next-serial u) × (next-serial u < lastSerial)
+      grant = tries-some x (leaseOf c s (u .head .boot)) refl
 
       one : Goes (In ps) u w
       one = moved u w (Acquire c (next-serial u)) (grant .1) (λ l i x. x) (tries-sized x (r .sized))
 
       late : Locks (In ps) w (lateOf (given h script ps) (h .buckets) f t g c s .seen)
       late =
-          late-goes ps f t g c s (ready r one) (subst (authorized w) (sym (grant .0)) (step-grants u w c (next-serial u) (grant .1)))
-          (λ l i e. omega (arith, r .safe l i .locked, ap (λ (k : Lease). cells u (k .cell) .bit) e, grant .1 .unlocked))
+          late-goes ps f t g c s (ready r one) (subst (λ (k : Lease). authorized w (holdIn k)) (sym (grant .0)) (step-grants u w c (next-serial u) (grant .1)))
+          (λ l i e. omega (arith, r .safe l i .locked, ap (λ (k : Hold). cells u (k .cell) .bit) e, grant .1 .unlocked))
   after-goes ps u (taking.Busy owner) f t g c r x =
       record { goes = subst (Goes (In ps) u) (sym (tries-none x (λ l e. omega (arith, ap kindOf e)))) (stays (r .sized)); gain = λ s e. let q : _≡_ {A = ℕ} 0 1 = cc in absurd (omega arith) }
   after-goes ps u taking.Damaged f t g c r x =
@@ -172,7 +173,7 @@ module _ (h : Head) (script : List ℕ) where
   after-goes ps u taking.Spent f t g c r x =
       record { goes = subst (Goes (In ps) u) (sym (tries-none x (λ l e. omega (arith, ap kindOf e)))) (stays (r .sized)); gain = λ s e. let q : _≡_ {A = ℕ} 0 1 = cc in absurd (omega arith) }
 
-  second-goes : (ps : List Lease) (f : Flow) (t g : List ℕ) (c : ℕ) → Ready (In ps) (worldAt h (f .next) t g) → c < cellsOf h
+  second-goes : (ps : List Hold) (f : Flow) (t g : List ℕ) (c : ℕ) → Ready (In ps) (worldAt h (f .next) t g) → c < cellsOf h
       → Locks (In ps) (worldAt h (f .next) t g) (secondOf (given h script ps) (h .buckets) f t g c .seen)
   unfolding secondOf acquireOf
   second-goes ps f t g c r i =
@@ -184,7 +185,7 @@ module _ (h : Head) (script : List ℕ) where
       let l = after-goes ps (of-flow h m) (k .0 .answer) (flowOf (k .0 .next) (m .0 .place) (m .0 .dropped)) (k .1) (m .1 .1) c r′ x in
       record { goes = then b (l .goes); gain = l .gain }
 
-  pub lock-goes : (ps : List Lease) (f : Flow) (t g : List ℕ) (c : ℕ) → Ready (In ps) (worldAt h (f .next) t g) → c < cellsOf h
+  pub lock-goes : (ps : List Hold) (f : Flow) (t g : List ℕ) (c : ℕ) → Ready (In ps) (worldAt h (f .next) t g) → c < cellsOf h
       → Locks (In ps) (worldAt h (f .next) t g) (lockOf (given h script ps) (h .buckets) f t g c .seen)
   unfolding lockOf
   lock-goes ps f t g c r i =
@@ -198,9 +199,9 @@ module _ (h : Head) (script : List ℕ) where
 
   pub record Attempts (P : Leases) (w : Authority) (a : With Tried) : Type 0 where
     pub goes : Goes P w (of-tried h a)
-    pub gain : (l : Lease) → a .0 .outcome ≡ outcome.Granted l → authorized (of-tried h a) l
+    pub gain : (l : Hold) → a .0 .outcome ≡ outcome.Granted l → authorized (of-tried h a) l
 
-  pub attempt-goes : (ps : List Lease) (registry : List ℕ) (binding bucket : ℕ) (r : Run) (t g : List ℕ) → Ready (In ps) (worldAt h (r .flow .next) t g)
+  pub attempt-goes : (ps : List Hold) (registry : List ℕ) (binding bucket : ℕ) (r : Run) (t g : List ℕ) → Ready (In ps) (worldAt h (r .flow .next) t g)
       → Attempts (In ps) (worldAt h (r .flow .next) t g) (attemptOf (given h script ps) (h .buckets) registry binding bucket r t g .seen)
   unfolding attemptOf
   attempt-goes ps registry binding bucket r t g k = go (finds (h .headers) (h .buckets) g registry binding bucket)
@@ -218,12 +219,12 @@ module _ (h : Head) (script : List ℕ) where
           let m = lock-goes ps (r .flow) t g c k (place-inside (h .headers) (h .buckets) (getD registry binding 0) bucket p s) in
           record { goes = m .goes; gain = m .gain }
 
-  pub spin-goes : (ps : List Lease) (r : Run) (t g : List ℕ) → Ready (In ps) (worldAt h (r .flow .next) t g)
+  pub spin-goes : (ps : List Hold) (r : Run) (t g : List ℕ) → Ready (In ps) (worldAt h (r .flow .next) t g)
       → Goes (In ps) (worldAt h (r .flow .next) t g) (of-run h (spinOf (given h script ps) r t g .seen))
   unfolding spinOf
   spin-goes ps r t g k = boundary-goes ps (r .flow) t g k
 
-  pause-goes : (ps : List Lease) (i : ℕ) (r : Run) (t g : List ℕ) → Ready (In ps) (worldAt h (r .flow .next) t g)
+  pause-goes : (ps : List Hold) (i : ℕ) (r : Run) (t g : List ℕ) → Ready (In ps) (worldAt h (r .flow .next) t g)
       → Goes (In ps) (worldAt h (r .flow .next) t g) (of-run h (pauseOf (given h script ps) i r t g .seen))
   unfolding pauseOf
   pause-goes ps i r t g k =
@@ -233,7 +234,7 @@ module _ (h : Head) (script : List ℕ) where
       (then b (spin-goes ps (runOf (m .0) (r .attempts) (r .boundaries + 1) (r .yields + 1)) (m .1 .0) (m .1 .1) (ready k b)))
       (spin-goes ps r t g k)
 
-  pub retry-goes : (left i : ℕ) (last : Reason) (ps : List Lease) (registry : List ℕ) (binding bucket : ℕ) (r : Run) (t g : List ℕ) → Ready (In ps) (worldAt h (r .flow .next) t g)
+  pub retry-goes : (left i : ℕ) (last : Reason) (ps : List Hold) (registry : List ℕ) (binding bucket : ℕ) (r : Run) (t g : List ℕ) → Ready (In ps) (worldAt h (r .flow .next) t g)
       → Attempts (In ps) (worldAt h (r .flow .next) t g) (retryOf left i last (given h script ps) (h .buckets) registry binding bucket r t g .seen)
   unfolding retryOf
   retry-goes zero i last ps registry binding bucket r t g k = record { goes = stays (k .sized); gain = λ l e. let q : _≡_ {A = ℕ} 0 1 = cc in absurd (omega arith) }

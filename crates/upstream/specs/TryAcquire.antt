@@ -8,7 +8,7 @@ use native.Mathlib.Omega.{arith}
 use borrow.Author.Tests.{ltb-true, ltb-false, leb-false, le-leb, not-false}
 use lib.ListN.{length}
 use Rattle.model.specs.Log.{Made}
-use Rattle.model.specs.Arena.{lastSerial, serialRemains, spentTo, leaseOf, bitAt, ownerAt, stateAt, shapeFits, cellsOf}
+use Rattle.model.specs.Arena.{lastSerial, serialRemains, spentTo, leaseOf, holdIn, bitAt, ownerAt, stateAt, shapeFits, cellsOf}
 use Rattle.model.specs.Answers.{kindOf}
 use Rattle.model.specs.Refusals.{first}
 use Rattle.model.specs.Checks.{badShape, badCell, cellRules}
@@ -17,6 +17,7 @@ use Rattle.model.specs.Calls.{acquireOf}
 use Rattle.types.specs.declared.Answer.{Answer}
 use Rattle.types.specs.declared.Answer.the-variants.{Granted, Busy, Refused}
 use Rattle.types.specs.declared.Check.the-variants.{Fine, Fault}
+use Rattle.types.specs.declared.Hold.{Hold}
 use Rattle.types.specs.declared.Lease.{Lease}
 use Rattle.types.specs.declared.Reason.{Reason}
 use Rattle.types.specs.declared.Reason.the-variants as reason
@@ -39,7 +40,7 @@ use Rattle.upstream.specs.Passing.{cell-passes}
 -- ---- what one `try_acquire` comes to, whatever the table holds; F says that no check of the call applies
 
 pub data Tries (F : Type 0) (w : Authority) (c : Key) : Answer → Authority → Type 0 where
-  takes : {v : Authority} → Acquires w v c (next-serial w) → next-serial w < lastSerial → Sized v → Tries F w c (Granted (leaseOf c (next-serial w))) v
+  takes : {v : Authority} → Acquires w v c (next-serial w) → next-serial w < lastSerial → Sized v → Tries F w c (Granted (leaseOf c (next-serial w) (w .head .boot))) v
   busy : contains-key w c → cells w c .bit ≡ 1 → is-some (cells w c .owner) → cells w c .owner < next-serial w
       → Tries F w c (Busy (reason.Held (cells w c .owner))) w
   damaged : contains-key w c → (Valid-cell (next-serial w) (cells w c) → ⊥) → Tries F w c (Refused (Damaged c)) w
@@ -52,7 +53,7 @@ unfolding acquireOf takeOf stateAt
 acquired F n w c z i = go (stands (next-serial w) (bitAt (w .table) c) (ownerAt (w .table) c))
   where
     Of : Made (Took × List ℕ) → Type 0
-    Of m = Tries F w c (answerOf (outcomeOf c (m .seen .0 .answer))) (worldOf (spentTo (w .head) (m .seen .0 .next)) (m .seen .1) (w .health))
+    Of m = Tries F w c (answerOf (w .head .boot) (outcomeOf c (m .seen .0 .answer))) (worldOf (spentTo (w .head) (m .seen .0 .next)) (m .seen .1) (w .health))
 
     broken : (b o : ℕ) → (b ≡ 0 → o ≡ 0 → ⊥) → (b ≡ 1 → 1 ≤ o → o < next-serial w → ⊥) → Status b o (next-serial w) → ⊥
     broken b o p q (free x y) = p x y
@@ -86,7 +87,7 @@ module _ {F : Type 0} {w : Authority} {c : Key} where
 
   -- granted: everything that upstream says of a grant
   pub tries-some : {a : Answer} {v : Authority} → Tries F w c a v → (l : Lease) → a ≡ Granted l
-      → (l ≡ leaseOf c (next-serial w)) × Acquires w v c (next-serial w) × (next-serial w < lastSerial)
+      → (l ≡ leaseOf c (next-serial w) (w .head .boot)) × Acquires w v c (next-serial w) × (next-serial w < lastSerial)
   tries-some (takes x k z) l e = (cc, x, k)
   tries-some (busy i p q r) l e = absurd (omega (arith, ap kindOf e))
   tries-some (damaged i p) l e = absurd (omega (arith, ap kindOf e))
@@ -116,7 +117,7 @@ module _ {F : Type 0} {w : Authority} {c : Key} where
   tries-sized (barred r f) k = k
 
   -- a lease that was authorized stays so
-  pub tries-keeps : {a : Answer} {v : Authority} → Tries F w c a v → (l : Lease) → authorized w l → authorized v l
+  pub tries-keeps : {a : Answer} {v : Authority} → Tries F w c a v → (l : Hold) → authorized w l → authorized v l
   tries-keeps (takes x k z) l p = step-keeps w _ (Acquire c (next-serial w)) l x (λ r. r) p
   tries-keeps (busy i p q r) l x = x
   tries-keeps (damaged i p) l x = x
@@ -125,7 +126,7 @@ module _ {F : Type 0} {w : Authority} {c : Key} where
 
   -- "bit 0 implies granted" gains "and a serial remains"
   pub tries-free : {a : Answer} {v : Authority} → Tries F w c a v → F → Valid-cell (next-serial w) (cells w c) → cells w c .bit ≡ 0 → next-serial w < lastSerial
-      → a ≡ Granted (leaseOf c (next-serial w))
+      → a ≡ Granted (leaseOf c (next-serial w) (w .head .boot))
   tries-free (takes x k z) f v b n = refl
   tries-free (busy i p q r) f v b n = absurd (omega arith)
   tries-free (damaged i p) f v b n = absurd (p v)
@@ -216,10 +217,10 @@ module _ (w : Authority) (c : Key) where
       go (spent i p q r) other = ((λ i. i, λ i. i), λ _ _. refl)
       go (barred r f) other = ((λ i. i, λ i. i), λ _ _. refl)
 
-  pub try-acquire-e3 : (l : Lease) → result ≡ Granted l → lease-key l ≡ c
-  try-acquire-e3 l e = ap lease-key (tries-some tried l e .0)
+  pub try-acquire-e3 : (l : Lease) → result ≡ Granted l → lease-key (holdIn l) ≡ c
+  try-acquire-e3 l e = ap (λ (k : Lease). k .cell) (tries-some tried l e .0)
 
-  pub try-acquire-e4 : (l : Lease) → result ≡ Granted l → authorized final l
+  pub try-acquire-e4 : (l : Lease) → result ≡ Granted l → authorized final (holdIn l)
   try-acquire-e4 l e = let x = tries-some tried l e in rw (x .0) (step-grants w final c (next-serial w) (x .1))
 
   pub try-acquire-e5 : answers-none result → Cells-are w final (cells w)
@@ -234,12 +235,12 @@ module _ (w : Authority) (c : Key) where
   pub try-acquire-e8 : (l : Lease) → result ≡ Granted l → cells w c .bit ≡ 0
   try-acquire-e8 l e = tries-some tried l e .1 .unlocked
 
-  pub try-acquire-e9 : (l : Lease) → result ≡ Granted l → lease-serial l ≡ next-serial w
-  try-acquire-e9 l e = ap lease-serial (tries-some tried l e .0)
+  pub try-acquire-e9 : (l : Lease) → result ≡ Granted l → lease-serial (holdIn l) ≡ next-serial w
+  try-acquire-e9 l e = ap (λ (k : Lease). k .serial) (tries-some tried l e .0)
 
   -- "gain 'and a serial remains', else SerialsSpent"
   pub try-acquire-e10 : Fits w → valid w → contains-key w c → cells w c .bit ≡ 0
-      → (next-serial w < lastSerial → result ≡ Granted (leaseOf c (next-serial w))) × (lastSerial ≤ next-serial w → result ≡ Refused (SerialsSpent c))
+      → (next-serial w < lastSerial → result ≡ Granted (leaseOf c (next-serial w) (w .head .boot))) × (lastSerial ≤ next-serial w → result ≡ Refused (SerialsSpent c))
   try-acquire-e10 s v i b = let f = cell-passes w c s i in (tries-free tried f (v c i) b, tries-spent tried f (v c i) b)
 
   pub try-acquire-e11 : next-serial w ≤ next-serial final
@@ -252,8 +253,8 @@ module _ (w : Authority) (c : Key) where
       go (spent i p q r) = omega arith
       go (barred r f) = omega arith
 
-  pub try-acquire-e12 : (l : Lease) → result ≡ Granted l → step w final (Acquire c (lease-serial l))
-  try-acquire-e12 l e = let x = tries-some tried l e in rw (ap lease-serial (x .0)) (x .1)
+  pub try-acquire-e12 : (l : Lease) → result ≡ Granted l → step w final (Acquire c (lease-serial (holdIn l)))
+  try-acquire-e12 l e = let x = tries-some tried l e in rw (ap (λ (k : Lease). k .serial) (x .0)) (x .1)
 
   pub try-acquire-e13 : answers-none result → step w final Observe
   try-acquire-e13 n = observed w final (tries-none tried n)
@@ -262,7 +263,7 @@ module _ (w : Authority) (c : Key) where
 
   -- result.is_ok() <==> bit == expected: and a serial remains
   pub compare-exchange-e1 : Fits w → valid w → contains-key w c
-      → (result ≡ Granted (leaseOf c (next-serial w))) ↔ ((cells w c .bit ≡ 0) × (next-serial w < lastSerial))
+      → (result ≡ Granted (leaseOf c (next-serial w) (w .head .boot))) ↔ ((cells w c .bit ≡ 0) × (next-serial w < lastSerial))
   compare-exchange-e1 s v i = (λ e. let x = tries-some tried _ e in (x .1 .unlocked, x .2), λ p. tries-free tried (cell-passes w c s i) (v c i) (p .0) (p .1))
 
   -- result.unwrap_err() == bit: an answer that is no grant is Busy for some reason, and the bit is 1, or 10, and the bit is 0
@@ -271,7 +272,7 @@ module _ (w : Authority) (c : Key) where
   compare-exchange-e3 s v i n = tries-tells tried (cell-passes w c s i) (v c i) n
 
   -- the bit is 1 on a grant and as it was else; the owner is written with it
-  pub compare-exchange-e4 : ((l : Lease) → result ≡ Granted l → Cells-are w final (insert (cells w) c (cell 1 (lease-serial l)))) × (answers-none result → Cells-are w final (cells w))
+  pub compare-exchange-e4 : ((l : Lease) → result ≡ Granted l → Cells-are w final (insert (cells w) c (cell 1 (lease-serial (holdIn l))))) × (answers-none result → Cells-are w final (cells w))
   compare-exchange-e4 = (λ l e. try-acquire-e12 l e .written, try-acquire-e5)
 
   -- so is the next serial

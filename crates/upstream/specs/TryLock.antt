@@ -5,7 +5,7 @@ use mathlib.Core.List.{List, [], _∷_}
 use mathlib.Core.Bool.{false}
 use native.Mathlib.Omega.{arith}
 use borrow.Author.Tests.{not-false, leb-false, eq-eqb}
-use Rattle.model.specs.Arena.{leasesOf, bitAt, ownerAt, waitersAt, stateOf, stateAt}
+use Rattle.model.specs.Arena.{holdIn, holdsOf, bitAt, ownerAt, waitersAt, stateOf, stateAt}
 use Rattle.model.specs.Answers.{kindOf}
 use Rattle.model.specs.Refusals.{Rule, first}
 use Rattle.model.specs.Checks.{badShape, badHealth, badScript, badHeld, badHeldLength, scriptRules, lockRules}
@@ -72,39 +72,39 @@ module _ (w : Authority) (script : List ℕ) (place : ℕ) (held : List ℕ) (c 
   Before = badShape (w .head) (w .table) ∷ badHealth (w .head) (w .health) ∷ badScript script place ∷ badHeld (w .head) (w .table) held
 
   -- what is granted is the cell that was asked for, and it is in the arena, whatever the table holds
-  pub granted-key : (l : Lease) → result ≡ Granted l → (lease-key l ≡ c) × contains-key w c
+  pub granted-key : (l : Lease) → result ≡ Granted l → (lease-key (holdIn l) ≡ c) × contains-key w c
   unfolding lockRules scriptRules
   granted-key l =
-      by-checks (λ m. m .seen .1 .answer ≡ Granted l → (lease-key l ≡ c) × contains-key w c) w (try-lock script place held c) (λ r e q. absurd (omega (arith, ap kindOf q)))
+      by-checks (λ m. m .seen .1 .answer ≡ Granted l → (lease-key (holdIn l) ≡ c) × contains-key w c) w (try-lock script place held c) (λ r e q. absurd (omega (arith, ap kindOf q)))
       (λ e k q. (
-        granted-cell (lock-comes (given (w .head) script (leasesOf held)) (w .head .buckets) c (flowOf (next-serial w) place 0) (w .table) (w .health)) l (answer-granted _ l q),
+        granted-cell (lock-comes (given (w .head) script (holdsOf held)) (w .head .buckets) c (flowOf (next-serial w) place 0) (w .table) (w .health)) (holdIn l) (answer-granted _ _ l q),
         leb-false _ _ (clear-back Before _ k .0),
       ))
 
-  pub try-lock-went : valid w → Went w (leasesOf held) result final
+  pub try-lock-went : valid w → Went w (holdsOf held) result final
   unfolding lockRules scriptRules
   try-lock-went v =
-      by-checks (λ m. Went w (leasesOf held) (m .seen .1 .answer) (m .seen .0)) w (try-lock script place held c) (λ r e. unmoved r)
+      by-checks (λ m. Went w (holdsOf held) (m .seen .1 .answer) (m .seen .0)) w (try-lock script place held c) (λ r e. unmoved r)
       (λ e k.
-      let m = lock-goes (w .head) script (leasesOf held) (flowOf (next-serial w) place 0) (w .table) (w .health) c
+      let m = lock-goes (w .head) script (holdsOf held) (flowOf (next-serial w) place 0) (w .table) (w .health) c
       (record { sized = fits-sized w (not-false _ (k .0)); valid-now = v; safe = held-live w held _ (k .1 .1 .1) }) (leb-false _ _ (clear-back Before _ k .0)) in
-      record { trace = m .goes .trace; gain = λ l e. m .gain l (answer-granted _ l e) })
+      record { trace = m .goes .trace; gain = λ l e. m .gain (holdIn l) (answer-granted _ _ l e) })
 
   -- valid(old(authority)): 9, where the cell is damaged when it comes to the compare-and-set
   pub try-lock-r1 : first (rules w (try-lock script place held c)) ≡ Fine
-      → let e = given (w .head) script (leasesOf held) in
+      → let e = given (w .head) script (holdsOf held) in
       let one = boundaryOf e (flowOf (next-serial w) place 0) (w .table) (w .health) .seen in
       let two = boundaryOf e (one .0) (one .1 .0) (one .1 .1) .seen in
       waitersAt (one .1 .0) c ≡ 0 → (Valid-cell (two .0 .next) (cells (of-flow (w .head) two) c) → ⊥)
       → (result ≡ Refused (Damaged c)) × (final ≡ of-flow (w .head) two)
   try-lock-r1 f q n =
-      let given-all = given (w .head) script (leasesOf held) in
+      let given-all = given (w .head) script (holdsOf held) in
       let one = boundaryOf given-all (flowOf (next-serial w) place 0) (w .table) (w .health) .seen in
       let two = boundaryOf given-all (one .0) (one .1 .0) (one .1 .1) .seen in
       by-checks (λ m. (m .seen .1 .answer ≡ Refused (Damaged c)) × (m .seen .0 ≡ of-flow (w .head) two)) w (try-lock script place held c) (λ r e. absurd (fine-fault f e))
       (λ e k.
       let x = lock-damaged given-all (w .head .buckets) (flowOf (next-serial w) place 0) (w .table) (w .health) c q n in
-      (ap answerOf (x .0), cc))
+      (ap (answerOf (w .head .boot)) (x .0), cc))
 
   -- cells(old(authority)).contains_key(key): 8
   pub try-lock-r2 : Clear Before → (contains-key w c → ⊥) → perform w (try-lock script place held c) ≡ unchanged w (try-lock script place held c) (InvalidBucket c)
@@ -113,7 +113,7 @@ module _ (w : Authority) (script : List ℕ) (place : ℕ) (held : List ℕ) (c 
 
   -- leases_authorized(old(authority), held@): 3, with the first position
   pub try-lock-r3 : (i : ℕ) → Clear (badShape (w .head) (w .table) ∷ badHealth (w .head) (w .health) ∷ badScript script place ∷ []) → badHeldLength held .applies ≡ false
-      → First-bad w (leasesOf held) i → perform w (try-lock script place held c) ≡ unchanged w (try-lock script place held c) (BadHeld i)
+      → First-bad w held i → perform w (try-lock script place held c) ≡ unchanged w (try-lock script place held c) (BadHeld i)
   unfolding lockRules scriptRules
   try-lock-r3 i k b f =
       refused w (try-lock script place held c) (BadHeld i)
@@ -122,14 +122,14 @@ module _ (w : Authority) (script : List ℕ) (place : ℕ) (held : List ℕ) (c 
   pub try-lock-e1 : valid w → valid final
   try-lock-e1 v = trace-valid (try-lock-went v .trace) v
 
-  pub try-lock-e2 : valid w → leases-authorized w (leasesOf held) → leases-authorized final (leasesOf held)
-  try-lock-e2 v p = by-place final (leasesOf held) (trace-keeps (try-lock-went v .trace) (by-name w (leasesOf held) p))
+  pub try-lock-e2 : valid w → leases-authorized w (holdsOf held) → leases-authorized final (holdsOf held)
+  try-lock-e2 v p = by-place final (holdsOf held) (trace-keeps (try-lock-went v .trace) (by-name w (holdsOf held) p))
 
   pub try-lock-e3 : valid w → dom final ≡ dom w
   try-lock-e3 v = trace-buries (try-lock-went v .trace) .same-keys
 
-  pub try-lock-e4 : (l : Lease) → result ≡ Granted l → lease-key l ≡ c
+  pub try-lock-e4 : (l : Lease) → result ≡ Granted l → lease-key (holdIn l) ≡ c
   try-lock-e4 l e = granted-key l e .0
 
-  pub try-lock-e5 : valid w → (l : Lease) → result ≡ Granted l → authorized final l
+  pub try-lock-e5 : valid w → (l : Lease) → result ≡ Granted l → authorized final (holdIn l)
   try-lock-e5 v l e = try-lock-went v .gain l e

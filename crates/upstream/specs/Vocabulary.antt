@@ -8,11 +8,12 @@ use mathlib.Core.Logic.{_↔_, _⊎_, _≢_}
 use lib.Dec.{eqb}
 use lib.ListN.{length, getD}
 use Rattle.choice.specs.Choice.{if_then_else_}
-use Rattle.model.specs.Arena.{cellsOf, cellNumber, bitAt, ownerAt, isIn}
-use Rattle.model.specs.Lock.{leaseAt, bindingAt, bucketAt}
+use Rattle.model.specs.Arena.{cellsOf, cellNumber, leaseOf, leasesOf, bitAt, ownerAt, isIn}
+use Rattle.model.specs.Lock.{holdAt, bindingAt, bucketAt}
 use Rattle.model.specs.Checks.{countIn}
 use Rattle.types.specs.declared.Answer.{Answer}
 use Rattle.types.specs.declared.Answer.the-variants.{Granted}
+use Rattle.types.specs.declared.Hold.{Hold}
 use Rattle.types.specs.declared.Lease.{Lease}
 use Rattle.history.specs.World.{World}
 
@@ -48,13 +49,14 @@ abbrev pub Authority : Type 0
 Authority = World
 
 -- pub tracked struct LeaseToken { ghost key: Key, ghost serial: nat }; pub struct ReadLease { physical: Key, token: Tracked<LeaseToken> }
--- Here two numbers, cell and serial; the key of the token is the key of the lease.
+-- Here two numbers, cell and serial; the key of the token is the key of the lease. The boot number that a lease has besides (document 02, L8) is
+-- not upstream's: `Own` says that it is the head's, and `holdIn` forgets it.
 abbrev pub ReadLease : Type 0
-ReadLease = Lease
+ReadLease = Hold
 
 -- pub type LeaseId = (Key, nat);
 abbrev pub LeaseId : Type 0
-LeaseId = Lease
+LeaseId = Hold
 
 -- a set of them, Set<LeaseId>
 abbrev pub Leases : Type 1
@@ -92,9 +94,20 @@ pub record Cells-are (before after : Authority) (m : Key → Cell) : Type 0 wher
   pub same-keys : dom after ≡ dom before
   pub each : (k : Key) → contains-key before k → cells after k ≡ m k
 
--- a result: result.is_some() ==> P(result.unwrap()) is written (l : Lease) → result ≡ Granted l → P l
+-- a result: result.is_some() ==> P(result.unwrap()) is written (l : Lease) → result ≡ Granted l → P (holdIn l)
 abbrev pub answers-none : Answer → Type 0
-answers-none a = (l : ReadLease) → a ≡ Granted l → ⊥
+answers-none a = (l : Lease) → a ≡ Granted l → ⊥
+
+-- a lease that is of this boot; upstream knows no other. Document 02, L8: "A lease with another boot number is refused as StaleBoot (16)"
+abbrev pub Own : Authority → Lease → Type 0
+Own a l = l .boot ≡ a .head .boot
+
+abbrev pub leaseAt : List Lease → ℕ → Lease
+leaseAt ls i = getD ls i (leaseOf 0 0 0)
+
+-- all leases of a list as words
+abbrev pub All-own : Authority → List ℕ → Type 0
+All-own a words = (i : ℕ) → i < length (leasesOf words) → Own a (leaseAt (leasesOf words) i)
 
 -- ---- 000: the spec functions
 
@@ -183,7 +196,7 @@ held-ids leases id = isIn id leases ≡ true
 
 -- leases_authorized(authority, leases): forall|i: int| 0 <= i < leases.len() ==> authorized(authority, &leases[i])
 abbrev pub leases-authorized : Authority → List ReadLease → Type 0
-leases-authorized a leases = (i : ℕ) → i < length leases → authorized a (leaseAt leases i)
+leases-authorized a leases = (i : ℕ) → i < length leases → authorized a (holdAt leases i)
 
 -- environment_trace(before, after, protected, w: (Seq<Authority>, Seq<Step>)): w.0.len() == w.1.len() + 1
 --     && w.0[0] == *before && w.0[w.0.len() - 1] == *after
@@ -247,7 +260,7 @@ Pair = ℕ × ℕ
 -- pub struct Guard { pub arena: usize, pub physical: Pair }
 -- Here a lease; its cell is header x B + bucket, which tells header and bucket (`Guards.pair-of`).
 abbrev pub Guard : Type 0
-Guard = Lease
+Guard = Hold
 
 -- the keys of a multi-lock: binding and bucket at position i
 abbrev pub key-at : List ℕ → ℕ → Pair
@@ -270,12 +283,12 @@ keys-valid registry keys = (i : ℕ) → i < countIn keys → key-at keys i .0 <
 abbrev pub guards-match : ℕ → List ℕ → List ℕ → List Guard → Type 0
 guards-match buckets registry keys guards =
     (length guards ≡ countIn keys)
-    × ((i : ℕ) → i < countIn keys → guards-place buckets (leaseAt guards i) (physical registry (key-at keys i)))
+    × ((i : ℕ) → i < countIn keys → guards-place buckets (holdAt guards i) (physical registry (key-at keys i)))
 
 -- all_guards_in(guards, arena): forall|i: int| 0 <= i < guards.len() ==> guards[i].arena == arena
 -- Here one arena: the guard's cell is in it.
 abbrev pub all-guards-in : List Guard → Authority → Type 0
-all-guards-in guards a = (i : ℕ) → i < length guards → contains-key a (leaseAt guards i .cell)
+all-guards-in guards a = (i : ℕ) → i < length guards → contains-key a (holdAt guards i .cell)
 
 -- physical_members(registry, keys) -> Set<Pair> { keys.map(|i: int, key: Pair| physical(registry, key)).to_set() }
 abbrev pub physical-members : List ℕ → List ℕ → Pair → Type 0
@@ -283,4 +296,4 @@ physical-members registry keys p = (i : ℕ) × (i < countIn keys) × (p ≡ phy
 
 -- guard_members(guards) -> Set<Pair> { guards.map(|i: int, guard: Guard| guard.physical).to_set() }
 abbrev pub guard-members : ℕ → List Guard → Pair → Type 0
-guard-members buckets guards p = (i : ℕ) × (i < length guards) × guards-place buckets (leaseAt guards i) p
+guard-members buckets guards p = (i : ℕ) × (i < length guards) × guards-place buckets (holdAt guards i) p

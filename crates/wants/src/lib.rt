@@ -6,16 +6,17 @@ use verbs::Scripted;
 use verbs::Small;
 use verbs::Verb;
 
+// A lease is three numbers: cell, serial, boot number.
 fn small_wants(call: Small) -> usize {
     match call {
         Small::TryAcquire => 1,
-        Small::DropLease => 2,
-        Small::ReadPermission => 2,
-        Small::CompetingAcquire => 2,
-        Small::ReleaseThenHandoff => 2,
-        Small::ForeignRelease => 2,
+        Small::DropLease => 3,
+        Small::ReadPermission => 3,
+        Small::CompetingAcquire => 3,
+        Small::ReleaseThenHandoff => 3,
+        Small::ForeignRelease => 3,
         Small::AcquirePreserving => 1,
-        Small::DropPreserving => 2,
+        Small::DropPreserving => 3,
     }
 }
 
@@ -89,7 +90,7 @@ pub fn fits(desk: Desk, verb: Verb, got: Numbers) -> bool {
         Verb::Unknown => false,
         Verb::Ram => got.count == 1,
         Verb::Lend => lend_fits(got),
-        Verb::Head => got.count == 3,
+        Verb::Head => got.count == 4,
         Verb::Word => word_fits(got),
         Verb::Byte => byte_fits(got),
         Verb::Place => got.count == 1,
@@ -102,7 +103,7 @@ pub fn fits(desk: Desk, verb: Verb, got: Numbers) -> bool {
         Verb::Trace => switch_fits(got),
         Verb::Help => got.count == 0,
         Verb::List(list) => got.count <= room_of(list),
-        Verb::Prepare => got.count == 3,
+        Verb::Prepare => got.count == 4,
         Verb::Small(call) => got.count == small_wants(call),
         Verb::Scripted(call) => got.count == scripted_wants(call),
         Verb::Crew => got.count == 0,

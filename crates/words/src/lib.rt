@@ -1,4 +1,4 @@
-// A reply as words, for callers in C or Rust: fourteen of them, the crew's forty-eight, the salvage's six, the setpoint
+// A reply as words, for callers in C or Rust: fifteen of them, the crew's forty-nine, the salvage's seven, the setpoint
 // book's four, or the waveform's three.
 // Crate `layout` lays them out (its specs/Words.antt) and proves that they lose nothing (its specs/Tells.antt).
 use slots::BookAnswer;
@@ -24,7 +24,7 @@ ghost use Rattle.layout.specs.Words.{busyWords, refusalWords, answerWords, resu
 ghost use Rattle.layout.specs.Words.{eachOf, crewWords, salvagedWords, salvageWords, bookNumber, bookWords};
 ghost use Rattle.layout.specs.Words.{dumpedWords, undumpedWords};
 
-// Words 12 and 13 of a refusal: only 11 gives a reason.
+// Words 13 and 14 of a refusal: only 11 gives a reason.
 fn reason_words(refusal: Refusal) -> [u64; 2]
     ensures { λ r. ⌜ r ≡ refusalReason refusal ⌝ }
 {
@@ -44,10 +44,11 @@ fn reason_words(refusal: Refusal) -> [u64; 2]
         Refusal::Protected => [0, 0],
         Refusal::Repeated(_) => [0, 0],
         Refusal::BadCrew(_) => [0, 0],
+        Refusal::StaleBoot(_) => [0, 0],
     }
 }
 
-// Words 8 to 13 of a refusal.
+// Words 9 to 14 of a refusal.
 fn refusal_words(kind: u64, refusal: Refusal, position: usize) -> [u64; 6]
     ensures { λ r. ⌜ r ≡ refusalWords kind refusal position ⌝ }
 {
@@ -62,21 +63,28 @@ fn refusal_words(kind: u64, refusal: Refusal, position: usize) -> [u64; 6]
     ]
 }
 
-// Words 8 to 13 of Busy.
+// Words 9 to 14 of Busy.
 fn busy_words(reason: u32, serial: u32) -> [u64; 6]
     ensures { λ r. ⌜ r ≡ busyWords reason serial ⌝ }
 {
     [4, 0, 0, 0, reason as u64, serial as u64]
 }
 
-// Words 8 to 13.
+// Words 9 to 14.
 fn answer_words(answer: Answer) -> [u64; 6]
     ensures { λ r. ⌜ r ≡ answerWords answer ⌝ }
 {
     match answer {
         Answer::Done => [0, 0, 0, 0, 0, 0],
         Answer::Cell(cell) => [1, cell as u64, 0, 0, 0, 0],
-        Answer::Granted(lease) => [2, lease.cell as u64, lease.serial as u64, 0, 0, 0],
+        Answer::Granted(lease) => [
+            2,
+            lease.cell as u64,
+            lease.serial as u64,
+            lease.boot as u64,
+            0,
+            0,
+        ],
         Answer::AllGranted => [3, 0, 0, 0, 0, 0],
         Answer::Busy(why) => busy_words(why.number(), why.serial()),
         Answer::Refused(refusal) => refusal_words(5, refusal, 0),
@@ -91,7 +99,14 @@ fn said_words(answer: Answer) -> [u64; 6]
     match answer {
         Answer::Done => [0, 0, 0, 0, 0, 0],
         Answer::Cell(cell) => [1, cell as u64, 0, 0, 0, 0],
-        Answer::Granted(lease) => [2, lease.cell as u64, lease.serial as u64, 0, 0, 0],
+        Answer::Granted(lease) => [
+            2,
+            lease.cell as u64,
+            lease.serial as u64,
+            lease.boot as u64,
+            0,
+            0,
+        ],
         Answer::AllGranted => [3, 0, 0, 0, 0, 0],
         Answer::Busy(_) => answer_words(answer),
         Answer::Refused(_) => answer_words(answer),
@@ -99,8 +114,8 @@ fn said_words(answer: Answer) -> [u64; 6]
     }
 }
 
-// All fourteen.
-fn words(head: Head, place: usize, counts: Counts, answer: Answer) -> [u64; 14]
+// All fifteen.
+fn words(head: Head, place: usize, counts: Counts, answer: Answer) -> [u64; 15]
     ensures { λ r. ⌜ r ≡ resultWords head place counts answer ⌝ }
 {
     let said = said_words(answer);
@@ -108,6 +123,7 @@ fn words(head: Head, place: usize, counts: Counts, answer: Answer) -> [u64; 14]
         head.headers as u64,
         head.buckets as u64,
         head.next as u64,
+        head.boot as u64,
         place as u64,
         counts.attempts as u64,
         counts.boundaries as u64,
@@ -123,7 +139,7 @@ fn words(head: Head, place: usize, counts: Counts, answer: Answer) -> [u64; 14]
 }
 
 // Of a call without a script: place 0.
-pub fn reply_words(r: Reply) -> [u64; 14]
+pub fn reply_words(r: Reply) -> [u64; 15]
     ensures { λ w. ⌜ w ≡ replyWords r ⌝ }
 {
     let head = r.head;
@@ -133,7 +149,7 @@ pub fn reply_words(r: Reply) -> [u64; 14]
 }
 
 // Of a call with a script.
-pub fn played_words(r: Played) -> [u64; 14]
+pub fn played_words(r: Played) -> [u64; 15]
     ensures { λ w. ⌜ w ≡ playedWords r ⌝ }
 {
     let head = r.head;
@@ -143,8 +159,8 @@ pub fn played_words(r: Played) -> [u64; 14]
 }
 
 // Counts of the crew's members, put into its words from a place on.
-fn put_counts(words: &mut [u64; 48], at: usize, counts: &[usize; 16])
-    requires { ⌜ at + 16 ≤ 48 ⌝ }
+fn put_counts(words: &mut [u64; 49], at: usize, counts: &[usize; 16])
+    requires { ⌜ at + 16 ≤ 49 ⌝ }
     ensures { λ _. ⌜ now (words .exit) ≡ sets (now (words .entry)) at (eachOf 16 0 (now (counts .entry))) ⌝ }
 {
     let mut i: usize = 0;
@@ -155,7 +171,7 @@ fn put_counts(words: &mut [u64; 48], at: usize, counts: &[usize; 16])
 }
 
 // Of the crew.
-pub fn crew_words(r: CrewReply) -> [u64; 48]
+pub fn crew_words(r: CrewReply) -> [u64; 49]
     ensures { λ w. ⌜ w ≡ crewWords r ⌝ }
 {
     let head = r.head;
@@ -163,24 +179,25 @@ pub fn crew_words(r: CrewReply) -> [u64; 48]
     let taken = r.taken;
     let released = r.released;
     let said = answer_words(answer);
-    let mut words = [0u64; 48];
+    let mut words = [0u64; 49];
     words[0] = head.headers as u64;
     words[1] = head.buckets as u64;
     words[2] = head.next as u64;
-    words[8] = said[0];
-    words[9] = said[1];
-    words[10] = said[2];
-    words[11] = said[3];
-    words[12] = said[4];
-    words[13] = said[5];
-    words[14] = r.moving as u64;
-    words[15] = r.idle as u64;
-    put_counts(&mut words, 16, &taken);
-    put_counts(&mut words, 32, &released);
+    words[3] = head.boot as u64;
+    words[9] = said[0];
+    words[10] = said[1];
+    words[11] = said[2];
+    words[12] = said[3];
+    words[13] = said[4];
+    words[14] = said[5];
+    words[15] = r.moving as u64;
+    words[16] = r.idle as u64;
+    put_counts(&mut words, 17, &taken);
+    put_counts(&mut words, 33, &released);
     words
 }
 
-// Words 3 to 5 of a salvage.
+// Words 4 to 6 of a salvage.
 fn salvaged_words(answer: SalvageAnswer) -> [u64; 3]
     ensures { λ r. ⌜ r ≡ salvagedWords answer ⌝ }
 {
@@ -192,7 +209,7 @@ fn salvaged_words(answer: SalvageAnswer) -> [u64; 3]
 }
 
 // Of a salvage.
-pub fn salvage_words(r: SalvageReply) -> [u64; 6]
+pub fn salvage_words(r: SalvageReply) -> [u64; 7]
     ensures { λ w. ⌜ w ≡ salvageWords r ⌝ }
 {
     let head = r.head;
@@ -202,6 +219,7 @@ pub fn salvage_words(r: SalvageReply) -> [u64; 6]
         head.headers as u64,
         head.buckets as u64,
         head.next as u64,
+        head.boot as u64,
         said[0],
         said[1],
         said[2],
@@ -215,6 +233,7 @@ fn book_number(refusal: BookRefusal) -> u64
     match refusal {
         BookRefusal::BadShape => 1,
         BookRefusal::BadSlot => 101,
+        BookRefusal::StaleBoot => 16,
         BookRefusal::NotHeld => 12,
         BookRefusal::NotFinite => 102,
         BookRefusal::DamagedBook => 103,

@@ -20,7 +20,7 @@ use Rattle.works.specs.Statements.{raisedBy, wholeBy, replayBy, replayOf
 use Rattle.works.specs.Theorems.{one-after-another, over-remainders, owes-only, released-first, any-order}
 
 abbrev bench : Head
-bench = headOf 2 4 1
+bench = headOf 2 4 1 6
 
 abbrev pairs : ℕ → List ℕ
 pairs zero = []

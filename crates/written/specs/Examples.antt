@@ -1,5 +1,5 @@
 -- Examples that meet the premises of each theorem, so that none speaks of nothing. By computation, on an arena of one header with two buckets:
--- two slots, a book of 26 bytes.
+-- two slots, a book of 26 bytes, boot number 6.
 use Prim.Native.Nat.{ℕ, zero, suc, _+_, _<_}
 use mathlib.Core.Path.{_≡_, refl, sym, ap, _∙_, subst}
 use mathlib.Core.Logic.{_≢_, inl, inr, _↔_}
@@ -13,7 +13,7 @@ use lib.ListN.{getD, replicate, set}
 use lib.Seq.{getD-set-other}
 use borrow.Author.Tests.{ltb-true}
 use Rattle.choice.specs.Pick.{both}
-use Rattle.model.specs.Arena.{headOf, leaseOf, bitAt, ownerAt, setCell, isFree, isHeld, stateOf, stateAt, isLive, headFits, shapeFits, healthFits}
+use Rattle.model.specs.Arena.{headOf, leaseOf, holdIn, bitAt, ownerAt, setCell, isFree, isHeld, stateOf, stateAt, isLive, headFits, shapeFits, healthFits}
 use Rattle.model.specs.Refusals.{first}
 use Rattle.model.specs.Lock.{takeOf}
 use Rattle.model.specs.Checks.{prepareRules, cellRules, leaseRules}
@@ -28,7 +28,7 @@ use Rattle.slots.specs.Rules.{firstFault, isBadBook, isBadSlot, isHolder, bookR
 use Rattle.slots.specs.Calls.{prepareBookOf, writeSetpointOf, readSetpointOf}
 use Rattle.slots.specs.Reads.{Agree}
 use Rattle.slots.specs.declared.BookAnswer.the-variants.{Done, Written, Setting, Refused}
-use Rattle.slots.specs.declared.BookRefusal.the-variants.{NotHeld, DamagedBook, NeverWritten}
+use Rattle.slots.specs.declared.BookRefusal.the-variants.{StaleBoot, NotHeld, DamagedBook, NeverWritten}
 use Rattle.history.specs.World.{World, worldOf}
 use Rattle.history.specs.Items.{call, try-acquire, drop-lease, preparation, preparation-over, perform, cold, next-item, preparing}
 use Rattle.written.specs.Items.{BookItem, arena-item, prepare-book, write-setpoint, read-setpoint, BookEntry, prepared, wrote, was-read, Shift, shiftOf, slots-in, preparing-book, writing, reading, next-shift, run-shift, last-write, writes, told, Same-slots, All-typed}
@@ -39,10 +39,10 @@ use Rattle.written.specs.Theorems.{prepared-reads-nothing, reads-last-wr
 
 -- RAM after a cold start, and the arena's preparation over it
 abbrev rubbish : World
-rubbish = worldOf (headOf 7 7 7) (replicate 6 7) (replicate 1 7)
+rubbish = worldOf (headOf 7 7 7 7) (replicate 6 7) (replicate 1 7)
 
 abbrev boot : BookItem
-boot = arena-item (preparation 1 2 1)
+boot = arena-item (preparation 1 2 1 6)
 
 abbrev old : List ℕ
 old = replicate 26 9
@@ -51,10 +51,10 @@ abbrev fresh : Shift
 fresh = run-shift (shiftOf (cold rubbish) old []) (boot ∷ [])
 
 abbrev one-lease : Lease
-one-lease = leaseOf 1 1
+one-lease = leaseOf 1 1 6
 
 abbrev other-lease : Lease
-other-lease = leaseOf 1 2
+other-lease = leaseOf 1 2 6
 
 -- 1.5 bar
 abbrev bar : Setpoint
@@ -73,7 +73,7 @@ evening = write-setpoint 1 other-lease (Valve true) ∷ []
 
 -- a refused preparation of the arena, and a done one of other runs, with as many slots
 abbrev night : List BookItem
-night = arena-item (preparation 9 9 9) ∷ arena-item (preparation-over 2 1 5 (replicate 6 9) (replicate 2 9)) ∷ read-setpoint 1 ∷ read-setpoint 0 ∷ []
+night = arena-item (preparation 9 9 9 9) ∷ arena-item (preparation-over 2 1 5 7 (replicate 6 9) (replicate 2 9)) ∷ read-setpoint 1 ∷ read-setpoint 0 ∷ []
 
 abbrev day : List BookItem
 day = morning ++ (write-setpoint 1 one-lease (Speed 258) ∷ (change ++ (evening ++ night)))
@@ -98,7 +98,7 @@ answers =
     ∷ []
 
 abbrev the-day : Shift
-the-day = shiftOf (cold (worldOf (headOf 2 1 5) (replicate 6 0) (replicate 2 0))) at-night answers
+the-day = shiftOf (cold (worldOf (headOf 2 1 5 7) (replicate 6 0) (replicate 2 0))) at-night answers
 
 pub day-is : run-shift fresh (prepare-book ∷ day) ≡ the-day
 unfolding run-shift next-shift next-item preparing perform prepareOf prepareRules first headFits shapeFits healthFits tryAcquireOf acquireOf dropLeaseOf cellRules leaseRules takeOf setCell bitAt ownerAt isFree isHeld stateOf stateAt isLive prepareBookOf bookRules firstFault isBadBook isBadSlot isHolder writeSetpointOf claimRules overRules readSetpointOf slotRules seenRules isFinite readOf readingOf slotAt lineAt fiveAt joinOf settingOf isBlank putOf lineOf bodyOf bytesOf ofBits toBits
@@ -106,7 +106,7 @@ day-is = refl
 
 -- ---- the premises: both preparations are done, the head in force always has two slots, the setpoints are values of their types
 
-pub boot-done : preparing 1 2 1 (rubbish .table) (rubbish .health) .0 ≡ answer.Done
+pub boot-done : preparing 1 2 1 6 (rubbish .table) (rubbish .health) .0 ≡ answer.Done
 unfolding preparing prepareOf prepareRules first headFits shapeFits healthFits
 boot-done = refl
 
@@ -178,6 +178,11 @@ pub second-done : writing (run-shift first-write (write-setpoint 1 one-lease bar
 unfolding run-shift next-shift next-item preparing perform prepareOf prepareRules first headFits shapeFits healthFits tryAcquireOf acquireOf dropLeaseOf cellRules leaseRules takeOf setCell bitAt ownerAt isFree isHeld stateOf stateAt isLive prepareBookOf bookRules firstFault isBadBook isBadSlot isHolder writeSetpointOf claimRules overRules readSetpointOf slotRules seenRules isFinite readOf readingOf slotAt lineAt fiveAt joinOf settingOf isBlank putOf lineOf bodyOf bytesOf ofBits toBits
 second-done = refl
 
+-- document 02, L8: with the same cell and serial from another boot it is not
+pub stale-refused : writing first-write 1 (leaseOf 1 1 5) bar .0 ≡ Refused StaleBoot
+unfolding run-shift next-shift next-item preparing perform prepareOf prepareRules first headFits shapeFits healthFits tryAcquireOf acquireOf dropLeaseOf cellRules leaseRules takeOf setCell bitAt ownerAt isFree isHeld stateOf stateAt isLive prepareBookOf bookRules firstFault isBadBook isBadSlot isHolder writeSetpointOf claimRules overRules readSetpointOf slotRules seenRules isFinite readOf readingOf slotAt lineAt fiveAt joinOf settingOf isBlank putOf lineOf bodyOf bytesOf ofBits toBits
+stale-refused = refl
+
 pub holder : (one-lease .cell ≡ 1) × ((l : Lease) → writing first-write 1 l bar .0 ≡ Written 1 → l ≡ one-lease)
 holder = (
   written-by-holder (first-write .course .world) (first-write .book) 1 one-lease bar 1 first-done .1,
@@ -187,9 +192,9 @@ holder = (
 differ-leases : one-lease ≢ other-lease
 differ-leases e = let z : _≡_ {A = ℕ} 1 2 = ap (λ (l : Lease). l .serial) e in omega arith
 
-pub given-back-between : Released-between (first-write .course) (run-shift first-write (write-setpoint 1 one-lease bar ∷ change) .course) one-lease
+pub given-back-between : Released-between (first-write .course) (run-shift first-write (write-setpoint 1 one-lease bar ∷ change) .course) (holdIn one-lease)
 given-back-between =
-    writers-parted rubbish old (preparation 1 2 1) (prepare-book ∷ arena-item (call (try-acquire 1)) ∷ []) change 1 one-lease other-lease bar (Valve true) 1 2
+    writers-parted rubbish old (preparation 1 2 1 6) (prepare-book ∷ arena-item (call (try-acquire 1)) ∷ []) change 1 one-lease other-lease bar (Valve true) 1 2
     boot-done first-done second-done differ-leases (λ z. z, (λ z. z, (tt, tt)))
 
 -- ---- a slot's thirteen bytes
@@ -205,9 +210,9 @@ agree-on-one j o =
       | inr x ↦ getD-set-other at-night 0 j 1 0 (omega (arith, x .0))
     ]
 
-pub other-slot-reads : (readSetpointOf (headOf 1 2 3) torn 1 ≡ Setting (Valve true) 3) × (readSetpointOf (headOf 1 2 3) torn 0 ≡ Refused DamagedBook)
+pub other-slot-reads : (readSetpointOf (headOf 1 2 3 6) torn 1 ≡ Setting (Valve true) 3) × (readSetpointOf (headOf 1 2 3 6) torn 0 ≡ Refused DamagedBook)
 unfolding run-shift next-shift next-item preparing perform prepareOf prepareRules first headFits shapeFits healthFits tryAcquireOf acquireOf dropLeaseOf cellRules leaseRules takeOf setCell bitAt ownerAt isFree isHeld stateOf stateAt isLive prepareBookOf bookRules firstFault isBadBook isBadSlot isHolder writeSetpointOf claimRules overRules readSetpointOf slotRules seenRules isFinite readOf readingOf slotAt lineAt fiveAt joinOf settingOf isBlank putOf lineOf bodyOf bytesOf ofBits toBits
-other-slot-reads = (damage-stays-there (headOf 1 2 3) torn at-night 1 refl agree-on-one ∙ refl, refl)
+other-slot-reads = (damage-stays-there (headOf 1 2 3 6) torn at-night 1 refl agree-on-one ∙ refl, refl)
 
 -- a book of bytes
 abbrev all-small : List ℕ → Bool
@@ -220,12 +225,12 @@ small (x ∷ xs) e zero = ltb-true x 256 (both (ltb x 256) (all-small xs) e .0)
 small (x ∷ xs) e (suc j) = small xs (both (ltb x 256) (all-small xs) e .1) j
 
 -- `reads-exactly`: the three answers, each by its own bytes
-pub three-answers : As-written (headOf 1 2 3) at-night 1 (Valve true) 3 × All-zero (headOf 1 2 3) at-night 0 × (All-zero (headOf 1 2 3) torn 0 → ⊥)
+pub three-answers : As-written (headOf 1 2 3 6) at-night 1 (Valve true) 3 × All-zero (headOf 1 2 3 6) at-night 0 × (All-zero (headOf 1 2 3 6) torn 0 → ⊥)
 unfolding run-shift next-shift next-item preparing perform prepareOf prepareRules first headFits shapeFits healthFits tryAcquireOf acquireOf dropLeaseOf cellRules leaseRules takeOf setCell bitAt ownerAt isFree isHeld stateOf stateAt isLive prepareBookOf bookRules firstFault isBadBook isBadSlot isHolder writeSetpointOf claimRules overRules readSetpointOf slotRules seenRules isFinite readOf readingOf slotAt lineAt fiveAt joinOf settingOf isBlank putOf lineOf bodyOf bytesOf ofBits toBits
 three-answers = (
-  reads-exactly (headOf 1 2 3) at-night 1 (small at-night refl) refl refl .0 (Valve true) 3 .0 refl,
-  reads-exactly (headOf 1 2 3) at-night 0 (small at-night refl) refl refl .1 .0 refl,
-  reads-exactly (headOf 1 2 3) torn 0 (small torn refl) refl refl .2 .0 refl .0,
+  reads-exactly (headOf 1 2 3 6) at-night 1 (small at-night refl) refl refl .0 (Valve true) 3 .0 refl,
+  reads-exactly (headOf 1 2 3 6) at-night 0 (small at-night refl) refl refl .1 .0 refl,
+  reads-exactly (headOf 1 2 3 6) torn 0 (small torn refl) refl refl .2 .0 refl .0,
 )
 
 -- `own-bytes-only`: a write on slot 1 leaves slot 0's bytes

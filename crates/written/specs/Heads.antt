@@ -28,10 +28,10 @@ shaped-head : (h : Head) → Fits h → Shaped h (3 * cellsOf h)
 shaped-head h e = shaped h (3 * cellsOf h) (sym (head-alone h) ∙ e)
 
 -- one take more: a serial remained
-spent-fits : (h : Head) → Fits h → h .next + 1 ≤ 4_294_967_295 → Fits (headOf (h .headers) (h .buckets) (h .next + 1))
+spent-fits : (h : Head) → Fits h → h .next + 1 ≤ 4_294_967_295 → Fits (headOf (h .headers) (h .buckets) (h .next + 1) (h .boot))
 spent-fits h e l =
     let s = shaped-head h e in
-    let k = headOf (h .headers) (h .buckets) (h .next + 1) in
+    let k = headOf (h .headers) (h .buckets) (h .next + 1) (h .boot) in
     head-alone k
     ∙ fits k (3 * cellsOf k)
     (record {
@@ -63,18 +63,18 @@ now-fits w [] g f = f
 now-fits w (e ∷ es) g f = now-fits (step w e) es (g .1) (step-fits w e (g .0) f)
 
 -- a preparation: done, its head fits; refused, the head before it stays
-module _ (headers buckets serial : ℕ) (t g : List ℕ) (v : World) (k : Course) where
+module _ (headers buckets serial boot : ℕ) (t g : List ℕ) (v : World) (k : Course) where
   preparation-fits : Fits (v .head)
-      → let p = preparing headers buckets serial t g in Fits (prepared-by (p .0) (p .1) v k .world .head)
+      → let p = preparing headers buckets serial boot t g in Fits (prepared-by (p .0) (p .1) v k .world .head)
   unfolding preparing
-  preparation-fits f = go (came headers buckets serial t g)
+  preparation-fits f = go (came headers buckets serial boot t g)
     where
       After : Outcome → Type 0
       After o = Fits (prepared-by (o .0 .answer) (worldOf (o .0 .head) (o .1 .0) (o .1 .1)) v k .world .head)
 
-      go : Came headers buckets serial t g → After (prepareOf headers buckets serial t g .seen)
+      go : Came headers buckets serial boot t g → After (prepareOf headers buckets serial boot t g .seen)
       go (was-done e p) =
-          let h = headOf headers buckets serial in
+          let h = headOf headers buckets serial boot in
           subst After (sym p) (shape-head h (length t) (both (shapeFits h (length t)) (healthFits h (length g)) e .0))
       go (was-refused e p) = subst After (sym p) f
 
@@ -102,7 +102,7 @@ item-fits k (call c) f =
 item-fits k (foreign-step kind place number) f =
     let m = foreign-kept (k .world) kind place number in
     subst (λ (w : World). Fits (w .head)) (sym (m .leads)) (now-fits (k .world) (foreign (k .world) kind place number .log) (m .lawful) f)
-item-fits k (preparation headers buckets serial) f = preparation-fits headers buckets serial (k .world .table) (k .world .health) _ k f
-item-fits k (preparation-over headers buckets serial t g) f = preparation-fits headers buckets serial t g (k .world) k f
+item-fits k (preparation headers buckets serial boot) f = preparation-fits headers buckets serial boot (k .world .table) (k .world .health) _ k f
+item-fits k (preparation-over headers buckets serial boot t g) f = preparation-fits headers buckets serial boot t g (k .world) k f
 item-fits k (salvage paper report list) f = salvage-fits paper (k .world .table) (k .world .health) report list _ k f
 item-fits k (salvage-over paper t g report list) f = salvage-fits paper t g report list (k .world) k f

@@ -3,56 +3,94 @@ use Prim.Native.Nat.{ℕ}
 use mathlib.Core.Path.{_≡_, refl, sym, ap, _∙_, subst}
 use mathlib.Core.Logic.{_≢_, _⊎_, inl, inr}
 use mathlib.Core.List.{List, [], _∷_, _++_, append-nil, append-assoc}
+use mathlib.Core.Bool.{Bool, true, false}
+use lib.ListN.{length}
+use Rattle.choice.specs.Choice.{if_then_else_}
 use native.Mathlib.Omega.{arith}
-use Rattle.model.specs.Arena.{ownerAt}
+use borrow.Author.Tests.{eqb-true, not-false}
+use Rattle.model.specs.Arena.{leaseOf, holdIn, ownerAt}
 use Rattle.model.specs.Log.{Actor, Event, released}
 use Rattle.types.specs.declared.Answer.{Answer}
 use Rattle.types.specs.declared.Answer.the-variants as answer
+use Rattle.types.specs.declared.Head.{Head}
+use Rattle.types.specs.declared.Hold.{Hold}
 use Rattle.types.specs.declared.Lease.{Lease}
 use Rattle.types.specs.declared.SalvageAnswer.{SalvageAnswer}
 use Rattle.types.specs.declared.SalvageAnswer.the-variants as salvaged
-use Rattle.slots.specs.Calls.{writeSetpointOf}
+use Rattle.slots.specs.Calls.{writtenOver, writeSetpointOf}
+use Rattle.slots.specs.Layout.{slotsOf, readOf}
+use Rattle.slots.specs.Rules.{BookRule, firstFault, judgeBook, badTable, badSlot, notHolder, notFinite, claimRules, overRules}
+use Rattle.slots.specs.declared.BookCheck.{BookCheck}
+use Rattle.slots.specs.declared.BookCheck.the-variants.{Fine, Fault}
+use Rattle.slots.specs.declared.BookRefusal.{BookRefusal}
+use Rattle.slots.specs.declared.BookRefusal.the-variants.{BadShape, BadSlot, StaleBoot}
 use Rattle.slots.specs.Outcomes.{Wrote, was-written, not-written, writing-is}
 use Rattle.slots.specs.declared.BookAnswer.{BookAnswer}
-use Rattle.slots.specs.declared.BookAnswer.the-variants.{Written}
+use Rattle.slots.specs.declared.BookAnswer.the-variants.{Written, Refused}
 use Rattle.history.specs.World.{World, Live, now, Releases, Unreleased}
 use Rattle.history.specs.Items.{Item, call, foreign-step, preparation, preparation-over, salvage, salvage-over, Entry, Course, courseOf, cold, events-of, history-of, prepared-by, salvaged-by, next-item, run}
 use Rattle.history.specs.Statements.{Begins}
 use Rattle.history.specs.Tests.{same-lease}
 use Rattle.history.specs.Events.{lives}
+use Rattle.history.specs.Logs.{arena-now}
 use Rattle.history.specs.Writers.{looked}
 use Rattle.history.specs.Courses.{Stretch, run-stretch, ledger, begun, events-append, not-prepared, not-salvaged}
 use Rattle.written.specs.Items.{BookItem, arena-item, prepare-book, write-setpoint, read-setpoint, Shift, shiftOf, world-of, next-shift, run-shift}
-use Rattle.written.specs.Statements.{Written-by-holder, One-writer, Goes-on, One-stretch, Released-between, Writers-parted}
+use Rattle.written.specs.Statements.{Written-by-holder, Unowned-writes-nothing, Stale-writes-nothing, One-writer, Goes-on, One-stretch, Released-between, Writers-parted}
 
 -- ---- the holder
 
 pub written-by-holder : Written-by-holder writeSetpointOf
 written-by-holder w b slot l p v e = go (writing-is (w .head) (w .table) b slot l p) e
   where
-    go : {o : BookAnswer × List ℕ} → Wrote (w .head) (w .table) b slot l p o → o .0 ≡ Written v → Live w l × (l .cell ≡ slot)
-    go (was-written c f) x = (c .live, c .own)
+    go : {o : BookAnswer × List ℕ} → Wrote (w .head) (w .table) b slot l p o → o .0 ≡ Written v → Live w (holdIn l) × (l .cell ≡ slot) × (l .boot ≡ w .head .boot)
+    go (was-written c f) x = (c .live, c .own, eqb-true _ _ (not-false _ (c .fresh)))
     go (not-written r f) x = let z : _≡_ {A = ℕ} 0 1 = cc in absurd (omega arith)
 
+pub unowned-writes-nothing : Unowned-writes-nothing writeSetpointOf
+unowned-writes-nothing w b slot l p n = go (writing-is (w .head) (w .table) b slot l p)
+  where
+    go : {o : BookAnswer × List ℕ} → Wrote (w .head) (w .table) b slot l p o → (r : BookRefusal) × (o ≡ (Refused r, b))
+    go (was-written c f) = absurd (n (rw (c .fresh, c .live)))
+    go (not-written r f) = (r, refl)
+
+pub stale-writes-nothing : Stale-writes-nothing writeSetpointOf
+unfolding writeSetpointOf claimRules firstFault
+stale-writes-nothing w b slot l p s = rw s (go (badTable (w .head) (w .table) .applies) (badSlot (w .head) (length b) slot .applies))
+  where
+    over : BookAnswer × List ℕ
+    over = writtenOver (slotsOf (w .head)) b slot p (readOf (slotsOf (w .head)) b slot)
+
+    go : (x y : Bool) → (if x then Fault BadShape else if y then Fault BadSlot else Fine) ≡ Fine
+        → judgeBook (if x then Fault BadShape else if y then Fault BadSlot else Fault StaleBoot) (λ r. (Refused r, b)) over ≡ (Refused StaleBoot, b)
+    go true y e = let z : _≡_ {A = ℕ} 0 1 = cc in absurd (omega arith)
+    go false true e = let z : _≡_ {A = ℕ} 0 1 = cc in absurd (omega arith)
+    go false false e = refl
+
 -- two live leases on one cell are one
-one-holder : (w : World) (l k : Lease) → Live w l → Live w k → l .cell ≡ k .cell → l ≡ k
+one-holder : (w : World) (l k : Hold) → Live w l → Live w k → l .cell ≡ k .cell → l ≡ k
 one-holder w l k x y e =
     let a = lives w l x in
     let b = lives w k y in
     same-lease l k e (sym (a .owner-is) ∙ ap (λ (c : ℕ). ownerAt (w .table) c) e ∙ b .owner-is)
 
+-- and with one boot number they are one lease
+one-lease : (l k : Lease) → holdIn l ≡ holdIn k → l .boot ≡ k .boot → l ≡ k
+one-lease l k e b =
+    ap (λ (x : Hold). leaseOf (x .cell) (x .serial) (l .boot)) e ∙ ap (leaseOf (k .cell) (k .serial)) b
+
 pub one-writer : One-writer writeSetpointOf
 one-writer w b c slot l k p q u v x y =
     let f = written-by-holder w b slot l p u x in
     let g = written-by-holder w c slot k q v y in
-    one-holder w l k (f .0) (g .0) (f .1 ∙ sym (g .1))
+    one-lease l k (one-holder w (holdIn l) (holdIn k) (f .0) (g .0) (f .1 ∙ sym (g .1))) (f .2 ∙ sym (g .2))
 
 -- ---- a log releases a lease, or it does not
 
-abbrev Release : Lease → List Event → Type 0
+abbrev Release : Hold → List Event → Type 0
 Release l es = (a : Actor) × (front back : List Event) × (es ≡ front ++ (released a (l .cell) (l .serial) ∷ back))
 
-released-or-not : (l : Lease) (es : List Event) → Unreleased l es ⊎ Release l es
+released-or-not : (l : Hold) (es : List Event) → Unreleased l es ⊎ Release l es
 released-or-not l [] = inl tt
 released-or-not l (e ∷ es) = go (looked l e) (released-or-not l es)
   where
@@ -96,8 +134,8 @@ item-more : (s : Shift) (i : BookItem) → Goes-on s i → Longer (s .course) (n
 unfolding next-shift next-item
 item-more s (arena-item (call c)) g = one-more (s .course) _ _
 item-more s (arena-item (foreign-step kind place number)) g = one-more (s .course) _ _
-item-more s (arena-item (preparation headers buckets serial)) g = unprepared-more _ _ _ (s .course) g
-item-more s (arena-item (preparation-over headers buckets serial t h)) g = unprepared-more _ _ _ (s .course) g
+item-more s (arena-item (preparation headers buckets serial boot)) g = unprepared-more _ _ _ (s .course) g
+item-more s (arena-item (preparation-over headers buckets serial boot t h)) g = unprepared-more _ _ _ (s .course) g
 item-more s (arena-item (salvage paper report list)) g = unsalvaged-more _ _ _ (s .course) g
 item-more s (arena-item (salvage-over paper t h report list)) g = unsalvaged-more _ _ _ (s .course) g
 item-more s prepare-book g = same (s .course)
@@ -126,13 +164,20 @@ runs-stretch s (i ∷ is) k = runs-stretch (next-shift s i) is (item-stretch s i
 -- ---- two writers
 
 -- a lease that is live at one point of a stretch and not released since is live at a later one
-still-live : (k d : Course) (l : Lease) → Stretch k → Stretch d → (m : Longer k d) → Live (k .world) l → Unreleased l (m .more) → Live (d .world) l
+still-live : (k d : Course) (l : Hold) → Stretch k → Stretch d → (m : Longer k d) → Live (k .world) l → Unreleased l (m .more) → Live (d .world) l
 still-live k d l x y m v u =
     let g = ledger d y in
     let before = history-of k in
     let start : Live (now (d .origin) before) l = subst (λ (w : World). Live w l) (x .leads ∙ ap (λ (w : World). now w before) (sym (m .origin-is))) v in
     let end = g .keeps l before (m .more) [] (m .history-is ∙ ap (λ (es : List Event). before ++ es) (sym (append-nil (m .more)))) start u in
     subst (λ (w : World). Live w l) (ap (now (d .origin)) (sym (m .history-is)) ∙ sym (y .leads)) end
+
+-- the head in force has one boot number in all of it
+still-boot : (k d : Course) → Stretch k → Stretch d → Longer k d → d .world .head .boot ≡ k .world .head .boot
+still-boot k d x y m = of d y ∙ ap (λ (w : World). w .head .boot) (m .origin-is) ∙ sym (of k x)
+  where
+    of : (c : Course) → Stretch c → c .world .head .boot ≡ c .origin .head .boot
+    of c z = ap (λ (w : World). w .head .boot) (z .leads) ∙ ap (λ (h : Head). h .boot) (arena-now (c .origin) (history-of c))
 
 -- the first stretch
 started : (w : World) (b : List ℕ) (i : Item) → Begins w i → Stretch (next-shift (shiftOf (cold w) b []) (arena-item i) .course)
@@ -150,12 +195,14 @@ writers-parted rubbish book begin before between slot l k p q u v d x y n g =
     let late = runs-stretch next between (item-stretch one (write-setpoint slot l p) early) in
     let m = further (one .course) (next .course) (two .course) (item-more one (write-setpoint slot l p) tt) (runs-more next between g) in
     go one two m early late (written-by-holder (world-of one) (one .book) slot l p u x) (written-by-holder (world-of two) (two .book) slot k q v y)
-    (released-or-not l (m .more))
+    (released-or-not (holdIn l) (m .more))
   where
     go : (one two : Shift) (m : Longer (one .course) (two .course)) → Stretch (one .course) → Stretch (two .course)
-        → Live (world-of one) l × (l .cell ≡ slot) → Live (world-of two) k × (k .cell ≡ slot) → Unreleased l (m .more) ⊎ Release l (m .more)
-        → Released-between (one .course) (two .course) l
+        → Live (world-of one) (holdIn l) × (l .cell ≡ slot) × (l .boot ≡ world-of one .head .boot)
+        → Live (world-of two) (holdIn k) × (k .cell ≡ slot) × (k .boot ≡ world-of two .head .boot)
+        → Unreleased (holdIn l) (m .more) ⊎ Release (holdIn l) (m .more) → Released-between (one .course) (two .course) (holdIn l)
     go one two m early late f h (inr r) =
         (r .0, r .1, r .2, m .history-is ∙ ap (λ (es : List Event). history-of (one .course) ++ es) (r .3))
     go one two m early late f h (inl c) =
-        absurd (n (one-holder (world-of two) l k (still-live (one .course) (two .course) l early late m (f .0) c) (h .0) (f .1 ∙ sym (h .1))))
+        absurd (n (one-lease l k (one-holder (world-of two) (holdIn l) (holdIn k) (still-live (one .course) (two .course) (holdIn l) early late m (f .0) c) (h .0) (f .1 ∙ sym (h .1)))
+        (f .2 ∙ sym (still-boot (one .course) (two .course) early late m) ∙ sym (h .2))))

@@ -6,20 +6,23 @@ use mathlib.Core.Logic.{_≢_, _⊎_, _↔_}
 use mathlib.Core.List.{List, [], _∷_, _++_}
 use mathlib.Core.Bool.{true, false}
 use lib.ListN.{length, getD}
-use Rattle.model.specs.Arena.{headFits}
+use Rattle.model.specs.Arena.{isStale, leaseLive, holdIn, headFits}
 use Rattle.model.specs.Log.{Actor, Event, released}
 use Rattle.types.specs.declared.Head.{Head}
+use Rattle.types.specs.declared.Hold.{Hold}
 use Rattle.types.specs.declared.Lease.{Lease}
 use Rattle.setpoint.specs.Codec.{hasBody}
 use Rattle.setpoint.specs.RoundTrip.{Held}
 use Rattle.setpoint.specs.declared.Setpoint.{Setpoint}
 use Rattle.slots.specs.Layout.{slotsOf, putOf}
-use Rattle.slots.specs.Rules.{isBadSlot}
+use Rattle.slots.specs.Rules.{firstFault, badTable, badSlot, isBadSlot}
 use Rattle.slots.specs.Calls.{writeSetpointOf, readSetpointOf}
 use Rattle.slots.specs.Reads.{Own, Agree}
 use Rattle.slots.specs.declared.BookAnswer.{BookAnswer}
 use Rattle.slots.specs.declared.BookAnswer.the-variants.{Done, Written, Setting, Refused}
-use Rattle.slots.specs.declared.BookRefusal.the-variants.{DamagedBook, NeverWritten}
+use Rattle.slots.specs.declared.BookCheck.the-variants.{Fine}
+use Rattle.slots.specs.declared.BookRefusal.{BookRefusal}
+use Rattle.slots.specs.declared.BookRefusal.the-variants.{StaleBoot, DamagedBook, NeverWritten}
 use Rattle.history.specs.World.{World, Live}
 use Rattle.history.specs.Items.{Item, Course, cold, history-of}
 use Rattle.history.specs.Statements.{Begins}
@@ -73,11 +76,25 @@ Never-damaged =
 
 -- ---- "Writing needs a live lease on the slot's cell"
 
--- a write that is done named a lease that is live there, on the slot's own cell
+-- a write that is done named a lease that is live there, on the slot's own cell, with the boot number of the head. Document 02, L8: "A lease with
+-- another boot number is refused"
 abbrev pub Written-by-holder : Writer → Type 0
 Written-by-holder f =
     (w : World) (b : List ℕ) (slot : ℕ) (l : Lease) (p : Setpoint) (v : ℕ) → f (w .head) (w .table) b slot l p .0 ≡ Written v
-    → Live w l × (l .cell ≡ slot)
+    → Live w (holdIn l) × (l .cell ≡ slot) × (l .boot ≡ w .head .boot)
+
+-- so a lease that has not the head's boot number, or is not live, writes nothing: it is refused, and every byte of the book stays
+abbrev pub Unowned-writes-nothing : Writer → Type 0
+Unowned-writes-nothing f =
+    (w : World) (b : List ℕ) (slot : ℕ) (l : Lease) (p : Setpoint) → (leaseLive (w .head) (w .table) l ≡ true → ⊥)
+    → (r : BookRefusal) × (f (w .head) (w .table) b slot l p ≡ (Refused r, b))
+
+-- one with another boot number is StaleBoot, once table, book and slot pass
+abbrev pub Stale-writes-nothing : Writer → Type 0
+Stale-writes-nothing f =
+    (w : World) (b : List ℕ) (slot : ℕ) (l : Lease) (p : Setpoint) → isStale (w .head) l ≡ true
+    → firstFault (badTable (w .head) (w .table) ∷ badSlot (w .head) (length b) slot ∷ []) ≡ Fine
+    → f (w .head) (w .table) b slot l p ≡ (Refused StaleBoot, b)
 
 -- in any world two leases with which a write on one slot is done are the same lease
 abbrev pub One-writer : Writer → Type 0
@@ -97,7 +114,7 @@ One-stretch s [] = Unit {0}
 One-stretch s (i ∷ is) = Goes-on s i × One-stretch (next-shift s i) is
 
 -- the history of the second is that of the first and some events more, and a release of the lease, naming its cell and serial, is among these
-abbrev pub Released-between : Course → Course → Lease → Type 0
+abbrev pub Released-between : Course → Course → Hold → Type 0
 Released-between k d l =
     (a : Actor) × (front back : List Event) × (history-of d ≡ history-of k ++ (front ++ (released a (l .cell) (l .serial) ∷ back)))
 
@@ -110,7 +127,7 @@ Writers-parted =
     → let one = run-shift (shiftOf (cold rubbish) book []) (arena-item start ∷ before) in
     let two = run-shift one (write-setpoint slot l p ∷ between) in
     writing one slot l p .0 ≡ Written u → writing two slot k q .0 ≡ Written v → l ≢ k → One-stretch (next-shift one (write-setpoint slot l p)) between
-    → Released-between (one .course) (two .course) l
+    → Released-between (one .course) (two .course) (holdIn l)
 
 -- ---- a slot's thirteen bytes
 

@@ -1,6 +1,6 @@
 -- The statements of `Statements`, each proved; the proofs are in the files behind.
 use Rattle.slots.specs.Calls.{writeSetpointOf, readSetpointOf}
-use Rattle.written.specs.Statements.{Prepared-reads-nothing, Forgets-older-bytes, Reads-last-write, Never-exactly, Never-damaged, Written-by-holder, One-writer, Writers-parted, Own-bytes-only, Damage-stays-there, Reads-exactly}
+use Rattle.written.specs.Statements.{Prepared-reads-nothing, Forgets-older-bytes, Reads-last-write, Never-exactly, Never-damaged, Written-by-holder, Unowned-writes-nothing, Stale-writes-nothing, One-writer, Writers-parted, Own-bytes-only, Damage-stays-there, Reads-exactly}
 use Rattle.written.specs.Runs as runs
 use Rattle.written.specs.Exact as exact
 use Rattle.written.specs.Parted as parted
@@ -26,6 +26,12 @@ never-damaged = runs.never-damaged
 
 pub written-by-holder : Written-by-holder writeSetpointOf
 written-by-holder = parted.written-by-holder
+
+pub unowned-writes-nothing : Unowned-writes-nothing writeSetpointOf
+unowned-writes-nothing = parted.unowned-writes-nothing
+
+pub stale-writes-nothing : Stale-writes-nothing writeSetpointOf
+stale-writes-nothing = parted.stale-writes-nothing
 
 pub one-writer : One-writer writeSetpointOf
 one-writer = parted.one-writer

@@ -59,10 +59,10 @@ impl Setpoint {
     }
 }
 
-/// The refusals of the book's calls. All but two go by name, and carry nothing.
+/// The refusals of the book's calls. All but three go by name, and carry nothing.
 #[derive(Clone, Copy, Debug, PartialEq, Eq)]
 pub enum BookRefusal {
-    /// 1 or 12.
+    /// 1, 16 or 12.
     Numbered(Refusal),
     BadSlot,
     NotFinite,
@@ -167,6 +167,7 @@ pub fn write_setpoint(
 ) -> Result<u32, BookRefusal> {
     let arena = Arena::new(head, table)?;
     let slots = check_slot(arena.cells, book, slot)?;
+    // 16 right before 12
     arena.check_live(lease)?;
     if lease.cell != slot {
         return Err(Refusal::NotHeld(0).into());

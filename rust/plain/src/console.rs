@@ -230,7 +230,7 @@ impl Console {
         let command = words.next().unwrap_or_default();
         // of a setpoint one word is no number
         let value = |(at, word)| match (command, at) {
-            (b"write_setpoint", 3) => kind_of(word),
+            (b"write_setpoint", 4) => kind_of(word),
             _ => number(word),
         };
         let Some(numbers) = words.enumerate().map(value).collect::<Option<Vec<u32>>>() else {
@@ -256,11 +256,12 @@ impl Console {
             (b"lend", &[words, bytes]) if words as usize <= TABLE && bytes as usize <= HEALTH => {
                 self.lent = Some((words as usize, bytes as usize));
             }
-            (b"head", &[headers, buckets, next]) => {
+            (b"head", &[headers, buckets, next, boot]) => {
                 self.head = Head {
                     headers,
                     buckets,
                     next,
+                    boot,
                 };
             }
             (b"word", &[index, value]) if (index as usize) < TABLE => {
@@ -354,9 +355,10 @@ impl Console {
             headers,
             buckets,
             next,
+            boot,
         } = self.head;
         let (words, bytes) = self.lent(self.head);
-        writeln!(out, "head {headers} {buckets} {next}")?;
+        writeln!(out, "head {headers} {buckets} {next} {boot}")?;
         for (cell, three) in self.table[..words].chunks_exact(3).enumerate() {
             if three != [0, 0, 0] {
                 writeln!(out, "cell {cell} {} {} {}", three[0], three[1], three[2])?;
@@ -413,10 +415,11 @@ impl Console {
         }
         // the lent table is that of the call, for a preparation that of its own numbers
         let head = match (call, numbers) {
-            (b"prepare", &[headers, buckets, next]) => Head {
+            (b"prepare", &[headers, buckets, next, boot]) => Head {
                 headers,
                 buckets,
                 next,
+                boot,
             },
             _ => self.head,
         };
@@ -436,8 +439,14 @@ impl Console {
         numbers: &[u32],
         out: &mut impl Write,
     ) -> io::Result<bool> {
-        if let (b"prepare", &[headers, buckets, first]) = (call, numbers) {
-            self.prepare(headers, buckets, first, out)?;
+        if let (b"prepare", &[headers, buckets, next, boot]) = (call, numbers) {
+            let head = Head {
+                headers,
+                buckets,
+                next,
+                boot,
+            };
+            self.prepare(head, out)?;
         } else if let (b"crew", &[]) = (call, numbers) {
             self.crew(out)?;
         } else if let (b"crew_at_work", &[]) = (call, numbers) {
@@ -462,22 +471,17 @@ impl Console {
         Ok(true)
     }
 
-    /// After a refused preparation the head before it stays in force.
-    fn prepare(
-        &mut self,
-        headers: u32,
-        buckets: u32,
-        first: u32,
-        out: &mut impl Write,
-    ) -> io::Result<()> {
-        let (words, bytes) = self.lent(Head {
-            headers,
-            buckets,
-            next: first,
-        });
-        let table = &mut self.table[..words];
-        let health = &mut self.health[..bytes];
-        let reply = rules::prepare(headers, buckets, first, table, health);
+    /// Prepares an arena of this head. After a refused preparation the head before it stays in force.
+    fn prepare(&mut self, head: Head, out: &mut impl Write) -> io::Result<()> {
+        let (words, bytes) = self.lent(head);
+        let reply = rules::prepare(
+            head.headers,
+            head.buckets,
+            head.next,
+            head.boot,
+            &mut self.table[..words],
+            &mut self.health[..bytes],
+        );
         if reply.answer == Answer::Done {
             self.head = reply.head;
         }
@@ -494,8 +498,8 @@ impl Console {
             (b"acquire_preserving_borrows", &[cell]) => {
                 rules::acquire_preserving_borrows(head, table, held, cell)
             }
-            (_, &[cell, serial]) => {
-                let lease = Lease { cell, serial };
+            (_, &[cell, serial, boot]) => {
+                let lease = Lease { cell, serial, boot };
                 match call {
                     b"drop_lease" => rules::drop_lease(head, table, lease),
                     b"read_permission" => rules::read_permission(head, table, lease),
@@ -579,10 +583,10 @@ impl Console {
         let book = &mut self.book[..self.lent_book];
         Some(match (call, numbers) {
             (b"prepare_book", &[]) => book::prepare_book(head, book).map(|()| Noted::Done),
-            (b"write_setpoint", &[slot, cell, serial, kind, value]) => {
+            (b"write_setpoint", &[slot, cell, serial, boot, kind, value]) => {
                 // a valve other than 0 and 1 is not understood
                 let setpoint = Setpoint::of(kind, value)?;
-                let lease = Lease { cell, serial };
+                let lease = Lease { cell, serial, boot };
                 book::write_setpoint(head, table, book, slot, lease, setpoint).map(Noted::Version)
             }
             (b"read_setpoint", &[slot]) => book::read_setpoint(head, book, slot).map(Noted::Kept),
@@ -670,7 +674,9 @@ impl Console {
     /// A call's line: its answer, then the next serial and the place in force, then the counts.
     fn print(&self, answer: Answer, counts: Counts, out: &mut impl Write) -> io::Result<()> {
         match answer {
-            Answer::Granted(lease) => write!(out, "granted {} {}", lease.cell, lease.serial)?,
+            Answer::Granted(Lease { cell, serial, boot }) => {
+                write!(out, "granted {cell} {serial} {boot}")?;
+            }
             Answer::AllGranted => write!(out, "granted")?,
             Answer::Done => write!(out, "done")?,
             Answer::Cell(cell) => write!(out, "cell {cell}")?,
@@ -819,15 +825,15 @@ const HELP: &str = "\
 ram SEED: fills table, health and book with rubbish
 lend T G: calls get the first T table words and the first G health bytes
 lend: calls get what the head asks for
-head H B NEXT: this head is in force
+head H B NEXT BOOT: this head is in force
 word I V: stores a table word
 byte I V: stores a health byte
 book N: calls get the first N bytes of the book
 book_byte I V: stores a byte of the book
 registry N..: the header number of each binding
-held CELL SERIAL ..: the held leases
+held CELL SERIAL BOOT ..: the held leases
 keys BINDING BUCKET ..: what acquire_index_locks and acquire_sorted_locks ask for
-leases CELL SERIAL ..: what release_all releases
+leases CELL SERIAL BOOT ..: what release_all releases
 turns MEMBER ..: the crew's turns
 script KIND PLACE NUMBER ..: the foreign steps; the place becomes 0
 place P: the next foreign step
@@ -843,15 +849,15 @@ show_book: the lent length of the book, and its bytes that are not 0, sixteen a 
 echo 1, echo 0: print each line before it is played, or do not
 trace 1, trace 0: each call prints what it did to the bits of the cells, or does not
 help: this list
-prepare H B FIRST
+prepare H B FIRST BOOT
 try_acquire CELL
-drop_lease CELL SERIAL
-read_permission CELL SERIAL
-competing_acquire_is_excluded CELL SERIAL
-release_then_handoff CELL SERIAL
-foreign_release_between_attempts CELL SERIAL
+drop_lease CELL SERIAL BOOT
+read_permission CELL SERIAL BOOT
+competing_acquire_is_excluded CELL SERIAL BOOT
+release_then_handoff CELL SERIAL BOOT
+foreign_release_between_attempts CELL SERIAL BOOT
 acquire_preserving_borrows CELL
-drop_preserving_borrows CELL SERIAL
+drop_preserving_borrows CELL SERIAL BOOT
 environment
 environment_for_borrows
 try_lock CELL
@@ -865,6 +871,6 @@ crew
 crew_at_work
 salvage
 prepare_book
-write_setpoint SLOT CELL SERIAL pressure BITS, or speed NUMBER, or valve 0 or 1
+write_setpoint SLOT CELL SERIAL BOOT pressure BITS, or speed NUMBER, or valve 0 or 1
 read_setpoint SLOT
 ";

@@ -1,5 +1,6 @@
 //! Document 01: the arena, foreign steps, the steps of a lock, the crew, the refusals; with document 02's L1, the
-//! reasons of a Busy, L3, the health that is read after the lock too, L4, keys in any order, and L13, the crew at work.
+//! reasons of a Busy, L3, the health that is read after the lock too, L4, keys in any order, L8, a boot number in every
+//! lease, and L13, the crew at work.
 //!
 //! One public function for each call, over lent slices. A call checks what it takes in the order of the table
 //! of refusals, and then runs its steps; no argument makes it panic.
@@ -26,18 +27,26 @@ pub const MOST_MEMBER_CELLS: u32 = 64;
 pub const MOST_CREW_CELLS: usize = 256;
 pub const MOST_TURNS: usize = 65_536;
 
-/// H, B and the next serial, handed over and given back by value.
+/// Words of a lease in a list or a grant buffer: cell, serial, boot number.
+pub const LEASE: usize = 3;
+/// Words of a key: binding, bucket.
+pub const KEY: usize = 2;
+
+/// H, B, the next serial and the boot number, handed over and given back by value. Any boot number is a good one.
 #[derive(Clone, Copy, Debug, Default, PartialEq, Eq)]
 pub struct Head {
     pub headers: u32,
     pub buckets: u32,
     pub next: u32,
+    pub boot: u32,
 }
 
+/// "The head and every lease gain a boot number (u32)".
 #[derive(Clone, Copy, Debug, PartialEq, Eq)]
 pub struct Lease {
     pub cell: u32,
     pub serial: u32,
+    pub boot: u32,
 }
 
 /// Why an attempt is Busy: "held, with the owner's serial; waiters seen before the compare-and-set; waiters seen after
@@ -49,7 +58,7 @@ pub enum Reason {
     After(u32),
 }
 
-/// The fifteen refusals, each with what it carries where that is not fixed.
+/// The sixteen refusals, each with what it carries where that is not fixed.
 #[derive(Clone, Copy, Debug, PartialEq, Eq)]
 pub enum Refusal {
     BadShape,
@@ -68,6 +77,7 @@ pub enum Refusal {
     Protected,
     Repeated(u32),
     BadCrew(u32),
+    StaleBoot(u32),
 }
 
 impl Refusal {
@@ -88,6 +98,7 @@ impl Refusal {
             Refusal::Protected => 13,
             Refusal::Repeated(_) => 14,
             Refusal::BadCrew(_) => 15,
+            Refusal::StaleBoot(_) => 16,
         }
     }
 
@@ -108,6 +119,7 @@ impl Refusal {
             Refusal::Protected => "Protected",
             Refusal::Repeated(_) => "Repeated",
             Refusal::BadCrew(_) => "BadCrew",
+            Refusal::StaleBoot(_) => "StaleBoot",
         }
     }
 
@@ -124,7 +136,8 @@ impl Refusal {
             | Refusal::SerialsSpent(n)
             | Refusal::NotHeld(n)
             | Refusal::Repeated(n)
-            | Refusal::BadCrew(n) => n,
+            | Refusal::BadCrew(n)
+            | Refusal::StaleBoot(n) => n,
         }
     }
 
@@ -283,7 +296,8 @@ impl<'a> Arena<'a> {
         self.table[bit(cell)] == 1 && owner != 0 && owner < self.head.next
     }
 
-    /// A lease is live if the cell is held by that serial; one whose cell is out of range is not.
+    /// A lease is live if the cell is held by that serial; one whose cell is out of range is not. Its boot number is
+    /// asked for apart, by refusal 16.
     fn is_live(&self, lease: Lease) -> bool {
         lease.cell < self.cells
             && self.is_held(lease.cell)
@@ -296,7 +310,11 @@ impl<'a> Arena<'a> {
         self.table[bit(cell)] = 1;
         self.table[owner(cell)] = serial;
         self.head.next += 1;
-        Lease { cell, serial }
+        Lease {
+            cell,
+            serial,
+            boot: self.head.boot,
+        }
     }
 
     /// The cell is in range and held.
@@ -318,19 +336,33 @@ impl<'a> Arena<'a> {
         }
     }
 
-    /// Refusal 3: odd or over 64 leases, else the first lease not live.
-    fn check_held(&self, held: &[u32]) -> Result<(), Refusal> {
-        if held.len() % 2 != 0 || held.len() / 2 > MOST_LEASES {
-            return Err(Refusal::BadHeld((held.len() / 2) as u32));
-        }
-        match leases_of(held).position(|lease| !self.is_live(lease)) {
-            Some(position) => Err(Refusal::BadHeld(position as u32)),
-            None => Ok(()),
+    /// Refusal 16: "A lease with another boot number is refused as StaleBoot (16), with its position".
+    fn check_boot(&self, lease: Lease, position: usize) -> Result<(), Refusal> {
+        if lease.boot == self.head.boot {
+            Ok(())
+        } else {
+            Err(Refusal::StaleBoot(position as u32))
         }
     }
 
-    /// Refusal 12 for one lease.
+    /// Refusal 3 by length: no whole leases, or over 64 of them. Then "position by position" 16, and 3 where the lease
+    /// is not live.
+    fn check_held(&self, held: &[u32]) -> Result<(), Refusal> {
+        if held.len() % LEASE != 0 || held.len() / LEASE > MOST_LEASES {
+            return Err(Refusal::BadHeld((held.len() / LEASE) as u32));
+        }
+        for (position, lease) in leases_of(held).enumerate() {
+            self.check_boot(lease, position)?;
+            if !self.is_live(lease) {
+                return Err(Refusal::BadHeld(position as u32));
+            }
+        }
+        Ok(())
+    }
+
+    /// Refusals 16 and 12 for one lease.
     pub(crate) fn check_live(&self, lease: Lease) -> Result<(), Refusal> {
+        self.check_boot(lease, 0)?;
         if self.is_live(lease) {
             Ok(())
         } else {
@@ -357,11 +389,12 @@ fn check_unprotected(held: &[u32], lease: Lease) -> Result<(), Refusal> {
     }
 }
 
-/// The leases of a list: cell and serial, cell and serial.
+/// The leases of a list: "three words a lease in all lists", cell, serial, boot number.
 fn leases_of(words: &[u32]) -> impl Iterator<Item = Lease> + '_ {
-    words.chunks_exact(2).map(|pair| Lease {
-        cell: pair[0],
-        serial: pair[1],
+    words.chunks_exact(LEASE).map(|words| Lease {
+        cell: words[0],
+        serial: words[1],
+        boot: words[2],
     })
 }
 
@@ -377,14 +410,14 @@ struct Run<'a> {
     place: usize,
     /// Protected in every boundary: the held list; in `release_all` what it was given and has not given up.
     held: &'a [u32],
-    /// Protected too: the first `count` are the leases that this call has taken and not given up.
+    /// Protected too: the first `count` are cell and serial of the leases that this call has taken and not given up.
     taken: &'a mut [[u32; 2]],
     count: usize,
     counts: Counts,
 }
 
 impl<'a> Run<'a> {
-    /// Refusals 1, 2 and 3. A call without a registry gives an empty one. `taken` has room for each lease that
+    /// Refusals 1, 2, and 3 and 16 of the held list. A call without a registry gives an empty one. `taken` has room for each lease that
     /// the call may take.
     #[allow(clippy::too_many_arguments)]
     fn new(
@@ -463,11 +496,12 @@ impl<'a> Run<'a> {
                 }
                 legal
             }
-            // release: that lease is live and not protected
+            // release: that lease is live and not protected. "Script steps mean the head's own boot number."
             2 => {
                 let lease = Lease {
                     cell: place,
                     serial: number,
+                    boot: arena.head.boot,
                 };
                 let legal = arena.is_live(lease) && !self.is_protected(lease);
                 if legal {
@@ -589,7 +623,7 @@ impl<'a> Run<'a> {
     /// Refusal 5: the first key whose binding is past the registry.
     fn check_bindings(&self, keys: &[u32]) -> Result<(), Refusal> {
         let past = |key: &[u32]| key[0] as usize >= self.registry.len();
-        match keys.chunks_exact(2).position(past) {
+        match keys.chunks_exact(KEY).position(past) {
             Some(position) => Err(Refusal::BadBinding(position as u32)),
             None => Ok(()),
         }
@@ -611,12 +645,13 @@ impl<'a> Run<'a> {
         Ok(header * buckets + bucket)
     }
 
-    /// Refusals 4, 12 and 14 of `release_all`; the last two together, by position.
+    /// Refusals 4, 16, 12 and 14 of `release_all`; the last three together, by position.
     fn check_leases(&self, leases: &[u32]) -> Result<(), Refusal> {
-        if leases.len() % 2 != 0 || leases.len() / 2 > MOST_LEASES {
+        if leases.len() % LEASE != 0 || leases.len() / LEASE > MOST_LEASES {
             return Err(Refusal::TooMany);
         }
         for (position, lease) in leases_of(leases).enumerate() {
+            self.arena.check_boot(lease, position)?;
             if !self.arena.is_live(lease) {
                 return Err(Refusal::NotHeld(position as u32));
             }
@@ -677,12 +712,12 @@ impl ScriptReply {
 
 // ---- The calls without a script
 
-/// Sets every table word and health byte to 0. Refused, it changes no lent word and hands back a head of three
-/// zeros.
+/// Sets every table word and health byte to 0. Refused, it changes no lent word and hands back a head of four zeros.
 pub fn prepare(
     headers: u32,
     buckets: u32,
     first: u32,
+    boot: u32,
     table: &mut [u32],
     health: &mut [u8],
 ) -> Reply {
@@ -690,6 +725,7 @@ pub fn prepare(
         headers,
         buckets,
         next: first,
+        boot,
     };
     if !is_arena(head, table, health) {
         return Reply::refused(Head::default(), Refusal::BadShape);
@@ -913,27 +949,28 @@ pub fn release_all(
     ScriptReply::of(head, place, || {
         let mut run = Run::new(head, table, health, &[], script, place, &[], &mut [])?;
         run.check_leases(leases)?;
-        for position in (0..leases.len() / 2).rev() {
-            run.held = &leases[..2 * position];
-            run.arena.release(leases[2 * position]);
+        for position in (0..leases.len() / LEASE).rev() {
+            run.held = &leases[..LEASE * position];
+            run.arena.release(leases[LEASE * position]);
             run.boundary();
         }
         Ok(run.reply(Answer::Done))
     })
 }
 
-/// Refusal 4 of multi-lock.
+/// Refusal 4 of multi-lock. Keys keep their two words; "the grant buffer has three words a key".
 fn check_keys(held: &[u32], keys: &[u32], grants: &[u32]) -> Result<(), Refusal> {
-    if keys.len() % 2 != 0
-        || held.len() / 2 + keys.len() / 2 > MOST_LEASES
-        || grants.len() != keys.len()
+    let count = keys.len() / KEY;
+    if keys.len() % KEY != 0
+        || held.len() / LEASE + count > MOST_LEASES
+        || grants.len() != LEASE * count
     {
         return Err(Refusal::TooMany);
     }
     Ok(())
 }
 
-/// Multi-lock. On a grant the buffer holds cell and serial for each key, in key order.
+/// Multi-lock. On a grant the buffer holds cell, serial and boot number for each key, in key order.
 #[allow(clippy::too_many_arguments)]
 pub fn acquire_index_locks(
     head: Head,
@@ -953,10 +990,10 @@ pub fn acquire_index_locks(
         )?;
         check_keys(held, keys, grants)?;
         run.check_bindings(keys)?;
-        let answer = run.acquire_all(keys.chunks_exact(2).enumerate());
+        let answer = run.acquire_all(keys.chunks_exact(KEY).enumerate());
         if answer == Answer::AllGranted {
-            for (grant, lease) in grants.chunks_exact_mut(2).zip(run.taken.iter()) {
-                grant.copy_from_slice(lease);
+            for (grant, &[cell, serial]) in grants.chunks_exact_mut(LEASE).zip(run.taken.iter()) {
+                grant.copy_from_slice(&[cell, serial, head.boot]);
             }
         }
         Ok(run.reply(answer))
@@ -986,8 +1023,8 @@ pub fn acquire_sorted_locks(
         run.check_bindings(keys)?;
         // of each key its cell and its position; sorted, the first position of equal cells comes first
         let mut asked = [(0, 0); MOST_LEASES];
-        let asked = &mut asked[..keys.len() / 2];
-        for (position, key) in keys.chunks_exact(2).enumerate() {
+        let asked = &mut asked[..keys.len() / KEY];
+        for (position, key) in keys.chunks_exact(KEY).enumerate() {
             match run.resolve(key) {
                 Ok(cell) => asked[position] = (cell, position),
                 Err(refusal) => return Ok(run.reply(Answer::RefusedAt(refusal, position as u32))),
@@ -997,12 +1034,13 @@ pub fn acquire_sorted_locks(
         let doubles = || asked.chunk_by(|one, other| one.0 == other.0);
         let answer = run.acquire_all(doubles().map(|same| {
             let (_, position) = same[0];
-            (position, &keys[2 * position..][..2])
+            (position, &keys[KEY * position..][..KEY])
         }));
         if answer == Answer::AllGranted {
-            for (same, lease) in doubles().zip(run.taken.iter()) {
+            for (same, &[cell, serial]) in doubles().zip(run.taken.iter()) {
                 for &(_, position) in same {
-                    grants[2 * position..][..2].copy_from_slice(lease);
+                    let lease = [cell, serial, head.boot];
+                    grants[LEASE * position..][..LEASE].copy_from_slice(&lease);
                 }
             }
         }

@@ -8,7 +8,8 @@ use crate::rules::{self, Head};
 /// Words of an entry of the report: "place, old, new".
 pub const ENTRY: usize = 3;
 
-/// What the salvage gives back; the head is the one that it was given.
+/// What the salvage gives back; the head is the one that it was given. "Salvage keeps the boot number of the head it was
+/// given" (L8).
 #[derive(Clone, Copy, Debug, PartialEq, Eq)]
 pub struct SalvageReply {
     pub head: Head,

@@ -2,7 +2,7 @@
 //! What is expected was worked out from the documents.
 
 /// Arena: H 2, B 4, registry 0, 1, 1, first serial 1.
-const ARENA: &str = "prepare 2 4 1\nregistry 0 1 1";
+const ARENA: &str = "prepare 2 4 1 70\nregistry 0 1 1";
 const PREPARED: &str = "done next 1 place 0 attempts 0 boundaries 0 yields 0 dropped 0";
 
 fn played(lines: &str) -> String {
@@ -26,18 +26,18 @@ fn one_key() {
         bench(
             &[&format!("{call} 0 2"), "show"],
             &[
-                &format!("granted 2 1 {counts}"),
-                "head 2 4 2",
+                &format!("granted 2 1 70 {counts}"),
+                "head 2 4 2 70",
                 "cell 2 1 1 0",
             ],
         );
     }
     bench(
-        &["keys 0 2", "grants 2", "acquire_index_locks", "show"],
+        &["keys 0 2", "grants 3", "acquire_index_locks", "show"],
         &[
             &format!("granted {counts}"),
-            "grants 2 1",
-            "head 2 4 2",
+            "grants 2 1 70",
+            "head 2 4 2 70",
             "cell 2 1 1 0",
         ],
     );
@@ -45,34 +45,34 @@ fn one_key() {
 
 #[test]
 fn again_with_the_lease_held() {
-    let first = "granted 2 1 next 2 place 0 attempts 1 boundaries 3 yields 0 dropped 0";
+    let first = "granted 2 1 70 next 2 place 0 attempts 1 boundaries 3 yields 0 dropped 0";
     let counts = "next 2 place 0 attempts 4096 boundaries 12352 yields 64 dropped 0";
     bench(
         &[
             "acquire_index_bucket 0 2",
-            "held 2 1",
+            "held 2 1 70",
             "acquire_index_bucket 0 2",
             "show",
         ],
         &[
             first,
             &format!("refused 11 SerializationFailure 4096 held 1 {counts}"),
-            "head 2 4 2",
+            "head 2 4 2 70",
             "cell 2 1 1 0",
         ],
     );
     bench(
         &[
             "acquire_index_bucket 0 2",
-            "held 2 1",
+            "held 2 1 70",
             "keys 0 2",
-            "grants 2",
+            "grants 3",
             "acquire_index_locks",
         ],
         &[
             first,
             &format!("refused 11 SerializationFailure 4096 held 1 at 0 {counts}"),
-            "grants 9 9",
+            "grants 9 9 9",
         ],
     );
 }
@@ -84,7 +84,7 @@ fn waiters_stay() {
         &["word 8 1", "acquire_index_bucket 0 2", "show"],
         &[
             &format!("refused 11 SerializationFailure 4096 before {counts}"),
-            "head 2 4 1",
+            "head 2 4 1 70",
             "cell 2 0 0 1",
         ],
     );
@@ -101,7 +101,7 @@ fn late_busy() {
             ],
             &[
                 "busy after 1 next 2 place 4 attempts 1 boundaries 3 yields 0 dropped 0",
-                "head 2 4 2",
+                "head 2 4 2 70",
                 "cell 2 0 0 1",
             ],
         );
@@ -119,7 +119,7 @@ fn buckets() {
         );
         bench(
             &[&format!("{call} 0 3")],
-            &[&format!("granted 3 1 {granted}")],
+            &[&format!("granted 3 1 70 {granted}")],
         );
         bench(
             &["byte 0 1", &format!("{call} 0 4")],
@@ -127,19 +127,19 @@ fn buckets() {
         );
     }
     bench(
-        &["keys 0 4", "grants 2", "acquire_index_locks"],
+        &["keys 0 4", "grants 3", "acquire_index_locks"],
         &[
             &format!("refused 8 InvalidBucket 4 at 0 {none}"),
-            "grants 9 9",
+            "grants 9 9 9",
         ],
     );
     bench(
-        &["keys 0 3", "grants 2", "acquire_index_locks"],
-        &[&format!("granted {granted}"), "grants 3 1"],
+        &["keys 0 3", "grants 3", "acquire_index_locks"],
+        &[&format!("granted {granted}"), "grants 3 1 70"],
     );
     bench(
-        &["byte 0 1", "keys 0 4", "grants 2", "acquire_index_locks"],
-        &[&format!("refused 7 Poisoned 0 at 0 {none}"), "grants 9 9"],
+        &["byte 0 1", "keys 0 4", "grants 3", "acquire_index_locks"],
+        &[&format!("refused 7 Poisoned 0 at 0 {none}"), "grants 9 9 9"],
     );
 }
 
@@ -149,41 +149,41 @@ fn serials_at_the_end() {
     let granted = "next 4294967295 place 0 attempts 1 boundaries 3 yields 0 dropped 0";
     for call in ["transactional_try_lock_bucket", "acquire_index_bucket"] {
         bench(
-            &["head 2 4 4294967295", &format!("{call} 0 2"), "show"],
+            &["head 2 4 4294967295 70", &format!("{call} 0 2"), "show"],
             &[
                 &format!("refused 10 SerialsSpent 2 {spent}"),
-                "head 2 4 4294967295",
+                "head 2 4 4294967295 70",
             ],
         );
         bench(
-            &["head 2 4 4294967294", &format!("{call} 0 2"), "show"],
+            &["head 2 4 4294967294 70", &format!("{call} 0 2"), "show"],
             &[
-                &format!("granted 2 4294967294 {granted}"),
-                "head 2 4 4294967295",
+                &format!("granted 2 4294967294 70 {granted}"),
+                "head 2 4 4294967295 70",
                 "cell 2 1 4294967294 0",
             ],
         );
     }
     bench(
         &[
-            "head 2 4 4294967295",
+            "head 2 4 4294967295 70",
             "keys 0 2",
-            "grants 2",
+            "grants 3",
             "acquire_index_locks",
         ],
         &[
             &format!("refused 10 SerialsSpent 2 at 0 {spent}"),
-            "grants 9 9",
+            "grants 9 9 9",
         ],
     );
     bench(
         &[
-            "head 2 4 4294967294",
+            "head 2 4 4294967294 70",
             "keys 0 2",
-            "grants 2",
+            "grants 3",
             "acquire_index_locks",
         ],
-        &[&format!("granted {granted}"), "grants 2 4294967294"],
+        &[&format!("granted {granted}"), "grants 2 4294967294 70"],
     );
 }
 
@@ -191,12 +191,12 @@ fn serials_at_the_end() {
 fn spent_and_held() {
     bench(
         &[
-            "head 2 4 4294967294",
+            "head 2 4 4294967294 70",
             "acquire_index_bucket 0 2",
             "acquire_index_bucket 0 2",
         ],
         &[
-            "granted 2 4294967294 next 4294967295 place 0 attempts 1 boundaries 3 yields 0 dropped 0",
+            "granted 2 4294967294 70 next 4294967295 place 0 attempts 1 boundaries 3 yields 0 dropped 0",
             "refused 11 SerializationFailure 4096 held 4294967294 next 4294967295 place 0 attempts 4096 boundaries 12352 yields 64 dropped 0",
         ],
     );
@@ -204,27 +204,27 @@ fn spent_and_held() {
 
 #[test]
 fn foreign_release() {
-    let foreign = "granted 2 1 next 2 place 0 attempts 1 boundaries 0 yields 0 dropped 0";
+    let foreign = "granted 2 1 70 next 2 place 0 attempts 1 boundaries 0 yields 0 dropped 0";
     let script = "script 5 0 0 5 0 0 2 2 1 5 0 0";
     bench(
         &["try_acquire 2", script, "acquire_index_bucket 0 2"],
         &[
             foreign,
-            "granted 2 2 next 3 place 4 attempts 2 boundaries 6 yields 0 dropped 0",
+            "granted 2 2 70 next 3 place 4 attempts 2 boundaries 6 yields 0 dropped 0",
         ],
     );
     bench(
         &[
             "try_acquire 2",
             script,
-            "held 2 1",
+            "held 2 1 70",
             "acquire_index_bucket 0 2",
             "show",
         ],
         &[
             foreign,
             "refused 11 SerializationFailure 4096 held 1 next 2 place 4 attempts 4096 boundaries 12352 yields 64 dropped 1",
-            "head 2 4 2",
+            "head 2 4 2 70",
             "cell 2 1 1 0",
         ],
     );
@@ -233,11 +233,11 @@ fn foreign_release() {
 #[test]
 fn two_keys_of_one_cell() {
     bench(
-        &["keys 1 0 2 0", "grants 4", "acquire_index_locks", "show"],
+        &["keys 1 0 2 0", "grants 6", "acquire_index_locks", "show"],
         &[
             "refused 11 SerializationFailure 4096 held 1 at 1 next 2 place 0 attempts 4097 boundaries 12356 yields 64 dropped 0",
-            "grants 9 9 9 9",
-            "head 2 4 2",
+            "grants 9 9 9 9 9 9",
+            "head 2 4 2 70",
         ],
     );
 }
@@ -249,7 +249,7 @@ fn no_keys() {
         &[
             "granted next 1 place 0 attempts 0 boundaries 0 yields 0 dropped 0",
             "grants",
-            "head 2 4 1",
+            "head 2 4 1 70",
         ],
     );
 }
@@ -268,22 +268,22 @@ fn crews() {
             "crew moving 8 idle 6 next 5",
             "member 0 taken 2 released 2",
             "member 1 taken 2 released 2",
-            "head 2 4 5",
+            "head 2 4 5 70",
         ],
     );
     bench(
         &["member 2 5", "member 5 2", "turns 0 1", "crew", "show"],
-        &["refused 15 BadCrew 1 next 1", "head 2 4 1"],
+        &["refused 15 BadCrew 1 next 1", "head 2 4 1 70"],
     );
 }
 
 #[test]
 fn the_console_s_example() {
-    let lines = "prepare 2 4 1\nregistry 0 1 1\nacquire_index_bucket 0 2\nheld 2 1\nacquire_index_bucket 0 2\nshow";
+    let lines = "prepare 2 4 1 70\nregistry 0 1 1\nacquire_index_bucket 0 2\nheld 2 1 70\nacquire_index_bucket 0 2\nshow";
     let expected = "done next 1 place 0 attempts 0 boundaries 0 yields 0 dropped 0
-granted 2 1 next 2 place 0 attempts 1 boundaries 3 yields 0 dropped 0
+granted 2 1 70 next 2 place 0 attempts 1 boundaries 3 yields 0 dropped 0
 refused 11 SerializationFailure 4096 held 1 next 2 place 0 attempts 4096 boundaries 12352 yields 64 dropped 0
-head 2 4 2
+head 2 4 2 70
 cell 2 1 1 0
 ";
     assert_eq!(played(lines), expected);
@@ -328,7 +328,7 @@ fn rubbish() {
     }
     assert_eq!(words[0], 1_015_568_748);
     let expected = format!(
-        "head 0 0 0\ncell 0 {} {} {}\nhealth 0 {}\n",
+        "head 0 0 0 0\ncell 0 {} {} {}\nhealth 0 {}\n",
         words[0],
         words[1],
         words[2],

@@ -5,9 +5,9 @@ use plain::book::{self, BookRefusal, Kept, Setpoint};
 use plain::rules::{Head, Lease, Refusal};
 
 /// H 2, B 4: 8 slots, so a table of contents of 64 bytes, and bodies up to byte 104.
-const ARENA: &str = "prepare 2 4 1\nbook 104\nprepare_book\ntry_acquire 2";
+const ARENA: &str = "prepare 2 4 1 70\nbook 104\nprepare_book\ntry_acquire 2";
 const PREPARED: &str = "done next 1 place 0 attempts 0 boundaries 0 yields 0 dropped 0\ndone\n\
-                        granted 2 1 next 2 place 0 attempts 1 boundaries 0 yields 0 dropped 0";
+                        granted 2 1 70 next 2 place 0 attempts 1 boundaries 0 yields 0 dropped 0";
 
 fn printed(input: &str) -> String {
     let mut out = Vec::new();
@@ -29,6 +29,7 @@ fn arena(headers: u32, buckets: u32, taken: &[u32]) -> (Head, Vec<u32>) {
         headers,
         buckets,
         next: 5000,
+        boot: 70,
     };
     let mut table = vec![0; 3 * (headers * buckets) as usize];
     for &cell in taken {
@@ -43,6 +44,7 @@ fn lease(cell: u32) -> Lease {
     Lease {
         cell,
         serial: cell + 1,
+        boot: 70,
     }
 }
 
@@ -67,7 +69,7 @@ fn where_the_bytes_stand() {
     let line = "at 16 74 0 5 0 1 0 0 0 0 0 0 0 0 0 0 0";
     // 1,144,201,745 is 68 x 2^24 + 51 x 2^16 + 34 x 2^8 + 17
     bench(
-        &["write_setpoint 2 2 1 speed 1144201745", "show_book"],
+        &["write_setpoint 2 2 1 70 speed 1144201745", "show_book"],
         &[
             "done version 1",
             "book 104",
@@ -77,7 +79,7 @@ fn where_the_bytes_stand() {
     );
     // 1.5 is 3f c0 00 00
     bench(
-        &["write_setpoint 2 2 1 pressure 1069547520", "show_book"],
+        &["write_setpoint 2 2 1 70 pressure 1069547520", "show_book"],
         &[
             "done version 1",
             "book 104",
@@ -87,7 +89,10 @@ fn where_the_bytes_stand() {
     );
     for (open, byte) in [("1", "1"), ("0", "0")] {
         bench(
-            &[&format!("write_setpoint 2 2 1 valve {open}"), "show_book"],
+            &[
+                &format!("write_setpoint 2 2 1 70 valve {open}"),
+                "show_book",
+            ],
             &[
                 "done version 1",
                 "book 104",
@@ -122,11 +127,11 @@ fn the_last_slot() {
 fn versions_rise() {
     bench(
         &[
-            "write_setpoint 2 2 1 speed 7",
+            "write_setpoint 2 2 1 70 speed 7",
             "read_setpoint 2",
-            "write_setpoint 2 2 1 valve 1",
+            "write_setpoint 2 2 1 70 valve 1",
             "read_setpoint 2",
-            "write_setpoint 2 2 1 pressure 2147483648",
+            "write_setpoint 2 2 1 70 pressure 2147483648",
             "read_setpoint 2",
             "show_book",
         ],
@@ -145,9 +150,9 @@ fn versions_rise() {
     // a carry into the second byte
     bench(
         &[
-            "write_setpoint 2 2 1 speed 7",
+            "write_setpoint 2 2 1 70 speed 7",
             "book_byte 20 255",
-            "write_setpoint 2 2 1 speed 8",
+            "write_setpoint 2 2 1 70 speed 8",
             "show_book",
         ],
         &[
@@ -258,7 +263,7 @@ fn a_cell_without_a_slot() {
 #[test]
 fn the_order_of_a_write() {
     let write = |next, book: &str, slot, serial, bits: u32, last: &str| {
-        format!("head 2 4 {next}\nbook {book}\n{last}\nwrite_setpoint {slot} 2 {serial} pressure {bits}")
+        format!("head 2 4 {next} 70\nbook {book}\n{last}\nwrite_setpoint {slot} 2 {serial} 70 pressure {bits}")
     };
     let nan = 0x7fc0_0000;
     // place 1 in the line of slot 2 is wrong; and then a good line with the last version, and a good body
@@ -281,7 +286,9 @@ fn the_order_of_a_write() {
     }
     // 255 + 256 x (255 + 256 x (255 + 256 x 255)) with a lowest byte of 9 is 4,294,967,049
     bench(
-        &[&format!("{spent}\n{fresh}\nwrite_setpoint 2 2 1 speed 1")],
+        &[&format!(
+            "{spent}\n{fresh}\nwrite_setpoint 2 2 1 70 speed 1"
+        )],
         &["done version 4294967050"],
     );
 }
@@ -292,38 +299,38 @@ fn leases() {
     let not_held = "refused 12 NotHeld 0";
     for line in [
         // another serial, serial 0, the next serial
-        "write_setpoint 2 2 2 speed 1",
-        "write_setpoint 2 2 0 speed 1",
+        "write_setpoint 2 2 2 70 speed 1",
+        "write_setpoint 2 2 0 70 speed 1",
         // a cell that nobody holds, and one that is out of range
-        "write_setpoint 3 3 1 speed 1",
-        "write_setpoint 2 8 1 speed 1",
-        "write_setpoint 2 4294967295 1 speed 1",
+        "write_setpoint 3 3 1 70 speed 1",
+        "write_setpoint 2 8 1 70 speed 1",
+        "write_setpoint 2 4294967295 1 70 speed 1",
         // a live lease on another cell
-        "write_setpoint 1 2 1 speed 1",
+        "write_setpoint 1 2 1 70 speed 1",
         // a damaged cell: the owner is not below the next serial
-        "head 2 4 1\nwrite_setpoint 2 2 1 speed 1",
-        "word 6 2\nwrite_setpoint 2 2 1 speed 1",
+        "head 2 4 1 70\nwrite_setpoint 2 2 1 70 speed 1",
+        "word 6 2\nwrite_setpoint 2 2 1 70 speed 1",
     ] {
         bench(&[line, "show_book"], &[not_held, "book 104"]);
     }
-    // waiters and health are nothing to it; a lease that was given back is stale
+    // waiters and health are nothing to it; a lease that was given back is dead
     bench(
         &[
             "word 8 3",
             "byte 0 1",
-            "write_setpoint 2 2 1 speed 1",
-            "drop_lease 2 1",
-            "write_setpoint 2 2 1 speed 2",
+            "write_setpoint 2 2 1 70 speed 1",
+            "drop_lease 2 1 70",
+            "write_setpoint 2 2 1 70 speed 2",
             "try_acquire 2",
-            "write_setpoint 2 2 1 speed 2",
-            "write_setpoint 2 2 2 speed 2",
+            "write_setpoint 2 2 1 70 speed 2",
+            "write_setpoint 2 2 2 70 speed 2",
             "read_setpoint 2",
         ],
         &[
             "done version 1",
             "done next 2 place 0 attempts 0 boundaries 0 yields 0 dropped 0",
             not_held,
-            "granted 2 2 next 3 place 0 attempts 1 boundaries 0 yields 0 dropped 0",
+            "granted 2 2 70 next 3 place 0 attempts 1 boundaries 0 yields 0 dropped 0",
             not_held,
             "done version 2",
             "setpoint speed 2 version 2",
@@ -345,9 +352,9 @@ fn not_finite() {
     ] {
         bench(
             &[
-                &format!("write_setpoint 2 2 1 pressure {bits}"),
+                &format!("write_setpoint 2 2 1 70 pressure {bits}"),
                 "show_book",
-                &format!("write_setpoint 2 2 1 speed {bits}"),
+                &format!("write_setpoint 2 2 1 70 speed {bits}"),
                 "read_setpoint 2",
             ],
             &[
@@ -372,7 +379,7 @@ fn not_finite() {
     ] {
         bench(
             &[
-                &format!("write_setpoint 2 2 1 pressure {bits}"),
+                &format!("write_setpoint 2 2 1 70 pressure {bits}"),
                 "read_setpoint 2",
             ],
             &[
@@ -389,15 +396,15 @@ fn versions_at_their_end() {
     let raise = "book_byte 20 254\nbook_byte 21 255\nbook_byte 22 255\nbook_byte 23 255";
     bench(
         &[
-            "write_setpoint 2 2 1 valve 1",
+            "write_setpoint 2 2 1 70 valve 1",
             raise,
             "read_setpoint 2",
-            "write_setpoint 2 2 1 valve 0",
+            "write_setpoint 2 2 1 70 valve 0",
             "read_setpoint 2",
-            "write_setpoint 2 2 1 valve 1",
+            "write_setpoint 2 2 1 70 valve 1",
             "read_setpoint 2",
             "prepare_book",
-            "write_setpoint 2 2 1 valve 1",
+            "write_setpoint 2 2 1 70 valve 1",
         ],
         &[
             "done version 1",
@@ -426,7 +433,7 @@ fn damaged(write: &str, bytes: &[(u32, u32)]) {
     let (head, shown) = before.split_at(before.find("book 104").expect("it is shown"));
     assert_eq!(
         printed(&format!(
-            "{ARENA}\n{lines}\nread_setpoint 2\nwrite_setpoint 2 2 1 speed 1\nshow_book"
+            "{ARENA}\n{lines}\nread_setpoint 2\nwrite_setpoint 2 2 1 70 speed 1\nshow_book"
         )),
         format!("{head}{refused}{shown}"),
         "{lines}"
@@ -445,18 +452,21 @@ fn damaged_lines() {
                 _ => 0,
             };
             if byte != good {
-                damaged("write_setpoint 2 2 1 speed 0", &[(index, byte)]);
+                damaged("write_setpoint 2 2 1 70 speed 0", &[(index, byte)]);
             }
         }
     }
-    damaged("write_setpoint 2 2 1 speed 0", &[(16, 0)]);
-    damaged("write_setpoint 2 2 1 speed 0", &[(18, 0)]);
+    damaged("write_setpoint 2 2 1 70 speed 0", &[(16, 0)]);
+    damaged("write_setpoint 2 2 1 70 speed 0", &[(18, 0)]);
     // version 0, but place, length or body not 0
-    damaged("write_setpoint 2 2 1 speed 0", &[(20, 0)]);
-    damaged("write_setpoint 2 2 1 speed 0", &[(20, 0), (16, 0)]);
-    damaged("write_setpoint 2 2 1 speed 0", &[(20, 0), (18, 0)]);
-    damaged("write_setpoint 2 2 1 speed 0", &[(20, 0), (74, 0)]);
-    damaged("write_setpoint 2 2 1 speed 0", &[(20, 0), (16, 0), (18, 0)]);
+    damaged("write_setpoint 2 2 1 70 speed 0", &[(20, 0)]);
+    damaged("write_setpoint 2 2 1 70 speed 0", &[(20, 0), (16, 0)]);
+    damaged("write_setpoint 2 2 1 70 speed 0", &[(20, 0), (18, 0)]);
+    damaged("write_setpoint 2 2 1 70 speed 0", &[(20, 0), (74, 0)]);
+    damaged(
+        "write_setpoint 2 2 1 70 speed 0",
+        &[(20, 0), (16, 0), (18, 0)],
+    );
     damaged("# unwritten", &[(16, 74), (18, 5)]);
 }
 
@@ -474,18 +484,27 @@ fn damaged_zeros() {
 #[test]
 fn damaged_bodies() {
     for kind in (0..=255).filter(|kind| ![1, 2, 3].contains(kind)) {
-        damaged("write_setpoint 2 2 1 speed 1", &[(74, kind)]);
+        damaged("write_setpoint 2 2 1 70 speed 1", &[(74, kind)]);
     }
     // 7f 80 00 00, ff 80 00 00 and 7f 80 00 01
-    damaged("write_setpoint 2 2 1 pressure 0", &[(77, 0x80), (78, 0x7f)]);
-    damaged("write_setpoint 2 2 1 pressure 0", &[(77, 0x80), (78, 0xff)]);
-    damaged("write_setpoint 2 2 1 pressure 1", &[(77, 0x80), (78, 0x7f)]);
+    damaged(
+        "write_setpoint 2 2 1 70 pressure 0",
+        &[(77, 0x80), (78, 0x7f)],
+    );
+    damaged(
+        "write_setpoint 2 2 1 70 pressure 0",
+        &[(77, 0x80), (78, 0xff)],
+    );
+    damaged(
+        "write_setpoint 2 2 1 70 pressure 1",
+        &[(77, 0x80), (78, 0x7f)],
+    );
     // a speed that is called a pressure or a valve
-    damaged("write_setpoint 2 2 1 speed 4294967295", &[(74, 1)]);
-    damaged("write_setpoint 2 2 1 speed 2", &[(74, 3)]);
+    damaged("write_setpoint 2 2 1 70 speed 4294967295", &[(74, 1)]);
+    damaged("write_setpoint 2 2 1 70 speed 2", &[(74, 3)]);
     for (index, byte) in [(75, 2), (75, 255), (76, 1), (77, 1), (78, 1), (78, 128)] {
-        damaged("write_setpoint 2 2 1 valve 1", &[(index, byte)]);
-        damaged("write_setpoint 2 2 1 valve 0", &[(index, byte)]);
+        damaged("write_setpoint 2 2 1 70 valve 1", &[(index, byte)]);
+        damaged("write_setpoint 2 2 1 70 valve 0", &[(index, byte)]);
     }
     // and what is no damage
     for (bytes, expected) in [
@@ -499,7 +518,7 @@ fn damaged_bodies() {
         ("book_byte 22 1", "setpoint speed 1 version 65537"),
     ] {
         bench(
-            &["write_setpoint 2 2 1 speed 1", bytes, "read_setpoint 2"],
+            &["write_setpoint 2 2 1 70 speed 1", bytes, "read_setpoint 2"],
             &["done version 1", expected],
         );
     }
@@ -516,7 +535,7 @@ fn damage_elsewhere() {
         &[
             &bytes,
             "read_setpoint 2",
-            "write_setpoint 2 2 1 speed 3",
+            "write_setpoint 2 2 1 70 speed 3",
             "read_setpoint 2",
             "read_setpoint 1",
             "read_setpoint 3",
@@ -571,10 +590,10 @@ fn what_they_take() {
     for lend in ["lend 23 2", "lend 25 2", "lend 0 0", "lend 12600 70"] {
         bench(
             &[
-                "write_setpoint 2 2 1 speed 4",
+                "write_setpoint 2 2 1 70 speed 4",
                 lend,
                 "read_setpoint 2",
-                "write_setpoint 2 2 1 speed 5",
+                "write_setpoint 2 2 1 70 speed 5",
                 "prepare_book",
                 "read_setpoint 2",
             ],
@@ -589,7 +608,7 @@ fn what_they_take() {
     }
     for lend in ["lend 24 0", "lend 24 1", "lend 24 3"] {
         bench(
-            &[lend, "write_setpoint 2 2 1 speed 4", "read_setpoint 2"],
+            &[lend, "write_setpoint 2 2 1 70 speed 4", "read_setpoint 2"],
             &["done version 1", "setpoint speed 4 version 1"],
         );
     }
@@ -606,11 +625,11 @@ fn what_they_take() {
         for book in ["book 104", "book 0"] {
             bench(
                 &[
-                    &format!("head {head}"),
+                    &format!("head {head} 70"),
                     book,
                     "prepare_book",
                     "read_setpoint 99",
-                    "write_setpoint 99 2 1 speed 1",
+                    "write_setpoint 99 2 1 70 speed 1",
                 ],
                 &[
                     "refused 1 BadShape 0",
@@ -629,7 +648,7 @@ fn they_leave_the_rest() {
         &[
             "script 5 0 0",
             "place 1",
-            "write_setpoint 2 2 1 speed 4",
+            "write_setpoint 2 2 1 70 speed 4",
             "read_setpoint 2",
             "prepare_book",
             "show",
@@ -639,7 +658,7 @@ fn they_leave_the_rest() {
             "done version 1",
             "setpoint speed 4 version 1",
             "done",
-            "head 2 4 2",
+            "head 2 4 2 70",
             "cell 2 1 1 0",
             "done next 2 place 1 attempts 0 boundaries 1 yields 0 dropped 0",
         ],
@@ -664,25 +683,26 @@ fn lines_that_are_not_understood() {
         "read_setpoint x",
         "show_book 0",
         "write_setpoint",
-        "write_setpoint 2 2 1 speed",
-        "write_setpoint 2 2 1 4",
-        "write_setpoint 2 2 1 2 4",
-        "write_setpoint 2 2 1 0 speed 4",
-        "write_setpoint 2 2 1 speed 4 4",
+        "write_setpoint 2 2 1 70 speed",
+        "write_setpoint 2 2 1 70 4",
+        "write_setpoint 2 2 1 70 2 4",
+        "write_setpoint 2 2 1 70 0 speed 4",
+        "write_setpoint 2 2 1 speed 4",
+        "write_setpoint 2 2 1 70 speed 4 4",
         "write_setpoint 2 2 speed 4",
-        "write_setpoint speed 2 2 1 4",
-        "write_setpoint 2 2 1 Speed 4",
-        "write_setpoint 2 2 1 speeds 4",
-        "write_setpoint 2 2 1  4",
-        "write_setpoint 2 2 1 speed 4294967296",
-        "write_setpoint 2 2 1 speed 04",
-        "write_setpoint 2 2 1 speed -4",
-        "write_setpoint 2 2 1 pressure 1.5",
-        "write_setpoint 2 2 1 pressure speed",
-        "write_setpoint 2 2 1 valve 2",
-        "write_setpoint 2 2 1 valve open",
-        "write_setpoint 4294967296 2 1 valve 1",
-        "prepare 2 4 speed",
+        "write_setpoint speed 2 2 1 70 4",
+        "write_setpoint 2 2 1 70 Speed 4",
+        "write_setpoint 2 2 1 70 speeds 4",
+        "write_setpoint 2 2 1 70  4",
+        "write_setpoint 2 2 1 70 speed 4294967296",
+        "write_setpoint 2 2 1 70 speed 04",
+        "write_setpoint 2 2 1 70 speed -4",
+        "write_setpoint 2 2 1 70 pressure 1.5",
+        "write_setpoint 2 2 1 70 pressure speed",
+        "write_setpoint 2 2 1 70 valve 2",
+        "write_setpoint 2 2 1 70 valve open",
+        "write_setpoint 4294967296 2 1 70 valve 1",
+        "prepare 2 4 1 speed",
         "held 2 2 1 speed",
     ] {
         bench(
@@ -729,7 +749,7 @@ fn trace() {
         &[
             "trace 1",
             "prepare_book",
-            "write_setpoint 2 2 1 speed 4",
+            "write_setpoint 2 2 1 70 speed 4",
             "read_setpoint 2",
             "read_setpoint 9",
             "show_book",

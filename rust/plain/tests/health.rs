@@ -2,7 +2,7 @@
 //! the console's language; what is expected was worked out from the documents.
 
 /// Arena: H 2, B 4, registry 0, 1, 1, first serial 1.
-const ARENA: &str = "prepare 2 4 1\nregistry 0 1 1";
+const ARENA: &str = "prepare 2 4 1 70\nregistry 0 1 1";
 const PREPARED: &str = "done next 1 place 0 attempts 0 boundaries 0 yields 0 dropped 0";
 
 /// The calls of one key and the calls by cell that lock.
@@ -35,7 +35,7 @@ fn poisoned_in_the_third_boundary() {
             &["script 5 0 0 5 0 0 4 1 1 2 6 1 5 0 0", &call, "show", &call],
             &[
                 "refused 7 Poisoned 1 next 2 place 5 attempts 1 boundaries 3 yields 0 dropped 1",
-                "head 2 4 2",
+                "head 2 4 2 70",
                 "health 1 1",
                 // by key the first reading refuses now, by cell there is only the one behind the lock
                 if call.ends_with("1 2") {
@@ -50,14 +50,14 @@ fn poisoned_in_the_third_boundary() {
         &[
             "script 5 0 0 5 0 0 4 1 1 5 0 0",
             "keys 1 2",
-            "grants 2",
+            "grants 3",
             "acquire_index_locks",
             "show",
         ],
         &[
             "refused 7 Poisoned 1 at 0 next 2 place 4 attempts 1 boundaries 3 yields 0 dropped 0",
-            "grants 9 9",
-            "head 2 4 2",
+            "grants 9 9 9",
+            "head 2 4 2 70",
             "health 1 1",
         ],
     );
@@ -73,7 +73,7 @@ fn poisoned_in_an_earlier_boundary() {
                 &[script, &call, "show"],
                 &[
                     &format!("refused 7 Poisoned 1 next 2 place {place} attempts 1 boundaries 3 yields 0 dropped 0"),
-                    "head 2 4 2",
+                    "head 2 4 2 70",
                     "health 1 1",
                 ],
             );
@@ -94,7 +94,7 @@ fn another_header() {
             bench(
                 &[&format!("script 5 0 0 5 0 0 4 {other} 1"), &call],
                 &[&format!(
-                    "granted {cell} 1 next 2 place 3 attempts 1 boundaries 3 yields 0 dropped 0"
+                    "granted {cell} 1 70 next 2 place 3 attempts 1 boundaries 3 yields 0 dropped 0"
                 )],
             );
         }
@@ -113,7 +113,7 @@ fn poisoned_and_waited_for() {
                 &[script, &call, "show"],
                 &[
                     "refused 7 Poisoned 1 next 2 place 5 attempts 1 boundaries 3 yields 0 dropped 0",
-                    "head 2 4 2",
+                    "head 2 4 2 70",
                     "cell 6 0 0 1",
                     "health 1 1",
                 ],
@@ -132,7 +132,7 @@ fn other_ends_come_first() {
             &["busy before next 1 place 0 attempts 1 boundaries 1 yields 0 dropped 0"],
         );
         bench(
-            &[poisoned, "head 2 4 2", "word 18 1", "word 19 1", &call],
+            &[poisoned, "head 2 4 2 70", "word 18 1", "word 19 1", &call],
             &["busy held 1 next 2 place 0 attempts 1 boundaries 2 yields 0 dropped 0"],
         );
         bench(
@@ -140,7 +140,7 @@ fn other_ends_come_first() {
             &["refused 9 Damaged 6 next 1 place 0 attempts 1 boundaries 2 yields 0 dropped 0"],
         );
         bench(
-            &[poisoned, "head 2 4 4294967295", &call],
+            &[poisoned, "head 2 4 4294967295 70", &call],
             &["refused 10 SerialsSpent 6 next 4294967295 place 0 attempts 1 boundaries 2 yields 0 dropped 0"],
         );
     }
@@ -157,7 +157,7 @@ fn poisoned_at_the_second_attempt() {
         &[&late, "acquire_index_bucket 1 2", "show"],
         &[
             "refused 7 Poisoned 1 next 3 place 10 attempts 2 boundaries 7 yields 0 dropped 0",
-            "head 2 4 3",
+            "head 2 4 3 70",
             "health 1 1",
         ],
     );
@@ -165,16 +165,16 @@ fn poisoned_at_the_second_attempt() {
         &[&early, "acquire_index_bucket 1 2", "show"],
         &[
             "refused 7 Poisoned 1 next 2 place 7 attempts 2 boundaries 4 yields 0 dropped 0",
-            "head 2 4 2",
+            "head 2 4 2 70",
             "health 1 1",
         ],
     );
     bench(
-        &[&late, "keys 1 2", "grants 2", "acquire_index_locks", "show"],
+        &[&late, "keys 1 2", "grants 3", "acquire_index_locks", "show"],
         &[
             "refused 7 Poisoned 1 at 0 next 3 place 10 attempts 2 boundaries 7 yields 0 dropped 0",
-            "grants 9 9",
-            "head 2 4 3",
+            "grants 9 9 9",
+            "head 2 4 3 70",
             "health 1 1",
         ],
     );
@@ -192,7 +192,7 @@ fn poisoned_all_along() {
                 &[&poisoned, &call, "show"],
                 &[
                     "refused 7 Poisoned 1 next 2 place 0 attempts 1 boundaries 3 yields 0 dropped 0",
-                    "head 2 4 2",
+                    "head 2 4 2 70",
                     &shown,
                 ],
             );
@@ -202,7 +202,7 @@ fn poisoned_all_along() {
                 &[&poisoned, &call, "show"],
                 &[
                     "refused 7 Poisoned 1 next 1 place 0 attempts 1 boundaries 0 yields 0 dropped 0",
-                    "head 2 4 1",
+                    "head 2 4 1 70",
                     &shown,
                 ],
             );
@@ -210,7 +210,7 @@ fn poisoned_all_along() {
         for call in ["try_acquire 6", "acquire_preserving_borrows 6"] {
             bench(
                 &[&poisoned, call],
-                &["granted 6 1 next 2 place 0 attempts 1 boundaries 0 yields 0 dropped 0"],
+                &["granted 6 1 70 next 2 place 0 attempts 1 boundaries 0 yields 0 dropped 0"],
             );
         }
     }
@@ -228,8 +228,8 @@ fn mended_in_time() {
             bench(
                 &["byte 1 200", script, &call, "show"],
                 &[
-                    "granted 6 1 next 2 place 4 attempts 1 boundaries 3 yields 0 dropped 0",
-                    "head 2 4 2",
+                    "granted 6 1 70 next 2 place 4 attempts 1 boundaries 3 yields 0 dropped 0",
+                    "head 2 4 2 70",
                     "cell 6 1 1 0",
                 ],
             );
@@ -239,7 +239,7 @@ fn mended_in_time() {
                 &["byte 1 200", script, &call, "show"],
                 &[
                     "refused 7 Poisoned 1 next 1 place 0 attempts 1 boundaries 0 yields 0 dropped 0",
-                    "head 2 4 1",
+                    "head 2 4 1 70",
                     "health 1 200",
                 ],
             );
@@ -249,7 +249,7 @@ fn mended_in_time() {
     for call in [calls(BY_KEY), calls(BY_CELL)].concat() {
         bench(
             &["script 4 1 1 5 0 0 5 0 0 4 1 0 5 0 0", &call],
-            &["granted 6 1 next 2 place 5 attempts 1 boundaries 3 yields 0 dropped 0"],
+            &["granted 6 1 70 next 2 place 5 attempts 1 boundaries 3 yields 0 dropped 0"],
         );
     }
     // mended in the boundary behind the third: too late for all
@@ -269,7 +269,7 @@ fn rollback_at_the_second_key() {
         [
             format!("script {script}"),
             "keys 0 2 1 2".to_string(),
-            "grants 4".to_string(),
+            "grants 6".to_string(),
             "acquire_index_locks".to_string(),
             "show".to_string(),
         ]
@@ -282,8 +282,8 @@ fn rollback_at_the_second_key() {
         &script.each_ref().map(String::as_str),
         &[
             "refused 7 Poisoned 1 at 1 next 4 place 12 attempts 2 boundaries 7 yields 0 dropped 3",
-            "grants 9 9 9 9",
-            "head 2 4 4",
+            "grants 9 9 9 9 9 9",
+            "head 2 4 4 70",
             "cell 6 1 3 0",
             "health 1 1",
         ],
@@ -294,8 +294,8 @@ fn rollback_at_the_second_key() {
         &script.each_ref().map(String::as_str),
         &[
             "granted next 3 place 7 attempts 2 boundaries 6 yields 0 dropped 0",
-            "grants 2 1 6 2",
-            "head 2 4 3",
+            "grants 2 1 70 6 2 70",
+            "head 2 4 3 70",
             "cell 2 1 1 0",
             "cell 6 1 2 0",
             "health 0 1",
@@ -306,14 +306,14 @@ fn rollback_at_the_second_key() {
         &[
             &format!("script {second} 4 1 1 5 0 0"),
             "keys 1 0 2 3",
-            "grants 4",
+            "grants 6",
             "acquire_index_locks",
             "show",
         ],
         &[
             "refused 7 Poisoned 1 at 1 next 3 place 7 attempts 2 boundaries 7 yields 0 dropped 0",
-            "grants 9 9 9 9",
-            "head 2 4 3",
+            "grants 9 9 9 9 9 9",
+            "head 2 4 3 70",
             "health 1 1",
         ],
     );
@@ -336,7 +336,7 @@ fn the_crew_changes_nothing() {
             "crew moving 1 idle 3 next 2",
             "member 0 taken 1 released 0",
             "member 1 taken 0 released 0",
-            "head 2 4 2",
+            "head 2 4 2 70",
             "cell 2 1 1 0",
             "health 1 1",
         ],

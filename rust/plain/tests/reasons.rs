@@ -2,7 +2,7 @@
 //! console's language; what is expected was worked out from the documents.
 
 /// Arena: H 2, B 4, registry 0, 1, 1, first serial 1.
-const ARENA: &str = "prepare 2 4 1\nregistry 0 1 1";
+const ARENA: &str = "prepare 2 4 1 70\nregistry 0 1 1";
 const PREPARED: &str = "done next 1 place 0 attempts 0 boundaries 0 yields 0 dropped 0";
 
 /// The single locks of cell 6, which is bucket 2 of binding 1.
@@ -32,13 +32,13 @@ fn quiet(boundaries: usize) -> String {
 /// comes behind the second boundary.
 #[test]
 fn held() {
-    let held = ["head 2 4 9", "word 18 1", "word 19 7"];
+    let held = ["head 2 4 9 70", "word 18 1", "word 19 7"];
     for call in LOCKS {
         bench(
             &[held[0], held[1], held[2], call, "show"],
             &[
                 "busy held 7 next 9 place 0 attempts 1 boundaries 2 yields 0 dropped 0",
-                "head 2 4 9",
+                "head 2 4 9 70",
                 "cell 6 1 7 0",
             ],
         );
@@ -46,13 +46,13 @@ fn held() {
     for call in [
         "try_acquire 6",
         "acquire_preserving_borrows 6",
-        "competing_acquire_is_excluded 6 7",
+        "competing_acquire_is_excluded 6 7 70",
     ] {
         bench(
             &[held[0], held[1], held[2], call, "show"],
             &[
                 "busy held 7 next 9 place 0 attempts 1 boundaries 0 yields 0 dropped 0",
-                "head 2 4 9",
+                "head 2 4 9 70",
                 "cell 6 1 7 0",
             ],
         );
@@ -72,9 +72,9 @@ fn the_owner_at_the_compare_and_set() {
                 "show",
             ],
             &[
-                "granted 6 1 next 2 place 0 attempts 1 boundaries 0 yields 0 dropped 0",
+                "granted 6 1 70 next 2 place 0 attempts 1 boundaries 0 yields 0 dropped 0",
                 "busy held 2 next 3 place 4 attempts 1 boundaries 2 yields 0 dropped 0",
-                "head 2 4 3",
+                "head 2 4 3 70",
                 "cell 6 1 2 0",
             ],
         );
@@ -99,7 +99,7 @@ fn before() {
         for call in ["try_acquire 6", "acquire_preserving_borrows 6"] {
             bench(
                 &[&format!("word 20 {waiters}"), call],
-                &["granted 6 1 next 2 place 0 attempts 1 boundaries 0 yields 0 dropped 0"],
+                &["granted 6 1 70 next 2 place 0 attempts 1 boundaries 0 yields 0 dropped 0"],
             );
         }
     }
@@ -110,7 +110,7 @@ fn before() {
 fn before_comes_first() {
     for call in LOCKS {
         bench(
-            &["word 20 1", "head 2 4 2", "word 18 1", "word 19 1", call],
+            &["word 20 1", "head 2 4 2 70", "word 18 1", "word 19 1", call],
             &["busy before next 2 place 0 attempts 1 boundaries 1 yields 0 dropped 0"],
         );
         bench(
@@ -118,7 +118,7 @@ fn before_comes_first() {
             &["busy before next 1 place 0 attempts 1 boundaries 1 yields 0 dropped 0"],
         );
         bench(
-            &["word 20 1", "head 2 4 4294967295", call],
+            &["word 20 1", "head 2 4 4294967295 70", call],
             &["busy before next 4294967295 place 0 attempts 1 boundaries 1 yields 0 dropped 0"],
         );
     }
@@ -126,7 +126,7 @@ fn before_comes_first() {
     bench(
         &[
             "word 20 1",
-            "head 2 4 2",
+            "head 2 4 2 70",
             "word 18 1",
             "word 19 1",
             "try_acquire 6",
@@ -144,7 +144,7 @@ fn after() {
             &["script 1 0 0 5 0 0 5 0 0 3 6 1 5 0 0", call, "show"],
             &[
                 "busy after 2 next 3 place 5 attempts 1 boundaries 3 yields 0 dropped 0",
-                "head 2 4 3",
+                "head 2 4 3 70",
                 "cell 0 1 1 0",
                 "cell 6 0 0 1",
             ],
@@ -178,15 +178,15 @@ fn failures() {
     let failed = |reason: &str, at: &str, boundaries: u32| {
         format!("refused 11 SerializationFailure 4096 {reason}{at} next 2 place 0 attempts 4096 boundaries {boundaries} yields 64 dropped 0")
     };
-    let locks = ["keys 1 2", "grants 2", "acquire_index_locks"];
-    let taken = "granted 6 1 next 2 place 0 attempts 1 boundaries 0 yields 0 dropped 0";
+    let locks = ["keys 1 2", "grants 3", "acquire_index_locks"];
+    let taken = "granted 6 1 70 next 2 place 0 attempts 1 boundaries 0 yields 0 dropped 0";
     bench(
         &["try_acquire 6", "acquire_index_bucket 1 2"],
         &[taken, &failed("held 1", "", 12_352)],
     );
     bench(
         &["try_acquire 6", locks[0], locks[1], locks[2]],
-        &[taken, &failed("held 1", " at 0", 12_352), "grants 9 9"],
+        &[taken, &failed("held 1", " at 0", 12_352), "grants 9 9 9"],
     );
     // the waiters stay, so the held cell says before
     bench(
@@ -195,7 +195,7 @@ fn failures() {
     );
     bench(
         &["try_acquire 6", "word 20 3", locks[0], locks[1], locks[2]],
-        &[taken, &failed("before", " at 0", 8_256), "grants 9 9"],
+        &[taken, &failed("before", " at 0", 8_256), "grants 9 9 9"],
     );
 }
 
@@ -212,7 +212,7 @@ fn the_last_reason_is_held() {
         ],
         &[
             &format!("refused 11 SerializationFailure 4096 held 2 next 3 place 7 attempts 4096 boundaries {boundaries} yields 64 dropped 0"),
-            "head 2 4 3",
+            "head 2 4 3 70",
             "cell 6 1 2 0",
         ],
     );
@@ -230,9 +230,9 @@ fn the_last_reason_is_before() {
             "show",
         ],
         &[
-            "granted 6 1 next 2 place 0 attempts 1 boundaries 0 yields 0 dropped 0",
+            "granted 6 1 70 next 2 place 0 attempts 1 boundaries 0 yields 0 dropped 0",
             &format!("refused 11 SerializationFailure 4096 before next 2 place 5 attempts 4096 boundaries {boundaries} yields 64 dropped 0"),
-            "head 2 4 2",
+            "head 2 4 2 70",
             "cell 6 0 0 1",
         ],
     );
@@ -253,7 +253,7 @@ fn the_last_reason_is_after() {
         &["word 20 1", &late_script(0), "acquire_index_bucket 1 2", "show"],
         &[
             &format!("refused 11 SerializationFailure 4096 after 1 next 2 place {steps} attempts 4096 boundaries {boundaries} yields 64 dropped 0"),
-            "head 2 4 2",
+            "head 2 4 2 70",
             "cell 6 0 0 1",
         ],
     );
@@ -270,26 +270,26 @@ fn the_reason_in_multi_lock() {
             "word 20 1",
             &late_script(6),
             "keys 0 0 0 1 1 2",
-            "grants 6",
+            "grants 9",
             "acquire_index_locks",
             "show",
         ],
         &[
             &format!("refused 11 SerializationFailure 4096 after 3 at 2 next 4 place {steps} attempts 4098 boundaries {boundaries} yields 64 dropped 0"),
-            "grants 9 9 9 9 9 9",
-            "head 2 4 4",
+            "grants 9 9 9 9 9 9 9 9 9",
+            "head 2 4 4 70",
             "cell 6 0 0 1",
         ],
     );
     // the first key was late Busy too, by serial 1001, and is got with 1002; the second one, cell 6, is held by 1000
     bench(
         &[
-            "head 2 4 1001",
+            "head 2 4 1001 70",
             "word 18 1",
             "word 19 1000",
             "script 5 0 0 5 0 0 3 0 1 5 0 0 3 0 0 5 0 0",
             "keys 0 0 1 2",
-            "grants 4",
+            "grants 6",
             "acquire_index_locks",
         ],
         &[
@@ -297,7 +297,7 @@ fn the_reason_in_multi_lock() {
                 "refused 11 SerializationFailure 4096 held 1000 at 1 next 1003 place 6 attempts 4098 boundaries {} yields 64 dropped 0",
                 4 + 3 + 12_352 + 1
             ),
-            "grants 9 9 9 9",
+            "grants 9 9 9 9 9 9",
         ],
     );
 }
@@ -311,14 +311,14 @@ fn no_reason_elsewhere() {
             "script 5 0 0 5 0 0 3 6 1 5 0 0 3 6 0 5 0 0",
             "acquire_index_bucket 1 2",
         ],
-        &["granted 6 2 next 3 place 6 attempts 2 boundaries 7 yields 0 dropped 0"],
+        &["granted 6 2 70 next 3 place 6 attempts 2 boundaries 7 yields 0 dropped 0"],
     );
     // a Busy inside, then granted
     bench(
-        &["try_acquire 6", "foreign_release_between_attempts 6 1"],
+        &["try_acquire 6", "foreign_release_between_attempts 6 1 70"],
         &[
-            "granted 6 1 next 2 place 0 attempts 1 boundaries 0 yields 0 dropped 0",
-            "granted 6 2 next 3 place 0 attempts 2 boundaries 0 yields 0 dropped 0",
+            "granted 6 1 70 next 2 place 0 attempts 1 boundaries 0 yields 0 dropped 0",
+            "granted 6 2 70 next 3 place 0 attempts 2 boundaries 0 yields 0 dropped 0",
         ],
     );
     // before, then a header that is poisoned when attempt 1 begins
@@ -329,7 +329,7 @@ fn no_reason_elsewhere() {
     // after the last serial, then none remains
     bench(
         &[
-            "head 2 4 4294967294",
+            "head 2 4 4294967294 70",
             "script 5 0 0 5 0 0 3 6 1 5 0 0 3 6 0 5 0 0",
             "acquire_index_bucket 1 2",
         ],

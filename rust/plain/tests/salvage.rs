@@ -10,7 +10,7 @@ const PREPARED: &str = "done next 5 place 0 attempts 0 boundaries 0 yields 0 dro
 /// The lines in a prepared arena of 4 cells, H 2 and B 2, next serial 5, print these lines. Its table is places 0 to
 /// 11, its health 12 and 13.
 fn bench(lines: &[&str], expected: &[&str]) {
-    let input = format!("prepare 2 2 5\n{}\n", lines.join("\n"));
+    let input = format!("prepare 2 2 5 70\n{}\n", lines.join("\n"));
     let mut out = Vec::new();
     let end = plain::console::play(&mut input.as_bytes(), &mut out);
     assert_eq!(end.lost, None);
@@ -52,7 +52,7 @@ fn damaged_cells_become_free() {
                 &format!("done {} 0 next 5", words / 3),
                 &format!("report {entries}"),
                 "unconfirmed",
-                "head 2 2 5",
+                "head 2 2 5 70",
             ],
         );
     }
@@ -70,13 +70,13 @@ fn sound_cells_stay() {
             "unconfirmed 2",
             "salvage",
             "show",
-            "read_permission 1 4",
+            "read_permission 1 4 70",
         ],
         &[
             "done 0 2 next 5",
             "report",
             "unconfirmed 1 3",
-            "head 2 2 5",
+            "head 2 2 5 70",
             "cell 1 1 4 0",
             "cell 3 1 1 0",
             "cell 1 next 5 place 0 attempts 0 boundaries 0 yields 0 dropped 0",
@@ -95,7 +95,7 @@ fn one_owner_of_two_cells() {
             "word 7 3",
             "unconfirmed 2",
             "salvage",
-            "drop_lease 0 3",
+            "drop_lease 0 3 70",
             "salvage",
         ],
         &[
@@ -131,7 +131,7 @@ fn waiters_become_0() {
             "done 4 1 next 5",
             "report 2 1 0 5 4294967295 0 6 3 0 8 7 0",
             "unconfirmed 1",
-            "head 2 2 5",
+            "head 2 2 5 70",
             "cell 1 1 2 0",
         ],
     );
@@ -152,7 +152,7 @@ fn health() {
             format!("done {} 0 next 5", words / 3),
             format!("report{entries}"),
             "unconfirmed".to_string(),
-            "head 2 2 5".to_string(),
+            "head 2 2 5 70".to_string(),
         ];
         let shown = after.into_iter().filter(|line| !line.is_empty());
         expected.extend(shown.map(String::from));
@@ -207,7 +207,7 @@ fn a_dip_and_a_second_salvage() {
             "done 5 2 next 5",
             &format!("report {ENTRIES} 9 9"),
             "unconfirmed 2 3 9 9",
-            "head 2 2 5",
+            "head 2 2 5 70",
             "cell 2 1 4 0",
             "cell 3 1 1 0",
             "health 0 1",
@@ -224,7 +224,7 @@ fn a_dip_and_a_second_salvage() {
 #[test]
 fn report_full() {
     let before = [
-        "head 2 2 5",
+        "head 2 2 5 70",
         "cell 0 9 0 0",
         "cell 1 0 8 1",
         "cell 2 1 4 0",
@@ -284,7 +284,7 @@ fn nothing_to_list() {
             "done 0 0 next 5",
             "report",
             "unconfirmed",
-            "head 2 2 5",
+            "head 2 2 5 70",
             "health 1 1",
         ],
     );
@@ -294,13 +294,13 @@ fn nothing_to_list() {
 #[test]
 fn bad_shape() {
     for (line, next) in [
-        ("head 2 2 0", 0),
-        ("head 0 2 5", 5),
-        ("head 2 0 5", 5),
-        ("head 65 1 5", 5),
-        ("head 1 1025 5", 5),
-        ("head 64 65 5", 5),
-        ("head 4294967295 4294967295 5", 5),
+        ("head 2 2 0 70", 0),
+        ("head 0 2 5 70", 5),
+        ("head 2 0 5 70", 5),
+        ("head 65 1 5 70", 5),
+        ("head 1 1025 5 70", 5),
+        ("head 64 65 5 70", 5),
+        ("head 4294967295 4294967295 5 70", 5),
         ("lend 11 2", 5),
         ("lend 13 2", 5),
         ("lend 15 2", 5),
@@ -315,7 +315,7 @@ fn bad_shape() {
                     &format!("report {report}"),
                     &format!("unconfirmed {list}"),
                     "salvage",
-                    "head 2 2 5",
+                    "head 2 2 5 70",
                     "lend",
                     "report 15",
                     "unconfirmed 2",
@@ -359,7 +359,7 @@ fn the_head_on_paper() {
                 "word 4 7",
                 "word 6 1",
                 "word 7 4294967294",
-                &format!("head 2 2 {next}"),
+                &format!("head 2 2 {next} 70"),
                 &format!("report {words}"),
                 &format!("unconfirmed {held}"),
                 "salvage",
@@ -515,6 +515,7 @@ impl Dipped {
                 headers,
                 buckets,
                 next,
+                boot: dice.odd_number(),
             },
             table,
             health,
@@ -550,6 +551,7 @@ impl Dipped {
         held.map(|cell| Lease {
             cell,
             serial: self.cell(cell)[1],
+            boot: self.head.boot,
         })
         .collect()
     }

@@ -5,7 +5,7 @@ use plain::dice::Dice;
 use plain::rules::{self, Answer, Head};
 
 /// Arena: H 2, B 4, registry 0, 1, 1, first serial 1. Bindings 1 and 2 name one header.
-const ARENA: &str = "prepare 2 4 1\nregistry 0 1 1";
+const ARENA: &str = "prepare 2 4 1 70\nregistry 0 1 1";
 const PREPARED: &str = "done next 1 place 0 attempts 0 boundaries 0 yields 0 dropped 0";
 const NO_COUNTS: &str = "attempts 0 boundaries 0 yields 0 dropped 0";
 
@@ -32,14 +32,14 @@ fn falling_keys() {
     bench(
         &[
             "keys 2 3 1 0 0 2 0 0",
-            "grants 8",
+            "grants 12",
             "acquire_sorted_locks",
             "show",
         ],
         &[
             "granted next 5 place 0 attempts 4 boundaries 12 yields 0 dropped 0",
-            "grants 7 4 4 3 2 2 0 1",
-            "head 2 4 5",
+            "grants 7 4 70 4 3 70 2 2 70 0 1 70",
+            "head 2 4 5 70",
             "cell 0 1 1 0",
             "cell 2 1 2 0",
             "cell 4 1 3 0",
@@ -54,31 +54,31 @@ fn falling_keys() {
 fn doubled_keys() {
     let keys = "keys 1 0 2 0";
     bench(
-        &[keys, "grants 4", "acquire_sorted_locks", "show"],
+        &[keys, "grants 6", "acquire_sorted_locks", "show"],
         &[
             "granted next 2 place 0 attempts 1 boundaries 3 yields 0 dropped 0",
-            "grants 4 1 4 1",
-            "head 2 4 2",
+            "grants 4 1 70 4 1 70",
+            "head 2 4 2 70",
             "cell 4 1 1 0",
         ],
     );
     bench(
         &[
             "keys 2 1 0 3 1 1 0 0 0 3 2 1",
-            "grants 12",
+            "grants 18",
             "acquire_sorted_locks",
         ],
         &[
             "granted next 4 place 0 attempts 3 boundaries 9 yields 0 dropped 0",
-            "grants 5 3 3 2 5 3 0 1 3 2 5 3",
+            "grants 5 3 70 3 2 70 5 3 70 0 1 70 3 2 70 5 3 70",
         ],
     );
     // "The old call stays as it is."
     bench(
-        &[keys, "grants 4", "acquire_index_locks"],
+        &[keys, "grants 6", "acquire_index_locks"],
         &[
             "refused 11 SerializationFailure 4096 held 1 at 1 next 2 place 0 attempts 4097 boundaries 12356 yields 64 dropped 0",
-            "grants 9 9 9 9",
+            "grants 9 9 9 9 9 9",
         ],
     );
 }
@@ -90,7 +90,7 @@ fn no_keys() {
         &[
             &format!("granted next 1 place 0 {NO_COUNTS}"),
             "grants",
-            "head 2 4 1",
+            "head 2 4 1 70",
         ],
     );
 }
@@ -114,7 +114,7 @@ fn bad_headers_and_buckets() {
         // a double of a bad key
         ("0 0 0 5 0 5", "8 InvalidBucket 5 at 1"),
     ] {
-        let words = keys.split(' ').count();
+        let words = keys.split(' ').count() / 2 * 3;
         bench(
             &[
                 "registry 0 1 1 2 4294967295",
@@ -127,7 +127,7 @@ fn bad_headers_and_buckets() {
             &[
                 &format!("refused {refusal} next 1 place 0 {NO_COUNTS}"),
                 &nines(words),
-                "head 2 4 1",
+                "head 2 4 1 70",
             ],
         );
     }
@@ -138,17 +138,17 @@ fn bad_headers_and_buckets() {
 fn bucket_before_health() {
     let keys = "keys 0 4";
     bench(
-        &["byte 0 1", keys, "grants 2", "acquire_sorted_locks"],
+        &["byte 0 1", keys, "grants 3", "acquire_sorted_locks"],
         &[
             &format!("refused 8 InvalidBucket 4 at 0 next 1 place 0 {NO_COUNTS}"),
-            "grants 9 9",
+            "grants 9 9 9",
         ],
     );
     bench(
-        &["byte 0 1", keys, "grants 2", "acquire_index_locks"],
+        &["byte 0 1", keys, "grants 3", "acquire_index_locks"],
         &[
             "refused 7 Poisoned 0 at 0 next 1 place 0 attempts 1 boundaries 0 yields 0 dropped 0",
-            "grants 9 9",
+            "grants 9 9 9",
         ],
     );
 }
@@ -157,7 +157,7 @@ fn bucket_before_health() {
 #[test]
 fn bindings_first() {
     for (keys, position) in [("5 0", 0), ("3 0 5 0", 1), ("0 4 3 9 0 0 5 0 6 0", 3)] {
-        let words = keys.split(' ').count();
+        let words = keys.split(' ').count() / 2 * 3;
         bench(
             &[
                 "registry 0 1 1 2",
@@ -179,47 +179,52 @@ fn too_many() {
     let refused = |next: u32| format!("refused 4 TooMany 0 next {next} place 0 {NO_COUNTS}");
     let keys = |count: usize| format!("keys{}", " 0 1".repeat(count));
     bench(
-        &[&keys(65), "grants 130", "acquire_sorted_locks"],
-        &[&refused(1), &nines(130)],
+        &[&keys(65), "grants 195", "acquire_sorted_locks"],
+        &[&refused(1), &nines(195)],
     );
     bench(
-        &[&keys(64), "grants 128", "acquire_sorted_locks"],
+        &[&keys(64), "grants 192", "acquire_sorted_locks"],
         &[
             "granted next 2 place 0 attempts 1 boundaries 3 yields 0 dropped 0",
-            &format!("grants{}", " 1 1".repeat(64)),
+            &format!("grants{}", " 1 1 70".repeat(64)),
         ],
     );
-    let taken = "granted 3 1 next 2 place 0 attempts 1 boundaries 0 yields 0 dropped 0";
-    let held = ["try_acquire 3", "held 3 1"];
+    let taken = "granted 3 1 70 next 2 place 0 attempts 1 boundaries 0 yields 0 dropped 0";
+    let held = ["try_acquire 3", "held 3 1 70"];
     bench(
         &[
             held[0],
             held[1],
             &keys(64),
-            "grants 128",
+            "grants 192",
             "acquire_sorted_locks",
         ],
-        &[taken, &refused(2), &nines(128)],
+        &[taken, &refused(2), &nines(192)],
     );
     bench(
         &[
             held[0],
             held[1],
             &keys(63),
-            "grants 126",
+            "grants 189",
             "acquire_sorted_locks",
         ],
         &[
             taken,
             "granted next 3 place 0 attempts 1 boundaries 3 yields 0 dropped 0",
-            &format!("grants{}", " 1 2".repeat(63)),
+            &format!("grants{}", " 1 2 70".repeat(63)),
         ],
     );
     for (keys, grants) in [
         ("keys 0 1 0", 3),
+        ("keys 0 1 0", 6),
+        // two words a key were enough before L8
+        ("keys 0 1", 2),
         ("keys 0 1", 4),
-        ("keys 0 1 0 1", 2),
-        ("keys", 2),
+        ("keys 0 1", 6),
+        ("keys 0 1 0 1", 3),
+        ("keys 0 1 0 1", 4),
+        ("keys", 3),
     ] {
         bench(
             &[keys, &format!("grants {grants}"), "acquire_sorted_locks"],
@@ -232,7 +237,13 @@ fn too_many() {
 #[test]
 fn the_order_of_the_checks() {
     let refused = |line: &str| format!("refused {line} {NO_COUNTS}");
-    let faults = ["head 2 4 0", "place 9", "held 7 7", "grants 3", "registry"];
+    let faults = [
+        "head 2 4 0 70",
+        "place 9",
+        "held 7 7 70",
+        "grants 4",
+        "registry",
+    ];
     for (from, expected) in [
         "1 BadShape 0 next 0 place 9",
         "2 BadScript 0 next 1 place 9",
@@ -243,10 +254,10 @@ fn the_order_of_the_checks() {
     .into_iter()
     .enumerate()
     {
-        let mut lines = vec!["keys 3 9", "grants 2"];
+        let mut lines = vec!["keys 3 9", "grants 3"];
         lines.extend(&faults[from..]);
         lines.push("acquire_sorted_locks");
-        let words = if from < 4 { 3 } else { 2 };
+        let words = if from < 4 { 4 } else { 3 };
         bench(&lines, &[&refused(expected), &nines(words)]);
     }
     for wrong in ["lend 23 2", "lend 24 1", "lend 24 3", "lend 27 2"] {
@@ -263,7 +274,7 @@ fn the_order_of_the_checks() {
 fn later_refusals() {
     let asks = [
         "keys 2 3 2 1 0 1 1 1 2 1",
-        "grants 10",
+        "grants 15",
         "acquire_sorted_locks",
         "show",
     ];
@@ -275,8 +286,8 @@ fn later_refusals() {
         &["byte 1 3"],
         &[
             "refused 7 Poisoned 1 at 1 next 2 place 0 attempts 2 boundaries 4 yields 0 dropped 0",
-            &nines(10),
-            "head 2 4 2",
+            &nines(15),
+            "head 2 4 2 70",
             "health 1 3",
         ],
     );
@@ -284,17 +295,17 @@ fn later_refusals() {
         &["word 15 2"],
         &[
             "refused 9 Damaged 5 at 1 next 2 place 0 attempts 2 boundaries 6 yields 0 dropped 0",
-            &nines(10),
-            "head 2 4 2",
+            &nines(15),
+            "head 2 4 2 70",
             "cell 5 2 0 0",
         ],
     );
     run(
-        &["head 2 4 4294967294"],
+        &["head 2 4 4294967294 70"],
         &[
             "refused 10 SerialsSpent 5 at 1 next 4294967295 place 0 attempts 2 boundaries 6 yields 0 dropped 0",
-            &nines(10),
-            "head 2 4 4294967295",
+            &nines(15),
+            "head 2 4 4294967295 70",
         ],
     );
     // "refusal 11 carries that reason besides 4,096", of that cell's last attempt
@@ -302,18 +313,18 @@ fn later_refusals() {
         &["word 17 1"],
         &[
             "refused 11 SerializationFailure 4096 before at 1 next 2 place 0 attempts 4097 boundaries 8260 yields 64 dropped 0",
-            &nines(10),
-            "head 2 4 2",
+            &nines(15),
+            "head 2 4 2 70",
             "cell 5 0 0 1",
         ],
     );
     run(
         &["try_acquire 5"],
         &[
-            "granted 5 1 next 2 place 0 attempts 1 boundaries 0 yields 0 dropped 0",
+            "granted 5 1 70 next 2 place 0 attempts 1 boundaries 0 yields 0 dropped 0",
             "refused 11 SerializationFailure 4096 held 1 at 1 next 3 place 0 attempts 4097 boundaries 12356 yields 64 dropped 0",
-            &nines(10),
-            "head 2 4 3",
+            &nines(15),
+            "head 2 4 3 70",
             "cell 5 1 1 0",
         ],
     );
@@ -323,8 +334,8 @@ fn later_refusals() {
 #[test]
 fn the_lowest_cell_first() {
     for (keys, position) in [("1 2 0 3", 1), ("0 3 1 2", 0), ("1 2 0 1 0 3", 2)] {
-        let words = keys.split(' ').count();
-        let before = if words == 6 { 1 } else { 0 };
+        let words = keys.split(' ').count() / 2 * 3;
+        let before = if words == 9 { 1 } else { 0 };
         bench(
             &[
                 "word 9 7",
@@ -353,14 +364,14 @@ fn poisoned_meanwhile() {
         &[
             "script 5 0 0 5 0 0 5 0 0 5 0 0 5 0 0 4 1 1 5 0 0 2 0 1",
             "keys 1 0 0 0 2 0",
-            "grants 6",
+            "grants 9",
             "acquire_sorted_locks",
             "show",
         ],
         &[
             "refused 7 Poisoned 1 at 0 next 3 place 8 attempts 2 boundaries 7 yields 0 dropped 1",
-            "grants 9 9 9 9 9 9",
-            "head 2 4 3",
+            "grants 9 9 9 9 9 9 9 9 9",
+            "head 2 4 3 70",
             "health 1 1",
         ],
     );
@@ -372,18 +383,18 @@ fn leases_are_protected() {
     bench(
         &[
             "try_acquire 7",
-            "held 7 1",
+            "held 7 1 70",
             "script 5 0 0 5 0 0 5 0 0 2 0 2 2 7 1 1 5 0 5 0 0",
             "keys 1 0 0 0",
-            "grants 4",
+            "grants 6",
             "acquire_sorted_locks",
             "show",
         ],
         &[
-            "granted 7 1 next 2 place 0 attempts 1 boundaries 0 yields 0 dropped 0",
+            "granted 7 1 70 next 2 place 0 attempts 1 boundaries 0 yields 0 dropped 0",
             "granted next 5 place 7 attempts 2 boundaries 6 yields 0 dropped 2",
-            "grants 4 4 0 2",
-            "head 2 4 5",
+            "grants 4 4 70 0 2 70",
+            "head 2 4 5 70",
             "cell 0 1 2 0",
             "cell 4 1 4 0",
             "cell 5 1 3 0",
@@ -399,20 +410,20 @@ fn each_lease_once() {
     bench(
         &[
             "keys 1 0 0 0 2 0",
-            "grants 6",
+            "grants 9",
             "acquire_sorted_locks",
-            "leases 4 2 0 1 4 2",
+            "leases 4 2 70 0 1 70 4 2 70",
             "release_all",
-            "leases 4 2 0 1",
+            "leases 4 2 70 0 1 70",
             "release_all",
             "show",
         ],
         &[
             "granted next 3 place 0 attempts 2 boundaries 6 yields 0 dropped 0",
-            "grants 4 2 0 1 4 2",
+            "grants 4 2 70 0 1 70 4 2 70",
             &released("refused 14 Repeated 2", NO_COUNTS),
             &released("done", "attempts 0 boundaries 2 yields 0 dropped 0"),
-            "head 2 4 3",
+            "head 2 4 3 70",
         ],
     );
 }
@@ -423,13 +434,13 @@ fn the_console() {
     bench(
         &[
             "keys 1 3 0 2 2 3",
-            "grants 6",
+            "grants 9",
             "trace 1",
             "acquire_sorted_locks",
         ],
         &[
             "granted next 3 place 0 attempts 2 boundaries 6 yields 0 dropped 0",
-            "grants 7 2 2 1 7 2",
+            "grants 7 2 70 2 1 70 7 2 70",
             "step 1 2 0",
             "step 1 7 0",
         ],
@@ -455,6 +466,7 @@ fn many_keys() {
             headers: 6,
             buckets: 8,
             next: 1 + dice.number(100),
+            boot: dice.number(3),
         };
         let first = head.next;
         let (mut table, mut health) = ([0; 3 * 48], [0; 6]);
@@ -462,7 +474,7 @@ fn many_keys() {
         let keys: Vec<u32> = (0..count)
             .flat_map(|_| [dice.number(8), dice.number(8)])
             .collect();
-        let mut grants = vec![0; keys.len()];
+        let mut grants = vec![0; 3 * count];
         let reply = rules::acquire_sorted_locks(
             head,
             &mut table,
@@ -479,7 +491,8 @@ fn many_keys() {
             .chunks(2)
             .map(|key| 8 * registry[key[0] as usize] + key[1])
             .collect();
-        let leases = grants.chunks(2);
+        let leases = grants.chunks(3);
+        let boot = head.boot;
         assert!(leases
             .clone()
             .map(|lease| lease[0])
@@ -487,14 +500,16 @@ fn many_keys() {
         cells.sort();
         cells.dedup();
         let serial = |cell: u32| first + cells.partition_point(|&one| one < cell) as u32;
-        assert!(leases.clone().all(|lease| lease[1] == serial(lease[0])));
+        assert!(leases
+            .clone()
+            .all(|lease| lease[1..] == [serial(lease[0]), boot]));
         assert_eq!(reply.answer, Answer::AllGranted);
         assert_eq!(reply.counts.attempts as usize, cells.len());
         assert_eq!(reply.counts.boundaries as usize, 3 * cells.len());
         assert_eq!((head.next - first) as usize, cells.len());
         let once: Vec<u32> = cells
             .iter()
-            .flat_map(|&cell| [cell, serial(cell)])
+            .flat_map(|&cell| [cell, serial(cell), boot])
             .collect();
         let done = rules::release_all(head, &mut table, &mut health, &[], 0, &once);
         assert_eq!(done.answer, Answer::Done);

@@ -31,18 +31,18 @@ fn bytes(count: usize, byte: u8) -> Vec<u8> {
 fn echo_counts_from_the_line_behind_it() {
     assert_eq!(
         printed("place 1\necho 1\nshow\n\n# a remark\necho 1\nplace 2\necho 0\nshow\necho 0\n"),
-        "> show\nhead 0 0 0\n> echo 1\n> place 2\n> echo 0\nhead 0 0 0\n"
+        "> show\nhead 0 0 0 0\n> echo 1\n> place 2\n> echo 0\nhead 0 0 0 0\n"
     );
 }
 
 #[test]
 fn echo_stands_in_front_of_what_the_line_prints() {
     assert_eq!(
-        printed("echo 1\nprepare 1 1 1\nfoo\nmember 1  2\ntry_acquire 0"),
+        printed("echo 1\nprepare 1 1 1 70\nfoo\nmember 1  2\ntry_acquire 0"),
         format!(
-            "> prepare 1 1 1\ndone next 1 place 0 {COUNTS}\n> foo\nline 3: not understood\n\
+            "> prepare 1 1 1 70\ndone next 1 place 0 {COUNTS}\n> foo\nline 3: not understood\n\
              > member 1  2\nline 4: not understood\n\
-             > try_acquire 0\ngranted 0 1 next 2 place 0 attempts 1 boundaries 0 yields 0 dropped 0\n"
+             > try_acquire 0\ngranted 0 1 70 next 2 place 0 attempts 1 boundaries 0 yields 0 dropped 0\n"
         )
     );
 }
@@ -91,15 +91,15 @@ fn no_arena() {
         "65536 65536 1",
     ] {
         assert_eq!(
-            printed(&format!("head {head}\nmap")),
+            printed(&format!("head {head} 70\nmap")),
             "no arena\n",
             "{head}"
         );
-        let lent = format!("head {head}\nlend 24 2\nmap");
+        let lent = format!("head {head} 70\nlend 24 2\nmap");
         assert_eq!(printed(&lent), "no arena\n", "{head}");
     }
     for lent in ["23 2", "25 2", "27 2", "24 1", "24 3", "0 0", "12600 70"] {
-        let lines = format!("prepare 2 4 1\nlend {lent}\nmap");
+        let lines = format!("prepare 2 4 1 70\nlend {lent}\nmap");
         let expected = format!("done next 1 place 0 {COUNTS}\nno arena\n");
         assert_eq!(printed(&lines), expected, "{lent}");
     }
@@ -108,7 +108,7 @@ fn no_arena() {
 #[test]
 fn a_line_for_each_header() {
     assert_eq!(
-        printed("prepare 2 4 1\nmap\nlend 24 2\nbyte 1 200\nmap\nmap 0\n"),
+        printed("prepare 2 4 1 70\nmap\nlend 24 2\nbyte 1 200\nmap\nmap 0\n"),
         format!(
             "done next 1 place 0 {COUNTS}\nheader 0 healthy ....\nheader 1 healthy ....\n\
              header 0 healthy ....\nheader 1 poisoned ....\nline 6: not understood\n"
@@ -135,8 +135,9 @@ fn a_character_for_each_cell() {
         ([2, 0, 7], '!'),
     ] {
         let [bit, owner, waiters] = cell;
-        let lines =
-            format!("prepare 2 2 5\nword 6 {bit}\nword 7 {owner}\nword 8 {waiters}\nbyte 0 1\nmap");
+        let lines = format!(
+            "prepare 2 2 5 70\nword 6 {bit}\nword 7 {owner}\nword 8 {waiters}\nbyte 0 1\nmap"
+        );
         let expected = format!(
             "done next 5 place 0 {COUNTS}\nheader 0 poisoned ..\nheader 1 healthy {character}.\n"
         );
@@ -146,13 +147,13 @@ fn a_character_for_each_cell() {
 
 #[test]
 fn the_greatest_maps() {
-    let map = printed("prepare 64 64 1\nmap");
+    let map = printed("prepare 64 64 1 70\nmap");
     assert_eq!(map.lines().count(), 65);
     assert_eq!(
         map.lines().last(),
         Some(format!("header 63 healthy {}", ".".repeat(64)).as_str())
     );
-    let map = printed("prepare 4 1024 1\nmap");
+    let map = printed("prepare 4 1024 1 70\nmap");
     assert_eq!(
         map.lines().last(),
         Some(format!("header 3 healthy {}", ".".repeat(1024)).as_str())
@@ -195,7 +196,7 @@ fn a_line_at_the_limit_and_one_over_it() {
     let (out, end) = play(&lines);
     assert_eq!(
         out,
-        "line 2: not understood\nline 3: not understood\nhead 0 0 0\n"
+        "line 2: not understood\nline 3: not understood\nhead 0 0 0 0\n"
     );
     assert_eq!(end.not_understood, 2);
 }
@@ -231,7 +232,10 @@ fn only_the_length_counts() {
 fn no_longest_input() {
     let mut lines = bytes(3 * 1024 * 1024, b'\n');
     lines.extend(b"show\nfoo");
-    assert_eq!(play(&lines).0, "head 0 0 0\nline 3145730: not understood\n");
+    assert_eq!(
+        play(&lines).0,
+        "head 0 0 0 0\nline 3145730: not understood\n"
+    );
 }
 
 // ---- Lines as they come
@@ -308,15 +312,15 @@ fn each_answer_comes_before_the_next_line() {
             ("", "ow"),
             ("", "interrupted"),
             ("", "\n"),
-            ("head 0 0 0\n", "map\nmap\nsho"),
-            ("head 0 0 0\nno arena\nno arena\n", "w\n\n"),
-            ("head 0 0 0\nno arena\nno arena\nhead 0 0 0\n", "map"),
+            ("head 0 0 0 0\n", "map\nmap\nsho"),
+            ("head 0 0 0 0\nno arena\nno arena\n", "w\n\n"),
+            ("head 0 0 0 0\nno arena\nno arena\nhead 0 0 0 0\n", "map"),
         ],
         Ok(()),
     );
     assert_eq!(
         shown,
-        "head 0 0 0\nno arena\nno arena\nhead 0 0 0\nno arena\n"
+        "head 0 0 0 0\nno arena\nno arena\nhead 0 0 0 0\nno arena\n"
     );
     assert_eq!(
         end,
@@ -341,7 +345,7 @@ fn the_unfinished_line_of_lost_input_is_not_played() {
     );
     // the same line is played where the input ends
     let (shown, end) = talk(&[("", "foo\nmap\nshow")], Ok(()));
-    assert_eq!(shown, "line 1: not understood\nno arena\nhead 0 0 0\n");
+    assert_eq!(shown, "line 1: not understood\nno arena\nhead 0 0 0 0\n");
     assert_eq!(end.lost, None);
 }
 
@@ -396,7 +400,7 @@ fn a_talk() {
     for (line, answer) in [
         ("map\n", "no arena\n"),
         ("foo\n", "line 2: not understood\n"),
-        ("show\n", "head 0 0 0\n"),
+        ("show\n", "head 0 0 0 0\n"),
         ("bar\n", "line 4: not understood\n"),
     ] {
         input.write_all(line.as_bytes()).expect("it listens");

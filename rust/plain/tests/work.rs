@@ -15,7 +15,7 @@ fn printed(input: &str) -> String {
 
 /// The lines in an arena of 8 cells, H 2 and B 4, print these lines.
 fn bench(lines: &[&str], expected: &[&str]) {
-    let printed = printed(&format!("prepare 2 4 1\n{}\n", lines.join("\n")));
+    let printed = printed(&format!("prepare 2 4 1 70\n{}\n", lines.join("\n")));
     let expected = format!("{PREPARED}\n{}\n", expected.join("\n"));
     assert_eq!(printed, expected, "{lines:?}");
 }
@@ -44,7 +44,7 @@ fn document_01_s_case() {
             "member 0 taken 2 released 2",
             "member 1 taken 2 released 2",
             "counters 1 2 12 4 5 15 7 8",
-            "head 2 4 5",
+            "head 2 4 5 70",
         ],
     );
     // with one pair less a cell is still held: 4 serials are spent, and the third one took cell 2
@@ -62,7 +62,7 @@ fn document_01_s_case() {
             "member 0 taken 2 released 2",
             "member 1 taken 2 released 1",
             "counters 1 2 12 4 5 15 7 8",
-            "head 2 4 5",
+            "head 2 4 5 70",
             "cell 2 1 3 0",
         ],
     );
@@ -130,7 +130,7 @@ fn it_holds_while_it_adds() {
             &turns("0", 4),
             "crew_at_work",
             "show",
-            "prepare 2 4 1",
+            "prepare 2 4 1 70",
             &turns("0", 5),
             "crew_at_work",
             "show",
@@ -139,14 +139,14 @@ fn it_holds_while_it_adds() {
             "crew moving 4 idle 0 next 3",
             "member 0 taken 2 released 0",
             "counters 0 2 0 2 0 0 0 0",
-            "head 2 4 3",
+            "head 2 4 3 70",
             "cell 1 1 1 0",
             "cell 3 1 2 0",
             PREPARED,
             "crew moving 5 idle 0 next 3",
             "member 0 taken 2 released 1",
             "counters 0 4 0 4 0 0 0 0",
-            "head 2 4 3",
+            "head 2 4 3 70",
             "cell 1 1 1 0",
         ],
     );
@@ -215,7 +215,12 @@ fn members_without_cells() {
 /// A cell that cannot be taken: its member adds nothing, not even to the cells that it holds.
 #[test]
 fn who_does_not_hold_all_adds_nothing() {
-    for spoilt in ["word 17 1", "word 15 2", "byte 1 1", "head 2 4 4294967294"] {
+    for spoilt in [
+        "word 17 1",
+        "word 15 2",
+        "byte 1 1",
+        "head 2 4 4294967294 70",
+    ] {
         let next = if spoilt.starts_with("head") {
             4_294_967_295_u32
         } else {
@@ -276,7 +281,7 @@ fn refusals() {
         for member in ["member 2 5", "crewless", "member 5 2"] {
             bench(
                 &[counters, member, "turns 0", "crew_at_work", "show"],
-                &[&refused("1 BadShape 0"), counters, "head 2 4 1"],
+                &[&refused("1 BadShape 0"), counters, "head 2 4 1 70"],
             );
         }
     }
@@ -294,7 +299,13 @@ fn refusals() {
         );
     }
     bench(
-        &[eight, "member 2", "turns 0", "head 2 4 0", "crew_at_work"],
+        &[
+            eight,
+            "member 2",
+            "turns 0",
+            "head 2 4 0 70",
+            "crew_at_work",
+        ],
         &["refused 1 BadShape 0 next 0", eight],
     );
 }
@@ -380,6 +391,7 @@ impl Crew {
             headers: 1,
             buckets: self.cells,
             next: 1,
+            boot: 70,
         };
         let mut table = vec![0; 3 * self.cells as usize];
         let counts: Vec<u32> = self.members.iter().map(|list| list.len() as u32).collect();

@@ -1,5 +1,6 @@
-//! Document 01's bench cases, through the crate `skid`, and of document 02 keys in any order, salvage, the crew at work
-//! and the setpoint book, and edges of the calls. A line for each case; exit 1 if a figure is not the documents'.
+//! Document 01's bench cases, through the crate `skid`, and of document 02 keys in any order, salvage, boot numbers, the
+//! crew at work and the setpoint book, and edges of the calls. A line for each case; exit 1 if a figure is not the
+//! documents'.
 use skid::{
     Answer, Arena, BookAnswer, BookRefusal, Change, Counts, Head, Key, Lease, Played, Reason,
     Refusal, Reply, SalvageRefusal, Salvaged, Script, Setpoint, Step, LONGEST_BOOK, NO_SERIAL,
@@ -14,6 +15,7 @@ const CELL_2: Key = Key {
     bucket: 2,
 };
 const GUARD: u32 = 77;
+const BOOT: u32 = 5;
 
 /// What is checked, and how many cases passed.
 struct Bench {
@@ -60,6 +62,7 @@ impl Bench {
             headers: 2,
             buckets: 4,
             next,
+            boot: BOOT,
         };
         let counts = Counts {
             attempts,
@@ -85,8 +88,17 @@ impl Bench {
     }
 }
 
+/// A lease of the bench's boot number.
+const fn leased(cell: u32, serial: u32) -> Lease {
+    Lease {
+        cell,
+        serial,
+        boot: BOOT,
+    }
+}
+
 fn granted(cell: u32, serial: u32) -> Answer {
-    Answer::Granted(Lease { cell, serial })
+    Answer::Granted(leased(cell, serial))
 }
 
 /// Refusal 11, with the reason of the last attempt.
@@ -100,7 +112,7 @@ fn with_arena(serial: u32, run: impl FnOnce(&mut Arena)) {
     let mut health = [0x5a; 4];
     (table[0], table[25]) = (GUARD, GUARD);
     let mut arena =
-        Arena::prepare(2, 4, serial, &mut table[1..25], &mut health[1..3]).expect("prepared");
+        Arena::prepare(2, 4, serial, BOOT, &mut table[1..25], &mut health[1..3]).expect("prepared");
     run(&mut arena);
     assert_eq!(
         (table[0], table[25], health[0], health[3]),
@@ -142,11 +154,15 @@ fn key(b: &mut Bench) {
         ))
     });
     with_arena(1, |arena| {
-        let mut grants = [Lease { cell: 7, serial: 7 }];
+        let mut grants = [Lease {
+            cell: 7,
+            serial: 7,
+            boot: 7,
+        }];
         let played =
             arena.acquire_index_locks(&REGISTRY, &mut Script::quiet(), &[], &[CELL_2], &mut grants);
         b.check("answer", played.answer, Answer::AllGranted);
-        b.check("grants", grants, [Lease { cell: 2, serial: 1 }]);
+        b.check("grants", grants, [leased(2, 1)]);
         b.check("next", played.head.next, 2);
         b.check("attempts", played.counts.attempts, 1);
         b.check("boundaries", played.counts.boundaries, 3);
@@ -157,7 +173,7 @@ fn again(b: &mut Bench) {
     with_arena(1, |arena| {
         let first = acquire(arena, &[], &[], 2);
         b.check("answer", first.answer, granted(2, 1));
-        let played = acquire(arena, &[], &[Lease { cell: 2, serial: 1 }], 2);
+        let played = acquire(arena, &[], &[leased(2, 1)], 2);
         b.check("answer", played.answer, failed(Reason::Held(1)));
         b.check("boundaries", played.counts.boundaries, 12352);
         b.check("yields", played.counts.yields, 64);
@@ -247,22 +263,14 @@ fn spent_and_held(b: &mut Bench) {
             acquire(arena, &[], &[], 2).answer,
             granted(2, NO_SERIAL - 1),
         );
-        let played = acquire(
-            arena,
-            &[],
-            &[Lease {
-                cell: 2,
-                serial: NO_SERIAL - 1,
-            }],
-            2,
-        );
+        let played = acquire(arena, &[], &[leased(2, NO_SERIAL - 1)], 2);
         b.check("answer", played.answer, failed(Reason::Held(NO_SERIAL - 1)));
     });
 }
 
 /// Cell 2 is foreign 1's, and the script releases it after the first attempt.
 fn releasing(b: &mut Bench, held: &[Lease], check: fn(&mut Bench, Played)) {
-    let lease = Lease { cell: 2, serial: 1 };
+    let lease = leased(2, 1);
     let steps = [Step::END, Step::END, Step::release(lease), Step::END];
     with_arena(1, |arena| {
         foreign(arena, Step::take(2));
@@ -280,7 +288,7 @@ fn foreign_release(b: &mut Bench) {
 }
 
 fn release_of_held(b: &mut Bench) {
-    releasing(b, &[Lease { cell: 2, serial: 1 }], |b, played| {
+    releasing(b, &[leased(2, 1)], |b, played| {
         b.check("answer", played.answer, failed(Reason::Held(1)));
         b.check("dropped", played.counts.dropped, 1);
     });
@@ -298,7 +306,11 @@ fn two_keys(b: &mut Bench) {
                 bucket: 0,
             },
         ];
-        let mut grants = [Lease { cell: 7, serial: 7 }; 2];
+        let mut grants = [Lease {
+            cell: 7,
+            serial: 7,
+            boot: 7,
+        }; 2];
         let played =
             arena.acquire_index_locks(&REGISTRY, &mut Script::quiet(), &[], &keys, &mut grants);
         b.check(
@@ -310,7 +322,15 @@ fn two_keys(b: &mut Bench) {
         b.check("boundaries", played.counts.boundaries, 12356);
         b.check("yields", played.counts.yields, 64);
         b.check("next", played.head.next, 2);
-        b.check("grants", grants, [Lease { cell: 7, serial: 7 }; 2]);
+        b.check(
+            "grants",
+            grants,
+            [Lease {
+                cell: 7,
+                serial: 7,
+                boot: 7,
+            }; 2],
+        );
         b.all_free(arena);
     });
 }
@@ -357,14 +377,18 @@ fn falling_list(b: &mut Bench) {
 
 // ---- keys in any order, and doubles
 
-const NINES: Lease = Lease { cell: 9, serial: 9 };
+const NINES: Lease = Lease {
+    cell: 9,
+    serial: 9,
+    boot: 9,
+};
 
 fn keys_of<const N: usize>(keys: [(u32, u32); N]) -> [Key; N] {
     keys.map(|(binding, bucket)| Key { binding, bucket })
 }
 
 fn leases_of<const N: usize>(leases: [(u32, u32); N]) -> [Lease; N] {
-    leases.map(|(cell, serial)| Lease { cell, serial })
+    leases.map(|(cell, serial)| leased(cell, serial))
 }
 
 /// These keys with a quiet script, and the grant buffer afterwards.
@@ -456,6 +480,7 @@ const PAPER: Head = Head {
     headers: 2,
     buckets: 4,
     next: 3,
+    boot: BOOT,
 };
 const EMPTY: Change = Change {
     place: 9,
@@ -550,6 +575,78 @@ fn refused_salvage(b: &mut Bench) {
     });
 }
 
+// ---- boot numbers: cells 2 and 5 are held by serials 1 and 2; a lease of another number is refused, live or dead
+
+fn stale(cell: u32, serial: u32) -> Lease {
+    Lease {
+        cell,
+        serial,
+        boot: BOOT - 1,
+    }
+}
+
+fn with_two(run: impl FnOnce(&mut Arena)) {
+    with_arena(1, |arena| {
+        assert_eq!(arena.try_acquire(2).answer, granted(2, 1));
+        assert_eq!(arena.try_acquire(5).answer, granted(5, 2));
+        run(arena);
+    });
+}
+
+fn stale_leases(b: &mut Bench) {
+    with_two(|arena| {
+        let refused = Answer::Refused(Refusal::StaleBoot(0));
+        let later = Lease {
+            boot: BOOT + 1,
+            ..GOVERNOR
+        };
+        b.replied(arena.drop_lease(stale(2, 1)), 3, 0, refused);
+        b.replied(arena.drop_lease(stale(9, 9)), 3, 0, refused);
+        b.replied(arena.read_permission(later), 3, 0, refused);
+        b.replied(arena.competing_acquire_is_excluded(later), 3, 0, refused);
+        b.replied(arena.release_then_handoff(stale(2, 1)), 3, 0, refused);
+        let call = arena.foreign_release_between_attempts(&[], stale(2, 1));
+        b.replied(call, 3, 0, refused);
+        let call = arena.drop_preserving_borrows(&[GOVERNOR], stale(2, 1));
+        b.replied(call, 3, 0, refused);
+        b.replied(arena.drop_lease(GOVERNOR), 3, 0, Answer::Done);
+    });
+}
+
+fn stale_in_lists(b: &mut Bench) {
+    with_two(|arena| {
+        let held = arena.acquire_preserving_borrows(&[GOVERNOR, stale(5, 2)], 9);
+        b.replied(held, 3, 0, Answer::Refused(Refusal::StaleBoot(1)));
+        let held = arena.acquire_preserving_borrows(&[leased(2, 7), stale(5, 2)], 9);
+        b.replied(held, 3, 0, Answer::Refused(Refusal::BadHeld(0)));
+        let list = [GOVERNOR, stale(2, 1), GOVERNOR];
+        let played = arena.release_all(&mut Script::quiet(), &list);
+        b.check(
+            "answer",
+            played.answer,
+            Answer::Refused(Refusal::StaleBoot(1)),
+        );
+        let played = arena.release_all(&mut Script::quiet(), &[GOVERNOR, leased(5, 2)]);
+        b.check("answer", played.answer, Answer::Done);
+        b.all_free(arena);
+    });
+}
+
+fn second_preparation(b: &mut Bench) {
+    let (mut table, mut health) = ([0; 24], [0; 2]);
+    let mut arena = Arena::prepare(2, 4, 1, BOOT, &mut table, &mut health).expect("prepared");
+    b.check("taken", arena.try_acquire(2).answer, granted(2, 1));
+    let mut arena = Arena::prepare(2, 4, 1, BOOT + 1, &mut table, &mut health).expect("prepared");
+    let newer = Lease {
+        boot: BOOT + 1,
+        ..GOVERNOR
+    };
+    b.check("taken", arena.try_acquire(2).answer, Answer::Granted(newer));
+    let old = arena.drop_lease(GOVERNOR).answer;
+    b.check("old", old, Answer::Refused(Refusal::StaleBoot(0)));
+    b.check("new", arena.drop_lease(newer).answer, Answer::Done);
+}
+
 // ---- the crew at work: cell 2's counter is 40,000, cell 5's 30,000, all others 7
 
 const COUNTERS: [u16; 8] = [7, 7, 40_000, 7, 7, 30_000, 7, 7];
@@ -608,7 +705,7 @@ fn refused_work(b: &mut Bench) {
 
 // ---- the setpoint book: the governor holds cell 2 by serial 1, the panel reads
 
-const GOVERNOR: Lease = Lease { cell: 2, serial: 1 };
+const GOVERNOR: Lease = leased(2, 1);
 const BAR: Setpoint = Setpoint::Pressure(1.5);
 
 /// A book of eight slots, prepared over rubbish, between guards.
@@ -685,7 +782,12 @@ fn governor_writes(b: &mut Bench) {
 
 fn refused_writes(b: &mut Bench) {
     with_book(|arena, book| {
-        let stale = Lease { cell: 2, serial: 7 };
+        let dead = leased(2, 7);
+        let stale = Lease { boot: 4, ..dead };
+        let earlier = Lease {
+            boot: 4,
+            ..GOVERNOR
+        };
         let nan = Setpoint::Pressure(f32::NAN);
         let below = Setpoint::Pressure(f32::NEG_INFINITY);
         let _ = arena.write_setpoint(book, 2, GOVERNOR, BAR);
@@ -697,7 +799,9 @@ fn refused_writes(b: &mut Bench) {
         b.check("no table", bare, not(BookRefusal::BadShape));
         for (slot, lease, setpoint, refusal) in [
             (8, stale, nan, BookRefusal::BadSlot),
-            (2, stale, nan, BookRefusal::NotHeld),
+            (2, stale, nan, BookRefusal::StaleBoot),
+            (2, earlier, nan, BookRefusal::StaleBoot),
+            (2, dead, nan, BookRefusal::NotHeld),
             (3, GOVERNOR, BAR, BookRefusal::NotHeld),
             (2, GOVERNOR, nan, BookRefusal::NotFinite),
             (2, GOVERNOR, below, BookRefusal::NotFinite),
@@ -734,8 +838,8 @@ fn last_version(b: &mut Bench) {
 
 fn without_script(b: &mut Bench) {
     with_arena(1, |arena| {
-        let (five, six) = (Lease { cell: 5, serial: 1 }, Lease { cell: 6, serial: 2 });
-        let newer = Lease { cell: 6, serial: 3 };
+        let (five, six) = (leased(5, 1), leased(6, 2));
+        let newer = leased(6, 3);
         b.replied(arena.try_acquire(5), 2, 1, granted(5, 1));
         b.replied(
             arena.try_acquire(8),
@@ -781,12 +885,7 @@ fn without_script(b: &mut Bench) {
             Answer::Refused(Refusal::BadHeld(1)),
         );
         b.replied(arena.release_then_handoff(five), 5, 1, granted(5, 4));
-        b.replied(
-            arena.drop_lease(Lease { cell: 5, serial: 4 }),
-            5,
-            0,
-            Answer::Done,
-        );
+        b.replied(arena.drop_lease(leased(5, 4)), 5, 0, Answer::Done);
         b.replied(
             arena.drop_preserving_borrows(&[], newer),
             5,
@@ -799,7 +898,7 @@ fn without_script(b: &mut Bench) {
 
 fn with_script(b: &mut Bench) {
     with_arena(1, |arena| {
-        let three = Lease { cell: 3, serial: 1 };
+        let three = leased(3, 1);
         b.replied(arena.try_acquire(3), 2, 1, granted(3, 1));
         let unknown = Step {
             kind: 9,
@@ -834,7 +933,7 @@ fn with_script(b: &mut Bench) {
         b.check("answer", played.answer, Answer::Done);
         let played = arena.other_mutex_preserves_leases(&mut Script::quiet(), &[three], 4);
         b.check("answer", played.answer, granted(4, 3));
-        let leases = [three, Lease { cell: 4, serial: 3 }];
+        let leases = [three, leased(4, 3)];
         let played = arena.release_all(&mut Script::quiet(), &[leases[0], leases[1], leases[0]]);
         b.check(
             "answer",
@@ -858,7 +957,7 @@ fn with_script(b: &mut Bench) {
 
 fn nothing_lent(b: &mut Bench) {
     let (mut table, mut health) = ([0x5a5a_5a5au32; 23], [0x5au8; 2]);
-    let refused = Arena::prepare(2, 4, 1, &mut table, &mut health).err();
+    let refused = Arena::prepare(2, 4, 1, BOOT, &mut table, &mut health).err();
     b.check(
         "prepare with one word too few",
         refused,
@@ -871,6 +970,7 @@ fn nothing_lent(b: &mut Bench) {
         headers: 2,
         buckets: 4,
         next: 1,
+        boot: BOOT,
     };
     let mut arena = Arena::resume(head, &mut [], &mut []);
     let played = arena.try_lock(&mut Script::quiet(), &[], 2);
@@ -922,15 +1022,19 @@ fn main() {
     b.case("a second salvage", second_salvage);
     b.case("refused salvages", refused_salvage);
     let salvages = b.passed - cases - sorts;
+    b.case("calls by a lease of another boot number", stale_leases);
+    b.case("lists with such a lease", stale_in_lists);
+    b.case("a lease from before a preparation", second_preparation);
+    let boots = b.passed - cases - sorts - salvages;
     b.case("crew {2,5},{2,5} at work, turns 0,1 eleven times", at_work);
     b.case("one cell, and turns that run out", some_work);
     b.case("refused work", refused_work);
-    let works = b.passed - cases - sorts - salvages;
+    let works = b.passed - cases - sorts - salvages - boots;
     b.case("a book read before anybody wrote", never_written);
     b.case("the governor writes", governor_writes);
     b.case("refused writes, in order", refused_writes);
     b.case("the last version", last_version);
-    let books = b.passed - cases - sorts - salvages - works;
+    let books = b.passed - cases - sorts - salvages - boots - works;
     b.case("calls without a script", without_script);
     b.case("calls with a script", with_script);
     b.case("nothing lent", nothing_lent);
@@ -940,9 +1044,10 @@ fn main() {
     }
     println!("keys in any order in Rust: {sorts} passed");
     println!("salvage in Rust: {salvages} passed");
+    println!("boot numbers in Rust: {boots} passed");
     println!("crew at work in Rust: {works} passed");
     println!("setpoint book in Rust: {books} passed");
-    let edges = b.passed - cases - sorts - salvages - works - books;
+    let edges = b.passed - cases - sorts - salvages - boots - works - books;
     println!("edges in Rust: {edges} passed");
     println!("bench cases in Rust: {cases} passed");
 }

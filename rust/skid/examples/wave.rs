@@ -58,7 +58,13 @@ fn main() {
     let mut all = Vec::new();
     for _ in 0..174 {
         all.extend((0..94).map(Step::take));
-        all.extend((0..94).map(|cell| Step::release(Lease { cell, serial: 0 })));
+        all.extend((0..94).map(|cell| {
+            Step::release(Lease {
+                cell,
+                serial: 0,
+                boot: 0,
+            })
+        }));
     }
     all.extend((0..56).map(Step::take));
     assert_eq!(all.len(), 32_768);

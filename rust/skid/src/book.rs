@@ -39,6 +39,8 @@ pub enum BookRefusal {
     BadShape,
     /// The book is too short for its slots or over the limit, or there is no such slot.
     BadSlot,
+    /// Document 02's 16: the lease has another boot number than the head.
+    StaleBoot,
     /// Document 01's 12: no live lease on the slot's cell.
     NotHeld,
     /// A pressure that is a NaN or an infinity.
@@ -57,6 +59,7 @@ impl BookRefusal {
         match w[1] {
             1 => BookRefusal::BadShape,
             12 => BookRefusal::NotHeld,
+            16 => BookRefusal::StaleBoot,
             101 => BookRefusal::BadSlot,
             102 => BookRefusal::NotFinite,
             103 => BookRefusal::DamagedBook,
@@ -99,8 +102,9 @@ impl Arena<'_> {
     }
 
     /// Writes a setpoint to a slot, by a live lease on the slot's cell, and gives the slot's new version. Refused in
-    /// this order: [`BookRefusal::BadShape`], [`BookRefusal::BadSlot`], [`BookRefusal::NotHeld`],
-    /// [`BookRefusal::NotFinite`], [`BookRefusal::DamagedBook`], [`BookRefusal::VersionsSpent`].
+    /// this order: [`BookRefusal::BadShape`], [`BookRefusal::BadSlot`], [`BookRefusal::StaleBoot`],
+    /// [`BookRefusal::NotHeld`], [`BookRefusal::NotFinite`], [`BookRefusal::DamagedBook`],
+    /// [`BookRefusal::VersionsSpent`].
     pub fn write_setpoint(
         &self,
         book: &mut [u8],

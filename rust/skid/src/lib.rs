@@ -3,7 +3,7 @@
 //! ([`Setpoint`]) and the waveform of the cells ([`wave`]), safe to call.
 //!
 //! The programs of a pump skid's kernel share one arena of setpoint buckets. Each bucket has a mutex cell. A program
-//! that takes a cell gets a [`Lease`]: the number of the cell, and a serial.
+//! that takes a cell gets a [`Lease`]: the number of the cell, a serial, and the boot number of the arena's preparation.
 //!
 //! Each call is made by a proved library, `libskid.a`: for every argument the answer and every lent word afterwards are
 //! what the documents say, refusals included. This crate only lends the runs and reads the reply's words. It has no
@@ -13,7 +13,7 @@
 //! use skid::{Answer, Arena, Key, Script};
 //!
 //! let (mut table, mut health) = ([0u32; 24], [0u8; 2]);
-//! let mut arena = Arena::prepare(2, 4, 1, &mut table, &mut health).unwrap();
+//! let mut arena = Arena::prepare(2, 4, 1, 1, &mut table, &mut health).unwrap();
 //! let key = Key { binding: 0, bucket: 2 };
 //! let played = arena.acquire_index_bucket(&[0, 1, 1], &mut Script::quiet(), &[], key);
 //! if let Answer::Granted(lease) = played.answer {
@@ -30,8 +30,10 @@
 //!
 //! An [`Arena`] keeps the head, and borrows table and health, so that each call gets what the last one left and one
 //! caller at a time works on a table. Who takes an arena apart and goes on later ([`Arena::resume`]) must see to that
-//! himself. Leases from before a preparation are to be thrown away. The last head is to be kept where a power dip does
-//! not reach it, for [`Arena::salvage`].
+//! himself. No boot number may be used twice: then a lease from before a preparation is refused, by
+//! [`Refusal::StaleBoot`] unless an earlier check applies, up to the next salvage. No serial from before a preparation
+//! may be written into a script: a step has no boot number, and means the head's own. The last head is to be kept where
+//! a power dip does not reach it, for [`Arena::salvage`].
 #![no_std]
 #![deny(unsafe_code)]
 #![deny(unsafe_op_in_unsafe_fn)]
@@ -55,7 +57,7 @@ pub const NO_SERIAL: u32 = 4_294_967_295;
 /// Attempts on a key before [`Refusal::SerializationFailure`].
 pub const ATTEMPTS: usize = 4096;
 
-/// Header slots H, buckets per header B, and the next serial.
+/// Header slots H, buckets per header B, the next serial, and the boot number.
 #[derive(Clone, Copy, Debug, PartialEq, Eq)]
 pub struct Head {
     /// H, 1 to 64.
@@ -64,9 +66,11 @@ pub struct Head {
     pub buckets: u32,
     /// 1 to 4,294,967,295; there none remains.
     pub next: u32,
+    /// What the preparation was given; any number.
+    pub boot: u32,
 }
 
-/// A cell and the serial that owns it.
+/// A cell, the serial that owns it, and the boot number of the head that gave the lease.
 #[derive(Clone, Copy, Debug, Default, PartialEq, Eq)]
 #[repr(C)]
 pub struct Lease {
@@ -74,6 +78,8 @@ pub struct Lease {
     pub cell: u32,
     /// The cell's owner while the lease is live.
     pub serial: u32,
+    /// The head's boot number; by a head with another one it is [`Refusal::StaleBoot`].
+    pub boot: u32,
 }
 
 /// A place in the registry, and a bucket of the header that stands there.
@@ -121,7 +127,8 @@ impl Step {
         }
     }
 
-    /// Releases a live lease that is not protected.
+    /// Releases a live lease that is not protected. A step has no boot number and means the head's: of a lease from
+    /// before a preparation it releases the new lease with that cell and serial.
     pub const fn release(lease: Lease) -> Step {
         Step {
             kind: 2,
@@ -207,10 +214,10 @@ pub enum Reason {
 }
 
 impl Reason {
-    /// The reason that words 12 and 13 of a reply tell. Where there is one, the library gives no number but 1 to 3.
+    /// The reason that words 13 and 14 of a reply tell. Where there is one, the library gives no number but 1 to 3.
     const fn of(w: &[u64; sys::REPLY]) -> Reason {
-        let serial = w[13] as u32;
-        match w[12] {
+        let serial = w[14] as u32;
+        match w[13] {
             1 => Reason::Held(serial),
             2 => Reason::Before,
             _ => Reason::After(serial),
@@ -218,7 +225,7 @@ impl Reason {
     }
 }
 
-/// The fifteen refusals, with what each carries.
+/// The sixteen refusals, with what each carries.
 #[derive(Clone, Copy, Debug, PartialEq, Eq)]
 pub enum Refusal {
     /// 1: the head or a length breaks the arena's rules.
@@ -251,10 +258,13 @@ pub enum Refusal {
     Repeated(usize),
     /// 15: 0 for a limit of the crew; the member of a bad list; the turn that names no member.
     BadCrew(usize),
+    /// 16: a lease has another boot number than the head; its position, 0 for one. Tested after the length of its list,
+    /// position by position, before 3 and 12 at that place.
+    StaleBoot(usize),
 }
 
 impl Refusal {
-    /// Document 01's number.
+    /// Document 01's number; 16 is document 02's.
     pub const fn number(self) -> u32 {
         match self {
             Refusal::BadShape => 1,
@@ -272,15 +282,16 @@ impl Refusal {
             Refusal::Protected => 13,
             Refusal::Repeated(_) => 14,
             Refusal::BadCrew(_) => 15,
+            Refusal::StaleBoot(_) => 16,
         }
     }
 
-    /// The refusal that words 9, 10, 12 and 13 of a reply tell: its number, what it carries, the reason of 11. The
-    /// library gives no number but 1 to 15, and carries in 6 to 10 what fits a `u32`.
+    /// The refusal that words 10, 11, 13 and 14 of a reply tell: its number, what it carries, the reason of 11. The
+    /// library gives no number but 1 to 16, and carries in 6 to 10 what fits a `u32`.
     const fn of(w: &[u64; sys::REPLY]) -> Refusal {
-        let n = w[10] as usize;
-        let k = w[10] as u32;
-        match w[9] {
+        let n = w[11] as usize;
+        let k = w[11] as u32;
+        match w[10] {
             1 => Refusal::BadShape,
             2 => Refusal::BadScript,
             3 => Refusal::BadHeld(n),
@@ -295,7 +306,8 @@ impl Refusal {
             12 => Refusal::NotHeld(n),
             13 => Refusal::Protected,
             14 => Refusal::Repeated(n),
-            _ => Refusal::BadCrew(n),
+            15 => Refusal::BadCrew(n),
+            _ => Refusal::StaleBoot(n),
         }
     }
 }
@@ -320,19 +332,20 @@ pub enum Answer {
 }
 
 impl Answer {
-    /// The answer that words 8 to 13 of a reply tell. The library gives no kind but 0 to 6.
+    /// The answer that words 9 to 14 of a reply tell. The library gives no kind but 0 to 6.
     const fn of(w: &[u64; sys::REPLY]) -> Answer {
-        match w[8] {
+        match w[9] {
             0 => Answer::Done,
-            1 => Answer::Cell(w[9] as u32),
+            1 => Answer::Cell(w[10] as u32),
             2 => Answer::Granted(Lease {
-                cell: w[9] as u32,
-                serial: w[10] as u32,
+                cell: w[10] as u32,
+                serial: w[11] as u32,
+                boot: w[12] as u32,
             }),
             3 => Answer::AllGranted,
             4 => Answer::Busy(Reason::of(w)),
             5 => Answer::Refused(Refusal::of(w)),
-            _ => Answer::RefusedAt(Refusal::of(w), w[11] as usize),
+            _ => Answer::RefusedAt(Refusal::of(w), w[12] as usize),
         }
     }
 }
@@ -386,15 +399,16 @@ const fn head_of(w: &[u64; sys::REPLY]) -> Head {
         headers: w[0] as u32,
         buckets: w[1] as u32,
         next: w[2] as u32,
+        boot: w[3] as u32,
     }
 }
 
 const fn counts_of(w: &[u64; sys::REPLY]) -> Counts {
     Counts {
-        attempts: w[4] as usize,
-        boundaries: w[5] as usize,
-        yields: w[6] as usize,
-        dropped: w[7] as usize,
+        attempts: w[5] as usize,
+        boundaries: w[6] as usize,
+        yields: w[7] as usize,
+        dropped: w[8] as usize,
     }
 }
 
@@ -409,7 +423,7 @@ const fn reply_of(w: &[u64; sys::REPLY]) -> Reply {
 const fn played_of(w: &[u64; sys::REPLY]) -> Played {
     Played {
         head: head_of(w),
-        place: w[3] as usize,
+        place: w[4] as usize,
         counts: counts_of(w),
         answer: Answer::of(w),
     }
@@ -420,13 +434,13 @@ fn crew_of(w: &[u64; sys::CREW]) -> CrewReply {
     front.copy_from_slice(&w[..sys::REPLY]);
     let (mut taken, mut released) = ([0; 16], [0; 16]);
     for m in 0..16 {
-        taken[m] = w[16 + m] as usize;
-        released[m] = w[32 + m] as usize;
+        taken[m] = w[17 + m] as usize;
+        released[m] = w[33 + m] as usize;
     }
     CrewReply {
         head: head_of(&front),
-        moving: w[14] as usize,
-        idle: w[15] as usize,
+        moving: w[15] as usize,
+        idle: w[16] as usize,
         taken,
         released,
         answer: Answer::of(&front),
@@ -444,15 +458,16 @@ pub struct Arena<'a> {
 impl<'a> Arena<'a> {
     /// Preparing: sets every table word and health byte to 0, whatever they held. The table has exactly 3 x H x B
     /// words, the health exactly H bytes, and the first serial is at least 1; else [`Refusal::BadShape`], and no word
-    /// changes.
+    /// changes. Every lease that the arena grants has the boot number, which may be any number and is to be a new one.
     pub fn prepare(
         headers: u32,
         buckets: u32,
         serial: u32,
+        boot: u32,
         table: &'a mut [u32],
         health: &'a mut [u8],
     ) -> Result<Arena<'a>, Refusal> {
-        let reply = reply_of(&sys::prepare(headers, buckets, serial, table, health));
+        let reply = reply_of(&sys::prepare(headers, buckets, serial, boot, table, health));
         match reply.answer {
             Answer::Refused(refusal) => Err(refusal),
             _ => Ok(Arena {
@@ -509,7 +524,8 @@ impl<'a> Arena<'a> {
         self.replied(words)
     }
 
-    /// One release of a live lease, and no boundary.
+    /// One release of a live lease, and no boundary. In each call a lease of another boot number than the head's is
+    /// [`Refusal::StaleBoot`].
     pub fn drop_lease(&mut self, lease: Lease) -> Reply {
         let words = sys::drop_lease(self.head, self.table, lease);
         self.replied(words)
@@ -712,14 +728,14 @@ impl<'a> Arena<'a> {
     /// use skid::{Answer, Arena, Key, Lease, Script};
     ///
     /// let (mut table, mut health) = ([0u32; 24], [0u8; 2]);
-    /// let mut arena = Arena::prepare(2, 4, 1, &mut table, &mut health).unwrap();
+    /// let mut arena = Arena::prepare(2, 4, 1, 1, &mut table, &mut health).unwrap();
     /// let keys = [(1, 0), (0, 2), (2, 0)].map(|(binding, bucket)| Key { binding, bucket });
     /// let mut grants = [Lease::default(); 3];
     /// let quiet = &mut Script::quiet();
     /// let played = arena.acquire_sorted_locks(&[0, 1, 1], quiet, &[], &keys, &mut grants);
     /// assert_eq!(played.answer, Answer::AllGranted);
-    /// assert_eq!(grants[0], Lease { cell: 4, serial: 2 });
-    /// assert_eq!(grants[1], Lease { cell: 2, serial: 1 });
+    /// assert_eq!(grants[0], Lease { cell: 4, serial: 2, boot: 1 });
+    /// assert_eq!(grants[1], Lease { cell: 2, serial: 1, boot: 1 });
     /// assert_eq!(grants[2], grants[0]);
     /// // each lease once
     /// assert_eq!(arena.release_all(quiet, &grants[..2]).answer, Answer::Done);

@@ -36,19 +36,20 @@ impl<'a> Arena<'a> {
     /// becomes free, all waiters become 0, a health byte other than 0 and 1 becomes 1; a sound cell keeps its bit and
     /// owner. The report has each word or byte changed, in rising order of places; `unconfirmed` has the cells left
     /// held, rising. What stands behind the entries of both is left alone. Refused before the first change:
-    /// [`SalvageRefusal::BadShape`], then [`SalvageRefusal::ReportFull`]. A second salvage reports no change.
+    /// [`SalvageRefusal::BadShape`], then [`SalvageRefusal::ReportFull`]. A second salvage reports no change. The boot
+    /// number is not tested, and stays what the head says.
     ///
     /// The head must be the last one: by an older head, leases issued since look damaged and are freed, and their
-    /// serials are issued again. A cell left held is not thereby confirmed: its owner is to confirm the lease or to drop
-    /// it. RAM may have left one serial as the owner of two cells; both stand in the list, and the table says who owns
-    /// each.
+    /// serials are issued again; by one from before the last preparation, leases of that earlier boot number can be
+    /// accepted again. A cell left held is not thereby confirmed: its owner is to confirm the lease or to drop it. RAM
+    /// may have left one serial as the owner of two cells; both stand in the list, and the table says who owns each.
     ///
     /// ```no_run
     /// use skid::{Arena, Change, Head};
     ///
     /// # let (mut table, mut health) = ([0u32; 24], [0u8; 2]);
     /// let (mut report, mut unconfirmed) = ([Change::default(); 26], [0; 8]);
-    /// let head = Head { headers: 2, buckets: 4, next: 7 };
+    /// let head = Head { headers: 2, buckets: 4, next: 7, boot: 1 };
     /// let (arena, found) =
     ///     Arena::salvage(head, &mut table, &mut health, &mut report, &mut unconfirmed).unwrap();
     /// for change in &report[..found.changed] {
@@ -70,11 +71,11 @@ impl<'a> Arena<'a> {
     ) -> Result<(Arena<'a>, Salvaged), SalvageRefusal> {
         let w = sys::salvage(head, table, health, report, unconfirmed);
         // The library gives no kind but 0 and 5, no refusal but 1 and 106, and the head as it was given.
-        match (w[3], w[4]) {
+        match (w[4], w[5]) {
             (0, changed) => {
                 let found = Salvaged {
                     changed: changed as usize,
-                    held: w[5] as usize,
+                    held: w[6] as usize,
                 };
                 Ok((Arena::resume(head, table, health), found))
             }

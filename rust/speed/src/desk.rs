@@ -2,13 +2,17 @@
 
 use std::hint::black_box;
 
-/// The head's three numbers.
+/// The head's four numbers.
 #[derive(Clone, Copy, Default)]
 pub struct Head {
     pub headers: u32,
     pub buckets: u32,
     pub next: u32,
+    pub boot: u32,
 }
+
+/// The boot number of every arena here.
+pub const BOOT: u32 = 5;
 
 /// An arena and the arguments of one call on it.
 #[derive(Default)]
@@ -24,6 +28,7 @@ pub struct Desk {
     pub binding: u32,
     pub bucket: u32,
     pub serial: u32,
+    pub lease_boot: u32,
     /// Multi-lock's keys, and its leases.
     pub keys: Vec<u32>,
     pub grants: Vec<u32>,
@@ -48,6 +53,7 @@ impl Desk {
                 headers,
                 buckets,
                 next: 1,
+                boot: BOOT,
             },
             table: vec![7; (3 * headers * buckets) as usize],
             health: vec![7; headers as usize],

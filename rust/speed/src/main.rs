@@ -16,7 +16,7 @@ mod plainly;
 mod proved;
 mod side;
 
-use desk::Desk;
+use desk::{Desk, BOOT};
 use plainly::Plain;
 use proved::Proved;
 use side::{Side, Words};
@@ -88,7 +88,7 @@ fn bench_arena<S: Side>() -> Desk {
 fn held_arena<S: Side>() -> Desk {
     let mut desk = bench_arena::<S>();
     desk.head.next = S::acquire_index_bucket(&mut desk, S::next);
-    desk.held = vec![2, 1];
+    desk.held = vec![2, 1, BOOT];
     desk
 }
 
@@ -136,7 +136,7 @@ impl Case for Held {
         S::prepare(&mut desk, |_| ());
         desk.script = (0..64).flat_map(|cell| [1, cell, 0]).collect();
         desk.head.next = S::environment(&mut desk, S::next);
-        desk.held = (0..64).flat_map(|cell| [cell, cell + 1]).collect();
+        desk.held = (0..64).flat_map(|cell| [cell, cell + 1, BOOT]).collect();
         let held = |release: u32| {
             let cell = [0, 32, 63][release as usize % 3];
             [2, cell, cell + 1]
@@ -227,10 +227,11 @@ impl Case for TryLock {
             watch.see(r, S::played_words);
             (S::next(r), S::granted(r))
         });
-        let (cell, serial) = granted.expect("the cell is free");
+        let [cell, serial, boot] = granted.expect("the cell is free");
         desk.head.next = next;
         desk.cell = cell;
         desk.serial = serial;
+        desk.lease_boot = boot;
         S::drop_lease(desk.hidden(), |r| watch.see(r, S::reply_words));
     }
 }
@@ -250,10 +251,11 @@ impl Case for Bucket {
             watch.see(r, S::played_words);
             (S::next(r), S::granted(r))
         });
-        let (cell, serial) = granted.expect("the cell is free");
+        let [cell, serial, boot] = granted.expect("the cell is free");
         desk.head.next = next;
         desk.cell = cell;
         desk.serial = serial;
+        desk.lease_boot = boot;
         S::drop_lease(desk.hidden(), |r| watch.see(r, S::reply_words));
     }
 }
@@ -330,7 +332,7 @@ impl Case for Locks {
         let mut desk = Desk::new(16, 16);
         desk.registry = (0..16).collect();
         desk.keys = (0..16).flat_map(|key| [key, 15 - key]).collect();
-        desk.grants = vec![0; 32];
+        desk.grants = vec![0; 48];
         S::prepare(&mut desk, |_| ());
         desk
     }
@@ -386,14 +388,15 @@ fn line<C: Case, S: Side>(repeats: u64, each: bool) -> String {
         repeat::<C, S>(&mut desk, repeats, &mut Blind);
     }
     repeat::<C, S>(&mut desk, 1, &mut sum);
-    sum.add([desk.head.headers, desk.head.buckets, desk.head.next]);
+    let head = desk.head;
+    sum.add([head.headers, head.buckets, head.next, head.boot]);
     sum.add(desk.table);
     sum.add(desk.health);
     sum.add(desk.grants);
     sum.add(desk.counters);
     sum.add(desk.report);
     sum.add(desk.unconfirmed);
-    let last: Vec<String> = sum.last.iter().take(14).map(u64::to_string).collect();
+    let last: Vec<String> = sum.last.iter().take(15).map(u64::to_string).collect();
     format!("{:016x} {}", sum.sum, last.join(" "))
 }
 

@@ -16,6 +16,7 @@ fn head_of(desk: &Desk) -> Head {
         headers: desk.head.headers,
         buckets: desk.head.buckets,
         next: desk.head.next,
+        boot: desk.head.boot,
     }
 }
 
@@ -49,7 +50,14 @@ fn answer_words(answer: Answer) -> [u64; 6] {
     match answer {
         Answer::Done => [0, 0, 0, 0, 0, 0],
         Answer::Cell(cell) => [1, cell.into(), 0, 0, 0, 0],
-        Answer::Granted(lease) => [2, lease.cell.into(), lease.serial.into(), 0, 0, 0],
+        Answer::Granted(lease) => [
+            2,
+            lease.cell.into(),
+            lease.serial.into(),
+            lease.boot.into(),
+            0,
+            0,
+        ],
         Answer::AllGranted => [3, 0, 0, 0, 0, 0],
         Answer::Busy(reason) => busy_words(reason),
         Answer::Refused(refusal) => refusal_words(5, refusal, 0),
@@ -62,6 +70,7 @@ fn words(head: Head, place: usize, counts: Counts, answer: Answer) -> Words {
         head.headers.into(),
         head.buckets.into(),
         head.next.into(),
+        head.boot.into(),
         place as u64,
         counts.attempts.into(),
         counts.boundaries.into(),
@@ -85,6 +94,7 @@ impl Side for Plain {
             head.headers,
             head.buckets,
             1,
+            head.boot,
             &mut desk.table,
             &mut desk.health,
         );
@@ -97,6 +107,7 @@ impl Side for Plain {
         let lease = Lease {
             cell: desk.cell,
             serial: desk.serial,
+            boot: desk.lease_boot,
         };
         let reply = rules::drop_lease(head, &mut desk.table, lease);
         seen(&reply)
@@ -244,9 +255,9 @@ impl Side for Plain {
     }
 
     #[inline(always)]
-    fn granted(played: &ScriptReply) -> Option<(u32, u32)> {
+    fn granted(played: &ScriptReply) -> Option<[u32; 3]> {
         match played.answer {
-            Answer::Granted(lease) => Some((lease.cell, lease.serial)),
+            Answer::Granted(lease) => Some([lease.cell, lease.serial, lease.boot]),
             _ => None,
         }
     }
@@ -271,7 +282,7 @@ impl Side for Plain {
             }
             Err(refusal) => {
                 let mut words = words(crew.head, 0, none, Answer::Refused(refusal));
-                words.resize(48, 0);
+                words.resize(49, 0);
                 words
             }
         }
@@ -284,7 +295,10 @@ impl Side for Plain {
             Err(SalvageRefusal::BadShape) => [5, 1, 0],
             Err(SalvageRefusal::ReportFull) => [5, 106, 0],
         };
-        let [headers, buckets, next] = [head.headers, head.buckets, head.next].map(u64::from);
-        vec![headers, buckets, next, kind, one, two]
+        let mut words = [head.headers, head.buckets, head.next, head.boot]
+            .map(u64::from)
+            .to_vec();
+        words.extend([kind, one, two]);
+        words
     }
 }

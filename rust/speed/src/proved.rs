@@ -6,15 +6,16 @@ use crate::side::{Side, Words};
 use core::mem::MaybeUninit;
 use skid as _;
 
-type Reply = [u64; 14];
-type Crew = [u64; 48];
-type Salvage = [u64; 6];
+type Reply = [u64; 15];
+type Crew = [u64; 49];
+type Salvage = [u64; 7];
 
 extern "C" {
     fn skid_prepare(
         headers: u32,
         buckets: u32,
         serial: u32,
+        boot: u32,
         table: *mut u32,
         table_len: usize,
         health: *mut u8,
@@ -25,16 +26,19 @@ extern "C" {
         headers: u32,
         buckets: u32,
         next: u32,
+        boot: u32,
         table: *mut u32,
         table_len: usize,
         cell: u32,
         serial: u32,
+        lease_boot: u32,
         reply: *mut Reply,
     );
     fn skid_environment(
         headers: u32,
         buckets: u32,
         next: u32,
+        boot: u32,
         table: *mut u32,
         table_len: usize,
         health: *mut u8,
@@ -50,6 +54,7 @@ extern "C" {
         headers: u32,
         buckets: u32,
         next: u32,
+        boot: u32,
         table: *mut u32,
         table_len: usize,
         health: *mut u8,
@@ -66,6 +71,7 @@ extern "C" {
         headers: u32,
         buckets: u32,
         next: u32,
+        boot: u32,
         table: *mut u32,
         table_len: usize,
         health: *mut u8,
@@ -85,6 +91,7 @@ extern "C" {
         headers: u32,
         buckets: u32,
         next: u32,
+        boot: u32,
         table: *mut u32,
         table_len: usize,
         health: *mut u8,
@@ -100,6 +107,7 @@ extern "C" {
         headers: u32,
         buckets: u32,
         next: u32,
+        boot: u32,
         table: *mut u32,
         table_len: usize,
         health: *mut u8,
@@ -121,6 +129,7 @@ extern "C" {
         headers: u32,
         buckets: u32,
         next: u32,
+        boot: u32,
         table: *mut u32,
         table_len: usize,
         health: *mut u8,
@@ -142,6 +151,7 @@ extern "C" {
         headers: u32,
         buckets: u32,
         next: u32,
+        boot: u32,
         table: *mut u32,
         table_len: usize,
         health: *const u8,
@@ -158,6 +168,7 @@ extern "C" {
         headers: u32,
         buckets: u32,
         next: u32,
+        boot: u32,
         table: *mut u32,
         table_len: usize,
         health: *const u8,
@@ -176,6 +187,7 @@ extern "C" {
         headers: u32,
         buckets: u32,
         next: u32,
+        boot: u32,
         table: *mut u32,
         table_len: usize,
         health: *mut u8,
@@ -206,6 +218,7 @@ impl Side for Proved {
                 desk.head.headers,
                 desk.head.buckets,
                 1,
+                desk.head.boot,
                 desk.table.as_mut_ptr(),
                 desk.table.len(),
                 desk.health.as_mut_ptr(),
@@ -224,10 +237,12 @@ impl Side for Proved {
                 desk.head.headers,
                 desk.head.buckets,
                 desk.head.next,
+                desk.head.boot,
                 desk.table.as_mut_ptr(),
                 desk.table.len(),
                 desk.cell,
                 desk.serial,
+                desk.lease_boot,
                 reply.as_mut_ptr(),
             );
             seen(reply.assume_init_ref())
@@ -242,6 +257,7 @@ impl Side for Proved {
                 desk.head.headers,
                 desk.head.buckets,
                 desk.head.next,
+                desk.head.boot,
                 desk.table.as_mut_ptr(),
                 desk.table.len(),
                 desk.health.as_mut_ptr(),
@@ -265,6 +281,7 @@ impl Side for Proved {
                 desk.head.headers,
                 desk.head.buckets,
                 desk.head.next,
+                desk.head.boot,
                 desk.table.as_mut_ptr(),
                 desk.table.len(),
                 desk.health.as_mut_ptr(),
@@ -289,6 +306,7 @@ impl Side for Proved {
                 desk.head.headers,
                 desk.head.buckets,
                 desk.head.next,
+                desk.head.boot,
                 desk.table.as_mut_ptr(),
                 desk.table.len(),
                 desk.health.as_mut_ptr(),
@@ -316,6 +334,7 @@ impl Side for Proved {
                 desk.head.headers,
                 desk.head.buckets,
                 desk.head.next,
+                desk.head.boot,
                 desk.table.as_mut_ptr(),
                 desk.table.len(),
                 desk.health.as_mut_ptr(),
@@ -345,6 +364,7 @@ impl Side for Proved {
                 desk.head.headers,
                 desk.head.buckets,
                 desk.head.next,
+                desk.head.boot,
                 desk.table.as_mut_ptr(),
                 desk.table.len(),
                 desk.health.as_mut_ptr(),
@@ -374,6 +394,7 @@ impl Side for Proved {
                 desk.head.headers,
                 desk.head.buckets,
                 desk.head.next,
+                desk.head.boot,
                 desk.table.as_mut_ptr(),
                 desk.table.len(),
                 desk.health.as_mut_ptr(),
@@ -397,6 +418,7 @@ impl Side for Proved {
                 desk.head.headers,
                 desk.head.buckets,
                 desk.head.next,
+                desk.head.boot,
                 desk.table.as_mut_ptr(),
                 desk.table.len(),
                 desk.health.as_ptr(),
@@ -421,6 +443,7 @@ impl Side for Proved {
                 desk.head.headers,
                 desk.head.buckets,
                 desk.head.next,
+                desk.head.boot,
                 desk.table.as_mut_ptr(),
                 desk.table.len(),
                 desk.health.as_ptr(),
@@ -447,6 +470,7 @@ impl Side for Proved {
                 desk.head.headers,
                 desk.head.buckets,
                 desk.head.next,
+                desk.head.boot,
                 desk.table.as_mut_ptr(),
                 desk.table.len(),
                 desk.health.as_mut_ptr(),
@@ -467,8 +491,8 @@ impl Side for Proved {
     }
 
     #[inline(always)]
-    fn granted(played: &Reply) -> Option<(u32, u32)> {
-        (played[8] == 2).then_some((played[9] as u32, played[10] as u32))
+    fn granted(played: &Reply) -> Option<[u32; 3]> {
+        (played[9] == 2).then_some([played[10] as u32, played[11] as u32, played[12] as u32])
     }
 
     fn reply_words(reply: &Reply) -> Words {

@@ -3,7 +3,7 @@
 
 use crate::desk::Desk;
 
-/// The words of a reply, as include/skid.h lays them out: 14, of the crew 48, of a salvage 6.
+/// The words of a reply, as include/skid.h lays them out: 15, of the crew 49, of a salvage 7.
 pub type Words = Vec<u64>;
 
 pub trait Side {
@@ -28,8 +28,8 @@ pub trait Side {
 
     /// The next serial.
     fn next(played: &Self::Played) -> u32;
-    /// Cell and serial, if the answer is a new lease.
-    fn granted(played: &Self::Played) -> Option<(u32, u32)>;
+    /// Cell, serial and boot number, if the answer is a new lease.
+    fn granted(played: &Self::Played) -> Option<[u32; 3]>;
 
     fn reply_words(reply: &Self::Reply) -> Words;
     fn played_words(played: &Self::Played) -> Words;

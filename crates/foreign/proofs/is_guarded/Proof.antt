@@ -16,13 +16,13 @@ is-in-pairs-requires c κs = search needs
 returns-2 : tie.Need-returns-2
 returns-2 c = rw (guarded-is _ _ _ _ _, ← c .before .before .before .is-held .ensures, c .before .before .if1 .left, ← c .before .is-in-pairs .ensures, c .if2 .taken)
 
-same-lease-requires : tie.Need-same-lease-requires
-same-lease-requires c κs = search needs
+same-hold-requires : tie.Need-same-hold-requires
+same-hold-requires c κs = search needs
 
 returns-3 : tie.Need-returns-3
-returns-3 c = rw (guarded-is _ _ _ _ _, ← c .before .before .before .before .is-held .ensures, c .before .before .before .if1 .left, ← c .before .before .is-in-pairs .ensures, c .before .if2 .left, ← c .same-lease .ensures)
+returns-3 c = rw (guarded-is _ _ _ _ _, ← c .before .before .before .before .is-held .ensures, c .before .before .before .if1 .left, ← c .before .before .is-in-pairs .ensures, c .before .if2 .left, ← c .same-hold .ensures)
 
 pub is-guarded-spec : {M : Type 1} → statement M
 is-guarded-spec =
     tie.close
-    (tie.spec is-held-requires returns is-in-pairs-requires returns-2 same-lease-requires returns-3)
+    (tie.spec is-held-requires returns is-in-pairs-requires returns-2 same-hold-requires returns-3)

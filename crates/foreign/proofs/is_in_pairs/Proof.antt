@@ -18,31 +18,31 @@ abbrev μ-loop : tie.MeasureT-loop
 loop-holds : tie.Need-loop-holds Inv-loop μ-loop
 loop-holds c = (search needs, let e : c .args .n - 0 ≡ c .args .n = omega arith in rw e)
 
-mul-same-lease : tie.Need-mul-same-lease Inv-loop μ-loop
-mul-same-lease c = search needs
+mul-same-hold : tie.Need-mul-same-hold Inv-loop μ-loop
+mul-same-hold c = search needs
 
-index-1-same-lease : tie.Need-index-1-same-lease Inv-loop μ-loop
-index-1-same-lease c = search needs
+index-1-same-hold : tie.Need-index-1-same-hold Inv-loop μ-loop
+index-1-same-hold c = search needs
 
-index-2-same-lease : tie.Need-index-2-same-lease Inv-loop μ-loop
-index-2-same-lease c = search needs
+index-2-same-hold : tie.Need-index-2-same-hold Inv-loop μ-loop
+index-2-same-hold c = search needs
 
-mul-same-lease-2 : tie.Need-mul-same-lease-2 Inv-loop μ-loop
-mul-same-lease-2 c = search needs
+mul-same-hold-2 : tie.Need-mul-same-hold-2 Inv-loop μ-loop
+mul-same-hold-2 c = search needs
 
-index-1-same-lease-2 : tie.Need-index-1-same-lease-2 Inv-loop μ-loop
-index-1-same-lease-2 c = search needs
+index-1-same-hold-2 : tie.Need-index-1-same-hold-2 Inv-loop μ-loop
+index-1-same-hold-2 c = search needs
 
-index-2-same-lease-2 : tie.Need-index-2-same-lease-2 Inv-loop μ-loop
-index-2-same-lease-2 c = search needs
+index-2-same-hold-2 : tie.Need-index-2-same-hold-2 Inv-loop μ-loop
+index-2-same-hold-2 c = search needs
 
-same-lease-requires : tie.Need-same-lease-requires Inv-loop μ-loop
-same-lease-requires c κs = search needs
+same-hold-requires : tie.Need-same-hold-requires Inv-loop μ-loop
+same-hold-requires c κs = search needs
 
 returns : tie.Need-returns Inv-loop μ-loop
 unfolding isIn
 returns c = let l = c .before .before .before .before .before .loop in let a = c .before .before .before .before .before .before .args in
-    rw (← l .inv .1, pairs-at (a .taken .now) (a .n) (l .i) (search needs), ← c .before .same-lease .ensures, c .if1 .taken)
+    rw (← l .inv .1, pairs-at (a .taken .now) (a .n) (l .i) (search needs), ← c .before .same-hold .ensures, c .if1 .taken)
 
 add-i : tie.Need-add-i Inv-loop μ-loop
 add-i c = search needs
@@ -53,7 +53,7 @@ loop-less c = search needs
 loop-again : tie.Need-loop-again Inv-loop μ-loop
 unfolding isIn
 loop-again c = let l = c .before .before .before .before .before .loop in let a = c .before .before .before .before .before .before .args in
-    (search needs, rw (← l .inv .1, pairs-at (a .taken .now) (a .n) (l .i) (search needs), ← c .before .same-lease .ensures, c .if1 .left))
+    (search needs, rw (← l .inv .1, pairs-at (a .taken .now) (a .n) (l .i) (search needs), ← c .before .same-hold .ensures, c .if1 .left))
 
 returns-2 : tie.Need-returns-2 Inv-loop μ-loop
 unfolding isIn
@@ -67,13 +67,13 @@ is-in-pairs-spec =
     Inv-loop
     μ-loop
     loop-holds
-    mul-same-lease
-    index-1-same-lease
-    index-2-same-lease
-    mul-same-lease-2
-    index-1-same-lease-2
-    index-2-same-lease-2
-    same-lease-requires
+    mul-same-hold
+    index-1-same-hold
+    index-2-same-hold
+    mul-same-hold-2
+    index-1-same-hold-2
+    index-2-same-hold-2
+    same-hold-requires
     returns
     add-i
     loop-less

@@ -9,7 +9,7 @@ use Rattle.foreign.proofs.marks_of.Statement.{statement}
 use Rattle.foreign.proofs.marks_of.Tie as tie
 
 abbrev Inv-loop : tie.InvT-loop
-Inv-loop held marks₀ i₀ marks i = (i ≤ length held / 2) × ((length marks ≡ 256) × Noted marks held i)
+Inv-loop held marks₀ i₀ marks i = (i ≤ length held / 3) × ((length marks ≡ 256) × Noted marks held i)
 
 abbrev μ-loop : tie.MeasureT-loop
 μ-loop held marks₀ i₀ marks i = i

@@ -1,6 +1,6 @@
 -- `lock::lock_once` meets its contract.
 use native.Mathlib.Omega.{arith}
-use Rattle.model.specs.Arena.{leasesOf}
+use Rattle.model.specs.Arena.{holdsOf}
 use Rattle.model.specs.Foreign.{flowOf}
 use Rattle.foreign.specs.Fine.{scope-room, scope-flow-bound}
 use Rattle.lock.specs.Fine.{scope-cell, scope-lock}
@@ -32,7 +32,7 @@ returns : tie.Need-returns
 unfolding lockOnceOf
 returns c =
     let a = c .before .before .before .before .before .before .before .before .before .before .before .before .before .before .before .args in
-    rw (← scope-lock _ (a .head) (a .script .now) (leasesOf (a .held .now)) (flowOf (a .head .next) (a .place) 0) (a .table .now) (a .health .now) (a .cell) (c .before .before .before .before .before .before .before .before .before .before .scope-of .ensures), ← c .before .before .before .before .before .before .before .lock-alone .ensures, ← c .before .answer-of .ensures, ← c .play .ensures)
+    rw (← scope-lock _ (a .head) (a .script .now) (holdsOf (a .held .now)) (flowOf (a .head .next) (a .place) 0) (a .table .now) (a .health .now) (a .cell) (c .before .before .before .before .before .before .before .before .before .before .scope-of .ensures), ← c .before .before .before .before .before .before .before .lock-alone .ensures, ← c .before .answer-of .ensures, ← c .play .ensures)
 
 pub lock-once-spec : {M : Type 1} → statement M
 lock-once-spec =

@@ -28,7 +28,7 @@ returns : tie.Need-returns
 unfolding quietTakeOf
 returns c =
     let a = c .before .before .before .before .before .before .before .before .before .before .before .before .args in
-    rw (← c .before .before .before .before .before .before .before .before .before .waiters-at .ensures, eq-eqb _ _ (c .before .before .before .before .before .before .before .before .if1 .taken), take-claim (a .head .headers) (a .head .buckets) _ _ _, ← c .before .before .before .before .before .before .before .spent-to .ensures, ← c .before .before .before .before .before .claim-at .ensures, ← c .before .boundaries-for .ensures, ← c .unwaited .ensures)
+    rw (← c .before .before .before .before .before .before .before .before .before .waiters-at .ensures, eq-eqb _ _ (c .before .before .before .before .before .before .before .before .if1 .taken), take-claim (a .head .headers) (a .head .buckets) (a .head .boot) _ _ _, ← c .before .before .before .before .before .before .before .spent-to .ensures, ← c .before .before .before .before .before .claim-at .ensures, ← c .before .boundaries-for .ensures, ← c .unwaited .ensures)
 
 same-length-2 : tie.Need-same-length-2
 same-length-2 c = search needs

@@ -55,7 +55,7 @@ returns : tie.Need-returns
 unfolding secondOf
 returns c =
     let a = c .before .before .before .before .before .before .before .before .before .before .before .before .before .before .before .before .before .before .before .before .before .before .before .before .before .before .before .args in
-    rw (← c .before .before .before .before .before .before .before .before .before .before .before .before .before .before .before .before .before .before .before .before .boundary .ensures, take-claim (a .scope .headers) (a .scope .buckets) _ _ _, ← c .before .before .before .before .before .before .before .before .before .before .before .before .before .before .before .head .ensures, ← c .before .before .before .before .before .before .before .before .before .before .before .before .before .claim-at .ensures, c .before .before .before .before .before .before .before .before .answer .given .1, ← c .before .before .before .before .late .ensures)
+    rw (← c .before .before .before .before .before .before .before .before .before .before .before .before .before .before .before .before .before .before .before .before .boundary .ensures, take-claim (a .scope .headers) (a .scope .buckets) (a .scope .boot) _ _ _, ← c .before .before .before .before .before .before .before .before .before .before .before .before .before .before .before .head .ensures, ← c .before .before .before .before .before .before .before .before .before .before .before .before .before .claim-at .ensures, c .before .before .before .before .before .before .before .before .answer .given .1, ← c .before .before .before .before .late .ensures)
 
 same-length-3 : tie.Need-same-length-3
 same-length-3 c = search needs
@@ -67,7 +67,7 @@ returns-2 : tie.Need-returns-2
 unfolding secondOf
 returns-2 c =
     let a = c .before .before .before .before .before .before .before .before .before .before .before .before .before .before .before .before .before .before .before .before .before .args in
-    rw (← c .before .before .before .before .before .before .before .before .before .before .before .before .before .before .boundary .ensures, take-claim (a .scope .headers) (a .scope .buckets) _ _ _, ← c .before .before .before .before .before .before .before .before .before .head .ensures, ← c .before .before .before .before .before .before .before .claim-at .ensures, c .before .before .answer2 .given .1, ← c .stopped .ensures)
+    rw (← c .before .before .before .before .before .before .before .before .before .before .before .before .before .before .boundary .ensures, take-claim (a .scope .headers) (a .scope .buckets) (a .scope .boot) _ _ _, ← c .before .before .before .before .before .before .before .before .before .head .ensures, ← c .before .before .before .before .before .before .before .claim-at .ensures, c .before .before .answer2 .given .1, ← c .stopped .ensures)
 
 same-length-5 : tie.Need-same-length-5
 same-length-5 c = search needs
@@ -79,7 +79,7 @@ returns-3 : tie.Need-returns-3
 unfolding secondOf
 returns-3 c =
     let a = c .before .before .before .before .before .before .before .before .before .before .before .before .before .before .before .before .before .before .before .before .args in
-    rw (← c .before .before .before .before .before .before .before .before .before .before .before .before .before .boundary .ensures, take-claim (a .scope .headers) (a .scope .buckets) _ _ _, ← c .before .before .before .before .before .before .before .before .head .ensures, ← c .before .before .before .before .before .before .claim-at .ensures, c .before .enum-told .given .1, ← c .stopped2 .ensures)
+    rw (← c .before .before .before .before .before .before .before .before .before .before .before .before .before .boundary .ensures, take-claim (a .scope .headers) (a .scope .buckets) (a .scope .boot) _ _ _, ← c .before .before .before .before .before .before .before .before .head .ensures, ← c .before .before .before .before .before .before .claim-at .ensures, c .before .enum-told .given .1, ← c .stopped2 .ensures)
 
 same-length-7 : tie.Need-same-length-7
 same-length-7 c = search needs
@@ -91,7 +91,7 @@ returns-4 : tie.Need-returns-4
 unfolding secondOf
 returns-4 c =
     let a = c .before .before .before .before .before .before .before .before .before .before .before .before .before .before .before .before .before .before .before .before .args in
-    rw (← c .before .before .before .before .before .before .before .before .before .before .before .before .before .boundary .ensures, take-claim (a .scope .headers) (a .scope .buckets) _ _ _, ← c .before .before .before .before .before .before .before .before .head .ensures, ← c .before .before .before .before .before .before .claim-at .ensures, c .before .enum-told2 .given .1, ← c .stopped3 .ensures)
+    rw (← c .before .before .before .before .before .before .before .before .before .before .before .before .before .boundary .ensures, take-claim (a .scope .headers) (a .scope .buckets) (a .scope .boot) _ _ _, ← c .before .before .before .before .before .before .before .before .head .ensures, ← c .before .before .before .before .before .before .claim-at .ensures, c .before .enum-told2 .given .1, ← c .stopped3 .ensures)
 
 pub second-spec : {M : Type 1} → statement M
 second-spec =

@@ -1,5 +1,5 @@
 -- `multilock::locks_once` meets its contract.
-use Rattle.model.specs.Arena.{leasesOf}
+use Rattle.model.specs.Arena.{holdsOf}
 use Rattle.model.specs.Calls.{starting}
 use borrow.Author.Needs.{needs}
 use Rattle.bucket.specs.Fine.{start-run-bound}
@@ -35,7 +35,7 @@ returns : tie.Need-returns
 unfolding locksOnceOf
 returns c =
     let a = c .before .before .before .before .before .before .before .before .before .before .before .before .before .before .before .before .before .before .before .before .before .args in
-    rw (← locks-given _ (a .head) (a .script .now) (c .before .before .before .before .before .before .before .before .before .before .before .before .before .scope-of .ensures) _ (leasesOf (a .held .now)) (a .registry .now) (a .keys .now) (starting (a .head) (a .place)) (a .table .now) (a .health .now) (a .grants .now), ← c .before .before .before .before .before .before .before .before .before .before .before .before .starting .ensures, ← c .before .before .before .before .before .before .before .before .lock-keys .ensures, ← c .play .ensures)
+    rw (← locks-given _ (a .head) (a .script .now) (c .before .before .before .before .before .before .before .before .before .before .before .before .before .scope-of .ensures) _ (holdsOf (a .held .now)) (a .registry .now) (a .keys .now) (starting (a .head) (a .place)) (a .table .now) (a .health .now) (a .grants .now), ← c .before .before .before .before .before .before .before .before .before .before .before .before .starting .ensures, ← c .before .before .before .before .before .before .before .before .lock-keys .ensures, ← c .play .ensures)
 
 pub locks-once-spec : {M : Type 1} → statement M
 locks-once-spec =

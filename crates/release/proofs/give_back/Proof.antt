@@ -6,7 +6,7 @@ use native.Mathlib.Omega.{arith}
 use lib.ListN.{length}
 use lib.Seq.{length-take-le}
 use borrow.Author.Needs.{needs}
-use Rattle.model.specs.Arena.{leasesOf}
+use Rattle.model.specs.Arena.{holdsOf}
 use Rattle.foreign.specs.Model.{inScope}
 use Rattle.bucket.specs.Laws.{more-run-bound}
 use Rattle.release.proofs.give_back.Statement.{statement}
@@ -15,7 +15,7 @@ use Rattle.release.proofs.give_back.Tie as tie
 
 abbrev Inv-loop : tie.InvT-loop
 Inv-loop scope table₀ health₀ script leases none run₀ k₀ table health run k =
-    Giving (inScope scope script []) (scope .steps) (leasesOf leases) (length leases / 2) run₀ table₀ health₀ k run table health
+    Giving (inScope scope script []) (scope .steps) (holdsOf leases) (length leases / 3) run₀ table₀ health₀ k run table health
 
 abbrev μ-loop : tie.MeasureT-loop
 μ-loop scope table₀ health₀ script leases none run₀ k₀ table health run k = k
@@ -30,7 +30,7 @@ mul-e : tie.Need-mul-e Inv-loop μ-loop
 mul-e c = let l = c .before .loop in let p = c .before .before .before .before .before .before .pre in omega (arith, l .inv .few, p .1 .1 .0)
 
 slice-aggregate-give-one : tie.Need-slice-aggregate-give-one Inv-loop μ-loop
-slice-aggregate-give-one c = let l = c .before .before .before .before .loop in let a = c .before .before .before .before .before .before .before .before .before .args in sym (length-take-le (2 * (l .k - 1)) (a .leases .now) (omega (arith, l .inv .few, c .before .before .before .loop-test .taken)))
+slice-aggregate-give-one c = let l = c .before .before .before .before .loop in let a = c .before .before .before .before .before .before .before .before .before .args in sym (length-take-le (3 * (l .k - 1)) (a .leases .now) (omega (arith, l .inv .few, c .before .before .before .loop-test .taken)))
 
 mul-give-one : tie.Need-mul-give-one Inv-loop μ-loop
 mul-give-one c = let l = c .before .before .before .before .before .loop in let p = c .before .before .before .before .before .before .before .before .before .before .pre in omega (arith, l .inv .few, p .1 .1 .0)
@@ -72,7 +72,7 @@ returns : tie.Need-returns Inv-loop μ-loop
 returns c =
     let l = c .before .loop in
     let a = c .before .before .before .before .before .before .args in
-    rw (← l .inv .rest, give-back-end (l .k) (inScope (a .scope) (a .script .now) []) (leasesOf (a .leases .now)) (l .run) (l .table) (l .health) (search needs))
+    rw (← l .inv .rest, give-back-end (l .k) (inScope (a .scope) (a .script .now) []) (holdsOf (a .leases .now)) (l .run) (l .table) (l .health) (search needs))
 
 pub give-back-spec : {M : Type 1} → statement M
 give-back-spec =

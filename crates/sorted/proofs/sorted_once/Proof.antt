@@ -21,8 +21,8 @@ room-requires-2 c κs = search needs
 room-requires-3 : tie.Need-room-requires-3
 room-requires-3 c κs = search needs
 
-room-requires-4 : tie.Need-room-requires-4
-room-requires-4 c κs = search needs
+lease-room-requires : tie.Need-lease-room-requires
+lease-room-requires c κs = search needs
 
 slice-aggregate-order : tie.Need-slice-aggregate-order
 slice-aggregate-order c = search needs
@@ -39,6 +39,9 @@ order-requires c κs = search needs
 mul-words : tie.Need-mul-words
 mul-words c = omega (arith, cells-few (c .before .before .before .before .before .before .before .before .before .before .before .before .before .before .before .before .before .before .args .head) (c .before .before .before .before .before .before .before .before .before .before .before .before .before .before .before .before .before .before .args .registry .now) (c .before .before .before .before .before .before .before .before .before .before .before .before .before .before .before .before .before .before .args .keys .now) (c .before .before .before .order .result) (c .before .before .before .order .last .1 .1 .1 .0) (c .before .before .before .order .last .1 .1 .1 .1 .0) (c .before .before .before .order .last .1 .1 .1 .1 .1 .0) (c .before .before .before .order .ensures), c .before .before .before .before .before .before .before .before .before .before .before .before .before .before .before .before .before .before .pre .1 .few)
 
+mul-granted : tie.Need-mul-granted
+mul-granted c = omega (arith, cells-few (c .before .before .before .before .before .before .before .before .before .before .before .before .before .before .before .before .before .before .args .head) (c .before .before .before .before .before .before .before .before .before .before .before .before .before .before .before .before .before .before .args .registry .now) (c .before .before .before .before .before .before .before .before .before .before .before .before .before .before .before .before .before .before .args .keys .now) (c .before .before .before .order .result) (c .before .before .before .order .last .1 .1 .1 .0) (c .before .before .before .order .last .1 .1 .1 .1 .0) (c .before .before .before .order .last .1 .1 .1 .1 .1 .0) (c .before .before .before .order .ensures), c .before .before .before .before .before .before .before .before .before .before .before .before .before .before .before .before .before .before .pre .1 .few)
+
 scope-of-requires : tie.Need-scope-of-requires
 scope-of-requires c κs = search needs
 
@@ -52,10 +55,10 @@ slice-aggregate-lock-keys : tie.Need-slice-aggregate-lock-keys
 slice-aggregate-lock-keys c = sym (chosen-length (c .before .before .before .before .before .before .before .before .before .before .before .before .before .before .before .before .before .before .before .before .before .before .before .args .head) (c .before .before .before .before .before .before .before .before .before .before .before .before .before .before .before .before .before .before .before .before .before .before .before .args .registry .now) (c .before .before .before .before .before .before .before .before .before .before .before .before .before .before .before .before .before .before .before .before .before .before .before .args .keys .now) (c .before .before .before .before .before .before .before .before .order .result) (c .before .before .before .before .before .before .before .before .order .last .1 .1 .1 .0) (c .before .before .before .before .before .before .before .before .order .last .1 .1 .1 .1 .0) (c .before .before .before .before .before .before .before .before .order .last .1 .1 .1 .1 .1 .0) (c .before .before .before .before .before .before .before .before .order .ensures))
 
 array-borrow-prefix-leases : tie.Need-array-borrow-prefix-leases
-array-borrow-prefix-leases c = omega (arith, cells-few (c .before .before .before .before .before .before .before .before .before .before .before .before .before .before .before .before .before .before .before .before .before .before .before .args .head) (c .before .before .before .before .before .before .before .before .before .before .before .before .before .before .before .before .before .before .before .before .before .before .before .args .registry .now) (c .before .before .before .before .before .before .before .before .before .before .before .before .before .before .before .before .before .before .before .before .before .before .before .args .keys .now) (c .before .before .before .before .before .before .before .before .order .result) (c .before .before .before .before .before .before .before .before .order .last .1 .1 .1 .0) (c .before .before .before .before .before .before .before .before .order .last .1 .1 .1 .1 .0) (c .before .before .before .before .before .before .before .before .order .last .1 .1 .1 .1 .1 .0) (c .before .before .before .before .before .before .before .before .order .ensures), c .before .before .before .before .before .before .before .before .before .before .before .before .before .before .before .before .before .before .before .before .before .before .before .pre .1 .few, c .before .before .before .before .before .before .before .before .before .before .before .before .room4 .ensures)
+array-borrow-prefix-leases c = omega (arith, cells-few (c .before .before .before .before .before .before .before .before .before .before .before .before .before .before .before .before .before .before .before .before .before .before .before .args .head) (c .before .before .before .before .before .before .before .before .before .before .before .before .before .before .before .before .before .before .before .before .before .before .before .args .registry .now) (c .before .before .before .before .before .before .before .before .before .before .before .before .before .before .before .before .before .before .before .before .before .before .before .args .keys .now) (c .before .before .before .before .before .before .before .before .order .result) (c .before .before .before .before .before .before .before .before .order .last .1 .1 .1 .0) (c .before .before .before .before .before .before .before .before .order .last .1 .1 .1 .1 .0) (c .before .before .before .before .before .before .before .before .order .last .1 .1 .1 .1 .1 .0) (c .before .before .before .before .before .before .before .before .order .ensures), c .before .before .before .before .before .before .before .before .before .before .before .before .before .before .before .before .before .before .before .before .before .before .before .pre .1 .few, c .before .before .before .before .before .before .before .before .before .before .before .before .lease-room .ensures)
 
 slice-aggregate-lock-keys-2 : tie.Need-slice-aggregate-lock-keys-2
-slice-aggregate-lock-keys-2 c = sym (length-take-le (2 * c .before .before .before .before .before .before .before .before .before .order .result) (c .before .before .before .before .before .before .before .before .before .before .before .before .before .room4 .result) (omega (arith, cells-few (c .before .before .before .before .before .before .before .before .before .before .before .before .before .before .before .before .before .before .before .before .before .before .before .before .args .head) (c .before .before .before .before .before .before .before .before .before .before .before .before .before .before .before .before .before .before .before .before .before .before .before .before .args .registry .now) (c .before .before .before .before .before .before .before .before .before .before .before .before .before .before .before .before .before .before .before .before .before .before .before .before .args .keys .now) (c .before .before .before .before .before .before .before .before .before .order .result) (c .before .before .before .before .before .before .before .before .before .order .last .1 .1 .1 .0) (c .before .before .before .before .before .before .before .before .before .order .last .1 .1 .1 .1 .0) (c .before .before .before .before .before .before .before .before .before .order .last .1 .1 .1 .1 .1 .0) (c .before .before .before .before .before .before .before .before .before .order .ensures), c .before .before .before .before .before .before .before .before .before .before .before .before .before .before .before .before .before .before .before .before .before .before .before .before .pre .1 .few, c .before .before .before .before .before .before .before .before .before .before .before .before .before .room4 .ensures)))
+slice-aggregate-lock-keys-2 c = sym (length-take-le (3 * c .before .before .before .before .before .before .before .before .before .order .result) (c .before .before .before .before .before .before .before .before .before .before .before .before .before .lease-room .result) (omega (arith, cells-few (c .before .before .before .before .before .before .before .before .before .before .before .before .before .before .before .before .before .before .before .before .before .before .before .before .args .head) (c .before .before .before .before .before .before .before .before .before .before .before .before .before .before .before .before .before .before .before .before .before .before .before .before .args .registry .now) (c .before .before .before .before .before .before .before .before .before .before .before .before .before .before .before .before .before .before .before .before .before .before .before .before .args .keys .now) (c .before .before .before .before .before .before .before .before .before .order .result) (c .before .before .before .before .before .before .before .before .before .order .last .1 .1 .1 .0) (c .before .before .before .before .before .before .before .before .before .order .last .1 .1 .1 .1 .0) (c .before .before .before .before .before .before .before .before .before .order .last .1 .1 .1 .1 .1 .0) (c .before .before .before .before .before .before .before .before .before .order .ensures), c .before .before .before .before .before .before .before .before .before .before .before .before .before .before .before .before .before .before .before .before .before .before .before .before .pre .1 .few, c .before .before .before .before .before .before .before .before .before .before .before .before .before .lease-room .ensures)))
 
 lock-keys-requires : tie.Need-lock-keys-requires
 lock-keys-requires c κs =
@@ -66,7 +69,7 @@ lock-keys-requires c κs =
       sorted-bound (c .before .before .before .before .before .before .before .before .before .before .before .before .before .before .before .before .before .before .before .before .before .before .before .before .args .head) (c .before .before .before .before .before .before .before .before .before .before .before .before .before .before .before .before .before .before .before .before .before .before .before .before .args .registry .now) (c .before .before .before .before .before .before .before .before .before .before .before .before .before .before .before .before .before .before .before .before .before .before .before .before .args .keys .now) (c .before .before .before .before .before .before .before .before .before .order .result) (c .before .before .before .before .before .before .before .before .before .order .last .1 .1 .1 .0) (c .before .before .before .before .before .before .before .before .before .order .last .1 .1 .1 .1 .0) (c .before .before .before .before .before .before .before .before .before .order .last .1 .1 .1 .1 .1 .0) (c .before .before .before .before .before .before .before .before .before .order .ensures) _ _ _ _ (a .place) _ e (f .0) (f .1),
       (
         rw (c .before .before .before .before .starting .ensures) (start-run-bound _ (a .head) _ _ _ (a .place) e (f .0 .script-ok)),
-        (omega (arith, few, f .1 .few), (omega (arith, chosen-length (c .before .before .before .before .before .before .before .before .before .before .before .before .before .before .before .before .before .before .before .before .before .before .before .before .args .head) (c .before .before .before .before .before .before .before .before .before .before .before .before .before .before .before .before .before .before .before .before .before .before .before .before .args .registry .now) (c .before .before .before .before .before .before .before .before .before .before .before .before .before .before .before .before .before .before .before .before .before .before .before .before .args .keys .now) (c .before .before .before .before .before .before .before .before .before .order .result) (c .before .before .before .before .before .before .before .before .before .order .last .1 .1 .1 .0) (c .before .before .before .before .before .before .before .before .before .order .last .1 .1 .1 .1 .0) (c .before .before .before .before .before .before .before .before .before .order .last .1 .1 .1 .1 .1 .0) (c .before .before .before .before .before .before .before .before .before .order .ensures)), length-take-le (2 * c .before .before .before .before .before .before .before .before .before .order .result) (c .before .before .before .before .before .before .before .before .before .before .before .before .before .room4 .result) (omega (arith, cells-few (c .before .before .before .before .before .before .before .before .before .before .before .before .before .before .before .before .before .before .before .before .before .before .before .before .args .head) (c .before .before .before .before .before .before .before .before .before .before .before .before .before .before .before .before .before .before .before .before .before .before .before .before .args .registry .now) (c .before .before .before .before .before .before .before .before .before .before .before .before .before .before .before .before .before .before .before .before .before .before .before .before .args .keys .now) (c .before .before .before .before .before .before .before .before .before .order .result) (c .before .before .before .before .before .before .before .before .before .order .last .1 .1 .1 .0) (c .before .before .before .before .before .before .before .before .before .order .last .1 .1 .1 .1 .0) (c .before .before .before .before .before .before .before .before .before .order .last .1 .1 .1 .1 .1 .0) (c .before .before .before .before .before .before .before .before .before .order .ensures), c .before .before .before .before .before .before .before .before .before .before .before .before .before .before .before .before .before .before .before .before .before .before .before .before .pre .1 .few, c .before .before .before .before .before .before .before .before .before .before .before .before .before .room4 .ensures)))),
+        (omega (arith, few, f .1 .few), (omega (arith, chosen-length (c .before .before .before .before .before .before .before .before .before .before .before .before .before .before .before .before .before .before .before .before .before .before .before .before .args .head) (c .before .before .before .before .before .before .before .before .before .before .before .before .before .before .before .before .before .before .before .before .before .before .before .before .args .registry .now) (c .before .before .before .before .before .before .before .before .before .before .before .before .before .before .before .before .before .before .before .before .before .before .before .before .args .keys .now) (c .before .before .before .before .before .before .before .before .before .order .result) (c .before .before .before .before .before .before .before .before .before .order .last .1 .1 .1 .0) (c .before .before .before .before .before .before .before .before .before .order .last .1 .1 .1 .1 .0) (c .before .before .before .before .before .before .before .before .before .order .last .1 .1 .1 .1 .1 .0) (c .before .before .before .before .before .before .before .before .before .order .ensures)), length-take-le (3 * c .before .before .before .before .before .before .before .before .before .order .result) (c .before .before .before .before .before .before .before .before .before .before .before .before .before .lease-room .result) (omega (arith, cells-few (c .before .before .before .before .before .before .before .before .before .before .before .before .before .before .before .before .before .before .before .before .before .before .before .before .args .head) (c .before .before .before .before .before .before .before .before .before .before .before .before .before .before .before .before .before .before .before .before .before .before .before .before .args .registry .now) (c .before .before .before .before .before .before .before .before .before .before .before .before .before .before .before .before .before .before .before .before .before .before .before .before .args .keys .now) (c .before .before .before .before .before .before .before .before .before .order .result) (c .before .before .before .before .before .before .before .before .before .order .last .1 .1 .1 .0) (c .before .before .before .before .before .before .before .before .before .order .last .1 .1 .1 .1 .0) (c .before .before .before .before .before .before .before .before .before .order .last .1 .1 .1 .1 .1 .0) (c .before .before .before .before .before .before .before .before .before .order .ensures), c .before .before .before .before .before .before .before .before .before .before .before .before .before .before .before .before .before .before .before .before .before .before .before .before .pre .1 .few, c .before .before .before .before .before .before .before .before .before .before .before .before .before .lease-room .ensures)))),
       ),
     )
 
@@ -84,19 +87,19 @@ slice-aggregate-finish-2 c = sym (sorted-length (c .before .before .before .befo
 
 array-share-prefix-leases : tie.Need-array-share-prefix-leases
 array-share-prefix-leases c =
-    let own : length (c .before .before .before .before .before .before .before .lock-keys .last .1 .1 .1 .1 .1 .1 .1 .1 .1 .0) ≡ 2 * c .before .before .before .before .before .before .before .before .before .before .before .before .before .before .before .before .before .order .result = omega (arith, c .before .before .before .before .before .before .before .lock-keys .kept, length-take-le (2 * c .before .before .before .before .before .before .before .before .before .before .before .before .before .before .before .before .before .order .result) (c .before .before .before .before .before .before .before .before .before .before .before .before .before .before .before .before .before .before .before .before .before .room4 .result) (omega (arith, cells-few (c .before .before .before .before .before .before .before .before .before .before .before .before .before .before .before .before .before .before .before .before .before .before .before .before .before .before .before .before .before .before .before .before .args .head) (c .before .before .before .before .before .before .before .before .before .before .before .before .before .before .before .before .before .before .before .before .before .before .before .before .before .before .before .before .before .before .before .before .args .registry .now) (c .before .before .before .before .before .before .before .before .before .before .before .before .before .before .before .before .before .before .before .before .before .before .before .before .before .before .before .before .before .before .before .before .args .keys .now) (c .before .before .before .before .before .before .before .before .before .before .before .before .before .before .before .before .before .order .result) (c .before .before .before .before .before .before .before .before .before .before .before .before .before .before .before .before .before .order .last .1 .1 .1 .0) (c .before .before .before .before .before .before .before .before .before .before .before .before .before .before .before .before .before .order .last .1 .1 .1 .1 .0) (c .before .before .before .before .before .before .before .before .before .before .before .before .before .before .before .before .before .order .last .1 .1 .1 .1 .1 .0) (c .before .before .before .before .before .before .before .before .before .before .before .before .before .before .before .before .before .order .ensures), c .before .before .before .before .before .before .before .before .before .before .before .before .before .before .before .before .before .before .before .before .before .before .before .before .before .before .before .before .before .before .before .before .pre .1 .few, c .before .before .before .before .before .before .before .before .before .before .before .before .before .before .before .before .before .before .before .before .before .room4 .ensures))) in
-    front-room (c .before .before .before .before .before .before .before .lock-keys .last .1 .1 .1 .1 .1 .1 .1 .1 .1 .0) (drop (2 * c .before .before .before .before .before .before .before .before .before .before .before .before .before .before .before .before .before .order .result) (c .before .before .before .before .before .before .before .before .before .before .before .before .before .before .before .before .before .before .before .before .before .room4 .result)) (2 * c .before .before .before .before .before .before .before .before .before .before .before .before .before .before .before .before .before .order .result) own
+    let own : length (c .before .before .before .before .before .before .before .lock-keys .last .1 .1 .1 .1 .1 .1 .1 .1 .1 .0) ≡ 3 * c .before .before .before .before .before .before .before .before .before .before .before .before .before .before .before .before .before .order .result = omega (arith, c .before .before .before .before .before .before .before .lock-keys .kept, length-take-le (3 * c .before .before .before .before .before .before .before .before .before .before .before .before .before .before .before .before .before .order .result) (c .before .before .before .before .before .before .before .before .before .before .before .before .before .before .before .before .before .before .before .before .before .lease-room .result) (omega (arith, cells-few (c .before .before .before .before .before .before .before .before .before .before .before .before .before .before .before .before .before .before .before .before .before .before .before .before .before .before .before .before .before .before .before .before .args .head) (c .before .before .before .before .before .before .before .before .before .before .before .before .before .before .before .before .before .before .before .before .before .before .before .before .before .before .before .before .before .before .before .before .args .registry .now) (c .before .before .before .before .before .before .before .before .before .before .before .before .before .before .before .before .before .before .before .before .before .before .before .before .before .before .before .before .before .before .before .before .args .keys .now) (c .before .before .before .before .before .before .before .before .before .before .before .before .before .before .before .before .before .order .result) (c .before .before .before .before .before .before .before .before .before .before .before .before .before .before .before .before .before .order .last .1 .1 .1 .0) (c .before .before .before .before .before .before .before .before .before .before .before .before .before .before .before .before .before .order .last .1 .1 .1 .1 .0) (c .before .before .before .before .before .before .before .before .before .before .before .before .before .before .before .before .before .order .last .1 .1 .1 .1 .1 .0) (c .before .before .before .before .before .before .before .before .before .before .before .before .before .before .before .before .before .order .ensures), c .before .before .before .before .before .before .before .before .before .before .before .before .before .before .before .before .before .before .before .before .before .before .before .before .before .before .before .before .before .before .before .before .pre .1 .few, c .before .before .before .before .before .before .before .before .before .before .before .before .before .before .before .before .before .before .before .before .before .lease-room .ensures))) in
+    front-room (c .before .before .before .before .before .before .before .lock-keys .last .1 .1 .1 .1 .1 .1 .1 .1 .1 .0) (drop (3 * c .before .before .before .before .before .before .before .before .before .before .before .before .before .before .before .before .before .order .result) (c .before .before .before .before .before .before .before .before .before .before .before .before .before .before .before .before .before .before .before .before .before .lease-room .result)) (3 * c .before .before .before .before .before .before .before .before .before .before .before .before .before .before .before .before .before .order .result) own
 
 slice-aggregate-finish-3 : tie.Need-slice-aggregate-finish-3
 slice-aggregate-finish-3 c =
-    let own : length (c .before .before .before .before .before .before .before .before .lock-keys .last .1 .1 .1 .1 .1 .1 .1 .1 .1 .0) ≡ 2 * c .before .before .before .before .before .before .before .before .before .before .before .before .before .before .before .before .before .before .order .result = omega (arith, c .before .before .before .before .before .before .before .before .lock-keys .kept, length-take-le (2 * c .before .before .before .before .before .before .before .before .before .before .before .before .before .before .before .before .before .before .order .result) (c .before .before .before .before .before .before .before .before .before .before .before .before .before .before .before .before .before .before .before .before .before .before .room4 .result) (omega (arith, cells-few (c .before .before .before .before .before .before .before .before .before .before .before .before .before .before .before .before .before .before .before .before .before .before .before .before .before .before .before .before .before .before .before .before .before .args .head) (c .before .before .before .before .before .before .before .before .before .before .before .before .before .before .before .before .before .before .before .before .before .before .before .before .before .before .before .before .before .before .before .before .before .args .registry .now) (c .before .before .before .before .before .before .before .before .before .before .before .before .before .before .before .before .before .before .before .before .before .before .before .before .before .before .before .before .before .before .before .before .before .args .keys .now) (c .before .before .before .before .before .before .before .before .before .before .before .before .before .before .before .before .before .before .order .result) (c .before .before .before .before .before .before .before .before .before .before .before .before .before .before .before .before .before .before .order .last .1 .1 .1 .0) (c .before .before .before .before .before .before .before .before .before .before .before .before .before .before .before .before .before .before .order .last .1 .1 .1 .1 .0) (c .before .before .before .before .before .before .before .before .before .before .before .before .before .before .before .before .before .before .order .last .1 .1 .1 .1 .1 .0) (c .before .before .before .before .before .before .before .before .before .before .before .before .before .before .before .before .before .before .order .ensures), c .before .before .before .before .before .before .before .before .before .before .before .before .before .before .before .before .before .before .before .before .before .before .before .before .before .before .before .before .before .before .before .before .before .pre .1 .few, c .before .before .before .before .before .before .before .before .before .before .before .before .before .before .before .before .before .before .before .before .before .before .room4 .ensures))) in
-    front-length (c .before .before .before .before .before .before .before .before .lock-keys .last .1 .1 .1 .1 .1 .1 .1 .1 .1 .0) (drop (2 * c .before .before .before .before .before .before .before .before .before .before .before .before .before .before .before .before .before .before .order .result) (c .before .before .before .before .before .before .before .before .before .before .before .before .before .before .before .before .before .before .before .before .before .before .room4 .result)) (2 * c .before .before .before .before .before .before .before .before .before .before .before .before .before .before .before .before .before .before .order .result) own
+    let own : length (c .before .before .before .before .before .before .before .before .lock-keys .last .1 .1 .1 .1 .1 .1 .1 .1 .1 .0) ≡ 3 * c .before .before .before .before .before .before .before .before .before .before .before .before .before .before .before .before .before .before .order .result = omega (arith, c .before .before .before .before .before .before .before .before .lock-keys .kept, length-take-le (3 * c .before .before .before .before .before .before .before .before .before .before .before .before .before .before .before .before .before .before .order .result) (c .before .before .before .before .before .before .before .before .before .before .before .before .before .before .before .before .before .before .before .before .before .before .lease-room .result) (omega (arith, cells-few (c .before .before .before .before .before .before .before .before .before .before .before .before .before .before .before .before .before .before .before .before .before .before .before .before .before .before .before .before .before .before .before .before .before .args .head) (c .before .before .before .before .before .before .before .before .before .before .before .before .before .before .before .before .before .before .before .before .before .before .before .before .before .before .before .before .before .before .before .before .before .args .registry .now) (c .before .before .before .before .before .before .before .before .before .before .before .before .before .before .before .before .before .before .before .before .before .before .before .before .before .before .before .before .before .before .before .before .before .args .keys .now) (c .before .before .before .before .before .before .before .before .before .before .before .before .before .before .before .before .before .before .order .result) (c .before .before .before .before .before .before .before .before .before .before .before .before .before .before .before .before .before .before .order .last .1 .1 .1 .0) (c .before .before .before .before .before .before .before .before .before .before .before .before .before .before .before .before .before .before .order .last .1 .1 .1 .1 .0) (c .before .before .before .before .before .before .before .before .before .before .before .before .before .before .before .before .before .before .order .last .1 .1 .1 .1 .1 .0) (c .before .before .before .before .before .before .before .before .before .before .before .before .before .before .before .before .before .before .order .ensures), c .before .before .before .before .before .before .before .before .before .before .before .before .before .before .before .before .before .before .before .before .before .before .before .before .before .before .before .before .before .before .before .before .before .pre .1 .few, c .before .before .before .before .before .before .before .before .before .before .before .before .before .before .before .before .before .before .before .before .before .before .lease-room .ensures))) in
+    front-length (c .before .before .before .before .before .before .before .before .lock-keys .last .1 .1 .1 .1 .1 .1 .1 .1 .1 .0) (drop (3 * c .before .before .before .before .before .before .before .before .before .before .before .before .before .before .before .before .before .before .order .result) (c .before .before .before .before .before .before .before .before .before .before .before .before .before .before .before .before .before .before .before .before .before .before .lease-room .result)) (3 * c .before .before .before .before .before .before .before .before .before .before .before .before .before .before .before .before .before .before .order .result) own
 
 finish-requires : tie.Need-finish-requires
 finish-requires c κs =
     let s = sorted-length (c .before .before .before .before .before .before .before .before .before .before .before .before .before .before .before .before .before .before .before .before .before .before .before .before .before .before .before .before .before .before .before .before .before .before .args .head) (c .before .before .before .before .before .before .before .before .before .before .before .before .before .before .before .before .before .before .before .before .before .before .before .before .before .before .before .before .before .before .before .before .before .before .args .registry .now) (c .before .before .before .before .before .before .before .before .before .before .before .before .before .before .before .before .before .before .before .before .before .before .before .before .before .before .before .before .before .before .before .before .before .before .args .keys .now) (c .before .before .before .before .before .before .before .before .before .before .before .before .before .before .before .before .before .before .before .order .result) (c .before .before .before .before .before .before .before .before .before .before .before .before .before .before .before .before .before .before .before .order .last .1 .1 .1 .0) (c .before .before .before .before .before .before .before .before .before .before .before .before .before .before .before .before .before .before .before .order .last .1 .1 .1 .1 .0) (c .before .before .before .before .before .before .before .before .before .before .before .before .before .before .before .before .before .before .before .order .last .1 .1 .1 .1 .1 .0) (c .before .before .before .before .before .before .before .before .before .before .before .before .before .before .before .before .before .before .before .order .ensures) in (
       omega (arith, c .before .before .before .before .before .before .before .before .before .before .before .before .before .before .before .before .before .before .before .before .before .before .before .before .before .before .before .before .before .before .before .before .before .before .pre .0 .grants-are, asked-length (c .before .before .before .before .before .before .before .before .before .before .before .before .before .before .before .before .before .before .before .before .before .before .before .before .before .before .before .before .before .before .before .before .before .before .args .head) (c .before .before .before .before .before .before .before .before .before .before .before .before .before .before .before .before .before .before .before .before .before .before .before .before .before .before .before .before .before .before .before .before .before .before .args .registry .now) (c .before .before .before .before .before .before .before .before .before .before .before .before .before .before .before .before .before .before .before .before .before .before .before .before .before .before .before .before .before .before .before .before .before .before .args .keys .now) (c .before .before .before .before .before .before .before .before .before .before .before .before .before .before .before .before .before .before .before .order .result) (c .before .before .before .before .before .before .before .before .before .before .before .before .before .before .before .before .before .before .before .order .last .1 .1 .1 .0) (c .before .before .before .before .before .before .before .before .before .before .before .before .before .before .before .before .before .before .before .order .last .1 .1 .1 .1 .0) (c .before .before .before .before .before .before .before .before .before .before .before .before .before .before .before .before .before .before .before .order .last .1 .1 .1 .1 .1 .0) (c .before .before .before .before .before .before .before .before .before .before .before .before .before .before .before .before .before .before .before .order .ensures)),
-      subst (λ (k : ℕ). Placed k (c .before .before .before .before .before .before .before .before .before .lock-keys .result .answer)) (sym s) (placed-in _ (c .before .before .before .before .before .before .before .before .before .before .before .before .before .before .before .before .before .before .before .order .result) _ _ _ _ _ _ _ _ (c .before .before .before .before .before .before .before .before .before .lock-keys .ensures)),
+      subst (λ (k : ℕ). Placed k (c .before .before .before .before .before .before .before .before .before .lock-keys .result .answer)) (sym s) (placed-in _ (c .before .before .before .before .before .before .before .before .before .before .before .before .before .before .before .before .before .before .before .order .result) _ _ _ _ _ _ _ _ _ (c .before .before .before .before .before .before .before .before .before .lock-keys .ensures)),
     )
 
 same-length : tie.Need-same-length
@@ -111,8 +114,8 @@ same-length-3 c = search needs
 returns : tie.Need-returns
 returns c =
     let a = c .before .before .before .before .before .before .before .before .before .before .before .before .before .before .before .before .before .before .before .before .before .before .before .before .before .before .before .before .before .before .before .before .before .before .before .before .before .args in
-    let own : length (c .before .before .before .before .before .before .before .before .before .before .before .before .lock-keys .last .1 .1 .1 .1 .1 .1 .1 .1 .1 .0) ≡ 2 * c .before .before .before .before .before .before .before .before .before .before .before .before .before .before .before .before .before .before .before .before .before .before .order .result = omega (arith, c .before .before .before .before .before .before .before .before .before .before .before .before .lock-keys .kept, length-take-le (2 * c .before .before .before .before .before .before .before .before .before .before .before .before .before .before .before .before .before .before .before .before .before .before .order .result) (c .before .before .before .before .before .before .before .before .before .before .before .before .before .before .before .before .before .before .before .before .before .before .before .before .before .before .room4 .result) (omega (arith, cells-few (c .before .before .before .before .before .before .before .before .before .before .before .before .before .before .before .before .before .before .before .before .before .before .before .before .before .before .before .before .before .before .before .before .before .before .before .before .before .args .head) (c .before .before .before .before .before .before .before .before .before .before .before .before .before .before .before .before .before .before .before .before .before .before .before .before .before .before .before .before .before .before .before .before .before .before .before .before .before .args .registry .now) (c .before .before .before .before .before .before .before .before .before .before .before .before .before .before .before .before .before .before .before .before .before .before .before .before .before .before .before .before .before .before .before .before .before .before .before .before .before .args .keys .now) (c .before .before .before .before .before .before .before .before .before .before .before .before .before .before .before .before .before .before .before .before .before .before .order .result) (c .before .before .before .before .before .before .before .before .before .before .before .before .before .before .before .before .before .before .before .before .before .before .order .last .1 .1 .1 .0) (c .before .before .before .before .before .before .before .before .before .before .before .before .before .before .before .before .before .before .before .before .before .before .order .last .1 .1 .1 .1 .0) (c .before .before .before .before .before .before .before .before .before .before .before .before .before .before .before .before .before .before .before .before .before .before .order .last .1 .1 .1 .1 .1 .0) (c .before .before .before .before .before .before .before .before .before .before .before .before .before .before .before .before .before .before .before .before .before .before .order .ensures), c .before .before .before .before .before .before .before .before .before .before .before .before .before .before .before .before .before .before .before .before .before .before .before .before .before .before .before .before .before .before .before .before .before .before .before .before .before .pre .1 .few, c .before .before .before .before .before .before .before .before .before .before .before .before .before .before .before .before .before .before .before .before .before .before .before .before .before .before .room4 .ensures))) in
-    let e = take-at (c .before .before .before .before .before .before .before .before .before .before .before .before .lock-keys .last .1 .1 .1 .1 .1 .1 .1 .1 .1 .0) (drop (2 * c .before .before .before .before .before .before .before .before .before .before .before .before .before .before .before .before .before .before .before .before .before .before .order .result) (c .before .before .before .before .before .before .before .before .before .before .before .before .before .before .before .before .before .before .before .before .before .before .before .before .before .before .room4 .result)) (2 * c .before .before .before .before .before .before .before .before .before .before .before .before .before .before .before .before .before .before .before .before .before .before .order .result) own in
+    let own : length (c .before .before .before .before .before .before .before .before .before .before .before .before .lock-keys .last .1 .1 .1 .1 .1 .1 .1 .1 .1 .0) ≡ 3 * c .before .before .before .before .before .before .before .before .before .before .before .before .before .before .before .before .before .before .before .before .before .before .order .result = omega (arith, c .before .before .before .before .before .before .before .before .before .before .before .before .lock-keys .kept, length-take-le (3 * c .before .before .before .before .before .before .before .before .before .before .before .before .before .before .before .before .before .before .before .before .before .before .order .result) (c .before .before .before .before .before .before .before .before .before .before .before .before .before .before .before .before .before .before .before .before .before .before .before .before .before .before .lease-room .result) (omega (arith, cells-few (c .before .before .before .before .before .before .before .before .before .before .before .before .before .before .before .before .before .before .before .before .before .before .before .before .before .before .before .before .before .before .before .before .before .before .before .before .before .args .head) (c .before .before .before .before .before .before .before .before .before .before .before .before .before .before .before .before .before .before .before .before .before .before .before .before .before .before .before .before .before .before .before .before .before .before .before .before .before .args .registry .now) (c .before .before .before .before .before .before .before .before .before .before .before .before .before .before .before .before .before .before .before .before .before .before .before .before .before .before .before .before .before .before .before .before .before .before .before .before .before .args .keys .now) (c .before .before .before .before .before .before .before .before .before .before .before .before .before .before .before .before .before .before .before .before .before .before .order .result) (c .before .before .before .before .before .before .before .before .before .before .before .before .before .before .before .before .before .before .before .before .before .before .order .last .1 .1 .1 .0) (c .before .before .before .before .before .before .before .before .before .before .before .before .before .before .before .before .before .before .before .before .before .before .order .last .1 .1 .1 .1 .0) (c .before .before .before .before .before .before .before .before .before .before .before .before .before .before .before .before .before .before .before .before .before .before .order .last .1 .1 .1 .1 .1 .0) (c .before .before .before .before .before .before .before .before .before .before .before .before .before .before .before .before .before .before .before .before .before .before .order .ensures), c .before .before .before .before .before .before .before .before .before .before .before .before .before .before .before .before .before .before .before .before .before .before .before .before .before .before .before .before .before .before .before .before .before .before .before .before .before .pre .1 .few, c .before .before .before .before .before .before .before .before .before .before .before .before .before .before .before .before .before .before .before .before .before .before .before .before .before .before .lease-room .ensures))) in
+    let e = take-at (c .before .before .before .before .before .before .before .before .before .before .before .before .lock-keys .last .1 .1 .1 .1 .1 .1 .1 .1 .1 .0) (drop (3 * c .before .before .before .before .before .before .before .before .before .before .before .before .before .before .before .before .before .before .before .before .before .before .order .result) (c .before .before .before .before .before .before .before .before .before .before .before .before .before .before .before .before .before .before .before .before .before .before .before .before .before .before .lease-room .result)) (3 * c .before .before .before .before .before .before .before .before .before .before .before .before .before .before .before .before .before .before .before .before .before .before .order .result) own in
     sorted-ends (a .head) (a .table .now) (a .health .now) (a .registry .now) (a .script .now) (a .place) (a .held .now) (a .keys .now) (a .grants .now) (c .before .before .before .before .before .before .before .before .before .before .before .before .before .before .before .before .before .before .scope-of .result) (c .before .before .before .before .before .before .before .before .before .before .before .before .before .before .before .before .before .starting .result) (c .before .before .before .before .before .before .before .before .before .before .before .before .before .before .before .before .before .before .before .before .before .before .order .result) _ _ _ _ _ _ _ (c .before .before .before .before .before .before .before .before .before .before .before .before .lock-keys .last .1 .1 .1 .1 .1 .1 .1 .1 .1 .0) _ _ (c .before .before .before .before .before .before .before .before .before .before .before .before .before .before .before .before .before .before .scope-of .ensures) (c .before .before .before .before .before .before .before .before .before .before .before .before .before .before .before .before .before .starting .ensures) (c .before .before .before .before .before .before .before .before .before .before .before .before .before .before .before .before .before .before .before .before .before .before .order .ensures) (c .before .before .before .before .before .before .before .before .before .before .before .before .lock-keys .ensures) (c .before .before .finish .ensures ∙ ap (λ (z : List ℕ). backOf (a .head) (c .before .before .before .before .before .before .before .before .before .before .before .before .lock-keys .result) (take (length (a .keys .now) / 2) (c .before .before .before .before .before .before .before .before .before .before .before .before .before .before .before .before .before .before .before .before .before .before .order .last .1 .1 .1 .0)) (take (c .before .before .before .before .before .before .before .before .before .before .before .before .before .before .before .before .before .before .before .before .before .before .order .result) (c .before .before .before .before .before .before .before .before .before .before .before .before .before .before .before .before .before .before .before .before .before .before .order .last .1 .1 .1 .1 .0)) z (a .grants .now)) e)
 
 pub sorted-once-spec : {M : Type 1} → statement M
@@ -122,12 +125,13 @@ sorted-once-spec =
     room-requires
     room-requires-2
     room-requires-3
-    room-requires-4
+    lease-room-requires
     slice-aggregate-order
     slice-aggregate-order-2
     slice-aggregate-order-3
     order-requires
     mul-words
+    mul-granted
     scope-of-requires
     starting-requires
     array-share-prefix-chosen

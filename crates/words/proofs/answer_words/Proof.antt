@@ -21,6 +21,9 @@ cast-t10 c = search needs
 cast-t11 : tie.Need-cast-t11
 cast-t11 c = search needs
 
+cast-t12 : tie.Need-cast-t12
+cast-t12 c = search needs
+
 enum-told-2 : tie.Need-enum-told-2
 enum-told-2 c = search needs
 
@@ -55,7 +58,7 @@ returns-2 : tie.Need-returns-2
 returns-2 c = rw (c .before .answer .given .1)
 
 returns-3 : tie.Need-returns-3
-returns-3 c = rw (c .before .before .before .answer2 .given .1)
+returns-3 c = rw (c .before .before .before .before .answer2 .given .1)
 
 returns-4 : tie.Need-returns-4
 returns-4 c = search needs
@@ -79,6 +82,7 @@ answer-words-spec =
     enum-known-answer-2
     cast-t10
     cast-t11
+    cast-t12
     enum-told-2
     enum-known-answer-3
     number-requires

@@ -60,6 +60,9 @@ enum-told-13 c = search needs
 enum-told-14 : tie.Need-enum-told-14
 enum-told-14 c = search needs
 
+enum-told-15 : tie.Need-enum-told-15
+enum-told-15 c = search needs
+
 returns : tie.Need-returns
 returns c = search needs
 
@@ -105,6 +108,9 @@ returns-14 c = search needs
 returns-15 : tie.Need-returns-15
 returns-15 c = search needs
 
+returns-16 : tie.Need-returns-16
+returns-16 c = search needs
+
 pub reason-words-spec : {M : Type 1} → statement M
 reason-words-spec =
     tie.close
@@ -128,6 +134,7 @@ reason-words-spec =
     enum-told-12
     enum-told-13
     enum-told-14
+    enum-told-15
     returns
     returns-2
     returns-3
@@ -142,4 +149,5 @@ reason-words-spec =
     returns-12
     returns-13
     returns-14
-    returns-15)
+    returns-15
+    returns-16)

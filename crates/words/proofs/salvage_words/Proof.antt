@@ -16,17 +16,20 @@ cast-t7 c = search needs
 cast-t8 : tie.Need-cast-t8
 cast-t8 c = search needs
 
-array-read-t11 : tie.Need-array-read-t11
-array-read-t11 c = search needs
+cast-t9 : tie.Need-cast-t9
+cast-t9 c = search needs
 
-array-read-t14 : tie.Need-array-read-t14
-array-read-t14 c = search needs
+array-read-t12 : tie.Need-array-read-t12
+array-read-t12 c = search needs
 
-array-read-t17 : tie.Need-array-read-t17
-array-read-t17 c = search needs
+array-read-t15 : tie.Need-array-read-t15
+array-read-t15 c = search needs
+
+array-read-t18 : tie.Need-array-read-t18
+array-read-t18 c = search needs
 
 returns : tie.Need-returns
-returns c = let a = c .before .before .before .before .before .args in salvage-laid (a .r) (c .before .before .before .salvaged-words .result) (c .before .before .before .salvaged-words .ensures)
+returns c = let a = c .before .before .before .before .before .before .args in salvage-laid (a .r) (c .before .before .before .before .salvaged-words .result) (c .before .before .before .before .salvaged-words .ensures)
 
 pub salvage-words-spec : {M : Type 1} → statement M
 salvage-words-spec =
@@ -36,7 +39,8 @@ salvage-words-spec =
     cast-t6
     cast-t7
     cast-t8
-    array-read-t11
-    array-read-t14
-    array-read-t17
+    cast-t9
+    array-read-t12
+    array-read-t15
+    array-read-t18
     returns)

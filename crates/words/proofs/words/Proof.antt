@@ -16,26 +16,29 @@ cast-t8 c = search needs
 cast-t9 : tie.Need-cast-t9
 cast-t9 c = search needs
 
-array-read-t17 : tie.Need-array-read-t17
-array-read-t17 c = search needs
+cast-t10 : tie.Need-cast-t10
+cast-t10 c = search needs
 
-array-read-t20 : tie.Need-array-read-t20
-array-read-t20 c = search needs
+array-read-t18 : tie.Need-array-read-t18
+array-read-t18 c = search needs
 
-array-read-t23 : tie.Need-array-read-t23
-array-read-t23 c = search needs
+array-read-t21 : tie.Need-array-read-t21
+array-read-t21 c = search needs
 
-array-read-t26 : tie.Need-array-read-t26
-array-read-t26 c = search needs
+array-read-t24 : tie.Need-array-read-t24
+array-read-t24 c = search needs
 
-array-read-t29 : tie.Need-array-read-t29
-array-read-t29 c = search needs
+array-read-t27 : tie.Need-array-read-t27
+array-read-t27 c = search needs
 
-array-read-t32 : tie.Need-array-read-t32
-array-read-t32 c = search needs
+array-read-t30 : tie.Need-array-read-t30
+array-read-t30 c = search needs
+
+array-read-t33 : tie.Need-array-read-t33
+array-read-t33 c = search needs
 
 returns : tie.Need-returns
-returns c = let a = c .before .before .before .before .args in laid (a .head) (a .place) (a .counts) (a .answer) (c .before .before .before .said-words .result) (c .before .before .before .said-words .ensures)
+returns c = let a = c .before .before .before .before .before .args in laid (a .head) (a .place) (a .counts) (a .answer) (c .before .before .before .before .said-words .result) (c .before .before .before .before .said-words .ensures)
 
 pub words-spec : {M : Type 1} → statement M
 words-spec =
@@ -45,10 +48,11 @@ words-spec =
     cast-t7
     cast-t8
     cast-t9
-    array-read-t17
-    array-read-t20
-    array-read-t23
-    array-read-t26
-    array-read-t29
-    array-read-t32
+    cast-t10
+    array-read-t18
+    array-read-t21
+    array-read-t24
+    array-read-t27
+    array-read-t30
+    array-read-t33
     returns)

@@ -31,15 +31,15 @@ fn main() -> io::Result<()> {
 
 /// Every call but `write_setpoint`, which takes a word too, with the count of its numbers.
 const CALLS: [(&str, usize); 23] = [
-    ("prepare", 3),
+    ("prepare", 4),
     ("try_acquire", 1),
-    ("drop_lease", 2),
-    ("read_permission", 2),
-    ("competing_acquire_is_excluded", 2),
-    ("release_then_handoff", 2),
-    ("foreign_release_between_attempts", 2),
+    ("drop_lease", 3),
+    ("read_permission", 3),
+    ("competing_acquire_is_excluded", 3),
+    ("release_then_handoff", 3),
+    ("foreign_release_between_attempts", 3),
     ("acquire_preserving_borrows", 1),
-    ("drop_preserving_borrows", 2),
+    ("drop_preserving_borrows", 3),
     ("environment", 0),
     ("environment_for_borrows", 0),
     ("try_lock", 1),
@@ -75,7 +75,7 @@ const PRESSURES: [u32; 14] = [
 ];
 
 /// Lines that are not understood.
-const BAD_LINES: [&str; 130] = [
+const BAD_LINES: [&str; 144] = [
     " ",
     "\t",
     "\r",
@@ -97,8 +97,10 @@ const BAD_LINES: [&str; 130] = [
     "lend 1 71",
     "lend 1 2 3",
     "head 1 2",
-    "head 1 2 3 4",
-    "head 1 2 4294967296",
+    "head 1 2 3",
+    "head 1 2 3 4 5",
+    "head 1 2 3 4294967296",
+    "head 1 2 3 -1",
     "word 12600 0",
     "word 4294967295 0",
     "word 0",
@@ -133,8 +135,18 @@ const BAD_LINES: [&str; 130] = [
     "crewless 1",
     "member 1 a",
     "prepare 2 4",
-    "prepare 2 4 1 1",
-    "prepare 2 4 1\r",
+    "prepare 2 4 1",
+    "prepare 2 4 1 1 1",
+    "prepare 2 4 1 1\r",
+    "prepare 2 4 1 01",
+    "drop_lease 1 1",
+    "drop_lease 1 1 1 1",
+    "read_permission 1 1",
+    "read_permission 1 1 4294967296",
+    "competing_acquire_is_excluded 1 1",
+    "release_then_handoff 1 1",
+    "foreign_release_between_attempts 1 1",
+    "drop_preserving_borrows 1 1",
     "try_lock",
     "try-lock 1",
     "environment 0",
@@ -174,18 +186,20 @@ const BAD_LINES: [&str; 130] = [
     "read_setpoint 0 0",
     "read_setpoint speed",
     "write_setpoint",
-    "write_setpoint 0 0 1 speed",
-    "write_setpoint 0 0 1 2 5",
-    "write_setpoint 0 0 1 0 speed 5",
-    "write_setpoint 0 0 1 speed 5 5",
+    "write_setpoint 0 0 1 1 speed",
+    "write_setpoint 0 0 1 1 2 5",
+    "write_setpoint 0 0 1 speed 5",
+    "write_setpoint 0 0 1 1 0 speed 5",
+    "write_setpoint 0 0 1 1 speed 5 5",
     "write_setpoint 0 0 speed 5",
-    "write_setpoint 0 0 1 Valve 1",
-    "write_setpoint 0 0 1 valve 2",
-    "write_setpoint 0 0 1 valve 4294967295",
-    "write_setpoint 0 0 1 speed 4294967296",
-    "write_setpoint 0 0 1 pressure 1.5",
-    "write_setpoint 0 0 1 pressure  5",
-    "write_setpoint 0 0 1 speed\t5",
+    "write_setpoint 0 0 1 1 Valve 1",
+    "write_setpoint 0 0 1 1 valve 2",
+    "write_setpoint 0 0 1 1 valve 4294967295",
+    "write_setpoint 0 0 1 1 speed 4294967296",
+    "write_setpoint 0 0 1 4294967296 speed 5",
+    "write_setpoint 0 0 1 1 pressure 1.5",
+    "write_setpoint 0 0 1 1 pressure  5",
+    "write_setpoint 0 0 1 1 speed\t5",
     "counters 65536",
     "counters 1 2 65536",
     "counters 1 4294967295 1",
@@ -218,6 +232,10 @@ struct Writer {
     restless: usize,
     /// The last line written, for bad copies of it.
     last: Vec<u8>,
+    /// The last new boot number, those of the last preparations, and leases from before some of them.
+    new_boot: u32,
+    boots: Vec<u32>,
+    old: Vec<[u32; 3]>,
 }
 
 impl Writer {
@@ -230,6 +248,9 @@ impl Writer {
             failures: 0,
             restless: 0,
             last: Vec::new(),
+            new_boot: 0,
+            boots: Vec::new(),
+            old: Vec::new(),
         }
     }
 
@@ -242,7 +263,7 @@ impl Writer {
             }
         }
         self.write("map", &[]);
-        self.write_setpoint(0, [0, 1], "speed", 1);
+        self.write_setpoint(0, [0, 1, 0], "speed", 1);
         // long lines are dear: one for each 3,000 calls
         let mut long = 3_000;
         while self.calls < calls {
@@ -346,9 +367,30 @@ impl Writer {
         self.write("trace", &[u32::from(trace)]);
     }
 
-    fn write_setpoint(&mut self, slot: u32, [cell, serial]: [u32; 2], kind: &str, value: u32) {
-        let line = format!("write_setpoint {slot} {cell} {serial} {kind} {value}");
+    fn write_setpoint(&mut self, slot: u32, lease: [u32; 3], kind: &str, value: u32) {
+        let [cell, serial, boot] = lease;
+        let line = format!("write_setpoint {slot} {cell} {serial} {boot} {kind} {value}");
         self.line(line.as_bytes());
+    }
+
+    fn prepare(&mut self, headers: u32, buckets: u32, first: u32) {
+        let boot = self.next_boot();
+        self.prepare_under(boot, headers, buckets, first);
+    }
+
+    /// A preparation, before which some of the live leases are remembered.
+    fn prepare_under(&mut self, boot: u32, headers: u32, buckets: u32, first: u32) {
+        self.remember();
+        self.write("prepare", &[headers, buckets, first, boot]);
+        self.boots.push(boot);
+        let over = self.boots.len().saturating_sub(12);
+        self.boots.drain(..over);
+    }
+
+    /// The head in force, with another next serial.
+    fn write_next(&mut self, next: u32) {
+        let numbers = [self.headers(), self.buckets(), next, self.boot()];
+        self.write("head", &numbers);
     }
 
     /// `show_book`, of long books seldom: before it is prepared it may be full of rubbish.
@@ -376,6 +418,10 @@ impl Writer {
         self.console.head.next
     }
 
+    fn boot(&self) -> u32 {
+        self.console.head.boot
+    }
+
     /// The three words of a cell of the table.
     fn words(&self, cell: u32) -> [u32; 3] {
         let at = 3 * (cell as usize).min(console::TABLE / 3 - 1);
@@ -391,12 +437,21 @@ impl Writer {
     }
 
     /// Every live lease, the first 80 of them.
-    fn live(&self) -> Vec<[u32; 2]> {
+    fn live(&self) -> Vec<[u32; 3]> {
         (0..self.cells())
-            .map(|cell| [cell, self.words(cell)[1]])
+            .map(|cell| [cell, self.words(cell)[1], self.boot()])
             .filter(|lease| self.is_live(lease[0], lease[1]))
             .take(80)
             .collect()
+    }
+
+    /// Keeps some of the live leases for later, and a few of those that were kept before.
+    fn remember(&mut self) {
+        let live = self.some_live(4);
+        let leases = live.chunks_exact(3);
+        self.old.extend(leases.map(|one| [one[0], one[1], one[2]]));
+        let over = self.old.len().saturating_sub(16);
+        self.old.drain(..over);
     }
 
     // ---- Numbers to name
@@ -413,29 +468,76 @@ impl Writer {
         }
     }
 
-    fn lease(&mut self) -> [u32; 2] {
+    /// A lease: mostly one that is live, or would be but for its boot number.
+    fn lease(&mut self) -> [u32; 3] {
         let live = self.live();
-        let cell = self.cell();
-        match self.dice.below(16) {
-            0 => [cell, self.dice.odd_number()],
-            1 => [cell, self.next().wrapping_add(self.dice.number(3))],
-            2 => [cell, self.words(cell)[1]],
-            3 => [cell, 0],
+        let (cell, boot) = (self.cell(), self.boot());
+        let lease = match self.dice.below(18) {
+            0 => [cell, self.dice.odd_number(), boot],
+            1 => [cell, self.next().wrapping_add(self.dice.number(3)), boot],
+            2 => [cell, self.words(cell)[1], boot],
+            3 => [cell, 0, boot],
             4 if !live.is_empty() => {
-                let [cell, serial] = self.dice.pick(&live);
-                [cell, serial.wrapping_add(self.dice.pick(&[1, u32::MAX]))]
+                let [cell, serial, _] = self.dice.pick(&live);
+                let serial = serial.wrapping_add(self.dice.pick(&[1, u32::MAX]));
+                [cell, serial, boot]
             }
             5 if !live.is_empty() => {
-                let [cell, serial] = self.dice.pick(&live);
-                [self.cells() + cell, serial]
+                let [cell, serial, _] = self.dice.pick(&live);
+                [self.cells() + cell, serial, boot]
             }
-            6 if self.console.held.len() >= 2 => [self.console.held[0], self.console.held[1]],
+            6 => match self.console.held.get(..3) {
+                Some(held) => [held[0], held[1], held[2]],
+                None => self.old_lease(),
+            },
+            7..=8 => self.old_lease(),
             _ if !live.is_empty() => self.dice.pick(&live),
-            _ => [cell, self.next().wrapping_sub(1)],
+            _ => [cell, self.next().wrapping_sub(1), boot],
+        };
+        match self.dice.once_in(9) {
+            true => self.of_another_boot(lease),
+            false => lease,
         }
     }
 
-    /// Some live leases, each at most once.
+    /// A lease from before a preparation, if there is one.
+    fn old_lease(&mut self) -> [u32; 3] {
+        match self.old.is_empty() {
+            true => [self.cell(), 1, self.boot()],
+            false => self.dice.pick(&self.old),
+        }
+    }
+
+    /// The lease with a boot number that is mostly not the head's.
+    fn of_another_boot(&mut self, [cell, serial, boot]: [u32; 3]) -> [u32; 3] {
+        let near = boot.wrapping_add(self.dice.pick(&[1, u32::MAX]));
+        let any = self.dice.odd_number();
+        let used = match self.boots.is_empty() {
+            true => 0,
+            false => self.dice.pick(&self.boots),
+        };
+        // the serial and the boot number taken for one another
+        let boot = self.dice.pick(&[near, near, any, used, used, serial, 0]);
+        [cell, serial, boot]
+    }
+
+    /// The boot number of a preparation: mostly a new one, the next or any; else 0, one used before, or the one in
+    /// force.
+    fn next_boot(&mut self) -> u32 {
+        match self.dice.below(16) {
+            0 => 0,
+            1 => self.dice.odd_number(),
+            2 => self.dice.roll() as u32,
+            3..=4 if !self.boots.is_empty() => self.dice.pick(&self.boots),
+            5..=6 => self.boot(),
+            _ => {
+                self.new_boot += 1;
+                self.new_boot
+            }
+        }
+    }
+
+    /// Some live leases, each at most once, word by word.
     fn some_live(&mut self, most: usize) -> Vec<u32> {
         let mut live = self.live();
         let count = self.dice.below(live.len() + 1).min(most);
@@ -454,7 +556,7 @@ impl Writer {
             6 => [5, self.dice.odd_number(), self.dice.odd_number()],
             7..=9 => [1, self.cell(), 0],
             10..=11 => {
-                let [cell, serial] = self.lease();
+                let [cell, serial, _] = self.lease();
                 [2, cell, serial]
             }
             // a lease that will be live only when its turn comes
@@ -508,7 +610,7 @@ impl Writer {
         if self.dice.once_in(6) {
             self.bad_prepare(headers, buckets, first);
         }
-        self.write("prepare", &[headers, buckets, first]);
+        self.prepare(headers, buckets, first);
         self.registry();
         if self.dice.once_in(3) {
             self.write("held", &[]);
@@ -520,8 +622,8 @@ impl Writer {
     fn rubbish(&mut self) {
         let headers = self.dice.number(3) + 1;
         let buckets = self.dice.number(4) + 1;
-        let next = self.dice.odd_number();
-        self.write("head", &[headers, buckets, next]);
+        let (next, boot) = (self.dice.odd_number(), self.next_boot());
+        self.write("head", &[headers, buckets, next, boot]);
         for _ in 0..self.dice.below(4) {
             self.damage();
         }
@@ -547,7 +649,9 @@ impl Writer {
         if numbers == [headers, buckets, first] || self.dice.once_in(3) {
             self.lend(numbers[0].min(64), numbers[1].min(1024));
         }
-        self.write("prepare", &numbers);
+        let [headers, buckets, first] = numbers;
+        let boot = self.next_boot();
+        self.write("prepare", &[headers, buckets, first, boot]);
         if self.console.lent.is_some() {
             self.write("lend", &[]);
         }
@@ -657,10 +761,11 @@ impl Writer {
             headers,
             buckets,
             next,
+            boot,
         } = self.console.head;
         let back = self.dice.number(4);
         let odd = self.dice.odd_number();
-        let numbers = match self.dice.below(14) {
+        let numbers = match self.dice.below(16) {
             0 => [0, buckets, next],
             1 => [65, buckets, next],
             2 => [headers, 0, next],
@@ -677,7 +782,15 @@ impl Writer {
             12 => [headers, buckets, u32::MAX - 1 - back],
             _ => [headers, buckets, next],
         };
-        self.write("head", &numbers);
+        // a head of another boot: the leases of this one are stale meanwhile
+        let other = match self.dice.below(6) {
+            0..=1 => self.next_boot(),
+            _ => boot,
+        };
+        if other != boot {
+            self.remember();
+        }
+        self.write("head", &[numbers[0], numbers[1], numbers[2], other]);
         for _ in 0..self.dice.below(3) + 1 {
             self.call();
         }
@@ -690,7 +803,11 @@ impl Writer {
         // the serials spent meanwhile are spent, where the head was a good one
         let now = self.console.head.next;
         let kept = numbers[..2] == [headers, buckets] && now != 0 && self.dice.once_in(2);
-        self.write("head", &[headers, buckets, if kept { now } else { next }]);
+        let next = if kept { now } else { next };
+        if other != boot {
+            self.remember();
+        }
+        self.write("head", &[headers, buckets, next, boot]);
     }
 
     fn other_lending(&mut self) {
@@ -716,7 +833,7 @@ impl Writer {
             self.lend(headers.min(64), buckets.min(1024));
         }
         if self.dice.once_in(8) {
-            self.write("head", &[head.headers, head.buckets, 0]);
+            self.write("head", &[head.headers, head.buckets, 0, head.boot]);
         }
         if self.dice.once_in(8) {
             self.write("registry", &[0; 65]);
@@ -729,7 +846,13 @@ impl Writer {
         match self.dice.below(6) {
             0 => self.write("held", &[0]),
             1 => {
-                let leases = [self.lease(), self.lease(), self.lease()].concat();
+                let mut leases = [self.lease(), self.lease(), self.lease()].concat();
+                // no whole leases, so their boot numbers do not matter
+                leases.truncate(self.dice.pick(&[9, 9, 9, 8, 7]));
+                self.write("held", &leases);
+            }
+            2 => {
+                let leases = self.live_and_stale();
                 self.write("held", &leases);
             }
             _ => {}
@@ -738,7 +861,7 @@ impl Writer {
             let mut keys = [self.key(), self.key(), self.key()].concat();
             keys.truncate(self.dice.pick(&[2, 3, 4, 6]));
             self.write("keys", &keys);
-            let words = self.dice.pick(&[2, 3, 4, 6]);
+            let words = self.dice.pick(&[2, 3, 4, 6, 6, 9]);
             self.write("grants", &[words]);
         }
         if self.dice.once_in(2) {
@@ -785,7 +908,7 @@ impl Writer {
             self.write("lend", &[]);
         }
         if self.next() == 0 {
-            self.write("head", &[head.headers, head.buckets, head.next]);
+            self.write("head", &[head.headers, head.buckets, head.next, head.boot]);
         }
         if self.console.registry.len() > 64 {
             self.registry();
@@ -832,7 +955,7 @@ impl Writer {
 
     /// A script under which a cell that a foreign holder has is let go after some boundaries; now and then its header
     /// is poisoned soon after, while the cell is being taken or before.
-    fn patient_script(&mut self, lease: [u32; 2]) {
+    fn patient_script(&mut self, lease: [u32; 3]) {
         let mut script = Vec::new();
         for _ in 0..self.dice.below(40) {
             script.extend([5, 0, 0]);
@@ -883,7 +1006,7 @@ impl Writer {
     fn letting_go_script(&mut self) {
         let leases = self.some_live(4);
         let script: Vec<u32> = leases
-            .chunks(2)
+            .chunks(3)
             .flat_map(|lease| [2, lease[0], lease[1]])
             .collect();
         self.write("script", &script);
@@ -891,7 +1014,7 @@ impl Writer {
 
     /// A script that takes each cell as soon as `release_all` has given it up, and now and then another.
     fn greedy_script(&mut self) {
-        let leases = self.console.leases.chunks_exact(2);
+        let leases = self.console.leases.chunks_exact(3);
         let cells: Vec<u32> = leases.rev().map(|lease| lease[0]).collect();
         let mut script = Vec::new();
         for cell in cells {
@@ -992,8 +1115,8 @@ impl Writer {
 
     fn held(&mut self) {
         let mut list = self.some_live(8);
-        match self.dice.below(24) {
-            0 => list.push(0),
+        match self.dice.below(30) {
+            0 => list.extend(&[0, 0][..self.dice.below(2) + 1]),
             1 => {
                 let lease = self.lease();
                 list.extend(lease);
@@ -1002,52 +1125,97 @@ impl Writer {
             2 => {
                 list.extend_from_within(..);
             }
-            3 if self.dice.once_in(3) => list = self.many(&[64, 65, 66, 100, 150]),
-            4..=10 => list.clear(),
+            3 if self.dice.once_in(3) => list = self.many(&[64, 65, 66, 100]),
+            4 => list = without_boots(&list),
+            5..=7 => list = self.live_and_stale(),
+            8..=15 => list.clear(),
             _ => {}
         }
         self.write("held", &list);
     }
 
-    /// A long list that has one live lease again and again, sometimes with an odd word behind.
+    /// Live leases among which stale ones stand, and now and then one that is not live, before them or behind.
+    fn live_and_stale(&mut self) -> Vec<u32> {
+        if self.live().len() < 2 {
+            self.call_by_cell("try_acquire");
+            self.call_by_cell("try_acquire");
+        }
+        let mut list = self.some_live(6);
+        for _ in 0..self.dice.below(2) + 1 {
+            let lease = match self.dice.below(3) {
+                // a lease that is there already, or is live, but for its boot number
+                0 if list.len() >= 3 => {
+                    let again = 3 * self.dice.below(list.len() / 3);
+                    self.of_another_boot([list[again], list[again + 1], list[again + 2]])
+                }
+                1 => self.old_lease(),
+                _ => {
+                    let lease = self.lease();
+                    self.of_another_boot(lease)
+                }
+            };
+            insert(&mut list, &mut self.dice, lease);
+        }
+        match self.dice.below(6) {
+            // one that is not live
+            0..=1 => {
+                let lease = [self.cell(), self.dice.odd_number(), self.boot()];
+                insert(&mut list, &mut self.dice, lease);
+            }
+            // one twice, so that release_all refuses it too
+            2 => {
+                let again = 3 * self.dice.below(list.len() / 3);
+                let lease = [list[again], list[again + 1], list[again + 2]];
+                insert(&mut list, &mut self.dice, lease);
+            }
+            // no whole leases
+            3 if self.dice.once_in(2) => list.extend(&[0, 0][..self.dice.below(2) + 1]),
+            _ => {}
+        }
+        list
+    }
+
+    /// A long list that has one live lease again and again, sometimes with a word or two too few.
     fn many(&mut self, lengths: &[usize]) -> Vec<u32> {
         let count = self.dice.pick(lengths);
         let lease = self.lease();
         let mut list = lease.repeat(count);
         if self.dice.once_in(4) {
-            list.pop();
+            list.truncate(3 * count - 1 - self.dice.below(2));
         }
         list
     }
 
     fn leases(&mut self) {
         let mut list = self.some_live(70);
-        match self.dice.below(24) {
-            0 => list.push(1),
+        match self.dice.below(30) {
+            0 => list.extend(&[1, 1][..self.dice.below(2) + 1]),
             1..=2 => {
                 let lease = self.lease();
-                let at = 2 * self.dice.below(list.len() / 2 + 1);
-                list.splice(at..at, lease);
+                insert(&mut list, &mut self.dice, lease);
             }
-            3..=4 if list.len() >= 2 => {
-                let at = 2 * self.dice.below(list.len() / 2);
-                list.extend_from_within(at..at + 2);
+            3..=4 if list.len() >= 3 => {
+                let at = 3 * self.dice.below(list.len() / 3);
+                list.extend_from_within(at..at + 3);
                 list.extend(self.some_live(3));
             }
-            5 if self.dice.once_in(3) => list = self.many(&[64, 65, 66, 100, 150]),
+            5 if self.dice.once_in(3) => list = self.many(&[64, 65, 66, 100]),
             6 => list.clear(),
-            // repeats and leases that are not live, in any order
-            7..=8 if list.len() >= 2 => {
+            // repeats, leases that are not live and stale ones, in any order
+            7..=10 if list.len() >= 3 => {
                 for _ in 0..3 {
-                    let again = 2 * self.dice.below(list.len() / 2);
-                    let lease = match self.dice.once_in(2) {
-                        true => [list[again], list[again + 1]],
-                        false => [self.cell(), self.dice.odd_number()],
+                    let again = 3 * self.dice.below(list.len() / 3);
+                    let twice = [list[again], list[again + 1], list[again + 2]];
+                    let lease = match self.dice.below(7) {
+                        0..=2 => twice,
+                        3..=4 => self.of_another_boot(twice),
+                        _ => [self.cell(), self.dice.odd_number(), self.boot()],
                     };
-                    let at = 2 * self.dice.below(list.len() / 2 + 1);
-                    list.splice(at..at, lease);
+                    insert(&mut list, &mut self.dice, lease);
                 }
             }
+            11..=13 => list = self.live_and_stale(),
+            14 => list = without_boots(&list),
             _ => {}
         }
         self.write("leases", &list);
@@ -1192,14 +1360,16 @@ impl Writer {
     /// Keys, and mostly a grant buffer that fits them.
     fn write_keys(&mut self, list: &[u32]) {
         self.write("keys", list);
-        let words = list.len() as u32;
+        let words = 3 * (list.len() / 2) as u32;
         let words = match self.dice.below(30) {
             0 => words + 1,
             1 => words.saturating_sub(1),
-            2 => words + 2,
-            3 => self.dice.pick(&[0, 2, 300]),
+            // two words a key
+            2 => list.len() as u32,
+            3 => self.dice.pick(&[0, 2, 3, 300, words + 3]),
             _ => words,
         };
+        let words = words.min(console::GRANTS as u32);
         if words as usize != self.console.grants.len() || self.dice.once_in(3) {
             self.write("grants", &[words]);
         }
@@ -1320,6 +1490,7 @@ impl Writer {
             19..=20 => self.faults(),
             21 => self.echo(),
             22 => self.trace(),
+            23 => self.same_day_again(),
             _ => {}
         }
         self.call();
@@ -1333,12 +1504,11 @@ impl Writer {
     }
 
     fn call(&mut self) {
-        let stale = self
-            .console
-            .held
-            .chunks(2)
-            .any(|lease| lease.len() == 1 || !self.is_live(lease[0], lease[1]));
-        if self.dice.once_in(if stale { 2 } else { 12 }) {
+        let refused = self.console.held.chunks(3).any(|lease| match *lease {
+            [cell, serial, boot] => boot != self.boot() || !self.is_live(cell, serial),
+            _ => true,
+        });
+        if self.dice.once_in(if refused { 2 } else { 12 }) {
             self.held();
         }
         let over = 3 * self.console.place >= self.console.script.len();
@@ -1352,17 +1522,17 @@ impl Writer {
         }) {
             self.script();
         }
-        let [cell, serial] = self.lease();
+        let lease = self.lease();
         let [binding, bucket] = self.key();
         match self.dice.below(99) {
             0..=3 => self.call_by_cell("try_acquire"),
-            4..=7 => self.write("drop_lease", &[cell, serial]),
-            8..=9 => self.write("read_permission", &[cell, serial]),
-            10..=11 => self.write("competing_acquire_is_excluded", &[cell, serial]),
-            12..=13 => self.write("release_then_handoff", &[cell, serial]),
-            14..=16 => self.write("foreign_release_between_attempts", &[cell, serial]),
+            4..=7 => self.write("drop_lease", &lease),
+            8..=9 => self.write("read_permission", &lease),
+            10..=11 => self.write("competing_acquire_is_excluded", &lease),
+            12..=13 => self.write("release_then_handoff", &lease),
+            14..=16 => self.write("foreign_release_between_attempts", &lease),
             17..=20 => self.call_by_cell("acquire_preserving_borrows"),
-            21..=24 => self.write("drop_preserving_borrows", &[cell, serial]),
+            21..=24 => self.write("drop_preserving_borrows", &lease),
             25..=28 => {
                 if self.dice.once_in(5) {
                     self.letting_go_script();
@@ -1401,6 +1571,63 @@ impl Writer {
         }
     }
 
+    /// The same arena prepared twice from the same first serial, and the same cells taken in both: the first leases are
+    /// handed over under the second boot number, which is mostly another one.
+    fn same_day_again(&mut self) {
+        let (headers, buckets) = (self.headers().min(4), self.buckets().min(6));
+        let first = self.dice.pick(&[1, 1, 1, 7]);
+        let mut cells = counting(headers * buckets);
+        cells.retain(|_| self.dice.once_in(2));
+        cells.truncate(4);
+        let boots = [self.next_boot(), self.next_boot()];
+        // now and then it is the same one, and the leases are good again
+        let again = boots[usize::from(!self.dice.once_in(5))];
+        for boot in [boots[0], again] {
+            self.prepare_under(boot, headers, buckets, first);
+            for &cell in &cells {
+                self.write("try_acquire", &[cell]);
+            }
+        }
+        let serials = cells.iter().zip(first..);
+        let leases: Vec<[u32; 3]> = serials
+            .map(|(&cell, serial)| [cell, serial, boots[0]])
+            .collect();
+        if leases.is_empty() {
+            return;
+        }
+        let mut list = self.some_live(4);
+        match self.dice.below(6) {
+            0..=1 => list.clear(),
+            2 => insert(&mut list, &mut self.dice, [0, 0, again]),
+            _ => {}
+        }
+        self.write("held", &list);
+        for _ in 0..self.dice.below(4) + 1 {
+            let lease = self.dice.pick(&leases);
+            match self.dice.below(9) {
+                0 => self.write("drop_lease", &lease),
+                1 => self.write("read_permission", &lease),
+                2 => self.write("release_then_handoff", &lease),
+                3..=4 => self.write("drop_preserving_borrows", &lease),
+                5 => self.write("foreign_release_between_attempts", &lease),
+                6 => self.write_setpoint(lease[0], lease, "speed", 1),
+                7 => {
+                    let mut list = self.some_live(3);
+                    insert(&mut list, &mut self.dice, lease);
+                    self.write("leases", &list);
+                    self.write("release_all", &[]);
+                }
+                _ => {
+                    let mut list = self.some_live(3);
+                    insert(&mut list, &mut self.dice, lease);
+                    self.write("held", &list);
+                    self.write("environment", &[]);
+                    self.write_retrying("acquire_sorted_locks", &[]);
+                }
+            }
+        }
+    }
+
     fn call_by_cell(&mut self, call: &str) {
         let cell = self.cell();
         self.write(call, &[cell]);
@@ -1418,12 +1645,12 @@ impl Writer {
         if live.is_empty() {
             return;
         }
-        let [cell, serial] = self.dice.pick(&live);
-        let (header, bucket) = (cell / self.buckets(), cell % self.buckets());
+        let lease = self.dice.pick(&live);
+        let (header, bucket) = (lease[0] / self.buckets(), lease[0] % self.buckets());
         let Some(binding) = self.console.registry.iter().position(|&one| one == header) else {
             return;
         };
-        self.patient_script([cell, serial]);
+        self.patient_script(lease);
         self.acquire(binding as u32, bucket);
     }
 
@@ -1459,14 +1686,16 @@ impl Writer {
             self.leases();
             self.write("release_all", &[]);
         } else if self.dice.once_in(4) {
-            // as they were handed back: doubled keys share one lease
+            // as they were handed back: doubled keys share one lease. Nothing was, if the buffer is fresh
             let leases = self.console.grants.clone();
-            self.write("leases", &leases);
-            self.write("release_all", &[]);
+            if leases.iter().any(|&word| word != 9) || self.dice.once_in(8) {
+                self.write("leases", &leases);
+                self.write("release_all", &[]);
+            }
         }
         // nearly no serial was left for this call
         if next < u32::MAX - 64 && self.next() >= u32::MAX - 64 {
-            self.write("head", &[self.headers(), self.buckets(), next]);
+            self.write_next(next);
         }
     }
 
@@ -1495,10 +1724,7 @@ impl Writer {
             5 => self.write("try_acquire", &[cell]),
             6..=7 => {
                 let serials = self.dice.number(4);
-                self.write(
-                    "head",
-                    &[self.headers(), self.buckets(), u32::MAX - serials],
-                );
+                self.write_next(u32::MAX - serials);
             }
             8..=11 => self.hostile_script(),
             12..=13 => {
@@ -1606,7 +1832,7 @@ impl Writer {
             }
             _ => {
                 self.write("keys", &key);
-                self.write("grants", &[2]);
+                self.write("grants", &[3]);
                 self.restless_script(cell);
                 let call = self
                     .dice
@@ -1640,8 +1866,8 @@ impl Writer {
             self.counters();
         }
         if self.dice.once_in(3) {
-            let numbers = [self.headers(), self.buckets(), self.next().max(1)];
-            self.write("prepare", &numbers);
+            let (headers, buckets, first) = (self.headers(), self.buckets(), self.next().max(1));
+            self.prepare(headers, buckets, first);
         }
         self.write("crew_at_work", &[]);
         if self.dice.once_in(3) {
@@ -1669,7 +1895,7 @@ impl Writer {
         }
         // a head without serials is kept for a few calls at most
         if self.next() >= u32::MAX - 64 && next < u32::MAX - 64 && !self.dice.once_in(10) {
-            self.write("head", &[self.headers(), self.buckets(), next]);
+            self.write_next(next);
         }
     }
 
@@ -1686,17 +1912,19 @@ impl Writer {
             headers,
             buckets,
             next,
+            boot,
         } = self.console.head;
         let back = self.dice.number(4);
-        let next = match self.dice.below(20) {
-            0 => next.saturating_sub(back).max(1),
-            1 => next.saturating_add(back),
-            2 => 1,
-            3 => u32::MAX,
-            4 => next,
+        let (next, boot) = match self.dice.below(20) {
+            0 => (next.saturating_sub(back).max(1), boot),
+            1 => (next.saturating_add(back), boot),
+            2 => (1, boot),
+            3 => (u32::MAX, boot),
+            // the paper has the boot number of another day
+            4 => (next, self.next_boot()),
             _ => return,
         };
-        self.write("head", &[headers, buckets, next]);
+        self.write("head", &[headers, buckets, next, boot]);
     }
 
     /// One word, byte or cell as bad RAM leaves it.
@@ -1721,7 +1949,7 @@ impl Writer {
             }
             // one owner of two cells
             6 => {
-                if let Some(&[_, serial]) = self.live().first() {
+                if let Some(&[_, serial, _]) = self.live().first() {
                     self.write("word", &[3 * cell, 1]);
                     self.write("word", &[3 * cell + 1, serial]);
                 }
@@ -1907,7 +2135,7 @@ impl Writer {
         if self.words(cell)[..2] == [0, 0] {
             self.write("try_acquire", &[cell]);
         }
-        let lease = [cell, self.words(cell)[1]];
+        let lease = [cell, self.words(cell)[1], self.boot()];
         let (kind, value) = self.setpoint();
         self.write_setpoint(cell, lease, kind, value);
         cell
@@ -1968,7 +2196,10 @@ impl Writer {
                 self.write("book_byte", &[at, any]);
             }
         }
-        let lease = [slot, self.words(slot)[1]];
+        let mut lease = [slot, self.words(slot)[1], self.boot()];
+        if self.dice.once_in(8) {
+            lease = self.of_another_boot(lease);
+        }
         let (kind, value) = self.setpoint();
         if self.dice.once_in(2) {
             self.write("read_setpoint", &[slot]);
@@ -2056,7 +2287,7 @@ impl Writer {
         self.arena();
         let [headers, buckets] = [self.dice.number(4) + 1, self.dice.number(4) + 2];
         let first = self.dice.pick(&[1, 1, 7, u32::MAX - 9]);
-        self.write("prepare", &[headers, buckets, first]);
+        self.prepare(headers, buckets, first);
         self.write("registry", &[headers - 1]);
         self.write("held", &[]);
         let zero = (headers - 1) * buckets;
@@ -2072,15 +2303,15 @@ impl Writer {
         self.write("place", &[3]);
         self.write("acquire_index_bucket", &[0, 1]);
         self.write("keys", &[0, 1]);
-        self.write("grants", &[2]);
+        self.write("grants", &[3]);
         self.write("place", &[3]);
         self.write("acquire_index_locks", &[]);
         self.write("keys", &[0, 0, 0, 1]);
-        self.write("grants", &[4]);
+        self.write("grants", &[6]);
         self.write("place", &[0]);
         self.write("acquire_index_locks", &[]);
         self.write("keys", &[0, 1, 0, 0, 0, 1]);
-        self.write("grants", &[6]);
+        self.write("grants", &[9]);
         self.write("place", &[0]);
         self.write("acquire_sorted_locks", &[]);
         self.write("show", &[]);
@@ -2096,7 +2327,7 @@ impl Writer {
                     .flat_map(|_| [self.dice.pick(&[0, 5, 5, 5, 5, 3, 6]), 0, 0])
                     .collect();
                 // held until some thousand boundaries have passed
-                if let Some(&[cell, serial]) = self.live().first() {
+                if let Some(&[cell, serial, _]) = self.live().first() {
                     let at = 3 * (1000 + self.dice.below(8000));
                     script.splice(at..at + 3, [2, cell, serial]);
                 }
@@ -2141,7 +2372,7 @@ impl Writer {
             6 => {
                 let seed = self.dice.odd_number();
                 self.write("ram", &[seed]);
-                self.write("head", &[64, 64, 1 + seed / 2]);
+                self.write("head", &[64, 64, 1 + seed / 2, seed]);
                 let Salvaged { changed, held } = self.found();
                 self.write("unconfirmed", &[held as u32]);
                 self.write("report", &[3 * changed as u32 - 1]);
@@ -2165,6 +2396,19 @@ impl Writer {
 /// The numbers below `bound`, rising.
 fn counting(bound: u32) -> Vec<u32> {
     (0..bound).collect()
+}
+
+/// Puts a lease between the leases of a list, before or behind them.
+fn insert(list: &mut Vec<u32>, dice: &mut Dice, lease: [u32; 3]) {
+    let at = 3 * dice.below(list.len() / 3 + 1);
+    list.splice(at..at, lease);
+}
+
+/// The leases as they were written before they had boot numbers: two words each.
+fn without_boots(list: &[u32]) -> Vec<u32> {
+    list.chunks_exact(3)
+        .flat_map(|lease| [lease[0], lease[1]])
+        .collect()
 }
 
 fn line_of(word: &str, numbers: &[u32]) -> Vec<u8> {

@@ -7,16 +7,16 @@ use lib.ListN.{drop, length, length-set, drop-of-length-le}
 use borrow.Author.Needs.{needs}
 use Rattle.model.specs.Arena.{wordsOf}
 use Rattle.foreign.specs.Model.{pairsOf}
-use Rattle.multilock.proofs.keys.grant.Statement.{statement}
 use Rattle.multilock.specs.Locks.{words-more}
+use Rattle.multilock.proofs.keys.grant.Statement.{statement}
 use Rattle.multilock.proofs.keys.grant.Tie as tie
 
 abbrev Inv-loop : tie.InvT-loop
-Inv-loop n grants₀ taken i₀ grants i =
-    (i ≤ n) × ((grants ≡ wordsOf (pairsOf i 0 taken) ++ drop (2 * i) grants₀) × (length grants ≡ length grants₀))
+Inv-loop n boot grants₀ taken i₀ grants i =
+    (i ≤ n) × ((grants ≡ wordsOf boot (pairsOf i 0 taken) ++ drop (3 * i) grants₀) × (length grants ≡ length grants₀))
 
 abbrev μ-loop : tie.MeasureT-loop
-μ-loop n grants₀ taken i₀ grants i = n - i
+μ-loop n boot grants₀ taken i₀ grants i = n - i
 
 loop-holds : tie.Need-loop-holds Inv-loop μ-loop
 unfolding wordsOf pairsOf
@@ -61,6 +61,18 @@ mul-grants-6 c = search needs
 slice-write-grants-2 : tie.Need-slice-write-grants-2 Inv-loop μ-loop
 slice-write-grants-2 c = simp length-set (omega arith)
 
+mul-grants-7 : tie.Need-mul-grants-7 Inv-loop μ-loop
+mul-grants-7 c = search needs
+
+add-grants-2 : tie.Need-add-grants-2 Inv-loop μ-loop
+add-grants-2 c = search needs
+
+mul-grants-8 : tie.Need-mul-grants-8 Inv-loop μ-loop
+mul-grants-8 c = search needs
+
+slice-write-grants-3 : tie.Need-slice-write-grants-3 Inv-loop μ-loop
+slice-write-grants-3 c = simp length-set (omega arith)
+
 add-i : tie.Need-add-i Inv-loop μ-loop
 add-i c = search needs
 
@@ -71,7 +83,7 @@ loop-again : tie.Need-loop-again Inv-loop μ-loop
 loop-again c =
     let l = c .before .before .before .loop in
     let a = c .before .before .before .before .args in
-    (search needs, (rw (l .inv .1 .0) (words-more (l .i) (a .t1) (a .grants .now) (search needs)), simp length-set (search needs)))
+    (search needs, (rw (l .inv .1 .0) (words-more (a .boot) (l .i) (a .t1) (a .grants .now) (search needs)), simp length-set (search needs)))
 
 same-length : tie.Need-same-length Inv-loop μ-loop
 same-length c = search needs
@@ -81,8 +93,8 @@ returns c =
     let l = c .before .loop in
     let a = c .before .before .args in
     let k : l .i ≡ a .n = omega arith in
-    let d : drop (2 * l .i) (a .grants .now) ≡ _ = drop-of-length-le (a .grants .now) {i = 2 * l .i} (omega arith) in
-    l .inv .1 .0 ∙ rw (d, k) (append-nil (wordsOf (pairsOf (a .n) 0 (a .t1))))
+    let d : drop (3 * l .i) (a .grants .now) ≡ _ = drop-of-length-le (a .grants .now) {i = 3 * l .i} (omega arith) in
+    l .inv .1 .0 ∙ rw (d, k) (append-nil (wordsOf (a .boot) (pairsOf (a .n) 0 (a .t1))))
 
 pub grant-spec : {M : Type 1} → statement M
 grant-spec =
@@ -104,6 +116,10 @@ grant-spec =
     add-grants
     mul-grants-6
     slice-write-grants-2
+    mul-grants-7
+    add-grants-2
+    mul-grants-8
+    slice-write-grants-3
     add-i
     loop-less
     loop-again

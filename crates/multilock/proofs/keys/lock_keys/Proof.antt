@@ -4,7 +4,7 @@ use mathlib.Core.Path.{_≡_, refl}
 use native.Mathlib.Omega.{arith}
 use lib.ListN.{length-set}
 use borrow.Author.Needs.{needs}
-use Rattle.model.specs.Arena.{leasesOf}
+use Rattle.model.specs.Arena.{holdsOf}
 use Rattle.bucket.specs.Laws.{more-run-bound}
 use Rattle.foreign.specs.Model.{pairsOf, inScope}
 use Rattle.multilock.proofs.keys.lock_keys.Statement.{statement}
@@ -13,7 +13,7 @@ use Rattle.multilock.proofs.keys.lock_keys.Tie as tie
 
 abbrev Inv-loop : tie.InvT-loop
 Inv-loop scope table₀ health₀ script held registry keys n grants taken₀ run₀ p₀ table health taken run p =
-    Keying (inScope scope script (leasesOf held)) (scope .steps) (scope .cells) n (scope .buckets) registry keys grants run₀ table₀ health₀ p taken run table health
+    Keying (inScope scope script (holdsOf held)) (scope .steps) (scope .cells) n (scope .buckets) (scope .boot) registry keys grants run₀ table₀ health₀ p taken run table health
 
 abbrev μ-loop : tie.MeasureT-loop
 μ-loop scope table₀ health₀ script held registry keys n grants taken₀ run₀ p₀ table health taken run p = n - p
@@ -28,7 +28,7 @@ try-key-requires c κs =
     let l = c .before .before .before .before .loop in
     let a = c .before .before .before .before .before .before .before .before .before .before .before .before .args in
     let q = c .before .before .before .before .before .before .before .before .before .before .before .before .pre in
-    let e = inScope (a .scope) (a .script .now) (leasesOf (a .held .now)) in
+    let e = inScope (a .scope) (a .script .now) (holdsOf (a .held .now)) in
     (bound-for (l .inv .words) (l .inv .bytes) (q .0), (more-run-bound _ _ _ _ (omega (arith, l .inv .few, q .1 .1 .0)) (l .inv .run-bound), (omega (arith, l .inv .few, q .1 .1 .0), omega (arith, q .1 .1 .1 .0))))
 
 enum-known-outcome : tie.Need-enum-known-outcome Inv-loop μ-loop
@@ -48,7 +48,7 @@ roll-back-requires c κs =
     let l = c .before .before .before .before .before .before .before .before .before .before .before .before .before .before .before .loop in
     let a = c .before .before .before .before .before .before .before .before .before .before .before .before .before .before .before .before .before .before .before .before .before .before .before .args in
     let q = c .before .before .before .before .before .before .before .before .before .before .before .before .before .before .before .before .before .before .before .before .before .before .before .pre in
-    let e = inScope (a .scope) (a .script .now) (leasesOf (a .held .now)) in
+    let e = inScope (a .scope) (a .script .now) (holdsOf (a .held .now)) in
     let room = q .0 .key .room in
     (record { words-fit = search needs; bytes-fit = search needs; few-taken = omega (arith, l .inv .few, q .1 .1 .0); steps-are = room .steps-are }, (more-run-bound _ _ _ _ (omega (arith, l .inv .few, q .1 .1 .0)) (retry-goes _ _ _ _ _ _ _ _ _ _ _ _ _ _ (room .steps-are) (c .before .before .before .before .before .before .before .before .before .before .try-key .ensures) (l .inv .run-bound)), l .inv .inside))
 
@@ -63,8 +63,8 @@ returns c =
     let l = c .before .before .before .before .before .before .before .before .before .before .before .before .before .before .before .before .before .before .before .before .loop in
     let a = c .before .before .before .before .before .before .before .before .before .before .before .before .before .before .before .before .before .before .before .before .before .before .before .before .before .before .before .before .args in
     let q = c .before .before .before .before .before .before .before .before .before .before .before .before .before .before .before .before .before .before .before .before .before .before .before .before .before .before .before .before .pre in
-    let e = inScope (a .scope) (a .script .now) (leasesOf (a .held .now)) in
-    rw (← l .inv .rest, locks-at (a .n) (l .p) e (a .scope .buckets) (a .registry .now) (a .keys .now) (pairsOf (l .p) 0 (l .taken)) (l .run) (l .table) (l .health) (a .grants .now) _ (_) (c .before .before .before .before .before .before .before .before .before .before .before .before .before .before .before .try-key .ensures) (c .before .before .before .before .before .before .before .before .outcome2 .given .1) (omega (arith, c .before .before .before .before .before .before .before .before .before .before .before .before .before .before .before .before .before .before .before .loop-test .taken)), rolled _ _ _ _ _ _ _ _, ← c .before .before .before .before .roll-back .ensures)
+    let e = inScope (a .scope) (a .script .now) (holdsOf (a .held .now)) in
+    rw (← l .inv .rest, locks-at (a .n) (l .p) e (a .scope .buckets) (a .scope .boot) (a .registry .now) (a .keys .now) (pairsOf (l .p) 0 (l .taken)) (l .run) (l .table) (l .health) (a .grants .now) _ (_) (c .before .before .before .before .before .before .before .before .before .before .before .before .before .before .before .try-key .ensures) (c .before .before .before .before .before .before .before .before .outcome2 .given .1) (omega (arith, c .before .before .before .before .before .before .before .before .before .before .before .before .before .before .before .before .before .before .before .loop-test .taken)), rolled _ _ _ _ _ _ _ _, ← c .before .before .before .before .roll-back .ensures)
 
 enum-known-outcome-3 : tie.Need-enum-known-outcome-3 Inv-loop μ-loop
 enum-known-outcome-3 c = search needs
@@ -74,7 +74,7 @@ roll-back-requires-2 c κs =
     let l = c .before .before .before .before .before .before .before .before .before .before .before .before .before .before .before .loop in
     let a = c .before .before .before .before .before .before .before .before .before .before .before .before .before .before .before .before .before .before .before .before .before .before .before .args in
     let q = c .before .before .before .before .before .before .before .before .before .before .before .before .before .before .before .before .before .before .before .before .before .before .before .pre in
-    let e = inScope (a .scope) (a .script .now) (leasesOf (a .held .now)) in
+    let e = inScope (a .scope) (a .script .now) (holdsOf (a .held .now)) in
     let room = q .0 .key .room in
     (record { words-fit = search needs; bytes-fit = search needs; few-taken = omega (arith, l .inv .few, q .1 .1 .0); steps-are = room .steps-are }, (more-run-bound _ _ _ _ (omega (arith, l .inv .few, q .1 .1 .0)) (retry-goes _ _ _ _ _ _ _ _ _ _ _ _ _ _ (room .steps-are) (c .before .before .before .before .before .before .before .before .before .before .try-key .ensures) (l .inv .run-bound)), l .inv .inside))
 
@@ -89,8 +89,8 @@ returns-2 c =
     let l = c .before .before .before .before .before .before .before .before .before .before .before .before .before .before .before .before .before .before .before .before .loop in
     let a = c .before .before .before .before .before .before .before .before .before .before .before .before .before .before .before .before .before .before .before .before .before .before .before .before .before .before .before .before .args in
     let q = c .before .before .before .before .before .before .before .before .before .before .before .before .before .before .before .before .before .before .before .before .before .before .before .before .before .before .before .before .pre in
-    let e = inScope (a .scope) (a .script .now) (leasesOf (a .held .now)) in
-    rw (← l .inv .rest, locks-at (a .n) (l .p) e (a .scope .buckets) (a .registry .now) (a .keys .now) (pairsOf (l .p) 0 (l .taken)) (l .run) (l .table) (l .health) (a .grants .now) _ (_) (c .before .before .before .before .before .before .before .before .before .before .before .before .before .before .before .try-key .ensures) (c .before .before .before .before .before .before .before .before .outcome3 .given .1) (omega (arith, c .before .before .before .before .before .before .before .before .before .before .before .before .before .before .before .before .before .before .before .loop-test .taken)), rolled _ _ _ _ _ _ _ _, ← c .before .before .before .before .roll-back2 .ensures)
+    let e = inScope (a .scope) (a .script .now) (holdsOf (a .held .now)) in
+    rw (← l .inv .rest, locks-at (a .n) (l .p) e (a .scope .buckets) (a .scope .boot) (a .registry .now) (a .keys .now) (pairsOf (l .p) 0 (l .taken)) (l .run) (l .table) (l .health) (a .grants .now) _ (_) (c .before .before .before .before .before .before .before .before .before .before .before .before .before .before .before .try-key .ensures) (c .before .before .before .before .before .before .before .before .outcome3 .given .1) (omega (arith, c .before .before .before .before .before .before .before .before .before .before .before .before .before .before .before .before .before .before .before .loop-test .taken)), rolled _ _ _ _ _ _ _ _, ← c .before .before .before .before .roll-back2 .ensures)
 
 add-p : tie.Need-add-p Inv-loop μ-loop
 add-p c = omega (arith, c .before .before .before .before .before .before .before .before .before .before .before .before .loop-test .taken, c .before .before .before .before .before .before .before .before .before .before .before .before .before .before .before .before .before .before .before .before .before .pre .1 .1 .0)
@@ -103,7 +103,7 @@ loop-again c =
     let l = c .before .before .before .before .before .before .before .before .before .before .before .before .before .loop in
     let a = c .before .before .before .before .before .before .before .before .before .before .before .before .before .before .before .before .before .before .before .before .before .args in
     let q = c .before .before .before .before .before .before .before .before .before .before .before .before .before .before .before .before .before .before .before .before .before .pre in
-    let e = inScope (a .scope) (a .script .now) (leasesOf (a .held .now)) in
+    let e = inScope (a .scope) (a .script .now) (holdsOf (a .held .now)) in
     let room = q .0 .key .room in
     let g = c .before .outcome .given in
     record {
@@ -113,7 +113,7 @@ loop-again c =
       bytes = omega (arith, l .inv .bytes, c .before .before .before .before .before .before .before .before .try-key .kept);
       size = simp length-set (l .inv .size);
       inside = inside-push (l .taken) (l .p) _ _ (a .scope .cells) (omega (arith, l .inv .size, c .before .before .before .before .before .before .before .before .before .before .before .before .loop-test .taken, q .1 .1 .0)) (omega (arith, q .0 .key .cells-are, grant-inside _ _ _ _ _ _ _ _ _ _ _ _ _ (c .before .before .before .before .before .before .before .before .try-key .ensures) (g .1))) (l .inv .inside);
-      rest = rw (pairs-push (l .p) (l .taken) _ _ (omega (arith, l .inv .size, c .before .before .before .before .before .before .before .before .before .before .before .before .loop-test .taken, q .1 .1 .0))) (rw (← l .inv .rest, locks-at (a .n) (l .p) e (a .scope .buckets) (a .registry .now) (a .keys .now) (pairsOf (l .p) 0 (l .taken)) (l .run) (l .table) (l .health) (a .grants .now) _ (_) (c .before .before .before .before .before .before .before .before .try-key .ensures) (g .1) (omega (arith, c .before .before .before .before .before .before .before .before .before .before .before .before .loop-test .taken))));
+      rest = rw (pairs-push (l .p) (l .taken) _ _ (omega (arith, l .inv .size, c .before .before .before .before .before .before .before .before .before .before .before .before .loop-test .taken, q .1 .1 .0))) (rw (← l .inv .rest, locks-at (a .n) (l .p) e (a .scope .buckets) (a .scope .boot) (a .registry .now) (a .keys .now) (pairsOf (l .p) 0 (l .taken)) (l .run) (l .table) (l .health) (a .grants .now) _ (_) (c .before .before .before .before .before .before .before .before .try-key .ensures) (g .1) (omega (arith, c .before .before .before .before .before .before .before .before .before .before .before .before .loop-test .taken))));
     }
 
 grant-requires : tie.Need-grant-requires Inv-loop μ-loop
@@ -133,9 +133,9 @@ returns-3 c =
     let l = c .before .before .before .before .before .loop in
     let a = c .before .before .before .before .before .before .before .before .before .before .before .before .before .args in
     let q = c .before .before .before .before .before .before .before .before .before .before .before .before .before .pre in
-    let e = inScope (a .scope) (a .script .now) (leasesOf (a .held .now)) in
+    let e = inScope (a .scope) (a .script .now) (holdsOf (a .held .now)) in
     let k : l .p ≡ a .n = omega (arith, l .inv .few) in
-    rw (← l .inv .rest, locks-end (a .n) (l .p) e (a .scope .buckets) (a .registry .now) (a .keys .now) (pairsOf (l .p) 0 (l .taken)) (l .run) (l .table) (l .health) (a .grants .now) (omega (arith, c .before .before .before .before .loop-test .left)), k, ← c .before .before .grant .ensures)
+    rw (← l .inv .rest, locks-end (a .n) (l .p) e (a .scope .buckets) (a .scope .boot) (a .registry .now) (a .keys .now) (pairsOf (l .p) 0 (l .taken)) (l .run) (l .table) (l .health) (a .grants .now) (omega (arith, c .before .before .before .before .loop-test .left)), k, ← c .before .before .grant .ensures)
 
 pub lock-keys-spec : {M : Type 1} → statement M
 lock-keys-spec =

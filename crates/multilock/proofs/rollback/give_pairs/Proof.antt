@@ -3,7 +3,7 @@ use Prim.Native.Nat.{_-_}
 use mathlib.Core.Path.{refl, sym, _∙_}
 use native.Mathlib.Omega.{arith}
 use borrow.Author.Needs.{needs}
-use Rattle.model.specs.Arena.{leasesOf}
+use Rattle.model.specs.Arena.{holdsOf}
 use Rattle.bucket.specs.Laws.{more-run-bound}
 use Rattle.foreign.specs.Model.{pairsOf, inScope}
 use Rattle.multilock.proofs.rollback.give_pairs.Statement.{statement}
@@ -13,7 +13,7 @@ use Rattle.multilock.proofs.rollback.give_pairs.Tie as tie
 
 abbrev Inv-loop : tie.InvT-loop
 Inv-loop scope table₀ health₀ script held n taken run₀ k₀ table health run k =
-    Giving (inScope scope script (leasesOf held)) (scope .steps) (pairsOf n 0 taken) n run₀ table₀ health₀ k run table health
+    Giving (inScope scope script (holdsOf held)) (scope .steps) (pairsOf n 0 taken) n run₀ table₀ health₀ k run table health
 
 abbrev μ-loop : tie.MeasureT-loop
 μ-loop scope table₀ health₀ script held n taken run₀ k₀ table health run k = k
@@ -67,7 +67,7 @@ returns : tie.Need-returns Inv-loop μ-loop
 returns c =
     let l = c .before .loop in
     let a = c .before .before .before .before .before .before .args in
-    rw (← l .inv .rest, give-back-end (l .k) (inScope (a .scope) (a .script .now) (leasesOf (a .held .now))) (pairsOf (a .n) 0 (a .t7)) (l .run) (l .table) (l .health) (search needs))
+    rw (← l .inv .rest, give-back-end (l .k) (inScope (a .scope) (a .script .now) (holdsOf (a .held .now))) (pairsOf (a .n) 0 (a .t7)) (l .run) (l .table) (l .health) (search needs))
 
 pub give-pairs-spec : {M : Type 1} → statement M
 give-pairs-spec =

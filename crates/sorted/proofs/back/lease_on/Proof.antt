@@ -5,17 +5,17 @@ use native.Mathlib.Omega.{arith}
 use lib.ListN.{length, drop}
 use borrow.Author.Tests.{eq-eqb, ne-eqb}
 use borrow.Author.Needs.{needs}
-use Rattle.model.specs.Sorted.{leaseOn}
-use Rattle.model.specs.Arena.{leasesOf}
+use Rattle.model.specs.Sorted.{holdOn}
+use Rattle.model.specs.Arena.{holdsOf}
 use Rattle.sorted.specs.Back.{lease-on-at, lease-on-end}
 use Rattle.sorted.proofs.back.lease_on.Statement.{statement}
 use Rattle.sorted.proofs.back.lease_on.Tie as tie
 
 abbrev Inv-loop : tie.InvT-loop
-Inv-loop leases cell i₀ i = (i ≤ length leases / 2) × (leaseOn (leasesOf (drop (2 * i) leases)) cell ≡ leaseOn (leasesOf leases) cell)
+Inv-loop leases cell i₀ i = (i ≤ length leases / 3) × (holdOn (holdsOf (drop (3 * i) leases)) cell ≡ holdOn (holdsOf leases) cell)
 
 abbrev μ-loop : tie.MeasureT-loop
-μ-loop leases cell i₀ i = length leases / 2 - i
+μ-loop leases cell i₀ i = length leases / 3 - i
 
 loop-holds : tie.Need-loop-holds Inv-loop μ-loop
 loop-holds c = (search needs, refl)

@@ -1,0 +1,4 @@
+pub mod Statements
+pub mod Over
+pub mod Theorems
+pub mod Examples
