@@ -136,14 +136,14 @@ holds-end l i b = short (drop (3 * i) l) (simp length-drop (omega arith))
     short (a ∷ b ∷ []) h = unfold holdsOf in refl
     short (a ∷ b ∷ c ∷ r) h = absurd (omega arith)
 
--- 16 and 3 at position i, and from there on
-pub not-live-at : (h : Head) (t held : List ℕ) (i : ℕ) → 3 * i + 2 < length held
+-- 16 and 3 at position i, where this lease stands, and from there on
+pub not-live-at : (h : Head) (t held : List ℕ) (i : ℕ) (l : Lease) → l ≡ leaseIn held i → 3 * i + 2 < length held
     → first (notLive h t i (leasesOf (drop (3 * i) held)))
-    ≡ (if isStale h (leaseIn held i) then Fault (refusal.StaleBoot i)
-    else if not (isLive (h .next) (cellsOf h) t (holdIn (leaseIn held i))) then Fault (refusal.BadHeld i)
+    ≡ (if isStale h l then Fault (refusal.StaleBoot i)
+    else if not (isLive (h .next) (cellsOf h) t (holdIn l)) then Fault (refusal.BadHeld i)
     else first (notLive h t (i + 1) (leasesOf (drop (3 * (i + 1)) held))))
 unfolding first notLive
-not-live-at h t held i b = rw (leases-at held i b)
+not-live-at h t held i l e b = rw (e, leases-at held i b)
 
 pub not-live-end : (h : Head) (t held : List ℕ) (i : ℕ) → length held ≤ 3 * i + 2 → first (notLive h t i (leasesOf (drop (3 * i) held))) ≡ Fine
 unfolding first notLive
