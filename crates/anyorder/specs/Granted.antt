@@ -16,7 +16,7 @@ use Rattle.types.specs.declared.Answer.{Answer}
 use Rattle.types.specs.declared.Answer.the-variants.{AllGranted}
 use Rattle.types.specs.declared.Hold.{Hold}
 use Rattle.types.specs.declared.Lease.{Lease}
-use Rattle.laws.specs.Checks.{leaseIn}
+use Rattle.laws.specs.Checks.{leaseIn, hold-in}
 use Rattle.laws.specs.Lists.{words-back}
 use Rattle.history.specs.World.{World, number-of, takes}
 use Rattle.history.specs.Items.{Says, acquire-sorted, any-order, keyCell, perform}
@@ -147,18 +147,7 @@ module _ (w : World) (registry script : List ℕ) (place : ℕ) (held keys grant
       (subst (λ (d : ℕ). Both-taken (holdAt leases p .cell) d (holdAt leases p .serial) (holdAt leases q .serial)) (key-own q a y)
       (taken-behind (holdAt leases p) (holdAt leases q) t u (key-serials p q a x y l)))
 
--- a lease in a run of words, without its boot number; and all of it
-hold-in : (ws : List ℕ) (p : ℕ) → 3 * p + 2 < length ws → holdAt (holdsOf ws) p ≡ holdIn (leaseIn ws p)
-unfolding holdsOf
-hold-in [] p l = absurd (omega arith)
-hold-in (c ∷ []) p l = absurd (omega arith)
-hold-in (c ∷ s ∷ []) p l = absurd (omega arith)
-hold-in (c ∷ s ∷ b ∷ ws) zero l = refl
-hold-in (c ∷ s ∷ b ∷ ws) (suc p) l =
-    let x : 3 * suc p ≡ suc (suc (suc (3 * p))) = omega arith in
-    let y : 3 * suc p + 1 ≡ suc (suc (suc (3 * p + 1))) = omega arith in
-    rw (y, x) (hold-in ws p (omega arith))
-
+-- a lease is its hold and its boot number
 whole-lease : (l k : Lease) → holdIn l ≡ holdIn k → l .boot ≡ k .boot → l ≡ k
 whole-lease l k e b = ap (λ (x : Hold). leaseOf (x .cell) (x .serial) (l .boot)) e ∙ ap (leaseOf (k .cell) (k .serial)) b
 
