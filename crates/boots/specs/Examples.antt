@@ -1,13 +1,13 @@
 -- Histories over two preparations, by computation, on document 01's bench arena: H 2, B 4. First the person's own accident, in which one boot
 -- number is used twice; then the same day with two, which meets the premises of `demand-2-over`.
 use Prim.Native.Nat.{ℕ}
-use mathlib.Core.Path.{_≡_, refl, sym, ap, _∙_}
-use mathlib.Core.List.{List, [], _∷_, _++_}
+use mathlib.Core.Path.{_≡_, refl}
+use mathlib.Core.List.{List, [], _∷_}
 use mathlib.Core.Bool.{true, false}
 use mathlib.Core.Logic.{_⊎_, inl, inr}
 use native.Mathlib.Omega.{arith}
 use lib.ListN.{replicate}
-use Rattle.model.specs.Arena.{headOf, leaseOf, bitAt, ownerAt, setCell, isFree, isHeld, stateOf, stateAt, isLive, leasesOf, holdsOf, sameHold, isIn, headFits, shapeFits, healthFits}
+use Rattle.model.specs.Arena.{headOf, leaseOf, bitAt, ownerAt, setCell, isFree, isHeld, stateOf, stateAt, isLive, headFits, shapeFits, healthFits}
 use Rattle.model.specs.Refusals.{first}
 use Rattle.model.specs.Lock.{takeOf}
 use Rattle.model.specs.Checks.{prepareRules, cellRules, leaseRules}
@@ -81,7 +81,7 @@ premises = (refl, (λ z. z, (λ z. z, (λ z. z, (λ z. z, (λ z. z, tt))))), (on
 
 -- so, from the governor's grant on
 pub day-over : Over-preparations (run (cold rubbish) (boot 5 ∷ [])) (items 6)
-day-over = demand-2-over rubbish (boot 5) [] (items 6) (premises .0) (premises .1) (premises .2)
+day-over = demand-2-over rubbish (boot 5) [] (items 6) [] (premises .0) (premises .1) (premises .2)
 
 -- once the panel has the valve, the governor's lease is of no use: as one from before a preparation, and as the first of two on one cell
 pub governor-out : Useless (run (run (cold rubbish) (boot 5 ∷ [])) (items 6) .world) old × Out (run (cold rubbish) (boot 5 ∷ [])) (items 6) old
