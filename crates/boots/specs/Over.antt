@@ -22,7 +22,7 @@ use Rattle.history.specs.Items.{perform, foreign, Item, call, foreign-step, pre
 use Rattle.history.specs.Statements.{Begins}
 use Rattle.history.specs.Tests.{differ, free-words}
 use Rattle.history.specs.Events.{lives, Fit, fit}
-use Rattle.history.specs.Logs.{now-append, lawful-append, lawful-split, fit-now, arena-now, next-now, live-back}
+use Rattle.history.specs.Logs.{now-append, lawful-append, lawful-split, fit-now, boot-now, next-now, live-back}
 use Rattle.history.specs.Calls.{call-kept}
 use Rattle.history.specs.Courses.{Stretch, foreign-kept, not-prepared, not-salvaged, refused-stays, salvage-refused-stays}
 use Rattle.boots.specs.Statements.{Owned, Throughout, log-in, Issues, began, boots-of, boots-over, Member, Distinct, Rescues, No-rescue}
@@ -82,11 +82,6 @@ boots-append k (x ∷ xs) ys =
     ap (λ (bs : List ℕ). boots-of (k .world) x ++ bs) (boots-append (next-item k x) xs ys)
     ∙ sym (append-assoc (boots-of (k .world) x) (boots-over (next-item k x) xs) (boots-over (run (next-item k x) xs) ys))
 
-pub run-append : (k : Course) (xs ys : List Item) → run k (xs ++ ys) ≡ run (run k xs) ys
-unfolding run
-run-append k [] ys = refl
-run-append k (x ∷ xs) ys = run-append (next-item k x) xs ys
-
 empty-parts : (xs ys : List ℕ) → xs ++ ys ≡ [] → (xs ≡ []) × (ys ≡ [])
 empty-parts [] ys e = (refl, e)
 empty-parts (x ∷ xs) ys e = let z : false ≡ true = cc in absurd (differ z)
@@ -106,10 +101,6 @@ no-rescue-back k (x ∷ xs) ys n = no-rescue-back (next-item k x) xs ys (n .1)
 pub data Went (w v : World) (boots : List ℕ) : Type 0 where
   on : (es : List Event) → boots ≡ [] → Lawful w es → v ≡ now w es → Went w v boots
   anew : Member (v .head .boot) boots → Went w v boots
-
--- events keep the boot number
-pub boot-now : (w : World) (es : List Event) → now w es .head .boot ≡ w .head .boot
-boot-now w es = ap (λ (h : Head). h .boot) (arena-now w es)
 
 still : (w : World) {v : World} → v ≡ w → Went w v []
 still w e = on [] refl tt e

@@ -26,10 +26,11 @@ use Rattle.written.specs.Theorems.{unowned-writes-nothing, stale-writes-nothing
 use Rattle.history.specs.Tests.{differ, In, in-first, in-rest}
 use Rattle.history.specs.Callers.{Shape-fits}
 use Rattle.history.specs.Events.{fits}
-use Rattle.history.specs.Logs.{next-now}
+use Rattle.history.specs.Logs.{boot-now, next-now}
 use Rattle.history.specs.Courses.{Stretch, run-stretch, begun}
+use Rattle.history.specs.Others.{run-append}
 use Rattle.boots.specs.Statements.{Owned, Hands-lease, Handed, Own-boot, Throughout, Issues, Handed-issues, boots-of, boots-over, Member, Distinct, No-rescue, Unowned-barred, Owned-exactly, Stale-useless, Out, Over-preparations, Demand-2-over, Over-from}
-use Rattle.boots.specs.Over.{owned-parts, owns, other-stale, member-left, member-right, apart-lists, distinct-front, boots-append, run-append, no-rescue-front, no-rescue-back, Went, on, anew, boot-now, went, began-boots, other-boot, fits-here, gone, Taken, taken, boot-taken, serial-from, serial-below, dead-behind}
+use Rattle.boots.specs.Over.{owned-parts, owns, other-stale, member-left, member-right, apart-lists, distinct-front, boots-append, no-rescue-front, no-rescue-back, Went, on, anew, went, began-boots, other-boot, fits-here, gone, Taken, taken, boot-taken, serial-from, serial-below, dead-behind}
 
 -- ---- a lease that does not own its cell
 
