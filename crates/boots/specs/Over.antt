@@ -242,34 +242,34 @@ taken k i l p =
     }
 
 module _ (w v : World) (l : Lease) (t : Taken w v l) where
-  abbrev take : Event
-  take = took (t .actor) (l .cell) (l .serial)
+  abbrev its-take : Event
+  its-take = took (t .actor) (l .cell) (l .serial)
 
   -- where it is taken
   abbrev there : World
   there = now w (t .before)
 
-  parted : Lawful w (t .before) × (Legal there take × Lawful (step there take) (t .after))
-  parted = lawful-split w (t .before) (take ∷ t .after) (t .lawful)
+  parted : Lawful w (t .before) × (Legal there its-take × Lawful (step there its-take) (t .after))
+  parted = lawful-split w (t .before) (its-take ∷ t .after) (t .lawful)
 
-  from-there : v ≡ now (step there take) (t .after)
-  from-there = t .leads ∙ now-append w (t .before) (take ∷ t .after)
+  from-there : v ≡ now (step there its-take) (t .after)
+  from-there = t .leads ∙ now-append w (t .before) (its-take ∷ t .after)
 
   pub boot-taken : v .head .boot ≡ w .head .boot
-  boot-taken = ap (λ (u : World). u .head .boot) (t .leads) ∙ boot-now w (t .before ++ (take ∷ t .after))
+  boot-taken = ap (λ (u : World). u .head .boot) (t .leads) ∙ boot-now w (t .before ++ (its-take ∷ t .after))
 
   -- its serial is the one that is next there: not below next before the log, and below next behind it
   pub serial-from : w .head .next ≤ l .serial
   serial-from = omega (arith, parted .1 .0 .1 .0, next-now w (t .before))
 
   pub serial-below : l .serial < v .head .next
-  serial-below = omega (arith, parted .1 .0 .1 .0, ap (λ (u : World). u .head .next) from-there, next-now (step there take) (t .after))
+  serial-below = omega (arith, parted .1 .0 .1 .0, ap (λ (u : World). u .head .next) from-there, next-now (step there its-take) (t .after))
 
   -- the cell is free there, so that a lease on it that was issued before owns nothing behind it
   pub dead-behind : (m : Hold) → Fit w → m .cell ≡ l .cell → m .serial < w .head .next → Live v m → ⊥
   dead-behind m f same low x =
       let at = fit-now w (t .before) f (parted .0) in
       let issued : m .serial < there .head .next = omega (arith, next-now w (t .before)) in
-      let was = live-back there (take ∷ t .after) m at (parted .1) issued (subst (λ (u : World). Live u m) from-there x) in
+      let was = live-back there (its-take ∷ t .after) m at (parted .1) issued (subst (λ (u : World). Live u m) from-there x) in
       let bit = free-words (there .head .next) (there .table) (l .cell) (parted .1 .0 .0 .1) .0 in
       omega (arith, lives there m was .bit-is, ap (bitAt (there .table)) same, bit)

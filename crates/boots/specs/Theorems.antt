@@ -220,28 +220,28 @@ module _ (k : Course) (x : Stretch k) (more : List Item) (n : No-rescue k more) 
         apart-lists (b ∷ boots-over k front) (boots-over last rest) b (inl refl) (subst (λ (xs : List ℕ). Distinct (b ∷ xs)) bs d)
 
     module _ (l m : Lease) (p : Issues (k .world) i l) (q : Issues (again .world) j m) where
-      one : Taken (k .world) (after .world) l
-      one = taken k i l p
+      first-take : Taken (k .world) (after .world) l
+      first-take = taken k i l p
 
-      two : Taken (again .world) (last .world) m
-      two = taken again j m q
+      second-take : Taken (again .world) (last .world) m
+      second-take = taken again j m q
 
       -- without a preparation between them next does not fall, and the boot number stays
       issued-by-then : (es : List Event) → again .world ≡ now (after .world) es → l .serial < again .world .head .next
       issued-by-then es e =
-          omega (arith, serial-below (k .world) (after .world) l one, ap (λ (v : World). v .head .next) e, next-now (after .world) es)
+          omega (arith, serial-below (k .world) (after .world) l first-take, ap (λ (v : World). v .head .next) e, next-now (after .world) es)
 
       still-in-force : (es : List Event) → again .world ≡ now (after .world) es → last .world .head .boot ≡ k .world .head .boot
       still-in-force es e =
-          boot-taken (again .world) (last .world) m two ∙ ap (λ (v : World). v .head .boot) e
-          ∙ boot-now (after .world) es ∙ boot-taken (k .world) (after .world) l one
+          boot-taken (again .world) (last .world) m second-take ∙ ap (λ (v : World). v .head .boot) e
+          ∙ boot-now (after .world) es ∙ boot-taken (k .world) (after .world) l first-take
 
       -- the second serial is next where it is taken, and the first below next by then; a preparation between them has another boot number
       issued-once-so : l .serial ≡ m .serial → l .boot ≡ m .boot → ⊥
       issued-once-so serials boots = go between
         where
           go : Went (after .world) (again .world) (boots-over after middle) → ⊥
-          go (on es none lawful e) = omega (arith, issued-by-then es e, serial-from (again .world) (last .world) m two)
+          go (on es none lawful e) = omega (arith, issued-by-then es e, serial-from (again .world) (last .world) m second-take)
           go (anew y) =
               d .0 (used (k .world .head .boot) (subst (λ (b : ℕ). Member b (boots-over after middle)) (sym (q .4) ∙ sym boots ∙ p .4) y))
 
@@ -254,13 +254,13 @@ module _ (k : Course) (x : Stretch k) (more : List Item) (n : No-rescue k more) 
           go (on es none lawful e) =
               let boots = still-in-force es e in
               let low = issued-by-then es e in
-              let next = serial-from (again .world) (last .world) m two in
+              let next = serial-from (again .world) (last .world) m second-take in
               let fit = fits-here again (run-stretch k (i ∷ middle) x) in
               subst (λ (w : World). (i : Item) → Throughout w i (λ v. Owned v l → ⊥)) (sym ending)
               (gone last (subst Stretch there (run-stretch k front x)) rest (no-rescue-back after middle (j ∷ rest) spared .1)
               (subst (λ (b : ℕ). Distinct (b ∷ boots-over last rest)) (sym boots) apart)
-              l (p .4 ∙ sym boots) (omega (arith, low, next, serial-below (again .world) (last .world) m two))
-              (λ o. dead-behind (again .world) (last .world) m two (holdIn l) fit same low (owned-parts (last .world) l o .1)))
+              l (p .4 ∙ sym boots) (omega (arith, low, next, serial-below (again .world) (last .world) m second-take))
+              (λ o. dead-behind (again .world) (last .world) m second-take (holdIn l) fit same low (owned-parts (last .world) l o .1)))
           go (anew y) = other-boot end l (prepared-since l (p .4) (λ none. subst (Member _) none (used _ y)))
 
   fits-end : Shape-fits end
