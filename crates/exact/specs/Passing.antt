@@ -24,7 +24,7 @@ use Rattle.history.specs.World.{World, step, now}
 use Rattle.history.specs.Items.{Clear}
 use Rattle.history.specs.Tests.{In, in-first, in-rest, in-cases, differ, in-either}
 use Rattle.history.specs.Events.{Fit, fits}
-use Rattle.history.specs.Logs.{Kept, kept-fit, kept-live, arena-now}
+use Rattle.history.specs.Logs.{Kept, kept-fit, kept-live, arena-now, boot-now}
 use Rattle.history.specs.Judged.{clear-front, clear-back, clear-append}
 
 -- ---- the held list
@@ -100,9 +100,8 @@ module _ {w v : World} {es : List Event} (held : List ℕ) (k : Kept w (In (hold
       let headers : v .head .headers ≡ w .head .headers = ap (λ (x : World). x .head .headers) (k .leads) ∙ ap (λ (h : Head). h .headers) (arena-now w es) in
       rw (bytes, headers) e
 
-  -- no event changes the boot number
   pub same-boot : v .head .boot ≡ w .head .boot
-  same-boot = ap (λ (x : World). x .head .boot) (k .leads) ∙ ap (λ (h : Head). h .boot) (arena-now w es)
+  same-boot = ap (λ (x : World). x .head .boot) (k .leads) ∙ boot-now w es
 
   held-on : Fit w → Clear (notLive (w .head) (w .table) 0 (leasesOf held)) → Clear (notLive (v .head) (v .table) 0 (leasesOf held))
   held-on g c =

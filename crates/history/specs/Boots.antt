@@ -25,14 +25,14 @@ use Rattle.history.specs.World.{World}
 use Rattle.history.specs.Items.{Call, Says, try-acquire, drop-lease, read-permission, competing-acquire, release-then-handoff, foreign-release, drop-preserving, acquire-preserving, environment, try-lock, transactional, acquire-bucket, release-all, acquire-locks, acquire-sorted, crew, crew-at-work, Among, Names-lease, Clear, rules, perform, foreign}
 use Rattle.history.specs.Statements.{answers, log-of, Early, Boot-stays, Boot-stays-alone, Refused-unowned, Refused-stale, One-lease, Beside, releases-between, drops-beside, Listed, beside-release, beside-drop, beside-acquire, in-environment, in-lock, in-attempt, in-attempts, in-locks, in-sorted, to-release, scripted, keyed, Stale-is-16}
 use Rattle.history.specs.Tests.{differ}
-use Rattle.history.specs.Logs.{arena-now}
+use Rattle.history.specs.Logs.{boot-now}
 use Rattle.history.specs.Judged.{clear-fine, clear-front, clear-back, unchanged, performed-by}
 use Rattle.history.specs.Calls.{call-kept}
 
 -- ---- the head's own
 
 pub boots-stay : Boot-stays perform
-boots-stay w k = ap (λ (v : World). v .head .boot) (call-kept w k .kept .leads) ∙ ap (λ (h : Head). h .boot) (arena-now w (log-of w k))
+boots-stay w k = ap (λ (v : World). v .head .boot) (call-kept w k .kept .leads) ∙ boot-now w (log-of w k)
 
 pub steps-boot-stays : Boot-stays-alone foreign
 unfolding foreign

@@ -32,12 +32,12 @@ use Rattle.types.specs.declared.Take.the-variants as taking
 use Rattle.types.specs.declared.Tried.{Tried}
 use Rattle.choice.specs.Pick.{if-both}
 use Rattle.laws.specs.Checks.{leaseIn}
-use Rattle.laws.specs.Lists.{length-words}
+use Rattle.laws.specs.Lists.{length-words, words-back}
 use Rattle.laws.specs.Outcomes.{Comes, granted, busy, poisoned, damaged, spent, lock-comes}
 use Rattle.history.specs.World.{World}
 use Rattle.history.specs.Items.{Call, Says, try-acquire, drop-lease, read-permission, competing-acquire, release-then-handoff, foreign-release, drop-preserving, acquire-preserving, environment, try-lock, transactional, acquire-bucket, release-all, acquire-locks, acquire-sorted, crew, crew-at-work, perform, asked, cellOf, keyCell}
 use Rattle.history.specs.Statements.{Grant-is}
-use Rattle.history.specs.Tests.{leases-words, words-boot}
+use Rattle.history.specs.Tests.{words-boot}
 use Rattle.history.specs.Judged.{acting, steps, performed, judged-at}
 use Rattle.history.specs.Steps.{With}
 
@@ -209,8 +209,8 @@ module _ (buckets boot : ℕ) (registry keys : List ℕ) where
   locks-filled total zero p h e taken r t g grants n all a =
       record {
         long = omega (arith, length-words boot taken);
-        many = rw (leases-words boot taken) (omega arith);
-        filled = λ i k. rw (leases-words boot taken) (all i (omega arith));
+        many = rw (words-back boot taken) (omega arith);
+        filled = λ i k. rw (words-back boot taken) (all i (omega arith));
         own-boot = λ i k. words-boot boot taken i (omega arith);
       }
   locks-filled total (suc left) p h e taken r t g grants n all a =

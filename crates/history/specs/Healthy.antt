@@ -30,11 +30,11 @@ use Rattle.types.specs.declared.Run.{Run}
 use Rattle.types.specs.declared.Tried.{Tried}
 use Rattle.choice.specs.Pick.{if-both}
 use Rattle.laws.specs.Outcomes.{Comes, granted, busy, poisoned, damaged, spent, lock-comes}
+use Rattle.laws.specs.Lists.{words-back}
 use Rattle.history.specs.World.{World, Healthy, now, attempts, number-of}
 use Rattle.history.specs.Items.{Call, try-acquire, drop-lease, read-permission, competing-acquire, release-then-handoff, foreign-release, drop-preserving, acquire-preserving, environment, try-lock, transactional, acquire-bucket, release-all, acquire-locks, acquire-sorted, crew, crew-at-work, perform}
 use Rattle.history.specs.Statements.{answers, log-of, Fails}
 use Rattle.history.specs.Answers.{Reads-again, Granted-healthy, Grant-point, Locks-healthy, Poisoned-holds-nothing}
-use Rattle.history.specs.Tests.{leases-words}
 use Rattle.history.specs.Events.{Fit}
 use Rattle.history.specs.Logs.{now-append, next-now, kept-fit}
 use Rattle.history.specs.Judged.{acting, steps, performed}
@@ -178,7 +178,7 @@ module _ (e : Setting) (buckets boot : ℕ) (registry keys grants : List ℕ) wh
   locks-extend : (left p : ℕ) (taken : List Hold) (r : Run) (t g : List ℕ) (i : ℕ) → i < length taken
       → let m = locksOf left p e buckets boot registry keys taken r t g grants .seen in m .0 .answer ≡ AllGranted → holdAt (holdsOf (m .1 .1 .1)) i ≡ holdAt taken i
   unfolding locksOf rollbackOf
-  locks-extend zero p taken r t g i k a = rw (leases-words boot taken)
+  locks-extend zero p taken r t g i k a = rw (words-back boot taken)
   locks-extend (suc left) p taken r t g i k a =
       let m = retryOf attemptLimit 0 noneYet (protecting e taken) buckets registry (bindingAt keys p) (bucketAt keys p) r t g .seen in
       go (m .0 .outcome) (m .0 .run) (m .1 .0) (m .1 .1)

@@ -20,12 +20,12 @@ use Rattle.types.specs.declared.Answer.{Answer}
 use Rattle.types.specs.declared.Answer.the-variants.{Done, Cell, Granted, AllGranted, Busy, Refused, RefusedAt}
 use Rattle.types.specs.declared.Hold.{Hold}
 use Rattle.laws.specs.Checks.{leaseIn}
-use Rattle.laws.specs.Lists.{length-words}
+use Rattle.laws.specs.Lists.{length-words, words-back}
 use Rattle.laws.specs.Sorting.{Rising, isAmong, sorted-is, first-asking, stands-at}
 use Rattle.history.specs.World.{World}
 use Rattle.history.specs.Items.{Says, acquire-locks, acquire-sorted, in-order, any-order, keyCell, perform}
 use Rattle.history.specs.Statements.{Hands-over, Buffer-is}
-use Rattle.history.specs.Tests.{In, in-take, in-index, leases-words, words-boot}
+use Rattle.history.specs.Tests.{In, in-take, in-index, words-boot}
 use Rattle.history.specs.Judged.{judged-at, sorted-locks, performed}
 use Rattle.history.specs.ByKey.{locks-filled}
 
@@ -296,7 +296,7 @@ module _ (w : World) (registry script : List ℕ) (place : ℕ) (held keys grant
       let n = length (sorted-cells b registry keys) in
       let f = locks-filled b (w .head .boot) registry (chosen-keys b registry keys) n n 0 (omega arith) (given (w .head) script (holdsOf held)) [] (starting (w .head) place) (w .table) (w .health) grants refl
       (λ i x. absurd (omega arith)) a in
-      rw (leases-words (w .head .boot) (sharedOf (holdsOf inner-buffer) (asked-cells b registry keys)))
+      rw (words-back (w .head .boot) (sharedOf (holdsOf inner-buffer) (asked-cells b registry keys)))
       (handed-back b registry keys (holdsOf inner-buffer) (f .many) (λ i l. f .filled i l ∙ chosen-cell b registry keys i l))
 
   -- what the caller is handed is what the steps hand over
@@ -372,7 +372,7 @@ buffers-name w k _ _ (any-order registry script place held keys grants) =
     -- as many as keys
     many : Handed-back (w .head .buckets) registry keys (holdsOf buffer) (holdsOf (handedBack (w .head .boot) AllGranted asked buffer))
         → length (sharedOf (holdsOf buffer) asked) ≡ countIn keys
-    many b = sym (ap length (leases-words (w .head .boot) (sharedOf (holdsOf buffer) asked))) ∙ b .as-many
+    many b = sym (ap length (words-back (w .head .boot) (sharedOf (holdsOf buffer) asked))) ∙ b .as-many
 
     go : (x : Answer) → x ≡ AllGranted → (x ≡ AllGranted → Handed-back (w .head .buckets) registry keys (holdsOf buffer) (holdsOf (handedBack (w .head .boot) AllGranted asked buffer)))
         → (length (handedBack (w .head .boot) x asked buffer) ≡ 3 * countIn keys)

@@ -30,7 +30,7 @@ use Rattle.history.specs.Statements.{leaves, rescued}
 use Rattle.history.specs.Callers.{Shape-fits}
 use Rattle.history.specs.Tests.{differ, state-held, alive, live}
 use Rattle.history.specs.Events.{Fit, fit, keep-step}
-use Rattle.history.specs.Logs.{arena-now}
+use Rattle.history.specs.Logs.{boot-now}
 use Rattle.history.specs.Salvages.{Came, bad, full, done, came, inside, now-whole, now-owned, now-freed, now-kept}
 use Rattle.laws.specs.Salvage.{length-mended, length-mended-health, waiters-mended}
 use Rattle.salvaged.specs.Statements.{answerIn, tableIn, healthIn, listIn, fits, No-room, Bad-shape-exactly, Report-full-exactly, placeIn, oldIn, newIn, Reports, Report-is, Places-are, undone, undoneOf, Rebuilds, Lists, Held-in, Unconfirmed-is, Mends, Mended, Twice, Keeps-boot, Owners-differ, Apart-exactly, Doubled-apart, other, Held-at-start, Goes-on-from, Boot-from-salvage, Counts-from-salvage, Dead-stays-dead, Dead-over-salvages, Apart-from-there, Unconfirmed-alone, Live-over-salvage}
@@ -378,7 +378,7 @@ pub boot-from-salvage : Boot-from-salvage
 boot-from-salvage k i h t g report list e n items x d on =
     let o = onward.goes-on-from k i h t g report list e n items x d on in
     ap (λ (w : World). w .head .boot) (o .2)
-    ∙ ap (λ (j : Head). j .boot) (arena-now (rescued h t g report list) (history-of (run k (i ∷ items))))
+    ∙ boot-now (rescued h t g report list) (history-of (run k (i ∷ items)))
 
 pub counts-from-salvage : Counts-from-salvage
 counts-from-salvage = onward.counts-from-salvage

@@ -12,7 +12,6 @@ use Rattle.model.specs.Arena.{leaseOf, holdIn, ownerAt}
 use Rattle.model.specs.Log.{Actor, Event, released}
 use Rattle.types.specs.declared.Answer.{Answer}
 use Rattle.types.specs.declared.Answer.the-variants as answer
-use Rattle.types.specs.declared.Head.{Head}
 use Rattle.types.specs.declared.Hold.{Hold}
 use Rattle.types.specs.declared.Lease.{Lease}
 use Rattle.types.specs.declared.SalvageAnswer.{SalvageAnswer}
@@ -32,7 +31,7 @@ use Rattle.history.specs.Items.{Item, call, foreign-step, preparation, preparat
 use Rattle.history.specs.Statements.{Begins}
 use Rattle.history.specs.Tests.{same-lease}
 use Rattle.history.specs.Events.{lives}
-use Rattle.history.specs.Logs.{arena-now}
+use Rattle.history.specs.Logs.{boot-now}
 use Rattle.history.specs.Writers.{looked}
 use Rattle.history.specs.Courses.{Stretch, run-stretch, ledger, begun, events-append, not-prepared, not-salvaged}
 use Rattle.written.specs.Items.{BookItem, arena-item, prepare-book, write-setpoint, read-setpoint, Shift, shiftOf, world-of, next-shift, run-shift}
@@ -177,7 +176,7 @@ still-boot : (k d : Course) → Stretch k → Stretch d → Longer k d → d .wo
 still-boot k d x y m = of d y ∙ ap (λ (w : World). w .head .boot) (m .origin-is) ∙ sym (of k x)
   where
     of : (c : Course) → Stretch c → c .world .head .boot ≡ c .origin .head .boot
-    of c z = ap (λ (w : World). w .head .boot) (z .leads) ∙ ap (λ (h : Head). h .boot) (arena-now (c .origin) (history-of c))
+    of c z = ap (λ (w : World). w .head .boot) (z .leads) ∙ boot-now (c .origin) (history-of c)
 
 -- the first stretch
 started : (w : World) (b : List ℕ) (i : Item) → Begins w i → Stretch (next-shift (shiftOf (cold w) b []) (arena-item i) .course)
