@@ -20,9 +20,8 @@ use Rattle.types.specs.declared.Refusal.{Refusal}
 use Rattle.types.specs.declared.Refusal.the-variants.{NotHeld, SerialsSpent}
 use Rattle.history.specs.World as world
 use Rattle.history.specs.World.{Live}
-use Rattle.history.specs.Items.{read-permission, competing-acquire, release-then-handoff, perform, rules}
+use Rattle.history.specs.Items.{read-permission, competing-acquire, release-then-handoff, unchanged, perform, rules}
 use Rattle.history.specs.Statements.{answers, leaves}
-use Rattle.history.specs.Judged.{unchanged}
 use Rattle.history.specs.Events.{lives}
 use Rattle.upstream.specs.Vocabulary.{Key, cell, Authority, Own, lease-key, lease-serial, next-serial, cells, Cells-are, Valid-cell, valid, authorized, Release, Gives-up}
 use Rattle.upstream.specs.Protocol.{step-valid, step-frees, step-grants, bit-of}
