@@ -1,4 +1,5 @@
--- Boot numbers (document 02, L8): no call and no foreign step changes the head's, and a call that is given a lease with another is refused.
+-- Boot numbers (document 02, L8): no call and no foreign step changes the head's, and a call that is given a lease with another is refused; by 16
+-- exactly where such a lease stands and no check before it applies.
 use Prim.Native.Nat.{ℕ, zero, suc, _+_, _*_, _≤_, _<_}
 use mathlib.Core.Path.{_≡_, refl, sym, ap, _∙_, subst}
 use mathlib.Core.List.{List, [], _∷_, _++_}
@@ -369,7 +370,7 @@ hit-placed w k l _ _ (listed leases ahead i o b e) f s = hit-listed w k leases a
 
 -- ---- and only there
 
--- a refusal before 12 to 16 is answered by checks alone
+-- an early refusal is one of the checks: no steps answer it
 refused-by : (w : World) (k : Call) (r : Refusal) → Early k r → answers w k ≡ Refused r → first (rules w k) ≡ Fault r
 refused-by w k r early =
     performed-by (λ (m : Made (World × Says)). m .seen .1 .answer ≡ Refused r → first (rules w k) ≡ Fault r) w k
@@ -390,7 +391,7 @@ fault-append xs ys r e = go (first xs) refl (sym (first-append xs ys) ∙ e)
     go Fine x q = inr (x, q)
     go (Fault z) x q = inl (x ∙ q)
 
--- so 16 is not of checks of other numbers, which stand before or behind
+-- so where checks of other numbers stand before or behind, 16 is of the rest
 past : (xs ys : List Rule) (p : ℕ) → Below-16 xs → first (xs ++ ys) ≡ Fault (StaleBoot p) → (first xs ≡ Fine) × (first ys ≡ Fault (StaleBoot p))
 past xs ys p a e = elim (fault-append xs ys (StaleBoot p) e) [ inl q ↦ absurd (none-16 xs p a q) | inr q ↦ q ]
 
@@ -500,7 +501,7 @@ beside-found w k held l p o c e =
           subst (Found w k) (y .0) (l, _, beside held o, q .0, y .1)
     ]
 
--- of a call by key, whose checks behind the held list are others
+-- of a call by key: behind the held list stand checks of other numbers
 keyed-found : (w : World) (k : Call) (registry script : List ℕ) (place : ℕ) (held : List ℕ) (rest : List Rule) (p : ℕ)
     → Listed w k held (λ i. keyed w registry script place ++ held-before w held i) → Below-16 rest
     → first ((keyed w registry script place ++ badHeld (w .head) (w .table) held) ++ rest) ≡ Fault (StaleBoot p) → Found w k p
@@ -508,6 +509,7 @@ keyed-found w k registry script place held rest p o a e =
     listed-found w k held _ p o (held-found w (keyed w registry script place) held p (omega arith, (omega arith, (omega arith, (omega arith, tt))))
     (ahead-of (keyed w registry script place ++ badHeld (w .head) (w .table) held) rest p a e))
 
+-- what stands behind the held list of multi-lock, and the checks of a crew: other numbers
 keys-below : (registry held keys grants : List ℕ) → Below-16 (tooManyKeys held keys grants ∷ badBindings (countIn keys) 0 registry keys)
 keys-below registry held keys grants = (omega arith, bindings-all (λ (r : Refusal). numberOf r < 16) (λ _. omega arith) (countIn keys) 0 registry keys)
 
@@ -597,6 +599,7 @@ at-among (c ∷ d ∷ []) i b = absurd (omega arith)
 at-among (c ∷ d ∷ e ∷ ws) zero b = inl refl
 at-among (c ∷ d ∷ e ∷ ws) (suc i) b = inr (subst (λ (l : Lease). Among l (leasesOf ws)) (sym (later c d e ws i)) (at-among ws i (omega arith)))
 
+-- the call is given the lease in some place
 abbrev Somewhere : World → Call → Lease → Type 0
 Somewhere w k l = (ahead : List Rule) × (i : ℕ) × Placed w k l ahead i
 
