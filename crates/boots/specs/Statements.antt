@@ -1,7 +1,7 @@
 -- Document 02, L8: "If the owner never uses a boot number twice, an issued pair of boot number and serial that owns nothing never owns again,
 -- preparations included, up to the next salvage." What demand 2 says up to the next preparation (crate `history`), over preparations, as
 -- statements; `Theorems` has the proofs by name.
-use Prim.Native.Nat.{ℕ, _+_, _*_, _<_}
+use Prim.Native.Nat.{ℕ, _<_}
 use mathlib.Core.Path.{_≡_}
 use mathlib.Core.List.{List, [], _∷_, _++_}
 use mathlib.Core.Bool.{true}
@@ -9,7 +9,6 @@ use mathlib.Core.Logic.{_⊎_, _↔_}
 use lib.ListN.{length}
 use Rattle.model.specs.Log.{Actor, Event, took}
 use Rattle.model.specs.Arena.{leaseOf, isStale, leaseLive, leasesOf}
-use Rattle.model.specs.Checks.{badHeld}
 use Rattle.model.specs.Refusals.{Rule, first}
 use Rattle.types.specs.declared.Answer.{Answer}
 use Rattle.types.specs.declared.Answer.the-variants.{Done, Cell, Granted, AllGranted, Busy, Refused, RefusedAt}
@@ -25,11 +24,9 @@ use Rattle.slots.specs.declared.BookCheck.the-variants as check
 use Rattle.slots.specs.declared.BookRefusal.{BookRefusal}
 use Rattle.slots.specs.declared.BookRefusal.the-variants as fault
 use Rattle.history.specs.World.{World, now, Spent}
-use Rattle.laws.specs.Checks.{leaseIn}
-use Rattle.history.specs.Items.{Call, drop-lease, Among, Names-lease, perform, foreign, Item, call, foreign-step, preparation, preparation-over, salvage, salvage-over, Course, cold, preparing, next-item, run}
-use Rattle.history.specs.Statements.{Begins, Through, answers, buffer-in, Early, One-lease, Beside, Listed}
+use Rattle.history.specs.Items.{Call, drop-lease, Among, Names-lease, unchanged, perform, foreign, Item, call, foreign-step, preparation, preparation-over, salvage, salvage-over, Course, cold, preparing, next-item, run}
+use Rattle.history.specs.Statements.{Begins, Through, answers, buffer-in, Early, One-lease, Placed}
 use Rattle.history.specs.Callers.{Shape-fits}
-use Rattle.history.specs.Judged.{unchanged}
 
 -- ---- leases with their boot numbers
 
@@ -147,15 +144,12 @@ Owned-exactly = (w : World) (l : Lease) → Shape-fits w → (answers w (drop-le
 -- a stale lease, in an arena whose shape fits: by 16
 pub record Useless (w : World) (l : Lease) : Type 0 where
   pub stale : isStale (w .head) l ≡ true
+  pub shape : Shape-fits w
   pub barred : Barred w l
-  -- of one lease
+  -- given to a call alone
   pub alone : (k : Call) → One-lease k l → answers w k ≡ Refused (StaleBoot 0)
-  -- of one beside a held list, if that list is fine
-  pub beside : (k : Call) (held : List ℕ) → Beside k held l → first (badHeld (w .head) (w .table) held) ≡ Fine
-      → answers w k ≡ Refused (StaleBoot 0)
-  -- in a list, if what is tested before its position is fine
-  pub listed : (k : Call) (leases : List ℕ) (before : ℕ → List Rule) (i : ℕ) → Listed w k leases before → 3 * i + 2 < length leases
-      → leaseIn leases i ≡ l → first (before i) ≡ Fine → answers w k ≡ Refused (StaleBoot i)
+  -- wherever it stands, with that position, if no check before it applies. These are all the calls that name it (`Names-placed` of crate `history`)
+  pub placed : (k : Call) (ahead : List Rule) (i : ℕ) → Placed w k l ahead i → first ahead ≡ Fine → answers w k ≡ Refused (StaleBoot i)
   -- in a write, if table, book and slot pass
   pub written : (bytes : List ℕ) (slot : ℕ) (p : Setpoint)
       → firstFault (badTable (w .head) (w .table) ∷ badSlot (w .head) (length bytes) slot ∷ []) ≡ check.Fine

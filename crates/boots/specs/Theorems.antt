@@ -1,26 +1,24 @@
 -- The statements of `Statements`, each proved.
-use Prim.Native.Nat.{ℕ, zero, suc, _+_, _*_, _≤_, _<_}
+use Prim.Native.Nat.{ℕ, _+_, _<_}
 use mathlib.Core.Path.{_≡_, refl, sym, ap, _∙_, subst}
 use mathlib.Core.List.{List, [], _∷_, _++_, append-assoc}
-use mathlib.Core.Bool.{Bool, true, false}
-use mathlib.Core.Logic.{_⊎_, inl, inr}
+use mathlib.Core.Bool.{Bool, true, false, not}
+use mathlib.Core.Logic.{inl, inr}
 use native.Mathlib.Omega.{arith}
-use lib.Dec.{ltb}
-use lib.ListN.{length, drop}
-use borrow.Author.Tests.{ltb-true, ltb-false, eq-eqb, not-true}
+use lib.ListN.{length}
+use borrow.Author.Tests.{eq-eqb, not-true}
 use Rattle.model.specs.Log.{Made, Event, by-caller}
-use Rattle.model.specs.Arena.{leaseOf, isStale, leaseLive, holdOf, holdIn, leasesOf, holdsOf}
+use Rattle.model.specs.Arena.{leaseOf, leaseLive, holdOf, holdIn, leasesOf, holdsOf}
 use Rattle.model.specs.Calls.{dropLeaseOf}
-use Rattle.model.specs.Checks.{countIn, badHeld, leaseRules}
+use Rattle.model.specs.Checks.{countIn, badShape, leaseRules}
 use Rattle.model.specs.Refusals.{first}
 use Rattle.types.specs.declared.Answer.{Answer}
 use Rattle.types.specs.declared.Answer.the-variants.{Done, Cell, Granted, AllGranted, Busy, Refused, RefusedAt}
 use Rattle.types.specs.declared.Check.the-variants.{Fine}
 use Rattle.types.specs.declared.Lease.{Lease}
-use Rattle.laws.specs.Checks.{leaseIn, leases-at, leases-end, shape-ok}
 use Rattle.history.specs.World.{World, now}
 use Rattle.history.specs.Items.{Call, Among, try-acquire, drop-lease, read-permission, competing-acquire, release-then-handoff, foreign-release, drop-preserving, acquire-preserving, environment, try-lock, transactional, acquire-bucket, release-all, acquire-locks, acquire-sorted, crew, crew-at-work, By-keys, in-order, any-order, Says, perform, Item, call, foreign-step, Course, cold, next-item, run}
-use Rattle.history.specs.Statements.{Hands-over, Gives, answers, leaves, buffer-in}
+use Rattle.history.specs.Statements.{Hands-over, Gives, answers, leaves, buffer-in, alone}
 use Rattle.history.specs.Theorems.{grant-is, buffer-is, given-live, handed-over, boot-stays, refused-unowned, stale-is-16}
 use Rattle.written.specs.Theorems.{unowned-writes-nothing, stale-writes-nothing}
 use Rattle.history.specs.Tests.{differ, In, in-first, in-rest}
@@ -31,6 +29,8 @@ use Rattle.history.specs.Courses.{Stretch, run-stretch, begun}
 use Rattle.history.specs.Others.{run-append}
 use Rattle.boots.specs.Statements.{Owned, Hands-lease, Handed, Own-boot, Throughout, Issues, Handed-issues, boots-of, boots-over, Member, Distinct, No-rescue, Unowned-barred, Owned-exactly, Stale-useless, Out, Over-preparations, Demand-2-over, Over-from}
 use Rattle.boots.specs.Over.{owned-parts, owns, other-stale, member-left, member-right, apart-lists, distinct-front, boots-append, no-rescue-front, no-rescue-back, Went, on, anew, went, began-boots, other-boot, fits-here, gone, Taken, taken, boot-taken, serial-from, serial-below, dead-behind}
+use Rattle.history.specs.Judged.{clear-fine}
+use Rattle.history.specs.Boots.{among-at}
 
 -- ---- a lease that does not own its cell
 
@@ -61,33 +61,19 @@ pub stale-useless : Stale-useless
 stale-useless w l shape s =
     record {
       stale = s;
+      shape = shape;
       barred = unowned-barred w l (λ o. differ (sym (not-true _ s) ∙ eq-eqb (l .boot) (w .head .boot) (owned-parts w l o .0)));
+      alone = λ k o. stale-is-16 w k 0 .1 (l, badShape (w .head) (w .table) ∷ [], alone o, fine, s);
+      placed = λ k ahead i x f. stale-is-16 w k i .1 (l, ahead, x, f, s);
       written = λ bytes slot p e. stale-writes-nothing w bytes slot l p s e;
-      alone = λ k x. stale-is-16 .alone w k l x shape s;
-      beside = λ k held x e. stale-is-16 .beside w k held l x (shape-ok (w .head) (w .table) (badHeld (w .head) (w .table) held) shape ∙ e) s;
-      listed = λ k leases before i x b e f. stale-is-16 .listed w k leases before i x b f (ap (isStale (w .head)) e ∙ s);
     }
+  where
+    fine : first (badShape (w .head) (w .table) ∷ []) ≡ Fine
+    fine = clear-fine (badShape (w .head) (w .table) ∷ []) (ap not shape, tt)
 
 -- ---- a lease that a call hands over
 
--- the place of a lease among the words of a list
-among-at : (left i : ℕ) (ws : List ℕ) (l : Lease) → length ws ≤ 3 * (i + left) → Among l (leasesOf (drop (3 * i) ws))
-    → (p : ℕ) × (3 * p + 2 < length ws) × (leaseIn ws p ≡ l)
-among-at zero i ws l few x = absurd (subst (Among l) (leases-end ws i (omega arith)) x)
-among-at (suc left) i ws l few x = go (λ y. among-at left (i + 1) ws l (omega arith) y) (ltb (3 * i + 2) (length ws)) refl
-  where
-    Behind : Type 0
-    Behind = Among l (leasesOf (drop (3 * (i + 1)) ws)) → (p : ℕ) × (3 * p + 2 < length ws) × (leaseIn ws p ≡ l)
-
-    one : Behind → 3 * i + 2 < length ws → (leaseIn ws i ≡ l) ⊎ Among l (leasesOf (drop (3 * (i + 1)) ws)) → (p : ℕ) × (3 * p + 2 < length ws) × (leaseIn ws p ≡ l)
-    one more b (inl e) = (i, b, e)
-    one more b (inr y) = more y
-
-    go : Behind → (b : Bool) → ltb (3 * i + 2) (length ws) ≡ b → (p : ℕ) × (3 * p + 2 < length ws) × (leaseIn ws p ≡ l)
-    go more true e = let b = ltb-true _ _ e in one more b (subst (Among l) (leases-at ws i b) x)
-    go more false e = absurd (subst (Among l) (leases-end ws i (ltb-false _ _ e)) x)
-
--- its hold stands among the holds
+-- its hold stands among the holds of the list
 among-holds : (ws : List ℕ) (l : Lease) → Among l (leasesOf ws) → In (holdsOf ws) (holdIn l)
 unfolding leasesOf holdsOf
 among-holds [] l x = absurd x

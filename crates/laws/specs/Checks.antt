@@ -10,7 +10,7 @@ use lib.ListN.{length, getD, drop, length-drop}
 use lib.Seq.{drop-cons}
 use borrow.Author.Tests.{leb-false, ltb-true, not-false}
 use Rattle.choice.specs.Choice.{if_then_else_}
-use Rattle.model.specs.Arena.{cellsOf, leaseOf, isStale, holdOf, holdIn, shapeFits, healthFits, isLive, leasesOf, holdsOf, sameHold, isIn, heldBy, stateAt}
+use Rattle.model.specs.Arena.{cellsOf, leaseOf, isStale, holdIn, shapeFits, healthFits, isLive, leasesOf, holdsOf, sameHold, isIn, heldBy, stateAt}
 use Rattle.model.specs.Refusals.{Rule, refusalOf, first}
 use Rattle.model.specs.Lock.{holdAt}
 use Rattle.model.specs.Checks.{badShape, badHealth, notLive, cellRules, leaseRules, heldCellRules, heldLeaseRules, badHeld}

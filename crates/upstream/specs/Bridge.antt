@@ -25,10 +25,10 @@ use Rattle.laws.specs.Words.{length-set-cell, length-set-waiters, bit-set-waite
 use Rattle.laws.specs.Checks.{first-hit, first-skip}
 use Rattle.history.specs.World as world
 use Rattle.history.specs.World.{World, worldOf, Live, Legal, Lawful, now, Sound, Unreleased, Whole}
-use Rattle.history.specs.Items.{Call, Says, perform, try-acquire, drop-lease, read-permission, competing-acquire, release-then-handoff, foreign-release, drop-preserving, acquire-preserving, environment, try-lock, transactional, acquire-bucket, release-all, acquire-locks, acquire-sorted, crew, crew-at-work, Clear, rules}
+use Rattle.history.specs.Items.{Call, Says, unchanged, perform, try-acquire, drop-lease, read-permission, competing-acquire, release-then-handoff, foreign-release, drop-preserving, acquire-preserving, environment, try-lock, transactional, acquire-bucket, release-all, acquire-locks, acquire-sorted, crew, crew-at-work, Clear, rules}
 use Rattle.history.specs.Tests.{Status, free as is-free, held as is-held, live, free-words, In, in-index, in-take, same-lease}
 use Rattle.history.specs.Events.{good, lives}
-use Rattle.history.specs.Judged.{clear, steps, unchanged, sorted-made}
+use Rattle.history.specs.Judged.{clear, steps, sorted-made}
 use Rattle.upstream.specs.Vocabulary.{Key, Cell, cell, Authority, Own, leaseAt, Leases, next-serial, dom, contains-key, cells, insert, Cells-are, Valid-cell, valid, authorized, Step, Acquire, Release, Observe, step, releases, protected-valid, held-ids, leases-authorized}
 use Rattle.upstream.specs.Protocol.{Trace, ended, first as one}
 

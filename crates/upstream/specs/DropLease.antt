@@ -15,9 +15,8 @@ use Rattle.types.specs.declared.Refusal.{Refusal}
 use Rattle.types.specs.declared.Refusal.the-variants.{NotHeld}
 use Rattle.history.specs.World as world
 use Rattle.history.specs.World.{Live}
-use Rattle.history.specs.Items.{drop-lease, perform, rules}
+use Rattle.history.specs.Items.{drop-lease, unchanged, perform, rules}
 use Rattle.history.specs.Statements.{answers, leaves}
-use Rattle.history.specs.Judged.{unchanged}
 use Rattle.history.specs.Tests.{same-lease}
 use Rattle.upstream.specs.Vocabulary.{cell, Authority, Own, lease-key, lease-serial, next-serial, contains-key, cells, insert, Cells-are, Valid-cell, valid, authorized, framed, Release, Gives-up, step}
 use Rattle.upstream.specs.Protocol.{insert-framed, step-valid, step-keeps, step-frees}

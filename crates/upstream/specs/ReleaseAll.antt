@@ -29,9 +29,8 @@ use Rattle.laws.specs.Checks.{first-hit, first-skip}
 use Rattle.laws.specs.Lists.{leases-few, as-many}
 use Rattle.history.specs.World as world
 use Rattle.history.specs.World.{Live}
-use Rattle.history.specs.Items.{release-all, perform, Clear}
+use Rattle.history.specs.Items.{release-all, unchanged, perform, Clear}
 use Rattle.history.specs.Statements.{leaves}
-use Rattle.history.specs.Judged.{unchanged}
 use Rattle.history.specs.Tests.{In, in-cases, in-take, same-lease, differ}
 use Rattle.history.specs.Steps.{worldAt, With, of-flow, of-run}
 use Rattle.history.specs.Events.{lives}
