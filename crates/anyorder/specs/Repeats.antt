@@ -10,7 +10,7 @@ use lib.ListN.{length, getD, take}
 use borrow.Author.Tests.{ltb-false, le-ltb, eq-eqb}
 use Rattle.choice.specs.Pick.{neither}
 use Rattle.model.specs.Log.{Made}
-use Rattle.model.specs.Arena.{cellsOf, isStale, isLive, leasesOf, holdsOf, wordsOf, isIn}
+use Rattle.model.specs.Arena.{cellsOf, isLive, leasesOf, holdsOf, wordsOf, isIn}
 use Rattle.model.specs.Refusals.{first}
 use Rattle.model.specs.Lock.{noHold, holdAt}
 use Rattle.model.specs.Checks.{countIn, leaseCount, isOdd, tooManyLeases, notLive, notReleasable, releaseRules, locksRules}
@@ -24,6 +24,7 @@ use Rattle.types.specs.declared.Lease.{Lease}
 use Rattle.types.specs.declared.Refusal.{Refusal}
 use Rattle.types.specs.declared.Refusal.the-variants.{Repeated}
 use Rattle.laws.specs.Lists.{leases-few, length-words}
+use Rattle.laws.specs.Checks.{not-stale}
 use Rattle.history.specs.World.{World, Live}
 use Rattle.history.specs.Items.{Says, acquire-sorted, release-all, any-order, keyCell, perform, Clear, rules}
 use Rattle.history.specs.Statements.{answer-in, buffer-in, leaves}
@@ -61,9 +62,6 @@ least-from P (suc left) i e none = go (P i) refl (least-from P left (i + 1))
 
 -- ---- the first check of `release_all` that applies, where all leases are live and have the head's boot number
 
-own-boot : (h : Head) (l : Hold) → isStale h (lease-on (h .boot) l) ≡ false
-own-boot h l = ap not (eq-eqb (h .boot) (h .boot) refl)
-
 named-words : (boot : ℕ) (ls : List Hold) → leasesOf (wordsOf boot ls) ≡ map (lease-on boot) ls
 unfolding leasesOf wordsOf
 named-words boot [] = refl
@@ -78,13 +76,13 @@ repeated-first h t i earlier (l ∷ ls) live zero b e none =
     let v : isLive (h .next) (cellsOf h) t l ≡ true = live 0 (omega arith) in
     let f : isIn l earlier ≡ true = subst (λ (ks : List Hold). isIn l ks ≡ true) (append-nil earlier) e in
     let z : i + 0 ≡ i = omega arith in
-    rw (own-boot h l, v, f, z)
+    rw (not-stale h (lease-on (h .boot) l) refl, v, f, z)
 repeated-first h t i earlier (l ∷ ls) live (suc j) b e none =
     let v : isLive (h .next) (cellsOf h) t l ≡ true = live 0 (omega arith) in
     let f : isIn l earlier ≡ false = subst (λ (ks : List Hold). isIn l ks ≡ false) (append-nil earlier) (none 0 (omega arith)) in
     let z : i + suc j ≡ i + 1 + j = omega arith in
     let behind : (x : ℕ) → (earlier ++ (l ∷ [])) ++ take x ls ≡ earlier ++ (l ∷ take x ls) = λ x. append-assoc earlier (l ∷ []) (take x ls) in
-    rw (own-boot h l, v, f, z)
+    rw (not-stale h (lease-on (h .boot) l) refl, v, f, z)
     (repeated-first h t (i + 1) (earlier ++ (l ∷ [])) ls (λ x k. live (suc x) (omega arith)) j (omega arith)
     (subst (λ (ks : List Hold). isIn (holdAt ls j) ks ≡ true) (sym (behind j)) e)
     (λ x k. subst (λ (ks : List Hold). isIn (holdAt ls x) ks ≡ false) (sym (behind x)) (none (suc x) (omega arith))))
@@ -96,7 +94,7 @@ unfolding notReleasable
 none-again h t i earlier [] live once = tt
 none-again h t i earlier (l ∷ ls) live once =
     let f : isIn l earlier ≡ false = subst (λ (ks : List Hold). isIn l ks ≡ false) (append-nil earlier) (once 0 (omega arith)) in (
-      own-boot h l,
+      not-stale h (lease-on (h .boot) l) refl,
       (
         ap not (live 0 (omega arith)),
         (

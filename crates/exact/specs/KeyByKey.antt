@@ -27,6 +27,7 @@ use Rattle.types.specs.declared.Run.{Run}
 use Rattle.types.specs.declared.Tried.{Tried}
 use Rattle.choice.specs.Pick.{neither}
 use Rattle.laws.specs.Shape.{shaped}
+use Rattle.laws.specs.Checks.{not-stale}
 use Rattle.history.specs.World.{World, Live}
 use Rattle.history.specs.Items.{Says, says, perform, acquire-bucket, acquire-locks, environment}
 use Rattle.history.specs.Statements.{answer-in, world-in}
@@ -40,7 +41,7 @@ use Rattle.exact.specs.Statements.{Passes}
 use Rattle.exact.specs.Script.{acquire-bucket-has, acquire-locks-has, environment-has, place-in}
 use Rattle.exact.specs.Attempts.{lease-on, added-up, _and-then_, locking, dropping, between, Gives-back, all-back, one-back, refused-at, Key-by-key, all-locked, one-locked, one-refused, Locks-as-calls, key-at}
 use Rattle.exact.specs.Made.{made, drop-made}
-use Rattle.exact.specs.Passing.{clear-live, boundary-on, divides, own-boot, holding-more, in-script, key-passes, leases-append}
+use Rattle.exact.specs.Passing.{clear-live, boundary-on, divides, holding-more, in-script, key-passes, leases-append}
 use Rattle.exact.specs.Passing as passing
 use Rattle.exact.specs.ScriptFacts.{place-goes}
 use Rattle.exact.specs.CountedOn.{run-on, locks-on, back-on, keys-on}
@@ -208,7 +209,7 @@ module _ (h : Head) (registry script held keys grants : List ℕ) where
       (sym (back-from e n ls (runOf f 0 1 0) (c .seen .1 .0) (c .seen .1 .1))) in
       subst (λ (ks : List Hold). Backs ks v place (done-with h (giveBackOf (suc n) e ls (nil s place) t g))) (sym (take-suc ls n noHold (omega (arith, st .mine .enough))))
       (subst (Backs (take n ls ++ (l ∷ [])) v place) whole
-      (back-as l (drop-made v named (st .passes .0, (own-boot h named refl, (ap not live, tt)))) refl is refl rest))
+      (back-as l (drop-made v named (st .passes .0, (not-stale h named refl, (ap not live, tt)))) refl is refl rest))
 
   -- ---- locking
 

@@ -187,7 +187,7 @@ module _ (buckets boot : ℕ) (registry keys : List ℕ) where
     pub long : length b ≡ 3 * n
     pub many : length (holdsOf b) ≡ n
     pub filled : (i : ℕ) → i < n → holdAt (holdsOf b) i .cell ≡ keyCell buckets registry keys i
-    pub own-boot : (i : ℕ) → i < n → leaseIn b i .boot ≡ boot
+    pub boot-is : (i : ℕ) → i < n → leaseIn b i .boot ≡ boot
 
   one-more : (p : ℕ) (taken : List Hold) (l : Hold) → length taken ≡ p → ((i : ℕ) → i < p → holdAt taken i .cell ≡ keyCell buckets registry keys i) → l .cell ≡ keyCell buckets registry keys p
       → (i : ℕ) → i < p + 1 → holdAt (taken ++ (l ∷ [])) i .cell ≡ keyCell buckets registry keys i
@@ -211,7 +211,7 @@ module _ (buckets boot : ℕ) (registry keys : List ℕ) where
         long = omega (arith, length-words boot taken);
         many = rw (words-back boot taken) (omega arith);
         filled = λ i k. rw (words-back boot taken) (all i (omega arith));
-        own-boot = λ i k. words-boot boot taken i (omega arith);
+        boot-is = λ i k. words-boot boot taken i (omega arith);
       }
   locks-filled total (suc left) p h e taken r t g grants n all a =
       let m = retryOf attemptLimit 0 noneYet (protecting e taken) buckets registry (bindingAt keys p) (bucketAt keys p) r t g .seen in

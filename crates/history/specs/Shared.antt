@@ -356,7 +356,7 @@ buffers-name w k _ _ (in-order registry script place held keys grants) =
     (λ _ a.
     let f = locks-filled (w .head .buckets) (w .head .boot) registry keys (countIn keys) (countIn keys) 0 (omega arith) (given (w .head) script (holdsOf held)) [] (starting (w .head) place) (w .table) (w .health) grants refl
     (λ i x. absurd (omega arith)) a in
-    (f .long, f .filled, f .own-boot))
+    (f .long, f .filled, f .boot-is))
 buffers-name w k _ _ (any-order registry script place held keys grants) =
     performed (Whole w registry keys) w (acquire-sorted registry script place held keys grants) (λ r a. let z : _≡_ {A = ℕ} 0 1 = cc in absurd (omega arith))
     (λ _.

@@ -25,7 +25,7 @@ use Rattle.types.specs.declared.Lease.{Lease}
 use Rattle.types.specs.declared.Refusal.{Refusal}
 use Rattle.types.specs.declared.Refusal.the-variants.{NotHeld, Repeated}
 use Rattle.types.specs.declared.Run.{Run}
-use Rattle.laws.specs.Checks.{first-hit, first-skip}
+use Rattle.laws.specs.Checks.{first-hit, first-skip, not-stale}
 use Rattle.laws.specs.Lists.{leases-few, as-many}
 use Rattle.history.specs.World as world
 use Rattle.history.specs.World.{Live}
@@ -37,7 +37,7 @@ use Rattle.history.specs.Events.{lives}
 use Rattle.history.specs.Calls.{words-leases}
 use Rattle.upstream.specs.Vocabulary.{Key, Authority, Own, leaseAt, All-own, Leases, is-Some, lease-key, next-serial, dom, cells, Valid-cell, valid, authorized, Release, Gives-up, leases-authorized}
 use Rattle.upstream.specs.Protocol.{Trace, ended, trace-valid, trace-buries, step-keeps, step-frees, owner-of}
-use Rattle.upstream.specs.Bridge.{own-boot, hold-at, authorized-live, Sized, fits-sized, sized-now, refused, by-checks}
+use Rattle.upstream.specs.Bridge.{hold-at, authorized-live, Sized, fits-sized, sized-now, refused, by-checks}
 use Rattle.upstream.specs.Refusing.{unauthorized, on-damaged, is-dead}
 use Rattle.upstream.specs.Passing.{Scripted, release-passes}
 use Rattle.upstream.specs.TryAcquire.{fine-fault}
@@ -147,7 +147,7 @@ unfolding notReleasable
 not-releasable-dead w n earlier [] i l c o d = absurd (omega arith)
 not-releasable-dead w n earlier (k ∷ ls) zero l c o d =
     let e : n + 0 ≡ n = omega arith in
-    first-skip (staleBoot (w .head) n k) _ (own-boot w k o) ∙ first-hit (notHeld (w .head) (w .table) n k) _ (ap not (is-dead w (holdIn k) d)) ∙ rw e
+    first-skip (staleBoot (w .head) n k) _ (not-stale (w .head) k o) ∙ first-hit (notHeld (w .head) (w .table) n k) _ (ap not (is-dead w (holdIn k) d)) ∙ rw e
 not-releasable-dead w n earlier (k ∷ ls) (suc i) l c o d =
     let e : n + 1 + i ≡ n + suc i = omega arith in
     first-skip (staleBoot (w .head) n k) _ (c .0) ∙ first-skip (notHeld (w .head) (w .table) n k) _ (c .1 .0) ∙ first-skip (repeated n earlier k) _ (c .1 .1 .0)
@@ -160,7 +160,7 @@ unfolding notReleasable
 not-releasable-again w n earlier [] i l c o v d = absurd (omega arith)
 not-releasable-again w n earlier (k ∷ ls) zero l c o v d =
     let e : n + 0 ≡ n = omega arith in
-    first-skip (staleBoot (w .head) n k) _ (own-boot w k o) ∙ first-skip (notHeld (w .head) (w .table) n k) _ (ap not v) ∙ first-hit (repeated n earlier k) _ (rw (append-nil earlier) at d) ∙ rw e
+    first-skip (staleBoot (w .head) n k) _ (not-stale (w .head) k o) ∙ first-skip (notHeld (w .head) (w .table) n k) _ (ap not v) ∙ first-hit (repeated n earlier k) _ (rw (append-nil earlier) at d) ∙ rw e
 not-releasable-again w n earlier (k ∷ ls) (suc i) l c o v d =
     let e : n + 1 + i ≡ n + suc i = omega arith in
     first-skip (staleBoot (w .head) n k) _ (c .0) ∙ first-skip (notHeld (w .head) (w .table) n k) _ (c .1 .0) ∙ first-skip (repeated n earlier k) _ (c .1 .1 .0)
