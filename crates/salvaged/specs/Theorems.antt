@@ -11,7 +11,7 @@ use lib.ListN.{length, getD, take, drop, length-append, length-drop, List·getD-
 use lib.Seq.{take-at, drop-at, getD-append-add}
 use borrow.Author.Tests.{ltb-true, lt-ltb, eq-eqb}
 use Rattle.choice.specs.Pick.{both, determined}
-use Rattle.model.specs.Arena.{cellsOf, leaseOf, holdOf, bitAt, ownerAt, stateAt, isLive, shapeFits, healthFits}
+use Rattle.model.specs.Arena.{cellsOf, leaseOf, holdOf, bitAt, ownerAt, stateAt, isLive, shapeFits, healthFits, leaseUnder}
 use Rattle.model.specs.Log.{Event, by-caller, released}
 use Rattle.model.specs.Refusals.{first}
 use Rattle.model.specs.Checks.{leaseRules}
@@ -350,7 +350,7 @@ keeps-boot h t g report list = go (came h t g report list)
 
 -- a release of one of two cells with one owner: the call is done, and is the release
 dropped : (w : World) (l : Hold) → Shape-fits w → Live w l
-    → perform w (drop-lease (leaseOf (l .cell) (l .serial) (w .head .boot))) .seen
+    → perform w (drop-lease (leaseUnder (w .head .boot) l)) .seen
     ≡ (step w (released by-caller (l .cell) (l .serial)), says answer.Done (countsOf 0 0 0 0) 0 [])
 unfolding perform dropLeaseOf leaseRules first
 dropped w l f p = rw (f, eq-eqb (w .head .boot) (w .head .boot) refl, p)
