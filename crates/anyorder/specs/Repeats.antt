@@ -23,7 +23,7 @@ use Rattle.types.specs.declared.Hold.{Hold}
 use Rattle.types.specs.declared.Lease.{Lease}
 use Rattle.types.specs.declared.Refusal.{Refusal}
 use Rattle.types.specs.declared.Refusal.the-variants.{Repeated}
-use Rattle.laws.specs.Lists.{leases-few, length-words}
+use Rattle.laws.specs.Lists.{holds-few, length-words}
 use Rattle.laws.specs.Checks.{not-stale}
 use Rattle.history.specs.World.{World, Live}
 use Rattle.history.specs.Items.{Says, acquire-sorted, release-all, any-order, keyCell, perform, Clear, rules}
@@ -152,7 +152,7 @@ module _ (w : World) (registry script : List ℕ) (place : ℕ) (held keys grant
   long = buffers-name w (acquire-sorted registry script place held keys grants) registry keys (any-order registry script place held keys grants) granted .0
 
   many : length ls ≡ countIn keys
-  many = omega (arith, long, words-leases buffer, leases-few buffer)
+  many = omega (arith, long, words-leases buffer, holds-few buffer)
 
   -- the boot number is what it was, and all leases handed back have it
   stays : v .head .boot ≡ w .head .boot

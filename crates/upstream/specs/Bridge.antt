@@ -25,7 +25,7 @@ use Rattle.laws.specs.Checks.{first-hit, first-skip}
 use Rattle.history.specs.World as world
 use Rattle.history.specs.World.{World, worldOf, Live, Legal, Lawful, now, Unreleased, Whole}
 use Rattle.history.specs.Items.{Call, Says, unchanged, perform, try-acquire, drop-lease, read-permission, competing-acquire, release-then-handoff, foreign-release, drop-preserving, acquire-preserving, environment, try-lock, transactional, acquire-bucket, release-all, acquire-locks, acquire-sorted, crew, crew-at-work, Clear, rules}
-use Rattle.history.specs.Tests.{Status, free as is-free, held as is-held, live, free-words, In, in-index, in-take, same-lease}
+use Rattle.history.specs.Tests.{Status, free as is-free, held as is-held, live, free-words, In, in-index, in-take, holds-equal}
 use Rattle.history.specs.Events.{good, lives}
 use Rattle.history.specs.Judged.{clear, steps, sorted-made}
 use Rattle.upstream.specs.Vocabulary.{Key, Cell, cell, Authority, leaseAt, Leases, next-serial, dom, contains-key, cells, insert, Cells-are, Valid-cell, valid, authorized, Step, Acquire, Release, Observe, step, releases, protected-valid, held-ids, leases-authorized}
@@ -172,7 +172,7 @@ released-is yielded l n r = r
 released-is spun l n r = r
 released-is step-dropped l n r = r
 released-is (took a c s) l n r = r
-released-is (released a c s) l n r = n (same-lease l (holdOf c s) (sym (r .0)) (sym (r .1)))
+released-is (released a c s) l n r = n (holds-equal l (holdOf c s) (sym (r .0)) (sym (r .1)))
 released-is (waiters-set c k) l n r = r
 released-is (health-set i k) l n r = r
 released-is (held-all m) l n r = r
