@@ -18,8 +18,7 @@ use Rattle.types.specs.declared.SalvageAnswer.the-variants as salvaged
 use Rattle.laws.specs.Lists.{leases-equal}
 use Rattle.slots.specs.Calls.{writtenOver, writeSetpointOf}
 use Rattle.slots.specs.Layout.{slotsOf, readOf}
-use Rattle.slots.specs.Rules.{BookRule, firstFault, judgeBook, badTable, badSlot, notHolder, notFinite, claimRules, overRules}
-use Rattle.slots.specs.declared.BookCheck.{BookCheck}
+use Rattle.slots.specs.Rules.{firstFault, judgeBook, badTable, badSlot, claimRules}
 use Rattle.slots.specs.declared.BookCheck.the-variants.{Fine, Fault}
 use Rattle.slots.specs.declared.BookRefusal.{BookRefusal}
 use Rattle.slots.specs.declared.BookRefusal.the-variants.{BadShape, BadSlot, StaleBoot}
