@@ -6,7 +6,7 @@ use mathlib.Core.Bool.{Bool, true, false, not}
 use mathlib.Core.Logic.{inl, inr}
 use native.Mathlib.Omega.{arith}
 use lib.Dec.{eqb}
-use borrow.Author.Tests.{eqb-true, eq-eqb}
+use borrow.Author.Tests.{eqb-true}
 use Rattle.model.specs.Log.{Actor, Event, took}
 use Rattle.model.specs.Arena.{cellsOf, isStale, holdIn, bitAt, isLive}
 use Rattle.model.specs.Calls.{prepareOf}
@@ -15,6 +15,7 @@ use Rattle.types.specs.declared.Answer.the-variants.{Done}
 use Rattle.types.specs.declared.Head.{Head}
 use Rattle.types.specs.declared.Hold.{Hold}
 use Rattle.types.specs.declared.Lease.{Lease}
+use Rattle.laws.specs.Checks.{not-stale}
 use Rattle.choice.specs.Pick.{both}
 use Rattle.laws.specs.Prepared.{Outcome, Came, was-done, was-refused, came}
 use Rattle.history.specs.World.{World, worldOf, Live, Legal, step, now, Lawful}
@@ -39,7 +40,7 @@ owned-parts w l o =
     twice false e = e
 
 pub owns : (w : World) (l : Lease) → l .boot ≡ w .head .boot → Live w (holdIn l) → Owned w l
-owns w l e v = rw (eq-eqb (l .boot) (w .head .boot) e, v)
+owns w l e v = rw (not-stale (w .head) l e, v)
 
 -- another boot number than the head's
 pub other-stale : (h : Head) (l : Lease) → (l .boot ≡ h .boot → ⊥) → isStale h l ≡ true

@@ -6,7 +6,6 @@ use mathlib.Core.Bool.{Bool, true, false, not}
 use mathlib.Core.Logic.{inl, inr}
 use native.Mathlib.Omega.{arith}
 use lib.ListN.{length}
-use borrow.Author.Tests.{eq-eqb, not-true}
 use Rattle.model.specs.Log.{Made, Event, by-caller}
 use Rattle.model.specs.Arena.{leaseOf, leaseLive, holdOf, holdIn, leasesOf, holdsOf}
 use Rattle.model.specs.Calls.{dropLeaseOf}
@@ -16,6 +15,7 @@ use Rattle.types.specs.declared.Answer.{Answer}
 use Rattle.types.specs.declared.Answer.the-variants.{Done, Cell, Granted, AllGranted, Busy, Refused, RefusedAt}
 use Rattle.types.specs.declared.Check.the-variants.{Fine}
 use Rattle.types.specs.declared.Lease.{Lease}
+use Rattle.laws.specs.Checks.{not-stale}
 use Rattle.history.specs.World.{World, now}
 use Rattle.history.specs.Items.{Call, Among, try-acquire, drop-lease, read-permission, competing-acquire, release-then-handoff, foreign-release, drop-preserving, acquire-preserving, environment, try-lock, transactional, acquire-bucket, release-all, acquire-locks, acquire-sorted, crew, crew-at-work, By-keys, in-order, any-order, Says, perform, Item, call, foreign-step, Course, cold, next-item, run}
 use Rattle.history.specs.Statements.{Hands-over, Gives, answers, leaves, buffer-in, alone}
@@ -42,7 +42,7 @@ owner-fine : (w : World) (l : Lease) → Shape-fits w → Owned w l → first (l
 unfolding leaseRules first
 owner-fine w l shape o =
     let p = owned-parts w l o in
-    rw (shape, eq-eqb (l .boot) (w .head .boot) (p .0), p .1)
+    rw (shape, not-stale (w .head) l (p .0), p .1)
 
 -- `drop_lease` of one that owns its cell is done, and of no other
 pub owned-exactly : Owned-exactly
@@ -62,7 +62,7 @@ stale-useless w l shape s =
     record {
       stale = s;
       shape = shape;
-      barred = unowned-barred w l (λ o. differ (sym (not-true _ s) ∙ eq-eqb (l .boot) (w .head .boot) (owned-parts w l o .0)));
+      barred = unowned-barred w l (λ o. differ (sym (not-stale (w .head) l (owned-parts w l o .0)) ∙ s));
       alone = λ k o. stale-is-16 w k 0 .1 (l, badShape (w .head) (w .table) ∷ [], alone o, fine, s);
       placed = λ k ahead i x f. stale-is-16 w k i .1 (l, ahead, x, f, s);
       written = λ bytes slot p e. stale-writes-nothing w bytes slot l p s e;

@@ -8,7 +8,7 @@ use lib.Dec.{leb, eqb}
 use lib.ListN.{length, getD, replicate}
 use Rattle.choice.specs.Choice.{if_then_else_}
 use Rattle.model.specs.Log.{Made, Event, by-caller, by-script, attempt-begun, boundary-run, yielded, spun, step-dropped, took, released, waiters-set, health-set, held-all, added, gives, note, _>>=_, _>>_}
-use Rattle.model.specs.Arena.{headOf, spentTo, leaseOf, leasesOf, holdsOf, ownerAt, setCell}
+use Rattle.model.specs.Arena.{headOf, spentTo, leaseOf, leasesOf, holdsOf, ownerAt, setCell, holdIn, leaseUnder}
 use Rattle.model.specs.Refusals.{Rule, numberOf, carriedOf, first, judge}
 use Rattle.model.specs.Answers.{refusalIn}
 use Rattle.model.specs.Foreign.{Setting, boundaryOf}
@@ -271,7 +271,7 @@ abbrev pub reads-once : Build
 reads-once w k =
     let m = perform w k in
     let s = m .seen .1 in
-    at-seven (λ l. record { seen = (now w (skipping (m .log)), says (Granted (leaseOf (l .cell) (l .serial) (w .head .boot))) (s .counts) (s .place) (s .grants)); log = skipping (m .log) }) (caller-releases (m .log)) m
+    at-seven (λ l. record { seen = (now w (skipping (m .log)), says (Granted (leaseUnder (w .head .boot) l)) (s .counts) (s .place) (s .grants)); log = skipping (m .log) }) (caller-releases (m .log)) m
 
 -- "refuse with 7", and the lease is not released
 abbrev pub keeps-at-seven : Build
@@ -358,7 +358,7 @@ rebooted boot (c ∷ s ∷ []) = c ∷ s ∷ []
 rebooted boot (c ∷ s ∷ b ∷ ws) = c ∷ s ∷ boot ∷ rebooted boot ws
 
 abbrev pub with-boot : ℕ → Lease → Lease
-with-boot boot l = leaseOf (l .cell) (l .serial) boot
+with-boot boot l = leaseUnder boot (holdIn l)
 
 -- a lease is tested by its cell and serial alone: whatever boot number it has, it is taken for one of this boot
 abbrev pub ignoring-boot : ℕ → Call → Call

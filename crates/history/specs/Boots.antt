@@ -2,7 +2,7 @@
 -- exactly where such a lease stands and no check before it applies.
 use Prim.Native.Nat.{ℕ, zero, suc, _+_, _*_, _≤_, _<_}
 use mathlib.Core.Path.{_≡_, refl, sym, ap, _∙_, subst}
-use mathlib.Core.List.{List, [], _∷_, _++_}
+use mathlib.Core.List.{List, [], _∷_, _++_, append-nil}
 use mathlib.Core.Bool.{Bool, true, false, not}
 use mathlib.Core.Logic.{_⊎_, inl, inr}
 use native.Mathlib.Omega.{arith}
@@ -300,16 +300,6 @@ held-hit w front rest held i b f s =
     ∙ before (badHeld (w .head) (w .table) held) rest (StaleBoot i)
     (first-skip (badHeldLength held) _ (y .0) ∙ live-hit (w .head) (w .table) 0 held i b (y .1) s ∙ ap (λ (p : ℕ). Fault (StaleBoot p)) z)
 
--- with nothing behind it
-held-last : (w : World) (front : List Rule) (held : List ℕ) (i : ℕ) → 3 * i + 2 < length held
-    → first (front ++ (badHeldLength held ∷ notLive (w .head) (w .table) 0 (take i (leasesOf held)))) ≡ Fine → isStale (w .head) (leaseIn held i) ≡ true
-    → first (front ++ badHeld (w .head) (w .table) held) ≡ Fault (StaleBoot i)
-held-last w front held i b f s =
-    let x = fine-append front _ f in
-    let y = fine-rest _ _ (x .1) in
-    let z : 0 + i ≡ i = omega arith in
-    behind front _ (x .0) ∙ first-skip (badHeldLength held) _ (y .0) ∙ live-hit (w .head) (w .table) 0 held i b (y .1) s ∙ ap (λ (p : ℕ). Fault (StaleBoot p)) z
-
 hit-alone : (w : World) (k : Call) (l : Lease) → One-lease k l → first (badShape (w .head) (w .table) ∷ []) ≡ Fine → isStale (w .head) l ≡ true → first (rules w k) ≡ Fault (StaleBoot 0)
 hit-alone w (try-acquire c) l o f s = absurd o
 hit-alone w (drop-lease m) l o f s = one-hit w m f (ap (λ (x : Lease). isStale (w .head) x) o ∙ s)
@@ -341,7 +331,8 @@ unfolding heldCellRules heldLeaseRules scriptRules lockRules bucketRules release
 hit-listed w _ _ _ i (beside-release held l) b f s = held-hit w (badShape (w .head) (w .table) ∷ []) _ held i b f s
 hit-listed w _ _ _ i (beside-drop held l) b f s = held-hit w (badShape (w .head) (w .table) ∷ []) _ held i b f s
 hit-listed w _ _ _ i (beside-acquire held c) b f s = held-hit w (badShape (w .head) (w .table) ∷ []) _ held i b f s
-hit-listed w _ _ _ i (in-environment script place held) b f s = held-last w (scripted w script place) held i b f s
+hit-listed w _ _ _ i (in-environment script place held) b f s =
+    subst (λ (xs : List Rule). first (scripted w script place ++ xs) ≡ Fault (StaleBoot i)) (append-nil (badHeld (w .head) (w .table) held)) (held-hit w (scripted w script place) [] held i b f s)
 hit-listed w _ _ _ i (in-lock script place held c) b f s = held-hit w (scripted w script place) _ held i b f s
 hit-listed w _ _ _ i (in-attempt registry script place held binding bucket) b f s = held-hit w (keyed w registry script place) _ held i b f s
 hit-listed w _ _ _ i (in-attempts registry script place held binding bucket) b f s = held-hit w (keyed w registry script place) _ held i b f s

@@ -9,7 +9,7 @@ use native.Mathlib.Omega.{arith}
 use lib.ListN.{length, getD, length-append, List·getD-append}
 use lib.Seq.{getD-append-seam}
 use Rattle.model.specs.Log.{Made, Event, by-caller, attempt-begun, took}
-use Rattle.model.specs.Arena.{leaseOf, holdIn, headerOf, holdOf, holdsOf}
+use Rattle.model.specs.Arena.{holdIn, headerOf, holdOf, holdsOf, leaseUnder}
 use Rattle.model.specs.Answers.{refusalIn}
 use Rattle.model.specs.Foreign.{Setting, protecting, flowOf}
 use Rattle.model.specs.Lock.{lockOf, answerOf, settled, findOf, attemptAt, attemptOf, pauseOf, isBusy, retryOf, attemptLimit, noneYet, noHold, holdAt, rollbackOf, afterKey, bindingAt, bucketAt, Locks, locksOf}
@@ -130,12 +130,12 @@ module _ (e : Setting) (buckets : ℕ) (registry : List ℕ) (binding bucket : �
 -- ---- the calls that grant one lease
 
 of-answer : (boot : ℕ) (o : Outcome) (l : Lease) → answerOf boot o ≡ Granted l → Given o (holdIn l)
-of-answer boot (outcome.Granted k) l e = let y : leaseOf (k .cell) (k .serial) boot ≡ l = cc in ap {B = Outcome} (λ x. outcome.Granted (holdIn x)) y
+of-answer boot (outcome.Granted k) l e = let y : leaseUnder boot k ≡ l = cc in ap {B = Outcome} (λ x. outcome.Granted (holdIn x)) y
 of-answer boot (outcome.Busy why) l e = let z : _≡_ {A = ℕ} 0 1 = cc in absurd (omega arith)
 of-answer boot (outcome.Refused r) l e = let z : _≡_ {A = ℕ} 0 1 = cc in absurd (omega arith)
 
 of-settled : (boot : ℕ) (o : Outcome) (l : Lease) → answerOf boot (settled o) ≡ Granted l → Given o (holdIn l)
-of-settled boot (outcome.Granted k) l e = let y : leaseOf (k .cell) (k .serial) boot ≡ l = cc in ap {B = Outcome} (λ x. outcome.Granted (holdIn x)) y
+of-settled boot (outcome.Granted k) l e = let y : leaseUnder boot k ≡ l = cc in ap {B = Outcome} (λ x. outcome.Granted (holdIn x)) y
 of-settled boot (outcome.Busy why) l e = let z : _≡_ {A = ℕ} 0 1 = cc in absurd (omega arith)
 of-settled boot (outcome.Refused r) l e = let z : _≡_ {A = ℕ} 0 1 = cc in absurd (omega arith)
 

@@ -15,7 +15,6 @@ use Rattle.model.specs.Lock.{takeIn, takeOf}
 use Rattle.model.specs.Checks.{cellRules, leaseRules}
 use Rattle.model.specs.Calls.{countsOf, acquireOf, tryAcquireOf, dropLeaseOf}
 use Rattle.types.specs.declared.Answer.the-variants.{Done, Granted}
-use Rattle.types.specs.declared.Hold.{Hold}
 use Rattle.types.specs.declared.Lease.{Lease}
 use Rattle.types.specs.declared.State.{State}
 use Rattle.types.specs.declared.State.the-variants as state

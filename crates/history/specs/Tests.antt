@@ -119,14 +119,14 @@ live next cells t l a =
 
 -- ---- leases and lists of them
 
-pub same-lease : (l k : Hold) → l .cell ≡ k .cell → l .serial ≡ k .serial → l ≡ k
-same-lease l k p q = ap (λ (x : ℕ). holdOf x (l .serial)) p ∙ ap (holdOf (k .cell)) q
+pub holds-equal : (l k : Hold) → l .cell ≡ k .cell → l .serial ≡ k .serial → l ≡ k
+holds-equal l k p q = ap (λ (x : ℕ). holdOf x (l .serial)) p ∙ ap (holdOf (k .cell)) q
 
 pub same-true : (l k : Hold) → sameHold l k ≡ true → l ≡ k
 unfolding sameHold
 same-true l k e =
     let p = both (eqb (l .cell) (k .cell)) (eqb (l .serial) (k .serial)) e in
-    same-lease l k (eqb-true _ _ (p .0)) (eqb-true _ _ (p .1))
+    holds-equal l k (eqb-true _ _ (p .0)) (eqb-true _ _ (p .1))
 
 pub same-refl : (l : Hold) → sameHold l l ≡ true
 unfolding sameHold

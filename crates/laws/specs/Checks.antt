@@ -8,7 +8,7 @@ use native.Mathlib.Numerals.{add-one}
 use lib.Dec.{ltb}
 use lib.ListN.{length, getD, drop, length-drop}
 use lib.Seq.{drop-cons}
-use borrow.Author.Tests.{leb-false, ltb-true, not-false}
+use borrow.Author.Tests.{eq-eqb, leb-false, ltb-true, not-false}
 use Rattle.choice.specs.Choice.{if_then_else_}
 use Rattle.model.specs.Arena.{cellsOf, leaseOf, isStale, holdIn, shapeFits, healthFits, isLive, leasesOf, holdsOf, sameHold, isIn, heldBy, stateAt}
 use Rattle.model.specs.Refusals.{Rule, refusalOf, first}
@@ -111,6 +111,10 @@ drop-three l n b =
 -- the lease at position i of a list, and its hold
 abbrev pub leaseIn : List ℕ → ℕ → Lease
 leaseIn l i = leaseOf (getD l (3 * i) 0) (getD l (3 * i + 1) 0) (getD l (3 * i + 2) 0)
+
+-- a lease of the head's boot number is not stale
+pub not-stale : (h : Head) (l : Lease) → l .boot ≡ h .boot → isStale h l ≡ false
+not-stale h l e = ap not (eq-eqb (l .boot) (h .boot) e)
 
 pub leases-at : (l : List ℕ) (i : ℕ) → 3 * i + 2 < length l → leasesOf (drop (3 * i) l) ≡ leaseIn l i ∷ leasesOf (drop (3 * (i + 1)) l)
 unfolding leasesOf

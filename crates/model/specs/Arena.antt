@@ -80,6 +80,10 @@ holdOf c s = record { cell = c; serial = s }
 abbrev pub holdIn : Lease → Hold
 holdIn l = holdOf (l .cell) (l .serial)
 
+-- what a call took, as a lease: it has the head's boot number
+abbrev pub leaseUnder : ℕ → Hold → Lease
+leaseUnder boot l = leaseOf (l .cell) (l .serial) boot
+
 abbrev pub heldBy : State → ℕ → Bool
 heldBy Free s = false
 heldBy (Held owner) s = eqb owner s
