@@ -278,6 +278,9 @@ abbrev pub further : List Case
 further =
     -- a rollback releases every lease taken, the last too, and leaves the buffer as it was
     (byKeys prepared (0 ∷ 0 ∷ 1 ∷ 1 ∷ 0 ∷ 9 ∷ []) (9 ∷ 8 ∷ 7 ∷ 9 ∷ 9 ∷ 9 ∷ 9 ∷ 9 ∷ 9 ∷ []) give (refusal is 8 ∷ carries is 9 ∷ position is 2 ∷ attempts is 3 ∷ boundaries is 8 ∷ next is 3 ∷ bit 0 is 0 ∷ bit 5 is 0 ∷ cell is 9 ∷ serial is 8 ∷ []))
+    -- a foreign take with no serial left is dropped; the last serial is taken
+    ∷ (fromPlayed (environmentOf (bench 4_294_967_295) prepared healthy (1 ∷ 2 ∷ 0 ∷ []) 0 []) ∷ [] give (done is 1 ∷ dropped is 1 ∷ bit 2 is 0 ∷ next is 4_294_967_295 ∷ []))
+    ∷ (fromPlayed (environmentOf (bench 4_294_967_294) prepared healthy (1 ∷ 2 ∷ 0 ∷ []) 0 []) ∷ [] give (done is 1 ∷ dropped is 0 ∷ owner 2 is 4_294_967_294 ∷ next is 4_294_967_295 ∷ []))
     -- a release compares the serial, and clears bit and owner
     ∷ (dropLease used 2 1 give (refusal is 12 ∷ carries is 0 ∷ bit 2 is 1 ∷ owner 2 is 2 ∷ []))
     ∷ (dropLease used 2 2 give (done is 1 ∷ bit 2 is 0 ∷ owner 2 is 0 ∷ bit 0 is 1 ∷ next is 3 ∷ []))
