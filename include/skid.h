@@ -14,7 +14,8 @@
  * How a call is made
  * ------------------
  * - The head (headers H, buckets B, next serial, boot number) goes in as four numbers, and comes back in the reply's
- *   first four words. A lease is three numbers: cell, serial, and the boot number of the head that it was given by.
+ *   first four words; the replies of setpoint book and waveform have no head. A lease is three numbers: cell, serial,
+ *   and the boot number of the head that it was given by.
  * - A run is lent as a pointer to its first element and a length. A length counts elements, not bytes.
  * - The last argument is the lent reply: SKID_REPLY_WORDS words, SKID_CREW_WORDS for skid_crew and skid_crew_at_work,
  *   SKID_SALVAGE_WORDS for skid_salvage, SKID_BOOK_WORDS for the calls of the setpoint book, SKID_WAVE_WORDS for
@@ -30,7 +31,7 @@
  *   may.
  * - A pointer must be aligned for its type, and point to as many elements as the length says. It may be null only if
  *   the length is 0; then nothing is read or written through it. The reply is never null.
- * - A length that breaks document 01's rules is answered by a refusal, and so is any number that does.
+ * - A length that breaks the documents' rules is answered by a refusal, and so is any number that does.
  *
  * What the caller must see to
  * ---------------------------
@@ -74,7 +75,7 @@ extern "C" {
 #endif
 
 /* The version of header and library together; CHANGELOG.md says what came with which. */
-#define SKID_VERSION "0.16.0"
+#define SKID_VERSION "0.16.1"
 
 /* ---- limits */
 
@@ -82,6 +83,8 @@ extern "C" {
 #define SKID_MAX_BUCKETS 1024u
 #define SKID_MAX_CELLS 4096u         /* H x B */
 #define SKID_CELL_WORDS 3u           /* bit, owner, waiters */
+#define SKID_LEASE_WORDS 3u          /* cell, serial, boot number: of a held list, a list to release, a grant buffer */
+#define SKID_KEY_WORDS 2u            /* binding, bucket */
 #define SKID_MAX_BINDINGS 64u        /* words of a registry */
 #define SKID_MAX_STEPS 32768u        /* steps of a script, three words each */
 #define SKID_MAX_LEASES 64u          /* leases of a list; in multi-lock, held leases and keys together */
@@ -304,8 +307,9 @@ void skid_salvage(uint32_t headers, uint32_t buckets, uint32_t next, uint32_t bo
                   size_t unconfirmed_len, uint64_t reply[SKID_SALVAGE_WORDS]);
 
 /*
- * ---- calls without a script. Each changes no word but those of the named cell. A live lease is one of the head's own
- * boot number; another is SKID_STALE_BOOT.
+ * ---- calls without a script. Each changes no word but those of the named cell. A lease must have the head's boot
+ * number, else SKID_STALE_BOOT, and be live (its cell is held by its serial), else SKID_NOT_HELD, or SKID_BAD_HELD in a
+ * held list.
  */
 
 /* One compare-and-set of a cell: granted, or Busy if it is held, with its owner's serial. */

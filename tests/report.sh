@@ -149,7 +149,7 @@ sed -n 's/^\([0-9]*\) \([A-Za-z]*\) 1$/\1 \2/p' "$room/report" >"$room/names"
 # named WHO: $room/own, lines of number and name, has document 01's fifteen and L8's, and no other than the report's
 named() {
     sort -n -u "$room/own" -o "$room/own"
-    [ "$(head -n 15 "$room/own" | cut -d ' ' -f 1 | tr '\n' ' ')" = "$(seq -s ' ' 1 15) " ] || complain "$1 does not have the numbers 1 to 15"
+    [ "$(head -n 16 "$room/own" | cut -d ' ' -f 1 | tr '\n' ' ')" = "$(seq -s ' ' 1 16) " ] || complain "$1 does not have the numbers 1 to 16"
     grep -v -x -F -f "$room/names" "$room/own" >"$room/other" || return 0
     complain "$1 has other names: $(tr '\n' ',' <"$room/other")"
 }

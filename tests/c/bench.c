@@ -179,6 +179,23 @@ static void failed(uint64_t why, uint64_t serial) {
     reason(why, serial);
 }
 
+/* Every word behind the head. */
+static void words(uint64_t place, uint64_t attempts, uint64_t boundaries, uint64_t dropped, uint64_t kind, uint64_t a,
+                  uint64_t b, uint64_t third) {
+    check("place", word(SKID_PLACE), place);
+    check("attempts", word(SKID_ATTEMPTS), attempts);
+    check("boundaries", word(SKID_BOUNDARIES), boundaries);
+    check("yields", word(SKID_YIELDS), 0);
+    check("dropped", word(SKID_DROPPED), dropped);
+    check("kind", word(SKID_KIND), kind);
+    check("word 10", word(10), a);
+    check("word 11", word(11), b);
+    check("word 12", word(12), third);
+    if (kind != SKID_BUSY) {
+        reason(SKID_REASON_NONE, 0);
+    }
+}
+
 static void at_next(uint32_t want) { check("next", word(SKID_NEXT), want); }
 
 static void free_cells(void) {
@@ -208,8 +225,8 @@ static void step(uint32_t kind, uint32_t place, uint32_t number) {
 /* ---- the bench cases, in document 01's order */
 
 static void key(void) {
-    static const uint32_t keys[2] = {0, 2};
-    uint32_t grants[3] = {7, 7, 7};
+    static const uint32_t keys[SKID_KEY_WORDS] = {0, 2};
+    uint32_t grants[SKID_LEASE_WORDS] = {7, 7, 7};
 
     name("key (0,2), acquire_index_bucket");
     prepare(1);
@@ -244,7 +261,7 @@ static void key(void) {
 }
 
 static void again(void) {
-    static const uint32_t held[3] = {2, 1, BOOT};
+    static const uint32_t held[SKID_LEASE_WORDS] = {2, 1, BOOT};
     name("again, lease 1 held");
     prepare(1);
     acquire(NONE, NONE, 2);
@@ -307,7 +324,7 @@ static void buckets(void) {
 }
 
 static void serials(void) {
-    static const uint32_t held[3] = {2, 4294967294u, BOOT};
+    static const uint32_t held[SKID_LEASE_WORDS] = {2, 4294967294u, BOOT};
     name("next 4,294,967,295, cell free");
     prepare(SKID_NO_SERIAL);
     acquire(NONE, NONE, 2);
@@ -329,7 +346,7 @@ static void serials(void) {
 
 static void foreign_release(void) {
     static const uint32_t script[12] = {5, 0, 0, 5, 0, 0, 2, 2, 1, 5, 0, 0};
-    static const uint32_t held[3] = {2, 1, BOOT};
+    static const uint32_t held[SKID_LEASE_WORDS] = {2, 1, BOOT};
     name("cell 2 held by foreign 1, script 5; 5; release (2,1); 5");
     prepare(1);
     step(SKID_STEP_TAKE, 2, 0);
@@ -349,8 +366,8 @@ static void foreign_release(void) {
 }
 
 static void keys(void) {
-    static const uint32_t two[4] = {1, 0, 2, 0};
-    uint32_t grants[6] = {7, 7, 7, 7, 7, 7};
+    static const uint32_t two[2 * SKID_KEY_WORDS] = {1, 0, 2, 0};
+    uint32_t grants[2 * SKID_LEASE_WORDS] = {7, 7, 7, 7, 7, 7};
     uint32_t i, n = 0;
     name("keys (1,0),(2,0)");
     prepare(1);
@@ -365,10 +382,10 @@ static void keys(void) {
     check("yields", word(SKID_YIELDS), 64);
     at_next(2);
     free_cells();
-    for (i = 0; i < 6; i++) {
+    for (i = 0; i < 2 * SKID_LEASE_WORDS; i++) {
         n += grants[i] == 7;
     }
-    check("grants as they were", n, 6);
+    check("grants as they were", n, 2 * SKID_LEASE_WORDS);
     end(&cases);
 
     name("no keys");
@@ -423,64 +440,77 @@ static void crews(void) {
 
 /* ---- keys in any order, and doubles; a grant buffer of nines, so that one that was written shows */
 
-static uint32_t grants[13];
+#define GRANT_WORDS (4 * SKID_LEASE_WORDS + 1) /* four leases, and a word behind them */
 
-static void sort_keys(const uint32_t *script, size_t script_len, const uint32_t *keys, size_t keys_len) {
-    int i;
-    for (i = 0; i < 13; i++) {
+static uint32_t grants[GRANT_WORDS];
+
+static uint32_t *blank_grants(void) {
+    uint32_t i;
+    for (i = 0; i < GRANT_WORDS; i++) {
         grants[i] = 9;
     }
-    skid_acquire_sorted_locks(HEAD, TABLE, HEALTH, REGISTRY, script, script_len, 0, NONE, keys, keys_len, grants,
-                              3 * keys_len / 2, blank());
+    return grants;
+}
+
+static void grants_kept(void) {
+    uint32_t i, n = 0;
+    for (i = 0; i < GRANT_WORDS; i++) {
+        n += grants[i] == 9;
+    }
+    check("grants as they were", n, GRANT_WORDS);
+}
+
+static void sort_keys(const uint32_t *script, size_t script_len, const uint32_t *keys, size_t keys_len) {
+    skid_acquire_sorted_locks(HEAD, TABLE, HEALTH, REGISTRY, script, script_len, 0, NONE, keys, keys_len,
+                              blank_grants(), SKID_LEASE_WORDS * (keys_len / SKID_KEY_WORDS), blank());
     called();
 }
 
-static void each_granted(const uint32_t *want, size_t words, uint64_t attempts, uint64_t boundaries) {
+static void each_granted(const uint32_t *want, size_t want_len, uint64_t attempts, uint64_t boundaries) {
     check("kind", word(SKID_KIND), SKID_ALL_GRANTED);
     check("attempts", word(SKID_ATTEMPTS), attempts);
     check("boundaries", word(SKID_BOUNDARIES), boundaries);
-    check("grants", memcmp(grants, want, words * sizeof *want) == 0 && grants[words] == 9, 1);
+    check("grants", memcmp(grants, want, want_len * sizeof *want) == 0 && grants[want_len] == 9, 1);
 }
 
 static void refused_at(uint64_t number, uint64_t carried, uint64_t position, uint64_t attempts) {
-    uint32_t i, n = 0;
     check("kind", word(SKID_KIND), SKID_REFUSED_AT);
     check("refusal", word(SKID_REFUSAL), number);
     check("carrying", word(SKID_CARRIED), carried);
     check("position", word(SKID_POSITION), position);
     check("attempts", word(SKID_ATTEMPTS), attempts);
-    for (i = 0; i < 13; i++) {
-        n += grants[i] == 9;
-    }
-    check("grants as they were", n, 13);
+    grants_kept();
 }
 
 static void any_order(void) {
-    static const uint32_t two[4] = {1, 0, 2, 0}, shared[6] = {4, 1, BOOT, 4, 1, BOOT};
-    static const uint32_t falling[6] = {1, 1, 0, 3, 0, 0}, risen[9] = {5, 3, BOOT, 3, 2, BOOT, 0, 1, BOOT};
-    static const uint32_t three[6] = {1, 0, 0, 2, 2, 0}, doubled[9] = {4, 2, BOOT, 2, 1, BOOT, 4, 2, BOOT};
-    static const uint32_t once[6] = {4, 2, BOOT, 2, 1, BOOT};
+    static const uint32_t two[2 * SKID_KEY_WORDS] = {1, 0, 2, 0};
+    static const uint32_t falling[3 * SKID_KEY_WORDS] = {1, 1, 0, 3, 0, 0};
+    static const uint32_t three[3 * SKID_KEY_WORDS] = {1, 0, 0, 2, 2, 0};
+    static const uint32_t shared[2 * SKID_LEASE_WORDS] = {4, 1, BOOT, 4, 1, BOOT};
+    static const uint32_t risen[3 * SKID_LEASE_WORDS] = {5, 3, BOOT, 3, 2, BOOT, 0, 1, BOOT};
+    static const uint32_t doubled[3 * SKID_LEASE_WORDS] = {4, 2, BOOT, 2, 1, BOOT, 4, 2, BOOT};
+    static const uint32_t once[2 * SKID_LEASE_WORDS] = {4, 2, BOOT, 2, 1, BOOT};
 
     name("keys (1,0),(2,0) in any order: one cell, one lease");
     prepare(1);
     sort_keys(NONE, LIST(two));
-    each_granted(shared, 6, 1, 3);
+    each_granted(LIST(shared), 1, 3);
     at_next(2);
     end(&sorts);
 
     name("falling keys");
     prepare(1);
     sort_keys(NONE, LIST(falling));
-    each_granted(risen, 9, 3, 9);
+    each_granted(LIST(risen), 3, 9);
     at_next(4);
     end(&sorts);
 
     name("three keys, two of them one cell, and their release");
     prepare(1);
     sort_keys(NONE, LIST(three));
-    each_granted(doubled, 9, 2, 6);
+    each_granted(LIST(doubled), 2, 6);
     at_next(3);
-    skid_release_all(HEAD, TABLE, HEALTH, NONE, 0, grants, 9, blank());
+    skid_release_all(HEAD, TABLE, HEALTH, NONE, 0, grants, 3 * SKID_LEASE_WORDS, blank());
     called();
     refused(SKID_REPEATED, 2);
     skid_release_all(HEAD, TABLE, HEALTH, NONE, 0, LIST(once), blank());
@@ -491,22 +521,24 @@ static void any_order(void) {
 }
 
 static void any_order_refused(void) {
-    static const uint32_t strangers[3] = {0, 9, 1}, faults[4] = {0, 4, 1, 0}, unbound[6] = {0, 4, 1, 0, 3, 0};
-    static const uint32_t poisoned[4] = {1, 4, 0, 2}, poison[3] = {4, 0, 1}, late[8] = {1, 0, 1, 0, 0, 2, 0, 2};
-    uint32_t i;
+    static const uint32_t strangers[3] = {0, 9, 1}, poison[3] = {4, 0, 1};
+    static const uint32_t faults[2 * SKID_KEY_WORDS] = {0, 4, 1, 0};
+    static const uint32_t unbound[3 * SKID_KEY_WORDS] = {0, 4, 1, 0, 3, 0};
+    static const uint32_t poisoned[2 * SKID_KEY_WORDS] = {1, 4, 0, 2};
+    static const uint32_t late[4 * SKID_KEY_WORDS] = {1, 0, 1, 0, 0, 2, 0, 2};
 
     name("a bad bucket at 0 and a bad header at 1, and a bad binding behind them");
     prepare(1);
-    for (i = 0; i < 13; i++) {
-        grants[i] = 9;
-    }
-    skid_acquire_sorted_locks(HEAD, TABLE, HEALTH, LIST(strangers), NONE, 0, NONE, LIST(faults), grants, 6, blank());
+    skid_acquire_sorted_locks(HEAD, TABLE, HEALTH, LIST(strangers), NONE, 0, NONE, LIST(faults), blank_grants(),
+                              2 * SKID_LEASE_WORDS, blank());
     called();
     refused_at(SKID_INVALID_BUCKET, 4, 0, 0);
-    skid_acquire_sorted_locks(HEAD, TABLE, HEALTH, LIST(strangers), NONE, 0, NONE, faults + 2, 2, grants, 3, blank());
+    skid_acquire_sorted_locks(HEAD, TABLE, HEALTH, LIST(strangers), NONE, 0, NONE, faults + SKID_KEY_WORDS,
+                              SKID_KEY_WORDS, blank_grants(), SKID_LEASE_WORDS, blank());
     called();
     refused_at(SKID_BAD_HEADER, 9, 0, 0);
-    skid_acquire_sorted_locks(HEAD, TABLE, HEALTH, LIST(strangers), NONE, 0, NONE, LIST(unbound), grants, 9, blank());
+    skid_acquire_sorted_locks(HEAD, TABLE, HEALTH, LIST(strangers), NONE, 0, NONE, LIST(unbound), blank_grants(),
+                              3 * SKID_LEASE_WORDS, blank());
     called();
     refused(SKID_BAD_BINDING, 2);
     check("attempts", word(SKID_ATTEMPTS), 0);
@@ -669,6 +701,9 @@ static void salvaged(void) {
 
 /* ---- boot numbers: cells 2 and 5 are held by serials 1 and 2; a lease of another number is refused, live or dead */
 
+static const uint32_t both[2 * SKID_LEASE_WORDS] = {2, 1, BOOT, 5, 2, BOOT};
+static const uint32_t stale[2 * SKID_LEASE_WORDS] = {2, 1, BOOT, 5, 2, BOOT - 1};
+
 static void hold_two(void) {
     prepare(1);
     skid_try_acquire(HEAD, TABLE, 2, blank());
@@ -702,12 +737,86 @@ static void by_lease(void) {
     end(&boots);
 }
 
+/* The calls with a held list; each gives its name. Of those with a script, the first eight, the place is 1. */
+
+#define WITH_SCRIPT 8
+#define WITH_HELD 11
+#define SCRIPT LIST(script), 1
+#define HELD held, held_len
+#define FREE_KEY LIST(free_key), blank_grants(), SKID_LEASE_WORDS
+
+static const char *with_held(int call, const uint32_t *held, size_t held_len) {
+    static const uint32_t script[6] = {SKID_STEP_TAKE, 6, 0, SKID_STEP_WAITERS, 7, 4};
+    static const uint32_t free_key[SKID_KEY_WORDS] = {0, 1};
+    switch (call) {
+    case 0:
+        skid_environment(HEAD, TABLE, HEALTH, SCRIPT, HELD, blank());
+        return "environment";
+    case 1:
+        skid_environment_for_borrows(HEAD, TABLE, HEALTH, SCRIPT, HELD, blank());
+        return "environment_for_borrows";
+    case 2:
+        skid_try_lock(HEAD, TABLE, HEALTH, SCRIPT, HELD, 1, blank());
+        return "try_lock";
+    case 3:
+        skid_other_mutex_preserves_leases(HEAD, TABLE, HEALTH, SCRIPT, HELD, 1, blank());
+        return "other_mutex_preserves_leases";
+    case 4:
+        skid_transactional_try_lock_bucket(HEAD, TABLE, HEALTH, REGISTRY, SCRIPT, HELD, 0, 1, blank());
+        return "transactional_try_lock_bucket";
+    case 5:
+        skid_acquire_index_bucket(HEAD, TABLE, HEALTH, REGISTRY, SCRIPT, HELD, 0, 1, blank());
+        return "acquire_index_bucket";
+    case 6:
+        skid_acquire_index_locks(HEAD, TABLE, HEALTH, REGISTRY, SCRIPT, HELD, FREE_KEY, blank());
+        return "acquire_index_locks";
+    case 7:
+        skid_acquire_sorted_locks(HEAD, TABLE, HEALTH, REGISTRY, SCRIPT, HELD, FREE_KEY, blank());
+        return "acquire_sorted_locks";
+    case 8:
+        skid_acquire_preserving_borrows(HEAD, TABLE, HELD, 1, blank());
+        return "acquire_preserving_borrows";
+    case 9:
+        skid_drop_preserving_borrows(HEAD, TABLE, HELD, 3, 3, BOOT, blank());
+        return "drop_preserving_borrows";
+    default:
+        skid_foreign_release_between_attempts(HEAD, TABLE, HELD, 3, 3, BOOT, blank());
+        return "foreign_release_between_attempts";
+    }
+}
+
+static void each_held_list(void) {
+    uint32_t before[24];
+    int call;
+    name("each call with a held list, its second lease of another boot number");
+    for (call = 0; call < WITH_HELD; call++) {
+        hold_two();
+        skid_try_acquire(HEAD, TABLE, 3, blank());
+        called();
+        step(SKID_STEP_WAITERS, 0, 6);
+        step(SKID_STEP_HEALTH, 1, 1);
+        memcpy(before, table.words, sizeof before);
+        blank_grants();
+        printf("%s: ", with_held(call, LIST(stale)));
+        called();
+        at_next(4);
+        words(call < WITH_SCRIPT ? 1 : 0, 0, 0, 0, SKID_REFUSED, SKID_STALE_BOOT, 1, 0);
+        check("table as it was", memcmp(before, table.words, sizeof before) == 0, 1);
+        check("health", health.bytes[0] * 16u + health.bytes[1], 1);
+        grants_kept();
+        with_held(call, LIST(both)); /* but for that number nothing is wrong */
+        called();
+        check("else refused", word(SKID_KIND) >= SKID_REFUSED, 0);
+    }
+    end(&boots);
+}
+
 static void in_lists(void) {
-    static const uint32_t stale[6] = {2, 1, BOOT, 5, 2, BOOT - 1}, dead[6] = {2, 7, BOOT, 5, 2, BOOT - 1};
-    static const uint32_t twice[9] = {2, 1, BOOT, 2, 1, BOOT - 1, 2, 1, BOOT}, both[6] = {2, 1, BOOT, 5, 2, BOOT};
+    static const uint32_t dead[2 * SKID_LEASE_WORDS] = {2, 7, BOOT, 5, 2, BOOT - 1};
+    static const uint32_t twice[3 * SKID_LEASE_WORDS] = {2, 1, BOOT, 2, 1, BOOT - 1, 2, 1, BOOT};
     name("held lists: after the length, position by position, before 3 at that place");
     hold_two();
-    skid_acquire_preserving_borrows(HEAD, TABLE, stale, 5, 7, blank());
+    skid_acquire_preserving_borrows(HEAD, TABLE, stale, 2 * SKID_LEASE_WORDS - 1, 7, blank());
     called();
     refused(SKID_BAD_HELD, 1);
     skid_acquire_preserving_borrows(HEAD, TABLE, LIST(stale), 9, blank());
@@ -983,6 +1092,10 @@ static void not_written(void) {
     no_setting(SKID_BAD_SLOT);
     skid_write_pressure(HEAD, TABLE, BOOK, 2, 2, 7, BOOT - 1, pressure(0x7fc00000u), blank_book());
     no_setting(SKID_STALE_BOOT);
+    skid_write_speed(HEAD, TABLE, BOOK, 2, 2, 1, BOOT - 1, 7, blank_book());
+    no_setting(SKID_STALE_BOOT);
+    skid_write_valve(HEAD, TABLE, BOOK, 2, 2, 1, BOOT + 1, true, blank_book());
+    no_setting(SKID_STALE_BOOT);
     write_pressure(2, 2, 7, 0x7fc00000u);
     no_setting(SKID_NOT_HELD);
     write_pressure(3, 2, 1, 0x3fc00000u);
@@ -1032,25 +1145,8 @@ static void not_written(void) {
 
 /* ---- edges: each call by its own name, with its arguments in their places */
 
-/* Every word behind the head. */
-static void words(uint64_t place, uint64_t attempts, uint64_t boundaries, uint64_t dropped, uint64_t kind, uint64_t a,
-                  uint64_t b, uint64_t third) {
-    check("place", word(SKID_PLACE), place);
-    check("attempts", word(SKID_ATTEMPTS), attempts);
-    check("boundaries", word(SKID_BOUNDARIES), boundaries);
-    check("yields", word(SKID_YIELDS), 0);
-    check("dropped", word(SKID_DROPPED), dropped);
-    check("kind", word(SKID_KIND), kind);
-    check("word 10", word(10), a);
-    check("word 11", word(11), b);
-    check("word 12", word(12), third);
-    if (kind != SKID_BUSY) {
-        reason(SKID_REASON_NONE, 0);
-    }
-}
-
 static void without_script(void) {
-    static const uint32_t held[3] = {5, 1, BOOT}, other[3] = {6, 2, BOOT};
+    static const uint32_t held[SKID_LEASE_WORDS] = {5, 1, BOOT}, other[SKID_LEASE_WORDS] = {6, 2, BOOT};
     prepare(1);
     name("try_acquire of cell 5");
     skid_try_acquire(HEAD, TABLE, 5, blank());
@@ -1127,7 +1223,8 @@ static void without_script(void) {
 
 static void with_script(void) {
     static const uint32_t script[12] = {0, 0, 0, 2, 3, 1, 9, 9, 9, 4, 1, 1};
-    static const uint32_t held[3] = {3, 1, BOOT}, leases[6] = {3, 1, BOOT, 4, 3, BOOT};
+    static const uint32_t held[SKID_LEASE_WORDS] = {3, 1, BOOT};
+    static const uint32_t leases[2 * SKID_LEASE_WORDS] = {3, 1, BOOT, 4, 3, BOOT};
     prepare(1);
     skid_try_acquire(HEAD, TABLE, 3, blank());
     called();
@@ -1233,6 +1330,7 @@ int main(void) {
     any_order_refused();
     salvaged();
     by_lease();
+    each_held_list();
     in_lists();
     after_a_preparation();
     at_work();

@@ -1,13 +1,13 @@
 -- A granted call: which lease each key is handed back, and in which order the cells were taken.
-use Prim.Native.Nat.{ℕ, zero, suc, _+_, _*_, _<_}
-use mathlib.Core.Path.{_≡_, refl, sym, ap, _∙_, subst}
+use Prim.Native.Nat.{ℕ, _+_, _<_}
+use mathlib.Core.Path.{_≡_, sym, ap, _∙_, subst}
 use mathlib.Core.List.{List, [], _∷_, _++_, append-assoc}
 use mathlib.Core.Logic.{_≢_}
 use native.Mathlib.Decide.{decLt}
 use native.Mathlib.Omega.{arith}
 use lib.ListN.{length}
 use Rattle.model.specs.Log.{Made, Event, by-caller, took}
-use Rattle.model.specs.Arena.{leaseOf, holdIn, holdsOf, wordsOf}
+use Rattle.model.specs.Arena.{holdsOf, wordsOf}
 use Rattle.model.specs.Lock.{holdAt}
 use Rattle.model.specs.Checks.{countIn}
 use Rattle.model.specs.Calls.{given, starting}
@@ -15,9 +15,8 @@ use Rattle.model.specs.Sorted.{firstAsking, handedBack, sharedOf}
 use Rattle.types.specs.declared.Answer.{Answer}
 use Rattle.types.specs.declared.Answer.the-variants.{AllGranted}
 use Rattle.types.specs.declared.Hold.{Hold}
-use Rattle.types.specs.declared.Lease.{Lease}
-use Rattle.laws.specs.Checks.{leaseIn}
-use Rattle.laws.specs.Lists.{words-back}
+use Rattle.laws.specs.Checks.{leaseIn, hold-in}
+use Rattle.laws.specs.Lists.{words-back, leases-equal}
 use Rattle.history.specs.World.{World, number-of, takes}
 use Rattle.history.specs.Items.{Says, acquire-sorted, any-order, keyCell, perform}
 use Rattle.history.specs.Statements.{buffer-in, Hands-over}
@@ -147,27 +146,12 @@ module _ (w : World) (registry script : List ℕ) (place : ℕ) (held keys grant
       (subst (λ (d : ℕ). Both-taken (holdAt leases p .cell) d (holdAt leases p .serial) (holdAt leases q .serial)) (key-own q a y)
       (taken-behind (holdAt leases p) (holdAt leases q) t u (key-serials p q a x y l)))
 
--- a lease in a run of words, without its boot number; and all of it
-hold-in : (ws : List ℕ) (p : ℕ) → 3 * p + 2 < length ws → holdAt (holdsOf ws) p ≡ holdIn (leaseIn ws p)
-unfolding holdsOf
-hold-in [] p l = absurd (omega arith)
-hold-in (c ∷ []) p l = absurd (omega arith)
-hold-in (c ∷ s ∷ []) p l = absurd (omega arith)
-hold-in (c ∷ s ∷ b ∷ ws) zero l = refl
-hold-in (c ∷ s ∷ b ∷ ws) (suc p) l =
-    let x : 3 * suc p ≡ suc (suc (suc (3 * p))) = omega arith in
-    let y : 3 * suc p + 1 ≡ suc (suc (suc (3 * p + 1))) = omega arith in
-    rw (y, x) (hold-in ws p (omega arith))
-
-whole-lease : (l k : Lease) → holdIn l ≡ holdIn k → l .boot ≡ k .boot → l ≡ k
-whole-lease l k e b = ap (λ (x : Hold). leaseOf (x .cell) (x .serial) (l .boot)) e ∙ ap (leaseOf (k .cell) (k .serial)) b
-
 pub shares : Shares perform
 shares w registry script place held keys grants p q a x y e =
     let k = acquire-sorted registry script place held keys grants in
     let words = buffer-in (perform w k) in
     let full = buffers-name w k registry keys (any-order registry script place held keys grants) a in
-    whole-lease (leaseIn words p) (leaseIn words q)
+    leases-equal (leaseIn words p) (leaseIn words q)
     (sym (hold-in words p (omega (arith, full .0, x))) ∙ key-shares w registry script place held keys grants p q a x y e ∙ hold-in words q (omega (arith, full .0, y)))
     (full .2 p x ∙ sym (full .2 q y))
 

@@ -15,11 +15,10 @@ use Rattle.history.specs.World.{World, Healthy, now}
 use Rattle.history.specs.Items.{acquire-locks, acquire-sorted, in-order, keyCell, perform}
 use Rattle.history.specs.Statements.{answer-in, buffer-in, world-in}
 use Rattle.history.specs.Answers.{Grant-point}
-use Rattle.history.specs.Tests.{leases-words}
 use Rattle.history.specs.Calls.{words-leases}
 use Rattle.history.specs.Healthy.{locks-grant-healthy}
 use Rattle.history.specs.Shared.{asked-cells, sorted-cells, chosen-keys, sorted-rises, rising-at, sorted-place, sorted-place-at, first-place, first-place-at, chosen-count, chosen-cell, handed-back, all-inner, buffers-name}
-use Rattle.laws.specs.Lists.{leases-few}
+use Rattle.laws.specs.Lists.{holds-few, words-back}
 use Rattle.anyorder.specs.Statements.{Sorted-healthy}
 use Rattle.anyorder.specs.Runs.{goes, granted-beyond, as-multilock}
 
@@ -57,10 +56,10 @@ sorted-healthy w registry script place held keys grants p a l =
     let all = all-inner asked sorted (answer-in n) (sym (y .answer) ∙ a) in
     let full = buffers-name w k registry chosen (in-order registry script place held chosen other) all in
     let ls = holdsOf (buffer-in n) in
-    let back = handed-back b registry keys ls (omega (arith, full .0, count, words-leases (buffer-in n), leases-few (buffer-in n)))
+    let back = handed-back b registry keys ls (omega (arith, full .0, count, words-leases (buffer-in n), holds-few (buffer-in n)))
     (λ j d. full .1 j (omega (arith, d, count)) ∙ chosen-cell b registry keys j d) in
     let same : holdAt ls i ≡ holdAt (holdsOf (buffer-in m)) p
-    = sym (ap (λ (ws : List ℕ). holdAt (holdsOf ws) p) (y .handed all) ∙ ap (λ (ks : List Hold). holdAt ks p) (leases-words (w .head .boot) (sharedOf ls asked)) ∙ back .each p l) in
+    = sym (ap (λ (ws : List ℕ). holdAt (holdsOf ws) p) (y .handed all) ∙ ap (λ (ks : List Hold). holdAt ks p) (words-back (w .head .boot) (sharedOf ls asked)) ∙ back .each p l) in
     let at = sorted-place-at b registry keys p l in
     let h = locks-grant-healthy w registry script place held chosen other i all (omega (arith, at .0, count)) in
     let g = h .0 in (

@@ -13,9 +13,9 @@ use Rattle.types.specs.declared.Answer.{Answer}
 use Rattle.types.specs.declared.Answer.the-variants.{AllGranted}
 use Rattle.types.specs.declared.Counts.{Counts}
 use Rattle.types.specs.declared.Hold.{Hold}
+use Rattle.laws.specs.Lists.{words-back}
 use Rattle.history.specs.World.{World, now}
 use Rattle.history.specs.Items.{Says, says, acquire-locks, acquire-sorted, keyCell, perform}
-use Rattle.history.specs.Tests.{leases-words}
 use Rattle.history.specs.Shared.{asked-cells, sorted-cells, chosen-keys, sorted-rises, rising-place, first-place, first-place-at, chosen-count, chosen-cell, chosen-binding, chosen-bucket}
 use Rattle.exact.specs.Statements.{Is-free, Unwaited, Names, leases-from, takes-of}
 use Rattle.exact.specs.Theorems.{locks-quiet}
@@ -82,7 +82,7 @@ sorted-quiet w registry script place held keys grants fine end ready few =
     let seen : perform w k .seen ≡ (now w (takes-of leases), says AllGranted (countsOf n (3 * n) 0 0) place (wordsOf (w .head .boot) leases))
     = subst (λ (ls : List Hold). perform w k .seen ≡ (now w (takes-of ls), says AllGranted (countsOf n (3 * n) 0 0) place (wordsOf (w .head .boot) ls)))
     (same-from cell (sorted-cell b registry keys) n 0 s (λ i l. chosen-cell b registry keys i (omega arith))) by-count in
-    let buffer = ap (λ (m : World × Says). wordsOf (w .head .boot) (sharedOf (holdsOf (m .1 .grants)) asked)) seen ∙ ap (λ (ls : List Hold). wordsOf (w .head .boot) (sharedOf ls asked)) (leases-words (w .head .boot) leases) in
+    let buffer = ap (λ (m : World × Says). wordsOf (w .head .boot) (sharedOf (holdsOf (m .1 .grants)) asked)) seen ∙ ap (λ (ls : List Hold). wordsOf (w .head .boot) (sharedOf ls asked)) (words-back (w .head .boot) leases) in
     whole (perform w (acquire-sorted registry script place held keys grants) .seen) _ _ _ _ _ (y .world ∙ ap (λ (m : World × Says). m .0) seen)
     (y .answer ∙ ap (λ (m : World × Says). askedFirst (m .1 .answer) asked sorted) seen) (y .counts ∙ ap (λ (m : World × Says). m .1 .counts) seen) (y .place ∙ ap (λ (m : World × Says). m .1 .place) seen)
     (y .handed (ap (λ (m : World × Says). m .1 .answer) seen) ∙ buffer)

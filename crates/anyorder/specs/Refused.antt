@@ -31,9 +31,9 @@ use Rattle.types.specs.declared.Run.{Run}
 use Rattle.types.specs.declared.Tried.{Tried}
 use Rattle.laws.specs.Outcomes.{Comes, granted, busy, poisoned, damaged, spent, lock-comes}
 use Rattle.history.specs.World.{World}
-use Rattle.history.specs.Items.{Call, Says, acquire-locks, acquire-sorted, perform, Clear, rules}
+use Rattle.history.specs.Items.{Call, Says, unchanged-at, acquire-locks, acquire-sorted, perform, Clear, rules}
 use Rattle.history.specs.Statements.{answer-in, Rolled-back}
-use Rattle.history.specs.Judged.{clear, clear-fine, judged-at, unchanged-at, seen-as, sorted-locks, as-asked, sorted-made}
+use Rattle.history.specs.Judged.{clear, clear-fine, judged-at, seen-as, sorted-locks, as-asked, sorted-made}
 use Rattle.history.specs.Rollback.{locks-roll-back}
 use Rattle.history.specs.Shared.{asked-cells, sorted-cells, chosen-keys, asked-at, first-place, first-place-at, chosen-binding, chosen-bucket, chosen-count}
 use Rattle.exact.specs.Script.{acquire-locks-has}

@@ -10,7 +10,7 @@ use lib.ListN.{length, getD, take}
 use borrow.Author.Tests.{ltb-false, le-ltb, eq-eqb}
 use Rattle.choice.specs.Pick.{neither}
 use Rattle.model.specs.Log.{Made}
-use Rattle.model.specs.Arena.{cellsOf, isStale, isLive, leasesOf, holdsOf, wordsOf, isIn}
+use Rattle.model.specs.Arena.{cellsOf, isLive, leasesOf, holdsOf, wordsOf, isIn, leaseUnder}
 use Rattle.model.specs.Refusals.{first}
 use Rattle.model.specs.Lock.{noHold, holdAt}
 use Rattle.model.specs.Checks.{countIn, leaseCount, isOdd, tooManyLeases, notLive, notReleasable, releaseRules, locksRules}
@@ -23,7 +23,8 @@ use Rattle.types.specs.declared.Hold.{Hold}
 use Rattle.types.specs.declared.Lease.{Lease}
 use Rattle.types.specs.declared.Refusal.{Refusal}
 use Rattle.types.specs.declared.Refusal.the-variants.{Repeated}
-use Rattle.laws.specs.Lists.{leases-few, length-words}
+use Rattle.laws.specs.Lists.{holds-few, length-words}
+use Rattle.laws.specs.Checks.{not-stale}
 use Rattle.history.specs.World.{World, Live}
 use Rattle.history.specs.Items.{Says, acquire-sorted, release-all, any-order, keyCell, perform, Clear, rules}
 use Rattle.history.specs.Statements.{answer-in, buffer-in, leaves}
@@ -32,7 +33,6 @@ use Rattle.history.specs.Judged.{clear-back, sorted-locks}
 use Rattle.history.specs.Calls.{call-kept, words-leases}
 use Rattle.history.specs.Shared.{Handed-back, sorted-cells, sorted-few, sorted-rises, rising-at, first-place, first-place-at, sorted-place-of, back-once, buffers-name}
 use Rattle.exact.specs.Script.{release-all-has}
-use Rattle.exact.specs.Attempts.{lease-on}
 use Rattle.exact.specs.Made.{made}
 use Rattle.exact.specs.Passing.{shape-on, health-on, same-boot}
 use Rattle.anyorder.specs.Statements.{Doubled, Fourteen, Once-done}
@@ -61,42 +61,39 @@ least-from P (suc left) i e none = go (P i) refl (least-from P left (i + 1))
 
 -- ---- the first check of `release_all` that applies, where all leases are live and have the head's boot number
 
-own-boot : (h : Head) (l : Hold) → isStale h (lease-on (h .boot) l) ≡ false
-own-boot h l = ap not (eq-eqb (h .boot) (h .boot) refl)
-
-named-words : (boot : ℕ) (ls : List Hold) → leasesOf (wordsOf boot ls) ≡ map (lease-on boot) ls
+named-words : (boot : ℕ) (ls : List Hold) → leasesOf (wordsOf boot ls) ≡ map (leaseUnder boot) ls
 unfolding leasesOf wordsOf
 named-words boot [] = refl
-named-words boot (l ∷ ls) = ap {B = List Lease} (λ ks. lease-on boot l ∷ ks) (named-words boot ls)
+named-words boot (l ∷ ls) = ap {B = List Lease} (λ ks. leaseUnder boot l ∷ ks) (named-words boot ls)
 
 repeated-first : (h : Head) (t : List ℕ) (i : ℕ) (earlier ls : List Hold) → ((x : ℕ) → x < length ls → isLive (h .next) (cellsOf h) t (holdAt ls x) ≡ true)
     → (j : ℕ) → j < length ls → isIn (holdAt ls j) (earlier ++ take j ls) ≡ true → ((x : ℕ) → x < j → isIn (holdAt ls x) (earlier ++ take x ls) ≡ false)
-    → first (notReleasable h t i earlier (map (lease-on (h .boot)) ls)) ≡ Fault (Repeated (i + j))
+    → first (notReleasable h t i earlier (map (leaseUnder (h .boot)) ls)) ≡ Fault (Repeated (i + j))
 unfolding notReleasable first
 repeated-first h t i earlier [] live j b e none = absurd (omega arith)
 repeated-first h t i earlier (l ∷ ls) live zero b e none =
     let v : isLive (h .next) (cellsOf h) t l ≡ true = live 0 (omega arith) in
     let f : isIn l earlier ≡ true = subst (λ (ks : List Hold). isIn l ks ≡ true) (append-nil earlier) e in
     let z : i + 0 ≡ i = omega arith in
-    rw (own-boot h l, v, f, z)
+    rw (not-stale h (leaseUnder (h .boot) l) refl, v, f, z)
 repeated-first h t i earlier (l ∷ ls) live (suc j) b e none =
     let v : isLive (h .next) (cellsOf h) t l ≡ true = live 0 (omega arith) in
     let f : isIn l earlier ≡ false = subst (λ (ks : List Hold). isIn l ks ≡ false) (append-nil earlier) (none 0 (omega arith)) in
     let z : i + suc j ≡ i + 1 + j = omega arith in
     let behind : (x : ℕ) → (earlier ++ (l ∷ [])) ++ take x ls ≡ earlier ++ (l ∷ take x ls) = λ x. append-assoc earlier (l ∷ []) (take x ls) in
-    rw (own-boot h l, v, f, z)
+    rw (not-stale h (leaseUnder (h .boot) l) refl, v, f, z)
     (repeated-first h t (i + 1) (earlier ++ (l ∷ [])) ls (λ x k. live (suc x) (omega arith)) j (omega arith)
     (subst (λ (ks : List Hold). isIn (holdAt ls j) ks ≡ true) (sym (behind j)) e)
     (λ x k. subst (λ (ks : List Hold). isIn (holdAt ls x) ks ≡ false) (sym (behind x)) (none (suc x) (omega arith))))
 
 -- and none does, where none stands earlier
 none-again : (h : Head) (t : List ℕ) (i : ℕ) (earlier ls : List Hold) → ((x : ℕ) → x < length ls → isLive (h .next) (cellsOf h) t (holdAt ls x) ≡ true)
-    → ((x : ℕ) → x < length ls → isIn (holdAt ls x) (earlier ++ take x ls) ≡ false) → Clear (notReleasable h t i earlier (map (lease-on (h .boot)) ls))
+    → ((x : ℕ) → x < length ls → isIn (holdAt ls x) (earlier ++ take x ls) ≡ false) → Clear (notReleasable h t i earlier (map (leaseUnder (h .boot)) ls))
 unfolding notReleasable
 none-again h t i earlier [] live once = tt
 none-again h t i earlier (l ∷ ls) live once =
     let f : isIn l earlier ≡ false = subst (λ (ks : List Hold). isIn l ks ≡ false) (append-nil earlier) (once 0 (omega arith)) in (
-      own-boot h l,
+      not-stale h (leaseUnder (h .boot) l) refl,
       (
         ap not (live 0 (omega arith)),
         (
@@ -155,20 +152,20 @@ module _ (w : World) (registry script : List ℕ) (place : ℕ) (held keys grant
   long = buffers-name w (acquire-sorted registry script place held keys grants) registry keys (any-order registry script place held keys grants) granted .0
 
   many : length ls ≡ countIn keys
-  many = omega (arith, long, words-leases buffer, leases-few buffer)
+  many = omega (arith, long, words-leases buffer, holds-few buffer)
 
   -- the boot number is what it was, and all leases handed back have it
   stays : v .head .boot ≡ w .head .boot
   stays = same-boot held (call-kept w (acquire-sorted registry script place held keys grants) .kept)
 
-  named : (ks : List Hold) → leasesOf (wordsOf (w .head .boot) ks) ≡ map (lease-on (v .head .boot)) ks
-  named ks = named-words (w .head .boot) ks ∙ ap (λ (n : ℕ). map (lease-on n) ks) (sym stays)
+  named : (ks : List Hold) → leasesOf (wordsOf (w .head .boot) ks) ≡ map (leaseUnder (v .head .boot)) ks
+  named ks = named-words (w .head .boot) ks ∙ ap (λ (n : ℕ). map (leaseUnder n) ks) (sym stays)
 
-  all-named : leasesOf buffer ≡ map (lease-on (v .head .boot)) ls
+  all-named : leasesOf buffer ≡ map (leaseUnder (v .head .boot)) ls
   all-named = ap leasesOf (words-so w registry script place held keys grants granted) ∙ named ls
 
   -- only 14 can apply
-  checks : first (rules v (release-all [] 0 buffer)) ≡ first (notReleasable (v .head) (v .table) 0 [] (map (lease-on (v .head .boot)) ls))
+  checks : first (rules v (release-all [] 0 buffer)) ≡ first (notReleasable (v .head) (v .table) 0 [] (map (leaseUnder (v .head .boot)) ls))
   unfolding locksRules releaseRules first
   checks =
       let c = clear in

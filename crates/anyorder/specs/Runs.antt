@@ -26,8 +26,8 @@ use Rattle.types.specs.declared.Outcome.the-variants as outcome
 use Rattle.types.specs.declared.Refusal.{Refusal}
 use Rattle.types.specs.declared.Run.{Run}
 use Rattle.history.specs.World.{World}
-use Rattle.history.specs.Items.{Call, Says, acquire-locks, acquire-sorted, perform, Clear, rules}
-use Rattle.history.specs.Judged.{clear-front, clear-back, clear-append, clear-fine, unchanged, unchanged-at, judged-at, grant, seen-as, sorted-locks, as-asked, sorted-made, performed}
+use Rattle.history.specs.Items.{Call, Says, unchanged, unchanged-at, acquire-locks, acquire-sorted, perform, Clear, rules}
+use Rattle.history.specs.Judged.{clear-front, clear-back, clear-append, clear-fine, judged-at, grant, seen-as, sorted-locks, as-asked, sorted-made, performed}
 use Rattle.history.specs.Shared.{asked-cells, sorted-cells, chosen-keys, first-place, first-place-at, chosen-length, chosen-count, chosen-cell, chosen-binding, sorted-few}
 use Rattle.exact.specs.Script.{acquire-locks-has}
 use Rattle.exact.specs.Made.{made}

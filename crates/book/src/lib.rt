@@ -246,7 +246,7 @@ fn claim_check(
         if is_bad_slot(slots(head), size, slot as usize) {
             return BookCheck::Fault(BookRefusal::BadSlot);
         }
-        if lease.boot != head.boot {
+        if head.is_stale(lease) {
             return BookCheck::Fault(BookRefusal::StaleBoot);
         }
         if is_holder(head, table, slot, lease) {

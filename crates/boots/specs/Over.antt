@@ -1,32 +1,32 @@
 -- Over preparations: each item goes on in the stretch, or is a preparation that begins another with a boot number of its own.
-use Prim.Native.Nat.{ℕ, _+_, _≤_, _<_}
+use Prim.Native.Nat.{ℕ, _≤_, _<_}
 use mathlib.Core.Path.{_≡_, refl, sym, ap, _∙_, subst}
-use mathlib.Core.List.{List, [], _∷_, _++_, append-assoc, append-nil}
-use mathlib.Core.Bool.{Bool, true, false, not, _&&_}
-use mathlib.Core.Logic.{_⊎_, inl, inr}
+use mathlib.Core.List.{List, [], _∷_, _++_, append-assoc}
+use mathlib.Core.Bool.{Bool, true, false, not}
+use mathlib.Core.Logic.{inl, inr}
 use native.Mathlib.Omega.{arith}
 use lib.Dec.{eqb}
-use borrow.Author.Tests.{eqb-true, eq-eqb}
-use Rattle.model.specs.Log.{Event}
-use Rattle.model.specs.Arena.{cellsOf, leaseOf, isStale, holdIn, isLive, leaseLive}
+use borrow.Author.Tests.{eqb-true}
+use Rattle.model.specs.Log.{Actor, Event, took}
+use Rattle.model.specs.Arena.{cellsOf, isStale, holdIn, bitAt, isLive}
 use Rattle.model.specs.Calls.{prepareOf}
 use Rattle.types.specs.declared.Answer.{Answer}
-use Rattle.types.specs.declared.Answer.the-variants.{Done, Refused}
+use Rattle.types.specs.declared.Answer.the-variants.{Done}
 use Rattle.types.specs.declared.Head.{Head}
 use Rattle.types.specs.declared.Hold.{Hold}
 use Rattle.types.specs.declared.Lease.{Lease}
-use Rattle.types.specs.declared.Refusal.the-variants.{BadShape}
+use Rattle.laws.specs.Checks.{not-stale}
 use Rattle.choice.specs.Pick.{both}
 use Rattle.laws.specs.Prepared.{Outcome, Came, was-done, was-refused, came}
-use Rattle.history.specs.World.{World, worldOf, Live, now, Lawful, Spent, number-of, takes}
-use Rattle.history.specs.Items.{Call, perform, foreign, Item, call, foreign-step, preparation, preparation-over, salvage, salvage-over, Course, courseOf, history-of, prepared-by, preparing, next-item, run}
+use Rattle.history.specs.World.{World, worldOf, Live, Legal, step, now, Lawful}
+use Rattle.history.specs.Items.{perform, foreign, Item, call, foreign-step, preparation, preparation-over, salvage, salvage-over, Course, history-of, prepared-by, preparing, next-item, run}
 use Rattle.history.specs.Statements.{Begins}
-use Rattle.history.specs.Tests.{differ, Alive, alive}
-use Rattle.history.specs.Events.{Fit, fit}
-use Rattle.history.specs.Logs.{now-append, lawful-append, lawful-split, fit-now, arena-now, next-now, live-back}
+use Rattle.history.specs.Tests.{differ, free-words}
+use Rattle.history.specs.Events.{lives, Fit, fit}
+use Rattle.history.specs.Logs.{now-append, lawful-append, lawful-split, fit-now, boot-now, next-now, live-back}
 use Rattle.history.specs.Calls.{call-kept}
 use Rattle.history.specs.Courses.{Stretch, foreign-kept, not-prepared, not-salvaged, refused-stays, salvage-refused-stays}
-use Rattle.boots.specs.Statements.{Owned, Throughout, log-in, began, boots-of, boots-over, Member, Distinct, Rescues, No-rescue}
+use Rattle.boots.specs.Statements.{Owned, Throughout, log-in, Issues, began, boots-of, boots-over, Member, Distinct, Rescues, No-rescue}
 
 -- ---- owning, in two parts
 
@@ -40,7 +40,7 @@ owned-parts w l o =
     twice false e = e
 
 pub owns : (w : World) (l : Lease) → l .boot ≡ w .head .boot → Live w (holdIn l) → Owned w l
-owns w l e v = rw (eq-eqb (l .boot) (w .head .boot) e, v)
+owns w l e v = rw (not-stale (w .head) l e, v)
 
 -- another boot number than the head's
 pub other-stale : (h : Head) (l : Lease) → (l .boot ≡ h .boot → ⊥) → isStale h l ≡ true
@@ -71,6 +71,11 @@ apart-lists (x ∷ xs) ys b (inl e) d = (λ n. d .0 (subst (λ (z : ℕ). Member
     distinct-back (x ∷ xs) ys d = distinct-back xs ys (d .1)
 apart-lists (x ∷ xs) ys b (inr m) d = apart-lists xs ys b m (d .1)
 
+-- nor has the first part a repetition
+pub distinct-front : (xs ys : List ℕ) → Distinct (xs ++ ys) → Distinct xs
+distinct-front [] ys d = tt
+distinct-front (x ∷ xs) ys d = (λ m. d .0 (member-left x xs ys m), distinct-front xs ys (d .1))
+
 pub boots-append : (k : Course) (xs ys : List Item) → boots-over k (xs ++ ys) ≡ boots-over k xs ++ boots-over (run k xs) ys
 unfolding run
 boots-append k [] ys = refl
@@ -78,12 +83,7 @@ boots-append k (x ∷ xs) ys =
     ap (λ (bs : List ℕ). boots-of (k .world) x ++ bs) (boots-append (next-item k x) xs ys)
     ∙ sym (append-assoc (boots-of (k .world) x) (boots-over (next-item k x) xs) (boots-over (run (next-item k x) xs) ys))
 
-pub run-append : (k : Course) (xs ys : List Item) → run k (xs ++ ys) ≡ run (run k xs) ys
-unfolding run
-run-append k [] ys = refl
-run-append k (x ∷ xs) ys = run-append (next-item k x) xs ys
-
-pub empty-parts : (xs ys : List ℕ) → xs ++ ys ≡ [] → (xs ≡ []) × (ys ≡ [])
+empty-parts : (xs ys : List ℕ) → xs ++ ys ≡ [] → (xs ≡ []) × (ys ≡ [])
 empty-parts [] ys e = (refl, e)
 empty-parts (x ∷ xs) ys e = let z : false ≡ true = cc in absurd (differ z)
 
@@ -102,10 +102,6 @@ no-rescue-back k (x ∷ xs) ys n = no-rescue-back (next-item k x) xs ys (n .1)
 pub data Went (w v : World) (boots : List ℕ) : Type 0 where
   on : (es : List Event) → boots ≡ [] → Lawful w es → v ≡ now w es → Went w v boots
   anew : Member (v .head .boot) boots → Went w v boots
-
--- events keep the boot number
-pub boot-now : (w : World) (es : List Event) → now w es .head .boot ≡ w .head .boot
-boot-now w es = ap (λ (h : Head). h .boot) (arena-now w es)
 
 still : (w : World) {v : World} → v ≡ w → Went w v []
 still w e = on [] refl tt e
@@ -207,3 +203,74 @@ module _ (k : Course) (x : Stretch k) where
           let there : now w before ≡ now (k .world) (es ++ before) = ap (λ (v : World). now v before) e ∙ sym (now-append (k .world) es before) in
           dead (owns (k .world) l own (live-back (k .world) (es ++ before) (holdIn l) fits-here all low (subst (λ (v : World). Live v (holdIn l)) there (p .1))))
       go (anew m) = other-boot w l (λ e. d .0 (subst (λ (b : ℕ). Member b (boots-over k more)) (sym e ∙ own) m)) i
+
+-- ---- a lease that an item takes
+
+-- a log from the world w to the world v takes it
+pub record Taken (w v : World) (l : Lease) : Type 0 where
+  pub actor : Actor
+  pub before : List Event
+  pub after : List Event
+  pub lawful : Lawful w (before ++ (took actor (l .cell) (l .serial) ∷ after))
+  pub leads : v ≡ now w (before ++ (took actor (l .cell) (l .serial) ∷ after))
+
+-- an item with an event is a call or a lone step, and leads on by its log
+leads-on : (k : Course) (i : Item) (e : Event) (before after : List Event) → log-in (k .world) i ≡ before ++ (e ∷ after)
+    → next-item k i .world ≡ now (k .world) (before ++ (e ∷ after))
+unfolding next-item
+leads-on k i e before after = go i
+  where
+    none : (before : List Event) → [] ≡ before ++ (e ∷ after) → ⊥
+    none [] q = differ (let z : [] ≡ e ∷ after = q in cc)
+    none (f ∷ before) q = differ (let z : [] ≡ f ∷ (before ++ (e ∷ after)) = q in cc)
+
+    go : (i : Item) → log-in (k .world) i ≡ before ++ (e ∷ after) → next-item k i .world ≡ now (k .world) (before ++ (e ∷ after))
+    go (call c) q = call-kept (k .world) c .kept .leads ∙ ap (now (k .world)) q
+    go (foreign-step kind place number) q = foreign-kept (k .world) kind place number .leads ∙ ap (now (k .world)) q
+    go (preparation headers buckets serial boot) q = absurd (none before q)
+    go (preparation-over headers buckets serial boot t g) q = absurd (none before q)
+    go (salvage paper report list) q = absurd (none before q)
+    go (salvage-over paper t g report list) q = absurd (none before q)
+
+pub taken : (k : Course) (i : Item) (l : Lease) → Issues (k .world) i l → Taken (k .world) (next-item k i .world) l
+taken k i l p =
+    record {
+      actor = p .0;
+      before = p .1;
+      after = p .2;
+      lawful = subst (Lawful (k .world)) (p .3) (log-lawful (k .world) i);
+      leads = leads-on k i (took (p .0) (l .cell) (l .serial)) (p .1) (p .2) (p .3);
+    }
+
+module _ (w v : World) (l : Lease) (t : Taken w v l) where
+  abbrev its-take : Event
+  its-take = took (t .actor) (l .cell) (l .serial)
+
+  -- where it is taken
+  abbrev there : World
+  there = now w (t .before)
+
+  parted : Lawful w (t .before) × (Legal there its-take × Lawful (step there its-take) (t .after))
+  parted = lawful-split w (t .before) (its-take ∷ t .after) (t .lawful)
+
+  from-there : v ≡ now (step there its-take) (t .after)
+  from-there = t .leads ∙ now-append w (t .before) (its-take ∷ t .after)
+
+  pub boot-taken : v .head .boot ≡ w .head .boot
+  boot-taken = ap (λ (u : World). u .head .boot) (t .leads) ∙ boot-now w (t .before ++ (its-take ∷ t .after))
+
+  -- its serial is the one that is next there: not below next before the log, and below next behind it
+  pub serial-from : w .head .next ≤ l .serial
+  serial-from = omega (arith, parted .1 .0 .1 .0, next-now w (t .before))
+
+  pub serial-below : l .serial < v .head .next
+  serial-below = omega (arith, parted .1 .0 .1 .0, ap (λ (u : World). u .head .next) from-there, next-now (step there its-take) (t .after))
+
+  -- the cell is free there, so that a lease on it that was issued before owns nothing behind it
+  pub dead-behind : (m : Hold) → Fit w → m .cell ≡ l .cell → m .serial < w .head .next → Live v m → ⊥
+  dead-behind m f same low x =
+      let at = fit-now w (t .before) f (parted .0) in
+      let issued : m .serial < there .head .next = omega (arith, next-now w (t .before)) in
+      let was = live-back there (its-take ∷ t .after) m at (parted .1) issued (subst (λ (u : World). Live u m) from-there x) in
+      let bit = free-words (there .head .next) (there .table) (l .cell) (parted .1 .0 .0 .1) .0 in
+      omega (arith, lives there m was .bit-is, ap (bitAt (there .table)) same, bit)

@@ -1,15 +1,14 @@
 -- Document 02, L8: "If the owner never uses a boot number twice, an issued pair of boot number and serial that owns nothing never owns again,
 -- preparations included, up to the next salvage." What demand 2 says up to the next preparation (crate `history`), over preparations, as
 -- statements; `Theorems` has the proofs by name.
-use Prim.Native.Nat.{ℕ, _+_, _*_, _<_}
+use Prim.Native.Nat.{ℕ, _<_}
 use mathlib.Core.Path.{_≡_}
 use mathlib.Core.List.{List, [], _∷_, _++_}
 use mathlib.Core.Bool.{true}
 use mathlib.Core.Logic.{_⊎_, _↔_}
 use lib.ListN.{length}
-use Rattle.model.specs.Log.{Event}
+use Rattle.model.specs.Log.{Actor, Event, took}
 use Rattle.model.specs.Arena.{leaseOf, isStale, leaseLive, leasesOf}
-use Rattle.model.specs.Checks.{badHeld}
 use Rattle.model.specs.Refusals.{Rule, first}
 use Rattle.types.specs.declared.Answer.{Answer}
 use Rattle.types.specs.declared.Answer.the-variants.{Done, Cell, Granted, AllGranted, Busy, Refused, RefusedAt}
@@ -25,11 +24,9 @@ use Rattle.slots.specs.declared.BookCheck.the-variants as check
 use Rattle.slots.specs.declared.BookRefusal.{BookRefusal}
 use Rattle.slots.specs.declared.BookRefusal.the-variants as fault
 use Rattle.history.specs.World.{World, now, Spent}
-use Rattle.laws.specs.Checks.{leaseIn}
-use Rattle.history.specs.Items.{Call, drop-lease, Among, Names-lease, perform, foreign, Item, call, foreign-step, preparation, preparation-over, salvage, salvage-over, Course, cold, preparing, next-item, run}
-use Rattle.history.specs.Statements.{Begins, Through, answers, buffer-in, Early, One-lease, Beside, Listed}
+use Rattle.history.specs.Items.{Call, drop-lease, Among, Names-lease, unchanged, perform, foreign, Item, call, foreign-step, preparation, preparation-over, salvage, salvage-over, Course, cold, preparing, next-item, run}
+use Rattle.history.specs.Statements.{Begins, Through, answers, buffer-in, Early, One-lease, Placed}
 use Rattle.history.specs.Callers.{Shape-fits}
-use Rattle.history.specs.Judged.{unchanged}
 
 -- ---- leases with their boot numbers
 
@@ -69,6 +66,15 @@ log-in w (salvage-over paper t g report list) = []
 -- at every point of an item that begins in this world
 abbrev pub Throughout : World → Item → (World → Type 0) → Type 0
 Throughout w i P = (before after : List Event) → log-in w i ≡ before ++ after → P (now w before)
+
+-- an item takes a lease: a call for itself, its script, a crew or a lone step takes the cell with that serial, and its boot number is the one in force
+abbrev pub Issues : World → Item → Lease → Type 0
+Issues w i l =
+    (a : Actor) × (before after : List Event) × (log-in w i ≡ before ++ (took a (l .cell) (l .serial) ∷ after)) × (l .boot ≡ w .head .boot)
+
+-- what a call hands over it took itself
+abbrev pub Handed-issues : Type 0
+Handed-issues = (w : World) (c : Call) (l : Lease) → Handed w c l → Issues w (call c) l
 
 -- ---- the boot numbers of a history
 
@@ -138,15 +144,12 @@ Owned-exactly = (w : World) (l : Lease) → Shape-fits w → (answers w (drop-le
 -- a stale lease, in an arena whose shape fits: by 16
 pub record Useless (w : World) (l : Lease) : Type 0 where
   pub stale : isStale (w .head) l ≡ true
+  pub shape : Shape-fits w
   pub barred : Barred w l
-  -- of one lease
+  -- given to a call alone
   pub alone : (k : Call) → One-lease k l → answers w k ≡ Refused (StaleBoot 0)
-  -- of one beside a held list, if that list is fine
-  pub beside : (k : Call) (held : List ℕ) → Beside k held l → first (badHeld (w .head) (w .table) held) ≡ Fine
-      → answers w k ≡ Refused (StaleBoot 0)
-  -- in a list, if what is tested before its position is fine
-  pub listed : (k : Call) (leases : List ℕ) (before : ℕ → List Rule) (i : ℕ) → Listed w k leases before → 3 * i + 2 < length leases
-      → leaseIn leases i ≡ l → first (before i) ≡ Fine → answers w k ≡ Refused (StaleBoot i)
+  -- wherever it stands, with that position, if no check before it applies. These are all the calls that name it (`Names-placed` of crate `history`)
+  pub placed : (k : Call) (ahead : List Rule) (i : ℕ) → Placed w k l ahead i → first ahead ≡ Fine → answers w k ≡ Refused (StaleBoot i)
   -- in a write, if table, book and slot pass
   pub written : (bytes : List ℕ) (slot : ℕ) (p : Setpoint)
       → firstFault (badTable (w .head) (w .table) ∷ badSlot (w .head) (length bytes) slot ∷ []) ≡ check.Fine
@@ -173,20 +176,28 @@ pub record Over-preparations (k : Course) (more : List Item) : Type 0 where
   -- items is done, and owns nothing at any point from there on
   pub stale : (l : Lease) → l .boot ≡ k .world .head .boot → (boots-over k more ≡ [] → ⊥)
       → Useless (run k more .world) l × Out k more l
-  -- no lease is handed over twice
+  -- no pair of boot number and serial is issued twice, by whomever
+  pub issued-once : (i j : Item) (middle rest : List Item) (l m : Lease) → more ≡ i ∷ (middle ++ (j ∷ rest))
+      → Issues (k .world) i l → Issues (run k (i ∷ middle) .world) j m → l .serial ≡ m .serial → l .boot ≡ m .boot → ⊥
+  -- whoever took a cell that was later taken again can do nothing with the first lease from then on
+  pub takers : (i j : Item) (middle rest : List Item) (l m : Lease) → more ≡ i ∷ (middle ++ (j ∷ rest))
+      → Issues (k .world) i l → Issues (run k (i ∷ middle) .world) j m → l .cell ≡ m .cell → Out k more l
+  -- so no lease is handed over twice
   pub once : (c d : Call) (middle rest : List Item) (l : Lease) → more ≡ call c ∷ (middle ++ (call d ∷ rest))
       → Handed (k .world) c l → Handed (run k (call c ∷ middle) .world) d l → ⊥
-  -- "two writers drive one valve": whoever was handed a lease on a cell that was later handed over again can do nothing with it from then on
+  -- and "two writers drive one valve" no longer: whoever was handed a lease on a cell that was later handed over again can do nothing with it from then on
   pub writers : (c d : Call) (middle rest : List Item) (l m : Lease) → more ≡ call c ∷ (middle ++ (call d ∷ rest))
       → Handed (k .world) c l → Handed (run k (call c ∷ middle) .world) d m → l .cell ≡ m .cell → Out k more l
 
--- between any two items of every history from a preparation, if no two preparations that are done in it have one boot number, up to the next salvage
+-- of any two points between items of every history from a preparation, if no two preparations that are done in it have one boot number, up to the next
+-- salvage
 abbrev pub Demand-2-over : Type 0
 Demand-2-over =
-    (rubbish : World) (start : Item) (items more : List Item) → Begins rubbish start → No-rescue (cold rubbish) (start ∷ (items ++ more))
-    → Distinct (boots-over (cold rubbish) (start ∷ (items ++ more))) → Over-preparations (run (cold rubbish) (start ∷ items)) more
+    (rubbish : World) (start : Item) (items more rest : List Item) → Begins rubbish start
+    → No-rescue (cold rubbish) (start ∷ (items ++ (more ++ rest)))
+    → Distinct (boots-over (cold rubbish) (start ∷ (items ++ (more ++ rest)))) → Over-preparations (run (cold rubbish) (start ∷ items)) more
 
 -- the same from any point of any history, behind a salvage too, if neither the boot number in force there nor one used since is used again
 abbrev pub Over-from : Type 0
 Over-from =
-    Through (λ k. (more : List Item) → No-rescue k more → Distinct (k .world .head .boot ∷ boots-over k more) → Over-preparations k more)
+    Through (λ k. (more rest : List Item) → No-rescue k (more ++ rest) → Distinct (k .world .head .boot ∷ boots-over k (more ++ rest)) → Over-preparations k more)

@@ -1,37 +1,36 @@
 -- The statements of `Statements`, each proved.
-use Prim.Native.Nat.{ℕ, zero, suc, _+_, _*_, _≤_, _<_}
+use Prim.Native.Nat.{ℕ, _+_, _<_}
 use mathlib.Core.Path.{_≡_, refl, sym, ap, _∙_, subst}
-use mathlib.Core.List.{List, [], _∷_, _++_}
-use mathlib.Core.Bool.{Bool, true, false}
-use mathlib.Core.Logic.{_⊎_, inl, inr}
+use mathlib.Core.List.{List, [], _∷_, _++_, append-assoc}
+use mathlib.Core.Bool.{Bool, true, false, not}
+use mathlib.Core.Logic.{inl, inr}
 use native.Mathlib.Omega.{arith}
-use lib.Dec.{ltb}
-use lib.ListN.{length, drop}
-use borrow.Author.Tests.{ltb-true, ltb-false, eq-eqb, not-true}
-use Rattle.model.specs.Log.{Made, Event}
-use Rattle.model.specs.Arena.{leaseOf, isStale, leaseLive, holdOf, holdIn, leasesOf, holdsOf}
+use lib.ListN.{length}
+use Rattle.model.specs.Log.{Made, Event, by-caller}
+use Rattle.model.specs.Arena.{leaseOf, leaseLive, holdOf, holdIn, leasesOf, holdsOf}
 use Rattle.model.specs.Calls.{dropLeaseOf}
-use Rattle.model.specs.Checks.{countIn, badHeld, leaseRules}
+use Rattle.model.specs.Checks.{countIn, badShape, leaseRules}
 use Rattle.model.specs.Refusals.{first}
 use Rattle.types.specs.declared.Answer.{Answer}
 use Rattle.types.specs.declared.Answer.the-variants.{Done, Cell, Granted, AllGranted, Busy, Refused, RefusedAt}
 use Rattle.types.specs.declared.Check.the-variants.{Fine}
-use Rattle.types.specs.declared.Hold.{Hold}
 use Rattle.types.specs.declared.Lease.{Lease}
-use Rattle.laws.specs.Checks.{leaseIn, leases-at, leases-end, shape-ok}
-use Rattle.history.specs.World.{World, now, number-of, takes}
+use Rattle.laws.specs.Checks.{not-stale}
+use Rattle.history.specs.World.{World, now}
 use Rattle.history.specs.Items.{Call, Among, try-acquire, drop-lease, read-permission, competing-acquire, release-then-handoff, foreign-release, drop-preserving, acquire-preserving, environment, try-lock, transactional, acquire-bucket, release-all, acquire-locks, acquire-sorted, crew, crew-at-work, By-keys, in-order, any-order, Says, perform, Item, call, foreign-step, Course, cold, next-item, run}
-use Rattle.history.specs.Statements.{Begins, Hands-over, Gives, answers, leaves, log-of, buffer-in}
+use Rattle.history.specs.Statements.{Hands-over, Gives, answers, leaves, buffer-in, alone}
 use Rattle.history.specs.Theorems.{grant-is, buffer-is, given-live, handed-over, boot-stays, refused-unowned, stale-is-16}
 use Rattle.written.specs.Theorems.{unowned-writes-nothing, stale-writes-nothing}
 use Rattle.history.specs.Tests.{differ, In, in-first, in-rest}
 use Rattle.history.specs.Callers.{Shape-fits}
-use Rattle.history.specs.Events.{lives, fits}
-use Rattle.history.specs.Logs.{next-now}
-use Rattle.history.specs.Calls.{call-kept}
+use Rattle.history.specs.Events.{fits}
+use Rattle.history.specs.Logs.{boot-now, next-now}
 use Rattle.history.specs.Courses.{Stretch, run-stretch, begun}
-use Rattle.boots.specs.Statements.{Owned, Hands-lease, Handed, Own-boot, Throughout, boots-of, boots-over, Member, Distinct, No-rescue, Unowned-barred, Owned-exactly, Stale-useless, Out, Over-preparations, Demand-2-over, Over-from}
-use Rattle.boots.specs.Over.{owned-parts, owns, other-stale, apart-lists, member-left, boots-append, no-rescue-front, no-rescue-back, run-append, began-boots, empty-parts, Went, on, anew, boot-now, went, other-boot, fits-here, gone}
+use Rattle.history.specs.Others.{run-append}
+use Rattle.boots.specs.Statements.{Owned, Hands-lease, Handed, Own-boot, Throughout, Issues, Handed-issues, boots-of, boots-over, Member, Distinct, No-rescue, Unowned-barred, Owned-exactly, Stale-useless, Out, Over-preparations, Demand-2-over, Over-from}
+use Rattle.boots.specs.Over.{owned-parts, owns, other-stale, member-left, member-right, apart-lists, distinct-front, boots-append, no-rescue-front, no-rescue-back, Went, on, anew, went, began-boots, other-boot, fits-here, gone, Taken, taken, boot-taken, serial-from, serial-below, dead-behind}
+use Rattle.history.specs.Judged.{clear-fine}
+use Rattle.history.specs.Boots.{among-at}
 
 -- ---- a lease that does not own its cell
 
@@ -43,7 +42,7 @@ owner-fine : (w : World) (l : Lease) → Shape-fits w → Owned w l → first (l
 unfolding leaseRules first
 owner-fine w l shape o =
     let p = owned-parts w l o in
-    rw (shape, eq-eqb (l .boot) (w .head .boot) (p .0), p .1)
+    rw (shape, not-stale (w .head) l (p .0), p .1)
 
 -- `drop_lease` of one that owns its cell is done, and of no other
 pub owned-exactly : Owned-exactly
@@ -62,33 +61,19 @@ pub stale-useless : Stale-useless
 stale-useless w l shape s =
     record {
       stale = s;
-      barred = unowned-barred w l (λ o. differ (sym (not-true _ s) ∙ eq-eqb (l .boot) (w .head .boot) (owned-parts w l o .0)));
+      shape = shape;
+      barred = unowned-barred w l (λ o. differ (sym (not-stale (w .head) l (owned-parts w l o .0)) ∙ s));
+      alone = λ k o. stale-is-16 w k 0 .1 (l, badShape (w .head) (w .table) ∷ [], alone o, fine, s);
+      placed = λ k ahead i x f. stale-is-16 w k i .1 (l, ahead, x, f, s);
       written = λ bytes slot p e. stale-writes-nothing w bytes slot l p s e;
-      alone = λ k x. stale-is-16 .alone w k l x shape s;
-      beside = λ k held x e. stale-is-16 .beside w k held l x (shape-ok (w .head) (w .table) (badHeld (w .head) (w .table) held) shape ∙ e) s;
-      listed = λ k leases before i x b e f. stale-is-16 .listed w k leases before i x b f (ap (isStale (w .head)) e ∙ s);
     }
+  where
+    fine : first (badShape (w .head) (w .table) ∷ []) ≡ Fine
+    fine = clear-fine (badShape (w .head) (w .table) ∷ []) (ap not shape, tt)
 
 -- ---- a lease that a call hands over
 
--- the place of a lease among the words of a list
-among-at : (left i : ℕ) (ws : List ℕ) (l : Lease) → length ws ≤ 3 * (i + left) → Among l (leasesOf (drop (3 * i) ws))
-    → (p : ℕ) × (3 * p + 2 < length ws) × (leaseIn ws p ≡ l)
-among-at zero i ws l few x = absurd (subst (Among l) (leases-end ws i (omega arith)) x)
-among-at (suc left) i ws l few x = go (λ y. among-at left (i + 1) ws l (omega arith) y) (ltb (3 * i + 2) (length ws)) refl
-  where
-    Behind : Type 0
-    Behind = Among l (leasesOf (drop (3 * (i + 1)) ws)) → (p : ℕ) × (3 * p + 2 < length ws) × (leaseIn ws p ≡ l)
-
-    one : Behind → 3 * i + 2 < length ws → (leaseIn ws i ≡ l) ⊎ Among l (leasesOf (drop (3 * (i + 1)) ws)) → (p : ℕ) × (3 * p + 2 < length ws) × (leaseIn ws p ≡ l)
-    one more b (inl e) = (i, b, e)
-    one more b (inr y) = more y
-
-    go : Behind → (b : Bool) → ltb (3 * i + 2) (length ws) ≡ b → (p : ℕ) × (3 * p + 2 < length ws) × (leaseIn ws p ≡ l)
-    go more true e = let b = ltb-true _ _ e in one more b (subst (Among l) (leases-at ws i b) x)
-    go more false e = absurd (subst (Among l) (leases-end ws i (ltb-false _ _ e)) x)
-
--- its hold stands among the holds
+-- its hold stands among the holds of the list
 among-holds : (ws : List ℕ) (l : Lease) → Among l (leasesOf ws) → In (holdsOf ws) (holdIn l)
 unfolding leasesOf holdsOf
 among-holds [] l x = absurd x
@@ -154,99 +139,115 @@ own-boot w c l x =
     let b = handed-boot w c l (answers w c) refl x in
     (b, owns (leaves w c) l (b ∙ sym (boot-stays w c)) (given-live w c (holdIn l) (bare w c l x)))
 
+pub handed-issues : Handed-issues
+handed-issues w c l x =
+    let h = handed-over w c (holdIn l) (bare w c l x) in
+    (by-caller, h .0, h .1, h .2, own-boot w c l x .0)
+
 -- ---- over items
 
 module _ (k : Course) (x : Stretch k) (more : List Item) (n : No-rescue k more) (d : Distinct (k .world .head .boot ∷ boots-over k more)) where
   abbrev end : World
   end = run k more .world
 
-  -- where another boot number is in force at the end, this point's is not that one
-  moved : (l : Lease) → l .boot ≡ k .world .head .boot → Member (end .head .boot) (boots-over k more) → l .boot ≡ end .head .boot → ⊥
-  moved l own m e = d .0 (subst (λ (b : ℕ). Member b (boots-over k more)) (sym e ∙ own) m)
-
+  -- once a preparation among the items is done, this point's boot number is not the one in force
   prepared-since : (l : Lease) → l .boot ≡ k .world .head .boot → (boots-over k more ≡ [] → ⊥) → l .boot ≡ end .head .boot → ⊥
   prepared-since l own some = go (went k more n)
     where
       go : Went (k .world) end (boots-over k more) → l .boot ≡ end .head .boot → ⊥
       go (on es none lawful e) = absurd (some none)
-      go (anew m) = moved l own m
+      go (anew m) = λ same. d .0 (subst (λ (b : ℕ). Member b (boots-over k more)) (sym same ∙ own) m)
 
-  module _ (c c′ : Call) (middle rest : List Item) (parts : more ≡ call c ∷ (middle ++ (call c′ ∷ rest))) where
-    -- after the first call; before the second, and after it
+  module _ (i j : Item) (middle rest : List Item) (parts : more ≡ i ∷ (middle ++ (j ∷ rest))) where
+    -- after the first item; before the second, and after it
     abbrev after : Course
-    after = next-item k (call c)
+    after = next-item k i
 
     abbrev again : Course
     again = run after middle
 
     abbrev last : Course
-    last = next-item again (call c′)
+    last = next-item again j
 
-    spared : No-rescue after (middle ++ (call c′ ∷ rest))
+    spared : No-rescue after (middle ++ (j ∷ rest))
     spared = subst (No-rescue k) parts n .1
 
-    ahead : boots-over k more ≡ boots-over after middle ++ boots-over last rest
-    ahead = ap (boots-over k) parts ∙ boots-append after middle (call c′ ∷ rest)
+    -- what the items between them did
+    between : Went (after .world) (again .world) (boots-over after middle)
+    between = went after middle (no-rescue-front after middle (j ∷ rest) spared)
 
-    once-so : (l : Lease) → Handed (k .world) c l → Handed (again .world) c′ l → ⊥
-    unfolding next-item
-    once-so l p q = go (went after middle (no-rescue-front after middle _ spared))
-      where
-        go : Went (after .world) (again .world) (boots-over after middle) → ⊥
-        go (on es none lawful e) =
-            let w = leaves (k .world) c in
-            let low = lives w (holdIn l) (owned-parts w l (own-boot (k .world) c l p .1) .1) .high in
-            let h = handed-over (again .world) c′ (holdIn l) (bare (again .world) c′ l q) in
-            omega (arith, low, h .3, next-now (again .world) (h .0), ap (λ (v : World). v .head .next) e, next-now (after .world) es)
-        go (anew m) =
-            d .0 (subst (Member (k .world .head .boot)) (sym ahead)
-            (member-left (k .world .head .boot) (boots-over after middle) (boots-over last rest)
-            (subst (λ (b : ℕ). Member b (boots-over after middle)) (sym (own-boot (again .world) c′ l q .0) ∙ own-boot (k .world) c l p .0) m)))
+    -- a boot number used between them is used
+    used : (b : ℕ) → Member b (boots-over after middle) → Member b (boots-over k more)
+    used b m =
+        let bs = boots-over after middle in
+        let cs = boots-over again (j ∷ rest) in
+        subst (Member b) (sym (ap (boots-over k) parts ∙ ap (λ (xs : List ℕ). boots-of (k .world) i ++ xs) (boots-append after middle (j ∷ rest))))
+        (member-right b (boots-of (k .world) i) (bs ++ cs) (member-left b bs cs m))
 
-    module _ (l m : Lease) (p : Handed (k .world) c l) (q : Handed (again .world) c′ m) (same : l .cell ≡ m .cell) where
-      -- if both owned the cell they would have one serial, and one boot number
-      dead : Owned (last .world) l → ⊥
-      unfolding next-item
-      dead o =
-          let a = owned-parts (last .world) l o in
-          let b = owned-parts (last .world) m (own-boot (again .world) c′ m q .1) in
-          let u = lives (last .world) (holdIn l) (a .1) in
-          let v = lives (last .world) (holdIn m) (b .1) in
-          let serials : m .serial ≡ l .serial = sym (v .owner-is) ∙ rw same at (u .owner-is) in
-          let boots : m .boot ≡ l .boot = b .0 ∙ sym (a .0) in
-          once-so l p (subst (Handed (again .world) c′) (same-so m l (sym same) serials boots) q)
+    -- the items up to the second one, that one included, and those behind it
+    abbrev front : List Item
+    front = i ∷ (middle ++ (j ∷ []))
+
+    split : more ≡ front ++ rest
+    split = parts ∙ sym (append-assoc (i ∷ middle) (j ∷ []) rest)
+
+    there : run k front ≡ last
+    unfolding run
+    there = run-append after middle (j ∷ [])
+
+    ending : end ≡ run last rest .world
+    ending = ap (λ (is : List Item). run k is .world) split ∙ ap (λ (c : Course). c .world) (run-append k front rest ∙ ap (λ (c : Course). run c rest) there)
+
+    -- this point's boot number is not used behind it
+    apart : Distinct (k .world .head .boot ∷ boots-over last rest)
+    apart =
+        let b = k .world .head .boot in
+        let bs = ap (boots-over k) split ∙ boots-append k front rest ∙ ap (λ (c : Course). boots-over k front ++ boots-over c rest) there in
+        apart-lists (b ∷ boots-over k front) (boots-over last rest) b (inl refl) (subst (λ (xs : List ℕ). Distinct (b ∷ xs)) bs d)
+
+    module _ (l m : Lease) (p : Issues (k .world) i l) (q : Issues (again .world) j m) where
+      first-take : Taken (k .world) (after .world) l
+      first-take = taken k i l p
+
+      second-take : Taken (again .world) (last .world) m
+      second-take = taken again j m q
+
+      -- without a preparation between them next does not fall, and the boot number stays
+      issued-by-then : (es : List Event) → again .world ≡ now (after .world) es → l .serial < again .world .head .next
+      issued-by-then es e =
+          omega (arith, serial-below (k .world) (after .world) l first-take, ap (λ (v : World). v .head .next) e, next-now (after .world) es)
+
+      still-in-force : (es : List Event) → again .world ≡ now (after .world) es → last .world .head .boot ≡ k .world .head .boot
+      still-in-force es e =
+          boot-taken (again .world) (last .world) m second-take ∙ ap (λ (v : World). v .head .boot) e
+          ∙ boot-now (after .world) es ∙ boot-taken (k .world) (after .world) l first-take
+
+      -- the second serial is next where it is taken, and the first below next by then; a preparation between them has another boot number
+      issued-once-so : l .serial ≡ m .serial → l .boot ≡ m .boot → ⊥
+      issued-once-so serials boots = go between
         where
-          same-so : (a b : Lease) → a .cell ≡ b .cell → a .serial ≡ b .serial → a .boot ≡ b .boot → a ≡ b
-          same-so a b e f g = rw (e, f, g)
+          go : Went (after .world) (again .world) (boots-over after middle) → ⊥
+          go (on es none lawful e) = omega (arith, issued-by-then es e, serial-from (again .world) (last .world) m second-take)
+          go (anew y) =
+              d .0 (used (k .world .head .boot) (subst (λ (b : ℕ). Member b (boots-over after middle)) (sym (q .4) ∙ sym boots ∙ p .4) y))
 
-      writers-so : (i : Item) → Throughout end i (λ w. Owned w l → ⊥)
-      unfolding next-item run
-      writers-so i = go (went k more n)
+      -- the cell is free where it is taken again: there the first lease owns nothing, and so never again
+      takers-so : l .cell ≡ m .cell → (i : Item) → Throughout end i (λ w. Owned w l → ⊥)
+      unfolding run
+      takers-so same = go between
         where
-          own : l .boot ≡ k .world .head .boot
-          own = own-boot (k .world) c l p .0
-
-          quiet : boots-over k more ≡ [] → (i : Item) → Throughout end i (λ w. Owned w l → ⊥)
-          quiet b = later (empty-parts (boots-over after middle) (boots-over last rest) (sym ahead ∙ b)) (went after middle (no-rescue-front after middle _ spared))
-            where
-              later : (boots-over after middle ≡ []) × (boots-over last rest ≡ []) → Went (after .world) (again .world) (boots-over after middle)
-                  → (i : Item) → Throughout end i (λ w. Owned w l → ⊥)
-              later z (anew y) = absurd (subst (Member (again .world .head .boot)) (z .0) y)
-              later z (on es none lawful e) =
-                  let w = leaves (k .world) c in
-                  let low = lives w (holdIn l) (owned-parts w l (own-boot (k .world) c l p .1) .1) .high in
-                  let s = run-stretch k (call c ∷ (middle ++ (call c′ ∷ []))) x in
-                  let there : run k (call c ∷ (middle ++ (call c′ ∷ []))) ≡ last = run-append after middle (call c′ ∷ []) in
-                  let ending : end ≡ run last rest .world = ap (λ (is : List Item). run k is .world) parts ∙ ap (λ (d : Course). d .world) (run-append after middle (call c′ ∷ rest)) in
-                  let kept : last .world .head .boot ≡ k .world .head .boot = boot-stays (again .world) c′ ∙ ap (λ (v : World). v .head .boot) e ∙ boot-now (after .world) es ∙ boot-stays (k .world) c in
-                  let rises : last .world .head .next ≡ again .world .head .next + number-of takes (log-of (again .world) c′) = ap (λ (v : World). v .head .next) (call-kept (again .world) c′ .kept .leads) ∙ next-now (again .world) (log-of (again .world) c′) in
-                  subst (λ (w : World). (i : Item) → Throughout w i (λ v. Owned v l → ⊥)) (sym ending)
-                  (gone last (subst Stretch there s) rest (no-rescue-back after middle (call c′ ∷ rest) spared .1) (λ y. absurd (subst (Member _) (z .1) y), subst Distinct (sym (z .1)) tt)
-                  l (own ∙ sym kept) (omega (arith, low, rises, ap (λ (v : World). v .head .next) e, next-now (after .world) es)) dead)
-
-          go : Went (k .world) end (boots-over k more) → Throughout end i (λ w. Owned w l → ⊥)
-          go (on es b lawful e) = quiet b i
-          go (anew y) = other-boot end l (moved l own y) i
+          go : Went (after .world) (again .world) (boots-over after middle) → (i : Item) → Throughout end i (λ w. Owned w l → ⊥)
+          go (on es none lawful e) =
+              let boots = still-in-force es e in
+              let low = issued-by-then es e in
+              let next = serial-from (again .world) (last .world) m second-take in
+              let fit = fits-here again (run-stretch k (i ∷ middle) x) in
+              subst (λ (w : World). (i : Item) → Throughout w i (λ v. Owned v l → ⊥)) (sym ending)
+              (gone last (subst Stretch there (run-stretch k front x)) rest (no-rescue-back after middle (j ∷ rest) spared .1)
+              (subst (λ (b : ℕ). Distinct (b ∷ boots-over last rest)) (sym boots) apart)
+              l (p .4 ∙ sym boots) (omega (arith, low, next, serial-below (again .world) (last .world) m second-take))
+              (λ o. dead-behind (again .world) (last .world) m second-take (holdIn l) fit same low (owned-parts (last .world) l o .1)))
+          go (anew y) = other-boot end l (prepared-since l (p .4) (λ none. subst (Member _) none (used _ y)))
 
   fits-end : Shape-fits end
   fits-end = fits (end .head) (length (end .table)) (fits-here (run k more) (run-stretch k more x) .shape)
@@ -266,18 +267,24 @@ module _ (k : Course) (x : Stretch k) (more : List Item) (n : No-rescue k more) 
         stale = λ l own some.
             let y = prepared-since l own some in
             (stale-useless end l fits-end (other-stale (end .head) l y), out l (other-boot end l y));
-        once = λ c c′ middle rest l parts p q. once-so c c′ middle rest parts l p q;
-        writers = λ c c′ middle rest l m parts p q same. out l (writers-so c c′ middle rest parts l m p q same);
+        issued-once = λ i j middle rest l m parts p q serials boots. issued-once-so i j middle rest parts l m p q serials boots;
+        takers = λ i j middle rest l m parts p q same. out l (takers-so i j middle rest parts l m p q same);
+        once = λ a b middle rest l parts p q. issued-once-so (call a) (call b) middle rest parts l l (handed-issues _ a l p) (handed-issues _ b l q) refl refl;
+        writers = λ a b middle rest l m parts p q same.
+            out l (takers-so (call a) (call b) middle rest parts l m (handed-issues _ a l p) (handed-issues _ b m q) same);
       }
 
 pub over-from : Over-from
 unfolding run
-over-from rubbish start items b more n d =
-    over (run (cold rubbish) (start ∷ items)) (run-stretch (next-item (cold rubbish) start) items (begun (cold rubbish) start b)) more n d
+over-from rubbish start items b more rest n d =
+    let k = run (cold rubbish) (start ∷ items) in
+    over k (run-stretch (next-item (cold rubbish) start) items (begun (cold rubbish) start b)) more (no-rescue-front k more rest n)
+    (distinct-front (k .world .head .boot ∷ boots-over k more) (boots-over (run k more) rest)
+    (subst (λ (bs : List ℕ). Distinct (k .world .head .boot ∷ bs)) (boots-append k more rest) d))
 
 pub demand-2-over : Demand-2-over
-demand-2-over rubbish start items more b n d =
+demand-2-over rubbish start items more rest b n d =
     let k = cold rubbish in
-    over-from rubbish start items b more (no-rescue-back k (start ∷ items) more n)
-    (apart-lists (boots-over k (start ∷ items)) (boots-over (run k (start ∷ items)) more) (run k (start ∷ items) .world .head .boot)
-    (began-boots k start items b (no-rescue-front k (start ∷ items) more n)) (subst Distinct (boots-append k (start ∷ items) more) d))
+    over-from rubbish start items b more rest (no-rescue-back k (start ∷ items) (more ++ rest) n)
+    (apart-lists (boots-over k (start ∷ items)) (boots-over (run k (start ∷ items)) (more ++ rest)) (run k (start ∷ items) .world .head .boot)
+    (began-boots k start items b (no-rescue-front k (start ∷ items) (more ++ rest) n)) (subst Distinct (boots-append k (start ∷ items) (more ++ rest)) d))

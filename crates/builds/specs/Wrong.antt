@@ -8,11 +8,12 @@ use lib.Dec.{leb, eqb}
 use lib.ListN.{length, getD, replicate}
 use Rattle.choice.specs.Choice.{if_then_else_}
 use Rattle.model.specs.Log.{Made, Event, by-caller, by-script, attempt-begun, boundary-run, yielded, spun, step-dropped, took, released, waiters-set, health-set, held-all, added, gives, note, _>>=_, _>>_}
-use Rattle.model.specs.Arena.{headOf, spentTo, leaseOf, holdsOf, ownerAt, setCell}
-use Rattle.model.specs.Refusals.{numberOf}
+use Rattle.model.specs.Arena.{headOf, spentTo, leaseOf, leasesOf, holdsOf, ownerAt, setCell, holdIn, leaseUnder}
+use Rattle.model.specs.Refusals.{Rule, numberOf, carriedOf, first, judge}
 use Rattle.model.specs.Answers.{refusalIn}
 use Rattle.model.specs.Foreign.{Setting, boundaryOf}
 use Rattle.model.specs.Lock.{runOf, attemptOf, attemptLimit, noneYet, spinOf, isBusy, lastOf, triedOf, answerOf, settled}
+use Rattle.model.specs.Checks.{staleBoot, tooManyLeases}
 use Rattle.model.specs.Calls.{countsOf, given, starting}
 use Rattle.model.specs.Sorted.{cellsAsked, cellsSorted, firstAsking}
 use Rattle.model.specs.Crew.{total, crewOf}
@@ -20,6 +21,7 @@ use Rattle.types.specs.declared.Answer.{Answer}
 use Rattle.types.specs.declared.Answer.the-variants.{Done, Cell, Granted, AllGranted, Busy, Refused, RefusedAt}
 use Rattle.types.specs.declared.Counts.{Counts}
 use Rattle.types.specs.declared.CrewReply.{CrewReply}
+use Rattle.types.specs.declared.Head.{Head}
 use Rattle.types.specs.declared.Hold.{Hold}
 use Rattle.types.specs.declared.Lease.{Lease}
 use Rattle.types.specs.declared.Outcome.the-variants as outcome
@@ -30,8 +32,8 @@ use Rattle.types.specs.declared.Refusal.the-variants as refusal
 use Rattle.types.specs.declared.Run.{Run}
 use Rattle.types.specs.declared.Tried.{Tried}
 use Rattle.history.specs.World.{World, worldOf, now, caller-releases}
-use Rattle.history.specs.Items.{Call, try-acquire, drop-lease, read-permission, competing-acquire, release-then-handoff, foreign-release, drop-preserving, acquire-preserving, environment, try-lock, transactional, acquire-bucket, release-all, acquire-locks, acquire-sorted, crew, crew-at-work, asked, cellOf, place-of, Says, says, perform, foreign, Build, Stepper}
-use Rattle.history.specs.Statements.{Crew-build, answer-in}
+use Rattle.history.specs.Items.{Call, try-acquire, drop-lease, read-permission, competing-acquire, release-then-handoff, foreign-release, drop-preserving, acquire-preserving, environment, try-lock, transactional, acquire-bucket, release-all, acquire-locks, acquire-sorted, crew, crew-at-work, asked, cellOf, place-of, Says, says, unchanged, perform, foreign, Build, Stepper}
+use Rattle.history.specs.Statements.{Crew-build, answer-in, scripted}
 
 -- ---- the same with another answer, and the like
 
@@ -159,24 +161,24 @@ retries-at remainder w registry script place held binding bucket = do
 -- ---- by kind of call: one of them done otherwise
 
 abbrev pub others : (drop : World → Lease → Made (World × Says)) (key once : World → (registry script : List ℕ) (place : ℕ) (held : List ℕ) (binding bucket : ℕ) → Made (World × Says))
-    (locks sorted : World → (registry script : List ℕ) (place : ℕ) (held keys grants : List ℕ) → Made (World × Says)) → Build
-others drop key once locks sorted w (try-acquire c) = perform w (try-acquire c)
-others drop key once locks sorted w (drop-lease l) = drop w l
-others drop key once locks sorted w (read-permission l) = perform w (read-permission l)
-others drop key once locks sorted w (competing-acquire l) = perform w (competing-acquire l)
-others drop key once locks sorted w (release-then-handoff l) = perform w (release-then-handoff l)
-others drop key once locks sorted w (foreign-release held l) = perform w (foreign-release held l)
-others drop key once locks sorted w (drop-preserving held l) = perform w (drop-preserving held l)
-others drop key once locks sorted w (acquire-preserving held c) = perform w (acquire-preserving held c)
-others drop key once locks sorted w (environment script place held) = perform w (environment script place held)
-others drop key once locks sorted w (try-lock script place held c) = perform w (try-lock script place held c)
-others drop key once locks sorted w (transactional registry script place held binding bucket) = once w registry script place held binding bucket
-others drop key once locks sorted w (acquire-bucket registry script place held binding bucket) = key w registry script place held binding bucket
-others drop key once locks sorted w (release-all script place leases) = perform w (release-all script place leases)
-others drop key once locks sorted w (acquire-locks registry script place held keys grants) = locks w registry script place held keys grants
-others drop key once locks sorted w (acquire-sorted registry script place held keys grants) = sorted w registry script place held keys grants
-others drop key once locks sorted w (crew counts cells turns) = perform w (crew counts cells turns)
-others drop key once locks sorted w (crew-at-work counts cells turns counters) = perform w (crew-at-work counts cells turns counters)
+    (releases : World → (script : List ℕ) (place : ℕ) (leases : List ℕ) → Made (World × Says)) (locks sorted : World → (registry script : List ℕ) (place : ℕ) (held keys grants : List ℕ) → Made (World × Says)) → Build
+others drop key once releases locks sorted w (try-acquire c) = perform w (try-acquire c)
+others drop key once releases locks sorted w (drop-lease l) = drop w l
+others drop key once releases locks sorted w (read-permission l) = perform w (read-permission l)
+others drop key once releases locks sorted w (competing-acquire l) = perform w (competing-acquire l)
+others drop key once releases locks sorted w (release-then-handoff l) = perform w (release-then-handoff l)
+others drop key once releases locks sorted w (foreign-release held l) = perform w (foreign-release held l)
+others drop key once releases locks sorted w (drop-preserving held l) = perform w (drop-preserving held l)
+others drop key once releases locks sorted w (acquire-preserving held c) = perform w (acquire-preserving held c)
+others drop key once releases locks sorted w (environment script place held) = perform w (environment script place held)
+others drop key once releases locks sorted w (try-lock script place held c) = perform w (try-lock script place held c)
+others drop key once releases locks sorted w (transactional registry script place held binding bucket) = once w registry script place held binding bucket
+others drop key once releases locks sorted w (acquire-bucket registry script place held binding bucket) = key w registry script place held binding bucket
+others drop key once releases locks sorted w (release-all script place leases) = releases w script place leases
+others drop key once releases locks sorted w (acquire-locks registry script place held keys grants) = locks w registry script place held keys grants
+others drop key once releases locks sorted w (acquire-sorted registry script place held keys grants) = sorted w registry script place held keys grants
+others drop key once releases locks sorted w (crew counts cells turns) = perform w (crew counts cells turns)
+others drop key once releases locks sorted w (crew-at-work counts cells turns counters) = perform w (crew-at-work counts cells turns counters)
 
 abbrev pub our-drop : World → Lease → Made (World × Says)
 our-drop w l = perform w (drop-lease l)
@@ -187,6 +189,9 @@ our-key w registry script place held binding bucket = perform w (acquire-bucket 
 abbrev pub our-once : World → (registry script : List ℕ) (place : ℕ) (held : List ℕ) (binding bucket : ℕ) → Made (World × Says)
 our-once w registry script place held binding bucket = perform w (transactional registry script place held binding bucket)
 
+abbrev pub our-releases : World → (script : List ℕ) (place : ℕ) (leases : List ℕ) → Made (World × Says)
+our-releases w script place leases = perform w (release-all script place leases)
+
 abbrev pub our-locks : World → (registry script : List ℕ) (place : ℕ) (held keys grants : List ℕ) → Made (World × Says)
 our-locks w registry script place held keys grants = perform w (acquire-locks registry script place held keys grants)
 
@@ -194,10 +199,10 @@ abbrev pub our-sorted : World → (registry script : List ℕ) (place : ℕ) (he
 our-sorted w registry script place held keys grants = perform w (acquire-sorted registry script place held keys grants)
 
 abbrev pub feigns-the-rest : Build
-feigns-the-rest = others our-drop our-key our-once first-key-only our-sorted
+feigns-the-rest = others our-drop our-key our-once our-releases first-key-only our-sorted
 
 abbrev pub yields-at : ℕ → Build
-yields-at remainder = others our-drop (retries-at remainder) our-once our-locks our-sorted
+yields-at remainder = others our-drop (retries-at remainder) our-once our-releases our-locks our-sorted
 
 -- "testing the bucket before health"
 abbrev pub bucket-first : Build
@@ -206,19 +211,19 @@ bucket-first =
     (λ w registry script place held binding bucket. if leb (w .head .buckets) bucket then
     record { seen = (w, says (Refused (refusal.InvalidBucket bucket)) (countsOf 1 0 0 0) place []); log = attempt-begun ∷ [] }
     else our-once w registry script place held binding bucket)
-    our-locks our-sorted
+    our-releases our-locks our-sorted
 
 -- "freeing by cell without comparing the serial"
 abbrev pub frees-by-cell : Build
 frees-by-cell =
     others (λ w l. record { seen = (worldOf (w .head) (setCell (w .table) (l .cell) 0 0) (w .health), says Done (countsOf 0 0 0 0) 0 []); log = released by-caller (l .cell) (l .serial) ∷ [] })
-    our-key our-once our-locks our-sorted
+    our-key our-once our-releases our-locks our-sorted
 
 -- ---- document 02, L4: "lock in rising order, then hand back one lease per key in the caller's order, doubled keys sharing one."
 
 -- multi-lock in the caller's order, in place of the sorted one
 abbrev pub as-typed : Build
-as-typed = others our-drop our-key our-once our-locks our-locks
+as-typed = others our-drop our-key our-once our-releases our-locks our-locks
 
 -- granted, a lease of its own for each key, doubled or not: its cell, and the serials one after the other
 abbrev pub if-granted : Answer → List ℕ → List ℕ → List ℕ
@@ -232,7 +237,7 @@ if-granted (RefusedAt r p) own ours = ours
 
 abbrev pub own-leases : Build
 own-leases =
-    others our-drop our-key our-once our-locks λ w registry script place held keys grants.
+    others our-drop our-key our-once our-releases our-locks λ w registry script place held keys grants.
     let m = our-sorted w registry script place held keys grants in
     let s = m .seen .1 in
     let own = feigned (w .head .buckets) (w .head .boot) registry (w .head .next) keys in
@@ -250,7 +255,7 @@ by-sorted asked sorted (Refused r) = Refused r
 
 abbrev pub sorted-position : Build
 sorted-position =
-    others our-drop our-key our-once our-locks λ w registry script place held keys grants.
+    others our-drop our-key our-once our-releases our-locks λ w registry script place held keys grants.
     let b = w .head .buckets in
     answering (λ s. by-sorted (cellsAsked b registry keys) (cellsSorted b registry keys) (s .answer)) (our-sorted w registry script place held keys grants)
 
@@ -266,7 +271,7 @@ abbrev pub reads-once : Build
 reads-once w k =
     let m = perform w k in
     let s = m .seen .1 in
-    at-seven (λ l. record { seen = (now w (skipping (m .log)), says (Granted (leaseOf (l .cell) (l .serial) (w .head .boot))) (s .counts) (s .place) (s .grants)); log = skipping (m .log) }) (caller-releases (m .log)) m
+    at-seven (λ l. record { seen = (now w (skipping (m .log)), says (Granted (leaseUnder (w .head .boot) l)) (s .counts) (s .place) (s .grants)); log = skipping (m .log) }) (caller-releases (m .log)) m
 
 -- "refuse with 7", and the lease is not released
 abbrev pub keeps-at-seven : Build
@@ -341,7 +346,7 @@ abbrev pub first-reason : Build
 first-reason =
     others our-drop
     (λ w registry script place held binding bucket. answering (λ s. reworded (busy-by (answer-in (our-once w registry script place held binding bucket))) (s .answer)) (our-key w registry script place held binding bucket))
-    our-once our-locks our-sorted
+    our-once our-releases our-locks our-sorted
 
 -- ---- document 02, L8: "A lease with another boot number is refused", and a grant has the head's
 
@@ -353,7 +358,7 @@ rebooted boot (c ∷ s ∷ []) = c ∷ s ∷ []
 rebooted boot (c ∷ s ∷ b ∷ ws) = c ∷ s ∷ boot ∷ rebooted boot ws
 
 abbrev pub with-boot : ℕ → Lease → Lease
-with-boot boot l = leaseOf (l .cell) (l .serial) boot
+with-boot boot l = leaseUnder boot (holdIn l)
 
 -- a lease is tested by its cell and serial alone: whatever boot number it has, it is taken for one of this boot
 abbrev pub ignoring-boot : ℕ → Call → Call
@@ -390,6 +395,32 @@ as-not-held (RefusedAt r p) = RefusedAt r p
 
 abbrev pub twelve-for-sixteen : Build
 twelve-for-sixteen w k = answering (λ s. as-not-held (s .answer)) (perform w k)
+
+-- and a dead lease of this boot as one of another
+abbrev pub as-stale : Answer → Answer
+as-stale Done = Done
+as-stale (Cell c) = Cell c
+as-stale (Granted l) = Granted l
+as-stale AllGranted = AllGranted
+as-stale (Busy why) = Busy why
+as-stale (Refused r) = if eqb (numberOf r) 12 then Refused (refusal.StaleBoot (carriedOf r)) else Refused r
+as-stale (RefusedAt r p) = RefusedAt r p
+
+abbrev pub sixteen-for-twelve : Build
+sixteen-for-twelve w k = answering (λ s. as-stale (s .answer)) (perform w k)
+
+-- `release_all` tests all boot numbers of its list before it asks of any lease whether it is live: 16 at a later position before 12 at an earlier one
+unfoldable pub otherBoots : Head → ℕ → List Lease → List Rule
+otherBoots h i [] = []
+otherBoots h i (l ∷ ls) = staleBoot h i l ∷ otherBoots h (i + 1) ls
+
+abbrev pub boots-first : Build
+boots-first =
+    others our-drop our-key our-once
+    (λ w script place leases.
+    judge (first (scripted w script place ++ (tooManyLeases leases ∷ otherBoots (w .head) 0 (leasesOf leases)))) (unchanged w (release-all script place leases))
+    (our-releases w script place leases))
+    our-locks our-sorted
 
 -- grants with boot number 0, and so in the buffer
 abbrev pub without-boot : Answer → Answer

@@ -7,7 +7,7 @@ use mathlib.Core.List.{List, _∷_, _++_, []}
 use mathlib.Core.Logic.{_↔_}
 use lib.ListN.{length, getD}
 use Rattle.model.specs.Log.{Event, Made, took, released, waiters-set, health-set, held-all, added, spun, yielded, attempt-begun, boundary-run, step-dropped, by-caller, by-script}
-use Rattle.model.specs.Arena.{leaseOf, holdOf, holdIn, wordsOf}
+use Rattle.model.specs.Arena.{holdOf, holdIn, wordsOf, leaseUnder}
 use Rattle.model.specs.Refusals.{numberOf}
 use Rattle.model.specs.Lock.{bindingAt, bucketAt}
 use Rattle.model.specs.Checks.{countIn}
@@ -137,10 +137,6 @@ Reason-of-last f =
 -- ---- multi-lock is `acquire_index_bucket` key by key, each holding what was taken before; and, refused, `drop_lease` and `environment` for each
 -- lease taken, the last first
 
--- what was taken, as a lease that the caller names: with the boot number of the head (document 02, L8)
-abbrev pub lease-on : ℕ → Hold → Lease
-lease-on boot l = leaseOf (l .cell) (l .serial) boot
-
 module _ (f : Build) (boot : ℕ) (registry script held keys grants : List ℕ) where
   -- the call for the key at position p, holding what was taken
   abbrev pub key-at : ℕ → List Hold → (place : ℕ) → Call
@@ -151,7 +147,7 @@ module _ (f : Build) (boot : ℕ) (registry script held keys grants : List ℕ) 
 
   -- one lease given back; and one boundary, holding what is not yet given back
   abbrev pub dropping : Hold → World → Made (World × Says)
-  dropping l w = f w (drop-lease (lease-on boot l))
+  dropping l w = f w (drop-lease (leaseUnder boot l))
 
   abbrev pub between : List Hold → World → (place : ℕ) → Made (World × Says)
   between taken w place = f w (environment script place (held ++ wordsOf boot taken))
@@ -172,7 +168,7 @@ module _ (f : Build) (boot : ℕ) (registry script held keys grants : List ℕ) 
     all-locked : {p : ℕ} {taken : List Hold} {w : World} {place : ℕ} → p ≡ countIn keys
         → Key-by-key p taken w place (record { seen = (w, says AllGranted (countsOf 0 0 0 0) place (wordsOf boot taken)); log = [] })
     one-locked : {p : ℕ} {taken : List Hold} {w : World} {place : ℕ} {n : Made (World × Says)} (l : Hold) → p < countIn keys
-        → Passes w (key-at p taken place) → answer-in (locking p taken w place) ≡ Granted (lease-on boot l)
+        → Passes w (key-at p taken place) → answer-in (locking p taken w place) ≡ Granted (leaseUnder boot l)
         → Key-by-key (p + 1) (taken ++ (l ∷ [])) (world-in (locking p taken w place)) (place-in (locking p taken w place)) n
         → Key-by-key p taken w place (locking p taken w place and-then n)
     one-refused : {p : ℕ} {taken : List Hold} {w : World} {place : ℕ} {n : Made (World × Says)} (r : Refusal) → p < countIn keys

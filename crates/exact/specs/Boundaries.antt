@@ -9,7 +9,7 @@ use native.Mathlib.Omega.{arith}
 use lib.ListN.{length, getD, length-append, List·getD-append}
 use lib.Seq.{getD-append-add}
 use Rattle.model.specs.Log.{Made, spun, yielded}
-use Rattle.model.specs.Arena.{holdsOf, wordsOf}
+use Rattle.model.specs.Arena.{holdsOf, wordsOf, leaseUnder}
 use Rattle.model.specs.Foreign.{flowOf}
 use Rattle.model.specs.Lock.{noneYet, bindingAt, bucketAt}
 use Rattle.model.specs.Calls.{countsOf, given, starting}
@@ -25,7 +25,7 @@ use Rattle.history.specs.Items.{Says, perform, acquire-bucket, drop-lease, envi
 use Rattle.history.specs.Statements.{answer-in}
 use Rattle.history.specs.Judged.{performed}
 use Rattle.exact.specs.Script.{acquire-bucket-has}
-use Rattle.exact.specs.Attempts.{Ends, no-cell, waited, held, not-takable, poisoned, late, granted, lease-on, _and-then_, spin, yield, Pause, only-spins, also-yields, Attempts, all-busy, the-last, one-busy, locking, between, Gives-back, all-back, one-back, Key-by-key, all-locked, one-locked, one-refused, spins-in, Boundaries-add, Bucket-boundaries, rolled-back, Locks-boundaries}
+use Rattle.exact.specs.Attempts.{Ends, no-cell, waited, held, not-takable, poisoned, late, granted, _and-then_, spin, yield, Pause, only-spins, also-yields, Attempts, all-busy, the-last, one-busy, locking, between, Gives-back, all-back, one-back, Key-by-key, all-locked, one-locked, one-refused, spins-in, Boundaries-add, Bucket-boundaries, rolled-back, Locks-boundaries}
 use Rattle.exact.specs.Made.{made}
 use Rattle.exact.specs.Retried.{spins-append, boundary-still, attempt-one}
 use Rattle.exact.specs.Ending.{tried-ends}
@@ -184,8 +184,8 @@ module _ (boot : ℕ) (registry script words keys grants : List ℕ) where
   back-adds all-back = adds-none
   back-adds (one-back {ls = ls} {w = w} {v = v} {place = place} {n = n} l a q b rest) =
       let z : 0 + (1 + length ls) ≡ length (ls ++ (l ∷ [])) = omega (arith, length-append ls (l ∷ [])) in
-      subst (λ k. Adds k (perform w (drop-lease (lease-on boot l)) and-then (bounds ls v place and-then n))) z
-      (adds-then (perform w (drop-lease (lease-on boot l))) (bounds ls v place and-then n) (drop-adds w (lease-on boot l))
+      subst (λ k. Adds k (perform w (drop-lease (leaseUnder boot l)) and-then (bounds ls v place and-then n))) z
+      (adds-then (perform w (drop-lease (leaseUnder boot l))) (bounds ls v place and-then n) (drop-adds w (leaseUnder boot l))
       (adds-then (bounds ls v place) n (bound-adds v script place (words ++ wordsOf boot ls) b) (back-adds rest)))
 
   keys-add : {p : ℕ} {taken : List Hold} {w : World} {place : ℕ} {m : Made (World × Says)} → length taken ≡ p

@@ -17,7 +17,7 @@ use Rattle.types.specs.declared.Answer.the-variants.{Done, Cell, Granted, AllGr
 use Rattle.types.specs.declared.Hold.{Hold}
 use Rattle.types.specs.declared.Outcome.{Outcome}
 use Rattle.types.specs.declared.Outcome.the-variants as outcome
-use Rattle.laws.specs.Lists.{leases-few, words-back}
+use Rattle.laws.specs.Lists.{holds-few, words-back}
 use Rattle.history.specs.World.{World}
 use Rattle.history.specs.Items.{Call, perform}
 use Rattle.history.specs.Theorems.{lawful-always}
@@ -101,7 +101,7 @@ steps-consumed w (acquire-bucket-has registry script place held binding bucket) 
     (retry-consumed (w .head) script attemptLimit 0 noneYet ps (w .head .buckets) registry binding bucket (starting (w .head) place) (w .table) (w .health))
 steps-consumed w (release-all-has script place leases) =
     let ls = holdsOf leases in
-    rw (take-all (leaseCount leases) ls (omega (arith, leases-few leases)))
+    rw (take-all (leaseCount leases) ls (omega (arith, holds-few leases)))
     at (back-consumed (w .head) script (leaseCount leases) [] ls (starting (w .head) place) (w .table) (w .health) (omega (arith, words-leases leases)))
 steps-consumed w (acquire-locks-has registry script place held keys grants) =
     let ps = holdsOf held in

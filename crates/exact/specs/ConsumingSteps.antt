@@ -34,8 +34,9 @@ use Rattle.types.specs.declared.Take.the-variants as taking
 use Rattle.types.specs.declared.Took.{Took}
 use Rattle.types.specs.declared.Tried.{Tried}
 use Rattle.choice.specs.Pick.{if-both}
+use Rattle.laws.specs.Lists.{words-back}
 use Rattle.history.specs.World.{World}
-use Rattle.history.specs.Tests.{differ, if-cases, leases-words}
+use Rattle.history.specs.Tests.{differ, if-cases}
 use Rattle.history.specs.Steps.{With, worldAt, of-flow, of-locked, of-run, of-tried, of-took}
 use Rattle.exact.specs.Script.{Boundary, at-end, at-five, one-step, attempts-one, yields-once, spins, Consumed, at-rest, counts, takes, gives-up, boundary}
 use Rattle.exact.specs.ForeignSteps.{step-is}
@@ -223,7 +224,7 @@ module _ (h : Head) (script : List ℕ) where
     pub locks-consumed : (left p : ℕ) (taken : List Hold) (r : Run) (t g : List ℕ)
         → Ending (ps ++ taken) ps r t g (locksOf left p (given h script ps) buckets boot registry keys taken r t g grants)
     unfolding locksOf
-    locks-consumed zero p taken r t g = rw (leases-words boot taken) at-rest
+    locks-consumed zero p taken r t g = rw (words-back boot taken) at-rest
     locks-consumed (suc left) p taken r t g =
         let m = retryOf attemptLimit 0 noneYet (given h script (ps ++ taken)) buckets registry (bindingAt keys p) (bucketAt keys p) r t g .seen in
         follow (retry-consumed attemptLimit 0 noneYet (ps ++ taken) buckets registry (bindingAt keys p) (bucketAt keys p) r t g)

@@ -11,7 +11,7 @@ use lib.ListN.{length, take, length-append}
 use lib.Seq.{take-length, take-suc, length-take-le, getD-take}
 use borrow.Author.Tests.{ltb-false, not-false}
 use Rattle.model.specs.Log.{Made, Event, by-caller, released}
-use Rattle.model.specs.Arena.{leasesOf, holdsOf, wordsOf, setCell}
+use Rattle.model.specs.Arena.{leasesOf, holdsOf, wordsOf, setCell, leaseUnder}
 use Rattle.model.specs.Foreign.{Setting, protecting, stepsIn, flowOf, boundaryOf}
 use Rattle.model.specs.Lock.{noHold, holdAt, attemptLimit, noneYet, retryOf, giveBackOf, Locks, endedOf, rollbackOf, afterKey, bindingAt, bucketAt, locksOf, settled, answerOf, runOf}
 use Rattle.model.specs.Checks.{countIn, leaseCount, isOdd, locksRules, leaseRules, notLive}
@@ -27,6 +27,7 @@ use Rattle.types.specs.declared.Run.{Run}
 use Rattle.types.specs.declared.Tried.{Tried}
 use Rattle.choice.specs.Pick.{neither}
 use Rattle.laws.specs.Shape.{shaped}
+use Rattle.laws.specs.Checks.{not-stale}
 use Rattle.history.specs.World.{World, Live}
 use Rattle.history.specs.Items.{Says, says, perform, acquire-bucket, acquire-locks, environment}
 use Rattle.history.specs.Statements.{answer-in, world-in}
@@ -38,9 +39,9 @@ use Rattle.history.specs.Steps.{With, worldAt, of-run, of-tried, Won, won, none
 use Rattle.history.specs.Many.{Held, of-locks, one-more}
 use Rattle.exact.specs.Statements.{Passes}
 use Rattle.exact.specs.Script.{acquire-bucket-has, acquire-locks-has, environment-has, place-in}
-use Rattle.exact.specs.Attempts.{lease-on, added-up, _and-then_, locking, dropping, between, Gives-back, all-back, one-back, refused-at, Key-by-key, all-locked, one-locked, one-refused, Locks-as-calls, key-at}
+use Rattle.exact.specs.Attempts.{added-up, _and-then_, locking, dropping, between, Gives-back, all-back, one-back, refused-at, Key-by-key, all-locked, one-locked, one-refused, Locks-as-calls, key-at}
 use Rattle.exact.specs.Made.{made, drop-made}
-use Rattle.exact.specs.Passing.{clear-live, boundary-on, divides, own-boot, holding-more, in-script, key-passes, leases-append}
+use Rattle.exact.specs.Passing.{clear-live, boundary-on, divides, holding-more, in-script, key-passes, leases-append}
 use Rattle.exact.specs.Passing as passing
 use Rattle.exact.specs.ScriptFacts.{place-goes}
 use Rattle.exact.specs.CountedOn.{run-on, locks-on, back-on, keys-on}
@@ -89,9 +90,9 @@ module _ (h : Head) (registry script held keys grants : List ℕ) where
   bounds = between perform (h .boot) registry script held keys grants
 
   locked-as : {p : ℕ} {taken : List Hold} {w : World} {place : ℕ} {x n : Made (World × Says)} (l : Hold) → p < countIn keys → Passes w (key-at perform (h .boot) registry script held keys grants p taken place) → locks-it p taken w place ≡ x
-      → answer-in x ≡ Granted (lease-on (h .boot) l) → Goes (p + 1) (taken ++ (l ∷ [])) (world-in x) (place-in x) n → Goes p taken w place (x and-then n)
+      → answer-in x ≡ Granted (leaseUnder (h .boot) l) → Goes (p + 1) (taken ++ (l ∷ [])) (world-in x) (place-in x) n → Goes p taken w place (x and-then n)
   locked-as {p} {taken} {w} {place} {x} {n} l b fine q =
-      subst (λ (y : Made (World × Says)). answer-in y ≡ Granted (lease-on (h .boot) l) → Goes (p + 1) (taken ++ (l ∷ [])) (world-in y) (place-in y) n → Goes p taken w place (y and-then n)) q
+      subst (λ (y : Made (World × Says)). answer-in y ≡ Granted (leaseUnder (h .boot) l) → Goes (p + 1) (taken ++ (l ∷ [])) (world-in y) (place-in y) n → Goes p taken w place (y and-then n)) q
       (one-locked l b fine)
 
   refused-as : {p : ℕ} {taken : List Hold} {w : World} {place : ℕ} {x n : Made (World × Says)} (r : Refusal) → p < countIn keys → Passes w (key-at perform (h .boot) registry script held keys grants p taken place) → locks-it p taken w place ≡ x
@@ -179,7 +180,7 @@ module _ (h : Head) (registry script held keys grants : List ℕ) where
       let l = holdAt ls n in
       let u = setCell t (l .cell) 0 0 in
       let live = st .mine .all-live n (omega arith) in
-      let named = lease-on (h .boot) l in
+      let named = leaseUnder (h .boot) l in
       let gone : Kept v (λ k. k ≡ l → ⊥) (worldAt h s u g) (released by-caller (l .cell) (l .serial) ∷ []) =
       event (released by-caller (l .cell) (l .serial)) live (λ k f _ x. f x) in
       let dropped : Standing first (worldAt h s u g) place n ls =
@@ -208,7 +209,7 @@ module _ (h : Head) (registry script held keys grants : List ℕ) where
       (sym (back-from e n ls (runOf f 0 1 0) (c .seen .1 .0) (c .seen .1 .1))) in
       subst (λ (ks : List Hold). Backs ks v place (done-with h (giveBackOf (suc n) e ls (nil s place) t g))) (sym (take-suc ls n noHold (omega (arith, st .mine .enough))))
       (subst (Backs (take n ls ++ (l ∷ [])) v place) whole
-      (back-as l (drop-made v named (st .passes .0, (own-boot h named refl, (ap not live, tt)))) refl is refl rest))
+      (back-as l (drop-made v named (st .passes .0, (not-stale h named refl, (ap not live, tt)))) refl is refl rest))
 
   -- ---- locking
 

@@ -10,7 +10,7 @@ use lib.Dec.{ltb, eqb}
 use lib.ListN.{length, length-set, length-append}
 use borrow.Author.Tests.{not-false, le-ltb, ltb-false, eqb-true, eq-eqb}
 use Rattle.model.specs.Log.{Event, attempt-begun, boundary-run, yielded, spun, step-dropped, took, released, waiters-set, health-set, held-all, added}
-use Rattle.model.specs.Arena.{cellsOf, shapeFits, healthFits, isStale, isLive, leasesOf, holdsOf, isIn, wordsOf, holdOf, holdIn}
+use Rattle.model.specs.Arena.{cellsOf, shapeFits, healthFits, isLive, leasesOf, holdsOf, isIn, wordsOf, holdOf, holdIn}
 use Rattle.model.specs.Foreign.{stepsIn}
 use Rattle.model.specs.Lock.{bindingAt}
 use Rattle.model.specs.Checks.{notLive, badScript, bucketRules, scriptRules, badBindings, locksRules, badBinding, countIn, leaseCount, badHeldLength, isUneven}
@@ -19,12 +19,13 @@ use Rattle.types.specs.declared.Hold.{Hold}
 use Rattle.types.specs.declared.Lease.{Lease}
 use Rattle.choice.specs.Pick.{neither}
 use Rattle.laws.specs.Shape.{shaped}
+use Rattle.laws.specs.Checks.{not-stale}
 use Rattle.laws.specs.Lists.{length-words, holds-are, words-back}
 use Rattle.history.specs.World.{World, step, now}
 use Rattle.history.specs.Items.{Clear}
 use Rattle.history.specs.Tests.{In, in-first, in-rest, in-cases, differ, in-either}
 use Rattle.history.specs.Events.{Fit, fits}
-use Rattle.history.specs.Logs.{Kept, kept-fit, kept-live, arena-now}
+use Rattle.history.specs.Logs.{Kept, kept-fit, kept-live, arena-now, boot-now}
 use Rattle.history.specs.Judged.{clear-front, clear-back, clear-append}
 
 -- ---- the held list
@@ -34,16 +35,12 @@ abbrev pub All-of : ℕ → List Lease → Type 0
 All-of boot [] = Unit {0}
 All-of boot (l ∷ ls) = (l .boot ≡ boot) × All-of boot ls
 
--- a lease of the head's boot number is not stale
-pub own-boot : (h : Head) (l : Lease) → l .boot ≡ h .boot → isStale h l ≡ false
-own-boot h l e = ap not (eq-eqb (l .boot) (h .boot) e)
-
 leases-clear : (h : Head) (t : List ℕ) (i : ℕ) (ls : List Lease) → All-of (h .boot) ls → ((l : Hold) → In (map holdIn ls) l → isLive (h .next) (cellsOf h) t l ≡ true)
     → Clear (notLive h t i ls)
 unfolding notLive
 leases-clear h t i [] o f = tt
 leases-clear h t i (l ∷ ls) o f =
-    (own-boot h l (o .0), (ap not (f (holdIn l) (in-first (holdIn l) (map holdIn ls))), leases-clear h t (i + 1) ls (o .1) (λ k j. f k (in-rest (holdIn l) k (map holdIn ls) j))))
+    (not-stale h l (o .0), (ap not (f (holdIn l) (in-first (holdIn l) (map holdIn ls))), leases-clear h t (i + 1) ls (o .1) (λ k j. f k (in-rest (holdIn l) k (map holdIn ls) j))))
 
 clear-leases : (h : Head) (t : List ℕ) (i : ℕ) (ls : List Lease) → Clear (notLive h t i ls) → (l : Hold) → In (map holdIn ls) l → isLive (h .next) (cellsOf h) t l ≡ true
 unfolding notLive isIn
@@ -100,9 +97,8 @@ module _ {w v : World} {es : List Event} (held : List ℕ) (k : Kept w (In (hold
       let headers : v .head .headers ≡ w .head .headers = ap (λ (x : World). x .head .headers) (k .leads) ∙ ap (λ (h : Head). h .headers) (arena-now w es) in
       rw (bytes, headers) e
 
-  -- no event changes the boot number
   pub same-boot : v .head .boot ≡ w .head .boot
-  same-boot = ap (λ (x : World). x .head .boot) (k .leads) ∙ ap (λ (h : Head). h .boot) (arena-now w es)
+  same-boot = ap (λ (x : World). x .head .boot) (k .leads) ∙ boot-now w es
 
   held-on : Fit w → Clear (notLive (w .head) (w .table) 0 (leasesOf held)) → Clear (notLive (v .head) (v .table) 0 (leasesOf held))
   held-on g c =

@@ -69,13 +69,13 @@ pub fn scope_of(head: Head, script: &[u32]) -> Scope
 // ---- one step
 
 // Whether a lease is among the first n pairs.
-fn is_in_pairs(taken: &[[u32; 2]; 64], n: usize, lease: Hold) -> bool
+fn is_in_pairs(taken: &[[u32; 2]; 64], n: usize, hold: Hold) -> bool
     requires { ⌜ n ≤ 64 ⌝ }
-    ensures { λ r. ⌜ r ≡ isIn lease (pairsOf n 0 (now (taken .entry))) ⌝ }
+    ensures { λ r. ⌜ r ≡ isIn hold (pairsOf n 0 (now (taken .entry))) ⌝ }
 {
     let mut i = 0;
     while i < n {
-        if lease::same_hold(taken[i][0], taken[i][1], lease) {
+        if lease::same_hold(taken[i][0], taken[i][1], hold) {
             return true;
         }
         i += 1;
@@ -102,16 +102,16 @@ fn marks_of(held: &[u32]) -> [u8; 256]
 }
 
 // Whether a lease is held: without a mark it is not, and no lease is looked at; else up to the first match.
-fn is_held(held: &[u32], marks: &[u8; 256], lease: Hold) -> bool
+fn is_held(held: &[u32], marks: &[u8; 256], hold: Hold) -> bool
     requires { ⌜ Marked (now marks) (now held) ⌝ }
-    ensures { λ r. ⌜ r ≡ isIn lease (holdsOf (now (held .entry))) ⌝ }
+    ensures { λ r. ⌜ r ≡ isIn hold (holdsOf (now (held .entry))) ⌝ }
 {
-    let at = (lease.cell % 256) as usize;
+    let at = (hold.cell % 256) as usize;
     let mark = marks[at];
     if mark == 0 {
         return false;
     }
-    lease::is_in_from(held, (mark - 1) as usize, lease)
+    lease::is_in_from(held, (mark - 1) as usize, hold)
 }
 
 // Whether a lease is protected: held, taken by this call, or the call's own new one.
@@ -121,18 +121,18 @@ fn is_guarded(
     taken: &[[u32; 2]; 64],
     n: usize,
     own: Hold,
-    lease: Hold,
+    hold: Hold,
 ) -> bool
     requires { ⌜ (n ≤ 64) × Marked (now marks) (now held) ⌝ }
-    ensures { λ r. ⌜ r ≡ isIn lease (guardsOf (now (held .entry)) (now (taken .entry)) n ++ (own ∷ [])) ⌝ }
+    ensures { λ r. ⌜ r ≡ isIn hold (guardsOf (now (held .entry)) (now (taken .entry)) n ++ (own ∷ [])) ⌝ }
 {
-    if is_held(held, marks, lease) {
+    if is_held(held, marks, hold) {
         return true;
     }
-    if is_in_pairs(taken, n, lease) {
+    if is_in_pairs(taken, n, hold) {
         return true;
     }
-    lease::same_hold(own.cell, own.serial, lease)
+    lease::same_hold(own.cell, own.serial, hold)
 }
 
 // 1: take a cell, if it is in range and free and a serial remains.
@@ -161,7 +161,7 @@ fn step_release(
     cells: u32,
     next: u32,
     table: &mut [u32],
-    lease: Hold,
+    hold: Hold,
     held: &[u32],
     marks: &[u8; 256],
     taken: &[[u32; 2]; 64],
@@ -171,13 +171,13 @@ fn step_release(
     requires { ⌜ (3 * cells ≤ length (now table)) × ((n ≤ 64) × Marked (now marks) (now held)) ⌝ }
     ensures { λ r. ⌜ (r, now (table .exit))
         ≡ stepReleaseOf cells (guardsOf (now (held .entry)) (now (taken .entry)) n ++ (own ∷ []))
-        next (now (table .entry)) (lease .cell) (lease .serial) .seen ⌝ }
+        next (now (table .entry)) (hold .cell) (hold .serial) .seen ⌝ }
 {
-    if arena::is_live(next, cells, table, lease.cell, lease.serial) {
-        if is_guarded(held, marks, taken, n, own, lease) {
+    if arena::is_live(next, cells, table, hold.cell, hold.serial) {
+        if is_guarded(held, marks, taken, n, own, hold) {
             return Stepped { next, dropped: 1 };
         }
-        arena::release(table, lease.cell);
+        arena::release(table, hold.cell);
         return Stepped { next, dropped: 0 };
     }
     Stepped { next, dropped: 1 }
@@ -266,11 +266,11 @@ fn step(
         next (now (table .entry)) (now (health .entry)) kind place number .seen ⌝ }
 {
     if kind == 2 {
-        let lease = Hold {
+        let hold = Hold {
             cell: place,
             serial: number,
         };
-        return step_release(cells, next, table, lease, held, marks, taken, n, own);
+        return step_release(cells, next, table, hold, held, marks, taken, n, own);
     }
     other_step(headers, cells, next, table, health, kind, place, number)
 }

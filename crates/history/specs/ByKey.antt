@@ -9,7 +9,7 @@ use lib.Dec.{leb}
 use lib.ListN.{length, getD, length-append, List·getD-append}
 use lib.Seq.{getD-append-seam}
 use Rattle.model.specs.Log.{Made}
-use Rattle.model.specs.Arena.{isPoisoned, leaseOf, holdOf, holdsOf, setCell}
+use Rattle.model.specs.Arena.{isPoisoned, holdOf, holdsOf, setCell, leaseUnder}
 use Rattle.model.specs.Foreign.{Setting, protecting, flowOf}
 use Rattle.model.specs.Lock.{takeOf, lockOf, outcomeOf, answerOf, settled, findOf, attemptAt, attemptOf, pauseOf, isBusy, retryOf, attemptLimit, noneYet, noHold, holdAt, rollbackOf, afterKey, bindingAt, bucketAt, locksOf}
 use Rattle.model.specs.Checks.{countIn}
@@ -32,12 +32,12 @@ use Rattle.types.specs.declared.Take.the-variants as taking
 use Rattle.types.specs.declared.Tried.{Tried}
 use Rattle.choice.specs.Pick.{if-both}
 use Rattle.laws.specs.Checks.{leaseIn}
-use Rattle.laws.specs.Lists.{length-words}
+use Rattle.laws.specs.Lists.{length-words, words-back}
 use Rattle.laws.specs.Outcomes.{Comes, granted, busy, poisoned, damaged, spent, lock-comes}
 use Rattle.history.specs.World.{World}
 use Rattle.history.specs.Items.{Call, Says, try-acquire, drop-lease, read-permission, competing-acquire, release-then-handoff, foreign-release, drop-preserving, acquire-preserving, environment, try-lock, transactional, acquire-bucket, release-all, acquire-locks, acquire-sorted, crew, crew-at-work, perform, asked, cellOf, keyCell}
 use Rattle.history.specs.Statements.{Grant-is}
-use Rattle.history.specs.Tests.{leases-words, words-boot}
+use Rattle.history.specs.Tests.{words-boot}
 use Rattle.history.specs.Judged.{acting, steps, performed, judged-at}
 use Rattle.history.specs.Steps.{With}
 
@@ -95,14 +95,14 @@ module _ (e : Setting) (buckets : ℕ) (registry : List ℕ) (binding bucket : �
 
 answer-names : (boot c : ℕ) (o : Outcome) → Names c o → (l : Lease) → answerOf boot o ≡ Granted l → (l .cell ≡ c) × (l .boot ≡ boot)
 answer-names boot c (outcome.Granted k) n l a =
-    let y : leaseOf (k .cell) (k .serial) boot ≡ l = cc in
+    let y : leaseUnder boot k ≡ l = cc in
     (sym (ap (λ (x : Lease). x .cell) y) ∙ n k refl, sym (ap (λ (x : Lease). x .boot) y))
 answer-names boot c (outcome.Busy why) n l a = let z : _≡_ {A = ℕ} 0 1 = cc in absurd (omega arith)
 answer-names boot c (outcome.Refused r) n l a = let z : _≡_ {A = ℕ} 0 1 = cc in absurd (omega arith)
 
 settled-names : (boot c : ℕ) (o : Outcome) → Names c o → (l : Lease) → answerOf boot (settled o) ≡ Granted l → (l .cell ≡ c) × (l .boot ≡ boot)
 settled-names boot c (outcome.Granted k) n l a =
-    let y : leaseOf (k .cell) (k .serial) boot ≡ l = cc in
+    let y : leaseUnder boot k ≡ l = cc in
     (sym (ap (λ (x : Lease). x .cell) y) ∙ n k refl, sym (ap (λ (x : Lease). x .boot) y))
 settled-names boot c (outcome.Busy why) n l a = let z : _≡_ {A = ℕ} 0 1 = cc in absurd (omega arith)
 settled-names boot c (outcome.Refused r) n l a = let z : _≡_ {A = ℕ} 0 1 = cc in absurd (omega arith)
@@ -187,7 +187,7 @@ module _ (buckets boot : ℕ) (registry keys : List ℕ) where
     pub long : length b ≡ 3 * n
     pub many : length (holdsOf b) ≡ n
     pub filled : (i : ℕ) → i < n → holdAt (holdsOf b) i .cell ≡ keyCell buckets registry keys i
-    pub own-boot : (i : ℕ) → i < n → leaseIn b i .boot ≡ boot
+    pub boot-is : (i : ℕ) → i < n → leaseIn b i .boot ≡ boot
 
   one-more : (p : ℕ) (taken : List Hold) (l : Hold) → length taken ≡ p → ((i : ℕ) → i < p → holdAt taken i .cell ≡ keyCell buckets registry keys i) → l .cell ≡ keyCell buckets registry keys p
       → (i : ℕ) → i < p + 1 → holdAt (taken ++ (l ∷ [])) i .cell ≡ keyCell buckets registry keys i
@@ -209,9 +209,9 @@ module _ (buckets boot : ℕ) (registry keys : List ℕ) where
   locks-filled total zero p h e taken r t g grants n all a =
       record {
         long = omega (arith, length-words boot taken);
-        many = rw (leases-words boot taken) (omega arith);
-        filled = λ i k. rw (leases-words boot taken) (all i (omega arith));
-        own-boot = λ i k. words-boot boot taken i (omega arith);
+        many = rw (words-back boot taken) (omega arith);
+        filled = λ i k. rw (words-back boot taken) (all i (omega arith));
+        boot-is = λ i k. words-boot boot taken i (omega arith);
       }
   locks-filled total (suc left) p h e taken r t g grants n all a =
       let m = retryOf attemptLimit 0 noneYet (protecting e taken) buckets registry (bindingAt keys p) (bucketAt keys p) r t g .seen in

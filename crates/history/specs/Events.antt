@@ -16,7 +16,7 @@ use Rattle.types.specs.declared.Hold.{Hold}
 use Rattle.laws.specs.Shape.{Shaped, shaped, healthy}
 use Rattle.laws.specs.Words.{length-set-cell, length-set-waiters, bit-set, bit-set-other, owner-set-other, bit-set-waiters, owner-set-waiters, Seen, here, there, see}
 use Rattle.history.specs.World.{World, cells, Live, Legal, step, Whole, Apart, one, bits, Kind, kind-of, code, takes, releases, Releases, Spent}
-use Rattle.history.specs.Tests.{Status, free, held, undamaged, not-damaged, free-words, Alive, alive, live, same-lease}
+use Rattle.history.specs.Tests.{Status, free, held, undamaged, not-damaged, free-words, Alive, alive, live, holds-equal}
 
 -- ---- a whole arena, as facts about its words
 
@@ -192,7 +192,7 @@ keep-step w (released a c s) l g k v n =
   where
     go : Seen (w .table) c 0 0 (l .cell) → Alive (w .head .next) (cells w) (w .table) l → Alive (w .head .next) (cells w) (w .table) (holdOf c s)
         → Live (step w (released a c s)) l
-    go (here e p q) x y = absurd (n (same-lease l (holdOf c s) e (sym (x .owner-is) ∙ ap (ownerAt (w .table)) e ∙ y .owner-is)))
+    go (here e p q) x y = absurd (n (holds-equal l (holdOf c s) e (sym (x .owner-is) ∙ ap (ownerAt (w .table)) e ∙ y .owner-is)))
     go (there e p q) x y = moved-live (w .head .next) (cells w) (w .head .next) (w .table) (setCell (w .table) c 0 0) l x (omega arith) p q
 keep-step w (waiters-set c n) l g k v u =
     moved-live (w .head .next) (cells w) (w .head .next) (w .table) (setWaiters (w .table) c n) l (lives w l v) (omega arith)

@@ -8,8 +8,8 @@ use mathlib.Core.Logic.{inl, inr}
 use native.Mathlib.Omega.{arith}
 use lib.ListN.{replicate}
 use Rattle.model.specs.Log.{Made, Event, by-caller, by-script, attempt-begun, boundary-run, took, released, waiters-set, health-set, Actor, step-dropped}
-use Rattle.model.specs.Arena.{headOf, leaseOf, holdOf, bitAt, ownerAt, waitersAt, setCell, setWaiters, isFree, isHeld, stateOf, stateAt, isLive, leasesOf, holdsOf, wordsOf, sameHold, isIn, headFits, shapeFits, healthFits, registryFits}
-use Rattle.model.specs.Refusals.{first}
+use Rattle.model.specs.Arena.{headOf, leaseOf, isStale, holdOf, bitAt, ownerAt, waitersAt, setCell, setWaiters, isFree, isHeld, stateOf, stateAt, isLive, leasesOf, holdsOf, wordsOf, sameHold, isIn, headFits, shapeFits, healthFits, registryFits}
+use Rattle.model.specs.Refusals.{Rule, first}
 use Rattle.model.specs.Answers.{refusalIn}
 use Rattle.model.specs.Foreign.{stepTakeOf, stepReleaseOf, stepWaitersOf, stepHealthOf, stepOf, runStepsOf, boundaryOf}
 use Rattle.model.specs.Lock.{takeOf, lateOf, secondOf, lockOf, findOf, attemptOf, spinOf, pauseOf, retryOf, giveBackOf, rollbackOf, holdAt, locksOf}
@@ -27,8 +27,8 @@ use Rattle.types.specs.declared.Refusal.{Refusal}
 use Rattle.types.specs.declared.Refusal.the-variants.{StaleBoot, Poisoned, InvalidBucket, NotHeld, BadCrew, Damaged, BadShape}
 use Rattle.types.specs.declared.SalvageAnswer.the-variants as salvaged
 use Rattle.history.specs.World.{World, worldOf, Live, Healthy, now, Sound, Spent, Unreleased, number-of, takes}
-use Rattle.history.specs.Items.{Call, Says, salvage, salvaging, acquire-bucket, try-lock, drop-lease, competing-acquire, release-all, acquire-locks, environment, try-acquire, perform, foreign, Item, call, foreign-step, preparation, Course, courseOf, cold, next-item, run, preparing, held-of, Entry, noted, preparation-over, entryOf, events-of, history-of, saying, says}
-use Rattle.history.specs.Statements.{to-release, Begins, Fresh, Ledger, other-runs, answers, leaves, log-of, Hands-over, Rolled-back, buffer-in, Fails}
+use Rattle.history.specs.Items.{Call, Says, salvage, salvaging, acquire-bucket, try-lock, drop-lease, competing-acquire, drop-preserving, release-all, acquire-locks, environment, try-acquire, perform, foreign, Item, call, foreign-step, preparation, Course, courseOf, cold, next-item, run, preparing, held-of, Entry, noted, preparation-over, entryOf, events-of, history-of, saying, says}
+use Rattle.history.specs.Statements.{drops-beside, to-release, Placed, alone, beside, listed, Begins, Fresh, Ledger, other-runs, answers, leaves, log-of, Hands-over, Rolled-back, buffer-in, Fails}
 use Rattle.history.specs.Reasons.{Takes-nothing}
 use Rattle.history.specs.Callers.{singles}
 use Rattle.history.specs.Theorems.{grant-is, boot-stays, refused-stale, stale-is-16, demand-2, prepared-sound, prepared-begins, forgets, salvage-refused-stays, nothing-kept, held-live, changes-nothing, crew-refused, crew-at-work-refused, named, take-is-call, nothing-new, rollback-is, two-writers, granted-healthy, holder-lives, early-takes-nothing, late-is-spent, locks-healthy, poisoned-holds-nothing}
@@ -225,10 +225,13 @@ pub mistake-refused : (answers granted mistake ≡ Refused (NotHeld 0)) × (leav
 unfolding run next-item preparing perform foreign bitAt ownerAt waitersAt setCell setWaiters isFree isHeld stateOf stateAt isLive leasesOf holdsOf wordsOf sameHold isIn headFits shapeFits healthFits registryFits first stepTakeOf stepReleaseOf stepWaitersOf stepHealthOf stepOf runStepsOf boundaryOf takeOf lateOf secondOf lockOf findOf attemptOf spinOf pauseOf retryOf giveBackOf rollbackOf locksOf notLive badBindings notReleasable prepareRules cellRules leaseRules scriptRules lockRules bucketRules releaseRules locksRules prepareOf acquireOf tryAcquireOf dropLeaseOf environmentOf tryLockOf acquireBucketOf releaseAllOf acquireLocksOf
 mistake-refused = (refl, ap (λ (m : Made (World × Says)). m .seen .0) (changes-nothing granted mistake (NotHeld 0) refl (inr (inr (omega arith)))))
 
--- ---- document 02, L8: the same cell and serial, from another boot. `refused-stale`, `stale-is-16`: alone, and behind the lease of this boot in a list,
--- where 16 comes before 14
+-- ---- document 02, L8: the same cell and serial, from another boot. `refused-stale`, `stale-is-16`: alone, beside a held list that is fine, where 16 comes
+-- before 13, and behind the lease of this boot in a list, where 16 comes before 14
 abbrev stale : Lease
 stale = leaseOf 2 2 5
+
+abbrev mine : List ℕ
+mine = 2 ∷ 2 ∷ 6 ∷ []
 
 abbrev both-boots : List ℕ
 both-boots = 2 ∷ 2 ∷ 6 ∷ 2 ∷ 2 ∷ 5 ∷ []
@@ -238,12 +241,21 @@ stale-unchanged =
     let x = refused-stale granted (drop-lease stale) stale refl refl in
     (x .0, ap (λ (m : Made (World × Says)). m .seen .1 .answer) (x .2), ap (λ (m : Made (World × Says)). m .seen .0) (x .2))
 
-pub stale-sixteen : (answers granted (drop-lease stale) ≡ Refused (StaleBoot 0)) × (answers granted (release-all [] 0 both-boots) ≡ Refused (StaleBoot 1))
+pub stale-sixteen : (answers granted (drop-lease stale) ≡ Refused (StaleBoot 0)) × (answers granted (drop-preserving mine stale) ≡ Refused (StaleBoot 0))
+    × (answers granted (release-all [] 0 both-boots) ≡ Refused (StaleBoot 1))
 unfolding run next-item preparing perform foreign bitAt ownerAt waitersAt setCell setWaiters isFree isHeld stateOf stateAt isLive leasesOf holdsOf wordsOf sameHold isIn headFits shapeFits healthFits registryFits first stepTakeOf stepReleaseOf stepWaitersOf stepHealthOf stepOf runStepsOf boundaryOf takeOf lateOf secondOf lockOf findOf attemptOf spinOf pauseOf retryOf giveBackOf rollbackOf locksOf notLive badBindings notReleasable prepareRules cellRules leaseRules scriptRules lockRules bucketRules releaseRules locksRules prepareOf acquireOf tryAcquireOf dropLeaseOf environmentOf tryLockOf acquireBucketOf releaseAllOf acquireLocksOf
 stale-sixteen = (
-  stale-is-16 .alone granted (drop-lease stale) stale refl refl refl,
-  stale-is-16 .listed granted (release-all [] 0 both-boots) both-boots _ 1 (to-release [] 0 both-boots) (omega arith) refl refl,
+  stale-is-16 granted (drop-lease stale) 0 .1 (stale, _, alone refl, refl, refl),
+  stale-is-16 granted (drop-preserving mine stale) 0 .1 (stale, _, beside mine (drops-beside mine stale), refl, refl),
+  stale-is-16 granted (release-all [] 0 both-boots) 1 .1 (stale, _, listed both-boots _ 1 (to-release [] 0 both-boots) (omega arith) refl, refl, refl),
 )
+
+-- and only then: a dead lease of the head's own boot number is not refused by 16, at any position
+pub mistake-not-sixteen : (i : ℕ) → answers granted mistake ≡ Refused (StaleBoot i) → ⊥
+mistake-not-sixteen i e = let x = stale-is-16 granted mistake i .0 e in go (x .0) (x .1) i (x .2) (x .4)
+  where
+    go : (l : Lease) (ahead : List Rule) (p : ℕ) → Placed granted mistake l ahead p → isStale (granted .head) l ≡ true → ⊥
+    go l _ _ (alone o) s = differ (ap (isStale (granted .head)) o ∙ s)
 
 -- `boot-stays`, `grant-is`: the day keeps its boot number, and what it grants has it
 pub boot-kept : (leaves prepared grant .head .boot ≡ 6) × (leaseOf 2 2 6 .boot ≡ prepared .head .boot)

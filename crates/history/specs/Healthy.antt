@@ -9,7 +9,7 @@ use native.Mathlib.Omega.{arith}
 use lib.ListN.{length, getD, length-append, List·getD-append}
 use lib.Seq.{getD-append-seam}
 use Rattle.model.specs.Log.{Made, Event, by-caller, attempt-begun, took}
-use Rattle.model.specs.Arena.{leaseOf, holdIn, headerOf, holdOf, holdsOf}
+use Rattle.model.specs.Arena.{holdIn, headerOf, holdOf, holdsOf, leaseUnder}
 use Rattle.model.specs.Answers.{refusalIn}
 use Rattle.model.specs.Foreign.{Setting, protecting, flowOf}
 use Rattle.model.specs.Lock.{lockOf, answerOf, settled, findOf, attemptAt, attemptOf, pauseOf, isBusy, retryOf, attemptLimit, noneYet, noHold, holdAt, rollbackOf, afterKey, bindingAt, bucketAt, Locks, locksOf}
@@ -30,11 +30,11 @@ use Rattle.types.specs.declared.Run.{Run}
 use Rattle.types.specs.declared.Tried.{Tried}
 use Rattle.choice.specs.Pick.{if-both}
 use Rattle.laws.specs.Outcomes.{Comes, granted, busy, poisoned, damaged, spent, lock-comes}
+use Rattle.laws.specs.Lists.{words-back}
 use Rattle.history.specs.World.{World, Healthy, now, attempts, number-of}
 use Rattle.history.specs.Items.{Call, try-acquire, drop-lease, read-permission, competing-acquire, release-then-handoff, foreign-release, drop-preserving, acquire-preserving, environment, try-lock, transactional, acquire-bucket, release-all, acquire-locks, acquire-sorted, crew, crew-at-work, perform}
 use Rattle.history.specs.Statements.{answers, log-of, Fails}
 use Rattle.history.specs.Answers.{Reads-again, Granted-healthy, Grant-point, Locks-healthy, Poisoned-holds-nothing}
-use Rattle.history.specs.Tests.{leases-words}
 use Rattle.history.specs.Events.{Fit}
 use Rattle.history.specs.Logs.{now-append, next-now, kept-fit}
 use Rattle.history.specs.Judged.{acting, steps, performed}
@@ -130,12 +130,12 @@ module _ (e : Setting) (buckets : ℕ) (registry : List ℕ) (binding bucket : �
 -- ---- the calls that grant one lease
 
 of-answer : (boot : ℕ) (o : Outcome) (l : Lease) → answerOf boot o ≡ Granted l → Given o (holdIn l)
-of-answer boot (outcome.Granted k) l e = let y : leaseOf (k .cell) (k .serial) boot ≡ l = cc in ap {B = Outcome} (λ x. outcome.Granted (holdIn x)) y
+of-answer boot (outcome.Granted k) l e = let y : leaseUnder boot k ≡ l = cc in ap {B = Outcome} (λ x. outcome.Granted (holdIn x)) y
 of-answer boot (outcome.Busy why) l e = let z : _≡_ {A = ℕ} 0 1 = cc in absurd (omega arith)
 of-answer boot (outcome.Refused r) l e = let z : _≡_ {A = ℕ} 0 1 = cc in absurd (omega arith)
 
 of-settled : (boot : ℕ) (o : Outcome) (l : Lease) → answerOf boot (settled o) ≡ Granted l → Given o (holdIn l)
-of-settled boot (outcome.Granted k) l e = let y : leaseOf (k .cell) (k .serial) boot ≡ l = cc in ap {B = Outcome} (λ x. outcome.Granted (holdIn x)) y
+of-settled boot (outcome.Granted k) l e = let y : leaseUnder boot k ≡ l = cc in ap {B = Outcome} (λ x. outcome.Granted (holdIn x)) y
 of-settled boot (outcome.Busy why) l e = let z : _≡_ {A = ℕ} 0 1 = cc in absurd (omega arith)
 of-settled boot (outcome.Refused r) l e = let z : _≡_ {A = ℕ} 0 1 = cc in absurd (omega arith)
 
@@ -178,7 +178,7 @@ module _ (e : Setting) (buckets boot : ℕ) (registry keys grants : List ℕ) wh
   locks-extend : (left p : ℕ) (taken : List Hold) (r : Run) (t g : List ℕ) (i : ℕ) → i < length taken
       → let m = locksOf left p e buckets boot registry keys taken r t g grants .seen in m .0 .answer ≡ AllGranted → holdAt (holdsOf (m .1 .1 .1)) i ≡ holdAt taken i
   unfolding locksOf rollbackOf
-  locks-extend zero p taken r t g i k a = rw (leases-words boot taken)
+  locks-extend zero p taken r t g i k a = rw (words-back boot taken)
   locks-extend (suc left) p taken r t g i k a =
       let m = retryOf attemptLimit 0 noneYet (protecting e taken) buckets registry (bindingAt keys p) (bucketAt keys p) r t g .seen in
       go (m .0 .outcome) (m .0 .run) (m .1 .0) (m .1 .1)

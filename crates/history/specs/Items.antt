@@ -1,5 +1,5 @@
 -- What a history is made of: calls of document 01 with any arguments, lone foreign steps, preparations, and document 02's salvages.
-use Prim.Native.Nat.{ℕ, _+_}
+use Prim.Native.Nat.{ℕ}
 use mathlib.Core.Path.{_≡_}
 use mathlib.Core.List.{List, [], _∷_, _++_}
 use mathlib.Core.Bool.{false}
@@ -21,6 +21,7 @@ use Rattle.types.specs.declared.Counts.{Counts}
 use Rattle.types.specs.declared.Head.{Head}
 use Rattle.types.specs.declared.Hold.{Hold}
 use Rattle.types.specs.declared.Lease.{Lease}
+use Rattle.types.specs.declared.Refusal.{Refusal}
 use Rattle.types.specs.declared.SalvageAnswer.{SalvageAnswer}
 use Rattle.types.specs.declared.SalvageAnswer.the-variants as salvaged
 use Rattle.history.specs.World.{World, worldOf}
@@ -245,8 +246,8 @@ asked w (crew-at-work counts cells turns counters) = 0
 
 -- ---- the checks of a call
 
--- those of document 01's table on what it takes, in the order of the table; the sorted call's tests of headers and buckets, position by
--- position, come behind and name the position (crate `anyorder`, `Keys-first`)
+-- those of document 01's table on what it takes, in the order of the table, but for 16, which stands before 3 and 12 at its place (document 02, L8);
+-- the sorted call's tests of headers and buckets, position by position, come behind and name the position (crate `anyorder`, `Keys-first`)
 abbrev pub rules : World → Call → List Rule
 rules w (try-acquire c) = cellRules (w .head) (w .table) c
 rules w (drop-lease l) = leaseRules (w .head) (w .table) l
@@ -282,6 +283,14 @@ pub record Says : Type 0 where
 
 abbrev pub says : Answer → Counts → ℕ → List ℕ → Says
 says a k p b = record { answer = a; counts = k; place = p; grants = b }
+
+-- all as it was, and no count
+abbrev pub unchanged : World → Call → Refusal → Made (World × Says)
+unchanged w k r = record { seen = (w, says (Refused r) (countsOf 0 0 0 0) (place-of k) (buffer k)); log = [] }
+
+-- the same, refused at a position before any attempt
+abbrev pub unchanged-at : World → Call → Refusal → ℕ → Made (World × Says)
+unchanged-at w k r p = record { seen = (w, says (RefusedAt r p) (countsOf 0 0 0 0) (place-of k) (buffer k)); log = [] }
 
 -- the definition of each call, given the world that the last item left
 unfoldable pub perform : World → Call → Made (World × Says)

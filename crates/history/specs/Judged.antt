@@ -25,7 +25,7 @@ use Rattle.types.specs.declared.Played.{Played}
 use Rattle.types.specs.declared.Refusal.{Refusal}
 use Rattle.types.specs.declared.Reply.{Reply}
 use Rattle.history.specs.World.{World, worldOf}
-use Rattle.history.specs.Items.{Call, Says, says, try-acquire, drop-lease, read-permission, competing-acquire, release-then-handoff, foreign-release, drop-preserving, acquire-preserving, environment, try-lock, transactional, acquire-bucket, release-all, acquire-locks, acquire-sorted, crew, crew-at-work, perform, buffer, script-of, held-of, place-of, Clear, rules}
+use Rattle.history.specs.Items.{Call, Says, says, try-acquire, drop-lease, read-permission, competing-acquire, release-then-handoff, foreign-release, drop-preserving, acquire-preserving, environment, try-lock, transactional, acquire-bucket, release-all, acquire-locks, acquire-sorted, crew, crew-at-work, unchanged, unchanged-at, perform, script-of, held-of, Clear, rules}
 
 -- ---- checks that found nothing
 
@@ -79,14 +79,6 @@ judged-at P (key.FaultAt x p) r s = r x p refl
 -- what its steps are given
 abbrev pub acting : World → Call → Setting
 acting w k = given (w .head) (script-of k) (held-of k)
-
--- all as it was, and no count
-abbrev pub unchanged : World → Call → Refusal → Made (World × Says)
-unchanged w k r = record { seen = (w, says (answer.Refused r) (countsOf 0 0 0 0) (place-of k) (buffer k)); log = [] }
-
--- the same, refused at a position before any attempt
-abbrev pub unchanged-at : World → Call → Refusal → ℕ → Made (World × Says)
-unchanged-at w k r p = record { seen = (w, says (answer.RefusedAt r p) (countsOf 0 0 0 0) (place-of k) (buffer k)); log = [] }
 
 -- what a call says, by what it hands over: a reply, with the table; a reply with a script, with table and health
 abbrev pub reply : World → Reply × List ℕ → World × Says

@@ -5,6 +5,7 @@ use mathlib.Core.List.{List, [], _∷_, _++_, append-nil}
 use native.Mathlib.Omega.{arith}
 use Rattle.model.specs.Log.{Event}
 use Rattle.model.specs.Arena.{spentTo}
+use Rattle.types.specs.declared.Head.{Head}
 use Rattle.types.specs.declared.Hold.{Hold}
 use Rattle.history.specs.World.{World, cells, Live, Apart, Legal, step, now, Lawful, bits, takes, releases, number-of, Releases, Unreleased, Spent}
 use Rattle.history.specs.Events.{Good, good-step, apart-step, Fit, fit-step, same-arena, keep-step, live-before, next-step, spent-step, bits-step}
@@ -48,6 +49,10 @@ fit-now w (e ∷ es) f t = fit-now (step w e) es (fit-step w e f (t .0)) (t .1)
 pub arena-now : (w : World) (es : List Event) → now w es .head ≡ spentTo (w .head) (now w es .head .next)
 arena-now w [] = refl
 arena-now w (e ∷ es) = arena-now (step w e) es ∙ ap (λ h. spentTo h (now (step w e) es .head .next)) (same-arena w e)
+
+-- no event changes the boot number
+pub boot-now : (w : World) (es : List Event) → now w es .head .boot ≡ w .head .boot
+boot-now w es = ap (λ (h : Head). h .boot) (arena-now w es)
 
 pub next-now : (w : World) (es : List Event) → now w es .head .next ≡ w .head .next + number-of takes es
 unfolding number-of

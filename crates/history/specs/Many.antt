@@ -16,9 +16,10 @@ use Rattle.types.specs.declared.Hold.{Hold}
 use Rattle.types.specs.declared.Outcome.{Outcome}
 use Rattle.types.specs.declared.Refusal.{Refusal}
 use Rattle.types.specs.declared.Run.{Run}
+use Rattle.laws.specs.Lists.{words-back}
 use Rattle.history.specs.World.{World, Live}
 use Rattle.history.specs.Statements.{Hands-over}
-use Rattle.history.specs.Tests.{In, in-left, in-right, in-take, in-index, leases-words}
+use Rattle.history.specs.Tests.{In, in-left, in-right, in-take, in-index}
 use Rattle.history.specs.Events.{Fit, lives}
 use Rattle.history.specs.Logs.{Kept, nothing, event, kept-fit, kept-live, kept-next, weaken, chain, ended}
 use Rattle.history.specs.Steps.{worldAt, Leads, Gains, followed, of-run, of-tried, Won, won, none-yet, no-more, boundary-kept, retry-kept}
@@ -140,7 +141,7 @@ module _ (h : Head) (script : List ℕ) where
       record {
         kept = nothing;
         gain = λ l i.
-            let x = in-index taken l noHold (subst (λ z. In z l) (leases-words (h .boot) taken) i) in
+            let x = in-index taken l noHold (subst (λ z. In z l) (words-back (h .boot) taken) i) in
             subst (Live (starts r t g)) (sym (x .2)) (held .are-held .all-live (x .0) (x .1));
       }
   locks-kept (suc left) p ps taken registry keys r t g grants first good f held =

@@ -15,8 +15,6 @@ use Rattle.model.specs.Lock.{takeIn, takeOf}
 use Rattle.model.specs.Checks.{cellRules, leaseRules}
 use Rattle.model.specs.Calls.{countsOf, acquireOf, tryAcquireOf, dropLeaseOf}
 use Rattle.types.specs.declared.Answer.the-variants.{Done, Granted}
-use Rattle.types.specs.declared.Head.{Head}
-use Rattle.types.specs.declared.Hold.{Hold}
 use Rattle.types.specs.declared.Lease.{Lease}
 use Rattle.types.specs.declared.State.{State}
 use Rattle.types.specs.declared.State.the-variants as state
@@ -28,8 +26,8 @@ use Rattle.history.specs.Items.{Says, says, try-acquire, drop-lease, per
 use Rattle.history.specs.Statements.{answers, leaves, log-of}
 use Rattle.history.specs.Callers.{Shape-fits, Takes-alike, Take-is-call, Releases-alike, Release-is-call, single, singles, replay, replays, By-single-calls, Histories-single, Played-singly}
 use Rattle.history.specs.Tests.{differ, free-words, is-free-state, if-cases}
-use Rattle.history.specs.Events.{Fit, fit, fit-step, fits, good, same-arena}
-use Rattle.history.specs.Logs.{lawful-split}
+use Rattle.history.specs.Events.{Fit, fit, fit-step, fits, good}
+use Rattle.history.specs.Logs.{lawful-split, boot-now}
 use Rattle.history.specs.Judged.{performed}
 use Rattle.history.specs.Calls.{at-point}
 use Rattle.history.specs.Courses.{events-append}
@@ -201,7 +199,7 @@ replayed k (health-set i n) g l = stepped k 4 i n (health-alone (k .world) i n l
 replayed k (held-all m) g l = no-item k
 replayed k (added m c v) g l = no-item k
 
-run-append : (k : Course) (xs ys : List Item) → run k (xs ++ ys) ≡ run (run k xs) ys
+pub run-append : (k : Course) (xs ys : List Item) → run k (xs ++ ys) ≡ run (run k xs) ys
 unfolding run
 run-append k [] ys = refl
 run-append k (x ∷ xs) ys = run-append (next-item k x) xs ys
@@ -214,7 +212,7 @@ log-replayed k (e ∷ es) g l =
     let j = run k (single boot e) in
     let all = log-replayed j es (subst Fit (sym (one .left)) (fit-step (k .world) e g (l .0))) (subst (λ (v : World). Lawful v es) (sym (one .left)) (l .1)) in
     -- the boot number is the one before
-    let same : j .world .head .boot ≡ boot = ap (λ (v : World). v .head .boot) (one .left) ∙ ap (λ (h : Head). h .boot) (same-arena (k .world) e) in
+    let same : j .world .head .boot ≡ boot = ap (λ (v : World). v .head .boot) (one .left) ∙ boot-now (k .world) (e ∷ []) in
     let parts = run-append k (single boot e) (singles boot es) in
     let on = ap (λ (b : ℕ). run j (singles b es)) same in
     record {

@@ -30,8 +30,9 @@ use Rattle.types.specs.declared.Take.the-variants as taking
 use Rattle.types.specs.declared.Took.{Took}
 use Rattle.types.specs.declared.Tried.{Tried}
 use Rattle.choice.specs.Pick.{if-both}
+use Rattle.laws.specs.Lists.{words-back}
 use Rattle.history.specs.Statements.{Hands-over}
-use Rattle.history.specs.Tests.{differ, In, in-first, in-cases, in-left, in-right, in-either, leases-words, if-cases}
+use Rattle.history.specs.Tests.{differ, In, in-first, in-cases, in-left, in-right, in-either, if-cases}
 use Rattle.history.specs.Steps.{With}
 
 -- ---- logs
@@ -316,7 +317,7 @@ module _ (e : Setting) where
   pub locks-hands : (left p buckets boot : ℕ) (registry keys : List ℕ) (taken : List Hold) (r : Run) (t g grants : List ℕ)
       → Hands of-ended (In taken) (locksOf left p e buckets boot registry keys taken r t g grants)
   unfolding locksOf
-  locks-hands zero p buckets boot registry keys taken r t g grants = record { settles = none; passes = λ l i. inl (rw (leases-words boot taken) i) }
+  locks-hands zero p buckets boot registry keys taken r t g grants = record { settles = none; passes = λ l i. inl (rw (words-back boot taken) i) }
   locks-hands (suc left) p buckets boot registry keys taken r t g grants =
       let k = retry-hands (protecting e taken) attemptLimit 0 noneYet buckets registry (bindingAt keys p) (bucketAt keys p) r t g in
       let m = retryOf attemptLimit 0 noneYet (protecting e taken) buckets registry (bindingAt keys p) (bucketAt keys p) r t g .seen in

@@ -33,9 +33,9 @@ use Rattle.types.specs.declared.Tried.{Tried}
 use Rattle.choice.specs.Pick.{if-both}
 use Rattle.laws.specs.Outcomes.{Comes, granted, busy, poisoned, damaged, spent, lock-comes}
 use Rattle.history.specs.World.{World}
-use Rattle.history.specs.Items.{Call, Says, try-acquire, drop-lease, read-permission, competing-acquire, release-then-handoff, foreign-release, drop-preserving, acquire-preserving, environment, try-lock, transactional, acquire-bucket, release-all, acquire-locks, acquire-sorted, crew, crew-at-work, ByCell, perform}
+use Rattle.history.specs.Items.{Call, Says, unchanged, try-acquire, drop-lease, read-permission, competing-acquire, release-then-handoff, foreign-release, drop-preserving, acquire-preserving, environment, try-lock, transactional, acquire-bucket, release-all, acquire-locks, acquire-sorted, crew, crew-at-work, ByCell, perform}
 use Rattle.history.specs.Statements.{Early, Changes-nothing, Crew-refused, nobody-moved, Crew-at-work-refused}
-use Rattle.history.specs.Judged.{judged, judged-at, acting, unchanged, sorted-locks, steps, performed}
+use Rattle.history.specs.Judged.{judged, judged-at, acting, sorted-locks, steps, performed}
 
 -- ---- which refusals steps answer
 
@@ -190,7 +190,7 @@ steps-late w (acquire-sorted registry script place held keys grants) =
 steps-late w (crew counts cells turns) = inl tt
 steps-late w (crew-at-work counts cells turns counters) = inl tt
 
--- so no steps answer it, and checks leave all as it was
+-- so no steps answer an early one, and checks leave all as it was
 never : (k : Call) (a : Answer) (r : Refusal) → Bounded k a → a ≡ answer.Refused r → Early k r → ⊥
 never k a r b q = go (rw q at b)
   where
@@ -202,10 +202,13 @@ never k a r b q = go (rw q at b)
     go (inr l) (inr (inl x)) = l .0 (x .1)
     go (inr l) (inr (inr x)) = omega arith
 
+pub steps-never : (w : World) (k : Call) (r : Refusal) → steps w k .seen .1 .answer ≡ answer.Refused r → Early k r → ⊥
+steps-never w k r = never k (steps w k .seen .1 .answer) r (steps-late w k)
+
 pub refusals-early : Changes-nothing perform
 refusals-early w k r =
     performed (λ m. m .seen .1 .answer ≡ answer.Refused r → Early k r → m ≡ unchanged w k r) w k
-    (λ x q h. let z : x ≡ r = cc in rw z) (λ _ q h. absurd (never k (steps w k .seen .1 .answer) r (steps-late w k) q h))
+    (λ x q h. let z : x ≡ r = cc in rw z) (λ _ q h. absurd (steps-never w k r q h))
 
 -- and a crew's reply, with its own counts
 pub crew-unmoved : Crew-refused crewOf

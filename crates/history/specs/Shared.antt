@@ -20,12 +20,12 @@ use Rattle.types.specs.declared.Answer.{Answer}
 use Rattle.types.specs.declared.Answer.the-variants.{Done, Cell, Granted, AllGranted, Busy, Refused, RefusedAt}
 use Rattle.types.specs.declared.Hold.{Hold}
 use Rattle.laws.specs.Checks.{leaseIn}
-use Rattle.laws.specs.Lists.{length-words}
+use Rattle.laws.specs.Lists.{length-words, words-back}
 use Rattle.laws.specs.Sorting.{Rising, isAmong, sorted-is, first-asking, stands-at}
 use Rattle.history.specs.World.{World}
 use Rattle.history.specs.Items.{Says, acquire-locks, acquire-sorted, in-order, any-order, keyCell, perform}
 use Rattle.history.specs.Statements.{Hands-over, Buffer-is}
-use Rattle.history.specs.Tests.{In, in-take, in-index, leases-words, words-boot}
+use Rattle.history.specs.Tests.{In, in-take, in-index, words-boot}
 use Rattle.history.specs.Judged.{judged-at, sorted-locks, performed}
 use Rattle.history.specs.ByKey.{locks-filled}
 
@@ -201,13 +201,13 @@ shared-at ls [] p l = absurd (omega arith)
 shared-at ls (c ∷ cs) zero l = refl
 shared-at ls (c ∷ cs) (suc p) l = shared-at ls cs p (omega arith)
 
-same-leases : (ls ks : List Hold) → length ls ≡ length ks → ((i : ℕ) → i < length ls → holdAt ls i ≡ holdAt ks i) → ls ≡ ks
-same-leases [] [] n f = refl
-same-leases [] (k ∷ ks) n f = absurd (omega arith)
-same-leases (l ∷ ls) [] n f = absurd (omega arith)
-same-leases (l ∷ ls) (k ∷ ks) n f =
+holds-equal-all : (ls ks : List Hold) → length ls ≡ length ks → ((i : ℕ) → i < length ls → holdAt ls i ≡ holdAt ks i) → ls ≡ ks
+holds-equal-all [] [] n f = refl
+holds-equal-all [] (k ∷ ks) n f = absurd (omega arith)
+holds-equal-all (l ∷ ls) [] n f = absurd (omega arith)
+holds-equal-all (l ∷ ls) (k ∷ ks) n f =
     let a : l ≡ k = f 0 (omega arith) in
-    let b : ls ≡ ks = same-leases ls ks (omega arith) (λ i j. f (suc i) (omega arith)) in
+    let b : ls ≡ ks = holds-equal-all ls ks (omega arith) (λ i j. f (suc i) (omega arith)) in
     rw (a, b)
 
 pub in-place : (ls : List Hold) (i : ℕ) → i < length ls → In ls (holdAt ls i)
@@ -261,7 +261,7 @@ module _ (buckets : ℕ) (registry keys : List ℕ) where
 
     -- of each cell once, in rising order, they are the leases again
     pub back-once : sharedOf back (sorted-cells buckets registry keys) ≡ leases
-    back-once = same-leases (sharedOf back sorted) leases (shared-many back sorted ∙ sym (h .many)) (λ i l. at i (omega (arith, shared-many back sorted, l)))
+    back-once = holds-equal-all (sharedOf back sorted) leases (shared-many back sorted ∙ sym (h .many)) (λ i l. at i (omega (arith, shared-many back sorted, l)))
       where
         sorted : List ℕ
         sorted = sorted-cells buckets registry keys
@@ -296,7 +296,7 @@ module _ (w : World) (registry script : List ℕ) (place : ℕ) (held keys grant
       let n = length (sorted-cells b registry keys) in
       let f = locks-filled b (w .head .boot) registry (chosen-keys b registry keys) n n 0 (omega arith) (given (w .head) script (holdsOf held)) [] (starting (w .head) place) (w .table) (w .health) grants refl
       (λ i x. absurd (omega arith)) a in
-      rw (leases-words (w .head .boot) (sharedOf (holdsOf inner-buffer) (asked-cells b registry keys)))
+      rw (words-back (w .head .boot) (sharedOf (holdsOf inner-buffer) (asked-cells b registry keys)))
       (handed-back b registry keys (holdsOf inner-buffer) (f .many) (λ i l. f .filled i l ∙ chosen-cell b registry keys i l))
 
   -- what the caller is handed is what the steps hand over
@@ -356,7 +356,7 @@ buffers-name w k _ _ (in-order registry script place held keys grants) =
     (λ _ a.
     let f = locks-filled (w .head .buckets) (w .head .boot) registry keys (countIn keys) (countIn keys) 0 (omega arith) (given (w .head) script (holdsOf held)) [] (starting (w .head) place) (w .table) (w .health) grants refl
     (λ i x. absurd (omega arith)) a in
-    (f .long, f .filled, f .own-boot))
+    (f .long, f .filled, f .boot-is))
 buffers-name w k _ _ (any-order registry script place held keys grants) =
     performed (Whole w registry keys) w (acquire-sorted registry script place held keys grants) (λ r a. let z : _≡_ {A = ℕ} 0 1 = cc in absurd (omega arith))
     (λ _.
@@ -372,7 +372,7 @@ buffers-name w k _ _ (any-order registry script place held keys grants) =
     -- as many as keys
     many : Handed-back (w .head .buckets) registry keys (holdsOf buffer) (holdsOf (handedBack (w .head .boot) AllGranted asked buffer))
         → length (sharedOf (holdsOf buffer) asked) ≡ countIn keys
-    many b = sym (ap length (leases-words (w .head .boot) (sharedOf (holdsOf buffer) asked))) ∙ b .as-many
+    many b = sym (ap length (words-back (w .head .boot) (sharedOf (holdsOf buffer) asked))) ∙ b .as-many
 
     go : (x : Answer) → x ≡ AllGranted → (x ≡ AllGranted → Handed-back (w .head .buckets) registry keys (holdsOf buffer) (holdsOf (handedBack (w .head .boot) AllGranted asked buffer)))
         → (length (handedBack (w .head .boot) x asked buffer) ≡ 3 * countIn keys)

@@ -5,10 +5,10 @@ use Prim.Native.Nat.{ℕ, _+_, _*_, _≤_, _<_}
 use mathlib.Core.Path.{_≡_}
 use mathlib.Core.List.{List, [], _∷_, _++_, reverse}
 use mathlib.Core.Bool.{true}
-use mathlib.Core.Logic.{_⊎_}
+use mathlib.Core.Logic.{_⊎_, _↔_}
 use lib.ListN.{length, take, replicate}
 use Rattle.model.specs.Log.{Made, Actor, Event, by-caller, by-script, took, released}
-use Rattle.model.specs.Arena.{headOf, isStale, leaseLive, holdOf, holdIn, leasesOf, holdsOf, isIn, shapeFits}
+use Rattle.model.specs.Arena.{headOf, isStale, leaseLive, holdOf, holdIn, leasesOf, holdsOf, isIn}
 use Rattle.model.specs.Refusals.{Rule, numberOf, first}
 use Rattle.model.specs.Foreign.{stepsIn, kindAt, placeAt, numberAt}
 use Rattle.model.specs.Lock.{holdAt}
@@ -26,7 +26,7 @@ use Rattle.types.specs.declared.Refusal.the-variants.{StaleBoot}
 use Rattle.types.specs.declared.Check.the-variants.{Fine}
 use Rattle.laws.specs.Checks.{leaseIn}
 use Rattle.history.specs.World.{World, worldOf, cells, Live, now, Lawful, Sound, Spent, Unreleased, caller-releases, bits, number-of, attempts, boundaries, yields, drops, takes, releases, Whole, Apart}
-use Rattle.history.specs.Items.{Call, try-acquire, drop-lease, read-permission, competing-acquire, release-then-handoff, foreign-release, drop-preserving, acquire-preserving, environment, try-lock, transactional, acquire-bucket, release-all, acquire-locks, acquire-sorted, crew, crew-at-work, Names-lease, By-keys, script-of, place-of, held-of, given-up, buffer, ByCell, IsCrew, asked, keyCell, Says, saying, perform, Build, Stepper, Item, preparation, Course, cold, noted, history-of, preparing, next-item, run, call, foreign-step, preparation-over, salvage, salvage-over, salvaging}
+use Rattle.history.specs.Items.{Call, try-acquire, drop-lease, read-permission, competing-acquire, release-then-handoff, foreign-release, drop-preserving, acquire-preserving, environment, try-lock, transactional, acquire-bucket, release-all, acquire-locks, acquire-sorted, crew, crew-at-work, Names-lease, By-keys, script-of, place-of, held-of, given-up, buffer, ByCell, IsCrew, asked, keyCell, Says, unchanged, saying, perform, Build, Stepper, Item, preparation, Course, cold, noted, history-of, preparing, next-item, run, call, foreign-step, preparation-over, salvage, salvage-over, salvaging}
 use Rattle.types.specs.declared.SalvageAnswer.the-variants as salvaged
 
 -- ---- where a stretch of a history begins: "Demand 2 now starts from a prepared or a salvaged table."
@@ -200,8 +200,7 @@ Early k r = (numberOf r ≤ 5) ⊎ (((numberOf r ≡ 8) × ByCell k) ⊎ (12 ≤
 
 abbrev pub Changes-nothing : Build → Type 0
 Changes-nothing f =
-    (w : World) (k : Call) (r : Refusal) → answer-in (f w k) ≡ Refused r → Early k r
-    → f w k ≡ record { seen = (w, record { answer = Refused r; counts = countsOf 0 0 0 0; place = place-of k; grants = buffer k }); log = [] }
+    (w : World) (k : Call) (r : Refusal) → answer-in (f w k) ≡ Refused r → Early k r → f w k ≡ unchanged w k r
 
 -- the same of a crew: "for each member, cells taken and cells released, and the counts of moving and idle turns" are 0
 abbrev pub Crew-build : Type 0
@@ -365,16 +364,14 @@ Boot-stays-alone f = (w : World) (kind place number : ℕ) → f w kind place nu
 abbrev pub Refused-unowned : Build → Type 0
 Refused-unowned f =
     (w : World) (k : Call) (l : Lease) → Names-lease k l → (leaseLive (w .head) (w .table) l ≡ true → ⊥)
-    → (r : Refusal) × Early k r
-    × (f w k ≡ record { seen = (w, record { answer = Refused r; counts = countsOf 0 0 0 0; place = place-of k; grants = buffer k }); log = [] })
+    → (r : Refusal) × Early k r × (f w k ≡ unchanged w k r)
 
 -- "A lease with another boot number is refused": wherever a call is given one, as the lease that it is about or in its list, it changes nothing, hands
 -- nothing over and has no counts. The refusal is 16, unless a test before that one refuses (`Stale-is-16`)
 abbrev pub Refused-stale : Build → Type 0
 Refused-stale f =
     (w : World) (k : Call) (l : Lease) → Names-lease k l → isStale (w .head) l ≡ true
-    → (r : Refusal) × Early k r
-    × (f w k ≡ record { seen = (w, record { answer = Refused r; counts = countsOf 0 0 0 0; place = place-of k; grants = buffer k }); log = [] })
+    → (r : Refusal) × Early k r × (f w k ≡ unchanged w k r)
 
 -- the calls that are given one lease and no list
 abbrev pub One-lease : Call → Lease → Type 0
@@ -430,16 +427,24 @@ pub data Listed (w : World) : Call → (leases : List ℕ) → (ℕ → List Rul
       → Listed w (release-all script place leases) leases
       (λ i. scripted w script place ++ (tooManyLeases leases ∷ notReleasable (w .head) (w .table) 0 [] (take i (leasesOf leases))))
 
--- "with its position, nothing changed and all counts 0: after the length tests, position by position, before 3 and 12 at that place"; 0 for one lease
-pub record Stale-is-16 (f : Build) : Type 0 where
-  -- one lease: the shape fits
-  pub alone : (w : World) (k : Call) (l : Lease) → One-lease k l → shapeFits (w .head) (length (w .table)) ≡ true → isStale (w .head) l ≡ true
-      → answer-in (f w k) ≡ Refused (StaleBoot 0)
-  -- beside a held list: the shape fits, and the held list is fine
-  pub beside : (w : World) (k : Call) (held : List ℕ) (l : Lease) → Beside k held l
-      → first (badShape (w .head) (w .table) ∷ badHeld (w .head) (w .table) held) ≡ Fine → isStale (w .head) l ≡ true
-      → answer-in (f w k) ≡ Refused (StaleBoot 0)
-  -- in a list: what comes before is fine
-  pub listed : (w : World) (k : Call) (leases : List ℕ) (before : ℕ → List Rule) (i : ℕ) → Listed w k leases before
-      → 3 * i + 2 < length leases → first (before i) ≡ Fine → isStale (w .head) (leaseIn leases i) ≡ true
-      → answer-in (f w k) ≡ Refused (StaleBoot i)
+-- where a call is given a lease, by position, and what it tests before that lease
+pub data Placed (w : World) (k : Call) (l : Lease) : (ahead : List Rule) (position : ℕ) → Type 0 where
+  -- one lease and no list: behind the shape
+  alone : One-lease k l → Placed w k l (badShape (w .head) (w .table) ∷ []) 0
+  -- one lease beside a held list: behind the shape and that list
+  beside : (held : List ℕ) → Beside k held l → Placed w k l (badShape (w .head) (w .table) ∷ badHeld (w .head) (w .table) held) 0
+  -- in a list: behind what is tested before its position
+  listed : (leases : List ℕ) (before : ℕ → List Rule) (i : ℕ) → Listed w k leases before → 3 * i + 2 < length leases → leaseIn leases i ≡ l
+      → Placed w k l (before i) i
+
+-- these are all the places: a call names a lease exactly if that stands in one of them
+abbrev pub Names-placed : Type 0
+Names-placed = (w : World) (k : Call) (l : Lease) → Names-lease k l ↔ ((ahead : List Rule) × (i : ℕ) × Placed w k l ahead i)
+
+-- "with its position, nothing changed and all counts 0: after the length tests, position by position, before 3 and 12 at that place"; 0 for one lease.
+-- "the first that applies is given, and only then": 16 at a position exactly if a lease with another boot number stands there and no check before it applies
+abbrev pub Stale-is-16 : Build → Type 0
+Stale-is-16 f =
+    (w : World) (k : Call) (i : ℕ)
+    → (answer-in (f w k) ≡ Refused (StaleBoot i))
+    ↔ ((l : Lease) × (ahead : List Rule) × Placed w k l ahead i × (first ahead ≡ Fine) × (isStale (w .head) l ≡ true))

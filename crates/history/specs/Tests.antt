@@ -9,12 +9,11 @@ use lib.Dec.{ltb, leb, eqb}
 use lib.ListN.{length, getD, take}
 use borrow.Author.Tests.{ltb-true, leb-true, eqb-true, lt-ltb, le-leb, eq-eqb}
 use Rattle.choice.specs.Choice.{if_then_else_}
-use Rattle.model.specs.Arena.{bitAt, ownerAt, isFree, isHeld, stateOf, stateAt, heldBy, isLive, holdOf, sameHold, isIn, holdsOf, wordsOf}
+use Rattle.model.specs.Arena.{bitAt, ownerAt, isFree, isHeld, stateOf, stateAt, heldBy, isLive, holdOf, sameHold, isIn, wordsOf}
 use Rattle.types.specs.declared.Hold.{Hold}
 use Rattle.types.specs.declared.State.{State}
 use Rattle.types.specs.declared.State.the-variants.{Free, Held, Damaged}
 use Rattle.choice.specs.Pick.{both}
-use Rattle.laws.specs.Lists.{words-back}
 
 -- two constructors of Bool
 pub differ : false ≡ true → ⊥
@@ -120,14 +119,14 @@ live next cells t l a =
 
 -- ---- leases and lists of them
 
-pub same-lease : (l k : Hold) → l .cell ≡ k .cell → l .serial ≡ k .serial → l ≡ k
-same-lease l k p q = ap (λ (x : ℕ). holdOf x (l .serial)) p ∙ ap (holdOf (k .cell)) q
+pub holds-equal : (l k : Hold) → l .cell ≡ k .cell → l .serial ≡ k .serial → l ≡ k
+holds-equal l k p q = ap (λ (x : ℕ). holdOf x (l .serial)) p ∙ ap (holdOf (k .cell)) q
 
 pub same-true : (l k : Hold) → sameHold l k ≡ true → l ≡ k
 unfolding sameHold
 same-true l k e =
     let p = both (eqb (l .cell) (k .cell)) (eqb (l .serial) (k .serial)) e in
-    same-lease l k (eqb-true _ _ (p .0)) (eqb-true _ _ (p .1))
+    holds-equal l k (eqb-true _ _ (p .0)) (eqb-true _ _ (p .1))
 
 pub same-refl : (l : Hold) → sameHold l l ≡ true
 unfolding sameHold
@@ -195,11 +194,7 @@ in-index (k ∷ ls) l d i = go (in-cases k l ls i) (in-index ls l d)
     go (inl e) r = (0, omega arith, sym e)
     go (inr j) r = let x = r j in (suc (x .0), omega (arith, x .1), x .2)
 
--- leases written as words and read again
-pub leases-words : (boot : ℕ) (ls : List Hold) → holdsOf (wordsOf boot ls) ≡ ls
-leases-words = words-back
-
--- each with the boot number that they were written with
+-- leases written as words have the boot number that they were written with
 pub words-boot : (boot : ℕ) (ls : List Hold) (p : ℕ) → p < length ls → getD (wordsOf boot ls) (3 * p + 2) 0 ≡ boot
 unfolding wordsOf
 words-boot boot [] p k = absurd (omega arith)

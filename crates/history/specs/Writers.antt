@@ -30,7 +30,7 @@ use Rattle.history.specs.World.{World, Live, step, now, Lawful, Releases
 use Rattle.history.specs.Items.{Call, Says, By-keys, in-order, any-order, try-acquire, drop-lease, read-permission, competing-acquire, release-then-handoff, foreign-release, drop-preserving, acquire-preserving, environment, try-lock, transactional, acquire-bucket, release-all, acquire-locks, acquire-sorted, crew, crew-at-work, perform, Item, call, foreign-step, preparation, prepared-by, preparing, next-item, run, cold, asked, Entry, entryOf, events-of, Course, keyCell, preparation-over, salvage, salvage-over, salvaged-by, salvaging}
 use Rattle.history.specs.Statements.{Hands-over, answers, log-of, Gives, Through, buffer-in}
 use Rattle.history.specs.Answers.{Asks-one, Busy-or-refused, Locks-refused, Never-twice, None-takes, Not-over-live, Once-each, Takes-parted, Two-writers, Hands, Alone-until-released}
-use Rattle.history.specs.Tests.{free-words, same-lease, In, in-take}
+use Rattle.history.specs.Tests.{free-words, holds-equal, In, in-take}
 use Rattle.history.specs.Events.{Fit, fit, fit-step, keep-step, lives, taken-live, good}
 use Rattle.history.specs.Logs.{now-append, lawful-split, fit-now, next-now}
 use Rattle.history.specs.Judged.{acting, judged-at, sorted-locks, steps, performed}
@@ -342,7 +342,7 @@ busy-or-refused w k s a v u = go (answers w k) refl (performed (λ m. One (m .se
     go (Granted l) e o =
         let c = grants-name w k l e .0 in
         let m = holdOf (asked w k) (l .serial) in
-        absurd (none-handed w k (asked w k) s (l .serial) v u (subst (λ x. Hands-over x (buffer-in (perform w k)) m) (sym e) (same-lease (holdIn l) m c refl)))
+        absurd (none-handed w k (asked w k) s (l .serial) v u (subst (λ x. Hands-over x (buffer-in (perform w k)) m) (sym e) (holds-equal (holdIn l) m c refl)))
     go AllGranted e o = absurd o
     go (Busy why) e o = inl (why, e)
     go (Refused r) e o = inr (r, e)
@@ -414,7 +414,7 @@ locks-refused w k registry keys p s many i v u = go (answers w k) refl (all-or-r
         let n : p < length ls = omega (arith, words-leases (buffer-in (perform w k)), b .0) in
         let stands : In ls l = subst (λ x. In x l) (take-length ls) (in-take ls (length ls) p noHold n n) in
         let m = holdOf c (l .serial) in
-        let here : In ls m = subst (In ls) (same-lease l m (b .1 p i) refl) stands in
+        let here : In ls m = subst (In ls) (holds-equal l m (b .1 p i) refl) stands in
         absurd (none-handed w k c s (l .serial) v u (subst (λ x. Hands-over x (buffer-in (perform w k)) m) (sym e) here))
     go (Busy why) e o = absurd o
     go (Refused r) e o = inl (r, e)

@@ -1,5 +1,5 @@
 -- Lists of rules: how `first` goes on, what it means that all is fine, and one position of a list of leases at a time.
-use Prim.Native.Nat.{ℕ, suc, _+_, _*_, _-_, _≤_, _<_}
+use Prim.Native.Nat.{ℕ, zero, suc, _+_, _*_, _-_, _≤_, _<_}
 use mathlib.Core.Path.{_≡_, refl, sym, ap, _∙_}
 use mathlib.Core.List.{List, [], _∷_, _++_}
 use mathlib.Core.Bool.{Bool, true, false, not}
@@ -8,10 +8,11 @@ use native.Mathlib.Numerals.{add-one}
 use lib.Dec.{ltb}
 use lib.ListN.{length, getD, drop, length-drop}
 use lib.Seq.{drop-cons}
-use borrow.Author.Tests.{leb-false, ltb-true, not-false}
+use borrow.Author.Tests.{eq-eqb, leb-false, ltb-true, not-false}
 use Rattle.choice.specs.Choice.{if_then_else_}
-use Rattle.model.specs.Arena.{cellsOf, leaseOf, isStale, holdOf, holdIn, shapeFits, healthFits, isLive, leasesOf, holdsOf, sameHold, isIn, heldBy, stateAt}
+use Rattle.model.specs.Arena.{cellsOf, leaseOf, isStale, holdIn, shapeFits, healthFits, isLive, leasesOf, holdsOf, sameHold, isIn, heldBy, stateAt}
 use Rattle.model.specs.Refusals.{Rule, refusalOf, first}
+use Rattle.model.specs.Lock.{holdAt}
 use Rattle.model.specs.Checks.{badShape, badHealth, notLive, cellRules, leaseRules, heldCellRules, heldLeaseRules, badHeld}
 use Rattle.types.specs.declared.Check.{Check}
 use Rattle.types.specs.declared.Check.the-variants.{Fine, Fault}
@@ -21,6 +22,7 @@ use Rattle.types.specs.declared.Lease.{Lease}
 use Rattle.types.specs.declared.Refusal.the-variants as refusal
 use Rattle.choice.specs.Pick.{both}
 use Rattle.laws.specs.Shape.{Shaped, shaped, healthy}
+use Rattle.laws.specs.Lists.{holds-are}
 
 -- ---- one rule behind the other
 
@@ -110,13 +112,16 @@ drop-three l n b =
 abbrev pub leaseIn : List ℕ → ℕ → Lease
 leaseIn l i = leaseOf (getD l (3 * i) 0) (getD l (3 * i + 1) 0) (getD l (3 * i + 2) 0)
 
+-- a lease of the head's boot number is not stale
+pub not-stale : (h : Head) (l : Lease) → l .boot ≡ h .boot → isStale h l ≡ false
+not-stale h l e = ap not (eq-eqb (l .boot) (h .boot) e)
+
 pub leases-at : (l : List ℕ) (i : ℕ) → 3 * i + 2 < length l → leasesOf (drop (3 * i) l) ≡ leaseIn l i ∷ leasesOf (drop (3 * (i + 1)) l)
 unfolding leasesOf
 leases-at l i b = let e : 3 * i + 3 ≡ 3 * (i + 1) = omega arith in rw (drop-three l (3 * i) b, e)
 
 pub holds-at : (l : List ℕ) (i : ℕ) → 3 * i + 2 < length l → holdsOf (drop (3 * i) l) ≡ holdIn (leaseIn l i) ∷ holdsOf (drop (3 * (i + 1)) l)
-unfolding holdsOf
-holds-at l i b = let e : 3 * i + 3 ≡ 3 * (i + 1) = omega arith in rw (drop-three l (3 * i) b, e)
+holds-at l i b = rw (holds-are (drop (3 * i) l), leases-at l i b, holds-are (drop (3 * (i + 1)) l))
 
 pub leases-end : (l : List ℕ) (i : ℕ) → length l ≤ 3 * i + 2 → leasesOf (drop (3 * i) l) ≡ []
 leases-end l i b = short (drop (3 * i) l) (simp length-drop (omega arith))
@@ -128,22 +133,33 @@ leases-end l i b = short (drop (3 * i) l) (simp length-drop (omega arith))
     short (a ∷ b ∷ c ∷ r) h = absurd (omega arith)
 
 pub holds-end : (l : List ℕ) (i : ℕ) → length l ≤ 3 * i + 2 → holdsOf (drop (3 * i) l) ≡ []
-holds-end l i b = short (drop (3 * i) l) (simp length-drop (omega arith))
-  where
-    short : (r : List ℕ) → length r < 3 → holdsOf r ≡ []
-    short [] h = unfold holdsOf in refl
-    short (a ∷ []) h = unfold holdsOf in refl
-    short (a ∷ b ∷ []) h = unfold holdsOf in refl
-    short (a ∷ b ∷ c ∷ r) h = absurd (omega arith)
+holds-end l i b = rw (holds-are (drop (3 * i) l), leases-end l i b)
 
--- 16 and 3 at position i, and from there on
-pub not-live-at : (h : Head) (t held : List ℕ) (i : ℕ) → 3 * i + 2 < length held
+-- the same lease, seen from the second one on
+pub lease-later : (c s b : ℕ) (ws : List ℕ) (i : ℕ) → leaseIn (c ∷ s ∷ b ∷ ws) (suc i) ≡ leaseIn ws i
+lease-later c s b ws i =
+    let x : 3 * suc i ≡ suc (suc (suc (3 * i))) = omega arith in
+    let y : 3 * suc i + 1 ≡ suc (suc (suc (3 * i + 1))) = omega arith in
+    let z : 3 * suc i + 2 ≡ suc (suc (suc (3 * i + 2))) = omega arith in
+    rw (z, y, x)
+
+-- the hold at a position is that of the lease there
+pub hold-in : (ws : List ℕ) (i : ℕ) → 3 * i + 2 < length ws → holdAt (holdsOf ws) i ≡ holdIn (leaseIn ws i)
+unfolding holdsOf
+hold-in [] i b = absurd (omega arith)
+hold-in (c ∷ []) i b = absurd (omega arith)
+hold-in (c ∷ s ∷ []) i b = absurd (omega arith)
+hold-in (c ∷ s ∷ n ∷ ws) zero b = refl
+hold-in (c ∷ s ∷ n ∷ ws) (suc i) b = hold-in ws i (omega arith) ∙ ap holdIn (sym (lease-later c s n ws i))
+
+-- 16 and 3 at position i, where this lease stands, and from there on
+pub not-live-at : (h : Head) (t held : List ℕ) (i : ℕ) (l : Lease) → l ≡ leaseIn held i → 3 * i + 2 < length held
     → first (notLive h t i (leasesOf (drop (3 * i) held)))
-    ≡ (if isStale h (leaseIn held i) then Fault (refusal.StaleBoot i)
-    else if not (isLive (h .next) (cellsOf h) t (holdIn (leaseIn held i))) then Fault (refusal.BadHeld i)
+    ≡ (if isStale h l then Fault (refusal.StaleBoot i)
+    else if not (isLive (h .next) (cellsOf h) t (holdIn l)) then Fault (refusal.BadHeld i)
     else first (notLive h t (i + 1) (leasesOf (drop (3 * (i + 1)) held))))
 unfolding first notLive
-not-live-at h t held i b = rw (leases-at held i b)
+not-live-at h t held i l e b = rw (e, leases-at held i b)
 
 pub not-live-end : (h : Head) (t held : List ℕ) (i : ℕ) → length held ≤ 3 * i + 2 → first (notLive h t i (leasesOf (drop (3 * i) held))) ≡ Fine
 unfolding first notLive

@@ -1,19 +1,24 @@
 -- Runs of words, and the leases in them: one step of a walk, lengths, and a run of zeros.
 use Prim.Native.Nat.{ℕ, zero, suc, _+_, _*_, _≤_, _<_}
-use mathlib.Core.Path.{_≡_, refl, ap}
+use mathlib.Core.Path.{_≡_, refl, ap, _∙_}
 use mathlib.Core.List.{List, [], _∷_, map}
 use native.Mathlib.Omega.{arith}
 use native.Mathlib.Numerals.{add-one}
 use lib.ListN.{length, getD, drop, replicate}
 use lib.Seq.{drop-cons}
-use Rattle.model.specs.Arena.{bitAt, ownerAt, holdIn, leasesOf, holdsOf, wordsOf}
+use Rattle.model.specs.Arena.{bitAt, ownerAt, holdIn, leasesOf, holdsOf, wordsOf, leaseOf, leaseUnder}
 use Rattle.types.specs.declared.Hold.{Hold}
+use Rattle.types.specs.declared.Lease.{Lease}
 
 -- what is left from place i on begins with what stands there
 pub drop-one : (l : List ℕ) (i : ℕ) → i < length l → drop i l ≡ getD l i 0 ∷ drop (i + 1) l
 drop-one l i b = rw (add-one i) (drop-cons l i 0 b)
 
--- ---- leases as words
+-- ---- leases, and leases as words
+
+-- a lease is its hold and its boot number
+pub leases-equal : (l k : Lease) → holdIn l ≡ holdIn k → l .boot ≡ k .boot → l ≡ k
+leases-equal l k e b = ap (leaseUnder (l .boot)) e ∙ ap (leaseOf (k .cell) (k .serial)) b
 
 pub length-words : (boot : ℕ) (ls : List Hold) → length (wordsOf boot ls) ≡ 3 * length ls
 unfolding wordsOf
@@ -21,12 +26,12 @@ length-words boot [] = refl
 length-words boot (l ∷ ls) = omega (arith, length-words boot ls)
 
 -- words left over are no lease
-pub leases-few : (ws : List ℕ) → 3 * length (holdsOf ws) ≤ length ws
+pub holds-few : (ws : List ℕ) → 3 * length (holdsOf ws) ≤ length ws
 unfolding holdsOf
-leases-few [] = omega arith
-leases-few (c ∷ []) = omega arith
-leases-few (c ∷ s ∷ []) = omega arith
-leases-few (c ∷ s ∷ b ∷ ws) = omega (arith, leases-few ws)
+holds-few [] = omega arith
+holds-few (c ∷ []) = omega arith
+holds-few (c ∷ s ∷ []) = omega arith
+holds-few (c ∷ s ∷ b ∷ ws) = omega (arith, holds-few ws)
 
 -- the holds of a list are its leases without their boot numbers
 pub holds-are : (ws : List ℕ) → holdsOf ws ≡ map holdIn (leasesOf ws)

@@ -26,6 +26,7 @@ ghost use Rattle.model.specs.Checks.{cellRules, leaseRules, heldCellRules, held
 ghost use Rattle.model.specs.Checks.{notLive, badCell, staleBoot, notHeld, isProtected};
 ghost use Rattle.model.specs.Calls.{acquireOf, tryAcquireOf, dropLeaseOf, readPermissionOf, competingAcquireOf};
 ghost use Rattle.model.specs.Calls.{releaseThenHandoffOf, foreignReleaseOf, acquirePreservingOf, dropPreservingOf};
+ghost use Rattle.laws.specs.Checks.{leaseIn};
 ghost use Rattle.lease.specs.Model.{claimAtOf, claimFreeOf, claimReplyOf};
 
 // What a compare-and-set hands back: the changed head, and its answer.
@@ -136,6 +137,18 @@ fn hand_on(n: usize, head: Head, table: &mut [u32], cell: u32) -> Reply
 
 // ---- the checks of these calls, in the order of document 01's table
 
+// The lease at a position of a list.
+pub fn lease_in(list: &[u32], i: usize) -> Lease
+    requires { ⌜ 3 * i + 2 < length (now list) ⌝ }
+    ensures { λ r. ⌜ r ≡ leaseIn (now (list .entry)) i ⌝ }
+{
+    Lease {
+        cell: list[3 * i],
+        serial: list[3 * i + 1],
+        boot: list[3 * i + 2],
+    }
+}
+
 // Whether these are the words of a hold.
 pub fn same_hold(cell: u32, serial: u32, hold: Hold) -> bool
     ensures { λ r. ⌜ r ≡ sameHold (holdOf cell serial) hold ⌝ }
@@ -183,10 +196,11 @@ fn live_fault(head: Head, table: &[u32], held: &[u32]) -> Check
 {
     let mut i = 0;
     while i < held.len() / 3 {
-        if held[3 * i + 2] != head.boot {
+        let lease = lease_in(held, i);
+        if head.is_stale(lease) {
             return Check::Fault(Refusal::StaleBoot(i));
         }
-        if is_live(head, table, held[3 * i], held[3 * i + 1]) {
+        if is_live(head, table, lease.cell, lease.serial) {
             i += 1;
         } else {
             return Check::Fault(Refusal::BadHeld(i));
@@ -226,7 +240,7 @@ fn lease_fault(head: Head, table: &[u32], lease: Lease) -> Check
     requires { ⌜ shapeFits head (length (now table)) ≡ true ⌝ }
     ensures { λ r. ⌜ r ≡ first (staleBoot head 0 lease ∷ notHeld head (now (table .entry)) 0 lease ∷ []) ⌝ }
 {
-    if lease.boot != head.boot {
+    if head.is_stale(lease) {
         return Check::Fault(Refusal::StaleBoot(0));
     }
     if is_live(head, table, lease.cell, lease.serial) {

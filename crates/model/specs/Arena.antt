@@ -5,7 +5,7 @@ use mathlib.Core.Bool.{Bool, true, false, not, _&&_}
 use lib.Dec.{ltb, leb, eqb}
 use lib.ListN.{getD, set}
 use Rattle.choice.specs.Choice.{if_then_else_}
-pub use Rattle.types.specs.Head.{lastSerial, serialRemains, within, cellsOf, headOf, spentTo}
+pub use Rattle.types.specs.Head.{lastSerial, serialRemains, within, cellsOf, headOf, spentTo, isStale}
 unfoldable pub use Rattle.types.specs.Head.{headFits, shapeFits, healthFits, issueOf}
 use Rattle.types.specs.declared.Head.{Head}
 use Rattle.types.specs.declared.Hold.{Hold}
@@ -73,16 +73,16 @@ stateAt next t c = stateOf next (bitAt t c) (ownerAt t c)
 abbrev pub leaseOf : ℕ → ℕ → ℕ → Lease
 leaseOf c s b = record { cell = c; serial = s; boot = b }
 
--- "A lease with another boot number" than the head's
-abbrev pub isStale : Head → Lease → Bool
-isStale h l = not (eqb (l .boot) (h .boot))
-
 -- a lease of the head's own boot number, as the steps of a call go by it: cell and serial
 abbrev pub holdOf : ℕ → ℕ → Hold
 holdOf c s = record { cell = c; serial = s }
 
 abbrev pub holdIn : Lease → Hold
 holdIn l = holdOf (l .cell) (l .serial)
+
+-- what a call took, as a lease: it has the head's boot number
+abbrev pub leaseUnder : ℕ → Hold → Lease
+leaseUnder boot l = leaseOf (l .cell) (l .serial) boot
 
 abbrev pub heldBy : State → ℕ → Bool
 heldBy Free s = false

@@ -82,6 +82,8 @@ releaseOf t l = do
 unfoldable pub tryAcquireOf : Head → List ℕ → ℕ → Made (Reply × List ℕ)
 tryAcquireOf h t c = judge (first (cellRules h t c)) (λ r. gives (refused h r, t)) (acquireOf 1 h t c)
 
+-- The next four calls are given one lease, and test 16 before 12 (`leaseRules`; document 02, L8).
+
 -- "`drop_lease` is one release and no boundary"
 unfoldable pub dropLeaseOf : Head → List ℕ → Lease → Made (Reply × List ℕ)
 dropLeaseOf h t l =
@@ -104,7 +106,7 @@ releaseThenHandoffOf h t l =
       u ← releaseOf t (holdIn l)
       acquireOf 1 h u (l .cell)
 
--- "`foreign_release_between_attempts`: 3, 12, 13, then a `try_acquire` that is Busy, a release, a `try_acquire`."
+-- "`foreign_release_between_attempts`: 3, 12, 13, then a `try_acquire` that is Busy, a release, a `try_acquire`."; 16 before 3 at its place and before 12
 unfoldable pub foreignReleaseOf : Head → List ℕ → List ℕ → Lease → Made (Reply × List ℕ)
 foreignReleaseOf h t held l =
     judge (first (heldLeaseRules h t held l)) (λ r. gives (refused h r, t)) do

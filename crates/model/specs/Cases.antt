@@ -123,6 +123,12 @@ by o = getD (reasonIn (o .answer)) 1 0
 abbrev next : Out → ℕ
 next o = o .head .next
 
+abbrev headHeaders : Out → ℕ
+headHeaders o = o .head .headers
+
+abbrev headBuckets : Out → ℕ
+headBuckets o = o .head .buckets
+
 abbrev headBoot : Out → ℕ
 headBoot o = o .head .boot
 
@@ -272,6 +278,9 @@ abbrev pub further : List Case
 further =
     -- a rollback releases every lease taken, the last too, and leaves the buffer as it was
     (byKeys prepared (0 ∷ 0 ∷ 1 ∷ 1 ∷ 0 ∷ 9 ∷ []) (9 ∷ 8 ∷ 7 ∷ 9 ∷ 9 ∷ 9 ∷ 9 ∷ 9 ∷ 9 ∷ []) give (refusal is 8 ∷ carries is 9 ∷ position is 2 ∷ attempts is 3 ∷ boundaries is 8 ∷ next is 3 ∷ bit 0 is 0 ∷ bit 5 is 0 ∷ cell is 9 ∷ serial is 8 ∷ []))
+    -- a foreign take with no serial left is dropped; the last serial is taken
+    ∷ (fromPlayed (environmentOf (bench 4_294_967_295) prepared healthy (1 ∷ 2 ∷ 0 ∷ []) 0 []) ∷ [] give (done is 1 ∷ dropped is 1 ∷ bit 2 is 0 ∷ next is 4_294_967_295 ∷ []))
+    ∷ (fromPlayed (environmentOf (bench 4_294_967_294) prepared healthy (1 ∷ 2 ∷ 0 ∷ []) 0 []) ∷ [] give (done is 1 ∷ dropped is 0 ∷ owner 2 is 4_294_967_294 ∷ next is 4_294_967_295 ∷ []))
     -- a release compares the serial, and clears bit and owner
     ∷ (dropLease used 2 1 give (refusal is 12 ∷ carries is 0 ∷ bit 2 is 1 ∷ owner 2 is 2 ∷ []))
     ∷ (dropLease used 2 2 give (done is 1 ∷ bit 2 is 0 ∷ owner 2 is 0 ∷ bit 0 is 1 ∷ next is 3 ∷ []))
@@ -500,7 +509,7 @@ booted =
     (fromReply (tryAcquireOf (prepareOf 2 4 1 6 prepared healthy .seen .0 .head) prepared 2) ∷ [] give (granted is 1 ∷ cell is 2 ∷ serial is 1 ∷ boot is 6 ∷ next is 2 ∷ headBoot is 6 ∷ []))
     ∷ (byKey 1 prepared healthy 0 2 ++ tryLock [] 2 give (granted is 1 ∷ boot is 5 ∷ headBoot is 5 ∷ []))
     -- "(refused: four zeros)"
-    ∷ (preparing 0 4 1 6 ++ preparing 2 4 0 6 give (refusal is 1 ∷ next is 0 ∷ headBoot is 0 ∷ bit 2 is 7 ∷ []))
+    ∷ (preparing 0 4 1 6 ++ preparing 2 4 0 6 give (refusal is 1 ∷ headHeaders is 0 ∷ headBuckets is 0 ∷ next is 0 ∷ headBoot is 0 ∷ bit 2 is 7 ∷ []))
     -- live but for its boot number: 16, and nothing changes
     ∷ (dropStale 2 2 6 ++ dropStale 2 2 0 ++ byLease 2 2 4 ++ byHeld (0 ∷ 1 ∷ 5 ∷ []) 2 2 6 give (refusal is 16 ∷ carries is 0 ∷ attempts is 0 ∷ next is 3 ∷ bit 2 is 1 ∷ owner 2 is 2 ∷ headBoot is 5 ∷ []))
     ∷ (fromRead (readPermissionOf (bench 3) used (leaseOf 2 2 6)) ∷ [] give (refusal is 16 ∷ carries is 0 ∷ next is 3 ∷ []))
@@ -509,6 +518,8 @@ booted =
     -- in a held list, at position 1 behind a live one; a dead one before it is 3, and at one place 16 comes before 3
     ∷ (play [] (0 ∷ 1 ∷ 5 ∷ 2 ∷ 2 ∷ 6 ∷ []) ++ play [] (0 ∷ 1 ∷ 5 ∷ 2 ∷ 1 ∷ 6 ∷ []) ++ byHeld (0 ∷ 1 ∷ 5 ∷ 2 ∷ 2 ∷ 6 ∷ []) 0 1 5 give (refusal is 16 ∷ carries is 1 ∷ boundaries is 0 ∷ next is 3 ∷ bit 0 is 1 ∷ []))
     ∷ (play [] (0 ∷ 2 ∷ 5 ∷ 2 ∷ 2 ∷ 6 ∷ []) give (refusal is 3 ∷ carries is 0 ∷ []))
+    -- a lease of the held list but for its boot number: 16, not 13
+    ∷ (byHeld (0 ∷ 1 ∷ 5 ∷ []) 0 1 6 give (refusal is 16 ∷ carries is 0 ∷ bit 0 is 1 ∷ []))
     -- the held list before the lease
     ∷ (byHeld (0 ∷ 1 ∷ 5 ∷ 2 ∷ 1 ∷ 5 ∷ []) 2 2 6 give (refusal is 3 ∷ carries is 1 ∷ []))
     -- in a list to release: before 12 and 14 at its place, behind them at an earlier one
@@ -517,11 +528,12 @@ booted =
     ∷ (releaseAll (0 ∷ 1 ∷ 5 ∷ 0 ∷ 1 ∷ 5 ∷ 2 ∷ 2 ∷ 6 ∷ []) give (refusal is 14 ∷ carries is 1 ∷ []))
     -- "Lease lists must now divide by three": two words are 3, with a count of 0, and 4; a stale lease behind a wrong length is not looked at
     ∷ (play [] (0 ∷ 1 ∷ []) ++ byHeld (0 ∷ 1 ∷ []) 2 2 6 give (refusal is 3 ∷ carries is 0 ∷ []))
+    ∷ (play [] (0 ∷ 1 ∷ 6 ∷ 0 ∷ []) give (refusal is 3 ∷ carries is 1 ∷ []))
     ∷ (releaseAll (0 ∷ 1 ∷ []) ++ releaseAll (0 ∷ 1 ∷ 6 ∷ 0 ∷ []) give (refusal is 4 ∷ carries is 0 ∷ bit 0 is 1 ∷ []))
     -- a stale held lease before 4: the length test of its own list comes first, no other
     ∷ (fromLocks (acquireLocksOf (bench 3) used healthy registry [] 0 (0 ∷ 1 ∷ 6 ∷ []) (0 ∷ []) []) ∷ [] give (refusal is 16 ∷ carries is 0 ∷ []))
-    -- "the grant buffer has three words a key"
-    ∷ (byKeys prepared (0 ∷ 2 ∷ []) (9 ∷ 9 ∷ []) give (refusal is 4 ∷ carries is 0 ∷ attempts is 0 ∷ []))
+    -- "the grant buffer has three words a key"; a key stays two
+    ∷ (byKeys prepared (0 ∷ 2 ∷ []) (9 ∷ 9 ∷ []) ++ byKeys prepared (0 ∷ 2 ∷ 5 ∷ []) (9 ∷ 9 ∷ 9 ∷ []) give (refusal is 4 ∷ carries is 0 ∷ attempts is 0 ∷ []))
     -- boot number 0 is as good as any
     ∷ (fromReply (dropLeaseOf (headOf 2 4 3 0) used (leaseOf 2 2 0)) ∷ [] give (done is 1 ∷ bit 2 is 0 ∷ []))
     ∷ (fromReply (tryAcquireOf (headOf 2 4 3 0) used 3) ∷ [] give (granted is 1 ∷ boot is 0 ∷ headBoot is 0 ∷ []))

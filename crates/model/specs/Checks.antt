@@ -1,5 +1,5 @@
 -- Document 01, "Numbers of the refusals", the column "when": the checks on what a call takes, and, below, each call's checks in the
--- order of the table. "Calls check only what they take."
+-- order of the table, but for 16, which stands before 3 and 12 at its lease's place. "Calls check only what they take."
 use Prim.Native.Nat.{ℕ, zero, suc, _+_, _*_, _/_, _%_}
 use mathlib.Core.List.{List, [], _∷_, _++_}
 use mathlib.Core.Bool.{Bool, not, _||_}
@@ -109,7 +109,7 @@ notReleasable h t i earlier [] = []
 notReleasable h t i earlier (l ∷ ls) =
     staleBoot h i l ∷ notHeld h t i l ∷ repeated i earlier l ∷ notReleasable h t (i + 1) (earlier ++ (holdIn l ∷ [])) ls
 
--- ---- each call's checks, in the order of the table
+-- ---- each call's checks, in the order of the table, 16 before 3 and 12 at its place
 
 unfoldable pub prepareRules : Head → List ℕ → List ℕ → List Rule
 prepareRules h t g = badShape h t ∷ badHealth h g ∷ []

@@ -7,7 +7,7 @@ use lib.Dec.{leb, eqb}
 use lib.ListN.{length, getD, take}
 use Rattle.choice.specs.Choice.{if_then_else_}
 use Rattle.model.specs.Log.{Made, by-caller, attempt-begun, yielded, spun, took, released, gives, note, _>>=_, _>>_}
-use Rattle.model.specs.Arena.{serialRemains, cellNumber, headerOf, isPoisoned, waitersAt, setCell, stateAt, leaseOf, holdOf, wordsOf}
+use Rattle.model.specs.Arena.{serialRemains, cellNumber, headerOf, isPoisoned, waitersAt, setCell, stateAt, holdOf, leaseUnder, wordsOf}
 use Rattle.model.specs.Foreign.{Setting, protecting, flowOf, boundaryOf}
 use Rattle.types.specs.declared.Answer.{Answer}
 use Rattle.types.specs.declared.Answer.the-variants as answer
@@ -102,7 +102,7 @@ lockOf e buckets f t g c = do
 
 -- what an attempt comes to, as the answer of a call on a head of this boot number
 abbrev pub answerOf : ℕ → Outcome → Answer
-answerOf boot (outcome.Granted l) = answer.Granted (leaseOf (l .cell) (l .serial) boot)
+answerOf boot (outcome.Granted l) = answer.Granted (leaseUnder boot l)
 answerOf boot (outcome.Busy why) = answer.Busy why
 answerOf boot (outcome.Refused r) = answer.Refused r
 

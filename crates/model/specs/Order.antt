@@ -1,5 +1,5 @@
 -- Document 01's table of refusals, read off the definitions: its numbers and what they carry, and, for each call, that the checks stand in
--- the order of the table, whatever the arguments.
+-- the order of the table, whatever the arguments; but for 16 (document 02, L8), which stands before 3, or before 12, at its lease's place.
 use Prim.Native.Nat.{ℕ, zero, suc, _+_}
 use mathlib.Core.Path.{_≡_, refl, ap}
 use mathlib.Core.List.{List, [], _∷_, _++_, map}

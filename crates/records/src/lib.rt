@@ -76,7 +76,7 @@ fn take_spot(head: Head, n: usize, cell: u32) -> Spot
 fn drop_spot(head: Head, n: usize, lease: Lease) -> Spot
     ensures { λ r. ⌜ r ≡ dropSpotOf head n lease ⌝ }
 {
-    if lease.boot != head.boot {
+    if head.is_stale(lease) {
         let stale = find(head, n, lease.cell, Refusal::StaleBoot(0));
         let answer = stale.refused;
         return Spot {

@@ -18,11 +18,12 @@ use Rattle.types.specs.declared.Answer.the-variants.{Done}
 use Rattle.types.specs.declared.Check.the-variants.{Fine, Fault}
 use Rattle.types.specs.declared.Head.{Head}
 use Rattle.types.specs.declared.Hold.{Hold}
+use Rattle.types.specs.declared.Lease.{Lease}
 use Rattle.types.specs.declared.Played.{Played}
 use Rattle.types.specs.declared.Refusal.the-variants as refusal
 use Rattle.types.specs.declared.Run.{Run}
 use Rattle.choice.specs.Pick.{neither}
-use Rattle.laws.specs.Checks.{or-else, fine-rest, fine-append, arena-fine, leaseIn, leases-at, leases-end, live-inside}
+use Rattle.laws.specs.Checks.{or-else, fine-rest, fine-append, arena-fine, leaseIn, leases-at, leases-end, hold-in, live-inside}
 use Rattle.foreign.specs.declared.Scope.{Scope}
 use Rattle.foreign.specs.Model.{settingOf, inScope, RoomIn}
 use Rattle.foreign.specs.Laws.{boundary-goes}
@@ -30,7 +31,7 @@ use Rattle.foreign.specs.Fine.{ScriptFine, place-fine, script-then, guards-none
 use Rattle.bucket.specs.Bounds.{callMost}
 use Rattle.bucket.specs.Laws.{RunBound}
 
--- ---- the first leases of a list, and the lease at a position
+-- ---- the first leases of a list
 
 pub take-leases : (l : List ℕ) (i : ℕ) → holdsOf (take (3 * i) l) ≡ take i (holdsOf l)
 unfolding holdsOf
@@ -39,17 +40,6 @@ take-leases [] (suc i) = let e : 3 * suc i ≡ suc (suc (suc (3 * i))) = omega a
 take-leases (c ∷ []) (suc i) = let e : 3 * suc i ≡ suc (suc (suc (3 * i))) = omega arith in rw e
 take-leases (c ∷ s ∷ []) (suc i) = let e : 3 * suc i ≡ suc (suc (suc (3 * i))) = omega arith in rw e
 take-leases (c ∷ s ∷ b ∷ l) (suc i) = let e : 3 * suc i ≡ suc (suc (suc (3 * i))) = omega arith in rw (e, take-leases l i)
-
-pub lease-at : (l : List ℕ) (i : ℕ) → 3 * i + 2 < length l → holdAt (holdsOf l) i ≡ holdIn (leaseIn l i)
-unfolding holdsOf
-lease-at [] i h = absurd (omega arith)
-lease-at (c ∷ []) i h = absurd (omega arith)
-lease-at (c ∷ s ∷ []) i h = absurd (omega arith)
-lease-at (c ∷ s ∷ b ∷ l) zero h = refl
-lease-at (c ∷ s ∷ b ∷ l) (suc i) h =
-    let e : 3 * suc i ≡ suc (suc (suc (3 * i))) = omega arith in
-    let f : 3 * suc i + 1 ≡ suc (suc (suc (3 * i + 1))) = omega arith in
-    rw (f, e) (lease-at l i (omega arith))
 
 pub more-leases : (l : List ℕ) (i : ℕ) → 3 * i + 2 < length l → holdsOf (take (3 * (i + 1)) l) ≡ holdsOf (take (3 * i) l) ++ (holdIn (leaseIn l i) ∷ [])
 unfolding holdsOf
@@ -63,17 +53,17 @@ more-leases (c ∷ s ∷ b ∷ l) (suc i) h =
     let g : 3 * (suc i + 1) ≡ suc (suc (suc (3 * (i + 1)))) = omega arith in
     rw (g, f, e) (ap (λ (r : List Hold). holdOf c s ∷ r) (more-leases l i (omega arith)))
 
--- ---- 16, 12 and 14 at position i, and from there on
+-- ---- 16, 12 and 14 at position i, where this lease stands, and from there on
 
 module _ (h : Head) (t leases : List ℕ) (i : ℕ) where
-  pub releasable-at : 3 * i + 2 < length leases
+  pub releasable-at : (l : Lease) → l ≡ leaseIn leases i → 3 * i + 2 < length leases
       → first (notReleasable h t i (holdsOf (take (3 * i) leases)) (leasesOf (drop (3 * i) leases)))
-      ≡ (if isStale h (leaseIn leases i) then Fault (refusal.StaleBoot i)
-      else if not (isLive (h .next) (cellsOf h) t (holdIn (leaseIn leases i))) then Fault (refusal.NotHeld i)
-      else if isIn (holdIn (leaseIn leases i)) (holdsOf (take (3 * i) leases)) then Fault (refusal.Repeated i)
+      ≡ (if isStale h l then Fault (refusal.StaleBoot i)
+      else if not (isLive (h .next) (cellsOf h) t (holdIn l)) then Fault (refusal.NotHeld i)
+      else if isIn (holdIn l) (holdsOf (take (3 * i) leases)) then Fault (refusal.Repeated i)
       else first (notReleasable h t (i + 1) (holdsOf (take (3 * (i + 1)) leases)) (leasesOf (drop (3 * (i + 1)) leases))))
   unfolding first notReleasable
-  releasable-at b = rw (leases-at leases i b, more-leases leases i b)
+  releasable-at l e b = rw (e, leases-at leases i b, more-leases leases i b)
 
   pub releasable-end : length leases ≤ 3 * i + 2
       → first (notReleasable h t i (holdsOf (take (3 * i) leases)) (leasesOf (drop (3 * i) leases))) ≡ Fine
@@ -180,7 +170,7 @@ pub give-list-at : (k m : ℕ) (s : Scope) (script leases : List ℕ) (taken : L
     ≡ giveBackOf m (inScope s script []) (holdsOf leases) (o .0) (o .1 .0) (o .1 .1) .seen
 give-list-at k m s script leases taken r t g o l b q =
     give-back-at k m (inScope s script []) (holdsOf leases) r t g o l
-    (q ∙ rw (guards-none (take (3 * m) leases) taken, take-leases leases m, lease-at leases m b))
+    (q ∙ rw (guards-none (take (3 * m) leases) taken, take-leases leases m, hold-in leases m b))
 
 -- the steps of the call, once its checks are fine
 unfoldable pub releaseOnceOf : Head → List ℕ → List ℕ → List ℕ → ℕ → List ℕ → Played × (List ℕ × List ℕ)

@@ -105,15 +105,15 @@ fn releasable_fault(head: Head, table: &[u32], leases: &[u32]) -> Check
 {
     let mut i = 0;
     while i < leases.len() / 3 {
-        let e = 3 * i;
-        if leases[e + 2] != head.boot {
+        let given = lease::lease_in(leases, i);
+        if head.is_stale(given) {
             return Check::Fault(Refusal::StaleBoot(i));
         }
-        let cell = leases[e];
-        let serial = leases[e + 1];
+        let cell = given.cell;
+        let serial = given.serial;
         if lease::is_live(head, table, cell, serial) {
-            let lease = Hold { cell, serial };
-            if lease::is_in(&leases[..e], lease) {
+            let hold = Hold { cell, serial };
+            if lease::is_in(&leases[..3 * i], hold) {
                 return Check::Fault(Refusal::Repeated(i));
             }
             i += 1;

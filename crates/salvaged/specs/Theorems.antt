@@ -9,15 +9,11 @@ use native.Mathlib.Decide.{decLt}
 use lib.Dec.{ltb}
 use lib.ListN.{length, getD, take, drop, length-append, length-drop, List·getD-append}
 use lib.Seq.{take-at, drop-at, getD-append-add}
-use borrow.Author.Tests.{ltb-true, lt-ltb, eq-eqb}
+use borrow.Author.Tests.{ltb-true, lt-ltb}
 use Rattle.choice.specs.Pick.{both, determined}
 use Rattle.model.specs.Arena.{cellsOf, leaseOf, holdOf, bitAt, ownerAt, stateAt, isLive, shapeFits, healthFits}
-use Rattle.model.specs.Log.{Event, by-caller, released}
-use Rattle.model.specs.Refusals.{first}
-use Rattle.model.specs.Checks.{leaseRules}
-use Rattle.model.specs.Calls.{countsOf, dropLeaseOf}
+use Rattle.model.specs.Log.{Event, by-caller, released, Made}
 use Rattle.model.specs.Salvage.{Salvage, mendedTable, mendedHealth, changesOf, entriesOf, leftHeld, overOf, isReportFull, unsalvaged, concluded, mendOf, salvageOf}
-use Rattle.types.specs.declared.Answer.the-variants as answer
 use Rattle.types.specs.declared.Head.{Head}
 use Rattle.types.specs.declared.Hold.{Hold}
 use Rattle.types.specs.declared.SalvageAnswer.{SalvageAnswer}
@@ -25,12 +21,12 @@ use Rattle.types.specs.declared.SalvageAnswer.the-variants.{Done, BadShape, Rep
 use Rattle.laws.specs.Shape.{Shaped, shaped}
 use Rattle.laws.specs.Words.{state-freed}
 use Rattle.history.specs.World.{World, worldOf, cells, Live, Free, Apart, Sound, step, now}
-use Rattle.history.specs.Items.{perform, drop-lease, Says, says, history-of, run}
+use Rattle.history.specs.Items.{drop-lease, Says, history-of, run}
 use Rattle.history.specs.Statements.{leaves, rescued}
-use Rattle.history.specs.Callers.{Shape-fits}
 use Rattle.history.specs.Tests.{differ, state-held, alive, live}
 use Rattle.history.specs.Events.{Fit, fit, keep-step}
-use Rattle.history.specs.Logs.{arena-now}
+use Rattle.history.specs.Logs.{boot-now}
+use Rattle.history.specs.Others.{released-alone}
 use Rattle.history.specs.Salvages.{Came, bad, full, done, came, inside, now-whole, now-owned, now-freed, now-kept}
 use Rattle.laws.specs.Salvage.{length-mended, length-mended-health, waiters-mended}
 use Rattle.salvaged.specs.Statements.{answerIn, tableIn, healthIn, listIn, fits, No-room, Bad-shape-exactly, Report-full-exactly, placeIn, oldIn, newIn, Reports, Report-is, Places-are, undone, undoneOf, Rebuilds, Lists, Held-in, Unconfirmed-is, Mends, Mended, Twice, Keeps-boot, Owners-differ, Apart-exactly, Doubled-apart, other, Held-at-start, Goes-on-from, Boot-from-salvage, Counts-from-salvage, Dead-stays-dead, Dead-over-salvages, Apart-from-there, Unconfirmed-alone, Live-over-salvage}
@@ -349,15 +345,9 @@ keeps-boot h t g report list = go (came h t g report list)
     go (done f i p) = ap (λ (m : Salvage). m .0 .head .boot) p
 
 -- a release of one of two cells with one owner: the call is done, and is the release
-dropped : (w : World) (l : Hold) → Shape-fits w → Live w l
-    → perform w (drop-lease (leaseOf (l .cell) (l .serial) (w .head .boot))) .seen
-    ≡ (step w (released by-caller (l .cell) (l .serial)), says answer.Done (countsOf 0 0 0 0) 0 [])
-unfolding perform dropLeaseOf leaseRules first
-dropped w l f p = rw (f, eq-eqb (w .head .boot) (w .head .boot) refl, p)
-
 pub doubled-apart : Doubled-apart
 doubled-apart w c d s f n p q =
-    let x = dropped w (holdOf c s) f p in
+    let x = ap (λ (m : Made (World × Says)). m .seen) (released-alone w c s f p) in
     let v : leaves w (drop-lease (leaseOf c s (w .head .boot))) ≡ step w (released by-caller c s) = ap (λ (a : World × Says). a .0) x in
     let fit : Fit w = record { shape = shaped (w .head) (length (w .table)) f } in
     let a = alive (w .head .next) (cellsOf (w .head)) (w .table) (holdOf c s) p in
@@ -378,7 +368,7 @@ pub boot-from-salvage : Boot-from-salvage
 boot-from-salvage k i h t g report list e n items x d on =
     let o = onward.goes-on-from k i h t g report list e n items x d on in
     ap (λ (w : World). w .head .boot) (o .2)
-    ∙ ap (λ (j : Head). j .boot) (arena-now (rescued h t g report list) (history-of (run k (i ∷ items))))
+    ∙ boot-now (rescued h t g report list) (history-of (run k (i ∷ items)))
 
 pub counts-from-salvage : Counts-from-salvage
 counts-from-salvage = onward.counts-from-salvage

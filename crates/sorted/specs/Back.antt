@@ -27,14 +27,14 @@ use Rattle.sorted.specs.Order.{take-three}
 
 -- ---- the lease of a cell, a position at a time
 
-pub lease-on-at : (l : List ℕ) (i c : ℕ) → 3 * i + 2 < length l
+pub hold-on-at : (l : List ℕ) (i c : ℕ) → 3 * i + 2 < length l
     → holdOn (holdsOf (drop (3 * i) l)) c ≡ (if eqb (getD l (3 * i) 0) c then holdOf (getD l (3 * i) 0) (getD l (3 * i + 1) 0) else holdOn (holdsOf (drop (3 * (i + 1)) l)) c)
 unfolding holdOn
-lease-on-at l i c b = rw (holds-at l i b)
+hold-on-at l i c b = rw (holds-at l i b)
 
-pub lease-on-end : (l : List ℕ) (i c : ℕ) → length l ≤ 3 * i + 2 → holdOn (holdsOf (drop (3 * i) l)) c ≡ noHold
+pub hold-on-end : (l : List ℕ) (i c : ℕ) → length l ≤ 3 * i + 2 → holdOn (holdsOf (drop (3 * i) l)) c ≡ noHold
 unfolding holdOn
-lease-on-end l i c b = rw (holds-end l i b)
+hold-on-end l i c b = rw (holds-end l i b)
 
 -- ---- the grant buffer
 

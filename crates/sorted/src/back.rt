@@ -16,7 +16,7 @@ ghost use Rattle.model.specs.Sorted.{holdOn, sharedOf};
 ghost use Rattle.sorted.specs.Back.{backOf, Placed};
 
 // The lease of a cell, among leases, without its boot number.
-fn lease_on(leases: &[u32], cell: u32) -> Hold
+fn hold_on(leases: &[u32], cell: u32) -> Hold
     ensures { λ r. ⌜ r ≡ holdOn (holdsOf (now (leases .entry))) cell ⌝ }
 {
     let mut i = 0;
@@ -40,9 +40,9 @@ fn share(boot: u32, asked: &[u32], leases: &[u32], grants: &mut [u32])
 {
     let mut i = 0;
     while i < asked.len() {
-        let lease = lease_on(leases, asked[i]);
-        grants[3 * i] = lease.cell;
-        grants[3 * i + 1] = lease.serial;
+        let hold = hold_on(leases, asked[i]);
+        grants[3 * i] = hold.cell;
+        grants[3 * i + 1] = hold.serial;
         grants[3 * i + 2] = boot;
         i += 1;
     }

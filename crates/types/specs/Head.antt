@@ -1,10 +1,11 @@
 -- Document 01, "The arena": the head, and what its own operations give.
 use Prim.Native.Nat.{ℕ, _+_, _*_}
-use mathlib.Core.Bool.{Bool, _&&_}
+use mathlib.Core.Bool.{Bool, not, _&&_}
 use lib.Dec.{ltb, leb, eqb}
 use Rattle.choice.specs.Choice.{if_then_else_}
 use Rattle.types.specs.declared.Head.{Head}
 use Rattle.types.specs.declared.Issue.{Issue}
+use Rattle.types.specs.declared.Lease.{Lease}
 use Rattle.types.specs.declared.Serial.the-variants as serial
 
 -- "The next serial is 1 to 4,294,967,295; at 4,294,967,295 none remains."
@@ -49,3 +50,7 @@ unfoldable pub issueOf : Head → Issue
 issueOf h =
     if serialRemains (h .next) then record { head = spentTo h (h .next + 1); serial = serial.Issued (h .next) }
     else record { head = h; serial = serial.Spent }
+
+-- document 02, L8: "A lease with another boot number" than the head's
+abbrev pub isStale : Head → Lease → Bool
+isStale h l = not (eqb (l .boot) (h .boot))

@@ -1,7 +1,7 @@
 // The types that document 01's answers are made of, and the head's own operations. What a call gives is in crate
 // `model`: document 01 itself, as definitions over these types.
 ghost use mathlib.Core.Path.{_≡_};
-ghost use Rattle.types.specs.Head.{serialRemains, shapeFits, healthFits, issueOf, spentTo};
+ghost use Rattle.types.specs.Head.{serialRemains, shapeFits, healthFits, issueOf, spentTo, isStale};
 ghost use Rattle.types.specs.Numbers.{reasonNumber, reasonSerial, numberOf, carriedOf};
 
 // The head: header slots H, buckets per header B, the next serial, and the boot number that its preparation was given
@@ -253,6 +253,13 @@ impl Head {
             head: self,
             serial: Serial::Spent,
         }
+    }
+
+    // Whether a lease has another boot number than the head's.
+    pub fn is_stale(self, lease: Lease) -> bool
+        ensures { λ r. ⌜ r ≡ isStale self lease ⌝ }
+    {
+        lease.boot != self.boot
     }
 
     // The head after steps that left this next serial.

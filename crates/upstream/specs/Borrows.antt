@@ -18,9 +18,9 @@ use Rattle.types.specs.declared.Lease.{Lease}
 use Rattle.types.specs.declared.Refusal.the-variants.{BadHeld, InvalidBucket, Damaged, SerialsSpent, NotHeld, Protected}
 use Rattle.history.specs.World as world
 use Rattle.history.specs.World.{Live, worldOf}
-use Rattle.history.specs.Items.{acquire-preserving, drop-preserving, foreign-release, perform, Clear, rules}
+use Rattle.history.specs.Items.{acquire-preserving, drop-preserving, foreign-release, unchanged, perform, Clear, rules}
 use Rattle.history.specs.Statements.{answers, leaves}
-use Rattle.history.specs.Judged.{clear-back, unchanged}
+use Rattle.history.specs.Judged.{clear-back}
 use Rattle.history.specs.Tests.{In}
 use Rattle.history.specs.Events.{lives}
 use Rattle.upstream.specs.Vocabulary.{Key, cell, Authority, Own, lease-key, lease-serial, next-serial, dom, contains-key, cells, Valid-cell, valid, authorized, protected-valid, held-ids, leases-authorized}

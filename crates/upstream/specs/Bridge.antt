@@ -2,14 +2,14 @@
 use Prim.Native.Nat.{ℕ, zero, suc, _+_, _*_, _≤_, _<_}
 use mathlib.Core.Path.{_≡_, refl, sym, ap, _∙_, subst}
 use mathlib.Core.List.{List, [], _∷_, _++_, append-nil}
-use mathlib.Core.Bool.{true, false, not}
+use mathlib.Core.Bool.{true}
 use mathlib.Core.Logic.{_⊎_, inl, inr}
 use native.Mathlib.Omega.{arith}
 use lib.ListN.{length}
 use lib.Seq.{take-length}
 use borrow.Author.Tests.{eq-eqb, ne-eqb}
 use Rattle.model.specs.Log.{Made, Event, attempt-begun, boundary-run, yielded, spun, step-dropped, took, released, waiters-set, health-set, held-all, added}
-use Rattle.model.specs.Arena.{cellsOf, isStale, holdOf, holdIn, leasesOf, holdsOf, bitAt, ownerAt, setCell, shapeFits}
+use Rattle.model.specs.Arena.{cellsOf, holdOf, holdIn, leasesOf, holdsOf, bitAt, ownerAt, setCell, shapeFits}
 use Rattle.model.specs.Refusals.{Rule, refusalOf, first}
 use Rattle.model.specs.Lock.{holdAt, noHold}
 use Rattle.model.specs.Calls.{tryAcquireOf, dropLeaseOf, readPermissionOf, competingAcquireOf, releaseThenHandoffOf, foreignReleaseOf, acquirePreservingOf, dropPreservingOf, environmentOf, tryLockOf, transactionalOf, acquireBucketOf, releaseAllOf, acquireLocksOf}
@@ -18,18 +18,17 @@ use Rattle.model.specs.Crew.{crewOf, shiftOf, crewAtWorkOf}
 use Rattle.types.specs.declared.Check.{Check}
 use Rattle.types.specs.declared.Check.the-variants.{Fine, Fault}
 use Rattle.types.specs.declared.Hold.{Hold}
-use Rattle.types.specs.declared.Lease.{Lease}
 use Rattle.types.specs.declared.Refusal.{Refusal}
 use Rattle.laws.specs.Shape.{shaped}
 use Rattle.laws.specs.Words.{length-set-cell, length-set-waiters, bit-set-waiters, owner-set-waiters, Seen, here, there, see}
 use Rattle.laws.specs.Checks.{first-hit, first-skip}
 use Rattle.history.specs.World as world
-use Rattle.history.specs.World.{World, worldOf, Live, Legal, Lawful, now, Sound, Unreleased, Whole}
-use Rattle.history.specs.Items.{Call, Says, perform, try-acquire, drop-lease, read-permission, competing-acquire, release-then-handoff, foreign-release, drop-preserving, acquire-preserving, environment, try-lock, transactional, acquire-bucket, release-all, acquire-locks, acquire-sorted, crew, crew-at-work, Clear, rules}
-use Rattle.history.specs.Tests.{Status, free as is-free, held as is-held, live, free-words, In, in-index, in-take, same-lease}
+use Rattle.history.specs.World.{World, worldOf, Live, Legal, Lawful, now, Unreleased, Whole}
+use Rattle.history.specs.Items.{Call, Says, unchanged, perform, try-acquire, drop-lease, read-permission, competing-acquire, release-then-handoff, foreign-release, drop-preserving, acquire-preserving, environment, try-lock, transactional, acquire-bucket, release-all, acquire-locks, acquire-sorted, crew, crew-at-work, Clear, rules}
+use Rattle.history.specs.Tests.{Status, free as is-free, held as is-held, live, free-words, In, in-index, in-take, holds-equal}
 use Rattle.history.specs.Events.{good, lives}
-use Rattle.history.specs.Judged.{clear, steps, unchanged, sorted-made}
-use Rattle.upstream.specs.Vocabulary.{Key, Cell, cell, Authority, Own, leaseAt, Leases, next-serial, dom, contains-key, cells, insert, Cells-are, Valid-cell, valid, authorized, Step, Acquire, Release, Observe, step, releases, protected-valid, held-ids, leases-authorized}
+use Rattle.history.specs.Judged.{clear, steps, sorted-made}
+use Rattle.upstream.specs.Vocabulary.{Key, Cell, cell, Authority, leaseAt, Leases, next-serial, dom, contains-key, cells, insert, Cells-are, Valid-cell, valid, authorized, Step, Acquire, Release, Observe, step, releases, protected-valid, held-ids, leases-authorized}
 use Rattle.upstream.specs.Protocol.{Trace, ended, first as one}
 
 -- ---- valid: no cell is damaged
@@ -76,9 +75,6 @@ pub by-place : (w : Authority) (ls : List Hold) → protected-valid w (held-ids 
 by-place w ls p i k = p (holdAt ls i) (in-list ls i k)
 
 -- ---- leases with their boot numbers, and without
-
-pub own-boot : (w : Authority) (l : Lease) → Own w l → isStale (w .head) l ≡ false
-own-boot w l e = ap not (eq-eqb (l .boot) (w .head .boot) e)
 
 pub hold-at : (ws : List ℕ) (i : ℕ) → holdAt (holdsOf ws) i ≡ holdIn (leaseAt (leasesOf ws) i)
 unfolding holdsOf leasesOf
@@ -176,7 +172,7 @@ released-is yielded l n r = r
 released-is spun l n r = r
 released-is step-dropped l n r = r
 released-is (took a c s) l n r = r
-released-is (released a c s) l n r = n (same-lease l (holdOf c s) (sym (r .0)) (sym (r .1)))
+released-is (released a c s) l n r = n (holds-equal l (holdOf c s) (sym (r .0)) (sym (r .1)))
 released-is (waiters-set c k) l n r = r
 released-is (health-set i k) l n r = r
 released-is (held-all m) l n r = r

@@ -27,10 +27,9 @@ use Rattle.types.specs.declared.Refusal.{Refusal}
 use Rattle.types.specs.declared.Refusal.the-variants.{BadHeld, BadBinding, BadHeader, Poisoned, Damaged}
 use Rattle.types.specs.declared.Run.{Run}
 use Rattle.history.specs.World.{yields, number-of}
-use Rattle.history.specs.Items.{Call, transactional, acquire-bucket, perform, Clear, rules}
+use Rattle.history.specs.Items.{Call, transactional, acquire-bucket, unchanged, perform, Clear, rules}
 use Rattle.history.specs.Statements.{answers, leaves, log-of}
 use Rattle.history.specs.Theorems.{counts-are}
-use Rattle.history.specs.Judged.{unchanged}
 use Rattle.history.specs.Steps.{of-flow}
 use Rattle.laws.specs.Keys.{place-inside}
 use Rattle.upstream.specs.Vocabulary.{Key, Authority, lease-key, dom, contains-key, cells, Valid-cell, valid, authorized, held-ids, leases-authorized, key-of, physical, guards-place}

@@ -15,10 +15,9 @@ use Rattle.types.specs.declared.Refusal.{Refusal}
 use Rattle.types.specs.declared.Refusal.the-variants.{NotHeld}
 use Rattle.history.specs.World as world
 use Rattle.history.specs.World.{Live}
-use Rattle.history.specs.Items.{drop-lease, perform, rules}
+use Rattle.history.specs.Items.{drop-lease, unchanged, perform, rules}
 use Rattle.history.specs.Statements.{answers, leaves}
-use Rattle.history.specs.Judged.{unchanged}
-use Rattle.history.specs.Tests.{same-lease}
+use Rattle.history.specs.Tests.{holds-equal}
 use Rattle.upstream.specs.Vocabulary.{cell, Authority, Own, lease-key, lease-serial, next-serial, contains-key, cells, insert, Cells-are, Valid-cell, valid, authorized, framed, Release, Gives-up, step}
 use Rattle.upstream.specs.Protocol.{insert-framed, step-valid, step-keeps, step-frees}
 use Rattle.upstream.specs.Bridge.{Sized, fits-sized, event-step, refused, by-checks}
@@ -51,7 +50,7 @@ module _ {F : Type 0} {w : Authority} {l : Hold} where
   -- every other lease stays authorized
   pub drops-keeps : {a : Answer} {v : Authority} → Drops F w l a v → (k : Hold) → (k ≡ l → ⊥) → authorized w k → authorized v k
   drops-keeps (drops {v = v} x) k n p =
-      step-keeps w v (Release (l .cell) (l .serial)) k x (λ r. n (same-lease k l (sym (r .0)) (sym (r .1)))) p
+      step-keeps w v (Release (l .cell) (l .serial)) k x (λ r. n (holds-equal k l (sym (r .0)) (sym (r .1)))) p
   drops-keeps (barred r f) k n p = p
 
   pub drops-done : {a : Answer} {v : Authority} → Drops F w l a v → F → (a ≡ Done) × Gives-up w v (l .cell) (l .serial)

@@ -20,9 +20,9 @@ use Rattle.types.specs.declared.Lease.{Lease}
 use Rattle.types.specs.declared.Refusal.{Refusal}
 use Rattle.types.specs.declared.Refusal.the-variants.{BadHeld}
 use Rattle.laws.specs.Lists.{as-many}
-use Rattle.history.specs.Items.{environment, perform, Clear}
+use Rattle.history.specs.Items.{environment, unchanged, perform, Clear}
 use Rattle.history.specs.Statements.{leaves}
-use Rattle.history.specs.Judged.{clear-front, unchanged}
+use Rattle.history.specs.Judged.{clear-front}
 use Rattle.upstream.specs.Vocabulary.{Authority, leaseAt, Leases, next-serial, dom, valid, authorized, protected-valid, held-ids, leases-authorized, legal-environment, no-resurrection}
 use Rattle.upstream.specs.Protocol.{Trace, ended, trace-valid, trace-keeps, trace-buries, trace-legal}
 use Rattle.upstream.specs.Bridge.{hold-at, live-authorized, by-name, by-place, fits-sized, refused, by-checks}

@@ -28,9 +28,8 @@ use Rattle.types.specs.declared.Refusal.the-variants.{BadBinding}
 use Rattle.types.specs.declared.Run.{Run}
 use Rattle.laws.specs.Checks.{first-hit, first-skip}
 use Rattle.laws.specs.Lists.{words-back}
-use Rattle.history.specs.Items.{Call, try-lock, acquire-locks, perform, Clear}
+use Rattle.history.specs.Items.{Call, try-lock, acquire-locks, unchanged, perform, Clear}
 use Rattle.history.specs.Statements.{answers}
-use Rattle.history.specs.Judged.{unchanged}
 use Rattle.laws.specs.Keys.{place-inside}
 use Rattle.upstream.specs.Vocabulary.{Key, Authority, Pair, Guard, lease-key, contains-key, key-at, guards-place, guards-match, all-guards-in, physical-members, guard-members}
 use Rattle.upstream.specs.Bridge.{refused, by-checks}

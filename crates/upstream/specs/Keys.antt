@@ -9,7 +9,7 @@ use lib.Dec.{leb, eqb}
 use lib.ListN.{getD}
 use borrow.Author.Tests.{leb-true, leb-false, eqb-true, eq-eqb, not-true, not-false}
 use Rattle.model.specs.Log.{Made}
-use Rattle.model.specs.Arena.{cellNumber, leaseOf, holdOf, holdIn}
+use Rattle.model.specs.Arena.{cellNumber, holdOf, holdIn, leaseUnder}
 use Rattle.model.specs.Foreign.{Setting}
 use Rattle.model.specs.Answers.{kindOf}
 use Rattle.model.specs.Lock.{answerOf, findOf, attemptAt, attemptOf, pauseOf, isBusy, retryOf, settled}
@@ -64,7 +64,7 @@ granted-cell locked.spent l e = let q : _≡_ {A = ℕ} 0 1 = cc in absurd (omeg
 
 -- an answer that grants this lease
 pub answer-granted : (boot : ℕ) (o : Outcome) (l : Lease) → answerOf boot o ≡ Granted l → o ≡ outcome.Granted (holdIn l)
-answer-granted boot (outcome.Granted k) l e = let q : leaseOf (k .cell) (k .serial) boot ≡ l = cc in ap (λ (x : Lease). outcome.Granted (holdIn x)) q
+answer-granted boot (outcome.Granted k) l e = let q : leaseUnder boot k ≡ l = cc in ap (λ (x : Lease). outcome.Granted (holdIn x)) q
 answer-granted boot (outcome.Busy why) l e = absurd (omega (arith, ap kindOf e))
 answer-granted boot (outcome.Refused r) l e = absurd (omega (arith, ap kindOf e))
 

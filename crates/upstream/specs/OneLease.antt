@@ -20,9 +20,8 @@ use Rattle.types.specs.declared.Refusal.{Refusal}
 use Rattle.types.specs.declared.Refusal.the-variants.{NotHeld, SerialsSpent}
 use Rattle.history.specs.World as world
 use Rattle.history.specs.World.{Live}
-use Rattle.history.specs.Items.{read-permission, competing-acquire, release-then-handoff, perform, rules}
+use Rattle.history.specs.Items.{read-permission, competing-acquire, release-then-handoff, unchanged, perform, rules}
 use Rattle.history.specs.Statements.{answers, leaves}
-use Rattle.history.specs.Judged.{unchanged}
 use Rattle.history.specs.Events.{lives}
 use Rattle.upstream.specs.Vocabulary.{Key, cell, Authority, Own, lease-key, lease-serial, next-serial, cells, Cells-are, Valid-cell, valid, authorized, Release, Gives-up}
 use Rattle.upstream.specs.Protocol.{step-valid, step-frees, step-grants, bit-of}
@@ -109,10 +108,9 @@ module _ (w : Authority) (l : Lease) where
       by-checks (λ m. Tries Checked-competing w (l .cell) (m .seen .1 .answer) (m .seen .0)) w (competing-acquire l) (λ r e. barred r (λ f. fine-fault f e))
       (λ e k. acquired Checked-competing 1 w (l .cell) (fits-sized w (not-false _ (k .0))) (lives w (holdIn l) (not-false _ (k .1 .1 .0)) .in-range))
 
-  excluded : Fits w → valid w → Own w l → authorized w (holdIn l) → (answers w (competing-acquire l) ≡ Busy (reason.Held (lease-serial (holdIn l)))) × (leaves w (competing-acquire l) ≡ w)
-  excluded s v o a =
-      let x = tries-held competing (lease-passes w l s v o a) (v (l .cell) (a .inside)) (a .locked) in
-      (x .0 ∙ ap (λ (s : ℕ). Busy (reason.Held s)) (a .mine .1), x .1)
+  -- the cell's bit is 1, so nothing is granted, and nothing changes: not if the call is refused, as a lease with another boot number is
+  excluded : authorized w (holdIn l) → leaves w (competing-acquire l) ≡ w
+  excluded a = tries-none competing (λ k e. omega (arith, tries-some competing k e .1 .unlocked, a .locked))
 
   pub competing-acquire-is-excluded-r1 : Fits w → Own w l → (Valid-cell (next-serial w) (cells w (lease-key (holdIn l))) → ⊥)
       → perform w (competing-acquire l) ≡ unchanged w (competing-acquire l) (NotHeld 0)
@@ -123,16 +121,17 @@ module _ (w : Authority) (l : Lease) where
 
   -- rejected: Busy. Document 02, L1: "held, with the owner's serial", which is the given lease's own
   pub competing-acquire-is-excluded-e1 : Fits w → valid w → Own w l → authorized w (holdIn l) → answers w (competing-acquire l) ≡ Busy (reason.Held (lease-serial (holdIn l)))
-  competing-acquire-is-excluded-e1 s v o a = excluded s v o a .0
+  competing-acquire-is-excluded-e1 s v o a =
+      tries-held competing (lease-passes w l s v o a) (v (l .cell) (a .inside)) (a .locked) .0 ∙ ap (λ (s : ℕ). Busy (reason.Held s)) (a .mine .1)
 
   pub competing-acquire-is-excluded-e2 : valid w → valid (leaves w (competing-acquire l))
   competing-acquire-is-excluded-e2 = tries-valid competing
 
-  pub competing-acquire-is-excluded-e3 : Fits w → valid w → Own w l → authorized w (holdIn l) → authorized (leaves w (competing-acquire l)) (holdIn l)
-  competing-acquire-is-excluded-e3 s v o a = subst (λ z. authorized z (holdIn l)) (sym (excluded s v o a .1)) a
+  pub competing-acquire-is-excluded-e3 : authorized w (holdIn l) → authorized (leaves w (competing-acquire l)) (holdIn l)
+  competing-acquire-is-excluded-e3 a = tries-keeps competing (holdIn l) a
 
-  pub competing-acquire-is-excluded-e4 : Fits w → valid w → Own w l → authorized w (holdIn l) → Cells-are w (leaves w (competing-acquire l)) (cells w)
-  competing-acquire-is-excluded-e4 s v o a = observed w (leaves w (competing-acquire l)) (excluded s v o a .1) .same
+  pub competing-acquire-is-excluded-e4 : authorized w (holdIn l) → Cells-are w (leaves w (competing-acquire l)) (cells w)
+  competing-acquire-is-excluded-e4 a = observed w (leaves w (competing-acquire l)) (excluded a) .same
 
   -- ---- `release_then_handoff`
 

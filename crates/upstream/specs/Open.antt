@@ -27,7 +27,7 @@ use Rattle.history.specs.World as world
 use Rattle.history.specs.World.{worldOf}
 use Rattle.history.specs.Items.{try-acquire, acquire-preserving, drop-preserving, try-lock, release-all, perform}
 use Rattle.history.specs.Statements.{answers, leaves}
-use Rattle.history.specs.Tests.{In, if-cases, differ, same-lease}
+use Rattle.history.specs.Tests.{In, if-cases, differ, holds-equal}
 use Rattle.history.specs.Events.{lives}
 use Rattle.laws.specs.Lists.{zero-bit, zero-owner}
 use Rattle.upstream.specs.Vocabulary.{Key, cell, Authority, Own, lease-key, lease-serial, next-serial, dom, contains-key, cells, insert, Cells-are, Valid-cell, valid, authorized, Release, Gives-up, protected-valid, held-ids, leases-authorized}
@@ -189,7 +189,7 @@ module _ (w : Authority) (c : Key) (z : Sized w) (v : valid w) (i : contains-key
   overwritten-others l n a = go (put w (overwritten w c) c (cell 1 (next-serial w)) (l .cell) written (a .inside))
     where
       go : Put w (overwritten w c) c (cell 1 (next-serial w)) (l .cell) → authorized (overwritten w c) l
-      go (here e q) = absurd (n (same-lease l (holdOf c (ownerAt (w .table) c)) e (sym (a .mine .1) ∙ ap (ownerAt (w .table)) e)))
+      go (here e q) = absurd (n (holds-equal l (holdOf c (ownerAt (w .table) c)) e (sym (a .mine .1) ∙ ap (ownerAt (w .table)) e)))
       go (there e q) = record { inside = a .inside; locked = bit-of q ∙ a .locked; mine = (a .mine .0, owner-of q ∙ a .mine .1) }
 
   overwritten-held : (held : List Hold) → isIn (holdOf c (ownerAt (w .table) c)) held ≡ false → protected-valid w (held-ids held) → protected-valid (overwritten w c) (held-ids held)
@@ -308,7 +308,7 @@ module _ (u : Authority) (z : Sized u) (v : valid u) (i : contains-key u 0) wher
   freed-others l n a = go (put u (freed u) 0 (cell 0 0) (l .cell) wiped (a .inside))
     where
       go : Put u (freed u) 0 (cell 0 0) (l .cell) → authorized (freed u) l
-      go (here e q) = absurd (n (same-lease l (holdOf 0 (ownerAt (u .table) 0)) e (sym (a .mine .1) ∙ ap (ownerAt (u .table)) e)))
+      go (here e q) = absurd (n (holds-equal l (holdOf 0 (ownerAt (u .table) 0)) e (sym (a .mine .1) ∙ ap (ownerAt (u .table)) e)))
       go (there e q) = record { inside = a .inside; locked = bit-of q ∙ a .locked; mine = (a .mine .0, owner-of q ∙ a .mine .1) }
 
   -- a cell that is free stays so
@@ -355,7 +355,7 @@ accepted-frees-too w held l z v a b n =
 
     safe : protected-valid u (held-ids (holdsOf held))
     safe k i =
-        step-keeps w u (Release (l .cell) (l .serial)) k drop (λ r. n (subst (In (holdsOf held)) (same-lease k l (sym (r .0)) (sym (r .1))) i)) (by-name w (holdsOf held) b k i)
+        step-keeps w u (Release (l .cell) (l .serial)) k drop (λ r. n (subst (In (holdsOf held)) (holds-equal k l (sym (r .0)) (sym (r .1))) i)) (by-name w (holdsOf held) b k i)
 
 pub rejected-frees-too : ((w : Authority) (held : List ℕ) (l : Lease) → Own w l → frees-too w held (holdIn l) ≡ (answers w (drop-preserving held l), leaves w (drop-preserving held l))) → ⊥
 unfolding perform dropPreservingOf heldLeaseRules notLive first shapeFits headFits leasesOf holdsOf isIn isLive bitAt ownerAt setCell stateAt stateOf isFree isHeld

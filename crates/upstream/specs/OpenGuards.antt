@@ -10,7 +10,7 @@ use borrow.Author.Tests.{ltb-true}
 use lib.Dec.{ltb}
 use lib.ListN.{length, getD}
 use Rattle.choice.specs.Choice.{if_then_else_}
-use Rattle.model.specs.Arena.{cellNumber, leaseOf, holdOf, leasesOf, holdsOf, wordsOf, bitAt, ownerAt, waitersAt, setCell, isFree, isHeld, stateOf, stateAt, headFits, shapeFits, healthFits, registryFits}
+use Rattle.model.specs.Arena.{cellNumber, holdOf, leasesOf, holdsOf, wordsOf, bitAt, ownerAt, waitersAt, setCell, isFree, isHeld, stateOf, stateAt, headFits, shapeFits, healthFits, registryFits, leaseUnder}
 use Rattle.model.specs.Answers.{kindOf}
 use Rattle.model.specs.Refusals.{first}
 use Rattle.model.specs.Checks.{countIn, notLive, badBindings, locksRules}
@@ -53,7 +53,7 @@ abbrev as-hold : ℕ → Plain-guard → Hold
 as-hold buckets g = holdOf (cellNumber buckets (g .physical-pair .0) (g .physical-pair .1)) 1
 
 abbrev as-lease : (boot buckets : ℕ) → Plain-guard → Lease
-as-lease boot buckets g = leaseOf (as-hold buckets g .cell) (as-hold buckets g .serial) boot
+as-lease boot buckets g = leaseUnder boot (as-hold buckets g)
 
 abbrev pub feigns : Lock-build
 feigns w script place held c = (Granted (as-lease (w .head .boot) (w .head .buckets) (plain 0 (slot-of (w .head .buckets) c))), w)

@@ -17,12 +17,13 @@ use Rattle.types.specs.declared.Check.the-variants.{Fine}
 use Rattle.types.specs.declared.Hold.{Hold}
 use Rattle.types.specs.declared.Lease.{Lease}
 use Rattle.laws.specs.Lists.{as-many}
+use Rattle.laws.specs.Checks.{not-stale}
 use Rattle.history.specs.World.{Live}
 use Rattle.history.specs.Items.{Clear}
 use Rattle.history.specs.Judged.{clear-fine, clear-append}
 use Rattle.history.specs.Tests.{In, in-cases, in-either, differ}
 use Rattle.upstream.specs.Vocabulary.{Authority, Own, leaseAt, All-own, contains-key, lease-key, valid, authorized, held-ids, leases-authorized, keys-valid}
-use Rattle.upstream.specs.Bridge.{own-boot, hold-at, authorized-live}
+use Rattle.upstream.specs.Bridge.{hold-at, authorized-live}
 use Rattle.upstream.specs.Refusing.{Fits}
 
 pub not-so : (b : Bool) → (b ≡ true → ⊥) → b ≡ false
@@ -49,7 +50,7 @@ not-live-clear : (w : Authority) (n : ℕ) (ls : List Lease) → ((i : ℕ) → 
 unfolding notLive
 not-live-clear w n [] o p = tt
 not-live-clear w n (l ∷ ls) o p =
-    (own-boot w l (o 0 (omega arith)), (ap not (p 0 (omega arith)), not-live-clear w (n + 1) ls (λ i k. o (suc i) (omega arith)) (λ i k. p (suc i) (omega arith))))
+    (not-stale (w .head) l (o 0 (omega arith)), (ap not (p 0 (omega arith)), not-live-clear w (n + 1) ls (λ i k. o (suc i) (omega arith)) (λ i k. p (suc i) (omega arith))))
 
 -- the leases of a list as words are live
 live-at : (w : Authority) (words : List ℕ) → valid w → leases-authorized w (holdsOf words) → (i : ℕ) → i < length (leasesOf words) → Live w (holdIn (leaseAt (leasesOf words) i))
@@ -76,7 +77,7 @@ releasable : (w : Authority) (n : ℕ) (earlier : List Hold) (ls : List Lease) �
 unfolding notReleasable isIn
 releasable w n earlier [] o p q d = tt
 releasable w n earlier (l ∷ ls) o p q d = (
-  own-boot w l (o 0 (omega arith)),
+  not-stale (w .head) l (o 0 (omega arith)),
   (
     ap not (p 0 (omega arith)),
     (
@@ -103,7 +104,7 @@ pub lease-passes : (w : Authority) (l : Lease) → Fits w → valid w → Own w 
 unfolding leaseRules
 lease-passes w l s v o a =
     clear-fine (badShape (w .head) (w .table) ∷ staleBoot (w .head) 0 l ∷ notHeld (w .head) (w .table) 0 l ∷ [])
-    (ap not s, (own-boot w l o, (ap not (authorized-live w (holdIn l) v a), tt)))
+    (ap not s, (not-stale (w .head) l o, (ap not (authorized-live w (holdIn l) v a), tt)))
 
 -- `acquire_preserving_borrows`
 pub held-cell-passes : (w : Authority) (held : List ℕ) (c : ℕ) → Fits w → Short w held → valid w → contains-key w c → leases-authorized w (holdsOf held)
@@ -119,7 +120,7 @@ pub held-lease-passes : (w : Authority) (held : List ℕ) (l : Lease) → Fits w
 unfolding heldLeaseRules
 held-lease-passes w held l s b v o a p n =
     clear-fine (badShape (w .head) (w .table) ∷ (badHeld (w .head) (w .table) held ++ (staleBoot (w .head) 0 l ∷ notHeld (w .head) (w .table) 0 l ∷ isProtected held l ∷ [])))
-    (ap not s, clear-append (badHeld (w .head) (w .table) held) _ (held-clear w held b v p) (own-boot w l o, (ap not (authorized-live w (holdIn l) v a), (not-so _ n, tt))))
+    (ap not s, clear-append (badHeld (w .head) (w .table) held) _ (held-clear w held b v p) (not-stale (w .head) l o, (ap not (authorized-live w (holdIn l) v a), (not-so _ n, tt))))
 
 -- `environment`, `environment_for_borrows`
 pub script-passes : (w : Authority) (script : List ℕ) (place : ℕ) (held : List ℕ) → Scripted w script place → Short w held → valid w → leases-authorized w (holdsOf held)

@@ -15,11 +15,11 @@ use Rattle.types.specs.declared.Check.the-variants.{Fault}
 use Rattle.types.specs.declared.Hold.{Hold}
 use Rattle.types.specs.declared.Lease.{Lease}
 use Rattle.types.specs.declared.Refusal.the-variants.{BadHeld, InvalidBucket, NotHeld, Protected}
-use Rattle.laws.specs.Checks.{first-hit, first-skip}
+use Rattle.laws.specs.Checks.{first-hit, first-skip, not-stale}
 use Rattle.laws.specs.Lists.{as-many}
 use Rattle.history.specs.World.{Live}
 use Rattle.upstream.specs.Vocabulary.{Authority, Own, leaseAt, next-serial, dom, cells, contains-key, Valid-cell, authorized}
-use Rattle.upstream.specs.Bridge.{own-boot, hold-at, live-authorized, live-cell, first-after}
+use Rattle.upstream.specs.Bridge.{hold-at, live-authorized, live-cell, first-after}
 
 -- ---- a lease that is not live
 
@@ -40,7 +40,7 @@ on-damaged w l n v = n (live-cell w l v)
 -- 12, behind any checks, of a lease of this boot
 pub not-held : (xs : List Rule) (w : Authority) (i : ℕ) (l : Lease) (ys : List Rule) → Clear xs → Own w l → (Live w (holdIn l) → ⊥)
     → first (xs ++ (staleBoot (w .head) i l ∷ notHeld (w .head) (w .table) i l ∷ ys)) ≡ Fault (NotHeld i)
-not-held [] w i l ys c o n = first-skip (staleBoot (w .head) i l) _ (own-boot w l o) ∙ first-hit (notHeld (w .head) (w .table) i l) ys (ap not (is-dead w (holdIn l) n))
+not-held [] w i l ys c o n = first-skip (staleBoot (w .head) i l) _ (not-stale (w .head) l o) ∙ first-hit (notHeld (w .head) (w .table) i l) ys (ap not (is-dead w (holdIn l) n))
 not-held (x ∷ xs) w i l ys c o n = first-skip x _ (c .0) ∙ not-held xs w i l ys (c .1) o n
 
 -- `drop_lease`, `read_permission`, `competing_acquire_is_excluded`, `release_then_handoff`
@@ -60,11 +60,11 @@ unfolding notLive first
 not-live-first w n [] i ys l own before at = absurd (omega arith)
 not-live-first w n (k ∷ ls) zero ys l own before at =
     let e : n + 0 ≡ n = omega arith in
-    rw (own-boot w k (own 0 (omega arith)), is-dead w (holdIn k) at, e)
+    rw (not-stale (w .head) k (own 0 (omega arith)), is-dead w (holdIn k) at, e)
 not-live-first w n (k ∷ ls) (suc i) ys l own before at =
     let e : n + 1 + i ≡ n + suc i = omega arith in
     let v : Live w (holdIn k) = before 0 (omega arith) in
-    rw (own-boot w k (own 0 (omega arith)), v, ← e)
+    rw (not-stale (w .head) k (own 0 (omega arith)), v, ← e)
     (not-live-first w (n + 1) ls i ys (omega arith) (λ j p. own (suc j) (omega arith)) (λ j p. before (suc j) (omega arith)) at)
 
 -- position i is the first that is not authorized; the earlier ones are live, and up to there all are of this boot
@@ -93,5 +93,5 @@ cell-refused xs w c k n = first-after xs (badCell (w .head) c) [] k (le-leb (cel
 pub protected-refused : (xs : List Rule) (w : Authority) (list : List ℕ) (l : Lease) → Clear xs → Own w l → Live w (holdIn l) → isIn (holdIn l) (holdsOf list) ≡ true
     → first (xs ++ (staleBoot (w .head) 0 l ∷ notHeld (w .head) (w .table) 0 l ∷ isProtected list l ∷ [])) ≡ Fault Protected
 protected-refused [] w list l c o v i =
-    first-skip (staleBoot (w .head) 0 l) _ (own-boot w l o) ∙ first-skip (notHeld (w .head) (w .table) 0 l) _ (ap not v) ∙ first-hit (isProtected list l) [] i
+    first-skip (staleBoot (w .head) 0 l) _ (not-stale (w .head) l o) ∙ first-skip (notHeld (w .head) (w .table) 0 l) _ (ap not v) ∙ first-hit (isProtected list l) [] i
 protected-refused (x ∷ xs) w list l c o v i = first-skip x _ (c .0) ∙ protected-refused xs w list l (c .1) o v i

@@ -25,20 +25,19 @@ use Rattle.types.specs.declared.Lease.{Lease}
 use Rattle.types.specs.declared.Refusal.{Refusal}
 use Rattle.types.specs.declared.Refusal.the-variants.{NotHeld, Repeated}
 use Rattle.types.specs.declared.Run.{Run}
-use Rattle.laws.specs.Checks.{first-hit, first-skip}
-use Rattle.laws.specs.Lists.{leases-few, as-many}
+use Rattle.laws.specs.Checks.{first-hit, first-skip, not-stale}
+use Rattle.laws.specs.Lists.{holds-few, as-many}
 use Rattle.history.specs.World as world
 use Rattle.history.specs.World.{Live}
-use Rattle.history.specs.Items.{release-all, perform, Clear}
+use Rattle.history.specs.Items.{release-all, unchanged, perform, Clear}
 use Rattle.history.specs.Statements.{leaves}
-use Rattle.history.specs.Judged.{unchanged}
-use Rattle.history.specs.Tests.{In, in-cases, in-take, same-lease, differ}
+use Rattle.history.specs.Tests.{In, in-cases, in-take, holds-equal, differ}
 use Rattle.history.specs.Steps.{worldAt, With, of-flow, of-run}
 use Rattle.history.specs.Events.{lives}
 use Rattle.history.specs.Calls.{words-leases}
 use Rattle.upstream.specs.Vocabulary.{Key, Authority, Own, leaseAt, All-own, Leases, is-Some, lease-key, next-serial, dom, cells, Valid-cell, valid, authorized, Release, Gives-up, leases-authorized}
 use Rattle.upstream.specs.Protocol.{Trace, ended, trace-valid, trace-buries, step-keeps, step-frees, owner-of}
-use Rattle.upstream.specs.Bridge.{own-boot, hold-at, authorized-live, Sized, fits-sized, sized-now, refused, by-checks}
+use Rattle.upstream.specs.Bridge.{hold-at, authorized-live, Sized, fits-sized, sized-now, refused, by-checks}
 use Rattle.upstream.specs.Refusing.{unauthorized, on-damaged, is-dead}
 use Rattle.upstream.specs.Passing.{Scripted, release-passes}
 use Rattle.upstream.specs.TryAcquire.{fine-fault}
@@ -148,7 +147,7 @@ unfolding notReleasable
 not-releasable-dead w n earlier [] i l c o d = absurd (omega arith)
 not-releasable-dead w n earlier (k ∷ ls) zero l c o d =
     let e : n + 0 ≡ n = omega arith in
-    first-skip (staleBoot (w .head) n k) _ (own-boot w k o) ∙ first-hit (notHeld (w .head) (w .table) n k) _ (ap not (is-dead w (holdIn k) d)) ∙ rw e
+    first-skip (staleBoot (w .head) n k) _ (not-stale (w .head) k o) ∙ first-hit (notHeld (w .head) (w .table) n k) _ (ap not (is-dead w (holdIn k) d)) ∙ rw e
 not-releasable-dead w n earlier (k ∷ ls) (suc i) l c o d =
     let e : n + 1 + i ≡ n + suc i = omega arith in
     first-skip (staleBoot (w .head) n k) _ (c .0) ∙ first-skip (notHeld (w .head) (w .table) n k) _ (c .1 .0) ∙ first-skip (repeated n earlier k) _ (c .1 .1 .0)
@@ -161,7 +160,7 @@ unfolding notReleasable
 not-releasable-again w n earlier [] i l c o v d = absurd (omega arith)
 not-releasable-again w n earlier (k ∷ ls) zero l c o v d =
     let e : n + 0 ≡ n = omega arith in
-    first-skip (staleBoot (w .head) n k) _ (own-boot w k o) ∙ first-skip (notHeld (w .head) (w .table) n k) _ (ap not v) ∙ first-hit (repeated n earlier k) _ (rw (append-nil earlier) at d) ∙ rw e
+    first-skip (staleBoot (w .head) n k) _ (not-stale (w .head) k o) ∙ first-skip (notHeld (w .head) (w .table) n k) _ (ap not v) ∙ first-hit (repeated n earlier k) _ (rw (append-nil earlier) at d) ∙ rw e
 not-releasable-again w n earlier (k ∷ ls) (suc i) l c o v d =
     let e : n + 1 + i ≡ n + suc i = omega arith in
     first-skip (staleBoot (w .head) n k) _ (c .0) ∙ first-skip (notHeld (w .head) (w .table) n k) _ (c .1 .0) ∙ first-skip (repeated n earlier k) _ (c .1 .1 .0)
@@ -245,7 +244,7 @@ module _ (w : Authority) (script : List ℕ) (place : ℕ) (leases : List ℕ) w
   pub release-all-r3 : (i j : ℕ) → i < j → j < length ls → Before → Up-to j → Own w (leaseAt named j) → valid w → authorized w (holdAt ls i) → authorized w (holdAt ls j)
       → lease-key (holdAt ls i) ≡ lease-key (holdAt ls j) → perform w (release-all script place leases) ≡ unchanged w (release-all script place leases) (Repeated j)
   release-all-r3 i j p q b u o v x y e =
-      let same : holdAt ls i ≡ holdAt ls j = same-lease (holdAt ls i) (holdAt ls j) e (sym (x .mine .1) ∙ ap (λ (k : Key). cells w k .owner) e ∙ y .mine .1) in
+      let same : holdAt ls i ≡ holdAt ls j = holds-equal (holdAt ls i) (holdAt ls j) e (sym (x .mine .1) ∙ ap (λ (k : Key). cells w k .owner) e ∙ y .mine .1) in
       behind (Repeated j) b
       (not-releasable-again w 0 [] named j (omega (arith, as-many leases, q)) u o (subst (Live w) (hold-at leases j) (authorized-live w (holdAt ls j) v y))
       (subst (λ (ks : List Hold). In ks (holdIn (leaseAt named j))) (take-holds leases j)
@@ -264,4 +263,4 @@ module _ (w : Authority) (script : List ℕ) (place : ℕ) (leases : List ℕ) w
   release-all-e3 s m o v a =
       by-checks (λ m. (i : ℕ) → i < length ls → authorized (m .seen .0) (holdAt ls i) → ⊥) w (release-all script place leases)
       (λ r e. absurd (fine-fault (release-passes w script place leases s m o v (a .0) (a .1)) e))
-      (λ e k i l x. gone-all (fits-sized w (not-false _ (k .0))) v a .gone i (omega (arith, leases-few leases)) (x .mine))
+      (λ e k i l x. gone-all (fits-sized w (not-false _ (k .0))) v a .gone i (omega (arith, holds-few leases)) (x .mine))

@@ -28,7 +28,7 @@ use Rattle.types.specs.declared.Take.the-variants as taking
 use Rattle.types.specs.declared.Tried.{Tried}
 use Rattle.choice.specs.Pick.{if-both}
 use Rattle.history.specs.World as world
-use Rattle.history.specs.Tests.{differ, same-lease, In, in-first, in-cases, in-left, in-right, in-either}
+use Rattle.history.specs.Tests.{differ, holds-equal, In, in-first, in-cases, in-left, in-right, in-either}
 use Rattle.history.specs.Logs.{Kept}
 use Rattle.history.specs.Steps.{worldAt, With, of-flow, of-locked, of-run, of-tried, step-kept}
 use Rattle.laws.specs.Keys.{place-inside}
@@ -144,7 +144,7 @@ module _ (h : Head) (script : List ℕ) where
       back =
           then (fewer (λ l i. in-left l ps (new ∷ []) i) b)
           (moved (of-flow h m) (world.step (of-flow h m) event) (Release c s) (event-step (of-flow h m) event (b .sized) (authorized-live (of-flow h m) new (r′ .valid-now) still))
-          (λ l i x. apart l i (same-lease l new (sym (x .0)) (sym (x .1)))) (sized-now (of-flow h m) (event ∷ []) (b .sized)))
+          (λ l i x. apart l i (holds-equal l new (sym (x .0)) (sym (x .1)))) (sized-now (of-flow h m) (event ∷ []) (b .sized)))
 
   -- after the compare-and-set: `u` is the state before it
   after-goes : (ps : List Hold) (u : Authority) (a : Take) (f : Flow) (t g : List ℕ) (c : ℕ) → Ready (In ps) u

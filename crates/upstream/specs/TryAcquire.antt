@@ -27,10 +27,9 @@ use Rattle.types.specs.declared.State.{State}
 use Rattle.types.specs.declared.Took.{Took}
 use Rattle.laws.specs.Words.{length-set-cell}
 use Rattle.history.specs.World.{worldOf}
-use Rattle.history.specs.Items.{try-acquire, perform, rules}
+use Rattle.history.specs.Items.{try-acquire, unchanged, perform, rules}
 use Rattle.history.specs.Statements.{answers, leaves}
 use Rattle.history.specs.Tests.{Status, free, held, Stands, is-free, is-held, is-damaged, stands, if-cases}
-use Rattle.history.specs.Judged.{unchanged}
 use Rattle.upstream.specs.Vocabulary.{Key, cell, is-some, is-none, Authority, lease-key, lease-serial, next-serial, dom, contains-key, cells, insert, Cells-are, answers-none, Valid-cell, valid, authorized, framed, Acquire, Observe, Acquires, step}
 use Rattle.upstream.specs.Protocol.{insert-framed, step-valid, step-keeps, step-grants}
 use Rattle.upstream.specs.Bridge.{status-valid, valid-status, Sized, fits-sized, put-cells, refused, first-after, by-checks}

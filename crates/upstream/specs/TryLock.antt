@@ -22,9 +22,9 @@ use Rattle.types.specs.declared.State.{State}
 use Rattle.types.specs.declared.State.the-variants as state
 use Rattle.types.specs.declared.Outcome.the-variants as outcome
 use Rattle.laws.specs.Outcomes.{lock-comes}
-use Rattle.history.specs.Items.{try-lock, perform, Clear, rules}
+use Rattle.history.specs.Items.{try-lock, unchanged, perform, Clear, rules}
 use Rattle.history.specs.Statements.{answers, leaves}
-use Rattle.history.specs.Judged.{clear-back, unchanged}
+use Rattle.history.specs.Judged.{clear-back}
 use Rattle.history.specs.Tests.{Stands, is-free, is-held, is-damaged, stands, free, held}
 use Rattle.history.specs.Steps.{of-flow}
 use Rattle.upstream.specs.Vocabulary.{Key, cell, Authority, lease-key, next-serial, dom, contains-key, cells, Valid-cell, valid, authorized, leases-authorized}

@@ -7,6 +7,7 @@ use types::Answer;
 use types::Counts;
 use types::CrewReply;
 use types::Head;
+use types::Lease;
 use types::Played;
 use types::Refusal;
 use types::Reply;
@@ -18,6 +19,7 @@ ghost use mathlib.Core.Path.{_≡_};
 ghost use Prim.Native.Nat.{_+_, _≤_};
 ghost use mathlib.Core.Bool.{true};
 ghost use lib.Seq.{sets};
+ghost use Rattle.types.specs.declared.Answer.the-variants.{Granted};
 ghost use Rattle.model.specs.Refusals.{refusalReason};
 ghost use Rattle.slots.specs.Outcomes.{bodyTold};
 ghost use Rattle.layout.specs.Words.{busyWords, refusalWords, answerWords, resultWords, replyWords, playedWords};
@@ -70,6 +72,20 @@ fn busy_words(reason: u32, serial: u32) -> [u64; 6]
     [4, 0, 0, 0, reason as u64, serial as u64]
 }
 
+// Words 9 to 14 of a grant.
+fn granted_words(lease: Lease) -> [u64; 6]
+    ensures { λ r. ⌜ r ≡ answerWords (Granted lease) ⌝ }
+{
+    [
+        2,
+        lease.cell as u64,
+        lease.serial as u64,
+        lease.boot as u64,
+        0,
+        0,
+    ]
+}
+
 // Words 9 to 14.
 fn answer_words(answer: Answer) -> [u64; 6]
     ensures { λ r. ⌜ r ≡ answerWords answer ⌝ }
@@ -77,14 +93,7 @@ fn answer_words(answer: Answer) -> [u64; 6]
     match answer {
         Answer::Done => [0, 0, 0, 0, 0, 0],
         Answer::Cell(cell) => [1, cell as u64, 0, 0, 0, 0],
-        Answer::Granted(lease) => [
-            2,
-            lease.cell as u64,
-            lease.serial as u64,
-            lease.boot as u64,
-            0,
-            0,
-        ],
+        Answer::Granted(lease) => granted_words(lease),
         Answer::AllGranted => [3, 0, 0, 0, 0, 0],
         Answer::Busy(why) => busy_words(why.number(), why.serial()),
         Answer::Refused(refusal) => refusal_words(5, refusal, 0),
@@ -99,14 +108,7 @@ fn said_words(answer: Answer) -> [u64; 6]
     match answer {
         Answer::Done => [0, 0, 0, 0, 0, 0],
         Answer::Cell(cell) => [1, cell as u64, 0, 0, 0, 0],
-        Answer::Granted(lease) => [
-            2,
-            lease.cell as u64,
-            lease.serial as u64,
-            lease.boot as u64,
-            0,
-            0,
-        ],
+        Answer::Granted(lease) => granted_words(lease),
         Answer::AllGranted => [3, 0, 0, 0, 0, 0],
         Answer::Busy(_) => answer_words(answer),
         Answer::Refused(_) => answer_words(answer),

@@ -8,19 +8,17 @@ use lib.ListN.{length}
 use Rattle.choice.specs.Choice.{if_then_else_}
 use native.Mathlib.Omega.{arith}
 use borrow.Author.Tests.{eqb-true, not-false}
-use Rattle.model.specs.Arena.{leaseOf, holdIn, ownerAt}
+use Rattle.model.specs.Arena.{holdIn, ownerAt}
 use Rattle.model.specs.Log.{Actor, Event, released}
 use Rattle.types.specs.declared.Answer.{Answer}
 use Rattle.types.specs.declared.Answer.the-variants as answer
-use Rattle.types.specs.declared.Head.{Head}
 use Rattle.types.specs.declared.Hold.{Hold}
-use Rattle.types.specs.declared.Lease.{Lease}
 use Rattle.types.specs.declared.SalvageAnswer.{SalvageAnswer}
 use Rattle.types.specs.declared.SalvageAnswer.the-variants as salvaged
+use Rattle.laws.specs.Lists.{leases-equal}
 use Rattle.slots.specs.Calls.{writtenOver, writeSetpointOf}
 use Rattle.slots.specs.Layout.{slotsOf, readOf}
-use Rattle.slots.specs.Rules.{BookRule, firstFault, judgeBook, badTable, badSlot, notHolder, notFinite, claimRules, overRules}
-use Rattle.slots.specs.declared.BookCheck.{BookCheck}
+use Rattle.slots.specs.Rules.{firstFault, judgeBook, badTable, badSlot, claimRules}
 use Rattle.slots.specs.declared.BookCheck.the-variants.{Fine, Fault}
 use Rattle.slots.specs.declared.BookRefusal.{BookRefusal}
 use Rattle.slots.specs.declared.BookRefusal.the-variants.{BadShape, BadSlot, StaleBoot}
@@ -30,9 +28,9 @@ use Rattle.slots.specs.declared.BookAnswer.the-variants.{Written, Refused}
 use Rattle.history.specs.World.{World, Live, now, Releases, Unreleased}
 use Rattle.history.specs.Items.{Item, call, foreign-step, preparation, preparation-over, salvage, salvage-over, Entry, Course, courseOf, cold, events-of, history-of, prepared-by, salvaged-by, next-item, run}
 use Rattle.history.specs.Statements.{Begins}
-use Rattle.history.specs.Tests.{same-lease}
+use Rattle.history.specs.Tests.{holds-equal}
 use Rattle.history.specs.Events.{lives}
-use Rattle.history.specs.Logs.{arena-now}
+use Rattle.history.specs.Logs.{boot-now}
 use Rattle.history.specs.Writers.{looked}
 use Rattle.history.specs.Courses.{Stretch, run-stretch, ledger, begun, events-append, not-prepared, not-salvaged}
 use Rattle.written.specs.Items.{BookItem, arena-item, prepare-book, write-setpoint, read-setpoint, Shift, shiftOf, world-of, next-shift, run-shift}
@@ -72,18 +70,13 @@ one-holder : (w : World) (l k : Hold) → Live w l → Live w k → l .cell ≡ 
 one-holder w l k x y e =
     let a = lives w l x in
     let b = lives w k y in
-    same-lease l k e (sym (a .owner-is) ∙ ap (λ (c : ℕ). ownerAt (w .table) c) e ∙ b .owner-is)
-
--- and with one boot number they are one lease
-one-lease : (l k : Lease) → holdIn l ≡ holdIn k → l .boot ≡ k .boot → l ≡ k
-one-lease l k e b =
-    ap (λ (x : Hold). leaseOf (x .cell) (x .serial) (l .boot)) e ∙ ap (leaseOf (k .cell) (k .serial)) b
+    holds-equal l k e (sym (a .owner-is) ∙ ap (λ (c : ℕ). ownerAt (w .table) c) e ∙ b .owner-is)
 
 pub one-writer : One-writer writeSetpointOf
 one-writer w b c slot l k p q u v x y =
     let f = written-by-holder w b slot l p u x in
     let g = written-by-holder w c slot k q v y in
-    one-lease l k (one-holder w (holdIn l) (holdIn k) (f .0) (g .0) (f .1 ∙ sym (g .1))) (f .2 ∙ sym (g .2))
+    leases-equal l k (one-holder w (holdIn l) (holdIn k) (f .0) (g .0) (f .1 ∙ sym (g .1))) (f .2 ∙ sym (g .2))
 
 -- ---- a log releases a lease, or it does not
 
@@ -177,7 +170,7 @@ still-boot : (k d : Course) → Stretch k → Stretch d → Longer k d → d .wo
 still-boot k d x y m = of d y ∙ ap (λ (w : World). w .head .boot) (m .origin-is) ∙ sym (of k x)
   where
     of : (c : Course) → Stretch c → c .world .head .boot ≡ c .origin .head .boot
-    of c z = ap (λ (w : World). w .head .boot) (z .leads) ∙ ap (λ (h : Head). h .boot) (arena-now (c .origin) (history-of c))
+    of c z = ap (λ (w : World). w .head .boot) (z .leads) ∙ boot-now (c .origin) (history-of c)
 
 -- the first stretch
 started : (w : World) (b : List ℕ) (i : Item) → Begins w i → Stretch (next-shift (shiftOf (cold w) b []) (arena-item i) .course)
@@ -204,5 +197,5 @@ writers-parted rubbish book begin before between slot l k p q u v d x y n g =
     go one two m early late f h (inr r) =
         (r .0, r .1, r .2, m .history-is ∙ ap (λ (es : List Event). history-of (one .course) ++ es) (r .3))
     go one two m early late f h (inl c) =
-        absurd (n (one-lease l k (one-holder (world-of two) (holdIn l) (holdIn k) (still-live (one .course) (two .course) (holdIn l) early late m (f .0) c) (h .0) (f .1 ∙ sym (h .1)))
+        absurd (n (leases-equal l k (one-holder (world-of two) (holdIn l) (holdIn k) (still-live (one .course) (two .course) (holdIn l) early late m (f .0) c) (h .0) (f .1 ∙ sym (h .1)))
         (f .2 ∙ sym (still-boot (one .course) (two .course) early late m) ∙ sym (h .2))))

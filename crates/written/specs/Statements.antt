@@ -16,7 +16,6 @@ use Rattle.setpoint.specs.RoundTrip.{Held}
 use Rattle.setpoint.specs.declared.Setpoint.{Setpoint}
 use Rattle.slots.specs.Layout.{slotsOf, putOf}
 use Rattle.slots.specs.Rules.{firstFault, badTable, badSlot, isBadSlot}
-use Rattle.slots.specs.Calls.{writeSetpointOf, readSetpointOf}
 use Rattle.slots.specs.Reads.{Own, Agree}
 use Rattle.slots.specs.declared.BookAnswer.{BookAnswer}
 use Rattle.slots.specs.declared.BookAnswer.the-variants.{Done, Written, Setting, Refused}

@@ -417,8 +417,8 @@ struct Run<'a> {
 }
 
 impl<'a> Run<'a> {
-    /// Refusals 1, 2, and 3 and 16 of the held list. A call without a registry gives an empty one. `taken` has room for each lease that
-    /// the call may take.
+    /// Refusals 1, 2, and 3 and 16 of the held list. A call without a registry gives an empty one. `taken` has room for
+    /// each lease that the call may take.
     #[allow(clippy::too_many_arguments)]
     fn new(
         head: Head,

@@ -1,8 +1,8 @@
 //! The random histories reach every call, and with every call each answer that it can give; the reasons of a Busy, also
 //! where they change between attempts; the two readings of health in all their cases; keys in any order and doubles;
 //! boot numbers, used and used again, and stale leases at all places of all lists; the book's damages, and its faults two
-//! at a time; the counters of a crew at work; what a salvage finds and what room it has; and echo, map and trace in all
-//! theirs.
+//! at a time; the counters of a crew at work; what a salvage finds and what room it has, and the leases from before it;
+//! and echo, map and trace in all theirs.
 
 use plain::book::{self, BookRefusal};
 use plain::console::{number, Console, Line};
@@ -648,7 +648,7 @@ fn fits(letters: &str, pattern: &str) -> bool {
 /// Leases of a call, by `letters`, and the refusal that it must answer, past 1 and 2: "after the length tests, position by
 /// position, before 3 and 12 at that place". `one` is the lease of a call, `held` a held list, `locks` that of a
 /// multi-lock, `leases` a list to release; where a call is given both, the held list stands before the one lease.
-const BOOTS: [(&str, &str, &str); 37] = [
+const BOOTS: [(&str, &str, &str); 42] = [
     ("one", "s", "16"),
     ("one", "S", "16"),
     ("one", "d", "12"),
@@ -675,7 +675,12 @@ const BOOTS: [(&str, &str, &str); 37] = [
     ("held and one", "l* S", "16"),
     ("held and one", "*s? l", "16"),
     ("held and one", "*S? l", "16"),
+    ("held and one", "ls? l", "16"),
+    ("held and one", "lS? l", "16"),
+    ("held and one", "*!? d", "16"),
     ("held and one", "*d? !", "3"),
+    ("held and one", "?!?+ l", "3"),
+    ("held and one", "?!?+ !", "3"),
     ("leases", "s?", "16"),
     ("leases", "S?", "16"),
     ("leases", "l*s?", "16"),
@@ -687,6 +692,74 @@ const BOOTS: [(&str, &str, &str); 37] = [
     ("leases", "l*r?!?", "14"),
     ("leases", "?!?+", "4"),
 ];
+
+/// The calls with a held list.
+const WITH_HELD: [&str; 11] = [
+    "foreign_release_between_attempts",
+    "acquire_preserving_borrows",
+    "drop_preserving_borrows",
+    "environment",
+    "environment_for_borrows",
+    "try_lock",
+    "other_mutex_preserves_leases",
+    "transactional_try_lock_bucket",
+    "acquire_index_bucket",
+    "acquire_index_locks",
+    "acquire_sorted_locks",
+];
+
+/// What a call with a held list can have wrong besides its held leases, of what is tested behind them and before any
+/// step.
+const BESIDE: [(&str, &[&str]); 7] = [
+    ("acquire_preserving_borrows", &["8"]),
+    ("try_lock", &["8"]),
+    ("other_mutex_preserves_leases", &["8"]),
+    ("transactional_try_lock_bucket", &["5"]),
+    ("acquire_index_bucket", &["5"]),
+    (
+        "acquire_index_locks",
+        &["4 by odd keys", "4 by held and keys", "4 by grants", "5"],
+    ),
+    (
+        "acquire_sorted_locks",
+        &[
+            "4 by odd keys",
+            "4 by held and keys",
+            "4 by grants",
+            "5",
+            "6",
+            "8",
+        ],
+    ),
+];
+
+/// Those of `BESIDE` that a call has.
+fn faults_beside(before: &Console, line: &str) -> Vec<&'static str> {
+    let head = before.head;
+    let named = number(word(line, 1).as_bytes());
+    let keys = before.keys.len() / 2;
+    let [binding, header, bucket] = faults_of_keys(before).map(|position| position.is_some());
+    let sorted = word(line, 0) == "acquire_sorted_locks";
+    let faults: &[(bool, &str)] = match word(line, 0) {
+        "acquire_preserving_borrows" | "try_lock" | "other_mutex_preserves_leases" => {
+            &[(named >= Some(head.headers * head.buckets), "8")]
+        }
+        "transactional_try_lock_bucket" | "acquire_index_bucket" => {
+            &[(named >= Some(before.registry.len() as u32), "5")]
+        }
+        "acquire_index_locks" | "acquire_sorted_locks" => &[
+            (before.keys.len() % 2 != 0, "4 by odd keys"),
+            (before.held.len() / 3 + keys > 64, "4 by held and keys"),
+            (before.grants.len() != 3 * keys, "4 by grants"),
+            (binding, "5"),
+            (sorted && header, "6"),
+            (sorted && bucket, "8"),
+        ],
+        _ => &[],
+    };
+    let there = faults.iter().filter(|(there, _)| *there);
+    there.map(|&(_, fault)| fault).collect()
+}
 
 /// What the leases were that a call was given, and what it answered. `before` is what it was given, under a good head.
 fn cases_of_boot(before: &Console, line: &str, out: &str) -> Vec<String> {
@@ -715,15 +788,7 @@ fn cases_of_boot(before: &Console, line: &str, out: &str) -> Vec<String> {
             }
             ("held and one", list)
         }
-        "acquire_index_locks" | "acquire_sorted_locks" => {
-            let stale = fits(&held, "*!?");
-            if stale && before.grants.len() != before.keys.len() / 2 * 3 {
-                cases.push(format!("locks: 16 and 4: {answer}"));
-            } else if stale && faults_of_keys(before)[0].is_some() {
-                cases.push(format!("locks: 16 and 5: {answer}"));
-            }
-            ("locks", held)
-        }
+        "acquire_index_locks" | "acquire_sorted_locks" => ("locks", held),
         "acquire_preserving_borrows"
         | "environment"
         | "environment_for_borrows"
@@ -760,6 +825,13 @@ fn cases_of_boot(before: &Console, line: &str, out: &str) -> Vec<String> {
             out.starts_with(&wanted) && out.contains(counts),
             "{line}: {list}: {out}"
         );
+        if position > 0 {
+            cases.push(format!("{call}: 16 above position 0"));
+        }
+        // with two of them, a call that is refused wrongly by one would not tell which
+        if let &[fault] = faults_beside(before, line).as_slice() {
+            cases.push(format!("{call}: 16 beside {fault}"));
+        }
     }
     cases
 }
@@ -785,6 +857,12 @@ fn cases_of_preparation(before: u32, boot: u32, used: &BTreeSet<u32>) -> Vec<Str
     cases.into_iter().map(String::from).collect()
 }
 
+/// Whether a line begins with a call that can answer 16: one that is given leases.
+fn can_be_16(line: &str) -> bool {
+    let mut calls = ANSWERS.iter().filter(|(call, _)| *call == word(line, 0));
+    calls.any(|(_, answers)| answers.split(' ').any(|answer| answer == "16"))
+}
+
 /// Stale leases: alone, in each list, at each place and with the faults that come before them and behind; and boot numbers
 /// of preparations, not once but often.
 #[test]
@@ -798,8 +876,8 @@ fn every_case_of_boot() {
         let mut preparations = 0;
         for line in history(seed).split(|&byte| byte == b'\n') {
             let (bytes, line) = (line, String::from_utf8_lossy(line));
-            let named = ANSWERS.iter().find(|(call, _)| *call == word(&line, 0));
-            let by_lease = named.is_some_and(|(_, answers)| answers.ends_with(" 16"));
+            // the lease of a write is tested with its other faults, and behind a salvage
+            let by_lease = can_be_16(&line) && word(&line, 0) != "write_setpoint";
             let before = (by_lease && good_head(console.head)).then(|| console.clone());
             let (boot, mut out) = (console.head.boot, Vec::new());
             let kind = console
@@ -826,8 +904,10 @@ fn every_case_of_boot() {
             let lease = numbers(&out);
             if out.starts_with("granted ") && lease.len() == 3 {
                 assert_eq!(lease[2], console.head.boot);
-                if lease[2] == 0 {
-                    cases.push("granted under boot number 0".to_string());
+                match lease[2] {
+                    0 => cases.push("granted under boot number 0".to_string()),
+                    u32::MAX => cases.push("granted under the greatest boot number".to_string()),
+                    _ => {}
                 }
                 granted.insert(lease, preparations);
             }
@@ -852,8 +932,6 @@ fn every_case_of_boot() {
     }
     let more = [
         "in the held list but for its boot number: 16",
-        "locks: 16 and 4: 16",
-        "locks: 16 and 5: 16",
         "one: stale, 1",
         "held: stale, 1",
         "held: stale, 2",
@@ -867,13 +945,21 @@ fn every_case_of_boot() {
         "prepare: boot number 0",
         "prepare: the greatest boot number",
         "granted under boot number 0",
+        "granted under the greatest boot number",
         "from before a preparation: the boot number is used again, accepted",
         "from before a preparation: the boot number is used again, dead",
         "from before a preparation: another boot number, the same serial",
         "from before a preparation: another boot number, dead",
     ];
     let lists = BOOTS.map(|(name, pattern, _)| format!("{name} {pattern}"));
-    for case in more.map(String::from).into_iter().chain(lists) {
+    let with_list = WITH_HELD.iter().chain(&["release_all"]);
+    let above = with_list.map(|call| format!("{call}: 16 above position 0"));
+    let beside = BESIDE.iter().flat_map(|(call, faults)| {
+        let case = move |fault| format!("{call}: 16 beside {fault}");
+        faults.iter().map(case)
+    });
+    let more = more.map(String::from).into_iter();
+    for case in more.chain(lists).chain(above).chain(beside) {
         assert!(seen.get(&case) >= Some(&10), "{case}: {seen:?}");
     }
 }
@@ -1160,6 +1246,8 @@ fn cases_of_salvage(before: &Console, after: &Console, out: &str, again: bool) -
     let mut cases = BTreeSet::new();
     let Salvaged { changed, held } = found(before);
     let (report, list) = (before.report.len(), before.unconfirmed.len());
+    // "Salvage keeps the boot number of the head it was given."
+    assert_eq!(before.head, after.head, "{out}");
     if !out.starts_with("done ") {
         assert!(before.table == after.table && before.health == after.health);
         assert!(before.report == after.report && before.unconfirmed == after.unconfirmed);
@@ -1294,6 +1382,113 @@ fn every_case_of_salvage() {
         "another health",
     ] {
         assert!(seen.get(case) >= Some(&20), "{case}: {seen:?}");
+    }
+}
+
+/// A salvage that was done.
+struct Dip {
+    /// The boot number of the head before the paper's, if it was another.
+    before: Option<u32>,
+    /// Cell and serial of the cells left held.
+    left: BTreeSet<[u32; 2]>,
+}
+
+/// What a call behind a salvage said to leases from before it: to those with the boot number that the salvage kept, or
+/// to one that is live but for its boot number, which is that of the head before if the paper's was another. `before`
+/// is what the call was given, under a good head.
+fn case_behind_salvage(dip: &Dip, before: &Console, line: &str, out: &str) -> Option<String> {
+    let call = word(line, 0);
+    let lease = |from: usize| -> Vec<u32> {
+        (from..from + 3)
+            .filter_map(|at| number(word(line, at).as_bytes()))
+            .collect()
+    };
+    let (way, list) = match call {
+        "write_setpoint" => (call, lease(2)),
+        "release_all" => (call, before.leases.clone()),
+        _ if !WITH_HELD.contains(&call) => ("alone", lease(1)),
+        _ => ("in a held list", before.held.clone()),
+    };
+    let leases: Vec<&[u32]> = list.chunks_exact(3).collect();
+    let is_left = |lease: &[u32]| dip.left.contains(&[lease[0], lease[1]]);
+    let paper = match dip.before {
+        None => "the boot number in force",
+        Some(_) => "another boot number",
+    };
+    if !out.starts_with("refused ") {
+        assert!(leases.iter().all(|lease| lease[2] == before.head.boot));
+        let all = !leases.is_empty() && leases.iter().all(|lease| is_left(lease));
+        return all.then(|| format!("{paper}, {way}: accepted"));
+    }
+    // the one lease behind a held list has position 0 too, and the list has no stale one then
+    let lease = leases.get(behind(out, "StaleBoot")? as usize)?;
+    let stale = lease[2] != before.head.boot && dip.before.is_none_or(|boot| lease[2] == boot);
+    let live = letters(before, &[lease[0], lease[1], before.head.boot]) == "l";
+    (stale && live && is_left(lease)).then(|| format!("{paper}, {way}: 16"))
+}
+
+/// "Salvage keeps the boot number of the head it was given", the one in force or another, and knows no other: leases
+/// from before it are accepted with that one, and stale with any other, not once but often.
+#[test]
+fn every_case_of_boot_behind_a_salvage() {
+    let mut seen: BTreeMap<String, usize> = BTreeMap::new();
+    for seed in 1..=6 {
+        let mut console = Console::new();
+        // the boot number of the head in the last call but for salvages, if another head was put in force since
+        let mut paper = None;
+        // up to the next head and the next preparation
+        let mut dip: Option<Dip> = None;
+        for line in history(seed).split(|&byte| byte == b'\n') {
+            let (bytes, line) = (line, String::from_utf8_lossy(line));
+            let by_lease = dip.is_some() && can_be_16(&line) && good_head(console.head);
+            let before = by_lease.then(|| console.clone());
+            let (boot, mut out) = (console.head.boot, Vec::new());
+            let kind = console
+                .line(bytes, &mut out)
+                .expect("a vector takes every byte");
+            let out = String::from_utf8_lossy(&out);
+            let mut case = None;
+            match (word(&line, 0), kind) {
+                ("head", Line::Command) => {
+                    paper = paper.or(Some(boot));
+                    dip = None;
+                }
+                ("salvage", Line::Call) if out.starts_with("done ") => {
+                    let before = paper.filter(|&old| old != boot);
+                    case = before.map(|_| "done under another boot number".to_string());
+                    let (words, _) = console.lent(console.head);
+                    let cells = (0..).zip(console.table[..words].chunks_exact(3));
+                    let left = cells
+                        .filter(|(_, words)| words[0] == 1)
+                        .map(|(cell, words)| [cell, words[1]])
+                        .collect();
+                    dip = Some(Dip { before, left });
+                }
+                ("salvage", Line::Call) => {}
+                (_, Line::Call) => {
+                    paper = None;
+                    if line.starts_with("prepare ") && out.starts_with("done ") {
+                        dip = None;
+                    }
+                    if let (Some(dip), Some(before)) = (&dip, &before) {
+                        case = case_behind_salvage(dip, before, &line, &out);
+                    }
+                }
+                _ => {}
+            }
+            if let Some(case) = case {
+                *seen.entry(case).or_default() += 1;
+            }
+        }
+    }
+    let mut expected = vec!["done under another boot number".to_string()];
+    for paper in ["the boot number in force", "another boot number"] {
+        for way in ["alone", "in a held list", "release_all", "write_setpoint"] {
+            expected.extend(["accepted", "16"].map(|said| format!("{paper}, {way}: {said}")));
+        }
+    }
+    for case in expected {
+        assert!(seen.get(&case) >= Some(&10), "{case}: {seen:?}");
     }
 }
 

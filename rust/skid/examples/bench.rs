@@ -16,6 +16,12 @@ const CELL_2: Key = Key {
 };
 const GUARD: u32 = 77;
 const BOOT: u32 = 5;
+const NO_COUNTS: Counts = Counts {
+    attempts: 0,
+    boundaries: 0,
+    yields: 0,
+    dropped: 0,
+};
 
 /// What is checked, and how many cases passed.
 struct Bench {
@@ -66,9 +72,7 @@ impl Bench {
         };
         let counts = Counts {
             attempts,
-            boundaries: 0,
-            yields: 0,
-            dropped: 0,
+            ..NO_COUNTS
         };
         let want = Reply {
             head,
@@ -339,16 +343,7 @@ fn no_keys(b: &mut Bench) {
     with_arena(1, |arena| {
         let played = arena.acquire_index_locks(&REGISTRY, &mut Script::quiet(), &[], &[], &mut []);
         b.check("answer", played.answer, Answer::AllGranted);
-        b.check(
-            "counts",
-            played.counts,
-            Counts {
-                attempts: 0,
-                boundaries: 0,
-                yields: 0,
-                dropped: 0,
-            },
-        );
+        b.check("counts", played.counts, NO_COUNTS);
     });
 }
 
@@ -611,6 +606,85 @@ fn stale_leases(b: &mut Bench) {
         b.replied(call, 3, 0, refused);
         b.replied(arena.drop_lease(GOVERNOR), 3, 0, Answer::Done);
     });
+}
+
+/// A call with a held list: its script, the list, room for a grant. Cell 1 is free, and serial 3 holds cell 3.
+type HeldCall = fn(&mut Arena, &mut Script, &[Lease], &mut [Lease]) -> Played;
+
+/// A reply without a script leaves the script where it is.
+fn beside(script: &Script, reply: Reply) -> Played {
+    Played {
+        head: reply.head,
+        place: script.place(),
+        counts: reply.counts,
+        answer: reply.answer,
+    }
+}
+
+const CELL_1: Key = Key {
+    binding: 0,
+    bucket: 1,
+};
+const HELD_CALLS: [(&str, HeldCall); 11] = [
+    ("environment", |a, s, held, _| a.environment(s, held)),
+    ("environment_for_borrows", |a, s, held, _| {
+        a.environment_for_borrows(s, held)
+    }),
+    ("try_lock", |a, s, held, _| a.try_lock(s, held, 1)),
+    ("other_mutex_preserves_leases", |a, s, held, _| {
+        a.other_mutex_preserves_leases(s, held, 1)
+    }),
+    ("transactional_try_lock_bucket", |a, s, held, _| {
+        a.transactional_try_lock_bucket(&REGISTRY, s, held, CELL_1)
+    }),
+    ("acquire_index_bucket", |a, s, held, _| {
+        a.acquire_index_bucket(&REGISTRY, s, held, CELL_1)
+    }),
+    ("acquire_index_locks", |a, s, held, grants| {
+        a.acquire_index_locks(&REGISTRY, s, held, &[CELL_1], grants)
+    }),
+    ("acquire_sorted_locks", |a, s, held, grants| {
+        a.acquire_sorted_locks(&REGISTRY, s, held, &[CELL_1], grants)
+    }),
+    ("acquire_preserving_borrows", |a, s, held, _| {
+        beside(s, a.acquire_preserving_borrows(held, 1))
+    }),
+    ("drop_preserving_borrows", |a, s, held, _| {
+        beside(s, a.drop_preserving_borrows(held, leased(3, 3)))
+    }),
+    ("foreign_release_between_attempts", |a, s, held, _| {
+        beside(s, a.foreign_release_between_attempts(held, leased(3, 3)))
+    }),
+];
+
+fn stale_in_held_lists(b: &mut Bench) {
+    let steps = [Step::take(6), Step::waiters(7, 4)];
+    for (name, call) in HELD_CALLS {
+        with_two(|arena| {
+            assert_eq!(arena.try_acquire(3).answer, granted(3, 3));
+            foreign(arena, Step::waiters(0, 6));
+            foreign(arena, Step::health(1, true));
+            let mut script = Script::starting_at(&steps, 1);
+            let (before, mut grants) = (arena.table().to_vec(), [NINES]);
+            let want = Played {
+                head: arena.head(),
+                place: 1,
+                counts: NO_COUNTS,
+                answer: Answer::Refused(Refusal::StaleBoot(1)),
+            };
+            let played = call(arena, &mut script, &[GOVERNOR, stale(5, 2)], &mut grants);
+            b.check(name, played, want);
+            b.check("head", arena.head(), want.head);
+            b.check("place", script.place(), 1);
+            b.check("table as it was", arena.table() == before, true);
+            b.check("health", arena.health(), &[0, 1]);
+            b.check("grants", grants, [NINES]);
+            // but for that number nothing is wrong
+            let played = call(arena, &mut script, &[GOVERNOR, leased(5, 2)], &mut grants);
+            let refused = matches!(played.answer, Answer::Refused(_) | Answer::RefusedAt(..));
+            b.check("else refused", refused, false);
+        });
+    }
 }
 
 fn stale_in_lists(b: &mut Bench) {
@@ -1023,6 +1097,7 @@ fn main() {
     b.case("refused salvages", refused_salvage);
     let salvages = b.passed - cases - sorts;
     b.case("calls by a lease of another boot number", stale_leases);
+    b.case("held lists with such a lease", stale_in_held_lists);
     b.case("lists with such a lease", stale_in_lists);
     b.case("a lease from before a preparation", second_preparation);
     let boots = b.passed - cases - sorts - salvages;

@@ -52,6 +52,10 @@ pub use salvage::{Change, SalvageRefusal, Salvaged};
 pub const VERSION: &str = env!("CARGO_PKG_VERSION");
 /// Words of a table for each cell: bit, owner, waiters.
 pub const CELL_WORDS: usize = 3;
+/// Words of a [`Lease`], in a held list, a list to release or a grant buffer: cell, serial, boot number.
+pub const LEASE_WORDS: usize = 3;
+/// Words of a [`Key`]: binding, bucket.
+pub const KEY_WORDS: usize = 2;
 /// A next serial at which none remains.
 pub const NO_SERIAL: u32 = 4_294_967_295;
 /// Attempts on a key before [`Refusal::SerializationFailure`].

@@ -7,7 +7,7 @@
 //! changes they count words.
 #![allow(clippy::too_many_arguments)]
 
-use crate::{Change, Head, Key, Lease, Step};
+use crate::{Change, Head, Key, Lease, Step, KEY_WORDS, LEASE_WORDS};
 use core::mem::{align_of, size_of};
 
 /// Words of a reply.
@@ -24,8 +24,8 @@ pub(crate) const WAVE: usize = 3;
 const BLANK: u64 = 0xa5a5_a5a5_a5a5_a5a5;
 
 // Leases, keys, steps and changes are lent as the words that they are made of, in their order (`repr(C)`).
-const _: () = assert!(size_of::<Lease>() == 12 && align_of::<Lease>() == 4);
-const _: () = assert!(size_of::<Key>() == 8 && align_of::<Key>() == 4);
+const _: () = assert!(size_of::<Lease>() == 4 * LEASE_WORDS && align_of::<Lease>() == 4);
+const _: () = assert!(size_of::<Key>() == 4 * KEY_WORDS && align_of::<Key>() == 4);
 const _: () = assert!(size_of::<Step>() == 12 && align_of::<Step>() == 4);
 const _: () = assert!(size_of::<Change>() == 12 && align_of::<Change>() == 4);
 
@@ -618,7 +618,7 @@ pub(crate) fn foreign_release_between_attempts(
             table.as_mut_ptr(),
             table.len(),
             held.as_ptr().cast(),
-            3 * held.len(),
+            LEASE_WORDS * held.len(),
             lease.cell,
             lease.serial,
             lease.boot,
@@ -645,7 +645,7 @@ pub(crate) fn acquire_preserving_borrows(
             table.as_mut_ptr(),
             table.len(),
             held.as_ptr().cast(),
-            3 * held.len(),
+            LEASE_WORDS * held.len(),
             cell,
             &mut reply,
         );
@@ -670,7 +670,7 @@ pub(crate) fn drop_preserving_borrows(
             table.as_mut_ptr(),
             table.len(),
             held.as_ptr().cast(),
-            3 * held.len(),
+            LEASE_WORDS * held.len(),
             lease.cell,
             lease.serial,
             lease.boot,
@@ -704,7 +704,7 @@ pub(crate) fn environment(
             3 * script.len(),
             place,
             held.as_ptr().cast(),
-            3 * held.len(),
+            LEASE_WORDS * held.len(),
             &mut reply,
         );
     }
@@ -735,7 +735,7 @@ pub(crate) fn environment_for_borrows(
             3 * script.len(),
             place,
             held.as_ptr().cast(),
-            3 * held.len(),
+            LEASE_WORDS * held.len(),
             &mut reply,
         );
     }
@@ -767,7 +767,7 @@ pub(crate) fn try_lock(
             3 * script.len(),
             place,
             held.as_ptr().cast(),
-            3 * held.len(),
+            LEASE_WORDS * held.len(),
             cell,
             &mut reply,
         );
@@ -800,7 +800,7 @@ pub(crate) fn other_mutex_preserves_leases(
             3 * script.len(),
             place,
             held.as_ptr().cast(),
-            3 * held.len(),
+            LEASE_WORDS * held.len(),
             cell,
             &mut reply,
         );
@@ -836,7 +836,7 @@ pub(crate) fn transactional_try_lock_bucket(
             3 * script.len(),
             place,
             held.as_ptr().cast(),
-            3 * held.len(),
+            LEASE_WORDS * held.len(),
             key.binding,
             key.bucket,
             &mut reply,
@@ -873,7 +873,7 @@ pub(crate) fn acquire_index_bucket(
             3 * script.len(),
             place,
             held.as_ptr().cast(),
-            3 * held.len(),
+            LEASE_WORDS * held.len(),
             key.binding,
             key.bucket,
             &mut reply,
@@ -906,7 +906,7 @@ pub(crate) fn release_all(
             3 * script.len(),
             place,
             leases.as_ptr().cast(),
-            3 * leases.len(),
+            LEASE_WORDS * leases.len(),
             &mut reply,
         );
     }
@@ -942,11 +942,11 @@ pub(crate) fn acquire_index_locks(
             3 * script.len(),
             place,
             held.as_ptr().cast(),
-            3 * held.len(),
+            LEASE_WORDS * held.len(),
             keys.as_ptr().cast(),
-            2 * keys.len(),
+            KEY_WORDS * keys.len(),
             grants.as_mut_ptr().cast(),
-            3 * grants.len(),
+            LEASE_WORDS * grants.len(),
             &mut reply,
         );
     }
@@ -982,11 +982,11 @@ pub(crate) fn acquire_sorted_locks(
             3 * script.len(),
             place,
             held.as_ptr().cast(),
-            3 * held.len(),
+            LEASE_WORDS * held.len(),
             keys.as_ptr().cast(),
-            2 * keys.len(),
+            KEY_WORDS * keys.len(),
             grants.as_mut_ptr().cast(),
-            3 * grants.len(),
+            LEASE_WORDS * grants.len(),
             &mut reply,
         );
     }

@@ -13,19 +13,19 @@ element-copy-out-mark : tie.Need-element-copy-out-mark
 element-copy-out-mark c = search needs
 
 returns : tie.Need-returns
-returns c = let a = c .before .before .before .before .args in sym (unmarked (a .marks .now) (a .held .now) (a .lease) (c .before .before .before .before .pre) (c .if1 .taken))
+returns c = let a = c .before .before .before .before .args in sym (unmarked (a .marks .now) (a .held .now) (a .hold) (c .before .before .before .before .pre) (c .if1 .taken))
 
 sub-is-in-from : tie.Need-sub-is-in-from
 sub-is-in-from c = search needs
 
 cast-is-in-from : tie.Need-cast-is-in-from
-cast-is-in-from c = let a = c .before .before .before .before .args in record { fits = omega (arith, c .before .before .before .before .pre .low (a .lease .cell)) }
+cast-is-in-from c = let a = c .before .before .before .before .args in record { fits = omega (arith, c .before .before .before .before .pre .low (a .hold .cell)) }
 
 is-in-from-requires : tie.Need-is-in-from-requires
 is-in-from-requires c κs = search needs
 
 returns-2 : tie.Need-returns-2
-returns-2 c = let a = c .before .before .before .before .before .args in rw (marked (a .marks .now) (a .held .now) (a .lease) (c .before .before .before .before .before .pre)) (c .is-in-from .ensures)
+returns-2 c = let a = c .before .before .before .before .before .args in rw (marked (a .marks .now) (a .held .now) (a .hold) (c .before .before .before .before .before .pre)) (c .is-in-from .ensures)
 
 pub is-held-spec : {M : Type 1} → statement M
 is-held-spec =

@@ -10,10 +10,10 @@ use Rattle.foreign.specs.Model.{pairsOf}
 use Rattle.foreign.proofs.is_in_pairs.Tie as tie
 
 abbrev Inv-loop : tie.InvT-loop
-Inv-loop taken n lease i₀ i = (i ≤ n) × (isIn lease (pairsOf (n - i) i taken) ≡ isIn lease (pairsOf n 0 taken))
+Inv-loop taken n hold i₀ i = (i ≤ n) × (isIn hold (pairsOf (n - i) i taken) ≡ isIn hold (pairsOf n 0 taken))
 
 abbrev μ-loop : tie.MeasureT-loop
-μ-loop taken n lease i₀ i = n - i
+μ-loop taken n hold i₀ i = n - i
 
 loop-holds : tie.Need-loop-holds Inv-loop μ-loop
 loop-holds c = (search needs, let e : c .args .n - 0 ≡ c .args .n = omega arith in rw e)

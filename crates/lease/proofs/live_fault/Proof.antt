@@ -3,7 +3,6 @@ use Prim.Native.Nat.{_≤_, _*_, _-_, _/_}
 use mathlib.Core.Path.{_≡_, refl}
 use lib.ListN.{length, drop}
 use borrow.Author.Needs.{needs}
-use borrow.Author.Tests.{eq-eqb, ne-eqb}
 use Rattle.model.specs.Arena.{leasesOf}
 use Rattle.model.specs.Checks.{notLive}
 use Rattle.model.specs.Refusals.{first}
@@ -20,45 +19,20 @@ abbrev μ-loop : tie.MeasureT-loop
 loop-holds : tie.Need-loop-holds Inv-loop μ-loop
 loop-holds c = (search needs, refl)
 
-mul-if1 : tie.Need-mul-if1 Inv-loop μ-loop
-mul-if1 c = search needs
+lease-in-requires : tie.Need-lease-in-requires Inv-loop μ-loop
+lease-in-requires c κs = search needs
 
-add-if1 : tie.Need-add-if1 Inv-loop μ-loop
-add-if1 c = search needs
-
-mul-if1-2 : tie.Need-mul-if1-2 Inv-loop μ-loop
-mul-if1-2 c = search needs
-
-shared-slice-read-if1 : tie.Need-shared-slice-read-if1 Inv-loop μ-loop
-shared-slice-read-if1 c = search needs
+is-stale-requires : tie.Need-is-stale-requires Inv-loop μ-loop
+is-stale-requires c κs = search needs
 
 returns : tie.Need-returns Inv-loop μ-loop
-returns c = let l = c .before .before .before .before .loop in let a = c .before .before .before .before .before .before .before .args in
-    rw (← l .inv .1, not-live-at (a .head) (a .table .now) (a .held .now) (l .i) (search needs), ne-eqb _ _ (c .if1 .taken))
-
-mul-is-live : tie.Need-mul-is-live Inv-loop μ-loop
-mul-is-live c = search needs
-
-mul-is-live-2 : tie.Need-mul-is-live-2 Inv-loop μ-loop
-mul-is-live-2 c = search needs
-
-shared-slice-read-is-live : tie.Need-shared-slice-read-is-live Inv-loop μ-loop
-shared-slice-read-is-live c = search needs
-
-mul-is-live-3 : tie.Need-mul-is-live-3 Inv-loop μ-loop
-mul-is-live-3 c = search needs
-
-add-is-live : tie.Need-add-is-live Inv-loop μ-loop
-add-is-live c = search needs
-
-mul-is-live-4 : tie.Need-mul-is-live-4 Inv-loop μ-loop
-mul-is-live-4 c = search needs
-
-shared-slice-read-is-live-2 : tie.Need-shared-slice-read-is-live-2 Inv-loop μ-loop
-shared-slice-read-is-live-2 c = search needs
+returns c =
+    let l = c .before .before .before .before .loop in
+    let a = c .before .before .before .before .before .before .before .args in
+    rw (← l .inv .1, not-live-at (a .head) (a .table .now) (a .held .now) (l .i) _ (c .before .before .lease-in .ensures) (search needs), ← c .before .is-stale .ensures, c .if1 .taken)
 
 is-live-requires : tie.Need-is-live-requires Inv-loop μ-loop
-is-live-requires c κs = c .before .before .before .before .before .before .before .before .before .pre
+is-live-requires c κs = search needs
 
 add-i : tie.Need-add-i Inv-loop μ-loop
 add-i c = search needs
@@ -67,12 +41,16 @@ loop-less : tie.Need-loop-less Inv-loop μ-loop
 loop-less c = search needs
 
 loop-again : tie.Need-loop-again Inv-loop μ-loop
-loop-again c = let l = c .before .before .before .before .before .before .before .before .loop in let a = c .before .before .before .before .before .before .before .before .before .before .before .args in
-    (search needs, rw (← l .inv .1, not-live-at (a .head) (a .table .now) (a .held .now) (l .i) (search needs), eq-eqb _ _ (c .before .before .before .before .if1 .left), ← c .before .is-live .ensures, c .if2 .taken))
+loop-again c =
+    let l = c .before .before .before .before .before .before .loop in
+    let a = c .before .before .before .before .before .before .before .before .before .args in
+    (search needs, rw (← l .inv .1, not-live-at (a .head) (a .table .now) (a .held .now) (l .i) _ (c .before .before .before .before .lease-in .ensures) (search needs), ← c .before .before .before .is-stale .ensures, c .before .before .if1 .left, ← c .before .is-live .ensures, c .if2 .taken))
 
 returns-2 : tie.Need-returns-2 Inv-loop μ-loop
-returns-2 c = let l = c .before .before .before .before .before .before .before .before .loop in let a = c .before .before .before .before .before .before .before .before .before .before .before .args in
-    rw (← l .inv .1, not-live-at (a .head) (a .table .now) (a .held .now) (l .i) (search needs), eq-eqb _ _ (c .before .before .before .before .if1 .left), ← c .before .is-live .ensures, c .if2 .left)
+returns-2 c =
+    let l = c .before .before .before .before .before .before .loop in
+    let a = c .before .before .before .before .before .before .before .before .before .args in
+    rw (← l .inv .1, not-live-at (a .head) (a .table .now) (a .held .now) (l .i) _ (c .before .before .before .before .lease-in .ensures) (search needs), ← c .before .before .before .is-stale .ensures, c .before .before .if1 .left, ← c .before .is-live .ensures, c .if2 .left)
 
 returns-3 : tie.Need-returns-3 Inv-loop μ-loop
 returns-3 c = let l = c .before .loop in let a = c .before .before .before .before .args in
@@ -85,18 +63,9 @@ live-fault-spec =
     Inv-loop
     μ-loop
     loop-holds
-    mul-if1
-    add-if1
-    mul-if1-2
-    shared-slice-read-if1
+    lease-in-requires
+    is-stale-requires
     returns
-    mul-is-live
-    mul-is-live-2
-    shared-slice-read-is-live
-    mul-is-live-3
-    add-is-live
-    mul-is-live-4
-    shared-slice-read-is-live-2
     is-live-requires
     add-i
     loop-less

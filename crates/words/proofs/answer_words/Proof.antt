@@ -15,14 +15,8 @@ cast-t9 c = search needs
 enum-known-answer-2 : tie.Need-enum-known-answer-2
 enum-known-answer-2 c = search needs
 
-cast-t10 : tie.Need-cast-t10
-cast-t10 c = search needs
-
-cast-t11 : tie.Need-cast-t11
-cast-t11 c = search needs
-
-cast-t12 : tie.Need-cast-t12
-cast-t12 c = search needs
+granted-words-requires : tie.Need-granted-words-requires
+granted-words-requires c κs = search needs
 
 enum-told-2 : tie.Need-enum-told-2
 enum-told-2 c = search needs
@@ -58,7 +52,7 @@ returns-2 : tie.Need-returns-2
 returns-2 c = rw (c .before .answer .given .1)
 
 returns-3 : tie.Need-returns-3
-returns-3 c = rw (c .before .before .before .before .answer2 .given .1)
+returns-3 c = rw (c .before .before .answer2 .given .1, ← c .granted-words .ensures)
 
 returns-4 : tie.Need-returns-4
 returns-4 c = search needs
@@ -80,9 +74,7 @@ answer-words-spec =
     enum-known-answer
     cast-t9
     enum-known-answer-2
-    cast-t10
-    cast-t11
-    cast-t12
+    granted-words-requires
     enum-told-2
     enum-known-answer-3
     number-requires

@@ -18,14 +18,8 @@ cast-t5 c = search needs
 enum-known-answer-2 : tie.Need-enum-known-answer-2
 enum-known-answer-2 c = search needs
 
-cast-t6 : tie.Need-cast-t6
-cast-t6 c = search needs
-
-cast-t7 : tie.Need-cast-t7
-cast-t7 c = search needs
-
-cast-t8 : tie.Need-cast-t8
-cast-t8 c = search needs
+granted-words-requires : tie.Need-granted-words-requires
+granted-words-requires c κs = search needs
 
 enum-told-2 : tie.Need-enum-told-2
 enum-told-2 c = search needs
@@ -55,7 +49,7 @@ returns-2 : tie.Need-returns-2
 returns-2 c = rw (c .before .answer .given .1)
 
 returns-3 : tie.Need-returns-3
-returns-3 c = rw (c .before .before .before .before .answer2 .given .1)
+returns-3 c = rw (c .before .before .answer2 .given .1, ← c .granted-words .ensures)
 
 returns-4 : tie.Need-returns-4
 returns-4 c = search needs
@@ -77,9 +71,7 @@ said-words-spec =
     enum-known-answer
     cast-t5
     enum-known-answer-2
-    cast-t6
-    cast-t7
-    cast-t8
+    granted-words-requires
     enum-told-2
     enum-told-3
     answer-words-requires

@@ -521,11 +521,11 @@ impl Writer {
         [cell, serial, boot]
     }
 
-    /// The boot number of a preparation: mostly a new one, the next or any; else 0, one used before, or the one in
-    /// force.
+    /// The boot number of a preparation: mostly a new one, the next or any; else 0, the greatest, one used before, or
+    /// the one in force.
     fn next_boot(&mut self) -> u32 {
         match self.dice.below(16) {
-            0 => 0,
+            0 => self.dice.pick(&[0, u32::MAX]),
             1 => self.dice.odd_number(),
             2 => self.dice.roll() as u32,
             3..=4 if !self.boots.is_empty() => self.dice.pick(&self.boots),
@@ -1012,6 +1012,14 @@ impl Writer {
         self.write("script", &script);
     }
 
+    /// A script under which some of the first cells are taken in one boundary, those that are free.
+    fn taking_script(&mut self) {
+        let mut cells = counting(self.cells().min(12));
+        cells.retain(|_| self.dice.once_in(2));
+        let script: Vec<u32> = cells.iter().flat_map(|&cell| [1, cell, 0]).collect();
+        self.write("script", &script);
+    }
+
     /// A script that takes each cell as soon as `release_all` has given it up, and now and then another.
     fn greedy_script(&mut self) {
         let leases = self.console.leases.chunks_exact(3);
@@ -1079,6 +1087,14 @@ impl Writer {
     /// for changing reasons; in the end it is held or waited for, and stays so.
     fn restless_script(&mut self, cell: u32) {
         let mut script = Vec::new();
+        // held by one in the first attempt, and by another from then on
+        if self.dice.once_in(5) {
+            script.extend([1, cell, 0]);
+            script.extend([5, 0, 0].repeat(self.dice.below(3) + 2));
+            script.extend([2, cell, self.next(), 1, cell, 0]);
+            self.write("script", &script);
+            return;
+        }
         // others wait in the third boundary and no more in the fourth, or the fifth
         if self.dice.once_in(3) {
             script.extend([5, 0, 0, 5, 0, 0, 3, cell, 1, 5, 0, 0]);
@@ -1163,13 +1179,13 @@ impl Writer {
                 insert(&mut list, &mut self.dice, lease);
             }
             // one twice, so that release_all refuses it too
-            2 => {
+            2..=3 => {
                 let again = 3 * self.dice.below(list.len() / 3);
                 let lease = [list[again], list[again + 1], list[again + 2]];
                 insert(&mut list, &mut self.dice, lease);
             }
             // no whole leases
-            3 if self.dice.once_in(2) => list.extend(&[0, 0][..self.dice.below(2) + 1]),
+            4 if self.dice.once_in(2) => list.extend(&[0, 0][..self.dice.below(2) + 1]),
             _ => {}
         }
         list
@@ -1214,8 +1230,8 @@ impl Writer {
                     insert(&mut list, &mut self.dice, lease);
                 }
             }
-            11..=13 => list = self.live_and_stale(),
-            14 => list = without_boots(&list),
+            11..=14 => list = self.live_and_stale(),
+            15 => list = without_boots(&list),
             _ => {}
         }
         self.write("leases", &list);
@@ -1491,6 +1507,7 @@ impl Writer {
             21 => self.echo(),
             22 => self.trace(),
             23 => self.same_day_again(),
+            24 => self.stale_beside(),
             _ => {}
         }
         self.call();
@@ -1534,8 +1551,10 @@ impl Writer {
             17..=20 => self.call_by_cell("acquire_preserving_borrows"),
             21..=24 => self.write("drop_preserving_borrows", &lease),
             25..=28 => {
-                if self.dice.once_in(5) {
-                    self.letting_go_script();
+                match self.dice.below(15) {
+                    0..=2 => self.letting_go_script(),
+                    3 => self.taking_script(),
+                    _ => {}
                 }
                 let call = self.dice.pick(&["environment", "environment_for_borrows"]);
                 self.write(call, &[]);
@@ -1581,7 +1600,7 @@ impl Writer {
         cells.truncate(4);
         let boots = [self.next_boot(), self.next_boot()];
         // now and then it is the same one, and the leases are good again
-        let again = boots[usize::from(!self.dice.once_in(5))];
+        let again = boots[usize::from(!self.dice.once_in(3))];
         for boot in [boots[0], again] {
             self.prepare_under(boot, headers, buckets, first);
             for &cell in &cells {
@@ -1592,9 +1611,6 @@ impl Writer {
         let leases: Vec<[u32; 3]> = serials
             .map(|(&cell, serial)| [cell, serial, boots[0]])
             .collect();
-        if leases.is_empty() {
-            return;
-        }
         let mut list = self.some_live(4);
         match self.dice.below(6) {
             0..=1 => list.clear(),
@@ -1602,16 +1618,25 @@ impl Writer {
             _ => {}
         }
         self.write("held", &list);
-        for _ in 0..self.dice.below(4) + 1 {
-            let lease = self.dice.pick(&leases);
-            match self.dice.below(9) {
+        self.hand_over(&leases);
+    }
+
+    /// Calls that are given one of these leases, alone, in a list or for the book.
+    fn hand_over(&mut self, leases: &[[u32; 3]]) {
+        if leases.is_empty() {
+            return;
+        }
+        for _ in 0..self.dice.below(4) + 2 {
+            let lease = self.dice.pick(leases);
+            match self.dice.below(13) {
                 0 => self.write("drop_lease", &lease),
-                1 => self.write("read_permission", &lease),
-                2 => self.write("release_then_handoff", &lease),
-                3..=4 => self.write("drop_preserving_borrows", &lease),
-                5 => self.write("foreign_release_between_attempts", &lease),
-                6 => self.write_setpoint(lease[0], lease, "speed", 1),
-                7 => {
+                1..=2 => self.write("read_permission", &lease),
+                3 => self.write("competing_acquire_is_excluded", &lease),
+                4 => self.write("release_then_handoff", &lease),
+                5..=6 => self.write("drop_preserving_borrows", &lease),
+                7 => self.write("foreign_release_between_attempts", &lease),
+                8..=9 => self.write_setpoint(lease[0], lease, "speed", 1),
+                10..=11 => {
                     let mut list = self.some_live(3);
                     insert(&mut list, &mut self.dice, lease);
                     self.write("leases", &list);
@@ -1626,6 +1651,91 @@ impl Writer {
                 }
             }
         }
+    }
+
+    /// Calls with a stale lease in their held list and something that is tested behind it: no such cell or binding,
+    /// keys that are refused, a lease; or the held list has a word or two too many besides.
+    fn stale_beside(&mut self) {
+        let mut held = self.live_and_stale();
+        // a live one before all others, and then mostly a stale one
+        let live = self.live();
+        if !live.is_empty() && self.dice.once_in(2) {
+            if !self.dice.once_in(3) {
+                let [cell, serial, boot] = self.dice.pick(&live);
+                let other = serial.wrapping_add(self.dice.number(2));
+                held.splice(..0, self.of_another_boot([cell, other, boot]));
+            }
+            held.splice(..0, self.dice.pick(&live));
+        }
+        let beside = self.dice.below(6);
+        if beside == 0 {
+            held.extend(&[1, 1][..self.dice.below(2) + 1]);
+        }
+        self.write("held", &held);
+        match beside {
+            0..=1 => {
+                let mut lease = self.lease();
+                if !live.is_empty() && !self.dice.once_in(4) {
+                    lease = self.dice.pick(&live);
+                    if self.dice.once_in(4) {
+                        lease = self.of_another_boot(lease);
+                    }
+                }
+                self.write("foreign_release_between_attempts", &lease);
+                self.write("drop_preserving_borrows", &lease);
+            }
+            2 => {
+                let more = self.dice.pick(&[0, 0, 1, u32::MAX]);
+                let cell = self.cells().saturating_add(more);
+                self.write("acquire_preserving_borrows", &[cell]);
+                self.write("try_lock", &[cell]);
+                self.write("other_mutex_preserves_leases", &[cell]);
+            }
+            3 => {
+                let bindings = self.console.registry.len() as u32;
+                let binding = bindings.saturating_add(self.dice.pick(&[0, 0, 1, u32::MAX]));
+                let [_, bucket] = self.key();
+                self.write("transactional_try_lock_bucket", &[binding, bucket]);
+                self.acquire(binding, bucket);
+            }
+            _ => {
+                self.refused_keys();
+                self.write_retrying("acquire_index_locks", &[]);
+                self.write_retrying("acquire_sorted_locks", &[]);
+            }
+        }
+        self.write("environment_for_borrows", &[]);
+        self.held();
+    }
+
+    /// Keys that are not whole, too many beside the held list, with a grant buffer of another length, or with a binding
+    /// or a bucket that is none.
+    fn refused_keys(&mut self) {
+        let (bindings, buckets) = (self.console.registry.len() as u32, self.buckets());
+        let mut keys = Vec::new();
+        for _ in 0..self.dice.below(3) + 1 {
+            keys.extend(self.free_key());
+        }
+        let mut grants = 3 * keys.len() as u32 / 2;
+        let at = 2 * self.dice.below(keys.len() / 2);
+        match self.dice.below(9) {
+            0..=1 => keys.push(self.dice.number(2)),
+            2..=3 => {
+                let least = 65 - (self.console.held.len() / 3).min(64);
+                let key = self.free_key();
+                keys = key.repeat(least + self.dice.below(2));
+                grants = 3 * keys.len() as u32 / 2;
+            }
+            4..=5 => {
+                grants = self
+                    .dice
+                    .pick(&[0, grants - 1, grants + 1, keys.len() as u32])
+            }
+            6..=7 => keys[at] = bindings + self.dice.number(2),
+            _ => keys[at + 1] = buckets + self.dice.number(2),
+        }
+        self.write("keys", &keys);
+        self.write("grants", &[grants]);
     }
 
     fn call_by_cell(&mut self, call: &str) {
@@ -1878,8 +1988,11 @@ impl Writer {
     // ---- Salvage
 
     /// A power dip or none, a salvage, and most of the time a second one; where the first was refused with room enough.
+    /// Then leases from before may be handed over, as they were and with the boot number on the paper: always where it
+    /// is another one.
     fn salvage(&mut self) {
-        let next = self.next();
+        let (next, boot) = (self.next(), self.boot());
+        let mut leases = self.live();
         if !self.dice.once_in(6) {
             self.dip();
         }
@@ -1891,6 +2004,21 @@ impl Writer {
             _ => {
                 self.room_enough();
                 self.write("salvage", &[]);
+            }
+        }
+        let same = self.boot() == boot;
+        if !same || self.dice.once_in(8) {
+            // mostly of cells that were left held
+            leases.retain(|lease| self.is_live(lease[0], lease[1]) || self.dice.once_in(4));
+            for lease in &mut leases {
+                if same && self.dice.once_in(2) {
+                    *lease = self.of_another_boot(*lease);
+                }
+            }
+            leases.extend(self.live());
+            self.hand_over(&leases);
+            if !same {
+                self.hand_over(&leases);
             }
         }
         // a head without serials is kept for a few calls at most
@@ -1915,16 +2043,19 @@ impl Writer {
             boot,
         } = self.console.head;
         let back = self.dice.number(4);
-        let (next, boot) = match self.dice.below(20) {
+        let (next, paper) = match self.dice.below(20) {
             0 => (next.saturating_sub(back).max(1), boot),
             1 => (next.saturating_add(back), boot),
             2 => (1, boot),
             3 => (u32::MAX, boot),
             // the paper has the boot number of another day
-            4 => (next, self.next_boot()),
+            4..=6 => (next, self.next_boot()),
             _ => return,
         };
-        self.write("head", &[headers, buckets, next, boot]);
+        if paper != boot {
+            self.remember();
+        }
+        self.write("head", &[headers, buckets, next, paper]);
     }
 
     /// One word, byte or cell as bad RAM leaves it.

@@ -22,14 +22,14 @@ loop-holds : tie.Need-loop-holds Inv-loop μ-loop
 unfolding wordsOf sharedOf
 loop-holds c = (search needs, (refl, refl))
 
-mul-lease-on : tie.Need-mul-lease-on Inv-loop μ-loop
-mul-lease-on c = search needs
+mul-hold-on : tie.Need-mul-hold-on Inv-loop μ-loop
+mul-hold-on c = search needs
 
-shared-slice-read-lease-on : tie.Need-shared-slice-read-lease-on Inv-loop μ-loop
-shared-slice-read-lease-on c = search needs
+shared-slice-read-hold-on : tie.Need-shared-slice-read-hold-on Inv-loop μ-loop
+shared-slice-read-hold-on c = search needs
 
-lease-on-requires : tie.Need-lease-on-requires Inv-loop μ-loop
-lease-on-requires c κs = search needs
+hold-on-requires : tie.Need-hold-on-requires Inv-loop μ-loop
+hold-on-requires c κs = search needs
 
 mul-grants : tie.Need-mul-grants Inv-loop μ-loop
 mul-grants c = omega (arith, c .before .before .loop-test .taken, c .before .before .before .loop .inv .1 .0, c .before .before .before .before .before .before .before .pre)
@@ -75,7 +75,7 @@ loop-again c =
     let l = c .before .before .before .loop in
     let a = c .before .before .before .before .before .before .before .args in
     let b : 3 * l .i + 2 < length (l .grants) = omega (arith, c .before .before .loop-test .taken, l .inv .1 .0, c .before .before .before .before .before .before .before .pre) in
-    (search needs, (simp length-set (l .inv .1 .0), rw (c .lease-on .ensures) (shared-push (a .boot) (holdsOf (a .leases .now)) (a .asked .now) (l .grants) (l .i) (c .before .before .loop-test .taken) b (l .inv .1 .1))))
+    (search needs, (simp length-set (l .inv .1 .0), rw (c .hold-on .ensures) (shared-push (a .boot) (holdsOf (a .leases .now)) (a .asked .now) (l .grants) (l .i) (c .before .before .loop-test .taken) b (l .inv .1 .1))))
 
 same-length : tie.Need-same-length Inv-loop μ-loop
 same-length c = search needs
@@ -96,9 +96,9 @@ share-spec =
     Inv-loop
     μ-loop
     loop-holds
-    mul-lease-on
-    shared-slice-read-lease-on
-    lease-on-requires
+    mul-hold-on
+    shared-slice-read-hold-on
+    hold-on-requires
     mul-grants
     mul-grants-2
     slice-write-grants

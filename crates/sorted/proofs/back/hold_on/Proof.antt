@@ -1,4 +1,4 @@
--- `sorted::back::lease_on` meets its contract.
+-- `sorted::back::hold_on` meets its contract.
 use Prim.Native.Nat.{_≤_, _-_, _*_, _/_}
 use mathlib.Core.Path.{_≡_, refl}
 use native.Mathlib.Omega.{arith}
@@ -7,9 +7,9 @@ use borrow.Author.Tests.{eq-eqb, ne-eqb}
 use borrow.Author.Needs.{needs}
 use Rattle.model.specs.Sorted.{holdOn}
 use Rattle.model.specs.Arena.{holdsOf}
-use Rattle.sorted.specs.Back.{lease-on-at, lease-on-end}
-use Rattle.sorted.proofs.back.lease_on.Statement.{statement}
-use Rattle.sorted.proofs.back.lease_on.Tie as tie
+use Rattle.sorted.specs.Back.{hold-on-at, hold-on-end}
+use Rattle.sorted.proofs.back.hold_on.Statement.{statement}
+use Rattle.sorted.proofs.back.hold_on.Tie as tie
 
 abbrev Inv-loop : tie.InvT-loop
 Inv-loop leases cell i₀ i = (i ≤ length leases / 3) × (holdOn (holdsOf (drop (3 * i) leases)) cell ≡ holdOn (holdsOf leases) cell)
@@ -53,7 +53,7 @@ shared-slice-read-t17 c = search needs
 returns : tie.Need-returns Inv-loop μ-loop
 returns c =
     let l = c .before .before .before .before .before .loop in
-    rw (← l .inv .1, lease-on-at (c .before .before .before .before .before .before .args .leases .now) (l .i) (c .before .before .before .before .before .before .args .cell) (omega (arith, c .before .before .before .before .loop-test .taken)), eq-eqb _ _ (c .before .before .if1 .taken))
+    rw (← l .inv .1, hold-on-at (c .before .before .before .before .before .before .args .leases .now) (l .i) (c .before .before .before .before .before .before .args .cell) (omega (arith, c .before .before .before .before .loop-test .taken)), eq-eqb _ _ (c .before .before .if1 .taken))
 
 add-i : tie.Need-add-i Inv-loop μ-loop
 add-i c = search needs
@@ -64,15 +64,15 @@ loop-less c = search needs
 loop-again : tie.Need-loop-again Inv-loop μ-loop
 loop-again c =
     let l = c .before .before .before .loop in
-    (search needs, rw (← l .inv .1, lease-on-at (c .before .before .before .before .args .leases .now) (l .i) (c .before .before .before .before .args .cell) (omega (arith, c .before .before .loop-test .taken)), ne-eqb _ _ (c .if1 .left)))
+    (search needs, rw (← l .inv .1, hold-on-at (c .before .before .before .before .args .leases .now) (l .i) (c .before .before .before .before .args .cell) (omega (arith, c .before .before .loop-test .taken)), ne-eqb _ _ (c .if1 .left)))
 
 returns-2 : tie.Need-returns-2 Inv-loop μ-loop
 returns-2 c =
     let l = c .before .loop in
-    rw (← l .inv .1, lease-on-end (c .before .before .args .leases .now) (l .i) (c .before .before .args .cell) (omega (arith, c .loop-test .left)))
+    rw (← l .inv .1, hold-on-end (c .before .before .args .leases .now) (l .i) (c .before .before .args .cell) (omega (arith, c .loop-test .left)))
 
-pub lease-on-spec : {M : Type 1} → statement M
-lease-on-spec =
+pub hold-on-spec : {M : Type 1} → statement M
+hold-on-spec =
     tie.close
     (tie.spec
     Inv-loop
