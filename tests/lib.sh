@@ -3,7 +3,7 @@
 
 # build_plain: builds the plain program and the writer of histories.
 build_plain() {
-    cargo build --release --offline --quiet --manifest-path rust/plain/Cargo.toml --target-dir target/rust
+    cargo build --release --offline --quiet --manifest-path rust/Cargo.toml -p plain --target-dir target/rust
 }
 
 # plain FILE: the plain program on FILE's bytes as standard input.
@@ -111,4 +111,56 @@ show_difference() {
     echo "first difference in line $line of what was printed"
     echo "  plain:  $(sed -n "${line}p" "$1" | cat -v | cut -c 1-300)"
     echo "  player: $(sed -n "${line}p" "$2" | cat -v | cut -c 1-300)"
+}
+
+# On a machine that is not x86-64, Debian's cross compilers make the program and an emulator runs it.
+bench_target=x86_64-unknown-linux-gnu
+bench_program=target/rust/$bench_target/release/bench
+
+# library_is_old: whether there is no archive, or a source that it is made of is newer.
+library_is_old() {
+    [ -e target/staticlib/libskid.a ] || return 0
+    [ -n "$(find crates.txt $(crates_of skid | sed 's,^,crates/,') -newer target/staticlib/libskid.a \
+        \( -name '*.rt' -o -name '*.antt' -o -name crates.txt \) -print -quit)" ]
+}
+
+# need_cross: the cross compilers and the emulator, where they are needed.
+need_cross() {
+    [ "$(uname -m)" != x86_64 ] || return 0
+    if ! [ -x /usr/bin/x86_64-linux-gnu-gcc ] || ! [ -x /usr/bin/rustc ] || ! [ -x /usr/bin/qemu-x86_64 ]; then
+        dpkg --add-architecture amd64
+        apt-get update
+        apt-get install -y --no-install-recommends \
+            gcc-x86-64-linux-gnu libc6-dev:amd64 rustc-web libstd-rust-web-dev:amd64 qemu-user
+    fi
+}
+
+# build_bench: proves and builds the library if a source has changed, then the program.
+build_bench() {
+    local began
+    if library_is_old; then
+        began=$(mktemp)
+        bash tests/prove.sh staticlib skid || { rm -f "$began"; return 1; }
+        touch -r "$began" target/staticlib/libskid.a
+        rm -f "$began"
+    fi
+    need_cross || return 1
+    (
+        if [ "$(uname -m)" != x86_64 ]; then
+            export RUSTC=/usr/bin/rustc CARGO_TARGET_X86_64_UNKNOWN_LINUX_GNU_LINKER=/usr/bin/x86_64-linux-gnu-gcc
+        fi
+        cargo build --release --offline --quiet --manifest-path rust/Cargo.toml -p bench \
+            --target "$bench_target" --target-dir target/rust
+    )
+}
+
+# bench WORDS..: the program, in place of this shell. STACK, in kilobytes, is all the stack that it gets.
+bench() {
+    local stack=()
+    if [ -n "${STACK:-}" ]; then
+        ulimit -s "$STACK"
+        stack=(-s $((STACK * 1024)))
+    fi
+    [ "$(uname -m)" != x86_64 ] || exec "$bench_program" "$@"
+    exec /usr/bin/qemu-x86_64 ${stack[@]+"${stack[@]}"} -L / "$bench_program" "$@"
 }

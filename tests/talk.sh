@@ -249,28 +249,33 @@ lost 'play.sh, a pipe that nobody reads' 'player: output lost'
 
 # when it builds: in a small repository, with an rt that writes a player which prints its input
 small=$room/small
-mkdir -p "$small/bench" "$small/tests" "$small/crates/player/src" "$small/bin"
+mkdir -p "$small/bench" "$small/tests" "$small/crates/skid/src" "$small/bin"
 cp bench/play.sh "$small/bench"
 cp tests/lib.sh tests/prove.sh "$small/tests"
-echo 'player: io libc' >"$small/crates.txt"
-echo '// nothing' >"$small/crates/player/src/main.rt"
+echo 'skid: io libc' >"$small/crates.txt"
+echo '// nothing' >"$small/crates/skid/src/lib.rt"
 printf '#!/bin/sh\necho x86_64\n' >"$small/bin/uname"
 cat >"$small/bin/rt" <<'RT'
 #!/bin/sh
 echo "rt $*" >>calls
 echo 'a remark of the checker'
 if [ -e broken ]; then
-    echo 'rt: player NOT PROVED (exit 1, 3 s)'
-    echo 'rt: FAILED: player'
+    echo 'rt: skid NOT PROVED (exit 1, 3 s)'
+    echo 'rt: FAILED: skid'
     exit 1
 fi
-mkdir -p target/bin
-printf '#!/bin/sh\ncat\n' >target/bin/player
-chmod +x target/bin/player
-echo 'rt: player proved (3 s)'
+mkdir -p target/staticlib
+echo archive >target/staticlib/libskid.a
+echo 'rt: skid proved (3 s)'
 echo 'rt: ok, 1 crates proved'
 RT
-chmod +x "$small/bin/uname" "$small/bin/rt"
+cat >"$small/bin/cargo" <<'CARGO'
+#!/bin/sh
+mkdir -p target/rust/x86_64-unknown-linux-gnu/release
+printf '#!/bin/sh\ncat "$@"\n' >target/rust/x86_64-unknown-linux-gnu/release/bench
+chmod +x target/rust/x86_64-unknown-linux-gnu/release/bench
+CARGO
+chmod +x "$small/bin/uname" "$small/bin/rt" "$small/bin/cargo"
 
 # builds NAME STATUS CALLS SAID WORDS..: play.sh in that repository ends so, and rt was called so often by now
 builds() {
@@ -285,15 +290,15 @@ builds() {
 }
 
 builds 'a missing file comes before the proof' 2 0 'there is no file' "$room/missing"
-builds 'no player' 0 1 '^proved 1 of 1: player, 3 s$' "$input"
+builds 'no player' 0 1 '^proved 1 of 1: skid, 3 s$' "$input"
 builds 'a player' 0 1 '^show$' "$input"
-touch -d '+1 minute' "$small/crates/player/src/main.rt"
-builds 'a newer source' 0 2 '^proved 1 of 1: player, 3 s$' "$input"
+touch -d '+1 minute' "$small/crates/skid/src/lib.rt"
+builds 'a newer source' 0 2 '^proved 1 of 1: skid, 3 s$' "$input"
 touch "$small/broken"
 builds 'a source that is not proved' 2 3 '^what the checker said is in ' "$input"
 log=$(sed -n 's/^what the checker said is in //p' "$room/said")
 grep -q 'a remark of the checker' "$log" || complain "play.sh: the log does not have the checker's remarks"
-rm -f "$log" "$small/bin/rt" "$small/target/bin/player"
+rm -f "$log" "$small/bin/rt" "$small/target/staticlib/libskid.a"
 if ! PATH=/usr/bin:/bin command -v rt >/dev/null; then
     status=0
     (cd "$small" && PLAYER='' PATH=$small/bin:/usr/bin:/bin bash bench/play.sh "$input") >"$room/out" 2>"$room/said" || status=$?
