@@ -72,7 +72,7 @@ impl Desk {
 
 /// The first word of a line, and the numbers behind it; a kind of setpoint is given as its number. Words are separated
 /// by single spaces, with none before or after.
-fn words(line: &[u8]) -> Option<(&[u8], Vec<u32>)> {
+pub(crate) fn words(line: &[u8]) -> Option<(&[u8], Vec<u32>)> {
     let mut words = line.split(|&byte| byte == b' ');
     let first = words.next().unwrap_or_default();
     let value = |(at, word)| match (first, at) {
