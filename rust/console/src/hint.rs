@@ -3,6 +3,7 @@
 use crate::answer::{kind_of, Answer, KINDS};
 use crate::build::Head;
 use crate::desk::{Desk, MEMBERS};
+use crate::explain::text::bar;
 use crate::help::{entry_of, grouped, Entry, Number, Takes, LANGUAGE, OF_THE_TERMINAL};
 use crate::line::{is_skipped, number, Line, LINE};
 
@@ -225,7 +226,7 @@ pub fn note(desk: &Desk, line: &[u8], played: &Line) -> Option<String> {
 }
 
 fn bar_of(bits: u32) -> String {
-    format!("pressure {bits} is {} bar", f32::from_bits(bits))
+    format!("pressure {bits} is {}", bar(bits))
 }
 
 /// The bits of the pressure that a line writes.

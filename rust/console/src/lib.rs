@@ -10,6 +10,7 @@ pub mod build;
 mod call;
 pub mod desk;
 pub mod dice;
+pub mod explain;
 pub mod help;
 pub mod hint;
 pub mod histories;
