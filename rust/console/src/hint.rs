@@ -139,7 +139,7 @@ fn unknown(word: &[u8]) -> String {
         return format!("{text} is a word of the terminal alone");
     }
     match nearest(word) {
-        Some(known) => format!("there is no word {text}; did you mean {known}?"),
+        Some(known) => format!("there is no word {text}; the nearest is {known}"),
         None => format!("there is no word {text}; \"help\" lists the words"),
     }
 }

@@ -90,7 +90,7 @@ fn the_nearest_word() {
         ("transactional 0 1", "transactional_try_lock_bucket"),
     ] {
         let word = typed.split(' ').next().unwrap_or_default();
-        let said = format!("there is no word {word}; did you mean {meant}?");
+        let said = format!("there is no word {word}; the nearest is {meant}");
         assert_eq!(hint(typed), said);
     }
     assert_eq!(

@@ -36,7 +36,7 @@ fn replied(made: &Made, reply: &Reply) -> Vec<String> {
         _ => refusals::sentence(made, reply),
     };
     let meanwhile = others.map(|did| format!("Meanwhile {did}."));
-    [Some(answer), meanwhile, unquiet(made, reply)]
+    [meanwhile, Some(answer), unquiet(made, reply)]
         .into_iter()
         .flatten()
         .collect()
@@ -56,7 +56,7 @@ fn done(made: &Made) -> String {
     let head = made.head();
     match made.entry.word {
         "prepare" => format!(
-            "The arena is prepared: {} with {} each, {}, all free; the next serial is {}, the boot number {}.",
+            "The arena is prepared: {} of {}, {}, all free; the next serial is {}, the boot number {}.",
             counted(head.headers as usize, "header"),
             counted(head.buckets as usize, "bucket"),
             counted((head.headers * head.buckets) as usize, "cell"),
@@ -75,11 +75,14 @@ fn done(made: &Made) -> String {
     }
 }
 
-/// "key 3 2", or "cell 9".
+/// "cell 9", or the cell of a key.
 fn asked(made: &Made) -> String {
-    match made.numbers {
-        [binding, bucket] => format!("key {binding} {bucket}"),
-        numbers => format!("cell {}", grouped(numbers[0])),
+    match *made.numbers {
+        [binding, bucket] => {
+            let cell = made.cell_of(binding, bucket).unwrap_or_default();
+            format!("key {binding} {bucket}, cell {},", grouped(cell))
+        }
+        _ => format!("cell {}", grouped(made.numbers[0])),
     }
 }
 
@@ -90,10 +93,10 @@ fn granted(made: &Made, reply: &Reply) -> String {
             "Cell {cell} changes hands: serial {} is released, serial {serial} is granted.",
             grouped(made.lease()[1])
         ),
-        _ if made.is_given(Given::Registry) => sentence(&format!(
-            "{} is granted: cell {cell}, serial {serial}",
-            asked(made)
-        )),
+        _ if made.is_given(Given::Registry) => format!(
+            "Key {} {} is granted: cell {cell}, serial {serial}.",
+            made.numbers[0], made.numbers[1]
+        ),
         _ => format!("Cell {cell} is granted: serial {serial}."),
     }
 }
@@ -115,8 +118,11 @@ fn all_granted(made: &Made) -> String {
     };
     match keys.len() {
         0 => "Granted: there is no key, and nothing to take.".to_string(),
-        1 => format!("The key is granted: {}.", listed(keys.map(each))),
-        count => format!("All {count} keys are granted: {}.", listed(keys.map(each))),
+        1 => format!("The key is granted: {}.", listed("; ", keys.map(each))),
+        count => format!(
+            "{count} keys are granted: {}.",
+            listed("; ", keys.map(each))
+        ),
     }
 }
 
@@ -141,6 +147,6 @@ fn traced(bits: &[(usize, bool)]) -> String {
     };
     match bits {
         [] => "No bit changed.".to_string(),
-        _ => format!("Bits: {}.", listed(bits.iter().map(each))),
+        _ => format!("Bits: {}.", listed(", ", bits.iter().map(each))),
     }
 }

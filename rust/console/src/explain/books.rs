@@ -46,7 +46,7 @@ pub fn bad_slot(made: &Made) -> String {
     let bytes = made.desk.lent_book;
     if bytes < 13 * slots {
         format!(
-            "the book has {}, and {} need {}",
+            "the book has {}, and for {} it must have {}",
             counted(bytes, "byte"),
             counted(slots, "slot"),
             13 * slots
@@ -59,7 +59,7 @@ pub fn bad_slot(made: &Made) -> String {
     } else {
         let slot = made.numbers.first().copied().unwrap_or_default();
         format!(
-            "there is no slot {}: the book has {}, counted from 0",
+            "there is no slot {}, since the book has {}, counted from 0",
             grouped(slot),
             counted(slots, "slot")
         )

@@ -1,7 +1,7 @@
 //! What a command does, where the typed line does not say it.
 
 use super::steps;
-use super::text::{counted, lease, listed, numbers as in_words};
+use super::text::{counted, lease, listed, numbers as in_words, sentence as as_sentence};
 use crate::desk::Desk;
 use crate::help::{grouped, Entry};
 
@@ -16,7 +16,7 @@ pub fn sentence(entry: &Entry, numbers: &[u32], desk: &Desk) -> Option<String> {
         ),
         ("ram", _) => "Table, health and book are full of rubbish now.".to_string(),
         ("head", &[headers, buckets, next, boot]) => format!(
-            "The head in force has {} of {} each; its next serial is {}, its boot number {}.",
+            "The head in force has {} of {}; its next serial is {}, its boot number {}.",
             counted(headers as usize, "header"),
             counted(buckets as usize, "bucket"),
             grouped(next),
@@ -46,7 +46,7 @@ pub fn sentence(entry: &Entry, numbers: &[u32], desk: &Desk) -> Option<String> {
             "From now on each call tells what it did to the bits of the cells.".to_string()
         }
         ("trace", _) => "Calls no longer tell what they did to the bits.".to_string(),
-        _ => return list(entry.word, numbers),
+        _ => return list(entry.word, numbers, desk.head.boot),
     };
     Some(text)
 }
@@ -83,45 +83,44 @@ fn room(what: &str, words: u32, each: u32, entry: &str) -> String {
 }
 
 /// A list that was replaced.
-fn list(word: &str, numbers: &[u32]) -> Option<String> {
-    let uneven = |by: usize, name: &str| {
-        (numbers.len() % by != 0).then(|| {
-            format!(
-                "{} numbers, which {name} does not divide.",
-                grouped(numbers.len() as u64)
-            )
-        })
-    };
-    let leases = || listed(numbers.chunks_exact(3).map(lease));
-    let text = match (word, numbers) {
-        ("script", []) => "Nobody else does anything now.".to_string(),
-        ("registry" | "held" | "keys" | "leases" | "turns" | "counters", []) => {
-            "The list is empty now.".to_string()
-        }
-        ("script", steps) => uneven(3, "three").unwrap_or_else(|| steps::ahead(steps)),
-        ("registry", headers) => {
-            let each = |(binding, header): (usize, &u32)| {
-                format!("{binding} is header {}", grouped(*header))
-            };
-            format!(
-                "By binding: {}.",
-                listed(headers.iter().enumerate().map(each))
-            )
-        }
-        ("held", _) => {
-            uneven(3, "three").unwrap_or_else(|| format!("The caller holds {}.", leases()))
-        }
-        ("leases", _) => {
-            uneven(3, "three").unwrap_or_else(|| format!("To be released: {}.", leases()))
-        }
-        ("keys", keys) => uneven(2, "two").unwrap_or_else(|| {
-            let each =
-                |key: &[u32]| format!("binding {} bucket {}", grouped(key[0]), grouped(key[1]));
-            format!("Keys: {}.", listed(keys.chunks_exact(2).map(each)))
-        }),
-        ("turns", turns) => format!("The crew has {} to come.", counted(turns.len(), "turn")),
-        ("counters", counters) => format!("There are {}.", counted(counters.len(), "counter")),
+fn list(word: &str, numbers: &[u32], boot: u32) -> Option<String> {
+    let (name, each) = match word {
+        "registry" => ("registry", 1),
+        "held" => ("held list", 3),
+        "keys" => ("list of keys", 2),
+        "leases" => ("list to release", 3),
+        "turns" => ("list of turns", 1),
+        "counters" => ("list of counters", 1),
+        "script" => ("script", 3),
         _ => return None,
     };
-    Some(text)
+    let entries = numbers.chunks_exact(each);
+    Some(match word {
+        "script" if numbers.is_empty() => "Others will do nothing.".to_string(),
+        _ if numbers.is_empty() => format!("The {name} is empty."),
+        _ if numbers.len() % each != 0 => format!(
+            "The {name} has {}, which {} does not divide.",
+            counted(numbers.len(), "number"),
+            ["one", "two", "three"][each - 1]
+        ),
+        "script" => steps::ahead(numbers),
+        "turns" => format!("The crew has {} to come.", counted(entries.len(), "turn")),
+        // the line says it
+        "counters" => return None,
+        "registry" => {
+            let each = |(at, header): (usize, &[u32])| {
+                format!("binding {at} is header {}", grouped(header[0]))
+            };
+            as_sentence(&listed(", ", entries.enumerate().map(each)))
+        }
+        "keys" => {
+            let each =
+                |key: &[u32]| format!("binding {} bucket {}", grouped(key[0]), grouped(key[1]));
+            format!("The keys are {}.", listed(", ", entries.map(each)))
+        }
+        _ => {
+            let each = |one: &[u32]| lease(one, boot);
+            format!("The {name} is {}.", listed(", ", entries.map(each)))
+        }
+    })
 }

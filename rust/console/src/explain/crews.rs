@@ -36,17 +36,18 @@ pub fn sentences(made: &Made, reply: &CrewReply) -> Vec<String> {
 
 /// How far a member has come.
 fn progress(wanted: usize, taken: usize, released: usize) -> String {
+    let all = match wanted {
+        1 => "its cell".to_string(),
+        _ => format!("all its {wanted} cells"),
+    };
     match (wanted, taken, released) {
         (0, _, _) => "wants no cells".to_string(),
-        (_, 0, _) => format!("has taken none of its {}", counted(wanted, "cell")),
-        _ if released == wanted => {
-            format!("has held {} and given all back", counted(wanted, "cell"))
-        }
-        (_, _, 0) => format!("has taken {taken} of its {}", counted(wanted, "cell")),
-        _ => format!(
-            "has held its {} and given {released} back",
-            counted(wanted, "cell")
-        ),
+        (1, 0, _) => "has not taken its cell".to_string(),
+        (_, 0, _) => format!("has taken none of its {wanted} cells"),
+        (_, _, 0) if taken == wanted => format!("holds {all}"),
+        (_, _, 0) => format!("has taken {taken} of its {wanted} cells"),
+        _ if released == wanted => format!("has held {all} and is finished"),
+        _ => format!("has held {all} and given {released} back"),
     }
 }
 
@@ -73,8 +74,9 @@ pub fn bad_crew(made: &Made, at: usize) -> String {
     } else {
         let named = desk.turns.get(at).copied().unwrap_or_default();
         format!(
-            "turn {at} names member {}, and there are {members} members, counted from 0",
-            grouped(named)
+            "turn {at} names member {}, and the crew has {}, counted from 0",
+            grouped(named),
+            counted(members, "member")
         )
     }
 }

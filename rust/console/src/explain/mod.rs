@@ -61,6 +61,14 @@ impl Made<'_> {
         }
     }
 
+    /// The cell of a key, if the registry leads to a header and the bucket is one of its.
+    pub fn cell_of(&self, binding: u32, bucket: u32) -> Option<u32> {
+        let header = *self.desk.registry.get(binding as usize)?;
+        let head = self.head();
+        let is_there = header < head.headers && bucket < head.buckets;
+        is_there.then(|| header * head.buckets + bucket)
+    }
+
     /// The lease that was typed: cell, serial, boot number.
     pub fn lease(&self) -> &[u32] {
         match self.numbers {
@@ -157,8 +165,8 @@ impl Teller {
                 why.unwrap_or_default()
             )],
         };
-        for sentence in sentences {
-            writeln!(out, "    {sentence}")?;
+        for line in sentences.iter().flat_map(|told| text::wrapped(told)) {
+            writeln!(out, "    {line}")?;
         }
         Ok(())
     }
@@ -175,12 +183,16 @@ impl Teller {
     }
 }
 
-/// A line as it was typed; a long one is cut, and its words are counted.
+/// A line as it was typed; a long one is cut behind a word, and its words are counted.
 fn shown(line: &[u8]) -> String {
-    let cut = &line[..line.len().min(SHOWN)];
+    let mut cut = &line[..line.len().min(SHOWN)];
+    if cut.len() < line.len() {
+        let space = cut.iter().rposition(|&byte| byte == b' ');
+        cut = &cut[..space.unwrap_or(cut.len())];
+    }
     let text = String::from_utf8_lossy(cut);
     let mut shown: String = text.chars().flat_map(without_controls).collect();
-    if line.len() > SHOWN {
+    if cut.len() < line.len() {
         let words = line.split(|&byte| byte == b' ').count();
         shown.push_str(&format!(" .. ({})", text::counted(words, "word")));
     }

@@ -10,61 +10,55 @@ use crate::show::is_arena;
 /// Of a call with counts.
 pub fn sentence(made: &Made, reply: &Reply) -> String {
     let (kind, number, carried, position) = (reply[9], reply[10], reply[11], reply[12]);
-    let mut why = match number {
-        11 => format!(
-            "all {} attempts were Busy, the last because {}",
-            grouped(carried),
-            reason(reply)
-        ),
+    let why = match number {
+        11 => out_of_patience(reply),
         _ => why(made, number, carried),
     };
-    if number == 7 && reply[5] == 1 && reply[6] == 3 {
-        why.push_str(". That was seen after the cell was taken: it is given up again, and its serial stays spent");
+    if kind == 6 {
+        return at_a_key(made, number, position as usize, &why);
     }
-    if number == 10
-        && matches!(
-            made.entry.word,
-            "release_then_handoff" | "foreign_release_between_attempts"
-        )
-    {
-        why.push_str(". The release stands");
+    let mut told = numbered(number, &why);
+    // one attempt, and its health was read after the third boundary
+    if number == 7 && (reply[5], reply[6]) == (1, 3) {
+        told.push_str(" That was seen when the cell was taken: it is given up again, and its serial stays spent.");
     }
-    if kind != 6 {
-        return numbered(number, &why);
+    let released = ["release_then_handoff", "foreign_release_between_attempts"];
+    if number == 10 && released.contains(&made.entry.word) {
+        told.push_str(" The release stands.");
     }
-    let key = made
-        .desk
-        .keys
-        .get(2 * position as usize..)
-        .unwrap_or_default();
-    let key = match key {
-        [binding, bucket, ..] => format!("key {binding} {bucket}, at position {position}"),
-        _ => format!("the key at position {position}"),
-    };
-    format!(
-        "{} No key is granted: it is {key}, that is refused.",
-        numbered(number, &why)
-    )
+    told
 }
 
 /// "Refused by 12, NotHeld: cell 6 is not held by serial 2."
 pub fn numbered(number: u64, why: &str) -> String {
-    format!(
-        "Refused by {number}, {}: {why}.",
-        name_of(&REFUSALS, 1, number)
-    )
+    let name = name_of(&REFUSALS, 1, number);
+    format!("Refused by {number}, {name}: {why}.")
 }
 
-/// What stands behind Busy in refusal 11.
-fn reason(reply: &Reply) -> String {
+/// Multi-lock says which key is refused.
+fn at_a_key(made: &Made, number: u64, position: usize, why: &str) -> String {
+    let name = name_of(&REFUSALS, 1, number);
+    let key = match made.desk.keys.chunks_exact(2).nth(position) {
+        Some(key) => format!("key {} {}, position {position}", key[0], key[1]),
+        None => format!("position {position}"),
+    };
+    format!("Refused at {key}, by {number}, {name}: {why}. No key is granted.")
+}
+
+/// Refusal 11 has the reason of the last attempt.
+fn out_of_patience(reply: &Reply) -> String {
     let serial = grouped(reply[14]);
-    match reply[13] {
+    let last = match reply[13] {
         1 => format!("serial {serial} holds the cell"),
         2 => "somebody waits for the cell".to_string(),
         _ => format!(
             "somebody waited for the cell when it had been taken; serial {serial} stays spent"
         ),
-    }
+    };
+    format!(
+        "all {} attempts were Busy, the last because {last}",
+        grouped(reply[11])
+    )
 }
 
 /// What a refusal of document 01 says of this call; 11 has a reason, and stands above.
@@ -81,15 +75,15 @@ pub fn why(made: &Made, number: u64, carried: u64) -> String {
         4 => too_many(made),
         5 => bad_binding(made, at),
         6 => format!("the registry leads to header {carried}, and there are {}", counted(headers as usize, "header")),
-        7 => format!("header {carried} is poisoned"),
+        7 => format!("header {carried} is poisoned, and gives no cell"),
         8 if made.is_given(Given::Registry) => {
-            format!("there is no bucket {carried}: a header has {}, counted from 0", counted(buckets as usize, "bucket"))
+            format!("there is no bucket {carried}, since a header has {}, counted from 0", counted(buckets as usize, "bucket"))
         }
         8 => format!(
-            "there is no cell {carried}: the arena has {}, counted from 0",
+            "there is no cell {carried}, since the arena has {}, counted from 0",
             counted((headers * buckets) as usize, "cell")
         ),
-        9 => format!("cell {carried} is damaged: its bit and its owner are those of no free and of no held cell"),
+        9 => format!("cell {carried} is damaged, its bit and owner being those of neither a free nor a held cell"),
         10 => format!("cell {carried} is free, but no serial is left to give"),
         12 => not_held(made, at),
         13 => format!("cell {} by serial {} is in the held list, and so protected", grouped(made.lease()[0]), grouped(made.lease()[1])),
@@ -108,7 +102,7 @@ fn bad_shape(made: &Made) -> String {
     let asked = usize::try_from(3 * cells).unwrap_or(usize::MAX);
     let headers = head.headers as usize;
     if head == Head::default() && made.entry.word != "prepare" {
-        "the head in force is 0 0 0 0: no arena is prepared".to_string()
+        "no arena is prepared, since the head in force is 0 0 0 0".to_string()
     } else if !is_arena(head, asked, headers) {
         "a head has 1 to 64 headers, 1 to 1,024 buckets each, at most 4,096 cells, and a serial from 1 on".to_string()
     } else if words != asked && !made.is_given(Given::NoTable) {
@@ -130,7 +124,7 @@ fn bad_shape(made: &Made) -> String {
         )
     } else {
         format!(
-            "there are {} for {}",
+            "it was given {} for {}",
             counted(desk.counters.len(), "counter"),
             counted(asked / 3, "cell")
         )
@@ -181,7 +175,7 @@ fn bad_held(made: &Made, at: usize) -> String {
 fn not_live(list: &str, leases: &[u32], at: usize) -> String {
     let lease = leases.chunks_exact(3).nth(at).unwrap_or(&[0, 0, 0]);
     format!(
-        "position {at} of the {list} is not live: cell {} is not held by serial {}",
+        "position {at} of the {list} is not live, since cell {} is not held by serial {}",
         grouped(lease[0]),
         grouped(lease[1])
     )
@@ -204,7 +198,7 @@ fn too_many(made: &Made) -> String {
         )
     } else {
         format!(
-            "the grant buffer has {}, and {} need {}",
+            "the grant buffer has {}, and for {} it must have {}",
             counted(desk.grants.len(), "word"),
             counted(keys, "key"),
             3 * keys
@@ -221,7 +215,7 @@ fn bad_binding(made: &Made, at: usize) -> String {
         ),
     };
     format!(
-        "there is no binding {}{by}: the registry has {} entries, counted from 0",
+        "there is no binding {}{by}, since the registry has {} entries, counted from 0",
         grouped(*binding.unwrap_or(&0)),
         made.desk.registry.len()
     )
@@ -234,12 +228,12 @@ fn not_held(made: &Made, at: usize) -> String {
             not_live("list", &made.desk.leases, at)
         );
     }
-    let lease = made.lease();
-    format!(
-        "cell {} is not held by serial {}",
-        grouped(lease[0]),
-        grouped(lease[1])
-    )
+    let (cell, serial) = (grouped(made.lease()[0]), grouped(made.lease()[1]));
+    if made.is_given(Given::Book) {
+        let slot = grouped(made.numbers[0]);
+        return format!("slot {slot} needs a live lease on cell {slot}, and cell {cell} by serial {serial} is none");
+    }
+    format!("cell {cell} is not held by serial {serial}")
 }
 
 /// The held list is looked at before the lease by itself.
@@ -279,8 +273,8 @@ pub fn named(made: &Made, number: u64) -> String {
             "the line or the body of slot {slot} fits no rule, so nothing there can be trusted"
         ),
         "VersionsSpent" => format!("slot {slot} is at version 4,294,967,295, the last"),
-        "NeverWritten" => format!("slot {slot} is at version 0: nothing was written there yet"),
+        "NeverWritten" => format!("nothing was ever written to slot {slot}, whose version is 0"),
         _ => super::salvages::report_full(made),
     };
-    format!("Refused, {name}: {why}.")
+    format!("Refused as {name}: {why}.")
 }

@@ -22,7 +22,7 @@ pub fn sentences(made: &Made, reply: &SalvageReply) -> Vec<String> {
         _ => format!(
             "Salvaged, with {}: {}.",
             counted(changed, "change"),
-            listed(report.map(|entry| change(made, entry)))
+            listed(", ", report.map(|entry| change(made, entry)))
         ),
     };
     let cells: Vec<String> = made
@@ -41,7 +41,7 @@ pub fn sentences(made: &Made, reply: &SalvageReply) -> Vec<String> {
         _ => format!(
             "{} are left held, for their owners to confirm or to drop: {}.",
             counted(held, "cell"),
-            listed(cells.into_iter())
+            listed(", ", cells.into_iter())
         ),
     };
     vec![changes, left]
@@ -64,7 +64,7 @@ fn change(made: &Made, entry: &[u32]) -> String {
 
 pub fn report_full(made: &Made) -> String {
     format!(
-        "not all its entries have room in a report for {} and a list for {}; nothing is changed",
+        "a report with room for {} and a list with room for {} cannot hold all entries; nothing is changed",
         counted(made.desk.report.len() / 3, "change"),
         counted(made.desk.unconfirmed.len(), "cell")
     )
