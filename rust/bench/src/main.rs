@@ -106,6 +106,8 @@ fn run(words: &[OsString], manner: Manner, made: Made, build: &mut impl Build) -
         ["words"] => print(&help::words()),
         #[cfg(feature = "proved")]
         ["compare", ref rest @ ..] => compare::run(rest),
+        #[cfg(not(feature = "proved"))]
+        ["compare", ..] => misused("this program was built without the library"),
         ["histories", seed, calls] => match (seed.parse(), calls.parse()) {
             (Ok(seed), Ok(calls)) => print_history(seed, calls),
             _ => misused("a seed and a number of calls"),

@@ -14,7 +14,8 @@ pub fn is_skipped(line: &[u8]) -> bool {
     line.is_empty() || line[0] == b'#'
 }
 
-/// What a line was, once it has been played.
+/// What a line was, once it has been played. It is looked at and not kept, so that its size is nothing.
+#[allow(clippy::large_enum_variant)]
 #[derive(Clone, Debug, PartialEq, Eq)]
 pub enum Line {
     /// Empty, or a remark.
