@@ -217,6 +217,18 @@ fn story() {
     );
 }
 
+/// The page's own example.
+#[test]
+fn page() {
+    let page = include_str!("../../../docs/CONSOLE.md");
+    let block = |fence: &str| {
+        let from = page.find(fence).expect("a block") + fence.len();
+        page[from..].split("```").next().expect("its end")
+    };
+    let lines: Vec<&str> = block("```explain-in\n").lines().collect();
+    assert_eq!(told(&lines).concat(), block("```explain-out\n"));
+}
+
 /// Random histories: each answer is told by its kind, its numbers and its refusal, as the language prints them.
 #[test]
 fn true_to_the_language() {
