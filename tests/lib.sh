@@ -113,9 +113,13 @@ show_difference() {
     echo "  player: $(sed -n "${line}p" "$2" | cat -v | cut -c 1-300)"
 }
 
-# On a machine that is not x86-64, Debian's cross compilers make the program and an emulator runs it.
+# The bench: rust/bench on the library, and beside it the program with the plain build alone, which needs no library. On a machine
+# that is not x86-64, Debian's cross compilers make the first and an emulator runs it; the second is made for the machine itself.
 bench_target=x86_64-unknown-linux-gnu
 bench_program=target/rust/$bench_target/release/bench
+plain_bench_program=target/rust/release/bench
+# A command and its words under which the program runs; none but for a person at a terminal.
+line_editor=()
 
 # library_is_old: whether there is no archive, or a source that it is made of is newer.
 library_is_old() {
@@ -124,43 +128,88 @@ library_is_old() {
         \( -name '*.rt' -o -name '*.antt' -o -name crates.txt \) -print -quit)" ]
 }
 
+# install_packages PACKAGE..: installs these packages of Debian's.
+install_packages() {
+    local root=()
+    [ "$(id -u)" -eq 0 ] || root=(sudo)
+    echo "installing Debian's $*"
+    command -v apt-get >/dev/null || {
+        echo "there is no apt-get here: install them, or what this system has in their place, and run this again"
+        return 1
+    }
+    ${root[@]+"${root[@]}"} apt-get -qq update &&
+        ${root[@]+"${root[@]}"} apt-get -qq install -y --no-install-recommends "$@" >/dev/null
+}
+
+# need_cargo: a Rust compiler. Debian 12 has a new one beside its own, by another name.
+need_cargo() {
+    ! command -v cargo >/dev/null || return 0
+    if apt-cache show cargo-web >/dev/null 2>&1; then
+        install_packages cargo-web rustc-web
+    else
+        install_packages cargo rustc
+    fi
+}
+
 # need_cross: the cross compilers and the emulator, where they are needed.
 need_cross() {
     [ "$(uname -m)" != x86_64 ] || return 0
     if ! [ -x /usr/bin/x86_64-linux-gnu-gcc ] || ! [ -x /usr/bin/rustc ] || ! [ -x /usr/bin/qemu-x86_64 ]; then
         dpkg --add-architecture amd64
-        apt-get update
-        apt-get install -y --no-install-recommends \
-            gcc-x86-64-linux-gnu libc6-dev:amd64 rustc-web libstd-rust-web-dev:amd64 qemu-user
+        install_packages gcc-x86-64-linux-gnu libc6-dev:amd64 rustc-web libstd-rust-web-dev:amd64 qemu-user
     fi
 }
 
-# build_bench: proves and builds the library if a source has changed, then the program.
+# build_library: proves the layers and builds the library, if a source has changed.
+build_library() {
+    local began start=$SECONDS
+    library_is_old || return 0
+    echo "proving the layers and building the library: some minutes, a line for each layer"
+    began=$(mktemp)
+    bash tests/prove.sh staticlib skid || { rm -f "$began"; return 1; }
+    touch -r "$began" target/staticlib/libskid.a
+    rm -f "$began"
+    echo "proved and built the library, $((SECONDS - start)) s"
+}
+
+# build_console WORDS..: builds rust/bench with these words for cargo, and says how long it took if there was something to build.
+build_console() {
+    local start=$SECONDS
+    need_cargo || return 1
+    (
+        set -o pipefail
+        cargo build --release --offline --manifest-path rust/Cargo.toml -p bench --target-dir target/rust "$@" 2>&1 |
+            awk '/^ *Compiling / { if (!n++) { print "building the console"; fflush() } next } /^ *Finished / { next } { print; fflush() }'
+    ) || return 1
+    [ $((SECONDS - start)) -lt 2 ] || echo "built the console, $((SECONDS - start)) s"
+}
+
+# build_bench: the library, and the program on it.
 build_bench() {
-    local began
-    if library_is_old; then
-        began=$(mktemp)
-        bash tests/prove.sh staticlib skid || { rm -f "$began"; return 1; }
-        touch -r "$began" target/staticlib/libskid.a
-        rm -f "$began"
-    fi
-    need_cross || return 1
+    build_library && need_cross || return 1
     (
         if [ "$(uname -m)" != x86_64 ]; then
             export RUSTC=/usr/bin/rustc CARGO_TARGET_X86_64_UNKNOWN_LINUX_GNU_LINKER=/usr/bin/x86_64-linux-gnu-gcc
         fi
-        cargo build --release --offline --quiet --manifest-path rust/Cargo.toml -p bench \
-            --target "$bench_target" --target-dir target/rust
+        build_console --target "$bench_target"
     )
+}
+
+# build_plain_bench: the program with the plain build alone.
+build_plain_bench() {
+    build_console --no-default-features
 }
 
 # bench WORDS..: the program, in place of this shell. STACK, in kilobytes, is all the stack that it gets.
 bench() {
-    local stack=()
-    if [ -n "${STACK:-}" ]; then
-        ulimit -s "$STACK"
-        stack=(-s $((STACK * 1024)))
-    fi
-    [ "$(uname -m)" != x86_64 ] || exec "$bench_program" "$@"
-    exec /usr/bin/qemu-x86_64 ${stack[@]+"${stack[@]}"} -L / "$bench_program" "$@"
+    local run=()
+    [ -z "${STACK:-}" ] || ulimit -s "$STACK"
+    [ "$(uname -m)" = x86_64 ] || run=(/usr/bin/qemu-x86_64 ${STACK:+-s $((STACK * 1024))} -L /)
+    exec ${line_editor[@]+"${line_editor[@]}"} ${run[@]+"${run[@]}"} "$bench_program" "$@"
+}
+
+# plain_bench WORDS..: the same, of the program with the plain build alone.
+plain_bench() {
+    [ -z "${STACK:-}" ] || ulimit -s "$STACK"
+    exec ${line_editor[@]+"${line_editor[@]}"} "$plain_bench_program" "$@"
 }

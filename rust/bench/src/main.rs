@@ -3,28 +3,33 @@
 #[cfg(feature = "proved")]
 mod compare;
 mod filter;
+mod player;
 #[cfg(feature = "proved")]
 mod proved;
+mod terminal;
 
 use console::build::Build;
-use console::play::{self, End, Lost};
-use console::{histories, line, waveform};
+use console::{help, histories, line, waveform};
 use plain::Plain;
-use std::ffi::OsString;
+use player::Manner;
+use std::ffi::{OsStr, OsString};
 use std::fs::File;
-use std::io::{self, BufRead, BufReader, BufWriter, IsTerminal, Write};
+use std::io::{self, BufReader, BufWriter, IsTerminal, Write};
 use std::process::ExitCode;
 
 const USAGE: &str = "\
-usage: bench [--plain | --both] [FILE]
+usage: bench [--plain | --both] [--explain] [FILE]
        bench compare [--calls N] [--seed S]
        bench histories SEED CALLS
        bench [--plain | --both] dump [N [ROOM]] | undump
+       bench words
 
 Plays the lines of FILE, or what you type, and prints what they answer; `help` lists the commands and calls, and the end
-of input (Ctrl-D) leaves. The calls are those of the proved library; with --plain those of the plain build, with --both
-of both, which must agree. `compare` plays random histories through both. `histories` prints one. `dump` writes a
-history as a waveform, of N cells if N is given and else of as many as its first line says; `undump` reads one back.
+of input (Ctrl-D) leaves. With --explain it tells the remarks of FILE as a story, and each answer in a sentence. The
+calls are those of the proved library; with --plain those of the plain build, with --both of both, which must agree.
+`compare` plays random histories through both. `histories` prints one. `dump` writes a history as a waveform, of N cells
+if N is given and else of as many as its first line says; `undump` reads one back. `words` prints the words of the
+language, one a line.
 
 status: 0 all is well; 1 some lines were not understood; 2 something was lost or is missing; 3 the two builds differ
 ";
@@ -35,25 +40,43 @@ const NOT_UNDERSTOOD: u8 = 1;
 const DIFFERENT: u8 = 3;
 const LOST: u8 = 2;
 
+/// Which build makes the calls.
+#[derive(Clone, Copy, Debug, PartialEq, Eq)]
+enum Made {
+    ByLibrary,
+    Plainly,
+    ByBoth,
+}
+
 fn main() -> ExitCode {
     let words: Vec<OsString> = std::env::args_os().skip(1).collect();
-    let status = match words.split_first() {
-        Some((first, rest)) if first == "--plain" => run(rest, &mut Plain),
-        Some((first, rest)) if first == "--both" => with_both(rest),
-        _ => with_library(&words),
+    let (mut made, mut manner, mut rest) = (Made::ByLibrary, Manner::Played, words.as_slice());
+    while let [first, more @ ..] = rest {
+        match first.to_str() {
+            Some("--plain") => made = Made::Plainly,
+            Some("--both") => made = Made::ByBoth,
+            Some("--explain") => manner = Manner::Told,
+            _ => break,
+        }
+        rest = more;
+    }
+    let status = match made {
+        Made::ByLibrary => with_library(rest, manner),
+        Made::Plainly => run(rest, manner, made, &mut Plain),
+        Made::ByBoth => with_both(rest, manner),
     };
     ExitCode::from(status)
 }
 
 #[cfg(feature = "proved")]
-fn with_library(words: &[OsString]) -> u8 {
-    run(words, &mut proved::Proved)
+fn with_library(words: &[OsString], manner: Manner) -> u8 {
+    run(words, manner, Made::ByLibrary, &mut proved::Proved)
 }
 
 #[cfg(feature = "proved")]
-fn with_both(words: &[OsString]) -> u8 {
+fn with_both(words: &[OsString], manner: Manner) -> u8 {
     let mut both = console::Both::new(Plain, proved::Proved);
-    let status = run(words, &mut both);
+    let status = run(words, manner, Made::ByBoth, &mut both);
     match both.difference {
         Some(what) => {
             say(&format!("DIFFERENT: {what}"));
@@ -64,9 +87,11 @@ fn with_both(words: &[OsString]) -> u8 {
 }
 
 #[cfg(not(feature = "proved"))]
-fn with_library(words: &[OsString]) -> u8 {
+fn with_library(words: &[OsString], manner: Manner) -> u8 {
     match words.first().and_then(|word| word.to_str()) {
-        Some("histories" | "-h" | "--help") => run(words, &mut Plain),
+        Some("histories" | "words" | "-h" | "--help") => {
+            run(words, manner, Made::Plainly, &mut Plain)
+        }
         _ => misused("this program was built without the library and takes --plain alone"),
     }
 }
@@ -74,80 +99,87 @@ fn with_library(words: &[OsString]) -> u8 {
 #[cfg(not(feature = "proved"))]
 use with_library as with_both;
 
-fn run(words: &[OsString], build: &mut impl Build) -> u8 {
+fn run(words: &[OsString], manner: Manner, made: Made, build: &mut impl Build) -> u8 {
     let texts: Vec<&str> = words.iter().map(|w| w.to_str().unwrap_or("")).collect();
     match *texts.as_slice() {
-        ["-h" | "--help"] => {
-            let mut out = io::stdout().lock();
-            match out.write_all(USAGE.as_bytes()).and_then(|()| out.flush()) {
-                Ok(()) => 0,
-                Err(_) => LOST,
-            }
-        }
+        ["-h" | "--help"] => print(USAGE),
+        ["words"] => print(&help::words()),
         #[cfg(feature = "proved")]
         ["compare", ref rest @ ..] => compare::run(rest),
+        #[cfg(not(feature = "proved"))]
+        ["compare", ..] => misused("this program was built without the library"),
         ["histories", seed, calls] => match (seed.parse(), calls.parse()) {
             (Ok(seed), Ok(calls)) => print_history(seed, calls),
             _ => misused("a seed and a number of calls"),
         },
-        ["dump", ref first @ ..] => {
-            let is_number = |word: &&str| line::number(word.as_bytes()).is_some();
-            if first.len() > 2 || !first.iter().all(is_number) {
-                return misused("dump takes a number of cells, and a room");
-            }
-            let first = (!first.is_empty()).then(|| first.join(" "));
-            filter::run(|input| waveform::dump(build, first.as_deref(), input))
-        }
+        ["dump", ref first @ ..] => dump(build, first),
         ["undump"] => filter::run(|input| waveform::undump(build, input)),
-        [] => {
-            if io::stdin().is_terminal() {
-                let _ = writeln!(io::stderr(), "Type a line and press Enter. \"help\" lists the commands and calls, Ctrl-D leaves.");
-            }
-            play(build, &mut io::stdin().lock())
-        }
         [option] if option.len() > 1 && option.starts_with('-') => {
             misused(&format!("there is no option {option}"))
         }
-        [_] => match File::open(&words[0]) {
-            Ok(file) => play(build, &mut BufReader::with_capacity(1 << 16, file)),
-            Err(error) => {
-                say(&format!("{}: {error}", words[0].to_string_lossy()));
-                LOST
-            }
-        },
+        [] | [_] => play(words.first(), manner, made, build),
         _ => misused("one file at most"),
     }
 }
 
-fn play(build: &mut impl Build, input: &mut impl BufRead) -> u8 {
-    let mut out = BufWriter::with_capacity(1 << 16, io::stdout().lock());
-    let End {
-        lost,
-        not_understood,
-    } = play::play(build, input, &mut out);
-    // what was not written shall not be tried again
-    let _ = out.into_parts();
-    match lost {
-        Some(Lost::Output) => {
-            say("output lost");
+/// `dump [N [ROOM]]`.
+fn dump(build: &mut impl Build, first: &[&str]) -> u8 {
+    let is_number = |word: &&str| line::number(word.as_bytes()).is_some();
+    if first.len() > 2 || !first.iter().all(is_number) {
+        return misused("dump takes a number of cells, and a room");
+    }
+    let first = (!first.is_empty()).then(|| first.join(" "));
+    filter::run(|input| waveform::dump(build, first.as_deref(), input))
+}
+
+/// Plays a file, or standard input.
+fn play(file: Option<&OsString>, manner: Manner, made: Made, build: &mut impl Build) -> u8 {
+    let input = match file.map(|name| opened(name)).transpose() {
+        Ok(input) => input,
+        Err(why) => {
+            say(&why);
             return LOST;
         }
-        Some(Lost::Input) => say("input lost"),
-        None => {}
+    };
+    if made == Made::Plainly {
+        say("this is the plain build, the unproved twin of the library");
     }
-    if not_understood > 0 {
-        say(&format!("{not_understood} lines not understood"));
+    if let Some(file) = input {
+        let mut input = BufReader::with_capacity(1 << 16, file);
+        return player::run(build, manner, false, &mut input);
     }
-    match (lost, not_understood) {
-        (Some(_), _) => LOST,
-        (None, 0) => 0,
-        _ => NOT_UNDERSTOOD,
+    let at_terminal = io::stdin().is_terminal();
+    if at_terminal {
+        let _ = writeln!(io::stderr(), "{}", terminal::GREETING);
+    }
+    player::run(build, manner, at_terminal, &mut io::stdin().lock())
+}
+
+/// A file to play, or why there is none.
+fn opened(name: &OsStr) -> Result<File, String> {
+    let said = |why: &dyn std::fmt::Display| format!("{}: {why}", name.to_string_lossy());
+    let file = File::open(name).map_err(|error| said(&error))?;
+    match file.metadata() {
+        Ok(about) if about.is_dir() => Err(said(&"it is a directory")),
+        _ => Ok(file),
     }
 }
 
 fn misused(what: &str) -> u8 {
     say(&format!("{what}; --help says how to use it"));
     LOST
+}
+
+/// Prints a text.
+fn print(text: &str) -> u8 {
+    let mut out = io::stdout().lock();
+    match out.write_all(text.as_bytes()).and_then(|()| out.flush()) {
+        Ok(()) => 0,
+        Err(_) => {
+            say("output lost");
+            LOST
+        }
+    }
 }
 
 /// `histories SEED CALLS`: a history as text.

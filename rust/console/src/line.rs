@@ -14,7 +14,8 @@ pub fn is_skipped(line: &[u8]) -> bool {
     line.is_empty() || line[0] == b'#'
 }
 
-/// What a line was, once it has been played.
+/// What a line was, once it has been played. It is looked at and not kept, so that its size is nothing.
+#[allow(clippy::large_enum_variant)]
 #[derive(Clone, Debug, PartialEq, Eq)]
 pub enum Line {
     /// Empty, or a remark.
@@ -72,7 +73,7 @@ impl Desk {
 
 /// The first word of a line, and the numbers behind it; a kind of setpoint is given as its number. Words are separated
 /// by single spaces, with none before or after.
-fn words(line: &[u8]) -> Option<(&[u8], Vec<u32>)> {
+pub(crate) fn words(line: &[u8]) -> Option<(&[u8], Vec<u32>)> {
     let mut words = line.split(|&byte| byte == b' ');
     let first = words.next().unwrap_or_default();
     let value = |(at, word)| match (first, at) {

@@ -2,7 +2,7 @@
 
 use crate::build::Head;
 use crate::desk::Desk;
-use crate::help::HELP;
+use crate::help::help;
 use std::io::{self, Write};
 
 /// A command that shows something.
@@ -34,7 +34,7 @@ impl Desk {
             Look::Show => self.show_arena(out),
             Look::Map => self.map(out),
             Look::ShowBook => self.show_book(out),
-            Look::Help => out.write_all(HELP.as_bytes()),
+            Look::Help => out.write_all(help().as_bytes()),
         }
     }
 
