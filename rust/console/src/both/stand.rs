@@ -76,10 +76,7 @@ impl<T: Element> Copied<T> for Guarded<T> {
     fn is_overrun(&self) -> bool {
         let (before, rest) = self.0.split_at(GUARD);
         let behind = &rest[rest.len() - GUARD..];
-        before
-            .iter()
-            .chain(behind)
-            .any(|&one| one != T::from(MARK))
+        before.iter().chain(behind).any(|&one| one != T::from(MARK))
     }
 }
 
