@@ -7,10 +7,7 @@ use console::build::{
     BookReply, Build, CrewReply, Head, Key, Lease, Reply, SalvageReply, WaveReply,
 };
 use console::for_every_call;
-use skid::raw::lent;
-
-/// What a reply holds before a call; a word that was not written shows.
-const BLANK: u64 = 0xa5a5_a5a5_a5a5_a5a5;
+use skid::raw::{lent, BLANK};
 
 /// The library. Its reply stands in each way in turn.
 #[derive(Default)]
