@@ -1,6 +1,6 @@
 //! The bench console on the shipped library. docs/CONSOLE.md has the language.
 
-#[cfg(feature = "proved")]
+#[cfg(any(feature = "proved", test))]
 mod compare;
 mod filter;
 mod player;
@@ -19,7 +19,7 @@ use std::process::ExitCode;
 
 const USAGE: &str = "\
 usage: bench [--plain | --both] [--explain] [FILE]
-       bench compare [--calls N] [--seed S]
+       bench compare [--calls N] [--seed S] [--fenced]
        bench histories SEED CALLS
        bench [--plain | --both] dump [N [ROOM]] | undump
        bench words

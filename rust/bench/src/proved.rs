@@ -11,7 +11,7 @@ use skid::raw;
 pub struct Proved;
 
 /// What a call is given, as `raw` takes it.
-trait Given {
+pub trait Given {
     type Raw;
     fn raw(self) -> Self::Raw;
 }
