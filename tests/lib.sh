@@ -91,13 +91,14 @@ show_difference() {
 }
 
 # plays NAME INPUT WANTED WORDS..: the program with these words, INPUT's bytes as standard input, prints the file WANTED; it says on
-# standard error how many lines of that were not understood, if any, and nothing else; it ends with 1 if there were any and else
-# with 0. What it printed is in $room/out. If it is not so, that is said, and the function fails.
+# standard error how many lines of that were not understood, if any, and nothing else (the plain build may say first that it is the
+# plain one); it ends with 1 if there were any and else with 0. If it is not so, that is said, and the function fails.
 plays() {
     local name=$1 input=$2 wanted=$3 files=${room:?} status=0 count wanted_status=0
     shift 3
     name="$name${*:+ ($*)}"
     (bench "$@") <"$input" >"$files/out" 2>"$files/said" || status=$?
+    [ "${1:-}" != --plain ] || sed -i '1{/^bench: .*plain build/d}' "$files/said"
     count=$(LC_ALL=C grep -a -c '^line [0-9]*: not understood$' "$wanted" || true)
     : >"$files/wanted-said"
     if [ "$count" -gt 0 ]; then
