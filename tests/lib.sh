@@ -1,14 +1,9 @@
 # shellcheck shell=bash
 # For the test scripts that play input through the console. They source it from the top folder of the repository.
 
-# build_plain: builds the plain program and the writer of histories.
+# build_plain: builds the plain `report`, and the writers of waveforms and trials, for this machine.
 build_plain() {
     cargo build --release --offline --quiet --manifest-path rust/Cargo.toml -p plain --target-dir target/rust
-}
-
-# plain FILE: the plain program on FILE's bytes as standard input.
-plain() {
-    target/rust/release/plain <"$1"
 }
 
 # kit: the folder of the Rattle kit that `rt` belongs to.
@@ -70,28 +65,6 @@ program() {
     )
 }
 
-# play FILE: the player on FILE's bytes as standard input. PLAYER names another program instead, by a path from the top folder of the
-# repository or from /.
-play() {
-    if [ -n "${PLAYER:-}" ]; then
-        (
-            [ -z "${STACK:-}" ] || ulimit -s "$STACK"
-            exec "$PLAYER" <"$1"
-        )
-    else
-        program player <"$1"
-    fi
-}
-
-# need_player: ends the script if there is no player to run.
-need_player() {
-    local player=${PLAYER:-target/bin/player}
-    command -v "$player" >/dev/null || {
-        echo "no player at $player: build it first, or let PLAYER name another program"
-        exit 1
-    }
-}
-
 # first_difference A B: the number of the first line in which two files differ; nothing if they are equal.
 first_difference() {
     local said
@@ -104,13 +77,46 @@ first_difference() {
     esac
 }
 
-# show_difference PLAIN PLAYER: the first line in which the two outputs differ, of both.
+# a_line FILE LINE: that line, fit to be printed.
+a_line() {
+    if [ "$2" -gt "$(grep -a -c '' "$1")" ]; then echo '(no such line)'; else sed -n "${2}p" "$1" | cat -v | cut -c 1-300; fi
+}
+
+# show_difference WANTED PRINTED: the first line in which the two differ, of both.
 show_difference() {
     local line
     line=$(first_difference "$1" "$2")
-    echo "first difference in line $line of what was printed"
-    echo "  plain:  $(sed -n "${line}p" "$1" | cat -v | cut -c 1-300)"
-    echo "  player: $(sed -n "${line}p" "$2" | cat -v | cut -c 1-300)"
+    echo "  line $line, wanted:  $(a_line "$1" "$line")"
+    echo "  line $line, printed: $(a_line "$2" "$line")"
+}
+
+# plays NAME INPUT WANTED WORDS..: the program with these words, INPUT's bytes as standard input, prints the file WANTED; it says on
+# standard error how many lines of that were not understood, if any, and nothing else (the plain build may say first that it is the
+# plain one); it ends with 1 if there were any and else with 0. If it is not so, that is said, and the function fails.
+plays() {
+    local name=$1 input=$2 wanted=$3 files=${room:?} status=0 count wanted_status=0
+    shift 3
+    name="$name${*:+ ($*)}"
+    (bench "$@") <"$input" >"$files/out" 2>"$files/said" || status=$?
+    [ "${1:-}" != --plain ] || sed -i '1{/^bench: .*plain build/d}' "$files/said"
+    count=$(LC_ALL=C grep -a -c '^line [0-9]*: not understood$' "$wanted" || true)
+    : >"$files/wanted-said"
+    if [ "$count" -gt 0 ]; then
+        echo "bench: $count lines not understood" >"$files/wanted-said"
+        wanted_status=1
+    fi
+    if ! cmp -s "$wanted" "$files/out"; then
+        echo "$name: NOT WHAT WAS WANTED"
+        show_difference "$wanted" "$files/out"
+    elif ! cmp -s "$files/wanted-said" "$files/said"; then
+        echo "$name: NOT WHAT WAS WANTED on standard error"
+        show_difference "$files/wanted-said" "$files/said"
+    elif [ "$status" -ne "$wanted_status" ]; then
+        echo "$name: status $status, not $wanted_status"
+    else
+        return 0
+    fi
+    return 1
 }
 
 # The bench: rust/bench on the library, and beside it the program with the plain build alone, which needs no library. On a machine

@@ -138,6 +138,33 @@ fn every_answer_of_every_call() {
     assert!(failures * 40 <= calls, "{failures} of {calls}");
 }
 
+/// The case files of bench/ show each answer of each call too: their .out files have each line behind `> `, and what it
+/// printed below it. The script that brings 11 with the reason `after` is too long for them: tests/bad-input.sh has it.
+#[test]
+fn every_answer_in_a_case_file() {
+    let folder = concat!(env!("CARGO_MANIFEST_DIR"), "/../../bench");
+    let mut shown = BTreeSet::new();
+    for entry in std::fs::read_dir(folder).expect("the case files") {
+        let path = entry.expect("a case file").path();
+        if path.extension().is_none_or(|end| end != "out") {
+            continue;
+        }
+        let bytes = std::fs::read(path).expect("a case file");
+        let text = String::from_utf8_lossy(&bytes).into_owned();
+        for played in text.split("\n> ") {
+            if let Some((line, out)) = played.split_once('\n') {
+                shown.insert((word(line, 0).to_string(), answer_of(out)));
+            }
+        }
+    }
+    for (call, answers) in ANSWERS {
+        for answer in answers.split(' ').filter(|&answer| answer != "11after") {
+            let pair = (call.to_string(), answer.to_string());
+            assert!(shown.contains(&pair), "no case file shows {pair:?}");
+        }
+    }
+}
+
 /// How the first and the last attempt of an `acquire_index_bucket` that failed were Busy, or of a multi-lock that failed
 /// at its first key. `console` is what it was given.
 fn change_of_reason(console: &Desk, line: &str, out: &str) -> Option<String> {
