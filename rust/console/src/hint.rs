@@ -20,7 +20,7 @@ pub fn fault(desk: &Desk, line: &[u8]) -> Option<String> {
     spaces(line, &words).or_else(|| match entry_of(first) {
         Some(entry) => counts(entry, rest)
             .or_else(|| numbers(entry, rest))
-            .or_else(|| room(entry, rest, desk)),
+            .or_else(|| room(entry, desk)),
         None => Some(unknown(first)),
     })
 }
@@ -127,7 +127,7 @@ fn within(word: &[u8], what: &str, most: u32) -> Option<String> {
 }
 
 /// What the rooms of the console do not allow.
-fn room(entry: &Entry, _rest: &[&[u8]], desk: &Desk) -> Option<String> {
+fn room(entry: &Entry, desk: &Desk) -> Option<String> {
     let full = entry.word == "member" && desk.members.len() == MEMBERS;
     full.then(|| format!("there are {MEMBERS} members already, and there is room for no more"))
 }
