@@ -49,8 +49,9 @@ fn registry(headers: &[u32]) -> String {
 
 fn keys(numbers: &[u32]) -> String {
     let each = |key: &[u32]| format!("binding {} bucket {}", grouped(key[0]), grouped(key[1]));
-    format!(
-        "The keys are {}.",
-        listed(", ", numbers.chunks_exact(2).map(each))
-    )
+    let keys = listed(", ", numbers.chunks_exact(2).map(each));
+    match numbers.len() {
+        2 => format!("The key is {keys}."),
+        _ => format!("The keys are {keys}."),
+    }
 }
