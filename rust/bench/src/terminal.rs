@@ -44,3 +44,23 @@ pub fn played(
     }
     Ok(Heard::of(&played))
 }
+
+#[cfg(test)]
+mod tests {
+    use super::{word, Heard};
+
+    #[test]
+    fn words_of_the_terminal() {
+        for (line, heard) in [
+            ("quit", Some(Heard::Leave)),
+            ("exit", Some(Heard::Leave)),
+            ("help show", Some(Heard::Understood)),
+            ("help fog", Some(Heard::Understood)),
+            ("help", None),
+            ("quit now", None),
+            ("show", None),
+        ] {
+            assert_eq!(word(line.as_bytes()), heard, "{line}");
+        }
+    }
+}

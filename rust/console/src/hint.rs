@@ -20,7 +20,7 @@ pub fn fault(desk: &Desk, line: &[u8]) -> Option<String> {
     spaces(line, &words).or_else(|| match entry_of(first) {
         Some(entry) => counts(entry, rest)
             .or_else(|| numbers(entry, rest))
-            .or_else(|| room(entry, rest, desk)),
+            .or_else(|| room(entry, desk)),
         None => Some(unknown(first)),
     })
 }
@@ -127,7 +127,7 @@ fn within(word: &[u8], what: &str, most: u32) -> Option<String> {
 }
 
 /// What the rooms of the console do not allow.
-fn room(entry: &Entry, _rest: &[&[u8]], desk: &Desk) -> Option<String> {
+fn room(entry: &Entry, desk: &Desk) -> Option<String> {
     let full = entry.word == "member" && desk.members.len() == MEMBERS;
     full.then(|| format!("there are {MEMBERS} members already, and there is room for no more"))
 }
@@ -138,26 +138,34 @@ fn unknown(word: &[u8]) -> String {
     if OF_THE_TERMINAL.iter().any(|known| known.as_bytes() == word) {
         return format!("{text} is a word of the terminal alone");
     }
-    match nearest(word) {
-        Some(known) => format!("there is no word {text}; the nearest is {known}"),
-        None => format!("there is no word {text}; \"help\" lists the words"),
+    // capitals are a typo; of a long line without a space the beginning is enough
+    let typed = word[..word.len().min(40)].to_ascii_lowercase();
+    if let Some(known) = nearest(&typed) {
+        return format!("there is no word {text}; the nearest is {known}");
+    }
+    match begun(&typed)[..] {
+        [] => format!("there is no word {text}; \"help\" lists the words"),
+        ref words => format!("there is no word {text}; so begin {}", words.join(", ")),
     }
 }
 
-/// The word of the language that is meant, if one is near: at most a third of its letters away, or it begins so.
-fn nearest(word: &[u8]) -> Option<&'static str> {
-    // a long line without a space is nobody's typo
-    if word.len() > 40 {
-        return None;
-    }
-    let word = word.to_ascii_lowercase();
-    let words = || LANGUAGE.iter().map(|entry| entry.word);
-    let near = words()
-        .map(|known| (distance(&word, known.as_bytes()), known))
-        .filter(|(away, known)| 3 * away <= known.len().max(4))
-        .min_by_key(|(away, _)| *away);
-    let begun = || words().find(|known| word.len() >= 3 && known.as_bytes().starts_with(&word));
-    near.map(|(_, known)| known).or_else(begun)
+fn known() -> impl Iterator<Item = &'static str> {
+    LANGUAGE.iter().map(|entry| entry.word)
+}
+
+/// The word of the language that is meant: at most a third of its letters away.
+fn nearest(typed: &[u8]) -> Option<&'static str> {
+    known()
+        .map(|word| (distance(typed, word.as_bytes()), word))
+        .filter(|(away, word)| 3 * away <= word.len().max(4))
+        .min_by_key(|(away, _)| *away)
+        .map(|(_, word)| word)
+}
+
+/// The words of the language that begin so.
+fn begun(typed: &[u8]) -> Vec<&'static str> {
+    let begins = |word: &&str| typed.len() >= 3 && word.as_bytes().starts_with(typed);
+    known().filter(begins).collect()
 }
 
 /// How many letters must be put in, left out, changed or swapped with their neighbour to make one word of the other.

@@ -1,5 +1,5 @@
-//! Playing lines: each is answered as soon as its line feed has come, and what is played is written before more input is
-//! waited for.
+//! Playing lines: each is answered as soon as its line feed has come, and what is played is written before more input
+//! is waited for.
 
 use crate::build::Build;
 use crate::desk::Desk;

@@ -87,12 +87,23 @@ fn the_nearest_word() {
         ("try_aquire 2", "try_acquire"),
         ("maps", "map"),
         ("acquire_index_lock", "acquire_index_locks"),
-        ("transactional 0 1", "transactional_try_lock_bucket"),
     ] {
         let word = typed.split(' ').next().unwrap_or_default();
         let said = format!("there is no word {word}; the nearest is {meant}");
         assert_eq!(hint(typed), said);
     }
+    assert_eq!(
+        hint("acquire 2"),
+        "there is no word acquire; so begin acquire_preserving_borrows, acquire_index_bucket, \
+         acquire_index_locks, acquire_sorted_locks"
+    );
+    assert_eq!(
+        hint(&"x".repeat(70)),
+        format!(
+            "there is no word {}..; \"help\" lists the words",
+            "x".repeat(60)
+        )
+    );
     assert_eq!(
         hint("fog"),
         "there is no word fog; \"help\" lists the words"

@@ -131,7 +131,10 @@ fn busy(made: &Made, reply: &Reply) -> String {
     let reason = match reply[13] {
         1 => format!("serial {serial} holds it"),
         2 => "somebody waits for it".to_string(),
-        _ => format!("it was taken, and then somebody waited for it. It is given up again, and serial {serial} stays spent"),
+        _ => format!(
+            "it was taken, and then somebody waited for it. It is given up again, and serial \
+             {serial} stays spent"
+        ),
     };
     sentence(&format!("{} is Busy: {reason}", asked(made)))
 }

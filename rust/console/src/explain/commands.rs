@@ -1,7 +1,7 @@
 //! What a command does, where the typed line does not say it.
 
-use super::steps;
-use super::text::{counted, lease, listed, numbers as in_words, sentence as as_sentence};
+use super::lists;
+use super::text::{counted, numbers as in_words};
 use crate::desk::Desk;
 use crate::help::{grouped, Entry};
 
@@ -15,40 +15,42 @@ pub fn sentence(entry: &Entry, numbers: &[u32], desk: &Desk) -> Option<String> {
             counted(bytes as usize, "health byte")
         ),
         ("ram", _) => "Table, health and book are full of rubbish now.".to_string(),
-        ("head", &[headers, buckets, next, boot]) => format!(
-            "The head in force has {} of {}; its next serial is {}, its boot number {}.",
-            counted(headers as usize, "header"),
-            counted(buckets as usize, "bucket"),
-            grouped(next),
-            grouped(boot)
-        ),
+        ("head", _) => head_in_force(desk),
         ("word" | "byte" | "book_byte" | "book", _) => stored(entry.word, numbers),
-        ("place", &[place]) => format!(
-            "The next step of the script is number {}, from 0.",
-            grouped(place)
-        ),
+        ("place", &[place]) => {
+            let place = grouped(place);
+            format!("The next step of the script is number {place}, from 0.")
+        }
         ("grants", &[words]) => room("The grant buffer", words, 3, "lease"),
         ("report", &[words]) => room("The report", words, 3, "change"),
         ("unconfirmed", &[words]) => room("The list of the cells left held", words, 1, "cell"),
-        ("member", cells) => {
-            let member = desk.members.len() - 1;
-            match cells {
-                [] => format!("Member {member} wants no cells."),
-                _ => format!(
-                    "Member {member} wants {}: {}.",
-                    counted(cells.len(), "cell"),
-                    in_words(cells)
-                ),
-            }
-        }
+        ("member", cells) => member(desk.members.len() - 1, cells),
         ("crewless", _) => "There are no members any more.".to_string(),
-        ("trace", &[1]) => {
-            "From now on each call tells what it did to the bits of the cells.".to_string()
-        }
-        ("trace", _) => "Calls no longer tell what they did to the bits.".to_string(),
-        _ => return list(entry.word, numbers, desk.head.boot),
+        ("trace", &[1]) => "From now on each call tells which bits it changed.".to_string(),
+        ("trace", _) => "Calls no longer tell which bits they changed.".to_string(),
+        _ => return lists::replaced(entry.word, numbers, desk.head.boot),
     };
     Some(text)
+}
+
+fn head_in_force(desk: &Desk) -> String {
+    let head = desk.head;
+    format!(
+        "The head in force has {} of {}; its next serial is {}, its boot number {}.",
+        counted(head.headers as usize, "header"),
+        counted(head.buckets as usize, "bucket"),
+        grouped(head.next),
+        grouped(head.boot)
+    )
+}
+
+/// What a member wants.
+fn member(number: usize, cells: &[u32]) -> String {
+    match cells {
+        [] => format!("Member {number} wants no cells."),
+        [cell] => format!("Member {number} wants cell {}.", grouped(*cell)),
+        _ => format!("Member {number} wants cells {}.", in_words(cells)),
+    }
 }
 
 /// What a stored number is part of.
@@ -80,47 +82,4 @@ fn room(what: &str, words: u32, each: u32, entry: &str) -> String {
         "{what} has room for {}.",
         counted((words / each) as usize, entry)
     )
-}
-
-/// A list that was replaced.
-fn list(word: &str, numbers: &[u32], boot: u32) -> Option<String> {
-    let (name, each) = match word {
-        "registry" => ("registry", 1),
-        "held" => ("held list", 3),
-        "keys" => ("list of keys", 2),
-        "leases" => ("list to release", 3),
-        "turns" => ("list of turns", 1),
-        "counters" => ("list of counters", 1),
-        "script" => ("script", 3),
-        _ => return None,
-    };
-    let entries = numbers.chunks_exact(each);
-    Some(match word {
-        "script" if numbers.is_empty() => "Others will do nothing.".to_string(),
-        _ if numbers.is_empty() => format!("The {name} is empty."),
-        _ if numbers.len() % each != 0 => format!(
-            "The {name} has {}, which {} does not divide.",
-            counted(numbers.len(), "number"),
-            ["one", "two", "three"][each - 1]
-        ),
-        "script" => steps::ahead(numbers),
-        "turns" => format!("The crew has {} to come.", counted(entries.len(), "turn")),
-        // the line says it
-        "counters" => return None,
-        "registry" => {
-            let each = |(at, header): (usize, &[u32])| {
-                format!("binding {at} is header {}", grouped(header[0]))
-            };
-            as_sentence(&listed(", ", entries.enumerate().map(each)))
-        }
-        "keys" => {
-            let each =
-                |key: &[u32]| format!("binding {} bucket {}", grouped(key[0]), grouped(key[1]));
-            format!("The keys are {}.", listed(", ", entries.map(each)))
-        }
-        _ => {
-            let each = |one: &[u32]| lease(one, boot);
-            format!("The {name} is {}.", listed(", ", entries.map(each)))
-        }
-    })
 }

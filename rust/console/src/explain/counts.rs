@@ -1,4 +1,5 @@
-//! The counts of a call, told where they are not those of a quiet one: a call whose keys are taken, or refused, at once.
+//! The counts of a call, told where they are not those of a quiet one: a call whose keys are taken, or refused, at
+//! once.
 
 use super::text::counted;
 use super::Made;

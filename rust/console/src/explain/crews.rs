@@ -13,7 +13,7 @@ pub fn sentences(made: &Made, reply: &CrewReply) -> Vec<String> {
     let (moving, idle) = (reply[15] as usize, reply[16] as usize);
     let turns = counted(moving + idle, "turn");
     let mut told = vec![format!(
-        "The crew has had {turns}: {moving} moving, {idle} idle."
+        "The crew had {turns}: {moving} moving, {idle} idle."
     )];
     let members = reply[17..33]
         .iter()
@@ -34,7 +34,7 @@ pub fn sentences(made: &Made, reply: &CrewReply) -> Vec<String> {
     told
 }
 
-/// How far a member has come.
+/// What a member did in these turns.
 fn progress(wanted: usize, taken: usize, released: usize) -> String {
     let all = match wanted {
         1 => "its cell".to_string(),
@@ -42,12 +42,12 @@ fn progress(wanted: usize, taken: usize, released: usize) -> String {
     };
     match (wanted, taken, released) {
         (0, _, _) => "wants no cells".to_string(),
-        (1, 0, _) => "has not taken its cell".to_string(),
-        (_, 0, _) => format!("has taken none of its {wanted} cells"),
-        (_, _, 0) if taken == wanted => format!("holds {all}"),
-        (_, _, 0) => format!("has taken {taken} of its {wanted} cells"),
-        _ if released == wanted => format!("has held {all} and is finished"),
-        _ => format!("has held {all} and given {released} back"),
+        (1, 0, _) => "did not get its cell".to_string(),
+        (_, 0, _) => format!("took none of its {wanted} cells"),
+        (_, _, 0) if taken == wanted => format!("took {all}"),
+        (_, _, 0) => format!("took {taken} of its {wanted} cells"),
+        _ if released == wanted => format!("held {all}, and is finished"),
+        _ => format!("held {all}, and gave {released} back"),
     }
 }
 

@@ -5,6 +5,7 @@ mod books;
 mod commands;
 mod counts;
 mod crews;
+mod lists;
 mod refusals;
 mod salvages;
 mod steps;

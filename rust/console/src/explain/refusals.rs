@@ -1,6 +1,6 @@
 //! One sentence for each refusal: what it means for who called.
 
-use super::text::counted;
+use super::text::{self, counted};
 use super::Made;
 use crate::answer::{name_of, NAMED, REFUSALS};
 use crate::build::{Head, Reply};
@@ -20,7 +20,10 @@ pub fn sentence(made: &Made, reply: &Reply) -> String {
     let mut told = numbered(number, &why);
     // one attempt, and its health was read after the third boundary
     if number == 7 && (reply[5], reply[6]) == (1, 3) {
-        told.push_str(" That was seen when the cell was taken: it is given up again, and its serial stays spent.");
+        told.push_str(
+            " That was seen when the cell was taken: it is given up again, and its serial stays \
+             spent.",
+        );
     }
     let released = ["release_then_handoff", "foreign_release_between_attempts"];
     if number == 10 && released.contains(&made.entry.word) {
@@ -63,9 +66,6 @@ fn out_of_patience(reply: &Reply) -> String {
 
 /// What a refusal of document 01 says of this call; 11 has a reason, and stands above.
 pub fn why(made: &Made, number: u64, carried: u64) -> String {
-    let Head {
-        headers, buckets, ..
-    } = made.head();
     let at = carried as usize;
     let carried = grouped(carried);
     match number {
@@ -74,23 +74,39 @@ pub fn why(made: &Made, number: u64, carried: u64) -> String {
         3 => bad_held(made, at),
         4 => too_many(made),
         5 => bad_binding(made, at),
-        6 => format!("the registry leads to header {carried}, and there are {}", counted(headers as usize, "header")),
-        7 => format!("header {carried} is poisoned, and gives no cell"),
-        8 if made.is_given(Given::Registry) => {
-            format!("there is no bucket {carried}, since a header has {}, counted from 0", counted(buckets as usize, "bucket"))
+        6 => {
+            let headers = counted(made.head().headers as usize, "header");
+            format!("the registry leads to header {carried}, and the arena has {headers}")
         }
-        8 => format!(
-            "there is no cell {carried}, since the arena has {}, counted from 0",
-            counted((headers * buckets) as usize, "cell")
-        ),
-        9 => format!("cell {carried} is damaged, its bit and owner being those of neither a free nor a held cell"),
+        7 => format!("header {carried} is poisoned, and gives no cell"),
+        8 => invalid_bucket(made, &carried),
+        9 => format!("the words of cell {carried} are those of neither a free nor a held cell"),
         10 => format!("cell {carried} is free, but no serial is left to give"),
         12 => not_held(made, at),
-        13 => format!("cell {} by serial {} is in the held list, and so protected", grouped(made.lease()[0]), grouped(made.lease()[1])),
-        14 => format!("the lease at position {carried} stands earlier in the list too; nothing is released"),
+        13 => {
+            let lease = text::lease(made.lease(), made.head().boot);
+            format!("{lease} is in the held list, and so protected")
+        }
+        14 => format!(
+            "the lease at position {carried} stands earlier in the list too; nothing is released"
+        ),
         15 => super::crews::bad_crew(made, at),
         16 => stale_boot(made, at),
         _ => String::new(),
+    }
+}
+
+/// By key it carries a bucket, by cell a cell.
+fn invalid_bucket(made: &Made, carried: &str) -> String {
+    let Head {
+        headers, buckets, ..
+    } = made.head();
+    if made.is_given(Given::Registry) {
+        let buckets = counted(buckets as usize, "bucket");
+        format!("there is no bucket {carried}, since a header has {buckets}, counted from 0")
+    } else {
+        let cells = counted((headers * buckets) as usize, "cell");
+        format!("there is no cell {carried}, since the arena has {cells}, counted from 0")
     }
 }
 
@@ -104,7 +120,9 @@ fn bad_shape(made: &Made) -> String {
     if head == Head::default() && made.entry.word != "prepare" {
         "no arena is prepared, since the head in force is 0 0 0 0".to_string()
     } else if !is_arena(head, asked, headers) {
-        "a head has 1 to 64 headers, 1 to 1,024 buckets each, at most 4,096 cells, and a serial from 1 on".to_string()
+        "a head has 1 to 64 headers, 1 to 1,024 buckets each, at most 4,096 cells, and a serial \
+         from 1 on"
+            .to_string()
     } else if words != asked && !made.is_given(Given::NoTable) {
         format!(
             "it was lent {}, and {} are needed",

@@ -1,6 +1,6 @@
 //! The salvage: its report and its list.
 
-use super::text::{counted, listed};
+use super::text::{counted, listed, numbers};
 use super::{refusals, Made};
 use crate::build::SalvageReply;
 use crate::help::grouped;
@@ -9,12 +9,11 @@ pub fn sentences(made: &Made, reply: &SalvageReply) -> Vec<String> {
     let (changed, held) = match reply[4..] {
         [0, changed, held] => (changed as usize, held as usize),
         [_, number, _] if number > 100 => return vec![refusals::named(made, number)],
-        _ => {
-            return vec![refusals::numbered(
-                reply[5],
-                &refusals::why(made, reply[5], 0),
-            )]
+        [_, number, _] => {
+            let why = refusals::why(made, number, 0);
+            return vec![refusals::numbered(number, &why)];
         }
+        _ => return Vec::new(),
     };
     let report = made.desk.report.chunks_exact(3).take(changed);
     let changes = match changed {
@@ -25,26 +24,22 @@ pub fn sentences(made: &Made, reply: &SalvageReply) -> Vec<String> {
             listed(", ", report.map(|entry| change(made, entry)))
         ),
     };
-    let cells: Vec<String> = made
-        .desk
-        .unconfirmed
-        .iter()
-        .take(held)
-        .map(|&cell| grouped(cell))
-        .collect();
-    let left = match held {
-        0 => "No cell is left held.".to_string(),
-        1 => format!(
-            "Cell {} is left held, for its owner to confirm or to drop.",
-            cells[0]
-        ),
+    vec![changes, left_held(&made.desk.unconfirmed[..held])]
+}
+
+/// The cells of the list.
+fn left_held(cells: &[u32]) -> String {
+    match cells {
+        [] => "No cell is left held.".to_string(),
+        [cell] => {
+            let cell = grouped(*cell);
+            format!("Cell {cell} is left held, for its owner to confirm or to drop.")
+        }
         _ => format!(
-            "{} are left held, for their owners to confirm or to drop: {}.",
-            counted(held, "cell"),
-            listed(", ", cells.into_iter())
+            "Cells left held, for their owners to confirm or to drop: {}.",
+            numbers(cells)
         ),
-    };
-    vec![changes, left]
+    }
 }
 
 /// An entry of the report: place, old, new. Health places count on from the table's.
@@ -64,7 +59,8 @@ fn change(made: &Made, entry: &[u32]) -> String {
 
 pub fn report_full(made: &Made) -> String {
     format!(
-        "a report with room for {} and a list with room for {} cannot hold all entries; nothing is changed",
+        "a report with room for {} and a list with room for {} cannot hold all entries; nothing \
+         is changed",
         counted(made.desk.report.len() / 3, "change"),
         counted(made.desk.unconfirmed.len(), "cell")
     )

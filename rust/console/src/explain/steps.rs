@@ -37,7 +37,7 @@ fn will(step: &[u32]) -> String {
         (1, _) => format!("take cell {place}"),
         (2, _) => format!("release cell {place} of serial {number}"),
         (3, _) => format!("set the waiters of cell {place} to {number}"),
-        (4, 0) => format!("heal header {place}"),
+        (4, 0) => format!("set header {place} healthy"),
         (4, 1) => format!("poison header {place}"),
         (4, _) => format!("set the health of header {place} to {number}"),
         (kind, _) => format!("do a step of kind {}, which is none", grouped(kind)),
@@ -52,7 +52,7 @@ fn did(step: &[u32]) -> String {
         (1, _) => format!("somebody took cell {place}"),
         (2, _) => format!("serial {number} gave cell {place} back"),
         (3, _) => format!("the waiters of cell {place} were set to {number}"),
-        (_, 0) => format!("header {place} was healed"),
+        (_, 0) => format!("header {place} was set healthy"),
         _ => format!("header {place} was poisoned"),
     }
 }
