@@ -2,7 +2,7 @@
 # How fast the proved library is beside plain Rust (rust/plain), both called from rust/speed with the same arguments.
 # It prints a table in Markdown: instructions executed a call, which are the same at every run, and, on an x86-64
 # machine, nanoseconds a call, the best that was seen. It ends 1 if the two sides answer differently.
-# Built things go to target/speed.
+# The counter and what was measured last go to target/speed.
 set -euo pipefail
 cd "$(dirname "$0")/.."
 # shellcheck source=tests/lib.sh

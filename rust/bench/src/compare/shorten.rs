@@ -9,24 +9,29 @@ pub fn shorten(
     lines: &[Vec<u8>],
     mut shows: impl FnMut(&[&[u8]]) -> Option<usize>,
 ) -> Vec<Vec<u8>> {
-    let mut left: Vec<&[u8]> = lines.iter().map(Vec::as_slice).collect();
-    cut_lines(&mut left, &mut shows);
-    let mut cut: Vec<Vec<u8>> = left.iter().map(|line| line.to_vec()).collect();
-    for at in 0..cut.len() {
-        cut[at] = cut_numbers(&cut, at, &mut shows);
+    let mut history = lines.to_vec();
+    let mut before = usize::MAX;
+    // with fewer numbers fewer lines may do, and the other way round
+    while bytes(&history) < before {
+        before = bytes(&history);
+        history = cut_lines(&history, &mut shows);
+        for at in 0..history.len() {
+            history[at] = cut_numbers(&history, at, &mut shows);
+        }
     }
-    let mut left: Vec<&[u8]> = cut.iter().map(Vec::as_slice).collect();
-    cut_lines(&mut left, &mut shows);
-    left.iter().map(|line| line.to_vec()).collect()
+    history
 }
 
-/// Removes lines until no single one can be spared.
-fn cut_lines(lines: &mut Vec<&[u8]>, shows: &mut impl FnMut(&[&[u8]]) -> Option<usize>) {
-    let mut before = usize::MAX;
-    while lines.len() < before {
-        before = lines.len();
-        cut(lines, 1, &mut *shows);
-    }
+/// Bytes of a history, with a line feed for each line.
+fn bytes(lines: &[Vec<u8>]) -> usize {
+    lines.iter().map(|line| line.len() + 1).sum()
+}
+
+/// The history with as few of its lines as will do.
+fn cut_lines(lines: &[Vec<u8>], shows: &mut impl FnMut(&[&[u8]]) -> Option<usize>) -> Vec<Vec<u8>> {
+    let mut left: Vec<&[u8]> = lines.iter().map(Vec::as_slice).collect();
+    cut(&mut left, 1, shows);
+    left.iter().map(|line| line.to_vec()).collect()
 }
 
 /// The line at this place, with as few of its numbers as will do.
