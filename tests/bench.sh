@@ -259,7 +259,7 @@ while IFS= read -r line; do complain "the case file $line"; done <"$room/missing
 
 # every word that help names is played in a case file and understood there; help's own text is for people, and tests/talk.sh has it
 echo help >"$room/help"
-(bench --plain) <"$room/help" | sed 's/[ :,].*//' | sort -u >"$room/words"
+(bench) <"$room/help" | sed 's/[ :,].*//' | sort -u >"$room/words"
 [ "$(wc -l <"$room/words")" -ge 50 ] || complain "help names only $(wc -l <"$room/words") words"
 awk -F '\t' '$3 !~ /^line [0-9]+: not understood$/ { split($2, words, " "); print words[1] }' "$room/shown" | sort -u >"$room/played"
 while IFS= read -r word; do
