@@ -19,12 +19,11 @@ complain() {
     wrong=$((wrong + 1))
 }
 
-# replay NAME INPUT WANTED: the input on each build
+# replay NAME INPUT WANTED: the input on each build, and for both as a file by name
 replay() {
-    local build
-    for build in '' --plain --both; do
-        plays "$1" "$2" "$3" ${build:+"$build"} || wrong=$((wrong + 1))
-    done
+    plays "$1" "$2" "$3" || wrong=$((wrong + 1))
+    plays "$1" "$2" "$3" --plain || wrong=$((wrong + 1))
+    plays "$1" /dev/null "$3" --both "$2" || wrong=$((wrong + 1))
 }
 
 # sessions_of PAGE: its sessions, as 1.in and 1.out, 2.in and 2.out, ..; prints what is wrong with its fences
@@ -248,7 +247,7 @@ LC_ALL=C awk -F '\t' -v answers="$room/answers" -v rows="$room/rows" '
         n = split(of_row[$1], numbers, " ")
         for (i = 1; i <= n; i++) {
             split(row[numbers[i]], part, "\t")
-            if ($2 ~ "^(" part[2] ")$" && $3 ~ "^(" part[3] ")$") seen[numbers[i]]
+            if ($2 ~ "^" part[2] "$" && $3 ~ "^" part[3] "$") seen[numbers[i]]
         }
     }
     END {
