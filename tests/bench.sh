@@ -120,8 +120,10 @@ write_setpoint done=setpoint-book 1=setpoint-book BadSlot=setpoint-book 16=setpo
 read_setpoint pressure=setpoint-book speed=setpoint-book valve=setpoint-book 1=setpoint-book BadSlot=setpoint-book DamagedBook=setpoint-book NeverWritten=setpoint-book
 TABLE
 
-# what no table of answers tells: the case file, the line that is played, one that it prints (none: it prints nothing), as extended
-# regular expressions, for each command and each sentence of docs/CONSOLE.md
+# What no table of answers tells: the case file, the line that is played, one that it prints (none: it prints nothing), as extended
+# regular expressions, for each command and each sentence of docs/CONSOLE.md. (Lines too long for a case file are in
+# tests/bad-input.sh: the rooms of script, held list, keys, leases, turns and counters, and the longest line. What goes to standard
+# error, and help, is in tests/talk.sh.)
 cat >"$room/rows" <<'TABLE'
 lines | registry 0 1 1 |
 boot-number | held .* |
