@@ -2,8 +2,8 @@
 # Random histories through the proved library and the plain build: after each call every word of the reply and of every lent run is
 # compared. `compare.sh [CALLS [SEED]]`: at least CALLS calls, in histories of 10,000 with the seeds SEED, SEED + 1, ..
 # On x86-64 one process does it, 1,000,000 calls if no number is given, each lent run up against a page that may not be touched. On
-# another machine the library runs under an emulator, which is slow: this machine's own build writes the histories, they are piped
-# into `bench --both`, and it is 200,000 calls. Ends with 1 at the first difference.
+# another machine the library runs under an emulator, which is slow: 5,000 calls are made so, and for the others this machine's own
+# build writes the histories, which are piped into `bench --both`; it is 200,000 calls. Ends with 1 at the first difference.
 set -euo pipefail
 cd "$(dirname "$0")/.."
 . tests/lib.sh
@@ -44,6 +44,7 @@ calls_in() {
     grep -a -c -E ' place [0-9]+ attempts [0-9]+ boundaries [0-9]+ |^crew moving |^refused [0-9]+ [A-Za-z]+ [0-9]+( next [0-9]+)?$|^done [0-9]+ [0-9]+ next |^done( version [0-9]+)?$|^refused [A-Za-z]+( next [0-9]+)?$|^setpoint ' "$1" || true
 }
 
+one_process $((calls < 5000 ? calls : 5000)) "$seed"
 cargo build --release --offline --quiet --manifest-path rust/Cargo.toml -p bench --no-default-features --target-dir target/rust
 each=$((calls < 10000 ? calls : 10000)) first=$seed played=0 lines=0
 while [ "$played" -lt "$calls" ]; do

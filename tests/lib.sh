@@ -50,18 +50,14 @@ build_program() {
 }
 
 # program NAME: a program of target/bin on this standard input. It is an x86-64 program; on another machine it runs as the kit runs
-# programs there, under its emulator and its own loader and C library. STACK, in kilobytes, is all the stack that it gets.
+# programs there, under its emulator and its own loader and C library.
 program() {
-    local tools word stack=()
+    local tools word
     (
-        if [ -n "${STACK:-}" ]; then
-            ulimit -s "$STACK"
-            stack=(-s $((STACK * 1024)))
-        fi
         [ "$(uname -m)" != x86_64 ] || exec "target/bin/$1"
         for word in $(env | sed -n 's/^\(QEMU_[A-Za-z0-9_]*\)=.*/\1/p'); do unset "$word"; done
         tools=$(kit)/on/$(uname -m)/toolchain
-        exec "$tools/bin/qemu-x86_64" ${stack[@]+"${stack[@]}"} "$tools/lib/ld-linux-x86-64.so.2" --library-path "$tools/lib" "target/bin/$1"
+        exec "$tools/bin/qemu-x86_64" "$tools/lib/ld-linux-x86-64.so.2" --library-path "$tools/lib" "target/bin/$1"
     )
 }
 
