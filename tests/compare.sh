@@ -1,9 +1,10 @@
 #!/usr/bin/env bash
 # Random histories through the proved library and the plain build: after each call every word of the reply and of every lent run is
 # compared. `compare.sh [CALLS [SEED]]`: at least CALLS calls, in histories of 10,000 with the seeds SEED, SEED + 1, ..
-# On x86-64 one process does it, 1,000,000 calls if no number is given, each lent run up against a page that may not be touched. On
-# another machine the library runs under an emulator, which is slow: 5,000 calls are made so, and for the others this machine's own
-# build writes the histories, which are piped into `bench --both`; it is 200,000 calls. Ends with 1 at the first difference.
+# Each lent run stands up against pages that may not be touched, so that a word beside it ends the process. On x86-64 `bench compare`
+# does it, 1,000,000 calls if no number is given. On another machine the library runs under an emulator, which is slow: 5,000 calls
+# are made so, and for the others this machine's own build writes the histories, which are piped into `bench --both --fenced`; it is
+# 200,000 calls. Ends with 1 at the first difference.
 set -euo pipefail
 cd "$(dirname "$0")/.."
 . tests/lib.sh
@@ -41,7 +42,7 @@ fi
 
 # a call prints one line with its counts, but for the crew's, the salvage's and the book's
 calls_in() {
-    grep -a -c -E ' place [0-9]+ attempts [0-9]+ boundaries [0-9]+ |^crew moving |^refused [0-9]+ [A-Za-z]+ [0-9]+( next [0-9]+)?$|^done [0-9]+ [0-9]+ next |^done( version [0-9]+)?$|^refused [A-Za-z]+( next [0-9]+)?$|^setpoint ' "$1" || true
+    grep -a -c -E ' place [0-9]+ attempts [0-9]+ boundaries [0-9]+ |^crew moving |^refused [0-9]+ [A-Za-z]+ [0-9]+( next [0-9]+)?$|^done [0-9]+ [0-9]+ next |^done( version [0-9]+( moved [0-9]+)?)?$|^refused [A-Za-z]+( next [0-9]+)?$|^setpoint ' "$1" || true
 }
 
 one_process $((calls < 5000 ? calls : 5000)) "$seed"
@@ -49,13 +50,13 @@ cargo build --release --offline --quiet --manifest-path rust/Cargo.toml -p bench
 each=$((calls < 10000 ? calls : 10000)) first=$seed played=0 lines=0
 while [ "$played" -lt "$calls" ]; do
     status=0
-    target/rust/release/bench histories "$seed" "$each" | (bench --both) >"$room/out" 2>"$room/said" || status=$?
+    target/rust/release/bench histories "$seed" "$each" | (bench --both --fenced) >"$room/out" 2>"$room/said" || status=$?
     # 1: some lines were not understood, as a history has them
     if [ "$status" -gt 1 ]; then
-        echo "seed $seed: status $status (bench histories $seed $each | bench --both)"
+        echo "seed $seed: status $status (bench histories $seed $each | bench --both --fenced)"
         sed 's/^/  /' "$room/said"
         # the same history with the lines before the difference
-        (bench compare --calls "$each" --seed "$seed") || true
+        (bench compare --calls "$each" --seed "$seed" --fenced) || true
         exit 1
     fi
     own=$(calls_in "$room/out")

@@ -53,6 +53,12 @@ impl Asked {
     }
 }
 
+/// The plain build and the library, every run that is lent to the library at fences, and its reply too.
+#[cfg(feature = "proved")]
+pub fn fenced() -> Both<Plain, library::Library, fence::Fences> {
+    Both::on(fence::Fences::default(), Plain, library::Library::default())
+}
+
 /// `compare`, of the plain build and the library.
 #[cfg(feature = "proved")]
 pub fn run(words: &[&str]) -> u8 {
@@ -62,9 +68,7 @@ pub fn run(words: &[&str]) -> u8 {
     };
     let out = &mut io::stdout().lock();
     let different = if asked.fenced {
-        let library = library::Library::default;
-        let both = || Both::on(fence::Fences::default(), Plain, library());
-        compare(asked, both, out)
+        compare(asked, fenced, out)
     } else {
         compare(asked, || Both::new(Plain, Proved), out)
     };

@@ -8,6 +8,8 @@ mod player;
 mod proved;
 mod terminal;
 
+#[cfg(feature = "proved")]
+use console::both::{Both, Stand};
 use console::build::Build;
 use console::{help, histories, line, waveform};
 use plain::Plain;
@@ -18,7 +20,7 @@ use std::io::{self, BufReader, BufWriter, IsTerminal, Write};
 use std::process::ExitCode;
 
 const USAGE: &str = "\
-usage: bench [--plain | --both] [--explain] [FILE]
+usage: bench [--plain | --both [--fenced]] [--explain] [FILE]
        bench compare [--calls N] [--seed S] [--fenced]
        bench histories SEED CALLS
        bench [--plain | --both] dump [N [ROOM]] | undump
@@ -27,6 +29,7 @@ usage: bench [--plain | --both] [--explain] [FILE]
 Plays the lines of FILE, or what you type, and prints what they answer; `help` lists the commands and calls, and the end
 of input (Ctrl-D) leaves. With --explain it tells the remarks of FILE as a story, and each answer in a sentence. The
 calls are those of the proved library; with --plain those of the plain build, with --both of both, which must agree.
+--fenced: every run that is lent to the library ends, and begins, at a page that nobody may touch.
 `compare` plays random histories through both. `histories` prints one. `dump` writes a history as a waveform, of N cells
 if N is given and else of as many as its first line says; `undump` reads one back. `words` prints the words of the
 language, one a line.
@@ -46,6 +49,7 @@ enum Made {
     ByLibrary,
     Plainly,
     ByBoth,
+    ByBothFenced,
 }
 
 fn main() -> ExitCode {
@@ -55,6 +59,7 @@ fn main() -> ExitCode {
         match first.to_str() {
             Some("--plain") => made = Made::Plainly,
             Some("--both") => made = Made::ByBoth,
+            Some("--fenced") if made == Made::ByBoth => made = Made::ByBothFenced,
             Some("--explain") => manner = Manner::Told,
             _ => break,
         }
@@ -63,7 +68,7 @@ fn main() -> ExitCode {
     let status = match made {
         Made::ByLibrary => with_library(rest, manner),
         Made::Plainly => run(rest, manner, made, &mut Plain),
-        Made::ByBoth => with_both(rest, manner),
+        Made::ByBoth | Made::ByBothFenced => with_both(rest, manner, made),
     };
     ExitCode::from(status)
 }
@@ -74,9 +79,22 @@ fn with_library(words: &[OsString], manner: Manner) -> u8 {
 }
 
 #[cfg(feature = "proved")]
-fn with_both(words: &[OsString], manner: Manner) -> u8 {
-    let mut both = console::Both::new(Plain, proved::Proved);
-    let status = run(words, manner, Made::ByBoth, &mut both);
+fn with_both(words: &[OsString], manner: Manner, made: Made) -> u8 {
+    if made == Made::ByBothFenced {
+        run_both(words, manner, made, compare::fenced())
+    } else {
+        run_both(words, manner, made, Both::new(Plain, proved::Proved))
+    }
+}
+
+#[cfg(feature = "proved")]
+fn run_both<B: Build, S: Stand>(
+    words: &[OsString],
+    manner: Manner,
+    made: Made,
+    mut both: Both<Plain, B, S>,
+) -> u8 {
+    let status = run(words, manner, made, &mut both);
     match both.difference {
         Some(what) => {
             say(&format!("DIFFERENT: {what}"));
@@ -97,7 +115,9 @@ fn with_library(words: &[OsString], manner: Manner) -> u8 {
 }
 
 #[cfg(not(feature = "proved"))]
-use with_library as with_both;
+fn with_both(words: &[OsString], manner: Manner, _: Made) -> u8 {
+    with_library(words, manner)
+}
 
 fn run(words: &[OsString], manner: Manner, made: Made, build: &mut impl Build) -> u8 {
     let texts: Vec<&str> = words.iter().map(|w| w.to_str().unwrap_or("")).collect();
