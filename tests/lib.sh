@@ -130,17 +130,19 @@ library_is_old() {
         \( -name '*.rt' -o -name '*.antt' -o -name crates.txt \) -print -quit)" ]
 }
 
+# as_root WORDS..: a command as the one who may install packages.
+as_root() {
+    if [ "$(id -u)" -eq 0 ]; then "$@"; else sudo "$@"; fi
+}
+
 # install_packages PACKAGE..: installs these packages of Debian's.
 install_packages() {
-    local root=()
-    [ "$(id -u)" -eq 0 ] || root=(sudo)
     echo "installing Debian's $*"
     command -v apt-get >/dev/null || {
         echo "there is no apt-get here: install them, or what this system has in their place, and run this again"
         return 1
     }
-    ${root[@]+"${root[@]}"} apt-get -qq update &&
-        ${root[@]+"${root[@]}"} apt-get -qq install -y --no-install-recommends "$@" >/dev/null
+    as_root apt-get -qq update && as_root apt-get -qq install -y --no-install-recommends "$@" >/dev/null
 }
 
 # need_cargo: a Rust compiler. Debian 12 has a new one beside its own, by another name.
@@ -157,7 +159,7 @@ need_cargo() {
 need_cross() {
     [ "$(uname -m)" != x86_64 ] || return 0
     if ! [ -x /usr/bin/x86_64-linux-gnu-gcc ] || ! [ -x /usr/bin/rustc ] || ! [ -x /usr/bin/qemu-x86_64 ]; then
-        dpkg --add-architecture amd64
+        as_root dpkg --add-architecture amd64
         install_packages gcc-x86-64-linux-gnu libc6-dev:amd64 rustc-web libstd-rust-web-dev:amd64 qemu-user
     fi
 }
