@@ -350,7 +350,7 @@ fn the_unfinished_line_of_lost_input_is_not_played() {
 }
 
 #[test]
-fn the_player_stops_when_output_is_lost() {
+fn play_stops_when_output_is_lost() {
     let mut screen = Screen {
         room: Some(9),
         ..Screen::default()
