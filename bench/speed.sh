@@ -2,11 +2,12 @@
 # How fast the proved library is beside plain Rust (rust/plain), both called from rust/speed with the same arguments.
 # It prints a table in Markdown: instructions executed a call, which are the same at every run, and, on an x86-64
 # machine, nanoseconds a call, the best that was seen. It ends 1 if the two sides answer differently.
-# Built things go to target/speed.
+# The counter and what was measured last go to target/speed.
 set -euo pipefail
 cd "$(dirname "$0")/.."
+# shellcheck source=tests/lib.sh
+. tests/lib.sh
 out=target/speed
-archive=target/staticlib/libskid.a
 mkdir -p "$out"
 
 # A case, how often it is repeated to count its instructions, and the case that is subtracted from it, if there is one.
@@ -35,41 +36,24 @@ install() {
 
 # ---- the library; the program; the counter
 
-if ! [ -e "$archive" ] || [ -n "$(find crates crates.txt -newer "$archive" -print -quit)" ]; then
-    RT_JOBS=1 rt staticlib skid >&2
-fi
+if library_is_old; then RT_JOBS=1 rt staticlib skid >&2; fi
+need_cross >&2
 
 # Both sides are code for any x86-64 machine, at the highest level of optimisation. So is the library.
 export RUSTFLAGS=
 if [ "$(uname -m)" = x86_64 ]; then
-    cargo build --release --offline --quiet --manifest-path rust/speed/Cargo.toml --target-dir target/rust
-    program=target/rust/release/speed
     rustc=(rustc)
     emulate=(qemu-x86_64)
     command -v qemu-x86_64 >/dev/null || install qemu-user
 else
-    # Debian's cross compilers make the program, as in tests/library.sh.
-    cc=/usr/bin/x86_64-linux-gnu-gcc
+    # Debian's cross compilers make the program.
     rustc=(/usr/bin/rustc)
     emulate=(/usr/bin/qemu-x86_64 -L /)
-    if ! [ -x "$cc" ] || ! [ -x "${rustc[0]}" ] || ! [ -x "${emulate[0]}" ]; then
-        dpkg --add-architecture amd64
-        apt-get update >&2
-        install gcc-x86-64-linux-gnu libc6-dev:amd64 rustc-web libstd-rust-web-dev:amd64 qemu-user
-    fi
-    program=$out/speed
-    compile() {
-        "${rustc[@]}" --target x86_64-unknown-linux-gnu -C "linker=$cc" --edition 2021 -C opt-level=3 -C codegen-units=1 "$@"
-    }
-    # Without cargo the version has to be told.
-    CARGO_PKG_VERSION=$(sed -n 's/^version = "\(.*\)"$/\1/p' rust/skid/Cargo.toml)
-    export CARGO_PKG_VERSION
-    compile --crate-type rlib --crate-name plain rust/plain/src/lib.rs -o "$out/libplain.rlib"
-    compile --crate-type rlib --crate-name skid rust/skid/src/lib.rs \
-        -L native=target/staticlib -l static=skid -o "$out/libskid.rlib"
-    compile --crate-name speed rust/speed/src/main.rs -L native=target/staticlib \
-        --extern "plain=$out/libplain.rlib" --extern "skid=$out/libskid.rlib" -o "$program"
+    export RUSTC=${rustc[0]} CARGO_TARGET_X86_64_UNKNOWN_LINUX_GNU_LINKER=/usr/bin/x86_64-linux-gnu-gcc
 fi
+cargo build --release --offline --quiet --manifest-path rust/Cargo.toml -p speed \
+    --target "$bench_target" --target-dir target/rust
+program=target/rust/$bench_target/release/speed
 
 command -v gcc >/dev/null || install gcc libc6-dev
 gcc -O2 -Wall -Wextra -shared -fPIC -o "$out/insn.so" bench/insn.c

@@ -13,8 +13,8 @@ call is one step for each bit that it changed, or one step if it changed none; a
     bash bench/wave.sh bench/skid-day.txt 12 >skid-day.vcd
     gtkwave skid-day.vcd
 
-Console and writer are built from proved code. The first time, and when a source has changed, they are proved and built,
-which takes some minutes; a line is printed for each layer.
+The calls and the writer of the waveform are those of the proved library. The first time, and when a source has changed, it
+is proved and built, which takes some minutes; a line is printed for each layer.
 
 status: 0 all is well; 1 some lines were not understood, and the waveform is that of the others; 2 something was lost or
 is missing (output, the file, `rt`), or there is no such waveform, and then nothing is written
@@ -50,11 +50,6 @@ esac
 cd "$(dirname "$0")/.."
 . tests/lib.sh
 
-if program_is_old dump; then
-    command -v rt >/dev/null ||
-        fail "rt is not on the path: install the Rattle kit (README.md, \"What a machine needs\"), then run this again"
-    build_program dump >&2 || fail "the writer of waveforms could not be built"
-fi
 room=$(mktemp -d)
 trap 'rm -rf "$room"' EXIT
 { echo 'trace 1'; cat -- "$file"; } >"$room/lines"
@@ -62,10 +57,10 @@ status=0
 bash bench/play.sh "$room/lines" >"$room/out" || status=$?
 [ "$status" -le 1 ] || exit 2
 
-{ echo "$cells"; LC_ALL=C sed -n 's/^step //p' "$room/out"; } >"$room/history"
-steps=$(($(wc -l <"$room/history") - 1))
+LC_ALL=C sed -n 's/^step //p' "$room/out" >"$room/history"
+steps=$(wc -l <"$room/history")
 [ "$steps" -le 32768 ] || fail "the play has $steps steps, and a waveform has room for 32768"
-program dump <"$room/history" >"$room/dump" || fail "the writer of waveforms ended with status $?"
+(bench dump "$cells") <"$room/history" >"$room/dump" || fail "the writer of waveforms ended with status $?"
 case $(head -n 1 "$room/dump") in
     '$timescale '*) ;;
     *) fail "no waveform: $(head -n 1 "$room/dump")" ;;

@@ -1,14 +1,13 @@
 #!/usr/bin/env bash
 # The program `report` (document 02, L12): its examples to the byte, every kind of bad line, 1,000 and 1,001 lines, long input; random
 # trials, and the trials of played histories, against the plain program; the acceptance run of bench/; and the names that it prints
-# against those of the header, of rust/skid and of the console. PLAYER names another program instead of the player. Ends with 1 if
-# anything is not as expected.
+# against those of the header, of rust/skid and of the console. Ends with 1 if anything is not as expected.
 set -euo pipefail
 cd "$(dirname "$0")/.."
 . tests/lib.sh
 
 build_plain
-need_player
+build_bench
 [ -e target/bin/report ] || {
     echo "no report at target/bin/report: build it first"
     exit 1
@@ -24,14 +23,6 @@ complain() {
     wrong=$((wrong + 1))
 }
 
-# differ WANTED PRINTED: the first line in which the two differ, of both
-differ() {
-    local line
-    line=$(first_difference "$1" "$2")
-    echo "  line $line, expected: $(sed -n "${line}p" "$1" | cat -v | cut -c 1-300)"
-    echo "  line $line, printed:  $(sed -n "${line}p" "$2" | cat -v | cut -c 1-300)"
-}
-
 # both NAME: the input $room/in through both programs, which must print the same
 both() {
     cases=$((cases + 1))
@@ -39,7 +30,7 @@ both() {
     target/rust/release/report <"$room/in" >"$room/plain" || complain "$1: the plain program ended with status $?"
     cmp -s "$room/plain" "$room/report" && return
     complain "$1: DIFFERENT from the plain program"
-    differ "$room/plain" "$room/report"
+    show_difference "$room/plain" "$room/report"
 }
 
 # wanted NAME: what both print of $room/in is $room/wanted
@@ -47,7 +38,7 @@ wanted() {
     both "$1"
     cmp -s "$room/wanted" "$room/report" && return
     complain "$1: not as expected"
-    differ "$room/wanted" "$room/report"
+    show_difference "$room/wanted" "$room/report"
 }
 
 # prints NAME INPUT OUTPUT: the two as printf reads them
@@ -122,8 +113,10 @@ done
 # ---- the acquisitions of random histories, up to 1,000 of each
 played=0
 for seed in 20261115 20261116 20261117; do
-    { echo 'echo 1' && target/rust/release/histories "$seed" 10000; } >"$room/history"
-    play "$room/history" >"$room/printed" 2>"$room/said" || complain "histories $seed: the player ended with status $?"
+    { echo 'echo 1' && (bench histories "$seed" 10000); } >"$room/history"
+    status=0
+    (bench) <"$room/history" >"$room/printed" 2>"$room/said" || status=$?
+    [ "$status" -le 1 ] || complain "histories $seed: the console ended with status $status"
     target/rust/release/trials played <"$room/printed" >"$room/trials"
     head -n 1000 "$room/trials" >"$room/in"
     both "trials of histories $seed 10000"
@@ -137,7 +130,7 @@ done
 bash bench/acceptance.sh >"$room/report" || complain "bench/acceptance.sh ended with status $?"
 cmp -s bench/acceptance.report "$room/report" || {
     complain "bench/acceptance.sh: not as expected"
-    differ bench/acceptance.report "$room/report"
+    show_difference bench/acceptance.report "$room/report"
 }
 
 # ---- the names: what the report prints is proved to be the definition of crate `model`
@@ -162,7 +155,7 @@ sed -n '/^enum skid_refusal/,/^};/s/^ *SKID_\([A-Z_]*\) = \([0-9]*\).*/\2 \1/p' 
 named "include/skid.h"
 sed -n 's/^ *Refusal::\([A-Za-z]*\)\((_)\)\{0,1\} => \([0-9]*\),$/\3 \1/p' rust/skid/src/lib.rs >"$room/own"
 named "rust/skid"
-for input in bench/cases.txt bench/refusals.txt; do play "$input"; done | sed -n 's/^refused \([0-9]*\) \([A-Za-z]*\) .*/\1 \2/p' >"$room/own"
+for input in bench/cases.txt bench/refusals.txt; do (bench "$input"); done | sed -n 's/^refused \([0-9]*\) \([A-Za-z]*\) .*/\1 \2/p' >"$room/own"
 named "the console"
 
 if [ "$wrong" -gt 0 ]; then

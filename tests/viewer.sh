@@ -2,7 +2,7 @@
 # A dump in an independent viewer: GTKWave's own reader of value change dumps, without a screen. `vcd2fst` reads the
 # dump into the viewer's format, and `fst2vcd` tells what the viewer holds then: its names and transitions must be those
 # of the history. For document 02's example, random histories and the largest history; and for the day on the skid, as
-# bench/wave.sh writes it, with the steps that the plain program tells. Then bench/wave.sh's status and messages.
+# bench/wave.sh writes it, with the steps that the plain build tells. Then bench/wave.sh's status and messages.
 # Ends with 1 if anything differs.
 set -euo pipefail
 cd "$(dirname "$0")/.."
@@ -13,7 +13,7 @@ if ! command -v vcd2fst >/dev/null || ! command -v fst2vcd >/dev/null; then
     apt-get install -y --no-install-recommends gtkwave
 fi
 build_plain
-[ -x target/bin/dump ] || { echo 'no program target/bin/dump: build it first'; exit 1; }
+build_bench
 room=$(mktemp -d)
 trap 'rm -rf "$room"' EXIT
 
@@ -32,9 +32,9 @@ of_viewer() {
 }
 
 viewed=0 seen=0
-# view NAME: the history $room/history, through `dump`
+# view NAME: the history $room/history, through `bench dump`
 view() {
-    program dump <"$room/history" >"$room/dump.vcd"
+    (bench dump) <"$room/history" >"$room/dump.vcd"
     case $(head -n 1 "$room/dump.vcd") in
         '$timescale'*) ;;
         *) return ;;
@@ -69,7 +69,7 @@ for ((i = 0; i < 40; i++)); do
     view "history $((20261115 + i))"
 done
 { echo 'trace 1'; cat bench/skid-day.txt; } >"$room/day"
-{ echo 12; plain "$room/day" | sed -n 's/^step //p'; } >"$room/history"
+{ echo 12; (bench --plain "$room/day") 2>/dev/null | sed -n 's/^step //p'; } >"$room/history"
 bash bench/wave.sh bench/skid-day.txt 12 >"$room/dump.vcd" || { echo "bench/wave.sh ended with status $?"; exit 1; }
 compare 'the day on the skid'
 [ "$(wc -l <"$room/seen")" -ge 40 ] || { echo "the day on the skid has only $(wc -l <"$room/seen") values"; exit 1; }

@@ -1,7 +1,8 @@
 #!/usr/bin/env bash
-# The waveform programs `dump` and `undump`: document 02's example, every refusal, the round trip at size, and random
-# histories and dumps, through them and through the plain programs, byte by byte. `wave.sh [INPUTS [SEED]]`: so many
-# random histories, and as many dumps. Ends with 1 if anything is wrong.
+# Waveforms, `bench dump` and `bench undump`: document 02's example, every refusal and the round trip at size, on the proved build and
+# on the plain build, against written texts, byte by byte; random histories and dumps on both at once, every byte and word of what is
+# lent compared; what is lost. `wave.sh [INPUTS [SEED]]`: so many random histories, and as many dumps. Ends with 1 if anything is
+# wrong.
 set -euo pipefail
 cd "$(dirname "$0")/.."
 . tests/lib.sh
@@ -9,9 +10,7 @@ cd "$(dirname "$0")/.."
 inputs=${1:-100}
 seed=${2:-20261115}
 build_plain
-for name in dump undump; do
-    [ -x "target/bin/$name" ] || { echo "no program target/bin/$name: build it first"; exit 1; }
-done
+build_bench
 room=$(mktemp -d)
 trap 'rm -rf "$room"' EXIT
 input=$room/input
@@ -23,24 +22,30 @@ complain() {
     wrong=$((wrong + 1))
 }
 
-# ask PROGRAM NAME: the file $input through the proved program, to $room/out; the plain program must print the same
+# ask NAME WORDS..: the program with these words, $input as standard input, prints to $room/out, says nothing and ends with 0
 ask() {
+    local name=$1 status=0
+    shift
     asked=$((asked + 1))
-    program "$1" <"$input" >"$room/out" || complain "$1, $2: ended with status $?"
-    "target/rust/release/$1" <"$input" >"$room/plain" || complain "$1, $2: the plain program ended with status $?"
-    cmp -s "$room/plain" "$room/out" && return
-    complain "$1, $2: DIFFERENT"
-    show_difference "$room/plain" "$room/out"
+    (bench "$@") <"$input" >"$room/out" 2>"$room/said" || status=$?
+    if [ "$status" -ne 0 ] || [ -s "$room/said" ]; then
+        complain "bench $*, $name: status $status, said: $(head -n 1 "$room/said")"
+    fi
 }
 
-# prints PROGRAM NAME: ask, and what was printed must be the file $room/wanted
+# prints WORDS NAME: what is printed, on each build, is the file $room/wanted
 prints() {
-    ask "$1" "$2"
-    cmp -s "$room/wanted" "$room/out" && return
-    complain "$1, $2: NOT THE TEXT WANTED, first difference in line $(first_difference "$room/wanted" "$room/out")"
+    local build words
+    read -r -a words <<<"$1"
+    for build in '' --plain; do
+        ask "$2" ${build:+"$build"} "${words[@]}"
+        cmp -s "$room/wanted" "$room/out" && continue
+        complain "bench $build $1, $2: NOT WHAT WAS WANTED"
+        show_difference "$room/wanted" "$room/out"
+    done
 }
 
-# says PROGRAM NAME LINE..: prints, with these lines
+# says WORDS NAME LINE..: these lines are printed
 says() {
     local which=$1 name=$2
     shift 2
@@ -144,13 +149,49 @@ for k in 1 2 3 4 5 6 7 8; do
     says undump "line $k of the head wrong" "refused BadLine $k"
 done
 
+# ---- cells and room as words of the command: the input has the steps alone
+
+printf '1 0 7\n' >"$input"
+says 'dump 2' 'the example, cells given' "${paper[@]}" '#1' '1!'
+says 'dump 2 136' 'the example, cells and room given' "${paper[@]}" '#1' '1!'
+says 'dump 2 135' 'one byte less, given' 'refused NoRoom'
+says 'dump 95' 'too many cells, given' 'refused TooWide'
+printf '2\n1 0 7\n' >"$input"
+says 'dump 2' 'a first line that is no step' 'line 1: not understood'
+printf '1 0 7\nx\n' >"$input"
+says 'dump 2' 'a step that is none' 'line 2: not understood'
+: >"$input"
+says 'dump 2' 'no input, cells given' "${paper[@]}"
+
 # ---- input at the limit
 
+head -c $most /dev/zero | tr '\0' '1' >"$input"
+says dump '2 MiB' 'line 1: not understood'
+says undump '2 MiB' 'refused BadLine 1'
+printf 1 >>"$input"
+for name in dump undump; do says $name '2 MiB and a byte' 'input too long'; done
+
+# ---- what is lost, and words that are none
+
+# fails NAME STATUS SAID WORDS..: ends so, prints nothing and says this on standard error
+fails() {
+    local name=$1 wanted=$2 said=$3 status=0
+    shift 3
+    asked=$((asked + 1))
+    (bench "$@") >"$room/out" 2>"$room/said" || status=$?
+    [ "$status" = "$wanted" ] || complain "bench $*, $name: status $status, not $wanted"
+    [ ! -s "$room/out" ] || complain "bench $*, $name: printed something"
+    grep -q -e "$said" "$room/said" || complain "bench $*, $name: does not say '$said'"
+}
 for name in dump undump; do
-    head -c $most /dev/zero | tr '\0' '1' >"$input"
-    ask $name '2 MiB'
-    printf 1 >>"$input"
-    says $name '2 MiB and a byte' 'input too long'
+    fails 'a directory as input' 2 '^bench: input lost$' $name <.
+    status=0
+    (bench $name) </dev/null >/dev/full 2>"$room/said" || status=$?
+    [ "$status,$(cat "$room/said")" = '2,bench: output lost' ] || complain "bench $name, a full disk: status $status, said $(cat "$room/said")"
+done
+for words in 'dump x' 'dump 02' 'dump 2 x' 'dump 2 3 4' 'undump 2'; do
+    read -r -a one <<<"$words"
+    fails "words that are none" 2 '^bench: ' "${one[@]}" </dev/null
 done
 
 # ---- the round trip at size: 94 cells, 32,768 steps, each a change
@@ -159,7 +200,7 @@ target/rust/release/waves largest "$seed" >"$input"
 [ "$(head -n 1 "$input"), $(wc -l <"$input")" = '94, 32769' ] || complain 'the largest history is not the largest'
 sed '2,$s/ [0-9]*$/ 0/' "$input" >"$room/wanted"
 cp "$room/wanted" "$room/largest"
-ask dump 'the largest history'
+ask 'the largest history' dump
 [ "$(grep -c '^#' "$room/out")" = 32769 ] || complain 'the largest dump has not a time line for each step'
 cp "$room/out" "$room/text"
 cp "$room/out" "$input"
@@ -168,17 +209,25 @@ cp "$room/largest" "$input"
 cp "$room/text" "$room/wanted"
 prints dump 'the largest dump, from what was read'
 
-# ---- random input
+# ---- random input, on both builds at once
 
+dumps=0 readings=0 refusals=0
 for ((i = 0; i < inputs; i++)); do
     target/rust/release/waves history $((seed + i)) >"$input"
-    ask dump "history $((seed + i))"
+    ask "history $((seed + i))" --both dump
+    case $(head -n 1 "$room/out") in '$timescale '*) dumps=$((dumps + 1)) ;; *) refusals=$((refusals + 1)) ;; esac
     target/rust/release/waves dump $((seed + i)) >"$input"
-    ask undump "dump $((seed + i))"
+    ask "dump $((seed + i))" --both undump
+    case $(head -n 1 "$room/out") in [0-9]*) readings=$((readings + 1)) ;; *) refusals=$((refusals + 1)) ;; esac
 done
+# of a hundred of each there are some of each kind
+if [ "$inputs" -ge 100 ] && { [ "$dumps" -lt 10 ] || [ "$readings" -lt 10 ] || [ "$refusals" -lt 10 ]; }; then
+    complain "of the random inputs only $dumps were written, $readings read, $refusals refused"
+fi
 
 if [ "$wrong" -gt 0 ]; then
     echo "wave: $wrong not as expected"
     exit 1
 fi
-echo "wave: $asked inputs, as expected; the example and the largest dump read back"
+echo "wave: $asked inputs, as expected; the example and the largest dump read back; of the random ones" \
+    "$dumps written, $readings read, $refusals refused"

@@ -1,4 +1,4 @@
--- Laws of what the console's lines are made of: one turn and the end of each recursion, and what is read lies within the line.
+-- Laws of what lines are made of: one turn and the end of each recursion, and what is read lies within the line.
 use Prim.Native.Nat.{ℕ, zero, suc, _+_, _*_, _-_, _≤_, _<_}
 use mathlib.Core.Path.{_≡_, refl, ap, _∙_}
 use mathlib.Core.List.{List, [], _∷_}
@@ -7,13 +7,11 @@ use native.Mathlib.Omega.{arith}
 use native.Mathlib.Numerals.{add-one}
 use native.Mathlib.Nat.{add-zero}
 use lib.Dec.{eqb, ltb}
-use lib.ListN.{length, getD, drop, drop-of-length-le, length-drop}
-use lib.Seq.{drop-cons, drop-drop, getD-drop}
-use borrow.Author.Tests.{eqb-true, eqb-false, ne-eqb, lt-ltb, le-ltb, ltb-true, ltb-false}
+use lib.ListN.{length, getD, drop, drop-of-length-le}
+use lib.Seq.{drop-cons, getD-drop}
+use borrow.Author.Tests.{eqb-true, eqb-false, lt-ltb, le-ltb, ltb-true, ltb-false}
 use Rattle.choice.specs.Choice.{if_then_else_}
-use Rattle.choice.specs.Pick.{if-both}
-use Rattle.text.specs.declared.Numbers.{Numbers}
-use Rattle.text.specs.Text.{before, isDigit, digitsIn, valueFrom, noNumber, endedNumberOf, readNumberOf, spacedOf, counted, withOf, numbersFrom}
+use Rattle.text.specs.Text.{before, isDigit, digitsIn, valueFrom, noNumber, endedNumberOf, readNumberOf}
 
 drop-one : (l : List ℕ) (i : ℕ) → i < length l → drop i l ≡ getD l i 0 ∷ drop (i + 1) l
 drop-one l i b = rw (add-one i) (drop-cons l i 0 b)
@@ -115,18 +113,6 @@ number-within l = go (ltb 4294967295 (valueFrom 0 l)) (ended-within (getD l 0 0)
     go true h k = omega arith
     go false h k = omega arith
 
--- behind one space: the byte itself is one more
-pub spaced-within : (l : List ℕ) (i : ℕ) → i < length l → spacedOf (drop i l) .digits + i + 1 ≤ length l
-unfolding spacedOf
-spaced-within l i b = go (eqb (getD (drop i l) 0 0) 32) (number-within (drop 1 (drop i l)))
-  where
-    shorter : length (drop 1 (drop i l)) + i + 1 ≡ length l
-    shorter = rw (length-drop 1 (drop i l), length-drop i l) (omega arith)
-
-    go : (t : Bool) → readNumberOf (drop 1 (drop i l)) .digits ≤ length (drop 1 (drop i l)) → (if t then readNumberOf (drop 1 (drop i l)) else noNumber) .digits + i + 1 ≤ length l
-    go true h = omega (arith, shorter)
-    go false h = omega arith
-
 -- ---- numbers
 
 -- digits up to i, where no more follow, with the value so far: the number is what they come to
@@ -140,25 +126,3 @@ number-ends l at i v h small e d =
 pub number-large : (l : List ℕ) (at v : ℕ) (rest : List ℕ) → 4294967295 < v → valueFrom v rest ≡ valueFrom 0 (drop at l) → noNumber ≡ readNumberOf (drop at l)
 unfolding readNumberOf
 number-large l at v rest big e = let over : 4294967295 < valueFrom 0 (drop at l) = omega (arith, value-grows v rest, e) in rw (lt-ltb _ _ over)
-
-pub with-count : (got : Numbers) (v : ℕ) → withOf got v .count ≡ got .count + 1
-unfolding withOf
-with-count got v =
-    if-both (λ (o : Numbers). o .count ≡ got .count + 1) (eqb (got .count) 0) refl
-    (if-both (λ (o : Numbers). o .count ≡ got .count + 1) (eqb (got .count) 1) refl
-    (if-both (λ (o : Numbers). o .count ≡ got .count + 1) (eqb (got .count) 2) refl
-    (if-both (λ (o : Numbers). o .count ≡ got .count + 1) (eqb (got .count) 3) refl refl)))
-
-pub numbers-end : (n : ℕ) (got : Numbers) (l : List ℕ) (i : ℕ) → length l ≤ i → numbersFrom n got (drop i l) ≡ got
-unfolding numbersFrom
-numbers-end zero got l i b = rw (drop-of-length-le l b)
-numbers-end (suc n) got l i b = rw (drop-of-length-le l b)
-
-pub numbers-at : (n : ℕ) (got : Numbers) (l : List ℕ) (i : ℕ) → i < length l → got .count < n
-    → numbersFrom (n - got .count) got (drop i l)
-    ≡ (if spacedOf (drop i l) .fine then numbersFrom (n - (got .count + 1)) (withOf got (spacedOf (drop i l) .value)) (drop (i + (spacedOf (drop i l) .digits + 1)) l) else counted false)
-unfolding numbersFrom
-numbers-at n got l i b m =
-    let e : n - got .count ≡ suc (n - (got .count + 1)) = omega arith in
-    let some : length (drop i l) ≡ 0 → ⊥ = rw (length-drop i l) (omega arith) in
-    rw (e, ne-eqb _ _ some, drop-drop (spacedOf (drop i l) .digits + 1) i l)

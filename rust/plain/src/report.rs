@@ -1,6 +1,6 @@
 //! Document 02, L12: the acceptance report over acquisition trials.
 
-use crate::console::number;
+use console::line::number;
 
 /// "up to 1,000 acquisition trials"
 pub const MOST_TRIALS: usize = 1_000;

@@ -5,6 +5,10 @@
 //! One public function for each call, over lent slices. A call checks what it takes in the order of the table
 //! of refusals, and then runs its steps; no argument makes it panic.
 
+/// The head is handed over and given back by value; any boot number is a good one. "The head and every lease gain a boot
+/// number (u32)".
+pub use console::build::{Head, Lease};
+
 /// Header slots, buckets per header, cells: the greatest numbers that the arena's rules allow.
 pub const MOST_HEADERS: u32 = 64;
 pub const MOST_BUCKETS: u32 = 1024;
@@ -31,23 +35,6 @@ pub const MOST_TURNS: usize = 65_536;
 pub const LEASE: usize = 3;
 /// Words of a key: binding, bucket.
 pub const KEY: usize = 2;
-
-/// H, B, the next serial and the boot number, handed over and given back by value. Any boot number is a good one.
-#[derive(Clone, Copy, Debug, Default, PartialEq, Eq)]
-pub struct Head {
-    pub headers: u32,
-    pub buckets: u32,
-    pub next: u32,
-    pub boot: u32,
-}
-
-/// "The head and every lease gain a boot number (u32)".
-#[derive(Clone, Copy, Debug, PartialEq, Eq)]
-pub struct Lease {
-    pub cell: u32,
-    pub serial: u32,
-    pub boot: u32,
-}
 
 /// Why an attempt is Busy: "held, with the owner's serial; waiters seen before the compare-and-set; waiters seen after
 /// it. The last one also gives the serial that was spent."

@@ -1,7 +1,7 @@
 //! Document 02, L11: the bits of the first cells over a history, as a value change dump; and back.
 
-use crate::console::number;
 use crate::rules::MOST_STEPS;
+use console::line::number;
 
 /// "n up to 94", one for each code.
 pub const MOST_CELLS: usize = 94;
@@ -207,87 +207,24 @@ impl<'a> Lines<'a> {
     }
 }
 
-// ---- The programs
-
-/// What `dump` prints for its input, of which the first `INPUT` + 1 bytes are enough.
-pub fn dump(input: &[u8]) -> String {
-    if input.len() > INPUT {
-        return "input too long\n".to_string();
-    }
-    let history = match history(input) {
-        Ok(history) => history,
-        Err(line) => return format!("line {line}: not understood\n"),
-    };
-    match write(history.cells, &history.script, history.room) {
-        Ok(text) => text,
-        Err(Refusal::BadScript) => "refused 2 BadScript 0\n".to_string(),
-        Err(Refusal::TooWide) => "refused TooWide\n".to_string(),
-        Err(Refusal::NoRoom) => "refused NoRoom\n".to_string(),
-    }
-}
-
-/// The input of `dump`.
-struct History {
-    cells: u32,
-    room: usize,
-    script: Vec<u32>,
-}
-
-/// "the first line is `N` or `N ROOM`, every other line a step, `KIND PLACE NUMBER`"; else the first line that is not
-/// understood, which is also that of the first step over 32,800. The last line may lack its line feed.
-fn history(input: &[u8]) -> Result<History, usize> {
-    let mut lines = input
-        .split_inclusive(|&byte| byte == b'\n')
-        .map(|line| line.strip_suffix(b"\n").unwrap_or(line));
-    let first = lines.next().and_then(numbers).ok_or(1usize)?;
-    let (cells, room) = match *first.as_slice() {
-        [cells] => (cells, usize::MAX),
-        [cells, room] => (cells, room as usize),
-        _ => return Err(1),
-    };
-    let mut script = Vec::new();
-    for (line_number, line) in (2..).zip(lines) {
-        let step = numbers(line).filter(|step| step.len() == 3);
-        let step = step.ok_or(line_number)?;
-        if script.len() / 3 == STEP_ROOM {
-            return Err(line_number);
-        }
-        script.extend(step);
-    }
-    Ok(History {
-        cells,
-        room,
-        script,
-    })
-}
-
-/// The numbers of a line, with single spaces between them.
-fn numbers(line: &[u8]) -> Option<Vec<u32>> {
-    line.split(|&byte| byte == b' ').map(number).collect()
-}
-
-/// What `undump` prints for its input, of which the first `INPUT` + 1 bytes are enough.
-pub fn undump(input: &[u8]) -> String {
-    if input.len() > INPUT {
-        return "input too long\n".to_string();
-    }
-    match read(input) {
-        Ok(reading) => {
-            let mut text = format!("{}\n", reading.cells);
-            for step in reading.script.chunks_exact(3) {
-                text.push_str(&format!("{} {} {}\n", step[0], step[1], step[2]));
-            }
-            text
-        }
-        Err(line) => format!("refused BadLine {line}\n"),
-    }
-}
-
 #[cfg(test)]
 mod tests {
     use super::*;
-    use crate::dice::Dice;
+    use console::dice::Dice;
+    use console::waveform;
     use std::collections::BTreeSet;
+
+    /// The bench's `dump`, as this build answers it.
+    fn dump(input: &[u8]) -> String {
+        let text = waveform::dump(&mut crate::Plain, None, input);
+        String::from_utf8(text).expect("it prints text")
+    }
+
+    /// And its `undump`.
+    fn undump(input: &[u8]) -> String {
+        let text = waveform::undump(&mut crate::Plain, input);
+        String::from_utf8(text).expect("it prints text")
+    }
 
     /// Document 02: two cells, cell 0 taken at step 1.
     const EXAMPLE: &str = "$timescale 1 ns $end

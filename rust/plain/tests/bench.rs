@@ -7,7 +7,7 @@ const PREPARED: &str = "done next 1 place 0 attempts 0 boundaries 0 yields 0 dro
 
 fn played(lines: &str) -> String {
     let mut out = Vec::new();
-    let end = plain::console::play(&mut lines.as_bytes(), &mut out);
+    let end = console::play::play(&mut plain::Plain, &mut lines.as_bytes(), &mut out);
     assert_eq!(end.lost, None);
     String::from_utf8(out).expect("the console prints text")
 }

@@ -1,7 +1,7 @@
 //! Request L8 of document 02: a boot number in every lease. In the console's language, and over many random days; what is
 //! expected was worked out from the documents.
 
-use plain::dice::Dice;
+use console::dice::Dice;
 use plain::rules::{self, Answer, Head, Lease, Refusal};
 use std::collections::BTreeSet;
 
@@ -38,7 +38,7 @@ const WITH_HELD: [&str; 9] = [
 
 fn printed(input: &str) -> String {
     let mut out = Vec::new();
-    let end = plain::console::play(&mut input.as_bytes(), &mut out);
+    let end = console::play::play(&mut plain::Plain, &mut input.as_bytes(), &mut out);
     assert_eq!(end.lost, None);
     String::from_utf8(out).expect("the console prints text")
 }

@@ -13,7 +13,7 @@ const BY_CELL: [&str; 2] = ["try_lock", "other_mutex_preserves_leases"];
 fn bench(lines: &[&str], expected: &[&str]) {
     let input = format!("{ARENA}\n{}\n", lines.join("\n"));
     let mut out = Vec::new();
-    let end = plain::console::play(&mut input.as_bytes(), &mut out);
+    let end = console::play::play(&mut plain::Plain, &mut input.as_bytes(), &mut out);
     assert_eq!(end.lost, None);
     let printed = String::from_utf8(out).expect("the console prints text");
     let expected = format!("{PREPARED}\n{}\n", expected.join("\n"));

@@ -16,7 +16,7 @@ const LOCKS: [&str; 3] = [
 fn bench(lines: &[&str], expected: &[&str]) {
     let input = format!("{ARENA}\n{}\n", lines.join("\n"));
     let mut out = Vec::new();
-    let end = plain::console::play(&mut input.as_bytes(), &mut out);
+    let end = console::play::play(&mut plain::Plain, &mut input.as_bytes(), &mut out);
     assert_eq!(end.lost, None);
     let printed = String::from_utf8(out).expect("the console prints text");
     let expected = format!("{PREPARED}\n{}\n", expected.join("\n"));

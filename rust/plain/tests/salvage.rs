@@ -1,7 +1,7 @@
 //! Request L6 of document 02: salvage after a warm restart. In the console's language, and over many random arenas;
 //! what is expected was worked out from the documents.
 
-use plain::dice::Dice;
+use console::dice::Dice;
 use plain::rules::{self, Answer, Head, Lease};
 use plain::salvage::{salvage, SalvageRefusal, Salvaged};
 
@@ -12,7 +12,7 @@ const PREPARED: &str = "done next 5 place 0 attempts 0 boundaries 0 yields 0 dro
 fn bench(lines: &[&str], expected: &[&str]) {
     let input = format!("prepare 2 2 5 70\n{}\n", lines.join("\n"));
     let mut out = Vec::new();
-    let end = plain::console::play(&mut input.as_bytes(), &mut out);
+    let end = console::play::play(&mut plain::Plain, &mut input.as_bytes(), &mut out);
     assert_eq!(end.lost, None);
     let printed = String::from_utf8(out).expect("the console prints text");
     let expected = format!("{PREPARED}\n{}\n", expected.join("\n"));

@@ -1,7 +1,7 @@
 //! Request L4 of document 02: keys in any order, and doubles. In the console's language, and over many random keys;
 //! what is expected was worked out from the documents.
 
-use plain::dice::Dice;
+use console::dice::Dice;
 use plain::rules::{self, Answer, Head};
 
 /// Arena: H 2, B 4, registry 0, 1, 1, first serial 1. Bindings 1 and 2 name one header.
@@ -13,7 +13,7 @@ const NO_COUNTS: &str = "attempts 0 boundaries 0 yields 0 dropped 0";
 fn bench(lines: &[&str], expected: &[&str]) {
     let input = format!("{ARENA}\n{}\n", lines.join("\n"));
     let mut out = Vec::new();
-    let end = plain::console::play(&mut input.as_bytes(), &mut out);
+    let end = console::play::play(&mut plain::Plain, &mut input.as_bytes(), &mut out);
     assert_eq!(end.lost, None);
     let printed = String::from_utf8(out).expect("the console prints text");
     let expected = format!("{PREPARED}\n{}\n", expected.join("\n"));

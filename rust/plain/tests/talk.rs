@@ -1,18 +1,18 @@
 //! The section "Talking to it" of the console's page: lines as they come, echo, map, help, and what goes to standard
 //! error.
 
-use plain::console::{self, End, Lost, LINE};
+use console::line::LINE;
+use console::play::{play as play_lines, End, Lost};
+use plain::Plain;
 use std::cell::RefCell;
-use std::fs::File;
-use std::io::{self, BufRead, BufReader, ErrorKind, Read, Write};
-use std::process::{Command, Stdio};
+use std::io::{self, BufReader, ErrorKind, Read, Write};
 use std::rc::Rc;
 
 const COUNTS: &str = "attempts 0 boundaries 0 yields 0 dropped 0";
 
 fn play(input: &[u8]) -> (String, End) {
     let mut out = Vec::new();
-    let end = console::play(&mut &input[..], &mut out);
+    let end = play_lines(&mut Plain, &mut &input[..], &mut out);
     (String::from_utf8_lossy(&out).into_owned(), end)
 }
 
@@ -50,7 +50,7 @@ fn echo_stands_in_front_of_what_the_line_prints() {
 #[test]
 fn echo_gives_bytes_as_they_came() {
     let mut out = Vec::new();
-    console::play(&mut &b"echo 1\n\xff\t\0\r\n #\n"[..], &mut out);
+    play_lines(&mut Plain, &mut &b"echo 1\n\xff\t\0\r\n #\n"[..], &mut out);
     assert_eq!(
         out,
         b"> \xff\t\0\r\nline 2: not understood\n>  #\nline 3: not understood\n"
@@ -299,7 +299,7 @@ fn talk(pieces: &[(&'static str, &'static str)], last: io::Result<()>) -> (Strin
         last,
         shown: screen.shown.clone(),
     };
-    let end = console::play(&mut BufReader::new(typist), &mut screen);
+    let end = play_lines(&mut Plain, &mut BufReader::new(typist), &mut screen);
     let shown = screen.shown.borrow();
     (String::from_utf8_lossy(&shown).into_owned(), end)
 }
@@ -350,7 +350,7 @@ fn the_unfinished_line_of_lost_input_is_not_played() {
 }
 
 #[test]
-fn the_player_stops_when_output_is_lost() {
+fn play_stops_when_output_is_lost() {
     let mut screen = Screen {
         room: Some(9),
         ..Screen::default()
@@ -365,75 +365,6 @@ fn the_player_stops_when_output_is_lost() {
         last: Ok(()),
         shown: screen.shown.clone(),
     };
-    let end = console::play(&mut BufReader::new(typist), &mut screen);
+    let end = play_lines(&mut Plain, &mut BufReader::new(typist), &mut screen);
     assert_eq!(end.lost, Some(Lost::Output));
-}
-
-// ---- The program
-
-/// The program's standard output and standard error, with this file as input.
-fn run(input: Stdio, output: Stdio) -> (String, String) {
-    let child = Command::new(env!("CARGO_BIN_EXE_plain"))
-        .stdin(input)
-        .stdout(output)
-        .stderr(Stdio::piped())
-        .spawn()
-        .expect("plain runs");
-    let output = child.wait_with_output().expect("plain ends");
-    assert!(output.status.success());
-    (
-        String::from_utf8_lossy(&output.stdout).into_owned(),
-        String::from_utf8_lossy(&output.stderr).into_owned(),
-    )
-}
-
-#[test]
-fn a_talk() {
-    let mut child = Command::new(env!("CARGO_BIN_EXE_plain"))
-        .stdin(Stdio::piped())
-        .stdout(Stdio::piped())
-        .stderr(Stdio::piped())
-        .spawn()
-        .expect("plain runs");
-    let mut input = child.stdin.take().expect("a pipe");
-    let mut output = BufReader::new(child.stdout.take().expect("a pipe"));
-    for (line, answer) in [
-        ("map\n", "no arena\n"),
-        ("foo\n", "line 2: not understood\n"),
-        ("show\n", "head 0 0 0 0\n"),
-        ("bar\n", "line 4: not understood\n"),
-    ] {
-        input.write_all(line.as_bytes()).expect("it listens");
-        let mut said = String::new();
-        output.read_line(&mut said).expect("it answers");
-        assert_eq!(said, answer);
-    }
-    drop(input);
-    let output = child.wait_with_output().expect("plain ends");
-    assert_eq!(
-        String::from_utf8_lossy(&output.stderr),
-        "player: 2 lines not understood\n"
-    );
-}
-
-#[test]
-fn a_directory_as_input() {
-    let directory = File::open(env!("CARGO_MANIFEST_DIR")).expect("a directory");
-    let (output, errors) = run(directory.into(), Stdio::piped());
-    assert_eq!(
-        (output.as_str(), errors.as_str()),
-        ("", "player: input lost\n")
-    );
-}
-
-#[test]
-fn a_full_disk() {
-    let source = concat!(env!("CARGO_MANIFEST_DIR"), "/tests/talk.rs");
-    let source = File::open(source).expect("this file");
-    let full = File::options()
-        .write(true)
-        .open("/dev/full")
-        .expect("a full disk");
-    let (_, errors) = run(source.into(), full.into());
-    assert_eq!(errors, "player: output lost\n");
 }

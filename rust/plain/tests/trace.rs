@@ -4,7 +4,7 @@ const COUNTS: &str = "attempts 0 boundaries 0 yields 0 dropped 0";
 
 fn printed(input: &str) -> String {
     let mut out = Vec::new();
-    let end = plain::console::play(&mut input.as_bytes(), &mut out);
+    let end = console::play::play(&mut plain::Plain, &mut input.as_bytes(), &mut out);
     assert_eq!(end.lost, None);
     String::from_utf8(out).expect("the console prints text")
 }

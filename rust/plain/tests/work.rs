@@ -1,14 +1,14 @@
 //! Request L13 of document 02: the crew at work. In the console's language, and over many random crews; what is expected
 //! was worked out from the documents.
 
-use plain::dice::Dice;
+use console::dice::Dice;
 use plain::rules::{self, CrewReply, Head, Refusal};
 
 const PREPARED: &str = "done next 1 place 0 attempts 0 boundaries 0 yields 0 dropped 0";
 
 fn printed(input: &str) -> String {
     let mut out = Vec::new();
-    let end = plain::console::play(&mut input.as_bytes(), &mut out);
+    let end = console::play::play(&mut plain::Plain, &mut input.as_bytes(), &mut out);
     assert_eq!(end.lost, None);
     String::from_utf8(out).expect("the console prints text")
 }

@@ -1,5 +1,5 @@
 //! The setpoint book (document 02, L2): a setpoint for each cell, at most the first 64, in a lent run of bytes.
-use crate::{sys, Arena, Lease};
+use crate::{raw, Arena, Lease};
 
 /// No book has more bytes.
 pub const LONGEST_BOOK: usize = 32_768;
@@ -22,7 +22,7 @@ pub enum Setpoint {
 impl Setpoint {
     /// The setpoint that words 2 and 3 of a setting tell. The library gives no kind but 1 to 3, and of a valve no word
     /// but 0 and 1.
-    const fn of(w: &[u64; sys::BOOK]) -> Setpoint {
+    const fn of(w: &[u64; raw::BOOK]) -> Setpoint {
         let bits = w[3] as u32;
         match w[2] {
             1 => Setpoint::Pressure(f32::from_bits(bits)),
@@ -55,7 +55,7 @@ pub enum BookRefusal {
 
 impl BookRefusal {
     /// The refusal that word 1 tells. The library gives no number but these.
-    const fn of(w: &[u64; sys::BOOK]) -> BookRefusal {
+    const fn of(w: &[u64; raw::BOOK]) -> BookRefusal {
         match w[1] {
             1 => BookRefusal::BadShape,
             12 => BookRefusal::NotHeld,
@@ -85,7 +85,7 @@ pub enum BookAnswer {
 
 impl BookAnswer {
     /// The answer that four words tell. The library gives no kind but 0 to 3.
-    const fn of(w: &[u64; sys::BOOK]) -> BookAnswer {
+    const fn of(w: &[u64; raw::BOOK]) -> BookAnswer {
         match w[0] {
             0 => BookAnswer::Done,
             1 => BookAnswer::Written(w[1] as u32),
@@ -98,7 +98,7 @@ impl BookAnswer {
 impl Arena<'_> {
     /// Sets every byte of the book to 0, whatever stood there.
     pub fn prepare_book(&self, book: &mut [u8]) -> BookAnswer {
-        BookAnswer::of(&sys::prepare_book(self.head, book))
+        BookAnswer::of(&raw::prepare_book(self.head, book))
     }
 
     /// Writes a setpoint to a slot, by a live lease on the slot's cell, and gives the slot's new version. Refused in
@@ -114,9 +114,9 @@ impl Arena<'_> {
     ) -> BookAnswer {
         let (head, table) = (self.head, &*self.table);
         let words = match setpoint {
-            Setpoint::Pressure(bar) => sys::write_pressure(head, table, book, slot, lease, bar),
-            Setpoint::Speed(speed) => sys::write_speed(head, table, book, slot, lease, speed),
-            Setpoint::Valve(open) => sys::write_valve(head, table, book, slot, lease, open),
+            Setpoint::Pressure(bar) => raw::write_pressure(head, table, book, slot, lease, bar),
+            Setpoint::Speed(speed) => raw::write_speed(head, table, book, slot, lease, speed),
+            Setpoint::Valve(open) => raw::write_valve(head, table, book, slot, lease, open),
         };
         BookAnswer::of(&words)
     }
@@ -124,6 +124,6 @@ impl Arena<'_> {
     /// The setpoint of a slot and its version; it needs no lease. Refused in this order: [`BookRefusal::BadShape`] for
     /// the head, [`BookRefusal::BadSlot`], [`BookRefusal::DamagedBook`], [`BookRefusal::NeverWritten`].
     pub fn read_setpoint(&self, book: &[u8], slot: u32) -> BookAnswer {
-        BookAnswer::of(&sys::read_setpoint(self.head, book, slot))
+        BookAnswer::of(&raw::read_setpoint(self.head, book, slot))
     }
 }

@@ -40,13 +40,15 @@
 #![deny(missing_docs)]
 
 mod book;
-mod salvage;
 #[allow(unsafe_code)]
-mod sys;
+pub mod raw;
+mod salvage;
 pub mod wave;
 
 pub use book::{BookAnswer, BookRefusal, Setpoint, LONGEST_BOOK, SLOTS, SLOT_BYTES};
 pub use salvage::{Change, SalvageRefusal, Salvaged};
+
+use raw::{words, words_mut};
 
 /// The version of this crate and of the library under it; CHANGELOG.md says what came with which.
 pub const VERSION: &str = env!("CARGO_PKG_VERSION");
@@ -219,7 +221,7 @@ pub enum Reason {
 
 impl Reason {
     /// The reason that words 13 and 14 of a reply tell. Where there is one, the library gives no number but 1 to 3.
-    const fn of(w: &[u64; sys::REPLY]) -> Reason {
+    const fn of(w: &[u64; raw::REPLY]) -> Reason {
         let serial = w[14] as u32;
         match w[13] {
             1 => Reason::Held(serial),
@@ -292,7 +294,7 @@ impl Refusal {
 
     /// The refusal that words 10, 11, 13 and 14 of a reply tell: its number, what it carries, the reason of 11. The
     /// library gives no number but 1 to 16, and carries in 6 to 10 what fits a `u32`.
-    const fn of(w: &[u64; sys::REPLY]) -> Refusal {
+    const fn of(w: &[u64; raw::REPLY]) -> Refusal {
         let n = w[11] as usize;
         let k = w[11] as u32;
         match w[10] {
@@ -337,7 +339,7 @@ pub enum Answer {
 
 impl Answer {
     /// The answer that words 9 to 14 of a reply tell. The library gives no kind but 0 to 6.
-    const fn of(w: &[u64; sys::REPLY]) -> Answer {
+    const fn of(w: &[u64; raw::REPLY]) -> Answer {
         match w[9] {
             0 => Answer::Done,
             1 => Answer::Cell(w[10] as u32),
@@ -398,7 +400,7 @@ pub struct CrewReply {
     pub answer: Answer,
 }
 
-const fn head_of(w: &[u64; sys::REPLY]) -> Head {
+const fn head_of(w: &[u64; raw::REPLY]) -> Head {
     Head {
         headers: w[0] as u32,
         buckets: w[1] as u32,
@@ -407,7 +409,7 @@ const fn head_of(w: &[u64; sys::REPLY]) -> Head {
     }
 }
 
-const fn counts_of(w: &[u64; sys::REPLY]) -> Counts {
+const fn counts_of(w: &[u64; raw::REPLY]) -> Counts {
     Counts {
         attempts: w[5] as usize,
         boundaries: w[6] as usize,
@@ -416,7 +418,7 @@ const fn counts_of(w: &[u64; sys::REPLY]) -> Counts {
     }
 }
 
-const fn reply_of(w: &[u64; sys::REPLY]) -> Reply {
+const fn reply_of(w: &[u64; raw::REPLY]) -> Reply {
     Reply {
         head: head_of(w),
         counts: counts_of(w),
@@ -424,7 +426,7 @@ const fn reply_of(w: &[u64; sys::REPLY]) -> Reply {
     }
 }
 
-const fn played_of(w: &[u64; sys::REPLY]) -> Played {
+const fn played_of(w: &[u64; raw::REPLY]) -> Played {
     Played {
         head: head_of(w),
         place: w[4] as usize,
@@ -433,9 +435,9 @@ const fn played_of(w: &[u64; sys::REPLY]) -> Played {
     }
 }
 
-fn crew_of(w: &[u64; sys::CREW]) -> CrewReply {
-    let mut front = [0; sys::REPLY];
-    front.copy_from_slice(&w[..sys::REPLY]);
+fn crew_of(w: &[u64; raw::CREW]) -> CrewReply {
+    let mut front = [0; raw::REPLY];
+    front.copy_from_slice(&w[..raw::REPLY]);
     let (mut taken, mut released) = ([0; 16], [0; 16]);
     for m in 0..16 {
         taken[m] = w[17 + m] as usize;
@@ -471,7 +473,13 @@ impl<'a> Arena<'a> {
         table: &'a mut [u32],
         health: &'a mut [u8],
     ) -> Result<Arena<'a>, Refusal> {
-        let reply = reply_of(&sys::prepare(headers, buckets, serial, boot, table, health));
+        let head = Head {
+            headers,
+            buckets,
+            next: serial,
+            boot,
+        };
+        let reply = reply_of(&raw::prepare(head, table, health));
         match reply.answer {
             Answer::Refused(refusal) => Err(refusal),
             _ => Ok(Arena {
@@ -507,13 +515,13 @@ impl<'a> Arena<'a> {
         self.health
     }
 
-    fn replied(&mut self, words: [u64; sys::REPLY]) -> Reply {
+    fn replied(&mut self, words: [u64; raw::REPLY]) -> Reply {
         let reply = reply_of(&words);
         self.head = reply.head;
         reply
     }
 
-    fn played(&mut self, script: &mut Script, words: [u64; sys::REPLY]) -> Played {
+    fn played(&mut self, script: &mut Script, words: [u64; raw::REPLY]) -> Played {
         let played = played_of(&words);
         self.head = played.head;
         script.place = played.place;
@@ -524,50 +532,51 @@ impl<'a> Arena<'a> {
 
     /// One compare-and-set of a cell: granted, Busy if it is held (with its owner's serial), or refused.
     pub fn try_acquire(&mut self, cell: u32) -> Reply {
-        let words = sys::try_acquire(self.head, self.table, cell);
+        let words = raw::try_acquire(self.head, self.table, cell);
         self.replied(words)
     }
 
     /// One release of a live lease, and no boundary. In each call a lease of another boot number than the head's is
     /// [`Refusal::StaleBoot`].
     pub fn drop_lease(&mut self, lease: Lease) -> Reply {
-        let words = sys::drop_lease(self.head, self.table, lease);
+        let words = raw::drop_lease(self.head, self.table, lease);
         self.replied(words)
     }
 
     /// The cell of a live lease. Changes nothing.
     pub fn read_permission(&self, lease: Lease) -> Reply {
-        reply_of(&sys::read_permission(self.head, self.table, lease))
+        reply_of(&raw::read_permission(self.head, self.table, lease))
     }
 
     /// One compare-and-set of a live lease's cell: it is Busy, held by the lease's serial, and changes nothing.
     pub fn competing_acquire_is_excluded(&mut self, lease: Lease) -> Reply {
-        let words = sys::competing_acquire_is_excluded(self.head, self.table, lease);
+        let words = raw::competing_acquire_is_excluded(self.head, self.table, lease);
         self.replied(words)
     }
 
     /// A live lease released, and its cell taken anew. Where no serial remains, the release stands.
     pub fn release_then_handoff(&mut self, lease: Lease) -> Reply {
-        let words = sys::release_then_handoff(self.head, self.table, lease);
+        let words = raw::release_then_handoff(self.head, self.table, lease);
         self.replied(words)
     }
 
     /// A compare-and-set of a live lease's cell that is Busy, a release of the lease, which may not be in the held
     /// list, and a compare-and-set again. Where no serial remains, the release stands.
     pub fn foreign_release_between_attempts(&mut self, held: &[Lease], lease: Lease) -> Reply {
-        let words = sys::foreign_release_between_attempts(self.head, self.table, held, lease);
+        let words =
+            raw::foreign_release_between_attempts(self.head, self.table, words(held), lease);
         self.replied(words)
     }
 
     /// [`Arena::try_acquire`] after the held list's check.
     pub fn acquire_preserving_borrows(&mut self, held: &[Lease], cell: u32) -> Reply {
-        let words = sys::acquire_preserving_borrows(self.head, self.table, held, cell);
+        let words = raw::acquire_preserving_borrows(self.head, self.table, words(held), cell);
         self.replied(words)
     }
 
     /// [`Arena::drop_lease`], but not of a lease in the held list.
     pub fn drop_preserving_borrows(&mut self, held: &[Lease], lease: Lease) -> Reply {
-        let words = sys::drop_preserving_borrows(self.head, self.table, held, lease);
+        let words = raw::drop_preserving_borrows(self.head, self.table, words(held), lease);
         self.replied(words)
     }
 
@@ -575,26 +584,26 @@ impl<'a> Arena<'a> {
 
     /// One boundary. A foreign release of a lease in the held list is dropped.
     pub fn environment(&mut self, script: &mut Script, held: &[Lease]) -> Played {
-        let words = sys::environment(
+        let words = raw::environment(
             self.head,
             self.table,
             self.health,
-            script.steps,
+            words(script.steps),
             script.place,
-            held,
+            words(held),
         );
         self.played(script, words)
     }
 
     /// One boundary.
     pub fn environment_for_borrows(&mut self, script: &mut Script, held: &[Lease]) -> Played {
-        let words = sys::environment_for_borrows(
+        let words = raw::environment_for_borrows(
             self.head,
             self.table,
             self.health,
-            script.steps,
+            words(script.steps),
             script.place,
-            held,
+            words(held),
         );
         self.played(script, words)
     }
@@ -602,13 +611,13 @@ impl<'a> Arena<'a> {
     /// Boundary, waiters, boundary, compare-and-set, boundary, the health of the cell's header, waiters. A late
     /// [`Refusal::Poisoned`] or Busy releases the cell, and its serial stays spent ([`Reason::After`] gives it).
     pub fn try_lock(&mut self, script: &mut Script, held: &[Lease], cell: u32) -> Played {
-        let words = sys::try_lock(
+        let words = raw::try_lock(
             self.head,
             self.table,
             self.health,
-            script.steps,
+            words(script.steps),
             script.place,
-            held,
+            words(held),
             cell,
         );
         self.played(script, words)
@@ -621,13 +630,13 @@ impl<'a> Arena<'a> {
         held: &[Lease],
         cell: u32,
     ) -> Played {
-        let words = sys::other_mutex_preserves_leases(
+        let words = raw::other_mutex_preserves_leases(
             self.head,
             self.table,
             self.health,
-            script.steps,
+            words(script.steps),
             script.place,
-            held,
+            words(held),
             cell,
         );
         self.played(script, words)
@@ -642,14 +651,14 @@ impl<'a> Arena<'a> {
         held: &[Lease],
         key: Key,
     ) -> Played {
-        let words = sys::transactional_try_lock_bucket(
+        let words = raw::transactional_try_lock_bucket(
             self.head,
             self.table,
             self.health,
             registry,
-            script.steps,
+            words(script.steps),
             script.place,
-            held,
+            words(held),
             key,
         );
         self.played(script, words)
@@ -665,14 +674,14 @@ impl<'a> Arena<'a> {
         held: &[Lease],
         key: Key,
     ) -> Played {
-        let words = sys::acquire_index_bucket(
+        let words = raw::acquire_index_bucket(
             self.head,
             self.table,
             self.health,
             registry,
-            script.steps,
+            words(script.steps),
             script.place,
-            held,
+            words(held),
             key,
         );
         self.played(script, words)
@@ -680,13 +689,13 @@ impl<'a> Arena<'a> {
 
     /// All leases of a list released, last first, a boundary after each. Those not yet released are protected.
     pub fn release_all(&mut self, script: &mut Script, leases: &[Lease]) -> Played {
-        let words = sys::release_all(
+        let words = raw::release_all(
             self.head,
             self.table,
             self.health,
-            script.steps,
+            words(script.steps),
             script.place,
-            leases,
+            words(leases),
         );
         self.played(script, words)
     }
@@ -702,16 +711,16 @@ impl<'a> Arena<'a> {
         keys: &[Key],
         grants: &mut [Lease],
     ) -> Played {
-        let words = sys::acquire_index_locks(
+        let words = raw::acquire_index_locks(
             self.head,
             self.table,
             self.health,
             registry,
-            script.steps,
+            words(script.steps),
             script.place,
-            held,
-            keys,
-            grants,
+            words(held),
+            words(keys),
+            words_mut(grants),
         );
         self.played(script, words)
     }
@@ -752,16 +761,16 @@ impl<'a> Arena<'a> {
         keys: &[Key],
         grants: &mut [Lease],
     ) -> Played {
-        let words = sys::acquire_sorted_locks(
+        let words = raw::acquire_sorted_locks(
             self.head,
             self.table,
             self.health,
             registry,
-            script.steps,
+            words(script.steps),
             script.place,
-            held,
-            keys,
-            grants,
+            words(held),
+            words(keys),
+            words_mut(grants),
         );
         self.played(script, words)
     }
@@ -771,7 +780,7 @@ impl<'a> Arena<'a> {
     /// The crew's run. `counts` says how many cells each member wants, `cells` has their lists one behind the other,
     /// each strictly rising, and `turns` names members.
     pub fn crew(&mut self, counts: &[u32], cells: &[u32], turns: &[u32]) -> CrewReply {
-        let reply = crew_of(&sys::crew(
+        let reply = crew_of(&raw::crew(
             self.head,
             self.table,
             self.health,
@@ -794,7 +803,7 @@ impl<'a> Arena<'a> {
         turns: &[u32],
         counters: &mut [u16],
     ) -> CrewReply {
-        let reply = crew_of(&sys::crew_at_work(
+        let reply = crew_of(&raw::crew_at_work(
             self.head,
             self.table,
             self.health,

@@ -1,5 +1,5 @@
 //! Salvage after a warm restart (document 02, L6): an arena mended by the head that was kept on paper.
-use crate::{sys, Arena, Head};
+use crate::{raw, Arena, Head};
 
 /// A word or byte that a salvage changed.
 #[derive(Clone, Copy, Debug, Default, PartialEq, Eq)]
@@ -69,7 +69,7 @@ impl<'a> Arena<'a> {
         report: &mut [Change],
         unconfirmed: &mut [u32],
     ) -> Result<(Arena<'a>, Salvaged), SalvageRefusal> {
-        let w = sys::salvage(head, table, health, report, unconfirmed);
+        let w = raw::salvage(head, table, health, raw::words_mut(report), unconfirmed);
         // The library gives no kind but 0 and 5, no refusal but 1 and 106, and the head as it was given.
         match (w[4], w[5]) {
             (0, changed) => {

@@ -10,7 +10,7 @@
 //! let read = wave::read(&text[..size], &mut history).unwrap();
 //! assert_eq!((read.cells, &history[..read.steps]), (2, &[Step::take(0)][..]));
 //! ```
-use crate::{sys, Step};
+use crate::{raw, Step};
 
 /// The most cells of a waveform.
 pub const CELLS: u32 = 94;
@@ -49,7 +49,7 @@ pub struct Read {
 /// Writes the bits of the first cells over a history, from all bits 0: a take sets its cell's bit, a release clears it,
 /// any other step only counts. Gives the bytes written; those behind them are left alone, and a refusal changes none.
 pub fn write(cells: u32, history: &[Step], text: &mut [u8]) -> Result<usize, NotWritten> {
-    let words = sys::write_dump(cells, history, text);
+    let words = raw::write_dump(cells, raw::words(history), text);
     match words[0] {
         0 => Ok(words[1] as usize),
         1 => Err(NotWritten::BadScript),
@@ -61,7 +61,7 @@ pub fn write(cells: u32, history: &[Step], text: &mut [u8]) -> Result<usize, Not
 /// Reads back what [`write`] can have written, and nothing else: a history with the same bits at the same steps, other
 /// words 0. Steps behind it are left alone, and a refusal changes none.
 pub fn read(text: &[u8], history: &mut [Step]) -> Result<Read, NotRead> {
-    let words = sys::read_dump(text, history);
+    let words = raw::read_dump(text, raw::words_mut(history));
     match words[0] {
         0 => Ok(Read {
             cells: words[1] as usize,

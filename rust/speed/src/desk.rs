@@ -1,5 +1,6 @@
 //! What the calls are lent. Both sides get the same desk, and read their arguments from it.
 
+use skid::raw::{CREW, REPLY, SALVAGE};
 use std::hint::black_box;
 
 /// The head's four numbers.
@@ -43,6 +44,24 @@ pub struct Desk {
     /// Table and health as a power dip left them.
     pub dipped_table: Vec<u32>,
     pub dipped_health: Vec<u8>,
+    pub replies: Replies,
+}
+
+/// What the proved side is lent for its replies.
+pub struct Replies {
+    pub reply: [u64; REPLY],
+    pub crew: [u64; CREW],
+    pub salvage: [u64; SALVAGE],
+}
+
+impl Default for Replies {
+    fn default() -> Replies {
+        Replies {
+            reply: [0; REPLY],
+            crew: [0; CREW],
+            salvage: [0; SALVAGE],
+        }
+    }
 }
 
 impl Desk {

@@ -5,7 +5,7 @@
 //! `trials played` reads what a player printed while its echo was on, and prints a trial for each call of
 //! `acquire_index_bucket`: its attempts, and its refusal or 0.
 
-use plain::dice::Dice;
+use console::dice::Dice;
 use plain::report::{MOST_ATTEMPTS, MOST_REFUSAL, MOST_TRIALS};
 use std::io::{self, Read, Write};
 

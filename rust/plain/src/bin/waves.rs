@@ -7,7 +7,7 @@
 //!
 //! `waves largest SEED` prints the largest history: 94 cells, 32,768 steps, each of which changes a bit.
 
-use plain::dice::Dice;
+use console::dice::Dice;
 use plain::rules::MOST_STEPS;
 use plain::wave::{self, INPUT, MOST_CELLS, STEP_ROOM};
 use std::io::{self, Write};
@@ -548,6 +548,8 @@ fn no_bit(dice: &mut Dice, dump: &mut Dump) {
 #[cfg(test)]
 mod tests {
     use super::*;
+    use console::waveform;
+    use plain::Plain;
     use std::collections::BTreeMap;
 
     /// How often each name came.
@@ -567,6 +569,10 @@ mod tests {
         assert_eq!(counts.keys().collect::<Vec<_>>(), expected);
     }
 
+    fn text_of(printed: Vec<u8>) -> String {
+        String::from_utf8(printed).expect("it prints text")
+    }
+
     /// Too wide, whatever else is wrong.
     fn is_wide(input: &[u8]) -> bool {
         let first = String::from_utf8_lossy(input);
@@ -576,7 +582,7 @@ mod tests {
 
     fn history_case(seed: u64) -> String {
         let input = history(&mut Dice(seed));
-        let text = wave::dump(&input);
+        let text = text_of(waveform::dump(&mut Plain, None, &input));
         if text == "refused 2 BadScript 0\n" && is_wide(&input) {
             return "refused 2, and too wide".to_string();
         }
@@ -658,7 +664,7 @@ mod tests {
     }
 
     fn dump_case(text: &[u8]) -> String {
-        let printed = wave::undump(text);
+        let printed = text_of(waveform::undump(&mut Plain, text));
         let Some(line) = printed.strip_prefix("refused BadLine ") else {
             return match printed.as_str() {
                 "input too long\n" => "input too long",
