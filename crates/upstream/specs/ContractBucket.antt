@@ -1,5 +1,6 @@
--- Upstream's contracts of a lock by key: what a key comes to, one attempt, and up to 4,096; and what holds here. Of any build, statements only:
--- `MeetsBucket` has the proofs. docs/CONTRACTS.md shows these records, and says what each kind of them is.
+-- Upstream's contracts on a lock by key (what a key comes to, one attempt, up to 4,096 of them), and what holds
+-- here. Of any build, statements only: `MeetsBucket` has the proofs. docs/CONTRACTS.md shows these records, and says
+-- what each kind of them is.
 use Prim.Native.Nat.{ℕ, _≤_, _<_}
 use mathlib.Core.Path.{_≡_}
 use mathlib.Core.List.{List}
@@ -49,6 +50,7 @@ module _ (w : Authority) (registry script : List ℕ) (place : ℕ) (held : List
 
   pub record Ensures-publication-header (m : Made (World × Says)) : Type 0 where
     -- result.is_ok() ==> result.unwrap() == self.registry()[binding as int]
+    -- r.is_ok() ==> r.unwrap() == self.registry()[binding as int]
     pub e1 : (l : Lease) → result m ≡ Granted l → On-the-key l
 
   -- what holds here
@@ -64,7 +66,8 @@ module _ (w : Authority) (registry script : List ℕ) (place : ℕ) (held : List
   -- what holds here
   pub record Here-poisoned (m : Made (World × Says)) : Type 0 where
     pub n1 : Passes w once → (h : ℕ)
-        → (result m ≡ Refused (Poisoned h)) ↔ ((h ≡ header) × (header < w .head .headers)
+        → (result m ≡ Refused (Poisoned h))
+        ↔ ((h ≡ header) × (header < w .head .headers)
         × ((byte ≡ 0 → ⊥) ⊎ ((bucket < w .head .buckets) × Read-again w registry script place held binding bucket)))
 
   -- ---- 000.poisoned and 001.poisoned, of the retrying call
@@ -100,8 +103,7 @@ module _ (w : Authority) (registry script : List ℕ) (place : ℕ) (held : List
 
   -- what holds here
   pub record Here-bucket (m : Made (World × Says)) : Type 0 where
-    pub r1 : Passes w once
-        → (bucket-request-valid (w .head .buckets) header bucket w → ⊥)
+    pub r1 : Passes w once → (bucket-request-valid (w .head .buckets) header bucket w → ⊥)
         → result m ≡ Refused (BadHeader header)
     pub e1 : Passes w once → (number : ℕ)
         → (result m ≡ Refused (InvalidBucket number))
@@ -162,12 +164,10 @@ module _ (w : Authority) (registry script : List ℕ) (place : ℕ) (held : List
         → m ≡ unchanged w once (BadBinding 0)
     pub r3 : (i : ℕ) → Keyed w registry script place → Well-long held → First-bad w held i
         → m ≡ unchanged w once (BadHeld i)
-    pub r4 : Passes w once → w .head .headers ≤ header
-        → result m ≡ Refused (BadHeader header)
+    pub r4 : Passes w once → w .head .headers ≤ header → result m ≡ Refused (BadHeader header)
     pub limit : Keyed w registry script place → 64 < leaseCount held
         → m ≡ unchanged w once (BadHeld (leaseCount held))
-    pub script-limit : Whole-keyed w registry → 32768 < stepsIn script
-        → m ≡ unchanged w once BadScript
+    pub script-limit : Whole-keyed w registry → 32768 < stepsIn script → m ≡ unchanged w once BadScript
     pub e1 : keeps-valid w (final m)
     pub e2 : leases-authorized w (holdsOf held) → leases-authorized (final m) (holdsOf held)
     pub e3 : dom (final m) ≡ dom w
@@ -232,12 +232,10 @@ module _ (w : Authority) (registry script : List ℕ) (place : ℕ) (held : List
         → m ≡ unchanged w many (BadBinding 0)
     pub r3 : (i : ℕ) → Keyed w registry script place → Well-long held → First-bad w held i
         → m ≡ unchanged w many (BadHeld i)
-    pub r4 : Passes w many → w .head .headers ≤ header
-        → result m ≡ Refused (BadHeader header)
+    pub r4 : Passes w many → w .head .headers ≤ header → result m ≡ Refused (BadHeader header)
     pub limit : Keyed w registry script place → 64 < leaseCount held
         → m ≡ unchanged w many (BadHeld (leaseCount held))
-    pub script-limit : Whole-keyed w registry → 32768 < stepsIn script
-        → m ≡ unchanged w many BadScript
+    pub script-limit : Whole-keyed w registry → 32768 < stepsIn script → m ≡ unchanged w many BadScript
     pub e1 : keeps-valid w (final m)
     pub e2 : leases-authorized w (holdsOf held) → leases-authorized (final m) (holdsOf held)
     pub e3 : dom (final m) ≡ dom w

@@ -1,5 +1,5 @@
--- Upstream's contracts on one cell or one lease; and what holds here. Of any build, statements only:
--- `MeetsCells` has the proofs. docs/CONTRACTS.md shows these records, and says what each kind of them is.
+-- Upstream's contracts on one cell or one lease, and what holds here. Of any build, statements only: `MeetsCells`
+-- has the proofs. docs/CONTRACTS.md shows these records, and says what each kind of them is.
 use Prim.Native.Nat.{_+_, _≤_, _<_}
 use mathlib.Core.Path.{_≡_}
 use mathlib.Core.Logic.{_↔_, _⊎_, _≢_}

@@ -1,5 +1,5 @@
--- Upstream's contracts of a lock by cell; and what holds here. Of any build, statements only:
--- `MeetsLock` has the proofs. docs/CONTRACTS.md shows these records, and says what each kind of them is.
+-- Upstream's contracts on a lock by cell, and what holds here. Of any build, statements only: `MeetsLock` has the
+-- proofs. docs/CONTRACTS.md shows these records, and says what each kind of them is.
 use Prim.Native.Nat.{ℕ, _<_}
 use mathlib.Core.Path.{_≡_}
 use mathlib.Core.List.{List}
@@ -46,8 +46,8 @@ module _ (w : Authority) (script : List ℕ) (place : ℕ) (held : List ℕ) (ke
 
   -- what holds here
   pub record Here-try-lock (m : Made (World × Says)) : Type 0 where
-    pub r1 : Passes w call → Swap-damaged w script place held key → (result m ≡ Refused (Damaged key))
-        × (final m ≡ at-the-swap w script place held)
+    pub r1 : Passes w call → Swap-damaged w script place held key
+        → (result m ≡ Refused (Damaged key)) × (final m ≡ at-the-swap w script place held)
     pub r2 : Scripted-held-good w script place held → (contains-key w key → ⊥)
         → m ≡ unchanged w call (InvalidBucket key)
     pub r3 : (i : ℕ) → Scripted w script place → Well-long held → First-bad w held i
@@ -83,8 +83,8 @@ module _ (w : Authority) (script : List ℕ) (place : ℕ) (held : List ℕ) (ke
 
   -- what holds here
   pub record Here-other-mutex-preserves-leases (m : Made (World × Says)) : Type 0 where
-    pub r1 : Passes w call → Swap-damaged w script place held key → (result m ≡ Refused (Damaged key))
-        × (final m ≡ at-the-swap w script place held)
+    pub r1 : Passes w call → Swap-damaged w script place held key
+        → (result m ≡ Refused (Damaged key)) × (final m ≡ at-the-swap w script place held)
     pub r2 : (i : ℕ) → Scripted w script place → Well-long held → First-bad w held i
         → m ≡ unchanged w call (BadHeld i)
     pub r3 : Scripted-held-good w script place held → (contains-key w key → ⊥)

@@ -1,5 +1,5 @@
--- Upstream's contracts of many leases at once; and what holds here. Of any build, statements only:
--- `MeetsMultilock` has the proofs. docs/CONTRACTS.md shows these records, and says what each kind of them is.
+-- Upstream's contracts on many leases at once, and what holds here. Of any build, statements only: `MeetsMultilock`
+-- has the proofs. docs/CONTRACTS.md shows these records, and says what each kind of them is.
 use Prim.Native.Nat.{ℕ, _+_, _≤_, _<_}
 use mathlib.Core.Path.{_≡_}
 use mathlib.Core.List.{List}
@@ -52,10 +52,8 @@ module _ (w : Authority) (script : List ℕ) (place : ℕ) (leases : List ℕ) w
         → Own w (leaseAt (leasesOf leases) i) → (authorized w (holdAt (holdsOf leases) i) → ⊥)
         → m ≡ unchanged w (release-all script place leases) (NotHeld i)
     pub r3 : (i j : ℕ) → i < j → j < length (holdsOf leases) → Leases-counted w script place leases
-        → Good-before w leases j
-        → Own w (leaseAt (leasesOf leases) j) → valid-at w (holdAt (holdsOf leases) j .cell)
-        → authorized w (holdAt (holdsOf leases) i)
-        → authorized w (holdAt (holdsOf leases) j)
+        → Good-before w leases j → Own w (leaseAt (leasesOf leases) j) → valid-at w (holdAt (holdsOf leases) j .cell)
+        → authorized w (holdAt (holdsOf leases) i) → authorized w (holdAt (holdsOf leases) j)
         → lease-key (holdAt (holdsOf leases) i) ≡ lease-key (holdAt (holdsOf leases) j)
         → m ≡ unchanged w (release-all script place leases) (Repeated j)
     pub limit : Scripted w script place → 64 < leaseCount leases
@@ -66,9 +64,10 @@ module _ (w : Authority) (script : List ℕ) (place : ℕ) (leases : List ℕ) w
     pub e2 : dom (final m) ≡ dom w
     pub e3 : Scripted w script place → Few leases → All-own w leases → leases-valid w (holdsOf leases)
         → leases-authorized w (holdsOf leases)
-        × ((i j : ℕ) → i < j → j < length (holdsOf leases)
-        → lease-key (holdAt (holdsOf leases) i) ≢ lease-key (holdAt (holdsOf leases) j)) → (i : ℕ)
-        → i < length (holdsOf leases) → authorized (final m) (holdAt (holdsOf leases) i) → ⊥
+        → ((i j : ℕ) → i < j → j < length (holdsOf leases)
+        → lease-key (holdAt (holdsOf leases) i) ≢ lease-key (holdAt (holdsOf leases) j))
+        → (i : ℕ) → i < length (holdsOf leases)
+        → authorized (final m) (holdAt (holdsOf leases) i) → ⊥
 
 -- ---- of any build
 
@@ -105,13 +104,12 @@ module _ (w : Authority) (registry script : List ℕ) (place : ℕ) (held keys g
   -- what holds here
   pub record Here-acquire-index-locks (m : Made (World × Says)) : Type 0 where
     pub r1 : (i : ℕ) → Keyed-held-good w registry script place held → tooManyKeys held keys grants .applies ≡ false
-        → i < countIn keys
-        → ((j : ℕ) → j < i → key-at keys j .0 < length registry) → length registry ≤ key-at keys i .0
+        → i < countIn keys → ((j : ℕ) → j < i → key-at keys j .0 < length registry)
+        → length registry ≤ key-at keys i .0
         → m ≡ unchanged w call (BadBinding i)
     pub limit : Keyed-held-good w registry script place held → 64 < leaseCount held + countIn keys
         → m ≡ unchanged w call TooMany
-    pub script-limit : Whole-keyed w registry → 32768 < stepsIn script
-        → m ≡ unchanged w call BadScript
+    pub script-limit : Whole-keyed w registry → 32768 < stepsIn script → m ≡ unchanged w call BadScript
     pub e1 : result m ≡ AllGranted → guards-match (w .head .buckets) registry keys (holdsOf (buffer m))
     pub e2 : result m ≡ AllGranted → all-guards-in (holdsOf (buffer m)) w
     pub e3 : result m ≡ AllGranted → (i : ℕ) → i < countIn keys → key-at keys i .1 < w .head .buckets

@@ -1,12 +1,12 @@
--- Ours keeps what `ContractBorrows` promises (`promise-..`), whoever keeps that meets upstream's contract (`implied-..`), and so ours does
--- (`meets-..`).
+-- Ours keeps each promise of `ContractBorrows` (`promise-..`); whoever keeps it meets upstream's contract
+-- (`implied-..`); so ours does (`meets-..`).
 use Rattle.model.specs.Arena.{holdsOf}
 use Rattle.history.specs.Items.{foreign-release, drop-preserving, acquire-preserving, environment, perform, Build}
 use Rattle.history.specs.Statements.{world-in}
 use Rattle.upstream.specs.Bridge.{valid-leases, valid-from}
 use Rattle.upstream.specs.Borrows.{acquire-preserving-borrows-e1, acquire-preserving-borrows-e2, acquire-preserving-borrows-e3, acquire-preserving-borrows-e4, acquire-preserving-borrows-e5, acquire-preserving-borrows-e6, acquire-preserving-borrows-e7, acquire-preserving-borrows-e8, acquire-preserving-borrows-e9, acquire-preserving-borrows-r1, acquire-preserving-borrows-r2, acquire-preserving-borrows-r3, acquire-too-long, drop-preserving-borrows-e1, drop-preserving-borrows-e2, drop-preserving-borrows-e3, drop-preserving-borrows-e4, drop-preserving-borrows-e5, drop-preserving-borrows-e6, drop-preserving-borrows-r1, drop-preserving-borrows-r2, drop-preserving-borrows-r3, drop-preserving-borrows-r4, drop-too-long, foreign-release-between-attempts-e1, foreign-release-between-attempts-e2, foreign-release-between-attempts-e3, foreign-release-between-attempts-e4, foreign-release-between-attempts-e5, foreign-release-between-attempts-keys, foreign-release-between-attempts-r1, foreign-release-between-attempts-r2, foreign-release-between-attempts-r3, foreign-release-between-attempts-r4, foreign-too-long}
 use Rattle.upstream.specs.Environment.{environment-e1, environment-e2, environment-e3, environment-e4, environment-for-borrows-e2, environment-r2, interfere-e1}
-use Rattle.upstream.specs.Damage.{environment-r1, drops-damaged}
+use Rattle.upstream.specs.Damage.{environment-r1, drops-damaged, sets-waiters}
 use Rattle.upstream.specs.Limits.{environment-limit, environment-script}
 use Rattle.upstream.specs.ContractBorrows.{Contract-interfere, Promise-interfere, Contract-environment, Promise-environment, Contract-environment-for-borrows, Promise-environment-for-borrows, Contract-acquire-preserving-borrows, Promise-acquire-preserving-borrows, Contract-drop-preserving-borrows, Promise-drop-preserving-borrows, Contract-foreign-release-between-attempts, Promise-foreign-release-between-attempts}
 
@@ -23,6 +23,7 @@ promise-interfere = (
         e1 = interfere-e1 w script place held;
       },
   drops-damaged,
+  sets-waiters,
 )
 
 pub implied-interfere : (b : Build) → Promise-interfere b → Contract-interfere b
@@ -51,6 +52,7 @@ promise-environment = (
         e4 = environment-e4 w script place held;
       },
   drops-damaged,
+  sets-waiters,
 )
 
 pub implied-environment : (b : Build) → Promise-environment b → Contract-environment b
@@ -83,6 +85,7 @@ promise-environment-for-borrows = (
         e4 = environment-e4 w script place held;
       },
   drops-damaged,
+  sets-waiters,
 )
 
 pub implied-environment-for-borrows : (b : Build) → Promise-environment-for-borrows b → Contract-environment-for-borrows b

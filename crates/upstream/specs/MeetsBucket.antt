@@ -1,5 +1,5 @@
--- Ours keeps what `ContractBucket` promises (`promise-..`), whoever keeps that meets upstream's contract (`implied-..`), and so ours does
--- (`meets-..`).
+-- Ours keeps each promise of `ContractBucket` (`promise-..`); whoever keeps it meets upstream's contract
+-- (`implied-..`); so ours does (`meets-..`).
 use mathlib.Core.Path.{refl}
 use native.Mathlib.Omega.{arith}
 use Rattle.history.specs.Items.{transactional, acquire-bucket, perform, Build}

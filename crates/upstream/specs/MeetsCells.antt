@@ -1,5 +1,5 @@
--- Ours keeps what `ContractCells` promises (`promise-..`), whoever keeps that meets upstream's contract (`implied-..`), and so ours does
--- (`meets-..`).
+-- Ours keeps each promise of `ContractCells` (`promise-..`); whoever keeps it meets upstream's contract
+-- (`implied-..`); so ours does (`meets-..`).
 use mathlib.Core.Logic.{inl, inr}
 use native.Mathlib.Omega.{arith}
 use Rattle.model.specs.Arena.{holdIn}

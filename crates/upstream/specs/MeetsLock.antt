@@ -1,5 +1,5 @@
--- Ours keeps what `ContractLock` promises (`promise-..`), whoever keeps that meets upstream's contract (`implied-..`), and so ours does
--- (`meets-..`).
+-- Ours keeps each promise of `ContractLock` (`promise-..`); whoever keeps it meets upstream's contract
+-- (`implied-..`); so ours does (`meets-..`).
 use Rattle.history.specs.Items.{try-lock, perform, Build}
 use Rattle.history.specs.Statements.{world-in}
 use Rattle.upstream.specs.Bridge.{valid-from}

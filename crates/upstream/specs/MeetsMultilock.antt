@@ -1,5 +1,5 @@
--- Ours keeps what `ContractMultilock` promises (`promise-..`), whoever keeps that meets upstream's contract (`implied-..`), and so ours does
--- (`meets-..`).
+-- Ours keeps each promise of `ContractMultilock` (`promise-..`); whoever keeps it meets upstream's contract
+-- (`implied-..`); so ours does (`meets-..`).
 use Rattle.model.specs.Arena.{holdsOf}
 use Rattle.history.specs.Items.{release-all, perform, Build}
 use Rattle.history.specs.Statements.{world-in}
@@ -21,7 +21,7 @@ promise-release-all w script place leases =
       script-limit = release-all-script w script place leases;
       e1 = release-all-e1 w script place leases;
       e2 = release-all-e2 w script place leases;
-      e3 = release-all-e3 w script place leases;
+      e3 = λ s f o v a d. release-all-e3 w script place leases s f o v (a, d);
     }
 
 pub implied-release-all : (b : Build) → Promise-release-all b → Contract-release-all b
@@ -31,7 +31,7 @@ implied-release-all b p w script place leases q =
     record {
       e1 = valid-from w (world-in m) (h .e1) (h .e2) (q .r1);
       e2 = h .e2;
-      e3 = h .e3 (q .scripted) (q .few) (q .own) (valid-leases w (holdsOf leases) (q .r1) (q .r2)) (q .r2, q .r3);
+      e3 = h .e3 (q .scripted) (q .few) (q .own) (valid-leases w (holdsOf leases) (q .r1) (q .r2)) (q .r2) (q .r3);
     }
 
 pub meets-release-all : Contract-release-all perform
