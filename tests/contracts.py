@@ -13,15 +13,16 @@ What `check` holds:
   function's records. Upstream's text is not in the repository: SHARED_DOCS names the folder of the documents,
   ../shared/docs if it is not set. Without it this part is left out, and said so; where CI is set that is an error;
 - the call of a row is a heading of docs/REFERENCE.md, and the call that the function's promise is about;
-- a refusal's number in a row is that of a refusal in the field; `different` says what stands above the field; some
-  words of a verdict (WORDS) say what the field must be;
+- a refusal's number in a row is that of a refusal in the field; `different` says what stands above the field; a clause
+  that several functions have is one statement; some words of a verdict (WORDS) say what the field must be;
 - a row of a loop names crate, file, record and field, and the field is there; or it says that there is nothing to keep;
-- each function's records stand under it as they are in the crate, with promise, implied and meets of the crate; the
-  index and the words of the records as well;
+- each function's records stand under it as they are in the crate, with promise, implied, meets and met of the crate;
+  the index and the words of the records as well;
 - the list of what a user does not get names every row that is `different` or `left out`, and no other;
 - the table of premises has every word of ours that the records use;
-- every must-fail edit that the page names is there, and every wrong build that docs/DIFFERENCES.md names in the table of
-  what upstream leaves open has its `accepted-..` and `rejected-..`."""
+- every must-fail edit that a page of docs names is there, and every wrong build that docs/DIFFERENCES.md names in the
+  table of what upstream leaves open has its `accepted-..` and `rejected-..`."""
+import functools
 import os
 import re
 import sys
@@ -42,12 +43,13 @@ CALLS = {'try-acquire': 'try_acquire', 'drop-lease': 'drop_lease', 'read-permiss
 WORDS = {'holds of any table and any arguments, refused or not': None,
          'of any table: every cell that was valid is valid': r'keeps-valid w \(final m\)',
          'needs only that the held leases are authorized':
-             r'(leases-authorized w \(holdsOf held\)|protected-valid w \(held-ids \(holdsOf held\)\)) → (?!.*valid-at w).*',
+             r'(leases-authorized w \(holdsOf held\)|protected-valid w \(held-ids \(holdsOf held\)\)) → '
+             r'(?!.*valid-at w).*',
          'needs only that the lease is authorized': r'authorized w \(holdIn l\) → [^→]*',
          'of any script, legal or not, and any table': None}
 # words of ours outside file Premises
 FURTHER = ['Damage.Damage', 'Damage.Moves', 'Damage.Drops-damaged', 'Damage.waited', 'Damage.Sets-waiters',
-           'Health.Sick-again', 'Health.Read-again', 'Health.Sick', 'Health.Sick-within', 'Health.Reads-poison']
+           'Health.Sick-again', 'Health.Sick', 'Health.Sick-within', 'Health.Read-again', 'Health.Reads-poison']
 
 wrong = []
 # a file's path -> a text that is read in its place (tests/contracts-damaged.py)
@@ -66,21 +68,27 @@ def read(*path):
     return changed[path]
 
 
+def code(lines):
+    return '\n'.join(line for line in lines if not line.strip().startswith('-- '))
+
+
 def squeeze(text):
     return re.sub(r'\s', '', text)
 
 
 # ---- crate upstream
 
+DECLARATION = re.compile(r' *(?:(?:abbrev|unfoldable) )?(?:pub )?(?:(?:record|data) )?([^\s:(]+)(?= [:({]|$)')
+
+
 class Specs:
     """the declarations of a file: name -> its lines with the comment above; and what a section around it is given"""
 
-    def __init__(self, crate, file):
+    def __init__(self, file, text):
         self.file = file
-        self.decls, self.heads, self.order = {}, {}, []
-        path = ('crates', crate, 'specs', file + '.antt')
+        self.decls, self.heads, self.order, self.short = {}, {}, [], []
         section = []
-        for part in read(*path).split('\n\n'):
+        for part in text.split('\n\n'):
             lines = [line for line in part.split('\n') if line]
             if not lines:
                 continue
@@ -91,18 +99,20 @@ class Specs:
             if not lines:
                 continue
             for line in lines:
-                head = re.match(r' *(?:(?:abbrev|unfoldable) )?(?:pub )?(?:(?:record|data) )?([^\s:(]+)(?= [:({]|$)', line)
-                if head and not line.strip().startswith('--') and not re.match(r' *(use|module|pub mod) ', line):
+                head = DECLARATION.match(line)
+                if head and not re.match(r' *(--|use|module|pub mod) ', line):
                     name = head.group(1)
                     if name not in self.decls:
                         self.decls[name], self.heads[name] = lines, section
                         self.order.append(name)
+                        if section and line.strip().startswith('abbrev %s :' % name):
+                            self.short.append(name)
                     break
 
     def abbreviations(self, section, text):
         """the abbreviations of the section that the text uses, and those that these use"""
-        mine = [n for n in self.order if self.heads[n] == section and section
-                and any(re.match(r' *abbrev %s :' % re.escape(n), line) for line in self.decls[n])]
+        mine = [name for name in self.short if self.heads[name] == section]
+        text = code(text.split('\n'))
         used = set()
         grown = True
         while grown:
@@ -110,7 +120,7 @@ class Specs:
             for name in mine:
                 if name not in used and re.search(r'(?<![\w-])%s(?![\w-])' % re.escape(name), text):
                     used.add(name)
-                    text += '\n'.join(self.decls[name])
+                    text += code(self.decls[name])
                     grown = True
         return [name for name in mine if name in used]
 
@@ -129,6 +139,16 @@ class Specs:
         return lines[:-1]
 
 
+@functools.lru_cache(maxsize=None)
+def parsed(file, text):
+    return Specs(file, text)
+
+
+def specs(crate, file):
+    return parsed(file, read('crates', crate, 'specs', file + '.antt'))
+
+
+@functools.lru_cache(maxsize=None)
 def fields(lines):
     """field -> (comments above it, its type on one line) of a record's lines"""
     found, above, name = {}, [], None
@@ -153,7 +173,7 @@ class Upstream:
 
     def __init__(self):
         names = sorted(n[:-5] for n in os.listdir(os.path.join(ROOT, 'crates/upstream/specs')) if n.endswith('.antt'))
-        self.files = {n: Specs('upstream', n) for n in names}
+        self.files = {n: specs('upstream', n) for n in names}
         self.texts = {n: read('crates/upstream/specs', n + '.antt') for n in names}
         self.home = {}
         for file in names:
@@ -162,22 +182,24 @@ class Upstream:
                     kind = re.match(r'(Requires|Ensures|Contract|Here|Promise)-(.*)', name)
                     if kind:
                         self.home.setdefault(kind.group(2), file)
-        # other names of a contract, and each line that says of a build that it keeps a promise or meets a contract
+        # other names of a contract, and each line that says of a build that it keeps a promise or meets a contract, or
+        # of arguments that they meet what is required
         aliases = dict(re.findall(r'(?m)^([\w-]+) \w+ = Contract-([\w-]+) ', '\n'.join(self.texts.values())))
         self.said = []
         for file in names:
-            for line, what in re.findall(r'(?m)^(pub [\w-]+ : (?:\(b : Build\) → )?([A-Z][\w-]*) .*)$', self.texts[file]):
-                about = re.match(r'(?:Contract|Promise)-(.*)', what)
+            signature = r'(?m)^(pub [\w-]+ : (?:\(b : Build\) → )?([A-Z][\w-]*) .*)$'
+            for line, what in re.findall(signature, self.texts[file]):
+                about = re.match(r'(?:Contract|Promise|Requires)-(.*)', what)
                 if about or what in aliases:
                     self.said.append((about.group(1) if about else aliases[what], file, line))
 
     def records(self, function):
-        file = self.files[self.home[function]]
-        return [k + '-' + function for k in ('Requires', 'Ensures', 'Here', 'Contract', 'Promise') if k + '-' + function in file.decls]
+        names = [kind + '-' + function for kind in ('Requires', 'Ensures', 'Here', 'Contract', 'Promise')]
+        return [name for name in names if name in self.files[self.home[function]].decls]
 
     def fields(self, kind, function):
         decls = self.files[self.home[function]].decls
-        return fields(decls.get(kind + '-' + function, []))
+        return fields(tuple(decls.get(kind + '-' + function, ())))
 
     def call(self, function):
         """the call that the promise is about"""
@@ -186,9 +208,9 @@ class Upstream:
 
     def theorems(self, function):
         """who keeps the promise and meets the contract: ours, as (file, line), and wrong builds, as File.name"""
-        ours = [(file, line) for about, file, line in self.said if about == function and file.startswith('Meets')]
-        others = ['%s.%s' % (file, line.split()[1]) for about, file, line in self.said if about == function and not file.startswith('Meets')]
-        return ours, others
+        mine = [(file, line) for about, file, line in self.said if about == function]
+        ours = sorted((x for x in mine if x[0].startswith('Meets') or x[0] == 'Met'), key=lambda x: x[0] == 'Met')
+        return ours, ['%s.%s' % (file, line.split()[1]) for file, line in mine if (file, line) not in ours]
 
 
 # ---- upstream's text
@@ -229,6 +251,7 @@ def clauses(text, at):
     return found, len(text)
 
 
+@functools.lru_cache(maxsize=None)
 def source(text):
     """functions in order: name -> {'r': .., 'e': .., 'n': .., 'i': .., 'd': ..}; and the names of definitions"""
     text = bare(text)
@@ -261,10 +284,11 @@ def agree(function, kind, want, rows):
             if len(before) == 2:
                 parts = [before[0] + '==>' + p for p in split_at(before[1], '&&')]
         for part in parts:
+            clause = '%s: clause %d of its %s' % (function, place, KINDS[kind])
             if not rest:
-                complain('%s: clause %d of its %s has no row: %s' % (function, place, KINDS[kind], ' '.join(part.split())))
+                complain('%s has no row: %s' % (clause, ' '.join(part.split())))
             elif squeeze(rest[0]) != squeeze(part):
-                complain('%s: clause %d of its %s is "%s", and the row quotes "%s"' % (function, place, KINDS[kind], ' '.join(part.split()), rest[0]))
+                complain('%s is "%s", and the row quotes "%s"' % (clause, ' '.join(part.split()), rest[0]))
             rest = rest[1:]
     for quote in rest:
         complain('%s: upstream has no further %s, and a row quotes "%s"' % (function, KINDS[kind], quote))
@@ -313,16 +337,19 @@ class Page:
                 self.premises += re.findall(r'`([^`]+)`', cells[0])
 
     def headings(self):
-        return [line[4:] for line in self.lines if re.match(r'### 00[01]\.', line)]
+        return [line[4:] for line in self.lines if line.startswith(('### 000.', '### 001.'))]
 
 
 def link(function):
     return '[%s](#%s)' % (function, function.replace('.', ''))
 
 
+def clause_rows(rows):
+    return [r for r in rows if r.kind in 'ren']
+
+
 def tally(rows, of):
-    counts = [(name, sum(1 for r in rows if of(r) == name)) for name in dict.fromkeys(of(r) for r in rows)]
-    return counts
+    return [(name, sum(1 for r in rows if of(r) == name)) for name in dict.fromkeys(of(r) for r in rows)]
 
 
 def index(page, listed):
@@ -332,16 +359,17 @@ def index(page, listed):
     short = {'refused instead of required': 'refused'}
 
     def verdicts(rows):
-        counts = sorted(tally([r for r in rows if r.kind in 'ren'], lambda r: r.verdict), key=lambda c: order.get(c[0], 9))
+        counts = sorted(tally(clause_rows(rows), lambda r: r.verdict), key=lambda c: order.get(c[0], 9))
         return ', '.join('%d %s' % (n, short.get(v, v)) for v, n in counts)
 
     def kinds(rows):
         return ', '.join('%d %s' % (n, k) for k, n in tally(rows, lambda r: KINDS[r.kind]))
     for function in page.headings():
         rows = [r for r in page.rows if r.function == function]
-        home = listed.files(function)
-        lines.append('| %s | %s | %s | %s |' % (link(function), kinds(rows), verdicts(rows), '`%s`' % home if home else '-'))
-    lines.append('| all | %s | %s | |' % (kinds(sorted(page.rows, key=lambda r: 'renid'.index(r.kind))), verdicts(page.rows)))
+        home = '`%s`' % listed.file(function) if listed.file(function) else '-'
+        lines.append('| %s | %s | %s | %s |' % (link(function), kinds(rows), verdicts(rows), home))
+    every = sorted(page.rows, key=lambda r: 'renid'.index(r.kind))
+    lines.append('| all | %s | %s | |' % (kinds(every), verdicts(every)))
     return lines + ['', '<!-- end of index -->']
 
 
@@ -349,8 +377,9 @@ def block(crate, function):
     """what is proved, the records, and who meets the contract too"""
     file = crate.files[crate.home[function]]
     ours, others = crate.theorems(function)
-    lines = ['<!-- records %s -->' % function, '', 'Proved, in file `%s`:' % (ours[0][0] if ours else '-'), '', '```text']
-    lines += [line for _, line in ours] + ['```', '', 'The records, in file `%s`:' % file.file, '', '```text']
+    homes = ' and '.join('`%s`' % home for home in dict.fromkeys(home for home, _ in ours))
+    lines = ['<!-- records %s -->' % function, '', 'Proved, in %s:' % homes, '', '```text']
+    lines += [line for _, line in ours] + ['```', '', 'The records, in `%s`:' % file.file, '', '```text']
     lines += file.shown(crate.records(function)) + ['```', '']
     if others:
         lines += ['Wrong builds that meet the contract too: %s.' % ', '.join('`%s`' % name for name in others), '']
@@ -358,10 +387,11 @@ def block(crate, function):
 
 
 def words(crate):
-    lines = ['<!-- words -->', '', '```text', '-- file Premises', ''] + crate.files['Premises'].shown(crate.files['Premises'].order)
-    for file in dict.fromkeys(w.split('.')[0] for w in FURTHER):
-        lines += ['', '-- file %s' % file, ''] + crate.files[file].shown([w.split('.')[1] for w in FURTHER if w.startswith(file + '.')])
-    return lines + ['```', '', '<!-- end of words -->']
+    lines = ['<!-- words -->', '', '```text']
+    for file in ['Premises', *dict.fromkeys(word.split('.')[0] for word in FURTHER)]:
+        names = [word.split('.')[1] for word in FURTHER if word.startswith(file + '.')]
+        lines += ['-- file %s' % file, ''] + crate.files[file].shown(names or crate.files[file].order) + ['']
+    return lines[:-1] + ['```', '', '<!-- end of words -->']
 
 
 def made(page, crate, listed):
@@ -407,7 +437,7 @@ class Listed:
             else:
                 self.definitions[name] = said
 
-    def files(self, function):
+    def file(self, function):
         records = self.functions.get(function, ('-', []))[1]
         return self.crate.home.get(records[0]) if records else None
 
@@ -438,8 +468,9 @@ def check_list(page, listed):
         complain('the functions of the page are not those of tests/contracts.txt, in its order')
     for doc, name, here, lemma in page.definitions:
         verdict = re.sub(r'[ ,]*\(.*', '', here)
-        if listed.definitions.get(doc + '.' + name) != verdict + ' ' + lemma:
-            complain('%s.%s: the page says %s %s, tests/contracts.txt %s' % (doc, name, verdict, lemma, listed.definitions.get(doc + '.' + name)))
+        said = listed.definitions.get(doc + '.' + name)
+        if said != verdict + ' ' + lemma:
+            complain('%s.%s: the page says %s %s, tests/contracts.txt %s' % (doc, name, verdict, lemma, said))
     if [d + '.' + n for d, n, _, _ in page.definitions] != list(listed.definitions):
         complain('the definitions of the page are not those of tests/contracts.txt, in its order')
 
@@ -462,49 +493,71 @@ def check_calls(page, listed, crate):
 
 
 def refusals():
-    return {int(n): name for n, name in re.findall(r'(?m)^\| (\d+) \| ([A-Z]\w+) \|', read('docs', 'REFERENCE.md').split('## 3. Refusals')[1])}
+    table = read('docs', 'REFERENCE.md').split('## 3. Refusals')[1]
+    return {int(n): name for n, name in re.findall(r'(?m)^\| (\d+) \| ([A-Z]\w+) \|', table)}
+
+
+def check_quote(row, above):
+    """above the field stands the quote, and `different: ..` where the row is; of a requires, where the field is"""
+    quotes = [c for c in above if not c.startswith('different: ')]
+    if row.quote not in quotes:
+        complain('%s: the row quotes "%s", and above the field stands "%s"' % (row.name, row.quote, ' '.join(quotes)))
+    notes = [c[len('different: '):] for c in above if c.startswith('different: ')]
+    allowed = [[row.why]] if row.verdict == 'different' else [[]]
+    if notes not in allowed + ([[]] if row.kind == 'r' else []):
+        complain('%s: the row says "%s", and above the field stands %s' % (row.name, row.here, notes or 'no note'))
+
+
+def check_numbers(row, field, whole, names):
+    """a refusal's number in the row is that of a refusal in the field, or, behind `else`, in the whole record"""
+    if row.verdict == 'refused instead of required':
+        number = re.match(r'\d+', row.why)
+        if not number or not re.search(r'\b%s\b' % names.get(int(number.group(0))), field):
+            complain('%s: refused with %s, and its field says %s' % (row.name, row.why, field))
+    for number in re.findall(r'else (\d+)', row.why):
+        if not re.search(r'\b%s\b' % names.get(int(number)), whole):
+            complain('%s: no field of its record answers %s' % (row.name, number))
+
+
+def check_alike(row, asked, sayings):
+    """one clause is one statement in all functions, but where it is different; the key of `store` is its lease's"""
+    said = asked.replace('(lease-key (holdIn l))', 'key')
+    if row.verdict != 'different' and sayings.setdefault((row.kind, row.quote), said) != said:
+        complain('%s: elsewhere its clause is said so: %s' % (row.name, sayings[row.kind, row.quote]))
+
+
+def check_words(row, asked, field):
+    """some words of a verdict say what the field must be"""
+    for phrase, form in WORDS.items():
+        if row.verdict == 'stronger' and row.why.startswith(phrase):
+            if not (squeeze(field) == squeeze(asked) if form is None else re.fullmatch(form, field)):
+                complain('%s: "%s", and its field says %s' % (row.name, phrase, field))
 
 
 def check_fields(page, listed, crate):
-    numbers = refusals()
-    quotes = {}
+    names = refusals()
+    quoted, sayings = set(), {}
     for row in page.rows:
         if row.kind not in 'ren' or row.verdict == 'left out':
             continue
-        records = [r for r in listed.functions.get(row.function, ('-', []))[1] if r in crate.home]
-        if not records:
-            complain('%s: its function has no records' % row.name)
+        record = next((r for r in listed.functions.get(row.function, ('-', []))[1] if r in crate.home), None)
+        asked = {**crate.fields('Requires', record), **crate.fields('Ensures', record)} if record else {}
+        here = crate.fields('Here', record) if record else {}
+        if row.place not in here or row.kind != 'n' and row.place not in asked:
+            complain('%s: no such field in the records of its function' % row.name)
             continue
-        asked = [crate.fields(kind, r)[row.place] for r in records for kind in ('Requires', 'Ensures') if row.place in crate.fields(kind, r)]
-        here = [crate.fields('Here', r)[row.place] for r in records if row.place in crate.fields('Here', r)]
-        if row.kind != 'n' and not asked or not here:
-            complain('%s: no field %s in the records of %s' % (row.name, row.place, ', '.join(records)))
-            continue
+        field = here[row.place][1]
         if row.kind != 'n':
-            above = [c for c in asked[0][0] if not c.startswith('different: ')]
-            quotes.setdefault((records[0], row.place), []).append(row.quote)
-            if row.quote not in above:
-                complain('%s: the row quotes "%s", and above the field stands "%s"' % (row.name, row.quote, ' '.join(above)))
-            notes = [c[11:] for c in asked[0][0] if c.startswith('different: ')]
-            if row.kind == 'e' and notes != ([row.why] if row.verdict == 'different' else []):
-                complain('%s: the row says "%s", and above the field stands %s' % (row.name, row.here, notes or 'no note'))
-        number = re.match(r'(\d+)', row.why) if row.verdict.startswith('refused') else None
-        if row.verdict.startswith('refused') and (not number or not re.search(r'\b%s\b' % numbers.get(int(number.group(1))), here[0][1])):
-            complain('%s: refused with %s, and its field says %s' % (row.name, row.why, here[0][1]))
-        for other in re.findall(r'else (\d+)', row.why):
-            text = ' '.join(f[1] for r in records for f in crate.fields('Here', r).values())
-            if not re.search(r'\b%s\b' % numbers.get(int(other)), text):
-                complain('%s: no field of its records answers %s' % (row.name, other))
-        for phrase, form in WORDS.items():
-            if row.verdict == 'stronger' and row.why.startswith(phrase):
-                if squeeze(here[0][1]) != squeeze(asked[0][1]) if form is None else not re.fullmatch(form, here[0][1]):
-                    complain('%s: "%s", and its field says %s' % (row.name, phrase, here[0][1]))
+            quoted.add((record, row.place, row.quote))
+            check_quote(row, asked[row.place][0])
+            check_alike(row, asked[row.place][1], sayings)
+            check_words(row, asked[row.place][1], field)
+        check_numbers(row, field, ' '.join(f[1] for f in here.values()), names)
     for record in crate.home:
-        for kind in ('Requires', 'Ensures'):
-            for place, (above, _) in crate.fields(kind, record).items():
-                for quote in above:
-                    if re.match(r'[ren]\d+$', place) and not quote.startswith('different: ') and quote not in quotes.get((record, place), []):
-                        complain('%s: above field %s stands "%s", and no row quotes it' % (record, place, quote))
+        for place, (above, _) in [*crate.fields('Requires', record).items(), *crate.fields('Ensures', record).items()]:
+            for quote in above if re.match(r'[re]\d+$', place) else []:
+                if not quote.startswith('different: ') and (record, place, quote) not in quoted:
+                    complain('%s: above field %s stands "%s", and no row quotes it' % (record, place, quote))
 
 
 def check_source(page):
@@ -521,8 +574,9 @@ def check_source(page):
         if [doc + '.' + f for f in found] != [f for f in page.headings() if f.startswith(doc)]:
             complain('the functions of the page are not those of document %s, in its order' % doc)
         for function, mine in found.items():
+            rows = [r for r in page.rows if r.function == doc + '.' + function]
             for kind, want in mine.items():
-                agree(doc + '.' + function, kind, want, [r.quote for r in page.rows if r.function == doc + '.' + function and r.kind == kind])
+                agree(doc + '.' + function, kind, want, [r.quote for r in rows if r.kind == kind])
         if definitions != [n for d, n, _, _ in page.definitions if d == doc]:
             complain('the definitions of the page are not those of document %s, in its order' % doc)
     return folder
@@ -539,11 +593,10 @@ def check_loops(page, listed):
                 complain('%s: no field, and it does not say that there is nothing to keep' % row.name)
             continue
         place = re.match(r'(\w+): ([\w-]+)\.([\w-]+)\.([\w-]+)$', row.last)
-        if not place or not os.path.isfile(os.path.join(ROOT, 'crates', place.group(1), 'specs', place.group(2) + '.antt')):
+        crate, file, record, field = place.groups() if place else ('', '', '', '')
+        if not os.path.isfile(os.path.join(ROOT, 'crates', crate, 'specs', file + '.antt')):
             complain('%s: no such file: %s' % (row.name, row.last))
-            continue
-        crate, file, record, field = place.groups()
-        if field not in fields(Specs(crate, file).decls.get(record, [])):
+        elif field not in fields(tuple(specs(crate, file).decls.get(record, ()))):
             complain('%s: record %s of crate %s, file %s, has no field %s' % (row.name, record, crate, file, field))
 
 
@@ -562,6 +615,9 @@ def check_made(page, listed, crate):
         for line in need:
             if line not in proved:
                 complain('records %s: the crate does not say "%s"' % (record, line))
+        met = 'pub met-%s : Requires-%s ' % (record, record)
+        if 'Requires-' + record in crate.records(record) and not any(line.startswith(met) for line in proved):
+            complain('records %s: no arguments meet what is required, by the name met-%s' % (record, record))
     for record in sorted({r for _, rs in listed.functions.values() for r in rs} ^ set(crate.home)):
         complain('records %s: of no function, or not in the crate' % record)
 
@@ -573,7 +629,8 @@ def check_lists(page, crate):
     for name in sorted(set(page.unget) - lacking):
         complain('%s: in the list of what a user does not get, and it is neither different nor left out' % name)
     ours = set(crate.files['Premises'].order) | {w.split('.')[1] for w in FURTHER}
-    used = {n for f in set(crate.home.values()) for n in re.findall(r"[^\s(){};,.]+", crate.texts[f].split('\n\n', 1)[1])} & ours
+    texts = [crate.texts[file].split('\n\n', 1)[1] for file in set(crate.home.values())]
+    used = set(re.findall(r"[^\s(){};,.]+", '\n'.join(texts))) & ours
     for name in sorted(used - set(page.premises)):
         complain('%s: not in the table of premises' % name)
     for name in sorted(set(page.premises) - ours):
@@ -581,9 +638,11 @@ def check_lists(page, crate):
 
 
 def check_names(page, crate):
-    for crate_name, label in sorted(set(re.findall(r'`([a-z]+)/([a-z0-9_]+)`', '\n'.join(page.lines)))):
-        if not os.path.isfile(os.path.join(ROOT, 'crates', crate_name, 'must-fail', label + '.edit')):
-            complain('%s/%s: no such must-fail edit' % (crate_name, label))
+    for path in sorted('docs/' + name for name in os.listdir(os.path.join(ROOT, 'docs')) if name.endswith('.md')):
+        for home, label in sorted(set(re.findall(r'`([a-z]+)/([a-z0-9_]+)`', read(path)))):
+            edit = os.path.join(ROOT, 'crates', home, 'must-fail', label + '.edit')
+            if os.path.isdir(os.path.join(ROOT, 'crates', home)) and not os.path.isfile(edit):
+                complain('%s names %s/%s, and there is no such must-fail edit' % (path, home, label))
     for file, name in sorted(set(re.findall(r'`([A-Z]\w+)\.([\w-]+)`', '\n'.join(page.lines)))):
         if file in crate.files and name not in crate.files[file].decls:
             complain('%s.%s: no such declaration' % (file, name))
@@ -617,7 +676,7 @@ def check():
     check_made(page, listed, crate)
     check_lists(page, crate)
     check_names(page, crate)
-    counted = ', '.join('%d %s' % (n, v) for v, n in tally([r for r in page.rows if r.kind in 'ren'], lambda r: r.verdict))
+    counted = ', '.join('%d %s' % (n, v) for v, n in tally(clause_rows(page.rows), lambda r: r.verdict))
     return list(wrong), '%s: %d rows (%s), %d definitions, %d contracts and promises; %s' % (
         PAGE, len(page.rows), counted, len(page.definitions), len(crate.home),
         'every quote is of upstream\'s text' if compared else 'no upstream text, so no quote is compared with it')

@@ -83,6 +83,7 @@ pub record Requires-store (w : Authority) (l : Lease) : Type 0 where
   -- cells(old(authority))[key].bit == 1
   pub r2 : cells w (lease-key (holdIn l)) .bit ≡ 1
   -- cells(old(authority))[key].owner.is_none()
+  -- different: the owner is compared and cleared in the same write; another owner is 12
   pub r3 : cells w (lease-key (holdIn l)) .owner ≡ lease-serial (holdIn l)
 
 pub record Ensures-store (w : Authority) (l : Lease) (m : Made (World × Says)) : Type 0 where

@@ -3,12 +3,11 @@
 use Prim.Native.Nat.{ℕ, _+_, _≤_, _<_}
 use mathlib.Core.Path.{_≡_}
 use mathlib.Core.List.{List}
-use mathlib.Core.Bool.{false}
 use mathlib.Core.Logic.{_≢_}
 use lib.ListN.{length}
 use Rattle.model.specs.Log.{Made}
 use Rattle.model.specs.Arena.{leasesOf, holdsOf}
-use Rattle.model.specs.Checks.{countIn, leaseCount, tooManyKeys}
+use Rattle.model.specs.Checks.{countIn, leaseCount}
 use Rattle.model.specs.Foreign.{stepsIn}
 use Rattle.model.specs.Lock.{holdAt}
 use Rattle.types.specs.declared.Answer.the-variants.{AllGranted}
@@ -17,7 +16,7 @@ use Rattle.history.specs.World.{World}
 use Rattle.history.specs.Items.{Call, release-all, acquire-locks, Says, unchanged, Build}
 use Rattle.history.specs.Statements.{answer-in as result, world-in as final, buffer-in as buffer}
 use Rattle.upstream.specs.Vocabulary.{cell, Authority, lease-key, dom, valid, authorized, leases-authorized, key-at, keys-valid, guards-match, all-guards-in}
-use Rattle.upstream.specs.Premises.{Own, leaseAt, All-own, valid-at, keeps-valid, leases-valid, Scripted, Whole-arena, Whole-keyed, Keyed-held-good, Few, Leases-counted, Good-before}
+use Rattle.upstream.specs.Premises.{Own, leaseAt, All-own, valid-at, keeps-valid, leases-valid, Scripted, Whole-arena, Whole-keyed, Keyed-held-good, Few, Leases-counted, Good-before, Keys-counted}
 
 module _ (w : Authority) (script : List ℕ) (place : ℕ) (leases : List ℕ) where
   -- ---- 000.release_all
@@ -103,9 +102,8 @@ module _ (w : Authority) (registry script : List ℕ) (place : ℕ) (held keys g
 
   -- what holds here
   pub record Here-acquire-index-locks (m : Made (World × Says)) : Type 0 where
-    pub r1 : (i : ℕ) → Keyed-held-good w registry script place held → tooManyKeys held keys grants .applies ≡ false
-        → i < countIn keys → ((j : ℕ) → j < i → key-at keys j .0 < length registry)
-        → length registry ≤ key-at keys i .0
+    pub r1 : (i : ℕ) → Keyed-held-good w registry script place held → Keys-counted held keys grants → i < countIn keys
+        → ((j : ℕ) → j < i → key-at keys j .0 < length registry) → length registry ≤ key-at keys i .0
         → m ≡ unchanged w call (BadBinding i)
     pub limit : Keyed-held-good w registry script place held → 64 < leaseCount held + countIn keys
         → m ≡ unchanged w call TooMany

@@ -8,7 +8,7 @@ use mathlib.Core.Bool.{true, false}
 use lib.ListN.{length, getD, take}
 use Rattle.model.specs.Arena.{leaseOf, leasesOf, holdsOf, waitersAt, shapeFits}
 use Rattle.model.specs.Refusals.{first}
-use Rattle.model.specs.Checks.{badShape, badHealth, badRegistry, badScript, badHeld, badHeldLength, tooManyLeases, notReleasable}
+use Rattle.model.specs.Checks.{badShape, badHealth, badRegistry, badScript, badHeld, badHeldLength, tooManyLeases, tooManyKeys, notReleasable}
 use Rattle.model.specs.Foreign.{flowOf, boundaryOf}
 use Rattle.model.specs.Lock.{holdAt}
 use Rattle.model.specs.Calls.{given}
@@ -123,6 +123,10 @@ Leases-counted w script place leases =
 -- no check on a position of it before i applies
 abbrev pub Good-before : Authority → List ℕ → ℕ → Type 0
 Good-before w leases i = Clear (notReleasable (w .head) (w .table) 0 [] (take i (leasesOf leases)))
+
+-- what the multi-lock is given: whole keys, held leases and keys together at most 64, and a buffer of three words a key
+abbrev pub Keys-counted : List ℕ → List ℕ → List ℕ → Type 0
+Keys-counted held keys grants = tooManyKeys held keys grants .applies ≡ false
 
 -- ---- inside a lock
 
