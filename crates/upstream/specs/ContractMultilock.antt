@@ -39,7 +39,7 @@ module _ (w : Authority) (script : List ℕ) (place : ℕ) (leases : List ℕ) w
     -- cells(final(authority)).dom() == cells(old(authority)).dom()
     pub e2 : dom (final m) ≡ dom w
     -- forall|i: int| 0 <= i < leases.len() ==> !authorized(final(authority), &leases[i])
-    -- different: at most 64 leases, else 4
+    -- different: at most 64 leases, else 4, and 32,768 steps of others, else 2
     pub e3 : (i : ℕ) → i < length (holdsOf leases) → authorized (final m) (holdAt (holdsOf leases) i) → ⊥
 
   -- what holds here
