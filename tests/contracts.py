@@ -48,7 +48,7 @@ WORDS = {'holds of any table and any arguments, refused or not': None,
          'needs only that the lease is authorized': r'authorized w \(holdIn l\) → [^→]*',
          'of any script, legal or not, and any table': None}
 # words of ours outside file Premises
-FURTHER = ['Damage.Damage', 'Damage.Moves', 'Damage.Drops-damaged', 'Damage.waited', 'Damage.Sets-waiters',
+FURTHER = ['Damage.Damage', 'Damage.Drops-damaged', 'Damage.waited', 'Damage.Sets-waiters',
            'Health.Sick-again', 'Health.Sick', 'Health.Sick-within', 'Health.Read-again', 'Health.Reads-poison']
 
 wrong = []
