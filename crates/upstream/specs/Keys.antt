@@ -81,14 +81,14 @@ pub record Granted-at (headers buckets : ℕ) (registry : List ℕ) (binding buc
   pub cell-is : l .cell ≡ cellNumber buckets (getD registry binding 0) bucket
 
 module _ (e : Setting) (buckets : ℕ) (registry : List ℕ) (binding bucket : ℕ) where
-  abbrev Keyed : With Tried → Type 0
-  Keyed a = (l : Hold) → a .0 .outcome ≡ outcome.Granted l → Granted-at (e .headers) buckets registry binding bucket l
+  abbrev Grants-key : With Tried → Type 0
+  Grants-key a = (l : Hold) → a .0 .outcome ≡ outcome.Granted l → Granted-at (e .headers) buckets registry binding bucket l
 
-  pub attempt-key : (r : Run) (t g : List ℕ) → Keyed (attemptOf e buckets registry binding bucket r t g .seen)
+  pub attempt-key : (r : Run) (t g : List ℕ) → Grants-key (attemptOf e buckets registry binding bucket r t g .seen)
   unfolding attemptOf
   attempt-key r t g = go (finds (e .headers) buckets g registry binding bucket)
     where
-      go : {x : Found} → Finds (e .headers) buckets g registry binding bucket x → Keyed (attemptAt x e buckets r t g .seen)
+      go : {x : Found} → Finds (e .headers) buckets g registry binding bucket x → Grants-key (attemptAt x e buckets r t g .seen)
       go (bad-header p) l q = let z : _≡_ {A = ℕ} 0 1 = cc in absurd (omega arith)
       go (poisoned p s) l q = let z : _≡_ {A = ℕ} 0 1 = cc in absurd (omega arith)
       go (bad-bucket p s k) l q = let z : _≡_ {A = ℕ} 0 1 = cc in absurd (omega arith)
@@ -96,10 +96,10 @@ module _ (e : Setting) (buckets : ℕ) (registry : List ℕ) (binding bucket : �
           let c = cellNumber buckets (getD registry binding 0) bucket in
           record { header-inside = p; bucket-inside = k; cell-is = granted-cell (lock-comes e buckets c (r .flow) t g) l q }
 
-  pub retry-key : (left i : ℕ) (last : Reason) (r : Run) (t g : List ℕ) → Keyed (retryOf left i last e buckets registry binding bucket r t g .seen)
+  pub retry-key : (left i : ℕ) (last : Reason) (r : Run) (t g : List ℕ) → Grants-key (retryOf left i last e buckets registry binding bucket r t g .seen)
   unfolding retryOf
   retry-key zero i last r t g = λ l q. let z : _≡_ {A = ℕ} 0 1 = cc in absurd (omega arith)
   retry-key (suc left) i last r t g =
       let m = attemptOf e buckets registry binding bucket r t g .seen in
       let p = pauseOf e i (m .0 .run) (m .1 .0) (m .1 .1) .seen in
-      if-both (λ (x : Made (With Tried)). Keyed (x .seen)) (isBusy (m .0 .outcome)) (retry-key left (i + 1) _ (p .0) (p .1 .0) (p .1 .1)) (attempt-key r t g)
+      if-both (λ (x : Made (With Tried)). Grants-key (x .seen)) (isBusy (m .0 .outcome)) (retry-key left (i + 1) _ (p .0) (p .1 .0) (p .1 .1)) (attempt-key r t g)
