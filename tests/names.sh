@@ -55,6 +55,7 @@ words() {
         { sub(/^ *\/\/.*/, ""); gsub(/[^A-Za-z0-9_]+/, " "); for (i = 1; i <= NF; i++) if (!seen[$i]++) print "- -", $i }'
     find tests bench .ci \( -name '*.sh' -o -name run -o -name '*.txt' \) ! -name "names.*" -print0 | xargs -0 awk '
         { sub(/^ *#.*/, ""); gsub(/[^A-Za-z0-9_-]+/, " "); for (i = 1; i <= NF; i++) if (!seen[$i]++) print "- -", $i }'
+    awk -F, 'NR > 1 && !seen[$4]++ { print "- -", $4 }' docs/changes/seconds.csv # the machines of the notes
 }
 # files: every file and folder: its path, from a crate's folder too; its name with and without its end; of an edit CRATE/NAME
 files() {
