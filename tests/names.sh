@@ -5,7 +5,7 @@
 # - a crate that is said to be one ("crate `c`") is in crates.txt, and a path is a file or a folder of the repository;
 # - any other name, also as a part of `a::b` or of words in one pair of backquotes, is declared in a crate, is a word of the source of
 #   crates/, rust/, include/, tests/ or bench/, or is the name of a file.
-# tests/names.txt lists the names that are nowhere, each with its reason; one that is found, or that no page has, must not stand there.
+# tests/names.txt lists the names that are nowhere, each with its reason; one that is gone must be on a page and nowhere else.
 # Prints what is wrong, or how much it found; ends with 1 if anything is wrong. It first tries itself on a page with wrong names, each of
 # which it must find. PAGES names other pages, for trying this test; then the list may have names that these pages have not.
 set -euo pipefail
@@ -114,7 +114,7 @@ wrong_names() {
             return name
         }
         function looks_like_a_name(word) {
-            return word ~ /^[A-Za-z][A-Za-z0-9]*([-_][A-Za-z0-9]+)*$/ && word ~ /[a-z].*[a-z]|_/
+            return word ~ /^[A-Za-z][A-Za-z0-9]*([-_][A-Za-z0-9]+)*$/ && word ~ /[a-z].*[a-z]|_/ && word !~ /-f$/ # Ensures-f: of any f
         }
         # a word by itself
         function judge_word(word, name) {
@@ -213,7 +213,7 @@ cat >"$room/damaged.md" <<'END'
 `SKID_NEVER_WRITTEN_DOWN`
 `lease::never_written_down`
 `tests/never.sh`
-crate `piece`
+crate `neverwritten`
 `tryLockOf` of crate `swaps`
 `sorted-is` and `two-releases` of `laws`
 | `one-after-another` (`history`) |
@@ -236,8 +236,8 @@ else
 fi
 wrong=$(wrong_names "${pages[@]}")
 if [ -z "${PAGES:-}" ]; then
-    stale=$(sed -n 's/^\([^# ][^ ]*\) .*/\1/p' "$listed" | grep -v -x -F -f "$room/used" || true)
-    [ -z "$stale" ] || wrong=$wrong${wrong:+$'\n'}$(sed 's/$/ stands in tests\/names.txt, and is there or on no page/' <<<"$stale")
+    stale=$(sed -n 's/^\([^# ][^ ]*\) gone .*/\1/p' "$listed" | grep -v -x -F -f "$room/used" || true)
+    [ -z "$stale" ] || wrong=$wrong${wrong:+$'\n'}$(sed 's/$/ stands in tests\/names.txt as gone, and is there or on no page/' <<<"$stale")
 fi
 if [ -n "$wrong" ]; then
     echo "$wrong"
