@@ -9,9 +9,14 @@ cd "$(dirname "$0")/.."
 trap '' PIPE
 
 build_plain
+[ -e target/bin/report ] || {
+    echo "no report at target/bin/report: build it first"
+    exit 1
+}
 room=$(mktemp -d)
 trap 'rm -rf "$room"' EXIT
 printf '1 0\n5 0\n4096 11\n' >"$room/in"
+mkfifo "$room/pipe"
 wrong=0
 cases=0
 
@@ -39,9 +44,12 @@ judge() {
 output_lost() {
     local status
     : >"$room/out"
-    status=0 && { "$1" <"$room/in" >/dev/full; } 2>"$room/said" || status=$?
+    status=0 && "$1" <"$room/in" >/dev/full 2>"$room/said" || status=$?
     judge "$1, a full device" 'report: output' "$2" "$status"
-    status=0 && { "$1" <"$room/in" | { exec <&-; sleep 1; }; } 2>"$room/said" || status=$?
+    # a pipe whose only reader is gone before anything is written
+    exec 8<>"$room/pipe" 9>"$room/pipe" 8<&-
+    status=0 && "$1" <"$room/in" >&9 2>"$room/said" || status=$?
+    exec 9>&-
     judge "$1, a pipe that nobody reads" 'report: output' "$2" "$status"
 }
 
