@@ -1,7 +1,8 @@
 #!/usr/bin/env bash
 # The names in backquotes on the pages, README.md, CONTRIBUTING.md, CHANGELOG.md, docs/ and docs/changes/: each that looks like a
 # definition, a lemma, a function, a type, a constant or a file must be there.
-# - `File.name` is declared in File.antt of some crate; `name` of crate `c`, `name` (`c`) and `name`, crate `c`, file `F` in that one;
+# - `File.name` is declared in File.antt of some crate; `name` of crate `c`, `name` (`c`), `name`, crate `c`, file `F` and a row of a table
+#   | `name` | c | or | `name` | c, `F` | in that one;
 # - a crate that is said to be one ("crate `c`") is in crates.txt, and a path is a file or a folder of the repository;
 # - any other name, also as a part of `a::b` or of words in one pair of backquotes, is declared in a crate, is a word of the source of
 #   crates/, rust/, include/, tests/ or bench/, or is the name of a file.
@@ -186,6 +187,14 @@ wrong_names() {
                 if (!(where in crate)) complain(where, "is no crate")
             }
         }
+        # a row of a table whose second cell is a crate, or a crate and a file: the names of the first are there
+        function judge_row(line, cell, where, file) {
+            split(line, cell, "|")
+            where = cell[3]
+            file = quoted(where)
+            gsub(/^ +|, `.*| +$/, "", where)
+            if (where in crate && cell[3] ~ /^ [a-z]+(, `[A-Z][A-Za-z]*`)? $/) judge_in(cell[2], where, file)
+        }
         FNR == 1 { fenced = 0 }
         /^ *```/ { fenced = !fenced; next }
         fenced || /^    / { next }
@@ -193,6 +202,7 @@ wrong_names() {
             n = split($0, span, "`")
             for (i = 2; i < n || (i == n && n % 2 == 1); i += 2) judge(span[i])
             judge_places($0)
+            if (/^\|/) judge_row($0)
         }
         END {
             for (name in used) print name > used_file
@@ -218,6 +228,8 @@ crate `neverwritten`
 `sorted-is` and `two-releases` of `laws`
 | `one-after-another` (`history`) |
 `prepareOf`, crate `model`, file `Lock`
+| `script-consumed` | history | what it says |
+| `prepareOf` | model, `Lock` | what it says |
 END
 : >"$room/used"
 wrong_names "$room/damaged.md" | sed 's/^[^:]*:\([0-9]*\) .*/\1/' | sort -n -u >"$room/found"
