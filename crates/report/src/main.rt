@@ -11,8 +11,8 @@ enum Input {
     Lost,
 }
 
-// Room for more than the longest good input, 1,000 lines of 10 bytes. The report of the first 16,384 bytes is the report
-// of all, however many there are: `front-is-enough` of crate `trials`.
+// Room for more than the longest good input, 1,000 lines of 10 bytes. The report of the first 16,384 bytes is that of
+// all, however many there are: `front-is-enough` of crate `trials`.
 fn input_room() -> [u8; 16384]
     ensures { λ r. ⌜ 16384 ≡ length r ⌝ }
 {
