@@ -298,7 +298,9 @@ greatest 16
             Refusal::Protected,
             Refusal::Repeated(0),
             Refusal::BadCrew(0),
+            Refusal::StaleBoot(0),
         ];
+        assert_eq!(refusals.len(), NAMES.len());
         for (row, refusal) in refusals.into_iter().enumerate() {
             assert_eq!(refusal.number() as usize, row + 1);
             assert_eq!(refusal.name(), NAMES[row]);
