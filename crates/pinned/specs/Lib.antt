@@ -15,4 +15,3 @@ pub mod Met
 pub mod Beside
 pub mod Salvaged
 pub mod Histories
-pub mod Wrong
