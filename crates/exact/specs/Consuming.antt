@@ -1,6 +1,6 @@
 -- How a call uses up its script: the steps from its place on are run once each, in order, at the boundaries in order, each boundary up to and
 -- with its 5 or to the script's end. Between two boundaries there are only the caller's own events. No arena rule is needed.
-use Prim.Native.Nat.{ℕ, _+_, _≤_}
+use Prim.Native.Nat.{ℕ, _≤_}
 use mathlib.Core.Path.{_≡_, refl, sym, ap, _∙_, subst}
 use mathlib.Core.List.{List, _∷_, _++_, append-assoc}
 use native.Mathlib.Omega.{arith}

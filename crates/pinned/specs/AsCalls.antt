@@ -28,18 +28,17 @@ use Rattle.history.specs.Tests.{In, in-first, in-right, in-cases, differ}
 use Rattle.history.specs.Events.{Fit}
 use Rattle.history.specs.Logs.{Kept, kept-live, arena-now}
 use Rattle.history.specs.Calls.{call-kept}
-use Rattle.exact.specs.Statements as tries
 use Rattle.exact.specs.Script.{environment-has}
-use Rattle.exact.specs.Theorems.{try-acquire-exactly, place-goes}
+use Rattle.exact.specs.Theorems.{place-goes}
 use Rattle.exact.specs.Passing.{bucket-on, same-boot, holding-more, in-script, divides, leases-append}
 use Rattle.history.specs.Judged.{clear-front, clear-back, clear-append}
 use Rattle.pinned.specs.Words.{Gives, If-granted, Is, If_Then_Else_, With, logged, After, Noting, health-byte, waiters, counted, freed, holds}
 use Rattle.pinned.specs.Checks.{Passed, checks}
 use Rattle.pinned.specs.Steps.{Takes, At, at, Runs, Boundary, releasing, ended, After-take, header-of}
 use Rattle.pinned.specs.Statements.{left-by, place-by}
-use Rattle.pinned.specs.Decided.{holds-same, matched, passed-clear}
+use Rattle.pinned.specs.Decided.{holds-same, matched, decided, first-is, passed-clear}
 use Rattle.pinned.specs.Same.{runs-same, takes-same, noting-same}
-use Rattle.pinned.specs.Ours.{acquire-is, drop-is, environment-is, try-lock-is}
+use Rattle.pinned.specs.Ours.{refused-so, acquire-is, drop-is, environment-is, try-lock-is}
 
 -- ---- a boundary that begins with so many steps dropped
 
@@ -186,18 +185,28 @@ env-next w script p held k =
 kept-cells : {w v : World} {P : Hold → Type 0} {es : List Event} → Kept w P v es → cellsOf (v .head) ≡ cellsOf (w .head)
 kept-cells {w} {es} k = ap (λ (x : World). cellsOf (x .head)) (k .leads) ∙ ap cellsOf (arena-now w es)
 
-unreleased : {w : World} {c : ℕ} {m : Made (World × Says)} → tries.Tries w c m → (l : Hold) → Unreleased l (m .log)
-unreleased (tries.outside i) l = tt
-unreleased (tries.damaged i x) l = ((λ z. z), tt)
-unreleased (tries.held i x) l = ((λ z. z), tt)
-unreleased (tries.spent i x r) l = ((λ z. z), tt)
-unreleased (tries.free i x r) l = ((λ z. z), ((λ z. z), tt))
+-- a compare-and-set releases nothing
+take-unreleased : {w : World} {c : ℕ} {t : Made (World × Answer)} → Takes w c t → (l : Hold) → Unreleased l (t .log)
+take-unreleased (inl (x, e)) l = subst (λ (t : Made (World × Answer)). Unreleased l (t .log)) (sym e) tt
+take-unreleased (inr (_, inl (x, e))) l = subst (λ (t : Made (World × Answer)). Unreleased l (t .log)) (sym e) tt
+take-unreleased (inr (_, inr (_, inl (x, e)))) l = subst (λ (t : Made (World × Answer)). Unreleased l (t .log)) (sym e) tt
+take-unreleased (inr (_, inr (_, inr (x, e)))) l = subst (λ (t : Made (World × Answer)). Unreleased l (t .log)) (sym e) ((λ z. z), tt)
 
-take-kept : (w : World) (c : ℕ) (P : Hold → Type 0) → not (shapeFits (w .head) (length (w .table))) ≡ false
-    → Kept w P (perform w (try-acquire c) .seen .0) (perform w (try-acquire c) .log)
-take-kept w c P k =
+unreleased : (w : World) (c : ℕ) (l : Hold) → Unreleased l (perform w (try-acquire c) .log)
+unreleased w c l =
+    let k = try-acquire c in
+    elim (decided (rules w k) (checks w k) (matched w k)) [
+      | inl r ↦ subst (λ (m : Made (World × Says)). Unreleased l (m .log)) (sym (refused-so w k (r .0) (first-is (rules w k) (checks w k) (r .0) (matched w k) (r .1)))) tt
+      | inr p ↦
+          let x = acquire-is w c (passed-clear (rules w k) (checks w k) (matched w k) p) in
+          subst (λ (m : Made (World × Says)). Unreleased l (m .log)) (sym (x .2))
+          ((λ z. z), subst (λ (m : Made (World × Says)). Unreleased l (m .log)) (sym (x .1 .2)) (take-unreleased (x .1 .1) l))
+    ]
+
+take-kept : (w : World) (c : ℕ) (P : Hold → Type 0) → Kept w P (perform w (try-acquire c) .seen .0) (perform w (try-acquire c) .log)
+take-kept w c P =
     let o = call-kept w (try-acquire c) .kept in
-    record { lawful = o .lawful; leads = o .leads; spares = λ l i v. unreleased (try-acquire-exactly w c (not-false _ k) .whole) l }
+    record { lawful = o .lawful; leads = o .leads; spares = λ l i v. unreleased w c l }
 
 -- ---- behind a grant
 
@@ -210,7 +219,7 @@ module _ (v : World) (script : List ℕ) (p : ℕ) (hs : List ℕ) (c : ℕ) (l 
   more = hs ++ (l .cell ∷ l .serial ∷ l .boot ∷ [])
 
   kept : Kept v (In (holdsOf hs)) now (perform v (try-acquire c) .log)
-  kept = take-kept v c (In (holdsOf hs)) (fine-shape v script p hs fine)
+  kept = take-kept v c (In (holdsOf hs))
 
   boot : l .boot ≡ now .head .boot
   boot = grant-is v (try-acquire c) l granted .1 ∙ sym (same-boot hs kept)

@@ -15,3 +15,4 @@ pub mod Met
 pub mod Beside
 pub mod Salvaged
 pub mod Histories
+pub mod Exactly

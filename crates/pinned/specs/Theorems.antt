@@ -22,6 +22,7 @@ use Rattle.pinned.specs.Met as met
 use Rattle.pinned.specs.Beside as beside
 use Rattle.pinned.specs.Salvaged as salvaged
 use Rattle.pinned.specs.AsCalls as as-calls
+use Rattle.pinned.specs.Exactly as exactly
 use Rattle.pinned.specs.Histories as histories
 
 -- ---- the calls
@@ -43,6 +44,10 @@ exactly-ours b = (met.is-ours b, λ e. subst Meets (sym e) meets)
 -- and what is proved of ours is so of it
 pub so-of-any : (P : Build → Type 0) → P perform → (b : Build) → Meets b → P b
 so-of-any P p b m = subst P (sym (met.is-ours b m)) p
+
+-- "one compare-and-set takes a cell exactly if it is free and a serial remains"
+pub takes-exactly : (b : Build) → Meets b → exactly.Takes-exactly b
+takes-exactly = exactly.takes-exactly
 
 -- ---- of a function that has no log, as code has none: some log makes it meet. What is seen is then what ours sees
 
