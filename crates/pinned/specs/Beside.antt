@@ -1,6 +1,6 @@
 -- Beside a build's calls: the crew's whole reply with its log, a lone foreign step with its event, and preparing. Ours is as `Statements` says, and nothing else is.
 use Prim.Native.Nat.{ℕ}
-use mathlib.Core.Path.{_≡_, refl, sym, ap, _∙_}
+use mathlib.Core.Path.{_≡_, refl, sym, ap, _∙_, fun-ext}
 use mathlib.Core.List.{List, [], append-nil}
 use mathlib.Core.Bool.{Bool, true, false, not}
 use mathlib.Core.Logic.{_≢_, inl, inr}
@@ -106,6 +106,14 @@ no-other-work f c h t g counts cells turns counters =
       | inl r ↦ c .refused h t g counts cells turns counters (r .0) (r .1) ∙ sym (works .refused h t g counts cells turns counters (r .0) (r .1))
       | inr p ↦ seen-same (λ v. (replying (λ n. n) counts v, (v .world .table, v .counters))) (turns-same (λ n. n) counts cells (gathered w counters) turns) _ _ (c .beyond h t g counts cells turns counters p) (works .beyond h t g counts cells turns counters p)
     ]
+
+-- as functions
+pub crew-is-ours : (f : Crew-build) → Crews f → f ≡ crewOf
+crew-is-ours f c = fun-ext (λ h. fun-ext (λ t. fun-ext (λ g. fun-ext (λ counts. fun-ext (λ cells. fun-ext (λ turns. no-other-crew f c h t g counts cells turns))))))
+
+pub work-is-ours : (f : Crew-at-work-build) → Works f → f ≡ crewAtWorkOf
+work-is-ours f c =
+    fun-ext (λ h. fun-ext (λ t. fun-ext (λ g. fun-ext (λ counts. fun-ext (λ cells. fun-ext (λ turns. fun-ext (λ counters. no-other-work f c h t g counts cells turns counters)))))))
 
 -- ---- a lone foreign step
 

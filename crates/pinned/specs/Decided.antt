@@ -20,7 +20,7 @@ use Rattle.types.specs.declared.Hold.{Hold}
 use Rattle.types.specs.declared.Lease.{Lease}
 use Rattle.types.specs.declared.Refusal.{Refusal}
 use Rattle.types.specs.declared.Refusal.the-variants.{BadBinding}
-use Rattle.laws.specs.Shape.{Shaped, shaped}
+use Rattle.laws.specs.Shape.{shaped}
 use Rattle.history.specs.World.{World}
 use Rattle.history.specs.Items.{Call, Clear, rules, try-acquire, drop-lease, read-permission, competing-acquire, release-then-handoff, foreign-release, drop-preserving, acquire-preserving, environment, try-lock, transactional, acquire-bucket, release-all, acquire-locks, acquire-sorted, crew, crew-at-work}
 use Rattle.history.specs.Tests.{alive, live, in-first, in-rest, in-cases, differ}
@@ -101,34 +101,36 @@ ne-decides a b = (λ e. eqb-false a b (not-true (eqb a b) e), λ e k. k (eqb-tru
 
 -- ---- the arena
 
-pub shape-decides : (h : Head) (n : ℕ) → Decides (not (shapeFits h n)) (Shape h n → ⊥)
-shape-decides h n = not-decides (shapeFits h n) (Shape h n) (λ e. there (shaped h n e)) (λ s. fits h n (back s))
-  where
-    there : Shaped h n → Shape h n
-    there s =
-        record {
-          some-headers = s .some-headers;
-          few-headers = s .few-headers;
-          some-buckets = s .some-buckets;
-          few-buckets = s .few-buckets;
-          few-cells = s .few-cells;
-          low = s .low;
-          high = s .high;
-          words-are = s .words-are;
-        }
+pub shape-there : (h : Head) (n : ℕ) → shapeFits h n ≡ true → Shape h n
+shape-there h n e =
+    let s = shaped h n e in
+    record {
+      some-headers = s .some-headers;
+      few-headers = s .few-headers;
+      some-buckets = s .some-buckets;
+      few-buckets = s .few-buckets;
+      few-cells = s .few-cells;
+      low = s .low;
+      high = s .high;
+      words-are = s .words-are;
+    }
 
-    back : Shape h n → Shaped h n
-    back s =
-        record {
-          some-headers = s .some-headers;
-          few-headers = s .few-headers;
-          some-buckets = s .some-buckets;
-          few-buckets = s .few-buckets;
-          few-cells = s .few-cells;
-          low = s .low;
-          high = s .high;
-          words-are = s .words-are;
-        }
+pub shape-back : (h : Head) (n : ℕ) → Shape h n → shapeFits h n ≡ true
+shape-back h n s =
+    fits h n
+    (record {
+      some-headers = s .some-headers;
+      few-headers = s .few-headers;
+      some-buckets = s .some-buckets;
+      few-buckets = s .few-buckets;
+      few-cells = s .few-cells;
+      low = s .low;
+      high = s .high;
+      words-are = s .words-are;
+    })
+
+pub shape-decides : (h : Head) (n : ℕ) → Decides (not (shapeFits h n)) (Shape h n → ⊥)
+shape-decides h n = not-decides (shapeFits h n) (Shape h n) (shape-there h n) (shape-back h n)
 
 pub health-decides : (h : Head) (n : ℕ) → Decides (not (healthFits h n)) (n ≢ h .headers)
 unfolding healthFits

@@ -16,3 +16,4 @@ pub mod Beside
 pub mod Salvaged
 pub mod Histories
 pub mod Exactly
+pub mod Read

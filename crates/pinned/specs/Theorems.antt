@@ -2,9 +2,10 @@
 -- proved of ours holds of it.
 use Prim.Native.Nat.{ℕ}
 use mathlib.Core.Path.{_≡_, refl, sym, ap, subst}
-use mathlib.Core.List.{List}
+use mathlib.Core.List.{List, _∷_}
 use mathlib.Core.Logic.{_↔_}
 use Rattle.model.specs.Log.{Made, Event}
+use Rattle.model.specs.Arena.{holdOf}
 use Rattle.model.specs.Refusals.{numberOf, carriedOf}
 use Rattle.model.specs.Calls.{prepareOf}
 use Rattle.model.specs.Crew.{crewOf, crewAtWorkOf}
@@ -12,10 +13,11 @@ use Rattle.model.specs.Salvage.{salvageOf}
 use Rattle.types.specs.declared.Head.{Head}
 use Rattle.types.specs.declared.Refusal.{Refusal}
 use Rattle.types.specs.declared.Refusal.the-variants.{BadShape, BadScript, BadHeld, TooMany, BadBinding, BadHeader, Poisoned, InvalidBucket, Damaged, SerialsSpent, SerializationFailure, NotHeld, Protected, Repeated, BadCrew, StaleBoot}
-use Rattle.history.specs.World.{World}
-use Rattle.history.specs.Items.{Build, Stepper, Says, Call, perform, foreign, Item, Course, run}
-use Rattle.history.specs.Statements.{Crew-build, Crew-at-work-build}
-use Rattle.pinned.specs.Words.{logged}
+use Rattle.history.specs.World.{World, Live, Legal, step, Whole}
+use Rattle.history.specs.Items.{Build, Stepper, Says, Call, perform, foreign, Item, Course, cold, run}
+use Rattle.history.specs.Statements.{Crew-build, Crew-at-work-build, Begins, Ledger}
+use Rattle.history.specs.Theorems.{demand-2}
+use Rattle.pinned.specs.Words.{logged, Is-live}
 use Rattle.pinned.specs.Checks.{number-and-carried}
 use Rattle.pinned.specs.Statements.{Meets, Crews, Works, Steps-alone, Preparer, Prepares, Salvager, Salvages}
 use Rattle.pinned.specs.Met as met
@@ -24,6 +26,7 @@ use Rattle.pinned.specs.Salvaged as salvaged
 use Rattle.pinned.specs.AsCalls as as-calls
 use Rattle.pinned.specs.Exactly as exactly
 use Rattle.pinned.specs.Histories as histories
+use Rattle.pinned.specs.Read as reading
 
 -- ---- the calls
 
@@ -88,12 +91,19 @@ crews = beside.crews
 pub no-other-crew : (f : Crew-build) → Crews f → (h : Head) (t g counts cells turns : List ℕ) → f h t g counts cells turns ≡ crewOf h t g counts cells turns
 no-other-crew = beside.no-other-crew
 
+-- what is proved of ours, demand 3 among it, is so of any crew that is so
+pub so-of-any-crew : (P : Crew-build → Type 0) → P crewOf → (f : Crew-build) → Crews f → P f
+so-of-any-crew P p f c = subst P (sym (beside.crew-is-ours f c)) p
+
 pub works : Works crewAtWorkOf
 works = beside.works
 
 pub no-other-work : (f : Crew-at-work-build) → Works f → (h : Head) (t g counts cells turns counters : List ℕ)
     → f h t g counts cells turns counters ≡ crewAtWorkOf h t g counts cells turns counters
 no-other-work = beside.no-other-work
+
+pub so-of-any-work : (P : Crew-at-work-build → Type 0) → P crewAtWorkOf → (f : Crew-at-work-build) → Works f → P f
+so-of-any-work P p f c = subst P (sym (beside.work-is-ours f c)) p
 
 pub steps-alone : Steps-alone foreign
 steps-alone = beside.steps-alone
@@ -121,3 +131,22 @@ try-lock-as-calls = so-of-any as-calls.Try-lock-as-calls as-calls.try-lock-as-ca
 pub same-history : (b : Build) (f : Stepper) (p : Preparer) (s : Salvager) → Meets b → Steps-alone f → Prepares p → Salvages s
     → (k : Course) (is : List Item) → histories.run-by b f p s k is ≡ run k is
 same-history = histories.same-history
+
+-- so demand 2 holds of it
+pub demand-2-of-any : (b : Build) (f : Stepper) (p : Preparer) (s : Salvager) → Meets b → Steps-alone f → Prepares p → Salvages s
+    → (rubbish : World) (start : Item) (items : List Item) → Begins rubbish start → Ledger (histories.run-by b f p s (cold rubbish) (start ∷ items))
+demand-2-of-any b f p s m t q r rubbish start items i = subst Ledger (sym (same-history b f p s m t q r (cold rubbish) (start ∷ items))) (demand-2 rubbish start items i)
+
+-- ---- demand 2's own words, in plain numbers
+
+pub live-is : (w : World) (c s : ℕ) → Live w (holdOf c s) ↔ Is-live w c s
+live-is = reading.live-is
+
+pub whole-is : (w : World) → Whole w ↔ reading.Whole-plainly w
+whole-is = reading.whole-is
+
+pub legal-is : (w : World) (e : Event) → Legal w e ↔ reading.May-happen w e
+legal-is = reading.legal-is
+
+pub leads-to : (w : World) (e : Event) → reading.May-happen w e → step w e ≡ reading.made-by w e
+leads-to = reading.leads-to
