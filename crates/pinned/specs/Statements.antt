@@ -127,6 +127,7 @@ module _ (b : Build) (boot : ℕ) (script held : List ℕ) where
   abbrev pub between : List Hold → World → (place : ℕ) → Made (World × Says)
   between ls w place = b w (environment script place (held ++ words boot ls))
 
+  -- these leases, in this world and at this place: none is left; or l is the last, it is dropped, a boundary runs, and the others are given back
   pub data Gives-back : List Hold → World → (place : ℕ) → Made (World × Says) → Type 0 where
     all-back : {w : World} {place : ℕ} → Gives-back [] w place (logged (w, says Done (counted 0 0 0 0) place []) [])
     one-back : {ls : List Hold} {w : World} {place : ℕ} {n : Made (World × Says)} (l : Hold)

@@ -5,6 +5,9 @@
 -- The four files cite types (a head, a lease, an answer, an event, a world, a call), natural numbers and lists. Of the definitions of crate `model`,
 -- which they pin down, they cite none; tests/pinned.sh looks at their imports.
 --
+-- To read them: `A × B` is A and B, `A ⊎ B` is A or B, `A → ⊥` is not A, and `x ≢ y` says that x and y differ. `getD xs i 0` is the word at place i of a list, 0
+-- where it has none, and `set xs i v` the list with v there. `x .0` and `x .1` are the parts of a pair, and `λ a. ..` goes on with a.
+--
 -- This file: how a thing is said to be; the arena, a cell, a lease; what a step changes.
 use Prim.Native.Nat.{ℕ, _+_, _*_, _≤_, _<_}
 use mathlib.Core.Path.{_≡_}
@@ -22,15 +25,18 @@ use Rattle.types.specs.declared.Reason.{Reason}
 use Rattle.history.specs.World.{World}
 use Rattle.history.specs.Items.{Says}
 
--- ---- how a thing is said to be: it is this one; it is one of two, by a condition; some other thing is so, and by that it is so
+-- ---- how a thing is said to be
 
+-- x is y
 abbrev pub Is : {A : Type 0} → A → A → Type 0
 Is y x = x ≡ y
 
+-- C holds and x is as P says, or C does not and x is as Q says
 infixr 5 If_Then_Else_
 abbrev pub If_Then_Else_ : {A : Type 0} → Type 0 → (A → Type 0) → (A → Type 0) → A → Type 0
 (If C Then P Else Q) x = (C × P x) ⊎ ((C → ⊥) × Q x)
 
+-- some a is as P says, and x is as Q says of that a
 abbrev pub With : {A B : Type 0} → (A → Type 0) → (A → B → Type 0) → B → Type 0
 With {A} P Q x = (a : A) × P a × Q a x
 
