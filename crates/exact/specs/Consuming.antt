@@ -65,15 +65,6 @@ module _ {script : List ℕ} where
   boundary-now {w = w} (one-step {es = es} {fs = fs} i k s b) =
       boundary-now b ∙ ap (λ (x : World). now x fs) (step-now s) ∙ sym (now-append w es fs)
 
-  pub consumed-now : {Own : World → Event → Type 0} {ps rs : List Hold} {p d q c : ℕ} {w v : World} {es : List Event} → Consumed Own script ps p d w rs q c v es → v ≡ now w es
-  consumed-now at-rest = refl
-  consumed-now (counts attempts-one m) = consumed-now m
-  consumed-now (counts yields-once m) = consumed-now m
-  consumed-now (counts spins m) = consumed-now m
-  consumed-now (takes l o m) = consumed-now m
-  consumed-now (gives-up l o m) = consumed-now m
-  consumed-now {w = w} (boundary {es = es} {fs = fs} b m) = consumed-now m ∙ ap (λ (x : World). now x fs) (boundary-now b) ∙ sym (now-append w es fs)
-
 -- over a lawful log the caller's own events are legal
 pub lawfully : {Own : World → Event → Type 0} {script : List ℕ} {ps rs : List Hold} {p d q c : ℕ} {w v : World} {es : List Event}
     → Consumed Own script ps p d w rs q c v es → Lawful w es → Consumed Legal script ps p d w rs q c v es

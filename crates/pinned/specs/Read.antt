@@ -11,9 +11,12 @@ use Rattle.model.specs.Arena.{holdOf, bitAt, ownerAt, setCell, setWaiters, stat
 use Rattle.types.specs.declared.State.{State}
 use Rattle.types.specs.declared.State.the-variants as state
 use Rattle.history.specs.World.{World, Free, Live, Legal, step, Whole}
+use Rattle.history.specs.Items.{Call, Clear, rules}
 use Rattle.history.specs.Tests.{Stands, stands, is-free, is-held, is-damaged, state-free, free-words}
 use Rattle.pinned.specs.Words.{Shape, Is-free, Is-damaged, Is-live, size, taken, freed, with-waiters, with-health}
-use Rattle.pinned.specs.Decided.{shape-there, shape-back, owned, owning}
+use Rattle.pinned.specs.Checks.{checks}
+use Rattle.pinned.specs.Statements.{Passes}
+use Rattle.pinned.specs.Decided.{clear-passed, passed-clear, matched, shape-there, shape-back, owned, owning}
 
 pub live-is : (w : World) (c s : ℕ) → Live w (holdOf c s) ↔ Is-live w c s
 live-is w c s = (owned w c s, owning w c s)
@@ -54,6 +57,10 @@ whole-is w = (
     undamaged = λ c l d. k .undamaged c l (damaged-is w c .0 d);
   },
 )
+
+-- no check of a call applies, by the definitions' tests and by the conditions of `Checks`: what theorems ask of a call that passes
+pub passes-is : (w : World) (k : Call) → Clear (rules w k) ↔ Passes w k
+passes-is w k = (clear-passed (rules w k) (checks w k) (matched w k), passed-clear (rules w k) (checks w k) (matched w k))
 
 -- ---- events
 

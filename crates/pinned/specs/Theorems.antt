@@ -14,12 +14,12 @@ use Rattle.types.specs.declared.Head.{Head}
 use Rattle.types.specs.declared.Refusal.{Refusal}
 use Rattle.types.specs.declared.Refusal.the-variants.{BadShape, BadScript, BadHeld, TooMany, BadBinding, BadHeader, Poisoned, InvalidBucket, Damaged, SerialsSpent, SerializationFailure, NotHeld, Protected, Repeated, BadCrew, StaleBoot}
 use Rattle.history.specs.World.{World, Live, Legal, step, Whole}
-use Rattle.history.specs.Items.{Build, Stepper, Says, Call, perform, foreign, Item, Course, cold, run}
+use Rattle.history.specs.Items.{Build, Stepper, Says, Call, perform, foreign, Clear, rules, Item, Course, cold, run}
 use Rattle.history.specs.Statements.{Crew-build, Crew-at-work-build, Begins, Ledger}
 use Rattle.history.specs.Theorems.{demand-2}
 use Rattle.pinned.specs.Words.{logged, Is-live}
 use Rattle.pinned.specs.Checks.{number-and-carried}
-use Rattle.pinned.specs.Statements.{Meets, Crews, Works, Steps-alone, Preparer, Prepares, Salvager, Salvages}
+use Rattle.pinned.specs.Statements.{Passes, Meets, Crews, Works, Steps-alone, Preparer, Prepares, Salvager, Salvages}
 use Rattle.pinned.specs.Met as met
 use Rattle.pinned.specs.Beside as beside
 use Rattle.pinned.specs.Salvaged as salvaged
@@ -137,7 +137,10 @@ pub demand-2-of-any : (b : Build) (f : Stepper) (p : Preparer) (s : Salvager) �
     → (rubbish : World) (start : Item) (items : List Item) → Begins rubbish start → Ledger (histories.run-by b f p s (cold rubbish) (start ∷ items))
 demand-2-of-any b f p s m t q r rubbish start items i = subst Ledger (sym (same-history b f p s m t q r (cold rubbish) (start ∷ items))) (demand-2 rubbish start items i)
 
--- ---- demand 2's own words, in plain numbers
+-- ---- the words of older theorems in plain numbers: a call that passes its checks, and demand 2's own
+
+pub passes-is : (w : World) (k : Call) → Clear (rules w k) ↔ Passes w k
+passes-is = reading.passes-is
 
 pub live-is : (w : World) (c s : ℕ) → Live w (holdOf c s) ↔ Is-live w c s
 live-is = reading.live-is
