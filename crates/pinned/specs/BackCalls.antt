@@ -32,7 +32,7 @@ use Rattle.exact.specs.KeyByKey.{in-first-of}
 use Rattle.exact.specs.Passing.{bucket-on, same-boot, holding-more, leases-append}
 use Rattle.pinned.specs.Words.{logged, counted, freed, holds, words}
 use Rattle.pinned.specs.Steps.{At, at, Boundary}
-use Rattle.pinned.specs.Stepping.{Releases}
+use Rattle.pinned.specs.Stepping.{Releases-each}
 use Rattle.pinned.specs.Statements.{plainly, left-by, place-by, joined, dropping, Gives-back, all-back, one-back}
 use Rattle.pinned.specs.Decided.{holds-same}
 use Rattle.pinned.specs.Same.{Same, is-same, follow-same, noting-same, runs-same}
@@ -41,8 +41,8 @@ use Rattle.pinned.specs.AsCalls.{Fine, env-fine, fine-shape, fine-place,
 
 -- ---- in steps one answer comes of it
 
-releases-same : (left : ℕ) (script : List ℕ) (ls : List Hold) (n : ℕ) (a : At) → Same (Releases left script ls n a) (Releases left script ls n a)
-unfolding Releases
+releases-same : (left : ℕ) (script : List ℕ) (ls : List Hold) (n : ℕ) (a : At) → Same (Releases-each left script ls n a) (Releases-each left script ls n a)
+unfolding Releases-each
 releases-same zero script ls n a = is-same
 releases-same (suc left) script ls n a = noting-same (follow-same (noting-same (runs-same _ script (take left ls) _)) (λ b. releases-same left script ls (n + 1) b))
 
@@ -51,9 +51,9 @@ releases-same (suc left) script ls n a = noting-same (follow-same (noting-same (
 abbrev more : ℕ → ℕ → Made (ℕ × At) → Made (ℕ × At)
 more j d m = logged (j + m .seen .0, at (m .seen .1 .world) (m .seen .1 .place) (d + m .seen .1 .dropped)) (m .log)
 
-shift-back : (n : ℕ) (script : List ℕ) (ls : List Hold) (k : ℕ) (w : World) (p e j d : ℕ) (m : Made (ℕ × At)) → Releases n script ls k (at w p e) m
-    → Releases n script ls (j + k) (at w p (d + e)) (more j d m)
-unfolding Releases
+shift-back : (n : ℕ) (script : List ℕ) (ls : List Hold) (k : ℕ) (w : World) (p e j d : ℕ) (m : Made (ℕ × At)) → Releases-each n script ls k (at w p e) m
+    → Releases-each n script ls (j + k) (at w p (d + e)) (more j d m)
+unfolding Releases-each
 shift-back zero script ls k w p e j d m r = ap (more j d) r
 shift-back (suc n) script ls k w p e j d m (inner, (b, (run, steps, f), (rest, r, g)), h) =
     let l = getD ls n (record { cell = 0; serial = 0 }) in
@@ -62,7 +62,7 @@ shift-back (suc n) script ls k w p e j d m (inner, (b, (run, steps, f), (rest, r
       (
         later d b,
         (later d run, shift (length script / 3 - p) script (take n ls) (freed w (l .cell)) p e d run steps, ap (later d) f),
-        (more j d rest, subst (λ (x : ℕ). Releases n script ls x (at (b .seen .world) (b .seen .place) (d + b .seen .dropped)) (more j d rest)) (add-assoc j k 1) on, ap (more j d) g),
+        (more j d rest, subst (λ (x : ℕ). Releases-each n script ls x (at (b .seen .world) (b .seen .place) (d + b .seen .dropped)) (more j d rest)) (add-assoc j k 1) on, ap (more j d) g),
       ),
       ap (more j d) h,
     )
@@ -158,8 +158,8 @@ module _ (boot : ℕ) (script : List ℕ) (ls : List Hold) where
       → Backs ks (left-by y) (place-by y) n → Backs (ks ++ (l ∷ [])) v p (joined x (joined y n))) e
       (λ y f. subst (λ (y : Made (World × Says)). Backs ks (left-by y) (place-by y) n → Backs (ks ++ (l ∷ [])) v p (joined (dropping perform boot script [] l v) (joined y n))) f (one-back l))
 
-  back : (n : ℕ) (v : World) (p : ℕ) → Standing v p n → (m : Made (ℕ × At)) × Releases n script ls 0 (at v p 0) m × Backs (take n ls) v p (told m)
-  unfolding Releases
+  back : (n : ℕ) (v : World) (p : ℕ) → Standing v p n → (m : Made (ℕ × At)) × Releases-each n script ls 0 (at v p 0) m × Backs (take n ls) v p (told m)
+  unfolding Releases-each
   back zero v p s = (logged (0, at v p 0) [], refl, all-back)
   back (suc n) v p s =
       let l = holdAt ls n in
@@ -176,8 +176,8 @@ module _ (boot : ℕ) (script : List ℕ) (ls : List Hold) where
       subst (λ (ps : List Hold). Boundary script ps (at u p 0) X) (holds-take n) (subst (λ (a : Made At). Boundary script (holds hs) (at u p 0) a) x-is (e .1)) in
       let r = back n (left-by y) (place-by y) (bounded (dropped s)) in
       let m = r .0 in
-      let on : Releases n script ls 1 (at (left-by y) (place-by y) dy) (more 1 dy m) =
-      subst (λ (d : ℕ). Releases n script ls 1 (at (left-by y) (place-by y) d) (more 1 dy m)) (let z : dy + 0 ≡ dy = omega arith in z) (shift-back n script ls 0 (left-by y) (place-by y) 0 1 dy m (r .1)) in
+      let on : Releases-each n script ls 1 (at (left-by y) (place-by y) dy) (more 1 dy m) =
+      subst (λ (d : ℕ). Releases-each n script ls 1 (at (left-by y) (place-by y) d) (more 1 dy m)) (let z : dy + 0 ≡ dy = omega arith in z) (shift-back n script ls 0 (left-by y) (place-by y) 0 1 dy m (r .1)) in
       let D : Made (World × Says) = logged (plainly u Done) (released by-caller (l .cell) (l .serial) ∷ []) in
       let whole : joined D (joined Y (told m)) ≡ told (logged (more 1 dy m .seen) (released by-caller (l .cell) (l .serial) ∷ (y .log ++ m .log))) =
       ap (λ (k : ℕ). logged (m .seen .1 .world, says Done (counted 0 k 0 (0 + (dy + m .seen .1 .dropped))) (m .seen .1 .place) []) (released by-caller (l .cell) (l .serial) ∷ (y .log ++ m .log))) (zero-add (1 + m .seen .0))

@@ -23,7 +23,7 @@ use Rattle.history.specs.Statements.{Crew-build, Crew-at-work-build}
 use Rattle.pinned.specs.Words.{Is, If_Then_Else_, logged, head-of, Shape}
 use Rattle.pinned.specs.Checks.{checks}
 use Rattle.pinned.specs.Steps.{Crew, gathered}
-use Rattle.pinned.specs.Statements.{Crews, Works, replying, Steps-alone, Preparer, Prepares, prepared}
+use Rattle.pinned.specs.Statements.{Crews, Works, replying, Steps-alone, Preparer, Prepares-arena, prepared}
 use Rattle.pinned.specs.Decided.{Decides, matched, first-is, passed-clear, decided, shape-decides, health-decides}
 use Rattle.pinned.specs.Stepping.{step-is}
 use Rattle.pinned.specs.Crewed.{look, looking, turns-are, taken-so, released-so}
@@ -133,7 +133,7 @@ no-other-step f s w kind place number =
 abbrev pub ours : Preparer
 ours headers buckets serial boot t g = prepareOf headers buckets serial boot t g
 
-pub prepares : Prepares ours
+pub prepares : Prepares-arena ours
 unfolding prepareOf prepareRules first
 prepares headers buckets serial boot t g =
     go (shapeFits h (length t)) (healthFits h (length g)) (shape-decides h (length t)) (health-decides h (length g)) refl refl
@@ -150,6 +150,6 @@ prepares headers buckets serial boot t g =
     go true false s b e f = inr (s .1 (ap not e), inl (b .0 (ap not f), rw (e, f)))
     go false y s b e f = inl (s .0 (ap not e), rw e)
 
-pub no-other-preparer : (f : Preparer) → Prepares f → (headers buckets serial boot : ℕ) (t g : List ℕ) → f headers buckets serial boot t g ≡ prepareOf headers buckets serial boot t g
+pub no-other-preparer : (f : Preparer) → Prepares-arena f → (headers buckets serial boot : ℕ) (t g : List ℕ) → f headers buckets serial boot t g ≡ prepareOf headers buckets serial boot t g
 no-other-preparer f p headers buckets serial boot t g =
     if-same is-same (if-same is-same is-same) _ _ (p headers buckets serial boot t g) (prepares headers buckets serial boot t g)

@@ -11,7 +11,7 @@ use Rattle.types.specs.declared.Refusal.{Refusal}
 use Rattle.types.specs.declared.Refusal.the-variants.{BadShape, BadScript, BadHeld, TooMany, BadBinding, BadHeader, Poisoned, InvalidBucket, Damaged, SerialsSpent, SerializationFailure, NotHeld, Protected, Repeated, BadCrew, StaleBoot}
 use Rattle.history.specs.World.{World}
 use Rattle.history.specs.Items.{Call, try-acquire, drop-lease, read-permission, competing-acquire, release-then-handoff, foreign-release, drop-preserving, acquire-preserving, environment, try-lock, transactional, acquire-bucket, release-all, acquire-locks, acquire-sorted, crew, crew-at-work}
-use Rattle.pinned.specs.Words.{Shape, Is-live, Listed, size, holds}
+use Rattle.pinned.specs.Words.{Shape, Is-live, Stands-in, size, holds}
 
 -- ---- the table: a refusal's number, and what it carries. Document 02, L1: "refusal 11 carries that reason besides 4,096"; L8: "StaleBoot (16), with its
 -- position"
@@ -129,7 +129,7 @@ one-lease w l cs =
 -- ---- 13, Protected: "it is live and in the held list"; that it is live stands before it
 
 abbrev pub not-in : List ℕ → Lease → Checks → Checks
-not-in held l cs = Listed (l .cell) (l .serial) (holds held) refuses Protected else cs
+not-in held l cs = Stands-in (l .cell) (l .serial) (holds held) refuses Protected else cs
 
 -- ---- 14, Repeated: "a live lease stands earlier in the list". "12 and 14 are tested together by position, before any release."
 
@@ -141,7 +141,7 @@ each-given w i earlier (c ∷ s ∷ []) cs = cs
 each-given w i earlier (c ∷ s ∷ b ∷ ws) cs =
     (b ≢ w .head .boot) refuses StaleBoot i
     else (Is-live w c s → ⊥) refuses NotHeld i
-    else Listed c s earlier refuses Repeated i
+    else Stands-in c s earlier refuses Repeated i
     else each-given w (i + 1) (earlier ++ (record { cell = c; serial = s } ∷ [])) ws cs
 
 -- ---- 15, BadCrew: "first fault, lists before turns: crew limits; a cell out of range or not above the one before; a turn naming no member", with "0;

@@ -25,7 +25,7 @@ use Rattle.history.specs.World.{World}
 use Rattle.history.specs.Items.{Call, Clear, rules, try-acquire, drop-lease, read-permission, competing-acquire, release-then-handoff, foreign-release, drop-preserving, acquire-preserving, environment, try-lock, transactional, acquire-bucket, release-all, acquire-locks, acquire-sorted, crew, crew-at-work}
 use Rattle.history.specs.Tests.{alive, live, in-first, in-rest, in-cases, differ}
 use Rattle.history.specs.Events.{fits}
-use Rattle.pinned.specs.Words.{Shape, Is-live, Listed, size, holds}
+use Rattle.pinned.specs.Words.{Shape, Is-live, Stands-in, size, holds}
 use Rattle.pinned.specs.Checks.{Checks, pass, _refuses_else_, First, Passed, checks, each-held, held-list, bindings, in-range, one-lease, not-in, each-given, lease-list, key-list, lists, each-turn, crew-is, cells-of, sum, Limits, Rises}
 
 -- a test decides a condition
@@ -155,19 +155,19 @@ owning w c s a =
 live-decides : (w : World) (c s : ℕ) → Decides (not (isLive (w .head .next) (cellsOf (w .head)) (w .table) (holdOf c s))) (Is-live w c s → ⊥)
 live-decides w c s = not-decides (isLive (w .head .next) (cellsOf (w .head)) (w .table) (holdOf c s)) (Is-live w c s) (owned w c s) (owning w c s)
 
-pub in-listed : (c s : ℕ) (ks : List Hold) → isIn (holdOf c s) ks ≡ true → Listed c s ks
+pub in-listed : (c s : ℕ) (ks : List Hold) → isIn (holdOf c s) ks ≡ true → Stands-in c s ks
 unfolding isIn
 in-listed c s [] e = absurd (differ e)
 in-listed c s (k ∷ ks) e = elim (in-cases k (holdOf c s) ks e) [ inl p ↦ inl (ap (λ (x : Hold). x .cell) p, ap (λ (x : Hold). x .serial) p) | inr j ↦ inr (in-listed c s ks j) ]
 
-pub listed-in : (c s : ℕ) (ks : List Hold) → Listed c s ks → isIn (holdOf c s) ks ≡ true
+pub listed-in : (c s : ℕ) (ks : List Hold) → Stands-in c s ks → isIn (holdOf c s) ks ≡ true
 listed-in c s [] e = absurd e
 listed-in c s (k ∷ ks) (inl p) =
     let e : k ≡ holdOf c s = ap (λ (x : ℕ). holdOf x (k .serial)) (p .0) ∙ ap (holdOf c) (p .1) in
     subst (λ (x : Hold). isIn (holdOf c s) (x ∷ ks) ≡ true) (sym e) (in-first (holdOf c s) ks)
 listed-in c s (k ∷ ks) (inr j) = in-rest k (holdOf c s) ks (listed-in c s ks j)
 
-pub in-decides : (c s : ℕ) (ks : List Hold) → Decides (isIn (holdOf c s) ks) (Listed c s ks)
+pub in-decides : (c s : ℕ) (ks : List Hold) → Decides (isIn (holdOf c s) ks) (Stands-in c s ks)
 in-decides c s ks = (in-listed c s ks, λ e l. differ (sym e ∙ listed-in c s ks l))
 
 pub holds-same : (ws : List ℕ) → holds ws ≡ holdsOf ws
@@ -331,7 +331,7 @@ lease-match w l ys cs m = (ne-decides (l .boot) (w .head .boot), refl, (live-dec
 
 not-in-match : (held : List ℕ) (l : Lease) → Matches (isProtected held l ∷ []) (not-in held l pass)
 not-in-match held l =
-    (subst (λ (ks : List Hold). Decides (isIn (holdIn l) (holdsOf held)) (Listed (l .cell) (l .serial) ks)) (sym (holds-same held)) (in-decides (l .cell) (l .serial) (holdsOf held)), refl, tt)
+    (subst (λ (ks : List Hold). Decides (isIn (holdIn l) (holdsOf held)) (Stands-in (l .cell) (l .serial) ks)) (sym (holds-same held)) (in-decides (l .cell) (l .serial) (holdsOf held)), refl, tt)
 
 binding-match : (registry : List ℕ) (binding : ℕ) → Matches (badBinding registry 0 binding ∷ []) ((length registry ≤ binding) refuses BadBinding 0 else pass)
 binding-match registry binding = (leb-decides (length registry) binding, refl, tt)

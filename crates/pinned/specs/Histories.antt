@@ -8,7 +8,7 @@ use Rattle.types.specs.declared.Reply.{Reply}
 use Rattle.types.specs.declared.SalvageReply.{SalvageReply}
 use Rattle.history.specs.World.{World, worldOf}
 use Rattle.history.specs.Items.{Build, Stepper, Says, Item, call, foreign-step, preparation, preparation-over, salvage, salvage-over, Course, noted, saying, preparing, prepared-by, salvaging, salvaged-by, next-item, run}
-use Rattle.pinned.specs.Statements.{Meets, Steps-alone, Preparer, Prepares, Salvager, Salvages}
+use Rattle.pinned.specs.Statements.{Meets, Steps-alone, Preparer, Prepares-arena, Salvager, Salvages-arena}
 use Rattle.pinned.specs.Met.{no-other-build}
 use Rattle.pinned.specs.Beside.{no-other-step, no-other-preparer}
 use Rattle.pinned.specs.Salvaged.{no-other-salvage}
@@ -40,7 +40,7 @@ module _ (b : Build) (f : Stepper) (p : Preparer) (s : Salvager) where
   run-by k [] = k
   run-by k (i ∷ is) = run-by (next-by k i) is
 
-  module _ (meeting : Meets b) (stepping : Steps-alone f) (preparing-so : Prepares p) (salvaging-so : Salvages s) where
+  module _ (meeting : Meets b) (stepping : Steps-alone f) (preparing-so : Prepares-arena p) (salvaging-so : Salvages-arena s) where
     next-same : (k : Course) (i : Item) → next-by k i ≡ next-item k i
     unfolding next-item preparing salvaging
     next-same k (call c) = ap (λ (m : Made (World × Says)). noted k (m .log) (m .seen .1) (m .seen .0)) (no-other-build b meeting (k .world) c)

@@ -17,7 +17,7 @@ use Rattle.history.specs.Items.{Build, Says, rules, Call, try-acquire, drop-lea
 use Rattle.pinned.specs.Words.{holds, words, logged, counted, says}
 use Rattle.pinned.specs.Checks.{checks}
 use Rattle.pinned.specs.Steps.{at, gathered}
-use Rattle.pinned.specs.Statements.{Beyond, Meets, plainly, attempted, bounded, left-by, place-by, dropping, between, locking, Gives-back, all-back, one-back, After-key, Keys, asked, Told, By-sorted, Keys-first, as-given}
+use Rattle.pinned.specs.Statements.{Beyond, Meets, plainly, attempted, bounded, left-by, place-by, dropping, between, locking, Gives-back, all-back, one-back, After-key, Keys, cells-asked, Told, By-sorted, Any-order, as-given}
 use Rattle.pinned.specs.Decided.{decided, matched, first-is, passed-clear}
 use Rattle.pinned.specs.Ours.{refused-so, made-so, acquire-is, drop-is, competing-is, acquire-held-is, drop-held-is, handoff-is, between-is, environment-is, try-lock-is, crew-is, work-is, transactional-is, bucket-is, locks-is}
 use Rattle.pinned.specs.BackCalls.{release-all-is}
@@ -201,9 +201,9 @@ module _ (a b : Build) (first-meets : Meets a) (then-meets : Meets b) where
             told-same cs ss m (m .seen .1 .answer) x y i
             (subst (λ (z : Made (World × Says)). Told b w registry script place held keys grants cs ss z (z .seen .1 .answer) y) (sym (many w registry script place held ks (replicate (3 * length ss) 0))) j)
 
-    first-same : (left p : ℕ) → Same (Keys-first a w registry script place held keys grants left p) (Keys-first b w registry script place held keys grants left p)
-    unfolding Keys-first
-    first-same zero p = sorted-calls (asked (length keys / 2) 0 (w .head .buckets) registry keys)
+    first-same : (left p : ℕ) → Same (Any-order a w registry script place held keys grants left p) (Any-order b w registry script place held keys grants left p)
+    unfolding Any-order
+    first-same zero p = sorted-calls (cells-asked (length keys / 2) 0 (w .head .buckets) registry keys)
     first-same (suc left) p = if-same is-same (if-same is-same (first-same left (p + 1)))
 
   pub same : (w : World) (k : Call) → a w k ≡ b w k

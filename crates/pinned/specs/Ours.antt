@@ -43,7 +43,7 @@ use Rattle.pinned.specs.Words.{Seen-as, logged, counted, holds, words}
 use Rattle.pinned.specs.Steps.{at, Boundary, Locks}
 use Rattle.pinned.specs.Statements.{Beyond, By-key, left-by, place-by, joined, Pauses, After-attempt, Retries, dropping, between, locking, refused-at, Gives-back, all-back, one-back, After-key, Keys}
 use Rattle.pinned.specs.Decided.{holds-same}
-use Rattle.pinned.specs.Stepping.{takes, point, pointed, boundary-is, shown, lock-is, Releases, back-is}
+use Rattle.pinned.specs.Stepping.{takes, point, pointed, boundary-is, shown, lock-is, Releases-each, back-is}
 use Rattle.pinned.specs.Crewed.{turns-are}
 
 -- ---- a call is refused by the first rule that applies, or is its steps
@@ -178,12 +178,12 @@ module _ (w : World) where
 
   -- `release_all` in steps
   pub release-all-steps : (script : List ℕ) (place : ℕ) (leases : List ℕ) → Clear (rules w (release-all script place leases))
-      → Seen-as (λ x. (x .1 .world, says Done (counted 0 (x .0) 0 (x .1 .dropped)) (x .1 .place) [])) (Releases (length leases / 3) script (holds leases) 0 (at w place 0)) (perform w (release-all script place leases))
+      → Seen-as (λ x. (x .1 .world, says Done (counted 0 (x .0) 0 (x .1 .dropped)) (x .1 .place) [])) (Releases-each (length leases / 3) script (holds leases) 0 (at w place 0)) (perform w (release-all script place leases))
   release-all-steps script place leases k =
       let m = giveBackOf (length leases / 3) (given (w .head) script []) (holdsOf leases) (starting (w .head) place) (w .table) (w .health) in
       let o = m .seen in (
         logged (o .0 .boundaries, point (w .head) script [] (o .0 .flow, o .1)) (m .log),
-        subst (λ (ls : List Hold). Releases (length leases / 3) script ls 0 (at w place 0) (logged (o .0 .boundaries, point (w .head) script [] (o .0 .flow, o .1)) (m .log))) (sym (holds-same leases))
+        subst (λ (ls : List Hold). Releases-each (length leases / 3) script ls 0 (at w place 0) (logged (o .0 .boundaries, point (w .head) script [] (o .0 .flow, o .1)) (m .log))) (sym (holds-same leases))
             (back-is (w .head) script (length leases / 3) (holdsOf leases) (starting (w .head) place) (w .table) (w .health)),
         made-so w (release-all script place leases) k
             ∙ (let e = back-keeps script (length leases / 3) (holdsOf leases) (starting (w .head) place) (w .table) (w .health) in

@@ -21,7 +21,7 @@ use Rattle.types.specs.declared.SalvageReply.{SalvageReply}
 use Rattle.types.specs.declared.State.{State}
 use Rattle.history.specs.Tests.{Stands, stands, is-free, is-held, is-damaged, if-cases, differ}
 use Rattle.pinned.specs.Words.{Is, If_Then_Else_, With, Shape}
-use Rattle.pinned.specs.Statements.{Mends, Mends-bytes, Changes, Left-held, over, concluded, Salvager, Salvages}
+use Rattle.pinned.specs.Statements.{Mends, Mends-bytes, Changes, Left-held, over, concluded, Salvager, Salvages-arena}
 use Rattle.pinned.specs.Decided.{Decides, shape-decides, health-decides, or-decides, ltb-decides}
 use Rattle.pinned.specs.Same.{Same, is-same, if-same, with-same}
 
@@ -72,7 +72,7 @@ left-are next (suc left) c t = (heldFrom next left (c + 1) t, left-are next left
     go false e =
         inr ((λ k. differ (sym e ∙ rw (eq-eqb (getD t (3 * c) 0) 1 (k .0), le-leb 1 (getD t (3 * c + 1) 0) (k .1), lt-ltb (getD t (3 * c + 1) 0) next (k .2)))), refl)
 
-pub salvages : Salvages salvageOf
+pub salvages : Salvages-arena salvageOf
 unfolding salvageOf prepareRules first goOverOf isReportFull mendOf changesOf leftHeld overOf
 salvages h t g report list =
     if-cases (λ (k : Check). P (judged k)) (not (shapeFits h (length t))) (λ e. inl (shape-decides h (length t) .0 e, refl))
@@ -171,7 +171,7 @@ unfolding Left-held
 left-same next zero c t = is-same
 left-same next (suc left) c t = with-same (left-same next left (c + 1) t) (λ cs. if-same is-same is-same)
 
-pub no-other-salvage : (f : Salvager) → Salvages f → (h : Head) (t g report list : List ℕ) → f h t g report list ≡ salvageOf h t g report list
+pub no-other-salvage : (f : Salvager) → Salvages-arena f → (h : Head) (t g report list : List ℕ) → f h t g report list ≡ salvageOf h t g report list
 no-other-salvage f s h t g report list =
     if-same is-same (if-same is-same (with-same (mends-same (h .next) t) (λ u. with-same (bytes-same g) (λ v. with-same (changes-same 0 t u) (λ x.
     with-same (changes-same (3 * (h .headers * h .buckets)) g v) (λ y. with-same (left-same (h .next) (h .headers * h .buckets) 0 u) (λ cs. if-same is-same is-same))))))) _ _

@@ -20,7 +20,7 @@ use Rattle.history.specs.Tests.{differ}
 use Rattle.pinned.specs.Words.{Is, If_Then_Else_, With, After, Noting, Seen-as}
 use Rattle.pinned.specs.Checks.{sum}
 use Rattle.pinned.specs.Steps.{Takes, Step, At, at, Runs, After-take, Locks, Crew, After-try, Try-turn, Turn, Turns}
-use Rattle.pinned.specs.Statements.{left-by, place-by, joined, yielding, spinning, Pauses, After-attempt, Retries, between, Among, Rising, Sorted, Asks-first, Keys-for, Lease-on, Shared}
+use Rattle.pinned.specs.Statements.{left-by, place-by, joined, yielding, spinning, Pauses, After-attempt, Retries, between, Cell-in, Rising, Sorted, Asks-first, Keys-for, Lease-on, Shared}
 
 abbrev pub Same : {A : Type 0} → (A → Type 0) → (A → Type 0) → Type 0
 Same {A} P Q = (x y : A) → P x → Q y → x ≡ y
@@ -123,15 +123,15 @@ unfolding Shared
 shared-same ls [] = is-same
 shared-same ls (c ∷ cs) = with-same (lease-same ls c) (λ l. with-same (shared-same ls cs) (λ ks. is-same))
 
-pub among : (c : ℕ) (xs : List ℕ) → isAmong c xs ≡ true → Among c xs
+pub among : (c : ℕ) (xs : List ℕ) → isAmong c xs ≡ true → Cell-in c xs
 among c [] e = absurd (differ e)
 among c (x ∷ xs) e = go (eqb x c) refl e (among c xs)
   where
-    go : (b : Bool) → eqb x c ≡ b → (b || isAmong c xs) ≡ true → (isAmong c xs ≡ true → Among c xs) → (x ≡ c) ⊎ Among c xs
+    go : (b : Bool) → eqb x c ≡ b → (b || isAmong c xs) ≡ true → (isAmong c xs ≡ true → Cell-in c xs) → (x ≡ c) ⊎ Cell-in c xs
     go true e f k = inl (eqb-true x c e)
     go false e f k = inr (k f)
 
-pub is-among : (c : ℕ) (xs : List ℕ) → Among c xs → isAmong c xs ≡ true
+pub is-among : (c : ℕ) (xs : List ℕ) → Cell-in c xs → isAmong c xs ≡ true
 is-among c [] a = absurd a
 is-among c (x ∷ xs) (inl e) = rw (eq-eqb x c e)
 is-among c (x ∷ xs) (inr a) = go (eqb x c) (is-among c xs a)

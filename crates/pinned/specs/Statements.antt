@@ -166,13 +166,13 @@ module _ (b : Build) (boot : ℕ) (registry script held keys grants : List ℕ) 
 -- caller's order, doubled keys sharing one."
 
 -- "Cell number = header x B + bucket.", of `left` keys from position p on
-unfoldable pub asked : (left p buckets : ℕ) (registry keys : List ℕ) → List ℕ
-asked zero p buckets registry keys = []
-asked (suc left) p buckets registry keys = (getD registry (getD keys (2 * p) 0) 0 * buckets + getD keys (2 * p + 1) 0) ∷ asked left (p + 1) buckets registry keys
+unfoldable pub cells-asked : (left p buckets : ℕ) (registry keys : List ℕ) → List ℕ
+cells-asked zero p buckets registry keys = []
+cells-asked (suc left) p buckets registry keys = (getD registry (getD keys (2 * p) 0) 0 * buckets + getD keys (2 * p + 1) 0) ∷ cells-asked left (p + 1) buckets registry keys
 
-abbrev pub Among : ℕ → List ℕ → Type 0
-Among c [] = ⊥
-Among c (x ∷ xs) = (x ≡ c) ⊎ Among c xs
+abbrev pub Cell-in : ℕ → List ℕ → Type 0
+Cell-in c [] = ⊥
+Cell-in c (x ∷ xs) = (x ≡ c) ⊎ Cell-in c xs
 
 abbrev pub Rising : (low : ℕ) → List ℕ → Type 0
 Rising low [] = Unit {0}
@@ -180,7 +180,7 @@ Rising low (x ∷ xs) = (low ≤ x) × Rising (x + 1) xs
 
 -- "a strictly rising list with exactly the cells asked for"
 abbrev pub Sorted : List ℕ → List ℕ → Type 0
-Sorted cs ss = Rising 0 ss × ((c : ℕ) → Among c ss ↔ Among c cs)
+Sorted cs ss = Rising 0 ss × ((c : ℕ) → Cell-in c ss ↔ Cell-in c cs)
 
 -- "the first position asking for that cell"
 unfoldable pub Asks-first : List ℕ → ℕ → ℕ → Type 0
@@ -227,14 +227,14 @@ module _ (b : Build) (w : World) (registry script : List ℕ) (place : ℕ) (hel
 
   -- `left` keys from position p on: "BadHeader and InvalidBucket are now also tested in this call before any attempt, by the caller's first position, header
   -- before bucket."
-  unfoldable pub Keys-first : (left p : ℕ) → Made (World × Says) → Type 0
-  Keys-first zero p = By-sorted (asked (length keys / 2) 0 (w .head .buckets) registry keys)
-  Keys-first (suc left) p =
+  unfoldable pub Any-order : (left p : ℕ) → Made (World × Says) → Type 0
+  Any-order zero p = By-sorted (cells-asked (length keys / 2) 0 (w .head .buckets) registry keys)
+  Any-order (suc left) p =
       let header = getD registry (getD keys (2 * p) 0) 0 in
       let bucket = getD keys (2 * p + 1) 0 in
       If w .head .headers ≤ header Then Gives (w, says (RefusedAt (BadHeader header) p) (counted 0 0 0 0) place grants)
       Else If w .head .buckets ≤ bucket Then Gives (w, says (RefusedAt (InvalidBucket bucket) p) (counted 0 0 0 0) place grants)
-      Else Keys-first left (p + 1)
+      Else Any-order left (p + 1)
 
 -- ---- what a build must do
 
@@ -282,7 +282,7 @@ Beyond b w (release-all script place leases) = Gives-back b (w .head .boot) scri
 -- "keys in the order given"
 Beyond b w (acquire-locks registry script place held keys grants) = Keys b (w .head .boot) registry script held keys grants (length keys / 2) 0 [] w place
 -- document 02, L4: "Keys in any order, and doubles."
-Beyond b w (acquire-sorted registry script place held keys grants) = Keys-first b w registry script place held keys grants (length keys / 2) 0
+Beyond b w (acquire-sorted registry script place held keys grants) = Any-order b w registry script place held keys grants (length keys / 2) 0
 -- "a member that has not yet held all its cells does one try_lock .. one that has held all releases the last it still holds". Its numbers: `Crews`, below
 Beyond b w (crew counts cells turns) = Seen-as (λ v. plainly (v .world) Done) (Turns (λ n. 0) counts cells (gathered w []) turns)
 -- document 02, L13: "Between holding all and releasing, a member spends one moving turn a cell". Its numbers and counters: `Works`, below
@@ -338,8 +338,8 @@ abbrev pub prepared : Head → Answer → Reply
 prepared h a = record { head = h; counts = counted 0 0 0 0; answer = a }
 
 -- "A refused preparation changes no lent word"
-abbrev pub Prepares : Preparer → Type 0
-Prepares f =
+abbrev pub Prepares-arena : Preparer → Type 0
+Prepares-arena f =
     (headers buckets serial boot : ℕ) (t g : List ℕ)
     → (If (Shape (head-of headers buckets serial boot) (length t) → ⊥) Then Gives (prepared (head-of 0 0 0 0) (Refused BadShape), (t, g))
     Else If length g ≢ headers Then Gives (prepared (head-of 0 0 0 0) (Refused BadShape), (t, g))
@@ -389,8 +389,8 @@ concluded h a = record { head = h; answer = a }
 
 -- "After BadShape, refuse ReportFull before the first change if the report or that list cannot hold all its entries, and only then."; "health places counting on
 -- from the table's"; L8: "Salvage keeps the boot number of the head it was given."
-abbrev pub Salvages : Salvager → Type 0
-Salvages f =
+abbrev pub Salvages-arena : Salvager → Type 0
+Salvages-arena f =
     (h : Head) (t g report list : List ℕ)
     → (If (Shape h (length t) → ⊥) Then Is (concluded h salvaged.BadShape, (t, (g, (report, list))))
     Else If length g ≢ h .headers Then Is (concluded h salvaged.BadShape, (t, (g, (report, list))))

@@ -31,7 +31,7 @@ use Rattle.types.specs.declared.Took.{Took}
 use Rattle.history.specs.World.{World, worldOf}
 use Rattle.history.specs.Items.{Says, says}
 use Rattle.history.specs.Tests.{Stands, stands, is-free, is-held, is-damaged, if-cases, differ}
-use Rattle.pinned.specs.Words.{Is, If_Then_Else_, After, Noting, logged, size, Is-free, Is-live, counted, taken, freed, with-waiters, with-health, Listed}
+use Rattle.pinned.specs.Words.{Is, If_Then_Else_, After, Noting, logged, size, Is-free, Is-live, counted, taken, freed, with-waiters, with-health, Stands-in}
 use Rattle.pinned.specs.Steps.{Takes, Done-if, Step, At, at, Runs, Boundary, releasing, After-take, Locks}
 use Rattle.pinned.specs.Decided.{owned, owning, in-listed, listed-in}
 
@@ -81,17 +81,17 @@ module _ (h : Head) (script : List ℕ) (ps : List Hold) where
       (λ e. inr ((λ k. differ (sym e ∙ rw (lt-ltb c (cellsOf h) (k .0), eq-eqb (bitAt t c) 0 (k .1 .0), eq-eqb (ownerAt t c) 0 (k .1 .1), lt-ltb next lastSerial (k .2)))), refl))
 
   release-step : (next : ℕ) (t g : List ℕ) (c s : ℕ)
-      → Done-if (Is-live (W next t g) c s × (Listed c s ps → ⊥)) (freed (W next t g) c) (released by-script c s) (W next t g) (by-table g (stepReleaseOf (cellsOf h) ps next t c s))
+      → Done-if (Is-live (W next t g) c s × (Stands-in c s ps → ⊥)) (freed (W next t g) c) (released by-script c s) (W next t g) (by-table g (stepReleaseOf (cellsOf h) ps next t c s))
   unfolding stepReleaseOf setCell
   release-step next t g c s =
-      if-cases (λ (m : Made (Stepped × List ℕ)). Done-if (Is-live (W next t g) c s × (Listed c s ps → ⊥)) (freed (W next t g) c) (released by-script c s) (W next t g) (by-table g m))
+      if-cases (λ (m : Made (Stepped × List ℕ)). Done-if (Is-live (W next t g) c s × (Stands-in c s ps → ⊥)) (freed (W next t g) c) (released by-script c s) (W next t g) (by-table g m))
       (isLive next (cellsOf h) t (holdOf c s) && not (isIn (holdOf c s) ps))
       (λ e.
       let a = both (isLive next (cellsOf h) t (holdOf c s)) (not (isIn (holdOf c s) ps)) e in
       inl ((owned (W next t g) c s (a .0), λ l. differ (sym (not-true (isIn (holdOf c s) ps) (a .1)) ∙ listed-in c s ps l)), refl))
       (λ e. inr ((λ k. go (isIn (holdOf c s) ps) refl (k .1) (rw (owning (W next t g) c s (k .0)) at e)), refl))
     where
-      go : (b : Bool) → isIn (holdOf c s) ps ≡ b → (Listed c s ps → ⊥) → not b ≡ false → ⊥
+      go : (b : Bool) → isIn (holdOf c s) ps ≡ b → (Stands-in c s ps → ⊥) → not b ≡ false → ⊥
       go true e n f = n (in-listed c s ps e)
       go false e n f = differ (sym f)
 
@@ -149,7 +149,7 @@ module _ (h : Head) (script : List ℕ) (ps : List Hold) where
       K3 = If_Then_Else_ (kind ≡ 3) (Done-if (place < size w) (with-waiters w place number) (waiters-set place number) w) K4
 
       K2 : Made (World × ℕ) → Type 0
-      K2 = If_Then_Else_ (kind ≡ 2) (Done-if (Is-live w place number × (Listed place number ps → ⊥)) (freed w place) (released by-script place number) w) K3
+      K2 = If_Then_Else_ (kind ≡ 2) (Done-if (Is-live w place number × (Stands-in place number ps → ⊥)) (freed w place) (released by-script place number) w) K3
 
       K1 : Made (World × ℕ) → Type 0
       K1 = If_Then_Else_ (kind ≡ 1) (Done-if ((place < size w) × Is-free w place × (w .head .next < lastSerial)) (taken w place) (took by-script place next) w) K2
@@ -284,19 +284,19 @@ module _ (h : Head) (script : List ℕ) where
 
 -- ---- leases given back, in steps: the first n are still to be released, and protected until then. The boundaries, and where it ends
 
-unfoldable pub Releases : ℕ → List ℕ → List Hold → (boundaries : ℕ) → At → Made (ℕ × At) → Type 0
-Releases zero script ls n a = Is (logged (n, a) [])
-Releases (suc left) script ls n a =
+unfoldable pub Releases-each : ℕ → List ℕ → List Hold → (boundaries : ℕ) → At → Made (ℕ × At) → Type 0
+Releases-each zero script ls n a = Is (logged (n, a) [])
+Releases-each (suc left) script ls n a =
     let l = getD ls left (record { cell = 0; serial = 0 }) in
     Noting (released by-caller (l .cell) (l .serial))
     (After (Boundary script (take left ls) (releasing a (l .cell))) λ b.
-    Releases left script ls (n + 1) b)
+    Releases-each left script ls (n + 1) b)
 
 module _ (h : Head) (script : List ℕ) where
   pub back-is : (n : ℕ) (ls : List Hold) (r : Run) (t g : List ℕ)
       → let m = giveBackOf n (given h script []) ls r t g in
-      Releases n script ls (r .boundaries) (point h script [] (r .flow, (t, g))) (logged (m .seen .0 .boundaries, point h script [] (m .seen .0 .flow, m .seen .1)) (m .log))
-  unfolding Releases giveBackOf setCell
+      Releases-each n script ls (r .boundaries) (point h script [] (r .flow, (t, g))) (logged (m .seen .0 .boundaries, point h script [] (m .seen .0 .flow, m .seen .1)) (m .log))
+  unfolding Releases-each giveBackOf setCell
   back-is zero ls r t g = refl
   back-is (suc n) ls r t g =
       let u = setCell t (holdAt ls n .cell) 0 0 in

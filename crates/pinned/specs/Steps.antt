@@ -14,7 +14,7 @@ use Rattle.types.specs.declared.Reason.the-variants as reason
 use Rattle.types.specs.declared.Refusal.the-variants.{Poisoned, Damaged, SerialsSpent}
 use Rattle.history.specs.World.{World}
 use Rattle.history.specs.Items.{Says}
-use Rattle.pinned.specs.Words.{If_Then_Else_, Gives, Does, After, Noting, If-granted, size, waiters, owner, health-byte, Is-free, Is-held, Is-damaged, Is-live, No-serial, taken, freed, with-waiters, with-health, Listed, counted, says}
+use Rattle.pinned.specs.Words.{If_Then_Else_, Gives, Does, After, Noting, If-granted, size, waiters, owner, health-byte, Is-free, Is-held, Is-damaged, Is-live, No-serial, taken, freed, with-waiters, with-health, Stands-in, counted, says}
 use Rattle.pinned.specs.Checks.{sum}
 
 -- ---- a compare-and-set: "in order, damaged: Damaged; held: Busy; no serial: SerialsSpent; else the cell gets bit 1 and the next serial, and next
@@ -39,7 +39,7 @@ abbrev pub Step : World → (protected : List Hold) → (kind place number : ℕ
 Step w ps kind place number =
     If kind ≡ 0 Then Gives (w, 0)
     Else If kind ≡ 1 Then Done-if ((place < size w) × Is-free w place × (w .head .next < 4_294_967_295)) (taken w place) (took by-script place (w .head .next)) w
-    Else If kind ≡ 2 Then Done-if (Is-live w place number × (Listed place number ps → ⊥)) (freed w place) (released by-script place number) w
+    Else If kind ≡ 2 Then Done-if (Is-live w place number × (Stands-in place number ps → ⊥)) (freed w place) (released by-script place number) w
     Else If kind ≡ 3 Then Done-if (place < size w) (with-waiters w place number) (waiters-set place number) w
     Else If kind ≡ 4 Then Done-if ((place < w .head .headers) × (number ≤ 1)) (with-health w place number) (health-set place number) w
     Else If kind ≡ 5 Then Gives (w, 0)

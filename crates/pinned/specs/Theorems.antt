@@ -19,7 +19,7 @@ use Rattle.history.specs.Statements.{Crew-build, Crew-at-work-build, Begins, Le
 use Rattle.history.specs.Theorems.{demand-2}
 use Rattle.pinned.specs.Words.{logged, Is-live}
 use Rattle.pinned.specs.Checks.{number-and-carried}
-use Rattle.pinned.specs.Statements.{Passes, Meets, Crews, Works, Steps-alone, Preparer, Prepares, Salvager, Salvages}
+use Rattle.pinned.specs.Statements.{Passes, Meets, Crews, Works, Steps-alone, Preparer, Prepares-arena, Salvager, Salvages-arena}
 use Rattle.pinned.specs.Met as met
 use Rattle.pinned.specs.Beside as beside
 use Rattle.pinned.specs.Salvaged as salvaged
@@ -111,16 +111,16 @@ steps-alone = beside.steps-alone
 pub no-other-step : (f : Stepper) → Steps-alone f → (w : World) (kind place number : ℕ) → f w kind place number ≡ foreign w kind place number
 no-other-step = beside.no-other-step
 
-pub prepares : Prepares prepareOf
+pub prepares : Prepares-arena prepareOf
 prepares = beside.prepares
 
-pub no-other-preparer : (f : Preparer) → Prepares f → (headers buckets serial boot : ℕ) (t g : List ℕ) → f headers buckets serial boot t g ≡ prepareOf headers buckets serial boot t g
+pub no-other-preparer : (f : Preparer) → Prepares-arena f → (headers buckets serial boot : ℕ) (t g : List ℕ) → f headers buckets serial boot t g ≡ prepareOf headers buckets serial boot t g
 no-other-preparer = beside.no-other-preparer
 
-pub salvages : Salvages salvageOf
+pub salvages : Salvages-arena salvageOf
 salvages = salvaged.salvages
 
-pub no-other-salvage : (f : Salvager) → Salvages f → (h : Head) (t g report list : List ℕ) → f h t g report list ≡ salvageOf h t g report list
+pub no-other-salvage : (f : Salvager) → Salvages-arena f → (h : Head) (t g report list : List ℕ) → f h t g report list ≡ salvageOf h t g report list
 no-other-salvage = salvaged.no-other-salvage
 
 -- ---- `try_lock` once more, as calls of the same build; and histories, item by item
@@ -128,12 +128,12 @@ no-other-salvage = salvaged.no-other-salvage
 pub try-lock-as-calls : (b : Build) → Meets b → as-calls.Try-lock-as-calls b
 try-lock-as-calls = so-of-any as-calls.Try-lock-as-calls as-calls.try-lock-as-calls
 
-pub same-history : (b : Build) (f : Stepper) (p : Preparer) (s : Salvager) → Meets b → Steps-alone f → Prepares p → Salvages s
+pub same-history : (b : Build) (f : Stepper) (p : Preparer) (s : Salvager) → Meets b → Steps-alone f → Prepares-arena p → Salvages-arena s
     → (k : Course) (is : List Item) → histories.run-by b f p s k is ≡ run k is
 same-history = histories.same-history
 
 -- so demand 2 holds of it
-pub demand-2-of-any : (b : Build) (f : Stepper) (p : Preparer) (s : Salvager) → Meets b → Steps-alone f → Prepares p → Salvages s
+pub demand-2-of-any : (b : Build) (f : Stepper) (p : Preparer) (s : Salvager) → Meets b → Steps-alone f → Prepares-arena p → Salvages-arena s
     → (rubbish : World) (start : Item) (items : List Item) → Begins rubbish start → Ledger (histories.run-by b f p s (cold rubbish) (start ∷ items))
 demand-2-of-any b f p s m t q r rubbish start items i = subst Ledger (sym (same-history b f p s m t q r (cold rubbish) (start ∷ items))) (demand-2 rubbish start items i)
 

@@ -160,9 +160,9 @@ words boot [] = []
 words boot (l ∷ ls) = l .cell ∷ l .serial ∷ boot ∷ words boot ls
 
 -- the cell and the serial stand in the list
-abbrev pub Listed : ℕ → ℕ → List Hold → Type 0
-Listed c s [] = ⊥
-Listed c s (k ∷ ks) = ((k .cell ≡ c) × (k .serial ≡ s)) ⊎ Listed c s ks
+abbrev pub Stands-in : ℕ → ℕ → List Hold → Type 0
+Stands-in c s [] = ⊥
+Stands-in c s (k ∷ ks) = ((k .cell ≡ c) × (k .serial ≡ s)) ⊎ Stands-in c s ks
 
 -- ---- what a call says: "Each result gives attempts begun, boundaries, yields and dropped steps"; beside them its answer, the place in the script
 -- afterwards and the grant buffer afterwards, 0 and empty where it has none
