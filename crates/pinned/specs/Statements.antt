@@ -25,7 +25,7 @@ use Rattle.types.specs.declared.SalvageReply.{SalvageReply}
 use Rattle.history.specs.World.{World}
 use Rattle.history.specs.Items.{Build, Stepper, Says, Call, try-acquire, drop-lease, read-permission, competing-acquire, release-then-handoff, foreign-release, drop-preserving, acquire-preserving, environment, try-lock, transactional, acquire-bucket, release-all, acquire-locks, acquire-sorted, crew, crew-at-work}
 use Rattle.history.specs.Statements.{Crew-build, Crew-at-work-build}
-use Rattle.pinned.specs.Words.{Shape, Is, If_Then_Else_, With, Gives, Does, Noting, Seen-as, If-busy, logged, arena, head-of, health-byte, freed, holds, words, counted, says}
+use Rattle.pinned.specs.Words.{Result, Shape, Is, If_Then_Else_, With, Gives, Does, Noting, Seen-as, If-busy, logged, arena, head-of, health-byte, freed, holds, words, counted, says}
 use Rattle.pinned.specs.Checks.{First, Passed, checks}
 use Rattle.pinned.specs.Steps.{Takes, Step, Boundary, At, at, Locks, Turns, Crew, gathered, taken-by, released-by}
 
@@ -43,10 +43,10 @@ attempted x = (x .0, says (x .1) (counted 1 0 0 0) 0 [])
 abbrev pub bounded : At → World × Says
 bounded a = (a .world, says Done (counted 0 1 0 (a .dropped)) (a .place) [])
 
-abbrev pub left-by : Made (World × Says) → World
+abbrev pub left-by : Result → World
 left-by m = m .seen .0
 
-abbrev pub place-by : Made (World × Says) → ℕ
+abbrev pub place-by : Result → ℕ
 place-by m = m .seen .1 .place
 
 -- what a call was given, and a refusal gives back: the place in its script and its grant buffer, 0 and empty where it has none
@@ -74,7 +74,7 @@ as-given (crew-at-work counts cells turns counters) = (0, [])
 abbrev pub sums : Counts → Counts → Counts
 sums a b = counted (a .attempts + b .attempts) (a .boundaries + b .boundaries) (a .yields + b .yields) (a .dropped + b .dropped)
 
-abbrev pub joined : Made (World × Says) → Made (World × Says) → Made (World × Says)
+abbrev pub joined : Result → Result → Result
 joined m n = logged (left-by n, says (n .seen .1 .answer) (sums (m .seen .1 .counts) (n .seen .1 .counts)) (place-by n) (n .seen .1 .grants)) (m .log ++ n .log)
 
 -- ---- `transactional_try_lock_bucket`: "header from the registry (BadHeader if at least H), then health (Poisoned), then bucket (InvalidBucket with the
@@ -83,7 +83,7 @@ joined m n = logged (left-by n, says (n .seen .1 .answer) (sums (m .seen .1 .cou
 abbrev pub refused-key : World → (place : ℕ) → Refusal → World × Says
 refused-key w place r = (w, says (Refused r) (counted 1 0 0 0) place [])
 
-abbrev pub By-key : Build → World → (registry script : List ℕ) (place : ℕ) (held : List ℕ) (binding bucket : ℕ) → Made (World × Says) → Type 0
+abbrev pub By-key : Build → World → (registry script : List ℕ) (place : ℕ) (held : List ℕ) (binding bucket : ℕ) → Result → Type 0
 By-key b w registry script place held binding bucket =
     let header = getD registry binding 0 in
     If w .head .headers ≤ header Then Does attempt-begun (refused-key w place (BadHeader header))
@@ -93,27 +93,27 @@ By-key b w registry script place held binding bucket =
 
 -- ---- `acquire_index_bucket`: "attempts 0 to 4,095", each a `transactional_try_lock_bucket`, and `environment` once or twice after each that is Busy
 
-module _ (attempt between : World → (place : ℕ) → Made (World × Says)) where
+module _ (attempt between : World → (place : ℕ) → Result) where
   -- a boundary and a yield; a boundary and a spin, which is not counted
-  abbrev pub yielding : Made (World × Says) → Made (World × Says)
+  abbrev pub yielding : Result → Result
   yielding m = logged (left-by m, says Done (counted 0 1 1 (m .seen .1 .counts .dropped)) (place-by m) []) (m .log ++ (yielded ∷ []))
 
-  abbrev pub spinning : Made (World × Says) → Made (World × Says)
+  abbrev pub spinning : Result → Result
   spinning m = logged (m .seen) (m .log ++ (spun ∷ []))
 
   -- "after a Busy attempt whose number has remainder 63 by 64, a boundary and a yield; then, after each Busy attempt, a boundary and a spin."
-  abbrev pub Pauses : (i : ℕ) → World → (place : ℕ) → Made (World × Says) → Type 0
+  abbrev pub Pauses : (i : ℕ) → World → (place : ℕ) → Result → Type 0
   Pauses i w p =
       let m = between w p in
       If i % 64 ≡ 63 Then Is (joined (yielding m) (spinning (between (left-by m) (place-by m))))
       Else Is (spinning m)
 
   -- behind attempt number i, which did m and answered x; `more` is what comes of the attempts behind it. "A refusal ends it at once."
-  abbrev pub After-attempt : (i : ℕ) (m : Made (World × Says)) → (Reason → Made (World × Says) → Made (World × Says) → Type 0) → Answer → Made (World × Says) → Type 0
+  abbrev pub After-attempt : (i : ℕ) (m : Result) → (Reason → Result → Result → Type 0) → Answer → Result → Type 0
   After-attempt i m more x = If-busy x (λ why. With (Pauses i (left-by m) (place-by m)) λ n. With (more why n) λ o. Is (joined m (joined n o))) (Is m)
 
   -- `left` attempts from number i on. "After 4,096: SerializationFailure."; document 02, L1: "Every call above passes the reason of the last Busy attempt on"
-  unfoldable pub Retries : (left i : ℕ) (last : Reason) → World → (place : ℕ) → Made (World × Says) → Type 0
+  unfoldable pub Retries : (left i : ℕ) (last : Reason) → World → (place : ℕ) → Result → Type 0
   Retries zero i last w p = Gives (w, says (Refused (SerializationFailure last)) (counted 0 0 0 0) p [])
   Retries (suc left) i last w p = After-attempt i (attempt w p) (λ why n. Retries left (i + 1) why (left-by n) (place-by n)) (attempt w p .seen .1 .answer)
 
@@ -121,16 +121,16 @@ module _ (attempt between : World → (place : ℕ) → Made (World × Says)) wh
 -- "Protected: .. in `release_all` those it was given, and never those it has given up": the boundary holds those still to come
 
 module _ (b : Build) (boot : ℕ) (script held : List ℕ) where
-  abbrev pub dropping : Hold → World → Made (World × Says)
+  abbrev pub dropping : Hold → World → Result
   dropping l w = b w (drop-lease (record { cell = l .cell; serial = l .serial; boot = boot }))
 
-  abbrev pub between : List Hold → World → (place : ℕ) → Made (World × Says)
+  abbrev pub between : List Hold → World → (place : ℕ) → Result
   between ls w place = b w (environment script place (held ++ words boot ls))
 
   -- these leases, in this world and at this place: none is left; or l is the last, it is dropped, a boundary runs, and the others are given back
-  pub data Gives-back : List Hold → World → (place : ℕ) → Made (World × Says) → Type 0 where
+  pub data Gives-back : List Hold → World → (place : ℕ) → Result → Type 0 where
     all-back : {w : World} {place : ℕ} → Gives-back [] w place (logged (w, says Done (counted 0 0 0 0) place []) [])
-    one-back : {ls : List Hold} {w : World} {place : ℕ} {n : Made (World × Says)} (l : Hold)
+    one-back : {ls : List Hold} {w : World} {place : ℕ} {n : Result} (l : Hold)
         → Gives-back ls (left-by (between ls (left-by (dropping l w)) place)) (place-by (between ls (left-by (dropping l w)) place)) n
         → Gives-back (ls ++ (l ∷ [])) w place (joined (dropping l w) (joined (between ls (left-by (dropping l w)) place) n))
 
@@ -138,15 +138,15 @@ module _ (b : Build) (boot : ℕ) (script held : List ℕ) where
 
 module _ (b : Build) (boot : ℕ) (registry script held keys grants : List ℕ) where
   -- the key at position p, "keys are binding and bucket", holding what was taken before
-  abbrev pub locking : (p : ℕ) → List Hold → World → (place : ℕ) → Made (World × Says)
+  abbrev pub locking : (p : ℕ) → List Hold → World → (place : ℕ) → Result
   locking p taken w place = b w (acquire-bucket registry script place (held ++ words boot taken) (getD keys (2 * p) 0) (getD keys (2 * p + 1) 0))
 
   -- "multi-lock adds the key's position", "the grant buffer is unchanged"
-  abbrev pub refused-at : Refusal → (p : ℕ) → Made (World × Says) → Made (World × Says)
+  abbrev pub refused-at : Refusal → (p : ℕ) → Result → Result
   refused-at r p m = logged (left-by m, says (RefusedAt r p) (m .seen .1 .counts) (place-by m) grants) (m .log)
 
   -- behind the key at position p, which did m and answered so; `more` is what comes of the keys behind it. A key is granted or refused
-  abbrev pub After-key : (p : ℕ) → List Hold → (m : Made (World × Says)) → (Hold → Made (World × Says) → Type 0) → Answer → Made (World × Says) → Type 0
+  abbrev pub After-key : (p : ℕ) → List Hold → (m : Result) → (Hold → Result → Type 0) → Answer → Result → Type 0
   After-key p taken m more (Granted l) = With (more (record { cell = l .cell; serial = l .serial })) λ n. Is (joined m n)
   After-key p taken m more (Refused r) = With (Gives-back b boot script held taken (left-by m) (place-by m)) λ n. Is (refused-at r p (joined m n))
   After-key p taken m more (Busy why) = λ x. ⊥
@@ -156,7 +156,7 @@ module _ (b : Build) (boot : ℕ) (registry script held keys grants : List ℕ) 
   After-key p taken m more (RefusedAt r q) = λ x. ⊥
 
   -- `left` keys from position p on. "On a grant, multi-lock's buffer holds cell and serial for each key, in key order"; document 02, L8: "three words a lease"
-  unfoldable pub Keys : (left p : ℕ) → List Hold → World → (place : ℕ) → Made (World × Says) → Type 0
+  unfoldable pub Keys : (left p : ℕ) → List Hold → World → (place : ℕ) → Result → Type 0
   Keys zero p taken w place = Gives (w, says AllGranted (counted 0 0 0 0) place (words boot taken))
   Keys (suc left) p taken w place =
       let m = locking p taken w place in
@@ -168,7 +168,8 @@ module _ (b : Build) (boot : ℕ) (registry script held keys grants : List ℕ) 
 -- "Cell number = header x B + bucket.", of `left` keys from position p on
 unfoldable pub cells-asked : (left p buckets : ℕ) (registry keys : List ℕ) → List ℕ
 cells-asked zero p buckets registry keys = []
-cells-asked (suc left) p buckets registry keys = (getD registry (getD keys (2 * p) 0) 0 * buckets + getD keys (2 * p + 1) 0) ∷ cells-asked left (p + 1) buckets registry keys
+cells-asked (suc left) p buckets registry keys =
+    (getD registry (getD keys (2 * p) 0) 0 * buckets + getD keys (2 * p + 1) 0) ∷ cells-asked left (p + 1) buckets registry keys
 
 abbrev pub Cell-in : ℕ → List ℕ → Type 0
 Cell-in c [] = ⊥
@@ -203,12 +204,12 @@ Shared ls [] = Is []
 Shared ls (c ∷ cs) = With (Lease-on ls c) λ l. With (Shared ls cs) λ ks. Is (l ∷ ks)
 
 module _ (b : Build) (w : World) (registry script : List ℕ) (place : ℕ) (held keys grants : List ℕ) where
-  abbrev pub telling : Made (World × Says) → Answer → (buffer : List ℕ) → Made (World × Says)
+  abbrev pub telling : Result → Answer → (buffer : List ℕ) → Result
   telling m a buffer = logged (left-by m, says a (m .seen .1 .counts) (place-by m) buffer) (m .log)
 
   -- what multi-lock did with the sorted keys (m, and its answer), told to the caller, who asked for the cells cs. Granted, each key has the lease on its cell;
   -- "a later refusal carries the first position asking for that cell", and is the same refusal. Multi-lock gives no other answers
-  abbrev pub Told : (cs ss : List ℕ) (m : Made (World × Says)) → Answer → Made (World × Says) → Type 0
+  abbrev pub Told : (cs ss : List ℕ) (m : Result) → Answer → Result → Type 0
   Told cs ss m AllGranted = With (Shared (holds (m .seen .1 .grants)) cs) λ ls. Is (telling m AllGranted (words (w .head .boot) ls))
   Told cs ss m (RefusedAt r q) = With (Asks-first cs (getD ss q 0)) λ p. Is (telling m (RefusedAt r p) grants)
   Told cs ss m (Granted l) = Is (telling m (Granted l) grants)
@@ -218,7 +219,7 @@ module _ (b : Build) (w : World) (registry script : List ℕ) (place : ℕ) (hel
   Told cs ss m (Cell c) = Is (telling m (Cell c) grants)
 
   -- "lock in rising order": multi-lock itself, over the sorted keys, with a buffer of its own
-  abbrev pub By-sorted : (cs : List ℕ) → Made (World × Says) → Type 0
+  abbrev pub By-sorted : (cs : List ℕ) → Result → Type 0
   By-sorted cs =
       With (Sorted cs) λ ss.
       With (Keys-for keys cs ss) λ ks.
@@ -227,7 +228,7 @@ module _ (b : Build) (w : World) (registry script : List ℕ) (place : ℕ) (hel
 
   -- `left` keys from position p on: "BadHeader and InvalidBucket are now also tested in this call before any attempt, by the caller's first position, header
   -- before bucket."
-  unfoldable pub Any-order : (left p : ℕ) → Made (World × Says) → Type 0
+  unfoldable pub Any-order : (left p : ℕ) → Result → Type 0
   Any-order zero p = By-sorted (cells-asked (length keys / 2) 0 (w .head .buckets) registry keys)
   Any-order (suc left) p =
       let header = getD registry (getD keys (2 * p) 0) 0 in
@@ -243,7 +244,7 @@ abbrev pub Passes : World → Call → Type 0
 Passes w k = Passed (checks w k)
 
 -- beyond its checks, each call
-abbrev pub Beyond : Build → World → Call → Made (World × Says) → Type 0
+abbrev pub Beyond : Build → World → Call → Result → Type 0
 -- "in order, damaged: Damaged; held: Busy; no serial: SerialsSpent; else the cell gets bit 1 and the next serial, and next rises by 1."
 Beyond b w (try-acquire c) = Noting attempt-begun (Seen-as attempted (Takes w c))
 -- "`drop_lease` is one release and no boundary"
@@ -290,7 +291,9 @@ Beyond b w (crew-at-work counts cells turns counters) = Seen-as (λ v. plainly (
 
 pub record Meets (b : Build) : Type 0 where
   -- "Checks in this order; the first that applies is given, and only then."; such a refusal leaves all as it was, "all counts 0", and has no event
-  pub refused : (w : World) (k : Call) (r : Refusal) → First (checks w k) r → Gives (w, says (Refused r) (counted 0 0 0 0) (as-given k .0) (as-given k .1)) (b w k)
+  pub refused : (w : World) (k : Call) (r : Refusal) → First (checks w k) r
+      → Gives (w, says (Refused r) (counted 0 0 0 0) (as-given k .0) (as-given k .1)) (b w k)
+  -- and what each call is where no check applies
   pub beyond : (w : World) (k : Call) → Passes w k → Beyond b w k (b w k)
 
 -- ---- a crew's whole reply, with the table; of a crew at work also the counters. "for each member, cells taken and cells released, and the counts of moving and
@@ -315,13 +318,15 @@ pub record Crews (f : Crew-build) : Type 0 where
   pub refused : (h : Head) (t g counts cells turns : List ℕ) (r : Refusal) → First (checks (arena h t g) (crew counts cells turns)) r
       → Gives (none-moved h r, t) (f h t g counts cells turns)
   pub beyond : (h : Head) (t g counts cells turns : List ℕ) → Passes (arena h t g) (crew counts cells turns)
-      → Seen-as (λ v. (replying (λ n. 0) counts v, v .world .table)) (Turns (λ n. 0) counts cells (gathered (arena h t g) []) turns) (f h t g counts cells turns)
+      → Seen-as (λ v. (replying (λ n. 0) counts v, v .world .table)) (Turns (λ n. 0) counts cells (gathered (arena h t g) []) turns)
+      (f h t g counts cells turns)
 
 pub record Works (f : Crew-at-work-build) : Type 0 where
   pub refused : (h : Head) (t g counts cells turns counters : List ℕ) (r : Refusal) → First (checks (arena h t g) (crew-at-work counts cells turns counters)) r
       → Gives (none-moved h r, (t, counters)) (f h t g counts cells turns counters)
   pub beyond : (h : Head) (t g counts cells turns counters : List ℕ) → Passes (arena h t g) (crew-at-work counts cells turns counters)
-      → Seen-as (λ v. (replying (λ n. n) counts v, (v .world .table, v .counters))) (Turns (λ n. n) counts cells (gathered (arena h t g) counters) turns) (f h t g counts cells turns counters)
+      → Seen-as (λ v. (replying (λ n. n) counts v, (v .world .table, v .counters)))
+      (Turns (λ n. n) counts cells (gathered (arena h t g) counters) turns) (f h t g counts cells turns counters)
 
 -- ---- a lone foreign step, between two calls: nobody's lease is protected then
 

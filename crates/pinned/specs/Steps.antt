@@ -14,7 +14,7 @@ use Rattle.types.specs.declared.Reason.the-variants as reason
 use Rattle.types.specs.declared.Refusal.the-variants.{Poisoned, Damaged, SerialsSpent}
 use Rattle.history.specs.World.{World}
 use Rattle.history.specs.Items.{Says}
-use Rattle.pinned.specs.Words.{If_Then_Else_, Gives, Does, After, Noting, If-granted, size, waiters, owner, health-byte, Is-free, Is-held, Is-damaged, Is-live, No-serial, taken, freed, with-waiters, with-health, Stands-in, counted, says}
+use Rattle.pinned.specs.Words.{Result, If_Then_Else_, Gives, Does, After, Noting, If-granted, size, waiters, owner, health-byte, Is-free, Is-held, Is-damaged, Is-live, No-serial, taken, freed, with-waiters, with-health, Stands-in, counted, says}
 use Rattle.pinned.specs.Checks.{sum}
 
 -- ---- a compare-and-set: "in order, damaged: Damaged; held: Busy; no serial: SerialsSpent; else the cell gets bit 1 and the next serial, and next
@@ -84,7 +84,7 @@ header-of w c = c / w .head .buckets
 
 -- behind the third boundary. Document 02, L3: "Read it again after the third boundary, before the waiters. If poisoned, release the lease and refuse with 7;
 -- the serial stays spent."; L1: "waiters seen after it. The last one also gives the serial that was spent."
-abbrev pub Looks-again : At → ℕ → Lease → Made (World × Says) → Type 0
+abbrev pub Looks-again : At → ℕ → Lease → Result → Type 0
 Looks-again b c l =
     If health-byte (b .world) (header-of (b .world) c) ≢ 0
     Then Does (released by-caller c (l .serial)) (ended (releasing b c) 3 (Refused (Poisoned (header-of (b .world) c))))
@@ -92,14 +92,14 @@ Looks-again b c l =
     Else Gives (ended b 3 (Granted l))
 
 -- behind the compare-and-set, which answered x. "Protected: the caller's held leases, those this call has taken"
-abbrev pub After-take : (script : List ℕ) → List Hold → At → ℕ → Answer → Made (World × Says) → Type 0
+abbrev pub After-take : (script : List ℕ) → List Hold → At → ℕ → Answer → Result → Type 0
 After-take script ps a c x =
     If-granted x
     (λ l. After (Boundary script (ps ++ (record { cell = l .cell; serial = l .serial } ∷ [])) a) λ b. Looks-again b c l)
     (Gives (ended a 2 x))
 
 -- the whole. L1: "waiters seen before the compare-and-set"
-abbrev pub Locks : (script : List ℕ) → List Hold → At → ℕ → Made (World × Says) → Type 0
+abbrev pub Locks : (script : List ℕ) → List Hold → At → ℕ → Result → Type 0
 Locks script ps a c =
     Noting attempt-begun
     (After (Boundary script ps a) λ b.
@@ -133,10 +133,13 @@ idled v w = record { world = w; moves = v .moves; serials = v .serials; moving =
 
 abbrev pub moved : Crew → World → ℕ → (serials counters : List ℕ) → Crew
 moved v w m serials counters =
-    record { world = w; moves = set (v .moves) m (getD (v .moves) m 0 + 1); serials = serials; moving = v .moving + 1; idle = v .idle; counters = counters; noted = v .noted }
+    let moves = set (v .moves) m (getD (v .moves) m 0 + 1) in
+    record { world = w; moves = moves; serials = serials; moving = v .moving + 1; idle = v .idle; counters = counters; noted = v .noted }
 
 abbrev pub remembering : Crew → ℕ → ℕ → Crew
-remembering v m n = record { world = v .world; moves = v .moves; serials = v .serials; moving = v .moving; idle = v .idle; counters = v .counters; noted = set (v .noted) m n }
+remembering v m n =
+    let noted = set (v .noted) m n in
+    record { world = v .world; moves = v .moves; serials = v .serials; moving = v .moving; idle = v .idle; counters = v .counters; noted = noted }
 
 -- behind a try of member m, who has `count` cells, `low` the lowest, for the cell at place k of the run; it left the world w and answered x. "Anything but
 -- a grant or release is an idle turn"

@@ -5,8 +5,8 @@
 -- The four files cite types (a head, a lease, an answer, an event, a world, a call), natural numbers and lists. Of the definitions of crate `model`,
 -- which they pin down, they cite none; tests/pinned.sh looks at their imports.
 --
--- To read them: `A × B` is A and B, `A ⊎ B` is A or B, `A → ⊥` is not A, and `x ≢ y` says that x and y differ. `getD xs i 0` is the word at place i of a list, 0
--- where it has none, and `set xs i v` the list with v there. `x .0` and `x .1` are the parts of a pair, and `λ a. ..` goes on with a.
+-- To read them: `A × B` is A and B, `A ⊎ B` is A or B, `A → ⊥` is not A, and `x ≢ y` says that x and y differ. `getD xs i 0` is the word at place i of
+-- a list, 0 where it has none, and `set xs i v` the list with v there. `x .0` and `x .1` are the parts of a pair, and `λ a. ..` goes on with a.
 --
 -- This file: how a thing is said to be; the arena, a cell, a lease; what a step changes.
 use Prim.Native.Nat.{ℕ, _+_, _*_, _≤_, _<_}
@@ -172,6 +172,10 @@ counted a b y d = record { attempts = a; boundaries = b; yields = y; dropped = d
 
 abbrev pub says : Answer → Counts → (place : ℕ) (grants : List ℕ) → Says
 says a k p g = record { answer = a; counts = k; place = p; grants = g }
+
+-- what a call does: the world that it leaves, what it says, and its log
+abbrev pub Result : Type 0
+Result = Made (World × Says)
 
 -- by whether an answer grants a lease; by whether it is Busy, with a reason
 abbrev pub If-granted : {A : Type 0} → Answer → (Lease → A → Type 0) → (A → Type 0) → A → Type 0
