@@ -17,3 +17,4 @@ pub mod Salvaged
 pub mod Histories
 pub mod Exactly
 pub mod Read
+pub mod Examples
