@@ -1,11 +1,11 @@
--- The statements of `Statements` and `Callers`, each proved of ours; the proofs are in the files behind.
+-- The statements of `Statements` and `Callers`, each proved of ours; the proofs are in the files behind. That the call is multi-lock over the sorted keys
+-- (`As-multilock`) is what crate `pinned` asks of every build; the lemma is in `Runs`.
 use Rattle.model.specs.Crew.{crewOf, crewAtWorkOf}
 use Rattle.history.specs.Items.{perform}
-use Rattle.anyorder.specs.Statements.{Shares, Serials-by-cell, Apart-by-cell, Taken-rising, Takes-rise, Each-key-live, Sorted-healthy, Keys-first, Checks-as-typed, As-multilock, Sorted-quiet, Later-position, Fourteen, Once-done}
+use Rattle.anyorder.specs.Statements.{Shares, Serials-by-cell, Apart-by-cell, Taken-rising, Takes-rise, Each-key-live, Sorted-healthy, Keys-first, Checks-as-typed, Sorted-quiet, Later-position, Fourteen, Once-done}
 use Rattle.anyorder.specs.Callers as callers
 use Rattle.anyorder.specs.Granted as granting
 use Rattle.anyorder.specs.Refused as refusing
-use Rattle.anyorder.specs.Runs as running
 use Rattle.anyorder.specs.Healthy as healthy
 use Rattle.anyorder.specs.Quiet as quiet
 use Rattle.anyorder.specs.Repeats as repeating
@@ -49,11 +49,6 @@ keys-first = refusing.keys-first
 
 pub later-position : Later-position perform
 later-position = refusing.later-position
-
--- ---- as multi-lock
-
-pub as-multilock : As-multilock perform
-as-multilock = running.as-multilock
 
 -- ---- `release_all`
 

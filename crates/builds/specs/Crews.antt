@@ -1,25 +1,28 @@
--- Wrong crews fail a theorem: the like of `Falls`, for crews. "Crew {2,5},{2,5}".
-use Prim.Native.Nat.{ℕ, zero, suc, _+_}
-use mathlib.Core.Path.{_≡_, refl}
+-- Wrong crews: the like of `Falls`. "Crew {2,5},{2,5}".
+use Prim.Native.Nat.{ℕ, zero, suc}
+use mathlib.Core.Path.{_≡_, refl, ap}
 use mathlib.Core.List.{List, [], _∷_, _++_}
 use mathlib.Core.Logic.{inl, inr}
 use native.Mathlib.Omega.{arith}
-use lib.ListN.{replicate}
+use lib.ListN.{getD, replicate}
+use Rattle.model.specs.Log.{Made}
 use Rattle.model.specs.Arena.{headOf, bitAt, ownerAt, waitersAt, setCell, isFree, isHeld, stateOf, stateAt, headFits, shapeFits, healthFits}
 use Rattle.model.specs.Refusals.{first}
 use Rattle.model.specs.Foreign.{runStepsOf, boundaryOf}
 use Rattle.model.specs.Lock.{takeOf, lateOf, secondOf, lockOf}
 use Rattle.model.specs.Crew.{total, startOf, allWithin, risesFrom, badLists, badTurns, crewRules, tryTurnOf, heldAllOf, releaseTurnOf, turnOf, turnsOf, takenOf, releasedOf, shiftOf, crewOf}
-use Rattle.history.specs.World.{number-of}
-use Rattle.progress.specs.Statements.{In, flat, Unfinished-told, Rounds-after, Demand-3, Tells, own-log}
+use Rattle.types.specs.declared.CrewReply.{CrewReply}
+use Rattle.progress.specs.Statements.{In, flat, Unfinished-told, Rounds-after, Demand-3}
 use Rattle.progress.specs.Examples.{opened}
+use Rattle.pinned.specs.Statements.{Crews}
+use Rattle.pinned.specs.Theorems.{no-other-crew}
 use Rattle.builds.specs.Wrong.{sevens-unfinished, first-only, moves-one}
 
 -- before its first turn the crew has taken nothing, and the wrong reply says 7
-pub sevens-falls : Tells sevens-unfinished → ⊥
-unfolding bitAt ownerAt waitersAt setCell isFree isHeld stateOf stateAt headFits shapeFits healthFits first runStepsOf boundaryOf takeOf lateOf secondOf lockOf total startOf allWithin risesFrom badLists badTurns crewRules tryTurnOf heldAllOf releaseTurnOf turnOf turnsOf takenOf releasedOf shiftOf crewOf own-log number-of
-sevens-falls h =
-    let e : _≡_ {A = ℕ} 7 0 = h (headOf 2 4 1 6) (replicate 24 0) (replicate 2 0) (2 ∷ 2 ∷ []) (2 ∷ 5 ∷ 2 ∷ 5 ∷ []) [] refl .taken 0 (omega arith) in
+pub sevens-falls : Crews sevens-unfinished → ⊥
+unfolding headFits shapeFits healthFits first total startOf allWithin risesFrom badLists badTurns crewRules turnsOf takenOf releasedOf shiftOf crewOf
+sevens-falls c =
+    let e : _≡_ {A = ℕ} 7 0 = ap (λ (m : Made (CrewReply × List ℕ)). getD (m .seen .0 .taken) 0 0) (no-other-crew sevens-unfinished c (headOf 2 4 1 6) (replicate 24 0) (replicate 2 0) (2 ∷ 2 ∷ []) (2 ∷ 5 ∷ 2 ∷ 5 ∷ []) []) in
     omega arith
 
 -- "a crew that moves one member falls to demand 3": eight rounds that name both members, and the second has taken nothing

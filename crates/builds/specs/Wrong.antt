@@ -1,16 +1,16 @@
 -- Wrong builds: answering functions of the calls' own types, each wrong in one thing. "Slips to be ruled out" and "Idle builds the promises must
--- reject" of document 01, slips that document 02, L1, L3, L4 and L8, invite, and six slips of definitions that an earlier set of
--- theorems let pass. `Falls`, `Reasons`, `Orders`, `Boots` and `Crews` prove which theorem each fails. Where nothing else is said a build does as ours does.
-use Prim.Native.Nat.{ℕ, zero, suc, _+_, _-_, _%_}
-use mathlib.Core.List.{List, [], _∷_, _++_}
-use mathlib.Core.Bool.{_||_}
-use lib.Dec.{leb, eqb}
+-- reject" of document 01, slips that document 02, L1, L3, L4 and L8, invite, slips of definitions that an earlier set of theorems let pass, and slips of the log
+-- alone. `Falls` and `Crews` prove that each fails `Meets` of crate `pinned`, or what stands beside it. Where nothing else is said a build does as ours does.
+use Prim.Native.Nat.{ℕ, zero, suc, _+_, _-_, _/_, _%_}
+use mathlib.Core.List.{List, [], _∷_, _++_, reverse}
+use mathlib.Core.Bool.{_||_, _&&_}
+use lib.Dec.{ltb, leb, eqb}
 use lib.ListN.{length, getD, replicate}
 use Rattle.choice.specs.Choice.{if_then_else_}
 use Rattle.model.specs.Log.{Made, Event, by-caller, by-script, attempt-begun, boundary-run, yielded, spun, step-dropped, took, released, waiters-set, health-set, held-all, added, gives, note, _>>=_, _>>_}
-use Rattle.model.specs.Arena.{headOf, spentTo, leaseOf, leasesOf, holdsOf, ownerAt, setCell, holdIn, leaseUnder}
+use Rattle.model.specs.Arena.{headOf, spentTo, leaseOf, leasesOf, holdsOf, wordsOf, ownerAt, setCell, setWaiters, holdIn, leaseUnder}
 use Rattle.model.specs.Refusals.{Rule, numberOf, carriedOf, first, judge}
-use Rattle.model.specs.Answers.{refusalIn}
+use Rattle.model.specs.Answers.{kindOf, refusalIn}
 use Rattle.model.specs.Foreign.{Setting, boundaryOf}
 use Rattle.model.specs.Lock.{runOf, attemptOf, attemptLimit, noneYet, spinOf, isBusy, lastOf, triedOf, answerOf, settled}
 use Rattle.model.specs.Checks.{staleBoot, tooManyLeases}
@@ -27,13 +27,12 @@ use Rattle.types.specs.declared.Lease.{Lease}
 use Rattle.types.specs.declared.Outcome.the-variants as outcome
 use Rattle.types.specs.declared.Reason.{Reason}
 use Rattle.types.specs.declared.Reason.the-variants as reason
-use Rattle.types.specs.declared.Refusal.{Refusal}
 use Rattle.types.specs.declared.Refusal.the-variants as refusal
 use Rattle.types.specs.declared.Run.{Run}
 use Rattle.types.specs.declared.Tried.{Tried}
 use Rattle.history.specs.World.{World, worldOf, now, caller-releases}
-use Rattle.history.specs.Items.{Call, try-acquire, drop-lease, read-permission, competing-acquire, release-then-handoff, foreign-release, drop-preserving, acquire-preserving, environment, try-lock, transactional, acquire-bucket, release-all, acquire-locks, acquire-sorted, crew, crew-at-work, asked, cellOf, place-of, Says, says, unchanged, perform, foreign, Build, Stepper}
-use Rattle.history.specs.Statements.{Crew-build, answer-in, scripted}
+use Rattle.history.specs.Items.{Call, try-acquire, drop-lease, read-permission, competing-acquire, release-then-handoff, foreign-release, drop-preserving, acquire-preserving, environment, try-lock, transactional, acquire-bucket, release-all, acquire-locks, acquire-sorted, crew, crew-at-work, asked, cellOf, script-of, place-of, held-of, given-up, Says, says, unchanged, perform, foreign, Build, Stepper}
+use Rattle.history.specs.Statements.{Crew-build, scripted}
 
 -- ---- the same with another answer, and the like
 
@@ -285,34 +284,15 @@ serial-back-at-seven w k = let m = perform w k in at-seven (λ l. leaving (one-f
 
 -- ---- document 02, L1: "held, with the owner's serial; waiters seen before the compare-and-set; waiters seen after it."
 
--- another refusal in place of 11
-abbrev pub instead-of-failed : (Reason → Refusal) → Refusal → Refusal
-instead-of-failed f refusal.BadShape = refusal.BadShape
-instead-of-failed f refusal.BadScript = refusal.BadScript
-instead-of-failed f (refusal.BadHeld i) = refusal.BadHeld i
-instead-of-failed f refusal.TooMany = refusal.TooMany
-instead-of-failed f (refusal.BadBinding i) = refusal.BadBinding i
-instead-of-failed f (refusal.BadHeader i) = refusal.BadHeader i
-instead-of-failed f (refusal.Poisoned i) = refusal.Poisoned i
-instead-of-failed f (refusal.InvalidBucket i) = refusal.InvalidBucket i
-instead-of-failed f (refusal.Damaged c) = refusal.Damaged c
-instead-of-failed f (refusal.SerialsSpent c) = refusal.SerialsSpent c
-instead-of-failed f (refusal.SerializationFailure why) = f why
-instead-of-failed f (refusal.NotHeld i) = refusal.NotHeld i
-instead-of-failed f refusal.Protected = refusal.Protected
-instead-of-failed f (refusal.Repeated i) = refusal.Repeated i
-instead-of-failed f (refusal.BadCrew i) = refusal.BadCrew i
-instead-of-failed f (refusal.StaleBoot i) = refusal.StaleBoot i
-
--- another reason, of Busy and of 11
+-- Busy for another reason
 abbrev pub reworded : (Reason → Reason) → Answer → Answer
 reworded f Done = Done
 reworded f (Cell c) = Cell c
 reworded f (Granted l) = Granted l
 reworded f AllGranted = AllGranted
 reworded f (Busy why) = Busy (f why)
-reworded f (Refused r) = Refused (instead-of-failed (λ why. refusal.SerializationFailure (f why)) r)
-reworded f (RefusedAt r p) = RefusedAt (instead-of-failed (λ why. refusal.SerializationFailure (f why)) r) p
+reworded f (Refused r) = Refused r
+reworded f (RefusedAt r p) = RefusedAt r p
 
 -- before and after exchanged: where no serial was spent it gives the next one
 abbrev pub exchanged : ℕ → Reason → Reason
@@ -331,22 +311,6 @@ held-by next (reason.After s) = reason.After s
 
 abbrev pub names-next : Build
 names-next w k = answering (λ s. reworded (held-by (w .head .next)) (s .answer)) (perform w k)
-
--- "the reason of the last Busy attempt": 11 gives that of the first, which is what `transactional_try_lock_bucket` answers at the same place
-abbrev pub busy-by : Answer → Reason → Reason
-busy-by Done why = why
-busy-by (Cell c) why = why
-busy-by (Granted l) why = why
-busy-by AllGranted why = why
-busy-by (Busy first) why = first
-busy-by (Refused r) why = why
-busy-by (RefusedAt r p) why = why
-
-abbrev pub first-reason : Build
-first-reason =
-    others our-drop
-    (λ w registry script place held binding bucket. answering (λ s. reworded (busy-by (answer-in (our-once w registry script place held binding bucket))) (s .answer)) (our-key w registry script place held binding bucket))
-    our-once our-releases our-locks our-sorted
 
 -- ---- document 02, L8: "A lease with another boot number is refused", and a grant has the head's
 
@@ -445,7 +409,7 @@ loses-boot w k =
     let v = m .seen .0 in
     leaving (worldOf (headOf (v .head .headers) (v .head .buckets) (v .head .next) 0) (v .table) (v .health)) m
 
--- ---- six slips of definitions that no theorem caught once
+-- ---- slips of definitions that no theorem caught once
 
 -- a `try_lock` of a held cell answers Granted with the present owner's lease
 abbrev pub granting : Lease → Answer → Answer
@@ -467,7 +431,7 @@ ten (Cell c) = Cell c
 ten (Granted k) = Granted k
 ten AllGranted = AllGranted
 ten (Busy why) = Busy why
-ten (Refused r) = Refused (instead-of-failed (λ why. refusal.SerialsSpent 0) r)
+ten (Refused r) = if eqb (numberOf r) 11 then Refused (refusal.SerialsSpent 0) else Refused r
 ten (RefusedAt r p) = RefusedAt r p
 
 abbrev pub ten-for-eleven : Build
@@ -476,6 +440,111 @@ ten-for-eleven w k = answering (λ s. ten (s .answer)) (perform w k)
 -- multi-lock never moves its script's place
 abbrev pub place-stays : Build
 place-stays w k = placing (place-of k) (perform w k)
+
+-- ---- as ours, but for the calls of one kind
+
+-- a number for each kind of call
+abbrev pub kind : Call → ℕ
+kind (try-acquire c) = 0
+kind (drop-lease l) = 1
+kind (read-permission l) = 2
+kind (competing-acquire l) = 3
+kind (release-then-handoff l) = 4
+kind (foreign-release held l) = 5
+kind (drop-preserving held l) = 6
+kind (acquire-preserving held c) = 7
+kind (environment script place held) = 8
+kind (try-lock script place held c) = 9
+kind (transactional registry script place held binding bucket) = 10
+kind (acquire-bucket registry script place held binding bucket) = 11
+kind (release-all script place leases) = 12
+kind (acquire-locks registry script place held keys grants) = 13
+kind (acquire-sorted registry script place held keys grants) = 14
+kind (crew counts cells turns) = 15
+kind (crew-at-work counts cells turns counters) = 16
+
+abbrev pub but-for : ℕ → (World → Call → Made (World × Says) → Made (World × Says)) → Build
+but-for n f w k = if eqb (kind k) n then f w k (perform w k) else perform w k
+
+-- `drop_preserving_borrows` frees the cell and sets its waiters to 1: from then on it is Busy for everybody
+abbrev pub waited-for : List Hold → World → World
+waited-for [] w = w
+waited-for (l ∷ ls) w = worldOf (w .head) (setWaiters (w .table) (l .cell) 1) (w .health)
+
+abbrev pub leaves-a-waiter : Build
+leaves-a-waiter = but-for 6 λ w k m. if eqb (kindOf (m .seen .1 .answer)) 0 then leaving (waited-for (given-up k) (m .seen .0)) m else m
+
+-- a `try_lock` whose third boundary ran ten steps or more refuses a healthy unwaited cell with 7
+abbrev pub third-begins : World → Call → ℕ
+third-begins w k =
+    let held = wordsOf (w .head .boot) (held-of k) in
+    let x = perform w (environment (script-of k) (place-of k) held) in
+    perform (x .seen .0) (environment (script-of k) (x .seen .1 .place) held) .seen .1 .place
+
+abbrev pub seven-after-ten : Build
+seven-after-ten =
+    but-for 9 λ w k m.
+    let v = m .seen .0 in
+    if eqb (kindOf (m .seen .1 .answer)) 2 && leb 10 (m .seen .1 .place - third-begins w k)
+    then leaving (worldOf (v .head) (setCell (v .table) (asked w k) 0 0) (v .health)) (answering (λ s. Refused (refusal.Poisoned (asked w k / w .head .buckets))) m)
+    else m
+
+-- the sorted call tells a later 9 as 10
+abbrev pub nine-to-ten : Answer → Answer
+nine-to-ten (RefusedAt r p) = if eqb (numberOf r) 9 then RefusedAt (refusal.SerialsSpent (carriedOf r)) p else RefusedAt r p
+nine-to-ten Done = Done
+nine-to-ten (Cell c) = Cell c
+nine-to-ten (Granted l) = Granted l
+nine-to-ten AllGranted = AllGranted
+nine-to-ten (Busy why) = Busy why
+nine-to-ten (Refused r) = Refused r
+
+abbrev pub nine-as-ten : Build
+nine-as-ten = but-for 14 λ w k m. answering (λ s. nine-to-ten (s .answer)) m
+
+-- more than 33 headers are refused
+abbrev pub few-headers : Build
+few-headers w k = if ltb 33 (w .head .headers) then unchanged w k refusal.BadShape else perform w k
+
+-- `transactional_try_lock_bucket` refuses a registry of 64 entries
+abbrev pub sixty-three : Build
+sixty-three =
+    others our-drop our-key
+    (λ w registry script place held binding bucket.
+    if ltb 63 (length registry) then unchanged w (transactional registry script place held binding bucket) refusal.BadShape else our-once w registry script place held binding bucket)
+    our-releases our-locks our-sorted
+
+-- ---- wrong in the log alone: what is seen is ours
+
+abbrev pub relogged : (List Event → List Event) → Made (World × Says) → Made (World × Says)
+relogged f m = record { seen = m .seen; log = f (m .log) }
+
+-- `drop_lease` notes its release as the script's
+abbrev pub as-script : List Hold → List Event → List Event
+as-script ls [] = []
+as-script [] (e ∷ es) = e ∷ es
+as-script (l ∷ ls) (e ∷ es) = released by-script (l .cell) (l .serial) ∷ []
+
+abbrev pub blames-the-script : Build
+blames-the-script = but-for 1 λ w k m. relogged (as-script (given-up k)) m
+
+-- `environment` notes its boundary behind its steps, and the steps backwards
+abbrev pub notes-backwards : Build
+notes-backwards = but-for 8 λ w k m. relogged reverse m
+
+-- `try_lock` begins two attempts and counts one
+abbrev pub begins-twice : Build
+begins-twice = but-for 9 λ w k m. relogged (λ es. attempt-begun ∷ es) m
+
+-- a spin after each call of `acquire_index_bucket`: spins are not counted
+abbrev pub spins-once-more : Build
+spins-once-more = but-for 11 λ w k m. relogged (λ es. es ++ (spun ∷ [])) m
+
+-- the crew's log is empty
+abbrev pub silent-crew : Build
+silent-crew = but-for 15 λ w k m. relogged (λ es. []) m
+
+-- ---- a lone step, and crews
 
 -- a legal foreign take dropped at the last serial
 abbrev pub spares-last : Stepper

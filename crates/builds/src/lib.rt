@@ -1,1 +1,1 @@
-// Wrong builds, and the theorem that each of them fails. Theorems only: specs/.
+// Wrong builds, each of which fails what crate `pinned` asks of a build. Theorems only: specs/.

@@ -1,7 +1,7 @@
 -- Attempts, counted from outside, as statements for any script and any arena: how one attempt ends; that `acquire_index_bucket` is attempts and
 -- boundaries, and multi-lock such calls key by key; and what follows for the counts. `Theorems` has the proofs by name. What stands in quotes is
 -- of document 01 or 02.
-use Prim.Native.Nat.{ℕ, _+_, _/_, _≤_, _%_, _<_, _-_}
+use Prim.Native.Nat.{ℕ, _+_, _/_, _≤_, _%_, _<_}
 use mathlib.Core.Path.{_≡_}
 use mathlib.Core.List.{List, _∷_, _++_, []}
 use mathlib.Core.Logic.{_↔_}
@@ -118,21 +118,6 @@ Bucket-attempts f =
     → let k = acquire-bucket registry script place held binding bucket in
     Passes w k
     → Attempts (λ v p. f v (transactional registry script p held binding bucket)) (λ v p. f v (environment script p held)) 0 last w place (f w k)
-
--- document 02, L1: "the reason of the last Busy attempt", and "refusal 11 carries that reason": attempts from number i on, a pause after each but the
--- last, and the last, number 4,095, answers Busy with this reason
-module _ (attempt between : World → (place : ℕ) → Made (World × Says)) where
-  pub data Ends-busy : (i : ℕ) (w : World) (p : ℕ) (why : Reason) → Type 0 where
-    last-busy : {w : World} {p : ℕ} {why : Reason} → answer-in (attempt w p) ≡ Busy why → Ends-busy 4095 w p why
-    then-more : {i : ℕ} {w : World} {p : ℕ} {why : Reason} {m : Made (World × Says)} (this : Reason) → answer-in (attempt w p) ≡ Busy this
-        → Pause attempt between i (world-in (attempt w p)) (place-in (attempt w p)) m → Ends-busy (i + 1) (world-in m) (place-in m) why → Ends-busy i w p why
-
-abbrev pub Reason-of-last : Build → Type 0
-Reason-of-last f =
-    (w : World) (registry script : List ℕ) (place : ℕ) (held : List ℕ) (binding bucket : ℕ) (why : Reason)
-    → let k = acquire-bucket registry script place held binding bucket in
-    Passes w k → answer-in (f w k) ≡ Refused (SerializationFailure why)
-    → Ends-busy (λ v p. f v (transactional registry script p held binding bucket)) (λ v p. f v (environment script p held)) 0 w place why
 
 -- ---- multi-lock is `acquire_index_bucket` key by key, each holding what was taken before; and, refused, `drop_lease` and `environment` for each
 -- lease taken, the last first

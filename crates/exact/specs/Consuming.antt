@@ -1,6 +1,6 @@
 -- How a call uses up its script: the steps from its place on are run once each, in order, at the boundaries in order, each boundary up to and
 -- with its 5 or to the script's end. Between two boundaries there are only the caller's own events. No arena rule is needed.
-use Prim.Native.Nat.{ℕ, _+_, _≤_}
+use Prim.Native.Nat.{ℕ, _≤_}
 use mathlib.Core.Path.{_≡_, refl, sym, ap, _∙_, subst}
 use mathlib.Core.List.{List, _∷_, _++_, append-assoc}
 use native.Mathlib.Omega.{arith}
@@ -64,15 +64,6 @@ module _ {script : List ℕ} where
   boundary-now (at-five i k) = refl
   boundary-now {w = w} (one-step {es = es} {fs = fs} i k s b) =
       boundary-now b ∙ ap (λ (x : World). now x fs) (step-now s) ∙ sym (now-append w es fs)
-
-  pub consumed-now : {Own : World → Event → Type 0} {ps rs : List Hold} {p d q c : ℕ} {w v : World} {es : List Event} → Consumed Own script ps p d w rs q c v es → v ≡ now w es
-  consumed-now at-rest = refl
-  consumed-now (counts attempts-one m) = consumed-now m
-  consumed-now (counts yields-once m) = consumed-now m
-  consumed-now (counts spins m) = consumed-now m
-  consumed-now (takes l o m) = consumed-now m
-  consumed-now (gives-up l o m) = consumed-now m
-  consumed-now {w = w} (boundary {es = es} {fs = fs} b m) = consumed-now m ∙ ap (λ (x : World). now x fs) (boundary-now b) ∙ sym (now-append w es fs)
 
 -- over a lawful log the caller's own events are legal
 pub lawfully : {Own : World → Event → Type 0} {script : List ℕ} {ps rs : List Hold} {p d q c : ℕ} {w v : World} {es : List Event}

@@ -2,12 +2,12 @@
 -- dropped, once, and nothing changes.
 use Prim.Native.Nat.{ℕ, _≤_}
 use mathlib.Core.Path.{_≡_, refl, sym, _∙_, subst}
-use mathlib.Core.List.{List, [], _∷_, _++_, append-nil}
+use mathlib.Core.List.{List, [], _∷_, _++_}
 use mathlib.Core.Bool.{true, not, _&&_}
 use native.Mathlib.Omega.{arith}
 use lib.Dec.{ltb, leb, eqb}
 use borrow.Author.Tests.{ltb-true, leb-true, eqb-true, eqb-false, lt-ltb, le-leb, eq-eqb, not-true}
-use Rattle.model.specs.Log.{Made, Event, by-script, attempt-begun, boundary-run, yielded, spun, step-dropped, took, released, waiters-set, health-set, held-all, added}
+use Rattle.model.specs.Log.{Made, Event, by-script, step-dropped, took, released, waiters-set, health-set}
 use Rattle.model.specs.Arena.{lastSerial, serialRemains, cellsOf, holdOf, bitAt, ownerAt, isFree, isLive, isIn}
 use Rattle.model.specs.Foreign.{stepTakeOf, stepReleaseOf, stepWaitersOf, stepHealthOf, stepOf}
 use Rattle.model.specs.Calls.{given}
@@ -15,11 +15,10 @@ use Rattle.types.specs.declared.Head.{Head}
 use Rattle.types.specs.declared.Hold.{Hold}
 use Rattle.types.specs.declared.Stepped.{Stepped}
 use Rattle.choice.specs.Pick.{both}
-use Rattle.history.specs.World.{World, Legal, step}
-use Rattle.history.specs.Items.{foreign}
+use Rattle.history.specs.World.{World}
 use Rattle.history.specs.Tests.{differ, is-free-state, free-words, if-cases}
 use Rattle.history.specs.Steps.{With, worldAt, of-step}
-use Rattle.exact.specs.Statements.{Allowed, Asks, Foreign-exactly, Stepping, Lone, dropped, looks, release-it, set-health, set-waiters, take-a-cell, ends, performed}
+use Rattle.exact.specs.Statements.{Allowed, Asks, Stepping, dropped, looks, release-it, set-health, set-waiters, take-a-cell, ends, performed}
 
 -- only kinds 1 to 4 ask for anything
 asks-kind : {w : World} {kind place number : ℕ} {e : Event} → Asks w kind place number e → (1 ≤ kind) × (kind ≤ 4)
@@ -117,100 +116,3 @@ module _ (h : Head) (script : List ℕ) (ps : List Hold) (n : ℕ) (t g : List �
 
       none : (kind ≡ 1 → ⊥) → (kind ≡ 2 → ⊥) → (kind ≡ 3 → ⊥) → (kind ≡ 4 → ⊥) → (1 ≤ kind) × (kind ≤ 4) → ⊥
       none a b c d r = omega (arith, r .0, r .1)
-
-allowed-legal : (w : World) (ps : List Hold) (e : Event) → Allowed w ps e → Legal w e
-allowed-legal w ps attempt-begun l = l
-allowed-legal w ps boundary-run l = l
-allowed-legal w ps yielded l = l
-allowed-legal w ps spun l = l
-allowed-legal w ps step-dropped l = l
-allowed-legal w ps (took a c s) l = l
-allowed-legal w ps (released a c s) l = l .0
-allowed-legal w ps (waiters-set c n) l = l
-allowed-legal w ps (health-set i n) l = l
-allowed-legal w ps (held-all m) l = l
-allowed-legal w ps (added m c v) l = l
-
-legal-allowed : (w : World) (e : Event) → Legal w e → Allowed w [] e
-unfolding isIn
-legal-allowed w attempt-begun l = l
-legal-allowed w boundary-run l = l
-legal-allowed w yielded l = l
-legal-allowed w spun l = l
-legal-allowed w step-dropped l = l
-legal-allowed w (took a c s) l = l
-legal-allowed w (released a c s) l = (l, refl)
-legal-allowed w (waiters-set c n) l = l
-legal-allowed w (health-set i n) l = l
-legal-allowed w (held-all m) l = l
-legal-allowed w (added m c v) l = l
-
--- a drop is asked for by no step
-not-asked : {w : World} {kind place number : ℕ} {e : Event} → Asks w kind place number e → e ≡ step-dropped → ⊥
-not-asked (take-a-cell c s) q = let z : _≡_ {A = ℕ} 0 1 = cc in omega arith
-not-asked (release-it c s) q = let z : _≡_ {A = ℕ} 0 1 = cc in omega arith
-not-asked (set-waiters c s) q = let z : _≡_ {A = ℕ} 0 1 = cc in omega arith
-not-asked (set-health c s) q = let z : _≡_ {A = ℕ} 0 1 = cc in omega arith
-
-module _ (w : World) where
-  -- the step, as `foreign` gives it
-  foreign-is : (kind place number : ℕ)
-      → (d : ℕ) × Stepping w [] kind place number (foreign w kind place number .seen) (foreign w kind place number .log) d
-  unfolding foreign
-  foreign-is kind place number =
-      let m = stepOf (given (w .head) [] []) (w .head .next) (w .table) (w .health) kind place number in
-      (m .seen .0 .dropped, rw append-nil (step-is (w .head) [] [] (w .head .next) (w .table) (w .health) kind place number))
-
-  module _ {kind place number : ℕ} (e : Event) (a : Asks w kind place number e) (only : (x : Event) → Asks w kind place number x → e ≡ x) where
-    lone-of : {v : World} {es : List Event} {d : ℕ} → Stepping w [] kind place number v es d → Lone w e (record { seen = v; log = es })
-    lone-of (looks z) = absurd (omega (arith, asks-kind a .0))
-    lone-of (ends z) = absurd (omega (arith, asks-kind a .1))
-    lone-of (performed x b l) =
-        let k = allowed-legal w [] e (subst (Allowed w []) (sym (only x b)) l) in
-        subst (λ y. Lone w e (record { seen = step w y; log = y ∷ [] })) (only x b)
-        (record { done = (λ _. k, λ _. refl); lost = (λ q. absurd (not-asked a cc), λ n. absurd (n k)); legal = λ _. refl; illegal = λ n. absurd (n k) })
-    lone-of (dropped i j n) =
-        let k : Legal w e → ⊥ = λ l. n e a (legal-allowed w e l) in
-        record { done = (λ q. absurd (not-asked a cc), λ l. absurd (k l)); lost = (λ _. k, λ _. refl); legal = λ l. absurd (k l); illegal = λ _. refl }
-
-pub foreign-exactly : Foreign-exactly foreign
-foreign-exactly w c n =
-    record {
-      takes = lone-of w (took by-script c (w .head .next)) (take-a-cell c n) only-take (foreign-is w 1 c n .1);
-      releases = lone-of w (released by-script c n) (release-it c n) only-release (foreign-is w 2 c n .1);
-      sets-waiters = lone-of w (waiters-set c n) (set-waiters c n) only-waiters (foreign-is w 3 c n .1);
-      sets-health = lone-of w (health-set c n) (set-health c n) only-health (foreign-is w 4 c n .1);
-      observes = observe (foreign-is w 0 c n .1) refl;
-      closes = close (foreign-is w 5 c n .1) refl;
-      others = λ k i. other i (foreign-is w k c n .1);
-    }
-  where
-    only-take : (x : Event) → Asks w 1 c n x → took by-script c (w .head .next) ≡ x
-    only-take x (take-a-cell _ _) = refl
-
-    only-release : (x : Event) → Asks w 2 c n x → released by-script c n ≡ x
-    only-release x (release-it _ _) = refl
-
-    only-waiters : (x : Event) → Asks w 3 c n x → waiters-set c n ≡ x
-    only-waiters x (set-waiters _ _) = refl
-
-    only-health : (x : Event) → Asks w 4 c n x → health-set c n ≡ x
-    only-health x (set-health _ _) = refl
-
-    observe : {k d : ℕ} {v : World} {es : List Event} → Stepping w [] k c n v es d → k ≡ 0 → _≡_ {A = Made World} (record { seen = v; log = es }) (record { seen = w; log = [] })
-    observe (looks z) q = refl
-    observe (ends z) q = refl
-    observe (performed x a l) q = absurd (omega (arith, asks-kind a .0))
-    observe (dropped i j x) q = absurd (i q)
-
-    close : {k d : ℕ} {v : World} {es : List Event} → Stepping w [] k c n v es d → k ≡ 5 → _≡_ {A = Made World} (record { seen = v; log = es }) (record { seen = w; log = [] })
-    close (looks z) q = refl
-    close (ends z) q = refl
-    close (performed x a l) q = absurd (omega (arith, asks-kind a .1))
-    close (dropped i j x) q = absurd (j q)
-
-    other : {k d : ℕ} {v : World} {es : List Event} → 6 ≤ k → Stepping w [] k c n v es d → _≡_ {A = Made World} (record { seen = v; log = es }) (record { seen = w; log = step-dropped ∷ [] })
-    other i (looks z) = absurd (omega arith)
-    other i (ends z) = absurd (omega arith)
-    other i (performed x a l) = absurd (omega (arith, asks-kind a .1))
-    other i (dropped x y z) = refl

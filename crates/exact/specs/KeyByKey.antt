@@ -62,7 +62,7 @@ none-added : (c : Counts) → added-up (countsOf 0 0 0 0) c ≡ c
 none-added c = rw (zero-add (c .attempts), zero-add (c .boundaries), zero-add (c .yields), zero-add (c .dropped))
 
 -- a lease of the first n of a list, by its place
-in-first-of : (P : Hold → Type 0) (n : ℕ) (ls : List Hold) → n ≤ length ls → ((i : ℕ) → i < n → P (holdAt ls i)) → (l : Hold) → In (take n ls) l → P l
+pub in-first-of : (P : Hold → Type 0) (n : ℕ) (ls : List Hold) → n ≤ length ls → ((i : ℕ) → i < n → P (holdAt ls i)) → (l : Hold) → In (take n ls) l → P l
 in-first-of P n ls b all l i =
     let x = in-index (take n ls) l noHold i in
     let y : x .0 < n = omega (arith, x .1, length-take-le n ls b) in

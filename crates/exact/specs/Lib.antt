@@ -5,7 +5,6 @@ pub mod Theorems
 pub mod Cases
 pub mod Made
 pub mod Passing
-pub mod TryAcquire
 pub mod ForeignSteps
 pub mod Quiet
 pub mod QuietCalls
@@ -19,7 +18,6 @@ pub mod Retried
 pub mod CountedOn
 pub mod Ending
 pub mod Attempting
-pub mod LastReason
 pub mod KeyByKey
 pub mod Boundaries
 pub mod Bits

@@ -1,6 +1,6 @@
 -- How a call uses up its script, as statements: the steps from its place on are run once each, in order, at the boundaries in order, each boundary
 -- up to and with its 5 or to the script's end. Between two boundaries there are only the caller's own events. Proofs are named in `Theorems`.
-use Prim.Native.Nat.{ℕ, _+_, _≤_, _<_, _-_}
+use Prim.Native.Nat.{ℕ, _+_, _≤_, _<_}
 use mathlib.Core.Path.{_≡_}
 use mathlib.Core.List.{List, _∷_, [], _++_}
 use lib.ListN.{length, getD}

@@ -1,14 +1,14 @@
--- When a call must do what, as statements: `try_acquire`, a lone foreign step, and every lock whose script is at its end, by an exactly-if or by
--- a table that gives answer, counts, place and world in each case. `Script` and `Attempts` have the statements for any script, `Theorems` the
--- proofs by name. What stands in quotes is of document 01 or 02. A statement is one of any build, any function that answers calls; `Theorems` proves it
--- of ours. The arena need not be sound: its shape fits, or the call passes its checks, and that is all.
-use Prim.Native.Nat.{ℕ, _<_, _≤_, suc, _+_, zero, _*_, _-_}
+-- When a lock must do what, as statements: every lock whose script is at its end, by an exactly-if or by a table that gives answer, counts, place and world
+-- in each case. `Script` and `Attempts` have the statements for any script, `Theorems` the proofs by name; what every call is, whatever its script, is in crate
+-- `pinned`. What stands in quotes is of document 01 or 02. A statement is one of any build, any function that answers calls; `Theorems` proves it of ours. The
+-- arena need not be sound: the call passes its checks, and that is all.
+use Prim.Native.Nat.{ℕ, _<_, _≤_, suc, _+_, zero, _*_}
 use mathlib.Core.Path.{_≡_}
 use mathlib.Core.List.{List, [], _∷_}
 use mathlib.Core.Bool.{false}
 use mathlib.Core.Logic.{_↔_}
 use lib.ListN.{getD}
-use Rattle.model.specs.Log.{Event, Made, took, by-caller, by-script, attempt-begun, released, waiters-set, health-set, held-all, added, yielded, spun, boundary-run, step-dropped}
+use Rattle.model.specs.Log.{Event, took, by-caller, by-script, attempt-begun, released, waiters-set, health-set, held-all, added, yielded, spun, boundary-run, step-dropped}
 use Rattle.model.specs.Arena.{bitAt, headerOf, waitersAt, lastSerial, isIn, leaseOf, holdOf, spentTo, ownerAt, wordsOf}
 use Rattle.model.specs.Foreign.{stepsIn}
 use Rattle.model.specs.Lock.{bindingAt, bucketAt}
@@ -22,10 +22,9 @@ use Rattle.types.specs.declared.Reason.{Reason}
 use Rattle.types.specs.declared.Reason.the-variants as reason
 use Rattle.types.specs.declared.Refusal.{Refusal}
 use Rattle.types.specs.declared.Refusal.the-variants.{BadHeader, Damaged, InvalidBucket, SerializationFailure, SerialsSpent, Poisoned}
-use Rattle.history.specs.World.{World, Healthy, Legal, cells, now, step, worldOf}
-use Rattle.history.specs.Items.{Build, Says, Stepper, Call, acquire-bucket, acquire-locks, says, transactional, try-lock, keyCell, cellOf, try-acquire, Clear, rules}
+use Rattle.history.specs.World.{World, Healthy, Legal, now, step, worldOf}
+use Rattle.history.specs.Items.{Build, Says, Call, acquire-bucket, acquire-locks, says, transactional, try-lock, keyCell, cellOf, Clear, rules}
 use Rattle.history.specs.Statements.{answer-in}
-use Rattle.history.specs.Callers.{Shape-fits}
 
 -- the call passes its checks: none of document 01's table applies to what it was given
 abbrev pub Passes : World → Call → Type 0
@@ -41,44 +40,6 @@ Is-held w c = (bitAt (w .table) c ≡ 1) × (1 ≤ ownerAt (w .table) c) × (own
 
 abbrev pub Is-damaged : World → ℕ → Type 0
 Is-damaged w c = (Is-free w c → ⊥) × (Is-held w c → ⊥)
-
--- ---- `try_acquire`
-
--- one attempt that changes nothing
-abbrev pub stays : World → Answer → Made (World × Says)
-stays w a = record { seen = (w, says a (countsOf 1 0 0 0) 0 []); log = attempt-begun ∷ [] }
-
--- one attempt that takes the cell
-abbrev pub takes-it : World → ℕ → Made (World × Says)
-takes-it w c =
-    let e = took by-caller c (w .head .next) in
-    record { seen = (step w e, says (Granted (leaseOf c (w .head .next) (w .head .boot))) (countsOf 1 0 0 0) 0 []); log = attempt-begun ∷ e ∷ [] }
-
--- the cell is not there: refused before any attempt
-abbrev pub no-cell : World → ℕ → Made (World × Says)
-no-cell w c = record { seen = (w, says (Refused (InvalidBucket c)) (countsOf 0 0 0 0) 0 []); log = [] }
-
--- the five ways, and what the whole call is in each: answer, counts, world and log
-pub data Tries (w : World) (c : ℕ) : Made (World × Says) → Type 0 where
-  outside : cells w ≤ c → Tries w c (no-cell w c)
-  damaged : c < cells w → Is-damaged w c → Tries w c (stays w (Refused (Damaged c)))
-  -- document 02, L1: "held, with the owner's serial"
-  held : c < cells w → Is-held w c → Tries w c (stays w (Busy (reason.Held (ownerAt (w .table) c))))
-  spent : c < cells w → Is-free w c → lastSerial ≤ w .head .next → Tries w c (stays w (Refused (SerialsSpent c)))
-  free : c < cells w → Is-free w c → w .head .next < lastSerial → Tries w c (takes-it w c)
-
--- an exactly-if for each answer
-pub record Answered (f : Build) (w : World) (c : ℕ) : Type 0 where
-  pub granted : (l : Lease) → (answer-in (f w (try-acquire c)) ≡ Granted l) ↔ ((c < cells w) × Is-free w c × (w .head .next < lastSerial) × (l ≡ leaseOf c (w .head .next) (w .head .boot)))
-  pub busy : (why : Reason) → (answer-in (f w (try-acquire c)) ≡ Busy why) ↔ ((c < cells w) × Is-held w c × (why ≡ reason.Held (ownerAt (w .table) c)))
-  pub damaged : (d : ℕ) → (answer-in (f w (try-acquire c)) ≡ Refused (Damaged d)) ↔ ((c < cells w) × Is-damaged w c × (d ≡ c))
-  pub spent : (d : ℕ) → (answer-in (f w (try-acquire c)) ≡ Refused (SerialsSpent d)) ↔ ((c < cells w) × Is-free w c × (lastSerial ≤ w .head .next) × (d ≡ c))
-  pub outside : (d : ℕ) → (answer-in (f w (try-acquire c)) ≡ Refused (InvalidBucket d)) ↔ ((cells w ≤ c) × (d ≡ c))
-  -- and the whole of it: what is granted is taken, with the next serial, and nothing else ever changes the world
-  pub whole : Tries w c (f w (try-acquire c))
-
-abbrev pub Try-acquire-exactly : Build → Type 0
-Try-acquire-exactly f = (w : World) (c : ℕ) → Shape-fits w → Answered f w c
 
 -- ---- what a step asks for, by its kind: the event that it makes if it is performed
 
@@ -111,27 +72,6 @@ pub data Stepping (w : World) (ps : List Hold) (kind place number : ℕ) : World
   -- "another kind, or not legal"
   dropped : (kind ≡ 0 → ⊥) → (kind ≡ 5 → ⊥) → ((e : Event) → Asks w kind place number e → Allowed w ps e → ⊥)
       → Stepping w ps kind place number w (step-dropped ∷ []) 1
-
--- ---- a lone step, between two calls: nobody's lease is protected then
-
--- what a step asks for is done exactly if it is legal, else it is dropped; and a drop changes nothing
-pub record Lone (w : World) (e : Event) (m : Made World) : Type 0 where
-  pub done : (m .log ≡ e ∷ []) ↔ Legal w e
-  pub lost : (m .log ≡ step-dropped ∷ []) ↔ (Legal w e → ⊥)
-  pub legal : Legal w e → m ≡ record { seen = step w e; log = e ∷ [] }
-  pub illegal : (Legal w e → ⊥) → m ≡ record { seen = w; log = step-dropped ∷ [] }
-
-pub record Lone-exactly (f : Stepper) (w : World) (c n : ℕ) : Type 0 where
-  pub takes : Lone w (took by-script c (w .head .next)) (f w 1 c n)
-  pub releases : Lone w (released by-script c n) (f w 2 c n)
-  pub sets-waiters : Lone w (waiters-set c n) (f w 3 c n)
-  pub sets-health : Lone w (health-set c n) (f w 4 c n)
-  pub observes : f w 0 c n ≡ record { seen = w; log = [] }
-  pub closes : f w 5 c n ≡ record { seen = w; log = [] }
-  pub others : (k : ℕ) → 6 ≤ k → f w k c n ≡ record { seen = w; log = step-dropped ∷ [] }
-
-abbrev pub Foreign-exactly : Stepper → Type 0
-Foreign-exactly f = (w : World) (c n : ℕ) → Lone-exactly f w c n
 
 -- ---- the table of a cell. A Busy attempt says one thing where waiters stand, another where the cell is held, by its owner's serial
 

@@ -1,10 +1,9 @@
--- The statements of `Statements`, `Script` and `Attempts`, each proved of ours; the proofs are in the files behind.
-use Rattle.history.specs.Items.{perform, foreign}
-use Rattle.exact.specs.Statements.{Try-acquire-exactly, Foreign-exactly, Try-lock-quiet, Transactional-quiet, Acquire-bucket-quiet, Try-lock-exactly, Acquire-bucket-exactly, Locks-quiet, Locks-refused-quiet}
+-- The statements of `Statements`, `Script` and `Attempts`, each proved of ours; the proofs are in the files behind. That `acquire_index_bucket` and multi-lock
+-- are made of smaller calls (`Bucket-attempts`, `Locks-as-calls`) is what crate `pinned` asks of every build; the lemmas are in `Attempting` and `KeyByKey`.
+use Rattle.history.specs.Items.{perform}
+use Rattle.exact.specs.Statements.{Try-lock-quiet, Transactional-quiet, Acquire-bucket-quiet, Try-lock-exactly, Acquire-bucket-exactly, Locks-quiet, Locks-refused-quiet}
 use Rattle.exact.specs.Script.{Script-consumed, Place-goes, Each-has-its-turn, By-script-only, Dropped-are}
-use Rattle.exact.specs.Attempts.{Attempt-ends, Bucket-attempts, Reason-of-last, Locks-as-calls, Bucket-retries, Locks-retry, Bucket-boundaries, Locks-boundaries}
-use Rattle.exact.specs.TryAcquire as acquiring
-use Rattle.exact.specs.ForeignSteps as stepping
+use Rattle.exact.specs.Attempts.{Attempt-ends, Bucket-retries, Locks-retry, Bucket-boundaries, Locks-boundaries}
 use Rattle.exact.specs.QuietCalls as quiet
 use Rattle.exact.specs.QuietLocks as locking
 use Rattle.exact.specs.QuietRefused as refusing
@@ -12,19 +11,8 @@ use Rattle.exact.specs.ConsumingCalls as consuming
 use Rattle.exact.specs.ScriptFacts as facts
 use Rattle.exact.specs.Retried as retried
 use Rattle.exact.specs.Ending as ending
-use Rattle.exact.specs.Attempting as attempting
-use Rattle.exact.specs.LastReason as last-reason
-use Rattle.exact.specs.KeyByKey as by-key
 use Rattle.exact.specs.Boundaries as bounding
 use Rattle.exact.specs.Bits as bits
-
--- ---- exactly
-
-pub try-acquire-exactly : Try-acquire-exactly perform
-try-acquire-exactly = acquiring.try-acquire-exactly
-
-pub foreign-exactly : Foreign-exactly foreign
-foreign-exactly = stepping.foreign-exactly
 
 -- ---- a script at its end
 
@@ -66,19 +54,10 @@ by-script-only = facts.by-script-only
 pub dropped-are : Dropped-are perform
 dropped-are = facts.dropped-are
 
--- ---- locks as attempts and calls
+-- ---- how an attempt ends
 
 pub attempt-ends : Attempt-ends perform
 attempt-ends = ending.attempt-ends
-
-pub bucket-attempts : Bucket-attempts perform
-bucket-attempts = attempting.bucket-attempts
-
-pub reason-of-last : Reason-of-last perform
-reason-of-last = last-reason.reason-of-last
-
-pub locks-as-calls : Locks-as-calls perform
-locks-as-calls = by-key.locks-as-calls
 
 -- ---- the counts
 

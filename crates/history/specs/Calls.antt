@@ -53,7 +53,7 @@ module _ (h : Head) (t g : List ℕ) where
   releasable-new i earlier (l ∷ ls) c (suc j) k =
       rw append-snoc at (releasable-new (i + 1) (earlier ++ (holdIn l ∷ [])) ls (c .1 .1 .1) j (omega arith))
 
-  releasable : (n : ℕ) (ws : List ℕ) → n ≤ length (holdsOf ws) → Clear (notReleasable h t 0 [] (leasesOf ws)) → Held (worldOf h t g) n (holdsOf ws)
+  pub releasable : (n : ℕ) (ws : List ℕ) → n ≤ length (holdsOf ws) → Clear (notReleasable h t 0 [] (leasesOf ws)) → Held (worldOf h t g) n (holdsOf ws)
   releasable n ws f c =
       record {
         enough = f;

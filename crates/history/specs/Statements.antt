@@ -1,6 +1,6 @@
 -- What demand 2 says, as statements: of a history, and of one call. `World` and `Items` have the words they are made of, `Theorems` gives
 -- their proofs by name. What stands in quotes is of the work order or of document 01 or 02. A statement about one call is one of any build, any
--- function that answers calls: `Theorems` proves it of ours, `perform`, and crate `builds` proves that wrong builds fail it.
+-- function that answers calls: `Theorems` proves it of ours, `perform`, and crate `pinned` carries it to any build that does what is asked of each call.
 use Prim.Native.Nat.{ℕ, _+_, _*_, _≤_, _<_}
 use mathlib.Core.Path.{_≡_}
 use mathlib.Core.List.{List, [], _∷_, _++_, reverse}

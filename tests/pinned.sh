@@ -1,0 +1,88 @@
+#!/usr/bin/env bash
+# The four files that say what a build must do (crate pinned: Words, Checks, Steps, Statements) cite none of the definitions that they pin down. Of this
+# repository they may name each other and types: those declared in crate types, and the few listed here, with the names of calls, events and actors. They name
+# nothing outside their `use` lines. Ends with 1 and says what is wrong. Before it looks at the files it looks at damaged copies: these must be refused.
+set -euo pipefail
+cd "$(dirname "$0")/.."
+files='Words Checks Steps Statements'
+
+# names DATA FILE: the constructors of a data type
+names() {
+    awk -v data="$1" '$0 ~ "^pub data " data " " { on = 1; next } /^[^ ]/ { on = 0 }
+        on && /^ +[^- ].* : / { line = $0; sub(/ : .*/, "", line); print line }' "$2" | tr '\n' ' '
+}
+events="$(names Actor crates/model/specs/Log.antt) $(names Event crates/model/specs/Log.antt)"
+calls=$(names Call crates/history/specs/Items.antt)
+allowed() {
+    case $1 in
+    Rattle.model.specs.Log) echo "Event Made $events" ;;
+    Rattle.history.specs.World) echo 'World' ;;
+    Rattle.history.specs.Items) echo "Build Stepper Says Call $calls" ;;
+    Rattle.history.specs.Statements) echo 'Crew-build Crew-at-work-build' ;;
+    esac
+}
+
+# looks FOLDER: what is wrong with the four files in it, a line each
+looks() {
+    local file line module name
+    for file in $files; do
+        [ -s "$1/$file.antt" ] || { echo "$file.antt is not there"; continue; }
+        grep -n '^ *[^- ]' "$1/$file.antt" | grep -v '^[0-9]*:use ' | sed 's/ -- .*//' | grep 'Rattle·' | sed "s/^/$file.antt: a name outside its use lines: /" || true
+        while read -r line; do
+            case $line in
+            'use Prim.'* | 'use mathlib.'* | 'use lib.'* | 'use Rattle.types.specs.declared.'*) continue ;;
+            esac
+            module=$(sed -E 's/^use ([^ ]*)\.\{.*/\1/' <<< "$line")
+            case $module in
+            Rattle.pinned.specs.*)
+                case " $files " in *" ${module##*.} "*) ;; *) echo "$file.antt names the file ${module##*.}" ;; esac
+                continue
+                ;;
+            esac
+            while read -r name; do
+                case " $(allowed "$module") " in *" $name "*) ;; *) echo "$file.antt names $name, by ${line:0:120}" ;; esac
+            done < <(sed -E 's/^use [^{]*\{//; s/\}$//' <<< "$line" | tr ',' '\n' | sed 's/^ *//; s/ *$//')
+        done < <(grep '^ *\(pub \|unfoldable \)*use ' "$1/$file.antt")
+    done
+}
+
+# the types that they name are types
+types() {
+    local kind name file
+    while read -r kind name file; do
+        grep -q "^pub $kind $name\( \|$\)" "crates/$file" || echo "$name is no $kind of crates/$file"
+    done <<< 'data Event model/specs/Log.antt
+record Made model/specs/Log.antt
+record World history/specs/World.antt
+data Call history/specs/Items.antt
+record Says history/specs/Items.antt'
+}
+
+# damaged FILE TEXT: a copy with this line behind its first use line must be refused
+damaged() {
+    local folder
+    folder=$(mktemp -d)
+    cp crates/pinned/specs/*.antt "$folder"
+    awk -v text="$2" '{ print } /^use / && !done { print text; done = 1 }' "crates/pinned/specs/$1.antt" > "$folder/$1.antt"
+    if [ -z "$(looks "$folder")" ]; then
+        echo "tests/pinned.sh does not see: $2"
+    fi
+    rm -r "$folder"
+}
+
+wrong=$(
+    damaged Words 'use Rattle.model.specs.Arena.{shapeFits}'
+    damaged Checks 'use Rattle.model.specs.Checks as rules'
+    damaged Steps 'use Rattle.types.specs.Head.{cellsOf}'
+    damaged Steps 'use Rattle.model.specs.Log.{Made, gives}'
+    damaged Statements 'use Rattle.history.specs.Items.{Call, perform}'
+    damaged Statements 'use Rattle.pinned.specs.Decided.{matched}'
+    damaged Statements 'size = Rattle.types.specs.Head.cellsOf'
+    looks crates/pinned/specs
+    types
+)
+if [ -n "$wrong" ]; then
+    echo "$wrong"
+    exit 1
+fi
+echo "pinned: $(wc -w <<< "$files") files of statements, $(grep -h '^use ' crates/pinned/specs/{Words,Checks,Steps,Statements}.antt | wc -l) imports, none of a definition"
