@@ -21,6 +21,7 @@ quoting=(
     crates/setpoint/specs/Codec.antt
     crates/slots/specs/{Layout,Rules,Calls,Cases}.antt
     crates/{written,salvaged,boots}/specs/Statements.antt
+    crates/pinned/specs/{Words,Checks,Steps,Statements}.antt
 )
 
 # names_of PAGE..: the names File.name on it
