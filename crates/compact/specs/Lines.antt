@@ -12,7 +12,7 @@ use lib.Seq.{sets}
 use Rattle.choice.specs.Choice.{if_then_else_}
 use Rattle.slots.specs.Layout.{linesOf, frontOf, placeAt, versionAt, isKept}
 use Rattle.slots.specs.Writing.{count, putMany, keptOf, slidOf, movedOf, ifKept, laidOf, placeBytes, compactOf}
-use Rattle.slots.specs.Many.{count-same, length-many, many-outside}
+use Rattle.slots.specs.Many.{count-same, count-most, length-many, many-outside}
 use Rattle.slots.specs.Sound.{Kept, Fits, is-kept, Alike, line-alike}
 use Rattle.slots.specs.Slid.{laid-long, laid-low}
 use Rattle.sound.specs.Scan.{cellOf, Marked}
@@ -55,15 +55,6 @@ linesDone n places b = (countedOf n places b (linesOf n), placedOf n places b (l
 -- a compaction: the bytes moved, and the book
 unfoldable pub compactedOf : ℕ → List ℕ → ℕ × List ℕ
 compactedOf n b = (movedOf n b, compactOf n b)
-
-count-most : (m : ℕ) (f : ℕ → Bool) → count m f ≤ m
-unfolding count
-count-most zero f = omega arith
-count-most (suc m) f = omega (arith, count-most m f, one (f m))
-  where
-    one : (t : Bool) → (if t then 1 else 0) ≤ 1
-    one true = omega arith
-    one false = omega arith
 
 -- ---- a line that is not yet reached
 

@@ -70,6 +70,11 @@ unfolding count
 count-none zero f h = refl
 count-none (suc m) f h = omega (arith, count-none m f (λ k l. h k (omega arith)), one-false (f m) (h m (omega arith)))
 
+pub count-most : (m : ℕ) (f : ℕ → Bool) → count m f ≤ m
+unfolding count
+count-most zero f = omega arith
+count-most (suc m) f = omega (arith, count-most m f, one-le (f m) true (λ e. refl))
+
 -- ---- the greatest
 
 pub most-start : (m : ℕ) (f : ℕ → ℕ) (a : ℕ) → a ≤ most m f a
@@ -85,6 +90,11 @@ most-each (suc m) f a k l = go (ℕ-discrete k m) (λ r. most-each m f a k r)
     go : Dec (k ≡ m) → (k < m → f k ≤ most m f a) → f k ≤ most (suc m) f a
     go (yes e) r = omega (arith, ap f e)
     go (no e) r = omega (arith, r (omega arith))
+
+pub most-within : (m : ℕ) (f : ℕ → ℕ) (a x : ℕ) → a ≤ x → ((k : ℕ) → k < m → f k ≤ x) → most m f a ≤ x
+unfolding most
+most-within zero f a x l h = l
+most-within (suc m) f a x l h = omega (arith, most-within m f a x l (λ k u. h k (omega arith)), h m (omega arith))
 
 -- ---- many runs
 

@@ -26,6 +26,27 @@ use Rattle.slots.specs.Appended.{goesOf, goes-own, goes-other, Came, is-
 abbrev pub isStaying : List ℕ → ℕ → ℕ → Bool
 isStaying b slot k = isKept b k && not (eqb k (4 * slot + 3))
 
+-- how many bodies stay: those that are kept after the drop
+unfoldable pub stayingOf : ℕ → List ℕ → ℕ → ℕ
+stayingOf n b slot = count (linesOf n) (isStaying b slot)
+
+pub staying-is : (n : ℕ) (b : List ℕ) (slot : ℕ) → slot < n → Sound n b → keptOf n (dropOf b slot) ≡ stayingOf n b slot
+unfolding keptOf stayingOf
+staying-is n b slot i s = count-same (linesOf n) (isKept (dropOf b slot)) (isStaying b slot) (λ k h. go k h (ℕ-discrete k (4 * slot + 3)))
+  where
+    go : (k : ℕ) → k < linesOf n → Dec (k ≡ 4 * slot + 3) → isKept (dropOf b slot) k ≡ (isKept b k && not (eqb k (4 * slot + 3)))
+    go k h (yes q) =
+        rw (unkept-is (dropOf b slot) k (ap (versionAt (dropOf b slot)) q ∙ dropped n b slot i (s .fits) .gone), eq-eqb k (4 * slot + 3) q) (nothing (isKept b k))
+      where
+        nothing : (t : Bool) → false ≡ (t && false)
+        nothing true = refl
+        nothing false = refl
+    go k h (no q) = rw (ne-eqb k (4 * slot + 3) q) (by (isKept b k) (is-kept b k) (is-unkept b k))
+      where
+        by : (t : Bool) → (t ≡ true → Kept b k) → (t ≡ false → versionAt b k ≡ 0) → isKept (dropOf b slot) k ≡ (t && true)
+        by true f g = kept-is (dropOf b slot) k (omega (arith, dropped n b slot i (s .fits) .lines k h q .2, f refl))
+        by false f g = unkept-is (dropOf b slot) k (dropped n b slot i (s .fits) .lines k h q .2 ∙ g refl)
+
 -- b before, c after, a write of s on the slot that moved so many bytes
 pub record Wrote (n : ℕ) (b c : List ℕ) (slot : ℕ) (s : Setpoint) (moved : ℕ) : Type 0 where
   pub long : length c ≡ length b

@@ -62,13 +62,21 @@ fn is_falling(book: &[u8], k: usize) -> bool
     version == newest - age as u32
 }
 
-// Whether five bytes mean a setpoint.
+// What the five bytes from p on mean.
+pub fn setting_at(book: &[u8], p: usize) -> Decoded
+    requires { ⌜ p + 5 ≤ length (now book) ⌝ }
+    ensures { λ r. ⌜ r ≡ settingAt (now (book .entry)) p ⌝ }
+{
+    let word = setpoint::join(book[p + 1], book[p + 2], book[p + 3], book[p + 4]);
+    setpoint::setting(book[p], word)
+}
+
+// Whether they mean a setpoint.
 fn is_setting(book: &[u8], p: usize) -> bool
     requires { ⌜ p + 5 ≤ length (now book) ⌝ }
     ensures { λ r. ⌜ r ≡ isSetting (settingAt (now (book .entry)) p) ⌝ }
 {
-    let word = setpoint::join(book[p + 1], book[p + 2], book[p + 3], book[p + 4]);
-    let found = setpoint::setting(book[p], word);
+    let found = setting_at(book, p);
     match found {
         Decoded::Setting(_) => true,
         Decoded::Damaged => false,

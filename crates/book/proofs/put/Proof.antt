@@ -1,72 +1,75 @@
 -- `book::put` meets its contract.
-use Rattle.slots.specs.Layout.{putOf}
-use Rattle.setpoint.specs.Codec.{bodyOf}
+use Prim.Native.Nat.{_+_, _*_}
+use native.Mathlib.Omega.{arith}
+use Rattle.book.specs.Steps.{end-within, put-slid, put-behind}
 use borrow.Author.Needs.{needs}
 use Rattle.book.proofs.put.Statement.{statement}
 use Rattle.book.proofs.put.Tie as tie
+use Rattle.book.proofs.put.Reads as reads
+use Rattle.book.proofs.put.Lts as lts
+use Rattle.book.proofs.append.Reads as append-reads
+use Rattle.book.proofs.end.Reads as end-reads
+use Rattle.compact.proofs.compact.Reads as compact-reads
 
-mul-at : tie.Need-mul-at
-mul-at c = search needs
+end-requires : tie.Need-end-requires
+end-requires c κs = search needs
 
-mul-at-2 : tie.Need-mul-at-2
-mul-at-2 c = search needs
+add-if1 : tie.Need-add-if1
+add-if1 c =
+    let p = c .before .before .before .pre in
+    omega (arith, c .end .ensures, end-within (c .before .before .before .args .n) (c .before .before .before .args .book .now) (p .1 .1 .1 .1 .0) (omega (arith, p .1 .1 .1 .1 .1 .1 .0)), p .1 .1 .1 .0)
 
-add-at : tie.Need-add-at
-add-at c = search needs
+compact-requires : tie.Need-compact-requires
+compact-requires c κs =
+    let p = c .before .before .before .before .before .pre in
+    (p .0, (p .1 .0, (p .1 .1 .1 .0, (p .1 .1 .1 .1 .0, omega (arith, p .1 .1 .1 .1 .1 .0, p .1 .1 .1 .1 .1 .1 .0)))))
 
-cast-line : tie.Need-cast-line
-cast-line c = search needs
+mul-append : tie.Need-mul-append
+mul-append c = search needs
 
-line-requires : tie.Need-line-requires
-line-requires c κs = search needs
+mul-append-2 : tie.Need-mul-append-2
+mul-append-2 c = search needs
 
-kind-requires : tie.Need-kind-requires
-kind-requires c κs = search needs
+add-append : tie.Need-add-append
+add-append c = search needs
 
-word-requires : tie.Need-word-requires
-word-requires c κs = search needs
-
-bytes-requires : tie.Need-bytes-requires
-bytes-requires c κs = search needs
-
-mul-put-bytes : tie.Need-mul-put-bytes
-mul-put-bytes c = search needs
-
-slice-aggregate-put-bytes : tie.Need-slice-aggregate-put-bytes
-slice-aggregate-put-bytes c = search needs
-
-put-bytes-requires : tie.Need-put-bytes-requires
-put-bytes-requires c κs = search needs
-
-slice-aggregate-put-bytes-2 : tie.Need-slice-aggregate-put-bytes-2
-slice-aggregate-put-bytes-2 c = search needs
-
-put-bytes-requires-2 : tie.Need-put-bytes-requires-2
-put-bytes-requires-2 c κs = search needs
+append-requires : tie.Need-append-requires
+append-requires c κs =
+    let p = c .before .before .before .before .before .before .before .before .before .pre in
+    (omega (arith, p .1 .1 .0, p .1 .1 .1 .1 .1 .1 .0, c .before .before .before .compact .kept), (omega (arith, p .1 .1 .1 .1 .1 .1 .0, c .before .before .before .compact .kept), (omega (arith, p .1 .1 .1 .0, c .before .before .before .compact .kept), p .1 .1 .1 .1 .1 .1 .1)))
 
 same-length : tie.Need-same-length
 same-length c = search needs
 
 returns : tie.Need-returns
-unfolding putOf bodyOf
-returns c = rw (← c .before .before .before .before .before .before .before .before .before .before .before .before .before .line .ensures, ← c .before .before .before .before .before .before .before .before .before .before .before .before .kind .ensures, ← c .before .before .before .before .before .before .before .before .before .before .before .word .ensures, ← c .before .before .before .before .before .before .before .before .before .before .bytes .ensures, ← c .before .before .before .before .before .before .before .put-bytes .ensures, ← c .before .before .put-bytes2 .ensures)
+returns c =
+    let a = c .before .before .before .before .before .before .before .before .before .before .before .before .args in
+    put-slid (a .n) (a .book .now) (a .slot) (a .s) (a .version) (c .before .before .before .before .before .before .before .before .before .end .result) (c .before .before .before .before .before .before .before .before .before .end .ensures) (a .kept) _ _ _ (c .before .before .before .before .before .before .before .before .if1 .taken) (c .before .before .before .before .before .before .compact .ensures) (c .before .before .before .before .before .before .before .before .before .before .before .before .pre .1 .1 .1 .1 .1 .0) (c .before .before .append .ensures)
+
+append-requires-2 : tie.Need-append-requires-2
+append-requires-2 c κs = search needs
+
+same-length-2 : tie.Need-same-length-2
+same-length-2 c = search needs
+
+returns-2 : tie.Need-returns-2
+returns-2 c =
+    let a = c .before .before .before .before .before .before .before .before .args in
+    put-behind (a .n) (a .book .now) (a .slot) (a .s) (a .version) (c .before .before .before .before .before .end .result) (c .before .before .before .before .before .end .ensures) _ (c .before .before .before .before .if1 .left) (c .before .before .append2 .ensures)
 
 pub put-spec : {M : Type 1} → statement M
 put-spec =
     tie.close
     (tie.spec
-    mul-at
-    mul-at-2
-    add-at
-    cast-line
-    line-requires
-    kind-requires
-    word-requires
-    bytes-requires
-    mul-put-bytes
-    slice-aggregate-put-bytes
-    put-bytes-requires
-    slice-aggregate-put-bytes-2
-    put-bytes-requires-2
+    end-requires
+    add-if1
+    compact-requires
+    mul-append
+    mul-append-2
+    add-append
+    append-requires
     same-length
-    returns)
+    returns
+    append-requires-2
+    same-length-2
+    returns-2)
