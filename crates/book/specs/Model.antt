@@ -11,11 +11,11 @@ use Rattle.model.specs.Arena.{cellsOf, headFits}
 use Rattle.types.specs.declared.Head.{Head}
 use Rattle.types.specs.declared.Lease.{Lease}
 use Rattle.setpoint.specs.declared.Setpoint.{Setpoint}
-use Rattle.slots.specs.Layout.{slotsOf, placeAt, versionAt, newestAt}
+use Rattle.slots.specs.Layout.{slotsOf, placeAt, newestAt}
 use Rattle.slots.specs.Writing.{putOf}
 use Rattle.slots.specs.Rules.{firstFault, judgeBook, claimRules, overRules, openRules, keptRules}
 use Rattle.slots.specs.Calls.{writtenOf, writeSetpointOf, lineTold, readVersionOf}
-use Rattle.slots.specs.Sound.{Kept, sound-is}
+use Rattle.slots.specs.Sound.{sound-is}
 use Rattle.slots.specs.Outcomes.{Keeps}
 use Rattle.slots.specs.Reads.{kept-line}
 use Rattle.slots.specs.Fine.{OpenFine, or-then, faults-append, head-alone}
@@ -44,11 +44,6 @@ many-buckets h l = misfit h (λ s. omega (arith, s .few-buckets))
 
 pub some-slots : (h : Head) → headFits h ≡ true → 1 ≤ slotsOf h
 some-slots h e = let s = head-shaped h e in omega (arith, mul-le-mul (s .some-headers) (s .some-buckets))
-
--- ---- the slot's oldest of four, if it has four, lies in the book
-
-abbrev pub OldestLies : List ℕ → ℕ → Type 0
-OldestLies b slot = Kept b (4 * slot + 3) → placeAt b (4 * slot + 3) + 5 ≤ length b
 
 -- ---- writing over what the book says, once the checks on what was given are fine
 

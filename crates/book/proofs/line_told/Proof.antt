@@ -3,10 +3,6 @@ use Rattle.slots.specs.Calls.{lineTold}
 use borrow.Author.Needs.{needs}
 use Rattle.book.proofs.line_told.Statement.{statement}
 use Rattle.book.proofs.line_told.Tie as tie
-use Rattle.book.proofs.line_told.Reads as reads
-use Rattle.book.proofs.line_told.Lts as lts
-use Rattle.sound.proofs.place_at.Reads as place-at-reads
-use Rattle.sound.proofs.setting_at.Reads as setting-at-reads
 
 place-at-requires : tie.Need-place-at-requires
 place-at-requires c κs = search needs

@@ -7,12 +7,6 @@ use Rattle.book.specs.Model.{some-slots}
 use borrow.Author.Needs.{needs}
 use Rattle.book.proofs.open_check.Statement.{statement}
 use Rattle.book.proofs.open_check.Tie as tie
-use Rattle.book.proofs.open_check.Reads as reads
-use Rattle.book.proofs.open_check.Lts as lts
-use Rattle.book.proofs.head_fits.Reads as head-fits-reads
-use Rattle.book.proofs.is_bad_slot.Reads as is-bad-slot-reads
-use Rattle.book.proofs.slots.Reads as slots-reads
-use Rattle.sound.proofs.is_sound.Reads as is-sound-reads
 
 head-fits-requires : tie.Need-head-fits-requires
 head-fits-requires c κs = search needs

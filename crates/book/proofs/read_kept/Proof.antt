@@ -7,10 +7,6 @@ use Rattle.book.specs.Model.{readKeptOf}
 use borrow.Author.Needs.{needs}
 use Rattle.book.proofs.read_kept.Statement.{statement}
 use Rattle.book.proofs.read_kept.Tie as tie
-use Rattle.book.proofs.read_kept.Reads as reads
-use Rattle.book.proofs.read_kept.Lts as lts
-use Rattle.book.proofs.line_told.Reads as line-told-reads
-use Rattle.sound.proofs.version_at.Reads as version-at-reads
 
 mul-version-at : tie.Need-mul-version-at
 mul-version-at c = search needs

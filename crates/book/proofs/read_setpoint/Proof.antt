@@ -7,11 +7,6 @@ use Rattle.book.specs.Model.{read-is, open-readable}
 use borrow.Author.Needs.{needs}
 use Rattle.book.proofs.read_setpoint.Statement.{statement}
 use Rattle.book.proofs.read_setpoint.Tie as tie
-use Rattle.book.proofs.read_setpoint.Reads as reads
-use Rattle.book.proofs.read_setpoint.Lts as lts
-use Rattle.book.proofs.open_check.Reads as open-check-reads
-use Rattle.book.proofs.read_kept.Reads as read-kept-reads
-use Rattle.sound.proofs.version_at.Reads as version-at-reads
 
 open-check-requires : tie.Need-open-check-requires
 open-check-requires c κs = search needs

@@ -6,10 +6,6 @@ use Rattle.book.specs.Model.{read-is, open-readable}
 use borrow.Author.Needs.{needs}
 use Rattle.book.proofs.read_version.Statement.{statement}
 use Rattle.book.proofs.read_version.Tie as tie
-use Rattle.book.proofs.read_version.Reads as reads
-use Rattle.book.proofs.read_version.Lts as lts
-use Rattle.book.proofs.open_check.Reads as open-check-reads
-use Rattle.book.proofs.read_kept.Reads as read-kept-reads
 
 open-check-requires : tie.Need-open-check-requires
 open-check-requires c κs = search needs

@@ -1,22 +1,14 @@
 -- `book::write_over` meets its contract.
-use Prim.Native.Nat.{_+_, _*_}
-use mathlib.Core.Path.{_≡_, sym, _∙_}
+use mathlib.Core.Path.{sym, _∙_}
 use native.Mathlib.Omega.{arith}
 use borrow.Author.Tests.{eq-eqb, ne-eqb}
 use Rattle.slots.specs.Writing.{putOf}
 use Rattle.slots.specs.Rules.{firstFault, overRules}
 use Rattle.book.specs.Model.{writeOverOf}
-use Rattle.book.specs.Steps.{oldest-lies, staying-most, full-is, room-is, left-size, left-fits, left-kept}
+use Rattle.enter.specs.Steps.{oldest-lies, staying-most, full-is, room-is, left-size, left-fits, left-kept}
 use borrow.Author.Needs.{needs}
 use Rattle.book.proofs.write_over.Statement.{statement}
 use Rattle.book.proofs.write_over.Tie as tie
-use Rattle.book.proofs.write_over.Reads as reads
-use Rattle.book.proofs.write_over.Lts as lts
-use Rattle.book.proofs.drop_oldest.Reads as drop-oldest-reads
-use Rattle.book.proofs.put.Reads as put-reads
-use Rattle.book.proofs.staying.Reads as staying-reads
-use Rattle.sound.proofs.is_sound.Reads as is-sound-reads
-use Rattle.sound.proofs.version_at.Reads as version-at-reads
 
 is-sound-requires : tie.Need-is-sound-requires
 is-sound-requires c κs = search needs

@@ -6,11 +6,6 @@ use Rattle.compact.specs.Lines.{fits-lying, marks-lie, laid-size, laid-l
 use borrow.Author.Needs.{needs}
 use Rattle.compact.proofs.compact.Statement.{statement}
 use Rattle.compact.proofs.compact.Tie as tie
-use Rattle.compact.proofs.compact.Reads as reads
-use Rattle.compact.proofs.compact.Lts as lts
-use Rattle.compact.proofs.put_places.Reads as put-places-reads
-use Rattle.compact.proofs.set_marks.Reads as set-marks-reads
-use Rattle.compact.proofs.slide.Reads as slide-reads
 
 slice-aggregate-set-marks : tie.Need-slice-aggregate-set-marks
 slice-aggregate-set-marks c = search needs

@@ -1,21 +1,14 @@
 -- `compact::put_place` meets its contract.
-use Prim.Native.Nat.{_+_, _*_, _-_, _≤_}
-use mathlib.Core.Path.{_≡_, sym, _∙_}
+use Prim.Native.Nat.{_+_, _*_, _-_, _/_}
+use mathlib.Core.Path.{sym, _∙_}
 use native.Mathlib.Omega.{arith}
-use lib.ListN.{length}
 use borrow.Author.Tests.{eq-eqb, ne-eqb}
 use Rattle.slots.specs.Sound.{is-kept}
-use Rattle.compact.specs.Lines.{isMoved, linePut, lineDone}
-use Prim.Native.Nat.{_/_}
+use Rattle.compact.specs.Lines.{isMoved, linePut, lineDone, two-stores}
 use lib.ListN.{length-set}
-use Rattle.compact.specs.Lines.{two-stores}
 use borrow.Author.Needs.{needs}
 use Rattle.compact.proofs.put_place.Statement.{statement}
 use Rattle.compact.proofs.put_place.Tie as tie
-use Rattle.compact.proofs.put_place.Reads as reads
-use Rattle.compact.proofs.put_place.Lts as lts
-use Rattle.sound.proofs.is_kept.Reads as is-kept-reads
-use Rattle.sound.proofs.place_at.Reads as place-at-reads
 
 is-kept-requires : tie.Need-is-kept-requires
 is-kept-requires c κs = search needs

@@ -1,17 +1,11 @@
 -- `compact::put_places` meets its contract.
-use Prim.Native.Nat.{_+_, _*_, _-_, _≤_}
-use mathlib.Core.Path.{_≡_, sym, _∙_}
+use Prim.Native.Nat.{_*_, _-_, _≤_}
+use mathlib.Core.Path.{_≡_, sym}
 use native.Mathlib.Omega.{arith}
-use lib.ListN.{length}
-use borrow.Author.Tests.{eq-eqb, ne-eqb}
-use Rattle.compact.specs.Lines.{placedOf, countedOf, linesDone, placed-long, placed-alike, placed-turn, counted-turn}
-use Rattle.compact.specs.Lines.{placed-start, counted-start, counted-small, placed-size, placed-lies, turned, done-small}
+use Rattle.compact.specs.Lines.{placedOf, countedOf, linesDone, placed-start, counted-start, counted-small, placed-size, placed-lies, turned, done-small}
 use borrow.Author.Needs.{needs}
 use Rattle.compact.proofs.put_places.Statement.{statement}
 use Rattle.compact.proofs.put_places.Tie as tie
-use Rattle.compact.proofs.put_places.Reads as reads
-use Rattle.compact.proofs.put_places.Lts as lts
-use Rattle.compact.proofs.put_place.Reads as put-place-reads
 
 abbrev Inv-loop : tie.InvT-loop
 Inv-loop n places book₀ moved₀ k₀ book moved k =

@@ -1,18 +1,13 @@
 -- `compact::set_marks` meets its contract.
-use Prim.Native.Nat.{_+_, _*_, _-_, _≤_}
+use Prim.Native.Nat.{_*_, _-_, _≤_}
 use mathlib.Core.Path.{_≡_, sym, _∙_}
 use native.Mathlib.Omega.{arith}
 use lib.ListN.{length}
-use borrow.Author.Tests.{eq-eqb, ne-eqb}
 use Rattle.compact.specs.Slide.{marksOf, marks-turn, marks-end}
 use Rattle.slots.specs.Sound.{is-kept}
 use borrow.Author.Needs.{needs}
 use Rattle.compact.proofs.set_marks.Statement.{statement}
 use Rattle.compact.proofs.set_marks.Tie as tie
-use Rattle.compact.proofs.set_marks.Reads as reads
-use Rattle.compact.proofs.set_marks.Lts as lts
-use Rattle.sound.proofs.is_kept.Reads as is-kept-reads
-use Rattle.sound.proofs.place_at.Reads as place-at-reads
 
 abbrev Inv-loop : tie.InvT-loop
 Inv-loop n book marks₀ k₀ marks k =

@@ -1,6 +1,6 @@
 -- `compact::slide` meets its contract.
 use Prim.Native.Nat.{_+_, _*_, _-_, _≤_}
-use mathlib.Core.Path.{_≡_, sym, _∙_}
+use mathlib.Core.Path.{_≡_}
 use native.Mathlib.Omega.{arith}
 use lib.ListN.{length}
 use borrow.Author.Tests.{eq-eqb, ne-eqb}
@@ -8,9 +8,6 @@ use Rattle.compact.specs.Slide.{slideOf, placesOf, slide-start, slide-tu
 use borrow.Author.Needs.{needs}
 use Rattle.compact.proofs.slide.Statement.{statement}
 use Rattle.compact.proofs.slide.Tie as tie
-use Rattle.compact.proofs.slide.Reads as reads
-use Rattle.compact.proofs.slide.Lts as lts
-use Rattle.compact.proofs.move_body.Reads as move-body-reads
 
 abbrev Inv-loop : tie.InvT-loop
 Inv-loop n marks cells book₀ places₀ c₀ q₀ book places c q =

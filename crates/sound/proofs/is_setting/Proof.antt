@@ -2,9 +2,6 @@
 use borrow.Author.Needs.{needs}
 use Rattle.sound.proofs.is_setting.Statement.{statement}
 use Rattle.sound.proofs.is_setting.Tie as tie
-use Rattle.sound.proofs.is_setting.Reads as reads
-use Rattle.sound.proofs.is_setting.Lts as lts
-use Rattle.sound.proofs.setting_at.Reads as setting-at-reads
 
 setting-at-requires : tie.Need-setting-at-requires
 setting-at-requires c κs = search needs

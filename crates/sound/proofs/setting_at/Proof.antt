@@ -4,10 +4,6 @@ use Rattle.slots.specs.Layout.{fiveAt, settingAt}
 use borrow.Author.Needs.{needs}
 use Rattle.sound.proofs.setting_at.Statement.{statement}
 use Rattle.sound.proofs.setting_at.Tie as tie
-use Rattle.sound.proofs.setting_at.Reads as reads
-use Rattle.sound.proofs.setting_at.Lts as lts
-use Rattle.setpoint.proofs.join.Reads as join-reads
-use Rattle.setpoint.proofs.setting.Reads as setting-reads
 
 add-join : tie.Need-add-join
 add-join c = search needs

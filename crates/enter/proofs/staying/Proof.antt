@@ -1,15 +1,11 @@
--- `book::staying` meets its contract.
+-- `enter::staying` meets its contract.
 use Prim.Native.Nat.{_*_, _-_, _≤_}
-use mathlib.Core.Path.{_≡_}
+use mathlib.Core.Path.{_≡_, sym, ap, _∙_}
 use native.Mathlib.Omega.{arith}
-use Rattle.book.specs.Steps.{stayingTo, staying-start, staying-turn, staying-end, staying-few}
-use mathlib.Core.Path.{sym, ap, _∙_}
+use Rattle.enter.specs.Steps.{stayingTo, staying-start, staying-turn, staying-end, staying-few}
 use borrow.Author.Needs.{needs}
-use Rattle.book.proofs.staying.Statement.{statement}
-use Rattle.book.proofs.staying.Tie as tie
-use Rattle.book.proofs.staying.Reads as reads
-use Rattle.book.proofs.staying.Lts as lts
-use Rattle.book.proofs.staying_at.Reads as staying-at-reads
+use Rattle.enter.proofs.staying.Statement.{statement}
+use Rattle.enter.proofs.staying.Tie as tie
 
 abbrev Inv-loop : tie.InvT-loop
 Inv-loop n book slot total₀ k₀ total k =

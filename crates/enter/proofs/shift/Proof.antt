@@ -1,12 +1,8 @@
--- `book::shift` meets its contract.
-use Rattle.book.specs.Steps.{shift-is}
+-- `enter::shift` meets its contract.
+use Rattle.enter.specs.Steps.{shift-is}
 use borrow.Author.Needs.{needs}
-use Rattle.book.proofs.shift.Statement.{statement}
-use Rattle.book.proofs.shift.Tie as tie
-use Rattle.book.proofs.shift.Reads as reads
-use Rattle.book.proofs.shift.Lts as lts
-use Rattle.book.proofs.line_at.Reads as line-at-reads
-use Rattle.book.proofs.put_bytes.Reads as put-bytes-reads
+use Rattle.enter.proofs.shift.Statement.{statement}
+use Rattle.enter.proofs.shift.Tie as tie
 
 line-at-requires : tie.Need-line-at-requires
 line-at-requires c κs = search needs

@@ -1,13 +1,9 @@
--- `book::later` meets its contract.
+-- `enter::later` meets its contract.
 use native.Mathlib.Omega.{arith}
-use Rattle.book.specs.Steps.{laterOf}
+use Rattle.enter.specs.Steps.{laterOf}
 use borrow.Author.Needs.{needs}
-use Rattle.book.proofs.later.Statement.{statement}
-use Rattle.book.proofs.later.Tie as tie
-use Rattle.book.proofs.later.Reads as reads
-use Rattle.book.proofs.later.Lts as lts
-use Rattle.sound.proofs.is_kept.Reads as is-kept-reads
-use Rattle.sound.proofs.place_at.Reads as place-at-reads
+use Rattle.enter.proofs.later.Statement.{statement}
+use Rattle.enter.proofs.later.Tie as tie
 
 is-kept-requires : tie.Need-is-kept-requires
 is-kept-requires c κs = search needs

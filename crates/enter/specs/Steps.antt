@@ -15,13 +15,16 @@ use Rattle.slots.specs.Sound.{Kept, Fits, is-kept, sound-is}
 use Rattle.slots.specs.Dropped.{dropped}
 use Rattle.slots.specs.Wrote.{isStaying, stayingOf, staying-is}
 use Rattle.compact.specs.Lines.{compactedOf}
-use Rattle.book.specs.Model.{OldestLies}
 use Rattle.setpoint.specs.Codec.{bodyOf}
 use Rattle.setpoint.specs.declared.Setpoint.{Setpoint}
 
 count-suc : (k : ℕ) (f : ℕ → Bool) → count (suc k) f ≡ count k f + (if f k then 1 else 0)
 unfolding count
 count-suc k f = refl
+
+-- the slot's oldest of four, if it has four, lies in the book
+abbrev pub OldestLies : List ℕ → ℕ → Type 0
+OldestLies b slot = Kept b (4 * slot + 3) → placeAt b (4 * slot + 3) + 5 ≤ length b
 
 -- ---- how many bodies stay
 

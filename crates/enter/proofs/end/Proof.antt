@@ -1,15 +1,11 @@
--- `book::end` meets its contract.
+-- `enter::end` meets its contract.
 use Prim.Native.Nat.{_*_, _-_, _≤_}
-use mathlib.Core.Path.{_≡_}
+use mathlib.Core.Path.{_≡_, sym, ap, _∙_}
 use native.Mathlib.Omega.{arith}
-use Rattle.book.specs.Steps.{endTo, laterOf, end-start, end-turn, end-whole}
-use mathlib.Core.Path.{sym, ap, _∙_}
+use Rattle.enter.specs.Steps.{endTo, laterOf, end-start, end-turn, end-whole}
 use borrow.Author.Needs.{needs}
-use Rattle.book.proofs.end.Statement.{statement}
-use Rattle.book.proofs.end.Tie as tie
-use Rattle.book.proofs.end.Reads as reads
-use Rattle.book.proofs.end.Lts as lts
-use Rattle.book.proofs.later.Reads as later-reads
+use Rattle.enter.proofs.end.Statement.{statement}
+use Rattle.enter.proofs.end.Tie as tie
 
 abbrev Inv-loop : tie.InvT-loop
 Inv-loop n book last₀ k₀ last k =

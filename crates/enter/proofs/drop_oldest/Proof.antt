@@ -1,17 +1,12 @@
--- `book::drop_oldest` meets its contract.
+-- `enter::drop_oldest` meets its contract.
 use Prim.Native.Nat.{_+_, _*_}
 use mathlib.Core.Path.{sym, _∙_}
 use native.Mathlib.Omega.{arith}
 use Rattle.slots.specs.Sound.{is-kept}
 use Rattle.slots.specs.Writing.{dropOf}
 use borrow.Author.Needs.{needs}
-use Rattle.book.proofs.drop_oldest.Statement.{statement}
-use Rattle.book.proofs.drop_oldest.Tie as tie
-use Rattle.book.proofs.drop_oldest.Reads as reads
-use Rattle.book.proofs.drop_oldest.Lts as lts
-use Rattle.book.proofs.put_bytes.Reads as put-bytes-reads
-use Rattle.sound.proofs.is_kept.Reads as is-kept-reads
-use Rattle.sound.proofs.place_at.Reads as place-at-reads
+use Rattle.enter.proofs.drop_oldest.Statement.{statement}
+use Rattle.enter.proofs.drop_oldest.Tie as tie
 
 mul-k : tie.Need-mul-k
 mul-k c = search needs

@@ -1,11 +1,9 @@
--- `book::line_at` meets its contract.
+-- `enter::line_at` meets its contract.
 use Rattle.slots.specs.Layout.{lineAt}
 use mathlib.Core.Path.{refl}
 use borrow.Author.Needs.{needs}
-use Rattle.book.proofs.line_at.Statement.{statement}
-use Rattle.book.proofs.line_at.Tie as tie
-use Rattle.book.proofs.line_at.Reads as reads
-use Rattle.book.proofs.line_at.Lts as lts
+use Rattle.enter.proofs.line_at.Statement.{statement}
+use Rattle.enter.proofs.line_at.Tie as tie
 
 shared-slice-read-t4 : tie.Need-shared-slice-read-t4
 shared-slice-read-t4 c = search needs

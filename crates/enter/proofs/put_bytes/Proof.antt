@@ -1,12 +1,12 @@
--- `book::put_bytes` meets its contract.
+-- `enter::put_bytes` meets its contract.
 use Prim.Native.Nat.{_+_, _-_, _≤_}
 use mathlib.Core.Path.{_≡_, sym, _∙_}
 use lib.ListN.{length, drop}
 use lib.Seq.{sets}
 use borrow.Author.Needs.{needs}
 use Rattle.slots.specs.Stores.{stores-start, stores-more, stores-end}
-use Rattle.book.proofs.put_bytes.Statement.{statement}
-use Rattle.book.proofs.put_bytes.Tie as tie
+use Rattle.enter.proofs.put_bytes.Statement.{statement}
+use Rattle.enter.proofs.put_bytes.Tie as tie
 
 abbrev Inv-loop : tie.InvT-loop
 Inv-loop book₀ at bytes i₀ book i =

@@ -1,17 +1,9 @@
--- `book::append` meets its contract.
+-- `enter::append` meets its contract.
 use Rattle.setpoint.specs.Codec.{bodyOf}
-use Rattle.book.specs.Steps.{append-is}
+use Rattle.enter.specs.Steps.{append-is}
 use borrow.Author.Needs.{needs}
-use Rattle.book.proofs.append.Statement.{statement}
-use Rattle.book.proofs.append.Tie as tie
-use Rattle.book.proofs.append.Reads as reads
-use Rattle.book.proofs.append.Lts as lts
-use Rattle.book.proofs.line.Reads as line-reads
-use Rattle.book.proofs.put_bytes.Reads as put-bytes-reads
-use Rattle.book.proofs.shift.Reads as shift-reads
-use Rattle.setpoint.proofs.bytes.Reads as bytes-reads
-use Rattle.setpoint.proofs.kind.Reads as kind-reads
-use Rattle.setpoint.proofs.word.Reads as word-reads
+use Rattle.enter.proofs.append.Statement.{statement}
+use Rattle.enter.proofs.append.Tie as tie
 
 cast-line : tie.Need-cast-line
 cast-line c = search needs

@@ -1,12 +1,9 @@
--- `book::staying_at` meets its contract.
+-- `enter::staying_at` meets its contract.
 use borrow.Author.Tests.{eq-eqb, ne-eqb}
-use Rattle.book.specs.Steps.{stayingAt}
+use Rattle.enter.specs.Steps.{stayingAt}
 use borrow.Author.Needs.{needs}
-use Rattle.book.proofs.staying_at.Statement.{statement}
-use Rattle.book.proofs.staying_at.Tie as tie
-use Rattle.book.proofs.staying_at.Reads as reads
-use Rattle.book.proofs.staying_at.Lts as lts
-use Rattle.sound.proofs.is_kept.Reads as is-kept-reads
+use Rattle.enter.proofs.staying_at.Statement.{statement}
+use Rattle.enter.proofs.staying_at.Tie as tie
 
 is-kept-requires : tie.Need-is-kept-requires
 is-kept-requires c κs = search needs

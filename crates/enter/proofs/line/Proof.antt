@@ -1,9 +1,9 @@
--- `book::line` meets its contract.
+-- `enter::line` meets its contract.
 use mathlib.Core.Path.{refl}
 use Rattle.slots.specs.Layout.{lineOf}
 use borrow.Author.Needs.{needs}
-use Rattle.book.proofs.line.Statement.{statement}
-use Rattle.book.proofs.line.Tie as tie
+use Rattle.enter.proofs.line.Statement.{statement}
+use Rattle.enter.proofs.line.Tie as tie
 
 cast-t4 : tie.Need-cast-t4
 cast-t4 c = search needs

@@ -1,15 +1,9 @@
--- `book::put` meets its contract.
-use Prim.Native.Nat.{_+_, _*_}
+-- `enter::put` meets its contract.
 use native.Mathlib.Omega.{arith}
-use Rattle.book.specs.Steps.{end-within, put-slid, put-behind}
+use Rattle.enter.specs.Steps.{end-within, put-slid, put-behind}
 use borrow.Author.Needs.{needs}
-use Rattle.book.proofs.put.Statement.{statement}
-use Rattle.book.proofs.put.Tie as tie
-use Rattle.book.proofs.put.Reads as reads
-use Rattle.book.proofs.put.Lts as lts
-use Rattle.book.proofs.append.Reads as append-reads
-use Rattle.book.proofs.end.Reads as end-reads
-use Rattle.compact.proofs.compact.Reads as compact-reads
+use Rattle.enter.proofs.put.Statement.{statement}
+use Rattle.enter.proofs.put.Tie as tie
 
 end-requires : tie.Need-end-requires
 end-requires c κs = search needs
