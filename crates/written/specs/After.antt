@@ -9,6 +9,7 @@ use native.Mathlib.Decide.{ℕ-discrete}
 use lib.Dec.{eqb}
 use lib.ListN.{length}
 use borrow.Author.Tests.{ltb-true, ltb-false, eq-eqb, eqb-true, eqb-false, not-true, not-false}
+use Rattle.choice.specs.Choice.{if_then_else_}
 use Rattle.choice.specs.Pick.{both}
 use Rattle.laws.specs.Shape.{shaped}
 use Rattle.model.specs.Arena.{cellsOf, holdIn, headFits}
@@ -16,12 +17,13 @@ use Rattle.types.specs.declared.Head.{Head}
 use Rattle.types.specs.declared.Lease.{Lease}
 use Rattle.setpoint.specs.RoundTrip.{Held}
 use Rattle.setpoint.specs.declared.Setpoint.{Setpoint}
-use Rattle.slots.specs.Layout.{slotsOf, linesOf, frontOf, placeAt, newestAt, isKept}
-use Rattle.slots.specs.Writing.{count, dropOf, keptOf, isCrowded, isFull, putOf}
+use Rattle.slots.specs.Layout.{slotsOf, linesOf, frontOf, placeAt, lengthAt, newestAt, isKept}
+use Rattle.slots.specs.Writing.{count, dropOf, keptOf, endOf, isCrowded, isFull, slidOf, movedOf, putOver, putOf}
 use Rattle.slots.specs.Calls.{writeSetpointOf, readVersionOf}
-use Rattle.slots.specs.Many.{count-less}
-use Rattle.slots.specs.Sound.{Sound, sound-is, is-sound, is-kept}
+use Rattle.slots.specs.Many.{count-less, most-within}
+use Rattle.slots.specs.Sound.{Kept, Fits, Sound, sound-is, is-sound, is-kept}
 use Rattle.slots.specs.Dropped.{dropped}
+use Rattle.slots.specs.Slid.{ends-is}
 use Rattle.slots.specs.Appended.{goesOf}
 use Rattle.slots.specs.Wrote.{isStaying, stayingOf, staying-is, Wrote, put-wrote, still-moved}
 use Rattle.slots.specs.Fine.{shape-head}
@@ -33,7 +35,7 @@ use Rattle.slots.specs.declared.BookRefusal.{BookRefusal}
 use Rattle.slots.specs.declared.BookRefusal.the-variants.{BookFull}
 use Rattle.history.specs.Tests.{alive, live}
 use Rattle.history.specs.Events.{fits}
-use Rattle.written.specs.Statements.{Others-read-as-before, New-reads-as-written, Oldest-is-dropped, Raises-by-one, Moved-is-counted, Still-moves-nothing, Order-is-kept, Writable, Needed, Full-exactly, Done-exactly, Room-for-all, Refused-changes-nothing}
+use Rattle.written.specs.Statements.{Others-read-as-before, New-reads-as-written, Oldest-is-dropped, Raises-by-one, summed, isMoved, Moved-is-summed, Still-moves-nothing, Slides-move, Order-is-kept, Writable, Needed, Full-exactly, Done-exactly, Room-for-all, Refused-changes-nothing}
 
 -- ---- a done write
 
@@ -62,8 +64,14 @@ record Facts (h : Head) (t b c : List ℕ) (slot : ℕ) (l : Lease) (s : Setpoin
   sound : Sound (slotsOf h) b
   version : v ≡ newestAt b slot + 1
   wrote : Wrote (slotsOf h) b c slot s moved
-  -- where bodies did not slide
+  room : isFull (slotsOf h) (dropOf b slot) ≡ false
+  -- where bodies did not slide, and where they did
   still : isCrowded (slotsOf h) (dropOf b slot) ≡ false → moved ≡ 0
+  slid : isCrowded (slotsOf h) (dropOf b slot) ≡ true → moved ≡ movedOf (slotsOf h) (dropOf b slot)
+
+slid-moved : (n : ℕ) (b : List ℕ) (slot : ℕ) (s : Setpoint) (v : ℕ) → isCrowded n (dropOf b slot) ≡ true → putOf n b slot s v .0 ≡ movedOf n (dropOf b slot)
+unfolding putOf putOver
+slid-moved n b slot s v e = rw e
 
 facts : (h : Head) (t b : List ℕ) (slot : ℕ) (l : Lease) (s : Setpoint) (v moved : ℕ) → Held s
     → writeSetpointOf h t b slot l s .0 ≡ Written v moved → Facts h t b (writeSetpointOf h t b slot l s .1) slot l s v moved
@@ -79,7 +87,9 @@ facts h t b slot l s v moved held e = go (writing-is h t b slot l s) e
           version = sym (ap versionIn e);
           wrote = subst (λ (m : ℕ). Wrote (slotsOf h) b (putOf (slotsOf h) b slot s (newestAt b slot + 1) .1) slot s m) (ap movedIn e)
               (put-wrote (slotsOf h) b slot s (c .given .slot-is .inside) sound held (c .given .whole) f);
+          room = f;
           still = λ q. sym (ap movedIn e) ∙ still-moved (slotsOf h) b slot s (newestAt b slot + 1) q;
+          slid = λ q. sym (ap movedIn e) ∙ slid-moved (slotsOf h) b slot s (newestAt b slot + 1) q;
         }
     go (full c f) e = let z : _≡_ {A = ℕ} 0 1 = cc in absurd (omega arith)
     go (refused r d g c) e = let z : _≡_ {A = ℕ} 0 1 = cc in absurd (omega arith)
@@ -121,8 +131,24 @@ raises-by-one h t b slot l s v moved held e =
     let f = facts h t b slot l s v moved held e in
     (f .version, f .wrote .newest ∙ sym (f .version))
 
-pub moved-is-counted : Moved-is-counted writeSetpointOf
-moved-is-counted h t b slot l s v moved held e = facts h t b slot l s v moved held e .wrote .moved-is
+-- the summed lengths of lines that have length 5 are 5 times their number
+summed-fives : (m : ℕ) (t : ℕ → Bool) (g : ℕ → ℕ) → ((k : ℕ) → k < m → t k ≡ true → g k ≡ 5) → summed m (λ k. if t k then g k else 0) ≡ 5 * count m t
+unfolding summed count
+summed-fives zero t g h = refl
+summed-fives (suc m) t g h = omega (arith, summed-fives m t g (λ k l. h k (omega arith)), one (t m) (h m (omega arith)))
+  where
+    one : (x : Bool) → (x ≡ true → g m ≡ 5) → (if x then g m else 0) ≡ 5 * (if x then 1 else 0)
+    one true f = omega (arith, f refl)
+    one false f = refl
+
+pub moved-is-summed : Moved-is-summed writeSetpointOf
+unfolding isMoved
+moved-is-summed h t b slot l s v moved held e =
+    let f = facts h t b slot l s v moved held e in
+    let n = slotsOf h in
+    f .wrote .moved-is
+    ∙ sym (summed-fives (linesOf n) (λ k. isStaying b slot k && not (eqb (placeAt (writeSetpointOf h t b slot l s .1) (goesOf slot k)) (placeAt b k))) (lengthAt b)
+    (λ k i q. f .sound .fits .five k i (is-kept b k (both (isKept b k) (not (eqb k (4 * slot + 3))) (both (isStaying b slot k) _ q .0) .0))))
 
 -- a test that holds of no number below m, since it is counted 0 times
 count-zero : (m : ℕ) (f : ℕ → Bool) → count m f ≡ 0 → (k : ℕ) → k < m → f k ≡ false
@@ -147,6 +173,40 @@ still-moves-nothing h t b slot l s v moved held e q =
         → placeAt (writeSetpointOf h t b slot l s .1) (goesOf slot k) ≡ placeAt b k
     at k true y z = eqb-true _ _ (not-false _ z)
     at k false y z = apart y
+
+-- crowded, with room for one more body: the last body does not end where the kept ones do
+crowded-full : (n : ℕ) (d : List ℕ) → isCrowded n d ≡ true → isFull n d ≡ false
+    → (frontOf n + 5 * keptOf n d ≤ length d → endOf n d ≤ frontOf n + 5 * keptOf n d) → ⊥
+unfolding isCrowded isFull
+crowded-full n d c r h =
+    let room = ltb-false (length d) (frontOf n + 5 * keptOf n d + 5) r in
+    omega (arith, ltb-true (length d) (endOf n d + 5) c, room, h (omega arith))
+
+-- a book that fits and in which no body would slide has its last body at the end of all kept ones
+unmoved-end : (n : ℕ) (d : List ℕ) → Fits n d → frontOf n + 5 * keptOf n d ≤ length d → movedOf n d ≡ 0 → endOf n d ≤ frontOf n + 5 * keptOf n d
+unfolding movedOf endOf
+unmoved-end n d f room e =
+    most-within (linesOf n) (λ k. if isKept d k then placeAt d k + 5 else 0) (frontOf n) (frontOf n + 5 * keptOf n d) (omega arith)
+    (λ k u. go k u (isKept d k) (is-kept d k) (count-zero (linesOf n) (λ k. isKept d k && not (eqb (slidOf n d (placeAt d k)) (placeAt d k))) (omega arith) k u))
+  where
+    go : (k : ℕ) → k < linesOf n → (x : Bool) → (x ≡ true → Kept d k) → (x && not (eqb (slidOf n d (placeAt d k)) (placeAt d k))) ≡ false
+        → (if x then placeAt d k + 5 else 0) ≤ frontOf n + 5 * keptOf n d
+    go k u true q z = omega (arith, eqb-true (slidOf n d (placeAt d k)) (placeAt d k) (not-false _ z), ends-is n d f room k u (q refl))
+    go k u false q z = omega arith
+
+fives : (n : ℕ) (d : List ℕ) → (movedOf n d ≡ 0 → ⊥) → 5 ≤ movedOf n d
+unfolding movedOf
+fives n d z = omega (arith, z)
+
+pub slides-move : Slides-move writeSetpointOf
+slides-move h t b slot l s v moved held e q =
+    let f = facts h t b slot l s v moved held e in
+    let n = slotsOf h in
+    let w = dropped n b slot (f .claim .given .slot-is .inside) (f .sound .fits) in
+    omega (arith, f .slid q, fives n (dropOf b slot) (λ z. none n (dropOf b slot) (w .fits) q (f .room) z))
+  where
+    none : (n : ℕ) (d : List ℕ) → Fits n d → isCrowded n d ≡ true → isFull n d ≡ false → movedOf n d ≡ 0 → ⊥
+    none n d fit c r z = crowded-full n d c r (λ k. unmoved-end n d fit k z)
 
 pub order-is-kept : Order-is-kept writeSetpointOf
 order-is-kept h t b slot l s v moved held e k j hk hj pk pj o =

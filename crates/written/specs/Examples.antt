@@ -11,6 +11,7 @@ use lib.Ieee.{binary32, ofBits, toBits}
 use lib.Ieee.Bits.{ofBits-fits}
 use lib.ListN.{length, getD, replicate, set}
 use borrow.Author.Tests.{ltb-true}
+use Rattle.choice.specs.Choice.{if_then_else_}
 use Rattle.choice.specs.Pick.{both}
 use Rattle.model.specs.Arena.{headOf, leaseOf, holdIn, bitAt, ownerAt, setCell, isFree, isHeld, stateOf, stateAt, isLive, headFits, shapeFits, healthFits}
 use Rattle.model.specs.Refusals.{first}
@@ -34,8 +35,8 @@ use Rattle.slots.specs.declared.BookRefusal.the-variants.{StaleBoot, NotHeld, D
 use Rattle.history.specs.World.{World, worldOf}
 use Rattle.history.specs.Items.{call, try-acquire, drop-lease, preparation, preparation-over, perform, cold, next-item, preparing}
 use Rattle.written.specs.Items.{BookItem, arena-item, prepare-book, write-setpoint, read-setpoint, read-version, BookEntry, prepared, wrote, was-read, version-read, Shift, shiftOf, slots-in, preparing-book, writing, reading, reading-version, next-shift, run-shift, settings, told, toldBy, Same-slots, All-typed}
-use Rattle.written.specs.Statements.{Released-between, Writable, Needed, As-written}
-use Rattle.written.specs.Theorems.{others-read-as-before, new-reads-as-written, oldest-is-dropped, full-exactly, done-exactly, reads-exactly, prepared-reads-nothing, reads-last-write, reads-newest-four, never-exactly, forgets-older-bytes, never-damaged, written-by-holder, one-writer, writers-parted}
+use Rattle.written.specs.Statements.{summed, isMoved, Released-between, Writable, Needed, As-written}
+use Rattle.written.specs.Theorems.{others-read-as-before, new-reads-as-written, oldest-is-dropped, moved-is-summed, full-exactly, done-exactly, reads-exactly, prepared-reads-nothing, reads-last-write, reads-newest-four, never-exactly, forgets-older-bytes, never-damaged, written-by-holder, one-writer, writers-parted}
 
 -- ---- a day
 
@@ -269,6 +270,12 @@ after-slide =
       new-reads-as-written the-head the-table at-evening 1 other-lease (Speed 5) 5 15 (omega arith) slid-done,
       oldest-is-dropped the-head the-table at-evening 1 other-lease (Speed 5) 5 15 (omega arith) slid-done 1 refl,
     )
+
+-- `moved-is-summed`: 15 bytes are three lengths of 5
+pub three-lengths : 15 ≡ summed 8 (λ k. if isMoved at-evening at-night 1 k then lengthAt at-evening k else 0)
+three-lengths =
+    subst (λ (c : List ℕ). 15 ≡ summed 8 (λ k. if isMoved at-evening c 1 k then lengthAt at-evening k else 0)) (ap (λ (o : _ × List ℕ). o .1) slid)
+    (moved-is-summed the-head the-table at-evening 1 other-lease (Speed 5) 5 15 (omega arith) slid-done)
 
 -- `done-exactly`, and `full-exactly`: the same write on a book with room for three bodies, whose slot has three
 pub was-writable : Writable the-head the-table at-evening 1 other-lease (Speed 5)

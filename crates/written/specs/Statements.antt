@@ -1,12 +1,13 @@
 -- What the setpoint book promises, about single calls and over histories, as statements. `Items` has the words they are made of, `Theorems`
 -- gives their proofs by name. What stands in quotes is of document 02, L2 and L10, or of the work order.
-use Prim.Native.Nat.{ℕ, _+_, _*_, _-_, _≤_, _<_}
+use Prim.Native.Nat.{ℕ, zero, suc, _+_, _*_, _-_, _≤_, _<_}
 use mathlib.Core.Path.{_≡_}
 use mathlib.Core.Logic.{_≢_, _⊎_, _↔_}
 use mathlib.Core.List.{List, [], _∷_, _++_}
-use mathlib.Core.Bool.{true, false, not, _&&_}
+use mathlib.Core.Bool.{Bool, true, false, not, _&&_}
 use lib.Dec.{eqb}
 use lib.ListN.{length, getD}
+use Rattle.choice.specs.Choice.{if_then_else_}
 use Rattle.model.specs.Arena.{cellsOf, isStale, leaseLive, holdIn, headFits}
 use Rattle.model.specs.Log.{Actor, Event, released}
 use Rattle.types.specs.declared.Head.{Head}
@@ -16,7 +17,7 @@ use Rattle.laws.specs.Shape.{Shaped}
 use Rattle.setpoint.specs.Codec.{hasBody, bodyOf}
 use Rattle.setpoint.specs.RoundTrip.{Held}
 use Rattle.setpoint.specs.declared.Setpoint.{Setpoint}
-use Rattle.slots.specs.Layout.{slotsOf, linesOf, fiveAt, placeAt, newestAt}
+use Rattle.slots.specs.Layout.{slotsOf, linesOf, fiveAt, placeAt, lengthAt, newestAt}
 use Rattle.slots.specs.Writing.{count, dropOf, isCrowded}
 use Rattle.slots.specs.Rules.{firstFault, badTable, badSlot, isBadSlot, lastVersion}
 use Rattle.slots.specs.Sound.{Kept, Apart, Sound, Free}
@@ -42,6 +43,11 @@ Writer = Head → (table book : List ℕ) → ℕ → Lease → Setpoint → Boo
 abbrev pub Reader : Type 0
 Reader = Head → (book : List ℕ) → (slot version : ℕ) → BookAnswer
 
+-- f of each number below m, summed
+unfoldable pub summed : ℕ → (ℕ → ℕ) → ℕ
+summed zero f = 0
+summed (suc m) f = summed m f + f m
+
 -- ---- a done write: of the setpoint s on a slot, which gave version v and moved so many bytes. `c` is the book afterwards
 
 abbrev pub After-write : Writer → (Head → (book after : List ℕ) → ℕ → Setpoint → ℕ → ℕ → Type 0) → Type 0
@@ -66,12 +72,14 @@ Oldest-is-dropped f g = After-write f (λ h b c slot s v moved. (w : ℕ) → w 
 abbrev pub Raises-by-one : Writer → Type 0
 Raises-by-one f = After-write f (λ h b c slot s v moved. (v ≡ newestAt b slot + 1) × (newestAt c slot ≡ v))
 
--- "bytes moved, equal to the summed lengths of the bodies whose place changed": 5 for each line of the old book that stays and whose body has
--- another place in the new one, where it stands in line `goesOf`
-abbrev pub Moved-is-counted : Writer → Type 0
-Moved-is-counted f =
-    After-write f (λ h b c slot s v moved.
-    moved ≡ 5 * count (linesOf (slotsOf h)) (λ k. isStaying b slot k && not (eqb (placeAt c (goesOf slot k)) (placeAt b k))))
+-- line k of the old book stays, and its body has another place in the new one, where it stands in line `goesOf`
+unfoldable pub isMoved : (book after : List ℕ) → ℕ → ℕ → Bool
+isMoved b c slot k = isStaying b slot k && not (eqb (placeAt c (goesOf slot k)) (placeAt b k))
+
+-- "bytes moved, equal to the summed lengths of the bodies whose place changed": it speaks of the two books alone, not of the slide
+abbrev pub Moved-is-summed : Writer → Type 0
+Moved-is-summed f =
+    After-write f (λ h b c slot s v moved. moved ≡ summed (linesOf (slotsOf h)) (λ k. if isMoved b c slot k then lengthAt b k else 0))
 
 -- none where nothing slid: there was room behind the last body
 abbrev pub Still-moves-nothing : Writer → Type 0
@@ -79,6 +87,10 @@ Still-moves-nothing f =
     After-write f (λ h b c slot s v moved.
     isCrowded (slotsOf h) (dropOf b slot) ≡ false
     → (moved ≡ 0) × ((k : ℕ) → k < linesOf (slotsOf h) → isStaying b slot k ≡ true → placeAt c (goesOf slot k) ≡ placeAt b k))
+
+-- and a slide moves a body at least: so the bytes moved tell whether there was one
+abbrev pub Slides-move : Writer → Type 0
+Slides-move f = After-write f (λ h b c slot s v moved. isCrowded (slotsOf h) (dropOf b slot) ≡ true → 5 ≤ moved)
 
 -- "in the order of their places": of two bodies that stay, the one before stays before
 abbrev pub Order-is-kept : Writer → Type 0

@@ -1,6 +1,6 @@
 -- The statements of `Statements`, each proved; the proofs are in the files behind.
 use Rattle.slots.specs.Calls.{writeSetpointOf, readVersionOf}
-use Rattle.written.specs.Statements.{Others-read-as-before, New-reads-as-written, Oldest-is-dropped, Raises-by-one, Moved-is-counted, Still-moves-nothing, Order-is-kept, Full-exactly, Done-exactly, Room-for-all, Refused-changes-nothing, Reads-exactly, Prepared-reads-nothing, Forgets-older-bytes, Reads-last-write, Reads-newest-four, Never-exactly, Never-damaged, Never-overlap, Free-are-zeros, Newer-lie-behind, Written-by-holder, Unowned-writes-nothing, Stale-writes-nothing, One-writer, Writers-parted, Untouched-otherwise}
+use Rattle.written.specs.Statements.{Others-read-as-before, New-reads-as-written, Oldest-is-dropped, Raises-by-one, Moved-is-summed, Still-moves-nothing, Slides-move, Order-is-kept, Full-exactly, Done-exactly, Room-for-all, Refused-changes-nothing, Reads-exactly, Prepared-reads-nothing, Forgets-older-bytes, Reads-last-write, Reads-newest-four, Never-exactly, Never-damaged, Never-overlap, Free-are-zeros, Newer-lie-behind, Written-by-holder, Unowned-writes-nothing, Stale-writes-nothing, One-writer, Writers-parted, Untouched-otherwise}
 use Rattle.written.specs.After as after
 use Rattle.written.specs.Runs as runs
 use Rattle.written.specs.Exact as exact
@@ -20,11 +20,14 @@ oldest-is-dropped = after.oldest-is-dropped
 pub raises-by-one : Raises-by-one writeSetpointOf
 raises-by-one = after.raises-by-one
 
-pub moved-is-counted : Moved-is-counted writeSetpointOf
-moved-is-counted = after.moved-is-counted
+pub moved-is-summed : Moved-is-summed writeSetpointOf
+moved-is-summed = after.moved-is-summed
 
 pub still-moves-nothing : Still-moves-nothing writeSetpointOf
 still-moves-nothing = after.still-moves-nothing
+
+pub slides-move : Slides-move writeSetpointOf
+slides-move = after.slides-move
 
 pub order-is-kept : Order-is-kept writeSetpointOf
 order-is-kept = after.order-is-kept
