@@ -251,12 +251,7 @@ pub fn read_setpoint(head: Head, book: &[u8], slot: u32) -> Result<Kept, BookRef
 }
 
 /// "NeverWritten now also answers for an older version not kept", and for 0 and a version not yet written.
-pub fn read_version(
-    head: Head,
-    book: &[u8],
-    slot: u32,
-    version: u32,
-) -> Result<Kept, BookRefusal> {
+pub fn read_version(head: Head, book: &[u8], slot: u32, version: u32) -> Result<Kept, BookRefusal> {
     read(head, book, slot, |kept| kept.version == version)
 }
 
