@@ -1,8 +1,8 @@
 //! The random histories reach every call, and with every call each answer that it can give; the reasons of a Busy, also
 //! where they change between attempts; the two readings of health in all their cases; keys in any order and doubles;
-//! boot numbers, used and used again, and stale leases at all places of all lists; the book's damages, and its faults two
-//! at a time; the counters of a crew at work; what a salvage finds and what room it has, and the leases from before it;
-//! and echo, map and trace in all theirs.
+//! boot numbers, used and used again, and stale leases at all places of all lists; the book's damages, its room and what
+//! it keeps, and its faults two at a time; the counters of a crew at work; what a salvage finds and what room it has, and
+//! the leases from before it; and echo, map and trace in all theirs.
 
 use console::desk::Desk;
 use console::histories;
@@ -19,7 +19,7 @@ const CALLS: usize = 10_000;
 
 /// What each call can answer: a Busy by its reason, a setpoint by its kind, the refusals by number, in the order of
 /// document 01's table, and 11 with its reason, or by name, where they have no number.
-const ANSWERS: [(&str, &str); 24] = [
+const ANSWERS: [(&str, &str); 25] = [
     ("prepare", "done 1"),
     ("try_acquire", "granted held 1 8 9 10"),
     ("drop_lease", "done 1 12 16"),
@@ -62,10 +62,14 @@ const ANSWERS: [(&str, &str); 24] = [
     ("prepare_book", "done 1 BadSlot"),
     (
         "write_setpoint",
-        "done 1 BadSlot 16 12 NotFinite DamagedBook VersionsSpent",
+        "done 1 BadSlot 16 12 NotFinite DamagedBook VersionsSpent BookFull",
     ),
     (
         "read_setpoint",
+        "pressure speed valve 1 BadSlot DamagedBook NeverWritten",
+    ),
+    (
+        "read_version",
         "pressure speed valve 1 BadSlot DamagedBook NeverWritten",
     ),
 ];
@@ -416,43 +420,103 @@ fn every_case_of_map_and_echo() {
     assert_eq!(echoes, expected);
 }
 
-/// The rules that a damaged slot breaks, and how long the book is to be.
-fn damages(console: &Desk, slot: usize) -> Vec<&'static str> {
-    let slots = book::slots_of(console.head.headers * console.head.buckets) as usize;
-    let line = &console.book[8 * slot..8 * slot + 8];
-    let body = &console.book[8 * slots + 5 * slot..8 * slots + 5 * slot + 5];
-    let place = usize::from(line[0]) + 256 * usize::from(line[1]);
-    let kept = body[1..]
-        .iter()
-        .rev()
-        .fold(0, |number, &byte| 256 * number + u32::from(byte));
-    let mut faults = Vec::new();
-    if line.iter().all(|&byte| byte == 0) {
-        return vec!["a body without a line"];
-    }
-    if place != 8 * slots + 5 * slot {
-        faults.push("place");
-    }
-    if line[2..4] != [5, 0] {
-        faults.push("length");
-    }
-    if line[4..] == [0; 4] {
-        faults.push("version 0");
-    }
-    match body[0] {
-        1 if !f32::from_bits(kept).is_finite() => faults.push("not finite"),
-        3 if kept > 1 => faults.push("valve"),
-        1..=3 => {}
-        0 => faults.push("kind 0"),
-        _ => faults.push("kind"),
-    }
-    faults
+/// The lent book of a desk, and how many slots it has.
+fn lent_book(console: &Desk) -> (&[u8], usize) {
+    let slots = book::slots_of(console.head.headers * console.head.buckets);
+    (&console.book[..console.lent_book], slots as usize)
 }
 
-/// Each rule of a line and a body is broken alone, in a read and in a write.
+/// Place, length and version of a slot's line; 0 is the newest.
+fn line_of(book: &[u8], slot: usize, age: usize) -> [u32; 3] {
+    let line = &book[32 * slot + 8 * age..][..8];
+    let number = |bytes: &[u8]| {
+        let bytes = bytes.iter().rev();
+        bytes.fold(0, |number, &byte| 256 * number + u32::from(byte))
+    };
+    [number(&line[..2]), number(&line[2..4]), number(&line[4..])]
+}
+
+/// Slot, version and place of each line that is to be in use: as many as a slot had settings, four at most.
+fn bodies_of(book: &[u8], slots: usize) -> Vec<(usize, u32, usize)> {
+    let lines = (0..slots).flat_map(|slot| {
+        let used = line_of(book, slot, 0)[2].min(4) as usize;
+        (0..used).map(move |age| {
+            let [place, _, version] = line_of(book, slot, age);
+            (slot, version, place as usize)
+        })
+    });
+    lines.collect()
+}
+
+/// What is wrong with a body.
+fn damage_of_body(body: &[u8]) -> Option<&'static str> {
+    let number = u32::from_le_bytes([body[1], body[2], body[3], body[4]]);
+    match body[0] {
+        1 if !f32::from_bits(number).is_finite() => Some("not finite"),
+        3 if number > 1 => Some("valve"),
+        1..=3 => None,
+        0 => Some("kind 0"),
+        _ => Some("kind"),
+    }
+}
+
+/// What is wrong with the lines and bodies of a slot.
+fn damages_of_slot(book: &[u8], slots: usize, slot: usize) -> Vec<&'static str> {
+    let newest = line_of(book, slot, 0)[2];
+    let mut damages = Vec::new();
+    for age in 0..4 {
+        let [place, length, version] = line_of(book, slot, age);
+        let at = place as usize;
+        if age as u32 >= newest {
+            if [place, length, version] != [0; 3] {
+                damages.push("an unused line with bytes");
+            }
+        } else if [place, length, version] == [0; 3] {
+            damages.push("no line for a setting");
+        } else {
+            if version != newest - age as u32 {
+                damages.push("versions not falling by one");
+            }
+            if length != 5 {
+                damages.push("length");
+            }
+            match at {
+                _ if at < 32 * slots => damages.push("place before the contents"),
+                _ if at + 5 > book.len() => damages.push("place past the end"),
+                _ => damages.extend(damage_of_body(&book[at..at + 5])),
+            }
+        }
+    }
+    damages
+}
+
+/// Every rule that the book breaks, and the slots in which it is broken: of an overlap both.
+fn damages(book: &[u8], slots: usize) -> Vec<(&'static str, [usize; 2])> {
+    let mut damages: Vec<(&str, [usize; 2])> = (0..slots)
+        .flat_map(|slot| {
+            let damages = damages_of_slot(book, slots, slot).into_iter();
+            damages.map(move |damage| (damage, [slot; 2]))
+        })
+        .collect();
+    let bodies = bodies_of(book, slots);
+    for (at, &(slot, _, place)) in bodies.iter().enumerate() {
+        for &(other, _, second) in &bodies[..at] {
+            match place.abs_diff(second) {
+                0 => damages.push(("overlap: at one place", [slot, other])),
+                1..=3 => damages.push(("overlap: by some bytes", [slot, other])),
+                4 => damages.push(("overlap: by one byte", [slot, other])),
+                _ => {}
+            }
+        }
+    }
+    damages
+}
+
+/// Each rule of the book is broken alone, and met by a read of the newest, a read of a version and a write, of that slot
+/// and of another, not once but often.
 #[test]
 fn every_damage_of_the_book() {
-    let mut seen = BTreeSet::new();
+    let mut seen: BTreeMap<String, usize> = BTreeMap::new();
     for seed in 1..=6 {
         let mut console = Desk::new();
         for line in history(seed).split(|&byte| byte == b'\n') {
@@ -462,33 +526,246 @@ fn every_damage_of_the_book() {
                 .expect("a vector takes every byte");
             if out.starts_with(b"refused DamagedBook\n") {
                 let line = String::from_utf8_lossy(line);
-                let slot = number(word(&line, 1).as_bytes()).expect("a slot");
-                let faults = damages(&console, slot as usize);
-                assert!(!faults.is_empty(), "{line}");
-                if let &[fault] = faults.as_slice() {
-                    seen.insert(format!("{}: {fault}", word(&line, 0)));
+                let slot = number(word(&line, 1).as_bytes()).expect("a slot") as usize;
+                let (book, slots) = lent_book(&console);
+                let damages = damages(book, slots);
+                assert!(!damages.is_empty(), "{line}");
+                if let [(damage, damaged)] = damages[..] {
+                    let own = if damaged.contains(&slot) {
+                        "own"
+                    } else {
+                        "other"
+                    };
+                    *seen.entry(format!("{own} slot: {damage}")).or_default() += 1;
+                    let call = word(&line, 0);
+                    *seen.entry(format!("{call}: {damage}")).or_default() += 1;
                 }
             }
         }
     }
-    let faults = [
-        "a body without a line",
-        "place",
+    for damage in [
+        "versions not falling by one",
+        "no line for a setting",
+        "an unused line with bytes",
         "length",
-        "version 0",
+        "place before the contents",
+        "place past the end",
         "not finite",
         "valve",
         "kind 0",
         "kind",
-    ];
-    let expected: BTreeSet<String> = faults
-        .iter()
-        .flat_map(|fault| {
-            ["read_setpoint", "write_setpoint"].map(|call| format!("{call}: {fault}"))
-        })
-        .collect();
-    assert_eq!(seen, expected);
+        "overlap: at one place",
+        "overlap: by some bytes",
+        "overlap: by one byte",
+    ] {
+        for met in [
+            "own slot",
+            "other slot",
+            "read_setpoint",
+            "read_version",
+            "write_setpoint",
+        ] {
+            let case = format!("{met}: {damage}");
+            assert!(seen.get(&case) >= Some(&10), "{case}: {seen:#?}");
+        }
+    }
 }
+
+/// The bodies that a sound book keeps once a write to this slot has dropped its oldest of four, and that one.
+type Drop = (Vec<(usize, u32, usize)>, Option<(usize, u32, usize)>);
+
+fn dropping(book: &[u8], slots: usize, slot: usize) -> Drop {
+    let newest = line_of(book, slot, 0)[2];
+    let is_oldest =
+        |body: &(usize, u32, usize)| newest >= 4 && body.0 == slot && body.1 == newest - 3;
+    let (dropped, kept): (Vec<_>, Vec<_>) = bodies_of(book, slots).into_iter().partition(is_oldest);
+    (kept, dropped.first().copied())
+}
+
+/// Whether kept bodies after the drop leave fewer than 5 bytes.
+fn is_full(book: &[u8], slots: usize, slot: usize) -> bool {
+    let (kept, _) = dropping(book, slots, slot);
+    32 * slots + 5 * kept.len() + 5 > book.len()
+}
+
+/// What a write that was done, or found the book full, met. `before` is what it was given.
+fn cases_of_room(before: &Desk, line: &str, out: &str) -> Vec<&'static str> {
+    let (book, slots) = lent_book(before);
+    let slot = number(word(line, 1).as_bytes()).expect("a slot") as usize;
+    let (kept, dropped) = dropping(book, slots, slot);
+    if answer_of(out) == "BookFull" {
+        assert!(is_full(book, slots, slot), "{line}");
+        return vec![match (kept.len(), (book.len() - 32 * slots) % 5) {
+            (0, _) => "full: room for no body",
+            (_, 0) => "full: no byte left",
+            _ => "full: some bytes left",
+        }];
+    }
+    let mut cases = Vec::new();
+    let behind = |bodies: &[(usize, u32, usize)]| {
+        let ends = bodies.iter().map(|body| body.2 + 5);
+        ends.max().unwrap_or(32 * slots)
+    };
+    let moved = behind_word(out, "moved") as usize;
+    assert_eq!(moved > 0, behind(&kept) + 5 > book.len(), "{line}: {out}");
+    cases.push(match (moved, kept.len()) {
+        (0, 0) => "the first body",
+        (0, _) => "appended",
+        (moved, kept) if moved == 5 * kept => "all bodies slide",
+        _ => "some bodies slide",
+    });
+    if let Some(dropped) = dropped {
+        cases.push(if moved > 0 {
+            "dropped, slide"
+        } else {
+            "dropped, append"
+        });
+        if behind(&kept) <= dropped.2 {
+            cases.push("the dropped body lay last");
+        }
+        if moved == 0 && behind(&kept) == dropped.2 && dropped.2 + 10 > book.len() {
+            cases.push("the dropped body's room is all there is behind");
+        }
+    }
+    let is_free = |at: usize| {
+        kept.iter()
+            .chain(&dropped)
+            .all(|body| !(body.2..body.2 + 5).contains(&at))
+    };
+    if (32 * slots..book.len()).any(|at| is_free(at) && book[at] != 0) {
+        cases.push(if moved > 0 {
+            "free bytes not zero, slide"
+        } else {
+            "free bytes not zero"
+        });
+    }
+    if behind(&kept) + 5 == book.len() {
+        cases.push("exactly 5 bytes behind the last");
+    }
+    if (1..5).contains(&(book.len() - behind(&kept))) {
+        cases.push("fewer than 5 bytes behind the last");
+    }
+    cases
+}
+
+/// The number behind a word that must be there.
+fn behind_word(out: &str, word: &str) -> u32 {
+    behind(out, word).expect("a number")
+}
+
+/// Which version a read of a sound book asked for, and whether it was there. `before` is what it was given.
+fn case_of_reading(before: &Desk, line: &str, out: &str) -> String {
+    let (book, slots) = lent_book(before);
+    let numbers = |at| number(word(line, at).as_bytes()).expect("a number");
+    let slot = numbers(1) as usize;
+    assert!(slot < slots, "{line}");
+    let newest = line_of(book, slot, 0)[2];
+    let asked = match word(line, 0) {
+        "read_setpoint" => newest,
+        _ => numbers(2),
+    };
+    let kept = (1..=newest).contains(&asked) && newest - asked < 4;
+    assert_eq!(kept, out.starts_with("setpoint "), "{line}: {out}");
+    let which = match asked {
+        _ if kept => return format!("{}: age {}", word(line, 0), newest - asked),
+        0 => "0",
+        _ if asked < newest => "dropped",
+        _ if asked - 1 == newest => "the next",
+        _ => "to come",
+    };
+    format!("{}: {which}, of {} settings", word(line, 0), newest.min(1))
+}
+
+/// What a write met behind one that found the book full: `None` while there was none.
+fn case_behind_full(full: Option<usize>, console: &Desk) -> Option<&'static str> {
+    Some(match console.lent_book > full? {
+        true => "done behind full, in a longer book",
+        false => "done behind full",
+    })
+}
+
+/// The room of the book, and what is read of it: each case not once but often.
+#[test]
+fn every_case_of_room_and_reading() {
+    let mut seen: BTreeMap<String, usize> = BTreeMap::new();
+    for seed in 1..=6 {
+        let mut console = Desk::new();
+        // the length of the book when it was full, up to the next write that is done, or preparation
+        let mut full = None;
+        for line in history(seed).split(|&byte| byte == b'\n') {
+            let call = line.starts_with(b"write_setpoint ") || line.starts_with(b"read_");
+            let (before, mut out) = (call.then(|| console.clone()), Vec::new());
+            let kind = console
+                .line(&mut Plain, line, &mut out)
+                .expect("a vector takes every byte");
+            let (line, out) = (String::from_utf8_lossy(line), String::from_utf8_lossy(&out));
+            if line.starts_with("prepare") {
+                full = None;
+            }
+            let Some(before) = before.filter(|_| matches!(kind, Line::Call(_))) else {
+                continue;
+            };
+            let mut cases = Vec::new();
+            match (word(&line, 0), answer_of(&out).as_str()) {
+                ("write_setpoint", "done") => {
+                    cases.extend(cases_of_room(&before, &line, &out));
+                    cases.extend(case_behind_full(full.take(), &console));
+                }
+                ("write_setpoint", "BookFull") => {
+                    cases.extend(cases_of_room(&before, &line, &out));
+                    full = Some(console.lent_book);
+                }
+                (
+                    "read_setpoint" | "read_version",
+                    "pressure" | "speed" | "valve" | "NeverWritten",
+                ) => {
+                    let case = case_of_reading(&before, &line, &out);
+                    *seen.entry(case).or_default() += 1;
+                }
+                _ => {}
+            }
+            for case in cases {
+                *seen.entry(case.to_string()).or_default() += 1;
+            }
+        }
+    }
+    for case in ROOM_AND_READING {
+        assert!(seen.get(case) >= Some(&10), "{case}: {seen:#?}");
+    }
+}
+
+/// The cases of that test.
+const ROOM_AND_READING: [&str; 29] = [
+    "the first body",
+    "appended",
+    "some bodies slide",
+    "all bodies slide",
+    "dropped, append",
+    "dropped, slide",
+    "the dropped body lay last",
+    "the dropped body's room is all there is behind",
+    "free bytes not zero",
+    "free bytes not zero, slide",
+    "exactly 5 bytes behind the last",
+    "fewer than 5 bytes behind the last",
+    "full: room for no body",
+    "full: no byte left",
+    "full: some bytes left",
+    "done behind full",
+    "done behind full, in a longer book",
+    "read_setpoint: age 0",
+    "read_setpoint: 0, of 0 settings",
+    "read_version: age 0",
+    "read_version: age 1",
+    "read_version: age 2",
+    "read_version: age 3",
+    "read_version: dropped, of 1 settings",
+    "read_version: 0, of 1 settings",
+    "read_version: 0, of 0 settings",
+    "read_version: the next, of 1 settings",
+    "read_version: the next, of 0 settings",
+    "read_version: to come, of 1 settings",
+];
 
 /// Every fault of a `write_setpoint` under a good head, in the order of its refusals. Damage can be looked for only where
 /// there is such a slot.
@@ -504,7 +781,7 @@ fn faults_of_a_write(console: &Desk, line: &str) -> Vec<&'static str> {
         boot: head.boot,
     };
     let mut table = console.table[..words].to_vec();
-    let book = &console.book[..console.lent_book];
+    let (book, slots) = lent_book(console);
     let mut faults = Vec::new();
     let permission = rules::read_permission(head, &mut table, lease).answer;
     if permission == Answer::Refused(rules::Refusal::BadShape) {
@@ -512,9 +789,8 @@ fn faults_of_a_write(console: &Desk, line: &str) -> Vec<&'static str> {
     }
     let read = book::read_setpoint(head, book, slot);
     if read == Err(BookRefusal::BadSlot) {
-        let slots = book::slots_of(head.headers * head.buckets);
         faults.push(match book.len() {
-            length if length < 13 * slots as usize => "too short",
+            length if length < 32 * slots => "too short",
             length if length > 32_768 => "over the limit",
             _ => "no such slot",
         });
@@ -531,6 +807,9 @@ fn faults_of_a_write(console: &Desk, line: &str) -> Vec<&'static str> {
     match read {
         Err(BookRefusal::DamagedBook) => faults.push("DamagedBook"),
         Ok(kept) if kept.version == u32::MAX => faults.push("VersionsSpent"),
+        Ok(_) | Err(BookRefusal::NeverWritten) if is_full(book, slots, slot as usize) => {
+            faults.push("BookFull");
+        }
         _ => {}
     }
     faults
@@ -565,10 +844,12 @@ fn every_two_faults_of_a_write() {
         "NotFinite",
         "DamagedBook",
         "VersionsSpent",
+        "BookFull",
         "1 too short",
         "1 no such slot",
         "1 NotFinite",
         "1 DamagedBook",
+        "1 BookFull",
         "too short 12",
         "too short NotFinite",
         "over the limit 12",
@@ -582,11 +863,14 @@ fn every_two_faults_of_a_write() {
         "16 NotFinite",
         "16 DamagedBook",
         "16 VersionsSpent",
+        "16 BookFull",
         "12 NotFinite",
         "12 DamagedBook",
         "12 VersionsSpent",
+        "12 BookFull",
         "NotFinite DamagedBook",
         "NotFinite VersionsSpent",
+        "NotFinite BookFull",
     ] {
         assert!(seen.contains(expected), "{expected}: not in {seen:?}");
     }
@@ -1499,7 +1783,7 @@ fn every_case_of_boot_behind_a_salvage() {
 
 /// What each call can do to bits: kinds of `step` lines that its trace can have. Behind the kind `+` if there can be
 /// several.
-const STEPS: [(&str, &str); 24] = [
+const STEPS: [(&str, &str); 25] = [
     ("prepare", "0 2 2+"),
     ("try_acquire", "0 1"),
     ("drop_lease", "0 2"),
@@ -1524,6 +1808,7 @@ const STEPS: [(&str, &str); 24] = [
     ("prepare_book", "0"),
     ("write_setpoint", "0"),
     ("read_setpoint", "0"),
+    ("read_version", "0"),
 ];
 
 #[test]
