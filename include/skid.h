@@ -80,7 +80,7 @@ extern "C" {
 #endif
 
 /* The version of header and library together; CHANGELOG.md says what came with which. */
-#define SKID_VERSION "0.16.2"
+#define SKID_VERSION "0.17.0"
 
 /* ---- limits */
 
