@@ -6,7 +6,8 @@
  * Link with libskid.a (`rt staticlib skid` writes target/staticlib/libskid.a). The archive is code for x86-64, by the
  * calling convention of Linux there (System V). It asks the host for memcpy and memset, and for nothing else. It has
  * no data of its own that changes, no heap and no thread. As that convention allows, it uses the SSE registers and the
- * 128 bytes below the stack pointer; a kernel that calls it where it saves neither must see to both.
+ * 128 bytes below the stack pointer; a kernel that calls it where it saves neither must see to both. A write of the
+ * setpoint book needs the most stack of its calls, 26,552 bytes as measured; a read 6,664.
  *
  * Each function is a call of these documents and is proved to give what they say, refusals included: the reply's words
  * and every word of every lent run are fixed, whatever the numbers and the lent words are.
