@@ -36,7 +36,7 @@ use Rattle.history.specs.World.{World, worldOf}
 use Rattle.history.specs.Items.{call, try-acquire, drop-lease, preparation, preparation-over, perform, cold, next-item, preparing}
 use Rattle.written.specs.Items.{BookItem, arena-item, prepare-book, write-setpoint, read-setpoint, read-version, BookEntry, prepared, wrote, was-read, version-read, Shift, shiftOf, slots-in, preparing-book, writing, reading, reading-version, next-shift, run-shift, settings, told, toldBy, Same-slots, All-typed}
 use Rattle.written.specs.Statements.{summed, isMoved, Released-between, Writable, Needed, As-written}
-use Rattle.written.specs.Theorems.{others-read-as-before, new-reads-as-written, oldest-is-dropped, moved-is-summed, full-exactly, done-exactly, reads-exactly, prepared-reads-nothing, reads-last-write, reads-newest-four, never-exactly, forgets-older-bytes, never-damaged, written-by-holder, one-writer, writers-parted}
+use Rattle.written.specs.Theorems.{others-read-as-before, new-reads-as-written, oldest-is-dropped, moved-is-summed, full-exactly, done-exactly, reads-exactly, prepared-reads-nothing, reads-last-write, reads-newest-four, never-exactly, forgets-older-bytes, never-damaged, written-by-holder, one-writer, writers-parted, damage-stays}
 
 -- ---- a day
 
@@ -322,3 +322,20 @@ three-answers = (
   reads-exactly the-head at-night 0 1 (small at-night refl) refl refl .1 .0 refl .1,
   reads-exactly the-head torn 1 3 (small torn refl) refl refl .2 .0 refl,
 )
+
+-- ---- `damage-stays`: a write and a read of the torn book, of the other slot too
+
+abbrev broken : Shift
+broken = shiftOf (cold (worldOf the-head the-table (replicate 1 0))) torn []
+
+abbrev tries : List BookItem
+tries = write-setpoint 1 other-lease (Speed 9) ∷ read-version 1 3 ∷ []
+
+tries-slots : Same-slots 2 broken tries
+unfolding run-shift next-shift next-item preparing perform prepareOf prepareRules first headFits shapeFits healthFits tryAcquireOf acquireOf dropLeaseOf cellRules leaseRules takeOf setCell bitAt ownerAt isFree isHeld stateOf stateAt isLive prepareBookOf bookRules firstFault isBadBook isBadSlot isHolder writeSetpointOf claimRules overRules readSetpointOf readVersionOf openRules keptRules isGone lineTold isFinite isSound isFalling isFitting isApart all placeAt lengthAt versionAt isKept settingAt count most putMany dropOldestOf keptOf endOf isCrowded isFull rankOf slidOf movedOf erasedOf laidOf compactOf appendOf putOverOf putOf joinOf settingOf decodeOf lineAt fiveAt lineOf bodyOf bytesOf ofBits toBits
+tries-slots = (refl, (refl, tt))
+
+pub torn-stays : run-shift broken tries .book ≡ torn
+torn-stays =
+    damage-stays broken tries (three-answers .2) tries-slots
+    (λ e n. let z : _≡_ {A = ℕ} 0 1 = cc in omega arith, (λ e n. let z : _≡_ {A = ℕ} 0 1 = cc in omega arith, tt))

@@ -291,3 +291,14 @@ Rewrites s (read-version t w) = ⊥
 -- every other item leaves it, byte for byte: "refusals change nothing"
 abbrev pub Untouched-otherwise : Type 0
 Untouched-otherwise = (s : Shift) (i : BookItem) → Rewrites s i ⊎ (next-shift s i .book ≡ s .book)
+
+-- no item is a done preparation of the book
+abbrev pub Unprepared : Shift → List BookItem → Type 0
+Unprepared s [] = Unit {0}
+Unprepared s (i ∷ is) = (i ≡ prepare-book → preparing-book s .0 ≢ Done) × Unprepared (next-shift s i) is
+
+-- a damaged book has no cure but preparing it: until then every byte stays, and so does the damage
+abbrev pub Damage-stays : Type 0
+Damage-stays =
+    (s : Shift) (items : List BookItem) → (Sound (slots-in s) (s .book) → ⊥) → Same-slots (slots-in s) s items → Unprepared s items
+    → run-shift s items .book ≡ s .book
