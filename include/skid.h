@@ -68,6 +68,7 @@
  *   Bytes that a body leaves become zeros; preparing sets every byte to 0.
  * - A line or a kept body that fits no rule, or two bodies that overlap, is SKID_DAMAGED_BOOK, for every read and every
  *   write of any slot. Nothing mends such a book but preparing it, which forgets every setting.
+ * - A read needs up to 7 KB of stack, a write up to 27 KB: the marks of the test for damage and of a slide stand there.
  */
 #ifndef SKID_H
 #define SKID_H

@@ -147,7 +147,7 @@ fn write_over(n: usize, book: &mut [u8], slot: usize, s: Setpoint) -> BookAnswer
             return BookAnswer::Refused(BookRefusal::BookFull);
         }
         enter::drop_oldest(book, slot);
-        let moved = enter::put(n, kept, book, slot, s, newest + 1);
+        let moved = enter::put_over(n, kept, book, slot, s, newest + 1);
         return BookAnswer::Written(newest + 1, moved);
     }
     BookAnswer::Refused(BookRefusal::DamagedBook)

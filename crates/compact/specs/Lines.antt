@@ -1,8 +1,8 @@
 -- The lines of a book whose bodies have slid: each used line gets its body's new place, and the bytes moved are counted. The new places stand
 -- by cell, as the walk of `Slide` leaves them.
-use Prim.Native.Nat.{ℕ, zero, suc, _+_, _*_, _-_, _/_, _≤_, _<_}
-use mathlib.Core.Path.{_≡_, refl, sym, ap, _∙_}
-use mathlib.Core.Logic.{inl, inr}
+use Prim.Native.Nat.{ℕ, zero, suc, _+_, _*_, _≤_, _<_}
+use mathlib.Core.Path.{_≡_, refl, ap, _∙_}
+use mathlib.Core.Logic.{inr}
 use mathlib.Core.List.{List, [], _∷_}
 use mathlib.Core.Bool.{Bool, true, false, not, _&&_}
 use native.Mathlib.Omega.{arith}
@@ -10,13 +10,13 @@ use lib.Dec.{eqb}
 use lib.ListN.{length, getD, set, replicate}
 use lib.Seq.{sets}
 use Rattle.choice.specs.Choice.{if_then_else_}
-use Rattle.slots.specs.Layout.{linesOf, frontOf, placeAt, versionAt, isKept}
+use Rattle.slots.specs.Layout.{linesOf, frontOf, placeAt, isKept}
 use Rattle.slots.specs.Writing.{count, putMany, keptOf, slidOf, movedOf, ifKept, laidOf, placeBytes, compactOf}
 use Rattle.slots.specs.Many.{count-same, count-most, length-many, many-outside}
 use Rattle.slots.specs.Sound.{Kept, Fits, is-kept, Alike, line-alike}
 use Rattle.slots.specs.Slid.{laid-long, laid-low}
 use Rattle.sound.specs.Scan.{cellOf, Marked}
-use Rattle.compact.specs.Slide.{placesOf, walkOf, marksOf, marks-are, Within, marks-within, slide-is, places-are}
+use Rattle.compact.specs.Slide.{walkOf, setMarksOf, marks-are, Within, marks-within, slide-is, places-are}
 
 -- a used line has its body behind the contents and before the limit: its cell has a place of its own among 6,550
 abbrev pub LineLies : ℕ → List ℕ → ℕ → Type 0
@@ -45,12 +45,12 @@ unfoldable pub countedOf : ℕ → List ℕ → List ℕ → ℕ → ℕ
 countedOf n places b m = 5 * count m (isMoved n places b)
 
 -- one line: the bytes that it counts, and the book
-unfoldable pub lineDone : ℕ → List ℕ → List ℕ → ℕ → ℕ × List ℕ
-lineDone n places b k = (if isMoved n places b k then 5 else 0, sets b (8 * k) (linePut n places b k))
+unfoldable pub putPlaceOf : ℕ → List ℕ → List ℕ → ℕ → ℕ × List ℕ
+putPlaceOf n places b k = (if isMoved n places b k then 5 else 0, sets b (8 * k) (linePut n places b k))
 
 -- all lines: the bytes counted, and the book
-unfoldable pub linesDone : ℕ → List ℕ → List ℕ → ℕ × List ℕ
-linesDone n places b = (countedOf n places b (linesOf n), placedOf n places b (linesOf n))
+unfoldable pub putPlacesOf : ℕ → List ℕ → List ℕ → ℕ × List ℕ
+putPlacesOf n places b = (countedOf n places b (linesOf n), placedOf n places b (linesOf n))
 
 -- a compaction: the bytes moved, and the book
 unfoldable pub compactedOf : ℕ → List ℕ → ℕ × List ℕ
@@ -95,8 +95,8 @@ module _ (n : ℕ) (places b : List ℕ) where
 
   -- so the next line is done as in the book before
   pub placed-turn : (k : ℕ)
-      → lineDone n places (placedOf n places b k) k ≡ ((if isMoved n places b k then 5 else 0), placedOf n places b (k + 1))
-  unfolding lineDone
+      → putPlaceOf n places (placedOf n places b k) k ≡ ((if isMoved n places b k then 5 else 0), placedOf n places b (k + 1))
+  unfolding putPlaceOf
   placed-turn k =
       let e : suc k ≡ k + 1 = omega arith in
       let more : sets (placedOf n places b k) (8 * k) (linePut n places b k) ≡ placedOf n places b (k + 1) = put-more k ∙ ap (placedOf n places b) e in
@@ -134,14 +134,14 @@ module _ (n : ℕ) (places b : List ℕ) where
       let a = placed-alike k k (omega arith) in
       rw (e, a .0) (λ q. lies k l (omega (arith, a .2)))
 
-  pub turned : (o : ℕ × List ℕ) (d : List ℕ) (k moved : ℕ) → o ≡ lineDone n places d k → d ≡ placedOf n places b k → moved ≡ countedOf n places b k
+  pub turned : (o : ℕ × List ℕ) (d : List ℕ) (k moved : ℕ) → o ≡ putPlaceOf n places d k → d ≡ placedOf n places b k → moved ≡ countedOf n places b k
       → (moved + o .0 ≡ countedOf n places b (k + 1)) × (o .1 ≡ placedOf n places b (k + 1))
   turned o d k moved e f g =
-      let is : o ≡ ((if isMoved n places b k then 5 else 0), placedOf n places b (k + 1)) = e ∙ ap (λ (x : List ℕ). lineDone n places x k) f ∙ placed-turn k in
+      let is : o ≡ ((if isMoved n places b k then 5 else 0), placedOf n places b (k + 1)) = e ∙ ap (λ (x : List ℕ). putPlaceOf n places x k) f ∙ placed-turn k in
       (omega (arith, ap (λ (x : ℕ × List ℕ). x .0) is, counted-turn k), ap (λ (x : ℕ × List ℕ). x .1) is)
 
-pub done-small : (n : ℕ) (places b : List ℕ) (k : ℕ) (o : ℕ × List ℕ) → o ≡ lineDone n places b k → o .0 ≤ 5
-unfolding lineDone
+pub done-small : (n : ℕ) (places b : List ℕ) (k : ℕ) (o : ℕ × List ℕ) → o ≡ putPlaceOf n places b k → o .0 ≤ 5
+unfolding putPlaceOf
 done-small n places b k o e = omega (arith, ap (λ (x : ℕ × List ℕ). x .0) e, five (isMoved n places b k))
   where
     five : (t : Bool) → (if t then 5 else 0) ≤ 5
@@ -198,7 +198,7 @@ pub fits-lying : (n : ℕ) (b : List ℕ) → Fits n b → 1 ≤ n → length b 
 fits-lying n b f some limit k l q = (f .behind k l q, omega (arith, f .within k l q))
 
 module _ (n : ℕ) (b : List ℕ) (cells m : ℕ) (marks : List ℕ) (f : Fits n b) (size : length b ≤ frontOf n + 5 * cells) (long : cells + 2 ≤ m)
-    (made : marks ≡ marksOf n b (linesOf n) 0 (replicate m 0)) where
+    (made : marks ≡ setMarksOf n b (linesOf n) 0 (replicate m 0)) where
   marked : Marked n b cells (linesOf n) marks
   marked = rw made (marks-are n b f cells size m long)
 
@@ -224,6 +224,6 @@ module _ (n : ℕ) (b : List ℕ) (cells m : ℕ) (marks : List ℕ) (f : Fits n
         let a = line-alike (laidOf n b) b k k (λ i u. laid-low n b f room (8 * k + i) (omega arith)) in
         rw (laid-is, a .0) (λ q. fits-lying n b f some limit k l (omega (arith, a .2)))
 
-    pub compaction : linesDone n placed laid ≡ compactedOf n b
-    unfolding linesDone compactedOf
+    pub compaction : putPlacesOf n placed laid ≡ compactedOf n b
+    unfolding putPlacesOf compactedOf
     compaction = rw (laid-is, compact-counted n b f room placed placed-is, compact-placed n b f room placed placed-is)

@@ -428,15 +428,15 @@ module _ (n : ℕ) (b : List ℕ) (f : Fits n b) (room : frontOf n + 5 * keptOf 
 
 -- ---- the marks of a book that fits: no test is made
 
-unfoldable pub marksOf : ℕ → List ℕ → ℕ → ℕ → List ℕ → List ℕ
-marksOf n b zero k marks = marks
-marksOf n b (suc left) k marks =
-    if isKept b k then marksOf n b left (k + 1) (markedOf marks (cellOf n (placeAt b k)) (offsetOf n (placeAt b k)))
-    else marksOf n b left (k + 1) marks
+unfoldable pub setMarksOf : ℕ → List ℕ → ℕ → ℕ → List ℕ → List ℕ
+setMarksOf n b zero k marks = marks
+setMarksOf n b (suc left) k marks =
+    if isKept b k then setMarksOf n b left (k + 1) (markedOf marks (cellOf n (placeAt b k)) (offsetOf n (placeAt b k)))
+    else setMarksOf n b left (k + 1) marks
 
 module _ (n : ℕ) (b : List ℕ) (f : Fits n b) (cells : ℕ) (size : length b ≤ frontOf n + 5 * cells) where
-  marks-from : (left k : ℕ) (marks : List ℕ) → k + left ≡ linesOf n → Marked n b cells k marks → Marked n b cells (linesOf n) (marksOf n b left k marks)
-  unfolding marksOf
+  marks-from : (left k : ℕ) (marks : List ℕ) → k + left ≡ linesOf n → Marked n b cells k marks → Marked n b cells (linesOf n) (setMarksOf n b left k marks)
+  unfolding setMarksOf
   marks-from zero k marks e w = let d : k ≡ linesOf n = omega arith in rw (← d) w
   marks-from (suc left) k marks e w =
       go (isKept b k) (is-kept b k) (is-unkept b k)
@@ -461,11 +461,11 @@ module _ (n : ℕ) (b : List ℕ) (f : Fits n b) (cells : ℕ) (size : length b 
 
       go : (t : Bool) → (t ≡ true → Kept b k) → (t ≡ false → versionAt b k ≡ 0)
           → (Marked n b cells (k + 1) (markedOf marks (cellOf n (placeAt b k)) (offsetOf n (placeAt b k)))
-          → Marked n b cells (linesOf n) (marksOf n b left (k + 1) (markedOf marks (cellOf n (placeAt b k)) (offsetOf n (placeAt b k)))))
-          → (Marked n b cells (k + 1) marks → Marked n b cells (linesOf n) (marksOf n b left (k + 1) marks))
+          → Marked n b cells (linesOf n) (setMarksOf n b left (k + 1) (markedOf marks (cellOf n (placeAt b k)) (offsetOf n (placeAt b k)))))
+          → (Marked n b cells (k + 1) marks → Marked n b cells (linesOf n) (setMarksOf n b left (k + 1) marks))
           → Marked n b cells (linesOf n) (
-          if t then marksOf n b left (k + 1) (markedOf marks (cellOf n (placeAt b k)) (offsetOf n (placeAt b k)))
-          else marksOf n b left (k + 1) marks)
+          if t then setMarksOf n b left (k + 1) (markedOf marks (cellOf n (placeAt b k)) (offsetOf n (placeAt b k)))
+          else setMarksOf n b left (k + 1) marks)
       go true q z more on =
           let kept = q refl in
           let low = f .behind k (omega arith) kept in
@@ -474,7 +474,7 @@ module _ (n : ℕ) (b : List ℕ) (f : Fits n b) (cells : ℕ) (size : length b 
           (f .within k (omega arith) kept))
       go false q z more on = on (skip (z refl))
 
-  pub marks-are : (m : ℕ) → cells + 2 ≤ m → Marked n b cells (linesOf n) (marksOf n b (linesOf n) 0 (replicate m 0))
+  pub marks-are : (m : ℕ) → cells + 2 ≤ m → Marked n b cells (linesOf n) (setMarksOf n b (linesOf n) 0 (replicate m 0))
   marks-are m l =
       marks-from (linesOf n) 0 (replicate m 0) (omega arith)
       (record {
@@ -524,14 +524,14 @@ pub places-start : (marks : List ℕ) (cells q : ℕ) (places : List ℕ) → pl
 places-start marks cells q places = let e : cells - 0 ≡ cells = omega arith in ap (λ (x : ℕ). placesOf marks x 0 q places) e
 
 pub marks-turn : (n : ℕ) (b : List ℕ) (k : ℕ) (marks : List ℕ) → k < linesOf n
-    → marksOf n b (linesOf n - k) k marks
-    ≡ (if isKept b k then marksOf n b (linesOf n - (k + 1)) (k + 1) (markedOf marks (cellOf n (placeAt b k)) (offsetOf n (placeAt b k)))
-    else marksOf n b (linesOf n - (k + 1)) (k + 1) marks)
-unfolding marksOf
+    → setMarksOf n b (linesOf n - k) k marks
+    ≡ (if isKept b k then setMarksOf n b (linesOf n - (k + 1)) (k + 1) (markedOf marks (cellOf n (placeAt b k)) (offsetOf n (placeAt b k)))
+    else setMarksOf n b (linesOf n - (k + 1)) (k + 1) marks)
+unfolding setMarksOf
 marks-turn n b k marks l = let e : linesOf n - k ≡ suc (linesOf n - (k + 1)) = omega arith in rw e
 
-pub marks-end : (n : ℕ) (b : List ℕ) (k : ℕ) (marks : List ℕ) → linesOf n ≤ k → marksOf n b (linesOf n - k) k marks ≡ marks
-unfolding marksOf
+pub marks-end : (n : ℕ) (b : List ℕ) (k : ℕ) (marks : List ℕ) → linesOf n ≤ k → setMarksOf n b (linesOf n - k) k marks ≡ marks
+unfolding setMarksOf
 marks-end n b k marks l = let e : linesOf n - k ≡ 0 = omega arith in rw e
 
 -- five stores; ten

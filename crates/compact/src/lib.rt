@@ -6,8 +6,8 @@ ghost use lib.ListN.{length};
 ghost use Rattle.slots.specs.Layout.{linesOf, frontOf};
 ghost use Rattle.slots.specs.Writing.{keptOf};
 ghost use Rattle.slots.specs.Sound.{Fits};
-ghost use Rattle.compact.specs.Slide.{movedTo, walkOf, marksOf, Within};
-ghost use Rattle.compact.specs.Lines.{Lying, LineLies, lineDone, linesDone, compactedOf};
+ghost use Rattle.compact.specs.Slide.{movedTo, walkOf, setMarksOf, Within};
+ghost use Rattle.compact.specs.Lines.{Lying, LineLies, putPlaceOf, putPlacesOf, compactedOf};
 
 // Marks the cell of each kept body.
 fn set_marks(n: usize, book: &[u8], marks: &mut [u8])
@@ -15,7 +15,7 @@ fn set_marks(n: usize, book: &[u8], marks: &mut [u8])
     requires { ⌜ frontOf n ≤ length (now book) ⌝ }
     requires { ⌜ Lying n (now book) ⌝ }
     requires { ⌜ 6550 ≤ length (now marks) ⌝ }
-    ensures { λ _. ⌜ now (marks .exit) ≡ marksOf n (now (book .entry)) (linesOf n) 0 (now (marks .entry)) ⌝ }
+    ensures { λ _. ⌜ now (marks .exit) ≡ setMarksOf n (now (book .entry)) (linesOf n) 0 (now (marks .entry)) ⌝ }
 {
     let mut k = 0;
     while k < 4 * n {
@@ -54,7 +54,7 @@ fn move_body(book: &mut [u8], p: usize, q: usize)
 
 // The bodies of the marked cells slide to the front, in the order of their places. Where each went is noted by its
 // cell.
-fn slide(n: usize, marks: &[u8], cells: usize, book: &mut [u8], places: &mut [u16])
+fn walk(n: usize, marks: &[u8], cells: usize, book: &mut [u8], places: &mut [u16])
     requires { ⌜ n ≤ 64 ⌝ }
     requires { ⌜ cells ≤ 6548 ⌝ }
     requires { ⌜ cells + 2 ≤ length (now marks) ⌝ }
@@ -84,7 +84,7 @@ fn put_place(n: usize, places: &[u16], book: &mut [u8], k: usize) -> u32
     requires { ⌜ 8 * k + 8 ≤ length (now book) ⌝ }
     requires { ⌜ LineLies n (now book) k ⌝ }
     requires { ⌜ 6550 ≤ length (now places) ⌝ }
-    ensures { λ r. ⌜ (r, now (book .exit)) ≡ lineDone n (now (places .entry)) (now (book .entry)) k ⌝ }
+    ensures { λ r. ⌜ (r, now (book .exit)) ≡ putPlaceOf n (now (places .entry)) (now (book .entry)) k ⌝ }
 {
     if sound::is_kept(book, k) {
         let old = sound::place_at(book, k);
@@ -105,7 +105,7 @@ fn put_places(n: usize, places: &[u16], book: &mut [u8]) -> u32
     requires { ⌜ frontOf n ≤ length (now book) ⌝ }
     requires { ⌜ Lying n (now book) ⌝ }
     requires { ⌜ 6550 ≤ length (now places) ⌝ }
-    ensures { λ r. ⌜ (r, now (book .exit)) ≡ linesDone n (now (places .entry)) (now (book .entry)) ⌝ }
+    ensures { λ r. ⌜ (r, now (book .exit)) ≡ putPlacesOf n (now (places .entry)) (now (book .entry)) ⌝ }
 {
     let mut moved = 0;
     let mut k = 0;
@@ -129,6 +129,6 @@ pub fn compact(n: usize, book: &mut [u8]) -> u32
     let mut places = [0; 6550];
     set_marks(n, book, &mut marks);
     let cells = (book.len() - 32 * n + 4) / 5;
-    slide(n, &marks, cells, book, &mut places);
+    walk(n, &marks, cells, book, &mut places);
     put_places(n, &places, book)
 }

@@ -1,5 +1,5 @@
 -- Laws for the steps of a write: counts and the end of the last body line by line, four lines put one behind the other.
-use Prim.Native.Nat.{ℕ, zero, suc, _+_, _*_, _≤_, _<_, max}
+use Prim.Native.Nat.{ℕ, suc, _+_, _*_, _≤_, _<_, max}
 use mathlib.Core.Path.{_≡_, refl, sym, ap, _∙_}
 use mathlib.Core.List.{List, [], _∷_, _++_}
 use mathlib.Core.Bool.{Bool, true, false}
@@ -9,7 +9,7 @@ use lib.Seq.{sets}
 use Rattle.choice.specs.Choice.{if_then_else_}
 use borrow.Author.Tests.{lt-ltb, le-ltb}
 use Rattle.slots.specs.Layout.{linesOf, frontOf, lineAt, placeAt, isKept, lineOf, isSound}
-use Rattle.slots.specs.Writing.{count, most, dropOf, keptOf, endOf, isCrowded, isFull, shiftedOf, appendOf, putOver}
+use Rattle.slots.specs.Writing.{count, most, dropOldestOf, keptOf, endOf, isCrowded, isFull, appendOf, putOverOf}
 use Rattle.slots.specs.Many.{count-most, most-within}
 use Rattle.slots.specs.Sound.{Kept, Fits, is-kept, sound-is}
 use Rattle.slots.specs.Dropped.{dropped}
@@ -132,7 +132,7 @@ module _ (n : ℕ) (b : List ℕ) (slot : ℕ) (i : slot < n) (sound : isSound n
   pub oldest-lies : OldestLies b slot
   oldest-lies q = sound-is n b sound .fits .within (4 * slot + 3) (omega arith) q
 
-  drop-size : length (dropOf b slot) ≡ length b
+  drop-size : length (dropOldestOf b slot) ≡ length b
   drop-size = dropped n b slot i (sound-is n b sound .fits) .long
 
   pub staying-most : stayingOf n b slot ≤ linesOf n
@@ -140,19 +140,19 @@ module _ (n : ℕ) (b : List ℕ) (slot : ℕ) (i : slot < n) (sound : isSound n
   staying-most = count-most (linesOf n) (isStaying b slot)
 
   module _ (kept : ℕ) (are : kept ≡ stayingOf n b slot) where
-    kept-is : kept ≡ keptOf n (dropOf b slot)
+    kept-is : kept ≡ keptOf n (dropOldestOf b slot)
     kept-is = are ∙ sym (staying-is n b slot i (sound-is n b sound))
 
-    pub full-is : length b < 32 * n + 5 * kept + 5 → isFull n (dropOf b slot) ≡ true
+    pub full-is : length b < 32 * n + 5 * kept + 5 → isFull n (dropOldestOf b slot) ≡ true
     unfolding isFull
-    full-is l = lt-ltb (length (dropOf b slot)) (frontOf n + 5 * keptOf n (dropOf b slot) + 5) (omega (arith, drop-size, kept-is))
+    full-is l = lt-ltb (length (dropOldestOf b slot)) (frontOf n + 5 * keptOf n (dropOldestOf b slot) + 5) (omega (arith, drop-size, kept-is))
 
-    pub room-is : 32 * n + 5 * kept + 5 ≤ length b → isFull n (dropOf b slot) ≡ false
+    pub room-is : 32 * n + 5 * kept + 5 ≤ length b → isFull n (dropOldestOf b slot) ≡ false
     unfolding isFull
-    room-is l = le-ltb (length (dropOf b slot)) (frontOf n + 5 * keptOf n (dropOf b slot) + 5) (omega (arith, drop-size, kept-is))
+    room-is l = le-ltb (length (dropOldestOf b slot)) (frontOf n + 5 * keptOf n (dropOldestOf b slot) + 5) (omega (arith, drop-size, kept-is))
 
     -- what is left after the drop
-    module _ (d : List ℕ) (is : d ≡ dropOf b slot) where
+    module _ (d : List ℕ) (is : d ≡ dropOldestOf b slot) where
       pub left-size : length d ≡ length b
       left-size = ap length is ∙ drop-size
 
@@ -175,8 +175,8 @@ end-within n b f l =
 
 module _ (n : ℕ) (b : List ℕ) (slot : ℕ) (s : Setpoint) (v last : ℕ) (ends : last ≡ endOf n b) where
   pub put-slid : (kept moved : ℕ) (d e : List ℕ) → length b < last + 5 → (moved, d) ≡ compactedOf n b → kept ≡ keptOf n b
-      → e ≡ appendOf d slot s v (32 * n + 5 * kept) → (moved, e) ≡ putOver n b slot s v
-  unfolding putOver isCrowded compactedOf
+      → e ≡ appendOf d slot s v (32 * n + 5 * kept) → (moved, e) ≡ putOverOf n b slot s v
+  unfolding putOverOf isCrowded compactedOf
   put-slid kept moved d e l c k a =
       rw (
         ← ends,
@@ -187,6 +187,6 @@ module _ (n : ℕ) (b : List ℕ) (slot : ℕ) (s : Setpoint) (v last : ℕ) (en
         ← a,
       )
 
-  pub put-behind : (e : List ℕ) → last + 5 ≤ length b → e ≡ appendOf b slot s v last → (0, e) ≡ putOver n b slot s v
-  unfolding putOver isCrowded
+  pub put-behind : (e : List ℕ) → last + 5 ≤ length b → e ≡ appendOf b slot s v last → (0, e) ≡ putOverOf n b slot s v
+  unfolding putOverOf isCrowded
   put-behind e l a = rw (← ends, le-ltb (length b) (last + 5) l, ← a)

@@ -8,7 +8,7 @@ ghost use lib.ListN.{length};
 ghost use lib.Seq.{sets};
 ghost use Rattle.setpoint.specs.Codec.{hasBody};
 ghost use Rattle.slots.specs.Layout.{frontOf, lineAt, lineOf};
-ghost use Rattle.slots.specs.Writing.{dropOf, keptOf, endOf, appendOf, putOver};
+ghost use Rattle.slots.specs.Writing.{dropOldestOf, keptOf, endOf, appendOf, putOverOf};
 ghost use Rattle.slots.specs.Sound.{Fits};
 ghost use Rattle.slots.specs.Wrote.{stayingOf};
 ghost use Rattle.enter.specs.Steps.{OldestLies, stayingAt, laterOf, shiftOf};
@@ -99,7 +99,7 @@ pub fn drop_oldest(book: &mut [u8], slot: usize)
     requires { ⌜ 32 * slot + 32 ≤ length (now book) ⌝ }
     requires { ⌜ length (now book) ≤ 32768 ⌝ }
     requires { ⌜ OldestLies (now book) slot ⌝ }
-    ensures { λ _. ⌜ now (book .exit) ≡ dropOf (now (book .entry)) slot ⌝ }
+    ensures { λ _. ⌜ now (book .exit) ≡ dropOldestOf (now (book .entry)) slot ⌝ }
 {
     let k = 4 * slot + 3;
     if sound::is_kept(book, k) {
@@ -173,7 +173,14 @@ fn append(book: &mut [u8], slot: usize, s: Setpoint, version: u32, place: usize)
 
 // A setpoint into a book whose slot has at most three versions and whose kept bodies leave room for one more: behind
 // the last, if there is room, else after a compaction. Answers the bytes moved.
-pub fn put(n: usize, kept: usize, book: &mut [u8], slot: usize, s: Setpoint, version: u32) -> u32
+pub fn put_over(
+    n: usize,
+    kept: usize,
+    book: &mut [u8],
+    slot: usize,
+    s: Setpoint,
+    version: u32,
+) -> u32
     requires { ⌜ 1 ≤ n ⌝ }
     requires { ⌜ n ≤ 64 ⌝ }
     requires { ⌜ slot < n ⌝ }
@@ -182,7 +189,7 @@ pub fn put(n: usize, kept: usize, book: &mut [u8], slot: usize, s: Setpoint, ver
     requires { ⌜ kept ≡ keptOf n (now book) ⌝ }
     requires { ⌜ frontOf n + 5 * kept + 5 ≤ length (now book) ⌝ }
     requires { ⌜ hasBody s ≡ true ⌝ }
-    ensures { λ r. ⌜ (r, now (book .exit)) ≡ putOver n (now (book .entry)) slot s version ⌝ }
+    ensures { λ r. ⌜ (r, now (book .exit)) ≡ putOverOf n (now (book .entry)) slot s version ⌝ }
 {
     let last = end(n, book);
     if book.len() < last + 5 {

@@ -14,7 +14,7 @@ use Rattle.setpoint.specs.declared.Setpoint.{Setpoint}
 use Rattle.setpoint.specs.declared.Setpoint.the-variants.{Pressure, Speed, Valve}
 use Rattle.slots.specs.Layout.{slotsOf, lineAt, fiveAt, lineOf, all, placeAt, lengthAt, versionAt, isKept, settingAt, isFalling, isFitting, isApart, isSound}
 use Rattle.slots.specs.Rules.{isHolder, firstFault, isBadBook, isBadSlot, isGone, bookRules, claimRules, overRules, openRules, keptRules}
-use Rattle.slots.specs.Writing.{count, most, putMany, dropOf, keptOf, endOf, isCrowded, isFull, rankOf, slidOf, movedOf, erasedOf, laidOf, compactOf, appendOf, putOver, putOf}
+use Rattle.slots.specs.Writing.{count, most, putMany, dropOldestOf, keptOf, endOf, isCrowded, isFull, rankOf, slidOf, movedOf, erasedOf, laidOf, compactOf, appendOf, putOverOf, putOf}
 use Rattle.slots.specs.Calls.{prepareBookOf, writeSetpointOf, lineTold, readVersionOf, readSetpointOf}
 use Rattle.slots.specs.declared.BookAnswer.{BookAnswer}
 use Rattle.slots.specs.declared.BookAnswer.the-variants.{Done, Written, Setting, Refused}
@@ -95,7 +95,7 @@ after6 = idle ++ (four (line 79 6) (line 74 5) (line 69 4) (line 64 3) ++ (sp 13
 
 pub writes : (write1 (replicate 89 0) 11 ≡ (Written 1 0, after1)) × (write1 after1 12 ≡ (Written 2 0, after2))
     × (write1 after4 15 ≡ (Written 5 0, after5)) × (write1 after5 16 ≡ (Written 6 15, after6))
-unfolding writeSetpointOf claimRules overRules firstFault isBadSlot isBadBook isHolder isLive stateAt stateOf isFree isHeld bitAt ownerAt headFits shapeFits isFinite isSound isFalling isFitting isApart all placeAt lengthAt versionAt isKept settingAt count most putMany dropOf keptOf endOf isCrowded isFull rankOf slidOf movedOf erasedOf laidOf compactOf appendOf putOver putOf joinOf settingOf decodeOf lineAt fiveAt lineOf bodyOf bytesOf
+unfolding writeSetpointOf claimRules overRules firstFault isBadSlot isBadBook isHolder isLive stateAt stateOf isFree isHeld bitAt ownerAt headFits shapeFits isFinite isSound isFalling isFitting isApart all placeAt lengthAt versionAt isKept settingAt count most putMany dropOldestOf keptOf endOf isCrowded isFull rankOf slidOf movedOf erasedOf laidOf compactOf appendOf putOverOf putOf joinOf settingOf decodeOf lineAt fiveAt lineOf bodyOf bytesOf
 writes = (refl, refl, refl, refl)
 
 -- ---- reading: each kept version, and versions not kept: too old, 0, not yet written; the other slot
@@ -123,7 +123,7 @@ abbrev crossed2 : List ℕ
 crossed2 = four (line 74 2) (line 69 1) none none ++ (four (line 64 1) none none none ++ (sp 11 ++ (sp 1 ++ (sp 2 ++ (gap ++ 0 ∷ [])))))
 
 pub slides : (write1 mixed 15 ≡ (Written 5 15, mixed2)) × (write0 crossed 2 ≡ (Written 2 10, crossed2))
-unfolding writeSetpointOf claimRules overRules firstFault isBadSlot isBadBook isHolder isLive stateAt stateOf isFree isHeld bitAt ownerAt headFits shapeFits isFinite isSound isFalling isFitting isApart all placeAt lengthAt versionAt isKept settingAt count most putMany dropOf keptOf endOf isCrowded isFull rankOf slidOf movedOf erasedOf laidOf compactOf appendOf putOver putOf joinOf settingOf decodeOf lineAt fiveAt lineOf bodyOf bytesOf
+unfolding writeSetpointOf claimRules overRules firstFault isBadSlot isBadBook isHolder isLive stateAt stateOf isFree isHeld bitAt ownerAt headFits shapeFits isFinite isSound isFalling isFitting isApart all placeAt lengthAt versionAt isKept settingAt count most putMany dropOldestOf keptOf endOf isCrowded isFull rankOf slidOf movedOf erasedOf laidOf compactOf appendOf putOverOf putOf joinOf settingOf decodeOf lineAt fiveAt lineOf bodyOf bytesOf
 slides = (refl, refl)
 
 -- ---- room for one body less than four a slot: the eighth is BookFull, and nothing changed; but a slot that has four is written on
@@ -140,7 +140,7 @@ tight2 =
 
 pub full : (write1 tight 14 ≡ (Refused BookFull, tight)) × (write0 tight 5 ≡ (Written 5 30, tight2))
     × (write0 (replicate 64 0) 1 ≡ (Refused BookFull, replicate 64 0)) × (write0 (replicate 68 0) 1 ≡ (Refused BookFull, replicate 68 0))
-unfolding writeSetpointOf claimRules overRules firstFault isBadSlot isBadBook isHolder isLive stateAt stateOf isFree isHeld bitAt ownerAt headFits shapeFits isFinite isSound isFalling isFitting isApart all placeAt lengthAt versionAt isKept settingAt count most putMany dropOf keptOf endOf isCrowded isFull rankOf slidOf movedOf erasedOf laidOf compactOf appendOf putOver putOf joinOf settingOf decodeOf lineAt fiveAt lineOf bodyOf bytesOf
+unfolding writeSetpointOf claimRules overRules firstFault isBadSlot isBadBook isHolder isLive stateAt stateOf isFree isHeld bitAt ownerAt headFits shapeFits isFinite isSound isFalling isFitting isApart all placeAt lengthAt versionAt isKept settingAt count most putMany dropOldestOf keptOf endOf isCrowded isFull rankOf slidOf movedOf erasedOf laidOf compactOf appendOf putOverOf putOf joinOf settingOf decodeOf lineAt fiveAt lineOf bodyOf bytesOf
 full = (refl, refl, refl, refl)
 
 -- ---- a dropped body that lay last: its room is used again, nothing slides. No book that was prepared and written by these calls is such a one
@@ -152,7 +152,7 @@ abbrev last2 : List ℕ
 last2 = idle ++ (four (line 79 5) (line 74 4) (line 69 3) (line 64 2) ++ (sp 12 ++ (sp 13 ++ (sp 14 ++ sp 15))))
 
 pub used-again : (write1 last 15 ≡ (Written 5 0, last2)) × (write1 (last ++ gap) 15 ≡ (Written 5 0, last2 ++ gap))
-unfolding writeSetpointOf claimRules overRules firstFault isBadSlot isBadBook isHolder isLive stateAt stateOf isFree isHeld bitAt ownerAt headFits shapeFits isFinite isSound isFalling isFitting isApart all placeAt lengthAt versionAt isKept settingAt count most putMany dropOf keptOf endOf isCrowded isFull rankOf slidOf movedOf erasedOf laidOf compactOf appendOf putOver putOf joinOf settingOf decodeOf lineAt fiveAt lineOf bodyOf bytesOf
+unfolding writeSetpointOf claimRules overRules firstFault isBadSlot isBadBook isHolder isLive stateAt stateOf isFree isHeld bitAt ownerAt headFits shapeFits isFinite isSound isFalling isFitting isApart all placeAt lengthAt versionAt isKept settingAt count most putMany dropOldestOf keptOf endOf isCrowded isFull rankOf slidOf movedOf erasedOf laidOf compactOf appendOf putOverOf putOf joinOf settingOf decodeOf lineAt fiveAt lineOf bodyOf bytesOf
 used-again = (refl, refl)
 
 -- ---- "Vacated bytes become zeros": free bytes that no body covered stay as they were
@@ -164,7 +164,7 @@ abbrev dirty2 : List ℕ
 dirty2 = four (line 74 2) (line 69 1) none none ++ (four (line 64 1) none none none ++ (sp 11 ++ (sp 1 ++ (sp 2 ++ (0 ∷ 0 ∷ 0 ∷ 0 ∷ 0 ∷ 7 ∷ [])))))
 
 pub vacated : write0 dirty 2 ≡ (Written 2 10, dirty2)
-unfolding writeSetpointOf claimRules overRules firstFault isBadSlot isBadBook isHolder isLive stateAt stateOf isFree isHeld bitAt ownerAt headFits shapeFits isFinite isSound isFalling isFitting isApart all placeAt lengthAt versionAt isKept settingAt count most putMany dropOf keptOf endOf isCrowded isFull rankOf slidOf movedOf erasedOf laidOf compactOf appendOf putOver putOf joinOf settingOf decodeOf lineAt fiveAt lineOf bodyOf bytesOf
+unfolding writeSetpointOf claimRules overRules firstFault isBadSlot isBadBook isHolder isLive stateAt stateOf isFree isHeld bitAt ownerAt headFits shapeFits isFinite isSound isFalling isFitting isApart all placeAt lengthAt versionAt isKept settingAt count most putMany dropOldestOf keptOf endOf isCrowded isFull rankOf slidOf movedOf erasedOf laidOf compactOf appendOf putOverOf putOf joinOf settingOf decodeOf lineAt fiveAt lineOf bodyOf bytesOf
 vacated = refl
 
 -- ---- damage: every read and every write, of either slot
@@ -197,7 +197,7 @@ fits-no-rule = (refl, refl, refl, refl, refl, refl, refl, refl, refl, refl, refl
 
 -- a write of slot 0 on a book that is damaged in slot 1, and a read of it
 pub whole-book : (write0 lapped 9 ≡ (Refused DamagedBook, lapped)) × (newest (set after2 34 6) 0 ≡ Refused DamagedBook)
-unfolding writeSetpointOf claimRules overRules readSetpointOf readVersionOf openRules keptRules lineTold firstFault isBadSlot isBadBook isGone isHolder isLive stateAt stateOf isFree isHeld bitAt ownerAt headFits shapeFits isFinite isSound isFalling isFitting isApart all placeAt lengthAt versionAt isKept settingAt count dropOf keptOf isFull joinOf settingOf decodeOf fiveAt
+unfolding writeSetpointOf claimRules overRules readSetpointOf readVersionOf openRules keptRules lineTold firstFault isBadSlot isBadBook isGone isHolder isLive stateAt stateOf isFree isHeld bitAt ownerAt headFits shapeFits isFinite isSound isFalling isFitting isApart all placeAt lengthAt versionAt isKept settingAt count dropOldestOf keptOf isFull joinOf settingOf decodeOf fiveAt
 whole-book = (refl, refl)
 
 -- ---- the order of refusals: each case keeps what the next has wrong. Full, spent and damaged at once
@@ -217,13 +217,13 @@ pub order : (writeSetpointOf head [] torn 2 (leaseOf 0 7 4) bad ≡ (Refused Bad
     × (writeSetpointOf head table torn 0 (leaseOf 1 2 5) bad ≡ (Refused NotHeld, torn))
     × (writeSetpointOf head table torn 0 (leaseOf 0 1 5) bad ≡ (Refused NotFinite, torn)) × (write0 torn 1 ≡ (Refused DamagedBook, torn))
     × (write0 spent 1 ≡ (Refused VersionsSpent, spent)) × (write1 spent 1 ≡ (Refused BookFull, spent))
-unfolding writeSetpointOf claimRules overRules firstFault isBadSlot isBadBook isHolder isLive stateAt stateOf isFree isHeld bitAt ownerAt headFits shapeFits isFinite isSound isFalling isFitting isApart all placeAt lengthAt versionAt isKept settingAt count dropOf keptOf isFull joinOf settingOf decodeOf fiveAt
+unfolding writeSetpointOf claimRules overRules firstFault isBadSlot isBadBook isHolder isLive stateAt stateOf isFree isHeld bitAt ownerAt headFits shapeFits isFinite isSound isFalling isFitting isApart all placeAt lengthAt versionAt isKept settingAt count dropOldestOf keptOf isFull joinOf settingOf decodeOf fiveAt
 order = (refl, refl, refl, refl, refl, refl, refl, refl, refl)
 
 -- L8, "before 3 and 12 at that place": a stale lease is StaleBoot, live or dead, in the right cell or not, and of a later boot number too
 pub stale : (writeSetpointOf head table torn 0 (leaseOf 0 1 4) bad ≡ (Refused StaleBoot, torn)) × (writeSetpointOf head table after2 0 (leaseOf 1 2 4) (Speed 9) ≡ (Refused StaleBoot, after2))
     × (writeSetpointOf head table after2 1 (leaseOf 1 2 6) (Speed 9) ≡ (Refused StaleBoot, after2))
-unfolding writeSetpointOf claimRules overRules firstFault isBadSlot isBadBook isHolder isLive stateAt stateOf isFree isHeld bitAt ownerAt headFits shapeFits isFinite isSound isFalling isFitting isApart all placeAt lengthAt versionAt isKept settingAt count most putMany dropOf keptOf endOf isCrowded isFull rankOf slidOf movedOf erasedOf laidOf compactOf appendOf putOver putOf joinOf settingOf decodeOf lineAt fiveAt lineOf bodyOf bytesOf
+unfolding writeSetpointOf claimRules overRules firstFault isBadSlot isBadBook isHolder isLive stateAt stateOf isFree isHeld bitAt ownerAt headFits shapeFits isFinite isSound isFalling isFitting isApart all placeAt lengthAt versionAt isKept settingAt count most putMany dropOldestOf keptOf endOf isCrowded isFull rankOf slidOf movedOf erasedOf laidOf compactOf appendOf putOverOf putOf joinOf settingOf decodeOf lineAt fiveAt lineOf bodyOf bytesOf
 stale = (refl, refl, refl)
 
 -- a read refuses 1, then BadSlot, then DamagedBook, then NeverWritten
@@ -251,7 +251,7 @@ opened = four (line 69 2) (line 64 1) none none ++ (idle ++ (1 ∷ 0 ∷ 0 ∷ 1
 pub kinds : (writeSetpointOf head table (replicate 74 0) 0 (leaseOf 0 1 5) bar ≡ (Written 1 0, pressed))
     × (writeSetpointOf head table pressed 0 (leaseOf 0 1 5) (Valve true) ≡ (Written 2 0, opened))
     × (writeSetpointOf head table pressed 0 (leaseOf 0 1 5) (Pressure (inf true)) ≡ (Refused NotFinite, pressed))
-unfolding writeSetpointOf claimRules overRules firstFault isBadSlot isBadBook isHolder isLive stateAt stateOf isFree isHeld bitAt ownerAt headFits shapeFits isFinite isSound isFalling isFitting isApart all placeAt lengthAt versionAt isKept settingAt count most putMany dropOf keptOf endOf isCrowded isFull rankOf slidOf movedOf erasedOf laidOf compactOf appendOf putOver putOf joinOf settingOf decodeOf lineAt fiveAt lineOf bodyOf bytesOf ofBits toBits
+unfolding writeSetpointOf claimRules overRules firstFault isBadSlot isBadBook isHolder isLive stateAt stateOf isFree isHeld bitAt ownerAt headFits shapeFits isFinite isSound isFalling isFitting isApart all placeAt lengthAt versionAt isKept settingAt count most putMany dropOldestOf keptOf endOf isCrowded isFull rankOf slidOf movedOf erasedOf laidOf compactOf appendOf putOverOf putOf joinOf settingOf decodeOf lineAt fiveAt lineOf bodyOf bytesOf ofBits toBits
 kinds = (refl, refl, refl)
 
 pub kinds-read : (newest opened 0 ≡ Setting (Valve true) 2) × (read opened 0 1 ≡ Setting bar 1)
@@ -273,5 +273,5 @@ abbrev reached : List ℕ
 reached = sets (sets (sets (sets after5 36 (255 ∷ 255 ∷ 255 ∷ 255 ∷ [])) 44 (254 ∷ 255 ∷ 255 ∷ 255 ∷ [])) 52 (253 ∷ 255 ∷ 255 ∷ 255 ∷ [])) 60 (252 ∷ 255 ∷ 255 ∷ 255 ∷ [])
 
 pub last-version : (write1 nearly 15 ≡ (Written 4_294_967_295 0, reached)) × (write1 reached 16 ≡ (Refused VersionsSpent, reached))
-unfolding writeSetpointOf claimRules overRules firstFault isBadSlot isBadBook isHolder isLive stateAt stateOf isFree isHeld bitAt ownerAt headFits shapeFits isFinite isSound isFalling isFitting isApart all placeAt lengthAt versionAt isKept settingAt count most putMany dropOf keptOf endOf isCrowded isFull rankOf slidOf movedOf erasedOf laidOf compactOf appendOf putOver putOf joinOf settingOf decodeOf lineAt fiveAt lineOf bodyOf bytesOf
+unfolding writeSetpointOf claimRules overRules firstFault isBadSlot isBadBook isHolder isLive stateAt stateOf isFree isHeld bitAt ownerAt headFits shapeFits isFinite isSound isFalling isFitting isApart all placeAt lengthAt versionAt isKept settingAt count most putMany dropOldestOf keptOf endOf isCrowded isFull rankOf slidOf movedOf erasedOf laidOf compactOf appendOf putOverOf putOf joinOf settingOf decodeOf lineAt fiveAt lineOf bodyOf bytesOf
 last-version = (refl, refl)

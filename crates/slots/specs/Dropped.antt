@@ -11,7 +11,7 @@ use lib.Seq.{sets, length-sets}
 use Rattle.choice.specs.Choice.{if_then_else_}
 use Rattle.slots.specs.Layout.{fiveAt, linesOf, frontOf, placeAt, lengthAt, versionAt, isKept, settingAt, isSetting}
 use Rattle.slots.specs.Stores.{sets-below, sets-above, sets-in}
-use Rattle.slots.specs.Writing.{dropOf}
+use Rattle.slots.specs.Writing.{dropOldestOf}
 use Rattle.slots.specs.Many.{Beside}
 use Rattle.slots.specs.Sound.{Kept, Apart, Fits, Clean, is-kept, is-unkept, Alike, line-alike, line-zero, five-alike, setting-alike}
 
@@ -127,8 +127,8 @@ module _ (n : ℕ) (b : List ℕ) (slot : ℕ) (inside : slot < n) (f : Fits n b
         go (no q) (no r) = still (inr (omega arith))
         go (no q) (yes r) = in-body j (omega arith) r
 
-  pub dropped : Dropped n b (dropOf b slot) slot
-  unfolding dropOf
+  pub dropped : Dropped n b (dropOldestOf b slot) slot
+  unfolding dropOldestOf
   dropped = go (isKept b x) (is-kept b x) (is-unkept b x)
     where
       go : (t : Bool) → (t ≡ true → Kept b x) → (t ≡ false → versionAt b x ≡ 0) → Dropped n b (if t then d else b) slot

@@ -2,11 +2,10 @@
 use Prim.Native.Nat.{ℕ, _*_, _≤_, _<_}
 use mathlib.Core.Path.{_≡_, refl, sym}
 use mathlib.Core.List.{List, [], _∷_, _++_}
-use mathlib.Core.Bool.{Bool, true, false, _&&_, _||_}
-use mathlib.Core.Logic.{_≢_}
+use mathlib.Core.Bool.{Bool, true, false, _&&_}
 use lib.Dec.{ltb, leb, eqb}
 use lib.ListN.{length}
-use borrow.Author.Tests.{leb-false, ltb-false, eqb-true, eqb-false, eq-eqb, ne-eqb, not-false, lt-leb, le-ltb}
+use borrow.Author.Tests.{leb-false, ltb-false, eqb-true, eq-eqb, not-false, lt-leb, le-ltb}
 use Rattle.choice.specs.Choice.{if_then_else_}
 use Rattle.choice.specs.Pick.{both, neither}
 use Rattle.model.specs.Arena.{cellsOf, headFits, shapeFits, isStale, holdIn, isLive}
@@ -14,9 +13,8 @@ use Rattle.types.specs.declared.Head.{Head}
 use Rattle.types.specs.declared.Lease.{Lease}
 use Rattle.setpoint.specs.Codec.{hasBody}
 use Rattle.setpoint.specs.declared.Setpoint.{Setpoint}
-use Rattle.slots.specs.Layout.{slotsOf, frontOf, newestAt, isSound}
-use Rattle.slots.specs.Writing.{dropOf, isFull}
-use Rattle.slots.specs.Rules.{BookRule, firstFault, isBadBook, isBadSlot, isHolder, lastVersion, claimRules, overRules, openRules}
+use Rattle.slots.specs.Layout.{slotsOf, frontOf, isSound}
+use Rattle.slots.specs.Rules.{BookRule, firstFault, isBadBook, isBadSlot, isHolder, claimRules, openRules}
 use Rattle.slots.specs.declared.BookCheck.{BookCheck}
 use Rattle.slots.specs.declared.BookCheck.the-variants.{Fine, Fault}
 
@@ -111,20 +109,6 @@ pub fine-claim : (h : Head) (t : List ℕ) (size slot : ℕ) (l : Lease) (s : Se
 unfolding claimRules isHolder firstFault
 fine-claim h t size slot l s c =
     rw (c .shape, fine-slot (slotsOf h) size slot (c .slot-is), c .fresh, c .live, eq-eqb (l .cell) slot (c .own), c .whole)
-
--- what the book says: no damage, a version left, room
-pub record OverFine (n : ℕ) (b : List ℕ) (slot : ℕ) : Type 0 where
-  pub sound : isSound n b ≡ true
-  pub remains : newestAt b slot ≢ lastVersion
-  pub room : isFull n (dropOf b slot) ≡ false
-
-pub over-fine : (n : ℕ) (b : List ℕ) (slot : ℕ) → firstFault (overRules n b slot) ≡ Fine → OverFine n b slot
-unfolding overRules
-over-fine n b slot e =
-    let a = no-fault _ _ e in
-    let c = no-fault _ _ (a .1) in
-    let d = no-fault _ _ (c .1) in
-    record { sound = not-false _ (a .0); remains = eqb-false _ _ (c .0); room = d .0 }
 
 -- a read, before the version is looked for
 pub record OpenFine (h : Head) (b : List ℕ) (slot : ℕ) : Type 0 where

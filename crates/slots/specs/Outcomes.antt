@@ -13,15 +13,15 @@ use Rattle.choice.specs.Choice.{if_then_else_}
 use Rattle.model.specs.Arena.{headFits, shapeFits, isStale, holdIn}
 use Rattle.types.specs.declared.Head.{Head}
 use Rattle.types.specs.declared.Lease.{Lease}
-use Rattle.setpoint.specs.Codec.{hasBody, settingOf, decodeOf}
+use Rattle.setpoint.specs.Codec.{hasBody, decodeOf}
 use Rattle.setpoint.specs.RoundTrip.{wholeIn, setting-whole}
 use Rattle.setpoint.specs.declared.Decoded.{Decoded}
 use Rattle.setpoint.specs.declared.Decoded.the-variants as decoded
 use Rattle.setpoint.specs.declared.Setpoint.{Setpoint}
 use Rattle.slots.specs.Layout.{slotsOf, placeAt, newestAt, settingAt, isSound}
-use Rattle.slots.specs.Writing.{dropOf, isFull, putOf}
+use Rattle.slots.specs.Writing.{dropOldestOf, isFull, putOf}
 use Rattle.slots.specs.Rules.{firstFault, judgeBook, isBadBook, isBadSlot, isHolder, isGone, lastVersion, bookRules, claimRules, overRules, openRules, keptRules, readRules}
-use Rattle.slots.specs.Calls.{prepareBookOf, writtenOf, writeSetpointOf, toldOf, lineTold, readVersionOf, readSetpointOf}
+use Rattle.slots.specs.Calls.{prepareBookOf, writtenOf, writeSetpointOf, toldOf, lineTold, readVersionOf}
 use Rattle.slots.specs.Fine.{BookFine, book-fine, SlotFine, fine-slot, ClaimFine, claim-fine, fine-claim, OpenFine, fine-open, or-then, faults-append}
 use Rattle.slots.specs.declared.BookAnswer.{BookAnswer}
 use Rattle.slots.specs.declared.BookAnswer.the-variants.{Done, Written, Setting, Refused}
@@ -90,8 +90,8 @@ module _ (h : Head) (t b : List ℕ) (slot : ℕ) (l : Lease) (s : Setpoint) whe
   n = slotsOf h
 
   pub data Outcome : BookAnswer × List ℕ → Type 0 where
-    done : Claim h t b slot l s → isFull n (dropOf b slot) ≡ false → Outcome (writtenOf (newestAt b slot + 1) (putOf n b slot s (newestAt b slot + 1)))
-    full : Claim h t b slot l s → isFull n (dropOf b slot) ≡ true → Outcome (Refused BookFull, b)
+    done : Claim h t b slot l s → isFull n (dropOldestOf b slot) ≡ false → Outcome (writtenOf (newestAt b slot + 1) (putOf n b slot s (newestAt b slot + 1)))
+    full : Claim h t b slot l s → isFull n (dropOldestOf b slot) ≡ true → Outcome (Refused BookFull, b)
     refused : (r : BookRefusal) → r ≢ BookFull → (r ≡ DamagedBook → isSound n b ≡ false) → (Claim h t b slot l s → ⊥) → Outcome (Refused r, b)
 
   -- a refusal by what was given
@@ -123,9 +123,9 @@ module _ (h : Head) (t b : List ℕ) (slot : ℕ) (l : Lease) (s : Setpoint) whe
       → Outcome (judgeBook (firstFault (overRules n b slot)) (λ r. (Refused r, b)) (writtenOf (newestAt b slot + 1) (putOf n b slot s (newestAt b slot + 1))))
   unfolding overRules firstFault
   by-book c =
-      go (isSound n b) (eqb (newestAt b slot) lastVersion) (isFull n (dropOf b slot)) refl refl (eqb-true (newestAt b slot) lastVersion) (eqb-false (newestAt b slot) lastVersion)
+      go (isSound n b) (eqb (newestAt b slot) lastVersion) (isFull n (dropOldestOf b slot)) refl refl (eqb-true (newestAt b slot) lastVersion) (eqb-false (newestAt b slot) lastVersion)
     where
-      go : (x y z : Bool) → isSound n b ≡ x → isFull n (dropOf b slot) ≡ z → (y ≡ true → newestAt b slot ≡ lastVersion) → (y ≡ false → newestAt b slot ≢ lastVersion)
+      go : (x y z : Bool) → isSound n b ≡ x → isFull n (dropOldestOf b slot) ≡ z → (y ≡ true → newestAt b slot ≡ lastVersion) → (y ≡ false → newestAt b slot ≢ lastVersion)
           → Outcome (judgeBook (if not x then Fault DamagedBook else if y then Fault VersionsSpent else if z then Fault BookFull else Fine) (λ r. (Refused r, b))
           (writtenOf (newestAt b slot + 1) (putOf n b slot s (newestAt b slot + 1))))
       go false y z e f p q =

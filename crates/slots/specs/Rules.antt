@@ -12,7 +12,7 @@ use Rattle.types.specs.declared.Lease.{Lease}
 use Rattle.setpoint.specs.Codec.{hasBody}
 use Rattle.setpoint.specs.declared.Setpoint.{Setpoint}
 use Rattle.slots.specs.Layout.{slotsOf, frontOf, newestAt, isSound}
-use Rattle.slots.specs.Writing.{dropOf, isFull}
+use Rattle.slots.specs.Writing.{dropOldestOf, isFull}
 use Rattle.slots.specs.declared.BookCheck.{BookCheck}
 use Rattle.slots.specs.declared.BookCheck.the-variants.{Fine, Fault}
 use Rattle.slots.specs.declared.BookRefusal.{BookRefusal}
@@ -94,7 +94,7 @@ spent b slot = refuse VersionsSpent when eqb (newestAt b slot) lastVersion
 
 -- L10: "Refuse BookFull, last in order, exactly when kept bodies after that drop leave fewer than 5 bytes."
 abbrev pub full : ℕ → List ℕ → ℕ → BookRule
-full n b slot = refuse BookFull when isFull n (dropOf b slot)
+full n b slot = refuse BookFull when isFull n (dropOldestOf b slot)
 
 -- L2: "Version 0 reads as NeverWritten." L10: "NeverWritten now also answers for an older version not kept": 0, one not yet written, one that
 -- was dropped

@@ -30,8 +30,8 @@ putMany (suc m) to bytes b = sets (putMany m to bytes b) (to m) (bytes m)
 -- ---- "Writing drops the slot's oldest of four before it looks for room"
 
 -- its line and its body become zeros
-unfoldable pub dropOf : List ℕ → ℕ → List ℕ
-dropOf b slot =
+unfoldable pub dropOldestOf : List ℕ → ℕ → List ℕ
+dropOldestOf b slot =
     if isKept b (4 * slot + 3) then sets (sets b (placeAt b (4 * slot + 3)) (replicate 5 0)) (8 * (4 * slot + 3)) (replicate 8 0)
     else b
 
@@ -98,10 +98,10 @@ appendOf b slot s v place = sets (sets b (8 * (4 * slot)) (shiftedOf b (4 * slot
 -- ---- a write, where there is room: the bytes moved, and the book
 
 -- over a book whose slot has at most three versions
-unfoldable pub putOver : ℕ → List ℕ → ℕ → Setpoint → ℕ → ℕ × List ℕ
-putOver n d slot s v =
+unfoldable pub putOverOf : ℕ → List ℕ → ℕ → Setpoint → ℕ → ℕ × List ℕ
+putOverOf n d slot s v =
     if isCrowded n d then (movedOf n d, appendOf (compactOf n d) slot s v (frontOf n + 5 * keptOf n d))
     else (0, appendOf d slot s v (endOf n d))
 
 unfoldable pub putOf : ℕ → List ℕ → ℕ → Setpoint → ℕ → ℕ × List ℕ
-putOf n b slot s v = putOver n (dropOf b slot) slot s v
+putOf n b slot s v = putOverOf n (dropOldestOf b slot) slot s v

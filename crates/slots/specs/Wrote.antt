@@ -15,7 +15,7 @@ use Rattle.setpoint.specs.RoundTrip.{Held}
 use Rattle.setpoint.specs.declared.Setpoint.{Setpoint}
 use Rattle.setpoint.specs.declared.Decoded.the-variants as decoded
 use Rattle.slots.specs.Layout.{fiveAt, linesOf, frontOf, placeAt, versionAt, isKept, settingAt}
-use Rattle.slots.specs.Writing.{count, most, dropOf, keptOf, endOf, isCrowded, isFull, slidOf, movedOf, compactOf, appendOf, putOver, putOf}
+use Rattle.slots.specs.Writing.{count, most, dropOldestOf, keptOf, endOf, isCrowded, isFull, slidOf, movedOf, compactOf, appendOf, putOverOf, putOf}
 use Rattle.slots.specs.Many.{count-same, count-none, most-start, most-each}
 use Rattle.slots.specs.Sound.{Kept, Falls, Fits, Sound, Clean, kept-is, is-kept, unkept-is, is-unkept, Alike}
 use Rattle.slots.specs.Dropped.{Dropped, dropped}
@@ -30,22 +30,22 @@ isStaying b slot k = isKept b k && not (eqb k (4 * slot + 3))
 unfoldable pub stayingOf : ℕ → List ℕ → ℕ → ℕ
 stayingOf n b slot = count (linesOf n) (isStaying b slot)
 
-pub staying-is : (n : ℕ) (b : List ℕ) (slot : ℕ) → slot < n → Sound n b → keptOf n (dropOf b slot) ≡ stayingOf n b slot
+pub staying-is : (n : ℕ) (b : List ℕ) (slot : ℕ) → slot < n → Sound n b → keptOf n (dropOldestOf b slot) ≡ stayingOf n b slot
 unfolding keptOf stayingOf
-staying-is n b slot i s = count-same (linesOf n) (isKept (dropOf b slot)) (isStaying b slot) (λ k h. go k h (ℕ-discrete k (4 * slot + 3)))
+staying-is n b slot i s = count-same (linesOf n) (isKept (dropOldestOf b slot)) (isStaying b slot) (λ k h. go k h (ℕ-discrete k (4 * slot + 3)))
   where
-    go : (k : ℕ) → k < linesOf n → Dec (k ≡ 4 * slot + 3) → isKept (dropOf b slot) k ≡ (isKept b k && not (eqb k (4 * slot + 3)))
+    go : (k : ℕ) → k < linesOf n → Dec (k ≡ 4 * slot + 3) → isKept (dropOldestOf b slot) k ≡ (isKept b k && not (eqb k (4 * slot + 3)))
     go k h (yes q) =
-        rw (unkept-is (dropOf b slot) k (ap (versionAt (dropOf b slot)) q ∙ dropped n b slot i (s .fits) .gone), eq-eqb k (4 * slot + 3) q) (nothing (isKept b k))
+        rw (unkept-is (dropOldestOf b slot) k (ap (versionAt (dropOldestOf b slot)) q ∙ dropped n b slot i (s .fits) .gone), eq-eqb k (4 * slot + 3) q) (nothing (isKept b k))
       where
         nothing : (t : Bool) → false ≡ (t && false)
         nothing true = refl
         nothing false = refl
     go k h (no q) = rw (ne-eqb k (4 * slot + 3) q) (by (isKept b k) (is-kept b k) (is-unkept b k))
       where
-        by : (t : Bool) → (t ≡ true → Kept b k) → (t ≡ false → versionAt b k ≡ 0) → isKept (dropOf b slot) k ≡ (t && true)
-        by true f g = kept-is (dropOf b slot) k (omega (arith, dropped n b slot i (s .fits) .lines k h q .2, f refl))
-        by false f g = unkept-is (dropOf b slot) k (dropped n b slot i (s .fits) .lines k h q .2 ∙ g refl)
+        by : (t : Bool) → (t ≡ true → Kept b k) → (t ≡ false → versionAt b k ≡ 0) → isKept (dropOldestOf b slot) k ≡ (t && true)
+        by true f g = kept-is (dropOldestOf b slot) k (omega (arith, dropped n b slot i (s .fits) .lines k h q .2, f refl))
+        by false f g = unkept-is (dropOldestOf b slot) k (dropped n b slot i (s .fits) .lines k h q .2 ∙ g refl)
 
 -- b before, c after, a write of s on the slot that moved so many bytes
 pub record Wrote (n : ℕ) (b c : List ℕ) (slot : ℕ) (s : Setpoint) (moved : ℕ) : Type 0 where
@@ -136,12 +136,12 @@ module _ (n : ℕ) (d : List ℕ) (f : Fits n d) where
 -- ---- from there on
 
 module _ (n : ℕ) (b : List ℕ) (slot : ℕ) (s : Setpoint) (inside : slot < n) (sound : Sound n b) (held : Held s) (whole : hasBody s ≡ true)
-    (e : List ℕ) (p moved : ℕ) (r : Ready n (dropOf b slot) e p moved) where
+    (e : List ℕ) (p moved : ℕ) (r : Ready n (dropOldestOf b slot) e p moved) where
   abbrev x : ℕ
   x = 4 * slot
 
   abbrev d : List ℕ
-  d = dropOf b slot
+  d = dropOldestOf b slot
 
   abbrev v : ℕ
   v = versionAt b x + 1
@@ -272,26 +272,26 @@ module _ (n : ℕ) (b : List ℕ) (slot : ℕ) (s : Setpoint) (inside : slot < n
 
 -- ---- the write
 
-pub put-wrote : (n : ℕ) (b : List ℕ) (slot : ℕ) (s : Setpoint) → slot < n → Sound n b → Held s → hasBody s ≡ true → isFull n (dropOf b slot) ≡ false
+pub put-wrote : (n : ℕ) (b : List ℕ) (slot : ℕ) (s : Setpoint) → slot < n → Sound n b → Held s → hasBody s ≡ true → isFull n (dropOldestOf b slot) ≡ false
     → let o = putOf n b slot s (versionAt b (4 * slot) + 1) in Wrote n b (o .1) slot s (o .0)
-unfolding putOf putOver
-put-wrote n b slot s i f held whole room = go (isCrowded n (dropOf b slot)) refl
+unfolding putOf putOverOf
+put-wrote n b slot s i f held whole room = go (isCrowded n (dropOldestOf b slot)) refl
   where
     v : ℕ
     v = versionAt b (4 * slot) + 1
 
-    fits : Fits n (dropOf b slot)
+    fits : Fits n (dropOldestOf b slot)
     fits = dropped n b slot i (f .fits) .fits
 
-    go : (t : Bool) → isCrowded n (dropOf b slot) ≡ t
+    go : (t : Bool) → isCrowded n (dropOldestOf b slot) ≡ t
         → let o : ℕ × List ℕ =
-        (if t then (movedOf n (dropOf b slot), appendOf (compactOf n (dropOf b slot)) slot s v (frontOf n + 5 * keptOf n (dropOf b slot)))
-        else (0, appendOf (dropOf b slot) slot s v (endOf n (dropOf b slot)))) in
+        (if t then (movedOf n (dropOldestOf b slot), appendOf (compactOf n (dropOldestOf b slot)) slot s v (frontOf n + 5 * keptOf n (dropOldestOf b slot)))
+        else (0, appendOf (dropOldestOf b slot) slot s v (endOf n (dropOldestOf b slot)))) in
         Wrote n b (o .1) slot s (o .0)
-    go true e = wrote n b slot s i f held whole _ _ _ (ready-slid n (dropOf b slot) fits room)
-    go false e = wrote n b slot s i f held whole _ _ _ (ready-still n (dropOf b slot) fits e)
+    go true e = wrote n b slot s i f held whole _ _ _ (ready-slid n (dropOldestOf b slot) fits room)
+    go false e = wrote n b slot s i f held whole _ _ _ (ready-still n (dropOldestOf b slot) fits e)
 
 -- nothing slid: nothing moved, and each line that stays has its place
-pub still-moved : (n : ℕ) (b : List ℕ) (slot : ℕ) (s : Setpoint) (v : ℕ) → isCrowded n (dropOf b slot) ≡ false → putOf n b slot s v .0 ≡ 0
-unfolding putOf putOver
+pub still-moved : (n : ℕ) (b : List ℕ) (slot : ℕ) (s : Setpoint) (v : ℕ) → isCrowded n (dropOldestOf b slot) ≡ false → putOf n b slot s v .0 ≡ 0
+unfolding putOf putOverOf
 still-moved n b slot s v e = rw e

@@ -18,7 +18,7 @@ use Rattle.types.specs.declared.Lease.{Lease}
 use Rattle.setpoint.specs.RoundTrip.{Held}
 use Rattle.setpoint.specs.declared.Setpoint.{Setpoint}
 use Rattle.slots.specs.Layout.{slotsOf, linesOf, frontOf, placeAt, lengthAt, newestAt, isKept}
-use Rattle.slots.specs.Writing.{count, dropOf, keptOf, endOf, isCrowded, isFull, slidOf, movedOf, putOver, putOf}
+use Rattle.slots.specs.Writing.{count, dropOldestOf, keptOf, endOf, isCrowded, isFull, slidOf, movedOf, putOverOf, putOf}
 use Rattle.slots.specs.Calls.{writeSetpointOf, readVersionOf}
 use Rattle.slots.specs.Many.{count-less, most-within}
 use Rattle.slots.specs.Sound.{Kept, Fits, Sound, sound-is, is-sound, is-kept}
@@ -64,13 +64,13 @@ record Facts (h : Head) (t b c : List ℕ) (slot : ℕ) (l : Lease) (s : Setpoin
   sound : Sound (slotsOf h) b
   version : v ≡ newestAt b slot + 1
   wrote : Wrote (slotsOf h) b c slot s moved
-  room : isFull (slotsOf h) (dropOf b slot) ≡ false
+  room : isFull (slotsOf h) (dropOldestOf b slot) ≡ false
   -- where bodies did not slide, and where they did
-  still : isCrowded (slotsOf h) (dropOf b slot) ≡ false → moved ≡ 0
-  slid : isCrowded (slotsOf h) (dropOf b slot) ≡ true → moved ≡ movedOf (slotsOf h) (dropOf b slot)
+  still : isCrowded (slotsOf h) (dropOldestOf b slot) ≡ false → moved ≡ 0
+  slid : isCrowded (slotsOf h) (dropOldestOf b slot) ≡ true → moved ≡ movedOf (slotsOf h) (dropOldestOf b slot)
 
-slid-moved : (n : ℕ) (b : List ℕ) (slot : ℕ) (s : Setpoint) (v : ℕ) → isCrowded n (dropOf b slot) ≡ true → putOf n b slot s v .0 ≡ movedOf n (dropOf b slot)
-unfolding putOf putOver
+slid-moved : (n : ℕ) (b : List ℕ) (slot : ℕ) (s : Setpoint) (v : ℕ) → isCrowded n (dropOldestOf b slot) ≡ true → putOf n b slot s v .0 ≡ movedOf n (dropOldestOf b slot)
+unfolding putOf putOverOf
 slid-moved n b slot s v e = rw e
 
 facts : (h : Head) (t b : List ℕ) (slot : ℕ) (l : Lease) (s : Setpoint) (v moved : ℕ) → Held s
@@ -203,7 +203,7 @@ slides-move h t b slot l s v moved held e q =
     let f = facts h t b slot l s v moved held e in
     let n = slotsOf h in
     let w = dropped n b slot (f .claim .given .slot-is .inside) (f .sound .fits) in
-    omega (arith, f .slid q, fives n (dropOf b slot) (λ z. none n (dropOf b slot) (w .fits) q (f .room) z))
+    omega (arith, f .slid q, fives n (dropOldestOf b slot) (λ z. none n (dropOldestOf b slot) (w .fits) q (f .room) z))
   where
     none : (n : ℕ) (d : List ℕ) → Fits n d → isCrowded n d ≡ true → isFull n d ≡ false → movedOf n d ≡ 0 → ⊥
     none n d fit c r z = crowded-full n d c r (λ k. unmoved-end n d fit k z)
@@ -261,19 +261,19 @@ module _ (h : Head) (t b : List ℕ) (slot : ℕ) (l : Lease) (s : Setpoint) (c 
   sound : Sound n b
   sound = sound-is n b (c .sound)
 
-  left-long : length (dropOf b slot) ≡ length b
+  left-long : length (dropOldestOf b slot) ≡ length b
   left-long = dropped n b slot (c .given .slot-is .inside) (sound .fits) .long
 
-  left-kept : keptOf n (dropOf b slot) ≡ count (linesOf n) (isStaying b slot)
+  left-kept : keptOf n (dropOldestOf b slot) ≡ count (linesOf n) (isStaying b slot)
   left-kept = staying-is n b slot (c .given .slot-is .inside) sound ∙ staying-count n b slot
 
-  full-is : isFull n (dropOf b slot) ≡ true → length b < Needed h b slot
+  full-is : isFull n (dropOldestOf b slot) ≡ true → length b < Needed h b slot
   unfolding isFull
-  full-is e = omega (arith, ltb-true (length (dropOf b slot)) (frontOf n + 5 * keptOf n (dropOf b slot) + 5) e, left-long, left-kept)
+  full-is e = omega (arith, ltb-true (length (dropOldestOf b slot)) (frontOf n + 5 * keptOf n (dropOldestOf b slot) + 5) e, left-long, left-kept)
 
-  not-full : isFull n (dropOf b slot) ≡ false → Needed h b slot ≤ length b
+  not-full : isFull n (dropOldestOf b slot) ≡ false → Needed h b slot ≤ length b
   unfolding isFull
-  not-full e = omega (arith, ltb-false (length (dropOf b slot)) (frontOf n + 5 * keptOf n (dropOf b slot) + 5) e, left-long, left-kept)
+  not-full e = omega (arith, ltb-false (length (dropOldestOf b slot)) (frontOf n + 5 * keptOf n (dropOldestOf b slot) + 5) e, left-long, left-kept)
 
 pub full-exactly : Full-exactly writeSetpointOf
 full-exactly h t b slot l s = (go (writing-is h t b slot l s), back (writing-is h t b slot l s))

@@ -31,7 +31,7 @@ use Rattle.slots.specs.declared.BookAnswer.{BookAnswer}
 use Rattle.slots.specs.declared.BookAnswer.the-variants.{Done, Written, Setting, Refused}
 use Rattle.slots.specs.declared.BookRefusal.the-variants.{BadShape, BadSlot, DamagedBook, NeverWritten}
 use Rattle.written.specs.Items.{BookItem, arena-item, prepare-book, write-setpoint, read-setpoint, read-version, BookEntry, prepared, wrote, was-read, version-read, Shift, shiftOf, world-of, head-of, slots-in, preparing-book, writing, reading, reading-version, next-shift, run-shift, settings-after, settings, told, toldBy, Same-slots, Typed, All-typed}
-use Rattle.written.specs.Statements.{Prepared-reads-nothing, Forgets-older-bytes, From-prepared, Reads-last-write, Reads-newest-four, Never-exactly, Never-damaged, Never-overlap, Free-are-zeros, Newer-lie-behind, Untouched-otherwise}
+use Rattle.written.specs.Statements.{Prepared-reads-nothing, Forgets-older-bytes, From-prepared, Reads-last-write, Reads-newest-four, Never-exactly, Never-damaged, Never-overlap, Free-are-zeros, Newer-lie-behind, Untouched-otherwise, Unprepared, Damage-stays}
 use Rattle.written.specs.Heads.{item-fits}
 use Rattle.written.specs.After.{refusalIn}
 
@@ -480,3 +480,34 @@ untouched-otherwise s (write-setpoint t l p) = go (writing-is (head-of s) (world
     go (refused r d g c) = inr refl
 untouched-otherwise s (read-setpoint t) = inr refl
 untouched-otherwise s (read-version t w) = inr refl
+
+-- ---- damage stays
+
+-- an item that is no done preparation leaves a damaged book as it is
+damaged-item : (s : Shift) (i : BookItem) → (Sound (slots-in s) (s .book) → ⊥) → (i ≡ prepare-book → preparing-book s .0 ≢ Done) → next-shift s i .book ≡ s .book
+unfolding next-shift
+damaged-item s (arena-item i) d u = refl
+damaged-item s prepare-book d u = go (preparing-is (head-of s) (s .book)) (u refl)
+  where
+    go : {o : BookAnswer × List ℕ} → Prepared (head-of s) (s .book) o → o .0 ≢ Done → o .1 ≡ s .book
+    go (was-prepared f g) n = absurd (n refl)
+    go (not-prepared r) n = refl
+damaged-item s (write-setpoint t l p) d u = go (writing-is (head-of s) (world-of s .table) (s .book) t l p)
+  where
+    go : {o : BookAnswer × List ℕ} → Outcome (head-of s) (world-of s .table) (s .book) t l p o → o .1 ≡ s .book
+    go (done c f) = absurd (d (sound-is (slots-in s) (s .book) (c .sound)))
+    go (full c f) = refl
+    go (refused r e g c) = refl
+damaged-item s (read-setpoint t) d u = refl
+damaged-item s (read-version t w) d u = refl
+
+damaged-run : (n : ℕ) (s : Shift) (items : List BookItem) → slots-in s ≡ n → (Sound n (s .book) → ⊥) → Same-slots n s items → Unprepared s items
+    → run-shift s items .book ≡ s .book
+unfolding run-shift
+damaged-run n s [] e d same u = refl
+damaged-run n s (i ∷ is) e d same u =
+    let one = damaged-item s i (λ q. d (subst (λ (m : ℕ). Sound m (s .book)) e q)) (u .0) in
+    damaged-run n (next-shift s i) is (same .0) (λ q. d (subst (Sound n) one q)) (same .1) (u .1) ∙ one
+
+pub damage-stays : Damage-stays
+damage-stays s items d same u = damaged-run (slots-in s) s items refl d same u

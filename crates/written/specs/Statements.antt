@@ -18,7 +18,7 @@ use Rattle.setpoint.specs.Codec.{hasBody, bodyOf}
 use Rattle.setpoint.specs.RoundTrip.{Held}
 use Rattle.setpoint.specs.declared.Setpoint.{Setpoint}
 use Rattle.slots.specs.Layout.{slotsOf, linesOf, fiveAt, placeAt, lengthAt, newestAt}
-use Rattle.slots.specs.Writing.{count, dropOf, isCrowded}
+use Rattle.slots.specs.Writing.{count, dropOldestOf, isCrowded}
 use Rattle.slots.specs.Rules.{firstFault, badTable, badSlot, isBadSlot, lastVersion}
 use Rattle.slots.specs.Sound.{Kept, Apart, Sound, Free}
 use Rattle.slots.specs.Appended.{goesOf}
@@ -85,12 +85,12 @@ Moved-is-summed f =
 abbrev pub Still-moves-nothing : Writer → Type 0
 Still-moves-nothing f =
     After-write f (λ h b c slot s v moved.
-    isCrowded (slotsOf h) (dropOf b slot) ≡ false
+    isCrowded (slotsOf h) (dropOldestOf b slot) ≡ false
     → (moved ≡ 0) × ((k : ℕ) → k < linesOf (slotsOf h) → isStaying b slot k ≡ true → placeAt c (goesOf slot k) ≡ placeAt b k))
 
 -- and a slide moves a body at least: so the bytes moved tell whether there was one
 abbrev pub Slides-move : Writer → Type 0
-Slides-move f = After-write f (λ h b c slot s v moved. isCrowded (slotsOf h) (dropOf b slot) ≡ true → 5 ≤ moved)
+Slides-move f = After-write f (λ h b c slot s v moved. isCrowded (slotsOf h) (dropOldestOf b slot) ≡ true → 5 ≤ moved)
 
 -- "in the order of their places": of two bodies that stay, the one before stays before
 abbrev pub Order-is-kept : Writer → Type 0
@@ -291,3 +291,14 @@ Rewrites s (read-version t w) = ⊥
 -- every other item leaves it, byte for byte: "refusals change nothing"
 abbrev pub Untouched-otherwise : Type 0
 Untouched-otherwise = (s : Shift) (i : BookItem) → Rewrites s i ⊎ (next-shift s i .book ≡ s .book)
+
+-- no item is a done preparation of the book
+abbrev pub Unprepared : Shift → List BookItem → Type 0
+Unprepared s [] = Unit {0}
+Unprepared s (i ∷ is) = (i ≡ prepare-book → preparing-book s .0 ≢ Done) × Unprepared (next-shift s i) is
+
+-- a damaged book has no cure but preparing it: until then every byte stays, and so does the damage
+abbrev pub Damage-stays : Type 0
+Damage-stays =
+    (s : Shift) (items : List BookItem) → (Sound (slots-in s) (s .book) → ⊥) → Same-slots (slots-in s) s items → Unprepared s items
+    → run-shift s items .book ≡ s .book

@@ -1,6 +1,6 @@
 -- The statements of `Statements`, each proved; the proofs are in the files behind.
 use Rattle.slots.specs.Calls.{writeSetpointOf, readVersionOf}
-use Rattle.written.specs.Statements.{Others-read-as-before, New-reads-as-written, Oldest-is-dropped, Raises-by-one, Moved-is-summed, Still-moves-nothing, Slides-move, Order-is-kept, Full-exactly, Done-exactly, Room-for-all, Refused-changes-nothing, Reads-exactly, Prepared-reads-nothing, Forgets-older-bytes, Reads-last-write, Reads-newest-four, Never-exactly, Never-damaged, Never-overlap, Free-are-zeros, Newer-lie-behind, Written-by-holder, Unowned-writes-nothing, Stale-writes-nothing, One-writer, Writers-parted, Untouched-otherwise}
+use Rattle.written.specs.Statements.{Others-read-as-before, New-reads-as-written, Oldest-is-dropped, Raises-by-one, Moved-is-summed, Still-moves-nothing, Slides-move, Order-is-kept, Full-exactly, Done-exactly, Room-for-all, Refused-changes-nothing, Reads-exactly, Prepared-reads-nothing, Forgets-older-bytes, Reads-last-write, Reads-newest-four, Never-exactly, Never-damaged, Never-overlap, Free-are-zeros, Newer-lie-behind, Written-by-holder, Unowned-writes-nothing, Stale-writes-nothing, One-writer, Writers-parted, Untouched-otherwise, Damage-stays}
 use Rattle.written.specs.After as after
 use Rattle.written.specs.Runs as runs
 use Rattle.written.specs.Exact as exact
@@ -99,3 +99,6 @@ writers-parted = parted.writers-parted
 
 pub untouched-otherwise : Untouched-otherwise
 untouched-otherwise = runs.untouched-otherwise
+
+pub damage-stays : Damage-stays
+damage-stays = runs.damage-stays

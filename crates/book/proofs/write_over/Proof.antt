@@ -57,11 +57,11 @@ drop-oldest-requires c κs =
     let p = c .before .before .before .before .before .before .before .before .before .before .before .pre in
     (omega (arith, p .1 .1 .0, p .1 .1 .1 .0), (p .1 .1 .1 .1 .0, oldest-lies (a .n) (a .book .now) (a .slot) (p .1 .1 .0) (sym (c .before .before .before .before .before .before .before .before .is-sound .ensures) ∙ c .before .before .before .before .before .before .before .if1 .taken)))
 
-add-put : tie.Need-add-put
-add-put c = search needs
+add-put-over : tie.Need-add-put-over
+add-put-over c = search needs
 
-put-requires : tie.Need-put-requires
-put-requires c κs =
+put-over-requires : tie.Need-put-over-requires
+put-over-requires c κs =
     let a = c .before .before .before .before .before .before .before .before .before .before .before .before .before .before .before .args in
     let p = c .before .before .before .before .before .before .before .before .before .before .before .before .before .before .before .pre in
     let is = sym (c .before .before .before .before .before .before .before .before .before .before .before .before .is-sound .ensures) ∙ c .before .before .before .before .before .before .before .before .before .before .before .if1 .taken in
@@ -79,7 +79,7 @@ unfolding writeOverOf overRules firstFault putOf
 returns-3 c =
     let a = c .before .before .before .before .before .before .before .before .before .before .before .before .before .before .before .before .before .before .args in
     let room = room-is (a .n) (a .book .now) (a .slot) (c .before .before .before .before .before .before .before .before .before .before .before .before .before .before .before .before .before .before .pre .1 .1 .0) (sym (c .before .before .before .before .before .before .before .before .before .before .before .before .before .before .before .is-sound .ensures) ∙ c .before .before .before .before .before .before .before .before .before .before .before .before .before .before .if1 .taken) (c .before .before .before .before .before .before .before .before .before .staying .result) (c .before .before .before .before .before .before .before .before .before .staying .ensures) (c .before .before .before .before .before .before .before .before .if3 .left) in
-    rw (← c .before .before .before .before .before .before .before .before .before .before .before .before .before .before .before .is-sound .ensures, c .before .before .before .before .before .before .before .before .before .before .before .before .before .before .if1 .taken, ← c .before .before .before .before .before .before .before .before .before .before .before .before .version-at .ensures, ne-eqb _ _ (c .before .before .before .before .before .before .before .before .before .before .before .if2 .left), room, ← c .before .before .before .before .before .before .drop-oldest .ensures, ← c .before .before .put .ensures)
+    rw (← c .before .before .before .before .before .before .before .before .before .before .before .before .before .before .before .is-sound .ensures, c .before .before .before .before .before .before .before .before .before .before .before .before .before .before .if1 .taken, ← c .before .before .before .before .before .before .before .before .before .before .before .before .version-at .ensures, ne-eqb _ _ (c .before .before .before .before .before .before .before .before .before .before .before .if2 .left), room, ← c .before .before .before .before .before .before .drop-oldest .ensures, ← c .before .before .put-over .ensures)
 
 same-length-4 : tie.Need-same-length-4
 same-length-4 c = search needs
@@ -105,8 +105,8 @@ write-over-spec =
     same-length-2
     returns-2
     drop-oldest-requires
-    add-put
-    put-requires
+    add-put-over
+    put-over-requires
     add-t28
     same-length-3
     returns-3

@@ -25,14 +25,14 @@ sub-cells c = search needs
 add-cells : tie.Need-add-cells
 add-cells c = search needs
 
-slice-aggregate-slide : tie.Need-slice-aggregate-slide
-slice-aggregate-slide c = search needs
+slice-aggregate-walk : tie.Need-slice-aggregate-walk
+slice-aggregate-walk c = search needs
 
-slice-aggregate-slide-2 : tie.Need-slice-aggregate-slide-2
-slice-aggregate-slide-2 c = search needs
+slice-aggregate-walk-2 : tie.Need-slice-aggregate-walk-2
+slice-aggregate-walk-2 c = search needs
 
-slide-requires : tie.Need-slide-requires
-slide-requires c κs =
+walk-requires : tie.Need-walk-requires
+walk-requires c κs =
     let a = c .before .before .before .before .before .before .before .before .args in
     let p = c .before .before .before .before .before .before .before .before .pre in
     let cells = (length (a .book .now) - 32 * a .n + 4) / 5 in
@@ -46,8 +46,8 @@ put-places-requires c κs =
     let a = c .before .before .before .before .before .before .before .before .before .before .before .before .before .before .args in
     let p = c .before .before .before .before .before .before .before .before .before .before .before .before .before .before .pre in
     let cells = (length (a .book .now) - 32 * a .n + 4) / 5 in
-    let size = laid-size (a .n) (a .book .now) cells 6550 _ (p .1 .1 .1 .0) (omega (arith, p .1 .1 .1 .1)) (omega (arith, p .0, p .1 .1 .0)) (c .before .before .before .before .before .before .before .before .before .before .set-marks .ensures) (p .1 .1 .1 .1) _ _ _ (c .before .before .before .before .before .slide .ensures) (omega (arith, p .0, p .1 .1 .0)) in
-    (search needs, (omega (arith, size, p .1 .1 .1 .1), (laid-lying (a .n) (a .book .now) cells 6550 _ (p .1 .1 .1 .0) (omega (arith, p .1 .1 .1 .1)) (omega (arith, p .0, p .1 .1 .0)) (c .before .before .before .before .before .before .before .before .before .before .set-marks .ensures) (p .1 .1 .1 .1) _ _ _ (c .before .before .before .before .before .slide .ensures) (omega (arith, p .0, p .1 .1 .0)) (p .0) (p .1 .1 .0), search needs)))
+    let size = laid-size (a .n) (a .book .now) cells 6550 _ (p .1 .1 .1 .0) (omega (arith, p .1 .1 .1 .1)) (omega (arith, p .0, p .1 .1 .0)) (c .before .before .before .before .before .before .before .before .before .before .set-marks .ensures) (p .1 .1 .1 .1) _ _ _ (c .before .before .before .before .before .walk .ensures) (omega (arith, p .0, p .1 .1 .0)) in
+    (search needs, (omega (arith, size, p .1 .1 .1 .1), (laid-lying (a .n) (a .book .now) cells 6550 _ (p .1 .1 .1 .0) (omega (arith, p .1 .1 .1 .1)) (omega (arith, p .0, p .1 .1 .0)) (c .before .before .before .before .before .before .before .before .before .before .set-marks .ensures) (p .1 .1 .1 .1) _ _ _ (c .before .before .before .before .before .walk .ensures) (omega (arith, p .0, p .1 .1 .0)) (p .0) (p .1 .1 .0), search needs)))
 
 same-length : tie.Need-same-length
 same-length c = search needs
@@ -58,7 +58,7 @@ returns c =
     let p = c .before .before .before .before .before .before .before .before .before .before .before .before .before .before .before .before .before .pre in
     let cells = (length (a .book .now) - 32 * a .n + 4) / 5 in
     c .before .before .put-places .ensures
-    ∙ compaction (a .n) (a .book .now) cells 6550 _ (p .1 .1 .1 .0) (omega (arith, p .1 .1 .1 .1)) (omega (arith, p .0, p .1 .1 .0)) (c .before .before .before .before .before .before .before .before .before .before .before .before .before .set-marks .ensures) (p .1 .1 .1 .1) _ _ _ (c .before .before .before .before .before .before .before .before .slide .ensures) (omega (arith, p .0, p .1 .1 .0))
+    ∙ compaction (a .n) (a .book .now) cells 6550 _ (p .1 .1 .1 .0) (omega (arith, p .1 .1 .1 .1)) (omega (arith, p .0, p .1 .1 .0)) (c .before .before .before .before .before .before .before .before .before .before .before .before .before .set-marks .ensures) (p .1 .1 .1 .1) _ _ _ (c .before .before .before .before .before .before .before .before .walk .ensures) (omega (arith, p .0, p .1 .1 .0))
 
 pub compact-spec : {M : Type 1} → statement M
 compact-spec =
@@ -69,9 +69,9 @@ compact-spec =
     mul-cells
     sub-cells
     add-cells
-    slice-aggregate-slide
-    slice-aggregate-slide-2
-    slide-requires
+    slice-aggregate-walk
+    slice-aggregate-walk-2
+    walk-requires
     slice-aggregate-put-places
     put-places-requires
     same-length

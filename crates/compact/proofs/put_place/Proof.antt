@@ -4,7 +4,7 @@ use mathlib.Core.Path.{sym, _∙_}
 use native.Mathlib.Omega.{arith}
 use borrow.Author.Tests.{eq-eqb, ne-eqb}
 use Rattle.slots.specs.Sound.{is-kept}
-use Rattle.compact.specs.Lines.{isMoved, linePut, lineDone, two-stores}
+use Rattle.compact.specs.Lines.{isMoved, linePut, putPlaceOf, two-stores}
 use lib.ListN.{length-set}
 use borrow.Author.Needs.{needs}
 use Rattle.compact.proofs.put_place.Statement.{statement}
@@ -68,21 +68,21 @@ same-length : tie.Need-same-length
 same-length c = search needs
 
 returns : tie.Need-returns
-unfolding lineDone isMoved linePut
+unfolding putPlaceOf isMoved linePut
 returns c = rw (← c .before .before .before .before .before .is-kept .ensures, c .before .before .before .before .if1 .taken, ← c .before .before .place-at .ensures, eq-eqb _ _ (c .if2 .taken), two-stores _ _ _ _)
 
 same-length-2 : tie.Need-same-length-2
 same-length-2 c = search needs
 
 returns-2 : tie.Need-returns-2
-unfolding lineDone isMoved linePut
+unfolding putPlaceOf isMoved linePut
 returns-2 c = rw (← c .before .before .before .before .before .is-kept .ensures, c .before .before .before .before .if1 .taken, ← c .before .before .place-at .ensures, ne-eqb _ _ (c .if2 .left), two-stores _ _ _ _)
 
 same-length-3 : tie.Need-same-length-3
 same-length-3 c = search needs
 
 returns-3 : tie.Need-returns-3
-unfolding lineDone isMoved linePut
+unfolding putPlaceOf isMoved linePut
 returns-3 c = rw (← c .before .is-kept .ensures, c .if1 .left)
 
 pub put-place-spec : {M : Type 1} → statement M

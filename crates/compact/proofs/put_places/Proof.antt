@@ -2,7 +2,7 @@
 use Prim.Native.Nat.{_*_, _-_, _≤_}
 use mathlib.Core.Path.{_≡_, sym}
 use native.Mathlib.Omega.{arith}
-use Rattle.compact.specs.Lines.{placedOf, countedOf, linesDone, placed-start, counted-start, counted-small, placed-size, placed-lies, turned, done-small}
+use Rattle.compact.specs.Lines.{placedOf, countedOf, putPlacesOf, placed-start, counted-start, counted-small, placed-size, placed-lies, turned, done-small}
 use borrow.Author.Needs.{needs}
 use Rattle.compact.proofs.put_places.Statement.{statement}
 use Rattle.compact.proofs.put_places.Tie as tie
@@ -55,7 +55,7 @@ same-length c =
     omega (arith, placed-size (a .n) (a .places .now) (a .book .now) (l .book) (l .k) (l .inv .2))
 
 returns : tie.Need-returns Inv-loop μ-loop
-unfolding linesDone
+unfolding putPlacesOf
 returns c =
     let l = c .before .loop in
     let a = c .before .before .before .before .args in

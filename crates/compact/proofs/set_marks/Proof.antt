@@ -3,7 +3,7 @@ use Prim.Native.Nat.{_*_, _-_, _≤_}
 use mathlib.Core.Path.{_≡_, sym, _∙_}
 use native.Mathlib.Omega.{arith}
 use lib.ListN.{length}
-use Rattle.compact.specs.Slide.{marksOf, marks-turn, marks-end}
+use Rattle.compact.specs.Slide.{setMarksOf, marks-turn, marks-end}
 use Rattle.slots.specs.Sound.{is-kept}
 use borrow.Author.Needs.{needs}
 use Rattle.compact.proofs.set_marks.Statement.{statement}
@@ -11,7 +11,7 @@ use Rattle.compact.proofs.set_marks.Tie as tie
 
 abbrev Inv-loop : tie.InvT-loop
 Inv-loop n book marks₀ k₀ marks k =
-    (k ≤ 4 * n) × (length marks ≡ length marks₀) × (marksOf n book (4 * n - k) k marks ≡ marksOf n book (4 * n) 0 marks₀)
+    (k ≤ 4 * n) × (length marks ≡ length marks₀) × (setMarksOf n book (4 * n - k) k marks ≡ setMarksOf n book (4 * n) 0 marks₀)
 
 abbrev μ-loop : tie.MeasureT-loop
 μ-loop n book marks₀ k₀ marks k = 4 * n - k

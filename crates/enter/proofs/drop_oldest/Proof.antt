@@ -3,7 +3,7 @@ use Prim.Native.Nat.{_+_, _*_}
 use mathlib.Core.Path.{sym, _∙_}
 use native.Mathlib.Omega.{arith}
 use Rattle.slots.specs.Sound.{is-kept}
-use Rattle.slots.specs.Writing.{dropOf}
+use Rattle.slots.specs.Writing.{dropOldestOf}
 use borrow.Author.Needs.{needs}
 use Rattle.enter.proofs.drop_oldest.Statement.{statement}
 use Rattle.enter.proofs.drop_oldest.Tie as tie
@@ -45,14 +45,14 @@ same-length : tie.Need-same-length
 same-length c = search needs
 
 returns : tie.Need-returns
-unfolding dropOf
+unfolding dropOldestOf
 returns c = rw (← c .before .before .before .before .before .before .before .before .before .before .before .before .before .is-kept .ensures, c .before .before .before .before .before .before .before .before .before .before .before .before .if1 .taken, ← c .before .before .before .before .before .before .before .before .before .before .place-at .ensures, ← c .before .before .before .before .before .before .before .put-bytes .ensures, ← c .before .before .put-bytes2 .ensures)
 
 same-length-2 : tie.Need-same-length-2
 same-length-2 c = search needs
 
 returns-2 : tie.Need-returns-2
-unfolding dropOf
+unfolding dropOldestOf
 returns-2 c = rw (← c .before .is-kept .ensures, c .if1 .left)
 
 pub drop-oldest-spec : {M : Type 1} → statement M

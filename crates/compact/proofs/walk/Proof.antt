@@ -1,4 +1,4 @@
--- `compact::slide` meets its contract.
+-- `compact::walk` meets its contract.
 use Prim.Native.Nat.{_+_, _*_, _-_, _≤_}
 use mathlib.Core.Path.{_≡_}
 use native.Mathlib.Omega.{arith}
@@ -6,8 +6,8 @@ use lib.ListN.{length}
 use borrow.Author.Tests.{eq-eqb, ne-eqb}
 use Rattle.compact.specs.Slide.{slideOf, placesOf, slide-start, slide-turn, slide-end, places-start, places-turn, places-end, walkOf}
 use borrow.Author.Needs.{needs}
-use Rattle.compact.proofs.slide.Statement.{statement}
-use Rattle.compact.proofs.slide.Tie as tie
+use Rattle.compact.proofs.walk.Statement.{statement}
+use Rattle.compact.proofs.walk.Tie as tie
 
 abbrev Inv-loop : tie.InvT-loop
 Inv-loop n marks cells book₀ places₀ c₀ q₀ book places c q =
@@ -117,8 +117,8 @@ returns c =
     let a = c .before .before .before .before .before .args in
     rw (← l .inv .4, ← l .inv .5, slide-end (a .n) (a .marks .now) (a .cells) (l .c) (l .q) (l .book) (c .loop-test .left), places-end (a .marks .now) (a .cells) (l .c) (l .q) (l .places) (c .loop-test .left))
 
-pub slide-spec : {M : Type 1} → statement M
-slide-spec =
+pub walk-spec : {M : Type 1} → statement M
+walk-spec =
     tie.close
     (tie.spec
     Inv-loop

@@ -1,9 +1,9 @@
--- `enter::put` meets its contract.
+-- `enter::put_over` meets its contract.
 use native.Mathlib.Omega.{arith}
 use Rattle.enter.specs.Steps.{end-within, put-slid, put-behind}
 use borrow.Author.Needs.{needs}
-use Rattle.enter.proofs.put.Statement.{statement}
-use Rattle.enter.proofs.put.Tie as tie
+use Rattle.enter.proofs.put_over.Statement.{statement}
+use Rattle.enter.proofs.put_over.Tie as tie
 
 end-requires : tie.Need-end-requires
 end-requires c κs = search needs
@@ -51,8 +51,8 @@ returns-2 c =
     let a = c .before .before .before .before .before .before .before .before .args in
     put-behind (a .n) (a .book .now) (a .slot) (a .s) (a .version) (c .before .before .before .before .before .end .result) (c .before .before .before .before .before .end .ensures) _ (c .before .before .before .before .if1 .left) (c .before .before .append2 .ensures)
 
-pub put-spec : {M : Type 1} → statement M
-put-spec =
+pub put-over-spec : {M : Type 1} → statement M
+put-over-spec =
     tie.close
     (tie.spec
     end-requires
