@@ -583,69 +583,73 @@ fn any_writes() {
 
 // ---- BadSlot
 
-/// "one slot for each cell, at most the first 64"
+/// "one slot for each cell, at most the first 64": headers, buckets, slots.
+const SHAPES: [(u32, u32, u32); 7] = [
+    (1, 1, 1),
+    (2, 4, 8),
+    (9, 7, 63),
+    (8, 8, 64),
+    (5, 13, 64),
+    (64, 64, 64),
+    (4, 1024, 64),
+];
+
+/// 32 bytes a slot and a body; longer is good, up to 32,768. There is no slot behind the last, though there may be such a
+/// cell.
 #[test]
-fn slots() {
-    for (headers, buckets, slots) in [
-        (1, 1, 1),
-        (2, 4, 8),
-        (9, 7, 63),
-        (8, 8, 64),
-        (5, 13, 64),
-        (64, 64, 64),
-        (4, 1024, 64),
-    ] {
-        let (head, mut table) = arena(headers, buckets, &[slots - 1]);
+fn books_of_a_good_length() {
+    for (headers, buckets, slots) in SHAPES {
         let last = slots - 1;
-        let valve = Setpoint::Valve(true);
+        let (head, mut table) = arena(headers, buckets, &[last]);
         let contents = 32 * slots as usize;
-        // 32 bytes a slot and a body; longer is good, up to 32,768
         for length in [contents + 5, contents + 6, 32_768] {
             let mut book = vec![7; length];
             assert_eq!(book::prepare_book(head, &mut book), Ok(()));
             assert!(book.iter().all(|&byte| byte == 0));
             let read = book::read_setpoint(head, &book, last);
             assert_eq!(read, Err(BookRefusal::NeverWritten));
-            let mut write =
-                |slot| book::write_setpoint(head, &mut table, &mut book, slot, lease(last), valve);
-            let done = Written {
-                version: 1,
-                moved: 0,
+            let setpoint = Setpoint::Valve(true);
+            let mut write = |slot| {
+                book::write_setpoint(head, &mut table, &mut book, slot, lease(last), setpoint)
             };
-            assert_eq!(write(last), Ok(done));
-            // no such slot, though there may be such a cell
-            for slot in [slots, slots + 1, u32::MAX] {
-                assert_eq!(write(slot), Err(BookRefusal::BadSlot));
-            }
-            let kept = Kept {
-                setpoint: valve,
-                version: 1,
-            };
+            let (version, moved) = (1, 0);
+            assert_eq!(write(last), Ok(Written { version, moved }));
+            let bad = BookRefusal::BadSlot;
+            let behind = [slots, slots + 1, u32::MAX];
+            assert_eq!(behind.map(write), [Err(bad); 3]);
+            let kept = Kept { setpoint, version };
             assert_eq!(book::read_setpoint(head, &book, last), Ok(kept));
             assert_eq!(book::read_version(head, &book, last, 1), Ok(kept));
-            for slot in [slots, slots + 1, u32::MAX] {
-                let bad = Err(BookRefusal::BadSlot);
-                assert_eq!(book::read_setpoint(head, &book, slot), bad);
-                assert_eq!(book::read_version(head, &book, slot, 1), bad);
+            for slot in behind {
+                assert_eq!(book::read_setpoint(head, &book, slot), Err(bad));
+                assert_eq!(book::read_version(head, &book, slot, 1), Err(bad));
             }
         }
-        // "A book shorter than its contents is BadSlot", and one over the limit
+    }
+}
+
+/// "A book shorter than its contents is BadSlot", and so is one over the limit. As long as its contents it is none, though
+/// it has room for no body.
+#[test]
+fn books_of_a_bad_length() {
+    for (headers, buckets, slots) in SHAPES {
+        let (head, mut table) = arena(headers, buckets, &[0]);
+        let mut write = |book: &mut [u8]| {
+            book::write_setpoint(head, &mut table, book, 0, lease(0), Setpoint::Speed(1))
+        };
+        let contents = 32 * slots as usize;
         for length in [0, 1, contents - 1, 32_769, 33_000] {
             let mut book = vec![7; length];
             let bad = BookRefusal::BadSlot;
             assert_eq!(book::prepare_book(head, &mut book), Err(bad));
             assert_eq!(book::read_setpoint(head, &book, 0), Err(bad));
             assert_eq!(book::read_version(head, &book, 0, 1), Err(bad));
-            let written =
-                book::write_setpoint(head, &mut table, &mut book, last, lease(last), valve);
-            assert_eq!(written, Err(bad));
+            assert_eq!(write(&mut book), Err(bad));
             assert!(book.iter().all(|&byte| byte == 7));
         }
-        // exactly the contents: no body has room, but it is no BadSlot
         let mut book = vec![7; contents];
         assert_eq!(book::prepare_book(head, &mut book), Ok(()));
-        let written = book::write_setpoint(head, &mut table, &mut book, last, lease(last), valve);
-        assert_eq!(written, Err(BookRefusal::BookFull));
+        assert_eq!(write(&mut book), Err(BookRefusal::BookFull));
     }
 }
 
@@ -948,64 +952,66 @@ fn every_byte_of_the_contents() {
     }
 }
 
-/// Lines that each fit, but not together: "newest first, versions falling by one, unused lines zero", and as many as
-/// there were settings, four at most.
+/// Versions that stand in a slot's lines together: "newest first, versions falling by one, unused lines zero", and as many
+/// as there were settings, four at most.
+const GOOD_VERSIONS: [&[u32]; 7] = [
+    &[],
+    &[1],
+    &[2, 1],
+    &[3, 2, 1],
+    &[4, 3, 2, 1],
+    &[5, 4, 3, 2],
+    &[u32::MAX, u32::MAX - 1, u32::MAX - 2, u32::MAX - 3],
+];
+
+/// And versions that do not.
+const BAD_VERSIONS: [&[u32]; 19] = [
+    // too few lines for so many settings, or too many
+    &[2],
+    &[7, 6],
+    &[3, 2],
+    &[5, 4, 3],
+    &[u32::MAX],
+    &[3, 2, 1, 0],
+    &[1, 0],
+    &[0],
+    // not falling by one
+    &[1, 2],
+    &[2, 2],
+    &[3, 1, 2],
+    &[4, 3, 2, 2],
+    &[5, 4, 3, 1],
+    &[5, 4, 2, 1],
+    &[1, 2, 3, 4],
+    &[0, 1],
+    &[2, 1, 0, u32::MAX],
+    &[1, 0, u32::MAX, u32::MAX - 1],
+    &[0, u32::MAX, u32::MAX - 1, u32::MAX - 2],
+];
+
 #[test]
-fn lines_that_do_not_fit_together() {
-    let versions = |slot: u32, versions: &[u32]| {
-        let mut skid = Skid::new(20);
-        for (age, &version) in versions.iter().enumerate() {
-            let place = FRONT + 5 * age;
-            skid.put(slot, age, place, version);
-            skid.put_body(place, 3, 1);
-        }
-        skid
-    };
+fn lines_that_fit_together_and_lines_that_do_not() {
     for slot in 0..3 {
-        for good in [
-            &[][..],
-            &[1],
-            &[2, 1],
-            &[3, 2, 1],
-            &[4, 3, 2, 1],
-            &[5, 4, 3, 2],
-            &[u32::MAX, u32::MAX - 1, u32::MAX - 2, u32::MAX - 3],
-        ] {
-            versions(slot, good).is_sound();
+        let book_of = |versions: &[u32]| {
+            let mut skid = Skid::new(20);
+            for (age, &version) in versions.iter().enumerate() {
+                skid.put(slot, age, FRONT + 5 * age, version);
+                skid.put_body(FRONT + 5 * age, 3, 1);
+            }
+            skid
+        };
+        for versions in GOOD_VERSIONS {
+            book_of(versions).is_sound();
         }
-        for bad in [
-            // too few lines for so many settings, or too many
-            &[2][..],
-            &[7, 6],
-            &[3, 2],
-            &[5, 4, 3],
-            &[u32::MAX],
-            &[3, 2, 1, 0],
-            &[1, 0],
-            // not falling by one
-            &[1, 2],
-            &[2, 2],
-            &[3, 1, 2],
-            &[4, 3, 2, 2],
-            &[5, 4, 3, 1],
-            &[5, 4, 2, 1],
-            &[1, 2, 3, 4],
-            &[2, 1, 0, u32::MAX],
-            &[1, 0, u32::MAX, u32::MAX - 1],
-        ] {
-            versions(slot, bad).is_damaged();
+        for versions in BAD_VERSIONS {
+            book_of(versions).is_damaged();
         }
-        // a hole: zeros between lines that are in use
-        let mut skid = versions(slot, &[4, 3, 2, 1]);
-        skid.book[32 * slot as usize + 8..][..8].fill(0);
-        skid.is_damaged();
-        let mut skid = versions(slot, &[1]);
-        skid.book.copy_within(
-            32 * slot as usize..32 * slot as usize + 8,
-            32 * slot as usize + 8,
-        );
-        skid.book[32 * slot as usize..][..8].fill(0);
-        skid.is_damaged();
+        // zeros in place of one of four lines
+        for age in 0..4 {
+            let mut skid = book_of(&[4, 3, 2, 1]);
+            skid.book[32 * slot as usize + 8 * age..][..8].fill(0);
+            skid.is_damaged();
+        }
     }
 }
 
@@ -1022,6 +1028,24 @@ fn places() {
                 FRONT..=115 => skid.is_sound(),
                 _ => skid.is_damaged(),
             }
+        }
+    }
+}
+
+/// A place in the contents fits no rule, though what stands there may pass for a body: slot 2 keeps four versions whose
+/// highest byte is 2, so from byte 95 on stands a speed, up to where the first body begins.
+#[test]
+fn a_place_in_the_contents() {
+    let newest = 0x0200_0007;
+    let lines = [0, 1, 2, 3].map(|age| (2, newest - age, FRONT + 5 + 5 * age as usize));
+    for (place, sound) in [(FRONT - 1, false), (FRONT, true)] {
+        let mut skid = Skid::handed_over(30, &lines);
+        skid.put(0, 0, place, 1);
+        skid.book[FRONT] = 2;
+        assert_eq!(skid.book[place], 2);
+        match sound {
+            true => skid.is_sound(),
+            false => skid.is_damaged(),
         }
     }
 }

@@ -436,13 +436,26 @@ fn line_of(book: &[u8], slot: usize, age: usize) -> [u32; 3] {
     [number(&line[..2]), number(&line[2..4]), number(&line[4..])]
 }
 
-/// Slot, version and place of each line that is to be in use: as many as a slot had settings, four at most.
-fn bodies_of(book: &[u8], slots: usize) -> Vec<(usize, u32, usize)> {
+/// A line in use: its slot, its version, and the place of its body.
+#[derive(Clone, Copy)]
+struct Body {
+    slot: usize,
+    version: u32,
+    place: usize,
+}
+
+/// Each line that is to be in use: as many as a slot had settings, four at most.
+fn bodies_of(book: &[u8], slots: usize) -> Vec<Body> {
     let lines = (0..slots).flat_map(|slot| {
         let used = line_of(book, slot, 0)[2].min(4) as usize;
         (0..used).map(move |age| {
             let [place, _, version] = line_of(book, slot, age);
-            (slot, version, place as usize)
+            let place = place as usize;
+            Body {
+                slot,
+                version,
+                place,
+            }
         })
     });
     lines.collect()
@@ -499,17 +512,36 @@ fn damages(book: &[u8], slots: usize) -> Vec<(&'static str, [usize; 2])> {
         })
         .collect();
     let bodies = bodies_of(book, slots);
-    for (at, &(slot, _, place)) in bodies.iter().enumerate() {
-        for &(other, _, second) in &bodies[..at] {
-            match place.abs_diff(second) {
-                0 => damages.push(("overlap: at one place", [slot, other])),
-                1..=3 => damages.push(("overlap: by some bytes", [slot, other])),
-                4 => damages.push(("overlap: by one byte", [slot, other])),
+    for (at, one) in bodies.iter().enumerate() {
+        for other in &bodies[..at] {
+            let both = [one.slot, other.slot];
+            match one.place.abs_diff(other.place) {
+                0 => damages.push(("overlap: at one place", both)),
+                1..=3 => damages.push(("overlap: by some bytes", both)),
+                4 => damages.push(("overlap: by one byte", both)),
                 _ => {}
             }
         }
     }
     damages
+}
+
+/// What a call that was refused by DamagedBook met, if one rule alone is broken.
+fn cases_of_damage(console: &Desk, line: &str) -> Vec<String> {
+    let slot = number(word(line, 1).as_bytes()).expect("a slot") as usize;
+    let (book, slots) = lent_book(console);
+    let damages = damages(book, slots);
+    assert!(!damages.is_empty(), "{line}");
+    match damages[..] {
+        [(damage, damaged)] => {
+            let own = damaged.contains(&slot);
+            let whose = if own { "own slot" } else { "other slot" };
+            [whose, word(line, 0)]
+                .map(|met| format!("{met}: {damage}"))
+                .into()
+        }
+        _ => Vec::new(),
+    }
 }
 
 /// Each rule of the book is broken alone, and met by a read of the newest, a read of a version and a write, of that slot
@@ -525,20 +557,8 @@ fn every_damage_of_the_book() {
                 .line(&mut Plain, line, &mut out)
                 .expect("a vector takes every byte");
             if out.starts_with(b"refused DamagedBook\n") {
-                let line = String::from_utf8_lossy(line);
-                let slot = number(word(&line, 1).as_bytes()).expect("a slot") as usize;
-                let (book, slots) = lent_book(&console);
-                let damages = damages(book, slots);
-                assert!(!damages.is_empty(), "{line}");
-                if let [(damage, damaged)] = damages[..] {
-                    let own = if damaged.contains(&slot) {
-                        "own"
-                    } else {
-                        "other"
-                    };
-                    *seen.entry(format!("{own} slot: {damage}")).or_default() += 1;
-                    let call = word(&line, 0);
-                    *seen.entry(format!("{call}: {damage}")).or_default() += 1;
+                for case in cases_of_damage(&console, &String::from_utf8_lossy(line)) {
+                    *seen.entry(case).or_default() += 1;
                 }
             }
         }
@@ -571,86 +591,100 @@ fn every_damage_of_the_book() {
     }
 }
 
-/// The bodies that a sound book keeps once a write to this slot has dropped its oldest of four, and that one.
-type Drop = (Vec<(usize, u32, usize)>, Option<(usize, u32, usize)>);
-
-fn dropping(book: &[u8], slots: usize, slot: usize) -> Drop {
-    let newest = line_of(book, slot, 0)[2];
-    let is_oldest =
-        |body: &(usize, u32, usize)| newest >= 4 && body.0 == slot && body.1 == newest - 3;
-    let (dropped, kept): (Vec<_>, Vec<_>) = bodies_of(book, slots).into_iter().partition(is_oldest);
-    (kept, dropped.first().copied())
+/// A sound book for a write to a slot: what it keeps once the slot's oldest of four is dropped, and that one.
+struct Room<'a> {
+    book: &'a [u8],
+    front: usize,
+    kept: Vec<Body>,
+    dropped: Option<Body>,
 }
 
-/// Whether kept bodies after the drop leave fewer than 5 bytes.
-fn is_full(book: &[u8], slots: usize, slot: usize) -> bool {
-    let (kept, _) = dropping(book, slots, slot);
-    32 * slots + 5 * kept.len() + 5 > book.len()
-}
+impl Room<'_> {
+    fn of(console: &Desk, slot: usize) -> Room<'_> {
+        let (book, slots) = lent_book(console);
+        let newest = line_of(book, slot, 0)[2];
+        let mut kept = bodies_of(book, slots);
+        let oldest = |body: &Body| newest >= 4 && body.slot == slot && body.version == newest - 3;
+        let dropped = kept.iter().position(oldest).map(|at| kept.remove(at));
+        let front = 32 * slots;
+        Room {
+            book,
+            front,
+            kept,
+            dropped,
+        }
+    }
 
-/// What a write that was done, or found the book full, met. `before` is what it was given.
-fn cases_of_room(before: &Desk, line: &str, out: &str) -> Vec<&'static str> {
-    let (book, slots) = lent_book(before);
-    let slot = number(word(line, 1).as_bytes()).expect("a slot") as usize;
-    let (kept, dropped) = dropping(book, slots, slot);
-    if answer_of(out) == "BookFull" {
-        assert!(is_full(book, slots, slot), "{line}");
-        return vec![match (kept.len(), (book.len() - 32 * slots) % 5) {
+    /// Whether kept bodies leave fewer than 5 bytes.
+    fn is_full(&self) -> bool {
+        self.front + 5 * self.kept.len() + 5 > self.book.len()
+    }
+
+    /// Where the last kept body ends.
+    fn behind_last(&self) -> usize {
+        let ends = self.kept.iter().map(|body| body.place + 5);
+        ends.max().unwrap_or(self.front)
+    }
+
+    /// Whether there is a free byte that is not zero.
+    fn has_rubbish(&self) -> bool {
+        let bodies = self.kept.iter().chain(&self.dropped);
+        let mut free = self.book[self.front..].to_vec();
+        for body in bodies {
+            free[body.place - self.front..][..5].fill(0);
+        }
+        free.iter().any(|&byte| byte != 0)
+    }
+
+    /// What a write met that found the book full.
+    fn case_of_full(&self) -> &'static str {
+        assert!(self.is_full());
+        match (self.kept.len(), (self.book.len() - self.front) % 5) {
             (0, _) => "full: room for no body",
             (_, 0) => "full: no byte left",
             _ => "full: some bytes left",
-        }];
-    }
-    let mut cases = Vec::new();
-    let behind = |bodies: &[(usize, u32, usize)]| {
-        let ends = bodies.iter().map(|body| body.2 + 5);
-        ends.max().unwrap_or(32 * slots)
-    };
-    let moved = behind_word(out, "moved") as usize;
-    assert_eq!(moved > 0, behind(&kept) + 5 > book.len(), "{line}: {out}");
-    cases.push(match (moved, kept.len()) {
-        (0, 0) => "the first body",
-        (0, _) => "appended",
-        (moved, kept) if moved == 5 * kept => "all bodies slide",
-        _ => "some bodies slide",
-    });
-    if let Some(dropped) = dropped {
-        cases.push(if moved > 0 {
-            "dropped, slide"
-        } else {
-            "dropped, append"
-        });
-        if behind(&kept) <= dropped.2 {
-            cases.push("the dropped body lay last");
-        }
-        if moved == 0 && behind(&kept) == dropped.2 && dropped.2 + 10 > book.len() {
-            cases.push("the dropped body's room is all there is behind");
         }
     }
-    let is_free = |at: usize| {
-        kept.iter()
-            .chain(&dropped)
-            .all(|body| !(body.2..body.2 + 5).contains(&at))
-    };
-    if (32 * slots..book.len()).any(|at| is_free(at) && book[at] != 0) {
-        cases.push(if moved > 0 {
-            "free bytes not zero, slide"
-        } else {
-            "free bytes not zero"
-        });
-    }
-    if behind(&kept) + 5 == book.len() {
-        cases.push("exactly 5 bytes behind the last");
-    }
-    if (1..5).contains(&(book.len() - behind(&kept))) {
-        cases.push("fewer than 5 bytes behind the last");
-    }
-    cases
-}
 
-/// The number behind a word that must be there.
-fn behind_word(out: &str, word: &str) -> u32 {
-    behind(out, word).expect("a number")
+    /// What a write met that was done, with so many bytes moved.
+    fn cases_of_done(&self, moved: usize) -> Vec<&'static str> {
+        let (last, end) = (self.behind_last(), self.book.len());
+        assert_eq!(moved > 0, last + 5 > end);
+        let kind = match (moved, self.kept.len()) {
+            (0, 0) => "the first body",
+            (0, _) => "appended",
+            (moved, kept) if moved == 5 * kept => "all bodies slide",
+            _ => "some bodies slide",
+        };
+        let dropped = self.dropped.map(|body| body.place);
+        let lay_last = dropped.is_some_and(|place| last <= place);
+        let room_again = dropped.is_some_and(|place| last == place && place + 10 > end);
+        let room_behind = dropped.is_some_and(|place| last <= place && place + 10 <= end);
+        let rubbish = self.has_rubbish();
+        let cases = [
+            (kind, true),
+            ("dropped, slide", dropped.is_some() && moved > 0),
+            ("dropped, append", dropped.is_some() && moved == 0),
+            ("the dropped body lay last", lay_last),
+            (
+                "the dropped body lay last, and has room behind",
+                room_behind,
+            ),
+            (
+                "only the dropped body's room is behind the last",
+                room_again,
+            ),
+            ("free bytes not zero, slide", rubbish && moved > 0),
+            ("free bytes not zero, append", rubbish && moved == 0),
+            ("exactly 5 bytes behind the last", last + 5 == end),
+            (
+                "1 to 4 bytes behind the last",
+                (1..5).contains(&(end - last)),
+            ),
+        ];
+        let there = cases.iter().filter(|(_, there)| *there);
+        there.map(|&(case, _)| case).collect()
+    }
 }
 
 /// Which version a read of a sound book asked for, and whether it was there. `before` is what it was given.
@@ -676,12 +710,34 @@ fn case_of_reading(before: &Desk, line: &str, out: &str) -> String {
     format!("{}: {which}, of {} settings", word(line, 0), newest.min(1))
 }
 
-/// What a write met behind one that found the book full: `None` while there was none.
-fn case_behind_full(full: Option<usize>, console: &Desk) -> Option<&'static str> {
-    Some(match console.lent_book > full? {
-        true => "done behind full, in a longer book",
-        false => "done behind full",
-    })
+/// What a write of the book, or a read that is not DamagedBook, met. `before` is what it was given; `full` is the length
+/// of the book when a write found it full, up to the next that is done.
+fn cases_of_room(before: &Desk, full: &mut Option<usize>, line: &str, out: &str) -> Vec<String> {
+    let slot = number(word(line, 1).as_bytes()).unwrap_or(0) as usize;
+    let cases = match (word(line, 0), answer_of(out).as_str()) {
+        ("write_setpoint", "done") => {
+            let moved = behind(out, "moved").expect("a number");
+            let mut cases = Room::of(before, slot).cases_of_done(moved as usize);
+            if behind(out, "version") == Some(u32::MAX) {
+                cases.push("the last version");
+            }
+            cases.extend(full.take().map(|length| match before.lent_book > length {
+                true => "done behind full, in a longer book",
+                false => "done behind full",
+            }));
+            cases
+        }
+        ("write_setpoint", "BookFull") => {
+            *full = Some(before.lent_book);
+            vec![Room::of(before, slot).case_of_full()]
+        }
+        ("write_setpoint", "VersionsSpent") => vec!["versions spent"],
+        ("read_setpoint" | "read_version", "pressure" | "speed" | "valve" | "NeverWritten") => {
+            return vec![case_of_reading(before, line, out)];
+        }
+        _ => Vec::new(),
+    };
+    cases.into_iter().map(String::from).collect()
 }
 
 /// The room of the book, and what is read of it: each case not once but often.
@@ -690,7 +746,6 @@ fn every_case_of_room_and_reading() {
     let mut seen: BTreeMap<String, usize> = BTreeMap::new();
     for seed in 1..=6 {
         let mut console = Desk::new();
-        // the length of the book when it was full, up to the next write that is done, or preparation
         let mut full = None;
         for line in history(seed).split(|&byte| byte == b'\n') {
             let call = line.starts_with(b"write_setpoint ") || line.starts_with(b"read_");
@@ -698,34 +753,15 @@ fn every_case_of_room_and_reading() {
             let kind = console
                 .line(&mut Plain, line, &mut out)
                 .expect("a vector takes every byte");
-            let (line, out) = (String::from_utf8_lossy(line), String::from_utf8_lossy(&out));
-            if line.starts_with("prepare") {
+            if line.starts_with(b"prepare") {
                 full = None;
             }
-            let Some(before) = before.filter(|_| matches!(kind, Line::Call(_))) else {
-                continue;
-            };
-            let mut cases = Vec::new();
-            match (word(&line, 0), answer_of(&out).as_str()) {
-                ("write_setpoint", "done") => {
-                    cases.extend(cases_of_room(&before, &line, &out));
-                    cases.extend(case_behind_full(full.take(), &console));
-                }
-                ("write_setpoint", "BookFull") => {
-                    cases.extend(cases_of_room(&before, &line, &out));
-                    full = Some(console.lent_book);
-                }
-                (
-                    "read_setpoint" | "read_version",
-                    "pressure" | "speed" | "valve" | "NeverWritten",
-                ) => {
-                    let case = case_of_reading(&before, &line, &out);
+            if let Some(before) = before.filter(|_| matches!(kind, Line::Call(_))) {
+                let line = String::from_utf8_lossy(line);
+                let out = String::from_utf8_lossy(&out);
+                for case in cases_of_room(&before, &mut full, &line, &out) {
                     *seen.entry(case).or_default() += 1;
                 }
-                _ => {}
-            }
-            for case in cases {
-                *seen.entry(case.to_string()).or_default() += 1;
             }
         }
     }
@@ -735,7 +771,7 @@ fn every_case_of_room_and_reading() {
 }
 
 /// The cases of that test.
-const ROOM_AND_READING: [&str; 29] = [
+const ROOM_AND_READING: [&str; 32] = [
     "the first body",
     "appended",
     "some bodies slide",
@@ -743,16 +779,19 @@ const ROOM_AND_READING: [&str; 29] = [
     "dropped, append",
     "dropped, slide",
     "the dropped body lay last",
-    "the dropped body's room is all there is behind",
-    "free bytes not zero",
+    "the dropped body lay last, and has room behind",
+    "only the dropped body's room is behind the last",
+    "free bytes not zero, append",
     "free bytes not zero, slide",
     "exactly 5 bytes behind the last",
-    "fewer than 5 bytes behind the last",
+    "1 to 4 bytes behind the last",
     "full: room for no body",
     "full: no byte left",
     "full: some bytes left",
     "done behind full",
     "done behind full, in a longer book",
+    "the last version",
+    "versions spent",
     "read_setpoint: age 0",
     "read_setpoint: 0, of 0 settings",
     "read_version: age 0",
@@ -807,7 +846,7 @@ fn faults_of_a_write(console: &Desk, line: &str) -> Vec<&'static str> {
     match read {
         Err(BookRefusal::DamagedBook) => faults.push("DamagedBook"),
         Ok(kept) if kept.version == u32::MAX => faults.push("VersionsSpent"),
-        Ok(_) | Err(BookRefusal::NeverWritten) if is_full(book, slots, slot as usize) => {
+        Ok(_) | Err(BookRefusal::NeverWritten) if Room::of(console, slot as usize).is_full() => {
             faults.push("BookFull");
         }
         _ => {}

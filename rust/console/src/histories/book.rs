@@ -63,10 +63,10 @@ impl<B: Build, J: Build + Clone, K: FnMut(&mut B, &[u8], &[u8]) -> bool> Writer<
             0 => contents - 1,
             1 => self.dice.number(contents),
             2 => 0,
-            3 => self.dice.pick(&[32_768, 32_769, 33_000]),
-            4 => self.dice.number(desk::BOOK as u32 + 1),
-            5 => contents + self.dice.number(BODY),
-            6..=9 => contents + BODY * KEPT * self.slots() + self.dice.number(40),
+            3..=4 => self.dice.pick(&[32_768, 32_769, 32_769, 33_000]),
+            5 => self.dice.number(desk::BOOK as u32 + 1),
+            6 => contents + self.dice.number(BODY),
+            7..=9 => contents + BODY * KEPT * self.slots() + self.dice.number(40),
             10 => contents + BODY * (KEPT * self.slots() - 1),
             _ => {
                 let bodies = self.dice.number(9) + 1;
@@ -78,7 +78,7 @@ impl<B: Build, J: Build + Clone, K: FnMut(&mut B, &[u8], &[u8]) -> bool> Writer<
 
     /// One call of the book or a few, and what surrounds them.
     pub(super) fn book(&mut self) {
-        if self.dice.once_in(if self.book_fits() { 16 } else { 2 }) {
+        if self.dice.once_in(if self.book_fits() { 20 } else { 2 }) {
             self.lend_book();
         }
         // so is a book of another arena, or of rubbish
@@ -103,7 +103,7 @@ impl<B: Build, J: Build + Clone, K: FnMut(&mut B, &[u8], &[u8]) -> bool> Writer<
                     self.read_version(slot);
                 }
                 20..=21 => self.write_often(),
-                22 => self.book_of_another(),
+                22..=23 => self.book_of_another(),
                 _ => self.damage_book(),
             }
         }
@@ -240,6 +240,9 @@ impl<B: Build, J: Build + Clone, K: FnMut(&mut B, &[u8], &[u8]) -> bool> Writer<
         let bytes = self.contents() + BODY * bodies + more;
         self.write("book", &[bytes]);
         self.write("prepare_book", &[]);
+        if more > 0 && self.dice.once_in(2) {
+            self.write("book_byte", &[bytes - 1, 7]);
+        }
         let slots = [self.low_slot(), self.low_slot()];
         self.write_slot(slots[1]);
         for _ in 0..self.dice.below(6) + 4 {

@@ -4,6 +4,10 @@ use super::book::{BODY, KEPT, LINE};
 use super::Writer;
 use crate::build::Build;
 
+/// Newest versions of a slot in a book handed over. The highest byte of one of them is 2, as of the three before it: where
+/// the contents end they may pass for a body.
+const NEWEST: [u32; 9] = [0, 1, 2, 4, 9, 0x0200_0003, u32::MAX - 1, u32::MAX, u32::MAX];
+
 /// A line in use: its slot, its age (0 is the newest), and the place of its body.
 #[derive(Clone, Copy)]
 struct Line {
@@ -41,7 +45,7 @@ fn line_at(slot: u32, age: u32) -> u32 {
 }
 
 impl<B: Build, J: Build + Clone, K: FnMut(&mut B, &[u8], &[u8]) -> bool> Writer<B, J, K> {
-    /// Stores bytes; those that stand there already need no line. What stood there before.
+    /// Stores bytes; those that stand there already need no line. The bytes that bring back what stood there before.
     fn book_bytes(&mut self, bytes: &[(u32, u8)]) -> Vec<(u32, u8)> {
         let mut before = Vec::new();
         for &(at, byte) in bytes {
@@ -51,6 +55,7 @@ impl<B: Build, J: Build + Clone, K: FnMut(&mut B, &[u8], &[u8]) -> bool> Writer<
                 self.write("book_byte", &[at, byte.into()]);
             }
         }
+        before.reverse();
         before
     }
 
@@ -84,12 +89,12 @@ impl<B: Build, J: Build + Clone, K: FnMut(&mut B, &[u8], &[u8]) -> bool> Writer<
         }
         let (damaged, bytes) = self.broken();
         let before = self.book_bytes(&bytes);
-        for _ in 0..self.dice.below(3) + 1 {
+        for _ in 0..self.dice.below(3) + 2 {
             let slot = match self.dice.once_in(2) {
                 true => damaged,
                 false => self.low_slot(),
             };
-            match self.dice.below(4) {
+            match self.dice.below(3) {
                 0 => self.write("read_setpoint", &[slot]),
                 1 => self.read_version(slot),
                 _ => self.write_doubtfully(slot),
@@ -107,26 +112,9 @@ impl<B: Build, J: Build + Clone, K: FnMut(&mut B, &[u8], &[u8]) -> bool> Writer<
             return self.unused_line();
         }
         let line = self.dice.pick(&lines);
-        let any = self.dice.roll() as u8;
-        let end = self.desk.lent_book as u32;
         let bytes = match self.dice.below(20) {
-            // the length
-            0 => {
-                let lengths = [(2, 0), (2, 4), (2, 6), (2, any), (3, 1), (3, any)];
-                let (byte, value) = self.dice.pick(&lengths);
-                vec![(line.at() + byte, value)]
-            }
-            // the place: before the contents, past the end
-            1..=2 => {
-                let before = self.dice.number(self.contents());
-                let place = self.dice.pick(&[self.contents() - 1, before, 0]);
-                line.with_place(place)
-            }
-            3 => {
-                let place = self.dice.pick(&[end - 4, end - 1, end, 65_535]);
-                line.with_place(place)
-            }
-            // the version
+            0 => self.broken_length(line),
+            1..=3 => self.broken_place(line),
             4..=5 => {
                 let version = self.newest(line.slot).wrapping_sub(line.age);
                 let other = self.dice.pick(&[1, u32::MAX, 2, 256, 1 << 24]);
@@ -140,6 +128,35 @@ impl<B: Build, J: Build + Clone, K: FnMut(&mut B, &[u8], &[u8]) -> bool> Writer<
             _ => return self.overlapping(lines),
         };
         (line.slot, bytes)
+    }
+
+    /// A length other than 5.
+    fn broken_length(&mut self, line: Line) -> Vec<(u32, u8)> {
+        let any = self.dice.roll() as u8;
+        let lengths = [(2, 0), (2, 4), (2, 6), (2, any), (3, 1), (3, any)];
+        let (byte, value) = self.dice.pick(&lengths);
+        vec![(line.at() + byte, value)]
+    }
+
+    /// A place before the contents' end, or so near the book's end that the body is past it.
+    fn broken_place(&mut self, line: Line) -> Vec<(u32, u8)> {
+        let (front, end) = (self.contents(), self.desk.lent_book as u32);
+        // what stands there may pass for a body
+        if (1..=3).contains(&self.desk.book[front as usize - 1]) {
+            return line.with_place(front - 1);
+        }
+        let inside = self.dice.number(front);
+        let places = [
+            0,
+            inside,
+            front - 1,
+            front - 1,
+            end - 4,
+            end - 1,
+            end,
+            65_535,
+        ];
+        line.with_place(self.dice.pick(&places))
     }
 
     /// A byte in a line that is not in use, if there is one.
@@ -180,11 +197,11 @@ impl<B: Build, J: Build + Clone, K: FnMut(&mut B, &[u8], &[u8]) -> bool> Writer<
 
     // ---- Books handed over
 
-    /// A sound book as no call left it: bodies at any places, in any order or the oldest last, gaps between them,
-    /// versions up to the last, and free bytes that may be rubbish. Then calls that write and read it.
+    /// A sound book as no call left it: bodies in any order with gaps between them, or the oldest last; versions up to the
+    /// last, and free bytes that may be rubbish. Then calls that write and read it.
     pub(super) fn book_of_another(&mut self) {
         let mut lines = self.lines_of_another();
-        let mut free = self.dice.pick(&[0, 1, 4, 5, 6, 9, 12]);
+        let mut free = self.dice.pick(&[0, 1, 4, 5, 9, 12, 17]);
         let mut place = self.contents();
         self.write("book", &[place + BODY * lines.len() as u32 + free]);
         self.write("prepare_book", &[]);
@@ -198,9 +215,10 @@ impl<B: Build, J: Build + Clone, K: FnMut(&mut B, &[u8], &[u8]) -> bool> Writer<
             };
             let (slot, age, version) = lines.remove(at);
             // all that is free, before the last body now and then
-            let gap = match lines.is_empty() && self.dice.once_in(3) {
+            let gap = match lines.is_empty() && self.dice.once_in(4) {
                 true => free,
-                false => self.dice.pick(&[0, 0, 0, 1, 4, 7]).min(free),
+                false if in_order => 0,
+                false => self.dice.pick(&[0, 0, 0, 1, 4, 5]).min(free),
             };
             place += gap;
             free -= gap;
@@ -252,9 +270,7 @@ impl<B: Build, J: Build + Clone, K: FnMut(&mut B, &[u8], &[u8]) -> bool> Writer<
     fn lines_of_another(&mut self) -> Vec<(u32, u32, u32)> {
         let mut lines = Vec::new();
         for slot in 0..self.slots().min(3) {
-            let newest = self
-                .dice
-                .pick(&[0, 1, 2, 4, 9, u32::MAX - 1, u32::MAX, u32::MAX]);
+            let newest = self.dice.pick(&NEWEST);
             lines.extend((0..newest.min(KEPT)).map(|age| (slot, age, newest - age)));
         }
         lines
