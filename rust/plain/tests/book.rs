@@ -488,6 +488,12 @@ fn the_dropped_body_lay_last() {
     skid.write_done(1, 9, 0);
     assert_eq!(skid.places(1), [111, 96, 101, 106]);
     skid.keeps(1, &[9, 8, 7, 6]);
+    // with room behind it too, it is the dropped one's that is used: behind the last body that is kept
+    let mut skid = Skid::handed_over(30, &oldest_at(111));
+    skid.write_done(1, 9, 0);
+    assert_eq!(skid.places(1), [111, 96, 101, 106]);
+    assert!(skid.book[116..].iter().all(|&byte| byte == 0));
+    skid.keeps(1, &[9, 8, 7, 6]);
     // behind a gap: the new body stands at its front, and the rest of the dropped one becomes zeros
     let mut skid = Skid::handed_over(25, &oldest_at(113));
     skid.write_done(1, 9, 0);
