@@ -488,6 +488,12 @@ fn the_dropped_body_lay_last() {
     skid.write_done(1, 9, 0);
     assert_eq!(skid.places(1), [111, 96, 101, 106]);
     skid.keeps(1, &[9, 8, 7, 6]);
+    // with room behind it too, it is the dropped one's that is used: behind the last body that is kept
+    let mut skid = Skid::handed_over(30, &oldest_at(111));
+    skid.write_done(1, 9, 0);
+    assert_eq!(skid.places(1), [111, 96, 101, 106]);
+    assert!(skid.book[116..].iter().all(|&byte| byte == 0));
+    skid.keeps(1, &[9, 8, 7, 6]);
     // behind a gap: the new body stands at its front, and the rest of the dropped one becomes zeros
     let mut skid = Skid::handed_over(25, &oldest_at(113));
     skid.write_done(1, 9, 0);
@@ -1028,6 +1034,24 @@ fn places() {
                 FRONT..=115 => skid.is_sound(),
                 _ => skid.is_damaged(),
             }
+        }
+    }
+}
+
+/// A place in the contents fits no rule, though what stands there may pass for a body: slot 2 keeps four versions whose
+/// highest byte is 2, so from byte 95 on stands a speed, up to where the first body begins.
+#[test]
+fn a_place_in_the_contents() {
+    let newest = 0x0200_0007;
+    let lines = [0, 1, 2, 3].map(|age| (2, newest - age, FRONT + 5 + 5 * age as usize));
+    for (place, sound) in [(FRONT - 1, false), (FRONT, true)] {
+        let mut skid = Skid::handed_over(30, &lines);
+        skid.put(0, 0, place, 1);
+        skid.book[FRONT] = 2;
+        assert_eq!(skid.book[place], 2);
+        match sound {
+            true => skid.is_sound(),
+            false => skid.is_damaged(),
         }
     }
 }

@@ -686,12 +686,17 @@ impl Room<'_> {
         let dropped = self.dropped.map(|body| body.place);
         let lay_last = dropped.is_some_and(|place| last <= place);
         let room_again = dropped.is_some_and(|place| last == place && place + 10 > end);
+        let room_behind = dropped.is_some_and(|place| last <= place && place + 10 <= end);
         let rubbish = self.has_rubbish();
         let cases = [
             (kind, true),
             ("dropped, slide", dropped.is_some() && moved > 0),
             ("dropped, append", dropped.is_some() && moved == 0),
             ("the dropped body lay last", lay_last),
+            (
+                "the dropped body lay last, and has room behind",
+                room_behind,
+            ),
             (
                 "only the dropped body's room is behind the last",
                 room_again,
@@ -740,6 +745,9 @@ fn cases_of_room(before: &Desk, full: &mut Option<usize>, line: &str, out: &str)
         ("write_setpoint", "done") => {
             let moved = behind(out, "moved").expect("a number");
             let mut cases = Room::of(before, slot).cases_of_done(moved as usize);
+            if behind(out, "version") == Some(u32::MAX) {
+                cases.push("the last version");
+            }
             cases.extend(full.take().map(|length| match before.lent_book > length {
                 true => "done behind full, in a longer book",
                 false => "done behind full",
@@ -750,6 +758,7 @@ fn cases_of_room(before: &Desk, full: &mut Option<usize>, line: &str, out: &str)
             *full = Some(before.lent_book);
             vec![Room::of(before, slot).case_of_full()]
         }
+        ("write_setpoint", "VersionsSpent") => vec!["versions spent"],
         ("read_setpoint" | "read_version", "pressure" | "speed" | "valve" | "NeverWritten") => {
             return vec![case_of_reading(before, line, out)];
         }
@@ -789,7 +798,7 @@ fn every_case_of_room_and_reading() {
 }
 
 /// The cases of that test.
-const ROOM_AND_READING: [&str; 29] = [
+const ROOM_AND_READING: [&str; 32] = [
     "the first body",
     "appended",
     "some bodies slide",
@@ -797,6 +806,7 @@ const ROOM_AND_READING: [&str; 29] = [
     "dropped, append",
     "dropped, slide",
     "the dropped body lay last",
+    "the dropped body lay last, and has room behind",
     "only the dropped body's room is behind the last",
     "free bytes not zero, append",
     "free bytes not zero, slide",
@@ -807,6 +817,8 @@ const ROOM_AND_READING: [&str; 29] = [
     "full: some bytes left",
     "done behind full",
     "done behind full, in a longer book",
+    "the last version",
+    "versions spent",
     "read_setpoint: age 0",
     "read_setpoint: 0, of 0 settings",
     "read_version: age 0",

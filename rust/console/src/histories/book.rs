@@ -103,7 +103,7 @@ impl<B: Build, J: Build + Clone, K: FnMut(&mut B, &[u8], &[u8]) -> bool> Writer<
                     self.read_version(slot);
                 }
                 20..=21 => self.write_often(),
-                22 => self.book_of_another(),
+                22..=23 => self.book_of_another(),
                 _ => self.damage_book(),
             }
         }

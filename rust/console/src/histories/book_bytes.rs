@@ -4,6 +4,10 @@ use super::book::{BODY, KEPT, LINE};
 use super::Writer;
 use crate::build::Build;
 
+/// Newest versions of a slot in a book handed over. The highest byte of one of them is 2, as of the three before it: where
+/// the contents end they may pass for a body.
+const NEWEST: [u32; 9] = [0, 1, 2, 4, 9, 0x0200_0003, u32::MAX - 1, u32::MAX, u32::MAX];
+
 /// A line in use: its slot, its age (0 is the newest), and the place of its body.
 #[derive(Clone, Copy)]
 struct Line {
@@ -137,6 +141,10 @@ impl<B: Build, J: Build + Clone, K: FnMut(&mut B, &[u8], &[u8]) -> bool> Writer<
     /// A place before the contents' end, or so near the book's end that the body is past it.
     fn broken_place(&mut self, line: Line) -> Vec<(u32, u8)> {
         let (front, end) = (self.contents(), self.desk.lent_book as u32);
+        // what stands there may pass for a body
+        if (1..=3).contains(&self.desk.book[front as usize - 1]) {
+            return line.with_place(front - 1);
+        }
         let inside = self.dice.number(front);
         let places = [
             0,
@@ -189,11 +197,11 @@ impl<B: Build, J: Build + Clone, K: FnMut(&mut B, &[u8], &[u8]) -> bool> Writer<
 
     // ---- Books handed over
 
-    /// A sound book as no call left it: bodies at any places, in any order or the oldest last, gaps between them,
-    /// versions up to the last, and free bytes that may be rubbish. Then calls that write and read it.
+    /// A sound book as no call left it: bodies in any order with gaps between them, or the oldest last; versions up to the
+    /// last, and free bytes that may be rubbish. Then calls that write and read it.
     pub(super) fn book_of_another(&mut self) {
         let mut lines = self.lines_of_another();
-        let mut free = self.dice.pick(&[0, 1, 4, 5, 6, 9, 12]);
+        let mut free = self.dice.pick(&[0, 1, 4, 5, 9, 12, 17]);
         let mut place = self.contents();
         self.write("book", &[place + BODY * lines.len() as u32 + free]);
         self.write("prepare_book", &[]);
@@ -207,9 +215,10 @@ impl<B: Build, J: Build + Clone, K: FnMut(&mut B, &[u8], &[u8]) -> bool> Writer<
             };
             let (slot, age, version) = lines.remove(at);
             // all that is free, before the last body now and then
-            let gap = match lines.is_empty() && self.dice.once_in(3) {
+            let gap = match lines.is_empty() && self.dice.once_in(4) {
                 true => free,
-                false => self.dice.pick(&[0, 0, 0, 1, 4, 7]).min(free),
+                false if in_order => 0,
+                false => self.dice.pick(&[0, 0, 0, 1, 4, 5]).min(free),
             };
             place += gap;
             free -= gap;
@@ -261,9 +270,7 @@ impl<B: Build, J: Build + Clone, K: FnMut(&mut B, &[u8], &[u8]) -> bool> Writer<
     fn lines_of_another(&mut self) -> Vec<(u32, u32, u32)> {
         let mut lines = Vec::new();
         for slot in 0..self.slots().min(3) {
-            let newest = self
-                .dice
-                .pick(&[0, 1, 2, 4, 9, u32::MAX - 1, u32::MAX, u32::MAX]);
+            let newest = self.dice.pick(&NEWEST);
             lines.extend((0..newest.min(KEPT)).map(|age| (slot, age, newest - age)));
         }
         lines

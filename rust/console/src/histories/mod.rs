@@ -41,7 +41,8 @@ pub fn write(
     wrote.and_then(|()| out.flush())
 }
 
-/// Every call but the book's `write_setpoint`, which takes a word too, and `read_version`, with the count of its numbers.
+/// Every call with the count of its numbers, but for two of the book's: `write_setpoint`, which takes a word too, and
+/// `read_version`, which is written beside what the book keeps.
 const CALLS: [(&str, usize); 23] = [
     ("prepare", 4),
     ("try_acquire", 1),
