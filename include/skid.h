@@ -1,12 +1,13 @@
 /*
- * The lease layer of the skid kernel: the calls of document 01, and of document 02 the setpoint book (L2), keys in any
- * order (L4), salvage (L6), the boot number of a lease (L8), the waveform of the cells (L11) and the crew at work
- * (L13), for C.
+ * The lease layer of the skid kernel: the calls of document 01, and of document 02 the setpoint book (L2, L10), keys
+ * in any order (L4), salvage (L6), the boot number of a lease (L8), the waveform of the cells (L11) and the crew at
+ * work (L13), for C.
  *
  * Link with libskid.a (`rt staticlib skid` writes target/staticlib/libskid.a). The archive is code for x86-64, by the
  * calling convention of Linux there (System V). It asks the host for memcpy and memset, and for nothing else. It has
  * no data of its own that changes, no heap and no thread. As that convention allows, it uses the SSE registers and the
- * 128 bytes below the stack pointer; a kernel that calls it where it saves neither must see to both.
+ * 128 bytes below the stack pointer; a kernel that calls it where it saves neither must see to both. A write of the
+ * setpoint book needs the most stack of its calls, 26,552 bytes as measured; a read 6,664.
  *
  * Each function is a call of these documents and is proved to give what they say, refusals included: the reply's words
  * and every word of every lent run are fixed, whatever the numbers and the lent words are.
@@ -55,13 +56,19 @@
  *
  * The setpoint book
  * -----------------
- * - book: at most SKID_MAX_BOOK bytes. One slot for each cell, at most the first SKID_MAX_SLOTS: n slots, for which
- *   13 x n bytes are needed. Bytes behind them are set to 0 by preparing, and else left alone.
- * - First a table of contents, 8 bytes a slot: the place of its body (2 bytes), its length (2 bytes; 5), its version
- *   (4 bytes), each low byte first. Then the bodies in slot order, 5 bytes each, that of slot i at 8 x n + 5 x i: a
- *   kind (enum skid_setpoint), and four bytes, low byte first.
- * - A slot that was never written is all zeros. A line or a body that fits no rule is SKID_DAMAGED_BOOK, for its slot
- *   alone.
+ * - book: at most SKID_MAX_BOOK bytes. One slot for each cell, at most the first SKID_MAX_SLOTS. Each slot keeps its
+ *   newest SKID_KEPT_VERSIONS settings. For n slots SKID_SLOT_BYTES x n bytes are needed; a book of
+ *   SKID_ROOMY_BYTES x n bytes is never full.
+ * - First a table of contents, four lines of 8 bytes a slot, the newest first: the place of a body (2 bytes), its
+ *   length (2 bytes; 5), its version (4 bytes), each low byte first. Versions fall by one; unused lines are zeros.
+ *   Behind the contents the bodies, 5 bytes each, in any order: a kind (enum skid_setpoint), and four bytes, low byte
+ *   first.
+ * - A write drops the slot's oldest of four, then puts its body behind the last body of all. Where there is no room,
+ *   the kept bodies slide to the front in the order of their places, and the reply tells how many bytes moved.
+ *   Bytes that a body leaves become zeros; preparing sets every byte to 0.
+ * - A line or a kept body that fits no rule, or two bodies that overlap, is SKID_DAMAGED_BOOK, for every read and every
+ *   write of any slot. Nothing mends such a book but preparing it, which forgets every setting.
+ * - A read needs up to 7 KB of stack, a write up to 27 KB: the marks of the test for damage and of a slide stand there.
  */
 #ifndef SKID_H
 #define SKID_H
@@ -75,7 +82,7 @@ extern "C" {
 #endif
 
 /* The version of header and library together; CHANGELOG.md says what came with which. */
-#define SKID_VERSION "0.16.2"
+#define SKID_VERSION "0.17.0"
 
 /* ---- limits */
 
@@ -96,7 +103,9 @@ extern "C" {
 #define SKID_MAX_TURNS 65536u
 #define SKID_MAX_BOOK 32768u         /* bytes of a setpoint book */
 #define SKID_MAX_SLOTS 64u           /* of a book; one for each cell, up to these */
-#define SKID_SLOT_BYTES 13u          /* of each slot: 8 for its line, 5 for its body */
+#define SKID_KEPT_VERSIONS 4u        /* of each slot of a book: its newest */
+#define SKID_SLOT_BYTES 32u          /* of each slot in the table of contents: four lines of 8 bytes */
+#define SKID_ROOMY_BYTES 52u         /* of each slot with room for its four bodies of 5 bytes: never SKID_BOOK_FULL */
 #define SKID_MAX_WAVE_CELLS 94u      /* of a waveform */
 #define SKID_MAX_DUMP 319088u        /* bytes: no dump is longer */
 #define SKID_MAX_REPORT 37056u       /* words: no report of a salvage is longer */
@@ -218,6 +227,7 @@ enum skid_book_reply {
     SKID_BOOK_KIND = 0,     /* enum skid_book_kind */
     SKID_BOOK_VERSION = 1,  /* written, or a setting: the version, from 1 */
     SKID_BOOK_REFUSAL = 1,  /* refused: enum skid_book_refusal */
+    SKID_BOOK_MOVED = 2,    /* written: the bytes of bodies that moved to make room; 0 if none did */
     SKID_BOOK_SETPOINT = 2, /* a setting: what the setpoint is, enum skid_setpoint */
     SKID_BOOK_WORD = 3      /* a setting: its 32 bits; a pressure is the f32 with this pattern */
 };
@@ -237,16 +247,17 @@ enum skid_setpoint {
 
 /*
  * The refusals of the book's calls. SKID_BAD_SHAPE (1), SKID_NOT_HELD (12) and SKID_STALE_BOOT (16) are those above;
- * the others have no number there and count from 101. Tested in the order of this list, SKID_STALE_BOOT and then
- * SKID_NOT_HELD behind SKID_BAD_SLOT; a read tests SKID_BAD_SHAPE, SKID_BAD_SLOT, SKID_DAMAGED_BOOK,
- * SKID_NEVER_WRITTEN.
+ * the others have no number there and count from 101; SKID_BOOK_FULL came later and stands behind SKID_REPORT_FULL.
+ * Tested in the order of this list, SKID_STALE_BOOT and then SKID_NOT_HELD behind SKID_BAD_SLOT, SKID_BOOK_FULL last;
+ * a read tests SKID_BAD_SHAPE, SKID_BAD_SLOT, SKID_DAMAGED_BOOK, SKID_NEVER_WRITTEN.
  */
 enum skid_book_refusal {
-    SKID_BAD_SLOT = 101,       /* the book too short for its slots or over the limit, or no such slot */
+    SKID_BAD_SLOT = 101,       /* the book shorter than its contents or over the limit, or no such slot */
     SKID_NOT_FINITE = 102,     /* a pressure that is a NaN or an infinity */
-    SKID_DAMAGED_BOOK = 103,   /* the slot's line or body fits no rule */
+    SKID_DAMAGED_BOOK = 103,   /* a line or a kept body of any slot fits no rule, or two bodies overlap */
     SKID_VERSIONS_SPENT = 104, /* the slot is at version 4,294,967,295 */
-    SKID_NEVER_WRITTEN = 105   /* the slot is at version 0 */
+    SKID_NEVER_WRITTEN = 105,  /* the version is 0, not yet written, or older than the newest four */
+    SKID_BOOK_FULL = 107       /* the bodies that stay leave fewer than 5 bytes */
 };
 
 /* The reply of the waveform's two calls. A refusal changes no lent byte or word. */
@@ -463,7 +474,7 @@ void skid_crew_at_work(uint32_t headers, uint32_t buckets, uint32_t next, uint32
                        size_t counts_len, const uint32_t *cells, size_t cells_len, const uint32_t *turns,
                        size_t turns_len, uint16_t *counters, size_t counters_len, uint64_t reply[SKID_CREW_WORDS]);
 
-/* ---- the setpoint book (document 02, L2). No call changes the table, and none takes the health. */
+/* ---- the setpoint book (document 02, L2 and L10). No call changes the table, and none takes the health. */
 
 /* Sets every byte of the book to 0, whatever stood there: done. Refused: SKID_BAD_SHAPE for the head, SKID_BAD_SLOT. */
 void skid_prepare_book(uint32_t headers, uint32_t buckets, uint32_t next, uint32_t boot, uint8_t *book, size_t book_len,
@@ -471,8 +482,9 @@ void skid_prepare_book(uint32_t headers, uint32_t buckets, uint32_t next, uint32
 
 /*
  * Writes a pressure in bar to a slot, by a live lease on the slot's cell: written, with the slot's new version, one
- * more than its last. Refused, in this order: SKID_BAD_SHAPE, SKID_BAD_SLOT, SKID_STALE_BOOT, SKID_NOT_HELD,
- * SKID_NOT_FINITE, SKID_DAMAGED_BOOK, SKID_VERSIONS_SPENT.
+ * more than its last, and the bytes moved. Every other version that is kept reads as before. Refused, in this order:
+ * SKID_BAD_SHAPE, SKID_BAD_SLOT, SKID_STALE_BOOT, SKID_NOT_HELD, SKID_NOT_FINITE, SKID_DAMAGED_BOOK,
+ * SKID_VERSIONS_SPENT, SKID_BOOK_FULL.
  */
 void skid_write_pressure(uint32_t headers, uint32_t buckets, uint32_t next, uint32_t boot, const uint32_t *table,
                          size_t table_len, uint8_t *book, size_t book_len, uint32_t slot, uint32_t cell,
@@ -488,9 +500,13 @@ void skid_write_valve(uint32_t headers, uint32_t buckets, uint32_t next, uint32_
                       size_t table_len, uint8_t *book, size_t book_len, uint32_t slot, uint32_t cell, uint32_t serial,
                       uint32_t lease_boot, bool open, uint64_t reply[SKID_BOOK_WORDS]);
 
-/* The setpoint of a slot and its version: a setting. It needs no lease and changes nothing. */
+/* The newest setpoint of a slot and its version: a setting. It needs no lease and changes nothing. */
 void skid_read_setpoint(uint32_t headers, uint32_t buckets, uint32_t next, uint32_t boot, const uint8_t *book,
                         size_t book_len, uint32_t slot, uint64_t reply[SKID_BOOK_WORDS]);
+
+/* A version of a slot: a setting, or SKID_NEVER_WRITTEN if the slot does not keep it. */
+void skid_read_version(uint32_t headers, uint32_t buckets, uint32_t next, uint32_t boot, const uint8_t *book,
+                       size_t book_len, uint32_t slot, uint32_t version, uint64_t reply[SKID_BOOK_WORDS]);
 
 /* ---- the waveform of the cells (document 02, L11) */
 

@@ -1,4 +1,4 @@
-// The calls of the setpoint book (document 02, L2): preparing, writing, reading. `slots` has the rules.
+// The calls of the setpoint book (document 02, L2 and L10): preparing, writing, reading. `slots` has the rules.
 // Functions with a `requires` are steps: calls have tested the head, the book's length and the slot, and a step tests
 // nothing twice. No other crate calls a step of this file.
 use setpoint::Decoded;
@@ -6,22 +6,18 @@ use setpoint::Setpoint;
 use slots::BookAnswer;
 use slots::BookCheck;
 use slots::BookRefusal;
-use slots::Reading;
-use slots::Slot;
 use types::Head;
 use types::Lease;
 ghost use mathlib.Core.Path.{_≡_};
 ghost use Prim.Native.Nat.{_+_, _*_, _≤_, _<_};
 ghost use mathlib.Core.Bool.{true};
 ghost use lib.ListN.{length};
-ghost use lib.Seq.{sets};
 ghost use Rattle.model.specs.Arena.{headFits, shapeFits, holdIn};
 ghost use Rattle.setpoint.specs.Codec.{hasBody};
-ghost use Rattle.slots.specs.Layout.{slotsOf, bytesFor, slotAt, isBlank, readingOf, readOf, lineOf, putOf};
-ghost use Rattle.slots.specs.Rules.{firstFault, isBadBook, isBadSlot, isHolder, versionIn};
-ghost use Rattle.slots.specs.Rules.{claimRules, overRules};
-ghost use Rattle.slots.specs.Calls.{prepareBookOf, writeSetpointOf, toldOf, readSetpointOf};
-ghost use Rattle.book.specs.Model.{writeOverOf};
+ghost use Rattle.slots.specs.Layout.{slotsOf, frontOf, placeAt};
+ghost use Rattle.slots.specs.Rules.{firstFault, isBadBook, isBadSlot, isHolder, claimRules, openRules};
+ghost use Rattle.slots.specs.Calls.{prepareBookOf, writeSetpointOf, lineTold, readVersionOf, readSetpointOf};
+ghost use Rattle.book.specs.Model.{writeOverOf, readKeptOf, Readable};
 
 // The last version. A slot that has reached it is written no more.
 const LAST_VERSION: u32 = 4294967295;
@@ -53,12 +49,12 @@ fn slots(head: Head) -> usize
     64
 }
 
-// Too short for its slots, or over the limit.
+// Shorter than its contents, or over the limit.
 fn is_bad_book(n: usize, size: usize) -> bool
     requires { ⌜ n ≤ 64 ⌝ }
     ensures { λ r. ⌜ r ≡ isBadBook n size ⌝ }
 {
-    if size < 13 * n {
+    if size < 32 * n {
         return true;
     }
     32768 < size
@@ -86,135 +82,6 @@ pub fn prepare_book(head: Head, book: &mut [u8]) -> BookAnswer
         return BookAnswer::Done;
     }
     BookAnswer::Refused(BookRefusal::BadShape)
-}
-
-// ---- a slot's thirteen bytes
-
-// The numbers of a line and a body.
-fn slot_at(book: &[u8], line: usize, body: usize) -> Slot
-    requires { ⌜ line + 8 ≤ length (now book) ⌝ }
-    requires { ⌜ body + 5 ≤ length (now book) ⌝ }
-    ensures { λ r. ⌜ r ≡ slotAt (now (book .entry)) line body ⌝ }
-{
-    let place = setpoint::join(book[line], book[line + 1], 0, 0);
-    let length = setpoint::join(book[line + 2], book[line + 3], 0, 0);
-    let version = setpoint::join(
-        book[line + 4],
-        book[line + 5],
-        book[line + 6],
-        book[line + 7],
-    );
-    let kind = book[body];
-    let word = setpoint::join(
-        book[body + 1],
-        book[body + 2],
-        book[body + 3],
-        book[body + 4],
-    );
-    Slot {
-        place,
-        length,
-        version,
-        kind,
-        word,
-    }
-}
-
-// Whether all five numbers are 0.
-fn is_blank(s: Slot) -> bool
-    ensures { λ r. ⌜ r ≡ isBlank s ⌝ }
-{
-    if s.place != 0 {
-        return false;
-    }
-    if s.length != 0 {
-        return false;
-    }
-    if s.version != 0 {
-        return false;
-    }
-    if s.kind != 0 {
-        return false;
-    }
-    s.word == 0
-}
-
-// What a slot's numbers mean, if its body belongs at the place.
-fn reading(place: u32, s: Slot) -> Reading
-    ensures { λ r. ⌜ r ≡ readingOf place s ⌝ }
-{
-    if s.version == 0 {
-        if is_blank(s) {
-            return Reading::Blank;
-        }
-        return Reading::Rubbish;
-    }
-    if s.place == place {
-        if s.length == 5 {
-            let d = setpoint::setting(s.kind, s.word);
-            return match d {
-                Decoded::Setting(p) => Reading::Holds(p, s.version),
-                Decoded::Damaged => Reading::Rubbish,
-            };
-        }
-    }
-    Reading::Rubbish
-}
-
-// What a slot of n says.
-fn read(n: usize, book: &[u8], slot: usize) -> Reading
-    requires { ⌜ n ≤ 64 ⌝ }
-    requires { ⌜ slot < n ⌝ }
-    requires { ⌜ bytesFor n ≤ length (now book) ⌝ }
-    ensures { λ r. ⌜ r ≡ readOf n (now (book .entry)) slot ⌝ }
-{
-    let at = 8 * n + 5 * slot;
-    let s = slot_at(book, 8 * slot, at);
-    reading(at as u32, s)
-}
-
-// The line of a body at a place.
-fn line(place: u32, version: u32) -> [u8; 8]
-    requires { ⌜ place < 65536 ⌝ }
-    ensures { λ r. ⌜ r ≡ lineOf place version ⌝ }
-{
-    [
-        (place % 256) as u8,
-        (place / 256) as u8,
-        5,
-        0,
-        (version % 256) as u8,
-        (version / 256 % 256) as u8,
-        (version / 65536 % 256) as u8,
-        (version / 16777216) as u8,
-    ]
-}
-
-// Bytes to a place.
-fn put_bytes(book: &mut [u8], at: usize, bytes: &[u8])
-    requires { ⌜ at + length (now bytes) ≤ length (now book) ⌝ }
-    ensures { λ _. ⌜ now (book .exit) ≡ sets (now (book .entry)) at (now (bytes .entry)) ⌝ }
-{
-    let mut i = 0;
-    while i < bytes.len() {
-        book[at + i] = bytes[i];
-        i += 1;
-    }
-}
-
-// A setpoint and its version into a slot of n.
-fn put(n: usize, book: &mut [u8], slot: usize, s: Setpoint, version: u32)
-    requires { ⌜ n ≤ 64 ⌝ }
-    requires { ⌜ slot < n ⌝ }
-    requires { ⌜ bytesFor n ≤ length (now book) ⌝ }
-    requires { ⌜ hasBody s ≡ true ⌝ }
-    ensures { λ _. ⌜ now (book .exit) ≡ putOf n (now (book .entry)) slot s version ⌝ }
-{
-    let at = 8 * n + 5 * slot;
-    let bytes = line(at as u32, version);
-    let body = setpoint::bytes(setpoint::kind(s), setpoint::word(s));
-    put_bytes(book, 8 * slot, &bytes);
-    put_bytes(book, at, &body);
 }
 
 // ---- writing
@@ -260,56 +127,36 @@ fn claim_check(
     BookCheck::Fault(BookRefusal::BadShape)
 }
 
-// The checks of a write on what its slot says: DamagedBook, VersionsSpent.
-fn over_check(old: Reading) -> BookCheck
-    ensures { λ r. ⌜ r ≡ firstFault (overRules old) ⌝ }
-{
-    match old {
-        Reading::Holds(_, v) => {
-            if v == LAST_VERSION {
-                return BookCheck::Fault(BookRefusal::VersionsSpent);
-            }
-            return BookCheck::Fine;
-        }
-        Reading::Blank => BookCheck::Fine,
-        Reading::Rubbish => BookCheck::Fault(BookRefusal::DamagedBook),
-    }
-}
-
-// The version that a slot has: 0 where it was never written.
-fn version_in(old: Reading) -> u32
-    ensures { λ r. ⌜ r ≡ versionIn old ⌝ }
-{
-    match old {
-        Reading::Holds(_, v) => v,
-        Reading::Blank => 0,
-        Reading::Rubbish => 0,
-    }
-}
-
-// Over what the slot says: refused, or one version more.
+// Over what the book says: refused, or the oldest dropped and one version more.
 fn write_over(n: usize, book: &mut [u8], slot: usize, s: Setpoint) -> BookAnswer
+    requires { ⌜ 1 ≤ n ⌝ }
     requires { ⌜ n ≤ 64 ⌝ }
     requires { ⌜ slot < n ⌝ }
-    requires { ⌜ bytesFor n ≤ length (now book) ⌝ }
+    requires { ⌜ frontOf n ≤ length (now book) ⌝ }
+    requires { ⌜ length (now book) ≤ 32768 ⌝ }
     requires { ⌜ hasBody s ≡ true ⌝ }
     ensures { λ r. ⌜ (r, now (book .exit)) ≡ writeOverOf n (now (book .entry)) slot s ⌝ }
 {
-    let old = read(n, book, slot);
-    let check = over_check(old);
-    match check {
-        BookCheck::Fault(refusal) => BookAnswer::Refused(refusal),
-        BookCheck::Fine => {
-            let version = version_in(old) + 1;
-            put(n, book, slot, s, version);
-            BookAnswer::Written(version)
+    if sound::is_sound(n, book) {
+        let newest = sound::version_at(book, 4 * slot);
+        if newest == LAST_VERSION {
+            return BookAnswer::Refused(BookRefusal::VersionsSpent);
         }
+        let kept = enter::staying(n, book, slot);
+        if book.len() < 32 * n + 5 * kept + 5 {
+            return BookAnswer::Refused(BookRefusal::BookFull);
+        }
+        enter::drop_oldest(book, slot);
+        let moved = enter::put_over(n, kept, book, slot, s, newest + 1);
+        return BookAnswer::Written(newest + 1, moved);
     }
+    BookAnswer::Refused(BookRefusal::DamagedBook)
 }
 
-// Writes a setpoint to a slot by a live lease on its cell, and answers the new version. A lease with another boot
-// number than the head's is StaleBoot, before NotHeld. Refused it changes no byte. The table is only read; the health
-// is not taken.
+// Writes a setpoint to a slot by a live lease on its cell, and answers the new version and the bytes moved. The slot
+// keeps its newest four; kept bodies of all slots slide to the front only where there is no room behind the last. A
+// lease with another boot number than the head's is StaleBoot, before NotHeld. BookFull comes last. Refused it changes
+// no byte. The table is only read; the health is not taken.
 pub fn write_setpoint(
     head: Head,
     table: &[u32],
@@ -330,29 +177,78 @@ pub fn write_setpoint(
 
 // ---- reading
 
-// The answer of a read, by what the slot says.
-fn told(found: Reading) -> BookAnswer
-    ensures { λ r. ⌜ r ≡ toldOf found ⌝ }
-{
-    match found {
-        Reading::Holds(s, v) => BookAnswer::Setting(s, v),
-        Reading::Blank => BookAnswer::Refused(BookRefusal::NeverWritten),
-        Reading::Rubbish => BookAnswer::Refused(BookRefusal::DamagedBook),
-    }
-}
-
-// The setpoint of a slot and its version; NeverWritten or DamagedBook by the slot's own bytes alone. It takes no table:
-// a read needs no lease.
-pub fn read_setpoint(head: Head, book: &[u8], slot: u32) -> BookAnswer
-    ensures { λ r. ⌜ r ≡ readSetpointOf head (now (book .entry)) slot ⌝ }
+// The checks of a read before its version: 1, BadSlot, DamagedBook.
+fn open_check(head: Head, book: &[u8], slot: u32) -> BookCheck
+    ensures { λ r. ⌜ r ≡ firstFault (openRules head (now (book .entry)) slot) ⌝ }
 {
     if head_fits(head) {
         let n = slots(head);
         if is_bad_slot(n, book.len(), slot as usize) {
-            return BookAnswer::Refused(BookRefusal::BadSlot);
+            return BookCheck::Fault(BookRefusal::BadSlot);
         }
-        let found = read(n, book, slot as usize);
-        return told(found);
+        if sound::is_sound(n, book) {
+            return BookCheck::Fine;
+        }
+        return BookCheck::Fault(BookRefusal::DamagedBook);
     }
-    BookAnswer::Refused(BookRefusal::BadShape)
+    BookCheck::Fault(BookRefusal::BadShape)
+}
+
+// What line k holds, with its version.
+fn line_told(book: &[u8], k: usize, version: u32) -> BookAnswer
+    requires { ⌜ 8 * k + 8 ≤ length (now book) ⌝ }
+    requires { ⌜ placeAt (now book) k + 5 ≤ length (now book) ⌝ }
+    ensures { λ r. ⌜ r ≡ lineTold (now (book .entry)) k version ⌝ }
+{
+    let found = sound::setting_at(book, sound::place_at(book, k) as usize);
+    match found {
+        Decoded::Setting(s) => BookAnswer::Setting(s, version),
+        Decoded::Damaged => BookAnswer::Refused(BookRefusal::DamagedBook),
+    }
+}
+
+// A version of a slot, of a book that is open to reads; NeverWritten if it is not kept.
+fn read_kept(book: &[u8], slot: usize, version: u32) -> BookAnswer
+    requires { ⌜ 32 * slot + 32 ≤ length (now book) ⌝ }
+    requires { ⌜ Readable (now book) slot ⌝ }
+    ensures { λ r. ⌜ r ≡ readKeptOf (now (book .entry)) slot version ⌝ }
+{
+    let newest = sound::version_at(book, 4 * slot);
+    if version == 0 {
+        return BookAnswer::Refused(BookRefusal::NeverWritten);
+    }
+    if newest < version {
+        return BookAnswer::Refused(BookRefusal::NeverWritten);
+    }
+    let age = newest - version;
+    if 4 <= age {
+        return BookAnswer::Refused(BookRefusal::NeverWritten);
+    }
+    line_told(book, 4 * slot + age as usize, version)
+}
+
+// A version of a slot: its setpoint. NeverWritten for one that the slot does not keep: 0, not yet written, or older
+// than the newest four. DamagedBook by the whole book. It takes no table: a read needs no lease.
+pub fn read_version(head: Head, book: &[u8], slot: u32, version: u32) -> BookAnswer
+    ensures { λ r. ⌜ r ≡ readVersionOf head (now (book .entry)) slot version ⌝ }
+{
+    let check = open_check(head, book, slot);
+    match check {
+        BookCheck::Fault(refusal) => BookAnswer::Refused(refusal),
+        BookCheck::Fine => read_kept(book, slot as usize, version),
+    }
+}
+
+// The newest version of a slot: its setpoint and its number. NeverWritten where there is none.
+pub fn read_setpoint(head: Head, book: &[u8], slot: u32) -> BookAnswer
+    ensures { λ r. ⌜ r ≡ readSetpointOf head (now (book .entry)) slot ⌝ }
+{
+    let check = open_check(head, book, slot);
+    match check {
+        BookCheck::Fault(refusal) => BookAnswer::Refused(refusal),
+        BookCheck::Fine => {
+            let newest = sound::version_at(book, 4 * slot as usize);
+            read_kept(book, slot as usize, newest)
+        }
+    }
 }

@@ -16,8 +16,9 @@ use Rattle.types.specs.declared.SalvageAnswer.{SalvageAnswer}
 use Rattle.types.specs.declared.SalvageAnswer.the-variants as salvaged
 use Rattle.types.specs.declared.SalvageReply.{SalvageReply}
 use Rattle.setpoint.specs.declared.Setpoint.{Setpoint}
-use Rattle.slots.specs.Calls.{prepareBookOf, writeSetpointOf}
-use Rattle.slots.specs.Outcomes.{Prepared, was-prepared, not-prepared, preparing-is, Wrote, was-written, not-written, writing-is, bodyTold}
+use Rattle.slots.specs.Layout.{newestAt}
+use Rattle.slots.specs.Calls.{prepareBookOf, writeSetpointOf, readSetpointOf}
+use Rattle.slots.specs.Outcomes.{Prepared, was-prepared, not-prepared, preparing-is, Outcome, done, full, refused, writing-is, bodyTold, told-whole}
 use Rattle.slots.specs.declared.BookAnswer.{BookAnswer}
 use Rattle.layout.specs.Words.{busyWords, answerWords, resultWords, eachOf, crewWords, salvagedWords, salvageWords}
 
@@ -79,7 +80,7 @@ crew-laid r ws e =
     (ap (λ (a : List ℕ). r .head .headers ∷ r .head .buckets ∷ r .head .next ∷ r .head .boot ∷ 0 ∷ 0 ∷ 0 ∷ 0 ∷ 0 ∷ (a ++ (r .moving ∷ r .idle ∷ (eachOf 16 0 (r .taken) ++ eachOf 16 0 (r .released)))))
     (six (r .answer)))
 
--- what a preparation and a write answer is no setting, so its words ask for nothing; of a read it is `told-whole`
+-- what a preparation and a write answer is no setting, so its words ask for nothing; of a read of a version it is `told-whole`, and so of the newest
 pub prepared-whole : (a : BookAnswer) (book b : List ℕ) (h : Head) → (a, book) ≡ prepareBookOf h b → bodyTold a ≡ true
 prepared-whole a book b h e = ap (λ (o : BookAnswer × List ℕ). bodyTold (o .0)) e ∙ go (prepareBookOf h b) (preparing-is h b)
   where
@@ -90,6 +91,11 @@ prepared-whole a book b h e = ap (λ (o : BookAnswer × List ℕ). bodyTold (o .
 pub written-whole : (a : BookAnswer) (book t b : List ℕ) (h : Head) (slot : ℕ) (l : Lease) (s : Setpoint) → (a, book) ≡ writeSetpointOf h t b slot l s → bodyTold a ≡ true
 written-whole a book t b h slot l s e = ap (λ (o : BookAnswer × List ℕ). bodyTold (o .0)) e ∙ go (writeSetpointOf h t b slot l s) (writing-is h t b slot l s)
   where
-    go : (o : BookAnswer × List ℕ) → Wrote h t b slot l s o → bodyTold (o .0) ≡ true
-    go _ (was-written claim over) = refl
-    go _ (not-written r damaged) = refl
+    go : (o : BookAnswer × List ℕ) → Outcome h t b slot l s o → bodyTold (o .0) ≡ true
+    go _ (done claim room) = refl
+    go _ (full claim none) = refl
+    go _ (refused r other damaged claim) = refl
+
+pub newest-whole : (a : BookAnswer) (h : Head) (b : List ℕ) (slot : ℕ) → a ≡ readSetpointOf h b slot → bodyTold a ≡ true
+unfolding readSetpointOf
+newest-whole a h b slot e = told-whole a h b slot (newestAt b slot) e

@@ -1,5 +1,5 @@
 -- The words lose nothing: equal words are equal replies.
-use Prim.Native.Nat.{ℕ, zero, suc, _+_, _<_}
+use Prim.Native.Nat.{ℕ, zero, suc, _+_, _<_, _*_, _-_}
 use mathlib.Core.Path.{_≡_, refl, sym, ap, _∙_}
 use mathlib.Core.List.{List, [], _∷_, _++_}
 use mathlib.Core.Bool.{true}
@@ -27,13 +27,12 @@ use Rattle.types.specs.declared.Reply.{Reply}
 use Rattle.types.specs.declared.SalvageAnswer.{SalvageAnswer}
 use Rattle.types.specs.declared.SalvageAnswer.the-variants as salvaged
 use Rattle.types.specs.declared.SalvageReply.{SalvageReply}
-use Rattle.setpoint.specs.Codec.{hasBody, settingOf}
+use Rattle.setpoint.specs.Codec.{hasBody, settingOf, decodeOf}
 use Rattle.setpoint.specs.RoundTrip.{Held, setting-back, setting-means, join-small}
 use Rattle.setpoint.specs.declared.Decoded.{Decoded}
 use Rattle.setpoint.specs.declared.Decoded.the-variants as decoded
-use Rattle.slots.specs.Calls.{toldOf, readSetpointOf}
-use Rattle.slots.specs.Judged.{Judged, is-held, is-zeros, is-rubbish, judged}
-use Rattle.slots.specs.Layout.{slotsOf, lineFrom, bodyFrom, fiveAt, slotAt, readOf}
+use Rattle.slots.specs.Calls.{toldOf, lineTold, readVersionOf, readSetpointOf}
+use Rattle.slots.specs.Layout.{fiveAt, placeAt, newestAt, settingAt}
 use Rattle.slots.specs.Rules.{firstFault, judgeBook, readRules}
 use Rattle.slots.specs.declared.BookAnswer.{BookAnswer}
 use Rattle.slots.specs.declared.BookAnswer.the-variants as book
@@ -41,8 +40,6 @@ use Rattle.slots.specs.declared.BookCheck.{BookCheck}
 use Rattle.slots.specs.declared.BookCheck.the-variants as checked
 use Rattle.slots.specs.declared.BookRefusal.{BookRefusal}
 use Rattle.slots.specs.declared.BookRefusal.the-variants as fault
-use Rattle.slots.specs.declared.Reading.{Reading}
-use Rattle.slots.specs.declared.Slot.{Slot}
 use Rattle.wave.specs.declared.Dumped.{Dumped}
 use Rattle.wave.specs.declared.Dumped.the-variants as dumped
 use Rattle.wave.specs.declared.Undumped.{Undumped}
@@ -187,6 +184,7 @@ bookFault n =
     else if eqb n 102 then fault.NotFinite
     else if eqb n 103 then fault.DamagedBook
     else if eqb n 104 then fault.VersionsSpent
+    else if eqb n 107 then fault.BookFull
     else fault.NeverWritten
 
 fault-back : (r : BookRefusal) → bookFault (bookNumber r) ≡ r
@@ -197,6 +195,7 @@ fault-back fault.NotHeld = refl
 fault-back fault.NotFinite = refl
 fault-back fault.DamagedBook = refl
 fault-back fault.VersionsSpent = refl
+fault-back fault.BookFull = refl
 fault-back fault.NeverWritten = refl
 
 -- the setting that a kind, a word and a version tell; words that tell none are not a setting's
@@ -209,38 +208,48 @@ abbrev pub bookIn : List ℕ → BookAnswer
 bookIn ws =
     let kind = getD ws 0 0 in
     if eqb kind 0 then book.Done
-    else if eqb kind 1 then book.Written (getD ws 1 0)
+    else if eqb kind 1 then book.Written (getD ws 1 0) (getD ws 2 0)
     else if eqb kind 2 then settingIn (settingOf (getD ws 2 0) (getD ws 3 0)) (getD ws 1 0)
     else book.Refused (bookFault (getD ws 1 0))
 
 -- a setting whose setpoint is a value of its type and has a body; every other answer
 abbrev pub Whole : BookAnswer → Type 0
 Whole book.Done = Unit
-Whole (book.Written v) = Unit
+Whole (book.Written v moved) = Unit
 Whole (book.Setting s v) = Held s × (hasBody s ≡ true)
 Whole (book.Refused r) = Unit
 
 book-back : (a : BookAnswer) → Whole a → bookIn (bookWords a) ≡ a
 unfolding bookWords
 book-back book.Done w = refl
-book-back (book.Written v) w = refl
+book-back (book.Written v moved) w = refl
 book-back (book.Setting s v) w = ap (λ (d : Decoded). settingIn d v) (setting-back s (w .0) (w .1))
 book-back (book.Refused r) w = ap book.Refused (fault-back r)
 
 -- what a read tells is so, since a book's bytes are below 256
-word-below : (b : List ℕ) (p q : ℕ) → ((j : ℕ) → getD b j 0 < 256) → slotAt b p q .word < 4294967296
-unfolding slotAt fiveAt
-word-below b p q bytes = join-small _ _ _ _ (bytes (q + 1)) (bytes (q + 2)) (bytes (q + 3)) (bytes (q + 4))
+line-whole : (b : List ℕ) (k v : ℕ) → ((j : ℕ) → getD b j 0 < 256) → Whole (lineTold b k v)
+unfolding lineTold settingAt decodeOf fiveAt
+line-whole b k v bytes = go (settingAt b (placeAt b k)) refl
+  where
+    go : (d : Decoded) → settingAt b (placeAt b k) ≡ d → Whole (toldOf d v)
+    go (decoded.Setting s) e =
+        let p = placeAt b k in
+        let m = setting-means _ _ s (join-small _ _ _ _ (bytes (p + 1)) (bytes (p + 2)) (bytes (p + 3)) (bytes (p + 4))) e in
+        (m .held, m .whole)
+    go decoded.Damaged e = tt
 
-seen-whole : (c : BookCheck) (place : ℕ) (s : Slot) (r : Reading) → s .word < 4294967296 → Judged place s r → Whole (judgeBook c book.Refused (toldOf r))
-seen-whole (checked.Fault x) place s r l j = tt
-seen-whole checked.Fine place s _ l (is-held p f) = let m = setting-means (s .kind) (s .word) p l (f .means) in (m .held, m .whole)
-seen-whole checked.Fine place s _ l (is-zeros z) = tt
-seen-whole checked.Fine place s _ l (is-rubbish f g) = tt
+judged-whole : (c : BookCheck) (a : BookAnswer) → Whole a → Whole (judgeBook c book.Refused a)
+judged-whole (checked.Fault x) a w = tt
+judged-whole checked.Fine a w = w
+
+pub version-whole : (h : Head) (b : List ℕ) (slot w : ℕ) → ((j : ℕ) → getD b j 0 < 256) → Whole (readVersionOf h b slot w)
+unfolding readVersionOf
+version-whole h b slot w bytes =
+    judged-whole (firstFault (readRules h b slot w)) (lineTold b (4 * slot + (newestAt b slot - w)) w) (line-whole b (4 * slot + (newestAt b slot - w)) w bytes)
 
 pub read-whole : (h : Head) (b : List ℕ) (slot : ℕ) → ((j : ℕ) → getD b j 0 < 256) → Whole (readSetpointOf h b slot)
-unfolding readSetpointOf readOf
-read-whole h b slot bytes = seen-whole (firstFault (readRules h b slot)) _ _ _ (word-below b _ _ bytes) (judged (bodyFrom (slotsOf h) slot) (slotAt b (lineFrom slot) (bodyFrom (slotsOf h) slot)))
+unfolding readSetpointOf
+read-whole h b slot bytes = version-whole h b slot (newestAt b slot) bytes
 
 pub book-tells : (a b : BookAnswer) → Whole a → Whole b → bookWords a ≡ bookWords b → a ≡ b
 book-tells a b x y e = sym (book-back a x) ∙ ap bookIn e ∙ book-back b y

@@ -81,7 +81,7 @@ unfoldable pub salvageWords : SalvageReply → List ℕ
 salvageWords r = r .head .headers ∷ r .head .buckets ∷ r .head .next ∷ r .head .boot ∷ salvagedWords (r .answer)
 
 -- a refusal of the setpoint book: "1" and "12" are document 01's numbers, 16 is L8's; those without a number count from 101, in the order of their names
--- in document 02, "BadSlot", "NotFinite", "DamagedBook", "VersionsSpent", and then "NeverWritten"
+-- in document 02, "BadSlot", "NotFinite", "DamagedBook", "VersionsSpent", and then "NeverWritten"; "BookFull" came later and stands behind the salvage's
 abbrev pub bookNumber : BookRefusal → ℕ
 bookNumber fault.BadShape = 1
 bookNumber fault.BadSlot = 101
@@ -90,13 +90,14 @@ bookNumber fault.NotHeld = 12
 bookNumber fault.NotFinite = 102
 bookNumber fault.DamagedBook = 103
 bookNumber fault.VersionsSpent = 104
+bookNumber fault.BookFull = 107
 bookNumber fault.NeverWritten = 105
 
 -- of the setpoint book: the kind of the answer (0 done, 1 written, 2 a setting, 3 refused); the version, or the refusal's number; of a
--- setting the setpoint's kind, "1, 2, 3 in that order", and the word of its four bytes
+-- setting the setpoint's kind, "1, 2, 3 in that order", and the word of its four bytes; of a write the "bytes moved"
 unfoldable pub bookWords : BookAnswer → List ℕ
 bookWords book.Done = 0 ∷ 0 ∷ 0 ∷ 0 ∷ []
-bookWords (book.Written v) = 1 ∷ v ∷ 0 ∷ 0 ∷ []
+bookWords (book.Written v moved) = 1 ∷ v ∷ moved ∷ 0 ∷ []
 bookWords (book.Setting s v) = 2 ∷ v ∷ kindOf s ∷ wordOf s ∷ []
 bookWords (book.Refused r) = 3 ∷ bookNumber r ∷ 0 ∷ 0 ∷ []
 

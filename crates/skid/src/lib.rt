@@ -15,7 +15,7 @@ ghost use Rattle.model.specs.Crew.{crewOf, crewAtWorkOf};
 ghost use Rattle.model.specs.Salvage.{salvageOf};
 ghost use Rattle.model.specs.Sorted.{acquireSortedOf};
 ghost use Rattle.setpoint.specs.declared.Setpoint.the-variants.{Pressure, Speed, Valve};
-ghost use Rattle.slots.specs.Calls.{prepareBookOf, writeSetpointOf, readSetpointOf};
+ghost use Rattle.slots.specs.Calls.{prepareBookOf, writeSetpointOf, readSetpointOf, readVersionOf};
 ghost use Rattle.wave.specs.Calls.{writeOf, readIntoOf};
 ghost use Rattle.layout.specs.Words.{replyWords, playedWords, crewWords, salvageWords, bookWords, dumpedWords};
 ghost use Rattle.layout.specs.Words.{undumpedWords, told};
@@ -712,7 +712,7 @@ pub extern "C" fn skid_crew_at_work(
     *reply = words::crew_words(r);
 }
 
-// ---- the setpoint book (document 02, L2)
+// ---- the setpoint book (document 02, L2 and L10)
 
 // Refused with 1 or BadSlot it changes no byte.
 #[no_mangle]
@@ -864,6 +864,31 @@ pub extern "C" fn skid_read_setpoint(
         boot,
     };
     let r = book::read_setpoint(head, book, slot);
+    *reply = words::book_words(r);
+}
+
+// Changes nothing and takes no table, as `skid_read_setpoint`. NeverWritten if the slot does not keep the version.
+#[no_mangle]
+pub extern "C" fn skid_read_version(
+    headers: u32,
+    buckets: u32,
+    next: u32,
+    boot: u32,
+    book: &[u8],
+    slot: u32,
+    version: u32,
+    reply: &mut [u64; 4],
+)
+    ensures { λ _. ⌜ now (reply .exit)
+        ≡ bookWords (readVersionOf (headOf headers buckets next boot) (now (book .entry)) slot version) ⌝ }
+{
+    let head = Head {
+        headers,
+        buckets,
+        next,
+        boot,
+    };
+    let r = book::read_version(head, book, slot, version);
     *reply = words::book_words(r);
 }
 

@@ -1,5 +1,5 @@
--- Document 02, L2, computed: each sentence has a case. Two slots: an arena of one header with two buckets, whose cell 1 is held by serial 1;
--- the boot number is 5.
+-- Document 02, L2 and L10, computed: each sentence has a case. Two slots: an arena of one header with two buckets, whose cells are held by serials 1
+-- and 2; the boot number is 5. The contents have 64 bytes.
 use Prim.Native.Nat.{ℕ}
 use mathlib.Core.Path.{_≡_, refl}
 use mathlib.Core.List.{List, [], _∷_, _++_}
@@ -9,164 +9,269 @@ use lib.ListN.{replicate, set}
 use lib.Seq.{sets}
 use Rattle.model.specs.Arena.{headOf, leaseOf, headFits, shapeFits, bitAt, ownerAt, isFree, isHeld, stateOf, stateAt, isLive}
 use Rattle.types.specs.declared.Head.{Head}
-use Rattle.types.specs.declared.Lease.{Lease}
-use Rattle.setpoint.specs.Codec.{isFinite, bytesOf, bodyOf, joinOf, settingOf}
+use Rattle.setpoint.specs.Codec.{isFinite, bytesOf, bodyOf, joinOf, settingOf, decodeOf}
 use Rattle.setpoint.specs.declared.Setpoint.{Setpoint}
 use Rattle.setpoint.specs.declared.Setpoint.the-variants.{Pressure, Speed, Valve}
-use Rattle.slots.specs.Layout.{slotsOf, lineAt, fiveAt, slotAt, isBlank, readingOf, readOf, lineOf, putOf}
-use Rattle.slots.specs.Rules.{firstFault, isBadBook, isBadSlot, isHolder, bookRules, claimRules, overRules, slotRules, seenRules}
-use Rattle.slots.specs.Calls.{prepareBookOf, writeSetpointOf, readSetpointOf}
+use Rattle.slots.specs.Layout.{slotsOf, lineAt, fiveAt, lineOf, all, placeAt, lengthAt, versionAt, isKept, settingAt, isFalling, isFitting, isApart, isSound}
+use Rattle.slots.specs.Rules.{isHolder, firstFault, isBadBook, isBadSlot, isGone, bookRules, claimRules, overRules, openRules, keptRules}
+use Rattle.slots.specs.Writing.{count, most, putMany, dropOldestOf, keptOf, endOf, isCrowded, isFull, rankOf, slidOf, movedOf, erasedOf, laidOf, compactOf, appendOf, putOverOf, putOf}
+use Rattle.slots.specs.Calls.{prepareBookOf, writeSetpointOf, lineTold, readVersionOf, readSetpointOf}
 use Rattle.slots.specs.declared.BookAnswer.{BookAnswer}
 use Rattle.slots.specs.declared.BookAnswer.the-variants.{Done, Written, Setting, Refused}
-use Rattle.slots.specs.declared.BookRefusal.the-variants.{BadShape, BadSlot, StaleBoot, NotHeld, NotFinite, DamagedBook, VersionsSpent, NeverWritten}
+use Rattle.slots.specs.declared.BookRefusal.the-variants.{BadShape, BadSlot, StaleBoot, NotHeld, NotFinite, DamagedBook, VersionsSpent, BookFull, NeverWritten}
 
 abbrev head : Head
-head = headOf 1 2 2 5
+head = headOf 1 2 3 5
 
 abbrev table : List ℕ
-table = 0 ∷ 0 ∷ 0 ∷ 1 ∷ 1 ∷ 0 ∷ []
+table = 1 ∷ 1 ∷ 0 ∷ 1 ∷ 2 ∷ 0 ∷ []
 
-abbrev lease : Lease
-lease = leaseOf 1 1 5
+abbrev write0 : List ℕ → ℕ → BookAnswer × List ℕ
+write0 b x = writeSetpointOf head table b 0 (leaseOf 0 1 5) (Speed x)
 
--- 1.5 bar, and 258 turns
-abbrev bar : Setpoint
-bar = Pressure (ofBits binary32 0x3fc0_0000)
+abbrev write1 : List ℕ → ℕ → BookAnswer × List ℕ
+write1 b x = writeSetpointOf head table b 1 (leaseOf 1 2 5) (Speed x)
 
-abbrev turns : Setpoint
-turns = Speed 258
+abbrev newest : List ℕ → ℕ → BookAnswer
+newest b slot = readSetpointOf head b slot
 
-abbrev zeros : List ℕ
-zeros = replicate 26 0
+abbrev read : List ℕ → ℕ → ℕ → BookAnswer
+read b slot w = readVersionOf head b slot w
 
--- a write of ours to slot 1, and to any
-abbrev write : List ℕ → Setpoint → BookAnswer × List ℕ
-write b s = writeSetpointOf head table b 1 lease s
+-- ---- the parts of a book: a line, an unused line, a speed's body, five bytes without a body
 
-abbrev read : List ℕ → ℕ → BookAnswer
-read b slot = readSetpointOf head b slot
+abbrev line : ℕ → ℕ → List ℕ
+line p v = p ∷ 0 ∷ 5 ∷ 0 ∷ v ∷ 0 ∷ 0 ∷ 0 ∷ []
 
--- ---- "at most 32,768 bytes, one slot for each cell, at most the first 64"
+abbrev none : List ℕ
+none = 0 ∷ 0 ∷ 0 ∷ 0 ∷ 0 ∷ 0 ∷ 0 ∷ 0 ∷ []
+
+abbrev four : List ℕ → List ℕ → List ℕ → List ℕ → List ℕ
+four a b c d = a ++ (b ++ (c ++ d))
+
+abbrev idle : List ℕ
+idle = four none none none none
+
+abbrev sp : ℕ → List ℕ
+sp x = 2 ∷ x ∷ 0 ∷ 0 ∷ 0 ∷ []
+
+abbrev gap : List ℕ
+gap = 0 ∷ 0 ∷ 0 ∷ 0 ∷ 0 ∷ []
+
+-- ---- "one slot for each cell, at most the first 64"
 
 pub slots-are : (slotsOf head ≡ 2) × (slotsOf (headOf 4 16 1 0) ≡ 64) × (slotsOf (headOf 64 64 1 0) ≡ 64)
 slots-are = (refl, refl, refl)
 
-pub sizes : (isBadBook 2 26 ≡ false) × (isBadBook 2 25 ≡ true) × (isBadBook 64 32768 ≡ false) × (isBadBook 64 32769 ≡ true)
+-- ---- preparing, sizes: "A book shorter than its contents is BadSlot"
+
+pub sizes : (isBadBook 2 64 ≡ false) × (isBadBook 2 63 ≡ true) × (isBadBook 64 32768 ≡ false) × (isBadBook 64 32769 ≡ true)
 unfolding isBadBook
 sizes = (refl, refl, refl, refl)
 
--- ---- the layout: slot 1 written twice, every byte. "A table of contents first, one 8-byte line a slot (place 2, length 2, version 4, low byte
--- first), then the bodies in slot order, 5 bytes each." "raises the version by one"
+pub prepared : (prepareBookOf head (replicate 89 7) ≡ (Done, replicate 89 0)) × (prepareBookOf head (replicate 63 7) ≡ (Refused BadSlot, replicate 63 7))
+    × (prepareBookOf (headOf 0 2 3 5) [] ≡ (Refused BadShape, []))
+unfolding prepareBookOf bookRules firstFault isBadBook headFits
+prepared = (refl, refl, refl)
 
-abbrev once : List ℕ
-once =
-    0 ∷ 0 ∷ 0 ∷ 0 ∷ 0 ∷ 0 ∷ 0 ∷ 0
-    ∷ 21 ∷ 0 ∷ 5 ∷ 0 ∷ 1 ∷ 0 ∷ 0 ∷ 0
-    ∷ 0 ∷ 0 ∷ 0 ∷ 0 ∷ 0
-    ∷ 1 ∷ 0 ∷ 0 ∷ 192 ∷ 63 ∷ []
+-- ---- the first writes, and the fifth: "The book .. now keeps the newest four settings of each slot". Room for five bodies
 
-abbrev twice : List ℕ
-twice =
-    0 ∷ 0 ∷ 0 ∷ 0 ∷ 0 ∷ 0 ∷ 0 ∷ 0
-    ∷ 21 ∷ 0 ∷ 5 ∷ 0 ∷ 2 ∷ 0 ∷ 0 ∷ 0
-    ∷ 0 ∷ 0 ∷ 0 ∷ 0 ∷ 0
-    ∷ 2 ∷ 2 ∷ 1 ∷ 0 ∷ 0 ∷ []
+abbrev after1 : List ℕ
+after1 = idle ++ (four (line 64 1) none none none ++ (sp 11 ++ (gap ++ (gap ++ (gap ++ gap)))))
 
-pub written : (write zeros bar ≡ (Written 1, once)) × (write once turns ≡ (Written 2, twice))
-unfolding writeSetpointOf claimRules overRules firstFault isBadBook isBadSlot isHolder isLive stateAt stateOf isFree isHeld bitAt ownerAt headFits shapeFits isFinite readOf readingOf slotAt lineAt fiveAt joinOf settingOf isBlank putOf lineOf bodyOf bytesOf ofBits toBits
-written = (refl, refl)
+abbrev after2 : List ℕ
+after2 = idle ++ (four (line 69 2) (line 64 1) none none ++ (sp 11 ++ (sp 12 ++ (gap ++ (gap ++ gap)))))
 
--- a place over 255: slot 63 of 64, low byte first
-pub far : lineOf 827 1 ≡ 59 ∷ 3 ∷ 5 ∷ 0 ∷ 1 ∷ 0 ∷ 0 ∷ 0 ∷ []
-unfolding lineOf
-far = refl
+abbrev after4 : List ℕ
+after4 = idle ++ (four (line 79 4) (line 74 3) (line 69 2) (line 64 1) ++ (sp 11 ++ (sp 12 ++ (sp 13 ++ (sp 14 ++ gap)))))
 
--- ---- reading
+-- its oldest is dropped, its body zeros; behind the last there is room, nothing slides
+abbrev after5 : List ℕ
+after5 = idle ++ (four (line 84 5) (line 79 4) (line 74 3) (line 69 2) ++ (gap ++ (sp 12 ++ (sp 13 ++ (sp 14 ++ sp 15)))))
 
-pub readings : (read twice 1 ≡ Setting turns 2) × (read once 1 ≡ Setting bar 1)
-unfolding readSetpointOf slotRules seenRules firstFault isBadBook isBadSlot headFits readOf readingOf slotAt lineAt fiveAt joinOf settingOf isBlank ofBits
-readings = (refl, refl)
+-- at the sixth there is none: three bodies slide, 15 bytes; the new one is not counted
+abbrev after6 : List ℕ
+after6 = idle ++ (four (line 79 6) (line 74 5) (line 69 4) (line 64 3) ++ (sp 13 ++ (sp 14 ++ (sp 15 ++ (sp 16 ++ gap)))))
 
--- "Unwritten lines and bodies are zeros." "Version 0 reads as NeverWritten."
-pub never : (read twice 0 ≡ Refused NeverWritten) × (read zeros 1 ≡ Refused NeverWritten)
-unfolding readSetpointOf slotRules seenRules firstFault isBadBook isBadSlot headFits readOf readingOf slotAt lineAt fiveAt joinOf settingOf isBlank
-never = (refl, refl)
+pub writes : (write1 (replicate 89 0) 11 ≡ (Written 1 0, after1)) × (write1 after1 12 ≡ (Written 2 0, after2))
+    × (write1 after4 15 ≡ (Written 5 0, after5)) × (write1 after5 16 ≡ (Written 6 15, after6))
+unfolding writeSetpointOf claimRules overRules firstFault isBadSlot isBadBook isHolder isLive stateAt stateOf isFree isHeld bitAt ownerAt headFits shapeFits isFinite isSound isFalling isFitting isApart all placeAt lengthAt versionAt isKept settingAt count most putMany dropOldestOf keptOf endOf isCrowded isFull rankOf slidOf movedOf erasedOf laidOf compactOf appendOf putOverOf putOf joinOf settingOf decodeOf lineAt fiveAt lineOf bodyOf bytesOf
+writes = (refl, refl, refl, refl)
 
--- "A line or body that fits no rule reads as DamagedBook": the place, the length, version 0 beside a body, a body of zeros under a written line,
--- a kind, a valve of 2, a pressure's pattern that is not finite; and only that slot
-pub fits-no-rule : (read (set twice 8 22) 1 ≡ Refused DamagedBook) × (read (set twice 10 6) 1 ≡ Refused DamagedBook)
-    × (read (set twice 12 0) 1 ≡ Refused DamagedBook) × (read (set zeros 25 1) 1 ≡ Refused DamagedBook)
-    × (read (sets twice 21 (replicate 5 0)) 1 ≡ Refused DamagedBook) × (read (set twice 21 4) 1 ≡ Refused DamagedBook)
-    × (read (set twice 21 3) 1 ≡ Refused DamagedBook) × (read (set once 25 255) 1 ≡ Refused DamagedBook)
-    × (read (set twice 0 1) 0 ≡ Refused DamagedBook) × (read (set twice 0 1) 1 ≡ Setting turns 2)
-unfolding readSetpointOf slotRules seenRules firstFault isBadBook isBadSlot headFits readOf readingOf slotAt lineAt fiveAt joinOf settingOf isBlank ofBits
-fits-no-rule = (refl, refl, refl, refl, refl, refl, refl, refl, refl, refl)
+-- ---- reading: each kept version, and versions not kept: too old, 0, not yet written; the other slot
 
--- a read refuses 1, then BadSlot
-pub read-refused : (readSetpointOf (headOf 0 2 2 5) [] 9 ≡ Refused BadShape) × (read [] 0 ≡ Refused BadSlot) × (read zeros 2 ≡ Refused BadSlot)
-unfolding readSetpointOf slotRules seenRules firstFault isBadBook isBadSlot headFits readOf readingOf slotAt lineAt fiveAt joinOf settingOf isBlank
-read-refused = (refl, refl, refl)
+pub reads : (newest after5 1 ≡ Setting (Speed 15) 5) × (read after5 1 5 ≡ Setting (Speed 15) 5) × (read after5 1 4 ≡ Setting (Speed 14) 4)
+    × (read after5 1 3 ≡ Setting (Speed 13) 3) × (read after5 1 2 ≡ Setting (Speed 12) 2) × (read after5 1 1 ≡ Refused NeverWritten)
+    × (read after5 1 0 ≡ Refused NeverWritten) × (read after5 1 6 ≡ Refused NeverWritten) × (newest after5 0 ≡ Refused NeverWritten)
+    × (read after6 1 3 ≡ Setting (Speed 13) 3) × (read after6 1 2 ≡ Refused NeverWritten) × (newest after5 2 ≡ Refused BadSlot)
+unfolding readVersionOf readSetpointOf openRules keptRules lineTold firstFault isBadSlot isBadBook isGone headFits isSound isFalling isFitting isApart all placeAt lengthAt versionAt isKept settingAt joinOf settingOf decodeOf fiveAt
+reads = (refl, refl, refl, refl, refl, refl, refl, refl, refl, refl, refl, refl)
 
--- ---- "Its refusals in order", "and refusals change nothing": each case keeps what the next has wrong
+-- ---- a compaction that moves some bodies and not others: slot 0's body lies first and stays
 
-abbrev nowhere : Lease
-nowhere = leaseOf 1 7 5
+abbrev mixed : List ℕ
+mixed = four (line 64 1) none none none ++ (four (line 84 4) (line 79 3) (line 74 2) (line 69 1) ++ (sp 1 ++ (sp 11 ++ (sp 12 ++ (sp 13 ++ sp 14)))))
 
--- from before this head's preparation: as live as `lease`, or as dead as `nowhere`
-abbrev earlier : Lease
-earlier = leaseOf 1 1 4
+abbrev mixed2 : List ℕ
+mixed2 = four (line 64 1) none none none ++ (four (line 84 5) (line 79 4) (line 74 3) (line 69 2) ++ (sp 1 ++ (sp 12 ++ (sp 13 ++ (sp 14 ++ sp 15)))))
 
-abbrev gone : Lease
-gone = leaseOf 1 7 4
+-- in the order of places, not of slots: slot 1's body lies before slot 0's; gaps of 1 and of 6 bytes, 4 behind the last
+abbrev crossed : List ℕ
+crossed = four (line 76 1) none none none ++ (four (line 65 1) none none none ++ (0 ∷ [] ++ (sp 11 ++ (gap ++ (0 ∷ [] ++ (sp 1 ++ (0 ∷ 0 ∷ 0 ∷ 0 ∷ [])))))))
 
+abbrev crossed2 : List ℕ
+crossed2 = four (line 74 2) (line 69 1) none none ++ (four (line 64 1) none none none ++ (sp 11 ++ (sp 1 ++ (sp 2 ++ (gap ++ 0 ∷ [])))))
+
+pub slides : (write1 mixed 15 ≡ (Written 5 15, mixed2)) × (write0 crossed 2 ≡ (Written 2 10, crossed2))
+unfolding writeSetpointOf claimRules overRules firstFault isBadSlot isBadBook isHolder isLive stateAt stateOf isFree isHeld bitAt ownerAt headFits shapeFits isFinite isSound isFalling isFitting isApart all placeAt lengthAt versionAt isKept settingAt count most putMany dropOldestOf keptOf endOf isCrowded isFull rankOf slidOf movedOf erasedOf laidOf compactOf appendOf putOverOf putOf joinOf settingOf decodeOf lineAt fiveAt lineOf bodyOf bytesOf
+slides = (refl, refl)
+
+-- ---- room for one body less than four a slot: the eighth is BookFull, and nothing changed; but a slot that has four is written on
+
+abbrev tight : List ℕ
+tight =
+    four (line 79 4) (line 74 3) (line 69 2) (line 64 1)
+    ++ (four (line 94 3) (line 89 2) (line 84 1) none ++ (sp 1 ++ (sp 2 ++ (sp 3 ++ (sp 4 ++ (sp 11 ++ (sp 12 ++ sp 13)))))))
+
+abbrev tight2 : List ℕ
+tight2 =
+    four (line 94 5) (line 74 4) (line 69 3) (line 64 2)
+    ++ (four (line 89 3) (line 84 2) (line 79 1) none ++ (sp 2 ++ (sp 3 ++ (sp 4 ++ (sp 11 ++ (sp 12 ++ (sp 13 ++ sp 5)))))))
+
+pub full : (write1 tight 14 ≡ (Refused BookFull, tight)) × (write0 tight 5 ≡ (Written 5 30, tight2))
+    × (write0 (replicate 64 0) 1 ≡ (Refused BookFull, replicate 64 0)) × (write0 (replicate 68 0) 1 ≡ (Refused BookFull, replicate 68 0))
+unfolding writeSetpointOf claimRules overRules firstFault isBadSlot isBadBook isHolder isLive stateAt stateOf isFree isHeld bitAt ownerAt headFits shapeFits isFinite isSound isFalling isFitting isApart all placeAt lengthAt versionAt isKept settingAt count most putMany dropOldestOf keptOf endOf isCrowded isFull rankOf slidOf movedOf erasedOf laidOf compactOf appendOf putOverOf putOf joinOf settingOf decodeOf lineAt fiveAt lineOf bodyOf bytesOf
+full = (refl, refl, refl, refl)
+
+-- ---- a dropped body that lay last: its room is used again, nothing slides. No book that was prepared and written by these calls is such a one
+
+abbrev last : List ℕ
+last = idle ++ (four (line 74 4) (line 69 3) (line 64 2) (line 79 1) ++ (sp 12 ++ (sp 13 ++ (sp 14 ++ sp 11))))
+
+abbrev last2 : List ℕ
+last2 = idle ++ (four (line 79 5) (line 74 4) (line 69 3) (line 64 2) ++ (sp 12 ++ (sp 13 ++ (sp 14 ++ sp 15))))
+
+pub used-again : (write1 last 15 ≡ (Written 5 0, last2)) × (write1 (last ++ gap) 15 ≡ (Written 5 0, last2 ++ gap))
+unfolding writeSetpointOf claimRules overRules firstFault isBadSlot isBadBook isHolder isLive stateAt stateOf isFree isHeld bitAt ownerAt headFits shapeFits isFinite isSound isFalling isFitting isApart all placeAt lengthAt versionAt isKept settingAt count most putMany dropOldestOf keptOf endOf isCrowded isFull rankOf slidOf movedOf erasedOf laidOf compactOf appendOf putOverOf putOf joinOf settingOf decodeOf lineAt fiveAt lineOf bodyOf bytesOf
+used-again = (refl, refl)
+
+-- ---- "Vacated bytes become zeros": free bytes that no body covered stay as they were
+
+abbrev dirty : List ℕ
+dirty = four (line 76 1) none none none ++ (four (line 65 1) none none none ++ (7 ∷ [] ++ (sp 11 ++ (gap ++ (7 ∷ [] ++ (sp 1 ++ (0 ∷ 0 ∷ 0 ∷ 7 ∷ [])))))))
+
+abbrev dirty2 : List ℕ
+dirty2 = four (line 74 2) (line 69 1) none none ++ (four (line 64 1) none none none ++ (sp 11 ++ (sp 1 ++ (sp 2 ++ (0 ∷ 0 ∷ 0 ∷ 0 ∷ 0 ∷ 7 ∷ [])))))
+
+pub vacated : write0 dirty 2 ≡ (Written 2 10, dirty2)
+unfolding writeSetpointOf claimRules overRules firstFault isBadSlot isBadBook isHolder isLive stateAt stateOf isFree isHeld bitAt ownerAt headFits shapeFits isFinite isSound isFalling isFitting isApart all placeAt lengthAt versionAt isKept settingAt count most putMany dropOldestOf keptOf endOf isCrowded isFull rankOf slidOf movedOf erasedOf laidOf compactOf appendOf putOverOf putOf joinOf settingOf decodeOf lineAt fiveAt lineOf bodyOf bytesOf
+vacated = refl
+
+-- ---- damage: every read and every write, of either slot
+
+-- two bodies that overlap by one byte, and two that touch
+abbrev touching : List ℕ
+touching = four (line 64 1) none none none ++ (four (line 69 1) none none none ++ (sp 1 ++ (sp 11 ++ gap)))
+
+-- the body from 68 on begins with the last byte of that at 64: a kind 2 there
+abbrev lapped : List ℕ
+lapped = four (line 64 1) none none none ++ (four (line 68 1) none none none ++ (2 ∷ 1 ∷ 0 ∷ 0 ∷ 2 ∷ 11 ∷ 0 ∷ 0 ∷ 0 ∷ 0 ∷ (gap)))
+
+-- the same with the two lines exchanged
+abbrev lapped-back : List ℕ
+lapped-back = four (line 68 1) none none none ++ (four (line 64 1) none none none ++ (2 ∷ 1 ∷ 0 ∷ 0 ∷ 2 ∷ 11 ∷ 0 ∷ 0 ∷ 0 ∷ 0 ∷ (gap)))
+
+pub overlaps : (isSound 2 touching ≡ true) × (isSound 2 lapped ≡ false) × (isSound 2 lapped-back ≡ false) × (newest touching 1 ≡ Setting (Speed 11) 1)
+    × (newest lapped 1 ≡ Refused DamagedBook) × (newest lapped 0 ≡ Refused DamagedBook) × (read lapped 1 9 ≡ Refused DamagedBook)
+unfolding readVersionOf readSetpointOf openRules keptRules lineTold firstFault isBadSlot isBadBook isGone headFits isSound isFalling isFitting isApart all placeAt lengthAt versionAt isKept settingAt joinOf settingOf decodeOf fiveAt
+overlaps = (refl, refl, refl, refl, refl, refl, refl)
+
+-- a place in the contents, a place whose body ends behind the book, a length of 6, a body of kind 4; a version that does not fall by one, too
+-- few lines for the newest version, a place or a length in an unused line, a used line behind an unused one
+pub fits-no-rule : (isSound 2 after2 ≡ true) × (isSound 2 (set after2 32 63) ≡ false) × (isSound 2 (set after2 32 85) ≡ false) × (isSound 2 (set after2 34 6) ≡ false)
+    × (isSound 2 (set after2 69 4) ≡ false) × (isSound 2 (set after2 36 3) ≡ false) × (isSound 2 (sets after2 40 none) ≡ false)
+    × (isSound 2 (set after2 48 1) ≡ false) × (isSound 2 (set after2 50 1) ≡ false) × (isSound 2 (sets after1 40 (line 69 1)) ≡ false)
+    × (isSound 2 (set after2 0 1) ≡ false)
+unfolding isSound isFalling isFitting isApart all placeAt lengthAt versionAt isKept settingAt joinOf settingOf decodeOf fiveAt
+fits-no-rule = (refl, refl, refl, refl, refl, refl, refl, refl, refl, refl, refl)
+
+-- a write of slot 0 on a book that is damaged in slot 1, and a read of it
+pub whole-book : (write0 lapped 9 ≡ (Refused DamagedBook, lapped)) × (newest (set after2 34 6) 0 ≡ Refused DamagedBook)
+unfolding writeSetpointOf claimRules overRules readSetpointOf readVersionOf openRules keptRules lineTold firstFault isBadSlot isBadBook isGone isHolder isLive stateAt stateOf isFree isHeld bitAt ownerAt headFits shapeFits isFinite isSound isFalling isFitting isApart all placeAt lengthAt versionAt isKept settingAt count dropOldestOf keptOf isFull joinOf settingOf decodeOf fiveAt
+whole-book = (refl, refl)
+
+-- ---- the order of refusals: each case keeps what the next has wrong. Full, spent and damaged at once
+
+abbrev spent : List ℕ
+spent = sets (sets (sets (sets tight 4 (replicate 4 255)) 12 (254 ∷ 255 ∷ 255 ∷ 255 ∷ [])) 20 (253 ∷ 255 ∷ 255 ∷ 255 ∷ [])) 28 (252 ∷ 255 ∷ 255 ∷ 255 ∷ [])
+
+abbrev torn : List ℕ
+torn = set spent 34 6
+
+-- no finite pressure
 abbrev bad : Setpoint
 bad = Pressure nan
 
--- its own slot is damaged
-abbrev torn : List ℕ
-torn = set twice 8 22
+pub order : (writeSetpointOf head [] torn 2 (leaseOf 0 7 4) bad ≡ (Refused BadShape, torn)) × (writeSetpointOf head table torn 2 (leaseOf 0 7 4) bad ≡ (Refused BadSlot, torn))
+    × (writeSetpointOf head table torn 0 (leaseOf 0 7 4) bad ≡ (Refused StaleBoot, torn)) × (writeSetpointOf head table torn 0 (leaseOf 0 7 5) bad ≡ (Refused NotHeld, torn))
+    × (writeSetpointOf head table torn 0 (leaseOf 1 2 5) bad ≡ (Refused NotHeld, torn))
+    × (writeSetpointOf head table torn 0 (leaseOf 0 1 5) bad ≡ (Refused NotFinite, torn)) × (write0 torn 1 ≡ (Refused DamagedBook, torn))
+    × (write0 spent 1 ≡ (Refused VersionsSpent, spent)) × (write1 spent 1 ≡ (Refused BookFull, spent))
+unfolding writeSetpointOf claimRules overRules firstFault isBadSlot isBadBook isHolder isLive stateAt stateOf isFree isHeld bitAt ownerAt headFits shapeFits isFinite isSound isFalling isFitting isApart all placeAt lengthAt versionAt isKept settingAt count dropOldestOf keptOf isFull joinOf settingOf decodeOf fiveAt
+order = (refl, refl, refl, refl, refl, refl, refl, refl, refl)
 
--- its versions are spent
-abbrev full : List ℕ
-full = sets twice 12 (replicate 4 255)
+-- L8, "before 3 and 12 at that place": a stale lease is StaleBoot, live or dead, in the right cell or not, and of a later boot number too
+pub stale : (writeSetpointOf head table torn 0 (leaseOf 0 1 4) bad ≡ (Refused StaleBoot, torn)) × (writeSetpointOf head table after2 0 (leaseOf 1 2 4) (Speed 9) ≡ (Refused StaleBoot, after2))
+    × (writeSetpointOf head table after2 1 (leaseOf 1 2 6) (Speed 9) ≡ (Refused StaleBoot, after2))
+unfolding writeSetpointOf claimRules overRules firstFault isBadSlot isBadBook isHolder isLive stateAt stateOf isFree isHeld bitAt ownerAt headFits shapeFits isFinite isSound isFalling isFitting isApart all placeAt lengthAt versionAt isKept settingAt count most putMany dropOldestOf keptOf endOf isCrowded isFull rankOf slidOf movedOf erasedOf laidOf compactOf appendOf putOverOf putOf joinOf settingOf decodeOf lineAt fiveAt lineOf bodyOf bytesOf
+stale = (refl, refl, refl)
 
-pub write-refused : (writeSetpointOf head [] torn 2 nowhere bad ≡ (Refused BadShape, torn)) × (writeSetpointOf head table torn 2 nowhere bad ≡ (Refused BadSlot, torn))
-    × (writeSetpointOf head table (torn ++ []) 1 nowhere bad ≡ (Refused NotHeld, torn)) × (write torn bad ≡ (Refused NotFinite, torn))
-    × (write torn turns ≡ (Refused DamagedBook, torn)) × (write full turns ≡ (Refused VersionsSpent, full))
-unfolding writeSetpointOf claimRules overRules firstFault isBadBook isBadSlot isHolder isLive stateAt stateOf isFree isHeld bitAt ownerAt headFits shapeFits isFinite readOf readingOf slotAt lineAt fiveAt joinOf settingOf isBlank putOf lineOf bodyOf bytesOf
-write-refused = (refl, refl, refl, refl, refl, refl)
+-- a read refuses 1, then BadSlot, then DamagedBook, then NeverWritten
+pub read-refused : (readVersionOf (headOf 0 2 3 5) [] 9 1 ≡ Refused BadShape) × (newest [] 0 ≡ Refused BadSlot) × (read lapped 2 1 ≡ Refused BadSlot)
+    × (read lapped 0 9 ≡ Refused DamagedBook) × (read touching 0 9 ≡ Refused NeverWritten)
+unfolding readVersionOf readSetpointOf openRules keptRules lineTold firstFault isBadSlot isBadBook isGone headFits isSound isFalling isFitting isApart all placeAt lengthAt versionAt isKept settingAt joinOf settingOf decodeOf fiveAt
+read-refused = (refl, refl, refl, refl, refl)
 
--- L8, "before 3 and 12 at that place": a stale lease is StaleBoot, live (in the right cell or not) or dead, before NotHeld; a lease of a
--- later boot number too; BadShape and BadSlot come before it
-pub stale : (writeSetpointOf head table torn 1 earlier bad ≡ (Refused StaleBoot, torn)) × (writeSetpointOf head table torn 1 gone bad ≡ (Refused StaleBoot, torn))
-    × (writeSetpointOf head table twice 0 earlier turns ≡ (Refused StaleBoot, twice)) × (writeSetpointOf head table twice 1 (leaseOf 1 1 6) turns ≡ (Refused StaleBoot, twice))
-    × (writeSetpointOf head [] torn 2 gone bad ≡ (Refused BadShape, torn)) × (writeSetpointOf head table torn 2 gone bad ≡ (Refused BadSlot, torn))
-unfolding writeSetpointOf claimRules overRules firstFault isBadBook isBadSlot isHolder isLive stateAt stateOf isFree isHeld bitAt ownerAt headFits shapeFits isFinite readOf readingOf slotAt lineAt fiveAt joinOf settingOf isBlank putOf lineOf bodyOf bytesOf
-stale = (refl, refl, refl, refl, refl, refl)
+-- ---- the bytes of a line and of a body: "low byte first", "a kind byte (1, 2, 3 in that order) and four bytes, low byte first; a valve is 0 or 1"
 
--- "a live lease on the slot's cell": a live lease on another cell is 12 too
-pub neighbour : writeSetpointOf head table twice 0 lease turns ≡ (Refused NotHeld, twice)
-unfolding writeSetpointOf claimRules overRules firstFault isBadBook isBadSlot isHolder isLive stateAt stateOf isFree isHeld bitAt ownerAt headFits shapeFits isFinite readOf readingOf slotAt lineAt fiveAt joinOf settingOf isBlank putOf lineOf bodyOf bytesOf
-neighbour = refl
+pub far : lineOf 827 16909060 ≡ 59 ∷ 3 ∷ 5 ∷ 0 ∷ 4 ∷ 3 ∷ 2 ∷ 1 ∷ []
+unfolding lineOf
+far = refl
 
--- "A pressure that is not finite: NotFinite."
-pub infinite : write zeros (Pressure (inf true)) ≡ (Refused NotFinite, zeros)
-unfolding writeSetpointOf claimRules overRules firstFault isBadBook isBadSlot isHolder isLive stateAt stateOf isFree isHeld bitAt ownerAt headFits shapeFits isFinite readOf readingOf slotAt lineAt fiveAt joinOf settingOf isBlank putOf lineOf bodyOf bytesOf
-infinite = refl
+-- 1.5 bar, then a valve that is open
+abbrev bar : Setpoint
+bar = Pressure (ofBits binary32 0x3fc0_0000)
 
--- "DamagedBook (its own slot)": a damaged neighbour is no matter
-pub beside : write (set zeros 0 1) bar ≡ (Written 1, set once 0 1)
-unfolding writeSetpointOf claimRules overRules firstFault isBadBook isBadSlot isHolder isLive stateAt stateOf isFree isHeld bitAt ownerAt headFits shapeFits isFinite readOf readingOf slotAt lineAt fiveAt joinOf settingOf isBlank putOf lineOf bodyOf bytesOf ofBits toBits
-beside = refl
+abbrev pressed : List ℕ
+pressed = four (line 64 1) none none none ++ (idle ++ (1 ∷ 0 ∷ 0 ∷ 192 ∷ 63 ∷ [] ++ gap))
 
--- one version before the last is written over, and the last is reached
-pub last-version : write (set full 12 254) (Valve true) ≡ (Written 4_294_967_295, set (sets full 21 (3 ∷ 1 ∷ 0 ∷ 0 ∷ 0 ∷ [])) 12 255)
-unfolding writeSetpointOf claimRules overRules firstFault isBadBook isBadSlot isHolder isLive stateAt stateOf isFree isHeld bitAt ownerAt headFits shapeFits isFinite readOf readingOf slotAt lineAt fiveAt joinOf settingOf isBlank putOf lineOf bodyOf bytesOf
-last-version = refl
+abbrev opened : List ℕ
+opened = four (line 69 2) (line 64 1) none none ++ (idle ++ (1 ∷ 0 ∷ 0 ∷ 192 ∷ 63 ∷ [] ++ (3 ∷ 1 ∷ 0 ∷ 0 ∷ 0 ∷ [])))
 
--- ---- "Preparing the book writes all of it": what lies behind the last body too
+pub kinds : (writeSetpointOf head table (replicate 74 0) 0 (leaseOf 0 1 5) bar ≡ (Written 1 0, pressed))
+    × (writeSetpointOf head table pressed 0 (leaseOf 0 1 5) (Valve true) ≡ (Written 2 0, opened))
+    × (writeSetpointOf head table pressed 0 (leaseOf 0 1 5) (Pressure (inf true)) ≡ (Refused NotFinite, pressed))
+unfolding writeSetpointOf claimRules overRules firstFault isBadSlot isBadBook isHolder isLive stateAt stateOf isFree isHeld bitAt ownerAt headFits shapeFits isFinite isSound isFalling isFitting isApart all placeAt lengthAt versionAt isKept settingAt count most putMany dropOldestOf keptOf endOf isCrowded isFull rankOf slidOf movedOf erasedOf laidOf compactOf appendOf putOverOf putOf joinOf settingOf decodeOf lineAt fiveAt lineOf bodyOf bytesOf ofBits toBits
+kinds = (refl, refl, refl)
 
-pub prepared : (prepareBookOf head (replicate 26 9) ≡ (Done, zeros)) × (prepareBookOf head (replicate 28 9) ≡ (Done, replicate 28 0))
-    × (prepareBookOf (headOf 1 2 0 5) [] ≡ (Refused BadShape, [])) × (prepareBookOf head (replicate 25 9) ≡ (Refused BadSlot, replicate 25 9))
-unfolding prepareBookOf bookRules firstFault isBadBook headFits
-prepared = (refl, refl, refl, refl)
+pub kinds-read : (newest opened 0 ≡ Setting (Valve true) 2) × (read opened 0 1 ≡ Setting bar 1)
+unfolding readVersionOf readSetpointOf openRules keptRules lineTold firstFault isBadSlot isBadBook isGone headFits isSound isFalling isFitting isApart all placeAt lengthAt versionAt isKept settingAt joinOf settingOf decodeOf fiveAt ofBits
+kinds-read = (refl, refl)
+
+-- a body that means nothing: zeros, a kind of 4, a valve of 2, a pressure's pattern that is not finite
+pub means-nothing : (isSound 2 opened ≡ true) × (isSound 2 (sets opened 69 gap) ≡ false) × (isSound 2 (set opened 69 4) ≡ false) × (isSound 2 (set opened 70 2) ≡ false)
+    × (isSound 2 (set opened 68 255) ≡ false)
+unfolding isSound isFalling isFitting isApart all placeAt lengthAt versionAt isKept settingAt joinOf settingOf decodeOf fiveAt ofBits
+means-nothing = (refl, refl, refl, refl, refl)
+
+-- ---- one version before the last is written over, and the last is reached; a dropped body lay first, and nothing slides
+
+abbrev nearly : List ℕ
+nearly = sets (sets (sets (sets after4 36 (254 ∷ 255 ∷ 255 ∷ 255 ∷ [])) 44 (253 ∷ 255 ∷ 255 ∷ 255 ∷ [])) 52 (252 ∷ 255 ∷ 255 ∷ 255 ∷ [])) 60 (251 ∷ 255 ∷ 255 ∷ 255 ∷ [])
+
+abbrev reached : List ℕ
+reached = sets (sets (sets (sets after5 36 (255 ∷ 255 ∷ 255 ∷ 255 ∷ [])) 44 (254 ∷ 255 ∷ 255 ∷ 255 ∷ [])) 52 (253 ∷ 255 ∷ 255 ∷ 255 ∷ [])) 60 (252 ∷ 255 ∷ 255 ∷ 255 ∷ [])
+
+pub last-version : (write1 nearly 15 ≡ (Written 4_294_967_295 0, reached)) × (write1 reached 16 ≡ (Refused VersionsSpent, reached))
+unfolding writeSetpointOf claimRules overRules firstFault isBadSlot isBadBook isHolder isLive stateAt stateOf isFree isHeld bitAt ownerAt headFits shapeFits isFinite isSound isFalling isFitting isApart all placeAt lengthAt versionAt isKept settingAt count most putMany dropOldestOf keptOf endOf isCrowded isFull rankOf slidOf movedOf erasedOf laidOf compactOf appendOf putOverOf putOf joinOf settingOf decodeOf lineAt fiveAt lineOf bodyOf bytesOf
+last-version = (refl, refl)

@@ -1,12 +1,11 @@
 -- Lists of the book's rules: how `firstFault` goes on, and what it means that all is fine.
-use Prim.Native.Nat.{ℕ, _+_, _*_, _≤_, _<_}
+use Prim.Native.Nat.{ℕ, _*_, _≤_, _<_}
 use mathlib.Core.Path.{_≡_, refl, sym}
 use mathlib.Core.List.{List, [], _∷_, _++_}
-use mathlib.Core.Bool.{Bool, true, false, _&&_, _||_}
-use mathlib.Core.Logic.{_≢_}
+use mathlib.Core.Bool.{Bool, true, false, _&&_}
 use lib.Dec.{ltb, leb, eqb}
 use lib.ListN.{length}
-use borrow.Author.Tests.{leb-false, ltb-false, eqb-true, eqb-false, eq-eqb, not-false, lt-leb, le-ltb, le-leb}
+use borrow.Author.Tests.{leb-false, ltb-false, eqb-true, eq-eqb, not-false, lt-leb, le-ltb}
 use Rattle.choice.specs.Choice.{if_then_else_}
 use Rattle.choice.specs.Pick.{both, neither}
 use Rattle.model.specs.Arena.{cellsOf, headFits, shapeFits, isStale, holdIn, isLive}
@@ -14,11 +13,10 @@ use Rattle.types.specs.declared.Head.{Head}
 use Rattle.types.specs.declared.Lease.{Lease}
 use Rattle.setpoint.specs.Codec.{hasBody}
 use Rattle.setpoint.specs.declared.Setpoint.{Setpoint}
-use Rattle.slots.specs.Layout.{slotsOf, bytesFor}
-use Rattle.slots.specs.Rules.{BookRule, firstFault, isBadBook, isBadSlot, isHolder, isRubbish, versionIn, lastVersion, claimRules, overRules}
+use Rattle.slots.specs.Layout.{slotsOf, frontOf, isSound}
+use Rattle.slots.specs.Rules.{BookRule, firstFault, isBadBook, isBadSlot, isHolder, claimRules, openRules}
 use Rattle.slots.specs.declared.BookCheck.{BookCheck}
 use Rattle.slots.specs.declared.BookCheck.the-variants.{Fine, Fault}
-use Rattle.slots.specs.declared.Reading.{Reading}
 
 -- ---- one rule behind the other
 
@@ -62,41 +60,31 @@ shape-head h words e = both (headFits h) (eqb words (3 * cellsOf h)) e .0
 -- ---- what a call knows once its checks are fine
 
 pub record BookFine (n size : ℕ) : Type 0 where
-  pub room : bytesFor n ≤ size
+  pub room : frontOf n ≤ size
   pub limit : size ≤ 32768
 
 pub record SlotFine (n size slot : ℕ) : Type 0 where
-  pub book : BookFine n size
+  pub room : frontOf n ≤ size
+  pub limit : size ≤ 32768
   pub inside : slot < n
 
 pub book-fine : (n size : ℕ) → isBadBook n size ≡ false → BookFine n size
 unfolding isBadBook
 book-fine n size e =
-    let a = neither (ltb size (bytesFor n)) (ltb 32768 size) e in
+    let a = neither (ltb size (frontOf n)) (ltb 32768 size) e in
     record { room = ltb-false _ _ (a .0); limit = ltb-false _ _ (a .1) }
 
 pub slot-fine : (n size slot : ℕ) → isBadSlot n size slot ≡ false → SlotFine n size slot
 unfolding isBadSlot
 slot-fine n size slot e =
     let a = neither (isBadBook n size) (leb n slot) e in
-    record { book = book-fine n size (a .0); inside = leb-false _ _ (a .1) }
+    let b = book-fine n size (a .0) in
+    record { room = b .room; limit = b .limit; inside = leb-false _ _ (a .1) }
 
 -- and the other way
-pub fine-book : (n size : ℕ) → bytesFor n ≤ size → size ≤ 32768 → isBadBook n size ≡ false
-unfolding isBadBook
-fine-book n size l m = rw (le-ltb size (bytesFor n) l, le-ltb 32768 size m)
-
-pub fine-slot : (n size slot : ℕ) → bytesFor n ≤ size → size ≤ 32768 → slot < n → isBadSlot n size slot ≡ false
-unfolding isBadSlot
-fine-slot n size slot l m i = rw (fine-book n size l m, lt-leb n slot i)
-
-pub past-slots : (n size slot : ℕ) → n ≤ slot → isBadSlot n size slot ≡ true
-unfolding isBadSlot
-past-slots n size slot l = rw (le-leb n slot l) (go (isBadBook n size))
-  where
-    go : (b : Bool) → (b || true) ≡ true
-    go true = refl
-    go false = refl
+pub fine-slot : (n size slot : ℕ) → SlotFine n size slot → isBadSlot n size slot ≡ false
+unfolding isBadSlot isBadBook
+fine-slot n size slot f = rw (le-ltb size (frontOf n) (f .room), le-ltb 32768 size (f .limit), lt-leb n slot (f .inside))
 
 pub record ClaimFine (h : Head) (t : List ℕ) (size slot : ℕ) (l : Lease) (s : Setpoint) : Type 0 where
   pub shape : shapeFits h (length t) ≡ true
@@ -117,13 +105,25 @@ claim-fine h t size slot l s e =
     let v = both (isLive (h .next) (cellsOf h) t (holdIn l)) (eqb (l .cell) slot) (not-false _ (d .0)) in
     record { shape = not-false _ (a .0); slot-is = slot-fine (slotsOf h) size slot (b .0); fresh = c .0; live = v .0; own = eqb-true _ _ (v .1); whole = not-false _ (f .0) }
 
-pub record OverFine (r : Reading) : Type 0 where
-  pub sound : isRubbish r ≡ false
-  pub remains : versionIn r ≢ lastVersion
+pub fine-claim : (h : Head) (t : List ℕ) (size slot : ℕ) (l : Lease) (s : Setpoint) → ClaimFine h t size slot l s → firstFault (claimRules h t size slot l s) ≡ Fine
+unfolding claimRules isHolder firstFault
+fine-claim h t size slot l s c =
+    rw (c .shape, fine-slot (slotsOf h) size slot (c .slot-is), c .fresh, c .live, eq-eqb (l .cell) slot (c .own), c .whole)
 
-pub over-fine : (r : Reading) → firstFault (overRules r) ≡ Fine → OverFine r
-unfolding overRules
-over-fine r e =
+-- a read, before the version is looked for
+pub record OpenFine (h : Head) (b : List ℕ) (slot : ℕ) : Type 0 where
+  pub head-fits : headFits h ≡ true
+  pub slot-is : SlotFine (slotsOf h) (length b) slot
+  pub sound : isSound (slotsOf h) b ≡ true
+
+pub open-fine : (h : Head) (b : List ℕ) (slot : ℕ) → firstFault (openRules h b slot) ≡ Fine → OpenFine h b slot
+unfolding openRules
+open-fine h b slot e =
     let a = no-fault _ _ e in
-    let b = no-fault _ _ (a .1) in
-    record { sound = a .0; remains = eqb-false _ _ (b .0) }
+    let c = no-fault _ _ (a .1) in
+    let d = no-fault _ _ (c .1) in
+    record { head-fits = not-false _ (a .0); slot-is = slot-fine (slotsOf h) (length b) slot (c .0); sound = not-false _ (d .0) }
+
+pub fine-open : (h : Head) (b : List ℕ) (slot : ℕ) → OpenFine h b slot → firstFault (openRules h b slot) ≡ Fine
+unfolding openRules firstFault
+fine-open h b slot f = rw (f .head-fits, fine-slot (slotsOf h) (length b) slot (f .slot-is), f .sound)

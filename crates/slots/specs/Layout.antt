@@ -1,38 +1,36 @@
--- Document 02, L2: where a slot stands in the book, what its bytes say, and what a write puts there.
-use Prim.Native.Nat.{ℕ, _+_, _*_, _/_, _%_, min}
+-- Document 02, L2 and L10: where lines and bodies stand in the book, what they say, and what is damage.
+use Prim.Native.Nat.{ℕ, zero, suc, _+_, _*_, _-_, _/_, _%_, min}
 use mathlib.Core.List.{List, [], _∷_}
-use mathlib.Core.Bool.{Bool, _&&_}
-use lib.Dec.{eqb}
-use lib.ListN.{getD}
-use lib.Seq.{sets}
+use mathlib.Core.Bool.{Bool, true, false, not, _&&_, _||_}
+use lib.Dec.{leb, eqb}
+use lib.ListN.{length, getD}
 use Rattle.choice.specs.Choice.{if_then_else_}
 use Rattle.model.specs.Arena.{cellsOf}
 use Rattle.types.specs.declared.Head.{Head}
-use Rattle.setpoint.specs.Codec.{bodyOf, joinOf, settingOf}
-use Rattle.setpoint.specs.declared.Setpoint.{Setpoint}
+use Rattle.setpoint.specs.Codec.{joinOf, decodeOf}
 use Rattle.setpoint.specs.declared.Decoded.{Decoded}
 use Rattle.setpoint.specs.declared.Decoded.the-variants as decoded
-use Rattle.slots.specs.declared.Reading.{Reading}
-use Rattle.slots.specs.declared.Reading.the-variants.{Holds, Blank, Rubbish}
-use Rattle.slots.specs.declared.Slot.{Slot}
 
--- "one slot for each cell, at most the first 64"
+-- L2: "one slot for each cell, at most the first 64"
 abbrev pub slotsOf : Head → ℕ
 slotsOf h = min (cellsOf h) 64
 
--- ---- where the parts of a slot stand, of n slots
+-- ---- over all lines
 
--- "A table of contents first, one 8-byte line a slot"
-abbrev pub lineFrom : ℕ → ℕ
-lineFrom slot = 8 * slot
+-- a test holds of each number below m
+unfoldable pub all : ℕ → (ℕ → Bool) → Bool
+all zero f = true
+all (suc m) f = all m f && f m
 
--- "then the bodies in slot order, 5 bytes each"
-abbrev pub bodyFrom : ℕ → ℕ → ℕ
-bodyFrom n slot = 8 * n + 5 * slot
+-- ---- where lines and bodies stand, of n slots
 
--- so many bytes a book of n slots has at least
-abbrev pub bytesFor : ℕ → ℕ
-bytesFor n = 13 * n
+-- "the table of contents has four lines a slot, newest first": line 4 * slot is the slot's newest, line 4 * slot + 3 its oldest of four
+abbrev pub linesOf : ℕ → ℕ
+linesOf n = 4 * n
+
+-- L2: "A table of contents first, one 8-byte line": line k begins at 8 * k, and the room for bodies here
+abbrev pub frontOf : ℕ → ℕ
+frontOf n = 32 * n
 
 -- the eight bytes of a line from p on, and the five of a body
 unfoldable pub lineAt : List ℕ → ℕ → List ℕ
@@ -41,49 +39,57 @@ lineAt b p = getD b p 0 ∷ getD b (p + 1) 0 ∷ getD b (p + 2) 0 ∷ getD b (p 
 unfoldable pub fiveAt : List ℕ → ℕ → List ℕ
 fiveAt b p = getD b p 0 ∷ getD b (p + 1) 0 ∷ getD b (p + 2) 0 ∷ getD b (p + 3) 0 ∷ getD b (p + 4) 0 ∷ []
 
--- ---- reading
+-- L2: "(place 2, length 2, version 4, low byte first)"
+unfoldable pub placeAt : List ℕ → ℕ → ℕ
+placeAt b k = joinOf (getD b (8 * k) 0) (getD b (8 * k + 1) 0) 0 0
 
--- "(place 2, length 2, version 4, low byte first)", then the body's kind and word
-abbrev pub slotOf : List ℕ → List ℕ → Slot
-slotOf line body =
-    record {
-      place = joinOf (getD line 0 0) (getD line 1 0) 0 0;
-      length = joinOf (getD line 2 0) (getD line 3 0) 0 0;
-      version = joinOf (getD line 4 0) (getD line 5 0) (getD line 6 0) (getD line 7 0);
-      kind = getD body 0 0;
-      word = joinOf (getD body 1 0) (getD body 2 0) (getD body 3 0) (getD body 4 0);
-    }
+unfoldable pub lengthAt : List ℕ → ℕ → ℕ
+lengthAt b k = joinOf (getD b (8 * k + 2) 0) (getD b (8 * k + 3) 0) 0 0
 
-unfoldable pub slotAt : List ℕ → ℕ → ℕ → Slot
-slotAt b p q = slotOf (lineAt b p) (fiveAt b q)
+unfoldable pub versionAt : List ℕ → ℕ → ℕ
+versionAt b k = joinOf (getD b (8 * k + 4) 0) (getD b (8 * k + 5) 0) (getD b (8 * k + 6) 0) (getD b (8 * k + 7) 0)
 
--- "Unwritten lines and bodies are zeros."
-unfoldable pub isBlank : Slot → Bool
-isBlank s = eqb (s .place) 0 && (eqb (s .length) 0 && (eqb (s .version) 0 && (eqb (s .kind) 0 && eqb (s .word) 0)))
+-- the newest version of a slot; 0 where it was never written
+abbrev pub newestAt : List ℕ → ℕ → ℕ
+newestAt b slot = versionAt b (4 * slot)
 
--- a body that means nothing is as bad as a line that fits no rule
-abbrev pub heldIn : Decoded → ℕ → Reading
-heldIn (decoded.Setting s) v = Holds s v
-heldIn decoded.Damaged v = Rubbish
+-- a used line: it keeps a body
+unfoldable pub isKept : List ℕ → ℕ → Bool
+isKept b k = not (eqb (versionAt b k) 0)
 
--- "Version 0 reads as NeverWritten. .. A line or body that fits no rule reads as DamagedBook": a written line has the place of its slot's
--- body, length 5 and a version from 1 on
-unfoldable pub readingOf : ℕ → Slot → Reading
-readingOf place s =
-    if eqb (s .version) 0 then (if isBlank s then Blank else Rubbish)
-    else if eqb (s .place) place then (if eqb (s .length) 5 then heldIn (settingOf (s .kind) (s .word)) (s .version) else Rubbish)
-    else Rubbish
+-- what the five bytes from p on mean
+unfoldable pub settingAt : List ℕ → ℕ → Decoded
+settingAt b p = decodeOf (fiveAt b p)
 
--- what a slot of n says
-unfoldable pub readOf : ℕ → List ℕ → ℕ → Reading
-readOf n b slot = readingOf (bodyFrom n slot) (slotAt b (lineFrom slot) (bodyFrom n slot))
-
--- ---- writing
+abbrev pub isSetting : Decoded → Bool
+isSetting (decoded.Setting s) = true
+isSetting decoded.Damaged = false
 
 -- the line of a body at a place
 unfoldable pub lineOf : ℕ → ℕ → List ℕ
 lineOf place v = place % 256 ∷ place / 256 ∷ 5 ∷ 0 ∷ v % 256 ∷ v / 256 % 256 ∷ v / 65536 % 256 ∷ v / 16777216 ∷ []
 
--- the book with a setpoint and its version in a slot of n
-unfoldable pub putOf : ℕ → List ℕ → ℕ → Setpoint → ℕ → List ℕ
-putOf n b slot s v = sets (sets b (lineFrom slot) (lineOf (bodyFrom n slot) v)) (bodyFrom n slot) (bodyOf s)
+-- ---- "a line or kept body that fits no rule"
+
+-- "newest first, versions falling by one": the line of age i below a newest version v has version v - i, which is 0 where the slot has no such
+-- version; so a slot has min v 4 used lines, and behind them unused ones
+unfoldable pub isFalling : List ℕ → ℕ → Bool
+isFalling b k = eqb (versionAt b k) (versionAt b (k - k % 4) - k % 4)
+
+-- a used line has length 5 and a place behind the contents, with five bytes there that mean a setpoint; "unused lines zero"
+unfoldable pub isFitting : ℕ → List ℕ → ℕ → Bool
+isFitting n b k =
+    if isKept b k then eqb (lengthAt b k) 5 && (leb (frontOf n) (placeAt b k) && (leb (placeAt b k + 5) (length b) && isSetting (settingAt b (placeAt b k))))
+    else eqb (placeAt b k) 0 && eqb (lengthAt b k) 0
+
+-- ---- "or two bodies that overlap"
+
+-- two lines, unless both are used: one body ends where the other begins, or before
+unfoldable pub isApart : List ℕ → ℕ → ℕ → Bool
+isApart b k l = not (isKept b k && isKept b l) || (leb (placeAt b k + 5) (placeAt b l) || leb (placeAt b l + 5) (placeAt b k))
+
+-- no line or kept body fits no rule, no two bodies overlap
+unfoldable pub isSound : ℕ → List ℕ → Bool
+isSound n b =
+    all (linesOf n) (isFalling b)
+    && (all (linesOf n) (isFitting n b) && all (linesOf n) (λ k. all k (λ l. isApart b k l)))

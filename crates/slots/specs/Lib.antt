@@ -1,9 +1,15 @@
 pub mod Layout
+pub mod Writing
 pub mod Rules
 pub mod Calls
 pub mod Cases
 pub mod Stores
-pub mod Judged
-pub mod Reads
+pub mod Many
+pub mod Sound
+pub mod Dropped
+pub mod Slid
+pub mod Appended
+pub mod Wrote
 pub mod Fine
 pub mod Outcomes
+pub mod Reads

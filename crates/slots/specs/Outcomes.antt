@@ -1,30 +1,34 @@
 -- What comes of each call, as cases with the facts of each.
-use Prim.Native.Nat.{ℕ, _+_, _<_}
-use mathlib.Core.Path.{_≡_, refl, ap, _∙_}
+use Prim.Native.Nat.{ℕ, _+_, _*_, _-_, _≤_, _<_}
+use mathlib.Core.Path.{_≡_, refl, sym, ap, _∙_}
+use mathlib.Core.Logic.{_≢_}
 use mathlib.Core.List.{List}
-use mathlib.Core.Bool.{Bool, true, false, not}
+use mathlib.Core.Bool.{Bool, true, false, not, _||_}
 use native.Mathlib.Omega.{arith}
-use lib.Dec.{eqb}
+use native.Mathlib.Decide.{decLt}
+use lib.Dec.{ltb, leb, eqb}
 use lib.ListN.{length, replicate}
+use borrow.Author.Tests.{ltb-false, leb-false, eqb-true, eqb-false, ne-eqb, le-ltb, lt-leb}
 use Rattle.choice.specs.Choice.{if_then_else_}
 use Rattle.model.specs.Arena.{headFits, shapeFits, isStale, holdIn}
 use Rattle.types.specs.declared.Head.{Head}
 use Rattle.types.specs.declared.Lease.{Lease}
-use Rattle.setpoint.specs.Codec.{hasBody}
+use Rattle.setpoint.specs.Codec.{hasBody, decodeOf}
+use Rattle.setpoint.specs.RoundTrip.{wholeIn, setting-whole}
+use Rattle.setpoint.specs.declared.Decoded.{Decoded}
+use Rattle.setpoint.specs.declared.Decoded.the-variants as decoded
 use Rattle.setpoint.specs.declared.Setpoint.{Setpoint}
-use Rattle.slots.specs.Layout.{slotsOf, readOf, putOf}
-use Rattle.slots.specs.Rules.{firstFault, judgeBook, isBadBook, isBadSlot, isHolder, isRubbish, isUnwritten, versionIn, lastVersion, bookRules, claimRules, overRules, slotRules, seenRules, readRules}
-use Rattle.slots.specs.Calls.{prepareBookOf, writtenOver, writeSetpointOf, toldOf, readSetpointOf}
-use Rattle.slots.specs.Judged.{bodyIn, reading-whole}
-use Rattle.slots.specs.Fine.{BookFine, book-fine, ClaimFine, claim-fine, OverFine, over-fine, or-then, faults-append}
+use Rattle.slots.specs.Layout.{slotsOf, placeAt, newestAt, settingAt, isSound}
+use Rattle.slots.specs.Writing.{dropOldestOf, isFull, putOf}
+use Rattle.slots.specs.Rules.{firstFault, judgeBook, isBadBook, isBadSlot, isHolder, isGone, lastVersion, bookRules, claimRules, overRules, openRules, keptRules, readRules}
+use Rattle.slots.specs.Calls.{prepareBookOf, writtenOf, writeSetpointOf, toldOf, lineTold, readVersionOf}
+use Rattle.slots.specs.Fine.{BookFine, book-fine, SlotFine, fine-slot, ClaimFine, claim-fine, fine-claim, OpenFine, fine-open, or-then, faults-append}
 use Rattle.slots.specs.declared.BookAnswer.{BookAnswer}
 use Rattle.slots.specs.declared.BookAnswer.the-variants.{Done, Written, Setting, Refused}
 use Rattle.slots.specs.declared.BookCheck.{BookCheck}
 use Rattle.slots.specs.declared.BookCheck.the-variants.{Fine, Fault}
 use Rattle.slots.specs.declared.BookRefusal.{BookRefusal}
-use Rattle.slots.specs.declared.BookRefusal.the-variants.{BadShape, BadSlot, StaleBoot, NotHeld, NotFinite, DamagedBook, VersionsSpent, NeverWritten}
-use Rattle.slots.specs.declared.Reading.{Reading}
-use Rattle.slots.specs.declared.Reading.the-variants.{Holds, Blank, Rubbish}
+use Rattle.slots.specs.declared.BookRefusal.the-variants.{BadShape, BadSlot, StaleBoot, NotHeld, NotFinite, DamagedBook, VersionsSpent, BookFull, NeverWritten}
 
 -- ---- preparing
 
@@ -56,81 +60,165 @@ prepare-alike h b c e = go (firstFault (bookRules h (length b))) ∙ ap (λ (m :
 
 -- ---- writing
 
+-- all but the room: what is tested before BookFull
+pub record Claim (h : Head) (t b : List ℕ) (slot : ℕ) (l : Lease) (s : Setpoint) : Type 0 where
+  pub given : ClaimFine h t (length b) slot l s
+  pub sound : isSound (slotsOf h) b ≡ true
+  pub remains : newestAt b slot ≢ lastVersion
+
+-- which refusals go by what a write is given alone
+abbrev isGiven : BookRefusal → Bool
+isGiven BadShape = true
+isGiven BadSlot = true
+isGiven StaleBoot = true
+isGiven NotHeld = true
+isGiven NotFinite = true
+isGiven DamagedBook = false
+isGiven VersionsSpent = false
+isGiven BookFull = false
+isGiven NeverWritten = false
+
+abbrev faultOf : BookCheck → BookRefusal
+faultOf Fine = BookFull
+faultOf (Fault r) = r
+
+pub apart : {A : Type 0} → false ≡ true → A
+apart e = let z : _≡_ {A = ℕ} 0 1 = cc in absurd (omega arith)
+
 module _ (h : Head) (t b : List ℕ) (slot : ℕ) (l : Lease) (s : Setpoint) where
-  abbrev said : Reading
-  said = readOf (slotsOf h) b slot
+  abbrev n : ℕ
+  n = slotsOf h
 
-  pub data Wrote : BookAnswer × List ℕ → Type 0 where
-    was-written : ClaimFine h t (length b) slot l s → OverFine said → Wrote (Written (versionIn said + 1), putOf (slotsOf h) b slot s (versionIn said + 1))
-    not-written : (r : BookRefusal) → (r ≡ DamagedBook → (slot < slotsOf h) × (isRubbish said ≡ true)) → Wrote (Refused r, b)
+  pub data Outcome : BookAnswer × List ℕ → Type 0 where
+    done : Claim h t b slot l s → isFull n (dropOldestOf b slot) ≡ false → Outcome (writtenOf (newestAt b slot + 1) (putOf n b slot s (newestAt b slot + 1)))
+    full : Claim h t b slot l s → isFull n (dropOldestOf b slot) ≡ true → Outcome (Refused BookFull, b)
+    refused : (r : BookRefusal) → r ≢ BookFull → (r ≡ DamagedBook → isSound n b ≡ false) → (Claim h t b slot l s → ⊥) → Outcome (Refused r, b)
 
-  -- which refusals the two lists give
-  claims-sound : firstFault (claimRules h t (length b) slot l s) ≡ Fault DamagedBook → ⊥
+  -- a refusal by what was given
+  by-given : (r : BookRefusal) → firstFault (claimRules h t (length b) slot l s) ≡ Fault r → isGiven r ≡ true
   unfolding claimRules firstFault
-  claims-sound = go (shapeFits h (length t)) (isBadSlot (slotsOf h) (length b) slot) (isStale h l) (isHolder h t slot (holdIn l)) (hasBody s)
+  by-given r = go (shapeFits h (length t)) (isBadSlot n (length b) slot) (isStale h l) (isHolder h t slot (holdIn l)) (hasBody s)
     where
+      is : (q : BookRefusal) → isGiven q ≡ true → Fault q ≡ Fault r → isGiven r ≡ true
+      is q g e = sym (ap (λ (c : BookCheck). isGiven (faultOf c)) e) ∙ g
+
       go : (x y o z w : Bool)
-          → (if not x then Fault BadShape else if y then Fault BadSlot else if o then Fault StaleBoot else if not z then Fault NotHeld else if not w then Fault NotFinite else Fine) ≡ Fault DamagedBook → ⊥
-      go true true o z w e = let z : _≡_ {A = ℕ} 0 1 = cc in omega arith
-      go true false true z w e = let z : _≡_ {A = ℕ} 0 1 = cc in omega arith
-      go true false false true true e = let z : _≡_ {A = ℕ} 0 1 = cc in omega arith
-      go true false false true false e = let z : _≡_ {A = ℕ} 0 1 = cc in omega arith
-      go true false false false w e = let z : _≡_ {A = ℕ} 0 1 = cc in omega arith
-      go false y o z w e = let z : _≡_ {A = ℕ} 0 1 = cc in omega arith
+          → (if not x then Fault BadShape else if y then Fault BadSlot else if o then Fault StaleBoot else if not z then Fault NotHeld else if not w then Fault NotFinite else Fine) ≡ Fault r
+          → isGiven r ≡ true
+      go true true o z w e = is BadSlot refl e
+      go true false true z w e = is StaleBoot refl e
+      go true false false true true e = let z : _≡_ {A = ℕ} 0 1 = cc in absurd (omega arith)
+      go true false false true false e = is NotFinite refl e
+      go true false false false w e = is NotHeld refl e
+      go false y o z w e = is BadShape refl e
 
-  over-damaged : firstFault (overRules said) ≡ Fault DamagedBook → isRubbish said ≡ true
+  given-refused : (r : BookRefusal) → firstFault (claimRules h t (length b) slot l s) ≡ Fault r → Outcome (Refused r, b)
+  given-refused r e =
+      let g = by-given r e in
+      refused r (λ q. apart (sym (ap isGiven q) ∙ g)) (λ q. apart (sym (ap isGiven q) ∙ g))
+      (λ c. let z : Fine ≡ Fault r = sym (fine-claim h t (length b) slot l s (c .given)) ∙ e in let y : _≡_ {A = ℕ} 0 1 = cc in omega arith)
+
+  -- all that was given passes: by what the book says
+  by-book : ClaimFine h t (length b) slot l s
+      → Outcome (judgeBook (firstFault (overRules n b slot)) (λ r. (Refused r, b)) (writtenOf (newestAt b slot + 1) (putOf n b slot s (newestAt b slot + 1))))
   unfolding overRules firstFault
-  over-damaged = go (isRubbish said) (eqb (versionIn said) lastVersion)
+  by-book c =
+      go (isSound n b) (eqb (newestAt b slot) lastVersion) (isFull n (dropOldestOf b slot)) refl refl (eqb-true (newestAt b slot) lastVersion) (eqb-false (newestAt b slot) lastVersion)
     where
-      go : (x y : Bool) → (if x then Fault DamagedBook else if y then Fault VersionsSpent else Fine) ≡ Fault DamagedBook → x ≡ true
-      go true y e = refl
-      go false true e = let z : _≡_ {A = ℕ} 0 1 = cc in absurd (omega arith)
-      go false false e = let z : _≡_ {A = ℕ} 0 1 = cc in absurd (omega arith)
+      go : (x y z : Bool) → isSound n b ≡ x → isFull n (dropOldestOf b slot) ≡ z → (y ≡ true → newestAt b slot ≡ lastVersion) → (y ≡ false → newestAt b slot ≢ lastVersion)
+          → Outcome (judgeBook (if not x then Fault DamagedBook else if y then Fault VersionsSpent else if z then Fault BookFull else Fine) (λ r. (Refused r, b))
+          (writtenOf (newestAt b slot + 1) (putOf n b slot s (newestAt b slot + 1))))
+      go false y z e f p q =
+          refused DamagedBook (λ w. let z : _≡_ {A = ℕ} 0 1 = cc in omega arith) (λ w. e) (λ k. apart (sym e ∙ k .sound))
+      go true true z e f p q =
+          refused VersionsSpent (λ w. let z : _≡_ {A = ℕ} 0 1 = cc in omega arith) (λ w. let z : _≡_ {A = ℕ} 0 1 = cc in absurd (omega arith))
+          (λ k. k .remains (p refl))
+      go true false true e f p q = full (record { given = c; sound = e; remains = q refl }) f
+      go true false false e f p q = done (record { given = c; sound = e; remains = q refl }) f
 
-  pub writing-is : Wrote (writeSetpointOf h t b slot l s)
+  pub writing-is : Outcome (writeSetpointOf h t b slot l s)
   unfolding writeSetpointOf
   writing-is =
-      rw (faults-append (claimRules h t (length b) slot l s) (overRules said))
-      (go (firstFault (claimRules h t (length b) slot l s)) (firstFault (overRules said)) refl refl)
+      rw (faults-append (claimRules h t (length b) slot l s) (overRules n b slot)) (go (firstFault (claimRules h t (length b) slot l s)) refl)
     where
-      go : (x y : BookCheck) → firstFault (claimRules h t (length b) slot l s) ≡ x → firstFault (overRules said) ≡ y
-          → Wrote (judgeBook (or-then x y) (λ r. (Refused r, b)) (writtenOver (slotsOf h) b slot s said))
-      go Fine Fine e f = was-written (claim-fine h t (length b) slot l s e) (over-fine said f)
-      go Fine (Fault r) e f = not-written r (λ d. (claim-fine h t (length b) slot l s e .slot-is .inside, over-damaged (f ∙ ap Fault d)))
-      go (Fault r) y e f = not-written r (λ d. absurd (claims-sound (e ∙ ap Fault d)))
+      go : (x : BookCheck) → firstFault (claimRules h t (length b) slot l s) ≡ x
+          → Outcome (judgeBook (or-then x (firstFault (overRules n b slot))) (λ r. (Refused r, b)) (writtenOf (newestAt b slot + 1) (putOf n b slot s (newestAt b slot + 1))))
+      go Fine e = by-book (claim-fine h t (length b) slot l s e)
+      go (Fault r) e = given-refused r e
 
 -- ---- reading
 
-pub reading-is : (h : Head) (b : List ℕ) (slot : ℕ) → headFits h ≡ true → isBadSlot (slotsOf h) (length b) slot ≡ false
-    → readSetpointOf h b slot ≡ toldOf (readOf (slotsOf h) b slot)
-unfolding readSetpointOf slotRules seenRules firstFault
-reading-is h b slot e f = rw (e, f) (go (readOf (slotsOf h) b slot))
-  where
-    go : (r : Reading)
-        → judgeBook (if isRubbish r then Fault DamagedBook else if isUnwritten r then Fault NeverWritten else Fine) Refused (toldOf r) ≡ toldOf r
-    go (Holds s v) = refl
-    go Blank = refl
-    go Rubbish = refl
+-- a version that a slot with this newest one keeps: "the newest four settings"
+abbrev pub Keeps : ℕ → ℕ → Type 0
+Keeps newest w = (1 ≤ w) × (w ≤ newest) × (newest < w + 4)
 
-pub no-such-slot : (h : Head) (b : List ℕ) (slot : ℕ) → headFits h ≡ true → isBadSlot (slotsOf h) (length b) slot ≡ true
-    → readSetpointOf h b slot ≡ Refused BadSlot
-unfolding readSetpointOf slotRules seenRules firstFault
-no-such-slot h b slot e f = rw (e, f)
+pub kept-or : (newest w : ℕ) → Dec (Keeps newest w)
+kept-or newest w = go (decLt w 1) (decLt newest w) (decLt newest (w + 4))
+  where
+    go : Dec (w < 1) → Dec (newest < w) → Dec (newest < w + 4) → Dec (Keeps newest w)
+    go (yes p) q r = no (λ k. omega (arith, k .0))
+    go (no p) (yes q) r = no (λ k. omega (arith, k .1))
+    go (no p) (no q) (yes r) = yes (omega arith, omega arith, r)
+    go (no p) (no q) (no r) = no (λ k. r (k .2))
+
+keeps-is : (b : List ℕ) (slot w : ℕ) → Keeps (newestAt b slot) w → isGone b slot w ≡ false
+unfolding isGone
+keeps-is b slot w k =
+    let some : w ≡ 0 → ⊥ = (λ z. omega (arith, k .0)) in
+    rw (ne-eqb w 0 some, le-ltb (newestAt b slot) w (k .1), lt-leb (w + 4) (newestAt b slot) (k .2))
+
+gone-is : (b : List ℕ) (slot w : ℕ) → (Keeps (newestAt b slot) w → ⊥) → isGone b slot w ≡ true
+unfolding isGone
+gone-is b slot w d =
+    go (eqb w 0) (ltb (newestAt b slot) w) (leb (w + 4) (newestAt b slot)) (eqb-false w 0) (ltb-false (newestAt b slot) w) (leb-false (w + 4) (newestAt b slot))
+  where
+    go : (x y z : Bool) → (x ≡ false → w ≡ 0 → ⊥) → (y ≡ false → w ≤ newestAt b slot) → (z ≡ false → newestAt b slot < w + 4) → (x || (y || z)) ≡ true
+    go true y z f g i = refl
+    go false true z f g i = refl
+    go false false true f g i = refl
+    go false false false f g i = absurd (d (omega (arith, f refl), g refl, i refl))
+
+-- what is read of a sound book: the version's line, or NeverWritten
+
+module _ (h : Head) (b : List ℕ) (slot : ℕ) (fits : headFits h ≡ true) (fine : SlotFine (slotsOf h) (length b) slot) where
+  opens : isSound (slotsOf h) b ≡ true → OpenFine h b slot
+  opens s = record { head-fits = fits; slot-is = fine; sound = s }
+
+  pub read-kept : (w : ℕ) → isSound (slotsOf h) b ≡ true → Keeps (newestAt b slot) w
+      → readVersionOf h b slot w ≡ lineTold b (4 * slot + (newestAt b slot - w)) w
+  unfolding readVersionOf keptRules firstFault
+  read-kept w s k =
+      rw (faults-append (openRules h b slot) (keptRules b slot w), fine-open h b slot (opens s), keeps-is b slot w k)
+
+  pub read-lost : (w : ℕ) → isSound (slotsOf h) b ≡ true → (Keeps (newestAt b slot) w → ⊥) → readVersionOf h b slot w ≡ Refused NeverWritten
+  unfolding readVersionOf keptRules firstFault
+  read-lost w s d =
+      rw (faults-append (openRules h b slot) (keptRules b slot w), fine-open h b slot (opens s), gone-is b slot w d)
+
+  pub read-damaged : (w : ℕ) → isSound (slotsOf h) b ≡ false → readVersionOf h b slot w ≡ Refused DamagedBook
+  unfolding readVersionOf openRules firstFault
+  read-damaged w s = rw (fits, fine-slot (slotsOf h) (length b) slot fine, s)
 
 -- what a read tells has a body: a face may take its word
 abbrev pub bodyTold : BookAnswer → Bool
 bodyTold Done = true
-bodyTold (Written v) = true
+bodyTold (Written v m) = true
 bodyTold (Setting s v) = hasBody s
 bodyTold (Refused r) = true
 
-pub told-whole : (a : BookAnswer) (h : Head) (b : List ℕ) (slot : ℕ) → a ≡ readSetpointOf h b slot → bodyTold a ≡ true
-unfolding readSetpointOf readOf
-told-whole a h b slot e =
-    ap bodyTold e ∙ go (firstFault (readRules h b slot)) (readOf (slotsOf h) b slot) (reading-whole (readOf (slotsOf h) b slot) _ _ refl)
+line-whole : (b : List ℕ) (k v : ℕ) → bodyTold (lineTold b k v) ≡ true
+unfolding lineTold settingAt decodeOf
+line-whole b k v = go (settingAt b (placeAt b k)) (setting-whole (settingAt b (placeAt b k)) _ _ refl)
   where
-    go : (c : BookCheck) (r : Reading) → bodyIn r ≡ true → bodyTold (judgeBook c Refused (toldOf r)) ≡ true
-    go Fine (Holds s v) w = w
-    go Fine Blank w = refl
-    go Fine Rubbish w = refl
-    go (Fault x) r w = refl
+    go : (d : Decoded) → wholeIn d ≡ true → bodyTold (toldOf d v) ≡ true
+    go (decoded.Setting s) w = w
+    go decoded.Damaged w = refl
+
+pub told-whole : (a : BookAnswer) (h : Head) (b : List ℕ) (slot w : ℕ) → a ≡ readVersionOf h b slot w → bodyTold a ≡ true
+unfolding readVersionOf
+told-whole a h b slot w e =
+    ap bodyTold e ∙ go (firstFault (readRules h b slot w)) (lineTold b (4 * slot + (newestAt b slot - w)) w) (line-whole b (4 * slot + (newestAt b slot - w)) w)
+  where
+    go : (c : BookCheck) (a : BookAnswer) → bodyTold a ≡ true → bodyTold (judgeBook c Refused a) ≡ true
+    go Fine a w = w
+    go (Fault x) a w = refl

@@ -1,148 +1,162 @@
--- What a slot says after a write, to the same slot and to another, after a preparation, and where two books agree.
-use mathlib.Core.Path.{_≡_, refl, _∙_}
-use Prim.Native.Nat.{ℕ, _+_, _/_, _%_, _≤_, _<_}
-use native.Mathlib.Omega.{arith}
-use native.Mathlib.Decide.{decLt}
-use mathlib.Core.Logic.{_≢_, _⊎_, inl, inr}
+-- What is read after a write, in two books: b before, c after.
+use Prim.Native.Nat.{ℕ, _+_, _*_, _-_, _%_, _≤_, _<_}
+use mathlib.Core.Path.{_≡_, refl, sym, ap, _∙_}
+use mathlib.Core.Logic.{_≢_, inl, inr}
 use mathlib.Core.List.{List}
 use mathlib.Core.Bool.{true}
-use lib.ListN.{length, getD, replicate, getD-replicate}
-use lib.Seq.{sets, length-sets}
-use borrow.Author.Tests.{eq-eqb, ne-eqb}
-use Rattle.setpoint.specs.Codec.{hasBody, kindOf, wordOf, bytesOf, bodyOf, joinOf}
-use Rattle.setpoint.specs.RoundTrip.{Held, join-low, setting-back}
+use native.Mathlib.Omega.{arith}
+use native.Mathlib.Decide.{decLt}
+use lib.ListN.{length, replicate}
+use Rattle.laws.specs.Lists.{zeros}
+use Rattle.model.specs.Arena.{headFits}
+use Rattle.types.specs.declared.Head.{Head}
 use Rattle.setpoint.specs.declared.Setpoint.{Setpoint}
-use Rattle.slots.specs.Layout.{lineFrom, bodyFrom, bytesFor, fiveAt, lineAt, lineOf, slotOf, slotAt, isBlank, readingOf, readOf, putOf}
-use Rattle.slots.specs.Stores.{sets-below, sets-above, five-in, line-in, five-same, line-same}
-use Rattle.slots.specs.declared.Reading.the-variants.{Holds, Blank}
+use Rattle.setpoint.specs.declared.Decoded.{Decoded}
+use Rattle.setpoint.specs.declared.Decoded.the-variants as decoded
+use Rattle.slots.specs.Layout.{slotsOf, linesOf, frontOf, placeAt, versionAt, newestAt, settingAt, isSetting, isSound}
+use Rattle.slots.specs.Calls.{toldOf, lineTold, readVersionOf}
+use Rattle.slots.specs.Sound.{Kept, Sound, Clean, is-sound, line-zero, setting-alike}
+use Rattle.slots.specs.Appended.{goesOf, goes-own, goes-other}
+use Rattle.slots.specs.Wrote.{Wrote}
+use Rattle.slots.specs.Outcomes.{Keeps, kept-or, read-kept, read-lost}
+use Rattle.slots.specs.Fine.{SlotFine}
+use Rattle.slots.specs.declared.BookAnswer.the-variants.{Setting, Refused}
+use Rattle.slots.specs.declared.BookRefusal.the-variants.{NeverWritten}
 
--- ---- a line and a body that were written read back
+-- ---- the line of a kept version is used
 
-join-pair : (p : ℕ) → joinOf (p % 256) (p / 256) 0 0 ≡ p
-unfolding joinOf
-join-pair p = omega arith
+pub kept-line : (n : ℕ) (b : List ℕ) (slot w : ℕ) → Sound n b → slot < n → Keeps (newestAt b slot) w
+    → versionAt b (4 * slot + (newestAt b slot - w)) ≡ w
+kept-line n b slot w s i k =
+    let x = 4 * slot + (newestAt b slot - w) in
+    let top : x - x % 4 ≡ 4 * slot = omega (arith, k .0, k .1, k .2) in
+    let age : x % 4 ≡ newestAt b slot - w = omega (arith, k .0, k .1, k .2) in
+    omega (arith, s .falls x (omega (arith, k .0, k .1, k .2)), ap (versionAt b) top, k .0, k .1, k .2)
 
-join-five : _≡_ {A = ℕ} (joinOf 5 0 0 0) 5
-unfolding joinOf
-join-five = refl
+-- so it tells a setpoint
+pub line-tells : (d : Decoded) (v : ℕ) → isSetting d ≡ true → (p : Setpoint) × (toldOf d v ≡ Setting p v)
+line-tells (decoded.Setting p) v e = (p, refl)
+line-tells decoded.Damaged v e = let z : _≡_ {A = ℕ} 0 1 = cc in absurd (omega arith)
 
-pub reading-back : (place v : ℕ) (s : Setpoint) → Held s → hasBody s ≡ true → 1 ≤ v → readingOf place (slotOf (lineOf place v) (bodyOf s)) ≡ Holds s v
-unfolding readingOf lineOf bodyOf bytesOf
-reading-back place v s h e l =
-    let some : v ≡ 0 → ⊥ = (λ z. omega arith) in
-    rw (join-low v, join-low (wordOf s), ne-eqb v 0 some, join-pair place, eq-eqb place place refl, join-five, setting-back s h e)
+pub kept-tells : (n : ℕ) (b : List ℕ) (slot w : ℕ) → Sound n b → slot < n → Keeps (newestAt b slot) w
+    → (p : Setpoint) × (lineTold b (4 * slot + (newestAt b slot - w)) w ≡ Setting p w)
+unfolding lineTold
+kept-tells n b slot w s i k =
+    let x = 4 * slot + (newestAt b slot - w) in
+    line-tells (settingAt b (placeAt b x)) w (s .fits .means x (omega (arith, k .0, k .1, k .2)) (omega (arith, kept-line n b slot w s i k, k .0)))
 
-body-in : (b : List ℕ) (p : ℕ) (s : Setpoint) → p + 5 ≤ length b → fiveAt (sets b p (bodyOf s)) p ≡ bodyOf s
-unfolding bodyOf bytesOf
-body-in b p s l = five-in b p (kindOf s) (wordOf s % 256) (wordOf s / 256 % 256) (wordOf s / 65536 % 256) (wordOf s / 16777216) l
+-- ---- a write on a slot
 
-head-in : (b : List ℕ) (p place v : ℕ) → p + 8 ≤ length b → lineAt (sets b p (lineOf place v)) p ≡ lineOf place v
-unfolding lineOf
-head-in b p place v l = line-in b p (place % 256) (place / 256) 5 0 (v % 256) (v / 256 % 256) (v / 65536 % 256) (v / 16777216) l
+module _ (n : ℕ) (b c : List ℕ) (slot : ℕ) (s : Setpoint) (m : ℕ) (inside : slot < n) (sound : Sound n b) (r : Wrote n b c slot s m) where
+  -- a line that stays tells what it told
+  line-stays : (k w : ℕ) → k < linesOf n → k ≢ 4 * slot + 3 → Kept b k → lineTold c (goesOf slot k) w ≡ lineTold b k w
+  unfolding lineTold
+  line-stays k w h d q = ap (λ (x : Decoded). toldOf x w) (setting-alike c b (placeAt c (goesOf slot k)) (placeAt b k) (r .bodies k h d q))
 
--- how long the two parts are
-pub line-long : (place v : ℕ) → length (lineOf place v) ≡ 8
-unfolding lineOf
-line-long place v = refl
+  pub newest-other : (t : ℕ) → t < n → t ≢ slot → newestAt c t ≡ newestAt b t
+  newest-other t h d = go (decLt t slot)
+    where
+      go : Dec (t < slot) → newestAt c t ≡ newestAt b t
+      go (yes q) = ap (versionAt c) (sym (goes-other slot (4 * t) (inl (omega arith)))) ∙ r .versions (4 * t) (omega arith) (omega arith)
+      go (no q) = ap (versionAt c) (sym (goes-other slot (4 * t) (inr (omega arith)))) ∙ r .versions (4 * t) (omega arith) (omega arith)
 
-pub body-long : (s : Setpoint) → length (bodyOf s) ≡ 5
-unfolding bodyOf bytesOf
-body-long s = refl
+  other-told : (t w : ℕ) → t < n → t ≢ slot → Keeps (newestAt b t) w
+      → lineTold c (4 * t + (newestAt c t - w)) w ≡ lineTold b (4 * t + (newestAt b t - w)) w
+  other-told t w h d k =
+      let x = 4 * t + (newestAt b t - w) in
+      ap (λ (u : ℕ). lineTold c (4 * t + (u - w)) w) (newest-other t h d)
+      ∙ ap (λ (u : ℕ). lineTold c u w) (sym (away (decLt t slot)))
+      ∙ line-stays x w (omega (arith, k .2)) (omega (arith, k .2)) (omega (arith, kept-line n b t w sound h k, k .0))
+    where
+      away : Dec (t < slot) → goesOf slot (4 * t + (newestAt b t - w)) ≡ 4 * t + (newestAt b t - w)
+      away (yes q) = goes-other slot (4 * t + (newestAt b t - w)) (inl (omega (arith, k .0, k .1, k .2)))
+      away (no q) = goes-other slot (4 * t + (newestAt b t - w)) (inr (omega arith))
 
-pub put-long : (n : ℕ) (b : List ℕ) (slot : ℕ) (s : Setpoint) (v : ℕ) → length (putOf n b slot s v) ≡ length b
-unfolding putOf
-put-long n b slot s v =
-    length-sets (sets b (lineFrom slot) (lineOf (bodyFrom n slot) v)) (bodyFrom n slot) (bodyOf s)
-    ∙ length-sets b (lineFrom slot) (lineOf (bodyFrom n slot) v)
+  own-told : (w : ℕ) → w ≢ newestAt b slot + 1 → w + 4 ≢ newestAt b slot + 1 → Keeps (newestAt b slot) w
+      → lineTold c (4 * slot + (newestAt c slot - w)) w ≡ lineTold b (4 * slot + (newestAt b slot - w)) w
+  own-told w d e k =
+      let x = 4 * slot + (newestAt b slot - w) in
+      let g : 4 * slot + (newestAt c slot - w) ≡ goesOf slot x = omega (arith, r .newest, k .0, k .1, k .2, goes-own slot x (omega arith) (omega (arith, k .0, k .1, k .2))) in
+      ap (λ (u : ℕ). lineTold c u w) g
+      ∙ line-stays x w (omega (arith, k .0, k .1, k .2)) (omega (arith, k .0, k .1, k .2)) (omega (arith, kept-line n b slot w sound inside k, k .0))
 
--- ---- the same slot
+  new-told : lineTold c (4 * slot + (newestAt c slot - (newestAt b slot + 1))) (newestAt b slot + 1) ≡ Setting s (newestAt b slot + 1)
+  unfolding lineTold
+  new-told =
+      let e : 4 * slot + (newestAt c slot - (newestAt b slot + 1)) ≡ 4 * slot = omega (arith, r .newest) in
+      ap (λ (u : ℕ). toldOf (settingAt c (placeAt c u)) (newestAt b slot + 1)) e
+      ∙ ap (λ (x : Decoded). toldOf x (newestAt b slot + 1)) (r .written)
 
-module _ (n : ℕ) (b : List ℕ) (slot v : ℕ) (s : Setpoint) (i : slot < n) (l : bytesFor n ≤ length b) where
-  pub put-body : fiveAt (putOf n b slot s v) (bodyFrom n slot) ≡ bodyOf s
-  unfolding putOf
-  put-body =
-      let c = sets b (lineFrom slot) (lineOf (bodyFrom n slot) v) in
-      let long : length c ≡ length b = length-sets b (lineFrom slot) (lineOf (bodyFrom n slot) v) in
-      body-in c (bodyFrom n slot) s (omega arith)
+  -- ---- as the calls answer
 
-  pub put-line : lineAt (putOf n b slot s v) (lineFrom slot) ≡ lineOf (bodyFrom n slot) v
-  unfolding putOf
-  put-line =
-      let p = bodyFrom n slot in
-      let c = sets b (lineFrom slot) (lineOf p v) in
-      line-same (sets c p (bodyOf s)) c (lineFrom slot) (λ j a z. sets-below (bodyOf s) c p j (omega arith)) ∙ head-in b (lineFrom slot) p v (omega arith)
+  module _ (h : Head) (fits : headFits h ≡ true) (slots : slotsOf h ≡ n) (room : frontOf n ≤ length b) (limit : length b ≤ 32768) where
+    fine-b : (t : ℕ) → t < n → SlotFine (slotsOf h) (length b) t
+    fine-b t i = rw slots (record { room = room; limit = limit; inside = i })
 
-  pub read-after-write : Held s → hasBody s ≡ true → 1 ≤ v → readOf n (putOf n b slot s v) slot ≡ Holds s v
-  unfolding readOf slotAt
-  read-after-write h e w = rw (put-body, put-line) (reading-back (bodyFrom n slot) v s h e w)
+    fine-c : (t : ℕ) → t < n → SlotFine (slotsOf h) (length c) t
+    fine-c t i = rw (r .long) (fine-b t i)
 
--- ---- where two books agree on a slot's thirteen bytes
+    sound-b : isSound (slotsOf h) b ≡ true
+    sound-b = rw slots (is-sound n b sound)
 
--- byte j is one of the slot's
-abbrev pub Own : ℕ → ℕ → ℕ → Type 0
-Own n slot j = ((lineFrom slot ≤ j) × (j < lineFrom slot + 8)) ⊎ ((bodyFrom n slot ≤ j) × (j < bodyFrom n slot + 5))
+    sound-c : isSound (slotsOf h) c ≡ true
+    sound-c = rw slots (is-sound n c (r .sound))
 
-abbrev pub Agree : ℕ → ℕ → List ℕ → List ℕ → Type 0
-Agree n slot b c = (j : ℕ) → Own n slot j → getD b j 0 ≡ getD c j 0
+    -- every version of another slot reads as before
+    pub other-reads : (t w : ℕ) → t < n → t ≢ slot → readVersionOf h c t w ≡ readVersionOf h b t w
+    other-reads t w i d = go (kept-or (newestAt b t) w)
+      where
+        go : Dec (Keeps (newestAt b t) w) → readVersionOf h c t w ≡ readVersionOf h b t w
+        go (yes k) =
+            read-kept h c t fits (fine-c t i) w sound-c (rw (newest-other t i d) k)
+            ∙ other-told t w i d k
+            ∙ sym (read-kept h b t fits (fine-b t i) w sound-b k)
+        go (no k) =
+            read-lost h c t fits (fine-c t i) w sound-c (rw (newest-other t i d) k)
+            ∙ sym (read-lost h b t fits (fine-b t i) w sound-b k)
 
-pub read-same : (n : ℕ) (b c : List ℕ) (slot : ℕ) → Agree n slot b c → readOf n b slot ≡ readOf n c slot
-unfolding readOf slotAt
-read-same n b c slot h =
-    rw (
-      line-same b c (lineFrom slot) (λ j x y. h j (inl (x, y))),
-      five-same b c (bodyFrom n slot) (λ j x y. h j (inr (x, y))),
-    )
+    -- every version of the slot but the new one and the one that is dropped
+    pub own-reads : (w : ℕ) → w ≢ newestAt b slot + 1 → w + 4 ≢ newestAt b slot + 1 → readVersionOf h c slot w ≡ readVersionOf h b slot w
+    own-reads w d e = go (kept-or (newestAt b slot) w)
+      where
+        go : Dec (Keeps (newestAt b slot) w) → readVersionOf h c slot w ≡ readVersionOf h b slot w
+        go (yes k) =
+            read-kept h c slot fits (fine-c slot inside) w sound-c (omega (arith, k .0), omega (arith, k .1, r .newest), omega (arith, k .2, r .newest))
+            ∙ own-told w d e k
+            ∙ sym (read-kept h b slot fits (fine-b slot inside) w sound-b k)
+        go (no k) =
+            read-lost h c slot fits (fine-c slot inside) w sound-c
+            (λ q. k (omega (arith, q .0), omega (arith, q .1, r .newest), omega (arith, q .2, r .newest)))
+            ∙ sym (read-lost h b slot fits (fine-b slot inside) w sound-b k)
 
--- ---- another slot: none of its bytes is touched
+    pub new-reads : readVersionOf h c slot (newestAt b slot + 1) ≡ Setting s (newestAt b slot + 1)
+    new-reads =
+        read-kept h c slot fits (fine-c slot inside) (newestAt b slot + 1) sound-c (omega arith, omega (arith, r .newest), omega (arith, r .newest))
+        ∙ new-told
 
-outside : (n : ℕ) (b : List ℕ) (slot v : ℕ) (s : Setpoint) (j : ℕ)
-    → (j < lineFrom slot) ⊎ (lineFrom slot + 8 ≤ j) → (j < bodyFrom n slot) ⊎ (bodyFrom n slot + 5 ≤ j) → getD (putOf n b slot s v) j 0 ≡ getD b j 0
-unfolding putOf
-outside n b slot v s j x y = second y ∙ early x
-  where
-    early : (j < lineFrom slot) ⊎ (lineFrom slot + 8 ≤ j) → getD (sets b (lineFrom slot) (lineOf (bodyFrom n slot) v)) j 0 ≡ getD b j 0
-    early (inl q) = sets-below (lineOf (bodyFrom n slot) v) b (lineFrom slot) j q
-    early (inr q) = sets-above (lineOf (bodyFrom n slot) v) b (lineFrom slot) j (omega (arith, line-long (bodyFrom n slot) v))
-
-    second : (j < bodyFrom n slot) ⊎ (bodyFrom n slot + 5 ≤ j)
-        → getD (sets (sets b (lineFrom slot) (lineOf (bodyFrom n slot) v)) (bodyFrom n slot) (bodyOf s)) j 0 ≡ getD (sets b (lineFrom slot) (lineOf (bodyFrom n slot) v)) j 0
-    second (inl q) = sets-below (bodyOf s) (sets b (lineFrom slot) (lineOf (bodyFrom n slot) v)) (bodyFrom n slot) j q
-    second (inr q) = sets-above (bodyOf s) (sets b (lineFrom slot) (lineOf (bodyFrom n slot) v)) (bodyFrom n slot) j (omega (arith, body-long s))
-
-pub put-other : (n : ℕ) (b : List ℕ) (slot t v : ℕ) (s : Setpoint) → slot < n → t < n → t ≢ slot → Agree n t (putOf n b slot s v) b
-put-other n b slot t v s i k d j o = go o (decLt t slot)
-  where
-    go : Own n t j → Dec (t < slot) → getD (putOf n b slot s v) j 0 ≡ getD b j 0
-    go (inl x) (yes q) = outside n b slot v s j (inl (omega (arith, x .1))) (inl (omega (arith, x .1)))
-    go (inl x) (no q) = outside n b slot v s j (inr (omega (arith, x .0))) (inl (omega (arith, x .1)))
-    go (inr x) (yes q) = outside n b slot v s j (inr (omega (arith, x .0))) (inl (omega (arith, x .1)))
-    go (inr x) (no q) = outside n b slot v s j (inr (omega (arith, x .0))) (inr (omega (arith, x .0)))
-
-pub read-other : (n : ℕ) (b : List ℕ) (slot t v : ℕ) (s : Setpoint) → slot < n → t < n → t ≢ slot → readOf n (putOf n b slot s v) t ≡ readOf n b t
-read-other n b slot t v s i k d = read-same n (putOf n b slot s v) b t (put-other n b slot t v s i k d)
+    -- what was dropped
+    pub dropped-reads : (w : ℕ) → w + 4 ≡ newestAt b slot + 1 → readVersionOf h c slot w ≡ Refused NeverWritten
+    dropped-reads w e = read-lost h c slot fits (fine-c slot inside) w sound-c (λ q. omega (arith, q .2, r .newest))
 
 -- ---- a prepared book
 
-zero-at : (m j : ℕ) → j < m → _≡_ {A = ℕ} (getD (replicate m 0) j 0) 0
-zero-at m j h = getD-replicate m j 0 0 h
+pub version-zero : (m k : ℕ) → versionAt (replicate m 0) k ≡ 0
+version-zero m k = line-zero (replicate m 0) k (λ i l. zeros m (8 * k + i)) .2
 
-pub read-prepared : (n m slot : ℕ) → slot < n → bytesFor n ≤ m → readOf n (replicate m 0) slot ≡ Blank
-unfolding readOf readingOf slotAt isBlank lineAt fiveAt joinOf
-read-prepared n m slot i l =
-    let p = lineFrom slot in
-    let q = bodyFrom n slot in
-    rw (
-      zero-at m p (omega arith),
-      zero-at m (p + 1) (omega arith),
-      zero-at m (p + 2) (omega arith),
-      zero-at m (p + 3) (omega arith),
-      zero-at m (p + 4) (omega arith),
-      zero-at m (p + 5) (omega arith),
-      zero-at m (p + 6) (omega arith),
-      zero-at m (p + 7) (omega arith),
-      zero-at m q (omega arith),
-      zero-at m (q + 1) (omega arith),
-      zero-at m (q + 2) (omega arith),
-      zero-at m (q + 3) (omega arith),
-      zero-at m (q + 4) (omega arith),
-    )
+pub prepared-sound : (n m : ℕ) → Sound n (replicate m 0)
+prepared-sound n m =
+    record {
+      falls = λ k h. omega (arith, version-zero m k, version-zero m (k - k % 4));
+      fits =
+          record {
+            unused = λ k h z. let a = line-zero (replicate m 0) k (λ i l. zeros m (8 * k + i)) in (a .0, a .1);
+            five = λ k h q. absurd (omega (arith, version-zero m k));
+            behind = λ k h q. absurd (omega (arith, version-zero m k));
+            within = λ k h q. absurd (omega (arith, version-zero m k));
+            means = λ k h q. absurd (omega (arith, version-zero m k));
+            apart = λ k l hk hl d u w. absurd (omega (arith, version-zero m k));
+          };
+    }
+
+pub prepared-clean : (n m : ℕ) → Clean n (replicate m 0)
+prepared-clean n m j free = zeros m j

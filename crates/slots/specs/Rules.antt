@@ -1,7 +1,7 @@
--- Document 02, L2: the refusals of the book's calls, in order, as lists of rules; the first that applies is given.
-use Prim.Native.Nat.{ℕ}
+-- Document 02, L2 and L10: the refusals of the book's calls, in order, as lists of rules; the first that applies is given.
+use Prim.Native.Nat.{ℕ, _+_}
 use mathlib.Core.List.{List, [], _∷_, _++_}
-use mathlib.Core.Bool.{Bool, true, false, not, _&&_, _||_}
+use mathlib.Core.Bool.{Bool, not, _&&_, _||_}
 use lib.Dec.{ltb, leb, eqb}
 use lib.ListN.{length}
 use Rattle.choice.specs.Choice.{if_then_else_}
@@ -11,13 +11,12 @@ use Rattle.types.specs.declared.Hold.{Hold}
 use Rattle.types.specs.declared.Lease.{Lease}
 use Rattle.setpoint.specs.Codec.{hasBody}
 use Rattle.setpoint.specs.declared.Setpoint.{Setpoint}
-use Rattle.slots.specs.Layout.{slotsOf, bytesFor, readOf}
+use Rattle.slots.specs.Layout.{slotsOf, frontOf, newestAt, isSound}
+use Rattle.slots.specs.Writing.{dropOldestOf, isFull}
 use Rattle.slots.specs.declared.BookCheck.{BookCheck}
 use Rattle.slots.specs.declared.BookCheck.the-variants.{Fine, Fault}
 use Rattle.slots.specs.declared.BookRefusal.{BookRefusal}
-use Rattle.slots.specs.declared.BookRefusal.the-variants.{BadShape, BadSlot, StaleBoot, NotHeld, NotFinite, DamagedBook, VersionsSpent, NeverWritten}
-use Rattle.slots.specs.declared.Reading.{Reading}
-use Rattle.slots.specs.declared.Reading.the-variants.{Holds, Blank, Rubbish}
+use Rattle.slots.specs.declared.BookRefusal.the-variants.{BadShape, BadSlot, StaleBoot, NotHeld, NotFinite, DamagedBook, VersionsSpent, BookFull, NeverWritten}
 
 -- a rule: a refusal, and the test that makes it apply
 pub record BookRule : Type 0 where
@@ -46,11 +45,11 @@ badTable h t = refuse BadShape when not (shapeFits h (length t))
 abbrev pub badHead : Head → BookRule
 badHead h = refuse BadShape when not (headFits h)
 
--- ---- "BadSlot (book too short for its slots, over the limit, or no such slot)"
+-- ---- L2: "BadSlot (book too short for its slots, over the limit, or no such slot)"; L10: "A book shorter than its contents is BadSlot"
 
 -- "at most 32,768 bytes"
 unfoldable pub isBadBook : ℕ → ℕ → Bool
-isBadBook n size = ltb size (bytesFor n) || ltb 32768 size
+isBadBook n size = ltb size (frontOf n) || ltb 32768 size
 
 unfoldable pub isBadSlot : ℕ → ℕ → ℕ → Bool
 isBadSlot n size slot = isBadBook n size || leb n slot
@@ -80,37 +79,30 @@ notHolder h t slot l = refuse NotHeld when not (isHolder h t slot (holdIn l))
 abbrev pub notFinite : Setpoint → BookRule
 notFinite s = refuse NotFinite when not (hasBody s)
 
--- ---- by what the slot says
+-- ---- by what the book says
 
-abbrev pub isRubbish : Reading → Bool
-isRubbish (Holds s v) = false
-isRubbish Blank = false
-isRubbish Rubbish = true
-
-abbrev pub isUnwritten : Reading → Bool
-isUnwritten (Holds s v) = false
-isUnwritten Blank = true
-isUnwritten Rubbish = false
-
-abbrev pub versionIn : Reading → ℕ
-versionIn (Holds s v) = v
-versionIn Blank = 0
-versionIn Rubbish = 0
-
--- "DamagedBook (its own slot)"
-abbrev pub damaged : Reading → BookRule
-damaged r = refuse DamagedBook when isRubbish r
+-- L10: "a line or kept body that fits no rule, or two bodies that overlap, make every read and write DamagedBook"
+abbrev pub damaged : ℕ → List ℕ → BookRule
+damaged n b = refuse DamagedBook when not (isSound n b)
 
 -- "VersionsSpent (at version 4,294,967,295)"
 abbrev pub lastVersion : ℕ
 lastVersion = 4_294_967_295
 
-abbrev pub spent : Reading → BookRule
-spent r = refuse VersionsSpent when eqb (versionIn r) lastVersion
+abbrev pub spent : List ℕ → ℕ → BookRule
+spent b slot = refuse VersionsSpent when eqb (newestAt b slot) lastVersion
 
--- "Version 0 reads as NeverWritten."
-abbrev pub unwritten : Reading → BookRule
-unwritten r = refuse NeverWritten when isUnwritten r
+-- L10: "Refuse BookFull, last in order, exactly when kept bodies after that drop leave fewer than 5 bytes."
+abbrev pub full : ℕ → List ℕ → ℕ → BookRule
+full n b slot = refuse BookFull when isFull n (dropOldestOf b slot)
+
+-- L2: "Version 0 reads as NeverWritten." L10: "NeverWritten now also answers for an older version not kept": 0, one not yet written, one that
+-- was dropped
+unfoldable pub isGone : List ℕ → ℕ → ℕ → Bool
+isGone b slot w = eqb w 0 || (ltb (newestAt b slot) w || leb (w + 4) (newestAt b slot))
+
+abbrev pub gone : List ℕ → ℕ → ℕ → BookRule
+gone b slot w = refuse NeverWritten when isGone b slot w
 
 -- ---- each call's checks, in order
 
@@ -118,22 +110,22 @@ unwritten r = refuse NeverWritten when isUnwritten r
 unfoldable pub bookRules : Head → ℕ → List BookRule
 bookRules h size = badHead h ∷ badBook h size ∷ []
 
--- `write_setpoint`: on what it is given, then on what its slot says
+-- `write_setpoint`: on what it is given, then on what the book says
 unfoldable pub claimRules : Head → List ℕ → ℕ → ℕ → Lease → Setpoint → List BookRule
 claimRules h t size slot l s = badTable h t ∷ badSlot h size slot ∷ staleLease h l ∷ notHolder h t slot l ∷ notFinite s ∷ []
 
-unfoldable pub overRules : Reading → List BookRule
-overRules r = damaged r ∷ spent r ∷ []
+unfoldable pub overRules : ℕ → List ℕ → ℕ → List BookRule
+overRules n b slot = damaged n b ∷ spent b slot ∷ full n b slot ∷ []
 
 abbrev pub writeRules : Head → List ℕ → List ℕ → ℕ → Lease → Setpoint → List BookRule
-writeRules h t b slot l s = claimRules h t (length b) slot l s ++ overRules (readOf (slotsOf h) b slot)
+writeRules h t b slot l s = claimRules h t (length b) slot l s ++ overRules (slotsOf h) b slot
 
--- `read_setpoint`
-unfoldable pub slotRules : Head → ℕ → ℕ → List BookRule
-slotRules h size slot = badHead h ∷ badSlot h size slot ∷ []
+-- `read_version`, and `read_setpoint` with the newest
+unfoldable pub openRules : Head → List ℕ → ℕ → List BookRule
+openRules h b slot = badHead h ∷ badSlot h (length b) slot ∷ damaged (slotsOf h) b ∷ []
 
-unfoldable pub seenRules : Reading → List BookRule
-seenRules r = damaged r ∷ unwritten r ∷ []
+unfoldable pub keptRules : List ℕ → ℕ → ℕ → List BookRule
+keptRules b slot w = gone b slot w ∷ []
 
-abbrev pub readRules : Head → List ℕ → ℕ → List BookRule
-readRules h b slot = slotRules h (length b) slot ++ seenRules (readOf (slotsOf h) b slot)
+abbrev pub readRules : Head → List ℕ → ℕ → ℕ → List BookRule
+readRules h b slot w = openRules h b slot ++ keptRules b slot w

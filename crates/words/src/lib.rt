@@ -240,6 +240,7 @@ fn book_number(refusal: BookRefusal) -> u64
         BookRefusal::NotFinite => 102,
         BookRefusal::DamagedBook => 103,
         BookRefusal::VersionsSpent => 104,
+        BookRefusal::BookFull => 107,
         BookRefusal::NeverWritten => 105,
     }
 }
@@ -251,7 +252,7 @@ pub fn book_words(answer: BookAnswer) -> [u64; 4]
 {
     match answer {
         BookAnswer::Done => [0, 0, 0, 0],
-        BookAnswer::Written(version) => [1, version as u64, 0, 0],
+        BookAnswer::Written(version, moved) => [1, version as u64, moved as u64, 0],
         BookAnswer::Setting(s, version) => [
             2,
             version as u64,

@@ -1,181 +1,144 @@
--- A read is exactly one of three, by the slot's thirteen bytes.
-use Prim.Native.Nat.{ℕ, _+_, _/_, _%_, _<_}
+-- A read is exactly one of three, by the book's bytes.
+use Prim.Native.Nat.{ℕ, _+_, _*_, _-_, _<_}
 use mathlib.Core.Path.{_≡_, refl, sym, ap, _∙_, subst}
-use mathlib.Core.Logic.{inl, inr}
-use mathlib.Core.List.{List, [], _∷_}
-use mathlib.Core.Bool.{true, false}
+use mathlib.Core.List.{List}
+use mathlib.Core.Bool.{Bool, true, false}
 use native.Mathlib.Omega.{arith}
-use lib.ListN.{length, getD, replicate}
-use Rattle.laws.specs.Lists.{zeros}
+use lib.ListN.{length, getD}
 use Rattle.model.specs.Arena.{headFits}
 use Rattle.types.specs.declared.Head.{Head}
-use Rattle.setpoint.specs.Codec.{bytesOf, bodyOf, joinOf}
-use Rattle.setpoint.specs.RoundTrip.{Means, setting-means, low-join, join-small}
+use Rattle.setpoint.specs.Codec.{hasBody, bodyOf, joinOf, decodeOf}
+use Rattle.setpoint.specs.RoundTrip.{Held, Means, setting-means, low-join, join-small, read-back}
+use Rattle.setpoint.specs.declared.Decoded.{Decoded}
+use Rattle.setpoint.specs.declared.Decoded.the-variants as decoded
 use Rattle.setpoint.specs.declared.Setpoint.{Setpoint}
-use Rattle.slots.specs.Layout.{slotsOf, lineFrom, bodyFrom, lineAt, fiveAt, lineOf, slotAt, readOf, putOf}
+use Rattle.slots.specs.Layout.{slotsOf, fiveAt, placeAt, newestAt, settingAt, isSound}
 use Rattle.slots.specs.Rules.{isBadSlot}
-use Rattle.slots.specs.Calls.{toldOf, readSetpointOf}
-use Rattle.slots.specs.Fine.{slot-fine, SlotFine}
-use Rattle.slots.specs.Stores.{each-of-eight, each-of-five, line-each, five-each}
-use Rattle.slots.specs.Judged.{Zeros, Filled, Judged, is-held, is-zeros, is-rubbish, judged}
-use Rattle.slots.specs.Reads.{put-line, put-body, read-after-write, read-same, read-prepared}
-use Rattle.slots.specs.Outcomes.{reading-is}
+use Rattle.slots.specs.Calls.{toldOf, lineTold, readVersionOf}
+use Rattle.slots.specs.Fine.{SlotFine, slot-fine}
+use Rattle.slots.specs.Sound.{Sound, sound-is, is-sound}
+use Rattle.slots.specs.Outcomes.{Keeps, kept-or, read-kept, read-lost, read-damaged, apart}
+use Rattle.slots.specs.Reads.{kept-tells}
+use Rattle.slots.specs.declared.BookAnswer.{BookAnswer}
 use Rattle.slots.specs.declared.BookAnswer.the-variants.{Setting, Refused}
 use Rattle.slots.specs.declared.BookRefusal.the-variants.{DamagedBook, NeverWritten}
-use Rattle.slots.specs.declared.Reading.{Reading}
-use Rattle.slots.specs.declared.Slot.{Slot}
-use Rattle.written.specs.Statements.{Reads-exactly, As-written, All-zero}
+use Rattle.written.specs.Statements.{Reads-exactly, As-written}
 
--- ---- numbers back to bytes
+settings-apart : {A : Type 0} (s : Setpoint) (v : ℕ) → Setting s v ≡ Refused DamagedBook → A
+settings-apart s v e = let z : _≡_ {A = ℕ} 0 1 = cc in absurd (omega arith)
 
-pair-back : (a b n : ℕ) → a < 256 → joinOf a b 0 0 ≡ n → (n % 256 ≡ a) × (n / 256 ≡ b)
-unfolding joinOf
-pair-back a b n l e = (omega arith, omega arith)
+settings-written : {A : Type 0} (s : Setpoint) (v : ℕ) → Setting s v ≡ Refused NeverWritten → A
+settings-written s v e = let z : _≡_ {A = ℕ} 0 1 = cc in absurd (omega arith)
 
-word-back : (a b c d w : ℕ) → a < 256 → b < 256 → c < 256 → joinOf a b c d ≡ w
-    → (w % 256 ≡ a) × (w / 256 % 256 ≡ b) × (w / 65536 % 256 ≡ c) × (w / 16777216 ≡ d)
-unfolding bytesOf
-word-back a b c d w ha hb hc e = (at 1, at 2, at 3, at 4)
-  where
-    all : bytesOf 0 w ≡ 0 ∷ a ∷ b ∷ c ∷ d ∷ []
-    all = ap (bytesOf 0) (sym e) ∙ low-join 0 a b c d ha hb hc
+nevers-apart : {A : Type 0} → Refused NeverWritten ≡ Refused DamagedBook → A
+nevers-apart e = let z : _≡_ {A = ℕ} 0 1 = cc in absurd (omega arith)
 
-    at : (i : ℕ) → getD (bytesOf 0 w) i 0 ≡ getD (0 ∷ a ∷ b ∷ c ∷ d ∷ []) i 0
-    at i = ap (λ (l : List ℕ). getD l i 0) all
+-- ---- five bytes that mean a setpoint are its body
 
-none-of : (a b c d : ℕ) → joinOf a b c d ≡ 0 → (a ≡ 0) × (b ≡ 0) × (c ≡ 0) × (d ≡ 0)
-unfolding joinOf
-none-of a b c d e = (omega arith, omega arith, omega arith, omega arith)
+module _ (b : List ℕ) (q : ℕ) (bytes : (j : ℕ) → getD b j 0 < 256) (p : Setpoint) where
+  means : settingAt b q ≡ decoded.Setting p → Means p (getD b q 0) (joinOf (getD b (q + 1) 0) (getD b (q + 2) 0) (getD b (q + 3) 0) (getD b (q + 4) 0))
+  unfolding settingAt decodeOf fiveAt
+  means e = setting-means _ _ p (join-small _ _ _ _ (bytes (q + 1)) (bytes (q + 2)) (bytes (q + 3)) (bytes (q + 4))) e
 
-module _ (h : Head) (b : List ℕ) (slot : ℕ) (bytes : (j : ℕ) → getD b j 0 < 256) (fits : headFits h ≡ true)
+  body-is : settingAt b q ≡ decoded.Setting p → Held p × (hasBody p ≡ true) × (fiveAt b q ≡ bodyOf p)
+  unfolding fiveAt bodyOf
+  body-is e =
+      let m = means e in (
+        m .held,
+        m .whole,
+        rw (m .kind, m .word)
+            (sym (low-join (getD b q 0) (getD b (q + 1) 0) (getD b (q + 2) 0) (getD b (q + 3) 0) (getD b (q + 4) 0) (bytes (q + 1)) (bytes (q + 2)) (bytes (q + 3)))),
+      )
+
+  is-body : Held p → hasBody p ≡ true → fiveAt b q ≡ bodyOf p → settingAt b q ≡ decoded.Setting p
+  unfolding settingAt
+  is-body h w e = ap decodeOf e ∙ read-back p h w
+
+-- ---- a read
+
+module _ (h : Head) (b : List ℕ) (slot w : ℕ) (bytes : (j : ℕ) → getD b j 0 < 256) (fits : headFits h ≡ true)
     (fine : isBadSlot (slotsOf h) (length b) slot ≡ false) where
   abbrev n : ℕ
   n = slotsOf h
 
-  abbrev p : ℕ
-  p = lineFrom slot
-
-  abbrev q : ℕ
-  q = bodyFrom n slot
-
-  abbrev numbers : Slot
-  numbers = slotAt b p q
+  -- the line of the version
+  abbrev k : ℕ
+  k = 4 * slot + (newestAt b slot - w)
 
   here : SlotFine n (length b) slot
   here = slot-fine n (length b) slot fine
 
-  answers : readSetpointOf h b slot ≡ toldOf (readOf n b slot)
-  answers = reading-is h b slot fits fine
+  data Read : BookAnswer → Type 0 where
+    is-kept : Sound n b → Keeps (newestAt b slot) w → Read (lineTold b k w)
+    is-lost : Sound n b → (Keeps (newestAt b slot) w → ⊥) → Read (Refused NeverWritten)
+    is-damaged : (Sound n b → ⊥) → Read (Refused DamagedBook)
 
-  -- ---- a slot that was filled is as a write leaves it
-
-  module _ (s : Setpoint) (f : Filled q numbers s) where
-    line-is : lineAt b p ≡ lineOf q (numbers .version)
-    unfolding slotAt lineAt lineOf
-    line-is =
-        let place = pair-back (getD b p 0) (getD b (p + 1) 0) q (bytes p) (f .stands) in
-        let long = pair-back (getD b (p + 2) 0) (getD b (p + 3) 0) 5 (bytes (p + 2)) (f .length) in
-        let v = word-back (getD b (p + 4) 0) (getD b (p + 5) 0) (getD b (p + 6) 0) (getD b (p + 7) 0) (numbers .version) (bytes (p + 4)) (bytes (p + 5)) (bytes (p + 6)) refl in
-        rw (place .0, place .1, v .0, v .1, v .2, v .3, sym (long .0), sym (long .1))
-
-    means : Means s (numbers .kind) (numbers .word)
-    unfolding slotAt fiveAt
-    means =
-        setting-means (numbers .kind) (numbers .word) s
-        (join-small (getD b (q + 1) 0) (getD b (q + 2) 0) (getD b (q + 3) 0) (getD b (q + 4) 0) (bytes (q + 1)) (bytes (q + 2)) (bytes (q + 3)) (bytes (q + 4)))
-        (f .means)
-
-    body-is : fiveAt b q ≡ bodyOf s
-    unfolding slotAt fiveAt bodyOf
-    body-is =
-        let m = means in
-        rw (m .kind, m .word)
-        (sym (low-join (getD b q 0) (getD b (q + 1) 0) (getD b (q + 2) 0) (getD b (q + 3) 0) (getD b (q + 4) 0) (bytes (q + 1)) (bytes (q + 2)) (bytes (q + 3))))
-
-    filled : As-written h b slot s (numbers .version)
-    filled =
-        let v = numbers .version in
-        let c = putOf n b slot s v in
-        let long = here .book .room in (
-          means .held,
-          means .whole,
-          omega (arith, f .version),
-          (λ j o.
-              elim o [
-                | inl x ↦ line-each b c p (line-is ∙ sym (put-line n b slot v s (here .inside) long)) j (x .0) (x .1)
-                | inr x ↦ five-each b c q (body-is ∙ sym (put-body n b slot v s (here .inside) long)) j (x .0) (x .1)
-              ]),
-        )
-
-  -- ---- and the three answers
-
-  written-reads : (s : Setpoint) (v : ℕ) → As-written h b slot s v → readSetpointOf h b slot ≡ Setting s v
-  written-reads s v a =
-      answers
-      ∙ ap toldOf (read-same n b (putOf n b slot s v) slot (a .3) ∙ read-after-write n b slot v s (here .inside) (here .book .room) (a .0) (a .1) (a .2))
-
-  zeros-read : All-zero h b slot → readSetpointOf h b slot ≡ Refused NeverWritten
-  zeros-read a =
-      answers
-      ∙ ap toldOf (read-same n b (replicate (length b) 0) slot (λ j o. a j o ∙ sym (zeros (length b) j))
-      ∙ read-prepared n (length b) slot (here .inside) (here .book .room))
-
-  all-zero : Zeros numbers → All-zero h b slot
-  unfolding slotAt lineAt fiveAt
-  all-zero z j o =
-      let place = none-of (getD b p 0) (getD b (p + 1) 0) 0 0 (z .place) in
-      let long = none-of (getD b (p + 2) 0) (getD b (p + 3) 0) 0 0 (z .length) in
-      let v = none-of (getD b (p + 4) 0) (getD b (p + 5) 0) (getD b (p + 6) 0) (getD b (p + 7) 0) (z .version) in
-      let w = none-of (getD b (q + 1) 0) (getD b (q + 2) 0) (getD b (q + 3) 0) (getD b (q + 4) 0) (z .word) in
-      elim o [
-        | inl x ↦ each-of-eight (λ (i : ℕ). getD b i 0 ≡ 0) p (place .0) (place .1) (long .0) (long .1) (v .0) (v .1) (v .2) (v .3) j (x .0) (x .1)
-        | inr x ↦ each-of-five (λ (i : ℕ). getD b i 0 ≡ 0) q (z .kind) (w .0) (w .1) (w .2) (w .3) j (x .0) (x .1)
-      ]
-
-  judged-here : Judged q numbers (readOf n b slot)
-  unfolding readOf
-  judged-here = judged q numbers
-
-  settings : (s : Setpoint) (v : ℕ) → readSetpointOf h b slot ≡ Setting s v → As-written h b slot s v
-  settings s v e = go judged-here (sym answers ∙ e)
+  read-one : Read (readVersionOf h b slot w)
+  read-one = go (isSound n b) refl (kept-or (newestAt b slot) w)
     where
-      go : {r : Reading} → Judged q numbers r → toldOf r ≡ Setting s v → As-written h b slot s v
-      go (is-held t f) x =
-          let same : t ≡ s = cc in
-          let number : numbers .version ≡ v = cc in
-          subst (λ (u : ℕ). As-written h b slot s u) number (subst (λ (u : Setpoint). As-written h b slot u (numbers .version)) same (filled t f))
-      go (is-zeros z) x = let z : _≡_ {A = ℕ} 0 1 = cc in absurd (omega arith)
-      go (is-rubbish f g) x = let z : _≡_ {A = ℕ} 0 1 = cc in absurd (omega arith)
+      go : (x : Bool) → isSound n b ≡ x → Dec (Keeps (newestAt b slot) w) → Read (readVersionOf h b slot w)
+      go true e (yes q) = subst Read (sym (read-kept h b slot fits here w e q)) (is-kept (sound-is n b e) q)
+      go true e (no q) = subst Read (sym (read-lost h b slot fits here w e q)) (is-lost (sound-is n b e) q)
+      go false e q = subst Read (sym (read-damaged h b slot fits here w e)) (is-damaged (λ s. apart (sym e ∙ is-sound n b s)))
 
-  nevers : readSetpointOf h b slot ≡ Refused NeverWritten → All-zero h b slot
-  nevers e = go judged-here (sym answers ∙ e)
+  tells : (p : Setpoint) (v : ℕ) → lineTold b k w ≡ Setting p v → (v ≡ w) × (settingAt b (placeAt b k) ≡ decoded.Setting p)
+  unfolding lineTold
+  tells p v e = go (settingAt b (placeAt b k)) e
     where
-      go : {r : Reading} → Judged q numbers r → toldOf r ≡ Refused NeverWritten → All-zero h b slot
-      go (is-held t f) x = let z : _≡_ {A = ℕ} 0 1 = cc in absurd (omega arith)
-      go (is-zeros z) x = all-zero z
-      go (is-rubbish f g) x = let z : _≡_ {A = ℕ} 0 1 = cc in absurd (omega arith)
+      go : (d : Decoded) → toldOf d w ≡ Setting p v → (v ≡ w) × (d ≡ decoded.Setting p)
+      go (decoded.Setting s) x = (cc, cc)
+      go decoded.Damaged x = let z : _≡_ {A = ℕ} 0 1 = cc in absurd (omega arith)
 
-  damages : (All-zero h b slot → ⊥) → ((s : Setpoint) (v : ℕ) → As-written h b slot s v → ⊥) → readSetpointOf h b slot ≡ Refused DamagedBook
-  damages f g = answers ∙ go judged-here
+  told-by : (p : Setpoint) → settingAt b (placeAt b k) ≡ decoded.Setting p → lineTold b k w ≡ Setting p w
+  unfolding lineTold
+  told-by p e = ap (λ (d : Decoded). toldOf d w) e
+
+  setting-is : (p : Setpoint) (v : ℕ) → readVersionOf h b slot w ≡ Setting p v → (v ≡ w) × Sound n b × Keeps (newestAt b slot) w × As-written b slot w p
+  setting-is p v e = go read-one e
     where
-      go : {r : Reading} → Judged q numbers r → toldOf r ≡ Refused DamagedBook
-      go (is-held t x) = absurd (g t (numbers .version) (filled t x))
-      go (is-zeros z) = absurd (f (all-zero z))
-      go (is-rubbish x y) = refl
+      go : {a : BookAnswer} → Read a → a ≡ Setting p v → (v ≡ w) × Sound n b × Keeps (newestAt b slot) w × As-written b slot w p
+      go (is-kept s q) x = let t = tells p v x in (t .0, s, q, body-is b (placeAt b k) bytes p (t .1))
+      go (is-lost s q) x = settings-written p v (sym x)
+      go (is-damaged s) x = settings-apart p v (sym x)
 
-settings-apart : (s : Setpoint) (v : ℕ) → Setting s v ≡ Refused DamagedBook → ⊥
-settings-apart s v e = let z : _≡_ {A = ℕ} 0 1 = cc in omega arith
+  is-setting : (p : Setpoint) → Sound n b → Keeps (newestAt b slot) w → As-written b slot w p → readVersionOf h b slot w ≡ Setting p w
+  is-setting p s q a =
+      read-kept h b slot fits here w (is-sound n b s) q ∙ told-by p (is-body b (placeAt b k) bytes p (a .0) (a .1) (a .2))
 
-nevers-apart : Refused NeverWritten ≡ Refused DamagedBook → ⊥
-nevers-apart e = let z : _≡_ {A = ℕ} 0 1 = cc in omega arith
+  -- a kept version of a sound book is a setting
+  kept-setting : Sound n b → Keeps (newestAt b slot) w → (p : Setpoint) × (lineTold b k w ≡ Setting p w)
+  kept-setting s q = kept-tells n b slot w s (here .inside) q
 
-pub reads-exactly : Reads-exactly readSetpointOf
-reads-exactly h b slot bytes fits fine = (
-  λ s v. (settings h b slot bytes fits fine s v, written-reads h b slot bytes fits fine s v),
-  (nevers h b slot bytes fits fine, zeros-read h b slot bytes fits fine),
-  (
-    λ e.
-        (λ z. nevers-apart (sym (zeros-read h b slot bytes fits fine z) ∙ e), λ s v a. settings-apart s v (sym (written-reads h b slot bytes fits fine s v a) ∙ e)),
-    λ x. damages h b slot bytes fits fine (x .0) (x .1),
+  never-is : readVersionOf h b slot w ≡ Refused NeverWritten → Sound n b × (Keeps (newestAt b slot) w → ⊥)
+  never-is e = go read-one e
+    where
+      go : {a : BookAnswer} → Read a → a ≡ Refused NeverWritten → Sound n b × (Keeps (newestAt b slot) w → ⊥)
+      go (is-kept s q) x = let t = kept-setting s q in settings-written (t .0) w (sym (t .1) ∙ x)
+      go (is-lost s q) x = (s, q)
+      go (is-damaged s) x = nevers-apart (sym x)
+
+  damaged-is : readVersionOf h b slot w ≡ Refused DamagedBook → Sound n b → ⊥
+  damaged-is e = go read-one e
+    where
+      go : {a : BookAnswer} → Read a → a ≡ Refused DamagedBook → Sound n b → ⊥
+      go (is-kept s q) x = let t = kept-setting s q in settings-apart (t .0) w (sym (t .1) ∙ x)
+      go (is-lost s q) x = nevers-apart x
+      go (is-damaged s) x = s
+
+  is-damage : (Sound n b → ⊥) → readVersionOf h b slot w ≡ Refused DamagedBook
+  is-damage d = go read-one
+    where
+      go : {a : BookAnswer} → Read a → a ≡ Refused DamagedBook
+      go (is-kept s q) = absurd (d s)
+      go (is-lost s q) = absurd (d s)
+      go (is-damaged s) = refl
+
+pub reads-exactly : Reads-exactly readVersionOf
+reads-exactly h b slot w bytes fits fine = (
+  λ p v. (
+    setting-is h b slot w bytes fits fine p v,
+    λ x. is-setting h b slot w bytes fits fine p (x .1) (x .2) (x .3) ∙ ap (Setting p) (sym (x .0)),
   ),
+  (never-is h b slot w bytes fits fine, λ x. read-lost h b slot fits (slot-fine (slotsOf h) (length b) slot fine) w (is-sound (slotsOf h) b (x .0)) (x .1)),
+  (damaged-is h b slot w bytes fits fine, is-damage h b slot w bytes fits fine),
 )

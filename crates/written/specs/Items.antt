@@ -1,15 +1,18 @@
 -- What a history with a book is made of: the items of a history, and the book's calls; the book is one more lent run, handed on.
-use Prim.Native.Nat.{ℕ, _+_}
+use Prim.Native.Nat.{ℕ, _-_}
 use mathlib.Core.Path.{_≡_}
 use mathlib.Core.List.{List, [], _∷_}
 use lib.Dec.{eqb}
+use lib.ListN.{length, getD}
 use Rattle.choice.specs.Choice.{if_then_else_}
 use Rattle.types.specs.declared.Head.{Head}
 use Rattle.types.specs.declared.Lease.{Lease}
 use Rattle.setpoint.specs.RoundTrip.{Held}
 use Rattle.setpoint.specs.declared.Setpoint.{Setpoint}
+use Rattle.setpoint.specs.declared.Setpoint.the-variants.{Speed}
 use Rattle.slots.specs.Layout.{slotsOf}
-use Rattle.slots.specs.Calls.{prepareBookOf, writeSetpointOf, readSetpointOf}
+use Rattle.slots.specs.Calls.{prepareBookOf, writeSetpointOf, readSetpointOf, readVersionOf}
+use Rattle.slots.specs.Outcomes.{kept-or}
 use Rattle.slots.specs.declared.BookAnswer.{BookAnswer}
 use Rattle.slots.specs.declared.BookAnswer.the-variants.{Done, Written, Setting, Refused}
 use Rattle.slots.specs.declared.BookRefusal.the-variants.{NeverWritten}
@@ -23,12 +26,14 @@ pub data BookItem : Type 0 where
   prepare-book : BookItem
   write-setpoint : (slot : ℕ) → Lease → Setpoint → BookItem
   read-setpoint : (slot : ℕ) → BookItem
+  read-version : (slot version : ℕ) → BookItem
 
 -- what a book call was, and what it answered
 pub data BookEntry : Type 0 where
   prepared : BookAnswer → BookEntry
   wrote : (slot : ℕ) → Lease → Setpoint → BookAnswer → BookEntry
   was-read : (slot : ℕ) → BookAnswer → BookEntry
+  version-read : (slot version : ℕ) → BookAnswer → BookEntry
 
 -- the arena's history, the book now, and what the book's calls answered so far, the newest first
 pub record Shift : Type 0 where
@@ -59,58 +64,48 @@ writing s slot l p = writeSetpointOf (head-of s) (world-of s .table) (s .book) s
 abbrev pub reading : Shift → ℕ → BookAnswer
 reading s slot = readSetpointOf (head-of s) (s .book) slot
 
+abbrev pub reading-version : Shift → ℕ → ℕ → BookAnswer
+reading-version s slot w = readVersionOf (head-of s) (s .book) slot w
+
 -- one item more
 unfoldable pub next-shift : Shift → BookItem → Shift
 next-shift s (arena-item i) = shiftOf (next-item (s .course) i) (s .book) (s .entries)
 next-shift s prepare-book = let o = preparing-book s in shiftOf (s .course) (o .1) (prepared (o .0) ∷ s .entries)
 next-shift s (write-setpoint slot l p) = let o = writing s slot l p in shiftOf (s .course) (o .1) (wrote slot l p (o .0) ∷ s .entries)
 next-shift s (read-setpoint slot) = shiftOf (s .course) (s .book) (was-read slot (reading s slot) ∷ s .entries)
+next-shift s (read-version slot w) = shiftOf (s .course) (s .book) (version-read slot w (reading-version s slot w) ∷ s .entries)
 
 unfoldable pub run-shift : Shift → List BookItem → Shift
 run-shift s [] = s
 run-shift s (i ∷ is) = run-shift (next-shift s i) is
 
--- ---- the last done write on a slot, and how many there were, since the last done preparation of the book
-
-pub data Last : Type 0 where
-  none : Last
-  the : Setpoint → Last
+-- ---- the settings of a slot, by the done writes on it since the last done preparation of the book; the newest first
 
 -- what one entry makes of what came before it
-abbrev pub last-after : BookEntry → ℕ → Last → Last
-last-after (prepared Done) slot before = none
-last-after (prepared (Written v)) slot before = before
-last-after (prepared (Setting p v)) slot before = before
-last-after (prepared (Refused r)) slot before = before
-last-after (wrote t l p Done) slot before = before
-last-after (wrote t l p (Written v)) slot before = if eqb t slot then the p else before
-last-after (wrote t l p (Setting q v)) slot before = before
-last-after (wrote t l p (Refused r)) slot before = before
-last-after (was-read t a) slot before = before
+abbrev pub settings-after : BookEntry → ℕ → List Setpoint → List Setpoint
+settings-after (prepared Done) slot before = []
+settings-after (prepared (Written v m)) slot before = before
+settings-after (prepared (Setting p v)) slot before = before
+settings-after (prepared (Refused r)) slot before = before
+settings-after (wrote t l p Done) slot before = before
+settings-after (wrote t l p (Written v m)) slot before = if eqb t slot then p ∷ before else before
+settings-after (wrote t l p (Setting q v)) slot before = before
+settings-after (wrote t l p (Refused r)) slot before = before
+settings-after (was-read t a) slot before = before
+settings-after (version-read t w a) slot before = before
 
-abbrev pub number-after : BookEntry → ℕ → ℕ → ℕ
-number-after (prepared Done) slot before = 0
-number-after (prepared (Written v)) slot before = before
-number-after (prepared (Setting p v)) slot before = before
-number-after (prepared (Refused r)) slot before = before
-number-after (wrote t l p Done) slot before = before
-number-after (wrote t l p (Written v)) slot before = if eqb t slot then before + 1 else before
-number-after (wrote t l p (Setting q v)) slot before = before
-number-after (wrote t l p (Refused r)) slot before = before
-number-after (was-read t a) slot before = before
+unfoldable pub settings : ℕ → List BookEntry → List Setpoint
+settings slot [] = []
+settings slot (e ∷ es) = settings-after e slot (settings slot es)
 
-unfoldable pub last-write : ℕ → List BookEntry → Last
-last-write slot [] = none
-last-write slot (e ∷ es) = last-after e slot (last-write slot es)
+-- what a read is to answer then: the last, with their number as its version
+abbrev pub told : List Setpoint → BookAnswer
+told [] = Refused NeverWritten
+told (p ∷ ps) = Setting p (length (p ∷ ps))
 
-unfoldable pub writes : ℕ → List BookEntry → ℕ
-writes slot [] = 0
-writes slot (e ∷ es) = number-after e slot (writes slot es)
-
--- what a read is to answer then
-abbrev pub told : Last → ℕ → BookAnswer
-told none n = Refused NeverWritten
-told (the p) n = Setting p n
+-- and what a read of a version is to answer: the w-th setting, if it is one of "the newest four settings", else NeverWritten
+unfoldable pub toldBy : List Setpoint → ℕ → BookAnswer
+toldBy ss w = elim (kept-or (length ss) w) [ yes k ↦ Setting (getD ss (length ss - w) (Speed 0)) w | no k ↦ Refused NeverWritten ]
 
 -- ---- premises
 
@@ -126,6 +121,7 @@ Typed (arena-item i) = Unit {0}
 Typed prepare-book = Unit {0}
 Typed (write-setpoint slot l p) = Held p
 Typed (read-setpoint slot) = Unit {0}
+Typed (read-version slot w) = Unit {0}
 
 abbrev pub All-typed : List BookItem → Type 0
 All-typed [] = Unit {0}

@@ -3,6 +3,7 @@ pub mod Statements
 pub mod Theorems
 pub mod Promises
 pub mod Heads
+pub mod After
 pub mod Runs
 pub mod Exact
 pub mod Parted

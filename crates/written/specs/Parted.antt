@@ -1,5 +1,5 @@
 -- Who writes: the holder of the slot's cell, one at a time; and of two done writes with different leases the first lease was released between.
-use Prim.Native.Nat.{ℕ}
+use Prim.Native.Nat.{ℕ, _+_}
 use mathlib.Core.Path.{_≡_, refl, sym, ap, _∙_, subst}
 use mathlib.Core.Logic.{_≢_, _⊎_, inl, inr}
 use mathlib.Core.List.{List, [], _∷_, _++_, append-nil, append-assoc}
@@ -16,13 +16,14 @@ use Rattle.types.specs.declared.Hold.{Hold}
 use Rattle.types.specs.declared.SalvageAnswer.{SalvageAnswer}
 use Rattle.types.specs.declared.SalvageAnswer.the-variants as salvaged
 use Rattle.laws.specs.Lists.{leases-equal}
-use Rattle.slots.specs.Calls.{writtenOver, writeSetpointOf}
-use Rattle.slots.specs.Layout.{slotsOf, readOf}
+use Rattle.slots.specs.Calls.{writtenOf, writeSetpointOf}
+use Rattle.slots.specs.Layout.{slotsOf, newestAt}
+use Rattle.slots.specs.Writing.{putOf}
 use Rattle.slots.specs.Rules.{firstFault, judgeBook, badTable, badSlot, claimRules}
 use Rattle.slots.specs.declared.BookCheck.the-variants.{Fine, Fault}
 use Rattle.slots.specs.declared.BookRefusal.{BookRefusal}
-use Rattle.slots.specs.declared.BookRefusal.the-variants.{BadShape, BadSlot, StaleBoot}
-use Rattle.slots.specs.Outcomes.{Wrote, was-written, not-written, writing-is}
+use Rattle.slots.specs.declared.BookRefusal.the-variants.{BadShape, BadSlot, StaleBoot, BookFull}
+use Rattle.slots.specs.Outcomes.{Outcome, done, full, refused, writing-is}
 use Rattle.slots.specs.declared.BookAnswer.{BookAnswer}
 use Rattle.slots.specs.declared.BookAnswer.the-variants.{Written, Refused}
 use Rattle.history.specs.World.{World, Live, now, Releases, Unreleased}
@@ -33,31 +34,33 @@ use Rattle.history.specs.Events.{lives}
 use Rattle.history.specs.Logs.{boot-now}
 use Rattle.history.specs.Writers.{looked}
 use Rattle.history.specs.Courses.{Stretch, run-stretch, ledger, begun, events-append, not-prepared, not-salvaged}
-use Rattle.written.specs.Items.{BookItem, arena-item, prepare-book, write-setpoint, read-setpoint, Shift, shiftOf, world-of, next-shift, run-shift}
+use Rattle.written.specs.Items.{BookItem, arena-item, prepare-book, write-setpoint, read-setpoint, read-version, Shift, shiftOf, world-of, next-shift, run-shift}
 use Rattle.written.specs.Statements.{Written-by-holder, Unowned-writes-nothing, Stale-writes-nothing, One-writer, Goes-on, One-stretch, Released-between, Writers-parted}
 
 -- ---- the holder
 
 pub written-by-holder : Written-by-holder writeSetpointOf
-written-by-holder w b slot l p v e = go (writing-is (w .head) (w .table) b slot l p) e
+written-by-holder w b slot l p v m e = go (writing-is (w .head) (w .table) b slot l p) e
   where
-    go : {o : BookAnswer × List ℕ} → Wrote (w .head) (w .table) b slot l p o → o .0 ≡ Written v → Live w (holdIn l) × (l .cell ≡ slot) × (l .boot ≡ w .head .boot)
-    go (was-written c f) x = (c .live, c .own, eqb-true _ _ (not-false _ (c .fresh)))
-    go (not-written r f) x = let z : _≡_ {A = ℕ} 0 1 = cc in absurd (omega arith)
+    go : {o : BookAnswer × List ℕ} → Outcome (w .head) (w .table) b slot l p o → o .0 ≡ Written v m → Live w (holdIn l) × (l .cell ≡ slot) × (l .boot ≡ w .head .boot)
+    go (done c f) x = (c .given .live, c .given .own, eqb-true _ _ (not-false _ (c .given .fresh)))
+    go (full c f) x = let z : _≡_ {A = ℕ} 0 1 = cc in absurd (omega arith)
+    go (refused r d g c) x = let z : _≡_ {A = ℕ} 0 1 = cc in absurd (omega arith)
 
 pub unowned-writes-nothing : Unowned-writes-nothing writeSetpointOf
 unowned-writes-nothing w b slot l p n = go (writing-is (w .head) (w .table) b slot l p)
   where
-    go : {o : BookAnswer × List ℕ} → Wrote (w .head) (w .table) b slot l p o → (r : BookRefusal) × (o ≡ (Refused r, b))
-    go (was-written c f) = absurd (n (rw (c .fresh, c .live)))
-    go (not-written r f) = (r, refl)
+    go : {o : BookAnswer × List ℕ} → Outcome (w .head) (w .table) b slot l p o → (r : BookRefusal) × (o ≡ (Refused r, b))
+    go (done c f) = absurd (n (rw (c .given .fresh, c .given .live)))
+    go (full c f) = (BookFull, refl)
+    go (refused r d g c) = (r, refl)
 
 pub stale-writes-nothing : Stale-writes-nothing writeSetpointOf
 unfolding writeSetpointOf claimRules firstFault
 stale-writes-nothing w b slot l p s = rw s (go (badTable (w .head) (w .table) .applies) (badSlot (w .head) (length b) slot .applies))
   where
     over : BookAnswer × List ℕ
-    over = writtenOver (slotsOf (w .head)) b slot p (readOf (slotsOf (w .head)) b slot)
+    over = writtenOf (newestAt b slot + 1) (putOf (slotsOf (w .head)) b slot p (newestAt b slot + 1))
 
     go : (x y : Bool) → (if x then Fault BadShape else if y then Fault BadSlot else Fine) ≡ Fine
         → judgeBook (if x then Fault BadShape else if y then Fault BadSlot else Fault StaleBoot) (λ r. (Refused r, b)) over ≡ (Refused StaleBoot, b)
@@ -73,9 +76,9 @@ one-holder w l k x y e =
     holds-equal l k e (sym (a .owner-is) ∙ ap (λ (c : ℕ). ownerAt (w .table) c) e ∙ b .owner-is)
 
 pub one-writer : One-writer writeSetpointOf
-one-writer w b c slot l k p q u v x y =
-    let f = written-by-holder w b slot l p u x in
-    let g = written-by-holder w c slot k q v y in
+one-writer w b c slot l k p q u v m o x y =
+    let f = written-by-holder w b slot l p u m x in
+    let g = written-by-holder w c slot k q v o y in
     leases-equal l k (one-holder w (holdIn l) (holdIn k) (f .0) (g .0) (f .1 ∙ sym (g .1))) (f .2 ∙ sym (g .2))
 
 -- ---- a log releases a lease, or it does not
@@ -134,6 +137,7 @@ item-more s (arena-item (salvage-over paper t h report list)) g = unsalvaged-mor
 item-more s prepare-book g = same (s .course)
 item-more s (write-setpoint slot l p) g = same (s .course)
 item-more s (read-setpoint slot) g = same (s .course)
+item-more s (read-version slot w) g = same (s .course)
 
 runs-more : (s : Shift) (items : List BookItem) → One-stretch s items → Longer (s .course) (run-shift s items .course)
 unfolding run-shift
@@ -148,6 +152,7 @@ item-stretch s (arena-item i) k = run-stretch (s .course) (i ∷ []) k
 item-stretch s prepare-book k = k
 item-stretch s (write-setpoint slot l p) k = k
 item-stretch s (read-setpoint slot) k = k
+item-stretch s (read-version slot w) k = k
 
 runs-stretch : (s : Shift) (items : List BookItem) → Stretch (s .course) → Stretch (run-shift s items .course)
 unfolding run-shift
@@ -179,7 +184,7 @@ started w b i d = begun (cold w) i d
 
 pub writers-parted : Writers-parted
 unfolding run-shift
-writers-parted rubbish book begin before between slot l k p q u v d x y n g =
+writers-parted rubbish book begin before between slot l k p q u v i o d x y n g =
     let start = next-shift (shiftOf (cold rubbish) book []) (arena-item begin) in
     let one = run-shift start before in
     let next = next-shift one (write-setpoint slot l p) in
@@ -187,7 +192,7 @@ writers-parted rubbish book begin before between slot l k p q u v d x y n g =
     let early = runs-stretch start before (started rubbish book begin d) in
     let late = runs-stretch next between (item-stretch one (write-setpoint slot l p) early) in
     let m = further (one .course) (next .course) (two .course) (item-more one (write-setpoint slot l p) tt) (runs-more next between g) in
-    go one two m early late (written-by-holder (world-of one) (one .book) slot l p u x) (written-by-holder (world-of two) (two .book) slot k q v y)
+    go one two m early late (written-by-holder (world-of one) (one .book) slot l p u i x) (written-by-holder (world-of two) (two .book) slot k q v o y)
     (released-or-not (holdIn l) (m .more))
   where
     go : (one two : Shift) (m : Longer (one .course) (two .course)) → Stretch (one .course) → Stretch (two .course)

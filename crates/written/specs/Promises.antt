@@ -7,9 +7,9 @@ use Rattle.choice.specs.Pick.{determined}
 use Rattle.types.specs.declared.Head.{Head}
 use Rattle.types.specs.declared.Lease.{Lease}
 use Rattle.setpoint.specs.declared.Setpoint.{Setpoint}
-use Rattle.slots.specs.Calls.{prepareBookOf, writeSetpointOf, readSetpointOf}
+use Rattle.slots.specs.Calls.{prepareBookOf, writeSetpointOf, readSetpointOf, readVersionOf}
 use Rattle.slots.specs.declared.BookAnswer.{BookAnswer}
-use Rattle.written.specs.Items.{prepare-book, write-setpoint, read-setpoint, prepared, wrote, was-read, Shift, shiftOf, world-of, head-of, next-shift}
+use Rattle.written.specs.Items.{prepare-book, write-setpoint, read-setpoint, read-version, prepared, wrote, was-read, version-read, Shift, shiftOf, world-of, head-of, next-shift}
 
 -- ---- nothing is left open
 
@@ -22,6 +22,9 @@ write-setpoint-determined h t book slot l s a b p q = determined p q
 
 pub read-setpoint-determined : (h : Head) (book : List ℕ) (slot : ℕ) (a b : BookAnswer) → a ≡ readSetpointOf h book slot → b ≡ readSetpointOf h book slot → a ≡ b
 read-setpoint-determined h book slot a b p q = determined p q
+
+pub read-version-determined : (h : Head) (book : List ℕ) (slot w : ℕ) (a b : BookAnswer) → a ≡ readVersionOf h book slot w → b ≡ readVersionOf h book slot w → a ≡ b
+read-version-determined h book slot w a b p q = determined p q
 
 -- ---- what meets the promise is the item of a history
 
@@ -41,3 +44,8 @@ module _ (s : Shift) where
       → shiftOf (s .course) (s .book) (was-read slot a ∷ s .entries) ≡ next-shift s (read-setpoint slot)
   unfolding next-shift
   read-setpoint-performs slot a p = ap (λ (x : BookAnswer). shiftOf (s .course) (s .book) (was-read slot x ∷ s .entries)) p
+
+  pub read-version-performs : (slot w : ℕ) (a : BookAnswer) → a ≡ readVersionOf (head-of s) (s .book) slot w
+      → shiftOf (s .course) (s .book) (version-read slot w a ∷ s .entries) ≡ next-shift s (read-version slot w)
+  unfolding next-shift
+  read-version-performs slot w a p = ap (λ (x : BookAnswer). shiftOf (s .course) (s .book) (version-read slot w x ∷ s .entries)) p

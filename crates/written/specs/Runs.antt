@@ -1,5 +1,6 @@
--- Over a run of items, from a done preparation of the book: what each slot says is what its last done write put there.
-use Prim.Native.Nat.{ℕ, _+_, _≤_, _<_}
+-- Over a run of items, from a done preparation of the book: what each version of each slot says is what its done write put there, and what holds of
+-- the bytes.
+use Prim.Native.Nat.{ℕ, suc, _+_, _*_, _-_, _≤_, _<_, _%_}
 use mathlib.Core.Path.{_≡_, refl, sym, ap, _∙_, subst}
 use mathlib.Core.Logic.{_≢_, _⊎_, inl, inr, _↔_}
 use mathlib.Core.List.{List, [], _∷_}
@@ -7,173 +8,299 @@ use mathlib.Core.Bool.{Bool, true, false}
 use native.Mathlib.Omega.{arith}
 use native.Mathlib.Decide.{ℕ-discrete, decLt}
 use lib.Dec.{eqb}
-use lib.ListN.{length, replicate, length-replicate}
+use lib.ListN.{length, getD, replicate, length-replicate}
 use borrow.Author.Tests.{eq-eqb, ne-eqb}
 use Rattle.choice.specs.Choice.{if_then_else_}
+use Rattle.model.specs.Arena.{headFits}
 use Rattle.types.specs.declared.Head.{Head}
 use Rattle.types.specs.declared.Lease.{Lease}
-use Rattle.setpoint.specs.Codec.{hasBody}
 use Rattle.setpoint.specs.RoundTrip.{Held}
 use Rattle.setpoint.specs.declared.Setpoint.{Setpoint}
-use Rattle.slots.specs.Layout.{slotsOf, bytesFor, readOf, putOf}
-use Rattle.slots.specs.Rules.{isRubbish, versionIn, slotRules}
-use Rattle.history.specs.Tests.{differ}
-use Rattle.slots.specs.Calls.{toldOf, readSetpointOf}
-use Rattle.slots.specs.Fine.{fine-slot, past-slots, BookFine}
-use Rattle.slots.specs.Reads.{Agree, put-long, put-other, read-after-write, read-other, read-prepared, read-same}
-use Rattle.slots.specs.Outcomes.{Prepared, was-prepared, not-prepared, preparing-is, Wrote, was-written, not-written, writing-is, reading-is, no-such-slot, prepare-alike}
+use Rattle.setpoint.specs.declared.Setpoint.the-variants.{Speed}
+use Rattle.slots.specs.Layout.{slotsOf, linesOf, frontOf, placeAt, versionAt, newestAt, isSound}
+use Rattle.slots.specs.Writing.{putOf}
+use Rattle.slots.specs.Rules.{firstFault, isBadSlot, openRules, keptRules}
+use Rattle.slots.specs.Calls.{writeSetpointOf, readVersionOf, readSetpointOf}
+use Rattle.slots.specs.Sound.{Kept, Apart, Sound, Clean, sound-is, is-sound}
+use Rattle.slots.specs.Appended.{goesOf, goes-own, goes-other}
+use Rattle.slots.specs.Wrote.{Wrote, put-wrote}
+use Rattle.slots.specs.Fine.{SlotFine, slot-fine, BookFine}
+use Rattle.slots.specs.Outcomes.{Prepared, was-prepared, not-prepared, preparing-is, prepare-alike, Outcome, done, full, refused, writing-is, Keeps, kept-or, read-kept, read-lost, apart}
+use Rattle.slots.specs.Reads.{kept-tells, other-reads, own-reads, new-reads, dropped-reads, newest-other, version-zero, prepared-sound, prepared-clean}
 use Rattle.slots.specs.declared.BookAnswer.{BookAnswer}
 use Rattle.slots.specs.declared.BookAnswer.the-variants.{Done, Written, Setting, Refused}
-use Rattle.slots.specs.declared.BookRefusal.the-variants.{BadSlot, DamagedBook, NeverWritten}
-use Rattle.slots.specs.declared.Reading.{Reading}
-use Rattle.slots.specs.declared.Reading.the-variants.{Holds, Blank}
-use Rattle.written.specs.Items.{BookItem, arena-item, prepare-book, write-setpoint, read-setpoint, BookEntry, prepared, wrote, was-read, Shift, shiftOf, world-of, head-of, slots-in, preparing-book, writing, reading, next-shift, run-shift, Last, none, the, last-after, number-after, last-write, writes, told, Same-slots, Typed, All-typed}
-use Rattle.written.specs.Statements.{Prepared-reads-nothing, Forgets-older-bytes, From-prepared, Reads-last-write, Never-exactly, Never-damaged, Own-bytes-only, Damage-stays-there}
-use Rattle.written.specs.Heads.{Fits, item-fits}
+use Rattle.slots.specs.declared.BookRefusal.the-variants.{BadShape, BadSlot, DamagedBook, NeverWritten}
+use Rattle.written.specs.Items.{BookItem, arena-item, prepare-book, write-setpoint, read-setpoint, read-version, BookEntry, prepared, wrote, was-read, version-read, Shift, shiftOf, world-of, head-of, slots-in, preparing-book, writing, reading, reading-version, next-shift, run-shift, settings-after, settings, told, toldBy, Same-slots, Typed, All-typed}
+use Rattle.written.specs.Statements.{Prepared-reads-nothing, Forgets-older-bytes, From-prepared, Reads-last-write, Reads-newest-four, Never-exactly, Never-damaged, Never-overlap, Free-are-zeros, Newer-lie-behind, Untouched-otherwise, Unprepared, Damage-stays}
+use Rattle.written.specs.Heads.{item-fits}
+use Rattle.written.specs.After.{refusalIn}
 
--- ---- what a slot is to say
+-- ---- what the settings of a slot tell
 
-abbrev due : Last → ℕ → Reading
-due none n = Blank
-due (the p) n = Holds p n
+told-kept : (ss : List Setpoint) (w : ℕ) → Keeps (length ss) w → toldBy ss w ≡ Setting (getD ss (length ss - w) (Speed 0)) w
+unfolding toldBy
+told-kept ss w k = go (kept-or (length ss) w)
+  where
+    go : (d : Dec (Keeps (length ss) w)) → elim d [ yes q ↦ Setting (getD ss (length ss - w) (Speed 0)) w | no q ↦ Refused NeverWritten ] ≡ Setting (getD ss (length ss - w) (Speed 0)) w
+    go (yes q) = refl
+    go (no q) = absurd (q k)
 
-told-due : (a : Last) (n : ℕ) → toldOf (due a n) ≡ told a n
-told-due none n = refl
-told-due (the p) n = refl
+told-lost : (ss : List Setpoint) (w : ℕ) → (Keeps (length ss) w → ⊥) → toldBy ss w ≡ Refused NeverWritten
+unfolding toldBy
+told-lost ss w k = go (kept-or (length ss) w)
+  where
+    go : (d : Dec (Keeps (length ss) w)) → elim d [ yes q ↦ Setting (getD ss (length ss - w) (Speed 0)) w | no q ↦ Refused NeverWritten ] ≡ Refused NeverWritten
+    go (yes q) = absurd (k q)
+    go (no q) = refl
 
-version-due : (a : Last) (n : ℕ) → (a ≡ none → n ≡ 0) → versionIn (due a n) ≡ n
-version-due none n e = sym (e refl)
-version-due (the p) n e = refl
+-- one setting more: the new one, the one that is lost, the others
+told-new : (ss : List Setpoint) (s : Setpoint) → toldBy (s ∷ ss) (length ss + 1) ≡ Setting s (length ss + 1)
+told-new ss s =
+    let e : length (s ∷ ss) - (length ss + 1) ≡ 0 = omega arith in
+    told-kept (s ∷ ss) (length ss + 1) (omega arith, omega arith, omega arith)
+    ∙ ap (λ (i : ℕ). Setting (getD (s ∷ ss) i (Speed 0)) (length ss + 1)) e
+
+told-older : (ss : List Setpoint) (s : Setpoint) (w : ℕ) → w ≢ length ss + 1 → w + 4 ≢ length ss + 1 → toldBy (s ∷ ss) w ≡ toldBy ss w
+told-older ss s w d e = go (kept-or (length ss) w)
+  where
+    go : Dec (Keeps (length ss) w) → toldBy (s ∷ ss) w ≡ toldBy ss w
+    go (yes k) =
+        let g : length (s ∷ ss) - w ≡ suc (length ss - w) = omega (arith, k .1) in
+        told-kept (s ∷ ss) w (k .0, omega (arith, k .1), omega (arith, k .2))
+        ∙ ap (λ (i : ℕ). Setting (getD (s ∷ ss) i (Speed 0)) w) g
+        ∙ sym (told-kept ss w k)
+    go (no k) =
+        told-lost (s ∷ ss) w (λ q. k (q .0, omega (arith, q .1), omega (arith, q .2))) ∙ sym (told-lost ss w k)
+
+-- the newest
+told-newest : (ss : List Setpoint) → toldBy ss (length ss) ≡ told ss
+told-newest [] = told-lost [] 0 (λ q. omega (arith, q .0))
+told-newest (p ∷ ps) =
+    let e : length (p ∷ ps) - length (p ∷ ps) ≡ 0 = omega arith in
+    told-kept (p ∷ ps) (length (p ∷ ps)) (omega arith, omega arith, omega arith)
+    ∙ ap (λ (i : ℕ). Setting (getD (p ∷ ps) i (Speed 0)) (length (p ∷ ps))) e
+
+-- ---- what holds of a book of n slots with these settings
+
+pub record Keeping (n : ℕ) (b : List ℕ) (f : ℕ → List Setpoint) : Type 0 where
+  pub sound : Sound n b
+  pub clean : Clean n b
+  pub room : frontOf n ≤ length b
+  pub limit : length b ≤ 32768
+  pub newest : (slot : ℕ) → slot < n → newestAt b slot ≡ length (f slot)
+  pub says : (h : Head) (slot w : ℕ) → headFits h ≡ true → slotsOf h ≡ n → slot < n → readVersionOf h b slot w ≡ toldBy (f slot) w
+  pub newer : (slot i j : ℕ) → slot < n → i < j → j < 4 → Kept b (4 * slot + j) → placeAt b (4 * slot + j) + 5 ≤ placeAt b (4 * slot + i)
+
+-- a done preparation begins it
+prepared-keeping : (n m : ℕ) → frontOf n ≤ m → m ≤ 32768 → Keeping n (replicate m 0) (λ t. [])
+prepared-keeping n m l u =
+    record {
+      sound = prepared-sound n m;
+      clean = prepared-clean n m;
+      room = omega (arith, length-replicate {A = ℕ} m 0);
+      limit = omega (arith, length-replicate {A = ℕ} m 0);
+      newest = λ slot i. version-zero m (4 * slot);
+      says = λ h slot w fits e i.
+          read-lost h (replicate m 0) slot fits
+          (rw (e, length-replicate {A = ℕ} m 0) (record { room = l; limit = u; inside = i })) w (rw e (is-sound n (replicate m 0) (prepared-sound n m)))
+          (λ q. omega (arith, q .0, q .1, version-zero m (4 * slot)))
+          ∙ sym (told-lost [] w (λ q. omega (arith, q .0, q .1)));
+      newer = λ slot i j h l u q. absurd (omega (arith, version-zero m (4 * slot + j)));
+    }
+
+-- a done write goes on with it: one setting more of its slot
+abbrev added : (ℕ → List Setpoint) → ℕ → Setpoint → ℕ → List Setpoint
+added f slot s t = if eqb slot t then s ∷ f t else f t
+
+module _ (n : ℕ) (b : List ℕ) (f : ℕ → List Setpoint) (g : Keeping n b f) (slot : ℕ) (s : Setpoint) (c : List ℕ) (moved : ℕ) (inside : slot < n)
+    (r : Wrote n b c slot s moved) where
+  own-settings : added f slot s slot ≡ s ∷ f slot
+  own-settings = rw (eq-eqb slot slot refl)
+
+  other-settings : (i : ℕ) → i ≢ slot → added f slot s i ≡ f i
+  other-settings i d = rw (ne-eqb slot i (λ q. d (sym q)))
+
+  newest-now : (i : ℕ) → i < n → newestAt c i ≡ length (added f slot s i)
+  newest-now i hi = go (ℕ-discrete i slot)
+    where
+      go : Dec (i ≡ slot) → newestAt c i ≡ length (added f slot s i)
+      go (yes e) = rw e (omega (arith, r .newest, g .newest slot inside, ap length own-settings))
+      go (no e) = newest-other n b c slot s moved inside (g .sound) r i hi e ∙ g .newest i hi ∙ sym (ap length (other-settings i e))
+
+  says-now : (p : Head) (i w : ℕ) → headFits p ≡ true → slotsOf p ≡ n → i < n → readVersionOf p c i w ≡ toldBy (added f slot s i) w
+  says-now p i w fits e hi = go (ℕ-discrete i slot)
+    where
+      u : newestAt b slot ≡ length (f slot)
+      u = g .newest slot inside
+
+      own : Dec (w ≡ newestAt b slot + 1) → Dec (w + 4 ≡ newestAt b slot + 1) → readVersionOf p c slot w ≡ toldBy (s ∷ f slot) w
+      own (yes d) x =
+          rw d (new-reads n b c slot s moved inside (g .sound) r p fits e (g .room) (g .limit)
+          ∙ subst (λ (y : ℕ). Setting s (y + 1) ≡ toldBy (s ∷ f slot) (y + 1)) (sym u) (sym (told-new (f slot) s)))
+      own (no d) (yes x) =
+          dropped-reads n b c slot s moved inside (g .sound) r p fits e (g .room) (g .limit) w x
+          ∙ sym (told-lost (s ∷ f slot) w (λ q. omega (arith, q .2, u)))
+      own (no d) (no x) =
+          own-reads n b c slot s moved inside (g .sound) r p fits e (g .room) (g .limit) w d x
+          ∙ g .says p slot w fits e inside
+          ∙ sym (told-older (f slot) s w (λ z. d (omega (arith, u))) (λ z. x (omega (arith, u))))
+
+      go : Dec (i ≡ slot) → readVersionOf p c i w ≡ toldBy (added f slot s i) w
+      go (yes d) = rw (d, own-settings) (own (ℕ-discrete w (newestAt b slot + 1)) (ℕ-discrete (w + 4) (newestAt b slot + 1)))
+      go (no d) =
+          other-reads n b c slot s moved inside (g .sound) r p fits e (g .room) (g .limit) i w hi d
+          ∙ g .says p i w fits e hi
+          ∙ ap (λ (ss : List Setpoint). toldBy ss w) (sym (other-settings i d))
+
+  -- of a slot's lines the earlier is used where a later one is
+  used-before : (d : List ℕ) → Sound n d → (t i j : ℕ) → t < n → i < j → j < 4 → Kept d (4 * t + j) → Kept d (4 * t + i)
+  used-before d w t i j h o u q =
+      let x : 4 * t + j - (4 * t + j) % 4 ≡ 4 * t = omega arith in
+      let y : 4 * t + i - (4 * t + i) % 4 ≡ 4 * t = omega arith in
+      omega (arith, w .falls (4 * t + j) (omega arith), w .falls (4 * t + i) (omega arith), ap (versionAt d) x, ap (versionAt d) y)
+
+  newer-now : (t i j : ℕ) → t < n → i < j → j < 4 → Kept c (4 * t + j) → placeAt c (4 * t + j) + 5 ≤ placeAt c (4 * t + i)
+  newer-now t i j ht o u q = go (ℕ-discrete t slot) (ℕ-discrete i 0)
+    where
+      earlier : Kept c (4 * t + i)
+      earlier = used-before c (r .sound) t i j ht o u q
+
+      wide : Apart (placeAt c (4 * t + j)) (placeAt c (4 * t + i)) → placeAt c (4 * t + j) < placeAt c (4 * t + i)
+          → placeAt c (4 * t + j) + 5 ≤ placeAt c (4 * t + i)
+      wide (inl z) l = z
+      wide (inr z) l = absurd (omega arith)
+
+      -- both stood in b, in the same order
+      both-old : (x y : ℕ) → x < linesOf n → y < linesOf n → x ≢ 4 * slot + 3 → y ≢ 4 * slot + 3 → goesOf slot x ≡ 4 * t + i → goesOf slot y ≡ 4 * t + j
+          → (Kept b y → placeAt b y + 5 ≤ placeAt b x) → placeAt c (4 * t + j) + 5 ≤ placeAt c (4 * t + i)
+      both-old x y hx hy dx dy gx gy before =
+          let kx : Kept b x = omega (arith, r .versions x hx dx, ap (versionAt c) gx, earlier) in
+          let ky : Kept b y = omega (arith, r .versions y hy dy, ap (versionAt c) gy, q) in
+          wide (r .sound .fits .apart (4 * t + j) (4 * t + i) (omega arith) (omega arith) (omega arith) q earlier)
+          (omega (arith, r .order y x hy hx dy dx ky kx (omega (arith, before ky)), ap (placeAt c) gx, ap (placeAt c) gy))
+
+      go : Dec (t ≡ slot) → Dec (i ≡ 0) → placeAt c (4 * t + j) + 5 ≤ placeAt c (4 * t + i)
+      go (no d) z =
+          both-old (4 * t + i) (4 * t + j) (omega arith) (omega arith) (omega arith) (omega arith) (away i (omega arith) (decLt t slot)) (away j u (decLt t slot))
+          (λ k. g .newer t i j ht o u k)
+        where
+          away : (a : ℕ) → a < 4 → Dec (t < slot) → goesOf slot (4 * t + a) ≡ 4 * t + a
+          away a h (yes l) = goes-other slot (4 * t + a) (inl (omega arith))
+          away a h (no l) = goes-other slot (4 * t + a) (inr (omega arith))
+      go (yes d) (yes z) =
+          let y = 4 * t + (j - 1) in
+          let gy : goesOf slot y ≡ 4 * t + j = omega (arith, goes-own slot y (omega arith) (omega arith)) in
+          let e : 4 * t + i ≡ 4 * slot = omega arith in
+          let ky : Kept b y = omega (arith, r .versions y (omega arith) (omega arith), ap (versionAt c) gy, q) in
+          omega (arith, r .behind y (omega arith) (omega arith) ky, ap (placeAt c) gy, ap (placeAt c) e)
+      go (yes d) (no z) =
+          let x = 4 * t + (i - 1) in
+          let y = 4 * t + (j - 1) in
+          both-old x y (omega arith) (omega arith) (omega arith) (omega arith) (omega (arith, goes-own slot x (omega arith) (omega arith)))
+          (omega (arith, goes-own slot y (omega arith) (omega arith)))
+          (λ k. g .newer t (i - 1) (j - 1) ht (omega arith) (omega arith) k)
+
+  pub wrote-keeping : Keeping n c (added f slot s)
+  wrote-keeping =
+      record {
+        sound = r .sound;
+        clean = r .clean (g .clean);
+        room = omega (arith, r .long, g .room);
+        limit = omega (arith, r .long, g .limit);
+        newest = newest-now;
+        says = says-now;
+        newer = newer-now;
+      }
 
 -- ---- the invariant, over what it reads: the head in force, the book, the entries
 
-pub record Kept (n : ℕ) (h : Head) (b : List ℕ) (es : List BookEntry) : Type 0 where
-  pub head-fits : Fits h
+pub record Holding (n : ℕ) (h : Head) (b : List ℕ) (es : List BookEntry) : Type 0 where
+  pub head-fits : headFits h ≡ true
   pub slots-are : slotsOf h ≡ n
-  pub room : bytesFor n ≤ length b
-  pub limit : length b ≤ 32768
-  pub says : (slot : ℕ) → slot < n → readOf n b slot ≡ due (last-write slot es) (writes slot es)
-  pub counts : (slot : ℕ) → last-write slot es ≡ none → writes slot es ≡ 0
+  pub book-is : Keeping n b (λ slot. settings slot es)
 
--- a done preparation begins it
-begun : (h : Head) (b : List ℕ) (es : List BookEntry) → Fits h → BookFine (slotsOf h) (length b)
-    → Kept (slotsOf h) h (replicate (length b) 0) (prepared Done ∷ es)
-unfolding last-write writes
-begun h b es f g =
-    let long = length-replicate {A = ℕ} (length b) 0 in
-    record {
-      head-fits = f;
-      slots-are = refl;
-      room = omega (arith, g .room, long);
-      limit = omega (arith, g .limit, long);
-      says = λ slot i. read-prepared (slotsOf h) (length b) slot i (g .room);
-      counts = λ slot e. refl;
-    }
-
--- a done write goes on with it
-module _ (h : Head) (b : List ℕ) (es : List BookEntry) (k : Kept (slotsOf h) h b es) (slot : ℕ) (i : slot < slotsOf h) where
-  abbrev n : ℕ
-  n = slotsOf h
-
-  next-version : versionIn (readOf n b slot) ≡ writes slot es
-  next-version = ap versionIn (k .says slot i) ∙ version-due (last-write slot es) (writes slot es) (k .counts slot)
-
-  module _ (l : Lease) (p : Setpoint) (held : Held p) (whole : hasBody p ≡ true) (v : ℕ) (is : v ≡ writes slot es + 1) where
-    says-on : (t : ℕ) → t < n → readOf n (putOf n b slot p v) t ≡ due (last-write t (wrote slot l p (Written v) ∷ es)) (writes t (wrote slot l p (Written v) ∷ es))
-    unfolding last-write writes
-    says-on t j = go (ℕ-discrete t slot)
-      where
-        go : Dec (t ≡ slot)
-            → readOf n (putOf n b slot p v) t ≡ due (if eqb slot t then the p else last-write t es) (if eqb slot t then writes t es + 1 else writes t es)
-        go (yes e) =
-            rw (e, eq-eqb slot slot refl) (read-after-write n b slot v p i (k .room) held whole (omega arith) ∙ ap (Holds p) is)
-        go (no e) =
-            rw (ne-eqb slot t (λ q. e (sym q))) (read-other n b slot t v p i j e ∙ k .says t j)
-
-    counts-on : (t : ℕ) → last-write t (wrote slot l p (Written v) ∷ es) ≡ none → writes t (wrote slot l p (Written v) ∷ es) ≡ 0
-    unfolding last-write writes
-    counts-on t e = go (eqb slot t) e
-      where
-        go : (x : Bool) → (if x then the p else last-write t es) ≡ none → (if x then writes t es + 1 else writes t es) ≡ 0
-        go true q = let z : _≡_ {A = ℕ} 0 1 = cc in absurd (omega arith)
-        go false q = k .counts t q
-
-    wrote-kept : Kept n h (putOf n b slot p v) (wrote slot l p (Written v) ∷ es)
-    wrote-kept =
-        record {
-          head-fits = k .head-fits;
-          slots-are = refl;
-          room = omega (arith, k .room, put-long n b slot p v);
-          limit = omega (arith, k .limit, put-long n b slot p v);
-          says = says-on;
-          counts = counts-on;
-        }
+begun : (h : Head) (b : List ℕ) (es : List BookEntry) → headFits h ≡ true → BookFine (slotsOf h) (length b)
+    → Holding (slotsOf h) h (replicate (length b) 0) (prepared Done ∷ es)
+unfolding settings
+begun h b es e f = record { head-fits = e; slots-are = refl; book-is = prepared-keeping (slotsOf h) (length b) (f .room) (f .limit) }
 
 -- a refused call changes nothing of it, nor does a read
 idle : {n : ℕ} {h : Head} {b : List ℕ} {es : List BookEntry} (e : BookEntry)
-    → ((slot : ℕ) (a : Last) → last-after e slot a ≡ a) → ((slot : ℕ) (m : ℕ) → number-after e slot m ≡ m) → Kept n h b es → Kept n h b (e ∷ es)
-unfolding last-write writes
-idle {n} {h} {b} {es} e p q k =
+    → ((slot : ℕ) (ss : List Setpoint) → settings-after e slot ss ≡ ss) → Holding n h b es → Holding n h b (e ∷ es)
+unfolding settings
+idle {n} {h} {b} {es} e p k =
+    let g = k .book-is in
     record {
       head-fits = k .head-fits;
       slots-are = k .slots-are;
-      room = k .room;
-      limit = k .limit;
-      says = λ slot i. rw (p slot (last-write slot es), q slot (writes slot es)) (k .says slot i);
-      counts = λ slot x. q slot (writes slot es) ∙ k .counts slot (sym (p slot (last-write slot es)) ∙ x);
+      book-is =
+          record {
+            sound = g .sound;
+            clean = g .clean;
+            room = g .room;
+            limit = g .limit;
+            newest = λ slot i. g .newest slot i ∙ sym (ap length (p slot (settings slot es)));
+            says = λ q slot w x y i. g .says q slot w x y i ∙ ap (λ (ss : List Setpoint). toldBy ss w) (sym (p slot (settings slot es)));
+            newer = g .newer;
+          };
     }
 
 -- ---- one item
 
-module _ (n : ℕ) (s : Shift) (k : Kept n (head-of s) (s .book) (s .entries)) where
+module _ (n : ℕ) (s : Shift) (k : Holding n (head-of s) (s .book) (s .entries)) where
   -- the same, at the head's own number of slots
-  own : Kept (slots-in s) (head-of s) (s .book) (s .entries)
-  own = subst (λ (m : ℕ). Kept m (head-of s) (s .book) (s .entries)) (sym (k .slots-are)) k
+  own : Holding (slots-in s) (head-of s) (s .book) (s .entries)
+  own = subst (λ (m : ℕ). Holding m (head-of s) (s .book) (s .entries)) (sym (k .slots-are)) k
 
-  prepare-kept : Kept n (head-of s) (preparing-book s .1) (prepared (preparing-book s .0) ∷ s .entries)
-  prepare-kept = go (preparing-is (head-of s) (s .book))
+  prepare-holds : Holding n (head-of s) (preparing-book s .1) (prepared (preparing-book s .0) ∷ s .entries)
+  prepare-holds = go (preparing-is (head-of s) (s .book))
     where
-      go : {o : BookAnswer × List ℕ} → Prepared (head-of s) (s .book) o → Kept n (head-of s) (o .1) (prepared (o .0) ∷ s .entries)
+      go : {o : BookAnswer × List ℕ} → Prepared (head-of s) (s .book) o → Holding n (head-of s) (o .1) (prepared (o .0) ∷ s .entries)
       go (was-prepared f g) =
-          subst (λ (m : ℕ). Kept m (head-of s) (replicate (length (s .book)) 0) (prepared Done ∷ s .entries)) (k .slots-are) (begun (head-of s) (s .book) (s .entries) f g)
-      go (not-prepared r) = idle (prepared (Refused r)) (λ slot a. refl) (λ slot m. refl) k
+          subst (λ (m : ℕ). Holding m (head-of s) (replicate (length (s .book)) 0) (prepared Done ∷ s .entries)) (k .slots-are) (begun (head-of s) (s .book) (s .entries) f g)
+      go (not-prepared r) = idle (prepared (Refused r)) (λ slot a. refl) k
 
-  write-kept : (slot : ℕ) (l : Lease) (p : Setpoint) → Held p
-      → Kept n (head-of s) (writing s slot l p .1) (wrote slot l p (writing s slot l p .0) ∷ s .entries)
-  write-kept slot l p held = go (writing-is (head-of s) (world-of s .table) (s .book) slot l p)
-    where
-      go : {o : BookAnswer × List ℕ} → Wrote (head-of s) (world-of s .table) (s .book) slot l p o
-          → Kept n (head-of s) (o .1) (wrote slot l p (o .0) ∷ s .entries)
-      go (was-written c f) =
-          let v = versionIn (readOf (slots-in s) (s .book) slot) + 1 in
-          subst (λ (m : ℕ). Kept m (head-of s) (putOf (slots-in s) (s .book) slot p v) (wrote slot l p (Written v) ∷ s .entries)) (k .slots-are)
-          (wrote-kept (head-of s) (s .book) (s .entries) own slot (c .slot-is .inside) l p held (c .whole) v
-          (ap (λ (m : ℕ). m + 1) (next-version (head-of s) (s .book) (s .entries) own slot (c .slot-is .inside))))
-      go (not-written r f) = idle (wrote slot l p (Refused r)) (λ t a. refl) (λ t m. refl) k
-
-  item-kept : (i : BookItem) → slots-in (next-shift s i) ≡ n → Typed i
-      → Kept n (head-of (next-shift s i)) (next-shift s i .book) (next-shift s i .entries)
-  unfolding next-shift
-  item-kept (arena-item i) e t =
+  wrote-holds : (slot : ℕ) (l : Lease) (p : Setpoint) (v moved : ℕ) (c : List ℕ) → slot < slots-in s → Wrote (slots-in s) (s .book) c slot p moved
+      → Holding (slots-in s) (head-of s) c (wrote slot l p (Written v moved) ∷ s .entries)
+  unfolding settings
+  wrote-holds slot l p v moved c i r =
       record {
-        head-fits = item-fits (s .course) i (k .head-fits);
-        slots-are = e;
-        room = k .room;
-        limit = k .limit;
-        says = k .says;
-        counts = k .counts;
+        head-fits = k .head-fits;
+        slots-are = refl;
+        book-is = wrote-keeping (slots-in s) (s .book) (λ t. settings t (s .entries)) (own .book-is) slot p c moved i r;
       }
-  item-kept prepare-book e t = prepare-kept
-  item-kept (write-setpoint slot l p) e t = write-kept slot l p t
-  item-kept (read-setpoint slot) e t = idle (was-read slot (reading s slot)) (λ x a. refl) (λ x m. refl) k
+
+  write-holds : (slot : ℕ) (l : Lease) (p : Setpoint) → Held p
+      → Holding n (head-of s) (writing s slot l p .1) (wrote slot l p (writing s slot l p .0) ∷ s .entries)
+  write-holds slot l p held = go (writing-is (head-of s) (world-of s .table) (s .book) slot l p)
+    where
+      go : {o : BookAnswer × List ℕ} → Outcome (head-of s) (world-of s .table) (s .book) slot l p o
+          → Holding n (head-of s) (o .1) (wrote slot l p (o .0) ∷ s .entries)
+      go (done c f) =
+          let v = newestAt (s .book) slot + 1 in
+          let o = putOf (slots-in s) (s .book) slot p v in
+          subst (λ (m : ℕ). Holding m (head-of s) (o .1) (wrote slot l p (Written v (o .0)) ∷ s .entries)) (k .slots-are)
+          (wrote-holds slot l p v (o .0) (o .1) (c .given .slot-is .inside)
+          (put-wrote (slots-in s) (s .book) slot p (c .given .slot-is .inside) (sound-is (slots-in s) (s .book) (c .sound)) held (c .given .whole) f))
+      go (full c f) = idle (wrote slot l p (Refused _)) (λ t a. refl) k
+      go (refused r d g c) = idle (wrote slot l p (Refused r)) (λ t a. refl) k
+
+  item-holds : (i : BookItem) → slots-in (next-shift s i) ≡ n → Typed i
+      → Holding n (head-of (next-shift s i)) (next-shift s i .book) (next-shift s i .entries)
+  unfolding next-shift
+  item-holds (arena-item i) e t = record { head-fits = item-fits (s .course) i (k .head-fits); slots-are = e; book-is = k .book-is }
+  item-holds prepare-book e t = prepare-holds
+  item-holds (write-setpoint slot l p) e t = write-holds slot l p t
+  item-holds (read-setpoint slot) e t = idle (was-read slot (reading s slot)) (λ x a. refl) k
+  item-holds (read-version slot w) e t = idle (version-read slot w (reading-version s slot w)) (λ x a. refl) k
 
 -- ---- a run of items
 
-runs-kept : (n : ℕ) (s : Shift) (items : List BookItem) → Kept n (head-of s) (s .book) (s .entries) → Same-slots n s items → All-typed items
-    → let v = run-shift s items in Kept n (head-of v) (v .book) (v .entries)
+runs-hold : (n : ℕ) (s : Shift) (items : List BookItem) → Holding n (head-of s) (s .book) (s .entries) → Same-slots n s items → All-typed items
+    → let v = run-shift s items in Holding n (head-of v) (v .book) (v .entries)
 unfolding run-shift
-runs-kept n s [] k e t = k
-runs-kept n s (i ∷ is) k e t = runs-kept n (next-shift s i) is (item-kept n s k i (e .0) (t .0)) (e .1) (t .1)
+runs-hold n s [] k e t = k
+runs-hold n s (i ∷ is) k e t = runs-hold n (next-shift s i) is (item-holds n s k i (e .0) (t .0)) (e .1) (t .1)
 
 -- the state after a done preparation
 prepared-shift : (s : Shift) → preparing-book s .0 ≡ Done
@@ -186,94 +313,68 @@ prepared-shift s d = go (preparing-is (head-of s) (s .book)) d
     go (was-prepared f g) e = refl
     go (not-prepared r) e = let z : _≡_ {A = ℕ} 0 1 = cc in absurd (omega arith)
 
-prepared-kept : (s : Shift) → preparing-book s .0 ≡ Done
-    → let v = next-shift s prepare-book in Kept (slots-in s) (head-of v) (v .book) (v .entries)
-prepared-kept s d =
-    subst (λ (v : Shift). Kept (slots-in s) (head-of v) (v .book) (v .entries)) (sym (prepared-shift s d)) (go (preparing-is (head-of s) (s .book)) d)
+prepared-holds : (s : Shift) → preparing-book s .0 ≡ Done
+    → let v = next-shift s prepare-book in Holding (slots-in s) (head-of v) (v .book) (v .entries)
+prepared-holds s d =
+    subst (λ (v : Shift). Holding (slots-in s) (head-of v) (v .book) (v .entries)) (sym (prepared-shift s d)) (go (preparing-is (head-of s) (s .book)) d)
   where
     go : {o : BookAnswer × List ℕ} → Prepared (head-of s) (s .book) o → o .0 ≡ Done
-        → Kept (slots-in s) (head-of s) (replicate (length (s .book)) 0) (prepared Done ∷ s .entries)
+        → Holding (slots-in s) (head-of s) (replicate (length (s .book)) 0) (prepared Done ∷ s .entries)
     go (was-prepared f g) e = begun (head-of s) (s .book) (s .entries) f g
     go (not-prepared r) e = let z : _≡_ {A = ℕ} 0 1 = cc in absurd (omega arith)
 
-from-prepared : (P : Shift → Type 0) → ((v : Shift) → Kept (slots-in v) (head-of v) (v .book) (v .entries) → P v) → From-prepared P
+from-prepared : (P : Shift → Type 0) → ((v : Shift) → Holding (slots-in v) (head-of v) (v .book) (v .entries) → P v) → From-prepared P
 unfolding run-shift
 from-prepared P f s items d e t =
     let v = run-shift (next-shift s prepare-book) items in
-    let k = runs-kept (slots-in s) (next-shift s prepare-book) items (prepared-kept s d) e t in
+    let k = runs-hold (slots-in s) (next-shift s prepare-book) items (prepared-holds s d) e t in
     f v (own (slots-in s) v k)
 
--- ---- the theorems
+-- ---- what is read
 
-module _ (v : Shift) (k : Kept (slots-in v) (head-of v) (v .book) (v .entries)) where
-  pub read-kept : (slot : ℕ) → slot < slots-in v → reading v slot ≡ told (last-write slot (v .entries)) (writes slot (v .entries))
-  read-kept slot i =
-      reading-is (head-of v) (v .book) slot (k .head-fits) (fine-slot (slots-in v) (length (v .book)) slot (k .room) (k .limit) i)
-      ∙ ap toldOf (k .says slot i) ∙ told-due (last-write slot (v .entries)) (writes slot (v .entries))
+module _ (v : Shift) (k : Holding (slots-in v) (head-of v) (v .book) (v .entries)) where
+  version-holds : (slot w : ℕ) → slot < slots-in v → reading-version v slot w ≡ toldBy (settings slot (v .entries)) w
+  version-holds slot w i = k .book-is .says (head-of v) slot w (k .head-fits) refl i
+
+  read-holds : (slot : ℕ) → slot < slots-in v → reading v slot ≡ told (settings slot (v .entries))
+  unfolding readSetpointOf
+  read-holds slot i =
+      version-holds slot (newestAt (v .book) slot) i
+      ∙ ap (toldBy (settings slot (v .entries))) (k .book-is .newest slot i)
+      ∙ told-newest (settings slot (v .entries))
 
 pub reads-last-write : Reads-last-write
-reads-last-write = from-prepared _ read-kept
+reads-last-write = from-prepared _ read-holds
 
--- NeverWritten exactly if there was no done write
-module _ (slot : ℕ) where
-  counted : (es : List BookEntry) → last-write slot es ≡ none → writes slot es ≡ 0
-  unfolding last-write writes
-  counted [] e = refl
-  counted (prepared Done ∷ es) e = refl
-  counted (prepared (Written v) ∷ es) e = counted es e
-  counted (prepared (Setting p v) ∷ es) e = counted es e
-  counted (prepared (Refused r) ∷ es) e = counted es e
-  counted (wrote t l p Done ∷ es) e = counted es e
-  counted (wrote t l p (Written v) ∷ es) e = go (eqb t slot) e (counted es)
-    where
-      go : (x : Bool) → (if x then the p else last-write slot es) ≡ none → (last-write slot es ≡ none → writes slot es ≡ 0)
-          → (if x then writes slot es + 1 else writes slot es) ≡ 0
-      go true q r = let z : _≡_ {A = ℕ} 0 1 = cc in absurd (omega arith)
-      go false q r = r q
-  counted (wrote t l p (Setting q v) ∷ es) e = counted es e
-  counted (wrote t l p (Refused r) ∷ es) e = counted es e
-  counted (was-read t a ∷ es) e = counted es e
-
-  some-last : (es : List BookEntry) → writes slot es ≡ 0 → last-write slot es ≡ none
-  unfolding last-write writes
-  some-last [] e = refl
-  some-last (prepared Done ∷ es) e = refl
-  some-last (prepared (Written v) ∷ es) e = some-last es e
-  some-last (prepared (Setting p v) ∷ es) e = some-last es e
-  some-last (prepared (Refused r) ∷ es) e = some-last es e
-  some-last (wrote t l p Done ∷ es) e = some-last es e
-  some-last (wrote t l p (Written v) ∷ es) e = go (eqb t slot) e (some-last es)
-    where
-      go : (x : Bool) → (if x then writes slot es + 1 else writes slot es) ≡ 0 → (writes slot es ≡ 0 → last-write slot es ≡ none)
-          → (if x then the p else last-write slot es) ≡ none
-      go true q r = absurd (omega arith)
-      go false q r = r q
-  some-last (wrote t l p (Setting q v) ∷ es) e = some-last es e
-  some-last (wrote t l p (Refused r) ∷ es) e = some-last es e
-  some-last (was-read t a ∷ es) e = some-last es e
-
-told-none : (a : Last) (n : ℕ) → told a n ≡ Refused NeverWritten → a ≡ none
-told-none none n e = refl
-told-none (the p) n e = let z : _≡_ {A = ℕ} 0 1 = cc in absurd (omega arith)
+pub reads-newest-four : Reads-newest-four
+reads-newest-four = from-prepared _ version-holds
 
 pub never-exactly : Never-exactly
-never-exactly = from-prepared (λ v. (slot : ℕ) → slot < slots-in v → (reading v slot ≡ Refused NeverWritten) ↔ (writes slot (v .entries) ≡ 0)) exactly
+never-exactly =
+    from-prepared (λ v. (slot w : ℕ) → slot < slots-in v
+    → (reading-version v slot w ≡ Refused NeverWritten) ↔ (Keeps (length (settings slot (v .entries))) w → ⊥)) exactly
   where
-    exactly : (v : Shift) → Kept (slots-in v) (head-of v) (v .book) (v .entries)
-        → (slot : ℕ) → slot < slots-in v → (reading v slot ≡ Refused NeverWritten) ↔ (writes slot (v .entries) ≡ 0)
-    exactly v k slot i = (
-      λ e. counted slot (v .entries) (told-none (last-write slot (v .entries)) (writes slot (v .entries)) (sym (read-kept v k slot i) ∙ e)),
-      λ e. read-kept v k slot i ∙ ap (λ (a : Last). told a (writes slot (v .entries))) (some-last slot (v .entries) e),
+    setting-apart : (p : Setpoint) (w : ℕ) → Setting p w ≡ Refused NeverWritten → ⊥
+    setting-apart p w e = let z : _≡_ {A = ℕ} 0 1 = cc in omega arith
+
+    exactly : (v : Shift) → Holding (slots-in v) (head-of v) (v .book) (v .entries)
+        → (slot w : ℕ) → slot < slots-in v → (reading-version v slot w ≡ Refused NeverWritten) ↔ (Keeps (length (settings slot (v .entries))) w → ⊥)
+    exactly v k slot w i = (
+      λ e q. setting-apart _ w (sym (told-kept (settings slot (v .entries)) w q) ∙ sym (version-holds v k slot w i) ∙ e),
+      λ d. version-holds v k slot w i ∙ told-lost (settings slot (v .entries)) w d,
     )
 
 pub prepared-reads-nothing : Prepared-reads-nothing
-unfolding last-write
-prepared-reads-nothing s slot d i =
+unfolding settings
+prepared-reads-nothing s slot w d i =
     let v = next-shift s prepare-book in
     let e = prepared-shift s d in
     let same : slots-in v ≡ slots-in s = ap slots-in e in
-    read-kept v (own (slots-in s) v (prepared-kept s d)) slot (omega (arith, same))
-    ∙ ap (λ (es : List BookEntry). told (last-write slot es) (writes slot es)) (ap (λ (w : Shift). w .entries) e)
+    let k = own (slots-in s) v (prepared-holds s d) in
+    let none = ap (λ (u : Shift). settings slot (u .entries)) e in (
+      read-holds v k slot (omega (arith, same)) ∙ ap told none,
+      version-holds v k slot w (omega (arith, same)) ∙ ap (λ (ss : List Setpoint). toldBy ss w) none ∙ told-lost [] w (λ q. omega (arith, q .0, q .1)),
+    )
 
 pub forgets-older-bytes : Forgets-older-bytes
 unfolding run-shift
@@ -281,71 +382,132 @@ forgets-older-bytes k b c es items e d =
     ap (λ (v : Shift). run-shift v items)
     (prepared-shift (shiftOf k b es) d ∙ ap (λ (n : ℕ). shiftOf k (replicate n 0) (prepared Done ∷ es)) e ∙ sym (prepared-shift (shiftOf k c es) (sym (prepare-alike (k .world .head) b c e) ∙ d)))
 
+-- ---- the bytes
+
+pub never-overlap : Never-overlap
+never-overlap =
+    from-prepared (λ v.
+    (i j : ℕ) → i < linesOf (slots-in v) → j < linesOf (slots-in v) → i ≢ j → Kept (v .book) i → Kept (v .book) j → Apart (placeAt (v .book) i) (placeAt (v .book) j))
+    (λ v k. k .book-is .sound .fits .apart)
+
+pub free-are-zeros : Free-are-zeros
+free-are-zeros = from-prepared (λ v. Clean (slots-in v) (v .book)) (λ v k. k .book-is .clean)
+
+pub newer-lie-behind : Newer-lie-behind
+newer-lie-behind =
+    from-prepared (λ v.
+    (slot i j : ℕ) → slot < slots-in v → i < j → j < 4 → Kept (v .book) (4 * slot + j) → placeAt (v .book) (4 * slot + j) + 5 ≤ placeAt (v .book) (4 * slot + i))
+    (λ v k. k .book-is .newer)
+
 -- ---- never damaged
 
-due-sound : (a : Last) (n : ℕ) → isRubbish (due a n) ≡ false
-due-sound none n = refl
-due-sound (the p) n = refl
+no-head : (h : Head) (b : List ℕ) (slot w : ℕ) → headFits h ≡ false → readVersionOf h b slot w ≡ Refused BadShape
+unfolding readVersionOf openRules keptRules firstFault
+no-head h b slot w e = rw e
 
-told-sound : (a : Last) (n : ℕ) → told a n ≢ Refused DamagedBook
-told-sound none n e = let z : _≡_ {A = ℕ} 0 1 = cc in omega arith
-told-sound (the p) n e = let z : _≡_ {A = ℕ} 0 1 = cc in omega arith
+no-slot : (h : Head) (b : List ℕ) (slot w : ℕ) → headFits h ≡ true → isBadSlot (slotsOf h) (length b) slot ≡ true → readVersionOf h b slot w ≡ Refused BadSlot
+unfolding readVersionOf openRules keptRules firstFault
+no-slot h b slot w e f = rw (e, f)
 
-module _ (v : Shift) (k : Kept (slots-in v) (head-of v) (v .book) (v .entries)) where
-  sound-read : (slot : ℕ) → reading v slot ≢ Refused DamagedBook
-  sound-read slot e = go (decLt slot (slots-in v))
-    where
-      apart : Refused BadSlot ≡ Refused DamagedBook → ⊥
-      apart z = let y : _≡_ {A = ℕ} 0 1 = cc in omega arith
+sound-reads : (h : Head) (b : List ℕ) (slot w : ℕ) → Sound (slotsOf h) b → readVersionOf h b slot w ≢ Refused DamagedBook
+sound-reads h b slot w s e = go (headFits h) (isBadSlot (slotsOf h) (length b) slot) refl refl
+  where
+    tests : isSound (slotsOf h) b ≡ true
+    tests = is-sound (slotsOf h) b s
 
-      go : Dec (slot < slots-in v) → ⊥
-      go (yes i) = told-sound (last-write slot (v .entries)) (writes slot (v .entries)) (sym (read-kept v k slot i) ∙ e)
-      go (no i) =
-          let q = no-such-slot (head-of v) (v .book) slot (k .head-fits) (past-slots (slots-in v) (length (v .book)) slot (omega arith)) in
-          apart (sym q ∙ e)
+    go : (x y : Bool) → headFits h ≡ x → isBadSlot (slotsOf h) (length b) slot ≡ y → ⊥
+    go false y p q = let z : Refused BadShape ≡ Refused DamagedBook = sym (no-head h b slot w p) ∙ e in let o : _≡_ {A = ℕ} 0 1 = cc in omega arith
+    go true true p q = let z : Refused BadSlot ≡ Refused DamagedBook = sym (no-slot h b slot w p q) ∙ e in let o : _≡_ {A = ℕ} 0 1 = cc in omega arith
+    go true false p q = told (kept-or (newestAt b slot) w)
+      where
+        fine : SlotFine (slotsOf h) (length b) slot
+        fine = slot-fine (slotsOf h) (length b) slot q
 
-  sound-write : (slot : ℕ) (l : Lease) (p : Setpoint) → writing v slot l p .0 ≢ Refused DamagedBook
-  sound-write slot l p e = go (writing-is (head-of v) (world-of v .table) (v .book) slot l p) e
-    where
-      go : {o : BookAnswer × List ℕ} → Wrote (head-of v) (world-of v .table) (v .book) slot l p o → o .0 ≡ Refused DamagedBook → ⊥
-      go (was-written c f) q = let z : _≡_ {A = ℕ} 0 1 = cc in omega arith
-      go (not-written r f) q =
-          let d : r ≡ DamagedBook = cc in
-          let g = f d in
-          let z : false ≡ true = sym (due-sound (last-write slot (v .entries)) (writes slot (v .entries))) ∙ ap isRubbish (sym (k .says slot (g .0))) ∙ g .1 in
-          differ z
+        told : Dec (Keeps (newestAt b slot) w) → ⊥
+        told (yes k) =
+            let t = kept-tells (slotsOf h) b slot w s (fine .inside) k in
+            let z : Setting (t .0) w ≡ Refused DamagedBook = sym (read-kept h b slot p fine w tests k ∙ t .1) ∙ e in
+            let o : _≡_ {A = ℕ} 0 1 = cc in
+            omega arith
+        told (no k) =
+            let z : Refused NeverWritten ≡ Refused DamagedBook = sym (read-lost h b slot p fine w tests k) ∙ e in
+            let o : _≡_ {A = ℕ} 0 1 = cc in
+            omega arith
+
+sound-newest : (h : Head) (b : List ℕ) (slot : ℕ) → Sound (slotsOf h) b → readSetpointOf h b slot ≢ Refused DamagedBook
+unfolding readSetpointOf
+sound-newest h b slot s = sound-reads h b slot (newestAt b slot) s
+
+sound-writes : (h : Head) (t b : List ℕ) (slot : ℕ) (l : Lease) (s : Setpoint) → Sound (slotsOf h) b → writeSetpointOf h t b slot l s .0 ≢ Refused DamagedBook
+sound-writes h t b slot l s f = go (writing-is h t b slot l s)
+  where
+    go : {o : BookAnswer × List ℕ} → Outcome h t b slot l s o → o .0 ≡ Refused DamagedBook → ⊥
+    go (done c r) e = let z : _≡_ {A = ℕ} 0 1 = cc in omega arith
+    go (full c r) e = let z : _≡_ {A = ℕ} 0 1 = cc in omega arith
+    go (refused r d g c) e = apart (sym (g (ap refusalIn e)) ∙ is-sound (slotsOf h) b f)
 
 pub never-damaged : Never-damaged
 never-damaged =
-    from-prepared
-    (λ v.
+    from-prepared (λ v.
     ((slot : ℕ) → reading v slot ≢ Refused DamagedBook)
+    × ((slot w : ℕ) → reading-version v slot w ≢ Refused DamagedBook)
     × ((slot : ℕ) (l : Lease) (p : Setpoint) → writing v slot l p .0 ≢ Refused DamagedBook))
-    (λ v k. (sound-read v k, sound-write v k))
+    (λ v k. (
+      λ slot. newest v k slot,
+      λ slot w. sound-reads (head-of v) (v .book) slot w (k .book-is .sound),
+      λ slot l p. sound-writes (head-of v) (world-of v .table) (v .book) slot l p (k .book-is .sound),
+    ))
+  where
+    newest : (v : Shift) → Holding (slots-in v) (head-of v) (v .book) (v .entries) → (slot : ℕ) → reading v slot ≢ Refused DamagedBook
+    newest v k slot = sound-newest (head-of v) (v .book) slot (k .book-is .sound)
 
--- ---- a slot's thirteen bytes
+-- ---- what touches the book
 
-pub own-bytes-only : Own-bytes-only
+pub untouched-otherwise : Untouched-otherwise
 unfolding next-shift
-own-bytes-only s (arena-item i) slot l = inr (λ j o. refl)
-own-bytes-only s prepare-book slot l = go (preparing-is (head-of s) (s .book))
+untouched-otherwise s (arena-item i) = inr refl
+untouched-otherwise s prepare-book = go (preparing-is (head-of s) (s .book))
   where
-    go : {o : BookAnswer × List ℕ} → Prepared (head-of s) (s .book) o → (o .0 ≡ Done) ⊎ Agree (slots-in s) slot (o .1) (s .book)
+    go : {o : BookAnswer × List ℕ} → Prepared (head-of s) (s .book) o → (o .0 ≡ Done) ⊎ (o .1 ≡ s .book)
     go (was-prepared f g) = inl refl
-    go (not-prepared r) = inr (λ j o. refl)
-own-bytes-only s (write-setpoint t k p) slot l = go (writing-is (head-of s) (world-of s .table) (s .book) t k p)
+    go (not-prepared r) = inr refl
+untouched-otherwise s (write-setpoint t l p) = go (writing-is (head-of s) (world-of s .table) (s .book) t l p)
   where
-    by : (v : ℕ) → t < slots-in s → Dec (slot ≡ t)
-        → ((t ≡ slot) × (u : ℕ) × (Written v ≡ Written u)) ⊎ Agree (slots-in s) slot (putOf (slots-in s) (s .book) t p v) (s .book)
-    by v i (yes e) = inl (sym e, v, refl)
-    by v i (no e) = inr (put-other (slots-in s) (s .book) t slot v p i l e)
+    go : {o : BookAnswer × List ℕ} → Outcome (head-of s) (world-of s .table) (s .book) t l p o
+        → ((v moved : ℕ) × (o .0 ≡ Written v moved)) ⊎ (o .1 ≡ s .book)
+    go (done c f) = inl (_, _, refl)
+    go (full c f) = inr refl
+    go (refused r d g c) = inr refl
+untouched-otherwise s (read-setpoint t) = inr refl
+untouched-otherwise s (read-version t w) = inr refl
 
-    go : {o : BookAnswer × List ℕ} → Wrote (head-of s) (world-of s .table) (s .book) t k p o
-        → ((t ≡ slot) × (u : ℕ) × (o .0 ≡ Written u)) ⊎ Agree (slots-in s) slot (o .1) (s .book)
-    go (was-written c f) = by (versionIn (readOf (slots-in s) (s .book) t) + 1) (c .slot-is .inside) (ℕ-discrete slot t)
-    go (not-written r f) = inr (λ j o. refl)
-own-bytes-only s (read-setpoint t) slot l = inr (λ j o. refl)
+-- ---- damage stays
 
-pub damage-stays-there : Damage-stays-there readSetpointOf
-unfolding readSetpointOf slotRules
-damage-stays-there h b c slot e a = rw (e, read-same (slotsOf h) b c slot a)
+-- an item that is no done preparation leaves a damaged book as it is
+damaged-item : (s : Shift) (i : BookItem) → (Sound (slots-in s) (s .book) → ⊥) → (i ≡ prepare-book → preparing-book s .0 ≢ Done) → next-shift s i .book ≡ s .book
+unfolding next-shift
+damaged-item s (arena-item i) d u = refl
+damaged-item s prepare-book d u = go (preparing-is (head-of s) (s .book)) (u refl)
+  where
+    go : {o : BookAnswer × List ℕ} → Prepared (head-of s) (s .book) o → o .0 ≢ Done → o .1 ≡ s .book
+    go (was-prepared f g) n = absurd (n refl)
+    go (not-prepared r) n = refl
+damaged-item s (write-setpoint t l p) d u = go (writing-is (head-of s) (world-of s .table) (s .book) t l p)
+  where
+    go : {o : BookAnswer × List ℕ} → Outcome (head-of s) (world-of s .table) (s .book) t l p o → o .1 ≡ s .book
+    go (done c f) = absurd (d (sound-is (slots-in s) (s .book) (c .sound)))
+    go (full c f) = refl
+    go (refused r e g c) = refl
+damaged-item s (read-setpoint t) d u = refl
+damaged-item s (read-version t w) d u = refl
+
+damaged-run : (n : ℕ) (s : Shift) (items : List BookItem) → slots-in s ≡ n → (Sound n (s .book) → ⊥) → Same-slots n s items → Unprepared s items
+    → run-shift s items .book ≡ s .book
+unfolding run-shift
+damaged-run n s [] e d same u = refl
+damaged-run n s (i ∷ is) e d same u =
+    let one = damaged-item s i (λ q. d (subst (λ (m : ℕ). Sound m (s .book)) e q)) (u .0) in
+    damaged-run n (next-shift s i) is (same .0) (λ q. d (subst (Sound n) one q)) (same .1) (u .1) ∙ one
+
+pub damage-stays : Damage-stays
+damage-stays s items d same u = damaged-run (slots-in s) s items refl d same u

@@ -45,15 +45,16 @@ pub const REFUSALS: [&str; 16] = [
     "StaleBoot",
 ];
 
-/// The refusals without a number of document 01, which go by name: the library tells them by numbers from 101 on. The
-/// last is the salvage's, the others are the book's.
-pub const NAMED: [&str; 6] = [
+/// The refusals without a number of document 01, which go by name: the library tells them by numbers from 101 on.
+/// ReportFull is the salvage's, the others are the book's.
+pub const NAMED: [&str; 7] = [
     "BadSlot",
     "NotFinite",
     "DamagedBook",
     "VersionsSpent",
     "NeverWritten",
     "ReportFull",
+    "BookFull",
 ];
 
 /// The words of the kinds of setpoint 1, 2 and 3.
@@ -178,7 +179,7 @@ fn print_reason(reply: &Reply, out: &mut impl Write) -> io::Result<()> {
 fn print_book(reply: &BookReply, out: &mut impl Write) -> io::Result<()> {
     match *reply {
         [0, ..] => write!(out, "done")?,
-        [1, version, ..] => write!(out, "done version {version}")?,
+        [1, version, moved, _] => write!(out, "done version {version} moved {moved}")?,
         [2, version, kind, number] => {
             let kind = name_of(&KINDS, 1, kind);
             write!(out, "setpoint {kind} {number} version {version}")?;

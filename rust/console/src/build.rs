@@ -123,6 +123,7 @@ macro_rules! for_every_call {
                 head: Head, table: &[u32], book: &mut [u8], slot: u32, lease: Lease, open: bool,
             ) -> BookReply;
             read_setpoint(head: Head, book: &[u8], slot: u32) -> BookReply;
+            read_version(head: Head, book: &[u8], slot: u32, version: u32) -> BookReply;
             write_dump(cells: u32, script: &[u32], text: &mut [u8]) -> WaveReply;
             read_dump(text: &[u8], script: &mut [u32]) -> WaveReply;
         }

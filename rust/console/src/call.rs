@@ -173,6 +173,9 @@ impl Desk {
         let (slot, lease, kind, value) = match (call, numbers) {
             (b"prepare_book", &[]) => return Some(build.prepare_book(head, book)),
             (b"read_setpoint", &[slot]) => return Some(build.read_setpoint(head, book, slot)),
+            (b"read_version", &[slot, version]) => {
+                return Some(build.read_version(head, book, slot, version));
+            }
             (b"write_setpoint", &[slot, cell, serial, boot, kind, value]) => {
                 (slot, Lease { cell, serial, boot }, kind, value)
             }

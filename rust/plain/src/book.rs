@@ -1,5 +1,6 @@
-//! Request L2 of document 02: the setpoint book. "A table of contents first, one 8-byte line a slot (place 2, length 2,
-//! version 4, low byte first), then the bodies in slot order, 5 bytes each."
+//! Requests L2 and L10 of document 02: the setpoint book. "The book of L2 now keeps the newest four settings of each slot;
+//! the table of contents has four lines a slot, newest first, versions falling by one, unused lines zero." A line is 8
+//! bytes ("place 2, length 2, version 4, low byte first"), a body 5; the bodies stand anywhere behind the contents.
 //!
 //! One public function for each call, over lent slices; no argument makes it panic. Refusals change nothing.
 
@@ -11,6 +12,8 @@ pub const MOST_SLOTS: u32 = 64;
 /// Bytes of a line of the table of contents, and of a body.
 pub const LINE: usize = 8;
 pub const BODY: usize = 5;
+/// "the newest four settings of each slot"
+pub const KEPT: usize = 4;
 /// The version behind which there is none.
 pub const NO_VERSION: u32 = u32::MAX;
 
@@ -69,6 +72,7 @@ pub enum BookRefusal {
     DamagedBook,
     VersionsSpent,
     NeverWritten,
+    BookFull,
 }
 
 impl BookRefusal {
@@ -80,6 +84,7 @@ impl BookRefusal {
             BookRefusal::DamagedBook => "DamagedBook",
             BookRefusal::VersionsSpent => "VersionsSpent",
             BookRefusal::NeverWritten => "NeverWritten",
+            BookRefusal::BookFull => "BookFull",
         }
     }
 }
@@ -90,28 +95,46 @@ impl From<Refusal> for BookRefusal {
     }
 }
 
-/// What a slot keeps.
+/// A setting that is kept.
 #[derive(Clone, Copy, Debug, PartialEq)]
 pub struct Kept {
     pub setpoint: Setpoint,
     pub version: u32,
 }
 
+/// A write that was done: the new version, and the "bytes moved" to make room.
+#[derive(Clone, Copy, Debug, PartialEq, Eq)]
+pub struct Written {
+    pub version: u32,
+    pub moved: u32,
+}
+
+/// A setting that is kept, and the place of its body.
+#[derive(Clone, Copy, Debug, PartialEq)]
+struct Body {
+    place: usize,
+    kept: Kept,
+}
+
+/// What a book keeps: of each slot its bodies, newest first.
+type Contents = Vec<Vec<Body>>;
+
+// ---- What a book keeps
+
 /// "one slot for each cell, at most the first 64"
 pub fn slots_of(cells: u32) -> u32 {
     cells.min(MOST_SLOTS)
 }
 
-/// Where a slot's line and its body begin. The bodies stand behind all the lines.
-fn places(slots: u32, slot: u32) -> (usize, usize) {
-    let (slots, slot) = (slots as usize, slot as usize);
-    (LINE * slot, LINE * slots + BODY * slot)
+/// The bytes of the table of contents, behind which the bodies stand.
+pub fn contents_length(slots: u32) -> usize {
+    LINE * KEPT * slots as usize
 }
 
-/// BadSlot, as far as the book goes: too short for its slots, or over the limit. Else the number of slots.
+/// BadSlot, as far as the book goes: "A book shorter than its contents", or one over the limit. Else the number of slots.
 fn check_book(cells: u32, book: &[u8]) -> Result<u32, BookRefusal> {
     let slots = slots_of(cells);
-    if book.len() < (LINE + BODY) * slots as usize || book.len() > MOST_BYTES {
+    if book.len() < contents_length(slots) || book.len() > MOST_BYTES {
         return Err(BookRefusal::BadSlot);
     }
     Ok(slots)
@@ -127,27 +150,60 @@ fn check_slot(cells: u32, book: &[u8], slot: u32) -> Result<u32, BookRefusal> {
     }
 }
 
-/// What a slot keeps; none if it was never written: "Unwritten lines and bodies are zeros." "A line or body that fits no
-/// rule reads as DamagedBook". The slot is one of the book.
-fn kept(book: &[u8], slots: u32, slot: u32) -> Result<Option<Kept>, BookRefusal> {
-    let (line_at, body_at) = places(slots, slot);
-    let line = &book[line_at..line_at + LINE];
-    let body = &book[body_at..body_at + BODY];
-    if line.iter().chain(body).all(|&byte| byte == 0) {
-        return Ok(None);
-    }
-    let place = u16::from_le_bytes([line[0], line[1]]);
-    let length = u16::from_le_bytes([line[2], line[3]]);
-    let version = u32::from_le_bytes([line[4], line[5], line[6], line[7]]);
-    let number = u32::from_le_bytes([body[1], body[2], body[3], body[4]]);
-    if usize::from(place) != body_at || usize::from(length) != BODY || version == 0 {
-        return Err(BookRefusal::DamagedBook);
-    }
-    match Setpoint::of(u32::from(body[0]), number) {
-        Some(setpoint) if setpoint.is_finite() => Ok(Some(Kept { setpoint, version })),
+/// All that the book keeps. "a line or kept body that fits no rule, or two bodies that overlap, make every read and write
+/// DamagedBook": of whichever slot they are. Bytes that no kept body covers are nothing to it.
+fn contents(book: &[u8], slots: u32) -> Result<Contents, BookRefusal> {
+    let lines = book[..contents_length(slots)].chunks_exact(LINE * KEPT);
+    let contents: Option<Contents> = lines.map(|lines| bodies_of(book, slots, lines)).collect();
+    match contents {
+        Some(contents) if !overlap(&contents) => Ok(contents),
         _ => Err(BookRefusal::DamagedBook),
     }
 }
+
+/// A slot's bodies by its four lines, "newest first, versions falling by one, unused lines zero". As many lines are in
+/// use as there were settings, four at most. None: a line or a body fits no rule.
+fn bodies_of(book: &[u8], slots: u32, lines: &[u8]) -> Option<Vec<Body>> {
+    let newest = version_of(lines);
+    let in_use = KEPT.min(newest as usize);
+    let (used, unused) = lines.split_at(LINE * in_use);
+    if unused.iter().any(|&byte| byte != 0) {
+        return None;
+    }
+    let used = used.chunks_exact(LINE).zip(0..);
+    used.map(|(line, age)| body_of(book, slots, line, newest - age))
+        .collect()
+}
+
+/// The version of a line.
+fn version_of(line: &[u8]) -> u32 {
+    u32::from_le_bytes([line[4], line[5], line[6], line[7]])
+}
+
+/// The body of a line that is in use: length 5, this version, a place behind the contents and not past the end. "A body is
+/// a kind byte (1, 2, 3 in that order) and four bytes, low byte first; a valve is 0 or 1", a pressure is finite.
+fn body_of(book: &[u8], slots: u32, line: &[u8], version: u32) -> Option<Body> {
+    let place = usize::from(u16::from_le_bytes([line[0], line[1]]));
+    let length = usize::from(u16::from_le_bytes([line[2], line[3]]));
+    if length != BODY || version_of(line) != version || place < contents_length(slots) {
+        return None;
+    }
+    let body = book.get(place..place + BODY)?;
+    let number = u32::from_le_bytes([body[1], body[2], body[3], body[4]]);
+    let setpoint = Setpoint::of(u32::from(body[0]), number)?;
+    let kept = Kept { setpoint, version };
+    setpoint.is_finite().then_some(Body { place, kept })
+}
+
+/// Whether two bodies overlap: of two neighbours, in the order of their places, the second begins less than 5 bytes
+/// behind the first. Bodies that touch do not.
+fn overlap(contents: &Contents) -> bool {
+    let mut places: Vec<usize> = contents.iter().flatten().map(|body| body.place).collect();
+    places.sort_unstable();
+    places.windows(2).any(|pair| pair[1] - pair[0] < BODY)
+}
+
+// ---- The calls
 
 /// "Preparing the book writes all of it", with zeros.
 pub fn prepare_book(head: Head, book: &mut [u8]) -> Result<(), BookRefusal> {
@@ -156,7 +212,8 @@ pub fn prepare_book(head: Head, book: &mut [u8]) -> Result<(), BookRefusal> {
     Ok(())
 }
 
-/// "Writing needs a live lease on the slot's cell and raises the version by one." The new version.
+/// "Writing needs a live lease on the slot's cell and raises the version by one." Its refusals in order: 1, BadSlot, 16,
+/// 12, NotFinite, DamagedBook (of the whole book), VersionsSpent, BookFull.
 pub fn write_setpoint(
     head: Head,
     table: &mut [u32],
@@ -164,7 +221,7 @@ pub fn write_setpoint(
     slot: u32,
     lease: Lease,
     setpoint: Setpoint,
-) -> Result<u32, BookRefusal> {
+) -> Result<Written, BookRefusal> {
     let arena = Arena::new(head, table)?;
     let slots = check_slot(arena.cells, book, slot)?;
     // 16 right before 12
@@ -175,29 +232,113 @@ pub fn write_setpoint(
     if !setpoint.is_finite() {
         return Err(BookRefusal::NotFinite);
     }
+    let old = contents(book, slots)?;
     // an unwritten slot has version 0
-    let version = kept(book, slots, slot)?.map_or(0, |kept| kept.version);
+    let newest = old[slot as usize].first();
+    let version = newest.map_or(0, |body| body.kept.version);
     if version == NO_VERSION {
         return Err(BookRefusal::VersionsSpent);
     }
-    store(book, slots, slot, setpoint, version + 1);
-    Ok(version + 1)
+    let version = version + 1;
+    let (new, moved) = append(&old, book.len(), slot, Kept { setpoint, version })?;
+    store(book, &old, &new);
+    Ok(Written { version, moved })
 }
 
-/// Writes a slot's line and its body.
-fn store(book: &mut [u8], slots: u32, slot: u32, setpoint: Setpoint, version: u32) {
-    let (line_at, body_at) = places(slots, slot);
+/// "Version 0 reads as NeverWritten": a slot's newest setting.
+pub fn read_setpoint(head: Head, book: &[u8], slot: u32) -> Result<Kept, BookRefusal> {
+    read(head, book, slot, |_| true)
+}
+
+/// "NeverWritten now also answers for an older version not kept", and for 0 and a version not yet written.
+pub fn read_version(head: Head, book: &[u8], slot: u32, version: u32) -> Result<Kept, BookRefusal> {
+    read(head, book, slot, |kept| kept.version == version)
+}
+
+/// The newest setting of a slot that is asked for.
+fn read(
+    head: Head,
+    book: &[u8],
+    slot: u32,
+    asked: impl Fn(&Kept) -> bool,
+) -> Result<Kept, BookRefusal> {
+    let slots = check_slot(rules::cells_of(head)?, book, slot)?;
+    let contents = contents(book, slots)?;
+    let mut kept = contents[slot as usize].iter().map(|body| body.kept);
+    kept.find(asked).ok_or(BookRefusal::NeverWritten)
+}
+
+// ---- Room for a body
+
+/// What the book is to keep once this setting is written to the slot, and the bytes moved for it.
+fn append(
+    old: &Contents,
+    length: usize,
+    slot: u32,
+    kept: Kept,
+) -> Result<(Contents, u32), BookRefusal> {
+    let mut new = old.clone();
+    let front = contents_length(new.len() as u32);
+    // "Writing drops the slot's oldest of four before it looks for room"
+    new[slot as usize].truncate(KEPT - 1);
+    // "exactly when kept bodies after that drop leave fewer than 5 bytes"
+    let bodies = new.iter().flatten().count();
+    if length - front - BODY * bodies < BODY {
+        return Err(BookRefusal::BookFull);
+    }
+    // "When no room is left behind the last body, kept bodies slide to the front"
+    let mut moved = 0;
+    if length - behind_last(&new, front) < BODY {
+        moved = slide(&mut new, front);
+    }
+    let place = behind_last(&new, front);
+    new[slot as usize].insert(0, Body { place, kept });
+    Ok((new, moved))
+}
+
+/// Where the last body ends; without bodies, where the contents end.
+fn behind_last(contents: &Contents, front: usize) -> usize {
+    let ends = contents.iter().flatten().map(|body| body.place + BODY);
+    ends.max().unwrap_or(front)
+}
+
+/// Slides the bodies to the front "in the order of their places". The "bytes moved, equal to the summed lengths of the
+/// bodies whose place changed".
+fn slide(contents: &mut Contents, front: usize) -> u32 {
+    let mut bodies: Vec<&mut Body> = contents.iter_mut().flatten().collect();
+    bodies.sort_unstable_by_key(|body| body.place);
+    let mut moved = 0;
+    for (body, place) in bodies.into_iter().zip((front..).step_by(BODY)) {
+        if body.place != place {
+            body.place = place;
+            moved += BODY as u32;
+        }
+    }
+    moved
+}
+
+/// Makes a book that keeps `old` keep `new`. "Vacated bytes become zeros": every byte of an old body that no new body
+/// covers. Bytes that no body covered or covers stay.
+fn store(book: &mut [u8], old: &Contents, new: &Contents) {
+    for body in old.iter().flatten() {
+        book[body.place..body.place + BODY].fill(0);
+    }
+    book[..contents_length(new.len() as u32)].fill(0);
+    for (slot, bodies) in new.iter().enumerate() {
+        for (age, body) in bodies.iter().enumerate() {
+            store_body(book, LINE * (KEPT * slot + age), body);
+        }
+    }
+}
+
+/// Writes a body, and its line at this place.
+fn store_body(book: &mut [u8], line_at: usize, body: &Body) {
+    let Kept { setpoint, version } = body.kept;
     let line = &mut book[line_at..line_at + LINE];
-    line[..2].copy_from_slice(&(body_at as u16).to_le_bytes());
+    line[..2].copy_from_slice(&(body.place as u16).to_le_bytes());
     line[2..4].copy_from_slice(&(BODY as u16).to_le_bytes());
     line[4..].copy_from_slice(&version.to_le_bytes());
-    let body = &mut book[body_at..body_at + BODY];
-    body[0] = setpoint.kind();
-    body[1..].copy_from_slice(&setpoint.number().to_le_bytes());
-}
-
-/// "Version 0 reads as NeverWritten."
-pub fn read_setpoint(head: Head, book: &[u8], slot: u32) -> Result<Kept, BookRefusal> {
-    let slots = check_slot(rules::cells_of(head)?, book, slot)?;
-    kept(book, slots, slot)?.ok_or(BookRefusal::NeverWritten)
+    let bytes = &mut book[body.place..body.place + BODY];
+    bytes[0] = setpoint.kind();
+    bytes[1..].copy_from_slice(&setpoint.number().to_le_bytes());
 }

@@ -1,6 +1,6 @@
 //! The plain build: these rules behind the console's trait, their replies told in the words of include/skid.h.
 
-use crate::book::{self, BookRefusal, Kept, Setpoint};
+use crate::book::{self, BookRefusal, Kept, Setpoint, Written};
 use crate::rules::{self, Answer, Counts, Reason, Refusal};
 use crate::salvage::{self, SalvageRefusal, Salvaged};
 use crate::wave;
@@ -97,6 +97,7 @@ fn book_refusal(refusal: BookRefusal) -> BookReply {
         BookRefusal::DamagedBook => 103,
         BookRefusal::VersionsSpent => 104,
         BookRefusal::NeverWritten => 105,
+        BookRefusal::BookFull => 107,
     };
     [3, number, 0, 0]
 }
@@ -111,7 +112,17 @@ fn write_setpoint(
 ) -> BookReply {
     let mut table = table.to_vec();
     match book::write_setpoint(head, &mut table, book, slot, lease, setpoint) {
-        Ok(version) => [1, version.into(), 0, 0],
+        Ok(Written { version, moved }) => [1, version.into(), moved.into(), 0],
+        Err(refusal) => book_refusal(refusal),
+    }
+}
+
+fn read_words(read: Result<Kept, BookRefusal>) -> BookReply {
+    match read {
+        Ok(Kept { setpoint, version }) => {
+            let (kind, number) = (setpoint.kind().into(), setpoint.number().into());
+            [2, version.into(), kind, number]
+        }
         Err(refusal) => book_refusal(refusal),
     }
 }
@@ -424,15 +435,11 @@ impl Build for Plain {
     }
 
     fn read_setpoint(&mut self, head: Head, book: &[u8], slot: u32) -> BookReply {
-        match book::read_setpoint(head, book, slot) {
-            Ok(Kept { setpoint, version }) => [
-                2,
-                version.into(),
-                setpoint.kind().into(),
-                setpoint.number().into(),
-            ],
-            Err(refusal) => book_refusal(refusal),
-        }
+        read_words(book::read_setpoint(head, book, slot))
+    }
+
+    fn read_version(&mut self, head: Head, book: &[u8], slot: u32, version: u32) -> BookReply {
+        read_words(book::read_version(head, book, slot, version))
     }
 
     fn write_dump(&mut self, cells: u32, script: &[u32], text: &mut [u8]) -> WaveReply {

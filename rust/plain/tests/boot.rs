@@ -506,11 +506,11 @@ fn salvage_and_crew() {
 #[test]
 fn the_book() {
     let nan = 0x7fc0_0000;
-    let book = "book 104\nprepare_book";
+    let book = "book 276\nprepare_book";
     for (line, answer) in [
         (
             "write_setpoint 2 2 1 70 speed 7".to_string(),
-            "done version 1",
+            "done version 1 moved 0",
         ),
         (
             "write_setpoint 2 2 1 71 speed 7".to_string(),
@@ -555,7 +555,7 @@ fn the_book() {
             "refused BadSlot",
         ),
         (
-            "book 103\nwrite_setpoint 2 2 1 71 speed 7".to_string(),
+            "book 255\nwrite_setpoint 2 2 1 71 speed 7".to_string(),
             "refused BadSlot",
         ),
         (
@@ -573,7 +573,7 @@ fn the_book() {
             "show_book",
             "read_setpoint 2"
         ]),
-        "done\nrefused 16 StaleBoot 0\nbook 104\nrefused NeverWritten"
+        "done\nrefused 16 StaleBoot 0\nbook 276\nrefused NeverWritten"
     );
 }
 

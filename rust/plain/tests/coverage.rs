@@ -1,8 +1,8 @@
 //! The random histories reach every call, and with every call each answer that it can give; the reasons of a Busy, also
 //! where they change between attempts; the two readings of health in all their cases; keys in any order and doubles;
-//! boot numbers, used and used again, and stale leases at all places of all lists; the book's damages, and its faults two
-//! at a time; the counters of a crew at work; what a salvage finds and what room it has, and the leases from before it;
-//! and echo, map and trace in all theirs.
+//! boot numbers, used and used again, and stale leases at all places of all lists; the book's damages, its room and what
+//! it keeps, and its faults two at a time; the counters of a crew at work; what a salvage finds and what room it has, and
+//! the leases from before it; and echo, map and trace in all theirs.
 
 use console::desk::Desk;
 use console::histories;
@@ -19,7 +19,7 @@ const CALLS: usize = 10_000;
 
 /// What each call can answer: a Busy by its reason, a setpoint by its kind, the refusals by number, in the order of
 /// document 01's table, and 11 with its reason, or by name, where they have no number.
-const ANSWERS: [(&str, &str); 24] = [
+const ANSWERS: [(&str, &str); 25] = [
     ("prepare", "done 1"),
     ("try_acquire", "granted held 1 8 9 10"),
     ("drop_lease", "done 1 12 16"),
@@ -62,10 +62,14 @@ const ANSWERS: [(&str, &str); 24] = [
     ("prepare_book", "done 1 BadSlot"),
     (
         "write_setpoint",
-        "done 1 BadSlot 16 12 NotFinite DamagedBook VersionsSpent",
+        "done 1 BadSlot 16 12 NotFinite DamagedBook VersionsSpent BookFull",
     ),
     (
         "read_setpoint",
+        "pressure speed valve 1 BadSlot DamagedBook NeverWritten",
+    ),
+    (
+        "read_version",
         "pressure speed valve 1 BadSlot DamagedBook NeverWritten",
     ),
 ];
@@ -443,43 +447,135 @@ fn every_case_of_map_and_echo() {
     assert_eq!(echoes, expected);
 }
 
-/// The rules that a damaged slot breaks, and how long the book is to be.
-fn damages(console: &Desk, slot: usize) -> Vec<&'static str> {
-    let slots = book::slots_of(console.head.headers * console.head.buckets) as usize;
-    let line = &console.book[8 * slot..8 * slot + 8];
-    let body = &console.book[8 * slots + 5 * slot..8 * slots + 5 * slot + 5];
-    let place = usize::from(line[0]) + 256 * usize::from(line[1]);
-    let kept = body[1..]
-        .iter()
-        .rev()
-        .fold(0, |number, &byte| 256 * number + u32::from(byte));
-    let mut faults = Vec::new();
-    if line.iter().all(|&byte| byte == 0) {
-        return vec!["a body without a line"];
-    }
-    if place != 8 * slots + 5 * slot {
-        faults.push("place");
-    }
-    if line[2..4] != [5, 0] {
-        faults.push("length");
-    }
-    if line[4..] == [0; 4] {
-        faults.push("version 0");
-    }
-    match body[0] {
-        1 if !f32::from_bits(kept).is_finite() => faults.push("not finite"),
-        3 if kept > 1 => faults.push("valve"),
-        1..=3 => {}
-        0 => faults.push("kind 0"),
-        _ => faults.push("kind"),
-    }
-    faults
+/// The lent book of a desk, and how many slots it has.
+fn lent_book(console: &Desk) -> (&[u8], usize) {
+    let slots = book::slots_of(console.head.headers * console.head.buckets);
+    (&console.book[..console.lent_book], slots as usize)
 }
 
-/// Each rule of a line and a body is broken alone, in a read and in a write.
+/// Place, length and version of a slot's line; 0 is the newest.
+fn line_of(book: &[u8], slot: usize, age: usize) -> [u32; 3] {
+    let line = &book[32 * slot + 8 * age..][..8];
+    let number = |bytes: &[u8]| {
+        let bytes = bytes.iter().rev();
+        bytes.fold(0, |number, &byte| 256 * number + u32::from(byte))
+    };
+    [number(&line[..2]), number(&line[2..4]), number(&line[4..])]
+}
+
+/// A line in use: its slot, its version, and the place of its body.
+#[derive(Clone, Copy)]
+struct Body {
+    slot: usize,
+    version: u32,
+    place: usize,
+}
+
+/// Each line that is to be in use: as many as a slot had settings, four at most.
+fn bodies_of(book: &[u8], slots: usize) -> Vec<Body> {
+    let lines = (0..slots).flat_map(|slot| {
+        let used = line_of(book, slot, 0)[2].min(4) as usize;
+        (0..used).map(move |age| {
+            let [place, _, version] = line_of(book, slot, age);
+            let place = place as usize;
+            Body {
+                slot,
+                version,
+                place,
+            }
+        })
+    });
+    lines.collect()
+}
+
+/// What is wrong with a body.
+fn damage_of_body(body: &[u8]) -> Option<&'static str> {
+    let number = u32::from_le_bytes([body[1], body[2], body[3], body[4]]);
+    match body[0] {
+        1 if !f32::from_bits(number).is_finite() => Some("not finite"),
+        3 if number > 1 => Some("valve"),
+        1..=3 => None,
+        0 => Some("kind 0"),
+        _ => Some("kind"),
+    }
+}
+
+/// What is wrong with the lines and bodies of a slot.
+fn damages_of_slot(book: &[u8], slots: usize, slot: usize) -> Vec<&'static str> {
+    let newest = line_of(book, slot, 0)[2];
+    let mut damages = Vec::new();
+    for age in 0..4 {
+        let [place, length, version] = line_of(book, slot, age);
+        let at = place as usize;
+        if age as u32 >= newest {
+            if [place, length, version] != [0; 3] {
+                damages.push("an unused line with bytes");
+            }
+        } else if [place, length, version] == [0; 3] {
+            damages.push("no line for a setting");
+        } else {
+            if version != newest - age as u32 {
+                damages.push("versions not falling by one");
+            }
+            if length != 5 {
+                damages.push("length");
+            }
+            match at {
+                _ if at < 32 * slots => damages.push("place before the contents"),
+                _ if at + 5 > book.len() => damages.push("place past the end"),
+                _ => damages.extend(damage_of_body(&book[at..at + 5])),
+            }
+        }
+    }
+    damages
+}
+
+/// Every rule that the book breaks, and the slots in which it is broken: of an overlap both.
+fn damages(book: &[u8], slots: usize) -> Vec<(&'static str, [usize; 2])> {
+    let mut damages: Vec<(&str, [usize; 2])> = (0..slots)
+        .flat_map(|slot| {
+            let damages = damages_of_slot(book, slots, slot).into_iter();
+            damages.map(move |damage| (damage, [slot; 2]))
+        })
+        .collect();
+    let bodies = bodies_of(book, slots);
+    for (at, one) in bodies.iter().enumerate() {
+        for other in &bodies[..at] {
+            let both = [one.slot, other.slot];
+            match one.place.abs_diff(other.place) {
+                0 => damages.push(("overlap: at one place", both)),
+                1..=3 => damages.push(("overlap: by some bytes", both)),
+                4 => damages.push(("overlap: by one byte", both)),
+                _ => {}
+            }
+        }
+    }
+    damages
+}
+
+/// What a call that was refused by DamagedBook met, if one rule alone is broken.
+fn cases_of_damage(console: &Desk, line: &str) -> Vec<String> {
+    let slot = number(word(line, 1).as_bytes()).expect("a slot") as usize;
+    let (book, slots) = lent_book(console);
+    let damages = damages(book, slots);
+    assert!(!damages.is_empty(), "{line}");
+    match damages[..] {
+        [(damage, damaged)] => {
+            let own = damaged.contains(&slot);
+            let whose = if own { "own slot" } else { "other slot" };
+            [whose, word(line, 0)]
+                .map(|met| format!("{met}: {damage}"))
+                .into()
+        }
+        _ => Vec::new(),
+    }
+}
+
+/// Each rule of the book is broken alone, and met by a read of the newest, a read of a version and a write, of that slot
+/// and of another, not once but often.
 #[test]
 fn every_damage_of_the_book() {
-    let mut seen = BTreeSet::new();
+    let mut seen: BTreeMap<String, usize> = BTreeMap::new();
     for seed in 1..=6 {
         let mut console = Desk::new();
         for line in history(seed).split(|&byte| byte == b'\n') {
@@ -488,34 +584,254 @@ fn every_damage_of_the_book() {
                 .line(&mut Plain, line, &mut out)
                 .expect("a vector takes every byte");
             if out.starts_with(b"refused DamagedBook\n") {
-                let line = String::from_utf8_lossy(line);
-                let slot = number(word(&line, 1).as_bytes()).expect("a slot");
-                let faults = damages(&console, slot as usize);
-                assert!(!faults.is_empty(), "{line}");
-                if let &[fault] = faults.as_slice() {
-                    seen.insert(format!("{}: {fault}", word(&line, 0)));
+                for case in cases_of_damage(&console, &String::from_utf8_lossy(line)) {
+                    *seen.entry(case).or_default() += 1;
                 }
             }
         }
     }
-    let faults = [
-        "a body without a line",
-        "place",
+    for damage in [
+        "versions not falling by one",
+        "no line for a setting",
+        "an unused line with bytes",
         "length",
-        "version 0",
+        "place before the contents",
+        "place past the end",
         "not finite",
         "valve",
         "kind 0",
         "kind",
-    ];
-    let expected: BTreeSet<String> = faults
-        .iter()
-        .flat_map(|fault| {
-            ["read_setpoint", "write_setpoint"].map(|call| format!("{call}: {fault}"))
-        })
-        .collect();
-    assert_eq!(seen, expected);
+        "overlap: at one place",
+        "overlap: by some bytes",
+        "overlap: by one byte",
+    ] {
+        for met in [
+            "own slot",
+            "other slot",
+            "read_setpoint",
+            "read_version",
+            "write_setpoint",
+        ] {
+            let case = format!("{met}: {damage}");
+            assert!(seen.get(&case) >= Some(&10), "{case}: {seen:#?}");
+        }
+    }
 }
+
+/// A sound book for a write to a slot: what it keeps once the slot's oldest of four is dropped, and that one.
+struct Room<'a> {
+    book: &'a [u8],
+    front: usize,
+    kept: Vec<Body>,
+    dropped: Option<Body>,
+}
+
+impl Room<'_> {
+    fn of(console: &Desk, slot: usize) -> Room<'_> {
+        let (book, slots) = lent_book(console);
+        let newest = line_of(book, slot, 0)[2];
+        let mut kept = bodies_of(book, slots);
+        let oldest = |body: &Body| newest >= 4 && body.slot == slot && body.version == newest - 3;
+        let dropped = kept.iter().position(oldest).map(|at| kept.remove(at));
+        let front = 32 * slots;
+        Room {
+            book,
+            front,
+            kept,
+            dropped,
+        }
+    }
+
+    /// Whether kept bodies leave fewer than 5 bytes.
+    fn is_full(&self) -> bool {
+        self.front + 5 * self.kept.len() + 5 > self.book.len()
+    }
+
+    /// Where the last kept body ends.
+    fn behind_last(&self) -> usize {
+        let ends = self.kept.iter().map(|body| body.place + 5);
+        ends.max().unwrap_or(self.front)
+    }
+
+    /// Whether there is a free byte that is not zero.
+    fn has_rubbish(&self) -> bool {
+        let bodies = self.kept.iter().chain(&self.dropped);
+        let mut free = self.book[self.front..].to_vec();
+        for body in bodies {
+            free[body.place - self.front..][..5].fill(0);
+        }
+        free.iter().any(|&byte| byte != 0)
+    }
+
+    /// What a write met that found the book full.
+    fn case_of_full(&self) -> &'static str {
+        assert!(self.is_full());
+        match (self.kept.len(), (self.book.len() - self.front) % 5) {
+            (0, _) => "full: room for no body",
+            (_, 0) => "full: no byte left",
+            _ => "full: some bytes left",
+        }
+    }
+
+    /// What a write met that was done, with so many bytes moved.
+    fn cases_of_done(&self, moved: usize) -> Vec<&'static str> {
+        let (last, end) = (self.behind_last(), self.book.len());
+        assert_eq!(moved > 0, last + 5 > end);
+        let kind = match (moved, self.kept.len()) {
+            (0, 0) => "the first body",
+            (0, _) => "appended",
+            (moved, kept) if moved == 5 * kept => "all bodies slide",
+            _ => "some bodies slide",
+        };
+        let dropped = self.dropped.map(|body| body.place);
+        let lay_last = dropped.is_some_and(|place| last <= place);
+        let room_again = dropped.is_some_and(|place| last == place && place + 10 > end);
+        let room_behind = dropped.is_some_and(|place| last <= place && place + 10 <= end);
+        let rubbish = self.has_rubbish();
+        let cases = [
+            (kind, true),
+            ("dropped, slide", dropped.is_some() && moved > 0),
+            ("dropped, append", dropped.is_some() && moved == 0),
+            ("the dropped body lay last", lay_last),
+            (
+                "the dropped body lay last, and has room behind",
+                room_behind,
+            ),
+            (
+                "only the dropped body's room is behind the last",
+                room_again,
+            ),
+            ("free bytes not zero, slide", rubbish && moved > 0),
+            ("free bytes not zero, append", rubbish && moved == 0),
+            ("exactly 5 bytes behind the last", last + 5 == end),
+            (
+                "1 to 4 bytes behind the last",
+                (1..5).contains(&(end - last)),
+            ),
+        ];
+        let there = cases.iter().filter(|(_, there)| *there);
+        there.map(|&(case, _)| case).collect()
+    }
+}
+
+/// Which version a read of a sound book asked for, and whether it was there. `before` is what it was given.
+fn case_of_reading(before: &Desk, line: &str, out: &str) -> String {
+    let (book, slots) = lent_book(before);
+    let numbers = |at| number(word(line, at).as_bytes()).expect("a number");
+    let slot = numbers(1) as usize;
+    assert!(slot < slots, "{line}");
+    let newest = line_of(book, slot, 0)[2];
+    let asked = match word(line, 0) {
+        "read_setpoint" => newest,
+        _ => numbers(2),
+    };
+    let kept = (1..=newest).contains(&asked) && newest - asked < 4;
+    assert_eq!(kept, out.starts_with("setpoint "), "{line}: {out}");
+    let which = match asked {
+        _ if kept => return format!("{}: age {}", word(line, 0), newest - asked),
+        0 => "0",
+        _ if asked < newest => "dropped",
+        _ if asked - 1 == newest => "the next",
+        _ => "to come",
+    };
+    format!("{}: {which}, of {} settings", word(line, 0), newest.min(1))
+}
+
+/// What a write of the book, or a read that is not DamagedBook, met. `before` is what it was given; `full` is the length
+/// of the book when a write found it full, up to the next that is done.
+fn cases_of_room(before: &Desk, full: &mut Option<usize>, line: &str, out: &str) -> Vec<String> {
+    let slot = number(word(line, 1).as_bytes()).unwrap_or(0) as usize;
+    let cases = match (word(line, 0), answer_of(out).as_str()) {
+        ("write_setpoint", "done") => {
+            let moved = behind(out, "moved").expect("a number");
+            let mut cases = Room::of(before, slot).cases_of_done(moved as usize);
+            if behind(out, "version") == Some(u32::MAX) {
+                cases.push("the last version");
+            }
+            cases.extend(full.take().map(|length| match before.lent_book > length {
+                true => "done behind full, in a longer book",
+                false => "done behind full",
+            }));
+            cases
+        }
+        ("write_setpoint", "BookFull") => {
+            *full = Some(before.lent_book);
+            vec![Room::of(before, slot).case_of_full()]
+        }
+        ("write_setpoint", "VersionsSpent") => vec!["versions spent"],
+        ("read_setpoint" | "read_version", "pressure" | "speed" | "valve" | "NeverWritten") => {
+            return vec![case_of_reading(before, line, out)];
+        }
+        _ => Vec::new(),
+    };
+    cases.into_iter().map(String::from).collect()
+}
+
+/// The room of the book, and what is read of it: each case not once but often.
+#[test]
+fn every_case_of_room_and_reading() {
+    let mut seen: BTreeMap<String, usize> = BTreeMap::new();
+    for seed in 1..=6 {
+        let mut console = Desk::new();
+        let mut full = None;
+        for line in history(seed).split(|&byte| byte == b'\n') {
+            let call = line.starts_with(b"write_setpoint ") || line.starts_with(b"read_");
+            let (before, mut out) = (call.then(|| console.clone()), Vec::new());
+            let kind = console
+                .line(&mut Plain, line, &mut out)
+                .expect("a vector takes every byte");
+            if line.starts_with(b"prepare") {
+                full = None;
+            }
+            if let Some(before) = before.filter(|_| matches!(kind, Line::Call(_))) {
+                let line = String::from_utf8_lossy(line);
+                let out = String::from_utf8_lossy(&out);
+                for case in cases_of_room(&before, &mut full, &line, &out) {
+                    *seen.entry(case).or_default() += 1;
+                }
+            }
+        }
+    }
+    for case in ROOM_AND_READING {
+        assert!(seen.get(case) >= Some(&10), "{case}: {seen:#?}");
+    }
+}
+
+/// The cases of that test.
+const ROOM_AND_READING: [&str; 32] = [
+    "the first body",
+    "appended",
+    "some bodies slide",
+    "all bodies slide",
+    "dropped, append",
+    "dropped, slide",
+    "the dropped body lay last",
+    "the dropped body lay last, and has room behind",
+    "only the dropped body's room is behind the last",
+    "free bytes not zero, append",
+    "free bytes not zero, slide",
+    "exactly 5 bytes behind the last",
+    "1 to 4 bytes behind the last",
+    "full: room for no body",
+    "full: no byte left",
+    "full: some bytes left",
+    "done behind full",
+    "done behind full, in a longer book",
+    "the last version",
+    "versions spent",
+    "read_setpoint: age 0",
+    "read_setpoint: 0, of 0 settings",
+    "read_version: age 0",
+    "read_version: age 1",
+    "read_version: age 2",
+    "read_version: age 3",
+    "read_version: dropped, of 1 settings",
+    "read_version: 0, of 1 settings",
+    "read_version: 0, of 0 settings",
+    "read_version: the next, of 1 settings",
+    "read_version: the next, of 0 settings",
+    "read_version: to come, of 1 settings",
+];
 
 /// Every fault of a `write_setpoint` under a good head, in the order of its refusals. Damage can be looked for only where
 /// there is such a slot.
@@ -531,7 +847,7 @@ fn faults_of_a_write(console: &Desk, line: &str) -> Vec<&'static str> {
         boot: head.boot,
     };
     let mut table = console.table[..words].to_vec();
-    let book = &console.book[..console.lent_book];
+    let (book, slots) = lent_book(console);
     let mut faults = Vec::new();
     let permission = rules::read_permission(head, &mut table, lease).answer;
     if permission == Answer::Refused(rules::Refusal::BadShape) {
@@ -539,9 +855,8 @@ fn faults_of_a_write(console: &Desk, line: &str) -> Vec<&'static str> {
     }
     let read = book::read_setpoint(head, book, slot);
     if read == Err(BookRefusal::BadSlot) {
-        let slots = book::slots_of(head.headers * head.buckets);
         faults.push(match book.len() {
-            length if length < 13 * slots as usize => "too short",
+            length if length < 32 * slots => "too short",
             length if length > 32_768 => "over the limit",
             _ => "no such slot",
         });
@@ -558,6 +873,9 @@ fn faults_of_a_write(console: &Desk, line: &str) -> Vec<&'static str> {
     match read {
         Err(BookRefusal::DamagedBook) => faults.push("DamagedBook"),
         Ok(kept) if kept.version == u32::MAX => faults.push("VersionsSpent"),
+        Ok(_) | Err(BookRefusal::NeverWritten) if Room::of(console, slot as usize).is_full() => {
+            faults.push("BookFull");
+        }
         _ => {}
     }
     faults
@@ -592,10 +910,12 @@ fn every_two_faults_of_a_write() {
         "NotFinite",
         "DamagedBook",
         "VersionsSpent",
+        "BookFull",
         "1 too short",
         "1 no such slot",
         "1 NotFinite",
         "1 DamagedBook",
+        "1 BookFull",
         "too short 12",
         "too short NotFinite",
         "over the limit 12",
@@ -609,11 +929,14 @@ fn every_two_faults_of_a_write() {
         "16 NotFinite",
         "16 DamagedBook",
         "16 VersionsSpent",
+        "16 BookFull",
         "12 NotFinite",
         "12 DamagedBook",
         "12 VersionsSpent",
+        "12 BookFull",
         "NotFinite DamagedBook",
         "NotFinite VersionsSpent",
+        "NotFinite BookFull",
     ] {
         assert!(seen.contains(expected), "{expected}: not in {seen:?}");
     }
@@ -1526,7 +1849,7 @@ fn every_case_of_boot_behind_a_salvage() {
 
 /// What each call can do to bits: kinds of `step` lines that its trace can have. Behind the kind `+` if there can be
 /// several.
-const STEPS: [(&str, &str); 24] = [
+const STEPS: [(&str, &str); 25] = [
     ("prepare", "0 2 2+"),
     ("try_acquire", "0 1"),
     ("drop_lease", "0 2"),
@@ -1551,6 +1874,7 @@ const STEPS: [(&str, &str); 24] = [
     ("prepare_book", "0"),
     ("write_setpoint", "0"),
     ("read_setpoint", "0"),
+    ("read_version", "0"),
 ];
 
 #[test]

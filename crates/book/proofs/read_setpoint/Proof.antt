@@ -1,51 +1,52 @@
 -- `book::read_setpoint` meets its contract.
-use Rattle.slots.specs.Outcomes.{reading-is}
-use Rattle.slots.specs.Fine.{slot-fine}
 use mathlib.Core.Path.{sym, _∙_}
-use Rattle.slots.specs.Rules.{firstFault, slotRules}
+use native.Mathlib.Omega.{arith}
 use Rattle.slots.specs.Calls.{readSetpointOf}
+use Rattle.slots.specs.Fine.{open-fine}
+use Rattle.book.specs.Model.{read-is, open-readable}
 use borrow.Author.Needs.{needs}
 use Rattle.book.proofs.read_setpoint.Statement.{statement}
 use Rattle.book.proofs.read_setpoint.Tie as tie
 
-head-fits-requires : tie.Need-head-fits-requires
-head-fits-requires c κs = search needs
+open-check-requires : tie.Need-open-check-requires
+open-check-requires c κs = search needs
 
-slots-requires : tie.Need-slots-requires
-slots-requires c κs = sym (c .before .head-fits .ensures) ∙ c .if1 .taken
+enum-known-check : tie.Need-enum-known-check
+enum-known-check c = search needs
 
-is-bad-slot-requires : tie.Need-is-bad-slot-requires
-is-bad-slot-requires c κs = search needs
+enum-told : tie.Need-enum-told
+enum-told c = search needs
+
+mul-version-at : tie.Need-mul-version-at
+mul-version-at c = search needs
+
+version-at-requires : tie.Need-version-at-requires
+version-at-requires c κs =
+    let f = open-fine _ _ _ (sym (c .before .before .open-check .ensures) ∙ c .enum-told .given .1) in
+    omega (arith, f .slot-is .room, f .slot-is .inside)
+
+read-kept-requires : tie.Need-read-kept-requires
+read-kept-requires c κs =
+    let f = open-fine _ _ _ (sym (c .before .before .before .open-check .ensures) ∙ c .before .enum-told .given .1) in
+    (omega (arith, f .slot-is .room, f .slot-is .inside), open-readable _ _ _ f)
 
 returns : tie.Need-returns
-unfolding readSetpointOf slotRules firstFault
-returns c = rw (← c .before .before .before .before .head-fits .ensures, c .before .before .before .if1 .taken, ← c .before .before .slots .ensures, ← c .before .is-bad-slot .ensures, c .if2 .taken)
-
-read-requires : tie.Need-read-requires
-read-requires c κs = let f = slot-fine _ _ _ (sym (c .before .is-bad-slot .ensures) ∙ c .if2 .left) in (search needs, (f .inside, f .book .room))
-
-told-requires : tie.Need-told-requires
-told-requires c κs = search needs
+unfolding readSetpointOf
+returns c = rw (read-is _ _ _ _, ← c .before .before .before .open-check .ensures, c .before .check .given .1)
 
 returns-2 : tie.Need-returns-2
-returns-2 c =
-    let fits = sym (c .before .before .before .before .before .before .head-fits .ensures) ∙ c .before .before .before .before .before .if1 .taken in
-    let fine = sym (c .before .before .before .is-bad-slot .ensures) ∙ c .before .before .if2 .left in
-    rw (reading-is _ _ _ fits (rw (c .before .before .before .before .slots .ensures) at fine), ← c .before .before .before .before .slots .ensures, ← c .before .read .ensures, ← c .told .ensures)
-
-returns-3 : tie.Need-returns-3
-unfolding readSetpointOf slotRules firstFault
-returns-3 c = rw (← c .before .head-fits .ensures, c .if1 .left)
+unfolding readSetpointOf
+returns-2 c = rw (read-is _ _ _ _, ← c .before .before .before .before .open-check .ensures, c .before .before .enum-told .given .1, ← c .before .version-at .ensures, ← c .read-kept .ensures)
 
 pub read-setpoint-spec : {M : Type 1} → statement M
 read-setpoint-spec =
     tie.close
     (tie.spec
-    head-fits-requires
-    slots-requires
-    is-bad-slot-requires
+    open-check-requires
+    enum-known-check
+    enum-told
+    mul-version-at
+    version-at-requires
+    read-kept-requires
     returns
-    read-requires
-    told-requires
-    returns-2
-    returns-3)
+    returns-2)

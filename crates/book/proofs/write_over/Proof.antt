@@ -1,61 +1,114 @@
 -- `book::write_over` meets its contract.
-use Rattle.slots.specs.Fine.{over-fine}
-use native.Mathlib.Omega.{arith}
 use mathlib.Core.Path.{sym, _∙_}
+use native.Mathlib.Omega.{arith}
+use borrow.Author.Tests.{eq-eqb, ne-eqb}
+use Rattle.slots.specs.Writing.{putOf}
+use Rattle.slots.specs.Rules.{firstFault, overRules}
 use Rattle.book.specs.Model.{writeOverOf}
+use Rattle.enter.specs.Steps.{oldest-lies, staying-most, full-is, room-is, left-size, left-fits, left-kept}
 use borrow.Author.Needs.{needs}
 use Rattle.book.proofs.write_over.Statement.{statement}
 use Rattle.book.proofs.write_over.Tie as tie
 
-read-requires : tie.Need-read-requires
-read-requires c κs = search needs
+is-sound-requires : tie.Need-is-sound-requires
+is-sound-requires c κs = search needs
 
-over-check-requires : tie.Need-over-check-requires
-over-check-requires c κs = search needs
+mul-version-at : tie.Need-mul-version-at
+mul-version-at c = search needs
 
-enum-known-check : tie.Need-enum-known-check
-enum-known-check c = search needs
-
-enum-told : tie.Need-enum-told
-enum-told c = search needs
-
-version-in-requires : tie.Need-version-in-requires
-version-in-requires c κs = search needs
-
-add-version : tie.Need-add-version
-add-version c =
-    let f = over-fine _ (sym (c .before .before .before .over-check .ensures) ∙ c .before .enum-told .given .1) in
-    omega (arith, f .remains, c .version-in .ensures)
-
-put-requires : tie.Need-put-requires
-put-requires c κs = search needs
+version-at-requires : tie.Need-version-at-requires
+version-at-requires c κs = search needs
 
 same-length : tie.Need-same-length
 same-length c = search needs
 
 returns : tie.Need-returns
-unfolding writeOverOf
-returns c = rw (← c .before .before .before .before .read .ensures, ← c .before .before .before .over-check .ensures, c .before .check .given .1)
+unfolding writeOverOf overRules firstFault
+returns c = rw (← c .before .before .before .before .is-sound .ensures, c .before .before .before .if1 .taken, ← c .before .version-at .ensures, eq-eqb _ _ (c .if2 .taken))
+
+staying-requires : tie.Need-staying-requires
+staying-requires c κs = search needs
+
+mul-if3 : tie.Need-mul-if3
+mul-if3 c = search needs
+
+mul-if3-2 : tie.Need-mul-if3-2
+mul-if3-2 c = omega (arith, c .staying .ensures, staying-most (c .before .before .before .before .before .before .before .before .before .args .n) (c .before .before .before .before .before .before .before .before .before .args .book .now) (c .before .before .before .before .before .before .before .before .before .args .slot) (c .before .before .before .before .before .before .before .before .before .pre .1 .1 .0) (sym (c .before .before .before .before .before .before .is-sound .ensures) ∙ c .before .before .before .before .before .if1 .taken), c .before .before .before .before .before .before .before .before .before .pre .1 .0)
+
+add-if3 : tie.Need-add-if3
+add-if3 c = omega (arith, c .staying .ensures, staying-most (c .before .before .before .before .before .before .before .before .before .args .n) (c .before .before .before .before .before .before .before .before .before .args .book .now) (c .before .before .before .before .before .before .before .before .before .args .slot) (c .before .before .before .before .before .before .before .before .before .pre .1 .1 .0) (sym (c .before .before .before .before .before .before .is-sound .ensures) ∙ c .before .before .before .before .before .if1 .taken), c .before .before .before .before .before .before .before .before .before .pre .1 .0)
+
+add-if3-2 : tie.Need-add-if3-2
+add-if3-2 c = omega (arith, c .staying .ensures, staying-most (c .before .before .before .before .before .before .before .before .before .args .n) (c .before .before .before .before .before .before .before .before .before .args .book .now) (c .before .before .before .before .before .before .before .before .before .args .slot) (c .before .before .before .before .before .before .before .before .before .pre .1 .1 .0) (sym (c .before .before .before .before .before .before .is-sound .ensures) ∙ c .before .before .before .before .before .if1 .taken), c .before .before .before .before .before .before .before .before .before .pre .1 .0)
 
 same-length-2 : tie.Need-same-length-2
 same-length-2 c = search needs
 
 returns-2 : tie.Need-returns-2
-unfolding writeOverOf
-returns-2 c = rw (← c .before .before .before .before .before .before .before .before .read .ensures, ← c .before .before .before .before .before .before .before .over-check .ensures, c .before .before .before .before .before .enum-told .given .1, ← c .before .before .before .before .version-in .ensures, ← c .before .before .put .ensures)
+unfolding writeOverOf overRules firstFault
+returns-2 c =
+    let a = c .before .before .before .before .before .before .before .before .before .before .args in
+    let full = full-is (a .n) (a .book .now) (a .slot) (c .before .before .before .before .before .before .before .before .before .before .pre .1 .1 .0) (sym (c .before .before .before .before .before .before .before .is-sound .ensures) ∙ c .before .before .before .before .before .before .if1 .taken) (c .before .staying .result) (c .before .staying .ensures) (c .if3 .taken) in
+    rw (← c .before .before .before .before .before .before .before .is-sound .ensures, c .before .before .before .before .before .before .if1 .taken, ← c .before .before .before .before .version-at .ensures, ne-eqb _ _ (c .before .before .before .if2 .left), full)
+
+drop-oldest-requires : tie.Need-drop-oldest-requires
+drop-oldest-requires c κs =
+    let a = c .before .before .before .before .before .before .before .before .before .before .before .args in
+    let p = c .before .before .before .before .before .before .before .before .before .before .before .pre in
+    (omega (arith, p .1 .1 .0, p .1 .1 .1 .0), (p .1 .1 .1 .1 .0, oldest-lies (a .n) (a .book .now) (a .slot) (p .1 .1 .0) (sym (c .before .before .before .before .before .before .before .before .is-sound .ensures) ∙ c .before .before .before .before .before .before .before .if1 .taken)))
+
+add-put-over : tie.Need-add-put-over
+add-put-over c = search needs
+
+put-over-requires : tie.Need-put-over-requires
+put-over-requires c κs =
+    let a = c .before .before .before .before .before .before .before .before .before .before .before .before .before .before .before .args in
+    let p = c .before .before .before .before .before .before .before .before .before .before .before .before .before .before .before .pre in
+    let is = sym (c .before .before .before .before .before .before .before .before .before .before .before .before .is-sound .ensures) ∙ c .before .before .before .before .before .before .before .before .before .before .before .if1 .taken in
+    let size = left-size (a .n) (a .book .now) (a .slot) (p .1 .1 .0) is (c .before .before .before .before .before .before .staying .result) (c .before .before .before .before .before .before .staying .ensures) _ (c .before .before .before .drop-oldest .ensures) in
+    (p .0, (p .1 .0, (p .1 .1 .0, (omega (arith, size, p .1 .1 .1 .1 .0), (left-fits (a .n) (a .book .now) (a .slot) (p .1 .1 .0) is (c .before .before .before .before .before .before .staying .result) (c .before .before .before .before .before .before .staying .ensures) _ (c .before .before .before .drop-oldest .ensures), (left-kept (a .n) (a .book .now) (a .slot) (p .1 .1 .0) is (c .before .before .before .before .before .before .staying .result) (c .before .before .before .before .before .before .staying .ensures) _ (c .before .before .before .drop-oldest .ensures), (omega (arith, size, c .before .before .before .before .before .if3 .left), p .1 .1 .1 .1 .1)))))))
+
+add-t28 : tie.Need-add-t28
+add-t28 c = search needs
+
+same-length-3 : tie.Need-same-length-3
+same-length-3 c = search needs
+
+returns-3 : tie.Need-returns-3
+unfolding writeOverOf overRules firstFault putOf
+returns-3 c =
+    let a = c .before .before .before .before .before .before .before .before .before .before .before .before .before .before .before .before .before .before .args in
+    let room = room-is (a .n) (a .book .now) (a .slot) (c .before .before .before .before .before .before .before .before .before .before .before .before .before .before .before .before .before .before .pre .1 .1 .0) (sym (c .before .before .before .before .before .before .before .before .before .before .before .before .before .before .before .is-sound .ensures) ∙ c .before .before .before .before .before .before .before .before .before .before .before .before .before .before .if1 .taken) (c .before .before .before .before .before .before .before .before .before .staying .result) (c .before .before .before .before .before .before .before .before .before .staying .ensures) (c .before .before .before .before .before .before .before .before .if3 .left) in
+    rw (← c .before .before .before .before .before .before .before .before .before .before .before .before .before .before .before .is-sound .ensures, c .before .before .before .before .before .before .before .before .before .before .before .before .before .before .if1 .taken, ← c .before .before .before .before .before .before .before .before .before .before .before .before .version-at .ensures, ne-eqb _ _ (c .before .before .before .before .before .before .before .before .before .before .before .if2 .left), room, ← c .before .before .before .before .before .before .drop-oldest .ensures, ← c .before .before .put-over .ensures)
+
+same-length-4 : tie.Need-same-length-4
+same-length-4 c = search needs
+
+returns-4 : tie.Need-returns-4
+unfolding writeOverOf overRules firstFault
+returns-4 c = rw (← c .before .is-sound .ensures, c .if1 .left)
 
 pub write-over-spec : {M : Type 1} → statement M
 write-over-spec =
     tie.close
     (tie.spec
-    read-requires
-    over-check-requires
-    enum-known-check
-    enum-told
-    version-in-requires
-    add-version
-    put-requires
+    is-sound-requires
+    mul-version-at
+    version-at-requires
     same-length
     returns
+    staying-requires
+    mul-if3
+    mul-if3-2
+    add-if3
+    add-if3-2
     same-length-2
-    returns-2)
+    returns-2
+    drop-oldest-requires
+    add-put-over
+    put-over-requires
+    add-t28
+    same-length-3
+    returns-3
+    same-length-4
+    returns-4)

@@ -1,5 +1,5 @@
 -- `book::write_setpoint` meets its contract.
-use Rattle.book.specs.Model.{write-is}
+use Rattle.book.specs.Model.{some-slots, write-is}
 use Rattle.slots.specs.Fine.{shape-head, claim-fine}
 use native.Mathlib.Omega.{arith}
 use mathlib.Core.Path.{sym, _∙_}
@@ -20,7 +20,12 @@ slots-requires : tie.Need-slots-requires
 slots-requires c κs = shape-head _ _ (claim-fine _ _ _ _ _ _ (sym (c .before .before .claim-check .ensures) ∙ c .enum-told .given .1) .shape)
 
 write-over-requires : tie.Need-write-over-requires
-write-over-requires c κs = let f = claim-fine _ _ _ _ _ _ (sym (c .before .before .before .before .claim-check .ensures) ∙ c .before .before .enum-told .given .1) in (search needs, (omega (arith, f .slot-is .inside, c .before .slots .ensures), (omega (arith, f .slot-is .book .room, c .before .slots .ensures), f .whole)))
+write-over-requires c κs =
+    let f = claim-fine _ _ _ _ _ _ (sym (c .before .before .before .before .claim-check .ensures) ∙ c .before .before .enum-told .given .1) in
+    let s = f .slot-is in (
+      omega (arith, some-slots _ (shape-head _ _ (f .shape)), c .before .slots .ensures),
+      (search needs, (omega (arith, s .inside, c .before .slots .ensures), (omega (arith, s .room, c .before .slots .ensures), (s .limit, f .whole)))),
+    )
 
 returns : tie.Need-returns
 returns c = rw (write-is _ _ _ _ _ _, ← c .before .before .before .claim-check .ensures, c .before .check .given .1)

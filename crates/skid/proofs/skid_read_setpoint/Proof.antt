@@ -1,5 +1,5 @@
 -- `skid::skid_read_setpoint` meets its contract.
-use Rattle.slots.specs.Outcomes.{told-whole}
+use Rattle.layout.specs.Laws.{newest-whole}
 use borrow.Author.Needs.{needs}
 use Rattle.skid.proofs.skid_read_setpoint.Statement.{statement}
 use Rattle.skid.proofs.skid_read_setpoint.Tie as tie
@@ -8,7 +8,7 @@ read-setpoint-requires : tie.Need-read-setpoint-requires
 read-setpoint-requires c κs = search needs
 
 book-words-requires : tie.Need-book-words-requires
-book-words-requires c κs = told-whole _ _ _ _ (c .read-setpoint .ensures)
+book-words-requires c κs = newest-whole _ _ _ _ (c .read-setpoint .ensures)
 
 returns : tie.Need-returns
 returns c = rw (← c .before .read-setpoint .ensures, ← c .book-words .ensures)

@@ -10,26 +10,29 @@ enum-told c = search needs
 enum-known-answer : tie.Need-enum-known-answer
 enum-known-answer c = search needs
 
-cast-t7 : tie.Need-cast-t7
-cast-t7 c = search needs
+cast-t8 : tie.Need-cast-t8
+cast-t8 c = search needs
+
+cast-t9 : tie.Need-cast-t9
+cast-t9 c = search needs
 
 enum-known-answer-2 : tie.Need-enum-known-answer-2
 enum-known-answer-2 c = search needs
 
-cast-t8 : tie.Need-cast-t8
-cast-t8 c = search needs
+cast-t10 : tie.Need-cast-t10
+cast-t10 c = search needs
 
 kind-requires : tie.Need-kind-requires
 kind-requires c κs = search needs
 
-cast-t10 : tie.Need-cast-t10
-cast-t10 c = search needs
+cast-t12 : tie.Need-cast-t12
+cast-t12 c = search needs
 
 word-requires : tie.Need-word-requires
 word-requires c κs = search needs
 
-cast-t12 : tie.Need-cast-t12
-cast-t12 c = search needs
+cast-t14 : tie.Need-cast-t14
+cast-t14 c = search needs
 
 enum-known-answer-3 : tie.Need-enum-known-answer-3
 enum-known-answer-3 c = search needs
@@ -59,13 +62,14 @@ book-words-spec =
     (tie.spec
     enum-told
     enum-known-answer
-    cast-t7
-    enum-known-answer-2
     cast-t8
-    kind-requires
+    cast-t9
+    enum-known-answer-2
     cast-t10
-    word-requires
+    kind-requires
     cast-t12
+    word-requires
+    cast-t14
     enum-known-answer-3
     book-number-requires
     returns

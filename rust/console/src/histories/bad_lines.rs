@@ -1,6 +1,6 @@
 //! Lines that are not understood.
 
-pub(super) const BAD_LINES: [&str; 144] = [
+pub(super) const BAD_LINES: [&str; 151] = [
     " ",
     "\t",
     "\r",
@@ -110,6 +110,13 @@ pub(super) const BAD_LINES: [&str; 144] = [
     "read_setpoint",
     "read_setpoint 0 0",
     "read_setpoint speed",
+    "read_version",
+    "read_version 0",
+    "read_version 0 1 1",
+    "read_version 0 01",
+    "read_version 0 4294967296",
+    "read_version 0 speed",
+    "read_versions 0 1",
     "write_setpoint",
     "write_setpoint 0 0 1 1 speed",
     "write_setpoint 0 0 1 1 2 5",

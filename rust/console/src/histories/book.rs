@@ -1,14 +1,18 @@
-//! The setpoint book.
+//! The setpoint book: its length, writes, and reads of what is kept and what is not.
 
-use super::{line_of, Writer};
+use super::Writer;
 use crate::build::Build;
 use crate::desk;
 
-/// "one slot for each cell, at most the first 64"; the greatest length; bytes of a line and of a body.
+/// "one slot for each cell, at most the first 64"; the greatest length; lines of a slot, and bytes of a line and a body.
 const MOST_SLOTS: u32 = 64;
 const MOST_BYTES: usize = 32_768;
-const LINE: usize = 8;
-const BODY: usize = 5;
+pub(super) const KEPT: u32 = 4;
+pub(super) const LINE: u32 = 8;
+pub(super) const BODY: u32 = 5;
+
+/// What a build replies to a read of a damaged book.
+const DAMAGED: [u64; 2] = [3, 103];
 
 /// Pressures: zero and minus zero, the least and greatest that are finite, infinities and no numbers.
 const PRESSURES: [u32; 14] = [
@@ -27,68 +31,85 @@ const PRESSURES: [u32; 14] = [
     0x7fc0_0000,
     u32::MAX,
 ];
+/// How many of them are finite: the first.
+const FINITE: usize = 9;
 
 impl<B: Build, J: Build + Clone, K: FnMut(&mut B, &[u8], &[u8]) -> bool> Writer<B, J, K> {
     pub(super) fn slots(&self) -> u32 {
         self.cells().min(MOST_SLOTS)
     }
 
-    /// Lends the book anew: mostly as long as its slots need, or a little longer.
+    /// The bytes of the table of contents.
+    pub(super) fn contents(&self) -> u32 {
+        LINE * KEPT * self.slots()
+    }
+
+    /// Whether the lent book is as long as its contents at least, and no longer than the limit.
+    pub(super) fn book_fits(&self) -> bool {
+        (self.contents() as usize..=MOST_BYTES).contains(&self.desk.lent_book)
+    }
+
+    /// Whether a read of the book says that it is damaged.
+    pub(super) fn is_damaged(&self) -> bool {
+        let book = &self.desk.book[..self.desk.lent_book];
+        let mut judge = self.judge.clone();
+        judge.read_setpoint(self.desk.head, book, 0)[..2] == DAMAGED
+    }
+
+    /// Lends the book anew: mostly with room for a few bodies, and a few bytes more.
     pub(super) fn lend_book(&mut self) {
-        let needed = ((LINE + BODY) as u32) * self.slots();
-        let bytes = match self.dice.below(20) {
-            0 => needed - 1,
-            1 => self.dice.number(needed),
+        let contents = self.contents();
+        let bytes = match self.dice.below(24) {
+            0 => contents - 1,
+            1 => self.dice.number(contents),
             2 => 0,
-            3 => self.dice.pick(&[32_768, 32_769, 33_000]),
-            4 => self.dice.number(desk::BOOK as u32 + 1),
-            5..=9 => needed + self.dice.number(40),
-            _ => needed,
+            3..=4 => self.dice.pick(&[32_768, 32_769, 32_769, 33_000]),
+            5 => self.dice.number(desk::BOOK as u32 + 1),
+            6 => contents + self.dice.number(BODY),
+            7..=9 => contents + BODY * KEPT * self.slots() + self.dice.number(40),
+            10 => contents + BODY * (KEPT * self.slots() - 1),
+            _ => {
+                let bodies = self.dice.number(9) + 1;
+                contents + BODY * bodies + self.dice.pick(&[0, 0, 1, 2, 3, 4])
+            }
         };
         self.write("book", &[bytes]);
     }
 
     /// One call of the book or a few, and what surrounds them.
     pub(super) fn book(&mut self) {
-        let needed = (LINE + BODY) * self.slots() as usize;
-        let fits = (needed..=MOST_BYTES).contains(&self.desk.lent_book);
-        if self.dice.once_in(if fits { 20 } else { 2 }) {
+        if self.dice.once_in(if self.book_fits() { 20 } else { 2 }) {
             self.lend_book();
         }
-        // in a book of another arena, or of rubbish, every slot is damaged
-        let damaged = !self.reads("NeverWritten") && !self.reads("version");
-        if self.dice.once_in(if damaged { 2 } else { 20 }) {
+        // so is a book of another arena, or of rubbish
+        let damaged = self.is_damaged();
+        if self.dice.once_in(if damaged { 2 } else { 30 }) {
             self.write("prepare_book", &[]);
         }
-        for _ in 0..self.dice.below(3) + 1 {
-            match self.dice.below(14) {
-                0..=5 => self.set(),
-                6..=7 => {
-                    self.set_for_sure();
+        for _ in 0..self.dice.below(2) + 1 {
+            match self.dice.below(32) {
+                0..=8 => self.set(),
+                9 => self.write_with_wrong_table(),
+                10..=12 => {
+                    let slot = self.low_slot();
+                    self.write_slot(slot);
                 }
-                8..=11 => {
+                13..=15 => {
                     let slot = self.slot();
                     self.write("read_setpoint", &[slot]);
                 }
+                16..=19 => {
+                    let slot = self.slot();
+                    self.read_version(slot);
+                }
+                20..=21 => self.write_often(),
+                22..=23 => self.book_of_another(),
                 _ => self.damage_book(),
             }
         }
         if self.dice.once_in(6) {
             self.show_book();
         }
-    }
-
-    /// Whether one of the first slots reads as a line with this word.
-    pub(super) fn reads(&self, word: &str) -> bool {
-        (0..self.slots().min(4)).any(|slot| {
-            let mut answer = Vec::new();
-            let line = line_of("read_setpoint", &[slot]);
-            let played = self
-                .desk
-                .clone()
-                .line(&mut self.judge.clone(), &line, &mut answer);
-            played.is_ok() && String::from_utf8_lossy(&answer).contains(word)
-        })
     }
 
     /// A slot: mostly one of a few, or one that a setpoint stands in.
@@ -99,30 +120,45 @@ impl<B: Build, J: Build + Clone, K: FnMut(&mut B, &[u8], &[u8]) -> bool> Writer<
             1 => self.dice.odd_number(),
             2 => slots - 1,
             3..=5 => self.dice.number(slots),
-            6..=10 => self.dice.number(slots.min(4)),
+            6..=10 => self.low_slot(),
             _ => self.slot_in_use(),
         }
     }
 
-    /// A slot whose line is not all 0, if there is one among the first.
+    /// One of the first slots.
+    pub(super) fn low_slot(&mut self) -> u32 {
+        self.dice.number(self.slots().min(4))
+    }
+
+    /// A slot whose newest line is not all 0, if there is one among the first.
     pub(super) fn slot_in_use(&mut self) -> u32 {
-        let lines = self.desk.book.chunks(LINE).enumerate();
-        let used: Vec<u32> = lines
-            .take(self.slots().min(12) as usize)
-            .filter(|(_, line)| line.iter().any(|&byte| byte != 0))
-            .map(|(slot, _)| slot as u32)
-            .collect();
+        let slots = self.slots().min(12);
+        let used: Vec<u32> = (0..slots).filter(|&slot| self.newest(slot) > 0).collect();
         match used.is_empty() {
-            true => self.dice.number(self.slots().min(4)),
+            true => self.low_slot(),
             false => self.dice.pick(&used),
         }
+    }
+
+    /// The version of a slot's first line, as it stands in the book.
+    pub(super) fn newest(&self, slot: u32) -> u32 {
+        let at = (LINE * KEPT * slot.min(MOST_SLOTS - 1)) as usize;
+        let version = &self.desk.book[at + 4..at + 8];
+        u32::from_le_bytes([version[0], version[1], version[2], version[3]])
     }
 
     pub(super) fn setpoint(&mut self) -> (&'static str, u32) {
         match self.dice.below(12) {
             0..=4 => ("pressure", self.dice.pick(&PRESSURES)),
             5 => ("pressure", self.dice.roll() as u32),
-            6..=8 => ("speed", self.dice.odd_number()),
+            _ => self.finite_setpoint(),
+        }
+    }
+
+    pub(super) fn finite_setpoint(&mut self) -> (&'static str, u32) {
+        match self.dice.below(7) {
+            0 => ("pressure", self.dice.pick(&PRESSURES[..FINITE])),
+            1..=3 => ("speed", self.dice.odd_number()),
             _ => ("valve", self.dice.number(2)),
         }
     }
@@ -138,82 +174,88 @@ impl<B: Build, J: Build + Clone, K: FnMut(&mut B, &[u8], &[u8]) -> bool> Writer<
         self.write_setpoint(slot, lease, kind, value);
     }
 
-    /// `write_setpoint` with a live lease of one of the first cells, which is taken if need be. Its slot.
-    pub(super) fn set_for_sure(&mut self) -> u32 {
-        let cell = self.dice.number(self.slots().min(4));
-        if self.words(cell)[..2] == [0, 0] {
-            self.write("try_acquire", &[cell]);
+    /// A lease of a slot's cell, which is taken if it is free: a live one, unless the cell is damaged.
+    pub(super) fn lease_of_slot(&mut self, slot: u32) -> [u32; 3] {
+        if self.words(slot)[..2] == [0, 0] {
+            self.write("try_acquire", &[slot]);
         }
-        let lease = [cell, self.words(cell)[1], self.boot()];
-        let (kind, value) = self.setpoint();
-        self.write_setpoint(cell, lease, kind, value);
-        cell
+        [slot, self.words(slot)[1], self.boot()]
     }
 
-    /// Other bytes in a slot's line or body, or around them, and calls that may meet them.
-    pub(super) fn damage_book(&mut self) {
-        let slots = self.slots();
-        let slot = match self.dice.below(3) {
-            0 => self.dice.number(slots.min(4)),
-            _ => self.set_for_sure(),
-        };
-        let line = LINE as u32 * slot;
-        let body = LINE as u32 * slots + BODY as u32 * slot;
-        let any = self.dice.number(256);
-        let small = self.dice.number(7);
-        match self.dice.below(14) {
-            // the version: the last one, the one before it, none, another
-            0..=2 | 12..=13 => {
-                let low = self.dice.pick(&[255, 255, 254]);
-                for (byte, value) in [low, 255, 255, 255].into_iter().enumerate() {
-                    self.write("book_byte", &[line + 4 + byte as u32, value]);
-                }
-            }
-            3 => {
-                for byte in 4..8 {
-                    self.write("book_byte", &[line + byte, 0]);
-                }
-            }
-            4 => {
-                let byte = 4 + self.dice.number(4);
-                self.write("book_byte", &[line + byte, any]);
-            }
-            // place and length
-            5..=6 => {
-                let byte = self.dice.number(4);
-                let value = self.dice.pick(&[any, small, 0]);
-                self.write("book_byte", &[line + byte, value]);
-            }
-            // kind and number
-            7..=8 => {
-                let kind = self.dice.pick(&[0, small]);
-                self.write("book_byte", &[body, kind]);
-            }
-            9 => {
-                let byte = 1 + self.dice.number(4);
-                let value = self.dice.pick(&[any, small, 127, 128, 255]);
-                self.write("book_byte", &[body + byte, value]);
-            }
-            10 => {
-                self.write("book_byte", &[body, 1]);
-                self.write("book_byte", &[body + 3, 128]);
-                self.write("book_byte", &[body + 4, 127]);
-            }
-            // another slot, or behind the bodies
-            _ => {
-                let at = self.dice.number(13 * slots + 40);
-                self.write("book_byte", &[at, any]);
-            }
-        }
-        let mut lease = [slot, self.words(slot)[1], self.boot()];
-        if self.dice.once_in(8) {
-            lease = self.of_another_boot(lease);
-        }
-        let (kind, value) = self.setpoint();
-        if self.dice.once_in(2) {
-            self.write("read_setpoint", &[slot]);
-        }
+    /// `write_setpoint` that is done, if the book is sound and has room.
+    pub(super) fn write_slot(&mut self, slot: u32) {
+        let lease = self.lease_of_slot(slot);
+        let (kind, value) = self.finite_setpoint();
         self.write_setpoint(slot, lease, kind, value);
-        self.write("read_setpoint", &[slot]);
+    }
+
+    /// `write_setpoint` of a slot's cell, where the lease, the setpoint or both may be wrong too.
+    pub(super) fn write_doubtfully(&mut self, slot: u32) {
+        let [cell, serial, boot] = self.lease_of_slot(slot);
+        let lease = match self.dice.below(8) {
+            0 => self.of_another_boot([cell, serial, boot]),
+            1 => [cell, serial.wrapping_add(1), boot],
+            _ => [cell, serial, boot],
+        };
+        let (kind, value) = match self.dice.once_in(8) {
+            true => ("pressure", self.dice.pick(&PRESSURES[FINITE..])),
+            false => self.finite_setpoint(),
+        };
+        self.write_setpoint(slot, lease, kind, value);
+    }
+
+    /// A write with a word of the table too few or too many, which may have other faults too.
+    fn write_with_wrong_table(&mut self) {
+        let slot = self.slot();
+        if self.desk.lent.is_some() {
+            return self.write_doubtfully(slot);
+        }
+        let (words, bytes) = self.desk.lent(self.desk.head);
+        let other = self.dice.pick(&[words.saturating_sub(1), words + 1]);
+        let other = other.min(desk::TABLE) as u32;
+        self.write("lend", &[other, bytes as u32]);
+        self.write_doubtfully(slot);
+        self.write("lend", &[]);
+    }
+
+    /// `read_version` of a slot: a version that is kept, one that was dropped, none, one that is not yet written, any.
+    pub(super) fn read_version(&mut self, slot: u32) {
+        let newest = self.newest(slot);
+        let version = match self.dice.below(12) {
+            0 => 0,
+            1 => newest.wrapping_add(1),
+            2 => self.dice.odd_number(),
+            3..=4 => newest.wrapping_sub(KEPT),
+            5 => newest.saturating_sub(KEPT + self.dice.number(3)),
+            _ => newest.saturating_sub(self.dice.number(KEPT)),
+        };
+        self.write("read_version", &[slot, version]);
+    }
+
+    /// Several writes to two slots or one of a book of little room, by which settings are dropped, bodies slide, and the
+    /// room ends; and reads of what is kept then.
+    fn write_often(&mut self) {
+        let bodies = self.dice.number(4) + 3;
+        let more = self.dice.pick(&[0, 0, 1, 2, 3, 4]);
+        let bytes = self.contents() + BODY * bodies + more;
+        self.write("book", &[bytes]);
+        self.write("prepare_book", &[]);
+        if more > 0 && self.dice.once_in(2) {
+            self.write("book_byte", &[bytes - 1, 7]);
+        }
+        let slots = [self.low_slot(), self.low_slot()];
+        self.write_slot(slots[1]);
+        for _ in 0..self.dice.below(6) + 4 {
+            let slot = self.dice.pick(&[slots[0], slots[0], slots[0], slots[1]]);
+            match self.dice.once_in(6) {
+                true => self.write_doubtfully(slot),
+                false => self.write_slot(slot),
+            }
+        }
+        self.read_version(slots[0]);
+        if self.dice.once_in(4) {
+            self.write("book", &[bytes + BODY]);
+            self.write_slot(slots[1]);
+        }
     }
 }

@@ -7,6 +7,7 @@
 mod arenas;
 mod bad_lines;
 mod book;
+mod book_bytes;
 mod calls;
 mod lists;
 mod locks;
@@ -40,7 +41,8 @@ pub fn write(
     wrote.and_then(|()| out.flush())
 }
 
-/// Every call but `write_setpoint`, which takes a word too, with the count of its numbers.
+/// Every call with the count of its numbers, but for two of the book's: `write_setpoint`, which takes a word too, and
+/// `read_version`, which is written beside what the book keeps.
 const CALLS: [(&str, usize); 23] = [
     ("prepare", 4),
     ("try_acquire", 1),
@@ -118,6 +120,7 @@ impl<B: Build, J: Build + Clone, K: FnMut(&mut B, &[u8], &[u8]) -> bool> Writer<
         }
         self.write("map", &[]);
         self.write_setpoint(0, [0, 1, 0], "speed", 1);
+        self.write("read_version", &[0, 1]);
         // long lines are dear: one for each 3,000 calls
         let mut long = 3_000;
         while self.calls < calls && !self.enough {

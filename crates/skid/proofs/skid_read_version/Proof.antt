@@ -1,0 +1,18 @@
+-- `skid::skid_read_version` meets its contract.
+use Rattle.slots.specs.Outcomes.{told-whole}
+use borrow.Author.Needs.{needs}
+use Rattle.skid.proofs.skid_read_version.Statement.{statement}
+use Rattle.skid.proofs.skid_read_version.Tie as tie
+
+read-version-requires : tie.Need-read-version-requires
+read-version-requires c κs = search needs
+
+book-words-requires : tie.Need-book-words-requires
+book-words-requires c κs = told-whole _ _ _ _ _ (c .read-version .ensures)
+
+returns : tie.Need-returns
+returns c = rw (← c .before .read-version .ensures, ← c .book-words .ensures)
+
+pub skid-read-version-spec : {M : Type 1} → statement M
+skid-read-version-spec =
+    tie.close (tie.spec read-version-requires book-words-requires returns)
