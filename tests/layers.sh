@@ -6,7 +6,7 @@ set -euo pipefail
 cd "$(dirname "$0")/.."
 
 base='choice types model laws setpoint slots'
-theory='history exact progress anyorder works upstream pinned builds swaps written salvaged boots'
+theory='history exact progress anyorder works upstream pinned builds swaps written salvaged boots pinnedbook'
 steps='arena lease foreign lock bucket release multilock sort sorted plan crew work sound compact enter book salvage'
 callers="$steps records skid" # the calls themselves, and the faces that make them
 exports=skid

@@ -1,10 +1,11 @@
 #!/usr/bin/env bash
-# The four files that say what a build must do (crate pinned: Words, Checks, Steps, Statements) cite none of the definitions that they pin down. Of this
-# repository they may name each other and types: those declared in crate types, and the few listed here, with the names of calls, events and actors. They name
-# nothing outside their `use` lines. Ends with 1 and says what is wrong. Before it looks at the files it looks at damaged copies: these must be refused.
+# The files that say what a build must do (crate pinned: Words, Checks, Steps, Statements; of the setpoint book, crate pinnedbook: Statement) cite none of the
+# definitions that they pin down. Of this repository they may name each other and types: those declared in crates types, setpoint and slots, and the few listed
+# here, with the names of calls, events and actors. They name nothing outside their `use` lines. Ends with 1 and says what is wrong. Before it looks at the files
+# it looks at damaged copies: these must be refused.
 set -euo pipefail
 cd "$(dirname "$0")/.."
-files='Words Checks Steps Statements'
+files='pinned/Words pinned/Checks pinned/Steps pinned/Statements pinnedbook/Statement'
 
 # names DATA FILE: the constructors of a data type
 names() {
@@ -22,27 +23,33 @@ allowed() {
     esac
 }
 
-# looks FOLDER: what is wrong with the four files in it, a line each
+# looks FOLDER FILE ..: what is wrong with these files of the crates in it, a line each
 looks() {
-    local file line module name
-    for file in $files; do
-        [ -s "$1/$file.antt" ] || { echo "$file.antt is not there"; continue; }
-        grep -n '^ *[^- ]' "$1/$file.antt" | grep -v '^[0-9]*:use ' | sed 's/ -- .*//' | grep 'Rattle·' | sed "s/^/$file.antt: a name outside its use lines: /" || true
+    local folder=$1 crate file path line module name
+    for file in "${@:2}"; do
+        crate=${file%/*} path=$folder/${file%/*}/specs/${file#*/}.antt
+        [ -s "$path" ] || { echo "$file.antt is not there"; continue; }
+        grep -n '^ *[^- ]' "$path" | grep -v '^[0-9]*:use ' | sed 's/ -- .*//' | grep 'Rattle·' | sed "s|^|$file.antt: a name outside its use lines: |" || true
         while read -r line; do
             case $line in
             'use Prim.'* | 'use mathlib.'* | 'use lib.'* | 'use Rattle.types.specs.declared.'*) continue ;;
+            'use Rattle.setpoint.specs.declared.'* | 'use Rattle.slots.specs.declared.'*) continue ;;
             esac
             module=$(sed -E 's/^use ([^ ]*)\.\{.*/\1/' <<< "$line")
             case $module in
+            "Rattle.$crate.specs."*)
+                case " $files " in *" $crate/${module##*.} "*) ;; *) echo "$file.antt names the file ${module##*.}" ;; esac
+                continue
+                ;;
             Rattle.pinned.specs.*)
-                case " $files " in *" ${module##*.} "*) ;; *) echo "$file.antt names the file ${module##*.}" ;; esac
+                case " $files " in *" pinned/${module##*.} "*) ;; *) echo "$file.antt names the file ${module##*.}" ;; esac
                 continue
                 ;;
             esac
             while read -r name; do
                 case " $(allowed "$module") " in *" $name "*) ;; *) echo "$file.antt names $name, by ${line:0:120}" ;; esac
             done < <(sed -E 's/^use [^{]*\{//; s/\}$//' <<< "$line" | tr ',' '\n' | sed 's/^ *//; s/ *$//')
-        done < <(grep '^ *\(pub \|unfoldable \)*use ' "$1/$file.antt")
+        done < <(grep '^ *\(pub \|unfoldable \)*use ' "$path")
     done
 }
 
@@ -60,29 +67,37 @@ record Says history/specs/Items.antt'
 
 # damaged FILE TEXT: a copy with this line behind its first use line must be refused
 damaged() {
-    local folder
+    local folder path
     folder=$(mktemp -d)
-    cp crates/pinned/specs/*.antt "$folder"
-    awk -v text="$2" '{ print } /^use / && !done { print text; done = 1 }' "crates/pinned/specs/$1.antt" > "$folder/$1.antt"
-    if [ -z "$(looks "$folder")" ]; then
+    path=${1%/*}/specs/${1#*/}.antt
+    mkdir -p "$folder/${path%/*}"
+    awk -v text="$2" '{ print } /^use / && !done { print text; done = 1 }' "crates/$path" > "$folder/$path"
+    if [ -z "$(looks "$folder" "$1")" ]; then
         echo "tests/pinned.sh does not see: $2"
     fi
     rm -r "$folder"
 }
 
 wrong=$(
-    damaged Words 'use Rattle.model.specs.Arena.{shapeFits}'
-    damaged Checks 'use Rattle.model.specs.Checks as rules'
-    damaged Steps 'use Rattle.types.specs.Head.{cellsOf}'
-    damaged Steps 'use Rattle.model.specs.Log.{Made, gives}'
-    damaged Statements 'use Rattle.history.specs.Items.{Call, perform}'
-    damaged Statements 'use Rattle.pinned.specs.Decided.{matched}'
-    damaged Statements 'size = Rattle.types.specs.Head.cellsOf'
-    looks crates/pinned/specs
+    damaged pinned/Words 'use Rattle.model.specs.Arena.{shapeFits}'
+    damaged pinned/Checks 'use Rattle.model.specs.Checks as rules'
+    damaged pinned/Steps 'use Rattle.types.specs.Head.{cellsOf}'
+    damaged pinned/Steps 'use Rattle.model.specs.Log.{Made, gives}'
+    damaged pinned/Statements 'use Rattle.history.specs.Items.{Call, perform}'
+    damaged pinned/Statements 'use Rattle.pinned.specs.Decided.{matched}'
+    damaged pinned/Statements 'size = Rattle.types.specs.Head.cellsOf'
+    damaged pinnedbook/Statement 'use Rattle.slots.specs.Layout.{isSound}'
+    damaged pinnedbook/Statement 'use Rattle.slots.specs.Writing as writing'
+    damaged pinnedbook/Statement 'use Rattle.setpoint.specs.Codec.{settingOf}'
+    damaged pinnedbook/Statement 'use Rattle.model.specs.Arena.{shapeFits}'
+    damaged pinnedbook/Statement 'use Rattle.pinned.specs.Decided.{Decides}'
+    damaged pinnedbook/Statement 'use Rattle.pinnedbook.specs.Plain.{place-is}'
+    looks crates $files
     types
 )
 if [ -n "$wrong" ]; then
     echo "$wrong"
     exit 1
 fi
-echo "pinned: $(wc -w <<< "$files") files of statements, $(grep -h '^use ' crates/pinned/specs/{Words,Checks,Steps,Statements}.antt | wc -l) imports, none of a definition"
+imports=$(for file in $files; do grep '^use ' "crates/${file%/*}/specs/${file#*/}.antt"; done | wc -l)
+echo "pinned: $(wc -w <<< "$files") files of statements, $imports imports, none of a definition"

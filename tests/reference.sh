@@ -19,9 +19,10 @@ quoting=(
     crates/exact/specs/{Statements,Script,Attempts}.antt
     crates/{progress,anyorder,works}/specs/Statements.antt
     crates/setpoint/specs/Codec.antt
-    crates/slots/specs/{Layout,Rules,Calls,Cases}.antt
+    crates/slots/specs/{Layout,Writing,Rules,Calls,Cases}.antt
     crates/{written,salvaged,boots}/specs/Statements.antt
     crates/pinned/specs/{Words,Checks,Steps,Statements}.antt
+    crates/pinnedbook/specs/Statement.antt
 )
 
 # names_of PAGE..: the names File.name on it

@@ -1,0 +1,9 @@
+pub mod Statement
+pub mod Same
+pub mod Plain
+pub mod Bytes
+pub mod Puts
+pub mod Met
+pub mod Theorems
+pub mod Exactly
+pub mod Wrong
