@@ -4,16 +4,20 @@
  * C17 and C++, hosted or freestanding. skid.h says what the calls under it do, and what the caller must see to: one
  * caller at a time, boot numbers never used twice, the last head kept where a power dip does not reach it.
  *
- *     SKID_MEMORY(plant_memory, headers(3), buckets(4));      a struct type of exactly the right size
- *     static struct plant_memory memory;                      anywhere: a section that is not cleared, a fixed place
- *     SKID_ARENA(plant, memory, registry(0, 1, 2));           the arena over it
+ *     SKID_MEMORY(plant_memory, headers(3), buckets(4));    a struct type of exactly the right size
+ *     static struct plant_memory memory;                    anywhere: a section that is not cleared, a fixed place
+ *     SKID_ARENA(plant, memory, registry(0, 1, 2));         the arena over it, by the name plant
  *
+ *     struct skid_key key = {1, 2};                         binding 1, bucket 2
  *     struct skid_lease valve;
- *     struct skid_key key = {1, 2};
- *     if (skid_open(&plant, boot).code != SKID_OK) ..
- *     struct skid_result r = skid_take(&plant, key, &valve);
- *     if (r.code == SKID_TRY_AGAIN) ..                        held, or waited for: come back from your scheduler
- *     skid_give(&plant, valve);
+ *     struct skid_result r = skid_open(&plant, boot);
+ *     r = skid_take(&plant, key, &valve);
+ *     if (r.code == SKID_OK) ..                             the valve is ours until skid_give(&plant, valve)
+ *     if (r.code == SKID_TRY_AGAIN) ..                      held, or waited for: come back from your own scheduler
+ *
+ * Every call that can be refused says so in its result, and a lease, a setting or a count that it hands out is written
+ * whether it is refused or not: no lease, no setting, 0. A call looks once. With one caller at a time a held cell cannot
+ * come free inside a call, so none of these asks a second time.
  *
  * A forgotten head, a length in words, two lent runs that overlap, headers and buckets exchanged, a reply read of the
  * call before: none of these can be written through it.
@@ -65,7 +69,7 @@ enum skid_code {
 struct skid_result {
     int code;
     uint32_t carried;       /* of a refusal: what it carries */
-    uint32_t position;      /* of a refusal in a call of several keys or leases: which of them */
+    uint32_t position;      /* in a call of several keys or leases: which of them was refused or Busy; else 0 */
     uint32_t reason;        /* of SKID_TRY_AGAIN: enum skid_reason */
     uint32_t reason_serial; /* and the serial that goes with it */
 };
@@ -77,34 +81,57 @@ struct skid_result {
 #define SKID_SECOND_buckets(n) (n)
 #define SKID_THIRD_registry(...) {__VA_ARGS__}
 
-/* An array of -1 elements is refused when it is compiled. */
-#define SKID_FITS(name, test) typedef char name##_fits[(test) ? 1 : -1]
+/* A test when it is compiled. C99 knows no sentence for it: an array of -1 elements is refused. */
+#if defined(__cplusplus)
+#define SKID_FITS(name, test, sentence) static_assert(test, sentence)
+#elif defined(__STDC_VERSION__) && __STDC_VERSION__ >= 201112L
+#define SKID_FITS(name, test, sentence) _Static_assert(test, sentence)
+#else
+#define SKID_FITS(name, test, sentence) typedef char name##_fits[(test) ? 1 : -1]
+#endif
 
 #define SKID_MEMORY(name, H, B) SKID_MEMORY_OF(name, SKID_FIRST_##H, SKID_SECOND_##B)
 #define SKID_MEMORY_OF(name, H, B)                                                                                     \
-    SKID_FITS(name, (H) >= 1u && (H) <= SKID_MAX_HEADERS && (B) >= 1u && (B) <= SKID_MAX_BUCKETS &&                    \
-                        (H) * (B) <= SKID_MAX_CELLS);                                                                  \
+    SKID_FITS(name,                                                                                                    \
+              (H) >= 1u && (H) <= SKID_MAX_HEADERS && (B) >= 1u && (B) <= SKID_MAX_BUCKETS &&                          \
+                  (H) * (B) <= SKID_MAX_CELLS,                                                                         \
+              "1 to 64 headers, 1 to 1,024 buckets, at most 4,096 cells");                                             \
     struct name {                                                                                                      \
         uint32_t table[SKID_CELL_WORDS * (H) * (B)];                                                                   \
         uint8_t health[(H)];                                                                                           \
     }
 
 #define SKID_ARENA(name, memory, R) SKID_ARENA_OF(name, memory, SKID_THIRD_##R)
-#define SKID_ARENA_OF(name, memory, R)                                                                                 \
-    static const uint32_t name##_registry[] = R;                                                                       \
-    SKID_FITS(name, sizeof name##_registry <= SKID_MAX_BINDINGS * sizeof(uint32_t));                                   \
+#define SKID_ARENA_OF(name, memory, ...)                                                                               \
+    static const uint32_t name##_registry[] = __VA_ARGS__;                                                             \
+    SKID_FITS(name, sizeof name##_registry <= SKID_MAX_BINDINGS * sizeof(uint32_t), "at most 64 bindings");            \
     static struct skid_arena name = {{0, 0, 0, 0},                                                                     \
                                      (memory).table,                                                                   \
                                      (memory).health,                                                                  \
-                                     (uint32_t)sizeof(memory).health,                                                  \
-                                     (uint32_t)(sizeof(memory).table / sizeof(uint32_t) / SKID_CELL_WORDS /            \
-                                                sizeof(memory).health),                                                \
+                                     SKID_HEADERS_OF(memory),                                                          \
+                                     (uint32_t)(SKID_CELLS_OF(memory) / sizeof(memory).health),                        \
                                      name##_registry,                                                                  \
                                      sizeof name##_registry / sizeof(uint32_t)}
 
-/* Entries of a report that hold whatever a salvage of this memory can change; cells that it can leave held. */
-#define SKID_CHANGES(memory) (sizeof(memory).table / sizeof(uint32_t) + sizeof(memory).health)
-#define SKID_CELLS(memory) (sizeof(memory).table / sizeof(uint32_t) / SKID_CELL_WORDS)
+/* Of such memory: its headers, its cells, and how many words and bytes a salvage can change. */
+#define SKID_HEADERS_OF(memory) ((uint32_t)sizeof(memory).health)
+#define SKID_CELLS_OF(memory) (sizeof(memory).table / sizeof(uint32_t) / SKID_CELL_WORDS)
+#define SKID_CHANGES_OF(memory) (sizeof(memory).table / sizeof(uint32_t) + sizeof(memory).health)
+
+/* What a salvage found. Its lists are as long as the memory can need, so that it is never SKID_REPORT_FULL. */
+struct skid_report {
+    struct skid_change *changes; /* the first `changed` of them say what it changed */
+    size_t changes_room;
+    uint32_t *cells; /* the first `held` of them are the cells left held */
+    size_t cells_room;
+    size_t changed, held;
+};
+
+#define SKID_REPORT(name, memory)                                                                                      \
+    static struct skid_change name##_changes[SKID_CHANGES_OF(memory)];                                                 \
+    static uint32_t name##_cells[SKID_CELLS_OF(memory)];                                                               \
+    static struct skid_report name = {                                                                                 \
+        name##_changes, SKID_CHANGES_OF(memory), name##_cells, SKID_CELLS_OF(memory), 0, 0}
 
 /* ---- inside: what every call hands on, and what it makes of a reply */
 
@@ -113,9 +140,9 @@ struct skid_result {
 #define SKID_THE_HEALTH(a) (a)->health, (size_t)(a)->headers
 #define SKID_NOBODY_ELSE NULL, 0, 0, NULL, 0 /* no script, no held list: a kernel's others act between the calls */
 
-typedef char skid_lease_is_three_words[sizeof(struct skid_lease) == 12 ? 1 : -1];
-typedef char skid_key_is_two_words[sizeof(struct skid_key) == 8 ? 1 : -1];
-typedef char skid_change_is_three_words[sizeof(struct skid_change) == 12 ? 1 : -1];
+SKID_FITS(skid_lease_words, sizeof(struct skid_lease) == 4 * SKID_LEASE_WORDS, "a lease is three words");
+SKID_FITS(skid_key_words, sizeof(struct skid_key) == 4 * SKID_KEY_WORDS, "a key is two words");
+SKID_FITS(skid_change_words, sizeof(struct skid_change) == 12, "a change is three words");
 
 static inline struct skid_result skid_plain_result(int code, uint32_t carried)
 {
@@ -178,26 +205,30 @@ static inline struct skid_result skid_open(struct skid_arena *a, uint32_t boot)
     return reply[SKID_KIND] == SKID_DONE ? skid_kept(a, reply) : skid_result_of(reply);
 }
 
+/* No longer than a limit: what a caller says of his own list, before words are counted. */
+static inline size_t skid_at_most(size_t count, size_t limit)
+{
+    return count < limit ? count : limit;
+}
+
 /*
- * After a power dip: mends the arena by the last head, which was kept on paper. The first *changed entries of `changes`
- * say what it changed, the first *held numbers of `cells` which cells are still held: each is to be confirmed by its
- * owner or given back (skid_left_lease). Refused, nothing has changed and the head before it stays in force; both counts
- * are 0.
+ * After a power dip: mends the arena by the last head, which was kept on paper. The report says what it changed, and
+ * which cells are still held: each is to be confirmed by its owner or given back (skid_left_lease). Refused, nothing has
+ * changed, the head before it stays in force, and the report is empty.
  */
-static inline struct skid_result skid_mend(struct skid_arena *a, struct skid_head paper, struct skid_change *changes,
-                                           size_t changes_room, uint32_t *cells, size_t cells_room, size_t *changed,
-                                           size_t *held)
+static inline struct skid_result skid_mend(struct skid_arena *a, struct skid_head paper, struct skid_report *report)
 {
     uint64_t reply[SKID_SALVAGE_WORDS];
     skid_salvage(paper.headers, paper.buckets, paper.next, paper.boot, SKID_THE_TABLE(a), SKID_THE_HEALTH(a),
-                 (uint32_t *)(void *)changes, 3 * changes_room, cells, cells_room, reply);
-    *changed = 0;
-    *held = 0;
+                 (uint32_t *)(void *)report->changes, 3 * skid_at_most(report->changes_room, SKID_MAX_REPORT / 3),
+                 report->cells, report->cells_room, reply);
+    report->changed = 0;
+    report->held = 0;
     if (reply[SKID_SALVAGE_KIND] != SKID_DONE)
         return skid_plain_result((int)reply[SKID_SALVAGE_REFUSAL], 0);
     a->head = paper;
-    *changed = (size_t)reply[SKID_SALVAGE_CHANGED];
-    *held = (size_t)reply[SKID_SALVAGE_HELD];
+    report->changed = (size_t)reply[SKID_SALVAGE_CHANGED];
+    report->held = (size_t)reply[SKID_SALVAGE_HELD];
     return skid_plain_result(SKID_OK, 0);
 }
 
@@ -231,6 +262,41 @@ static inline struct skid_result skid_take_cell(struct skid_arena *a, uint32_t c
     return skid_kept_lease(a, reply, lease);
 }
 
+/*
+ * Whether a key's cell would be Busy now, as skid_take finds it: waited for, or else held. A key of no cell, of a poisoned
+ * header or of a damaged cell is not Busy; it is for the call to refuse.
+ */
+static inline struct skid_result skid_look(const struct skid_arena *a, struct skid_key key)
+{
+    struct skid_result x = {SKID_OK, 0, 0, 0, 0};
+    const uint32_t *cell;
+    uint32_t header = key.binding < a->bindings ? a->registry[key.binding] : a->headers;
+    if (header >= a->headers || key.bucket >= a->buckets || a->health[header] != 0)
+        return x;
+    cell = a->table + (size_t)SKID_CELL_WORDS * (header * a->buckets + key.bucket);
+    if (cell[2] != 0) {
+        x.code = SKID_TRY_AGAIN;
+        x.reason = SKID_REASON_BEFORE;
+    } else if (cell[0] == 1 && cell[1] >= 1 && cell[1] < a->head.next) {
+        x.code = SKID_TRY_AGAIN;
+        x.reason = SKID_REASON_HELD;
+        x.reason_serial = cell[1];
+    }
+    return x;
+}
+
+/* The first of several keys that is Busy, with its position. */
+static inline struct skid_result skid_look_all(const struct skid_arena *a, const struct skid_key *keys, size_t count)
+{
+    struct skid_result x = {SKID_OK, 0, 0, 0, 0};
+    size_t i;
+    for (i = 0; i < count && x.code == SKID_OK; i++) {
+        x = skid_look(a, keys[i]);
+        x.position = (uint32_t)(x.code == SKID_OK ? 0 : i);
+    }
+    return x;
+}
+
 /* No lease where nothing was granted. */
 static inline void skid_no_leases(struct skid_lease *leases, size_t count)
 {
@@ -240,33 +306,42 @@ static inline void skid_no_leases(struct skid_lease *leases, size_t count)
 }
 
 /*
- * All keys or none, at most 64, in any order: cells are taken in rising order, so that callers who take all they need
- * at once never wait for one another in a circle. leases[i] is that of keys[i]; keys of one cell share one lease, and
- * skid_give_all gives it back once. A held cell is asked 4,096 times before it is SKID_SERIALIZATION_FAILURE, which with
- * one caller at a time is 4,096 times too often: first see that the cells are free, or use it where they mostly are.
+ * All keys or none, at most 64, in any order: cells are taken in rising order, so that callers who take all they need at
+ * once never wait for one another in a circle. leases[i] is that of keys[i]; keys of one cell share one lease, and
+ * skid_give_all gives it back once. SKID_TRY_AGAIN with the position of the first key whose cell is held or waited for:
+ * that is looked for first, since the library's own call would ask such a cell 4,096 times.
  */
 static inline struct skid_result skid_take_all(struct skid_arena *a, const struct skid_key *keys, size_t count,
                                                struct skid_lease *leases)
 {
     uint64_t reply[SKID_REPLY_WORDS];
+    size_t lent = skid_at_most(count, SKID_MAX_LEASES + 1u);
+    struct skid_result x = skid_look_all(a, keys, lent);
+    skid_no_leases(leases, count);
+    if (x.code == SKID_TRY_AGAIN)
+        return x;
     skid_acquire_sorted_locks(SKID_THE_HEAD(a), SKID_THE_TABLE(a), SKID_THE_HEALTH(a), a->registry, a->bindings,
-                              SKID_NOBODY_ELSE, (const uint32_t *)(const void *)keys, SKID_KEY_WORDS * count,
-                              (uint32_t *)(void *)leases, SKID_LEASE_WORDS * count, reply);
-    if (reply[SKID_KIND] != SKID_ALL_GRANTED)
-        skid_no_leases(leases, count);
+                              SKID_NOBODY_ELSE, (const uint32_t *)(const void *)keys, SKID_KEY_WORDS * lent,
+                              (uint32_t *)(void *)leases, SKID_LEASE_WORDS * lent, reply);
     return skid_kept(a, reply);
 }
 
-/* All keys or none, in the order given. Two keys of one cell are one too many: SKID_SERIALIZATION_FAILURE. */
+/*
+ * All keys or none, in the order given. Who uses it sees to it that nobody waits in a circle. Two keys of one cell cannot
+ * both be granted: SKID_SERIALIZATION_FAILURE, after the library's 4,096 attempts.
+ */
 static inline struct skid_result skid_take_in_order(struct skid_arena *a, const struct skid_key *keys, size_t count,
                                                     struct skid_lease *leases)
 {
     uint64_t reply[SKID_REPLY_WORDS];
+    size_t lent = skid_at_most(count, SKID_MAX_LEASES + 1u);
+    struct skid_result x = skid_look_all(a, keys, lent);
+    skid_no_leases(leases, count);
+    if (x.code == SKID_TRY_AGAIN)
+        return x;
     skid_acquire_index_locks(SKID_THE_HEAD(a), SKID_THE_TABLE(a), SKID_THE_HEALTH(a), a->registry, a->bindings,
-                             SKID_NOBODY_ELSE, (const uint32_t *)(const void *)keys, SKID_KEY_WORDS * count,
-                             (uint32_t *)(void *)leases, SKID_LEASE_WORDS * count, reply);
-    if (reply[SKID_KIND] != SKID_ALL_GRANTED)
-        skid_no_leases(leases, count);
+                             SKID_NOBODY_ELSE, (const uint32_t *)(const void *)keys, SKID_KEY_WORDS * lent,
+                             (uint32_t *)(void *)leases, SKID_LEASE_WORDS * lent, reply);
     return skid_kept(a, reply);
 }
 
@@ -276,6 +351,18 @@ static inline struct skid_result skid_give(struct skid_arena *a, struct skid_lea
     uint64_t reply[SKID_REPLY_WORDS];
     skid_drop_lease(SKID_THE_HEAD(a), SKID_THE_TABLE(a), lease.cell, lease.serial, lease.boot, reply);
     return skid_kept(a, reply);
+}
+
+/* A list of leases released. What a refusal carries is the position in it. */
+static inline struct skid_result skid_released(struct skid_arena *a, const struct skid_lease *leases, size_t count)
+{
+    uint64_t reply[SKID_REPLY_WORDS];
+    struct skid_result x;
+    skid_release_all(SKID_THE_HEAD(a), SKID_THE_TABLE(a), SKID_THE_HEALTH(a), NULL, 0, 0,
+                     (const uint32_t *)(const void *)leases, SKID_LEASE_WORDS * count, reply);
+    x = skid_kept(a, reply);
+    x.position = x.carried;
+    return x;
 }
 
 /* Whether leases[at] stands there for the first time. */
@@ -289,31 +376,34 @@ static inline bool skid_is_first(const struct skid_lease *leases, size_t at)
     return true;
 }
 
-/* All leases of a list or, if one is refused, none; a lease that stands in it twice, as skid_take_all leaves it, is given
-   back once. At most 64 leases. A refusal's position is that in the list. */
-static inline struct skid_result skid_give_all(struct skid_arena *a, const struct skid_lease *leases, size_t count)
+/* The same list with each lease once; at most 64. Positions are still those of the list as it was given. */
+static inline struct skid_result skid_released_once(struct skid_arena *a, const struct skid_lease *leases, size_t count)
 {
-    uint64_t reply[SKID_REPLY_WORDS];
-    uint32_t words[SKID_LEASE_WORDS * SKID_MAX_LEASES];
-    size_t position[SKID_MAX_LEASES];
-    size_t kept = 0, i;
+    struct skid_lease once[SKID_MAX_LEASES];
+    uint32_t position[SKID_MAX_LEASES];
+    uint32_t kept = 0, i;
     struct skid_result x;
-    if (count > SKID_MAX_LEASES)
-        return skid_plain_result(SKID_TOO_MANY, 0);
     for (i = 0; i < count; i++) {
         if (!skid_is_first(leases, i))
             continue;
-        words[SKID_LEASE_WORDS * kept] = leases[i].cell;
-        words[SKID_LEASE_WORDS * kept + 1] = leases[i].serial;
-        words[SKID_LEASE_WORDS * kept + 2] = leases[i].boot;
+        once[kept] = leases[i];
         position[kept++] = i;
     }
-    skid_release_all(SKID_THE_HEAD(a), SKID_THE_TABLE(a), SKID_THE_HEALTH(a), NULL, 0, 0, words, SKID_LEASE_WORDS * kept,
-                     reply);
-    x = skid_kept(a, reply);
-    if ((x.code == SKID_NOT_HELD || x.code == SKID_STALE_BOOT) && x.carried < kept)
-        x.carried = x.position = (uint32_t)position[x.carried];
+    x = skid_released(a, once, kept);
+    if (x.code != SKID_OK && x.position < kept)
+        x.carried = x.position = position[x.position];
     return x;
+}
+
+/*
+ * All leases of a list, at most 64, or, if one is refused, none. A lease that stands in it twice, as skid_take_all leaves
+ * it for two keys of one cell, is given back once. A refusal has the position in the list.
+ */
+static inline struct skid_result skid_give_all(struct skid_arena *a, const struct skid_lease *leases, size_t count)
+{
+    size_t lent = skid_at_most(count, SKID_MAX_LEASES + 1u);
+    struct skid_result x = skid_released(a, leases, lent);
+    return x.code == SKID_REPEATED ? skid_released_once(a, leases, lent) : x;
 }
 
 /* SKID_OK exactly if the lease is live and of this boot: its holder may read and write what the cell guards. */
@@ -355,7 +445,7 @@ static inline struct skid_result skid_set_waiters(struct skid_arena *a, uint32_t
                                           : skid_plain_result(SKID_INVALID_BUCKET, cell);
 }
 
-/* ---- the setpoint book */
+/* ---- the setpoint book. A book has a slot for each cell, at most for the first 64. */
 
 struct skid_book {
     uint8_t *bytes;
@@ -363,15 +453,17 @@ struct skid_book {
 };
 
 /*
- * Memory of a book that is never full: four versions of each slot. SKID_BOOK_MEMORY(name, slots(12)) is an array type's
- * name; SKID_BOOK(book, bytes) the book over such an array. A book has a slot for each cell, at most for the first 64.
+ * Memory of a book that is never full, SKID_BOOK_MEMORY(name, slots(12)), as a struct type; SKID_BOOK(book, memory) is the
+ * book over such memory. It has room for the four newest settings of every slot.
  */
 #define SKID_FIRST_slots(n) (n)
 #define SKID_BOOK_MEMORY(name, N) SKID_BOOK_MEMORY_OF(name, SKID_FIRST_##N)
 #define SKID_BOOK_MEMORY_OF(name, N)                                                                                   \
-    SKID_FITS(name, (N) >= 1u && (N) <= SKID_MAX_SLOTS);                                                               \
-    typedef uint8_t name[SKID_SLOT_BYTES * (N)]
-#define SKID_BOOK(name, memory) static const struct skid_book name = {(memory), sizeof(memory)}
+    SKID_FITS(name, (N) >= 1u && (N) <= SKID_MAX_SLOTS, "1 to 64 slots");                                              \
+    struct name {                                                                                                      \
+        uint8_t bytes[SKID_ROOMY_BYTES * (N)];                                                                         \
+    }
+#define SKID_BOOK(name, memory) static const struct skid_book name = {(memory).bytes, sizeof(memory).bytes}
 
 struct skid_setting {
     uint32_t kind;    /* enum skid_setpoint */
@@ -379,51 +471,25 @@ struct skid_setting {
     uint32_t version; /* from 1 */
 };
 
+/* What a write did: the slot's new version, and how many bytes of kept settings it moved to make room. */
+struct skid_written {
+    uint32_t version, moved;
+};
+
 static inline struct skid_result skid_book_result(const uint64_t reply[SKID_BOOK_WORDS])
 {
     return skid_plain_result(reply[SKID_BOOK_KIND] == SKID_BOOK_REFUSED ? (int)reply[SKID_BOOK_REFUSAL] : SKID_OK, 0);
 }
 
-/* A write: its version, and how many bytes of older settings it moved to make room; 0 and 0 if it is refused. */
-static inline struct skid_result skid_book_wrote(const uint64_t reply[SKID_BOOK_WORDS], uint32_t *version)
+static inline struct skid_result skid_book_wrote(const uint64_t reply[SKID_BOOK_WORDS], struct skid_written *written)
 {
-    *version = (uint32_t)(reply[SKID_BOOK_KIND] == SKID_BOOK_WRITTEN ? reply[SKID_BOOK_VERSION] : 0);
+    struct skid_written none = {0, 0};
+    *written = none;
+    if (reply[SKID_BOOK_KIND] == SKID_BOOK_WRITTEN) {
+        written->version = (uint32_t)reply[SKID_BOOK_VERSION];
+        written->moved = (uint32_t)reply[SKID_BOOK_MOVED];
+    }
     return skid_book_result(reply);
-}
-
-static inline struct skid_result skid_book_open(const struct skid_arena *a, const struct skid_book *book)
-{
-    uint64_t reply[SKID_BOOK_WORDS];
-    skid_prepare_book(SKID_THE_HEAD(a), book->bytes, book->length, reply);
-    return skid_book_result(reply);
-}
-
-/* The slot is the lease's own cell: who holds the valve sets the valve. */
-static inline struct skid_result skid_set_pressure_bits(const struct skid_arena *a, const struct skid_book *book,
-                                                        struct skid_lease lease, uint32_t bits, uint32_t *version)
-{
-    uint64_t reply[SKID_BOOK_WORDS];
-    skid_write_pressure(SKID_THE_HEAD(a), SKID_THE_TABLE(a), book->bytes, book->length, lease.cell, lease.cell,
-                        lease.serial, lease.boot, bits, reply);
-    return skid_book_wrote(reply, version);
-}
-
-static inline struct skid_result skid_set_speed(const struct skid_arena *a, const struct skid_book *book,
-                                                struct skid_lease lease, uint32_t speed, uint32_t *version)
-{
-    uint64_t reply[SKID_BOOK_WORDS];
-    skid_write_speed(SKID_THE_HEAD(a), SKID_THE_TABLE(a), book->bytes, book->length, lease.cell, lease.cell,
-                     lease.serial, lease.boot, speed, reply);
-    return skid_book_wrote(reply, version);
-}
-
-static inline struct skid_result skid_set_valve(const struct skid_arena *a, const struct skid_book *book,
-                                                struct skid_lease lease, bool open, uint32_t *version)
-{
-    uint64_t reply[SKID_BOOK_WORDS];
-    skid_write_valve(SKID_THE_HEAD(a), SKID_THE_TABLE(a), book->bytes, book->length, lease.cell, lease.cell,
-                     lease.serial, lease.boot, open, reply);
-    return skid_book_wrote(reply, version);
 }
 
 static inline struct skid_result skid_book_told(const uint64_t reply[SKID_BOOK_WORDS], struct skid_setting *setting)
@@ -436,6 +502,46 @@ static inline struct skid_result skid_book_told(const uint64_t reply[SKID_BOOK_W
         setting->version = (uint32_t)reply[SKID_BOOK_VERSION];
     }
     return skid_book_result(reply);
+}
+
+/* Forgets every setting: after a cold start, or where the book is SKID_DAMAGED_BOOK. */
+static inline struct skid_result skid_book_open(const struct skid_arena *a, const struct skid_book *book)
+{
+    uint64_t reply[SKID_BOOK_WORDS];
+    skid_prepare_book(SKID_THE_HEAD(a), book->bytes, book->length, reply);
+    return skid_book_result(reply);
+}
+
+/*
+ * The slot is the lease's own cell: who holds the valve sets the valve. A pressure is given as the 32 bits of its f32; a
+ * NaN's and an infinity's are SKID_NOT_FINITE.
+ */
+static inline struct skid_result skid_set_pressure_bits(const struct skid_arena *a, const struct skid_book *book,
+                                                        struct skid_lease lease, uint32_t bits,
+                                                        struct skid_written *written)
+{
+    uint64_t reply[SKID_BOOK_WORDS];
+    skid_write_pressure(SKID_THE_HEAD(a), SKID_THE_TABLE(a), book->bytes, book->length, lease.cell, lease.cell,
+                        lease.serial, lease.boot, bits, reply);
+    return skid_book_wrote(reply, written);
+}
+
+static inline struct skid_result skid_set_speed(const struct skid_arena *a, const struct skid_book *book,
+                                                struct skid_lease lease, uint32_t speed, struct skid_written *written)
+{
+    uint64_t reply[SKID_BOOK_WORDS];
+    skid_write_speed(SKID_THE_HEAD(a), SKID_THE_TABLE(a), book->bytes, book->length, lease.cell, lease.cell,
+                     lease.serial, lease.boot, speed, reply);
+    return skid_book_wrote(reply, written);
+}
+
+static inline struct skid_result skid_set_valve(const struct skid_arena *a, const struct skid_book *book,
+                                                struct skid_lease lease, bool open, struct skid_written *written)
+{
+    uint64_t reply[SKID_BOOK_WORDS];
+    skid_write_valve(SKID_THE_HEAD(a), SKID_THE_TABLE(a), book->bytes, book->length, lease.cell, lease.cell,
+                     lease.serial, lease.boot, open, reply);
+    return skid_book_wrote(reply, written);
 }
 
 /* The newest setting of a slot; it needs no lease. SKID_NEVER_WRITTEN where there is none. */
@@ -456,32 +562,37 @@ static inline struct skid_result skid_book_read_version(const struct skid_arena 
     return skid_book_told(reply, setting);
 }
 
-/* Where the compiler may use floating point: the same with a float. */
+/* ---- pressures as floats, only where the compiler may use them: there is no such function without SSE */
+
 #if defined(__SSE__) && !defined(SKID_NO_FLOAT)
+SKID_FITS(skid_float, sizeof(float) == sizeof(uint32_t), "a float is a binary32");
+
 static inline uint32_t skid_bits_of(float bar)
 {
-    union {
-        float bar;
-        uint32_t bits;
-    } x;
-    x.bar = bar;
-    return x.bits;
+    uint32_t bits = 0;
+    const unsigned char *from = (const unsigned char *)&bar;
+    unsigned char *to = (unsigned char *)&bits;
+    size_t i;
+    for (i = 0; i < sizeof bits; i++)
+        to[i] = from[i];
+    return bits;
 }
 
 static inline float skid_bar_of(uint32_t bits)
 {
-    union {
-        float bar;
-        uint32_t bits;
-    } x;
-    x.bits = bits;
-    return x.bar;
+    float bar = 0;
+    const unsigned char *from = (const unsigned char *)&bits;
+    unsigned char *to = (unsigned char *)&bar;
+    size_t i;
+    for (i = 0; i < sizeof bar; i++)
+        to[i] = from[i];
+    return bar;
 }
 
 static inline struct skid_result skid_set_pressure(const struct skid_arena *a, const struct skid_book *book,
-                                                   struct skid_lease lease, float bar, uint32_t *version)
+                                                   struct skid_lease lease, float bar, struct skid_written *written)
 {
-    return skid_set_pressure_bits(a, book, lease, skid_bits_of(bar), version);
+    return skid_set_pressure_bits(a, book, lease, skid_bits_of(bar), written);
 }
 #endif
 
@@ -519,7 +630,7 @@ static inline const char *skid_code_name(int code)
     }
 }
 
-/* What it means for who called; docs/INTEGRATION.md says what to do. */
+/* What it means for who called. */
 static inline const char *skid_code_text(int code)
 {
     switch (code) {
