@@ -1,7 +1,7 @@
 /*
  * The lease layer of the skid kernel: the calls of document 01, and of document 02 the setpoint book (L2, L10), keys
  * in any order (L4), salvage (L6), the boot number of a lease (L8), the waveform of the cells (L11) and the crew at
- * work (L13), for C.
+ * work (L13), for C. skid_arena.h is over it, and keeps head, runs and registry together; most programs want that.
  *
  * Link with libskid.a (`rt staticlib skid` writes target/staticlib/libskid.a). The archive is code for x86-64, by the
  * calling convention of Linux there (System V). It asks the host for memcpy and memset, and for nothing else. It has

@@ -1,8 +1,8 @@
 #!/usr/bin/env bash
-# include/skid_arena.h: clean in C99, C11, C17 and C++17 by gcc and clang, hosted and for a kernel without SSE registers and red zone; a
-# governor, a panel and a logger through it over cold RAM of ten seeds, each figure checked; README's two examples. The archive is that of
-# target/staticlib. On x86-64 the programs run under the address and undefined-behaviour sanitizers too. Elsewhere an emulator runs them,
-# where the first does not work; the second stops the program at the first fault.
+# include/skid_arena.h: clean in C99, C11, C17 and C++17 by gcc and clang, hosted and for a kernel without SSE registers and red zone, where
+# a pressure arrives bit for bit; a governor, a panel and a logger through it over cold RAM of ten seeds, each figure checked; README's two
+# examples. The archive is that of target/staticlib. On x86-64 the programs run under the address and undefined-behaviour sanitizers too.
+# Elsewhere an emulator runs them, under which the first does not work; of the second only its traps are used.
 set -euo pipefail
 cd "$(dirname "$0")/.."
 # shellcheck source=tests/lib.sh
@@ -40,12 +40,31 @@ SKID_REPORT(report, memory);
 SKID_BOOK_MEMORY(book_memory, slots(12));
 static struct book_memory pages;
 SKID_BOOK(book, pages);
-int turn(struct skid_key key, struct skid_lease *lease);
-int turn(struct skid_key key, struct skid_lease *lease)
+#ifdef __cplusplus
+extern "C"
+#endif
+int turn(uint32_t bits, uint32_t *back);
+/* 0 if each call is done; and the pressure of cell 6 as it is read back. */
+int turn(uint32_t bits, uint32_t *back)
 {
+    const struct skid_key key = {1, 2};
+    struct skid_lease lease;
     struct skid_written written;
-    return skid_open(&plant, 1).code + skid_mend(&plant, plant.head, &report).code + skid_take(&plant, key, lease).code +
-           skid_set_pressure_bits(&plant, &book, *lease, 0x3fc00000u, &written).code;
+    struct skid_setting setting;
+    int codes = skid_open(&plant, 1).code | skid_book_open(&plant, &book).code | skid_take(&plant, key, &lease).code;
+    codes |= skid_set_pressure_bits(&plant, &book, lease, bits, &written).code;
+    codes |= skid_book_read(&plant, &book, lease.cell, &setting).code | skid_mend(&plant, plant.head, &report).code;
+    *back = setting.bits;
+    return codes | skid_give(&plant, lease).code;
+}
+C
+cat >"$out/host.c" <<'C'
+#include <stdint.h>
+int turn(uint32_t bits, uint32_t *back);
+int main(void)
+{
+    uint32_t back = 0;
+    return turn(0x3fc00000u, &back) == 0 && back == 0x3fc00000u ? 0 : 1;
 }
 C
 done='^arena in C: [0-9]{6} figures of ten seeds, all as they should be$'
@@ -56,6 +75,8 @@ while read -r dialect; do
     passes "arena-$number" "$done" $dialect -O2 $strict
     # shellcheck disable=SC2086
     $dialect $strict $kernel -O2 -c "$out/kernel.c" -o "$out/kernel.o" || fail "$dialect: not clean for a kernel"
+    $gcc "$out/host.c" "$out/kernel.o" "$archive" -o "$out/kernel"
+    "${run[@]}" "$out/kernel" || fail "$dialect: without SSE registers the pressure is another"
 done < <(dialects)
 [ "$(cat "$out"/arena-?.out | sort -u | wc -l)" = 1 ] || fail "two dialects count other figures"
 
