@@ -21,7 +21,10 @@ bucket 20000
 locks 2000
 sorted 2000
 prepare 1000
-salvage 200 dip"
+salvage 200 dip
+slide 500
+write 500 earlier
+read 500"
 
 fail() {
     echo "speed: $*" >&2
@@ -153,4 +156,7 @@ $(date -u +%Y-%m-%d), $(uname -m), $("${rustc[@]}" --version), $(rt version)
 - prepare: \`prepare\` of 64 x 64 cells, 12,288 words.
 - salvage: \`salvage\` of 64 x 64 cells: of every 16 one is damaged, of every 8 one is waited for, of every 4 one is held. Report
   and list are exactly long enough. The copying of the dipped arena before each is subtracted.
+- slide: \`write_speed\` to a book of 64 slots and 3,328 bytes, four versions in each slot: no room for one body more, 255 slide.
+- write: the same to a book of five bytes more, where nothing slides. The copying of the book before each is subtracted.
+- read: \`read_version\` of the oldest that the last slot of such a book keeps.
 END

@@ -235,6 +235,7 @@ book_byte 2 2
 show_book 0 0
 prepare_book 0 0
 read_setpoint 1 1
+read_version 2 2
 crew_at_work 0 0
 report 1 1
 unconfirmed 1 1
@@ -247,7 +248,7 @@ all_bad 'too many and too few words'
 for word in ram lend head word byte registry held keys leases turns script place grants member crewless show map echo help prepare try_acquire drop_lease read_permission \
     competing_acquire_is_excluded release_then_handoff foreign_release_between_attempts acquire_preserving_borrows drop_preserving_borrows environment \
     environment_for_borrows try_lock other_mutex_preserves_leases transactional_try_lock_bucket acquire_index_bucket release_all acquire_index_locks acquire_sorted_locks crew \
-    book book_byte show_book prepare_book read_setpoint write_setpoint counters crew_at_work report unconfirmed salvage; do
+    book book_byte show_book prepare_book read_setpoint read_version write_setpoint counters crew_at_work report unconfirmed salvage; do
     # the right count of numbers, the word wrong: longer, shorter, of capitals
     for rest in '' ' 1' ' 1 1' ' 1 1 1' ' 1 1 1 1'; do
         printf '%s\n' "${word}x$rest" "${word%?}$rest" "x$word$rest" "${word#?}$rest" "${word^}$rest" "${word^^}$rest" "$word.$rest"
@@ -507,13 +508,15 @@ prints 'ends of the book'
 } >"$input"
 all_bad 'setpoints that are none'
 {
-    printf 'prepare 1 2 1 7\nbook 26\nprepare_book\ntry_acquire 1\n'
+    printf 'prepare 1 2 1 7\nbook 89\nprepare_book\ntry_acquire 1\n'
     for bits in 0 1 1069547520 2139095039 2139095040 2139095041 2147483647 2147483648 4286578687 4286578688 4286578689 4294967295; do
         for kind in pressure speed; do printf 'write_setpoint 1 1 1 7 %s %s\nread_setpoint 1\n' "$kind" "$bits"; done
     done
     printf 'show_book\nram 5\nshow_book\nread_setpoint 0\n'
 } >"$input"
 # a pressure is finite if its exponent is not the greatest: without its sign it is under 2,139,095,040, infinity's bits
+# behind the contents of two slots there is room for five bodies: from version 6 on, every second write slides the three that it keeps
+moved_by() { if [ "$1" -gt 5 ] && [ $(($1 % 2)) -eq 0 ]; then echo 15; else echo 0; fi; }
 {
     printf '%s\n' "done next 1 place 0 $counts" 'done' 'granted 1 1 7 next 2 place 0 attempts 1 boundaries 0 yields 0 dropped 0'
     version=0
@@ -521,19 +524,20 @@ all_bad 'setpoints that are none'
         if [ $((bits % 2147483648)) -lt 2139095040 ]; then
             version=$((version + 1))
             last="setpoint pressure $bits version $version"
-            echo "done version $version"
+            echo "done version $version moved $(moved_by "$version")"
         else
             echo 'refused NotFinite'
         fi
         echo "$last"
         version=$((version + 1))
         last="setpoint speed $bits version $version"
-        printf '%s\n' "done version $version" "$last"
+        printf '%s\n' "done version $version moved $(moved_by "$version")" "$last"
     done
-    # two lines of contents, then two bodies: place 21, length 5, version 18; kind 2, 4,294,967,295
-    printf '%s\n' 'book 26' 'at 0 0 0 0 0 0 0 0 0 21 0 5 0 18 0 0 0' 'at 16 0 0 0 0 0 2 255 255 255 255'
+    # slot 1's four lines: place 79, length 5, version 18; then its four bodies, versions 15 to 18, the last kind 2, 4,294,967,295
+    printf '%s\n' 'book 89' 'at 32 79 0 5 0 18 0 0 0 74 0 5 0 17 0 0 0' 'at 48 69 0 5 0 16 0 0 0 64 0 5 0 15 0 0 0' \
+        'at 64 2 255 255 127 255 2 0 0 128 255 2 1 0 128 255 2' 'at 80 255 255 255 255 0 0 0 0 0'
     rubbish 5
-    shown_book 26
+    shown_book 89
     echo 'refused DamagedBook'
 } >"$room/wanted"
 prints 'pressures by their bits'

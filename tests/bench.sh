@@ -116,8 +116,9 @@ crew crew=cases 1=refusals 15=cases
 crew_at_work crew=crew-at-work 1=crew-at-work 15=crew-at-work
 salvage done=boot-number 1=warm-restart ReportFull=warm-restart
 prepare_book done=setpoint-book 1=setpoint-book BadSlot=setpoint-book
-write_setpoint done=setpoint-book 1=setpoint-book BadSlot=setpoint-book 16=setpoint-book 12=setpoint-book NotFinite=setpoint-book DamagedBook=setpoint-book VersionsSpent=setpoint-book
+write_setpoint done=setpoint-book 1=setpoint-book BadSlot=setpoint-book 16=setpoint-book 12=setpoint-book NotFinite=setpoint-book DamagedBook=setpoint-book VersionsSpent=setpoint-book BookFull=four-versions
 read_setpoint pressure=setpoint-book speed=setpoint-book valve=setpoint-book 1=setpoint-book BadSlot=setpoint-book DamagedBook=setpoint-book NeverWritten=setpoint-book
+read_version pressure=setpoint-book speed=four-versions valve=setpoint-book 1=four-versions BadSlot=four-versions DamagedBook=four-versions NeverWritten=four-versions
 TABLE
 
 # What no table of answers tells: the case file, the line that is played, one that it prints (none: it prints nothing), as extended
@@ -222,8 +223,11 @@ boot-number | release_all | refused 16 StaleBoot [1-9][0-9]* next .*
 any-order | acquire_sorted_locks | refused 11 SerializationFailure 4096 held [0-9]+ at [0-9]+ next .*
 any-order | acquire_sorted_locks | refused 8 InvalidBucket [0-9]+ at [1-9][0-9]* next .*
 cases | acquire_index_locks | grants [0-9]+ [0-9]+ 70.*
-setpoint-book | write_setpoint .* | done version [0-9]+
+setpoint-book | write_setpoint .* | done version [0-9]+ moved 0
+four-versions | write_setpoint .* | done version [0-9]+ moved [1-9][0-9]*
 setpoint-book | read_setpoint [0-9]+ | setpoint pressure [0-9]+ version [0-9]+
+four-versions | read_version [0-9]+ [0-9]+ | setpoint speed [0-9]+ version [0-9]+
+four-versions | read_version [0-9]+ 0 | refused NeverWritten
 TABLE
 
 LC_ALL=C awk -F '\t' -v answers="$room/answers" -v rows="$room/rows" '

@@ -42,7 +42,7 @@ fi
 
 # a call prints one line with its counts, but for the crew's, the salvage's and the book's
 calls_in() {
-    grep -a -c -E ' place [0-9]+ attempts [0-9]+ boundaries [0-9]+ |^crew moving |^refused [0-9]+ [A-Za-z]+ [0-9]+( next [0-9]+)?$|^done [0-9]+ [0-9]+ next |^done( version [0-9]+( moved [0-9]+)?)?$|^refused [A-Za-z]+( next [0-9]+)?$|^setpoint ' "$1" || true
+    grep -a -c -E ' place [0-9]+ attempts [0-9]+ boundaries [0-9]+ |^crew moving |^refused [0-9]+ [A-Za-z]+ [0-9]+( next [0-9]+)?$|^done [0-9]+ [0-9]+ next |^done( version [0-9]+ moved [0-9]+)?$|^refused [A-Za-z]+( next [0-9]+)?$|^setpoint ' "$1" || true
 }
 
 one_process $((calls < 5000 ? calls : 5000)) "$seed"

@@ -7,7 +7,7 @@ cd "$(dirname "$0")/.."
 
 base='choice types model laws setpoint slots'
 theory='history exact progress anyorder works upstream builds swaps written salvaged boots'
-steps='arena lease foreign lock bucket release multilock sort sorted plan crew work book salvage'
+steps='arena lease foreign lock bucket release multilock sort sorted plan crew work sound compact enter book salvage'
 callers="$steps records skid" # the calls themselves, and the faces that make them
 exports=skid
 

@@ -33,13 +33,13 @@ rt staticlib skid
 
 # ---- header, Rust face, C test and archive have the same functions; the archive asks for no more than the header says
 grep -oE '^void skid_[a-z_]+' include/skid.h | sed 's/^void //' | sort >"$out/header"
-grep -oE 'fn skid_[a-z_]+' rust/skid/src/raw.rs | sed 's/^fn //' | sort >"$out/face"
+grep -oE '^ {12}[a-z_]+\(' rust/skid/src/raw/calls.rs | sed 's/^ */skid_/; s/($//' | sort >"$out/face"
 grep -ohE 'skid_[a-z_]+\(' tests/c/bench.c tests/c/wave.c | tr -d '(' | sort -u >"$out/called"
 "$nm" -g --defined-only "$archive" | awk 'NF == 3 && $3 !~ /^skid_interface_[0-9]+$/ { print $3 }' | sort >"$out/archive"
 diff "$out/header" "$out/archive" || fail "the header (<) and the archive (>) have different functions"
 diff "$out/face" "$out/archive" || fail "the Rust face (<) and the archive (>) have different functions"
 diff "$out/called" "$out/archive" || fail "the C tests call (<) other functions than the archive has (>)"
-[ "$(wc -l <"$out/header")" = 28 ] || fail "document 01 has 18 calls, the setpoint book 5, the waveform 2, keys in any order, salvage and the crew at work 1 each"
+[ "$(wc -l <"$out/header")" = 29 ] || fail "document 01 has 18 calls, the setpoint book 6, the waveform 2, keys in any order, salvage and the crew at work 1 each"
 "$nm" -u "$archive" | awk '$1 == "U" && $2 != "memcpy" && $2 != "memset" { print "asks for " $2; bad = 1 } END { exit bad }' ||
     fail "the header says that the archive asks for memcpy and memset alone"
 "$nm" "$archive" | awk '$2 ~ /^[BbCDd]$/ { print "changing data: " $3; bad = 1 } END { exit bad }' ||

@@ -90,7 +90,7 @@ for word in ram lend head word byte registry held keys leases turns script place
     try_acquire drop_lease read_permission competing_acquire_is_excluded release_then_handoff foreign_release_between_attempts \
     acquire_preserving_borrows drop_preserving_borrows environment environment_for_borrows try_lock other_mutex_preserves_leases \
     transactional_try_lock_bucket acquire_index_bucket release_all acquire_index_locks crew book book_byte show_book prepare_book \
-    write_setpoint read_setpoint counters crew_at_work acquire_sorted_locks report unconfirmed salvage; do
+    write_setpoint read_setpoint read_version counters crew_at_work acquire_sorted_locks report unconfirmed salvage; do
     grep -q "^$word\b" "$room/out" || complain "help does not name $word"
 done
 

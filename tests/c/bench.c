@@ -58,20 +58,23 @@ static struct {
     uint16_t before, each[8], after;
 } counters;
 static struct {
-    uint8_t before, bytes[104], after; /* 8 slots */
+    uint8_t before, bytes[8 * SKID_ROOMY_BYTES], after; /* 8 slots, with room for every version */
 } book;
 static struct {
     uint64_t before, words[SKID_BOOK_WORDS], after;
 } told;
 static const uint32_t registry[3] = {0, 1, 1};
 static uint32_t next, boot;
+static size_t lent_book; /* bytes of the book */
 
 #define BOOT 5u
 #define HEAD 2, 4, next, boot
 #define TABLE table.words, 24
 #define HEALTH health.bytes, 2
 #define COUNTERS counters.each, 8
-#define BOOK book.bytes, 104
+#define FRONT (8 * SKID_SLOT_BYTES)
+#define ROOMY (8 * SKID_ROOMY_BYTES)
+#define BOOK book.bytes, lent_book
 #define REGISTRY registry, 3
 #define LIST(a) a, sizeof a / sizeof a[0]
 
@@ -970,20 +973,19 @@ static void tells(uint64_t kind, uint64_t first, uint64_t setpoint, uint64_t bit
     }
     check("kind", told.words[SKID_BOOK_KIND], kind);
     check(kind == SKID_BOOK_REFUSED ? "refusal" : "version", told.words[1], first);
-    check("setpoint", told.words[SKID_BOOK_SETPOINT], setpoint);
+    check(kind == SKID_BOOK_WRITTEN ? "moved" : "setpoint", told.words[2], setpoint);
     check("word", told.words[SKID_BOOK_WORD], bits);
 }
 
 static void no_setting(uint64_t number) { tells(SKID_BOOK_REFUSED, number, 0, 0); }
 
-/* How many bytes of a slot's line and body are not 0. */
-static uint32_t marks(uint32_t slot) {
+static void done_write(uint64_t version, uint64_t moved) { tells(SKID_BOOK_WRITTEN, version, moved, 0); }
+
+/* How many of these bytes of the book are not 0. */
+static uint32_t marks(uint32_t first, uint32_t count) {
     uint32_t i, n = 0;
-    for (i = 0; i < 8; i++) {
-        n += book.bytes[8 * slot + i] != 0;
-    }
-    for (i = 0; i < 5; i++) {
-        n += book.bytes[64 + 5 * slot + i] != 0;
+    for (i = 0; i < count; i++) {
+        n += book.bytes[first + i] != 0;
     }
     return n;
 }
@@ -1000,8 +1002,33 @@ static void write_pressure(uint32_t slot, uint32_t cell, uint32_t serial, uint32
 
 static void read_slot(uint32_t slot) { skid_read_setpoint(HEAD, BOOK, slot, blank_book()); }
 
+/* Versions 0 to 7 of slot 2: those from `first` to `last` are kept, each the speed of its own number. */
+static void keeps(uint32_t first, uint32_t last) {
+    uint32_t version;
+    for (version = 0; version < 8; version++) {
+        skid_read_version(HEAD, BOOK, 2, version, blank_book());
+        if (first <= version && version <= last) {
+            tells(SKID_BOOK_SETTING, version, SKID_SPEED, version);
+        } else {
+            no_setting(SKID_NEVER_WRITTEN);
+        }
+    }
+}
+
+static void write_speed(uint32_t speed) { skid_write_speed(HEAD, TABLE, BOOK, 2, 2, 1, BOOT, speed, blank_book()); }
+
+/* Versions 1 to `last` of slot 2, each the speed of its own number; none needs a slide. */
+static void speeds_to(uint32_t last) {
+    uint32_t version;
+    for (version = 1; version <= last; version++) {
+        write_speed(version);
+        done_write(version, 0);
+    }
+}
+
 /* Memory after a cold start holds anything. */
-static void open_book(void) {
+static void open_book(size_t length) {
+    lent_book = length;
     prepare(1);
     acquire(NONE, NONE, 2);
     memset(&book, 0x5a, sizeof book);
@@ -1012,15 +1039,14 @@ static void open_book(void) {
 }
 
 static void unwritten(void) {
-    uint32_t i, n = 0;
+    uint32_t i;
     name("a book prepared over cold RAM, read before anybody wrote");
-    open_book();
-    for (i = 0; i < 104; i++) {
-        n += book.bytes[i] != 0;
-    }
-    check("bytes not 0", n, 0);
+    open_book(ROOMY);
+    check("bytes not 0", marks(0, ROOMY), 0);
     for (i = 0; i < 8; i++) {
         read_slot(i);
+        no_setting(SKID_NEVER_WRITTEN);
+        skid_read_version(HEAD, BOOK, i, 1, blank_book());
         no_setting(SKID_NEVER_WRITTEN);
     }
     end(&books);
@@ -1033,13 +1059,13 @@ static void unwritten(void) {
 }
 
 static void written(void) {
-    static const uint8_t body[5] = {1, 0, 0, 192, 63}, line[8] = {74, 0, 5, 0, 1, 0, 0, 0};
+    static const uint8_t body[5] = {1, 0, 0, 192, 63}, line[8] = {0, 1, 5, 0, 1, 0, 0, 0};
     name("the governor writes 1.5 bar");
-    open_book();
+    open_book(ROOMY);
     skid_write_pressure(HEAD, TABLE, BOOK, 2, 2, 1, BOOT, 0x3fc00000u, blank_book());
-    tells(SKID_BOOK_WRITTEN, 1, 0, 0);
-    check("line", memcmp(book.bytes + 16, line, 8) == 0, 1);
-    check("body", memcmp(book.bytes + 74, body, 5) == 0, 1);
+    done_write(1, 0);
+    check("line", memcmp(book.bytes + 64, line, 8) == 0, 1);
+    check("body", memcmp(book.bytes + FRONT, body, 5) == 0, 1);
     read_slot(2);
     tells(SKID_BOOK_SETTING, 1, SKID_PRESSURE, 0x3fc00000u);
     check("bar", pressure((uint32_t)told.words[SKID_BOOK_WORD]) == 1.5f, 1);
@@ -1047,7 +1073,7 @@ static void written(void) {
 
     name("minus zero, bit for bit, as version 2");
     write_pressure(2, 2, 1, 0x80000000u);
-    tells(SKID_BOOK_WRITTEN, 2, 0, 0);
+    done_write(2, 0);
     read_slot(2);
     tells(SKID_BOOK_SETTING, 2, SKID_PRESSURE, 0x80000000u);
     end(&books);
@@ -1063,7 +1089,7 @@ static void written(void) {
 
     name("a speed, a valve open and shut");
     skid_write_speed(HEAD, TABLE, BOOK, 2, 2, 1, BOOT, 4294967295u, blank_book());
-    tells(SKID_BOOK_WRITTEN, 5, 0, 0);
+    done_write(5, 0);
     read_slot(2);
     tells(SKID_BOOK_SETTING, 5, SKID_SPEED, 4294967295u);
     skid_write_valve(HEAD, TABLE, BOOK, 2, 2, 1, BOOT, true, blank_book());
@@ -1072,23 +1098,24 @@ static void written(void) {
     skid_write_valve(HEAD, TABLE, BOOK, 2, 2, 1, BOOT, false, blank_book());
     read_slot(2);
     tells(SKID_BOOK_SETTING, 7, SKID_VALVE, 0);
-    check("bytes of slot 1 not 0", marks(1), 0);
-    check("bytes of slot 3 not 0", marks(3), 0);
+    check("bytes of slot 1 not 0", marks(32, 32), 0);
+    check("bytes of slot 3 not 0", marks(96, 32), 0);
     end(&books);
 }
 
 static void not_written(void) {
-    uint8_t before[104];
+    uint8_t before[ROOMY];
+    uint32_t i;
     name("refused writes, in order");
-    open_book();
+    open_book(ROOMY);
     write_pressure(2, 2, 1, 0x3fc00000u);
-    book.bytes[74] = 4; /* slot 2's body is damaged */
+    book.bytes[FRONT] = 4; /* slot 2's body is damaged */
     memcpy(before, book.bytes, sizeof before);
     skid_write_pressure(HEAD, table.words, 23, BOOK, 8, 2, 7, BOOT - 1, 0x7fc00000u, blank_book());
     no_setting(SKID_BAD_SHAPE);
     write_pressure(8, 2, 7, 0x7fc00000u);
     no_setting(SKID_BAD_SLOT);
-    skid_write_pressure(HEAD, TABLE, book.bytes, 103, 2, 2, 7, BOOT - 1, 0x7fc00000u, blank_book());
+    skid_write_pressure(HEAD, TABLE, book.bytes, FRONT - 1, 2, 2, 7, BOOT - 1, 0x7fc00000u, blank_book());
     no_setting(SKID_BAD_SLOT);
     skid_write_pressure(HEAD, TABLE, BOOK, 2, 2, 7, BOOT - 1, 0x7fc00000u, blank_book());
     no_setting(SKID_STALE_BOOT);
@@ -1108,13 +1135,15 @@ static void not_written(void) {
     no_setting(SKID_DAMAGED_BOOK);
     read_slot(2);
     no_setting(SKID_DAMAGED_BOOK);
-    read_slot(3);
-    no_setting(SKID_NEVER_WRITTEN);
+    read_slot(3); /* damage of slot 2 is damage of the book */
+    no_setting(SKID_DAMAGED_BOOK);
+    skid_read_version(HEAD, BOOK, 3, 1, blank_book());
+    no_setting(SKID_DAMAGED_BOOK);
     check("bytes as they were", memcmp(before, book.bytes, sizeof before) == 0, 1);
     end(&books);
 
     name("another lease on the cell");
-    open_book();
+    open_book(ROOMY);
     skid_release_then_handoff(HEAD, TABLE, 2, 1, BOOT, blank());
     called();
     skid_write_speed(HEAD, TABLE, BOOK, 2, 2, 1, BOOT, 7, blank_book());
@@ -1122,15 +1151,22 @@ static void not_written(void) {
     skid_write_valve(HEAD, TABLE, BOOK, 2, 2, 1, BOOT, true, blank_book());
     no_setting(SKID_NOT_HELD);
     skid_write_speed(HEAD, TABLE, BOOK, 2, 2, 2, BOOT, 7, blank_book());
-    tells(SKID_BOOK_WRITTEN, 1, 0, 0);
+    done_write(1, 0);
     end(&books);
 
     name("the last version");
-    memset(book.bytes + 20, 0xff, 4);
-    skid_write_speed(HEAD, TABLE, BOOK, 2, 2, 2, BOOT, 8, blank_book());
+    open_book(ROOMY);
+    speeds_to(4);
+    for (i = 0; i < 4; i++) {
+        memset(book.bytes + 64 + 8 * i + 4, 0xff, 4);
+        book.bytes[64 + 8 * i + 4] = (uint8_t)(0xff - i);
+    }
+    write_speed(8);
     no_setting(SKID_VERSIONS_SPENT);
     read_slot(2);
-    tells(SKID_BOOK_SETTING, 4294967295u, SKID_SPEED, 7);
+    tells(SKID_BOOK_SETTING, 4294967295u, SKID_SPEED, 4);
+    skid_read_version(HEAD, BOOK, 2, 4294967292u, blank_book());
+    tells(SKID_BOOK_SETTING, 4294967292u, SKID_SPEED, 1);
     end(&books);
 
     name("no book");
@@ -1140,6 +1176,59 @@ static void not_written(void) {
     no_setting(SKID_BAD_SLOT);
     skid_prepare_book(0, 4, 1, BOOT, BOOK, blank_book());
     no_setting(SKID_BAD_SHAPE);
+    end(&books);
+}
+
+static void four_versions(void) {
+    static const uint8_t third[5] = {2, 3, 0, 0, 0};
+    uint8_t before[ROOMY];
+    uint32_t i;
+    name("the fifth write of a slot");
+    open_book(ROOMY);
+    speeds_to(4);
+    keeps(1, 4);
+    write_speed(5);
+    done_write(5, 0);
+    keeps(2, 5);
+    check("bytes of the dropped body not 0", marks(FRONT, 5), 0);
+    end(&books);
+
+    name("room for five bodies: the sixth write slides three");
+    open_book(FRONT + 25);
+    speeds_to(5);
+    write_speed(6);
+    done_write(6, 15);
+    keeps(3, 6);
+    check("first body", memcmp(book.bytes + FRONT, third, 5) == 0, 1);
+    check("last bytes not 0", marks(FRONT + 20, 5), 0);
+    end(&books);
+
+    name("room for three bodies and four bytes: the fourth write is refused");
+    open_book(FRONT + 19);
+    speeds_to(3);
+    memcpy(before, book.bytes, sizeof before);
+    write_speed(4);
+    no_setting(SKID_BOOK_FULL);
+    check("bytes as they were", memcmp(before, book.bytes, sizeof before) == 0, 1);
+    keeps(1, 3);
+    end(&books);
+
+    name("two bodies that share a byte: no slot is read or written until the book is prepared");
+    open_book(ROOMY);
+    speeds_to(2);
+    memmove(book.bytes + FRONT + 4, book.bytes + FRONT + 5, 5); /* the other is a speed still */
+    book.bytes[64] = 4;
+    for (i = 0; i < 8; i++) {
+        read_slot(i);
+        no_setting(SKID_DAMAGED_BOOK);
+    }
+    skid_read_version(HEAD, BOOK, 2, 2, blank_book());
+    no_setting(SKID_DAMAGED_BOOK);
+    write_speed(3);
+    no_setting(SKID_DAMAGED_BOOK);
+    skid_prepare_book(HEAD, BOOK, blank_book());
+    tells(SKID_BOOK_DONE, 0, 0, 0);
+    speeds_to(1);
     end(&books);
 }
 
@@ -1337,6 +1426,7 @@ int main(void) {
     unwritten();
     written();
     not_written();
+    four_versions();
     without_script();
     with_script();
     refused_preparation();

@@ -74,14 +74,14 @@ fn refusals() {
         ("try_acquire 2\nhead 2 4 4294967295 5\nrelease_then_handoff 2 1 5", "Refused by 10, SerialsSpent: cell 2 is free, but no serial is left to give. The release stands."),
         ("drop_lease 2 1 5", "Refused by 12, NotHeld: cell 2 is not held by serial 1."),
         ("try_acquire 2\nleases 2 1 5 3 1 5\nrelease_all", "Refused by 12, NotHeld: position 1 of the list is not live, since cell 3 is not held by serial 1; nothing is released."),
-        ("book 104\nprepare_book\ntry_acquire 2\nwrite_setpoint 1 2 1 5 speed 3", "Refused by 12, NotHeld: slot 1 needs a live lease on cell 1, and cell 2 by serial 1 is none."),
+        ("book 256\nprepare_book\ntry_acquire 2\nwrite_setpoint 1 2 1 5 speed 3", "Refused by 12, NotHeld: slot 1 needs a live lease on cell 1, and cell 2 by serial 1 is none."),
         ("try_acquire 2\nheld 2 1 5\ndrop_preserving_borrows 2 1 5", "Refused by 13, Protected: cell 2 by serial 1 is in the held list, and so protected."),
         ("try_acquire 2\nleases 2 1 5 2 1 5\nrelease_all", "Refused by 14, Repeated: the lease at position 1 stands earlier in the list too; nothing is released."),
         ("try_acquire 2\ndrop_lease 2 1 4", "Refused by 16, StaleBoot: the lease has boot number 4, and the head has 5."),
         ("try_acquire 2\nleases 2 1 4\nrelease_all", "Refused by 16, StaleBoot: the lease at position 0 of the list has boot number 4, and the head has 5."),
         ("try_acquire 2\nheld 2 1 4\nenvironment", "Refused by 16, StaleBoot: the lease at position 0 of the held list has boot number 4, and the head has 5."),
         ("try_acquire 2\nheld 2 1 5\ndrop_preserving_borrows 2 1 6", "Refused by 16, StaleBoot: the lease has boot number 6, and the head has 5."),
-        ("book 104\nprepare_book\nwrite_setpoint 1 2 1 6 speed 3", "Refused by 16, StaleBoot: the lease has boot number 6, and the head has 5."),
+        ("book 256\nprepare_book\nwrite_setpoint 1 2 1 6 speed 3", "Refused by 16, StaleBoot: the lease has boot number 6, and the head has 5."),
     ] {
         assert_eq!(last_in_an_arena(lines), said);
     }
@@ -144,16 +144,25 @@ fn reasons() {
 
 #[test]
 fn named_refusals() {
-    let book = "book 104\nprepare_book\ntry_acquire 1\n";
-    let spent = "write_setpoint 1 1 1 5 speed 3\nbook_byte 12 255\nbook_byte 13 255\nbook_byte 14 255\nbook_byte 15 255\n";
+    let book = "book 276\nprepare_book\ntry_acquire 1\n";
+    // slot 1 has its four lines from byte 32 on, the version in the last four bytes of each
+    let mut spent = "write_setpoint 1 1 1 5 speed 3\n".repeat(4);
+    for line in 0..4 {
+        for (at, byte) in [255 - line, 255, 255, 255].into_iter().enumerate() {
+            spent.push_str(&format!("book_byte {} {byte}\n", 36 + 8 * line + at));
+        }
+    }
     for (lines, said) in [
-        ("prepare_book".to_string(), "Refused as BadSlot: the book has no bytes, and for 8 slots it must have 104."),
+        ("prepare_book".to_string(), "Refused as BadSlot: the book has no bytes, and the contents of 8 slots need 256."),
         ("book 32769\nprepare_book".to_string(), "Refused as BadSlot: the book has 32,769 bytes, and 32,768 are the most."),
         (format!("{book}read_setpoint 8"), "Refused as BadSlot: there is no slot 8, since the book has 8 slots, counted from 0."),
         (format!("{book}write_setpoint 1 1 1 5 pressure 2143289344"), "Refused as NotFinite: the pressure is not finite, and is not written."),
-        (format!("{book}book_byte 8 1\nread_setpoint 1"), "Refused as DamagedBook: the line or the body of slot 1 fits no rule, so nothing there can be trusted."),
+        (format!("{book}book_byte 8 1\nread_setpoint 1"), "Refused as DamagedBook: a line or a kept body of some slot fits no rule, or two bodies overlap; until the book is prepared again, nothing in it can be trusted."),
         (format!("{book}{spent}write_setpoint 1 1 1 5 speed 4"), "Refused as VersionsSpent: slot 1 is at version 4,294,967,295, the last."),
         (format!("{book}read_setpoint 1"), "Refused as NeverWritten: nothing was ever written to slot 1, whose version is 0."),
+        (format!("{book}read_version 1 0"), "Refused as NeverWritten: slot 1 keeps no version 0; it keeps its newest four."),
+        (format!("{book}read_version 1 4294967295"), "Refused as NeverWritten: slot 1 keeps no version 4,294,967,295; it keeps its newest four."),
+        (format!("{book}book 260\nwrite_setpoint 1 1 1 5 speed 4"), "Refused as BookFull: the kept settings leave fewer than 5 bytes; nothing is written, and none is dropped."),
         ("word 3 1\nsalvage".to_string(), "Refused as ReportFull: a report with room for no changes and a list with room for no cells cannot hold all entries; nothing is changed."),
     ] {
         assert_eq!(last_in_an_arena(&lines), said);
@@ -162,7 +171,7 @@ fn named_refusals() {
 
 #[test]
 fn answers() {
-    let book = "book 104\nprepare_book\ntry_acquire 1\nwrite_setpoint 1 1 1 5 ";
+    let book = "book 276\nprepare_book\ntry_acquire 1\nwrite_setpoint 1 1 1 5 ";
     for (lines, said) in [
         ("prepare 3 4 1 41".to_string(), "The arena is prepared: 3 headers of 4 buckets, 12 cells, all free; the next serial is 1, the boot number 41."),
         ("acquire_index_bucket 1 2".to_string(), "Key 1 2 is granted: cell 6, serial 1."),
@@ -187,6 +196,8 @@ fn answers() {
         (format!("{book}pressure 1069547520"), "Slot 1 is set to 1.5 bar, version 1."),
         (format!("{book}pressure 1\nread_setpoint 1"), "Slot 1 says 1e-45 bar, version 1."),
         (format!("{book}valve 0\nread_setpoint 1"), "Slot 1 says valve shut, version 1."),
+        (format!("{book}valve 0\nread_version 1 1"), "Slot 1 says valve shut, version 1."),
+        (format!("{book}speed 1{}", "\nwrite_setpoint 1 1 1 5 speed 3".repeat(4)), "Slot 1 is set to speed 3, version 5. To make room, 15 bytes of kept settings slid to the front."),
         ("map".to_string(), "header 0 healthy .... header 1 healthy ...."),
         ("help 1".to_string(), "Line 3 is not understood: help stands alone."),
     ] {
@@ -284,7 +295,11 @@ fn is_told(printed: &str, told: &str) {
         }
         ["cell", cell, ..] => format!("The lease stands: cell {} is held", grouped(cell)),
         ["setpoint", _, _, "version", version, ..] => format!(", version {}.", grouped(version)),
-        ["done", "version", version, ..] => format!(", version {}.", grouped(version)),
+        ["done", "version", version, "moved", moved, ..] => {
+            let slid = format!("{} bytes of kept settings slid", grouped(moved));
+            assert_eq!(told.contains(&slid), *moved != "0", "{told}");
+            format!(", version {}.", grouped(version))
+        }
         ["crew", "moving", moving, "idle", idle, ..] => format!(": {moving} moving, {idle} idle."),
         _ => " ".to_string(),
     };

@@ -144,7 +144,7 @@ fn notes() {
     assert_eq!(told(&["prepare 2 4 1 5", "lend 5 5", "try_lock 1"]), None);
     let written = [
         "prepare 1 2 1 5",
-        "book 26",
+        "book 104",
         "prepare_book",
         "try_acquire 1",
         "write_setpoint 1 1 1 5 pressure 1069547520",

@@ -4,7 +4,7 @@
 use skid::{
     Answer, Arena, BookAnswer, BookRefusal, Change, Counts, Head, Key, Lease, Played, Reason,
     Refusal, Reply, SalvageRefusal, Salvaged, Script, Setpoint, Step, LONGEST_BOOK, NO_SERIAL,
-    SLOT_BYTES,
+    ROOMY_BYTES, SLOT_BYTES,
 };
 use std::fmt::Debug;
 use std::process::exit;
@@ -782,20 +782,53 @@ fn refused_work(b: &mut Bench) {
 const GOVERNOR: Lease = leased(2, 1);
 const BAR: Setpoint = Setpoint::Pressure(1.5);
 
-/// A book of eight slots, prepared over rubbish, between guards.
+/// Eight slots: where the bodies begin, and the bytes with room for every version.
+const FRONT: usize = 8 * SLOT_BYTES;
+const ROOMY: usize = 8 * ROOMY_BYTES;
+
+/// A book of eight slots with room for every version.
 fn with_book(run: impl FnOnce(&mut Arena, &mut [u8])) {
+    with_book_of(ROOMY, run);
+}
+
+/// A book of eight slots and so many bytes, prepared over rubbish, between guards.
+fn with_book_of(length: usize, run: impl FnOnce(&mut Arena, &mut [u8])) {
     with_arena(1, |arena| {
         assert_eq!(acquire(arena, &[], &[], 2).answer, granted(2, 1));
-        let mut bytes = [0x5a; 8 * SLOT_BYTES + 2];
-        let book = &mut bytes[1..8 * SLOT_BYTES + 1];
+        let mut bytes = [0x5a; ROOMY + 2];
+        let book = &mut bytes[1..length + 1];
         assert_eq!(arena.prepare_book(book), BookAnswer::Done);
         run(arena, book);
-        assert_eq!(
-            (bytes[0], bytes[8 * SLOT_BYTES + 1]),
-            (0x5a, 0x5a),
+        let outside = |byte: &u8| *byte == 0x5a;
+        assert!(
+            bytes[..1].iter().chain(&bytes[length + 1..]).all(outside),
             "a byte outside the book"
         );
     });
+}
+
+/// A done write.
+fn written(version: u32, moved: u32) -> BookAnswer {
+    BookAnswer::Written { version, moved }
+}
+
+/// Versions 1 to `last` of slot 2, each the speed of its own number.
+fn speeds_to(b: &mut Bench, arena: &Arena, book: &mut [u8], last: u32) {
+    for version in 1..=last {
+        let write = arena.write_setpoint(book, 2, GOVERNOR, Setpoint::Speed(version));
+        b.check("write", write, written(version, 0));
+    }
+}
+
+/// Versions 0 to 7 of slot 2: these are kept, the others are not.
+fn keeps(b: &mut Bench, arena: &Arena, book: &[u8], versions: std::ops::RangeInclusive<u32>) {
+    for version in 0..8 {
+        let want = match versions.contains(&version) {
+            true => BookAnswer::Setting(Setpoint::Speed(version), version),
+            false => not(BookRefusal::NeverWritten),
+        };
+        b.check("version", arena.read_version(book, 2, version), want);
+    }
 }
 
 fn not(refusal: BookRefusal) -> BookAnswer {
@@ -816,6 +849,8 @@ fn never_written(b: &mut Bench) {
         for slot in 0..8 {
             let read = arena.read_setpoint(book, slot);
             b.check("read", read, not(BookRefusal::NeverWritten));
+            let read = arena.read_version(book, slot, 1);
+            b.check("read", read, not(BookRefusal::NeverWritten));
         }
         book.fill(0x5a);
         let read = arena.read_setpoint(book, 2);
@@ -826,15 +861,15 @@ fn never_written(b: &mut Bench) {
 fn governor_writes(b: &mut Bench) {
     with_book(|arena, book| {
         let write = arena.write_setpoint(book, 2, GOVERNOR, BAR);
-        b.check("write", write, BookAnswer::Written(1));
-        b.check("line", &book[16..24], &[74, 0, 5, 0, 1, 0, 0, 0]);
-        b.check("body", &book[74..79], &[1, 0, 0, 192, 63]);
+        b.check("write", write, written(1, 0));
+        b.check("line", &book[64..72], &[0, 1, 5, 0, 1, 0, 0, 0]);
+        b.check("body", &book[FRONT..FRONT + 5], &[1, 0, 0, 192, 63]);
         let read = arena.read_setpoint(book, 2);
         b.check("read", read, BookAnswer::Setting(BAR, 1));
         for (version, pattern) in [(2, 0x8000_0000), (3, 1), (4, 0x7f7f_ffff)] {
             let setpoint = Setpoint::Pressure(f32::from_bits(pattern));
             let write = arena.write_setpoint(book, 2, GOVERNOR, setpoint);
-            b.check("write", write, BookAnswer::Written(version));
+            b.check("write", write, written(version, 0));
             let read = arena.read_setpoint(book, 2);
             b.check("bits", bits(read), Some((pattern, version)));
         }
@@ -845,7 +880,7 @@ fn governor_writes(b: &mut Bench) {
         ];
         for (version, setpoint) in (5..).zip(others) {
             let write = arena.write_setpoint(book, 2, GOVERNOR, setpoint);
-            b.check("write", write, BookAnswer::Written(version));
+            b.check("write", write, written(version, 0));
             let read = arena.read_setpoint(book, 2);
             b.check("read", read, BookAnswer::Setting(setpoint, version));
         }
@@ -865,8 +900,8 @@ fn refused_writes(b: &mut Bench) {
         let nan = Setpoint::Pressure(f32::NAN);
         let below = Setpoint::Pressure(f32::NEG_INFINITY);
         let _ = arena.write_setpoint(book, 2, GOVERNOR, BAR);
-        book[74] = 4;
-        let mut before = [0; 8 * SLOT_BYTES];
+        book[FRONT] = 4;
+        let mut before = [0; ROOMY];
         before.copy_from_slice(book);
         let bare =
             Arena::resume(arena.head(), &mut [], &mut []).write_setpoint(book, 8, stale, nan);
@@ -885,7 +920,12 @@ fn refused_writes(b: &mut Bench) {
             b.check("write", write, not(refusal));
         }
         b.check("bytes as they were", *book == before, true);
-        let short = arena.prepare_book(&mut book[1..]);
+        // damage of slot 2 is damage of the book
+        let read = arena.read_setpoint(book, 3);
+        b.check("slot 3", read, not(BookRefusal::DamagedBook));
+        let read = arena.read_version(book, 3, 1);
+        b.check("slot 3", read, not(BookRefusal::DamagedBook));
+        let short = arena.prepare_book(&mut book[..FRONT - 1]);
         b.check("too short", short, not(BookRefusal::BadSlot));
         let long = arena.prepare_book(&mut [0; LONGEST_BOOK + 1]);
         b.check("too long", long, not(BookRefusal::BadSlot));
@@ -894,17 +934,75 @@ fn refused_writes(b: &mut Bench) {
 
 fn last_version(b: &mut Bench) {
     with_book(|arena, book| {
-        let write = arena.write_setpoint(book, 2, GOVERNOR, Setpoint::Speed(7));
-        b.check("write", write, BookAnswer::Written(1));
-        book[20..24].fill(0xff);
+        speeds_to(b, arena, book, 4);
+        for (line, low) in [(64, 0xff), (72, 0xfe), (80, 0xfd), (88, 0xfc)] {
+            book[line + 4..line + 8].copy_from_slice(&[low, 0xff, 0xff, 0xff]);
+        }
         let write = arena.write_setpoint(book, 2, GOVERNOR, BAR);
         b.check("write", write, not(BookRefusal::VersionsSpent));
         let read = arena.read_setpoint(book, 2);
-        b.check(
-            "read",
-            read,
-            BookAnswer::Setting(Setpoint::Speed(7), u32::MAX),
-        );
+        let newest = BookAnswer::Setting(Setpoint::Speed(4), u32::MAX);
+        b.check("read", read, newest);
+        let read = arena.read_version(book, 2, u32::MAX - 3);
+        let oldest = BookAnswer::Setting(Setpoint::Speed(1), u32::MAX - 3);
+        b.check("read", read, oldest);
+    });
+}
+
+/// The fifth write drops the first; each kept version is read, and none that is not.
+fn fifth_write(b: &mut Bench) {
+    with_book(|arena, book| {
+        speeds_to(b, arena, book, 4);
+        keeps(b, arena, book, 1..=4);
+        let write = arena.write_setpoint(book, 2, GOVERNOR, Setpoint::Speed(5));
+        b.check("write", write, written(5, 0));
+        keeps(b, arena, book, 2..=5);
+        b.check("dropped body", &book[FRONT..FRONT + 5], &[0; 5]);
+    });
+}
+
+/// Room for five bodies: the sixth write slides three of them, and not the new one.
+fn slide(b: &mut Bench) {
+    with_book_of(FRONT + 25, |arena, book| {
+        speeds_to(b, arena, book, 5);
+        let write = arena.write_setpoint(book, 2, GOVERNOR, Setpoint::Speed(6));
+        b.check("write", write, written(6, 15));
+        keeps(b, arena, book, 3..=6);
+        b.check("first body", &book[FRONT..FRONT + 5], &[2, 3, 0, 0, 0]);
+        b.check("last bytes", &book[FRONT + 20..], &[0; 5]);
+    });
+}
+
+/// Room for three bodies and four bytes more: the fourth write is refused and changes nothing.
+fn full_book(b: &mut Bench) {
+    with_book_of(FRONT + 19, |arena, book| {
+        speeds_to(b, arena, book, 3);
+        let before = book.to_vec();
+        let write = arena.write_setpoint(book, 2, GOVERNOR, Setpoint::Speed(4));
+        b.check("write", write, not(BookRefusal::BookFull));
+        b.check("bytes as they were", *book == *before, true);
+        keeps(b, arena, book, 1..=3);
+    });
+}
+
+/// Two bodies that share one byte, of slot 2; then every slot is refused, until the book is prepared.
+fn overlap(b: &mut Bench) {
+    with_book(|arena, book| {
+        speeds_to(b, arena, book, 2);
+        // the newest begins on the last byte of the other, which is a speed still
+        book.copy_within(FRONT + 5..FRONT + 10, FRONT + 4);
+        book[64] = 4;
+        let read = arena.read_version(book, 2, 2);
+        b.check("overlap", read, not(BookRefusal::DamagedBook));
+        for slot in 0..8 {
+            let read = arena.read_setpoint(book, slot);
+            b.check("slot", read, not(BookRefusal::DamagedBook));
+        }
+        let write = arena.write_setpoint(book, 2, GOVERNOR, BAR);
+        b.check("write", write, not(BookRefusal::DamagedBook));
+        b.check("prepared", arena.prepare_book(book), BookAnswer::Done);
+        let write = arena.write_setpoint(book, 2, GOVERNOR, BAR);
+        b.check("write", write, written(1, 0));
     });
 }
 
@@ -1109,6 +1207,10 @@ fn main() {
     b.case("the governor writes", governor_writes);
     b.case("refused writes, in order", refused_writes);
     b.case("the last version", last_version);
+    b.case("the fifth write of a slot", fifth_write);
+    b.case("a slide that moves three bodies", slide);
+    b.case("a book that is full", full_book);
+    b.case("two bodies that share a byte", overlap);
     let books = b.passed - cases - sorts - salvages - boots - works;
     b.case("calls without a script", without_script);
     b.case("calls with a script", with_script);

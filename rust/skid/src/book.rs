@@ -1,12 +1,17 @@
-//! The setpoint book (document 02, L2): a setpoint for each cell, at most the first 64, in a lent run of bytes.
+//! The setpoint book (document 02, L2 and L10): the newest four setpoints of each cell, at most the first 64, in a lent
+//! run of bytes.
 use crate::{raw, Arena, Lease};
 
 /// No book has more bytes.
 pub const LONGEST_BOOK: usize = 32_768;
 /// The most slots of a book: one for each cell, up to these.
 pub const SLOTS: u32 = 64;
-/// Bytes that each slot needs: 8 for its line, 5 for its body.
-pub const SLOT_BYTES: usize = 13;
+/// Each slot keeps its newest versions, at most these.
+pub const KEPT_VERSIONS: u32 = 4;
+/// Bytes that each slot needs in the table of contents: four lines of 8.
+pub const SLOT_BYTES: usize = 32;
+/// Bytes of each slot with room for four bodies of 5: a book of so many is never [`BookRefusal::BookFull`].
+pub const ROOMY_BYTES: usize = 52;
 
 /// A setpoint.
 #[derive(Clone, Copy, Debug, PartialEq)]
@@ -37,7 +42,7 @@ impl Setpoint {
 pub enum BookRefusal {
     /// Document 01's 1: the head or the table's length breaks the arena's rules.
     BadShape,
-    /// The book is too short for its slots or over the limit, or there is no such slot.
+    /// The book is shorter than its contents or over the limit, or there is no such slot.
     BadSlot,
     /// Document 02's 16: the lease has another boot number than the head.
     StaleBoot,
@@ -45,12 +50,15 @@ pub enum BookRefusal {
     NotHeld,
     /// A pressure that is a NaN or an infinity.
     NotFinite,
-    /// The slot's line or body fits no rule.
+    /// A line or a kept body of any slot fits no rule, or two bodies overlap. Nothing mends such a book but
+    /// [`Arena::prepare_book`], which forgets every setting.
     DamagedBook,
     /// The slot is at version 4,294,967,295.
     VersionsSpent,
-    /// The slot is at version 0.
+    /// The version is 0, not yet written, or older than the newest four.
     NeverWritten,
+    /// The bodies that stay leave fewer than 5 bytes.
+    BookFull,
 }
 
 impl BookRefusal {
@@ -64,7 +72,8 @@ impl BookRefusal {
             102 => BookRefusal::NotFinite,
             103 => BookRefusal::DamagedBook,
             104 => BookRefusal::VersionsSpent,
-            _ => BookRefusal::NeverWritten,
+            105 => BookRefusal::NeverWritten,
+            _ => BookRefusal::BookFull,
         }
     }
 }
@@ -75,8 +84,13 @@ impl BookRefusal {
 pub enum BookAnswer {
     /// The book is prepared.
     Done,
-    /// Written, as this version.
-    Written(u32),
+    /// Written.
+    Written {
+        /// The setting's version.
+        version: u32,
+        /// The bytes of bodies that moved to make room; 0 if none did.
+        moved: u32,
+    },
     /// A setpoint and its version.
     Setting(Setpoint, u32),
     /// Refused.
@@ -88,7 +102,10 @@ impl BookAnswer {
     const fn of(w: &[u64; raw::BOOK]) -> BookAnswer {
         match w[0] {
             0 => BookAnswer::Done,
-            1 => BookAnswer::Written(w[1] as u32),
+            1 => BookAnswer::Written {
+                version: w[1] as u32,
+                moved: w[2] as u32,
+            },
             2 => BookAnswer::Setting(Setpoint::of(w), w[1] as u32),
             _ => BookAnswer::Refused(BookRefusal::of(w)),
         }
@@ -101,10 +118,10 @@ impl Arena<'_> {
         BookAnswer::of(&raw::prepare_book(self.head, book))
     }
 
-    /// Writes a setpoint to a slot, by a live lease on the slot's cell, and gives the slot's new version. Refused in
-    /// this order: [`BookRefusal::BadShape`], [`BookRefusal::BadSlot`], [`BookRefusal::StaleBoot`],
-    /// [`BookRefusal::NotHeld`], [`BookRefusal::NotFinite`], [`BookRefusal::DamagedBook`],
-    /// [`BookRefusal::VersionsSpent`].
+    /// Writes a setpoint to a slot, by a live lease on the slot's cell, and gives the slot's new version and the bytes
+    /// moved. The slot's oldest of four is dropped. Refused in this order: [`BookRefusal::BadShape`],
+    /// [`BookRefusal::BadSlot`], [`BookRefusal::StaleBoot`], [`BookRefusal::NotHeld`], [`BookRefusal::NotFinite`],
+    /// [`BookRefusal::DamagedBook`], [`BookRefusal::VersionsSpent`], [`BookRefusal::BookFull`].
     pub fn write_setpoint(
         &self,
         book: &mut [u8],
@@ -123,9 +140,15 @@ impl Arena<'_> {
         BookAnswer::of(&words)
     }
 
-    /// The setpoint of a slot and its version; it needs no lease. Refused in this order: [`BookRefusal::BadShape`] for
-    /// the head, [`BookRefusal::BadSlot`], [`BookRefusal::DamagedBook`], [`BookRefusal::NeverWritten`].
+    /// The newest setpoint of a slot and its version; it needs no lease. Refused in this order:
+    /// [`BookRefusal::BadShape`] for the head, [`BookRefusal::BadSlot`], [`BookRefusal::DamagedBook`],
+    /// [`BookRefusal::NeverWritten`].
     pub fn read_setpoint(&self, book: &[u8], slot: u32) -> BookAnswer {
         BookAnswer::of(&raw::read_setpoint(self.head, book, slot))
+    }
+
+    /// The setpoint that is this version of a slot, refused as [`Arena::read_setpoint`] is.
+    pub fn read_version(&self, book: &[u8], slot: u32, version: u32) -> BookAnswer {
+        BookAnswer::of(&raw::read_version(self.head, book, slot, version))
     }
 }

@@ -59,7 +59,9 @@ pub mod raw;
 mod salvage;
 pub mod wave;
 
-pub use book::{BookAnswer, BookRefusal, Setpoint, LONGEST_BOOK, SLOTS, SLOT_BYTES};
+pub use book::{
+    BookAnswer, BookRefusal, Setpoint, KEPT_VERSIONS, LONGEST_BOOK, ROOMY_BYTES, SLOTS, SLOT_BYTES,
+};
 pub use salvage::{Change, SalvageRefusal, Salvaged};
 
 use raw::{words, words_mut};

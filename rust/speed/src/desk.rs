@@ -1,6 +1,6 @@
 //! What the calls are lent. Both sides get the same desk, and read their arguments from it.
 
-use skid::raw::{CREW, REPLY, SALVAGE};
+use skid::raw::{BOOK, CREW, REPLY, SALVAGE};
 use std::hint::black_box;
 
 /// The head's four numbers.
@@ -44,6 +44,13 @@ pub struct Desk {
     /// Table and health as a power dip left them.
     pub dipped_table: Vec<u32>,
     pub dipped_health: Vec<u8>,
+    /// The setpoint book; the slot, its version and the speed of a call on it; the lease is the one to drop.
+    pub book: Vec<u8>,
+    pub slot: u32,
+    pub version: u32,
+    pub speed: u32,
+    /// The book as it was before a write.
+    pub earlier_book: Vec<u8>,
     pub replies: Replies,
 }
 
@@ -52,6 +59,7 @@ pub struct Replies {
     pub reply: [u64; REPLY],
     pub crew: [u64; CREW],
     pub salvage: [u64; SALVAGE],
+    pub book: [u64; BOOK],
 }
 
 impl Default for Replies {
@@ -60,6 +68,7 @@ impl Default for Replies {
             reply: [0; REPLY],
             crew: [0; CREW],
             salvage: [0; SALVAGE],
+            book: [0; BOOK],
         }
     }
 }

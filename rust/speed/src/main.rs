@@ -370,6 +370,95 @@ impl Case for Sorted {
     }
 }
 
+/// 64 cells, each held, cell C by serial C + 1, and their book of so many bytes, four versions in each slot. The slots
+/// were written in turn, so the oldest body of slot 0 stands first, and that of the slot behind it next.
+fn full_book<S: Side>(bytes: usize) -> Desk {
+    let mut desk = Desk::new(8, 8);
+    desk.table = (0..64).flat_map(|cell| [1, cell + 1, 0]).collect();
+    desk.head.next = 65;
+    desk.lease_boot = BOOT;
+    desk.book = vec![0; bytes];
+    for write in 0..256 {
+        write_slot::<S>(&mut desk, write % 64, &mut Blind);
+    }
+    desk
+}
+
+/// Writes a slot, by the lease on its cell; speeds go on.
+#[inline(always)]
+fn write_slot<S: Side>(desk: &mut Desk, slot: u32, watch: &mut impl Watch) {
+    desk.slot = slot;
+    desk.cell = slot;
+    desk.serial = slot + 1;
+    desk.speed += 1;
+    S::write_speed(desk.hidden(), |r| watch.see(r, S::written_words));
+}
+
+/// A write to a full book of 64 slots without room for one body more: the dropped body stood first, and 255 bodies
+/// slide. Slots are written in turn, so each run is alike; versions go on.
+struct Slide;
+
+impl Case for Slide {
+    fn desk<S: Side>() -> Desk {
+        full_book::<S>(64 * 52)
+    }
+
+    #[inline(always)]
+    fn run<S: Side>(desk: &mut Desk, watch: &mut impl Watch) {
+        let slot = (desk.slot + 1) % 64;
+        write_slot::<S>(desk, slot, watch);
+    }
+}
+
+/// The book as it was, and a write to it: 256 bodies, and room for one more.
+struct Write;
+
+impl Case for Write {
+    fn desk<S: Side>() -> Desk {
+        let mut desk = full_book::<S>(64 * 52 + 5);
+        desk.earlier_book = desk.book.clone();
+        desk
+    }
+
+    #[inline(always)]
+    fn run<S: Side>(desk: &mut Desk, watch: &mut impl Watch) {
+        Earlier::run::<S>(desk, watch);
+        write_slot::<S>(desk, 0, watch);
+    }
+}
+
+/// The copying of the write's case alone, to be subtracted from it.
+struct Earlier;
+
+impl Case for Earlier {
+    fn desk<S: Side>() -> Desk {
+        Write::desk::<S>()
+    }
+
+    #[inline(always)]
+    fn run<S: Side>(desk: &mut Desk, _watch: &mut impl Watch) {
+        let desk = desk.hidden();
+        desk.book.copy_from_slice(&desk.earlier_book);
+    }
+}
+
+/// `read_version` of the oldest that the last slot of the full book keeps. It changes nothing.
+struct Read;
+
+impl Case for Read {
+    fn desk<S: Side>() -> Desk {
+        let mut desk = full_book::<S>(64 * 52);
+        desk.slot = 63;
+        desk.version = 1;
+        desk
+    }
+
+    #[inline(always)]
+    fn run<S: Side>(desk: &mut Desk, watch: &mut impl Watch) {
+        S::read_version(desk.hidden(), |r| watch.see(r, S::read_words));
+    }
+}
+
 /// The measured loop, alike for both sides.
 #[inline(never)]
 fn repeat<C: Case, S: Side>(desk: &mut Desk, repeats: u64, watch: &mut impl Watch) {
@@ -396,6 +485,7 @@ fn line<C: Case, S: Side>(repeats: u64, each: bool) -> String {
     sum.add(desk.counters);
     sum.add(desk.report);
     sum.add(desk.unconfirmed);
+    sum.add(desk.book);
     let last: Vec<String> = sum.last.iter().take(15).map(u64::to_string).collect();
     format!("{:016x} {}", sum.sum, last.join(" "))
 }
@@ -443,6 +533,10 @@ fn on<S: Side>(case: &str, how: &[&str]) -> Option<String> {
         "prepare" => asked::<Prepare, S>(how),
         "salvage" => asked::<Salvage, S>(how),
         "dip" => asked::<Dip, S>(how),
+        "slide" => asked::<Slide, S>(how),
+        "write" => asked::<Write, S>(how),
+        "earlier" => asked::<Earlier, S>(how),
+        "read" => asked::<Read, S>(how),
         _ => None,
     }
 }
@@ -463,7 +557,7 @@ fn main() -> ExitCode {
         None => {
             eprintln!("speed proved|plain CASE REPEATS [each], or speed proved|plain CASE time");
             eprintln!("CASE: refusal script held crew crew_at_work crew-prepare try_lock bucket");
-            eprintln!("      locks sorted prepare salvage dip");
+            eprintln!("      locks sorted prepare salvage dip slide write earlier read");
             ExitCode::from(2)
         }
     }

@@ -1,8 +1,9 @@
-//! The plain side: plain::rules and plain::salvage. Its replies are told in the library's words, so that the two can be
+//! The plain side: plain::rules, plain::salvage and plain::book. Its replies are told in the library's words, so that the two can be
 //! compared.
 
 use crate::desk::Desk;
 use crate::side::{Side, Words};
+use plain::book::{self, BookRefusal, Kept, Setpoint, Written};
 use plain::rules::{
     self, Answer, Counts, CrewReply, Head, Lease, Reason, Refusal, Reply, ScriptReply,
 };
@@ -18,6 +19,11 @@ fn head_of(desk: &Desk) -> Head {
         next: desk.head.next,
         boot: desk.head.boot,
     }
+}
+
+#[inline(always)]
+fn lease_of(cell: u32, serial: u32, boot: u32) -> Lease {
+    Lease { cell, serial, boot }
 }
 
 fn reason_words(reason: Option<Reason>) -> [u64; 2] {
@@ -86,6 +92,8 @@ impl Side for Plain {
     type Played = ScriptReply;
     type Crew = CrewReply;
     type Salvage = SalvageReply;
+    type Written = Result<Written, BookRefusal>;
+    type Read = Result<Kept, BookRefusal>;
 
     #[inline(always)]
     fn prepare<T>(desk: &mut Desk, seen: impl FnOnce(&Reply) -> T) -> T {
@@ -104,11 +112,7 @@ impl Side for Plain {
     #[inline(always)]
     fn drop_lease<T>(desk: &mut Desk, seen: impl FnOnce(&Reply) -> T) -> T {
         let head = head_of(desk);
-        let lease = Lease {
-            cell: desk.cell,
-            serial: desk.serial,
-            boot: desk.lease_boot,
-        };
+        let lease = lease_of(desk.cell, desk.serial, desk.lease_boot);
         let reply = rules::drop_lease(head, &mut desk.table, lease);
         seen(&reply)
     }
@@ -250,6 +254,27 @@ impl Side for Plain {
     }
 
     #[inline(always)]
+    fn write_speed<T>(desk: &mut Desk, seen: impl FnOnce(&Self::Written) -> T) -> T {
+        let head = head_of(desk);
+        let reply = book::write_setpoint(
+            head,
+            &mut desk.table,
+            &mut desk.book,
+            desk.slot,
+            lease_of(desk.cell, desk.serial, desk.lease_boot),
+            Setpoint::Speed(desk.speed),
+        );
+        seen(&reply)
+    }
+
+    #[inline(always)]
+    fn read_version<T>(desk: &mut Desk, seen: impl FnOnce(&Self::Read) -> T) -> T {
+        let head = head_of(desk);
+        let reply = book::read_version(head, &desk.book, desk.slot, desk.version);
+        seen(&reply)
+    }
+
+    #[inline(always)]
     fn next(played: &ScriptReply) -> u32 {
         played.head.next
     }
@@ -300,5 +325,23 @@ impl Side for Plain {
             .to_vec();
         words.extend([kind, one, two]);
         words
+    }
+
+    // A refused call of the book is no case: its number is left out, and so differs from the library's.
+    fn written_words(written: &Self::Written) -> Words {
+        match *written {
+            Ok(Written { version, moved }) => vec![1, version.into(), moved.into(), 0],
+            Err(_) => vec![3, 0, 0, 0],
+        }
+    }
+
+    fn read_words(read: &Self::Read) -> Words {
+        match *read {
+            Ok(Kept { setpoint, version }) => {
+                let (kind, number) = (setpoint.kind().into(), setpoint.number().into());
+                vec![2, version.into(), kind, number]
+            }
+            Err(_) => vec![3, 0, 0, 0],
+        }
     }
 }

@@ -18,11 +18,18 @@ fn head_of(desk: &Desk) -> Head {
     }
 }
 
+#[inline(always)]
+fn lease_of(cell: u32, serial: u32, boot: u32) -> Lease {
+    Lease { cell, serial, boot }
+}
+
 impl Side for Proved {
     type Reply = [u64; raw::REPLY];
     type Played = [u64; raw::REPLY];
     type Crew = [u64; raw::CREW];
     type Salvage = [u64; raw::SALVAGE];
+    type Written = [u64; raw::BOOK];
+    type Read = [u64; raw::BOOK];
 
     #[inline(always)]
     fn prepare<T>(desk: &mut Desk, seen: impl FnOnce(&Self::Reply) -> T) -> T {
@@ -42,11 +49,7 @@ impl Side for Proved {
     #[inline(always)]
     fn drop_lease<T>(desk: &mut Desk, seen: impl FnOnce(&Self::Reply) -> T) -> T {
         let head = head_of(desk);
-        let lease = Lease {
-            cell: desk.cell,
-            serial: desk.serial,
-            boot: desk.lease_boot,
-        };
+        let lease = lease_of(desk.cell, desk.serial, desk.lease_boot);
         lent::drop_lease(head, &mut desk.table, lease, &mut desk.replies.reply);
         seen(&desk.replies.reply)
     }
@@ -200,6 +203,34 @@ impl Side for Proved {
     }
 
     #[inline(always)]
+    fn write_speed<T>(desk: &mut Desk, seen: impl FnOnce(&Self::Written) -> T) -> T {
+        let head = head_of(desk);
+        lent::write_speed(
+            head,
+            &desk.table,
+            &mut desk.book,
+            desk.slot,
+            lease_of(desk.cell, desk.serial, desk.lease_boot),
+            desk.speed,
+            &mut desk.replies.book,
+        );
+        seen(&desk.replies.book)
+    }
+
+    #[inline(always)]
+    fn read_version<T>(desk: &mut Desk, seen: impl FnOnce(&Self::Read) -> T) -> T {
+        let head = head_of(desk);
+        lent::read_version(
+            head,
+            &desk.book,
+            desk.slot,
+            desk.version,
+            &mut desk.replies.book,
+        );
+        seen(&desk.replies.book)
+    }
+
+    #[inline(always)]
     fn next(played: &Self::Played) -> u32 {
         played[2] as u32
     }
@@ -223,5 +254,13 @@ impl Side for Proved {
 
     fn salvage_words(salvage: &Self::Salvage) -> Words {
         salvage.to_vec()
+    }
+
+    fn written_words(written: &Self::Written) -> Words {
+        written.to_vec()
+    }
+
+    fn read_words(read: &Self::Read) -> Words {
+        read.to_vec()
     }
 }

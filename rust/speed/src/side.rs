@@ -3,15 +3,18 @@
 
 use crate::desk::Desk;
 
-/// The words of a reply, as include/skid.h lays them out: 15, of the crew 49, of a salvage 7.
+/// The words of a reply, as include/skid.h lays them out: 15, of the crew 49, of a salvage 7, of the book 4.
 pub type Words = Vec<u64>;
 
 pub trait Side {
-    /// The reply of a call without a script, of a call with one, of the crew, and of a salvage.
+    /// The reply of a call without a script, of a call with one, of the crew, of a salvage, and of the book's write and
+    /// read.
     type Reply;
     type Played;
     type Crew;
     type Salvage;
+    type Written;
+    type Read;
 
     fn prepare<T>(desk: &mut Desk, seen: impl FnOnce(&Self::Reply) -> T) -> T;
     fn drop_lease<T>(desk: &mut Desk, seen: impl FnOnce(&Self::Reply) -> T) -> T;
@@ -25,6 +28,8 @@ pub trait Side {
     fn crew<T>(desk: &mut Desk, seen: impl FnOnce(&Self::Crew) -> T) -> T;
     fn crew_at_work<T>(desk: &mut Desk, seen: impl FnOnce(&Self::Crew) -> T) -> T;
     fn salvage<T>(desk: &mut Desk, seen: impl FnOnce(&Self::Salvage) -> T) -> T;
+    fn write_speed<T>(desk: &mut Desk, seen: impl FnOnce(&Self::Written) -> T) -> T;
+    fn read_version<T>(desk: &mut Desk, seen: impl FnOnce(&Self::Read) -> T) -> T;
 
     /// The next serial.
     fn next(played: &Self::Played) -> u32;
@@ -35,4 +40,6 @@ pub trait Side {
     fn played_words(played: &Self::Played) -> Words;
     fn crew_words(crew: &Self::Crew) -> Words;
     fn salvage_words(salvage: &Self::Salvage) -> Words;
+    fn written_words(written: &Self::Written) -> Words;
+    fn read_words(read: &Self::Read) -> Words;
 }

@@ -287,11 +287,14 @@ pub fn named(made: &Made, number: u64) -> String {
     let why = match name {
         "BadSlot" => super::books::bad_slot(made),
         "NotFinite" => "the pressure is not finite, and is not written".to_string(),
-        "DamagedBook" => format!(
-            "the line or the body of slot {slot} fits no rule, so nothing there can be trusted"
-        ),
+        "DamagedBook" => "a line or a kept body of some slot fits no rule, or two bodies overlap; \
+                          until the book is prepared again, nothing in it can be trusted"
+            .to_string(),
         "VersionsSpent" => format!("slot {slot} is at version 4,294,967,295, the last"),
-        "NeverWritten" => format!("nothing was ever written to slot {slot}, whose version is 0"),
+        "NeverWritten" => super::books::never_written(made),
+        "BookFull" => "the kept settings leave fewer than 5 bytes; nothing is written, and none \
+                       is dropped"
+            .to_string(),
         _ => super::salvages::report_full(made),
     };
     format!("Refused as {name}: {why}.")

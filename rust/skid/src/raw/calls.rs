@@ -80,6 +80,7 @@ macro_rules! for_every_call {
                 head: Head, table: &[u32], book: &mut [u8], slot: u32, lease: Lease, open: bool,
             ) -> BOOK;
             read_setpoint(head: Head, book: &[u8], slot: u32) -> BOOK;
+            read_version(head: Head, book: &[u8], slot: u32, version: u32) -> BOOK;
             write_dump(cells: u32, history: &[u32], text: &mut [u8]) -> WAVE;
             read_dump(text: &[u8], history: &mut [u32]) -> WAVE;
         }
