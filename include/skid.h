@@ -93,9 +93,9 @@ extern "C" {
 
 /*
  * The number of the interface. It rises with every change of a call, of an answer or of a layout, and is a part of the
- * name of a function that the archive has. Whatever includes this header asks for that name, so that a program which was
- * compiled against another interface does not link: "undefined reference to `skid_interface_..'". The function gives the
- * number; nobody need call it.
+ * name of a function that the archive has. Whatever includes this header asks for that name, so that a program which
+ * was compiled against another interface does not link: "undefined reference to `skid_interface_..'". The function
+ * gives the number; nobody need call it.
  */
 #define SKID_INTERFACE 1
 #define SKID_INTERFACE_NAME(number) SKID_INTERFACE_JOINED(number)

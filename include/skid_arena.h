@@ -16,8 +16,8 @@
  *     if (r.code == SKID_TRY_AGAIN) ..                      held, or waited for: come back from your own scheduler
  *
  * Every call that can be refused says so in its result, and a lease, a setting or a count that it hands out is written
- * whether it is refused or not: no lease, no setting, 0. A call looks once. With one caller at a time a held cell cannot
- * come free inside a call, so none of these asks a second time.
+ * whether it is refused or not: no lease, no setting, 0. A call looks once. With one caller at a time a held cell
+ * cannot come free inside a call, so none of these asks a cell of others a second time.
  *
  * A forgotten head, a length in words, two lent runs that overlap, headers and buckets exchanged, a reply read of the
  * call before: none of these can be written through it.
@@ -152,6 +152,12 @@ static inline struct skid_result skid_plain_result(int code, uint32_t carried)
     return x;
 }
 
+/* What these refusals carry is a position. */
+static inline bool skid_carries_position(int code)
+{
+    return code == SKID_BAD_BINDING || code == SKID_NOT_HELD || code == SKID_REPEATED || code == SKID_STALE_BOOT;
+}
+
 static inline struct skid_result skid_result_of(const uint64_t reply[SKID_REPLY_WORDS])
 {
     uint64_t kind = reply[SKID_KIND];
@@ -161,8 +167,10 @@ static inline struct skid_result skid_result_of(const uint64_t reply[SKID_REPLY_
     if (kind == SKID_REFUSED || kind == SKID_REFUSED_AT) {
         x.code = (int)reply[SKID_REFUSAL];
         x.carried = (uint32_t)reply[SKID_CARRIED];
-        x.position = (uint32_t)(kind == SKID_REFUSED_AT ? reply[SKID_POSITION] : 0);
+        x.position = skid_carries_position(x.code) ? x.carried : 0;
     }
+    if (kind == SKID_REFUSED_AT)
+        x.position = (uint32_t)reply[SKID_POSITION];
     x.reason = (uint32_t)reply[SKID_REASON];
     x.reason_serial = (uint32_t)reply[SKID_REASON_SERIAL];
     return x;
@@ -213,8 +221,8 @@ static inline size_t skid_at_most(size_t count, size_t limit)
 
 /*
  * After a power dip: mends the arena by the last head, which was kept on paper. The report says what it changed, and
- * which cells are still held: each is to be confirmed by its owner or given back (skid_left_lease). Refused, nothing has
- * changed, the head before it stays in force, and the report is empty.
+ * which cells are still held: each is to be confirmed by its owner or given back (skid_left_lease). Refused, nothing
+ * has changed, the head before it stays in force, and the report is empty.
  */
 static inline struct skid_result skid_mend(struct skid_arena *a, struct skid_head paper, struct skid_report *report)
 {
@@ -249,8 +257,8 @@ static inline struct skid_lease skid_left_lease(const struct skid_arena *a, uint
 static inline struct skid_result skid_take(struct skid_arena *a, struct skid_key key, struct skid_lease *lease)
 {
     uint64_t reply[SKID_REPLY_WORDS];
-    skid_transactional_try_lock_bucket(SKID_THE_HEAD(a), SKID_THE_TABLE(a), SKID_THE_HEALTH(a), a->registry, a->bindings,
-                                       SKID_NOBODY_ELSE, key.binding, key.bucket, reply);
+    skid_transactional_try_lock_bucket(SKID_THE_HEAD(a), SKID_THE_TABLE(a), SKID_THE_HEALTH(a), a->registry,
+                                       a->bindings, SKID_NOBODY_ELSE, key.binding, key.bucket, reply);
     return skid_kept_lease(a, reply, lease);
 }
 
@@ -262,16 +270,23 @@ static inline struct skid_result skid_take_cell(struct skid_arena *a, uint32_t c
     return skid_kept_lease(a, reply, lease);
 }
 
+/* Whether the head is one of this memory: before skid_open it is not. */
+static inline bool skid_is_open(const struct skid_arena *a)
+{
+    return a->head.headers == a->headers && a->head.buckets == a->buckets && a->head.next != 0;
+}
+
 /*
- * Whether a key's cell would be Busy now, as skid_take finds it: waited for, or else held. A key of no cell, of a poisoned
- * header or of a damaged cell is not Busy; it is for the call to refuse.
+ * Whether a key's cell would be Busy now, as skid_take finds it: waited for, or else held. A key of no cell, of a
+ * poisoned header or of a damaged cell is not Busy, and nothing is in an arena that is not open; these are for the call
+ * to refuse.
  */
 static inline struct skid_result skid_look(const struct skid_arena *a, struct skid_key key)
 {
     struct skid_result x = {SKID_OK, 0, 0, 0, 0};
     const uint32_t *cell;
     uint32_t header = key.binding < a->bindings ? a->registry[key.binding] : a->headers;
-    if (header >= a->headers || key.bucket >= a->buckets || a->health[header] != 0)
+    if (!skid_is_open(a) || header >= a->headers || key.bucket >= a->buckets || a->health[header] != 0)
         return x;
     cell = a->table + (size_t)SKID_CELL_WORDS * (header * a->buckets + key.bucket);
     if (cell[2] != 0) {
@@ -306,8 +321,8 @@ static inline void skid_no_leases(struct skid_lease *leases, size_t count)
 }
 
 /*
- * All keys or none, at most 64, in any order: cells are taken in rising order, so that callers who take all they need at
- * once never wait for one another in a circle. leases[i] is that of keys[i]; keys of one cell share one lease, and
+ * All keys or none, at most 64, in any order: cells are taken in rising order, so that callers who take all they need
+ * at once never wait for one another in a circle. leases[i] is that of keys[i]; keys of one cell share one lease, and
  * skid_give_all gives it back once. SKID_TRY_AGAIN with the position of the first key whose cell is held or waited for:
  * that is looked for first, since the library's own call would ask such a cell 4,096 times.
  */
@@ -327,8 +342,8 @@ static inline struct skid_result skid_take_all(struct skid_arena *a, const struc
 }
 
 /*
- * All keys or none, in the order given. Who uses it sees to it that nobody waits in a circle. Two keys of one cell cannot
- * both be granted: SKID_SERIALIZATION_FAILURE, after the library's 4,096 attempts.
+ * All keys or none, in the order given. Who uses it sees to it that nobody waits in a circle. Two keys of one cell
+ * cannot both be granted: SKID_SERIALIZATION_FAILURE, after the library's 4,096 attempts.
  */
 static inline struct skid_result skid_take_in_order(struct skid_arena *a, const struct skid_key *keys, size_t count,
                                                     struct skid_lease *leases)
@@ -353,16 +368,13 @@ static inline struct skid_result skid_give(struct skid_arena *a, struct skid_lea
     return skid_kept(a, reply);
 }
 
-/* A list of leases released. What a refusal carries is the position in it. */
+/* A list of leases released. */
 static inline struct skid_result skid_released(struct skid_arena *a, const struct skid_lease *leases, size_t count)
 {
     uint64_t reply[SKID_REPLY_WORDS];
-    struct skid_result x;
     skid_release_all(SKID_THE_HEAD(a), SKID_THE_TABLE(a), SKID_THE_HEALTH(a), NULL, 0, 0,
                      (const uint32_t *)(const void *)leases, SKID_LEASE_WORDS * count, reply);
-    x = skid_kept(a, reply);
-    x.position = x.carried;
-    return x;
+    return skid_kept(a, reply);
 }
 
 /* Whether leases[at] stands there for the first time. */
@@ -390,14 +402,14 @@ static inline struct skid_result skid_released_once(struct skid_arena *a, const 
         position[kept++] = i;
     }
     x = skid_released(a, once, kept);
-    if (x.code != SKID_OK && x.position < kept)
+    if (skid_carries_position(x.code) && x.position < kept)
         x.carried = x.position = position[x.position];
     return x;
 }
 
 /*
- * All leases of a list, at most 64, or, if one is refused, none. A lease that stands in it twice, as skid_take_all leaves
- * it for two keys of one cell, is given back once. A refusal has the position in the list.
+ * All leases of a list, at most 64, or, if one is refused, none. A lease that stands in it twice, as skid_take_all
+ * leaves it for two keys of one cell, is given back once. A refusal has the position in the list.
  */
 static inline struct skid_result skid_give_all(struct skid_arena *a, const struct skid_lease *leases, size_t count)
 {
@@ -430,12 +442,14 @@ static inline struct skid_result skid_one_step(struct skid_arena *a, uint32_t ki
 /* No cell of a poisoned header is granted until it is healed. A header that is not there is SKID_BAD_HEADER. */
 static inline struct skid_result skid_poison(struct skid_arena *a, uint32_t header)
 {
-    return header < a->headers ? skid_one_step(a, SKID_STEP_HEALTH, header, 1) : skid_plain_result(SKID_BAD_HEADER, header);
+    return header < a->headers ? skid_one_step(a, SKID_STEP_HEALTH, header, 1)
+                               : skid_plain_result(SKID_BAD_HEADER, header);
 }
 
 static inline struct skid_result skid_heal(struct skid_arena *a, uint32_t header)
 {
-    return header < a->headers ? skid_one_step(a, SKID_STEP_HEALTH, header, 0) : skid_plain_result(SKID_BAD_HEADER, header);
+    return header < a->headers ? skid_one_step(a, SKID_STEP_HEALTH, header, 0)
+                               : skid_plain_result(SKID_BAD_HEADER, header);
 }
 
 /* A cell with waiters other than 0 is not granted. A cell that is not there is SKID_INVALID_BUCKET. */
@@ -453,8 +467,8 @@ struct skid_book {
 };
 
 /*
- * Memory of a book that is never full, SKID_BOOK_MEMORY(name, slots(12)), as a struct type; SKID_BOOK(book, memory) is the
- * book over such memory. It has room for the four newest settings of every slot.
+ * Memory of a book that is never full, SKID_BOOK_MEMORY(name, slots(12)), as a struct type; SKID_BOOK(book, memory) is
+ * the book over such memory. It has room for the four newest settings of every slot.
  */
 #define SKID_FIRST_slots(n) (n)
 #define SKID_BOOK_MEMORY(name, N) SKID_BOOK_MEMORY_OF(name, SKID_FIRST_##N)
@@ -513,8 +527,8 @@ static inline struct skid_result skid_book_open(const struct skid_arena *a, cons
 }
 
 /*
- * The slot is the lease's own cell: who holds the valve sets the valve. A pressure is given as the 32 bits of its f32; a
- * NaN's and an infinity's are SKID_NOT_FINITE.
+ * The slot is the lease's own cell: who holds the valve sets the valve. A pressure is given as the 32 bits of its f32;
+ * a NaN's and an infinity's are SKID_NOT_FINITE.
  */
 static inline struct skid_result skid_set_pressure_bits(const struct skid_arena *a, const struct skid_book *book,
                                                         struct skid_lease lease, uint32_t bits,
@@ -564,7 +578,7 @@ static inline struct skid_result skid_book_read_version(const struct skid_arena 
 
 /* ---- pressures as floats, only where the compiler may use them: there is no such function without SSE */
 
-#if defined(__SSE__) && !defined(SKID_NO_FLOAT)
+#if defined(__SSE__)
 SKID_FITS(skid_float, sizeof(float) == sizeof(uint32_t), "a float is a binary32");
 
 static inline uint32_t skid_bits_of(float bar)

@@ -1,7 +1,7 @@
 /*
- * A governor, a panel and a logger through include/skid_arena.h, over cold RAM of ten seeds: opening, keys, contention, all
- * keys at once, the book with its slides and versions, health and waiters, a dip and its salvage, leases of the boot
- * before. Each figure is checked; the last line says how many were.
+ * A governor, a panel and a logger through include/skid_arena.h, over cold RAM of ten seeds: opening, keys, contention,
+ * all keys at once, the book with its slides and versions, health and waiters, a dip and its salvage, leases of the
+ * boot before. Each figure is checked; the last line says how many were.
  */
 #include "skid_arena.h"
 
@@ -120,12 +120,19 @@ static void cold_ram(void)
 static void opening(uint32_t boot)
 {
     struct skid_lease lease = unset;
-    struct skid_head none = {0, 0, 0, 0};
+    const struct skid_head none = {0, 0, 0, 0};
+    const struct skid_key key = {0, 1};
     uint32_t cell;
     plant.head = none;
     cold_ram();
     REFUSED(skid_take_cell(&plant, 1, &lease), SKID_BAD_SHAPE, 0);
     NO_LEASE(lease);
+    memory.health[0] = 0;
+    memory.table[5] = 1; /* somebody seems to wait for cell 1 */
+    REFUSED(skid_take_all(&plant, &key, 1, &lease), SKID_BAD_SHAPE, 0);
+    REFUSED(skid_give_all(&plant, &lease, 1), SKID_BAD_SHAPE, 0);
+    REFUSED(skid_poison(&plant, 0), SKID_BAD_SHAPE, 0);
+    REFUSED(skid_book_open(&plant, &book), SKID_BAD_SHAPE, 0);
     CHECK(plant.head.headers, 0);
     OK(skid_open(&plant, boot));
     CHECK(plant.head.headers, HEADERS);
@@ -227,7 +234,7 @@ static void all_keys_refused(void)
     BUSY(skid_take_in_order(&plant, keys, 2, leases), 1, SKID_REASON_HELD, 3);
     NO_LEASE(leases[1]);
     keys[1] = key_of(5, 0);
-    REFUSED(skid_take_all(&plant, keys, 2, leases), SKID_BAD_BINDING, 1);
+    REFUSED_AT(skid_take_all(&plant, keys, 2, leases), SKID_BAD_BINDING, 1, 1);
     keys[1] = key_of(4, 0);
     REFUSED_AT(skid_take_all(&plant, keys, 2, leases), SKID_BAD_HEADER, 7, 1);
     keys[1] = key_of(0, 9);
@@ -377,8 +384,8 @@ static void book_written(struct skid_lease panel, struct skid_lease given_back)
 }
 
 /*
- * A setting of the logger's in front, then 100 of the panel's. Twelve slots have room for 48 bodies; where it is used up,
- * the panel's three that stay slide behind the logger's one, 15 bytes, and 44 more writes find room.
+ * A setting of the logger's in front, then 100 of the panel's. Twelve slots have room for 48 bodies; where it is used
+ * up, the panel's three that stay slide behind the logger's one, 15 bytes, and with that write 44 find room.
  */
 static void book_slides(struct skid_lease panel, struct skid_lease logger)
 {
