@@ -1,13 +1,22 @@
 /*
  * The lease layer of the skid kernel: the calls of document 01, and of document 02 the setpoint book (L2, L10), keys
  * in any order (L4), salvage (L6), the boot number of a lease (L8), the waveform of the cells (L11) and the crew at
- * work (L13), for C.
+ * work (L13), for C. skid_arena.h is over it, and keeps head, runs and registry together; most programs want that.
  *
  * Link with libskid.a (`rt staticlib skid` writes target/staticlib/libskid.a). The archive is code for x86-64, by the
  * calling convention of Linux there (System V). It asks the host for memcpy and memset, and for nothing else. It has
- * no data of its own that changes, no heap and no thread. As that convention allows, it uses the SSE registers and the
- * 128 bytes below the stack pointer; a kernel that calls it where it saves neither must see to both. A write of the
- * setpoint book needs the most stack of its calls, 26,552 bytes as measured; a read 6,664.
+ * no data of its own that changes, no heap and no thread.
+ *
+ * What a kernel must know of that convention (docs/INTEGRATION.md lists the functions, read from the archive's code):
+ * - The stack pointer is a multiple of 16 where a call is made, 8 more inside. On another stack an aligned SSE store
+ *   faults. A task's first stack, and an interrupt that calls in, must be made so.
+ * - The SSE registers are used, and none is kept over a call. They must be switched on (CR0.EM clear, CR4.OSFXSR set),
+ *   and who takes the processor from a task inside a call must save them.
+ * - The 128 bytes below the stack pointer (the red zone) are used. An interrupt must not write there: give it a stack
+ *   of its own (interrupt stack table), or make the calls with interrupts off.
+ * - A write of the setpoint book needs the most stack of all calls, 26,552 bytes as measured; a read 6,664.
+ * No float crosses: a pressure goes in and comes out as the 32 bits of its binary32. So the calls are the same for a
+ * program that is compiled without SSE (-mgeneral-regs-only, -mno-sse).
  *
  * Each function is a call of these documents and is proved to give what they say, refusals included: the reply's words
  * and every word of every lent run are fixed, whatever the numbers and the lent words are.
@@ -83,6 +92,27 @@ extern "C" {
 
 /* The version of header and library together; CHANGELOG.md says what came with which. */
 #define SKID_VERSION "0.17.0"
+
+/*
+ * The number of the interface. It rises with every change of a call, of an answer or of a layout, and is a part of the
+ * name of a function that the archive has. Whatever includes this header asks for that name, so that a program which
+ * was compiled against another interface does not link: "undefined reference to `skid_interface_..'". The function
+ * gives the number; nobody need call it.
+ */
+#define SKID_INTERFACE 1
+#define SKID_INTERFACE_NAME(number) SKID_INTERFACE_JOINED(number)
+#define SKID_INTERFACE_JOINED(number) skid_interface_##number
+uint32_t SKID_INTERFACE_NAME(SKID_INTERFACE)(void);
+#if defined(__has_attribute)
+#if __has_attribute(retain)
+__attribute__((used, retain))
+#else
+__attribute__((used))
+#endif
+#elif defined(__GNUC__)
+__attribute__((used))
+#endif
+static uint32_t (*const skid_interface_asked)(void) = SKID_INTERFACE_NAME(SKID_INTERFACE);
 
 /* ---- limits */
 
@@ -482,13 +512,14 @@ void skid_prepare_book(uint32_t headers, uint32_t buckets, uint32_t next, uint32
 
 /*
  * Writes a pressure in bar to a slot, by a live lease on the slot's cell: written, with the slot's new version, one
- * more than its last, and the bytes moved. Every other version that is kept reads as before. Refused, in this order:
- * SKID_BAD_SHAPE, SKID_BAD_SLOT, SKID_STALE_BOOT, SKID_NOT_HELD, SKID_NOT_FINITE, SKID_DAMAGED_BOOK,
- * SKID_VERSIONS_SPENT, SKID_BOOK_FULL.
+ * more than its last, and the bytes moved. `bits` are the 32 bits of the binary32 (1.5 bar is 0x3fc00000). Every other
+ * version that is kept reads as before. Refused, in this order: SKID_BAD_SHAPE, SKID_BAD_SLOT, SKID_STALE_BOOT,
+ * SKID_NOT_HELD, SKID_NOT_FINITE (the bits are a NaN's or an infinity's), SKID_DAMAGED_BOOK, SKID_VERSIONS_SPENT,
+ * SKID_BOOK_FULL.
  */
 void skid_write_pressure(uint32_t headers, uint32_t buckets, uint32_t next, uint32_t boot, const uint32_t *table,
                          size_t table_len, uint8_t *book, size_t book_len, uint32_t slot, uint32_t cell,
-                         uint32_t serial, uint32_t lease_boot, float bar, uint64_t reply[SKID_BOOK_WORDS]);
+                         uint32_t serial, uint32_t lease_boot, uint32_t bits, uint64_t reply[SKID_BOOK_WORDS]);
 
 /* The same with a speed; never SKID_NOT_FINITE. */
 void skid_write_speed(uint32_t headers, uint32_t buckets, uint32_t next, uint32_t boot, const uint32_t *table,

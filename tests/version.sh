@@ -1,6 +1,7 @@
 #!/bin/bash
 # One version. The top entry of CHANGELOG.md says it; include/skid.h (SKID_VERSION), rust/skid/Cargo.toml (and so skid::VERSION) and
-# rust/Cargo.lock, which names rust/skid, say the same.
+# rust/Cargo.lock, which names rust/skid, say the same. One interface too: include/skid.h (SKID_INTERFACE) and rust/skid ask for the
+# name that crates/skid exports. Its number rises with every change of a call, of an answer or of a layout.
 # `bash tests/version.sh write` carries the changelog's version to the other three. Then, and without a word, it compares: it prints the
 # version, or where another one stands, and ends with 1 if there is one.
 cd "$(dirname "$0")/.." || exit 1
@@ -23,5 +24,19 @@ same() {
 same include/skid.h "$(sed -n 's/^#define SKID_VERSION "\(.*\)"$/\1/p' include/skid.h)"
 same rust/skid/Cargo.toml "$(sed -n 's/^version = "\(.*\)"$/\1/p' rust/skid/Cargo.toml)"
 same rust/Cargo.lock "$(sed -n '/^name = "skid"$/{n;s/^version = "\(.*\)"$/\1/p}' rust/Cargo.lock)"
-[ "$wrong" = 0 ] && echo "version $version in the changelog, the header and the Rust crate"
+
+# the_interface FILE: the number in the one name skid_interface_N that a file has; what it has, if there is no such one
+the_interface() {
+    grep -oE 'skid_interface_[0-9]+' "$1" | sort -u | sed 's/^skid_interface_//' | tr '\n' ' ' | sed 's/ $//'
+}
+interface=$(the_interface crates/skid/src/lib.rt)
+asked() {
+    [ "$2" = "$interface" ] && return
+    echo "$1 asks for interface ${2:-nothing}, crates/skid has $interface"
+    wrong=1
+}
+[[ $interface =~ ^[0-9]+$ ]] || { echo "crates/skid: not one interface: $interface"; wrong=1; }
+asked include/skid.h "$(sed -n 's/^#define SKID_INTERFACE \([0-9]*\)$/\1/p' include/skid.h)"
+asked rust/skid "$(the_interface rust/skid/src/raw.rs)"
+[ "$wrong" = 0 ] && echo "version $version in the changelog, the header and the Rust crate; interface $interface in all three of the library"
 exit "$wrong"

@@ -997,7 +997,7 @@ static float pressure(uint32_t bits) {
 }
 
 static void write_pressure(uint32_t slot, uint32_t cell, uint32_t serial, uint32_t bits) {
-    skid_write_pressure(HEAD, TABLE, BOOK, slot, cell, serial, BOOT, pressure(bits), blank_book());
+    skid_write_pressure(HEAD, TABLE, BOOK, slot, cell, serial, BOOT, bits, blank_book());
 }
 
 static void read_slot(uint32_t slot) { skid_read_setpoint(HEAD, BOOK, slot, blank_book()); }
@@ -1062,7 +1062,7 @@ static void written(void) {
     static const uint8_t body[5] = {1, 0, 0, 192, 63}, line[8] = {0, 1, 5, 0, 1, 0, 0, 0};
     name("the governor writes 1.5 bar");
     open_book(ROOMY);
-    skid_write_pressure(HEAD, TABLE, BOOK, 2, 2, 1, BOOT, 1.5f, blank_book());
+    skid_write_pressure(HEAD, TABLE, BOOK, 2, 2, 1, BOOT, 0x3fc00000u, blank_book());
     done_write(1, 0);
     check("line", memcmp(book.bytes + 64, line, 8) == 0, 1);
     check("body", memcmp(book.bytes + FRONT, body, 5) == 0, 1);
@@ -1111,13 +1111,13 @@ static void not_written(void) {
     write_pressure(2, 2, 1, 0x3fc00000u);
     book.bytes[FRONT] = 4; /* slot 2's body is damaged */
     memcpy(before, book.bytes, sizeof before);
-    skid_write_pressure(HEAD, table.words, 23, BOOK, 8, 2, 7, BOOT - 1, pressure(0x7fc00000u), blank_book());
+    skid_write_pressure(HEAD, table.words, 23, BOOK, 8, 2, 7, BOOT - 1, 0x7fc00000u, blank_book());
     no_setting(SKID_BAD_SHAPE);
     write_pressure(8, 2, 7, 0x7fc00000u);
     no_setting(SKID_BAD_SLOT);
-    skid_write_pressure(HEAD, TABLE, book.bytes, FRONT - 1, 2, 2, 7, BOOT - 1, pressure(0x7fc00000u), blank_book());
+    skid_write_pressure(HEAD, TABLE, book.bytes, FRONT - 1, 2, 2, 7, BOOT - 1, 0x7fc00000u, blank_book());
     no_setting(SKID_BAD_SLOT);
-    skid_write_pressure(HEAD, TABLE, BOOK, 2, 2, 7, BOOT - 1, pressure(0x7fc00000u), blank_book());
+    skid_write_pressure(HEAD, TABLE, BOOK, 2, 2, 7, BOOT - 1, 0x7fc00000u, blank_book());
     no_setting(SKID_STALE_BOOT);
     skid_write_speed(HEAD, TABLE, BOOK, 2, 2, 1, BOOT - 1, 7, blank_book());
     no_setting(SKID_STALE_BOOT);

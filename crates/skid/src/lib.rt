@@ -6,6 +6,7 @@ use setpoint::Setpoint;
 use types::Head;
 use types::Lease;
 ghost use mathlib.Core.Path.{_≡_};
+ghost use lib.Ieee.{binary32, ofBits};
 ghost use Rattle.model.specs.Arena.{headOf, leaseOf};
 ghost use Rattle.model.specs.Calls.{prepareOf, tryAcquireOf, dropLeaseOf, readPermissionOf, competingAcquireOf};
 ghost use Rattle.model.specs.Calls.{releaseThenHandoffOf, foreignReleaseOf, acquirePreservingOf, dropPreservingOf};
@@ -19,6 +20,15 @@ ghost use Rattle.slots.specs.Calls.{prepareBookOf, writeSetpointOf, readSetpoin
 ghost use Rattle.wave.specs.Calls.{writeOf, readIntoOf};
 ghost use Rattle.layout.specs.Words.{replyWords, playedWords, crewWords, salvageWords, bookWords, dumpedWords};
 ghost use Rattle.layout.specs.Words.{undumpedWords, told};
+
+// The number of this interface, which is a part of the name: a program asks for the name that it was compiled with, and
+// with another interface it does not link. The number rises with every change of a call, of an answer or of a layout.
+#[no_mangle]
+pub extern "C" fn skid_interface_1() -> u32
+    ensures { λ r. ⌜ r ≡ 1 ⌝ }
+{
+    1
+}
 
 // ---- preparing
 
@@ -737,8 +747,23 @@ pub extern "C" fn skid_prepare_book(
     *reply = words::book_words(r);
 }
 
+// The pressure with this pattern. The language makes no float of a NaN's pattern; it has one NaN, which is what
+// infinity less infinity is.
+fn pressure(bits: u32) -> Setpoint
+    ensures { λ r. ⌜ r ≡ Pressure (ofBits binary32 bits) ⌝ }
+{
+    if 0x7f80_0000 < bits % 0x8000_0000 {
+        let top = f32::from_bits(0x7f80_0000);
+        return Setpoint::Pressure(top - top);
+    }
+    let x = f32::from_bits(bits);
+    Setpoint::Pressure(x)
+}
+
 // A lease with another boot number is 16, before 12; a pressure that is not finite is NotFinite. The table is only
-// read, and a refusal changes no byte. Each sort of setpoint has a call of its own, so that no wrong kind can cross.
+// read, and a refusal changes no byte. Each sort of setpoint has a call of its own, so that no wrong kind can cross. A
+// pressure crosses as the 32 bits of its f32: where a program is compiled without SSE registers, a float would be
+// passed on the stack, and every argument behind it read wrongly.
 #[no_mangle]
 pub extern "C" fn skid_write_pressure(
     headers: u32,
@@ -751,12 +776,12 @@ pub extern "C" fn skid_write_pressure(
     cell: u32,
     serial: u32,
     lease_boot: u32,
-    bar: f32,
+    bits: u32,
     reply: &mut [u64; 4],
 )
     ensures { λ _. ⌜ (now (reply .exit), now (book .exit))
         ≡ told bookWords (writeSetpointOf (headOf headers buckets next boot) (now (table .entry))
-        (now (book .entry)) slot (leaseOf cell serial «lease_boot») (Pressure bar)) ⌝ }
+        (now (book .entry)) slot (leaseOf cell serial «lease_boot») (Pressure (ofBits binary32 bits))) ⌝ }
 {
     let head = Head {
         headers,
@@ -769,7 +794,8 @@ pub extern "C" fn skid_write_pressure(
         serial,
         boot: lease_boot,
     };
-    let r = book::write_setpoint(head, table, book, slot, lease, Setpoint::Pressure(bar));
+    let setpoint = pressure(bits);
+    let r = book::write_setpoint(head, table, book, slot, lease, setpoint);
     *reply = words::book_words(r);
 }
 

@@ -114,7 +114,7 @@ macro_rules! for_every_call {
             ) -> SalvageReply;
             prepare_book(head: Head, book: &mut [u8]) -> BookReply;
             write_pressure(
-                head: Head, table: &[u32], book: &mut [u8], slot: u32, lease: Lease, bar: f32,
+                head: Head, table: &[u32], book: &mut [u8], slot: u32, lease: Lease, bits: u32,
             ) -> BookReply;
             write_speed(
                 head: Head, table: &[u32], book: &mut [u8], slot: u32, lease: Lease, speed: u32,

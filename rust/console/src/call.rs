@@ -182,7 +182,7 @@ impl Desk {
             _ => return None,
         };
         Some(match (kind, value) {
-            (1, bits) => build.write_pressure(head, table, book, slot, lease, f32::from_bits(bits)),
+            (1, bits) => build.write_pressure(head, table, book, slot, lease, bits),
             (2, speed) => build.write_speed(head, table, book, slot, lease, speed),
             (3, 0 | 1) => build.write_valve(head, table, book, slot, lease, value == 1),
             // a valve other than 0 and 1 is not understood

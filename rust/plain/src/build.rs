@@ -405,8 +405,9 @@ impl Build for Plain {
         book: &mut [u8],
         slot: u32,
         lease: Lease,
-        bar: f32,
+        bits: u32,
     ) -> BookReply {
+        let bar = f32::from_bits(bits);
         write_setpoint(head, table, book, slot, lease, Setpoint::Pressure(bar))
     }
 

@@ -131,7 +131,9 @@ impl Arena<'_> {
     ) -> BookAnswer {
         let (head, table) = (self.head, &*self.table);
         let words = match setpoint {
-            Setpoint::Pressure(bar) => raw::write_pressure(head, table, book, slot, lease, bar),
+            Setpoint::Pressure(bar) => {
+                raw::write_pressure(head, table, book, slot, lease, bar.to_bits())
+            }
             Setpoint::Speed(speed) => raw::write_speed(head, table, book, slot, lease, speed),
             Setpoint::Valve(open) => raw::write_valve(head, table, book, slot, lease, open),
         };

@@ -15,9 +15,11 @@
 //! let (mut table, mut health) = ([0u32; 24], [0u8; 2]);
 //! let mut arena = Arena::prepare(2, 4, 1, 1, &mut table, &mut health).unwrap();
 //! let key = Key { binding: 0, bucket: 2 };
-//! let played = arena.acquire_index_bucket(&[0, 1, 1], &mut Script::quiet(), &[], key);
-//! if let Answer::Granted(lease) = played.answer {
-//!     assert_eq!(arena.drop_lease(lease).answer, Answer::Done);
+//! let played = arena.transactional_try_lock_bucket(&[0, 1, 1], &mut Script::quiet(), &[], key);
+//! match played.answer {
+//!     Answer::Granted(lease) => assert_eq!(arena.drop_lease(lease).answer, Answer::Done),
+//!     Answer::Busy(reason) => println!("{reason:?}: come back from the scheduler"),
+//!     refused => println!("{refused:?}"),
 //! }
 //! ```
 //!
@@ -25,6 +27,18 @@
 //!
 //! `rt staticlib skid` writes `target/staticlib/libskid.a`. The build looks there, or in the folder that the environment
 //! variable `SKID_LIB_DIR` names. The archive is x86-64 code.
+//!
+//! # What a kernel must know
+//!
+//! The archive keeps to the calling convention of Linux on x86-64 (System V). The stack is aligned to 16 bytes where a
+//! call is made; on another one an aligned SSE store faults. The SSE registers are used and must be switched on; who takes
+//! the processor from a task inside a call saves them. The 128 bytes below the stack pointer (the red zone) are used, so
+//! an interrupt needs a stack of its own, or the calls are made with interrupts off. No float crosses to the library: a
+//! pressure goes as its 32 bits. docs/INTEGRATION.md lists which call uses what.
+//!
+//! With one caller at a time a cell that is held cannot come free inside a call. So a kernel asks once
+//! ([`Arena::transactional_try_lock_bucket`]) and comes back from its own scheduler; [`Arena::acquire_index_bucket`]
+//! would ask 4,096 times.
 //!
 //! # What the caller must see to
 //!

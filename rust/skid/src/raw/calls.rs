@@ -71,7 +71,7 @@ macro_rules! for_every_call {
             ) -> SALVAGE;
             prepare_book(head: Head, book: &mut [u8]) -> BOOK;
             write_pressure(
-                head: Head, table: &[u32], book: &mut [u8], slot: u32, lease: Lease, bar: f32,
+                head: Head, table: &[u32], book: &mut [u8], slot: u32, lease: Lease, bits: u32,
             ) -> BOOK;
             write_speed(
                 head: Head, table: &[u32], book: &mut [u8], slot: u32, lease: Lease, speed: u32,
