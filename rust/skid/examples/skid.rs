@@ -361,34 +361,107 @@ fn next_boot(arena: &mut Arena, book: &mut Book, panel: skid::Lease) {
     check!(book.read(arena, 6).unwrap().setpoint, Setpoint::Speed(1100));
 }
 
-/// Whose cell it is, kept beside the arena; a guard for each of the three.
-fn at_work(chance: &mut Chance, arena: &RefCell<Arena>) {
-    let mut guards = [const { None }; 3];
-    let mut notes = [None; CELLS];
-    for _ in 0..2000 {
-        let who = chance.below(3) as usize;
-        let (binding, bucket) = (chance.below(4), chance.below(4));
-        let cell = (REGISTRY[binding as usize] * 4 + bucket) as usize;
-        guards[who] = match guards[who].take() {
-            Some(guard) => {
-                let mine: &Guard<_> = &guard;
-                check!(notes[mine.lease().cell() as usize], Some(who));
-                notes[mine.lease().cell() as usize] = None;
-                None
-            }
-            None => Guard::take(arena, key(binding, bucket)).ok(),
-        };
-        let noted = guards[who]
-            .as_ref()
-            .map(|mine| mine.lease().cell() as usize);
-        check!(noted.is_some_and(|mine| mine != cell), false);
-        if let Some(mine) = noted {
-            check!(notes[mine], None);
-            notes[mine] = Some(who);
-        }
-        let taken = notes.iter().flatten().count();
-        check!(arena.with(|arena| held(arena)), taken);
+/// Who holds each cell and its version in the book, as a referee notes them beside the arena.
+#[derive(Default)]
+struct Notes {
+    holders: [Option<usize>; CELLS],
+    versions: [u32; CELLS],
+    grants: u32,
+}
+
+/// One of the three: takes one to three keys that it draws, which must be Busy exactly if one of them is held.
+fn begins(chance: &mut Chance, arena: &mut Arena, notes: &mut Notes, who: usize) -> Vec<Lease> {
+    let count = 1 + chance.below(3);
+    let keys = [(); 3].map(|()| key(chance.below(4), chance.below(4)));
+    let cell = |key: &Key| (REGISTRY[key.binding as usize] * 4 + key.bucket) as usize;
+    let (asked, [one, two, three]) = (&keys[..count as usize], keys);
+    let waits = asked.iter().any(|key| notes.holders[cell(key)].is_some());
+    let taken: Result<Vec<_>, _> = match count {
+        1 => arena.take(one).map(|lease| vec![lease]),
+        2 => arena
+            .take_all([one, two])
+            .map(|grants| grants.into_leases().collect()),
+        _ => arena
+            .take_all([one, two, three])
+            .map(|grants| grants.into_leases().collect()),
+    };
+    check!(taken.as_ref().is_err_and(|error| error.is_busy()), waits);
+    check!(taken.is_ok(), !waits);
+    let leases = taken.unwrap_or_default();
+    for lease in &leases {
+        check!(notes.holders[lease.cell() as usize].replace(who), None);
+        notes.grants += 1;
     }
+    leases
+}
+
+fn works(arena: &Arena, book: &mut Book, notes: &mut Notes, lease: &Lease, setpoint: Setpoint) {
+    check!(arena.read_permission(lease), Ok(lease.cell()));
+    let version = &mut notes.versions[lease.cell() as usize];
+    *version += 1;
+    check!(
+        book.write(arena, lease, setpoint)
+            .map(|written| written.version),
+        Ok(*version)
+    );
+    check!(
+        book.read(arena, lease.cell()).map(|newest| newest.setpoint),
+        Ok(setpoint)
+    );
+}
+
+fn ends(arena: &mut Arena, notes: &mut Notes, leases: &mut Vec<Lease>) {
+    for lease in leases.drain(..) {
+        notes.holders[lease.cell() as usize] = None;
+        check!(arena.give(lease), Ok(()));
+    }
+}
+
+/// The three at work by chance.
+fn shift(chance: &mut Chance, arena: &mut Arena, book: &mut Book) {
+    let mut notes = Notes::default();
+    let mut workers = [const { Vec::new() }; 3];
+    for turn in 0..3000 {
+        let leases: &mut Vec<Lease> = &mut workers[turn % 3];
+        let at = chance.below(leases.len().max(1) as u32) as usize;
+        match leases.get(at) {
+            None => *leases = begins(chance, arena, &mut notes, turn % 3),
+            Some(_) if chance.below(3) == 0 => ends(arena, &mut notes, leases),
+            Some(lease) => works(
+                arena,
+                book,
+                &mut notes,
+                lease,
+                Setpoint::Speed(chance.below(9000)),
+            ),
+        }
+        check!(held(arena), notes.holders.iter().flatten().count());
+    }
+    for leases in &mut workers {
+        ends(arena, &mut notes, leases);
+    }
+    check!((held(arena), arena.head().next), (0, 1 + notes.grants));
+    check!(notes.grants > 100, true);
+}
+
+/// A cell goes back when its guard goes, and stays with who keeps the lease.
+fn guards(arena: &RefCell<Arena>) {
+    let held_now = || arena.with(|arena| held(arena));
+    {
+        let first = Guard::take(arena, key(0, 0)).unwrap();
+        let second = Guard::take(arena, key(0, 1)).unwrap();
+        check!((first.lease().cell(), second.lease().cell()), (0, 1));
+        check!(
+            Guard::take(arena, key(0, 0)).is_err_and(|error| error.is_busy()),
+            true
+        );
+        check!(held_now(), 2);
+    }
+    check!(held_now(), 0);
+    let kept = Guard::take(arena, key(0, 0)).unwrap().keep();
+    check!(held_now(), 1);
+    drop(Guard::of(arena, kept));
+    check!(held_now(), 0);
 }
 
 fn one_seed(seed: u32) {
@@ -415,7 +488,9 @@ fn one_seed(seed: u32) {
     check!(salvaged(&mut memory, paper, panel), paper);
     let mut arena = Arena::open(&mut memory, &REGISTRY, boot + 1);
     next_boot(&mut arena, &mut Book::resume(&mut pages), panel);
-    at_work(chance, &RefCell::new(arena));
+    let mut book = Book::open(&arena, &mut pages).unwrap();
+    shift(chance, &mut arena, &mut book);
+    guards(&RefCell::new(arena));
 }
 
 fn main() {

@@ -9,6 +9,8 @@ mod guard;
 mod lease;
 mod memory;
 mod salvage;
+#[cfg(test)]
+mod tests;
 
 pub use crate::{BookRefusal, Change, Head, Key, Reason, Refusal, SalvageRefusal, Setpoint};
 pub use arena::{Arena, Cell, State, TakeError};

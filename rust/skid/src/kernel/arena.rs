@@ -38,6 +38,22 @@ impl TakeError {
             TakeError::Refused { refusal, .. } => Some(refusal),
         }
     }
+
+    /// The refusal's number; Busy has none.
+    pub const fn number(self) -> Option<u32> {
+        match self {
+            TakeError::Busy { .. } => None,
+            TakeError::Refused { refusal, .. } => Some(refusal.number()),
+        }
+    }
+
+    /// The refusal's name, or Busy.
+    pub const fn name(self) -> &'static str {
+        match self {
+            TakeError::Busy { .. } => "Busy",
+            TakeError::Refused { refusal, .. } => refusal.name(),
+        }
+    }
 }
 
 impl Display for TakeError {
@@ -51,7 +67,14 @@ impl Display for TakeError {
     }
 }
 
-impl Error for TakeError {}
+impl Error for TakeError {
+    fn source(&self) -> Option<&(dyn Error + 'static)> {
+        match self {
+            TakeError::Busy { .. } => None,
+            TakeError::Refused { refusal, .. } => Some(refusal),
+        }
+    }
+}
 
 /// What a cell's words say.
 #[derive(Clone, Copy, Debug, PartialEq, Eq, Hash)]
