@@ -268,6 +268,9 @@ fn book_written(arena: &Arena, book: &mut Book, panel: &Lease) {
     );
     let kept: Vec<_> = book.history(arena, 6).map(|kept| kept.setpoint).collect();
     check!(kept, settings[1..]);
+}
+
+fn book_refused(arena: &Arena, book: &mut Book, panel: &Lease) {
     for bar in [f32::NAN, f32::NEG_INFINITY] {
         let setpoint = Setpoint::Pressure(bar);
         check!(
@@ -281,7 +284,7 @@ fn book_written(arena: &Arena, book: &mut Book, panel: &Lease) {
         boot: panel.boot(),
     });
     check!(
-        book.write(arena, &never, settings[1]),
+        book.write(arena, &never, Setpoint::Speed(1)),
         Err(BookRefusal::NotHeld)
     );
     check!(book.read(arena, 12), Err(BookRefusal::BadSlot));
@@ -444,8 +447,9 @@ fn shift(chance: &mut Chance, arena: &mut Arena, book: &mut Book) {
     check!(notes.grants > 100, true);
 }
 
-/// A cell goes back when its guard goes, and stays with who keeps the lease.
-fn guards(arena: &RefCell<Arena>) {
+/// A cell goes back when its guard goes, and stays with who keeps the lease. A guard from before a preparation gives
+/// nothing back that is another's.
+fn guards(arena: &RefCell<Arena>, boot: u32) {
     let held_now = || arena.with(|arena| held(arena));
     {
         let first = Guard::take(arena, key(0, 0)).unwrap();
@@ -462,12 +466,20 @@ fn guards(arena: &RefCell<Arena>) {
     check!(held_now(), 1);
     drop(Guard::of(arena, kept));
     check!(held_now(), 0);
+    let stale = Guard::take(arena, key(0, 0)).unwrap();
+    arena.with(|arena| arena.reopen(boot));
+    let newer = Guard::take(arena, key(0, 0)).unwrap();
+    check!(numbers(newer.lease()), (0, 1, boot));
+    drop(stale);
+    check!(held_now(), 1);
+    drop(newer);
+    check!(held_now(), 0);
 }
 
 fn one_seed(seed: u32) {
     let chance = &mut Chance(seed);
     let (mut memory, mut pages) = (Plant::new(), Pages::new());
-    let boot = 2 * seed;
+    let boot = 3 * seed;
     cold_ram(chance, &mut memory, &mut pages);
     let mut arena = Arena::open(&mut memory, &REGISTRY, boot);
     opened(&arena, boot);
@@ -480,6 +492,7 @@ fn one_seed(seed: u32) {
     check!(unread, Err(BookRefusal::DamagedBook));
     let mut book = Book::open(&arena, &mut pages).unwrap();
     book_written(&arena, &mut book, &panel);
+    book_refused(&arena, &mut book, &panel);
     let mut book = Book::open(&arena, &mut pages).unwrap();
     book_slides(&arena, &mut book, &panel, &logger);
     let paper = arena.head();
@@ -490,7 +503,7 @@ fn one_seed(seed: u32) {
     next_boot(&mut arena, &mut Book::resume(&mut pages), panel);
     let mut book = Book::open(&arena, &mut pages).unwrap();
     shift(chance, &mut arena, &mut book);
-    guards(&RefCell::new(arena));
+    guards(&RefCell::new(arena), boot + 2);
 }
 
 fn main() {

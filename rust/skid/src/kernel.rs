@@ -5,6 +5,7 @@
 //! cell cannot come free inside it; Busy is for the kernel's own scheduler.
 mod arena;
 mod book;
+mod error;
 mod guard;
 mod lease;
 mod memory;
@@ -13,8 +14,9 @@ mod salvage;
 mod tests;
 
 pub use crate::{BookRefusal, Change, Head, Key, Reason, Refusal, SalvageRefusal, Setpoint};
-pub use arena::{Arena, Cell, State, TakeError};
+pub use arena::{Arena, Cell, State};
 pub use book::{Book, BookMemory, Setting, Written};
+pub use error::TakeError;
 pub use guard::{Guard, Lock};
 pub use lease::{Grants, Lease};
 pub use memory::Memory;

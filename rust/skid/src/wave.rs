@@ -60,7 +60,7 @@ pub fn write(cells: u32, history: &[Step], text: &mut [u8]) -> Result<usize, Not
     }
 }
 
-/// Reads back what [`write`] can have written, and nothing else: a history with the same bits at the same steps, other
+/// Reads back what [`write()`] can have written, and nothing else: a history with the same bits at the same steps, other
 /// words 0. Steps behind it are left alone, and a refusal changes none.
 pub fn read(text: &[u8], history: &mut [Step]) -> Result<Read, NotRead> {
     let words = raw::read_dump(text, raw::words_mut(history));

@@ -35,10 +35,7 @@ impl Display for Refusal {
             Refusal::BadScript => {
                 f.write_str("the script is too long, or its place is past its end")
             }
-            Refusal::BadHeld(at) => write!(
-                f,
-                "lease {at} of the held list is not live, or the list is too long"
-            ),
+            Refusal::BadHeld(at) => write!(f, "held lease {at} is not live, or they are over 64"),
             Refusal::TooMany => f.write_str("more than 64 keys or leases"),
             Refusal::BadBinding(at) => {
                 write!(f, "the registry has no binding as key {at} names it")
@@ -52,7 +49,7 @@ impl Display for Refusal {
             Refusal::SerialsSpent(cell) => {
                 write!(
                     f,
-                    "no serial remains for cell {cell}; prepare again under a new boot number"
+                    "no serial is left for cell {cell}; open under a new boot number"
                 )
             }
             Refusal::SerializationFailure(reason) => {

@@ -1,80 +1,8 @@
-use super::{Grants, Lease, Memory};
+use super::error::not_taken;
+use super::{Grants, Lease, Memory, TakeError};
 use crate::{
     raw, Answer, Head, Key, Reason, Refusal, Script, Step, CELL_WORDS, MAX_BINDINGS, MAX_LEASES,
 };
-use core::error::Error;
-use core::fmt::{self, Display, Formatter};
-
-/// Why nothing was taken. The position is that of the key among several, and else 0.
-#[derive(Clone, Copy, Debug, PartialEq, Eq, Hash)]
-#[non_exhaustive]
-pub enum TakeError {
-    /// Another holds the cell or waits for it: come back from the scheduler.
-    Busy {
-        /// Which key.
-        position: usize,
-        /// Why.
-        reason: Reason,
-    },
-    /// Refused; asking again is of no use before something is done about it.
-    Refused {
-        /// Which key.
-        position: usize,
-        /// Why.
-        refusal: Refusal,
-    },
-}
-
-impl TakeError {
-    /// Whether it is Busy.
-    pub const fn is_busy(self) -> bool {
-        matches!(self, TakeError::Busy { .. })
-    }
-
-    /// The refusal, unless it is Busy.
-    pub const fn refusal(self) -> Option<Refusal> {
-        match self {
-            TakeError::Busy { .. } => None,
-            TakeError::Refused { refusal, .. } => Some(refusal),
-        }
-    }
-
-    /// The refusal's number; Busy has none.
-    pub const fn number(self) -> Option<u32> {
-        match self {
-            TakeError::Busy { .. } => None,
-            TakeError::Refused { refusal, .. } => Some(refusal.number()),
-        }
-    }
-
-    /// The refusal's name, or Busy.
-    pub const fn name(self) -> &'static str {
-        match self {
-            TakeError::Busy { .. } => "Busy",
-            TakeError::Refused { refusal, .. } => refusal.name(),
-        }
-    }
-}
-
-impl Display for TakeError {
-    fn fmt(&self, f: &mut Formatter<'_>) -> fmt::Result {
-        match self {
-            TakeError::Busy { position, reason } => write!(f, "key {position} is Busy: {reason}"),
-            TakeError::Refused { position, refusal } => {
-                write!(f, "key {position} is refused: {refusal}")
-            }
-        }
-    }
-}
-
-impl Error for TakeError {
-    fn source(&self) -> Option<&(dyn Error + 'static)> {
-        match self {
-            TakeError::Busy { .. } => None,
-            TakeError::Refused { refusal, .. } => Some(refusal),
-        }
-    }
-}
 
 /// What a cell's words say.
 #[derive(Clone, Copy, Debug, PartialEq, Eq, Hash)]
@@ -110,28 +38,6 @@ fn done(answer: Answer) -> Result<(), Refusal> {
     match answer {
         Answer::Refused(refusal) | Answer::RefusedAt(refusal, _) => Err(refusal),
         _ => Ok(()),
-    }
-}
-
-/// The error of a call that granted nothing. The library says `Busy` or a refusal there.
-fn not_taken(answer: Answer) -> TakeError {
-    match answer {
-        Answer::Busy(reason) => TakeError::Busy {
-            position: 0,
-            reason,
-        },
-        Answer::RefusedAt(refusal, position) => TakeError::Refused { position, refusal },
-        Answer::Refused(refusal) => TakeError::Refused {
-            position: match refusal {
-                Refusal::BadBinding(at) => at,
-                _ => 0,
-            },
-            refusal,
-        },
-        _ => TakeError::Refused {
-            position: 0,
-            refusal: Refusal::BadShape,
-        },
     }
 }
 
@@ -172,6 +78,17 @@ impl<'a> Arena<'a> {
             calls: crate::Arena::resume(head, table, health),
             registry,
         }
+    }
+
+    /// Prepares it again, under a boot number that no opening before it had: every lease from before is stale.
+    pub fn reopen(&mut self, boot: u32) {
+        let head = Head {
+            next: 1,
+            boot,
+            ..self.head()
+        };
+        raw::prepare(head, self.calls.table, self.calls.health);
+        self.calls.head = head;
     }
 
     /// The head in force: to be kept on paper, where a dip does not reach it, before a lease is used.
@@ -237,17 +154,7 @@ impl<'a> Arena<'a> {
     /// arena.give_all(grants).unwrap();
     /// ```
     pub fn take_all<const N: usize>(&mut self, keys: [Key; N]) -> Result<Grants<N>, TakeError> {
-        let () = Grants::<N>::FITS;
-        self.look_all(&keys)?;
-        let mut grants = [crate::Lease::default(); N];
-        let quiet = &mut Script::quiet();
-        let played = self
-            .calls
-            .acquire_sorted_locks(self.registry, quiet, &[], &keys, &mut grants);
-        match played.answer {
-            Answer::AllGranted => Ok(Grants(grants.map(Lease))),
-            other => Err(not_taken(other)),
-        }
+        self.all(keys, true)
     }
 
     /// All keys or none, in the order given. Who uses it sees to it that nobody waits in a circle. Two keys of one cell
@@ -256,13 +163,23 @@ impl<'a> Arena<'a> {
         &mut self,
         keys: [Key; N],
     ) -> Result<Grants<N>, TakeError> {
+        self.all(keys, false)
+    }
+
+    fn all<const N: usize>(
+        &mut self,
+        keys: [Key; N],
+        sorted: bool,
+    ) -> Result<Grants<N>, TakeError> {
         let () = Grants::<N>::FITS;
         self.look_all(&keys)?;
         let mut grants = [crate::Lease::default(); N];
-        let quiet = &mut Script::quiet();
-        let played = self
-            .calls
-            .acquire_index_locks(self.registry, quiet, &[], &keys, &mut grants);
+        let (calls, quiet) = (&mut self.calls, &mut Script::quiet());
+        let played = if sorted {
+            calls.acquire_sorted_locks(self.registry, quiet, &[], &keys, &mut grants)
+        } else {
+            calls.acquire_index_locks(self.registry, quiet, &[], &keys, &mut grants)
+        };
         match played.answer {
             Answer::AllGranted => Ok(Grants(grants.map(Lease))),
             other => Err(not_taken(other)),

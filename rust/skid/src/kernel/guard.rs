@@ -4,6 +4,31 @@ use core::marker::PhantomData;
 use core::mem;
 
 /// The kernel's own lock around its arena: one caller at a time, interrupts off where they call too.
+///
+/// ```
+/// use skid::kernel::{Arena, Guard, Key, Lock, Memory};
+/// use std::sync::Mutex;
+///
+/// struct Plant<'a>(Mutex<Arena<'a>>);
+///
+/// impl<'a> Lock<'a> for Plant<'a> {
+///     fn with<R>(&self, work: impl FnOnce(&mut Arena<'a>) -> R) -> R {
+///         work(&mut self.0.lock().unwrap())
+///     }
+/// }
+///
+/// let mut memory = Memory::<2, 4>::new();
+/// let plant = Plant(Mutex::new(Arena::open(&mut memory, &[0, 1], 1)));
+/// std::thread::scope(|tasks| {
+///     for bucket in 0..4 {
+///         tasks.spawn({
+///             let plant = &plant;
+///             move || Guard::take(plant, Key { binding: 0, bucket }).map(drop).unwrap()
+///         });
+///     }
+/// });
+/// assert_eq!(plant.with(|arena| arena.head().next), 5);
+/// ```
 pub trait Lock<'a> {
     /// Does the work with the arena while nobody else has it.
     fn with<R>(&self, work: impl FnOnce(&mut Arena<'a>) -> R) -> R;
