@@ -118,16 +118,21 @@ refused 'a report of another shape' 'E0308' \
 echo "misuse: $misuses refused, each with its error, and what is right beside each compiles"
 
 # ---- what is told
+# crate_with FLAGS..: the crate compiled with these flags, without code
+crate_with() {
+    CARGO_PKG_VERSION=$version "$rustc" --edition 2021 --crate-type rlib --crate-name skid --emit metadata -o "$out/skid.rmeta" "$@" \
+        rust/skid/src/lib.rs 2>"$out/said"
+}
 # told WHAT SENTENCE FLAGS..: compiled with these flags the crate is refused with this sentence
 told() {
     local what=$1 sentence=$2
     shift 2
-    ! CARGO_PKG_VERSION=0 "$rustc" --edition 2021 --crate-type rlib --crate-name skid --emit metadata -o "$out/skid.rmeta" "$@" \
-        rust/skid/src/lib.rs 2>"$out/said" || fail "$what: it compiles"
+    ! crate_with "$@" || fail "$what: it compiles"
     grep -qF "$sentence" "$out/said" || { cat "$out/said"; fail "$what: not told '$sentence'"; }
     echo "$what: told"
 }
 told 'a target without SSE' 'libskid.a uses the SSE registers' --target "$bench_target" -C target-feature=-sse
+crate_with --target "$bench_target" -C target-feature=-sse --cfg 'feature="sse_is_on"' || { cat "$out/said"; fail "sse_is_on does not let it pass"; }
 [ "$(uname -m)" = x86_64 ] || told 'another target than x86-64' 'libskid.a is x86-64 code'
 SKID_LIB_DIR=$PWD/$out/empty with_cargo check >"$out/said" 2>&1
 grep -qF "no libskid.a in $PWD/$out/empty: \`rt staticlib skid\` makes it" "$out/said" || { cat "$out/said"; fail "a folder without the archive is not named"; }

@@ -73,6 +73,7 @@ impl<'a> Arena<'a> {
             boot,
         };
         let (table, health) = memory.as_mut_slices();
+        // Done, and the head as it was given: see above.
         raw::prepare(head, table, health);
         Arena {
             calls: crate::Arena::resume(head, table, health),

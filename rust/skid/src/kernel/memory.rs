@@ -7,7 +7,8 @@ use crate::{CELL_WORDS, MAX_BUCKETS, MAX_CELLS, MAX_HEADERS};
 /// let memory = skid::kernel::Memory::<65, 1>::new();
 /// ```
 ///
-/// Any bytes are such a memory, so it may stand in a section that a cold start does not clear.
+/// Any bytes are such a memory, so it may stand in a section that a cold start does not clear. It has 12 bytes a cell and
+/// one a header.
 #[derive(Clone, Debug, PartialEq, Eq)]
 #[repr(C)]
 pub struct Memory<const HEADERS: usize, const BUCKETS: usize> {

@@ -1,7 +1,8 @@
 use super::{Arena, Lease, Memory};
 use crate::{Change, Head, SalvageRefusal, CELL_WORDS};
 
-/// Room for all that a salvage of such a memory can find, so that it is never [`SalvageRefusal::ReportFull`].
+/// Room for all that a salvage of such a memory can find, so that it is never [`SalvageRefusal::ReportFull`]. It has 56
+/// bytes a cell: of a large arena it is better a static than on the stack.
 #[derive(Clone, Debug)]
 pub struct Report<const HEADERS: usize, const BUCKETS: usize> {
     // A change for each word and each health byte: (3 x B + 1) x H, at most this.

@@ -191,3 +191,12 @@ fn the_widest_memory_is_salvaged() {
         .cells()
         .all(|cell| cell.state == State::Free && cell.waiters == 0));
 }
+
+/// The sizes that the pages say.
+#[test]
+fn sizes_are_as_said() {
+    use core::mem::size_of;
+    assert_eq!(size_of::<Memory<4, 4>>(), 12 * 16 + 4);
+    assert_eq!(size_of::<Report<4, 4>>(), 56 * 16);
+    assert_eq!(size_of::<BookMemory<16>>(), 52 * 16);
+}
