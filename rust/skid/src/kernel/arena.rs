@@ -111,8 +111,8 @@ impl<'a> Arena<'a> {
         granted(self.calls.try_lock(&mut Script::quiet(), &[], cell).answer)
     }
 
-    /// Why a key's cell would be Busy now. A key of no cell, of a poisoned header or of a damaged cell is not Busy: that
-    /// is for [`Arena::take`] to refuse.
+    /// Why a key's cell would be Busy now, as [`Arena::take`] would find it. A key of no cell or of a poisoned header is
+    /// not Busy, nor a damaged cell that nobody waits for: these are for the call to refuse.
     pub fn look(&self, key: Key) -> Option<Reason> {
         let Head { buckets, .. } = self.head();
         let header = *self.registry.get(key.binding as usize)?;
