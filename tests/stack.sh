@@ -1,8 +1,8 @@
 #!/usr/bin/env bash
-# What a call costs, measured: the stack of each exported call in its worst case (tests/c/stack.c, on a painted stack), the instructions of
-# a kernel's calls by their size, and the size of the archive and of a typical link. Without a word it is printed. `--check` compares it
+# What a call costs: the stack of each exported call, measured in its worst case (tests/c/stack.c, on a painted stack) and at most, read
+# from the code (tests/frames.py); the instructions of a kernel's calls by their size, and the size of the archive and of a typical link. Without a word it is printed. `--check` compares it
 # with docs/INTEGRATION.md, where it stands between two marks; `--write` puts it there.
-# Compared so: the stack is at most the page's; instructions are within two in a hundred of the page's and at most the page's formula, which
+# Compared so: the stack, measured and by the code, is at most the page's last number; instructions are within two in a hundred of the page's and at most the page's formula, which
 # at the largest size is at most a fifth too high; the archive's size is the page's, that of a link within five in a hundred.
 set -euo pipefail
 cd "$(dirname "$0")/.."
@@ -23,9 +23,9 @@ fail() {
 }
 [ -e "$archive" ] || fail "no $archive: rt staticlib skid makes it"
 need_compilers >&2
-size=size emulate=(qemu-x86_64)
+size=size objdump=objdump emulate=(qemu-x86_64)
 if [ "$(uname -m)" != x86_64 ]; then
-    size=/usr/bin/x86_64-linux-gnu-size emulate=(/usr/bin/qemu-x86_64 -L /)
+    size=/usr/bin/x86_64-linux-gnu-size objdump=/usr/bin/x86_64-linux-gnu-objdump emulate=(/usr/bin/qemu-x86_64 -L /)
 elif ! command -v qemu-x86_64 >/dev/null; then
     install_packages qemu-user >&2
 fi
@@ -39,7 +39,9 @@ give | skid_drop_lease | a live lease | 1 | 80
 is_mine | skid_read_permission | a live lease | 1 | 95
 set | skid_environment | one step, waiters or health | 1 | 350
 take_all | skid_acquire_sorted_locks | n keys, falling | 1 16 32 64 | 900 + 376 n + 5.4 n^2
-take_in_order | skid_acquire_index_locks | n keys | 1 16 32 64 | 660 + 176 n
+take_all_in_vain | skid_acquire_sorted_locks | the same, the last cell of a poisoned header | 1 16 32 64 | 860 + 366 n + 2.9 n^2
+take_in_order | skid_acquire_index_locks | n keys | 1 16 32 64 | 640 + 178 n
+take_in_order_in_vain | skid_acquire_index_locks | the same, the last key of a poisoned header | 1 16 32 64 | 640 + 178 n
 give_all | skid_release_all | n leases | 1 16 32 64 | 430 + 43 n + 2.5 n^2
 open | skid_prepare | n cells | 64 1024 4096 | 260 + 1.33 n
 mend | skid_salvage | n cells, each word and byte to be mended | 64 1024 4096 | 1800 + 77 n
@@ -72,10 +74,13 @@ costs() { echo $(($(executed "$@" call) - $(executed "$@" none))); }
 # at FORMULA N: what the formula says
 at() { awk -v n="$2" "BEGIN { printf \"%.0f\", ${1// n/ * n} }"; }
 
+# The stack of each call: by the painted stack, and the most that its code can use, on any path.
 stacks() {
-    printf '%s\n' '| call | stack, bytes |' '|---|---|'
+    printf '%s\n' '| call | measured | at most, by the code |' '|---|---|---|'
+    "${run[@]}" "$out/loops" | LC_ALL=C sort >"$out/painted"
+    "$objdump" -dr --no-show-raw-insn "$archive" | python3 tests/frames.py include/skid.h | LC_ALL=C sort >"$out/frames"
     # shellcheck disable=SC2016
-    "${run[@]}" "$out/loops" | sed 's/^\([^ ]*\) \(.*\)/| `\1` | \2 |/'
+    LC_ALL=C join -a1 -a2 "$out/painted" "$out/frames" | sed 's/^\([^ ]*\) \([^ ]*\) \([^ ]*\)$/| `\1` | \2 | \3 |/'
 }
 
 instructions() {
@@ -148,31 +153,25 @@ listed() {
     awk -v begin="$begin" -v end="$end" '$0 == end { inside = 0 } inside { print } $0 == begin { inside = 1 }' "$page"
 }
 
-# compared PAGE FOUND: says where the page is wrong, row by row, and how many rows there are
+# compared PAGE FOUND: says where the page is wrong, row by row; else how many rows there are
 compared() {
     awk -F' *[|] *' '
         function off(a, b, percent) { return a > b * (1 + percent / 100) || a < b * (1 - percent / 100) }
-        function complain(what) { print "stack: " $2 " " $3 " " $4 ": " what; bad = 1 }
+        function complain(what) { print "stack: " $0 ": " what; bad = 1 }
         FNR == 1 { file++ }
-        /^[|] (call|what) / { part = NF }
-        /^[|]-/ || !NF { next }
-        file == 1 { rows[++n] = $0; next }
+        !/^[|] / || /^[|] (call|what) / { next }
+        file == 1 { page[++n] = $0; next }
         {
-            m++
-            split(rows[m], said, / *[|] */)
-            if (part == 8) {
-                if (said[2] != $2 || said[3] != $3 || said[4] != $4 || said[7] != $7) complain("the page has another row")
-                else if ($5 ~ /^[0-9]/ && (off($5, said[5], 2) || off($6, said[6], 2))) complain($5 " and " $6 " instructions, the page says " said[5] " and " said[6])
-            } else {
-                if (said[2] != $2) complain("the page has another row")
-                else if ($2 ~ /skid_.*`$/ && $2 !~ /program/ && $3 + 0 > said[3] + 0) complain("the page says " said[3])
-                else if ($2 == "the archive" && $3 != said[3]) complain("the page says " said[3])
-                else if ($2 ~ /program|same/ && off($3, said[3], 5)) complain("the page says " said[3])
-            }
+            split(page[++m], said, / *[|] */)
+            if (said[2] != $2) complain("the page has another row")
+            else if (NF == 5 && !($3 + 0 <= $4 + 0 && $3 + 0 <= said[4] + 0 && $4 + 0 <= said[4] + 0)) complain("the page says at most " said[4])
+            else if (NF == 8 && (said[3] != $3 || said[4] != $4 || said[7] != $7)) complain("the page has another row")
+            else if (NF == 8 && (off($5, said[5], 2) || off($6, said[6], 2))) complain("the page says " said[5] " and " said[6])
+            else if (NF == 4 && off($3, said[3], $2 == "the archive" ? 0 : 5)) complain("the page says " said[3])
         }
         END {
             if (n != m || !n) { print "stack: " n " rows on the page, " m " measured"; bad = 1 }
-            if (!bad) print "what a call costs: " n - 3 " rows, as the page says"
+            if (!bad) print "what a call costs: " n " rows, as the page says"
             exit bad
         }' "$1" "$2"
 }

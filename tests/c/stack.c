@@ -339,6 +339,25 @@ static void by_keys(uint32_t size)
     ask(size);
 }
 
+/* The same, and the last cell to be taken is of a poisoned header: all that was taken is given back. */
+static void by_keys_in_vain(uint32_t size)
+{
+    uint32_t i;
+    by_keys(size);
+    for (i = 0; i < size; i++)
+        keys[2 * i] = 62;
+    keys[0] = 63;
+    health[63] = 1;
+}
+
+/* In the order given the poisoned one comes last. */
+static void by_rising_keys_in_vain(uint32_t size)
+{
+    by_keys_in_vain(size);
+    keys[0] = 62;
+    keys[2 * size - 2] = 63;
+}
+
 static void by_leases(uint32_t size)
 {
     arena(64, 64);
@@ -422,6 +441,8 @@ static const struct {
     {"is_mine", one_cell, read_permission, SKID_A_CELL, SKID_KIND},
     {"set", one_step, environment, SKID_DONE, SKID_KIND},
     {"take_all", by_keys, acquire_sorted_locks, SKID_ALL_GRANTED, SKID_KIND},
+    {"take_all_in_vain", by_keys_in_vain, acquire_sorted_locks, SKID_REFUSED_AT, SKID_KIND},
+    {"take_in_order_in_vain", by_rising_keys_in_vain, acquire_index_locks, SKID_REFUSED_AT, SKID_KIND},
     {"take_in_order", by_keys, acquire_index_locks, SKID_ALL_GRANTED, SKID_KIND},
     {"give_all", by_leases, release_all, SKID_DONE, SKID_KIND},
     {"open", large, prepare, SKID_DONE, SKID_KIND},
