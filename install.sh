@@ -61,7 +61,7 @@ files() {
     echo "share/skid/cmake/skidConfig.cmake -"
     echo "share/skid/LICENSE LICENSE"
     echo "share/skid/NOTICE NOTICE"
-    git ls-files rust/skid | grep -v '/\.' | sed 's,^rust/skid/\(.*\),share/skid/rust/\1 &,'
+    find rust/skid -type f ! -path '*/target/*' ! -name '.*' ! -name Cargo.lock | LC_ALL=C sort | sed 's,^rust/skid/\(.*\),share/skid/rust/\1 &,'
 }
 
 version() { sed -n 's/^#define SKID_VERSION "\(.*\)"$/\1/p' include/skid.h; }
@@ -127,7 +127,7 @@ put() {
     done >"$list"
     # the crate's build looks for the archive here, unless SKID_LIB_DIR names another folder
     sed -i 's,\.\./\.\./target/staticlib,../../../lib,' "$root/share/skid/rust/build.rs"
-    sed "s,^$root/,," "$list" >"$root/share/skid/files"
+    while read -r path; do echo "${path#"$root"/}"; done <"$list" >"$root/share/skid/files"
     grep -v '/$' "$list"
     rm -f "$list"
     echo "skid $(version), archive $(the_hash)"

@@ -76,7 +76,7 @@ at() { awk -v n="$2" "BEGIN { printf \"%.0f\", ${1// n/ * n} }"; }
 
 # The stack of each call: by the painted stack, and the most that its code can use, on any path.
 stacks() {
-    printf '%s\n' '| call | measured | at most, by the code |' '|---|---|---|'
+    printf '%s\n' '| call | stack measured, bytes | at most, by the code |' '|---|---|---|'
     "${run[@]}" "$out/loops" | LC_ALL=C sort >"$out/painted"
     "$objdump" -dr --no-show-raw-insn "$archive" | python3 tests/frames.py include/skid.h | LC_ALL=C sort >"$out/frames"
     # shellcheck disable=SC2016
