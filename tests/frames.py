@@ -1,13 +1,14 @@
 #!/usr/bin/env python3
 """The most stack that each exported function can use, read from the archive's code.
 
-Standard input is `objdump -dr --no-show-raw-insn` of the archive. Along the jumps of a function its depth is followed: what it
-pushes, pops and subtracts from the stack pointer, and what it keeps below it (the red zone). A call adds its return address and what
-the called function can use; what is not in the archive, memcpy and memset, adds nothing. Refused, with a sentence: a stack pointer
-that is changed in another way, a place that is reached at two depths, a return at another depth than 0, a function that calls itself
-and is not listed here.
-Prints NAME BYTES: with the function's own return address, and with the arguments that its caller puts on the stack, which are those
-behind the sixth, 8 bytes each, rounded up to 16; the header, the one argument here, says how many there are.
+Standard input is `objdump -dr --no-show-raw-insn` of the archive. Along the jumps of a function its depth is followed:
+what it pushes, pops and subtracts from the stack pointer, and what it keeps below it (the red zone). A call adds its
+return address and what the called function can use; what is not in the archive, memcpy and memset, adds nothing.
+Refused, with a sentence: a stack pointer that is changed in another way, a place that is reached at two depths, a
+return at another depth than 0, a function that calls itself and is not listed here.
+
+Prints NAME BYTES: with the function's own return address, and with the arguments that its caller puts on the stack,
+which are those behind the sixth, 8 bytes each, rounded up to 16; the header, the one argument here, says how many.
 """
 import re
 import sys
@@ -47,7 +48,7 @@ def moved(name, operation, operands):
 
 
 def steps(name, body, start, depth, depths, tabled):
-    """Follows the code from a place on, at this depth; depths has the depth before each instruction that was reached."""
+    """Follows the code from a place on, at this depth; depths has the depth before each instruction reached."""
     work = [(start, depth)]
     while work:
         at, depth = work.pop()
@@ -78,7 +79,7 @@ def place(name, body, address):
 
 
 def all_depths(name, body):
-    """The depth before each instruction. What only a table of jumps leads to is at the depth of the jump by that table."""
+    """The depth before each instruction. What only a table of jumps leads to is at the depth of the jump by it."""
     depths, tabled = {}, set()
     steps(name, body, 0, 0, depths, tabled)
     for at, (address, operation, _, _) in enumerate(body):

@@ -1,8 +1,9 @@
 /*
  * What a call costs: the stack that it touches, and the instructions that it executes.
  *
- *     stack                   a line for each exported call: its name, and the bytes below the caller's frame that its worst
- *                             case here writes: arguments on the stack, return address, its own frames and its red zone
+ *     stack                   a line for each exported call: its name, and the bytes below the caller's frame that its
+ *                             worst case here writes: arguments on the stack, return address, its own frames and its
+ *                             red zone
  *     stack CASE SIZE call    makes that case of that size ready and makes the call: for a counter of instructions
  *     stack CASE SIZE none    the same without the call; the difference is the call's own, and its caller's for passing
  *                             the arguments
@@ -18,7 +19,10 @@
 enum { HELD = 64, LOOSE = 200, STACK = 1 << 16, PAINT = 0xa5, BOOT = 5 };
 
 #ifdef BYTE_LOOPS
-__attribute__((optimize("no-tree-loop-distribute-patterns", "no-tree-vectorize"))) void *memset(void *to, int byte, size_t count)
+/* Else the compiler makes a call of memset out of memset's own loop. */
+#define AS_WRITTEN __attribute__((optimize("no-tree-loop-distribute-patterns", "no-tree-vectorize")))
+
+AS_WRITTEN void *memset(void *to, int byte, size_t count)
 {
     unsigned char *at = to;
     while (count-- > 0)
@@ -26,7 +30,7 @@ __attribute__((optimize("no-tree-loop-distribute-patterns", "no-tree-vectorize")
     return to;
 }
 
-__attribute__((optimize("no-tree-loop-distribute-patterns", "no-tree-vectorize"))) void *memcpy(void *restrict to, const void *restrict from, size_t count)
+AS_WRITTEN void *memcpy(void *restrict to, const void *restrict from, size_t count)
 {
     unsigned char *at = to;
     const unsigned char *source = from;
@@ -58,7 +62,9 @@ static const char *frame;
 #define THE_SCRIPT script, script_len, 0
 #define THE_HELD held, held_len
 #define THE_LEASE cell, serial, BOOT
-#define THE_KEYS registry, SKID_MAX_BINDINGS, THE_SCRIPT, THE_HELD, keys, keys_len, grants, 3 * (keys_len / 2)
+#define THE_KEY binding, bucket
+#define THE_REGISTRY registry, SKID_MAX_BINDINGS
+#define THE_KEYS THE_REGISTRY, THE_SCRIPT, THE_HELD, keys, keys_len, grants, 3 * (keys_len / 2)
 #define THE_CREW counts, SKID_MAX_MEMBERS, cells, SKID_MAX_CREW_CELLS, turns, SKID_MAX_TURNS
 #define CALL(name, ...)                                                                                                \
     static void name(void)                                                                                             \
@@ -81,9 +87,8 @@ CALL(environment, THE_HEAD, THE_TABLE, THE_HEALTH, THE_SCRIPT, THE_HELD)
 CALL(environment_for_borrows, THE_HEAD, THE_TABLE, THE_HEALTH, THE_SCRIPT, THE_HELD)
 CALL(try_lock, THE_HEAD, THE_TABLE, THE_HEALTH, THE_SCRIPT, THE_HELD, cell)
 CALL(other_mutex_preserves_leases, THE_HEAD, THE_TABLE, THE_HEALTH, THE_SCRIPT, THE_HELD, cell)
-CALL(transactional_try_lock_bucket, THE_HEAD, THE_TABLE, THE_HEALTH, registry, SKID_MAX_BINDINGS, THE_SCRIPT, THE_HELD, binding,
-     bucket)
-CALL(acquire_index_bucket, THE_HEAD, THE_TABLE, THE_HEALTH, registry, SKID_MAX_BINDINGS, THE_SCRIPT, THE_HELD, binding, bucket)
+CALL(transactional_try_lock_bucket, THE_HEAD, THE_TABLE, THE_HEALTH, THE_REGISTRY, THE_SCRIPT, THE_HELD, THE_KEY)
+CALL(acquire_index_bucket, THE_HEAD, THE_TABLE, THE_HEALTH, THE_REGISTRY, THE_SCRIPT, THE_HELD, THE_KEY)
 CALL(release_all, THE_HEAD, THE_TABLE, THE_HEALTH, THE_SCRIPT, held, leases_len)
 CALL(acquire_index_locks, THE_HEAD, THE_TABLE, THE_HEALTH, THE_KEYS)
 CALL(acquire_sorted_locks, THE_HEAD, THE_TABLE, THE_HEALTH, THE_KEYS)
@@ -157,12 +162,17 @@ static void ask(uint32_t count)
 /* Steps of every kind over the arena, releases of held leases among them. */
 static void write_script(uint32_t steps)
 {
-    uint32_t i, seed = 1;
+    uint32_t i, kind, seed = 1;
     for (i = 0; i < steps; i++) {
         seed = seed * 1103515245u + 12345u;
-        script[3 * i] = (seed >> 16) % 6;
-        script[3 * i + 1] = script[3 * i] == SKID_STEP_HEALTH ? 60 + i % 4 : script[3 * i] == SKID_STEP_WAITERS ? 3000 + i % 64 : i % 1000;
-        script[3 * i + 2] = script[3 * i] == SKID_STEP_RELEASE ? i % 128 : i % 2;
+        kind = (seed >> 16) % 6;
+        script[3 * i] = kind;
+        script[3 * i + 1] = i % 1000;
+        if (kind == SKID_STEP_HEALTH)
+            script[3 * i + 1] = 60 + i % 4;
+        if (kind == SKID_STEP_WAITERS)
+            script[3 * i + 1] = 3000 + i % 64;
+        script[3 * i + 2] = kind == SKID_STEP_RELEASE ? i % 128 : i % 2;
     }
     script_len = (size_t)3 * steps;
 }
@@ -213,8 +223,9 @@ static void on_painted_stack(void (*call)(void))
     __asm__ volatile("movq %%rsp, %%rbx\n\tmovq %0, %%rsp\n\tcall *%1\n\tmovq %%rbx, %%rsp"
                      :
                      : "r"(stack + sizeof stack), "r"(call)
-                     : "rax", "rbx", "rcx", "rdx", "rsi", "rdi", "r8", "r9", "r10", "r11", "xmm0", "xmm1", "xmm2", "xmm3", "xmm4",
-                       "xmm5", "xmm6", "xmm7", "xmm8", "xmm9", "xmm10", "xmm11", "xmm12", "xmm13", "xmm14", "xmm15", "memory", "cc");
+                     : "rax", "rbx", "rcx", "rdx", "rsi", "rdi", "r8", "r9", "r10", "r11", "memory", "cc", "xmm0",
+                       "xmm1", "xmm2", "xmm3", "xmm4", "xmm5", "xmm6", "xmm7", "xmm8", "xmm9", "xmm10", "xmm11",
+                       "xmm12", "xmm13", "xmm14", "xmm15");
 }
 
 static size_t touched(void (*call)(void))
