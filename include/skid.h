@@ -14,7 +14,7 @@
  *   and who takes the processor from a task inside a call must save them.
  * - The 128 bytes below the stack pointer (the red zone) are used. An interrupt must not write there: give it a stack
  *   of its own (interrupt stack table), or make the calls with interrupts off.
- * - A write of the setpoint book needs the most stack of all calls, 26,552 bytes as measured; a read 6,664.
+ * - A write of the setpoint book needs the most stack of all calls, 26,568 bytes; a read 6,680. The page has each.
  * No float crosses: a pressure goes in and comes out as the 32 bits of its binary32. So the calls are the same for a
  * program that is compiled without SSE (-mgeneral-regs-only, -mno-sse).
  *

@@ -1,5 +1,6 @@
 //! Where the proved library is: SKID_LIB_DIR names the folder that holds `libskid.a`. Without it, it is the repository's
-//! `target/staticlib`, where `rt staticlib skid` writes it.
+//! `target/staticlib`, where `rt staticlib skid` writes it. Where there is none, the build says so by a warning: what is only
+//! checked needs no archive, and what is built then fails.
 use std::env;
 use std::path::PathBuf;
 
@@ -10,11 +11,15 @@ fn main() {
         Some(named) => PathBuf::from(named),
         None => here.join("../../target/staticlib"),
     };
+    let archive = folder.join("libskid.a");
     println!("cargo:rerun-if-env-changed=SKID_LIB_DIR");
-    println!(
-        "cargo:rerun-if-changed={}",
-        folder.join("libskid.a").display()
-    );
+    println!("cargo:rerun-if-changed={}", archive.display());
+    if !archive.exists() {
+        println!(
+            "cargo:warning=there is no libskid.a in {}: `rt staticlib skid` makes it in target/staticlib, and SKID_LIB_DIR names another folder",
+            folder.display()
+        );
+    }
     println!("cargo:rustc-link-search=native={}", folder.display());
     println!("cargo:rustc-link-lib=static=skid");
 }

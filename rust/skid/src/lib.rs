@@ -9,19 +9,25 @@
 //! what the documents say, refusals included. This crate only lends the runs and reads the reply's words. It has no
 //! heap, no thread and no dependency.
 //!
-//! ```no_run
-//! use skid::{Answer, Arena, Key, Script};
+//! # Two faces
 //!
-//! let (mut table, mut health) = ([0u32; 24], [0u8; 2]);
-//! let mut arena = Arena::prepare(2, 4, 1, 1, &mut table, &mut health).unwrap();
-//! let key = Key { binding: 0, bucket: 2 };
-//! let played = arena.transactional_try_lock_bucket(&[0, 1, 1], &mut Script::quiet(), &[], key);
-//! match played.answer {
-//!     Answer::Granted(lease) => assert_eq!(arena.drop_lease(lease).answer, Answer::Done),
-//!     Answer::Busy(reason) => println!("{reason:?}: come back from the scheduler"),
-//!     refused => println!("{refused:?}"),
+//! [`kernel`] is the one to use: an arena that keeps its registry, leases with one owner, a `Result` for what can be
+//! refused. No call of it has a script or a held list, since a kernel's others act between its calls.
+//!
+//! ```
+//! use skid::kernel::{Arena, Key, Memory, TakeError};
+//!
+//! let mut memory = Memory::<2, 4>::new(); // headers, buckets: checked when it is compiled
+//! let mut arena = Arena::open(&mut memory, &[0, 1, 1], 5); // the registry, boot number 5
+//! match arena.take(Key { binding: 0, bucket: 2 }) {
+//!     Ok(valve) => arena.give(valve).unwrap(), // ours until it is given back
+//!     Err(TakeError::Busy { reason, .. }) => println!("{reason}: come back from the scheduler"),
+//!     Err(refused) => println!("{refused}"),
 //! }
 //! ```
+//!
+//! The types beside it, with [`Arena`] and its [`Answer`]s, are every call of the documents with scripts, held lists and
+//! counts, as a bench needs them; [`raw`] is the same over words and slices.
 //!
 //! # Where the library is
 //!
@@ -37,8 +43,9 @@
 //! pressure goes as its 32 bits. docs/INTEGRATION.md lists which call uses what.
 //!
 //! With one caller at a time a cell that is held cannot come free inside a call. So a kernel asks once
-//! ([`Arena::transactional_try_lock_bucket`]) and comes back from its own scheduler; [`Arena::acquire_index_bucket`]
-//! would ask 4,096 times.
+//! ([`kernel::Arena::take`]) and comes back from its own scheduler; [`Arena::acquire_index_bucket`] would ask 4,096 times.
+//! A target without SSE, such as `x86_64-unknown-none`, needs the feature `sse_is_on`, by which a kernel says that it
+//! has switched the registers on.
 //!
 //! # What the caller must see to
 //!
@@ -53,34 +60,35 @@
 #![deny(unsafe_op_in_unsafe_fn)]
 #![deny(missing_docs)]
 
+#[cfg(not(any(target_arch = "x86_64", doc, clippy)))]
+compile_error!("libskid.a is x86-64 code: build for an x86-64 target; elsewhere cross compile");
+#[cfg(all(
+    target_arch = "x86_64",
+    not(any(target_feature = "sse", feature = "sse_is_on"))
+))]
+compile_error!("libskid.a uses the SSE registers, and this target is without them: switch them on before the first call, and say so by the feature `sse_is_on`");
+
 mod book;
+pub mod kernel;
+mod limits;
 #[allow(unsafe_code)]
 pub mod raw;
 mod salvage;
 pub mod wave;
+mod words;
 
 pub use book::{
     BookAnswer, BookRefusal, Setpoint, KEPT_VERSIONS, LONGEST_BOOK, ROOMY_BYTES, SLOTS, SLOT_BYTES,
 };
+pub use limits::*;
 pub use salvage::{Change, SalvageRefusal, Salvaged};
 
 use raw::{words, words_mut};
 
 /// The version of this crate and of the library under it; CHANGELOG.md says what came with which.
 pub const VERSION: &str = env!("CARGO_PKG_VERSION");
-/// Words of a table for each cell: bit, owner, waiters.
-pub const CELL_WORDS: usize = 3;
-/// Words of a [`Lease`], in a held list, a list to release or a grant buffer: cell, serial, boot number.
-pub const LEASE_WORDS: usize = 3;
-/// Words of a [`Key`]: binding, bucket.
-pub const KEY_WORDS: usize = 2;
-/// A next serial at which none remains.
-pub const NO_SERIAL: u32 = 4_294_967_295;
-/// Attempts on a key before [`Refusal::SerializationFailure`].
-pub const ATTEMPTS: usize = 4096;
-
 /// Header slots H, buckets per header B, the next serial, and the boot number.
-#[derive(Clone, Copy, Debug, PartialEq, Eq)]
+#[derive(Clone, Copy, Debug, PartialEq, Eq, Hash)]
 pub struct Head {
     /// H, 1 to 64.
     pub headers: u32,
@@ -93,7 +101,7 @@ pub struct Head {
 }
 
 /// A cell, the serial that owns it, and the boot number of the head that gave the lease.
-#[derive(Clone, Copy, Debug, Default, PartialEq, Eq)]
+#[derive(Clone, Copy, Debug, Default, PartialEq, Eq, PartialOrd, Ord, Hash)]
 #[repr(C)]
 pub struct Lease {
     /// Header x B + bucket.
@@ -105,7 +113,7 @@ pub struct Lease {
 }
 
 /// A place in the registry, and a bucket of the header that stands there.
-#[derive(Clone, Copy, Debug, PartialEq, Eq)]
+#[derive(Clone, Copy, Debug, PartialEq, Eq, PartialOrd, Ord, Hash)]
 #[repr(C)]
 pub struct Key {
     /// A place in the registry.
@@ -115,7 +123,7 @@ pub struct Key {
 }
 
 /// A foreign step. One that is not legal at its turn is dropped and counted.
-#[derive(Clone, Copy, Debug, PartialEq, Eq)]
+#[derive(Clone, Copy, Debug, PartialEq, Eq, Hash)]
 #[repr(C)]
 pub struct Step {
     /// 0 to 5; another kind is dropped.
@@ -225,7 +233,7 @@ pub struct Counts {
 
 /// Why it is Busy. In a try_lock the waiters are looked at first, so a held cell that somebody waits for is `Before`
 /// there.
-#[derive(Clone, Copy, Debug, PartialEq, Eq)]
+#[derive(Clone, Copy, Debug, PartialEq, Eq, Hash)]
 pub enum Reason {
     /// The cell is held, by this serial.
     Held(u32),
@@ -248,7 +256,8 @@ impl Reason {
 }
 
 /// The sixteen refusals, with what each carries.
-#[derive(Clone, Copy, Debug, PartialEq, Eq)]
+#[derive(Clone, Copy, Debug, PartialEq, Eq, Hash)]
+#[non_exhaustive]
 pub enum Refusal {
     /// 1: the head or a length breaks the arena's rules.
     BadShape,
@@ -335,7 +344,7 @@ impl Refusal {
 }
 
 /// A call's answer. Busy is no refusal. `AllGranted` and `RefusedAt` (with the key's position) are multi-lock's alone.
-#[derive(Clone, Copy, Debug, PartialEq, Eq)]
+#[derive(Clone, Copy, Debug, PartialEq, Eq, Hash)]
 pub enum Answer {
     /// What was asked is done.
     Done,
@@ -753,7 +762,7 @@ impl<'a> Arena<'a> {
     ///
     /// Bindings 1 and 2 both name header 1, so two of these three keys are one cell:
     ///
-    /// ```no_run
+    /// ```
     /// use skid::{Answer, Arena, Key, Lease, Script};
     ///
     /// let (mut table, mut health) = ([0u32; 24], [0u8; 2]);

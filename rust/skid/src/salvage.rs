@@ -2,7 +2,7 @@
 use crate::{raw, Arena, Head};
 
 /// A word or byte that a salvage changed.
-#[derive(Clone, Copy, Debug, Default, PartialEq, Eq)]
+#[derive(Clone, Copy, Debug, Default, PartialEq, Eq, PartialOrd, Ord, Hash)]
 #[repr(C)]
 pub struct Change {
     /// A word of the table, from 0; from 3 x H x B on, a health byte.
@@ -23,7 +23,8 @@ pub struct Salvaged {
 }
 
 /// The refusals of a salvage. Each changes no lent word.
-#[derive(Clone, Copy, Debug, PartialEq, Eq)]
+#[derive(Clone, Copy, Debug, PartialEq, Eq, Hash)]
+#[non_exhaustive]
 pub enum SalvageRefusal {
     /// Document 01's 1: the head or a length breaks the arena's rules.
     BadShape,
@@ -44,7 +45,7 @@ impl<'a> Arena<'a> {
     /// accepted again. A cell left held is not thereby confirmed: its owner is to confirm the lease or to drop it. RAM
     /// may have left one serial as the owner of two cells; both stand in the list, and the table says who owns each.
     ///
-    /// ```no_run
+    /// ```
     /// use skid::{Arena, Change, Head};
     ///
     /// # let (mut table, mut health) = ([0u32; 24], [0u8; 2]);

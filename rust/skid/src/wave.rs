@@ -1,7 +1,7 @@
 //! The waveform of the cells (document 02, L11): their bits over a history as a value change dump (IEEE 1364), for a
 //! viewer, and back.
 //!
-//! ```no_run
+//! ```
 //! use skid::{wave, Step};
 //!
 //! let mut text = [0u8; 136];
@@ -18,7 +18,8 @@ pub const CELLS: u32 = 94;
 pub const LONGEST: usize = 319_088;
 
 /// Why nothing was written.
-#[derive(Clone, Copy, Debug, PartialEq, Eq)]
+#[derive(Clone, Copy, Debug, PartialEq, Eq, Hash)]
+#[non_exhaustive]
 pub enum NotWritten {
     /// Refusal 2: more than 32,768 steps.
     BadScript,
@@ -29,7 +30,8 @@ pub enum NotWritten {
 }
 
 /// Why nothing was read.
-#[derive(Clone, Copy, Debug, PartialEq, Eq)]
+#[derive(Clone, Copy, Debug, PartialEq, Eq, Hash)]
+#[non_exhaustive]
 pub enum NotRead {
     /// No dump begins with this line, from 1, and those before it.
     BadLine(usize),
@@ -58,7 +60,7 @@ pub fn write(cells: u32, history: &[Step], text: &mut [u8]) -> Result<usize, Not
     }
 }
 
-/// Reads back what [`write`] can have written, and nothing else: a history with the same bits at the same steps, other
+/// Reads back what [`write()`] can have written, and nothing else: a history with the same bits at the same steps, other
 /// words 0. Steps behind it are left alone, and a refusal changes none.
 pub fn read(text: &[u8], history: &mut [Step]) -> Result<Read, NotRead> {
     let words = raw::read_dump(text, raw::words_mut(history));
