@@ -172,7 +172,7 @@ fn a_slip_is_found_and_its_history_cut() {
         (Slip::Waiters, 100, "drop_lease, table[", 4),
         (
             Slip::Keys,
-            4_000,
+            1_000,
             "acquire_index_locks, reply[14]: proved 165",
             6,
         ),
