@@ -74,7 +74,7 @@ files() {
             path = $0
             do path_and_name(path); while (sub(/\/[^\/]*$/, "", path))
             path = $0
-            if (sub(/^crates\/[a-z]+\//, "", path)) path_and_name(path)
+            if (sub(/^crates\/[a-z_]+\//, "", path)) path_and_name(path)
             path = $0
             if (sub(/\/must-fail\//, "/", path) && sub(/\.edit$/, "", path) && sub(/^crates\//, "", path)) path_and_name(path)
         }'
@@ -193,7 +193,7 @@ wrong_names() {
             where = cell[3]
             file = quoted(where)
             gsub(/^ +|, `.*| +$/, "", where)
-            if (where in crate && cell[3] ~ /^ [a-z]+(, `[A-Z][A-Za-z]*`)? $/) judge_in(cell[2], where, file)
+            if (where in crate && cell[3] ~ /^ [a-z_]+(, `[A-Z][A-Za-z]*`)? $/) judge_in(cell[2], where, file)
         }
         FNR == 1 { fenced = 0 }
         /^ *```/ { fenced = !fenced; next }
