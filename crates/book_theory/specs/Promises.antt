@@ -1,30 +1,13 @@
--- From promise to theorem: two replies that meet a book call's promise are equal, with every byte of the book, and they are what the items of a
--- history do. Each premise is the equation of the code's promise, word for word.
+-- From promise to theorem: what meets a book call's promise is what the item of a history does. Each premise is the equation of the code's promise, word for word.
 use Prim.Native.Nat.{ℕ}
 use mathlib.Core.Path.{_≡_, ap}
 use mathlib.Core.List.{List, _∷_}
-use Rattle.choice.specs.Pick.{determined}
 use Rattle.types.specs.declared.Head.{Head}
 use Rattle.types.specs.declared.Lease.{Lease}
 use Rattle.setpoint.specs.declared.Setpoint.{Setpoint}
 use Rattle.book_rules.specs.Calls.{prepareBookOf, writeSetpointOf, readSetpointOf, readVersionOf}
 use Rattle.book_rules.specs.declared.BookAnswer.{BookAnswer}
 use Rattle.book_theory.specs.Items.{prepare-book, write-setpoint, read-setpoint, read-version, prepared, wrote, was-read, version-read, Shift, shiftOf, world-of, head-of, next-shift}
-
--- ---- nothing is left open
-
-pub prepare-book-determined : (h : Head) (book : List ℕ) (a b : BookAnswer × List ℕ) → a ≡ prepareBookOf h book → b ≡ prepareBookOf h book → a ≡ b
-prepare-book-determined h book a b p q = determined p q
-
-pub write-setpoint-determined : (h : Head) (t book : List ℕ) (slot : ℕ) (l : Lease) (s : Setpoint) (a b : BookAnswer × List ℕ)
-    → a ≡ writeSetpointOf h t book slot l s → b ≡ writeSetpointOf h t book slot l s → a ≡ b
-write-setpoint-determined h t book slot l s a b p q = determined p q
-
-pub read-setpoint-determined : (h : Head) (book : List ℕ) (slot : ℕ) (a b : BookAnswer) → a ≡ readSetpointOf h book slot → b ≡ readSetpointOf h book slot → a ≡ b
-read-setpoint-determined h book slot a b p q = determined p q
-
-pub read-version-determined : (h : Head) (book : List ℕ) (slot w : ℕ) (a b : BookAnswer) → a ≡ readVersionOf h book slot w → b ≡ readVersionOf h book slot w → a ≡ b
-read-version-determined h book slot w a b p q = determined p q
 
 -- ---- what meets the promise is the item of a history
 

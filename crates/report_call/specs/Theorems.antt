@@ -1,4 +1,4 @@
--- What the report's one equation leaves: nothing open, and every byte behind the text as it was.
+-- What the report's one equation leaves: every byte behind the text as it was.
 use Prim.Native.Nat.{ℕ, suc, _+_, _≤_}
 use mathlib.Core.Path.{_≡_, refl, _∙_}
 use mathlib.Core.List.{List, [], _∷_}
@@ -6,13 +6,8 @@ use native.Mathlib.Omega.{arith}
 use lib.ListN.{length, getD, set}
 use lib.Seq.{sets, getD-set-other}
 use borrow.Author.Tests.{le-ltb}
-use Rattle.choice.specs.Pick.{determined}
 use Rattle.report_rules.specs.declared.Reported.{Reported}
 use Rattle.report_rules.specs.Report.{answerOf, reportOf}
-
--- two replies that meet the promise are equal
-pub report-determined : (input out : List ℕ) (a b : Reported × List ℕ) → a ≡ reportOf input out → b ≡ reportOf input out → a ≡ b
-report-determined input out a b p q = determined p q
 
 sets-behind : (l x : List ℕ) (i k : ℕ) → i + length x ≤ k → getD (sets l i x) k 0 ≡ getD l k 0
 sets-behind l [] i k h = refl

@@ -10,7 +10,7 @@ use lib.Dec.{ltb}
 use lib.ListN.{length, getD, take, drop, length-append, length-drop, List·getD-append}
 use lib.Seq.{take-at, drop-at, getD-append-add}
 use borrow.Author.Tests.{ltb-true, lt-ltb}
-use Rattle.choice.specs.Pick.{both, determined}
+use Rattle.choice.specs.Pick.{both}
 use Rattle.model.specs.Arena.{cellsOf, leaseOf, holdOf, bitAt, ownerAt, stateAt, isLive, shapeFits, healthFits}
 use Rattle.model.specs.Log.{Event, by-caller, released, Made}
 use Rattle.model.specs.Salvage.{Salvage, mendedTable, mendedHealth, changesOf, entriesOf, leftHeld, overOf, isReportFull, unsalvaged, concluded, mendOf, salvageOf}
@@ -405,9 +405,3 @@ apart-from-there k i h t g report list e n items x d on = (there, back)
         let o = onward.begins-there k i h t g report list e n items x d on in
         let a : Apart (rescued h t g report list) = apart-of h (tableIn m) (healthIn m) (listIn m) list n l q in
         subst (λ (w : World). Apart (now w before)) o (onward.kept k i h t g report list e n items x d on .apart (subst Apart (sym o) a) before after p)
-
--- ---- two replies that meet `salvage`'s promise are equal, with every lent word
-
-pub salvage-determined : (h : Head) (t g report list : List ℕ) (a b : Salvage)
-    → a ≡ salvageOf h t g report list → b ≡ salvageOf h t g report list → a ≡ b
-salvage-determined h t g report list a b p q = determined p q

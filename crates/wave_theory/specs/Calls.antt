@@ -1,4 +1,4 @@
--- The two calls: what is written reads back, and what is read is written again; two replies to one call are equal.
+-- The two calls: what is written reads back, and what is read is written again.
 use Prim.Native.Nat.{ℕ, _+_, _*_, _/_, _≤_}
 use mathlib.Core.Path.{_≡_, refl, _∙_}
 use mathlib.Core.List.{List, [], _∷_}
@@ -9,7 +9,6 @@ use lib.ListN.{length, getD, take, drop}
 use lib.Seq.{sets, sets-eq, take-at}
 use borrow.Author.Tests.{le-ltb, ltb-false}
 use Rattle.choice.specs.Choice.{if_then_else_}
-use Rattle.choice.specs.Pick.{determined}
 use Rattle.wave_rules.specs.declared.Dumped.{Dumped}
 use Rattle.wave_rules.specs.declared.Dumped.the-variants as dumped
 use Rattle.wave_rules.specs.declared.Undumped.{Undumped}
@@ -22,16 +21,6 @@ use Rattle.wave_rules.specs.Stages.{idle-length}
 use Rattle.wave_theory.specs.Bits.{bitsAfter}
 use Rattle.wave_theory.specs.Image.{image}
 use Rattle.wave_theory.specs.Round.{trimOf, round-trip, same-bits}
-
--- ---- two replies that meet a promise are equal
-
-pub write-determined : (n : ℕ) (script out : List ℕ) (a b : Dumped × List ℕ) → a ≡ writeOf n script out
-    → b ≡ writeOf n script out → a ≡ b
-write-determined n script out a b p q = determined p q
-
-pub read-determined : (text out : List ℕ) (a b : Undumped × List ℕ) → a ≡ readIntoOf text out → b ≡ readIntoOf text out
-    → a ≡ b
-read-determined text out a b p q = determined p q
 
 -- ---- what the writer writes
 
