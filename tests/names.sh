@@ -74,7 +74,7 @@ files() {
             path = $0
             do path_and_name(path); while (sub(/\/[^\/]*$/, "", path))
             path = $0
-            if (sub(/^crates\/[a-z]+\//, "", path)) path_and_name(path)
+            if (sub(/^crates\/[a-z_]+\//, "", path)) path_and_name(path)
             path = $0
             if (sub(/\/must-fail\//, "/", path) && sub(/\.edit$/, "", path) && sub(/^crates\//, "", path)) path_and_name(path)
         }'
