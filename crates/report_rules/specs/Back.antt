@@ -1,51 +1,17 @@
 -- What a bench writes is read: trials written as lines are read as these trials, up to 1,000; with more of them line 1,001 is bad.
-use Prim.Native.Nat.{ℕ, zero, suc, _+_, _*_, _^_, _≤_, _<_}
-use mathlib.Core.Logic.{_≢_}
+use Prim.Native.Nat.{ℕ, zero, suc, _+_, _≤_, _<_}
 use mathlib.Core.Path.{_≡_, refl, sym, ap, _∙_}
 use mathlib.Core.List.{List, [], _∷_, _++_, append-assoc}
-use mathlib.Core.Bool.{true, false}
+use mathlib.Core.Bool.{true}
 use native.Mathlib.Omega.{arith}
-use lib.Dec.{ltb}
 use lib.ListN.{length, getD, drop, length-append}
 use lib.Seq.{drop-append-seam, getD-append-seam}
-use borrow.Author.Tests.{ne-eqb, lt-ltb, le-ltb, le-leb}
-use Rattle.choice.specs.Choice.{if_then_else_}
-use Rattle.io.specs.Digits.{digits, Fewest}
-use Rattle.print.specs.Print.{placesOf, decimalOf}
-use Rattle.print.specs.Laws.{length-decimal, places-are}
-use Rattle.print.specs.Back.{value-digits, count-digits, unpadded}
-use Rattle.text.specs.declared.Number.{Number}
-use Rattle.text.specs.Text.{isDigit, digitsIn, valueFrom, noNumber, endedNumberOf, readNumberOf}
+use borrow.Author.Tests.{lt-ltb, le-ltb, le-leb}
+use Rattle.text.specs.Text.{isDigit, digitsIn}
+use Rattle.text.specs.Decimal.{placesOf, decimalOf, length-decimal}
+use Rattle.text.specs.Back.{wholeNumber, number-back}
 use Rattle.report_rules.specs.declared.Trial.{Trial}
 use Rattle.report_rules.specs.Reading.{Small, badLine, results, onto, fitsOf, endAt, refusalAt, lineAt, readFrom, readOf}
-
--- ---- a number that is written is read
-
-abbrev wholeNumber : ℕ → Number
-wholeNumber n = record { fine = true; value = n; digits = placesOf n }
-
-stop-value : (v b : ℕ) (r : List ℕ) → isDigit b ≡ false → valueFrom v (b ∷ r) ≡ v
-unfolding valueFrom
-stop-value v b r e = rw e
-
-stop-count : (b : ℕ) (r : List ℕ) → isDigit b ≡ false → digitsIn (b ∷ r) ≡ 0
-unfolding digitsIn
-stop-count b r e = rw e
-
--- up to a byte that is no digit
-number-back : (n b : ℕ) (r : List ℕ) → n ≤ 262144 → isDigit b ≡ false → readNumberOf (decimalOf n ++ (b ∷ r)) ≡ wholeNumber n
-unfolding decimalOf readNumberOf endedNumberOf
-number-back n b r h stop = go (places-are n (omega arith))
-  where
-    go : Fewest 10 1 n (placesOf n)
-        → (if ltb 4294967295 (valueFrom 0 (digits 10 (placesOf n) n ++ (b ∷ r))) then noNumber
-        else endedNumberOf (getD (digits 10 (placesOf n) n ++ (b ∷ r)) 0 0) (digitsIn (digits 10 (placesOf n) n ++ (b ∷ r))) (valueFrom 0 (digits 10 (placesOf n) n ++ (b ∷ r)))) ≡ wholeNumber n
-    go f =
-        let v : valueFrom 0 (digits 10 (placesOf n) n ++ (b ∷ r)) ≡ n = value-digits (placesOf n) n 0 (b ∷ r) (f .1) ∙ stop-value (10 ^ placesOf n * 0 + n) b r stop ∙ (omega arith) in
-        let c : digitsIn (digits 10 (placesOf n) n ++ (b ∷ r)) ≡ placesOf n = count-digits (placesOf n) n (b ∷ r) ∙ rw (stop-count b r stop) (omega arith) in
-        let small : n ≤ 4294967295 = omega arith in
-        let some : placesOf n ≢ 0 = omega (arith, f .0) in
-        rw (v, c, le-ltb _ _ small, ne-eqb _ _ some, unpadded (placesOf n) n (b ∷ r) f)
 
 -- ---- a line that is written is read
 
@@ -76,7 +42,7 @@ end-back x at attempts refusal y e = rw (seam-get x at 10 y e)
 refusal-back : (x : List ℕ) (at attempts refusal : ℕ) (y : List ℕ) → length x ≡ at → refusal ≤ 16
     → refusalAt (x ++ (32 ∷ (decimalOf refusal ++ (10 ∷ y)))) at attempts
     ≡ record { fine = true; trial = record { attempts = attempts; refusal = refusal }; next = at + 1 + placesOf refusal + 1 }
-unfolding refusalAt isDigit
+unfolding refusalAt digitsIn isDigit
 refusal-back x at attempts refusal y e h =
     let space : List ℕ = x ++ (32 ∷ []) in
     let number : List ℕ = decimalOf refusal in
@@ -85,12 +51,12 @@ refusal-back x at attempts refusal y e h =
     let d : drop (at + 1) (x ++ (32 ∷ (number ++ (10 ∷ y)))) ≡ number ++ (10 ∷ y) = rw p (seam-drop space (at + 1) (number ++ (10 ∷ y)) n) in
     let q : x ++ (32 ∷ (number ++ (10 ∷ y))) ≡ (space ++ number) ++ (10 ∷ y) = p ∙ sym (append-assoc space number (10 ∷ y)) in
     let m : length (space ++ number) ≡ at + 1 + placesOf refusal = length-append space number ∙ omega (arith, n, length-decimal refusal) in
-    rw (seam-get x at 32 (number ++ (10 ∷ y)) e, d, number-back refusal 10 y (omega arith) refl, fits-whole refusal 16 h, q)
+    rw (seam-get x at 32 (number ++ (10 ∷ y)) e, d, number-back refusal (10 ∷ y) (omega arith) refl, fits-whole refusal 16 h, q)
     (end-back (space ++ number) (at + 1 + placesOf refusal) attempts refusal y m)
 
 line-back : (x : List ℕ) (t : Trial) (y : List ℕ) → Small t
     → lineAt (x ++ (lineOf t ++ y)) (length x) ≡ record { fine = true; trial = t; next = length (x ++ lineOf t) }
-unfolding lineAt lineOf isDigit
+unfolding lineAt lineOf digitsIn isDigit
 line-back x t y s =
     let number : List ℕ = decimalOf (t .attempts) in
     let after : List ℕ = 32 ∷ (decimalOf (t .refusal) ++ (10 ∷ y)) in
@@ -108,7 +74,7 @@ line-back x t y s =
       length-decimal (t .attempts),
       length-decimal (t .refusal),
     ) in
-    rw (n, p, drop-append-seam x (number ++ after), number-back (t .attempts) 32 (decimalOf (t .refusal) ++ (10 ∷ y)) (s .tries) refl, fits-whole (t .attempts) 262144 (s .tries), q)
+    rw (n, p, drop-append-seam x (number ++ after), number-back (t .attempts) after (omega (arith, s .tries)) refl, fits-whole (t .attempts) 262144 (s .tries), q)
     (refusal-back (x ++ number) (length x + placesOf (t .attempts)) (t .attempts) (t .refusal) y m (s .known))
 
 -- ---- the whole

@@ -4,7 +4,8 @@ use mathlib.Core.List.{List, [], _∷_}
 use Prim.Native.Nat.{ℕ}
 use Rattle.model.specs.Names.{names, nameOf}
 use Rattle.text.specs.Text.{isDigit, digitsIn, valueFrom, endedNumberOf, readNumberOf}
-use Rattle.print.specs.Print.{placesIn, placesOf, decimalOf, pieceOf, afterOf, formFrom, formOf}
+use Rattle.text.specs.Decimal.{placesIn, placesOf, decimalOf}
+use Rattle.print.specs.Print.{pieceOf, afterOf, formFrom, formOf}
 use Rattle.report_rules.specs.Reading.{badLine, results, trialOf, fitsOf, endAt, refusalAt, lineAt, readFrom, readOf}
 use Rattle.report_rules.specs.Sums.{countOf, attemptsOf, greatestOf}
 use Rattle.report_rules.specs.Report.{headOf, rowOf, rowsOf, textOf, badText, answerOf}

@@ -6,7 +6,7 @@ use mathlib.Core.Bool.{Bool, false}
 use lib.Dec.{eqb, ltb}
 use lib.ListN.{length, getD, set, replicate}
 use Rattle.choice.specs.Choice.{if_then_else_}
-use Rattle.wave_rules.specs.Decimal.{decimalOf}
+use Rattle.text.specs.Decimal.{decimalOf}
 use Rattle.wave_rules.specs.Lines.{joined}
 
 -- ---- the bits

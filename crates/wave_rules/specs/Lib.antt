@@ -1,6 +1,5 @@
 pub mod Answers
 pub mod Calls
-pub mod Decimal
 pub mod Dump
 pub mod Examples
 pub mod Limits

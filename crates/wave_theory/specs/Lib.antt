@@ -1,7 +1,6 @@
 pub mod Bits
 pub mod Calls
 pub mod Image
-pub mod Numbers
 pub mod Round
 pub mod Texts
 pub mod Theorems

@@ -11,9 +11,9 @@ use borrow.Author.Tests.{eqb-true, ne-eqb, lt-ltb, le-ltb, le-leb}
 use Rattle.choice.specs.Choice.{if_then_else_}
 use Rattle.io.specs.Digits.{glyph, digits}
 use Rattle.text.specs.declared.Number.{Number}
-use Rattle.wave_rules.specs.Decimal.{decimalOf, placesOf}
-use Rattle.print.specs.Back.{glyph-is}
-use Rattle.wave_theory.specs.Numbers.{number-printed}
+use Rattle.text.specs.Text.{digitsIn}
+use Rattle.text.specs.Decimal.{decimalOf, placesOf}
+use Rattle.text.specs.Back.{glyph-is, number-back}
 use Rattle.wave_rules.specs.Lines.{Items, line, same}
 use Rattle.wave_theory.specs.Texts.{itemsOf, plain, allPlain, same-refl, split-joined}
 use Rattle.wave_theory.specs.Bits.{bitsAfter}
@@ -44,8 +44,8 @@ lastOf n t last bits (kind ∷ cell ∷ number ∷ rest) = if changesOf n bits k
 -- ---- single lines
 
 pub time-in : (t : ℕ) → t < 100000 → timeIn (timeLine t) ≡ t
-unfolding timeIn timeLine
-time-in t h = ap (λ (o : Number). o .value) (number-printed t h)
+unfolding timeIn timeLine digitsIn
+time-in t h = ap (λ (o : Number). o .value) (rw (append-nil (decimalOf t)) at (number-back t [] (omega arith) refl))
 
 pub is-time : (last t : ℕ) → last < t → t ≤ 32768 → isTime last (timeLine t) ≡ true
 unfolding isTime

@@ -4,32 +4,19 @@ use mathlib.Core.Path.{_≡_, refl, sym, ap, _∙_}
 use mathlib.Core.List.{List, [], _∷_, _++_, append-assoc}
 use mathlib.Core.Bool.{Bool, true, false}
 use native.Mathlib.Omega.{arith}
-use lib.Dec.{eqb, ltb}
-use lib.ListN.{length, getD, drop, take, length-append, length-drop}
+use lib.Dec.{eqb}
+use lib.ListN.{length, getD, drop, length-append, length-drop}
 use lib.Seq.{sets, drop-cons}
 use borrow.Author.Tests.{eqb-true}
 use Rattle.choice.specs.Choice.{if_then_else_}
-use Rattle.io.specs.Digits.{digits, Fewest}
 use Rattle.print.specs.Print.{putOf}
-use Rattle.print.specs.Laws.{put-none, put-join, put-place, length-digits, fewest-one}
-use Rattle.wave_rules.specs.Decimal.{placesOf, decimalOf, fewest-is}
+use Rattle.print.specs.Laws.{put-none, put-join, put-place}
+use Rattle.text.specs.Decimal.{placesIn, placesOf, decimalOf, length-decimal, places-most, places-few}
 use Rattle.wave_rules.specs.Lines.{joined}
 use Rattle.wave_rules.specs.Dump.{noBits, turns, turned, changesOf, flipOf, timescale, scopeLine, upscope, endLine, timeLine, bitLine, varLine, varsOf, firstOf, bodyOf, middleOf, linesOf, dumpOf}
 use Rattle.wave_rules.specs.declared.Dumped.{Dumped}
 use Rattle.wave_rules.specs.declared.Dumped.the-variants.{Written}
 use Rattle.wave_write.specs.Writer.{wantedOf, flippedOf, stepOf, weighOf, headOf}
-
--- ---- numbers
-
-pub length-decimal : (n : ℕ) → length (decimalOf n) ≡ placesOf n
-unfolding decimalOf
-length-decimal n = length-digits (placesOf n) n
-
--- the fewest digits are those of the number
-pub decimal-is : (n k : ℕ) (l : List ℕ) → n < 100000 → Fewest 10 1 n k → take k l ≡ digits 10 k n
-    → take k l ≡ decimalOf n
-unfolding decimalOf
-decimal-is n k l h f e = let p : k ≡ placesOf n = fewest-one n k (placesOf n) f (fewest-is n h) in e ∙ ap (λ (i : ℕ). digits 10 i n) p
 
 -- ---- lines
 
@@ -160,16 +147,9 @@ put-two l m i j x y ls e =
     let p : joined (x ∷ y ∷ ls) ≡ joined (x ∷ y ∷ []) ++ joined ls = joined-line x (y ∷ ls) ∙ ap (λ (o : List ℕ). joined (x ∷ []) ++ o) (joined-line y ls) ∙ sym (append-assoc (joined (x ∷ [])) (joined (y ∷ [])) (joined ls)) ∙ ap (λ (o : List ℕ). o ++ joined ls) (sym (joined-line x (y ∷ []))) in
     rw p (put-join l m (putOf m j (joined ls) .1) i j (putOf m j (joined ls) .0) (joined (x ∷ y ∷ [])) (joined ls) e refl)
 
-pub places-few : (t : ℕ) → placesOf t ≤ 5
-unfolding placesOf
-places-few t = go (ltb t 10) (ltb t 100) (ltb t 1000) (ltb t 10000)
-  where
-    go : (a b c d : Bool) → (if a then 1 else if b then 2 else if c then 3 else if d then 4 else 5) ≤ 5
-    go true b c d = omega arith
-    go false true c d = omega arith
-    go false false true d = omega arith
-    go false false false true = omega arith
-    go false false false false = omega arith
+-- the number of a cell or of a step
+pub five-places : (t : ℕ) → t < 100000 → placesOf t ≤ 5
+five-places t h = places-few t 5 (omega arith) (omega arith) (omega arith)
 
 -- ---- a loop over steps: one turn, and the end
 
@@ -233,11 +213,11 @@ body-room n t bits script i out m at j y h c e =
     omega (arith, s, ap (λ (ls : List (List ℕ)). length (joined ls)) d, change-size t (turned (getD bits (getD script (i + 1) 0) 0)) (getD script (i + 1) 0) (bodyOf n (t + 1) (flipOf bits (getD script (i + 1) 0)) (drop (i + 3) script)))
 
 -- weighing the lines of a step leaves the rest to weigh
-pub body-less : (n t : ℕ) (bits script : List ℕ) (i r : ℕ) (b : List ℕ) → i + 2 < length script
+pub body-less : (n t : ℕ) (bits script : List ℕ) (i r : ℕ) (b : List ℕ) → i + 2 < length script → t < 100000
     → (r, b) ≡ weighOf n t bits (getD script i 0) (getD script (i + 1) 0)
     → (r + length (joined (bodyOf n (t + 1) b (drop (i + 3) script))) ≡ length (joined (bodyOf n t bits (drop i script)))) × (r ≤ 10)
 unfolding weighOf
-body-less n t bits script i r b h e = rw (body-at n t bits script i h) (go (changesOf n bits (getD script i 0) (getD script (i + 1) 0)) e)
+body-less n t bits script i r b h few e = rw (body-at n t bits script i h) (go (changesOf n bits (getD script i 0) (getD script (i + 1) 0)) e)
   where
     go : (z : Bool)
         → _≡_ {A = ℕ × List ℕ} (r, b) (if z then (placesOf t + 5, flipOf bits (getD script (i + 1) 0)) else (0, bits))
@@ -248,7 +228,7 @@ body-less n t bits script i r b h e = rw (body-at n t bits script i h) (go (chan
     go true f =
         let p : r ≡ placesOf t + 5 = ap (λ (q : ℕ × List ℕ). q .0) f in
         let q : b ≡ flipOf bits (getD script (i + 1) 0) = ap (λ (q : ℕ × List ℕ). q .1) f in
-        rw q (omega (arith, p, change-size t (turned (getD bits (getD script (i + 1) 0) 0)) (getD script (i + 1) 0) (bodyOf n (t + 1) (flipOf bits (getD script (i + 1) 0)) (drop (i + 3) script))), omega (arith, p, places-few t))
+        rw q (omega (arith, p, change-size t (turned (getD bits (getD script (i + 1) 0) 0)) (getD script (i + 1) 0) (bodyOf n (t + 1) (flipOf bits (getD script (i + 1) 0)) (drop (i + 3) script))), omega (arith, p, five-places t few))
     go false f =
         let p : r ≡ 0 = ap (λ (q : ℕ × List ℕ). q .0) f in
         let q : b ≡ bits = ap (λ (q : ℕ × List ℕ). q .1) f in
@@ -283,7 +263,7 @@ dump-parts n script =
     joined-append (timescale ∷ scopeLine ∷ []) (varsOf 0 n m) ∙ ap (λ (o : List ℕ). joined (timescale ∷ scopeLine ∷ []) ++ o) v ∙ simp append-assoc
 
 pub head-size : (n : ℕ) → length (headOf n) ≡ 80 + (length (joined (varsOf 0 n [])) + length (joined (firstOf 0 n [])))
-unfolding headOf joined timescale scopeLine upscope endLine timeLine decimalOf placesOf
+unfolding headOf joined timescale scopeLine upscope endLine timeLine decimalOf placesOf placesIn
 head-size n = simp length-append (omega arith)
 
 -- ---- what a step's function leaves
@@ -322,11 +302,11 @@ pub head-end : (n c : ℕ) → n ≤ c → length (joined (varsOf c (n - c) []))
 unfolding joined
 head-end n c h = rw (vars-end n c [] h, first-end n c [] h)
 
-pub head-few : (left c : ℕ) → length (joined (varsOf c left [])) + length (joined (firstOf c left [])) ≤ 29 * left
+pub head-few : (left c : ℕ) → length (joined (varsOf c left [])) + length (joined (firstOf c left [])) ≤ 44 * left
 unfolding varsOf firstOf joined
 head-few zero c = omega arith
 head-few (suc left) c =
-    omega (arith, length-append (varLine c) (10 ∷ joined (varsOf (c + 1) left [])), length-append (bitLine 0 c) (10 ∷ joined (firstOf (c + 1) left [])), length-var c, length-bit 0 c, places-few c, head-few left (c + 1))
+    omega (arith, length-append (varLine c) (10 ∷ joined (varsOf (c + 1) left [])), length-append (bitLine 0 c) (10 ∷ joined (firstOf (c + 1) left [])), length-var c, length-bit 0 c, places-most c, head-few left (c + 1))
 
 pub dump-size : (n : ℕ) (script : List ℕ)
     → length (dumpOf n script) ≡ length (headOf n) + length (joined (bodyOf n 1 noBits script))

@@ -6,7 +6,7 @@ use lib.Dec.{eqb}
 use lib.ListN.{getD}
 use Rattle.choice.specs.Choice.{if_then_else_}
 use Rattle.print.specs.Print.{putOf}
-use Rattle.wave_rules.specs.Decimal.{placesOf}
+use Rattle.text.specs.Decimal.{placesOf}
 use Rattle.wave_rules.specs.Lines.{joined}
 use Rattle.wave_rules.specs.Dump.{turned, changesOf, flipOf, timescale, scopeLine, upscope, endLine, timeLine, bitLine, varsOf, firstOf}
 

@@ -1,6 +1,7 @@
 // The writer of the waveform (document 02, L11): first how long the dump is, so that nothing is written where it does
 // not fit, and then its bytes. Each function but `write` is a step: it may have a `requires`, which its callers prove.
 use print::put;
+use print::put_number;
 use wave_rules::Dumped;
 ghost use mathlib.Core.Path.{_≡_};
 ghost use Prim.Native.Nat.{_+_, _<_, _≤_};
@@ -8,30 +9,18 @@ ghost use mathlib.Core.Bool.{true};
 ghost use mathlib.Core.List.{[], _∷_};
 ghost use lib.ListN.{length};
 ghost use Rattle.print.specs.Print.{putOf};
-ghost use Rattle.wave_rules.specs.Decimal.{placesOf, decimalOf};
+ghost use Rattle.text.specs.Decimal.{placesOf};
 ghost use Rattle.wave_rules.specs.Lines.{joined};
 ghost use Rattle.wave_rules.specs.Dump.{noBits, changesOf, timeLine, bitLine, varLine, varsOf, firstOf, bodyOf};
 ghost use Rattle.wave_rules.specs.Dump.{turns as Dump·turns, turned as Dump·turned};
 ghost use Rattle.wave_rules.specs.Calls.{badHistory, tooWide, fittedOf, writeOf};
 ghost use Rattle.wave_write.specs.Writer.{wantedOf, flippedOf, stepOf, weighOf, headOf};
 
-// ---- numbers
-
-// Puts a number in decimal.
-fn put_number(out: &mut [u8], at: usize, t: usize) -> usize
-    requires { ⌜ (t < 100000) × (at + placesOf t ≤ length (now out)) ⌝ }
-    ensures { λ r. ⌜ (r, now (out .exit)) ≡ putOf (now (out .entry)) at (decimalOf t) ⌝ }
-{
-    let mut digits = [0u8; 20];
-    let k = io::decimal(t as u64, &mut digits);
-    put(out, at, &digits[..k])
-}
-
 // ---- lines
 
 // A step: the reader calls it too.
 pub fn put_time(out: &mut [u8], at: usize, t: usize) -> usize
-    requires { ⌜ (t < 100000) × (at + placesOf t + 2 ≤ length (now out)) ⌝ }
+    requires { ⌜ at + placesOf t + 2 ≤ length (now out) ⌝ }
     ensures { λ r. ⌜ (r, now (out .exit)) ≡ putOf (now (out .entry)) at (joined (timeLine t ∷ [])) ⌝ }
 {
     let a = put(out, at, b"#");
@@ -140,7 +129,7 @@ fn flip(n: usize, bits: &mut [u8; 94], kind: u32, cell: usize) -> bool
 }
 
 fn put_change(out: &mut [u8], at: usize, t: usize, bit: u8, cell: u8) -> usize
-    requires { ⌜ (t < 100000) × (bit ≤ 1) × (cell < 94) × (at + placesOf t + 5 ≤ length (now out)) ⌝ }
+    requires { ⌜ (bit ≤ 1) × (cell < 94) × (at + placesOf t + 5 ≤ length (now out)) ⌝ }
     ensures { λ r. ⌜ (r, now (out .exit))
         ≡ putOf (now (out .entry)) at (joined (timeLine t ∷ bitLine bit cell ∷ [])) ⌝ }
 {
@@ -168,8 +157,8 @@ fn step(
     out: &mut [u8],
     at: usize,
 ) -> usize
-    requires { ⌜ (n ≤ 94) × (t < 100000) × (changesOf n (now bits) kind cell ≡ true → at + placesOf t + 5 ≤
-        length (now out)) ⌝ }
+    requires { ⌜ (n ≤ 94) ×
+        (changesOf n (now bits) kind cell ≡ true → at + placesOf t + 5 ≤ length (now out)) ⌝ }
     ensures { λ r. ⌜ (r, (now (bits .exit), now (out .exit)))
         ≡ stepOf n t (now (bits .entry)) kind cell (now (out .entry)) at ⌝ }
 {
@@ -213,6 +202,7 @@ fn put_head(out: &mut [u8], n: u8) -> usize
 // ---- how long
 
 fn places(t: usize) -> usize
+    requires { ⌜ t < 100000 ⌝ }
     ensures { λ r. ⌜ r ≡ placesOf t ⌝ }
 {
     if t < 10 {
@@ -245,7 +235,7 @@ fn head_size(n: usize) -> usize
 
 // The bytes of one step, and the bits after it.
 fn weigh(n: usize, t: usize, bits: &mut [u8; 94], kind: u32, cell: usize) -> usize
-    requires { ⌜ n ≤ 94 ⌝ }
+    requires { ⌜ (n ≤ 94) × (t < 100000) ⌝ }
     ensures { λ r. ⌜ (r, now (bits .exit)) ≡ weighOf n t (now (bits .entry)) kind cell ⌝ }
 {
     if flip(n, bits, kind, cell) {

@@ -1,5 +1,5 @@
 -- `wave_line::next` meets its contract.
-use Rattle.wave_rules.specs.Decimal.{decimalOf, placesOf}
+use Rattle.text.specs.Decimal.{decimalOf, placesOf, placesIn}
 use Rattle.wave_rules.specs.Dump.{timescale, scopeLine, endLine, timeLine}
 use borrow.Author.Needs.{needs}
 use Rattle.wave_line.proofs.next.Statement.{statement}
@@ -105,7 +105,7 @@ unfolding endLine
 returns-4 c = rw (c .before .before .before .before .stage2 .given .1, ← c .before .same3 .ensures, ← c .fixed3 .ensures)
 
 returns-5 : tie.Need-returns-5
-unfolding timeLine decimalOf placesOf
+unfolding timeLine decimalOf placesOf placesIn
 returns-5 c = rw (c .before .before .before .before .stage3 .given .1, ← c .before .same4 .ensures, ← c .fixed4 .ensures)
 
 returns-6 : tie.Need-returns-6

@@ -49,7 +49,7 @@ add-size : tie.Need-add-size Inv-loop μ-loop
 add-size c =
     let l = c .before .before .before .before .before .loop in
     let a = c .before .before .before .before .before .before .before .args in
-    let f = body-less (a .n) (l .t) (l .bits) (a .script .now) (l .i) _ _ (search needs) (c .weigh .ensures) in
+    let f = body-less (a .n) (l .t) (l .bits) (a .script .now) (l .i) _ _ (search needs) (search needs) (c .weigh .ensures) in
     omega (arith, f .1, l .inv .0, l .inv .1, l .inv .2)
 
 add-t : tie.Need-add-t Inv-loop μ-loop
@@ -65,7 +65,7 @@ loop-again : tie.Need-loop-again Inv-loop μ-loop
 loop-again c =
     let l = c .before .before .before .before .before .loop in
     let a = c .before .before .before .before .before .before .before .args in
-    let f = body-less (a .n) (l .t) (l .bits) (a .script .now) (l .i) _ _ (search needs) (c .weigh .ensures) in
+    let f = body-less (a .n) (l .t) (l .bits) (a .script .now) (l .i) _ _ (search needs) (search needs) (c .weigh .ensures) in
     (omega (arith, f .1, l .inv .0), omega (arith, l .inv .1), search needs, omega (arith, f .0, l .inv .3))
 
 returns : tie.Need-returns Inv-loop μ-loop

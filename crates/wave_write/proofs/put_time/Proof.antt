@@ -1,11 +1,10 @@
 -- `wave_write::put_time` meets its contract.
 use mathlib.Core.List.{[], _∷_, _++_}
 use native.Mathlib.Omega.{arith}
-use Rattle.wave_rules.specs.Decimal.{decimalOf}
+use Rattle.text.specs.Decimal.{decimalOf, length-decimal}
 use Rattle.wave_rules.specs.Lines.{joined}
 use Rattle.wave_rules.specs.Dump.{timeLine}
 use Rattle.print.specs.Laws.{put-join, put-place}
-use Rattle.wave_write.specs.Laws.{length-decimal}
 use borrow.Author.Needs.{needs}
 use Rattle.wave_write.proofs.put_time.Statement.{statement}
 use Rattle.wave_write.proofs.put_time.Tie as tie

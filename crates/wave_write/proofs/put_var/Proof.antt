@@ -2,11 +2,10 @@
 use Prim.Native.Nat.{_+_}
 use mathlib.Core.List.{[], _∷_, _++_, append-assoc}
 use native.Mathlib.Omega.{arith}
-use Rattle.wave_rules.specs.Decimal.{decimalOf}
+use Rattle.text.specs.Decimal.{decimalOf, length-decimal}
 use Rattle.wave_rules.specs.Lines.{joined}
 use Rattle.wave_rules.specs.Dump.{varLine}
 use Rattle.print.specs.Laws.{put-join, put-place}
-use Rattle.wave_write.specs.Laws.{length-decimal}
 use borrow.Author.Needs.{needs}
 use Rattle.wave_write.proofs.put_var.Statement.{statement}
 use Rattle.wave_write.proofs.put_var.Tie as tie

@@ -1,6 +1,6 @@
 -- `wave_write::weigh` meets its contract.
 use native.Mathlib.Omega.{arith}
-use Rattle.wave_write.specs.Laws.{places-few, turn-true, turn-false, weigh-done, weigh-none}
+use Rattle.wave_write.specs.Laws.{five-places, turn-true, turn-false, weigh-done, weigh-none}
 use borrow.Author.Needs.{needs}
 use Rattle.wave_write.proofs.weigh.Statement.{statement}
 use Rattle.wave_write.proofs.weigh.Tie as tie
@@ -12,7 +12,7 @@ places-requires : tie.Need-places-requires
 places-requires c κs = search needs
 
 add-result : tie.Need-add-result
-add-result c = omega (arith, c .places .ensures, places-few (c .before .before .before .before .args .t))
+add-result c = omega (arith, c .places .ensures, five-places (c .before .before .before .before .args .t) (search needs))
 
 returns : tie.Need-returns
 returns c =
