@@ -2,14 +2,14 @@
 use Prim.Native.Nat.{ℕ, suc, _+_, _*_, _≤_, _<_}
 use mathlib.Core.Path.{_≡_, refl, sym, ap, _∙_}
 use mathlib.Core.List.{List, [], _∷_, _++_}
-use mathlib.Core.Bool.{Bool, true, false}
 use native.Mathlib.Omega.{arith}
 use native.Mathlib.Numerals.{add-one}
 use lib.Dec.{eqb}
 use lib.ListN.{length, getD, drop, set, length-append, drop-of-length-le}
 use lib.Seq.{sets, drop-cons}
-use Rattle.choice.specs.Choice.{if_then_else_}
-use Rattle.text.specs.Decimal.{decimalOf, length-decimal, places-most}
+use Rattle.choice.specs.Pick.{if-both}
+use Rattle.text.specs.Laws.{drop-one}
+use Rattle.text.specs.Decimal.{length-decimal, places-most}
 use Rattle.print.specs.Print.{putOf, pieceOf, afterOf, formFrom, formOf}
 
 -- ---- bytes
@@ -57,22 +57,12 @@ put-place l m i j x e = ap (λ (o : ℕ × List ℕ). o .0) e
 
 pub piece-few : (numbers : List ℕ) (k b : ℕ) → length (pieceOf numbers k b) ≤ 20
 unfolding pieceOf
-piece-few numbers k b = go (eqb b 35)
-  where
-    go : (t : Bool) → length (if t then decimalOf (getD numbers k 0) else (b ∷ [])) ≤ 20
-    go true = omega (arith, length-decimal (getD numbers k 0), places-most (getD numbers k 0))
-    go false = omega arith
+piece-few numbers k b =
+    if-both (λ (l : List ℕ). length l ≤ 20) (eqb b 35) (omega (arith, length-decimal (getD numbers k 0), places-most (getD numbers k 0))) (omega arith)
 
 pub after-next : (k b : ℕ) → afterOf k b ≤ k + 1
 unfolding afterOf
-after-next k b = go (eqb b 35)
-  where
-    go : (t : Bool) → (if t then k + 1 else k) ≤ k + 1
-    go true = omega arith
-    go false = omega arith
-
-drop-one : (l : List ℕ) (i : ℕ) → i < length l → drop i l ≡ getD l i 0 ∷ drop (i + 1) l
-drop-one l i b = rw (add-one i) (drop-cons l i 0 b)
+after-next k b = if-both (λ (n : ℕ). n ≤ k + 1) (eqb b 35) (omega arith) (omega arith)
 
 form-at : (numbers form : List ℕ) (k i : ℕ) → i < length form
     → formFrom numbers k (drop i form) ≡ pieceOf numbers k (getD form i 0) ++ formFrom numbers (afterOf k (getD form i 0)) (drop (i + 1) form)

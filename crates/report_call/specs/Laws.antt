@@ -1,5 +1,5 @@
 -- Laws of the report: one turn of each loop, bounds, and that a pass over the input leaves the sums over the trials that were read.
-use Prim.Native.Nat.{ℕ, zero, suc, _+_, _*_, _-_, _≤_, _<_}
+use Prim.Native.Nat.{ℕ, zero, suc, _+_, _-_, _≤_, _<_}
 use mathlib.Core.Logic.{_≢_}
 use mathlib.Core.Path.{_≡_, refl, sym, ap, _∙_}
 use mathlib.Core.List.{List, [], _∷_, _++_}
@@ -7,9 +7,9 @@ use mathlib.Core.Bool.{Bool, true, false}
 use native.Mathlib.Omega.{arith}
 use native.Mathlib.Decide.{ℕ-discrete, decLt}
 use lib.Dec.{eqb, ltb, leb}
-use lib.ListN.{length, getD, drop, set, replicate, length-set, length-append, length-drop, length-replicate, getD-replicate, List·getD-eq-default}
+use lib.ListN.{length, getD, drop, set, replicate, length-set, length-append, length-drop, getD-replicate, List·getD-eq-default}
 use lib.Seq.{sets, set-out, getD-set-same, getD-set-other}
-use borrow.Author.Tests.{eqb-true, eqb-false, eq-eqb, ne-eqb, lt-ltb, le-ltb, ltb-true, ltb-false, leb-true}
+use borrow.Author.Tests.{eqb-true, eq-eqb, ne-eqb, lt-ltb, le-ltb, ltb-true, ltb-false, leb-true}
 use Rattle.choice.specs.Choice.{if_then_else_}
 use Rattle.text.specs.declared.Number.{Number}
 use Rattle.text.specs.Text.{readNumberOf}
@@ -26,7 +26,7 @@ use Rattle.report_rules.specs.Reading.{Small, Reading, badLine, results, onto, 
 use Rattle.report_rules.specs.Sums.{countOf, attemptsOf, largerOf, greatestOf}
 use Rattle.report_call.specs.Scan.{noSums, withOf, countedOf, addedOf, badOf, scanFrom, scanOf, Bounded, seenIn, printedOf}
 use Rattle.report_names.specs.Table.{name-short}
-use Rattle.report_rules.specs.Report.{headForm, numberForm, countForm, rowOf, rowsOf, headOf, textOf, badText, toldOf, answerOf, reportOf}
+use Rattle.report_rules.specs.Report.{headForm, numberForm, countForm, rowOf, rowsOf, headOf, textOf, toldOf, answerOf, reportOf}
 
 -- ---- a line that is read
 
@@ -95,7 +95,7 @@ refusal-good input from at attempts h p = go (eqb (getD input at 0) 32)
     go true = inner (fitsOf number 16) refl
     go false = nothing input from
 
-pub line-good : (input : List ℕ) (at : ℕ) → lineAt input at .fine ≡ true → Good input at (lineAt input at)
+line-good : (input : List ℕ) (at : ℕ) → lineAt input at .fine ≡ true → Good input at (lineAt input at)
 unfolding lineAt
 line-good input at = go (fitsOf number 262144) refl
   where
@@ -132,7 +132,7 @@ added-bounded s t counts r c h l m e =
       few = λ k. counted-few counts (t .refusal) (s .trials) k (h .few (t .refusal)) (h .few k);
     })
 
-pub nothing-bounded : (counts : List ℕ) → ((number : ℕ) → getD counts number 0 ≤ 0) → Bounded noSums counts
+nothing-bounded : (counts : List ℕ) → ((number : ℕ) → getD counts number 0 ≤ 0) → Bounded noSums counts
 nothing-bounded counts h = record { fine = refl; lines = omega arith; tries = omega arith; few = h }
 
 pub zeros-bounded : Bounded noSums (replicate 17 0)
@@ -144,7 +144,7 @@ zeros-bounded = nothing-bounded (replicate 17 0) (λ number. go number (decLt nu
 
 -- ---- the loop over lines: one turn, and its ends
 
-pub scan-at : (input : List ℕ) (at : ℕ) (s : Sums) (counts : List ℕ) → at < length input → s .trials < 1000
+scan-at : (input : List ℕ) (at : ℕ) (s : Sums) (counts : List ℕ) → at < length input → s .trials < 1000
     → scanFrom input (1000 - s .trials) at s counts
     ≡ (if lineAt input at .fine
     then scanFrom input (1000 - (s .trials + 1)) (lineAt input at .next) (addedOf s (lineAt input at .trial) counts .0) (addedOf s (lineAt input at .trial) counts .1)
@@ -256,7 +256,7 @@ counts-are counts (t ∷ ts) k h =
 
 -- ---- lines of refusals
 
-pub rows-same : (f g : ℕ → ℕ) (number left : ℕ) → ((k : ℕ) → k < number + left → f k ≡ g k) → rowsOf f number left ≡ rowsOf g number left
+rows-same : (f g : ℕ → ℕ) (number left : ℕ) → ((k : ℕ) → k < number + left → f k ≡ g k) → rowsOf f number left ≡ rowsOf g number left
 unfolding rowsOf
 rows-same f g number zero h = refl
 rows-same f g number (suc left) h =

@@ -1,13 +1,11 @@
 -- What one pass over the input leaves: the sums, and the counts by number. `Laws` proves that these are the sums over the trials that were read.
 use Prim.Native.Nat.{ℕ, zero, suc, _+_, _*_, _≤_}
 use mathlib.Core.Path.{_≡_}
-use mathlib.Core.List.{List, [], _∷_, _++_}
-use mathlib.Core.Bool.{true, false}
+use mathlib.Core.List.{List, _++_}
 use lib.Dec.{eqb, ltb}
 use lib.ListN.{length, getD, set}
 use Rattle.choice.specs.Choice.{if_then_else_}
 use Rattle.report_rules.specs.declared.Trial.{Trial}
-use Rattle.report_rules.specs.declared.Line.{Line}
 use Rattle.report_call.specs.declared.Sums.{Sums}
 use Rattle.report_rules.specs.Reading.{lineAt}
 use Rattle.report_rules.specs.Sums.{largerOf}

@@ -1,12 +1,12 @@
 -- The table of padded names: a row of 20 bytes for each number, which is the name of `model` with spaces behind it.
 use Prim.Native.Nat.{ℕ, zero, suc, _+_, _-_, _≤_, _<_}
-use mathlib.Core.Path.{_≡_, refl, sym, ap, _∙_}
+use mathlib.Core.Path.{_≡_, refl, _∙_}
 use mathlib.Core.List.{List, [], _∷_, _++_, map}
 use mathlib.Core.Bool.{Bool, true, false, _&&_}
 use native.Mathlib.Omega.{arith}
 use native.Mathlib.Nat.{le-of-suc-le-suc, not-suc-le-zero}
 use lib.Dec.{eqb, leb}
-use lib.ListN.{length, getD, take, drop, replicate, length-append, length-replicate, List·getD-map, List·getD-eq-default}
+use lib.ListN.{length, getD, take, replicate, length-append, length-replicate, List·getD-map, List·getD-eq-default}
 use lib.Seq.{take-append-seam}
 use borrow.Author.Tests.{leb-true}
 use Rattle.choice.specs.Choice.{if_then_else_}

@@ -10,6 +10,7 @@ use lib.Dec.{ltb}
 use lib.ListN.{length, take, length-append}
 use borrow.Author.Tests.{ltb-true, ltb-false}
 use Rattle.choice.specs.Choice.{if_then_else_}
+use Rattle.choice.specs.Pick.{if-both}
 use Rattle.io.specs.Digits.{glyph, digits, Fewest}
 
 -- how many digits a number has, counted up to k + 1
@@ -38,11 +39,7 @@ length-decimal n = length-digits (placesOf n) n
 places-count : (k n : ℕ) → placesIn k n ≤ suc k
 unfolding placesIn
 places-count zero n = omega arith
-places-count (suc k) n = go (ltb n 10) (places-count k (n / 10))
-  where
-    go : (b : Bool) → placesIn k (n / 10) ≤ suc k → (if b then 1 else suc (placesIn k (n / 10))) ≤ suc (suc k)
-    go true h = omega arith
-    go false h = omega arith
+places-count (suc k) n = if-both (λ (m : ℕ). m ≤ suc (suc k)) (ltb n 10) (omega arith) (omega (arith, places-count k (n / 10)))
 
 pub places-most : (n : ℕ) → placesOf n ≤ 20
 unfolding placesOf

@@ -8,14 +8,10 @@ use native.Mathlib.Omega.{arith}
 use lib.Dec.{eqb, ltb}
 use lib.ListN.{length}
 use borrow.Author.Tests.{eqb-true, eqb-false, eq-eqb, ne-eqb, le-ltb, ltb-false}
+use Rattle.choice.specs.Pick.{neither}
 use Rattle.wave_rules.specs.Calls.{badHistory, tooWide}
 use Rattle.wave_rules.specs.Dump.{Dumpable}
 use Rattle.wave_rules.specs.Stages.{false-not}
-
--- neither of two faults
-neither : (a b : Bool) → (a || b) ≡ false → (a ≡ false) × (b ≡ false)
-neither true b e = false-not (sym e)
-neither false b e = (refl, e)
 
 -- a history of whole steps, not too many
 pub history-fits : (script : List ℕ) → badHistory script ≡ false → (length script % 3 ≡ 0) × (length script ≤ 98304)

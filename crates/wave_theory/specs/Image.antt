@@ -26,7 +26,7 @@ pub record TimeRead (last : ℕ) (x : List ℕ) : Type 0 where
   pub early : timeIn x ≤ 32768
   pub is : x ≡ timeLine (timeIn x)
 
-pub time-read : (last : ℕ) (x : List ℕ) → isTime last x ≡ true → TimeRead last x
+time-read : (last : ℕ) (x : List ℕ) → isTime last x ≡ true → TimeRead last x
 unfolding isTime
 time-read last x e =
     let l = time-later last x e in
@@ -38,7 +38,7 @@ pub record ChangeRead (n : ℕ) (bits x : List ℕ) : Type 0 where
   pub within : cellIn x < n
   pub is : x ≡ bitLine (turned (getD bits (cellIn x) 0)) (cellIn x)
 
-pub change-read : (n : ℕ) (bits x : List ℕ) → isChange n bits x ≡ true → ChangeRead n bits x
+change-read : (n : ℕ) (bits x : List ℕ) → isChange n bits x ≡ true → ChangeRead n bits x
 unfolding isChange
 change-read n bits x e =
     let p = nested (ltb (cellIn x) n) (same x (bitLine (turned (getD bits (cellIn x) 0)) (cellIn x))) e in
@@ -91,7 +91,7 @@ pub record Image (n last : ℕ) (bits : List ℕ) (r : Items) (m e : ℕ) (w : L
   pub size : length w + 3 * last ≡ 3 * e
   pub is : r ≡ itemsOf (bodyOf n (last + 1) bits w)
 
-pub image-body : (r : Items) (k n last m e : ℕ) (bits : List ℕ) → last ≤ 32768
+image-body : (r : Items) (k n last m e : ℕ) (bits : List ℕ) → last ≤ 32768
     → verdictOf k (Waiting n last) bits r ≡ Fine m e → Image n last bits r m e (scriptWordsOf (Waiting n last) bits r)
 unfolding verdictOf scriptWordsOf bodyOf itemsOf
 image-body finish k n last m e bits h v = let z : last ≡ e = cc in record { cells = cc; early = omega arith; size = omega arith; is = refl }

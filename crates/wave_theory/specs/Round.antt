@@ -43,19 +43,19 @@ lastOf n t last bits (kind ∷ cell ∷ number ∷ rest) = if changesOf n bits k
 
 -- ---- single lines
 
-pub time-in : (t : ℕ) → t < 100000 → timeIn (timeLine t) ≡ t
+time-in : (t : ℕ) → t < 100000 → timeIn (timeLine t) ≡ t
 unfolding timeIn timeLine digitsIn
 time-in t h = ap (λ (o : Number). o .value) (rw (append-nil (decimalOf t)) at (number-back t [] (omega arith) refl))
 
-pub is-time : (last t : ℕ) → last < t → t ≤ 32768 → isTime last (timeLine t) ≡ true
+is-time : (last t : ℕ) → last < t → t ≤ 32768 → isTime last (timeLine t) ≡ true
 unfolding isTime
 is-time last t a b = rw (time-in t (omega arith), lt-ltb _ _ a, le-leb _ _ b, same-refl (timeLine t))
 
-pub cell-in : (bit c : ℕ) → cellIn (bitLine bit c) ≡ c
+cell-in : (bit c : ℕ) → cellIn (bitLine bit c) ≡ c
 unfolding cellIn bitLine
 cell-in bit c = let e : 33 + c - 33 ≡ c = omega arith in e
 
-pub is-change : (n : ℕ) (bits : List ℕ) (c : ℕ) → c < n → isChange n bits (bitLine (turned (getD bits c 0)) c) ≡ true
+is-change : (n : ℕ) (bits : List ℕ) (c : ℕ) → c < n → isChange n bits (bitLine (turned (getD bits c 0)) c) ≡ true
 unfolding isChange
 is-change n bits c h = rw (cell-in (turned (getD bits c 0)) c, lt-ltb _ _ h, same-refl (bitLine (turned (getD bits c 0)) c))
 
@@ -83,14 +83,14 @@ module _ (n last t c : ℕ) (bits : List ℕ) (r : Items) (v : Verdict) (w : Lis
       let q′ : Reads (Waiting n t) (flipOf bits (cellIn x)) r v w = rw e q in
       rw e at (reads-on (Changing n last t) (Waiting n t) bits x r v w f (λ k. refl) q′)
 
-  pub reads-change : Reads (Waiting n t) (flipOf bits c) r v w
+  reads-change : Reads (Waiting n t) (flipOf bits c) r v w
       → Reads (Waiting n last) bits (line (timeLine t) (line (bitLine (turned (getD bits c 0)) c) r)) v (idle (t - (last + 1)) (kindFor (getD bits c 0) ∷ c ∷ 0 ∷ w))
   reads-change q =
       let f : nextOf (Waiting n last) bits (timeLine t) ≡ Changing n last t = rw (is-time last t later early, time-in t (omega arith)) in
       reads-on (Waiting n last) (Changing n last t) bits (timeLine t) (line (bitLine (turned (getD bits c 0)) c) r) v (idle (t - (last + 1)) (kindFor (getD bits c 0) ∷ c ∷ 0 ∷ w)) f (λ k. refl) (change-line q)
 
 -- the changes of a script from step t on
-pub reads-body : (n t last : ℕ) (bits script : List ℕ) → last < t → 3 * t + length script ≤ 98307
+reads-body : (n t last : ℕ) (bits script : List ℕ) → last < t → 3 * t + length script ≤ 98307
     → Reads (Waiting n last) bits (itemsOf (bodyOf n t bits script)) (Fine n (lastOf n t last bits script)) (trimOf n (t - (last + 1)) bits script)
 unfolding bodyOf lastOf trimOf itemsOf verdictOf scriptWordsOf
 reads-body n t last bits [] h m = record { told = λ j. refl; wrote = refl }
@@ -263,7 +263,7 @@ idle-bits (suc g) n (suc j) bits w =
     rw (still n bits, idle-bits g n j bits w, e)
 
 -- a kind that turns a bit is the one that is read back
-pub turning : (kind bit : ℕ) → turns kind bit ≡ true → kindFor bit ≡ kind
+turning : (kind bit : ℕ) → turns kind bit ≡ true → kindFor bit ≡ kind
 unfolding turns
 turning kind bit = go (eqb bit 0)
   where
@@ -301,7 +301,7 @@ unfolding bitsAfter
 still-bits n zero bits kind cell number w e = refl
 still-bits n (suc i) bits kind cell number w e = let z : suc i - 1 ≡ i = omega arith in rw (z, e)
 
-pub trim-bits : (n gap j : ℕ) (bits script : List ℕ)
+trim-bits : (n gap j : ℕ) (bits script : List ℕ)
     → bitsAfter n bits j (trimOf n gap bits script) ≡ bitsAfter n bits (j - gap) script
 unfolding trimOf
 trim-bits n gap j bits [] = none-left n j bits ∙ sym (none-left n (j - gap) bits)

@@ -48,17 +48,7 @@ same-true (a ∷ x) (b ∷ y) e = go (eqb a b) refl e (same-true x y)
     go true p q f = cc (eqb-true a b p, f q)
     go false p q f = let z : false ≡ true = q in cc
 
-pub plain-append : (x y : List ℕ) → plain x ≡ true → plain y ≡ true → plain (x ++ y) ≡ true
-unfolding plain
-plain-append [] y p q = q
-plain-append (b ∷ x) y p q = go (eqb b 10) p (λ h. plain-append x y h q)
-  where
-    go : (t : Bool) → (if t then false else plain x) ≡ true → (plain x ≡ true → plain (x ++ y) ≡ true)
-        → (if t then false else plain (x ++ y)) ≡ true
-    go true h f = h
-    go false h f = f h
-
-pub split-line : (x r : List ℕ) → plain x ≡ true → splitOf (x ++ 10 ∷ r) ≡ line x (splitOf r)
+split-line : (x r : List ℕ) → plain x ≡ true → splitOf (x ++ 10 ∷ r) ≡ line x (splitOf r)
 unfolding splitOf plain
 split-line [] r p = refl
 split-line (b ∷ x) r p = go (eqb b 10) p (split-line x r)

@@ -37,7 +37,7 @@ put-cut b k finish = refl
 put-cut b k (torn x) = refl
 put-cut b k (line x r) = refl
 
-pub split-cut : (k : ℕ) (l : List ℕ) → splitOf (linesTo k l) ≡ cut k (splitOf l)
+split-cut : (k : ℕ) (l : List ℕ) → splitOf (linesTo k l) ≡ cut k (splitOf l)
 unfolding linesTo splitOf cut
 split-cut zero l = refl
 split-cut (suc k) [] = refl

@@ -9,6 +9,7 @@ use lib.ListN.{length, getD, drop, length-append, length-drop}
 use lib.Seq.{sets, drop-cons}
 use borrow.Author.Tests.{eqb-true}
 use Rattle.choice.specs.Choice.{if_then_else_}
+use Rattle.choice.specs.Pick.{if-both}
 use Rattle.print.specs.Print.{putOf}
 use Rattle.print.specs.Laws.{put-none, put-join, put-place}
 use Rattle.text.specs.Decimal.{placesIn, placesOf, decimalOf, length-decimal, places-most, places-few}
@@ -33,7 +34,7 @@ unfolding joined
 length-line x ls = omega (arith, length-append x (10 ∷ joined ls))
 
 -- a line is put, and the rest is left to put
-pub put-line : (l m : List ℕ) (i j : ℕ) (x : List ℕ) (ls : List (List ℕ)) → (j, m) ≡ putOf l i (joined (x ∷ []))
+put-line : (l m : List ℕ) (i j : ℕ) (x : List ℕ) (ls : List (List ℕ)) → (j, m) ≡ putOf l i (joined (x ∷ []))
     → putOf m j (joined ls) ≡ putOf l i (joined (x ∷ ls))
 put-line l m i j x ls e = rw (joined-line x ls) (put-join l m (putOf m j (joined ls) .1) i j (putOf m j (joined ls) .0) (joined (x ∷ [])) (joined ls) e refl)
 
@@ -41,7 +42,7 @@ pub length-time : (t : ℕ) → length (timeLine t) ≡ 1 + placesOf t
 unfolding timeLine
 length-time t = omega (arith, length-decimal t)
 
-pub length-bit : (bit c : ℕ) → length (bitLine bit c) ≡ 2
+length-bit : (bit c : ℕ) → length (bitLine bit c) ≡ 2
 unfolding bitLine
 length-bit bit c = refl
 
@@ -49,7 +50,7 @@ pub length-var : (c : ℕ) → length (varLine c) ≡ 20 + placesOf c
 unfolding varLine
 length-var c = omega (arith, length-append (decimalOf c) (32 ∷ 36 ∷ 101 ∷ 110 ∷ 100 ∷ []), length-decimal c)
 
-pub vars-at : (n c : ℕ) (ls : List (List ℕ)) → c < n → varsOf c (n - c) ls ≡ varLine c ∷ varsOf (c + 1) (n - (c + 1)) ls
+vars-at : (n c : ℕ) (ls : List (List ℕ)) → c < n → varsOf c (n - c) ls ≡ varLine c ∷ varsOf (c + 1) (n - (c + 1)) ls
 unfolding varsOf
 vars-at n c ls h = let e : n - c ≡ suc (n - (c + 1)) = omega arith in rw e
 
@@ -57,7 +58,7 @@ pub vars-end : (n c : ℕ) (ls : List (List ℕ)) → n ≤ c → varsOf c (n - 
 unfolding varsOf
 vars-end n c ls h = let e : n - c ≡ 0 = omega arith in rw e
 
-pub first-at : (n c : ℕ) (ls : List (List ℕ)) → c < n
+first-at : (n c : ℕ) (ls : List (List ℕ)) → c < n
     → firstOf c (n - c) ls ≡ bitLine 0 c ∷ firstOf (c + 1) (n - (c + 1)) ls
 unfolding firstOf
 first-at n c ls h = let e : n - c ≡ suc (n - (c + 1)) = omega arith in rw e
@@ -130,13 +131,9 @@ wanted-is kind bit = go (eqb bit 0)
 
 pub wanted-few : (kind : ℕ) → wantedOf kind ≤ 1
 unfolding wantedOf
-wanted-few kind = go (eqb kind 1)
-  where
-    go : (b : Bool) → (if b then 1 else 0) ≤ 1
-    go true = omega arith
-    go false = omega arith
+wanted-few kind = if-both (λ (n : ℕ). n ≤ 1) (eqb kind 1) (omega arith) (omega arith)
 
-pub change-size : (t bit cell : ℕ) (ls : List (List ℕ))
+change-size : (t bit cell : ℕ) (ls : List (List ℕ))
     → length (joined (timeLine t ∷ bitLine bit cell ∷ ls)) ≡ placesOf t + 5 + length (joined ls)
 change-size t bit cell ls = omega (arith, length-line (timeLine t) (bitLine bit cell ∷ ls), length-line (bitLine bit cell) ls, length-time t, length-bit bit cell)
 
@@ -252,7 +249,7 @@ first-append zero c ls = refl
 first-append (suc left) c ls = rw (first-append left (c + 1) ls)
 
 -- the dump: its head, and the changes
-pub dump-parts : (n : ℕ) (script : List ℕ) → dumpOf n script ≡ headOf n ++ joined (bodyOf n 1 noBits script)
+dump-parts : (n : ℕ) (script : List ℕ) → dumpOf n script ≡ headOf n ++ joined (bodyOf n 1 noBits script)
 unfolding dumpOf linesOf middleOf headOf
 dump-parts n script =
     let b : List (List ℕ) = bodyOf n 1 noBits script in

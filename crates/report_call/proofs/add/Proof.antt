@@ -3,51 +3,37 @@ use native.Mathlib.Omega.{arith}
 use borrow.Author.Needs.{needs}
 use Rattle.report_call.proofs.add.Statement.{statement}
 use Rattle.report_call.proofs.add.Tie as tie
-use Rattle.report_call.proofs.add.Reads as reads
-use Rattle.report_call.proofs.add.Lts as lts
-use Rattle.report_call.proofs.larger.Reads as larger-reads
 
--- src/lib.rt:158:18
 cast-number : tie.Need-cast-number
 cast-number c = search needs
 
--- src/lib.rt:159:20
 cast-attempts : tie.Need-cast-attempts
 cast-attempts c = search needs
 
--- src/lib.rt:160:22
 mul-counts : tie.Need-mul-counts
 mul-counts c = search needs
 
--- src/lib.rt:160:22
 element-copy-out-counts : tie.Need-element-copy-out-counts
 element-copy-out-counts c = search needs
 
--- src/lib.rt:160:22
 add-counts : tie.Need-add-counts
 add-counts c = omega (arith, c .before .before .before .pre .0 .few (c .before .before .before .args .trial .refusal), c .before .before .before .pre .0 .lines)
 
--- src/lib.rt:160:5
 mul-counts-2 : tie.Need-mul-counts-2
 mul-counts-2 c = search needs
 
--- src/lib.rt:160:5
 element-write-counts : tie.Need-element-write-counts
 element-write-counts c = search needs
 
--- src/lib.rt:163:17
 add-t6 : tie.Need-add-t6
 add-t6 c = search needs
 
--- src/lib.rt:164:19
 add-t11 : tie.Need-add-t11
 add-t11 c = search needs
 
--- src/lib.rt:165:19
 larger-requires : tie.Need-larger-requires
 larger-requires c κs = search needs
 
--- src/lib.rt:154:1
 returns : tie.Need-returns
 unfolding addedOf
 returns c = rw (c .larger .ensures)

@@ -5,37 +5,27 @@ use native.Mathlib.Omega.{arith}
 use borrow.Author.Needs.{needs}
 use Rattle.report_call.proofs.end_at.Statement.{statement}
 use Rattle.report_call.proofs.end_at.Tie as tie
-use Rattle.report_call.proofs.end_at.Reads as reads
-use Rattle.report_call.proofs.end_at.Lts as lts
-use Rattle.report_call.proofs.none.Reads as none-reads
 
--- src/lib.rt:91:12
 shared-slice-read-if2 : tie.Need-shared-slice-read-if2
 shared-slice-read-if2 c = search needs
 
--- src/lib.rt:95:23
 add-t11 : tie.Need-add-t11
 add-t11 c = search needs
 
--- src/lib.rt:92:13
 returns : tie.Need-returns
 unfolding endAt
 returns c = rw (eq-eqb _ _ (c .if2 .taken))
 
--- src/lib.rt:98:9
 none-requires : tie.Need-none-requires
 none-requires c κs = search needs
 
--- src/lib.rt:98:9
 returns-2 : tie.Need-returns-2
 unfolding endAt
 returns-2 c = rw (ne-eqb _ _ (c .before .if2 .left)) (c .none .ensures)
 
--- src/lib.rt:100:5
 none-requires-2 : tie.Need-none-requires-2
 none-requires-2 c κs = search needs
 
--- src/lib.rt:87:1
 returns-3 : tie.Need-returns-3
 unfolding endAt
 returns-3 c = rw (none-past (c .before .before .before .args .input .now) (c .before .before .before .args .at) 10 (c .before .if1 .left) (omega arith)) (c .none2 .ensures)

@@ -1,15 +1,11 @@
 use Rattle.report_rules.specs.Reading.{fitsOf}
 use Rattle.report_call.proofs.fits.Statement.{statement}
 use Rattle.report_call.proofs.fits.Tie as tie
-use Rattle.report_call.proofs.fits.Reads as reads
-use Rattle.report_call.proofs.fits.Lts as lts
 
--- src/lib.rt:81:9
 returns : tie.Need-returns
 unfolding fitsOf
 returns c = rw (c .before .if1 .taken)
 
--- src/lib.rt:77:1
 returns-2 : tie.Need-returns-2
 unfolding fitsOf
 returns-2 c = rw (c .if1 .left)

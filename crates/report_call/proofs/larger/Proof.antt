@@ -1,14 +1,10 @@
 use borrow.Author.Tests.{lt-ltb, le-ltb}
 use Rattle.report_call.proofs.larger.Statement.{statement}
 use Rattle.report_call.proofs.larger.Tie as tie
-use Rattle.report_call.proofs.larger.Reads as reads
-use Rattle.report_call.proofs.larger.Lts as lts
 
--- src/lib.rt:148:9
 returns : tie.Need-returns
 returns c = rw (lt-ltb _ _ (c .if1 .taken))
 
--- src/lib.rt:144:1
 returns-2 : tie.Need-returns-2
 returns-2 c = rw (le-ltb _ _ (c .if1 .left))
 

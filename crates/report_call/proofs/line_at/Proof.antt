@@ -6,41 +6,28 @@ use native.Mathlib.Omega.{arith}
 use borrow.Author.Needs.{needs}
 use Rattle.report_call.proofs.line_at.Statement.{statement}
 use Rattle.report_call.proofs.line_at.Tie as tie
-use Rattle.report_call.proofs.line_at.Reads as reads
-use Rattle.report_call.proofs.line_at.Lts as lts
-use Rattle.report_call.proofs.fits.Reads as fits-reads
-use Rattle.report_call.proofs.none.Reads as none-reads
-use Rattle.report_call.proofs.refusal_at.Reads as refusal-at-reads
-use Rattle.text.proofs.read_number.Reads as read-number-reads
 
--- src/lib.rt:124:9
 read-number-requires : tie.Need-read-number-requires
 read-number-requires c κs = search needs
 
--- src/lib.rt:125:8
 fits-requires : tie.Need-fits-requires
 fits-requires c κs = search needs
 
--- src/lib.rt:126:34
 add-refusal-at : tie.Need-add-refusal-at
 add-refusal-at c =
     let a = c .before .before .before .before .before .args in
     omega (arith, ap (λ (n : Number). n .digits) (c .before .before .before .read-number .ensures), number-short (a .input .now) (a .at))
 
--- src/lib.rt:126:9
 refusal-at-requires : tie.Need-refusal-at-requires
 refusal-at-requires c κs = search needs
 
--- src/lib.rt:126:9
 returns : tie.Need-returns
 unfolding lineAt
 returns c = rw (← c .before .before .before .before .read-number .ensures, ← c .before .before .before .fits2 .ensures, c .before .before .if1 .taken) (c .refusal-at .ensures)
 
--- src/lib.rt:128:5
 none-requires : tie.Need-none-requires
 none-requires c κs = search needs
 
--- src/lib.rt:121:1
 returns-2 : tie.Need-returns-2
 unfolding lineAt
 returns-2 c = rw (← c .before .before .before .read-number .ensures, ← c .before .before .fits2 .ensures, c .before .if1 .left) (c .none .ensures)

@@ -3,45 +3,32 @@ use Rattle.text.specs.Text.{before}
 use Rattle.model.specs.Names.{nameOf}
 use lib.ListN.{take}
 use native.Mathlib.Omega.{arith}
-use mathlib.Core.Path.{_≡_, _∙_, ap}
+use mathlib.Core.Path.{_≡_, _∙_}
 use borrow.Author.Needs.{needs}
 use Rattle.report_call.proofs.put_name.Statement.{statement}
 use Rattle.report_call.proofs.put_name.Tie as tie
-use Rattle.report_call.proofs.put_name.Reads as reads
-use Rattle.report_call.proofs.put_name.Lts as lts
-use Rattle.report_names.proofs.padded.Reads as padded-reads
-use Rattle.print.proofs.put.Reads as put-reads
-use Rattle.text.proofs.end_of.Reads as end-of-reads
 
--- src/lib.rt:222:18
 padded-requires : tie.Need-padded-requires
 padded-requires c κs = search needs
 
--- src/lib.rt:223:28
 slice-aggregate-end-of : tie.Need-slice-aggregate-end-of
 slice-aggregate-end-of c = search needs
 
--- src/lib.rt:223:9
 end-of-requires : tie.Need-end-of-requires
 end-of-requires c κs = search needs
 
--- src/lib.rt:224:25
 array-share-prefix-padded : tie.Need-array-share-prefix-padded
 array-share-prefix-padded c = search needs
 
--- src/lib.rt:224:25
 slice-aggregate-put : tie.Need-slice-aggregate-put
 slice-aggregate-put c = search needs
 
--- src/lib.rt:224:5
 put-requires : tie.Need-put-requires
 put-requires c κs = search needs
 
--- src/lib.rt:218:1
 same-length : tie.Need-same-length
 same-length c = search needs
 
--- src/lib.rt:218:1
 returns : tie.Need-returns
 returns c =
     let n = c .before .before .before .before .before .before .before .before .before .args .number in

@@ -8,31 +8,21 @@ use native.Mathlib.Omega.{arith}
 use borrow.Author.Needs.{needs}
 use Rattle.report_call.proofs.put_report.Statement.{statement}
 use Rattle.report_call.proofs.put_report.Tie as tie
-use Rattle.report_call.proofs.put_report.Reads as reads
-use Rattle.report_call.proofs.put_report.Lts as lts
-use Rattle.report_call.proofs.put_bad.Reads as put-bad-reads
-use Rattle.report_call.proofs.put_head.Reads as put-head-reads
-use Rattle.report_call.proofs.put_rows.Reads as put-rows-reads
 
--- src/lib.rt:281:37
 element-copy-out-put-head : tie.Need-element-copy-out-put-head
 element-copy-out-put-head c = search needs
 
--- src/lib.rt:281:13
 put-head-requires : tie.Need-put-head-requires
 put-head-requires c κs = search needs
 
--- src/lib.rt:282:9
 put-rows-requires : tie.Need-put-rows-requires
 put-rows-requires c κs =
     let a = c .before .before .before .before .before .before .before .before .before .args in
     omega (arith, put-place _ _ _ _ _ (c .before .before .before .put-head .ensures), c .before .before .before .put-head .kept, head-few (a .sums .trials) (getD (a .counts .now) 0 0) (a .sums .attempts) (a .sums .greatest), c .before .before .before .before .before .before .before .before .before .pre)
 
--- src/lib.rt:282:9
 same-length : tie.Need-same-length
 same-length c = search needs
 
--- src/lib.rt:282:9
 returns : tie.Need-returns
 unfolding printedOf
 returns c =
@@ -40,15 +30,12 @@ returns c =
     rw (eq-eqb _ _ (c .before .before .before .before .before .before .before .before .before .if1 .taken))
     (put-join _ _ _ _ _ _ (headOf (a .sums .trials) (getD (a .counts .now) 0 0) (a .sums .attempts) (a .sums .greatest)) (rowsOf (seenIn (a .counts .now)) 1 16) (c .before .before .before .before .before .before .put-head .ensures) (c .before .before .put-rows .ensures))
 
--- src/lib.rt:284:5
 put-bad-requires : tie.Need-put-bad-requires
 put-bad-requires c κs = search needs
 
--- src/lib.rt:276:1
 same-length-2 : tie.Need-same-length-2
 same-length-2 c = search needs
 
--- src/lib.rt:276:1
 returns-2 : tie.Need-returns-2
 unfolding printedOf
 returns-2 c = rw (ne-eqb _ _ (c .before .before .before .before .if1 .left)) (c .before .before .put-bad .ensures)

@@ -9,53 +9,39 @@ use native.Mathlib.Omega.{arith}
 use borrow.Author.Needs.{needs}
 use Rattle.report_call.proofs.put_row.Statement.{statement}
 use Rattle.report_call.proofs.put_row.Tie as tie
-use Rattle.report_call.proofs.put_row.Reads as reads
-use Rattle.report_call.proofs.put_row.Lts as lts
-use Rattle.report_call.proofs.put_name.Reads as put-name-reads
-use Rattle.print.proofs.put_form.Reads as put-form-reads
 
--- src/lib.rt:223:9
 returns : tie.Need-returns
 unfolding rowOf
 returns c = rw (eq-eqb _ _ (c .if1 .taken)) (put-none _ _)
 
--- src/lib.rt:226:38
 slice-aggregate-put-form : tie.Need-slice-aggregate-put-form
 slice-aggregate-put-form c = search needs
 
--- src/lib.rt:226:45
 slice-aggregate-put-form-2 : tie.Need-slice-aggregate-put-form-2
 slice-aggregate-put-form-2 c = search needs
 
--- src/lib.rt:226:9
 put-form-requires : tie.Need-put-form-requires
 put-form-requires c κs = search needs
 
--- src/lib.rt:227:9
 put-name-requires : tie.Need-put-name-requires
 put-name-requires c κs =
     let a = c .before .before .before .before .before .before .before .before .before .args in
     omega (arith, put-place _ _ _ _ _ (c .before .before .before .put-form .ensures), c .before .before .before .put-form .kept, form-size numberForm (a .number ∷ []), c .before .before .before .before .before .before .before .before .before .pre)
 
--- src/lib.rt:229:29
 slice-aggregate-put-form-3 : tie.Need-slice-aggregate-put-form-3
 slice-aggregate-put-form-3 c = search needs
 
--- src/lib.rt:229:38
 slice-aggregate-put-form-4 : tie.Need-slice-aggregate-put-form-4
 slice-aggregate-put-form-4 c = search needs
 
--- src/lib.rt:229:5
 put-form-requires-2 : tie.Need-put-form-requires-2
 put-form-requires-2 c κs =
     let a = c .before .before .before .before .before .before .before .before .before .before .before .before .before .before .before .args in
     omega (arith, put-place _ _ _ _ _ (c .before .before .before .before .before .before .before .before .before .put-form .ensures), c .before .before .before .before .before .before .before .before .before .put-form .kept, form-size numberForm (a .number ∷ []), put-place _ _ _ _ _ (c .before .before .before .before .before .put-name .ensures), c .before .before .before .before .before .put-name .kept, name-short (a .number), c .before .before .before .before .before .before .before .before .before .before .before .before .before .before .before .pre)
 
--- src/lib.rt:218:1
 same-length : tie.Need-same-length
 same-length c = search needs
 
--- src/lib.rt:218:1
 returns-2 : tie.Need-returns-2
 unfolding rowOf
 returns-2 c =

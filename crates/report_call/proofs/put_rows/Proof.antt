@@ -10,9 +10,6 @@ use mathlib.Core.Path.{_≡_, refl, _∙_}
 use Prim.Native.Nat.{_≤_, _-_, _+_, _*_}
 use Rattle.report_call.proofs.put_rows.Statement.{statement}
 use Rattle.report_call.proofs.put_rows.Tie as tie
-use Rattle.report_call.proofs.put_rows.Reads as reads
-use Rattle.report_call.proofs.put_rows.Lts as lts
-use Rattle.report_call.proofs.put_row.Reads as put-row-reads
 
 abbrev Inv-loop : tie.InvT-loop
 Inv-loop out₀ at counts used₀ number₀ out used number = (length out ≡ length out₀) × (number ≤ 17) × (used + 120 * (17 - number) ≤ at + 1920) × (putOf out used (rowsOf (seenIn counts) number (17 - number)) ≡ putOf out₀ at (rowsOf (seenIn counts) 1 16))
@@ -20,33 +17,26 @@ Inv-loop out₀ at counts used₀ number₀ out used number = (length out ≡ le
 abbrev μ-loop : tie.MeasureT-loop
 μ-loop out₀ at counts used₀ number₀ out used number = 17 - number
 
--- src/lib.rt:239:5
 loop-holds : tie.Need-loop-holds Inv-loop μ-loop
 loop-holds c = (search needs, search needs, omega arith, refl)
 
--- src/lib.rt:240:21
 mul-count : tie.Need-mul-count Inv-loop μ-loop
 mul-count c = search needs
 
--- src/lib.rt:240:21
 element-copy-out-count : tie.Need-element-copy-out-count Inv-loop μ-loop
 element-copy-out-count c = search needs
 
--- src/lib.rt:241:9
 put-row-requires : tie.Need-put-row-requires Inv-loop μ-loop
 put-row-requires c κs =
     let l = c .before .before .before .loop in
     omega (arith, c .before .before .loop-test .taken, l .inv .0, l .inv .2, c .before .before .before .before .before .pre)
 
--- src/lib.rt:242:9
 add-number : tie.Need-add-number Inv-loop μ-loop
 add-number c = search needs
 
--- src/lib.rt:239:5
 loop-less : tie.Need-loop-less Inv-loop μ-loop
 loop-less c = search needs
 
--- src/lib.rt:239:5
 loop-again : tie.Need-loop-again Inv-loop μ-loop
 loop-again c =
     let l = c .before .before .before .before .before .before .loop in
@@ -57,11 +47,9 @@ loop-again c =
       rows-turn (l .out) _ (l .used) _ (seenIn (a .counts .now)) (l .number) (search needs) (c .before .before .put-row .ensures) ∙ l .inv .3,
     )
 
--- src/lib.rt:233:1
 same-length : tie.Need-same-length Inv-loop μ-loop
 same-length c = search needs
 
--- src/lib.rt:233:1
 returns : tie.Need-returns Inv-loop μ-loop
 returns c =
     let l = c .before .loop in

@@ -8,71 +8,51 @@ use native.Mathlib.Omega.{arith}
 use borrow.Author.Needs.{needs}
 use Rattle.report_call.proofs.refusal_at.Statement.{statement}
 use Rattle.report_call.proofs.refusal_at.Tie as tie
-use Rattle.report_call.proofs.refusal_at.Reads as reads
-use Rattle.report_call.proofs.refusal_at.Lts as lts
-use Rattle.report_call.proofs.end_at.Reads as end-at-reads
-use Rattle.report_call.proofs.fits.Reads as fits-reads
-use Rattle.report_call.proofs.none.Reads as none-reads
-use Rattle.text.proofs.read_number.Reads as read-number-reads
 
--- src/lib.rt:108:12
 shared-slice-read-if2 : tie.Need-shared-slice-read-if2
 shared-slice-read-if2 c = search needs
 
--- src/lib.rt:109:51
 add-read-number : tie.Need-add-read-number
 add-read-number c = search needs
 
--- src/lib.rt:109:17
 read-number-requires : tie.Need-read-number-requires
 read-number-requires c κs = search needs
 
--- src/lib.rt:110:16
 fits-requires : tie.Need-fits-requires
 fits-requires c κs = search needs
 
--- src/lib.rt:111:38
 add-end-at : tie.Need-add-end-at
 add-end-at c = search needs
 
--- src/lib.rt:111:38
 add-end-at-2 : tie.Need-add-end-at-2
 add-end-at-2 c =
     let a = c .before .before .before .before .before .before .before .before .args in
     omega (arith, ap (λ (n : Number). n .digits) (c .before .before .before .read-number .ensures), number-ends (a .input .now) (a .at + 1) (search needs))
 
--- src/lib.rt:111:17
 end-at-requires : tie.Need-end-at-requires
 end-at-requires c κs = search needs
 
--- src/lib.rt:111:17
 returns : tie.Need-returns
 unfolding refusalAt
 returns c = rw (eq-eqb _ _ (c .before .before .before .before .before .if2 .taken), ← c .before .before .before .before .read-number .ensures, ← c .before .before .before .fits2 .ensures, c .before .before .if3 .taken) (c .end-at .ensures)
 
--- src/lib.rt:113:13
 none-requires : tie.Need-none-requires
 none-requires c κs = search needs
 
--- src/lib.rt:113:13
 returns-2 : tie.Need-returns-2
 unfolding refusalAt
 returns-2 c = rw (eq-eqb _ _ (c .before .before .before .before .if2 .taken), ← c .before .before .before .read-number .ensures, ← c .before .before .fits2 .ensures, c .before .if3 .left) (c .none .ensures)
 
--- src/lib.rt:115:9
 none-requires-2 : tie.Need-none-requires-2
 none-requires-2 c κs = search needs
 
--- src/lib.rt:115:9
 returns-3 : tie.Need-returns-3
 unfolding refusalAt
 returns-3 c = rw (ne-eqb _ _ (c .before .if2 .left)) (c .none2 .ensures)
 
--- src/lib.rt:117:5
 none-requires-3 : tie.Need-none-requires-3
 none-requires-3 c κs = search needs
 
--- src/lib.rt:104:1
 returns-4 : tie.Need-returns-4
 unfolding refusalAt
 returns-4 c = rw (none-past (c .before .before .before .args .input .now) (c .before .before .before .args .at) 32 (c .before .if1 .left) (omega arith)) (c .none3 .ensures)

@@ -5,26 +5,19 @@ use mathlib.Core.Path.{refl, sym, ap, _∙_}
 use borrow.Author.Needs.{needs}
 use Rattle.report_names.proofs.padded.Statement.{statement}
 use Rattle.report_names.proofs.padded.Tie as tie
-use Rattle.report_names.proofs.padded.Reads as reads
-use Rattle.report_names.proofs.padded.Lts as lts
 
--- src/lib.rt:33:9
 returns : tie.Need-returns
 returns c = rw (no-name-first (c .before .before .before .args .number) (c .before .before .if1 .taken)) (refl, refl)
 
--- src/lib.rt:36:9
 returns-2 : tie.Need-returns-2
 returns-2 c = rw (no-name (c .before .before .before .before .args .number) (c .before .before .if2 .taken)) (refl, refl)
 
--- src/lib.rt:38:5
 mul-result : tie.Need-mul-result
 mul-result c = search needs
 
--- src/lib.rt:38:5
 array-copy-out-result : tie.Need-array-copy-out-result
 array-copy-out-result c = search needs
 
--- src/lib.rt:28:1
 returns-3 : tie.Need-returns-3
 unfolding tableOf names
 returns-3 c =
