@@ -68,15 +68,18 @@ timeLine t = 35 ∷ decimalOf t
 unfoldable pub bitLine : ℕ → ℕ → List ℕ
 bitLine bit c = (48 + bit) ∷ (33 + c) ∷ []
 
--- the variables of `left` cells from c on, and the lines that follow
-unfoldable pub varsOf : ℕ → ℕ → List (List ℕ) → List (List ℕ)
-varsOf c zero ls = ls
-varsOf c (suc left) ls = varLine c ∷ varsOf (c + 1) left ls
+-- a line for each of `left` cells from c on, and the lines that follow
+unfoldable pub eachOf : (ℕ → List ℕ) → ℕ → ℕ → List (List ℕ) → List (List ℕ)
+eachOf lineFor c zero ls = ls
+eachOf lineFor c (suc left) ls = lineFor c ∷ eachOf lineFor (c + 1) left ls
 
--- "from all bits 0": the first values of `left` cells from c on, and the lines that follow
-unfoldable pub firstOf : ℕ → ℕ → List (List ℕ) → List (List ℕ)
-firstOf c zero ls = ls
-firstOf c (suc left) ls = bitLine 0 c ∷ firstOf (c + 1) left ls
+-- the variables
+abbrev pub varsOf : ℕ → ℕ → List (List ℕ) → List (List ℕ)
+varsOf c left ls = eachOf varLine c left ls
+
+-- "from all bits 0": the first values
+abbrev pub firstOf : ℕ → ℕ → List (List ℕ) → List (List ℕ)
+firstOf c left ls = eachOf (bitLine 0) c left ls
 
 -- "After `#0`, a time line stands only where a bit changed": the changes from step t on. A step changes at most one
 -- bit, so a time line has one change line.

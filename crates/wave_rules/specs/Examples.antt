@@ -9,7 +9,7 @@ use Rattle.wave_rules.specs.declared.Undumped.the-variants as undumped
 use Rattle.wave_rules.specs.Calls.{badHistory, tooWide, fittedOf, writeOf, readIntoOf}
 use Rattle.text.specs.Decimal.{placesIn, placesOf, decimalOf}
 use Rattle.wave_rules.specs.Lines.{joined, splitOf, same}
-use Rattle.wave_rules.specs.Dump.{noBits, turns, changesOf, flipOf, timescale, scopeLine, varLine, upscope, endLine, timeLine, bitLine, varsOf, firstOf, bodyOf, middleOf, linesOf, dumpOf}
+use Rattle.wave_rules.specs.Dump.{noBits, turns, changesOf, flipOf, timescale, scopeLine, varLine, upscope, endLine, timeLine, bitLine, eachOf, varsOf, bodyOf, middleOf, linesOf, dumpOf}
 use Rattle.wave_rules.specs.Reader.{timeIn, cellIn, afterVariable, afterValue, isTime, isChange, verdictOf, idle, scriptWordsOf, read, refused, readOf}
 
 -- two cells: the lines before the first change
@@ -29,43 +29,43 @@ paper =
 
 -- "Two cells, cell 0 taken at step 1", to the byte
 as-in-paper : dumpOf 2 (1 ∷ 0 ∷ 7 ∷ []) ≡ paper ++ (35 ∷ 49 ∷ 10 ∷ 49 ∷ 33 ∷ 10 ∷ [])
-unfolding joined decimalOf placesOf placesIn noBits turns changesOf flipOf timescale scopeLine varLine upscope endLine timeLine bitLine varsOf firstOf bodyOf middleOf linesOf dumpOf
+unfolding joined decimalOf placesOf placesIn noBits turns changesOf flipOf timescale scopeLine varLine upscope endLine timeLine bitLine eachOf bodyOf middleOf linesOf dumpOf
 as-in-paper = refl
 
 -- "a release clears it": a release of a clear bit, a take, a release
 cleared : dumpOf 2 (2 ∷ 0 ∷ 0 ∷ 1 ∷ 0 ∷ 0 ∷ 2 ∷ 0 ∷ 9 ∷ []) ≡ paper ++ (35 ∷ 50 ∷ 10 ∷ 49 ∷ 33 ∷ 10 ∷ 35 ∷ 51 ∷ 10 ∷ 48 ∷ 33 ∷ 10 ∷ [])
-unfolding joined decimalOf placesOf placesIn noBits turns changesOf flipOf timescale scopeLine varLine upscope endLine timeLine bitLine varsOf firstOf bodyOf middleOf linesOf dumpOf
+unfolding joined decimalOf placesOf placesIn noBits turns changesOf flipOf timescale scopeLine varLine upscope endLine timeLine bitLine eachOf bodyOf middleOf linesOf dumpOf
 cleared = refl
 
 -- "any other step only counts"; a time line "only where a bit changed": a step of kind 0, a take, a take of the same
 -- cell
 counted : dumpOf 2 (0 ∷ 0 ∷ 0 ∷ 1 ∷ 0 ∷ 7 ∷ 1 ∷ 0 ∷ 8 ∷ []) ≡ paper ++ (35 ∷ 50 ∷ 10 ∷ 49 ∷ 33 ∷ 10 ∷ [])
-unfolding joined decimalOf placesOf placesIn noBits turns changesOf flipOf timescale scopeLine varLine upscope endLine timeLine bitLine varsOf firstOf bodyOf middleOf linesOf dumpOf
+unfolding joined decimalOf placesOf placesIn noBits turns changesOf flipOf timescale scopeLine varLine upscope endLine timeLine bitLine eachOf bodyOf middleOf linesOf dumpOf
 counted = refl
 
 -- "the bits of the first n cells": a take of cell 2, and one of cell 1
 beyond : dumpOf 2 (1 ∷ 2 ∷ 0 ∷ 1 ∷ 1 ∷ 0 ∷ []) ≡ paper ++ (35 ∷ 50 ∷ 10 ∷ 49 ∷ 34 ∷ 10 ∷ [])
-unfolding joined decimalOf placesOf placesIn noBits turns changesOf flipOf timescale scopeLine varLine upscope endLine timeLine bitLine varsOf firstOf bodyOf middleOf linesOf dumpOf
+unfolding joined decimalOf placesOf placesIn noBits turns changesOf flipOf timescale scopeLine varLine upscope endLine timeLine bitLine eachOf bodyOf middleOf linesOf dumpOf
 beyond = refl
 
 -- "Codes are the printable characters from `!` (33) up": the last of 94 is `~`, `$var wire 1 ~ c93 $end`
 last-code : varLine 93 ≡ (36 ∷ 118 ∷ 97 ∷ 114 ∷ 32 ∷ 119 ∷ 105 ∷ 114 ∷ 101 ∷ 32 ∷ 49 ∷ 32 ∷ 126 ∷ 32 ∷ 99 ∷ 57 ∷ 51 ∷ 32 ∷ 36 ∷ 101 ∷ 110 ∷ 100 ∷ [])
-unfolding joined decimalOf placesOf placesIn noBits turns changesOf flipOf timescale scopeLine varLine upscope endLine timeLine bitLine varsOf firstOf bodyOf middleOf linesOf dumpOf
+unfolding joined decimalOf placesOf placesIn noBits turns changesOf flipOf timescale scopeLine varLine upscope endLine timeLine bitLine eachOf bodyOf middleOf linesOf dumpOf
 last-code = refl
 
 -- "(else 2, first)": a script of one word, and no cells
 script-first : writeOf 0 (1 ∷ []) (7 ∷ []) ≡ (dumped.BadScript, (7 ∷ []))
-unfolding writeOf fittedOf badHistory tooWide joined decimalOf placesOf placesIn noBits turns changesOf flipOf timescale scopeLine varLine upscope endLine timeLine bitLine varsOf firstOf bodyOf middleOf linesOf dumpOf
+unfolding writeOf fittedOf badHistory tooWide joined decimalOf placesOf placesIn noBits turns changesOf flipOf timescale scopeLine varLine upscope endLine timeLine bitLine eachOf bodyOf middleOf linesOf dumpOf
 script-first = refl
 
 -- "No cells or more than 94: refused TooWide"
 no-cells : writeOf 0 [] (7 ∷ []) ≡ (dumped.TooWide, (7 ∷ []))
-unfolding writeOf fittedOf badHistory tooWide joined decimalOf placesOf placesIn noBits turns changesOf flipOf timescale scopeLine varLine upscope endLine timeLine bitLine varsOf firstOf bodyOf middleOf linesOf dumpOf
+unfolding writeOf fittedOf badHistory tooWide joined decimalOf placesOf placesIn noBits turns changesOf flipOf timescale scopeLine varLine upscope endLine timeLine bitLine eachOf bodyOf middleOf linesOf dumpOf
 no-cells = refl
 
 -- more than 94
 cells-95 : writeOf 95 [] (7 ∷ []) ≡ (dumped.TooWide, (7 ∷ []))
-unfolding writeOf fittedOf badHistory tooWide joined decimalOf placesOf placesIn noBits turns changesOf flipOf timescale scopeLine varLine upscope endLine timeLine bitLine varsOf firstOf bodyOf middleOf linesOf dumpOf
+unfolding writeOf fittedOf badHistory tooWide joined decimalOf placesOf placesIn noBits turns changesOf flipOf timescale scopeLine varLine upscope endLine timeLine bitLine eachOf bodyOf middleOf linesOf dumpOf
 cells-95 = refl
 
 -- one cell and no step
@@ -81,12 +81,12 @@ short =
 
 -- "A lent buffer too short for the whole dump ..: NoRoom, nothing written": one byte too short
 one-short : writeOf 1 [] (replicate 104 7) ≡ (dumped.NoRoom, replicate 104 7)
-unfolding writeOf fittedOf badHistory tooWide joined decimalOf placesOf placesIn noBits turns changesOf flipOf timescale scopeLine varLine upscope endLine timeLine bitLine varsOf firstOf bodyOf middleOf linesOf dumpOf
+unfolding writeOf fittedOf badHistory tooWide joined decimalOf placesOf placesIn noBits turns changesOf flipOf timescale scopeLine varLine upscope endLine timeLine bitLine eachOf bodyOf middleOf linesOf dumpOf
 one-short = refl
 
 -- and two bytes longer: they are left alone
 left-alone : writeOf 1 [] (replicate 107 7) ≡ (dumped.Written 105, short ++ (7 ∷ 7 ∷ []))
-unfolding writeOf fittedOf badHistory tooWide joined decimalOf placesOf placesIn noBits turns changesOf flipOf timescale scopeLine varLine upscope endLine timeLine bitLine varsOf firstOf bodyOf middleOf linesOf dumpOf
+unfolding writeOf fittedOf badHistory tooWide joined decimalOf placesOf placesIn noBits turns changesOf flipOf timescale scopeLine varLine upscope endLine timeLine bitLine eachOf bodyOf middleOf linesOf dumpOf
 left-alone = refl
 
 -- ---- reading
@@ -158,7 +158,7 @@ nothing = refl
 
 -- "n up to 94": a 95th variable, line 97
 too-many : readOf (joined (timescale ∷ scopeLine ∷ varsOf 0 95 [])) ≡ refused 97
-unfolding joined varsOf readOf scriptWordsOf idle verdictOf isChange isTime afterValue afterVariable cellIn timeIn splitOf same noBits turns changesOf flipOf timescale scopeLine varLine upscope endLine timeLine bitLine decimalOf placesOf placesIn isDigit digitsIn valueFrom endedNumberOf readNumberOf
+unfolding joined eachOf readOf scriptWordsOf idle verdictOf isChange isTime afterValue afterVariable cellIn timeIn splitOf same noBits turns changesOf flipOf timescale scopeLine varLine upscope endLine timeLine bitLine decimalOf placesOf placesIn isDigit digitsIn valueFrom endedNumberOf readNumberOf
 too-many = refl
 
 -- "refused, before NoRoom, with its first wrong line"

@@ -11,7 +11,7 @@ use Rattle.choice.specs.Choice.{if_then_else_}
 use Rattle.wave_rules.specs.Lines.{Items, finish, torn, line, splitOf, same}
 use Rattle.wave_theory.specs.Texts.{itemsOf, textOf, same-true, text-split, text-items}
 use Rattle.wave_rules.specs.Stages.{bad-not, nested, time-later, idle-length, onward}
-use Rattle.wave_rules.specs.Dump.{noBits, turns, turned, changesOf, flipOf, timescale, scopeLine, varLine, upscope, endLine, timeLine, bitLine, varsOf, firstOf, bodyOf, middleOf, linesOf, dumpOf, Dumpable}
+use Rattle.wave_rules.specs.Dump.{noBits, turns, turned, changesOf, flipOf, timescale, scopeLine, varLine, upscope, endLine, timeLine, bitLine, eachOf, varsOf, firstOf, bodyOf, middleOf, linesOf, dumpOf, Dumpable}
 use Rattle.wave_rules.specs.declared.Stage.{Stage}
 use Rattle.wave_rules.specs.declared.Stage.the-variants.{Opening, Scope, Variables, Ending, Start, Values, Waiting, Changing, Lost}
 use Rattle.wave_rules.specs.declared.Verdict.{Verdict}
@@ -124,7 +124,7 @@ pub record Headed (r : Items) (m e : ℕ) (w : List ℕ) (ls : List (List ℕ)) 
 
 image-values : (r : Items) (k n c m e : ℕ) (bits : List ℕ) → c < n → verdictOf k (Values n c) bits r ≡ Fine m e
     → (m ≡ n) × Headed r m e (scriptWordsOf (Values n c) bits r) (firstOf c (n - c) (bodyOf n 1 bits (scriptWordsOf (Values n c) bits r)))
-unfolding verdictOf scriptWordsOf itemsOf afterValue firstOf
+unfolding verdictOf scriptWordsOf itemsOf afterValue eachOf
 image-values finish k n c m e bits h v = bad-not v
 image-values (torn x) k n c m e bits h v = bad-not v
 image-values (line x r) k n c m e bits h v =
@@ -169,7 +169,7 @@ pub record Varied (n : ℕ) (r : Items) (m e : ℕ) (w : List ℕ) (ls : List (L
 
 image-vars : (r : Items) (k n m e : ℕ) (bits : List ℕ) → n ≤ 94 → verdictOf k (Variables n) bits r ≡ Fine m e
     → Varied n r m e (scriptWordsOf (Variables n) bits r) (varsOf n (m - n) (middleOf m (bodyOf m 1 bits (scriptWordsOf (Variables n) bits r))))
-unfolding verdictOf scriptWordsOf itemsOf afterVariable varsOf middleOf
+unfolding verdictOf scriptWordsOf itemsOf afterVariable eachOf middleOf
 image-vars finish k n m e bits h v = bad-not v
 image-vars (torn x) k n m e bits h v = bad-not v
 image-vars (line x r) k n m e bits h v =

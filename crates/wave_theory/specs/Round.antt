@@ -18,7 +18,7 @@ use Rattle.wave_rules.specs.Lines.{Items, line, same}
 use Rattle.wave_theory.specs.Texts.{itemsOf, plain, allPlain, same-refl, split-joined}
 use Rattle.wave_theory.specs.Bits.{bitsAfter}
 use Rattle.wave_rules.specs.Stages.{changes-in}
-use Rattle.wave_rules.specs.Dump.{noBits, turns, turned, changesOf, flipOf, timescale, scopeLine, varLine, upscope, endLine, timeLine, bitLine, varsOf, firstOf, bodyOf, middleOf, linesOf, dumpOf, Dumpable}
+use Rattle.wave_rules.specs.Dump.{noBits, turns, turned, changesOf, flipOf, timescale, scopeLine, varLine, upscope, endLine, timeLine, bitLine, eachOf, varsOf, firstOf, bodyOf, middleOf, linesOf, dumpOf, Dumpable}
 use Rattle.wave_rules.specs.declared.Stage.{Stage}
 use Rattle.wave_rules.specs.declared.Stage.the-variants.{Opening, Scope, Variables, Ending, Start, Values, Waiting, Changing}
 use Rattle.wave_rules.specs.declared.Verdict.{Verdict}
@@ -115,7 +115,7 @@ reads-body n t last bits (kind ∷ cell ∷ number ∷ rest) h m =
 
 pub reads-values : (left n c : ℕ) (bits : List ℕ) (ls : List (List ℕ)) (v : Verdict) (w : List ℕ) → c + suc left ≡ n
     → Reads (Waiting n 0) bits (itemsOf ls) v w → Reads (Values n c) bits (itemsOf (firstOf c (suc left) ls)) v w
-unfolding firstOf itemsOf
+unfolding eachOf itemsOf
 reads-values zero n c bits ls v w e q =
     let f : nextOf (Values n c) bits (bitLine 0 c) ≡ Waiting n 0 = unfold afterValue in rw (same-refl (bitLine 0 c), le-ltb (c + 1) n (omega arith)) in
     reads-on (Values n c) (Waiting n 0) bits (bitLine 0 c) (itemsOf ls) v w f (λ k. refl) q
@@ -142,7 +142,7 @@ variable-last n h = rw (no-variable n, lt-ltb 0 n h, same-refl upscope)
 pub reads-vars : (left n c : ℕ) (bits : List ℕ) (ls : List (List ℕ)) (v : Verdict) (w : List ℕ) → c + left ≡ n → 1 ≤ n
     → n ≤ 94 → Reads (Ending n) bits (itemsOf ls) v w
     → Reads (Variables c) bits (itemsOf (varsOf c left (upscope ∷ ls))) v w
-unfolding varsOf itemsOf
+unfolding eachOf itemsOf
 reads-vars zero n c bits ls v w e a b q =
     let z : n ≡ c = omega arith in
     let q′ : Reads (Ending c) bits (itemsOf ls) v w = rw z at q in
@@ -204,15 +204,11 @@ plain-var : (c : ℕ) → plain (varLine c) ≡ true
 unfolding plain varLine decimalOf
 plain-var c = let q : 33 + c ≢ 10 = omega arith in rw (ne-eqb _ _ q) (plain-digits (placesOf c) c (32 ∷ 36 ∷ 101 ∷ 110 ∷ 100 ∷ []))
 
-plain-vars : (left c : ℕ) (ls : List (List ℕ)) → allPlain ls ≡ true → allPlain (varsOf c left ls) ≡ true
-unfolding varsOf allPlain
-plain-vars zero c ls h = h
-plain-vars (suc left) c ls h = rw (plain-var c, plain-vars left (c + 1) ls h)
-
-plain-first : (left c : ℕ) (ls : List (List ℕ)) → allPlain ls ≡ true → allPlain (firstOf c left ls) ≡ true
-unfolding firstOf allPlain
-plain-first zero c ls h = h
-plain-first (suc left) c ls h = rw (plain-bit 0 c, plain-first left (c + 1) ls h)
+plain-each : (lineFor : ℕ → List ℕ) → ((c : ℕ) → plain (lineFor c) ≡ true) → (left c : ℕ) (ls : List (List ℕ)) → allPlain ls ≡ true
+    → allPlain (eachOf lineFor c left ls) ≡ true
+unfolding eachOf allPlain
+plain-each lineFor p zero c ls h = h
+plain-each lineFor p (suc left) c ls h = rw (p c, plain-each lineFor p left (c + 1) ls h)
 
 plain-body : (n t : ℕ) (bits script : List ℕ) → allPlain (bodyOf n t bits script) ≡ true
 unfolding bodyOf allPlain
@@ -229,11 +225,11 @@ plain-body n t bits (kind ∷ cell ∷ number ∷ rest) = go (changesOf n bits k
 
 plain-middle : (n : ℕ) (ls : List (List ℕ)) → allPlain ls ≡ true → allPlain (middleOf n ls) ≡ true
 unfolding middleOf allPlain plain upscope endLine
-plain-middle n ls h = rw (plain-time 0, plain-first n 0 ls h)
+plain-middle n ls h = rw (plain-time 0, plain-each (bitLine 0) (plain-bit 0) n 0 ls h)
 
 pub plain-lines : (n : ℕ) (script : List ℕ) → allPlain (linesOf n script) ≡ true
 unfolding linesOf allPlain plain timescale scopeLine
-plain-lines n script = plain-vars n 0 (middleOf n (bodyOf n 1 noBits script)) (plain-middle n (bodyOf n 1 noBits script) (plain-body n 1 noBits script))
+plain-lines n script = plain-each varLine plain-var n 0 (middleOf n (bodyOf n 1 noBits script)) (plain-middle n (bodyOf n 1 noBits script) (plain-body n 1 noBits script))
 
 -- ---- the round trip
 

@@ -14,7 +14,7 @@ use Rattle.print.specs.Print.{putOf}
 use Rattle.print.specs.Laws.{put-none, put-join, put-place}
 use Rattle.text.specs.Decimal.{placesIn, placesOf, decimalOf, length-decimal, places-most, places-few}
 use Rattle.wave_rules.specs.Lines.{joined}
-use Rattle.wave_rules.specs.Dump.{noBits, turns, turned, changesOf, flipOf, timescale, scopeLine, upscope, endLine, timeLine, bitLine, varLine, varsOf, firstOf, bodyOf, middleOf, linesOf, dumpOf}
+use Rattle.wave_rules.specs.Dump.{noBits, turns, turned, changesOf, flipOf, timescale, scopeLine, upscope, endLine, timeLine, bitLine, varLine, eachOf, varsOf, firstOf, bodyOf, middleOf, linesOf, dumpOf}
 use Rattle.wave_rules.specs.declared.Dumped.{Dumped}
 use Rattle.wave_rules.specs.declared.Dumped.the-variants.{Written}
 use Rattle.wave_write.specs.Writer.{wantedOf, flippedOf, stepOf, weighOf, headOf}
@@ -42,7 +42,7 @@ pub length-time : (t : ℕ) → length (timeLine t) ≡ 1 + placesOf t
 unfolding timeLine
 length-time t = omega (arith, length-decimal t)
 
-length-bit : (bit c : ℕ) → length (bitLine bit c) ≡ 2
+pub length-bit : (bit c : ℕ) → length (bitLine bit c) ≡ 2
 unfolding bitLine
 length-bit bit c = refl
 
@@ -50,22 +50,14 @@ pub length-var : (c : ℕ) → length (varLine c) ≡ 20 + placesOf c
 unfolding varLine
 length-var c = omega (arith, length-append (decimalOf c) (32 ∷ 36 ∷ 101 ∷ 110 ∷ 100 ∷ []), length-decimal c)
 
-vars-at : (n c : ℕ) (ls : List (List ℕ)) → c < n → varsOf c (n - c) ls ≡ varLine c ∷ varsOf (c + 1) (n - (c + 1)) ls
-unfolding varsOf
-vars-at n c ls h = let e : n - c ≡ suc (n - (c + 1)) = omega arith in rw e
+each-at : (lineFor : ℕ → List ℕ) (n c : ℕ) (ls : List (List ℕ)) → c < n
+    → eachOf lineFor c (n - c) ls ≡ lineFor c ∷ eachOf lineFor (c + 1) (n - (c + 1)) ls
+unfolding eachOf
+each-at lineFor n c ls h = let e : n - c ≡ suc (n - (c + 1)) = omega arith in rw e
 
-pub vars-end : (n c : ℕ) (ls : List (List ℕ)) → n ≤ c → varsOf c (n - c) ls ≡ ls
-unfolding varsOf
-vars-end n c ls h = let e : n - c ≡ 0 = omega arith in rw e
-
-first-at : (n c : ℕ) (ls : List (List ℕ)) → c < n
-    → firstOf c (n - c) ls ≡ bitLine 0 c ∷ firstOf (c + 1) (n - (c + 1)) ls
-unfolding firstOf
-first-at n c ls h = let e : n - c ≡ suc (n - (c + 1)) = omega arith in rw e
-
-pub first-end : (n c : ℕ) (ls : List (List ℕ)) → n ≤ c → firstOf c (n - c) ls ≡ ls
-unfolding firstOf
-first-end n c ls h = let e : n - c ≡ 0 = omega arith in rw e
+pub each-end : (lineFor : ℕ → List ℕ) (n c : ℕ) (ls : List (List ℕ)) → n ≤ c → eachOf lineFor c (n - c) ls ≡ ls
+unfolding eachOf
+each-end lineFor n c ls h = let e : n - c ≡ 0 = omega arith in rw e
 
 -- no lines
 pub put-nothing : (l : List ℕ) (i : ℕ) → (i, l) ≡ putOf l i (joined [])
@@ -77,47 +69,36 @@ put-nothing l i = put-none l i
 pub from-none : (n : ℕ) → n - 0 ≡ n
 from-none n = omega arith
 
-pub vars-turn : (l m : List ℕ) (i j n c : ℕ) → c < n → (j, m) ≡ putOf l i (joined (varLine c ∷ []))
-    → putOf m j (joined (varsOf (c + 1) (n - (c + 1)) [])) ≡ putOf l i (joined (varsOf c (n - c) []))
-vars-turn l m i j n c h e = rw (vars-at n c [] h) (put-line l m i j (varLine c) (varsOf (c + 1) (n - (c + 1)) []) e)
+pub each-turn : (lineFor : ℕ → List ℕ) (l m : List ℕ) (i j n c : ℕ) → c < n → (j, m) ≡ putOf l i (joined (lineFor c ∷ []))
+    → putOf m j (joined (eachOf lineFor (c + 1) (n - (c + 1)) [])) ≡ putOf l i (joined (eachOf lineFor c (n - c) []))
+each-turn lineFor l m i j n c h e = rw (each-at lineFor n c [] h) (put-line l m i j (lineFor c) (eachOf lineFor (c + 1) (n - (c + 1)) []) e)
 
-pub vars-room : (l m : List ℕ) (i j n c : ℕ) (y : List ℕ) → c < n
-    → putOf l i (joined (varsOf c (n - c) [])) ≡ putOf m j y → i + placesOf c + 21 ≤ j + length y
-vars-room l m i j n c y h e =
-    let s = put-size l m i j (joined (varsOf c (n - c) [])) y e in
-    omega (arith, s, ap (λ (ls : List (List ℕ)). length (joined ls)) (vars-at n c [] h), length-line (varLine c) (varsOf (c + 1) (n - (c + 1)) []), length-var c)
-
-pub first-turn : (l m : List ℕ) (i j n c : ℕ) → c < n → (j, m) ≡ putOf l i (joined (bitLine 0 c ∷ []))
-    → putOf m j (joined (firstOf (c + 1) (n - (c + 1)) [])) ≡ putOf l i (joined (firstOf c (n - c) []))
-first-turn l m i j n c h e = rw (first-at n c [] h) (put-line l m i j (bitLine 0 c) (firstOf (c + 1) (n - (c + 1)) []) e)
-
-pub first-room : (l m : List ℕ) (i j n c : ℕ) (y : List ℕ) → c < n
-    → putOf l i (joined (firstOf c (n - c) [])) ≡ putOf m j y → i + 3 ≤ j + length y
-first-room l m i j n c y h e =
-    let s = put-size l m i j (joined (firstOf c (n - c) [])) y e in
-    omega (arith, s, ap (λ (ls : List (List ℕ)). length (joined ls)) (first-at n c [] h), length-line (bitLine 0 c) (firstOf (c + 1) (n - (c + 1)) []), length-bit 0 c)
+pub each-room : (lineFor : ℕ → List ℕ) (l m : List ℕ) (i j n c : ℕ) (y : List ℕ) → c < n
+    → putOf l i (joined (eachOf lineFor c (n - c) [])) ≡ putOf m j y → i + length (lineFor c) + 1 ≤ j + length y
+each-room lineFor l m i j n c y h e =
+    let s = put-size l m i j (joined (eachOf lineFor c (n - c) [])) y e in
+    omega (arith, s, ap (λ (ls : List (List ℕ)). length (joined ls)) (each-at lineFor n c [] h), length-line (lineFor c) (eachOf lineFor (c + 1) (n - (c + 1)) []))
 
 -- ---- a step
 
-pub turn-true : (n : ℕ) (bits o : List ℕ) (kind cell : ℕ) (r : Bool) → r ≡ true → (r, o) ≡ flippedOf n bits kind cell
-    → (changesOf n bits kind cell ≡ true) × (o ≡ flipOf bits cell)
+-- what the answer of a flip says
+turn-is : (n : ℕ) (bits o : List ℕ) (kind cell : ℕ) (r : Bool) → (r, o) ≡ flippedOf n bits kind cell
+    → (changesOf n bits kind cell ≡ r) × (o ≡ (if r then flipOf bits cell else bits))
 unfolding flippedOf
-turn-true n bits o kind cell r h = go (changesOf n bits kind cell)
+turn-is n bits o kind cell r = go (changesOf n bits kind cell)
   where
     go : (b : Bool) → _≡_ {A = Bool × List ℕ} (r, o) (if b then (true, flipOf bits cell) else (false, bits))
-        → (b ≡ true) × (o ≡ flipOf bits cell)
-    go true e = (refl, ap (λ (p : Bool × List ℕ). p .1) e)
-    go false e = let z : false ≡ true = sym (ap (λ (p : Bool × List ℕ). p .0) e) ∙ h in let w : _≡_ {A = ℕ} 0 1 = cc in absurd (omega arith)
+        → (b ≡ r) × (o ≡ (if r then flipOf bits cell else bits))
+    go true e = let p : r ≡ true = ap (λ (x : Bool × List ℕ). x .0) e in rw p (refl, ap (λ (x : Bool × List ℕ). x .1) e)
+    go false e = let p : r ≡ false = ap (λ (x : Bool × List ℕ). x .0) e in rw p (refl, ap (λ (x : Bool × List ℕ). x .1) e)
+
+pub turn-true : (n : ℕ) (bits o : List ℕ) (kind cell : ℕ) (r : Bool) → r ≡ true → (r, o) ≡ flippedOf n bits kind cell
+    → (changesOf n bits kind cell ≡ true) × (o ≡ flipOf bits cell)
+turn-true n bits o kind cell r h e = rw h at (turn-is n bits o kind cell r e)
 
 pub turn-false : (n : ℕ) (bits o : List ℕ) (kind cell : ℕ) (r : Bool) → r ≡ false → (r, o) ≡ flippedOf n bits kind cell
     → (changesOf n bits kind cell ≡ false) × (o ≡ bits)
-unfolding flippedOf
-turn-false n bits o kind cell r h = go (changesOf n bits kind cell)
-  where
-    go : (b : Bool) → _≡_ {A = Bool × List ℕ} (r, o) (if b then (true, flipOf bits cell) else (false, bits))
-        → (b ≡ false) × (o ≡ bits)
-    go false e = (refl, ap (λ (p : Bool × List ℕ). p .1) e)
-    go true e = let z : true ≡ false = sym (ap (λ (p : Bool × List ℕ). p .0) e) ∙ h in let w : _≡_ {A = ℕ} 0 1 = cc in absurd (omega arith)
+turn-false n bits o kind cell r h e = rw h at (turn-is n bits o kind cell r e)
 
 -- the bit that was turned is the one that the step wants
 pub wanted-is : (kind bit : ℕ) → turns kind bit ≡ true → wantedOf kind ≡ turned bit
@@ -238,25 +219,20 @@ unfolding joined
 joined-append [] b = refl
 joined-append (x ∷ a) b = rw (joined-append a b) (sym (append-assoc x (10 ∷ joined a) (joined b)))
 
-vars-append : (left c : ℕ) (ls : List (List ℕ)) → varsOf c left ls ≡ varsOf c left [] ++ ls
-unfolding varsOf
-vars-append zero c ls = refl
-vars-append (suc left) c ls = rw (vars-append left (c + 1) ls)
-
-first-append : (left c : ℕ) (ls : List (List ℕ)) → firstOf c left ls ≡ firstOf c left [] ++ ls
-unfolding firstOf
-first-append zero c ls = refl
-first-append (suc left) c ls = rw (first-append left (c + 1) ls)
+each-append : (lineFor : ℕ → List ℕ) (left c : ℕ) (ls : List (List ℕ)) → eachOf lineFor c left ls ≡ eachOf lineFor c left [] ++ ls
+unfolding eachOf
+each-append lineFor zero c ls = refl
+each-append lineFor (suc left) c ls = rw (each-append lineFor left (c + 1) ls)
 
 -- the dump: its head, and the changes
 dump-parts : (n : ℕ) (script : List ℕ) → dumpOf n script ≡ headOf n ++ joined (bodyOf n 1 noBits script)
 unfolding dumpOf linesOf middleOf headOf
 dump-parts n script =
     let b : List (List ℕ) = bodyOf n 1 noBits script in
-    let p : joined (firstOf 0 n b) ≡ joined (firstOf 0 n []) ++ joined b = ap joined (first-append n 0 b) ∙ joined-append (firstOf 0 n []) b in
+    let p : joined (firstOf 0 n b) ≡ joined (firstOf 0 n []) ++ joined b = ap joined (each-append (bitLine 0) n 0 b) ∙ joined-append (firstOf 0 n []) b in
     let q : joined (upscope ∷ endLine ∷ timeLine 0 ∷ firstOf 0 n b) ≡ joined (upscope ∷ endLine ∷ timeLine 0 ∷ []) ++ (joined (firstOf 0 n []) ++ joined b) = joined-append (upscope ∷ endLine ∷ timeLine 0 ∷ []) (firstOf 0 n b) ∙ ap (λ (o : List ℕ). joined (upscope ∷ endLine ∷ timeLine 0 ∷ []) ++ o) p in
     let m : List (List ℕ) = upscope ∷ endLine ∷ timeLine 0 ∷ firstOf 0 n b in
-    let v : joined (varsOf 0 n m) ≡ joined (varsOf 0 n []) ++ (joined (upscope ∷ endLine ∷ timeLine 0 ∷ []) ++ (joined (firstOf 0 n []) ++ joined b)) = ap joined (vars-append n 0 m) ∙ joined-append (varsOf 0 n []) m ∙ ap (λ (o : List ℕ). joined (varsOf 0 n []) ++ o) q in
+    let v : joined (varsOf 0 n m) ≡ joined (varsOf 0 n []) ++ (joined (upscope ∷ endLine ∷ timeLine 0 ∷ []) ++ (joined (firstOf 0 n []) ++ joined b)) = ap joined (each-append varLine n 0 m) ∙ joined-append (varsOf 0 n []) m ∙ ap (λ (o : List ℕ). joined (varsOf 0 n []) ++ o) q in
     joined-append (timescale ∷ scopeLine ∷ []) (varsOf 0 n m) ∙ ap (λ (o : List ℕ). joined (timescale ∷ scopeLine ∷ []) ++ o) v ∙ simp append-assoc
 
 pub head-size : (n : ℕ) → length (headOf n) ≡ 80 + (length (joined (varsOf 0 n [])) + length (joined (firstOf 0 n [])))
@@ -292,15 +268,15 @@ pub head-turn : (n c : ℕ) → c < n
     → length (joined (varsOf c (n - c) [])) + length (joined (firstOf c (n - c) []))
     ≡ 24 + placesOf c + (length (joined (varsOf (c + 1) (n - (c + 1)) [])) + length (joined (firstOf (c + 1) (n - (c + 1)) [])))
 head-turn n c h =
-    rw (vars-at n c [] h, first-at n c [] h)
+    rw (each-at varLine n c [] h, each-at (bitLine 0) n c [] h)
     (omega (arith, length-line (varLine c) (varsOf (c + 1) (n - (c + 1)) []), length-var c, length-line (bitLine 0 c) (firstOf (c + 1) (n - (c + 1)) []), length-bit 0 c))
 
 pub head-end : (n c : ℕ) → n ≤ c → length (joined (varsOf c (n - c) [])) + length (joined (firstOf c (n - c) [])) ≡ 0
 unfolding joined
-head-end n c h = rw (vars-end n c [] h, first-end n c [] h)
+head-end n c h = rw (each-end varLine n c [] h, each-end (bitLine 0) n c [] h)
 
 pub head-few : (left c : ℕ) → length (joined (varsOf c left [])) + length (joined (firstOf c left [])) ≤ 44 * left
-unfolding varsOf firstOf joined
+unfolding eachOf joined
 head-few zero c = omega arith
 head-few (suc left) c =
     omega (arith, length-append (varLine c) (10 ∷ joined (varsOf (c + 1) left [])), length-append (bitLine 0 c) (10 ∷ joined (firstOf (c + 1) left [])), length-var c, length-bit 0 c, places-most c, head-few left (c + 1))

@@ -6,9 +6,9 @@ use native.Mathlib.Omega.{arith}
 use lib.ListN.{length}
 use borrow.Author.Needs.{needs}
 use Rattle.wave_rules.specs.Lines.{joined}
-use Rattle.wave_rules.specs.Dump.{firstOf}
+use Rattle.wave_rules.specs.Dump.{bitLine, firstOf}
 use Rattle.print.specs.Print.{putOf}
-use Rattle.wave_write.specs.Laws.{from-none, put-nothing, first-turn, first-room, first-end}
+use Rattle.wave_write.specs.Laws.{from-none, put-nothing, each-turn, each-room, each-end, length-bit}
 use Rattle.wave_write.proofs.put_first.Statement.{statement}
 use Rattle.wave_write.proofs.put_first.Tie as tie
 
@@ -25,8 +25,8 @@ put-bit-requires : tie.Need-put-bit-requires Inv-loop μ-loop
 put-bit-requires c κs =
     let l = c .before .before .loop in
     let a = c .before .before .before .before .args in
-    let room = first-room (l .out) (a .out .now) (l .used) (a .at) (a .n) (l .cell) (joined (firstOf 0 (a .n) [])) (search needs) (l .inv .2) in
-    omega (arith, room, l .inv .0)
+    let room = each-room (bitLine 0) (l .out) (a .out .now) (l .used) (a .at) (a .n) (l .cell) (joined (firstOf 0 (a .n) [])) (search needs) (l .inv .2) in
+    omega (arith, room, length-bit 0 (l .cell), l .inv .0)
 
 add-cell : tie.Need-add-cell Inv-loop μ-loop
 add-cell c = search needs
@@ -38,7 +38,7 @@ loop-again : tie.Need-loop-again Inv-loop μ-loop
 loop-again c =
     let l = c .before .before .before .before .before .loop in
     let a = c .before .before .before .before .before .before .before .args in
-    (omega (arith, c .before .before .put-bit .kept, l .inv .0), omega arith, first-turn (l .out) _ (l .used) _ (a .n) (l .cell) (search needs) (c .before .before .put-bit .ensures) ∙ l .inv .2)
+    (omega (arith, c .before .before .put-bit .kept, l .inv .0), omega arith, each-turn (bitLine 0) (l .out) _ (l .used) _ (a .n) (l .cell) (search needs) (c .before .before .put-bit .ensures) ∙ l .inv .2)
 
 same-length : tie.Need-same-length Inv-loop μ-loop
 same-length c = search needs
@@ -47,7 +47,7 @@ returns : tie.Need-returns Inv-loop μ-loop
 returns c =
     let l = c .before .loop in
     let a = c .before .before .before .args in
-    put-nothing (l .out) (l .used) ∙ rw (first-end (a .n) (l .cell) [] (search needs)) at (l .inv .2)
+    put-nothing (l .out) (l .used) ∙ rw (each-end (bitLine 0) (a .n) (l .cell) [] (search needs)) at (l .inv .2)
 
 pub put-first-spec : {M : Type 1} → statement M
 put-first-spec =

@@ -6,9 +6,9 @@ use native.Mathlib.Omega.{arith}
 use lib.ListN.{length}
 use borrow.Author.Needs.{needs}
 use Rattle.wave_rules.specs.Lines.{joined}
-use Rattle.wave_rules.specs.Dump.{varsOf}
+use Rattle.wave_rules.specs.Dump.{varLine, varsOf}
 use Rattle.print.specs.Print.{putOf}
-use Rattle.wave_write.specs.Laws.{from-none, put-nothing, vars-turn, vars-room, vars-end}
+use Rattle.wave_write.specs.Laws.{from-none, put-nothing, each-turn, each-room, each-end, length-var}
 use Rattle.wave_write.proofs.put_vars.Statement.{statement}
 use Rattle.wave_write.proofs.put_vars.Tie as tie
 
@@ -25,8 +25,8 @@ put-var-requires : tie.Need-put-var-requires Inv-loop μ-loop
 put-var-requires c κs =
     let l = c .before .before .loop in
     let a = c .before .before .before .before .args in
-    let room = vars-room (l .out) (a .out .now) (l .used) (a .at) (a .n) (l .cell) (joined (varsOf 0 (a .n) [])) (search needs) (l .inv .2) in
-    omega (arith, room, l .inv .0)
+    let room = each-room varLine (l .out) (a .out .now) (l .used) (a .at) (a .n) (l .cell) (joined (varsOf 0 (a .n) [])) (search needs) (l .inv .2) in
+    omega (arith, room, length-var (l .cell), l .inv .0)
 
 add-cell : tie.Need-add-cell Inv-loop μ-loop
 add-cell c = search needs
@@ -38,7 +38,7 @@ loop-again : tie.Need-loop-again Inv-loop μ-loop
 loop-again c =
     let l = c .before .before .before .before .before .loop in
     let a = c .before .before .before .before .before .before .before .args in
-    (omega (arith, c .before .before .put-var .kept, l .inv .0), omega arith, vars-turn (l .out) _ (l .used) _ (a .n) (l .cell) (search needs) (c .before .before .put-var .ensures) ∙ l .inv .2)
+    (omega (arith, c .before .before .put-var .kept, l .inv .0), omega arith, each-turn varLine (l .out) _ (l .used) _ (a .n) (l .cell) (search needs) (c .before .before .put-var .ensures) ∙ l .inv .2)
 
 same-length : tie.Need-same-length Inv-loop μ-loop
 same-length c = search needs
@@ -47,7 +47,7 @@ returns : tie.Need-returns Inv-loop μ-loop
 returns c =
     let l = c .before .loop in
     let a = c .before .before .before .args in
-    put-nothing (l .out) (l .used) ∙ rw (vars-end (a .n) (l .cell) [] (search needs)) at (l .inv .2)
+    put-nothing (l .out) (l .used) ∙ rw (each-end varLine (a .n) (l .cell) [] (search needs)) at (l .inv .2)
 
 pub put-vars-spec : {M : Type 1} → statement M
 put-vars-spec =
