@@ -1,6 +1,6 @@
 #!/usr/bin/env bash
 # wave-picture.sh CASES N PNG: a picture of the waveform that bench/wave.sh writes, as GTKWave shows it, for a page such
-# as README.md. It needs no screen: the viewer runs on a virtual one (Debian's xvfb), and imagemagick takes the picture;
+# as docs/WAVE.md. It needs no screen: the viewer runs on a virtual one (Debian's xvfb), and imagemagick takes the picture;
 # what is missing is installed from Debian's packages.
 set -euo pipefail
 [ $# -eq 3 ] || { echo "usage: bash bench/wave-picture.sh CASES N PNG" >&2; exit 2; }

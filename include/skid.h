@@ -308,6 +308,12 @@ enum skid_wave_kind {
     SKID_WAVE_BAD_LINE = 4  /* no dump begins with this line and those before it */
 };
 
+/*
+ * The calls. tests/signatures.py writes the declarations from the exported functions of crates/skid/src, and the gate
+ * compares; the comments are written here.
+ */
+/* declarations: begin */
+
 /* ---- preparing */
 
 /*
@@ -529,7 +535,7 @@ void skid_write_speed(uint32_t headers, uint32_t buckets, uint32_t next, uint32_
 /* The same with a valve, true for open; never SKID_NOT_FINITE. */
 void skid_write_valve(uint32_t headers, uint32_t buckets, uint32_t next, uint32_t boot, const uint32_t *table,
                       size_t table_len, uint8_t *book, size_t book_len, uint32_t slot, uint32_t cell, uint32_t serial,
-                      uint32_t lease_boot, bool open, uint64_t reply[SKID_BOOK_WORDS]);
+                      uint32_t lease_boot, bool opened, uint64_t reply[SKID_BOOK_WORDS]);
 
 /* The newest setpoint of a slot and its version: a setting. It needs no lease and changes nothing. */
 void skid_read_setpoint(uint32_t headers, uint32_t buckets, uint32_t next, uint32_t boot, const uint8_t *book,
@@ -557,6 +563,7 @@ void skid_write_dump(uint32_t cells, const uint32_t *script, size_t script_len, 
  */
 void skid_read_dump(const uint8_t *text, size_t text_len, uint32_t *script, size_t script_len,
                     uint64_t reply[SKID_WAVE_WORDS]);
+/* declarations: end */
 
 #ifdef __cplusplus
 }

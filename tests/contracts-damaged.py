@@ -70,8 +70,8 @@ DAMAGES = [
      '000.environment_for_borrows.e3: elsewhere its clause is said so'),
     (PAGE, 'fill', r'(\| 000\.drop_lease\.r2 \|.*)\(12\)', r'\1(13)', '000.drop_lease.r2: refused with 13'),
     (PAGE, 'fill', r'(\| 000\.try_lock\.e2 \|.*)\(needs only .*?authorized\)',
-     r'\1(holds of any table and any arguments, refused or not)',
-     '000.try_lock.e2: "holds of any table'),
+     r'\1(always)',
+     '000.try_lock.e2: "always'),
     # a loop's field renamed: in the row, in row and list, in the crate
     (PAGE, 'fill', r'(\| 001\.acquire_index_locks\.i2 \|.*)as-many', r'\1as-few',
      '001.acquire_index_locks.i2: the page says'),

@@ -40,8 +40,8 @@ CALLS = {'try-acquire': 'try_acquire', 'drop-lease': 'drop_lease', 'read-permiss
          'transactional': 'transactional_try_lock_bucket', 'acquire-bucket': 'acquire_index_bucket',
          'release-all': 'release_all', 'acquire-locks': 'acquire_index_locks'}
 # what a verdict says in these words, the field of `Here` must be: a pattern, or None for the field of `Ensures` itself
-WORDS = {'holds of any table and any arguments, refused or not': None,
-         'of any table: every cell that was valid is valid': r'keeps-valid w \(final m\)',
+WORDS = {'always': None,
+         'cell by cell': r'keeps-valid w \(final m\)',
          'needs only that the held leases are authorized':
              r'(leases-authorized w \(holdsOf held\)|protected-valid w \(held-ids \(holdsOf held\)\)) → '
              r'(?!.*valid-at w).*',

@@ -5,9 +5,9 @@
 set -euo pipefail
 cd "$(dirname "$0")/.."
 
-base='choice types model laws setpoint slots'
-theory='history exact progress anyorder works upstream pinned builds swaps written salvaged boots pinnedbook'
-steps='arena lease foreign lock bucket release multilock sort sorted plan crew work sound compact enter book salvage'
+base='choice types model laws setpoint book_rules'
+theory='history history_exact crew_theory sorted_theory crew_at_work_theory upstream pinned wrong_builds swaps book_theory salvage_theory boot_theory book_pinned'
+steps='arena lease foreign lock bucket release multilock sorted_merge sorted crew_plan crew crew_at_work book_sound book_compact book_enter book salvage'
 callers="$steps records skid" # the calls themselves, and the faces that make them
 exports=skid
 

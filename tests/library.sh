@@ -1,8 +1,11 @@
 #!/usr/bin/env bash
 # The static library as people use it. Header, Rust face and archive have the same functions; document 01's bench cases and document 02's
-# keys in any order, salvage, boot numbers, crew at work, setpoint book and waveform run through the library from C and from Rust, and each figure is checked. Built things go to target/library.
+# keys in any order, salvage, boot numbers, crew at work, setpoint book and waveform run through the library from C and from Rust, and
+# each figure is checked. Built things go to target/library.
 set -euo pipefail
 cd "$(dirname "$0")/.."
+# shellcheck source=tests/lib.sh
+. tests/lib.sh
 out=target/library
 archive=target/staticlib/libskid.a
 mkdir -p "$out"
@@ -21,23 +24,17 @@ else
     cc=/usr/bin/x86_64-linux-gnu-gcc cxx=/usr/bin/x86_64-linux-gnu-g++ nm=/usr/bin/x86_64-linux-gnu-nm
     rustc=(/usr/bin/rustc --target x86_64-unknown-linux-gnu -C "linker=$cc")
     run=(/usr/bin/qemu-x86_64 -L /)
-    if ! [ -x "$cc" ] || ! [ -x "${rustc[0]}" ] || ! [ -x "${run[0]}" ]; then
-        dpkg --add-architecture amd64
-        apt-get update
-        apt-get install -y --no-install-recommends \
-            gcc-x86-64-linux-gnu libc6-dev:amd64 rustc-web libstd-rust-web-dev:amd64 qemu-user
-    fi
 fi
 
-rt staticlib skid
+need_cross
+build_library
 
-# ---- header, Rust face, C test and archive have the same functions; the archive asks for no more than the header says
+# ---- header, C test and archive have the same functions; the archive asks for no more than the header says. Of header and Rust face
+# tests/signatures.py compares the arguments too.
 grep -oE '^void skid_[a-z_]+' include/skid.h | sed 's/^void //' | sort >"$out/header"
-grep -oE '^ {12}[a-z_]+\(' rust/skid/src/raw/calls.rs | sed 's/^ */skid_/; s/($//' | sort >"$out/face"
 grep -ohE 'skid_[a-z_]+\(' tests/c/bench.c tests/c/wave.c | tr -d '(' | sort -u >"$out/called"
 "$nm" -g --defined-only "$archive" | awk 'NF == 3 && $3 !~ /^skid_interface_[0-9]+$/ { print $3 }' | sort >"$out/archive"
 diff "$out/header" "$out/archive" || fail "the header (<) and the archive (>) have different functions"
-diff "$out/face" "$out/archive" || fail "the Rust face (<) and the archive (>) have different functions"
 diff "$out/called" "$out/archive" || fail "the C tests call (<) other functions than the archive has (>)"
 [ "$(wc -l <"$out/header")" = 29 ] || fail "document 01 has 18 calls, the setpoint book 6, the waveform 2, keys in any order, salvage and the crew at work 1 each"
 "$nm" -u "$archive" | awk '$1 == "U" && $2 != "memcpy" && $2 != "memset" { print "asks for " $2; bad = 1 } END { exit bad }' ||

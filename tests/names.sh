@@ -2,7 +2,7 @@
 # The names in backquotes on the pages, README.md, CONTRIBUTING.md, CHANGELOG.md, docs/ and docs/changes/: each that looks like a
 # definition, a lemma, a function, a type, a constant or a file must be there.
 # - `File.name` is declared in File.antt of some crate; `name` of crate `c`, `name` (`c`), `name`, crate `c`, file `F` and a row of a table
-#   | `name` | c | or | `name` | c, `F` | in that one;
+#   | `name` | c | or | `name` | c, `F` |, c in backquotes or not, in that one;
 # - a crate that is said to be one ("crate `c`") is in crates.txt, and a path is a file or a folder of the repository;
 # - any other name, also as a part of `a::b` or of words in one pair of backquotes, is declared in a crate, is a word of the source of
 #   crates/, rust/, include/, tests/ or bench/, or is the name of a file.
@@ -74,7 +74,7 @@ files() {
             path = $0
             do path_and_name(path); while (sub(/\/[^\/]*$/, "", path))
             path = $0
-            if (sub(/^crates\/[a-z]+\//, "", path)) path_and_name(path)
+            if (sub(/^crates\/[a-z_]+\//, "", path)) path_and_name(path)
             path = $0
             if (sub(/\/must-fail\//, "/", path) && sub(/\.edit$/, "", path) && sub(/^crates\//, "", path)) path_and_name(path)
         }'
@@ -188,12 +188,13 @@ wrong_names() {
             }
         }
         # a row of a table whose second cell is a crate, or a crate and a file: the names of the first are there
-        function judge_row(line, cell, where, file) {
+        function judge_row(line, cell, part, where, file) {
             split(line, cell, "|")
-            where = cell[3]
-            file = quoted(where)
-            gsub(/^ +|, `.*| +$/, "", where)
-            if (where in crate && cell[3] ~ /^ [a-z]+(, `[A-Z][A-Za-z]*`)? $/) judge_in(cell[2], where, file)
+            if (cell[3] !~ /^ `?[a-z]+`?(, `[A-Z][A-Za-z]*`)? $/) return
+            file = split(cell[3], part, ", ") > 1 ? quoted(part[2]) : ""
+            where = part[1]
+            gsub(/[ `]/, "", where)
+            if (where in crate) judge_in(cell[2], where, file)
         }
         FNR == 1 { fenced = 0 }
         /^ *```/ { fenced = !fenced; next }
@@ -230,6 +231,8 @@ crate `neverwritten`
 `prepareOf`, crate `model`, file `Lock`
 | `script-consumed` | history | what it says |
 | `prepareOf` | model, `Lock` | what it says |
+| `script-consumed` | `history` | what it says |
+| `prepareOf` | `model`, `Lock` | what it says |
 END
 : >"$room/used"
 wrong_names "$room/damaged.md" | sed 's/^[^:]*:\([0-9]*\) .*/\1/' | sort -n -u >"$room/found"

@@ -1,11 +1,11 @@
 #!/usr/bin/env bash
-# The files that say what a build must do (crate pinned: Words, Checks, Steps, Statements; of the setpoint book, crate pinnedbook: Statement) cite none of the
-# definitions that they pin down. Of this repository they may name each other and types: those declared in crates types, setpoint and slots, and the few listed
+# The files that say what a build must do (crate pinned: Words, Checks, Steps, Statements; of the setpoint book, crate book_pinned: Statement) cite none of the
+# definitions that they pin down. Of this repository they may name each other and types: those declared in crates types, setpoint and book_rules, and the few listed
 # here, with the names of calls, events and actors. They name nothing outside their `use` lines. Ends with 1 and says what is wrong. Before it looks at the files
 # it looks at damaged copies: these must be refused.
 set -euo pipefail
 cd "$(dirname "$0")/.."
-files='pinned/Words pinned/Checks pinned/Steps pinned/Statements pinnedbook/Statement'
+files='pinned/Words pinned/Checks pinned/Steps pinned/Statements book_pinned/Statement'
 
 # names DATA FILE: the constructors of a data type
 names() {
@@ -33,7 +33,7 @@ looks() {
         while read -r line; do
             case $line in
             'use Prim.'* | 'use mathlib.'* | 'use lib.'* | 'use Rattle.types.specs.declared.'*) continue ;;
-            'use Rattle.setpoint.specs.declared.'* | 'use Rattle.slots.specs.declared.'*) continue ;;
+            'use Rattle.setpoint.specs.declared.'* | 'use Rattle.book_rules.specs.declared.'*) continue ;;
             esac
             module=$(sed -E 's/^use ([^ ]*)\.\{.*/\1/' <<< "$line")
             case $module in
@@ -86,12 +86,12 @@ wrong=$(
     damaged pinned/Statements 'use Rattle.history.specs.Items.{Call, perform}'
     damaged pinned/Statements 'use Rattle.pinned.specs.Decided.{matched}'
     damaged pinned/Statements 'size = Rattle.types.specs.Head.cellsOf'
-    damaged pinnedbook/Statement 'use Rattle.slots.specs.Layout.{isSound}'
-    damaged pinnedbook/Statement 'use Rattle.slots.specs.Writing as writing'
-    damaged pinnedbook/Statement 'use Rattle.setpoint.specs.Codec.{settingOf}'
-    damaged pinnedbook/Statement 'use Rattle.model.specs.Arena.{shapeFits}'
-    damaged pinnedbook/Statement 'use Rattle.pinned.specs.Decided.{Decides}'
-    damaged pinnedbook/Statement 'use Rattle.pinnedbook.specs.Plain.{place-is}'
+    damaged book_pinned/Statement 'use Rattle.book_rules.specs.Layout.{isSound}'
+    damaged book_pinned/Statement 'use Rattle.book_rules.specs.Writing as writing'
+    damaged book_pinned/Statement 'use Rattle.setpoint.specs.Codec.{settingOf}'
+    damaged book_pinned/Statement 'use Rattle.model.specs.Arena.{shapeFits}'
+    damaged book_pinned/Statement 'use Rattle.pinned.specs.Decided.{Decides}'
+    damaged book_pinned/Statement 'use Rattle.book_pinned.specs.Plain.{place-is}'
     looks crates $files
     types
 )

@@ -16,13 +16,13 @@ documents=${SHARED_DOCS:-../shared/docs}
 quoting=(
     crates/{types,model}/specs/*.antt
     crates/history/specs/{Statements,Answers}.antt
-    crates/exact/specs/{Statements,Script,Attempts}.antt
-    crates/{progress,anyorder,works}/specs/Statements.antt
+    crates/history_exact/specs/{Statements,Script,Attempts}.antt
+    crates/{crew_theory,sorted_theory,crew_at_work_theory}/specs/Statements.antt
     crates/setpoint/specs/Codec.antt
-    crates/slots/specs/{Layout,Writing,Rules,Calls,Cases}.antt
-    crates/{written,salvaged,boots}/specs/Statements.antt
+    crates/book_rules/specs/{Layout,Writing,Rules,Calls,Cases}.antt
+    crates/{book_theory,salvage_theory,boot_theory}/specs/Statements.antt
     crates/pinned/specs/{Words,Checks,Steps,Statements}.antt
-    crates/pinnedbook/specs/Statement.antt
+    crates/book_pinned/specs/Statement.antt
 )
 
 # names_of PAGE..: the names File.name on it

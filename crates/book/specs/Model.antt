@@ -11,18 +11,18 @@ use Rattle.model.specs.Arena.{cellsOf, headFits}
 use Rattle.types.specs.declared.Head.{Head}
 use Rattle.types.specs.declared.Lease.{Lease}
 use Rattle.setpoint.specs.declared.Setpoint.{Setpoint}
-use Rattle.slots.specs.Layout.{slotsOf, placeAt, newestAt}
-use Rattle.slots.specs.Writing.{putOf}
-use Rattle.slots.specs.Rules.{firstFault, judgeBook, claimRules, overRules, openRules, keptRules}
-use Rattle.slots.specs.Calls.{writtenOf, writeSetpointOf, lineTold, readVersionOf}
-use Rattle.slots.specs.Sound.{sound-is}
-use Rattle.slots.specs.Outcomes.{Keeps}
-use Rattle.slots.specs.Reads.{kept-line}
-use Rattle.slots.specs.Fine.{OpenFine, or-then, faults-append, head-alone}
-use Rattle.slots.specs.declared.BookAnswer.{BookAnswer}
-use Rattle.slots.specs.declared.BookAnswer.the-variants.{Refused}
-use Rattle.slots.specs.declared.BookCheck.{BookCheck}
-use Rattle.slots.specs.declared.BookCheck.the-variants.{Fine, Fault}
+use Rattle.book_rules.specs.Layout.{slotsOf, placeAt, newestAt}
+use Rattle.book_rules.specs.Writing.{putOf}
+use Rattle.book_rules.specs.Rules.{firstFault, judgeBook, claimRules, overRules, openRules, keptRules}
+use Rattle.book_rules.specs.Calls.{writtenOf, writeSetpointOf, lineTold, readVersionOf}
+use Rattle.book_rules.specs.Sound.{sound-is}
+use Rattle.book_rules.specs.Outcomes.{Keeps}
+use Rattle.book_rules.specs.Reads.{kept-line}
+use Rattle.book_rules.specs.Fine.{OpenFine, or-then, faults-append, head-alone}
+use Rattle.book_rules.specs.declared.BookAnswer.{BookAnswer}
+use Rattle.book_rules.specs.declared.BookAnswer.the-variants.{Refused}
+use Rattle.book_rules.specs.declared.BookCheck.{BookCheck}
+use Rattle.book_rules.specs.declared.BookCheck.the-variants.{Fine, Fault}
 
 -- ---- the head alone
 

@@ -1,11 +1,11 @@
-// The calls of the setpoint book (document 02, L2 and L10): preparing, writing, reading. `slots` has the rules.
+// The calls of the setpoint book (document 02, L2 and L10): preparing, writing, reading. `book_rules` has the rules.
 // Functions with a `requires` are steps: calls have tested the head, the book's length and the slot, and a step tests
 // nothing twice. No other crate calls a step of this file.
+use book_rules::BookAnswer;
+use book_rules::BookCheck;
+use book_rules::BookRefusal;
 use setpoint::Decoded;
 use setpoint::Setpoint;
-use slots::BookAnswer;
-use slots::BookCheck;
-use slots::BookRefusal;
 use types::Head;
 use types::Lease;
 ghost use mathlib.Core.Path.{_≡_};
@@ -14,9 +14,9 @@ ghost use mathlib.Core.Bool.{true};
 ghost use lib.ListN.{length};
 ghost use Rattle.model.specs.Arena.{headFits, shapeFits, holdIn};
 ghost use Rattle.setpoint.specs.Codec.{hasBody};
-ghost use Rattle.slots.specs.Layout.{slotsOf, frontOf, placeAt};
-ghost use Rattle.slots.specs.Rules.{firstFault, isBadBook, isBadSlot, isHolder, claimRules, openRules};
-ghost use Rattle.slots.specs.Calls.{prepareBookOf, writeSetpointOf, lineTold, readVersionOf, readSetpointOf};
+ghost use Rattle.book_rules.specs.Layout.{slotsOf, frontOf, placeAt};
+ghost use Rattle.book_rules.specs.Rules.{firstFault, isBadBook, isBadSlot, isHolder, claimRules, openRules};
+ghost use Rattle.book_rules.specs.Calls.{prepareBookOf, writeSetpointOf, lineTold, readVersionOf, readSetpointOf};
 ghost use Rattle.book.specs.Model.{writeOverOf, readKeptOf, Readable};
 
 // The last version. A slot that has reached it is written no more.
@@ -137,17 +137,17 @@ fn write_over(n: usize, book: &mut [u8], slot: usize, s: Setpoint) -> BookAnswer
     requires { ⌜ hasBody s ≡ true ⌝ }
     ensures { λ r. ⌜ (r, now (book .exit)) ≡ writeOverOf n (now (book .entry)) slot s ⌝ }
 {
-    if sound::is_sound(n, book) {
-        let newest = sound::version_at(book, 4 * slot);
+    if book_sound::is_sound(n, book) {
+        let newest = book_sound::version_at(book, 4 * slot);
         if newest == LAST_VERSION {
             return BookAnswer::Refused(BookRefusal::VersionsSpent);
         }
-        let kept = enter::staying(n, book, slot);
+        let kept = book_enter::staying(n, book, slot);
         if book.len() < 32 * n + 5 * kept + 5 {
             return BookAnswer::Refused(BookRefusal::BookFull);
         }
-        enter::drop_oldest(book, slot);
-        let moved = enter::put_over(n, kept, book, slot, s, newest + 1);
+        book_enter::drop_oldest(book, slot);
+        let moved = book_enter::put_over(n, kept, book, slot, s, newest + 1);
         return BookAnswer::Written(newest + 1, moved);
     }
     BookAnswer::Refused(BookRefusal::DamagedBook)
@@ -186,7 +186,7 @@ fn open_check(head: Head, book: &[u8], slot: u32) -> BookCheck
         if is_bad_slot(n, book.len(), slot as usize) {
             return BookCheck::Fault(BookRefusal::BadSlot);
         }
-        if sound::is_sound(n, book) {
+        if book_sound::is_sound(n, book) {
             return BookCheck::Fine;
         }
         return BookCheck::Fault(BookRefusal::DamagedBook);
@@ -200,7 +200,7 @@ fn line_told(book: &[u8], k: usize, version: u32) -> BookAnswer
     requires { ⌜ placeAt (now book) k + 5 ≤ length (now book) ⌝ }
     ensures { λ r. ⌜ r ≡ lineTold (now (book .entry)) k version ⌝ }
 {
-    let found = sound::setting_at(book, sound::place_at(book, k) as usize);
+    let found = book_sound::setting_at(book, book_sound::place_at(book, k) as usize);
     match found {
         Decoded::Setting(s) => BookAnswer::Setting(s, version),
         Decoded::Damaged => BookAnswer::Refused(BookRefusal::DamagedBook),
@@ -213,7 +213,7 @@ fn read_kept(book: &[u8], slot: usize, version: u32) -> BookAnswer
     requires { ⌜ Readable (now book) slot ⌝ }
     ensures { λ r. ⌜ r ≡ readKeptOf (now (book .entry)) slot version ⌝ }
 {
-    let newest = sound::version_at(book, 4 * slot);
+    let newest = book_sound::version_at(book, 4 * slot);
     if version == 0 {
         return BookAnswer::Refused(BookRefusal::NeverWritten);
     }
@@ -247,7 +247,7 @@ pub fn read_setpoint(head: Head, book: &[u8], slot: u32) -> BookAnswer
     match check {
         BookCheck::Fault(refusal) => BookAnswer::Refused(refusal),
         BookCheck::Fine => {
-            let newest = sound::version_at(book, 4 * slot as usize);
+            let newest = book_sound::version_at(book, 4 * slot as usize);
             read_kept(book, slot as usize, newest)
         }
     }

@@ -162,7 +162,7 @@ pub fn transactional_try_lock_bucket(
 {
     let check = bucket_check(head, table, health, registry, script, place, held, binding);
     match check {
-        Check::Fault(refusal) => foreign::unplay(head, place, refusal),
+        Check::Fault(refusal) => foreign::refuse_at_once(head, place, refusal),
         Check::Fine => {
             let key = Key { binding, bucket };
             once_by_key(head, table, health, registry, script, place, held, key)
@@ -190,7 +190,7 @@ pub fn acquire_index_bucket(
 {
     let check = bucket_check(head, table, health, registry, script, place, held, binding);
     match check {
-        Check::Fault(refusal) => foreign::unplay(head, place, refusal),
+        Check::Fault(refusal) => foreign::refuse_at_once(head, place, refusal),
         Check::Fine => {
             let key = Key { binding, bucket };
             retry_by_key(head, table, health, registry, script, place, held, key)

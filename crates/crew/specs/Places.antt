@@ -11,7 +11,7 @@ use Rattle.model.specs.Crew.{Work, rests, addsOf, movesOf, startOf}
 use Rattle.types.specs.declared.Head.{Head}
 use Rattle.laws.specs.Crew.{adds-few, start-fits}
 use Rattle.lock.specs.Fine.{header-in}
-use Rattle.plan.specs.Fine.{CrewFine}
+use Rattle.crew_plan.specs.Fine.{CrewFine}
 use Rattle.crew.specs.Model.{placeOf}
 
 -- where move number n is, of a member whose list begins at `start`: takes in order, then adds in order, then releases, last first

@@ -1,5 +1,5 @@
 // The crew: up to sixteen members take turns, each taking the cells of its list in order and then releasing them, last
-// first. The steps that are `pub` serve crate `work` too, where members add between.
+// first. The steps that are `pub` serve crate `crew_at_work` too, where members add between.
 // Functions with a `requires` are steps: the call has tested shape, limits, lists and turns, and a step tests nothing
 // twice.
 use types::Answer;
@@ -14,8 +14,8 @@ ghost use Prim.Native.Nat.{_+_, _*_, _-_, _/_, _<_, _≤_, min};
 ghost use lib.ListN.{length, getD};
 ghost use Rattle.model.specs.Refusals.{first};
 ghost use Rattle.model.specs.Crew.{addsOf, crewRules, crewRefused, crewOf};
-ghost use Rattle.plan.specs.Starts.{Begun};
-ghost use Rattle.plan.specs.Fine.{CrewFine};
+ghost use Rattle.crew_plan.specs.Starts.{Begun};
+ghost use Rattle.crew_plan.specs.Fine.{CrewFine};
 ghost use Rattle.crew.specs.Model.{placeOf, tryMoveOf, makeMoveOf, takeTurnsOf, workBy, finishOf, crewRunOf};
 
 // What a turn comes to; a take hands on the next serial and the one it took.
@@ -51,7 +51,7 @@ fn crew_check(
     let shape = arena::arena_fault(head, table, health);
     match shape {
         Check::Fault(refusal) => Check::Fault(refusal),
-        Check::Fine => plan::plan_fault(head.headers * head.buckets, counts, cells, turns),
+        Check::Fine => crew_plan::plan_fault(head.headers * head.buckets, counts, cells, turns),
     }
 }
 
@@ -265,7 +265,7 @@ fn crew_run(
         ≡ crewRunOf head (now (table .entry)) (now (health .entry))
         (now (counts .entry)) (now (cells .entry)) (now (turns .entry)) ⌝ }
 {
-    let starts = plan::starts_of(counts);
+    let starts = crew_plan::starts_of(counts);
     let worked = take_turns(head, table, health, counts, cells, &starts, turns);
     finish(head, counts, worked, false)
 }

@@ -22,7 +22,7 @@ ghost use Rattle.model.specs.Refusals.{first};
 ghost use Rattle.model.specs.Checks.{badScript, badHeld, scriptRules};
 ghost use Rattle.model.specs.Foreign.{setting, protecting, flowOf, stepTakeOf, stepReleaseOf};
 ghost use Rattle.model.specs.Foreign.{stepWaitersOf, stepHealthOf, stepOf, runStepsOf, boundaryOf};
-ghost use Rattle.model.specs.Calls.{played, unplayed, environmentOf};
+ghost use Rattle.model.specs.Calls.{played, refusedAtOnce, environmentOf};
 ghost use Rattle.foreign.specs.Model.{pairsOf, guardsOf, Room, RoomIn, scopeOf, settingOf, runOnceOf};
 ghost use Rattle.foreign.specs.Laws.{FlowBound};
 ghost use Rattle.foreign.specs.Marks.{Marked};
@@ -569,8 +569,8 @@ pub fn play(head: Head, run: Run, answer: Answer) -> Played
 }
 
 // A refusal that changes nothing.
-pub fn unplay(head: Head, place: usize, refusal: Refusal) -> Played
-    ensures { λ r. ⌜ r ≡ unplayed head place refusal ⌝ }
+pub fn refuse_at_once(head: Head, place: usize, refusal: Refusal) -> Played
+    ensures { λ r. ⌜ r ≡ refusedAtOnce head place refusal ⌝ }
 {
     Played {
         head,
@@ -603,7 +603,7 @@ pub fn environment(
 {
     let check = script_check(head, table, health, script, place, held);
     match check {
-        Check::Fault(refusal) => unplay(head, place, refusal),
+        Check::Fault(refusal) => refuse_at_once(head, place, refusal),
         Check::Fine => run_once(head, table, health, script, place, held),
     }
 }

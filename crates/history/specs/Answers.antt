@@ -30,7 +30,7 @@ Handed-over f =
     → (before after : List Event) × (f w k .log ≡ before ++ (took by-caller (l .cell) (l .serial) ∷ after)) × (l .serial ≡ now w before .head .next)
 
 -- "keys in the order given": the serials in multi-lock's granted buffer rise from each position to each later one. Those of the sorted call
--- rise with the cells (crate `anyorder`, `Serials-by-cell`)
+-- rise with the cells (crate `sorted_theory`, `Serials-by-cell`)
 abbrev pub Serials-rise : Build → Type 0
 Serials-rise f =
     (w : World) (registry script : List ℕ) (place : ℕ) (held keys grants : List ℕ) (i j : ℕ)

@@ -9,7 +9,7 @@ use lib.ListN.{length, take}
 use Rattle.model.specs.Log.{Made, Event, attempt-begun, yielded, released, by-caller, note, _>>_}
 use Rattle.model.specs.Arena.{serialRemains, headerOf, isPoisoned, bitAt, ownerAt, waitersAt, setCell, stateAt, isFree, isLive, isIn, holdOf}
 use Rattle.model.specs.Foreign.{Setting, protecting, stepsIn, kindAt, placeAt, numberAt, flowOf, stepTakeOf, stepReleaseOf, stepWaitersOf, stepHealthOf, stepOf, runStepsOf, boundaryOf}
-use Rattle.model.specs.Lock.{takeIn, takeOf, afterTake, lateOf, secondOf, lockOf, runOf, findOf, attemptAt, attemptOf, spinOf, pauseOf, isBusy, retryOf, holdAt, giveBackOf, rollbackOf, afterKey, bindingAt, bucketAt, attemptLimit, noneYet, Locks, locksOf}
+use Rattle.model.specs.Lock.{takeIn, takeOf, afterTake, lateStageOf, secondStageOf, lockOf, runOf, findOf, attemptAt, attemptOf, spinOf, pauseOf, isBusy, retryOf, holdAt, giveBackOf, rollbackOf, afterKey, bindingAt, bucketAt, attemptLimit, noneYet, Locks, locksOf}
 use Rattle.model.specs.Calls.{countsOf}
 use Rattle.types.specs.declared.Counts.{Counts}
 use Rattle.types.specs.declared.Flow.{Flow}
@@ -112,16 +112,16 @@ module _ (a b y : ℕ) where
   abbrev Locking : ℕ → ℕ → Made (Locked × (List ℕ × List ℕ)) → Type 0
   Locking done d m = Counted (countsOf a (b + done) y d) (countsOf a (b + m .seen .0 .boundaries) y (m .seen .0 .flow .dropped)) (m .log)
 
-  late-counted : (e : Setting) (buckets : ℕ) (f : Flow) (t g : List ℕ) (c s : ℕ) → Locking 2 (f .dropped) (lateOf e buckets f t g c s)
-  unfolding lateOf number-of
+  late-counted : (e : Setting) (buckets : ℕ) (f : Flow) (t g : List ℕ) (c s : ℕ) → Locking 2 (f .dropped) (lateStageOf e buckets f t g c s)
+  unfolding lateStageOf number-of
   late-counted e buckets f t g c s =
       let m = boundaryOf (protecting e (holdOf c s ∷ [])) f t g .seen in
       then-counted (boundary-counted (protecting e (holdOf c s ∷ [])) f t g a (b + 2) (b + 3) y (omega arith))
       (if-both (Locking 3 (m .0 .dropped)) (isPoisoned (m .1 .1) (headerOf buckets c)) (omega arith)
       (if-both (Locking 3 (m .0 .dropped)) (eqb (waitersAt (m .1 .0) c) 0) (omega arith) (omega arith)))
 
-  second-counted : (e : Setting) (buckets : ℕ) (f : Flow) (t g : List ℕ) (c : ℕ) → Locking 1 (f .dropped) (secondOf e buckets f t g c)
-  unfolding secondOf
+  second-counted : (e : Setting) (buckets : ℕ) (f : Flow) (t g : List ℕ) (c : ℕ) → Locking 1 (f .dropped) (secondStageOf e buckets f t g c)
+  unfolding secondStageOf
   second-counted e buckets f t g c =
       let m = boundaryOf e f t g .seen in
       let k = takeOf (m .0 .next) (m .1 .0) c .seen in

@@ -13,7 +13,7 @@ use Rattle.choice.specs.Choice.{if_then_else_}
 use Rattle.model.specs.Log.{Made, Event, by-caller, attempt-begun, boundary-run, released, held-all, added, note, gives, _>>_}
 use Rattle.model.specs.Arena.{cellsOf, headerOf, isPoisoned, holdOf, setCell, waitersAt, isIn}
 use Rattle.model.specs.Foreign.{flowOf, runStepsOf, boundaryOf}
-use Rattle.model.specs.Lock.{takeOf, lateOf, afterTake, secondOf, lockOf}
+use Rattle.model.specs.Lock.{takeOf, lateStageOf, afterTake, secondStageOf, lockOf}
 use Rattle.model.specs.Calls.{given}
 use Rattle.model.specs.Crew.{Work, addsOf, movesOf, total, startOf, countOf, badLimits, badLists, badTurns, planRules, crewRules, crewAtWorkRules, Crew, crewStart, moved, isFull, afterTry, tryTurnOf, heldAllOf, addTurnOf, releaseTurnOf, turnOf, turnsOf}
 use Rattle.types.specs.declared.Head.{Head}
@@ -121,8 +121,8 @@ data Noted (work : Work) (counts cells made serials : List ℕ) (m x i j : ℕ) 
 
 module _ (h : Head) (n : ℕ) (t g : List ℕ) (c : ℕ) where
   -- what is protected makes no difference
-  late-same : (ps : List Hold) (k d : ℕ) (u : List ℕ) (s : ℕ) → lateOf (given h [] ps) (h .buckets) (flowOf k 0 d) u g c s ≡ lateOf (given h [] []) (h .buckets) (flowOf k 0 d) u g c s
-  unfolding lateOf boundaryOf runStepsOf
+  late-same : (ps : List Hold) (k d : ℕ) (u : List ℕ) (s : ℕ) → lateStageOf (given h [] ps) (h .buckets) (flowOf k 0 d) u g c s ≡ lateStageOf (given h [] []) (h .buckets) (flowOf k 0 d) u g c s
+  unfolding lateStageOf boundaryOf runStepsOf
   late-same ps k d u s = refl
 
   after-same : (ps : List Hold) (a : Take) (k d : ℕ) (u : List ℕ) → afterTake a (given h [] ps) (h .buckets) (flowOf k 0 d) u g c ≡ afterTake a (given h [] []) (h .buckets) (flowOf k 0 d) u g c
@@ -131,8 +131,8 @@ module _ (h : Head) (n : ℕ) (t g : List ℕ) (c : ℕ) where
   after-same ps taking.Damaged k d u = refl
   after-same ps taking.Spent k d u = refl
 
-  second-same : (ps : List Hold) → secondOf (given h [] ps) (h .buckets) (flowOf n 0 0) t g c ≡ secondOf (given h [] []) (h .buckets) (flowOf n 0 0) t g c
-  unfolding secondOf boundaryOf runStepsOf
+  second-same : (ps : List Hold) → secondStageOf (given h [] ps) (h .buckets) (flowOf n 0 0) t g c ≡ secondStageOf (given h [] []) (h .buckets) (flowOf n 0 0) t g c
+  unfolding secondStageOf boundaryOf runStepsOf
   second-same ps =
       let k = takeOf n t c in
       ap (λ (m : Made (With Locked)). record { seen = m .seen; log = (boundary-run ∷ []) ++ (k .log ++ m .log) })
@@ -143,7 +143,7 @@ module _ (h : Head) (n : ℕ) (t g : List ℕ) (c : ℕ) where
   lock-same ps = rw (second-same ps)
 
   same-health : lockOf (given h [] []) (h .buckets) (flowOf n 0 0) t g c .seen .1 .1 ≡ g
-  unfolding lockOf secondOf lateOf boundaryOf runStepsOf
+  unfolding lockOf secondStageOf lateStageOf boundaryOf runStepsOf
   same-health = if-both (λ (m : Made (With Locked)). m .seen .1 .1 ≡ g) (eqb (waitersAt t c) 0) (go (takeOf n t c .seen .0 .answer)) refl
     where
       go : (a : Take) → afterTake a (given h [] []) (h .buckets) (flowOf (takeOf n t c .seen .0 .next) 0 0) (takeOf n t c .seen .1) g c .seen .1 .1 ≡ g

@@ -12,7 +12,7 @@ use Rattle.model.specs.Arena.{headOf, leaseOf, isStale, holdOf, bitAt, ownerAt,
 use Rattle.model.specs.Refusals.{Rule, first}
 use Rattle.model.specs.Answers.{refusalIn}
 use Rattle.model.specs.Foreign.{stepTakeOf, stepReleaseOf, stepWaitersOf, stepHealthOf, stepOf, runStepsOf, boundaryOf}
-use Rattle.model.specs.Lock.{takeOf, lateOf, secondOf, lockOf, findOf, attemptOf, spinOf, pauseOf, retryOf, giveBackOf, rollbackOf, holdAt, locksOf}
+use Rattle.model.specs.Lock.{takeOf, lateStageOf, secondStageOf, lockOf, findOf, attemptOf, spinOf, pauseOf, retryOf, giveBackOf, rollbackOf, holdAt, locksOf}
 use Rattle.model.specs.Checks.{notLive, badBindings, notReleasable, prepareRules, cellRules, leaseRules, scriptRules, lockRules, bucketRules, releaseRules, locksRules}
 use Rattle.model.specs.Calls.{prepareOf, acquireOf, tryAcquireOf, dropLeaseOf, competingAcquireOf, tryLockOf, acquireBucketOf, releaseAllOf, acquireLocksOf, environmentOf, countsOf}
 use Rattle.model.specs.Salvage.{keptOf, mendedCell, mendedTable, mendedByte, mendedHealth, changeOf, changesFrom, changesOf, heldFrom, leftHeld, overOf, isReportFull, mendOf, goOverOf, salvageOf}
@@ -104,7 +104,7 @@ abbrev the-day : Course
 the-day = courseOf prepared entries (worldOf (headOf 2 4 4 6) (setWaiters (replicate 24 0) 3 1) (replicate 2 0))
 
 pub day-is : after day ≡ the-day
-unfolding run next-item preparing perform foreign bitAt ownerAt waitersAt setCell setWaiters isFree isHeld stateOf stateAt isLive leasesOf holdsOf sameHold isIn headFits shapeFits healthFits registryFits first stepReleaseOf stepTakeOf stepWaitersOf stepOf runStepsOf boundaryOf takeOf lateOf secondOf lockOf findOf attemptOf retryOf giveBackOf notLive notReleasable prepareRules leaseRules scriptRules lockRules bucketRules releaseRules prepareOf dropLeaseOf tryLockOf acquireBucketOf releaseAllOf
+unfolding run next-item preparing perform foreign bitAt ownerAt waitersAt setCell setWaiters isFree isHeld stateOf stateAt isLive leasesOf holdsOf sameHold isIn headFits shapeFits healthFits registryFits first stepReleaseOf stepTakeOf stepWaitersOf stepOf runStepsOf boundaryOf takeOf lateStageOf secondStageOf lockOf findOf attemptOf retryOf giveBackOf notLive notReleasable prepareRules leaseRules scriptRules lockRules bucketRules releaseRules prepareOf dropLeaseOf tryLockOf acquireBucketOf releaseAllOf
 day-is = refl
 
 -- ---- `demand-2`
@@ -175,7 +175,7 @@ serial-dies = (dead, day-kept .never 3 (granting ++ late-busy) (given-back ++ en
 -- a second preparation begins a new stretch, of the arena's own runs or of others; one that is refused, since H x B no longer fits the runs
 -- or the runs that were lent are too short, is noted and leaves the arena as it was
 pub prepared-again : (after (day ++ (boot ∷ [])) ≡ cold prepared) × (after (day ++ (preparation-over 2 4 1 6 (replicate 24 9) (replicate 2 9) ∷ [])) ≡ cold prepared)
-unfolding run next-item preparing perform foreign bitAt ownerAt waitersAt setCell setWaiters isFree isHeld stateOf stateAt isLive leasesOf holdsOf sameHold isIn headFits shapeFits healthFits registryFits first stepReleaseOf stepTakeOf stepWaitersOf stepOf runStepsOf boundaryOf takeOf lateOf secondOf lockOf findOf attemptOf retryOf giveBackOf notLive notReleasable prepareRules leaseRules scriptRules lockRules bucketRules releaseRules prepareOf dropLeaseOf tryLockOf acquireBucketOf releaseAllOf
+unfolding run next-item preparing perform foreign bitAt ownerAt waitersAt setCell setWaiters isFree isHeld stateOf stateAt isLive leasesOf holdsOf sameHold isIn headFits shapeFits healthFits registryFits first stepReleaseOf stepTakeOf stepWaitersOf stepOf runStepsOf boundaryOf takeOf lateStageOf secondStageOf lockOf findOf attemptOf retryOf giveBackOf notLive notReleasable prepareRules leaseRules scriptRules lockRules bucketRules releaseRules prepareOf dropLeaseOf tryLockOf acquireBucketOf releaseAllOf
 prepared-again = (refl, refl)
 
 -- `prepared-begins`: such a stretch, with the first serial 5 and cell 3 taken
@@ -191,7 +191,7 @@ next-day-begins =
 
 pub refused-again : (after (day ++ (preparation 2 5 1 6 ∷ [])) ≡ noted the-day [] (saying (Refused BadShape)) (the-day .world))
     × (after (day ++ (preparation-over 2 4 1 6 (replicate 23 9) (replicate 2 9) ∷ [])) ≡ noted the-day [] (saying (Refused BadShape)) (the-day .world))
-unfolding run next-item preparing perform foreign bitAt ownerAt waitersAt setCell setWaiters isFree isHeld stateOf stateAt isLive leasesOf holdsOf sameHold isIn headFits shapeFits healthFits registryFits first stepReleaseOf stepTakeOf stepWaitersOf stepOf runStepsOf boundaryOf takeOf lateOf secondOf lockOf findOf attemptOf retryOf giveBackOf notLive notReleasable prepareRules leaseRules scriptRules lockRules bucketRules releaseRules prepareOf dropLeaseOf tryLockOf acquireBucketOf releaseAllOf
+unfolding run next-item preparing perform foreign bitAt ownerAt waitersAt setCell setWaiters isFree isHeld stateOf stateAt isLive leasesOf holdsOf sameHold isIn headFits shapeFits healthFits registryFits first stepReleaseOf stepTakeOf stepWaitersOf stepOf runStepsOf boundaryOf takeOf lateStageOf secondStageOf lockOf findOf attemptOf retryOf giveBackOf notLive notReleasable prepareRules leaseRules scriptRules lockRules bucketRules releaseRules prepareOf dropLeaseOf tryLockOf acquireBucketOf releaseAllOf
 refused-again = (refl, refl)
 
 -- ---- document 02, L6: a salvage at the end of the day, with the head in force on paper. Cell 3 is waited for, so its report has one entry
@@ -201,7 +201,7 @@ on-paper = headOf 2 4 4 6
 
 pub salvaged-then : (after (day ++ (salvage on-paper (replicate 3 9) [] ∷ [])) ≡ cold (worldOf on-paper (replicate 24 0) (replicate 2 0)))
     × (salvaging on-paper (the-day .world .table) (the-day .world .health) (replicate 3 9) [] .0 ≡ salvaged.Done 1 0)
-unfolding run next-item preparing salvaging perform foreign bitAt ownerAt waitersAt setCell setWaiters isFree isHeld stateOf stateAt isLive leasesOf holdsOf wordsOf sameHold isIn headFits shapeFits healthFits registryFits first stepTakeOf stepReleaseOf stepWaitersOf stepHealthOf stepOf runStepsOf boundaryOf takeOf lateOf secondOf lockOf findOf attemptOf spinOf pauseOf retryOf giveBackOf rollbackOf locksOf notLive badBindings notReleasable prepareRules cellRules leaseRules scriptRules lockRules bucketRules releaseRules locksRules prepareOf acquireOf tryAcquireOf dropLeaseOf environmentOf tryLockOf acquireBucketOf releaseAllOf acquireLocksOf keptOf mendedCell mendedTable mendedByte mendedHealth changeOf changesFrom changesOf heldFrom leftHeld overOf isReportFull mendOf goOverOf salvageOf
+unfolding run next-item preparing salvaging perform foreign bitAt ownerAt waitersAt setCell setWaiters isFree isHeld stateOf stateAt isLive leasesOf holdsOf wordsOf sameHold isIn headFits shapeFits healthFits registryFits first stepTakeOf stepReleaseOf stepWaitersOf stepHealthOf stepOf runStepsOf boundaryOf takeOf lateStageOf secondStageOf lockOf findOf attemptOf spinOf pauseOf retryOf giveBackOf rollbackOf locksOf notLive badBindings notReleasable prepareRules cellRules leaseRules scriptRules lockRules bucketRules releaseRules locksRules prepareOf acquireOf tryAcquireOf dropLeaseOf environmentOf tryLockOf acquireBucketOf releaseAllOf acquireLocksOf keptOf mendedCell mendedTable mendedByte mendedHealth changeOf changesFrom changesOf heldFrom leftHeld overOf isReportFull mendOf goOverOf salvageOf
 salvaged-then = (refl, refl)
 
 -- `salvage-refused-stays`: with no report it is refused, and the day goes on
@@ -222,7 +222,7 @@ both-sound = (day-sound [] _ refl, day-sound granting _ refl)
 
 -- `changes-nothing`: number 12
 pub mistake-refused : (answers granted mistake ≡ Refused (NotHeld 0)) × (leaves granted mistake ≡ granted)
-unfolding run next-item preparing perform foreign bitAt ownerAt waitersAt setCell setWaiters isFree isHeld stateOf stateAt isLive leasesOf holdsOf wordsOf sameHold isIn headFits shapeFits healthFits registryFits first stepTakeOf stepReleaseOf stepWaitersOf stepHealthOf stepOf runStepsOf boundaryOf takeOf lateOf secondOf lockOf findOf attemptOf spinOf pauseOf retryOf giveBackOf rollbackOf locksOf notLive badBindings notReleasable prepareRules cellRules leaseRules scriptRules lockRules bucketRules releaseRules locksRules prepareOf acquireOf tryAcquireOf dropLeaseOf environmentOf tryLockOf acquireBucketOf releaseAllOf acquireLocksOf
+unfolding run next-item preparing perform foreign bitAt ownerAt waitersAt setCell setWaiters isFree isHeld stateOf stateAt isLive leasesOf holdsOf wordsOf sameHold isIn headFits shapeFits healthFits registryFits first stepTakeOf stepReleaseOf stepWaitersOf stepHealthOf stepOf runStepsOf boundaryOf takeOf lateStageOf secondStageOf lockOf findOf attemptOf spinOf pauseOf retryOf giveBackOf rollbackOf locksOf notLive badBindings notReleasable prepareRules cellRules leaseRules scriptRules lockRules bucketRules releaseRules locksRules prepareOf acquireOf tryAcquireOf dropLeaseOf environmentOf tryLockOf acquireBucketOf releaseAllOf acquireLocksOf
 mistake-refused = (refl, ap (λ (m : Made (World × Says)). m .seen .0) (changes-nothing granted mistake (NotHeld 0) refl (inr (inr (omega arith)))))
 
 -- ---- document 02, L8: the same cell and serial, from another boot. `refused-stale`, `stale-is-16`: alone, beside a held list that is fine, where 16 comes
@@ -243,7 +243,7 @@ stale-unchanged =
 
 pub stale-sixteen : (answers granted (drop-lease stale) ≡ Refused (StaleBoot 0)) × (answers granted (drop-preserving mine stale) ≡ Refused (StaleBoot 0))
     × (answers granted (release-all [] 0 both-boots) ≡ Refused (StaleBoot 1))
-unfolding run next-item preparing perform foreign bitAt ownerAt waitersAt setCell setWaiters isFree isHeld stateOf stateAt isLive leasesOf holdsOf wordsOf sameHold isIn headFits shapeFits healthFits registryFits first stepTakeOf stepReleaseOf stepWaitersOf stepHealthOf stepOf runStepsOf boundaryOf takeOf lateOf secondOf lockOf findOf attemptOf spinOf pauseOf retryOf giveBackOf rollbackOf locksOf notLive badBindings notReleasable prepareRules cellRules leaseRules scriptRules lockRules bucketRules releaseRules locksRules prepareOf acquireOf tryAcquireOf dropLeaseOf environmentOf tryLockOf acquireBucketOf releaseAllOf acquireLocksOf
+unfolding run next-item preparing perform foreign bitAt ownerAt waitersAt setCell setWaiters isFree isHeld stateOf stateAt isLive leasesOf holdsOf wordsOf sameHold isIn headFits shapeFits healthFits registryFits first stepTakeOf stepReleaseOf stepWaitersOf stepHealthOf stepOf runStepsOf boundaryOf takeOf lateStageOf secondStageOf lockOf findOf attemptOf spinOf pauseOf retryOf giveBackOf rollbackOf locksOf notLive badBindings notReleasable prepareRules cellRules leaseRules scriptRules lockRules bucketRules releaseRules locksRules prepareOf acquireOf tryAcquireOf dropLeaseOf environmentOf tryLockOf acquireBucketOf releaseAllOf acquireLocksOf
 stale-sixteen = (
   stale-is-16 granted (drop-lease stale) 0 .1 (stale, _, alone refl, refl, refl),
   stale-is-16 granted (drop-preserving mine stale) 0 .1 (stale, _, beside mine (drops-beside mine stale), refl, refl),
@@ -259,7 +259,7 @@ mistake-not-sixteen i e = let x = stale-is-16 granted mistake i .0 e in go (x .0
 
 -- `boot-stays`, `grant-is`: the day keeps its boot number, and what it grants has it
 pub boot-kept : (leaves prepared grant .head .boot ≡ 6) × (leaseOf 2 2 6 .boot ≡ prepared .head .boot)
-unfolding run next-item preparing perform foreign bitAt ownerAt waitersAt setCell setWaiters isFree isHeld stateOf stateAt isLive leasesOf holdsOf wordsOf sameHold isIn headFits shapeFits healthFits registryFits first stepTakeOf stepReleaseOf stepWaitersOf stepHealthOf stepOf runStepsOf boundaryOf takeOf lateOf secondOf lockOf findOf attemptOf spinOf pauseOf retryOf giveBackOf rollbackOf locksOf notLive badBindings notReleasable prepareRules cellRules leaseRules scriptRules lockRules bucketRules releaseRules locksRules prepareOf acquireOf tryAcquireOf dropLeaseOf environmentOf tryLockOf acquireBucketOf releaseAllOf acquireLocksOf
+unfolding run next-item preparing perform foreign bitAt ownerAt waitersAt setCell setWaiters isFree isHeld stateOf stateAt isLive leasesOf holdsOf wordsOf sameHold isIn headFits shapeFits healthFits registryFits first stepTakeOf stepReleaseOf stepWaitersOf stepHealthOf stepOf runStepsOf boundaryOf takeOf lateStageOf secondStageOf lockOf findOf attemptOf spinOf pauseOf retryOf giveBackOf rollbackOf locksOf notLive badBindings notReleasable prepareRules cellRules leaseRules scriptRules lockRules bucketRules releaseRules locksRules prepareOf acquireOf tryAcquireOf dropLeaseOf environmentOf tryLockOf acquireBucketOf releaseAllOf acquireLocksOf
 boot-kept = (boot-stays prepared grant, grant-is prepared grant (leaseOf 2 2 6) refl .1)
 
 -- `crew-refused`: "Crew {2,5},{5,2}: refusal 15, member 1."
@@ -288,7 +288,7 @@ second = boundary-run ∷ attempt-begun ∷ boundary-run ∷ boundary-run ∷ to
 
 pub two-granted : (answers prepared two-keys ≡ AllGranted) × (perform prepared two-keys .seen .1 .grants ≡ 0 ∷ 1 ∷ 6 ∷ 5 ∷ 2 ∷ 6 ∷ [])
     × (log-of prepared two-keys ≡ begun ++ (took by-caller 0 1 ∷ second)) × Live (leaves prepared two-keys) (holdOf 0 1)
-unfolding run next-item preparing perform foreign bitAt ownerAt waitersAt setCell setWaiters isFree isHeld stateOf stateAt isLive leasesOf holdsOf wordsOf sameHold isIn headFits shapeFits healthFits registryFits first stepTakeOf stepReleaseOf stepWaitersOf stepHealthOf stepOf runStepsOf boundaryOf takeOf lateOf secondOf lockOf findOf attemptOf spinOf pauseOf retryOf giveBackOf rollbackOf locksOf notLive badBindings notReleasable prepareRules cellRules leaseRules scriptRules lockRules bucketRules releaseRules locksRules prepareOf acquireOf tryAcquireOf dropLeaseOf environmentOf tryLockOf acquireBucketOf releaseAllOf acquireLocksOf
+unfolding run next-item preparing perform foreign bitAt ownerAt waitersAt setCell setWaiters isFree isHeld stateOf stateAt isLive leasesOf holdsOf wordsOf sameHold isIn headFits shapeFits healthFits registryFits first stepTakeOf stepReleaseOf stepWaitersOf stepHealthOf stepOf runStepsOf boundaryOf takeOf lateStageOf secondStageOf lockOf findOf attemptOf spinOf pauseOf retryOf giveBackOf rollbackOf locksOf notLive badBindings notReleasable prepareRules cellRules leaseRules scriptRules lockRules bucketRules releaseRules locksRules prepareOf acquireOf tryAcquireOf dropLeaseOf environmentOf tryLockOf acquireBucketOf releaseAllOf acquireLocksOf
 two-granted = (refl, refl, refl, refl)
 
 -- so the first is handed over
@@ -304,7 +304,7 @@ abbrev undone : List Event
 undone = boundary-run ∷ attempt-begun ∷ released by-caller 0 1 ∷ boundary-run ∷ []
 
 pub second-refused : (answers prepared bad-key ≡ RefusedAt (InvalidBucket 9) 1) × (log-of prepared bad-key ≡ begun ++ (took by-caller 0 1 ∷ undone))
-unfolding run next-item preparing perform foreign bitAt ownerAt waitersAt setCell setWaiters isFree isHeld stateOf stateAt isLive leasesOf holdsOf wordsOf sameHold isIn headFits shapeFits healthFits registryFits first stepTakeOf stepReleaseOf stepWaitersOf stepHealthOf stepOf runStepsOf boundaryOf takeOf lateOf secondOf lockOf findOf attemptOf spinOf pauseOf retryOf giveBackOf rollbackOf locksOf notLive badBindings notReleasable prepareRules cellRules leaseRules scriptRules lockRules bucketRules releaseRules locksRules prepareOf acquireOf tryAcquireOf dropLeaseOf environmentOf tryLockOf acquireBucketOf releaseAllOf acquireLocksOf
+unfolding run next-item preparing perform foreign bitAt ownerAt waitersAt setCell setWaiters isFree isHeld stateOf stateAt isLive leasesOf holdsOf wordsOf sameHold isIn headFits shapeFits healthFits registryFits first stepTakeOf stepReleaseOf stepWaitersOf stepHealthOf stepOf runStepsOf boundaryOf takeOf lateStageOf secondStageOf lockOf findOf attemptOf spinOf pauseOf retryOf giveBackOf rollbackOf locksOf notLive badBindings notReleasable prepareRules cellRules leaseRules scriptRules lockRules bucketRules releaseRules locksRules prepareOf acquireOf tryAcquireOf dropLeaseOf environmentOf tryLockOf acquireBucketOf releaseAllOf acquireLocksOf
 second-refused = (refl, refl)
 
 -- so it is given back, and the buffer is as it was
@@ -320,19 +320,19 @@ step-one = environment (0 ∷ 0 ∷ 0 ∷ 2 ∷ 5 ∷ 1 ∷ []) 1 []
 pub releases-named : (log-of granted step-one ≡ (boundary-run ∷ []) ++ (released by-script 5 1 ∷ []))
     × ((p : ℕ) × (1 ≤ p) × (p < 2))
     × (log-of granted late ≡ (attempt-begun ∷ boundary-run ∷ boundary-run ∷ took by-caller 3 3 ∷ boundary-run ∷ waiters-set 3 1 ∷ []) ++ (released by-caller 3 3 ∷ []))
-unfolding run next-item preparing perform foreign bitAt ownerAt waitersAt setCell setWaiters isFree isHeld stateOf stateAt isLive leasesOf holdsOf wordsOf sameHold isIn headFits shapeFits healthFits registryFits first stepTakeOf stepReleaseOf stepWaitersOf stepHealthOf stepOf runStepsOf boundaryOf takeOf lateOf secondOf lockOf findOf attemptOf spinOf pauseOf retryOf giveBackOf rollbackOf locksOf notLive badBindings notReleasable prepareRules cellRules leaseRules scriptRules lockRules bucketRules releaseRules locksRules prepareOf acquireOf tryAcquireOf dropLeaseOf environmentOf tryLockOf acquireBucketOf releaseAllOf acquireLocksOf
+unfolding run next-item preparing perform foreign bitAt ownerAt waitersAt setCell setWaiters isFree isHeld stateOf stateAt isLive leasesOf holdsOf wordsOf sameHold isIn headFits shapeFits healthFits registryFits first stepTakeOf stepReleaseOf stepWaitersOf stepHealthOf stepOf runStepsOf boundaryOf takeOf lateStageOf secondStageOf lockOf findOf attemptOf spinOf pauseOf retryOf giveBackOf rollbackOf locksOf notLive badBindings notReleasable prepareRules cellRules leaseRules scriptRules lockRules bucketRules releaseRules locksRules prepareOf acquireOf tryAcquireOf dropLeaseOf environmentOf tryLockOf acquireBucketOf releaseAllOf acquireLocksOf
 releases-named =
     let step = named granted step-one 5 1 (boundary-run ∷ []) [] .0 refl in
     (refl, (step .0, step .1, step .2), refl)
 
 -- `named-alone`
 pub lone-named : foreign granted 2 5 1 .log ≡ [] ++ (released by-script 5 1 ∷ [])
-unfolding run next-item preparing perform foreign bitAt ownerAt waitersAt setCell setWaiters isFree isHeld stateOf stateAt isLive leasesOf holdsOf wordsOf sameHold isIn headFits shapeFits healthFits registryFits first stepTakeOf stepReleaseOf stepWaitersOf stepHealthOf stepOf runStepsOf boundaryOf takeOf lateOf secondOf lockOf findOf attemptOf spinOf pauseOf retryOf giveBackOf rollbackOf locksOf notLive badBindings notReleasable prepareRules cellRules leaseRules scriptRules lockRules bucketRules releaseRules locksRules prepareOf acquireOf tryAcquireOf dropLeaseOf environmentOf tryLockOf acquireBucketOf releaseAllOf acquireLocksOf
+unfolding run next-item preparing perform foreign bitAt ownerAt waitersAt setCell setWaiters isFree isHeld stateOf stateAt isLive leasesOf holdsOf wordsOf sameHold isIn headFits shapeFits healthFits registryFits first stepTakeOf stepReleaseOf stepWaitersOf stepHealthOf stepOf runStepsOf boundaryOf takeOf lateStageOf secondStageOf lockOf findOf attemptOf spinOf pauseOf retryOf giveBackOf rollbackOf locksOf notLive badBindings notReleasable prepareRules cellRules leaseRules scriptRules lockRules bucketRules releaseRules locksRules prepareOf acquireOf tryAcquireOf dropLeaseOf environmentOf tryLockOf acquireBucketOf releaseAllOf acquireLocksOf
 lone-named = refl
 
 -- `held-live`: (2,2) is in the held list of the call that is late Busy, and live before it
 pub lease-held : (isIn lease (held-of late) ≡ true) × Live granted lease × (log-of granted late ≡ late-busy ++ []) × Live (now granted late-busy) lease
-unfolding run next-item preparing perform foreign bitAt ownerAt waitersAt setCell setWaiters isFree isHeld stateOf stateAt isLive leasesOf holdsOf wordsOf sameHold isIn headFits shapeFits healthFits registryFits first stepTakeOf stepReleaseOf stepWaitersOf stepHealthOf stepOf runStepsOf boundaryOf takeOf lateOf secondOf lockOf findOf attemptOf spinOf pauseOf retryOf giveBackOf rollbackOf locksOf notLive badBindings notReleasable prepareRules cellRules leaseRules scriptRules lockRules bucketRules releaseRules locksRules prepareOf acquireOf tryAcquireOf dropLeaseOf environmentOf tryLockOf acquireBucketOf releaseAllOf acquireLocksOf
+unfolding run next-item preparing perform foreign bitAt ownerAt waitersAt setCell setWaiters isFree isHeld stateOf stateAt isLive leasesOf holdsOf wordsOf sameHold isIn headFits shapeFits healthFits registryFits first stepTakeOf stepReleaseOf stepWaitersOf stepHealthOf stepOf runStepsOf boundaryOf takeOf lateStageOf secondStageOf lockOf findOf attemptOf spinOf pauseOf retryOf giveBackOf rollbackOf locksOf notLive badBindings notReleasable prepareRules cellRules leaseRules scriptRules lockRules bucketRules releaseRules locksRules prepareOf acquireOf tryAcquireOf dropLeaseOf environmentOf tryLockOf acquireBucketOf releaseAllOf acquireLocksOf
 lease-held = (refl, refl, refl, held-live granted late lease late-busy [] refl refl refl)
 
 -- ---- why it is Busy: cell 2 held by serial 2, waiters of cell 3 seen before, waiters of cell 3 seen after
@@ -344,7 +344,7 @@ abbrev meets-waiters : Call
 meets-waiters = try-lock (3 ∷ 3 ∷ 1 ∷ 5 ∷ 0 ∷ 0 ∷ []) 0 [] 3
 
 pub three-reasons : (answers granted meets-holder ≡ Busy (reason.Held 2)) × (answers granted meets-waiters ≡ Busy reason.Before) × (answers granted late ≡ Busy (reason.After 3))
-unfolding run next-item preparing perform foreign bitAt ownerAt waitersAt setCell setWaiters isFree isHeld stateOf stateAt isLive leasesOf holdsOf wordsOf sameHold isIn headFits shapeFits healthFits registryFits first stepTakeOf stepReleaseOf stepWaitersOf stepHealthOf stepOf runStepsOf boundaryOf takeOf lateOf secondOf lockOf findOf attemptOf spinOf pauseOf retryOf giveBackOf rollbackOf locksOf notLive badBindings notReleasable prepareRules cellRules leaseRules scriptRules lockRules bucketRules releaseRules locksRules prepareOf acquireOf tryAcquireOf dropLeaseOf environmentOf tryLockOf acquireBucketOf releaseAllOf acquireLocksOf
+unfolding run next-item preparing perform foreign bitAt ownerAt waitersAt setCell setWaiters isFree isHeld stateOf stateAt isLive leasesOf holdsOf wordsOf sameHold isIn headFits shapeFits healthFits registryFits first stepTakeOf stepReleaseOf stepWaitersOf stepHealthOf stepOf runStepsOf boundaryOf takeOf lateStageOf secondStageOf lockOf findOf attemptOf spinOf pauseOf retryOf giveBackOf rollbackOf locksOf notLive badBindings notReleasable prepareRules cellRules leaseRules scriptRules lockRules bucketRules releaseRules locksRules prepareOf acquireOf tryAcquireOf dropLeaseOf environmentOf tryLockOf acquireBucketOf releaseAllOf acquireLocksOf
 three-reasons = (refl, refl, refl)
 
 -- `holder-lives`, `early-takes-nothing`, `late-is-spent`: the holder's lease is live, the call that met waiters took nothing, and serial 3 owns nothing
@@ -357,7 +357,7 @@ reasons-met = (
 
 -- `own-serial`
 pub own-named : answers granted (competing-acquire (leaseOf 2 2 6)) ≡ Busy (reason.Held 2)
-unfolding run next-item preparing perform foreign bitAt ownerAt waitersAt setCell setWaiters isFree isHeld stateOf stateAt isLive leasesOf holdsOf wordsOf sameHold isIn headFits shapeFits healthFits registryFits first stepTakeOf stepReleaseOf stepWaitersOf stepHealthOf stepOf runStepsOf boundaryOf competingAcquireOf takeOf lateOf secondOf lockOf findOf attemptOf spinOf pauseOf retryOf giveBackOf rollbackOf locksOf notLive badBindings notReleasable prepareRules cellRules leaseRules scriptRules lockRules bucketRules releaseRules locksRules prepareOf acquireOf tryAcquireOf dropLeaseOf environmentOf tryLockOf acquireBucketOf releaseAllOf acquireLocksOf
+unfolding run next-item preparing perform foreign bitAt ownerAt waitersAt setCell setWaiters isFree isHeld stateOf stateAt isLive leasesOf holdsOf wordsOf sameHold isIn headFits shapeFits healthFits registryFits first stepTakeOf stepReleaseOf stepWaitersOf stepHealthOf stepOf runStepsOf boundaryOf competingAcquireOf takeOf lateStageOf secondStageOf lockOf findOf attemptOf spinOf pauseOf retryOf giveBackOf rollbackOf locksOf notLive badBindings notReleasable prepareRules cellRules leaseRules scriptRules lockRules bucketRules releaseRules locksRules prepareOf acquireOf tryAcquireOf dropLeaseOf environmentOf tryLockOf acquireBucketOf releaseAllOf acquireLocksOf
 own-named = refl
 
 -- ---- `two-writers`: cell 2 is granted, Busy, given back, granted again
@@ -375,7 +375,7 @@ abbrev second-grant : Entry
 second-grant = entryOf (attempt-begun ∷ took by-caller 2 2 ∷ []) (says (Granted (leaseOf 2 2 6)) (countsOf 1 0 0 0) 0 [])
 
 pub valve-is : after valve .entries ≡ first-grant ∷ (meanwhile ++ (second-grant ∷ []))
-unfolding run next-item preparing perform foreign bitAt ownerAt waitersAt setCell setWaiters isFree isHeld stateOf stateAt isLive leasesOf holdsOf wordsOf sameHold isIn headFits shapeFits healthFits registryFits first stepTakeOf stepReleaseOf stepWaitersOf stepHealthOf stepOf runStepsOf boundaryOf takeOf lateOf secondOf lockOf findOf attemptOf spinOf pauseOf retryOf giveBackOf rollbackOf locksOf notLive badBindings notReleasable prepareRules cellRules leaseRules scriptRules lockRules bucketRules releaseRules locksRules prepareOf acquireOf tryAcquireOf dropLeaseOf environmentOf tryLockOf acquireBucketOf releaseAllOf acquireLocksOf
+unfolding run next-item preparing perform foreign bitAt ownerAt waitersAt setCell setWaiters isFree isHeld stateOf stateAt isLive leasesOf holdsOf wordsOf sameHold isIn headFits shapeFits healthFits registryFits first stepTakeOf stepReleaseOf stepWaitersOf stepHealthOf stepOf runStepsOf boundaryOf takeOf lateStageOf secondStageOf lockOf findOf attemptOf spinOf pauseOf retryOf giveBackOf rollbackOf locksOf notLive badBindings notReleasable prepareRules cellRules leaseRules scriptRules lockRules bucketRules releaseRules locksRules prepareOf acquireOf tryAcquireOf dropLeaseOf environmentOf tryLockOf acquireBucketOf releaseAllOf acquireLocksOf
 valve-is = refl
 
 pub valve-released : (a : Actor) × (before middle after : List Event)
@@ -392,7 +392,7 @@ abbrev cold-keys : Call
 cold-keys = acquire-locks registry [] 0 [] (0 ∷ 0 ∷ 0 ∷ 1 ∷ []) (9 ∷ 9 ∷ 9 ∷ 9 ∷ 9 ∷ 9 ∷ [])
 
 pub cold-refused : (answers damaged cold-keys ≡ RefusedAt (Damaged 1) 1)
-unfolding run next-item preparing perform foreign bitAt ownerAt waitersAt setCell setWaiters isFree isHeld stateOf stateAt isLive leasesOf holdsOf wordsOf sameHold isIn headFits shapeFits healthFits registryFits first stepTakeOf stepReleaseOf stepWaitersOf stepHealthOf stepOf runStepsOf boundaryOf takeOf lateOf secondOf lockOf findOf attemptOf spinOf pauseOf retryOf giveBackOf rollbackOf locksOf notLive badBindings notReleasable prepareRules cellRules leaseRules scriptRules lockRules bucketRules releaseRules locksRules prepareOf acquireOf tryAcquireOf dropLeaseOf environmentOf tryLockOf acquireBucketOf releaseAllOf acquireLocksOf
+unfolding run next-item preparing perform foreign bitAt ownerAt waitersAt setCell setWaiters isFree isHeld stateOf stateAt isLive leasesOf holdsOf wordsOf sameHold isIn headFits shapeFits healthFits registryFits first stepTakeOf stepReleaseOf stepWaitersOf stepHealthOf stepOf runStepsOf boundaryOf takeOf lateStageOf secondStageOf lockOf findOf attemptOf spinOf pauseOf retryOf giveBackOf rollbackOf locksOf notLive badBindings notReleasable prepareRules cellRules leaseRules scriptRules lockRules bucketRules releaseRules locksRules prepareOf acquireOf tryAcquireOf dropLeaseOf environmentOf tryLockOf acquireBucketOf releaseAllOf acquireLocksOf
 cold-refused = refl
 
 pub cold-rolled-back : buffer-in (perform damaged cold-keys) ≡ 9 ∷ 9 ∷ 9 ∷ 9 ∷ 9 ∷ 9 ∷ []
@@ -412,7 +412,7 @@ abbrev mended : Call
 mended = try-lock (4 ∷ 1 ∷ 0 ∷ 5 ∷ 0 ∷ 0 ∷ []) 0 [] 6
 
 mended-granted : answers sick mended ≡ Granted (leaseOf 6 1 6)
-unfolding run next-item preparing perform foreign bitAt ownerAt waitersAt setCell setWaiters isFree isHeld stateOf stateAt isLive leasesOf holdsOf wordsOf sameHold isIn headFits shapeFits healthFits registryFits first stepTakeOf stepReleaseOf stepWaitersOf stepHealthOf stepOf runStepsOf boundaryOf takeOf lateOf secondOf lockOf findOf attemptOf spinOf pauseOf retryOf giveBackOf rollbackOf locksOf notLive badBindings notReleasable prepareRules cellRules leaseRules scriptRules lockRules bucketRules releaseRules locksRules prepareOf acquireOf tryAcquireOf dropLeaseOf environmentOf tryLockOf acquireBucketOf releaseAllOf acquireLocksOf
+unfolding run next-item preparing perform foreign bitAt ownerAt waitersAt setCell setWaiters isFree isHeld stateOf stateAt isLive leasesOf holdsOf wordsOf sameHold isIn headFits shapeFits healthFits registryFits first stepTakeOf stepReleaseOf stepWaitersOf stepHealthOf stepOf runStepsOf boundaryOf takeOf lateStageOf secondStageOf lockOf findOf attemptOf spinOf pauseOf retryOf giveBackOf rollbackOf locksOf notLive badBindings notReleasable prepareRules cellRules leaseRules scriptRules lockRules bucketRules releaseRules locksRules prepareOf acquireOf tryAcquireOf dropLeaseOf environmentOf tryLockOf acquireBucketOf releaseAllOf acquireLocksOf
 mended-granted = refl
 
 -- `granted-healthy`
@@ -427,7 +427,7 @@ abbrev bad-end : List Event
 bad-end = boundary-run ∷ health-set 1 1 ∷ released by-caller 6 1 ∷ []
 
 pub gone-bad-is : (answers prepared gone-bad ≡ Refused (Poisoned 1)) × (log-of prepared gone-bad ≡ begun ++ (took by-caller 6 1 ∷ bad-end))
-unfolding run next-item preparing perform foreign bitAt ownerAt waitersAt setCell setWaiters isFree isHeld stateOf stateAt isLive leasesOf holdsOf wordsOf sameHold isIn headFits shapeFits healthFits registryFits first stepTakeOf stepReleaseOf stepWaitersOf stepHealthOf stepOf runStepsOf boundaryOf takeOf lateOf secondOf lockOf findOf attemptOf spinOf pauseOf retryOf giveBackOf rollbackOf locksOf notLive badBindings notReleasable prepareRules cellRules leaseRules scriptRules lockRules bucketRules releaseRules locksRules prepareOf acquireOf tryAcquireOf dropLeaseOf environmentOf tryLockOf acquireBucketOf releaseAllOf acquireLocksOf
+unfolding run next-item preparing perform foreign bitAt ownerAt waitersAt setCell setWaiters isFree isHeld stateOf stateAt isLive leasesOf holdsOf wordsOf sameHold isIn headFits shapeFits healthFits registryFits first stepTakeOf stepReleaseOf stepWaitersOf stepHealthOf stepOf runStepsOf boundaryOf takeOf lateStageOf secondStageOf lockOf findOf attemptOf spinOf pauseOf retryOf giveBackOf rollbackOf locksOf notLive badBindings notReleasable prepareRules cellRules leaseRules scriptRules lockRules bucketRules releaseRules locksRules prepareOf acquireOf tryAcquireOf dropLeaseOf environmentOf tryLockOf acquireBucketOf releaseAllOf acquireLocksOf
 gone-bad-is = (refl, refl)
 
 -- so nothing is held, and the serial stays spent
@@ -450,7 +450,7 @@ behind = acquire-locks registry behind-script 0 [] behind-keys (9 ∷ 9 ∷ 9 �
 
 pub poisoned-behind : (answers prepared behind ≡ AllGranted) × (buffer-in (perform prepared behind) ≡ 2 ∷ 1 ∷ 6 ∷ 6 ∷ 2 ∷ 6 ∷ [])
     × (leaves prepared behind .health ≡ 1 ∷ 0 ∷ [])
-unfolding run next-item preparing perform foreign bitAt ownerAt waitersAt setCell setWaiters isFree isHeld stateOf stateAt isLive leasesOf holdsOf wordsOf sameHold isIn headFits shapeFits healthFits registryFits first stepTakeOf stepReleaseOf stepWaitersOf stepHealthOf stepOf runStepsOf boundaryOf takeOf lateOf secondOf lockOf findOf attemptOf spinOf pauseOf retryOf giveBackOf rollbackOf locksOf notLive badBindings notReleasable prepareRules cellRules leaseRules scriptRules lockRules bucketRules releaseRules locksRules prepareOf acquireOf tryAcquireOf dropLeaseOf environmentOf tryLockOf acquireBucketOf releaseAllOf acquireLocksOf
+unfolding run next-item preparing perform foreign bitAt ownerAt waitersAt setCell setWaiters isFree isHeld stateOf stateAt isLive leasesOf holdsOf wordsOf sameHold isIn headFits shapeFits healthFits registryFits first stepTakeOf stepReleaseOf stepWaitersOf stepHealthOf stepOf runStepsOf boundaryOf takeOf lateStageOf secondStageOf lockOf findOf attemptOf spinOf pauseOf retryOf giveBackOf rollbackOf locksOf notLive badBindings notReleasable prepareRules cellRules leaseRules scriptRules lockRules bucketRules releaseRules locksRules prepareOf acquireOf tryAcquireOf dropLeaseOf environmentOf tryLockOf acquireBucketOf releaseAllOf acquireLocksOf
 poisoned-behind = (refl, refl, refl)
 
 -- a key's lease at its point, and the last key's at the end
@@ -471,7 +471,7 @@ behind-healthy = (at-key 0 (holdOf 2 1) (rw (poisoned-behind .1)) (omega arith),
 -- ---- other callers: a foreign take of cell 3, and the call that it is; a boundary with a legal take and a dropped one, and the history that it is
 
 pub other-takes : (foreign prepared 1 3 0 .log ≡ took by-script 3 1 ∷ []) × (answers prepared (try-acquire 3) ≡ Granted (leaseOf 3 1 6))
-unfolding run next-item preparing perform foreign bitAt ownerAt waitersAt setCell setWaiters isFree isHeld stateOf stateAt isLive leasesOf holdsOf wordsOf sameHold isIn headFits shapeFits healthFits registryFits first stepTakeOf stepReleaseOf stepWaitersOf stepHealthOf stepOf runStepsOf boundaryOf takeOf lateOf secondOf lockOf findOf attemptOf spinOf pauseOf retryOf giveBackOf rollbackOf locksOf notLive badBindings notReleasable prepareRules cellRules leaseRules scriptRules lockRules bucketRules releaseRules locksRules prepareOf acquireOf tryAcquireOf dropLeaseOf environmentOf tryLockOf acquireBucketOf releaseAllOf acquireLocksOf
+unfolding run next-item preparing perform foreign bitAt ownerAt waitersAt setCell setWaiters isFree isHeld stateOf stateAt isLive leasesOf holdsOf wordsOf sameHold isIn headFits shapeFits healthFits registryFits first stepTakeOf stepReleaseOf stepWaitersOf stepHealthOf stepOf runStepsOf boundaryOf takeOf lateStageOf secondStageOf lockOf findOf attemptOf spinOf pauseOf retryOf giveBackOf rollbackOf locksOf notLive badBindings notReleasable prepareRules cellRules leaseRules scriptRules lockRules bucketRules releaseRules locksRules prepareOf acquireOf tryAcquireOf dropLeaseOf environmentOf tryLockOf acquireBucketOf releaseAllOf acquireLocksOf
 other-takes = (refl, take-is-call prepared 3 0 1 refl refl .0)
 
 abbrev boundary : Call
@@ -479,5 +479,5 @@ boundary = environment (1 ∷ 3 ∷ 0 ∷ 1 ∷ 3 ∷ 0 ∷ 2 ∷ 3 ∷ 1 ∷ []
 
 pub boundary-history : (log-of prepared boundary ≡ boundary-run ∷ took by-script 3 1 ∷ step-dropped ∷ released by-script 3 1 ∷ [])
     × (singles 6 (log-of prepared boundary) ≡ call (try-acquire 3) ∷ call (drop-lease (leaseOf 3 1 6)) ∷ [])
-unfolding run next-item preparing perform foreign bitAt ownerAt waitersAt setCell setWaiters isFree isHeld stateOf stateAt isLive leasesOf holdsOf wordsOf sameHold isIn headFits shapeFits healthFits registryFits first stepTakeOf stepReleaseOf stepWaitersOf stepHealthOf stepOf runStepsOf boundaryOf takeOf lateOf secondOf lockOf findOf attemptOf spinOf pauseOf retryOf giveBackOf rollbackOf locksOf notLive badBindings notReleasable prepareRules cellRules leaseRules scriptRules lockRules bucketRules releaseRules locksRules prepareOf acquireOf tryAcquireOf dropLeaseOf environmentOf tryLockOf acquireBucketOf releaseAllOf acquireLocksOf
+unfolding run next-item preparing perform foreign bitAt ownerAt waitersAt setCell setWaiters isFree isHeld stateOf stateAt isLive leasesOf holdsOf wordsOf sameHold isIn headFits shapeFits healthFits registryFits first stepTakeOf stepReleaseOf stepWaitersOf stepHealthOf stepOf runStepsOf boundaryOf takeOf lateStageOf secondStageOf lockOf findOf attemptOf spinOf pauseOf retryOf giveBackOf rollbackOf locksOf notLive badBindings notReleasable prepareRules cellRules leaseRules scriptRules lockRules bucketRules releaseRules locksRules prepareOf acquireOf tryAcquireOf dropLeaseOf environmentOf tryLockOf acquireBucketOf releaseAllOf acquireLocksOf
 boundary-history = (refl, refl)

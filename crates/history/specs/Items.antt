@@ -247,7 +247,7 @@ asked w (crew-at-work counts cells turns counters) = 0
 -- ---- the checks of a call
 
 -- those of document 01's table on what it takes, in the order of the table, but for 16, which stands before 3 and 12 at its place (document 02, L8);
--- the sorted call's tests of headers and buckets, position by position, come behind and name the position (crate `anyorder`, `Keys-first`)
+-- the sorted call's tests of headers and buckets, position by position, come behind and name the position (crate `sorted_theory`, `Keys-first`)
 abbrev pub rules : World → Call → List Rule
 rules w (try-acquire c) = cellRules (w .head) (w .table) c
 rules w (drop-lease l) = leaseRules (w .head) (w .table) l

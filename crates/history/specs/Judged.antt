@@ -13,7 +13,7 @@ use Rattle.model.specs.Foreign.{Setting, flowOf, boundaryOf}
 use Rattle.model.specs.Lock.{lockOf, answerOf, runOf, attemptOf, attemptLimit, noneYet, retryOf, settled, giveBackOf, Locks, locksOf}
 use Rattle.model.specs.Checks.{countIn, leaseCount}
 use Rattle.model.specs.Calls.{countsOf, given, starting, replied, played, refused, acquireOf, tryAcquireOf, dropLeaseOf, readPermissionOf, competingAcquireOf, releaseThenHandoffOf, foreignReleaseOf, acquirePreservingOf, dropPreservingOf, environmentOf, tryLockOf, transactionalOf, acquireBucketOf, releaseAllOf, acquireLocksOf}
-use Rattle.model.specs.Sorted.{cellsAsked, cellsSorted, sortedKeys, firstKey, judgeAt, unplayedAt, askedFirst, handedBack, sortedLocksOf, acquireSortedOf}
+use Rattle.model.specs.Sorted.{cellsAsked, cellsSorted, sortedKeys, firstKey, judgeAt, refusedKeyAtOnce, askedFirst, handedBack, sortedLocksOf, acquireSortedOf}
 use Rattle.model.specs.Crew.{Work, rests, adds, crewStart, turnsOf, shiftOf, crewOf, crewAtWorkOf}
 use Rattle.types.specs.declared.Answer.the-variants as answer
 use Rattle.types.specs.declared.Check.{Check}
@@ -169,7 +169,7 @@ steps w (crew-at-work counts cells turns counters) = shifted adds w counts cells
 
 -- those of the sorted call, as `perform` has them
 sorted-steps : (w : World) (registry script : List ℕ) (place : ℕ) (held keys grants : List ℕ) (k : KeyCheck)
-    → (judgeAt k (λ r p. gives (unplayedAt (w .head) place r p, (w .table, (w .health, grants)))) (sortedLocksOf (w .head) (w .table) (w .health) registry script place held keys grants) >>= λ a. gives (grant a))
+    → (judgeAt k (λ r p. gives (refusedKeyAtOnce (w .head) place r p, (w .table, (w .health, grants)))) (sortedLocksOf (w .head) (w .table) (w .health) registry script place held keys grants) >>= λ a. gives (grant a))
     ≡ judgeAt k (unchanged-at w (acquire-sorted registry script place held keys grants)) (seen-as (as-asked w registry keys) (sorted-locks w registry script place held keys grants))
 unfolding sortedLocksOf
 sorted-steps w registry script place held keys grants key.Fine = simp append-nil

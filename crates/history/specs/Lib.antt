@@ -7,7 +7,6 @@ pub mod Callers
 pub mod Theorems
 pub mod Promises
 pub mod Examples
-pub mod Determined
 pub mod Tests
 pub mod Events
 pub mod Logs

@@ -11,7 +11,7 @@ use borrow.Author.Tests.{eqb-true}
 use Rattle.model.specs.Log.{Made, Event, by-caller, by-script, attempt-begun, boundary-run, yielded, spun, step-dropped, took, released, waiters-set, health-set, held-all, added}
 use Rattle.model.specs.Arena.{serialRemains, headerOf, isPoisoned, bitAt, ownerAt, waitersAt, setCell, stateAt, isFree, isLive, isIn, holdOf}
 use Rattle.model.specs.Foreign.{Setting, protecting, stepsIn, kindAt, placeAt, numberAt, flowOf, stepTakeOf, stepReleaseOf, stepWaitersOf, stepHealthOf, stepOf, runStepsOf, boundaryOf}
-use Rattle.model.specs.Lock.{takeIn, takeOf, afterTake, lateOf, secondOf, lockOf, outcomeOf, runOf, findOf, attemptAt, attemptOf, spinOf, pauseOf, isBusy, retryOf, holdAt, giveBackOf, rollbackOf, afterKey, bindingAt, bucketAt, attemptLimit, noneYet, Locks, locksOf}
+use Rattle.model.specs.Lock.{takeIn, takeOf, afterTake, lateStageOf, secondStageOf, lockOf, outcomeOf, runOf, findOf, attemptAt, attemptOf, spinOf, pauseOf, isBusy, retryOf, holdAt, giveBackOf, rollbackOf, afterKey, bindingAt, bucketAt, attemptLimit, noneYet, Locks, locksOf}
 use Rattle.types.specs.declared.Flow.{Flow}
 use Rattle.types.specs.declared.Found.{Found}
 use Rattle.types.specs.declared.Found.the-variants as found
@@ -184,16 +184,16 @@ abbrev pub Locking : List ℕ → ℕ → Leases → Made (Locked × (List ℕ �
 Locking script low A m = Told script low A (m .log) (After low (m .seen .0))
 
 module _ (e : Setting) (buckets low : ℕ) where
-  late-told : (f : Flow) (t g : List ℕ) (c s : ℕ) (A : Leases) → low ≤ f .place → A c s → Locking (e .script) low A (lateOf e buckets f t g c s)
-  unfolding lateOf
+  late-told : (f : Flow) (t g : List ℕ) (c s : ℕ) (A : Leases) → low ≤ f .place → A c s → Locking (e .script) low A (lateStageOf e buckets f t g c s)
+  unfolding lateStageOf
   late-told f t g c s A b h =
       let m = boundaryOf (protecting e (holdOf c s ∷ [])) f t g .seen in
       andthen (boundary-told (protecting e (holdOf c s ∷ [])) low f t g A b)
       (λ B i k. if-both (Locking (e .script) low B) (isPoisoned (m .1 .1) (headerOf buckets c)) (more (i c s h) (none (tt, k)))
       (if-both (Locking (e .script) low B) (eqb (waitersAt (m .1 .0) c) 0) (none (i c s h, k)) (more (i c s h) (none (tt, k)))))
 
-  second-told : (f : Flow) (t g : List ℕ) (c : ℕ) (A : Leases) → low ≤ f .place → Locking (e .script) low A (secondOf e buckets f t g c)
-  unfolding secondOf
+  second-told : (f : Flow) (t g : List ℕ) (c : ℕ) (A : Leases) → low ≤ f .place → Locking (e .script) low A (secondStageOf e buckets f t g c)
+  unfolding secondStageOf
   second-told f t g c A b =
       let m = boundaryOf e f t g .seen in
       let k = takeOf (m .0 .next) (m .1 .0) c .seen in

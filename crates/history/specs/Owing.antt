@@ -11,7 +11,7 @@ use lib.Seq.{take-suc, take-length}
 use Rattle.model.specs.Log.{Made, Event, by-caller, by-script, attempt-begun, boundary-run, yielded, spun, step-dropped, took, released, waiters-set, health-set, held-all, added}
 use Rattle.model.specs.Arena.{serialRemains, headerOf, isPoisoned, holdOf, bitAt, ownerAt, waitersAt, setCell, isFree, isLive, isIn, stateAt}
 use Rattle.model.specs.Foreign.{Setting, protecting, stepsIn, kindAt, placeAt, numberAt, stepTakeOf, stepReleaseOf, stepWaitersOf, stepHealthOf, stepOf, runStepsOf, boundaryOf, flowOf}
-use Rattle.model.specs.Lock.{takeIn, takeOf, lateOf, afterTake, secondOf, lockOf, outcomeOf, findOf, attemptAt, attemptOf, spinOf, pauseOf, isBusy, retryOf, runOf, attemptLimit, noneYet, noHold, holdAt, giveBackOf, Locks, rollbackOf, afterKey, bindingAt, bucketAt, locksOf}
+use Rattle.model.specs.Lock.{takeIn, takeOf, lateStageOf, afterTake, secondStageOf, lockOf, outcomeOf, findOf, attemptAt, attemptOf, spinOf, pauseOf, isBusy, retryOf, runOf, attemptLimit, noneYet, noHold, holdAt, giveBackOf, Locks, rollbackOf, afterKey, bindingAt, bucketAt, locksOf}
 use Rattle.types.specs.declared.Flow.{Flow}
 use Rattle.types.specs.declared.Found.{Found}
 use Rattle.types.specs.declared.Found.the-variants as found
@@ -205,8 +205,8 @@ abbrev pub of-ended : Locks → Hold → Type 0
 of-ended a = Hands-over (a .0 .answer) (a .1 .1 .1)
 
 module _ (e : Setting) (buckets : ℕ) where
-  late-hands : (f : Flow) (t g : List ℕ) (c s : ℕ) → Hands of-locked (λ l. holdOf c s ≡ l) (lateOf e buckets f t g c s)
-  unfolding lateOf
+  late-hands : (f : Flow) (t g : List ℕ) (c s : ℕ) → Hands of-locked (λ l. holdOf c s ≡ l) (lateStageOf e buckets f t g c s)
+  unfolding lateStageOf
   late-hands f t g c s =
       let m = boundaryOf (protecting e (holdOf c s ∷ [])) f t g .seen in
       after-quiet (boundary-silent (protecting e (holdOf c s ∷ [])) f t g)
@@ -224,8 +224,8 @@ module _ (e : Setting) (buckets : ℕ) where
   after-hands taking.Damaged f t g c = record { settles = none; passes = λ l x. inl x }
   after-hands taking.Spent f t g c = record { settles = none; passes = λ l x. inl x }
 
-  second-hands : (f : Flow) (t g : List ℕ) (c : ℕ) → Hands of-locked Nobody (secondOf e buckets f t g c)
-  unfolding secondOf
+  second-hands : (f : Flow) (t g : List ℕ) (c : ℕ) → Hands of-locked Nobody (secondStageOf e buckets f t g c)
+  unfolding secondStageOf
   second-hands f t g c =
       let m = boundaryOf e f t g .seen in
       let k = takeOf (m .0 .next) (m .1 .0) c .seen in

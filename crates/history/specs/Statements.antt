@@ -325,7 +325,7 @@ Rollback-is f =
 
 -- ---- "up to a release naming its cell and serial": every release is one that the call, or a step of its script from its place on, named
 
--- a step of the script, not before the place `low`, releases this cell with this serial; crate `exact` says it of the place afterwards too
+-- a step of the script, not before the place `low`, releases this cell with this serial; crate `history_exact` says it of the place afterwards too
 abbrev pub By-step : List ℕ → ℕ → ℕ → ℕ → Type 0
 By-step script low c s = (p : ℕ) × (low ≤ p) × (p < stepsIn script) × (kindAt script p ≡ 2) × (placeAt script p ≡ c) × (numberAt script p ≡ s)
 

@@ -9,7 +9,7 @@ use borrow.Author.Tests.{ltb-true, leb-true, not-true}
 use Rattle.model.specs.Log.{Made, Event, by-caller, by-script, attempt-begun, boundary-run, yielded, spun, step-dropped, took, released, waiters-set, health-set}
 use Rattle.model.specs.Arena.{serialRemains, cellsOf, spentTo, holdOf, headerOf, isPoisoned, bitAt, ownerAt, waitersAt, isFree, isLive, isIn, stateAt}
 use Rattle.model.specs.Foreign.{stepsIn, kindAt, placeAt, numberAt, stepTakeOf, stepReleaseOf, stepWaitersOf, stepHealthOf, stepOf, runStepsOf, boundaryOf, flowOf}
-use Rattle.model.specs.Lock.{takeIn, takeOf, lateOf, afterTake, secondOf, lockOf, outcomeOf, findOf, attemptAt, attemptOf, spinOf, pauseOf, isBusy, retryOf, runOf}
+use Rattle.model.specs.Lock.{takeIn, takeOf, lateStageOf, afterTake, secondStageOf, lockOf, outcomeOf, findOf, attemptAt, attemptOf, spinOf, pauseOf, isBusy, retryOf, runOf}
 use Rattle.model.specs.Calls.{given}
 use Rattle.types.specs.declared.Flow.{Flow}
 use Rattle.types.specs.declared.Found.{Found}
@@ -209,8 +209,8 @@ module _ (h : Head) (script : List ℕ) where
   Locking n w P c = Gains (of-locked h) (λ a. Gained n (of-locked h a) c (a .0 .answer)) w P
 
   late-kept : (ps : List Hold) (f : Flow) (t g : List ℕ) (c s n : ℕ) → Fit (worldAt h (f .next) t g) → Live (worldAt h (f .next) t g) (holdOf c s) → n ≤ s
-      → Locking n (worldAt h (f .next) t g) (λ l. In ps l × (l ≡ holdOf c s → ⊥)) c (lateOf (given h script ps) (h .buckets) f t g c s)
-  unfolding lateOf
+      → Locking n (worldAt h (f .next) t g) (λ l. In ps l × (l ≡ holdOf c s → ⊥)) c (lateStageOf (given h script ps) (h .buckets) f t g c s)
+  unfolding lateStageOf
   late-kept ps f t g c s n good v l =
       let new = holdOf c s in
       let m = boundaryOf (given h script (ps ++ (new ∷ []))) f t g in
@@ -234,8 +234,8 @@ module _ (h : Head) (script : List ℕ) where
   after-kept ps taking.Spent f t g c n m good y l = record { kept = nothing; gain = was-refused _ }
 
   second-kept : (ps : List Hold) (f : Flow) (t g : List ℕ) (c : ℕ) → Fit (worldAt h (f .next) t g) → c < cellsOf h
-      → Locking (f .next) (worldAt h (f .next) t g) (In ps) c (secondOf (given h script ps) (h .buckets) f t g c)
-  unfolding secondOf
+      → Locking (f .next) (worldAt h (f .next) t g) (In ps) c (secondStageOf (given h script ps) (h .buckets) f t g c)
+  unfolding secondStageOf
   second-kept ps f t g c good l =
       let P : Hold → Type 0 = λ (l : Hold). In ps l × (l .serial < f .next) in
       let m = boundaryOf (given h script ps) f t g in

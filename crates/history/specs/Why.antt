@@ -13,7 +13,7 @@ use Rattle.choice.specs.Pick.{if-both}
 use Rattle.model.specs.Log.{Made, Event, by-caller, attempt-begun, took, released, gives}
 use Rattle.model.specs.Arena.{leaseOf, serialRemains, headerOf, holdOf, waitersAt, stateAt}
 use Rattle.model.specs.Foreign.{Setting, protecting, flowOf, boundaryOf}
-use Rattle.model.specs.Lock.{takeIn, takeOf, lockedOf, giveUpOf, lateOf, afterTake, secondOf, lockOf, answerOf, findOf, attemptAt, attemptOf}
+use Rattle.model.specs.Lock.{takeIn, takeOf, lockedOf, giveUpOf, lateStageOf, afterTake, secondStageOf, lockOf, answerOf, findOf, attemptAt, attemptOf}
 use Rattle.model.specs.Calls.{starting}
 use Rattle.types.specs.declared.Answer.{Answer}
 use Rattle.types.specs.declared.Answer.the-variants.{Granted, Busy, Refused}
@@ -72,8 +72,8 @@ Locking buckets boot c m = Looks buckets c (answerOf boot (m .seen .0 .answer)) 
 
 module _ (e : Setting) (buckets boot c : ℕ) where
   -- the lease (c, s) is taken
-  late-looks : (f : Flow) (t g : List ℕ) (s : ℕ) → let m = lateOf e buckets f t g c s in Locking buckets boot c (record { seen = m .seen; log = took by-caller c s ∷ m .log })
-  unfolding lateOf caller-releases
+  late-looks : (f : Flow) (t g : List ℕ) (s : ℕ) → let m = lateStageOf e buckets f t g c s in Locking buckets boot c (record { seen = m .seen; log = took by-caller c s ∷ m .log })
+  unfolding lateStageOf caller-releases
   late-looks f t g s =
       let q = protecting e (holdOf c s ∷ []) in
       let b = boundaryOf q f t g in
@@ -99,7 +99,7 @@ module _ (e : Setting) (buckets boot c : ℕ) where
       (stopped _ refl refl end (λ s h. let z : state.Free ≡ state.Held s = sym q ∙ h in let y : _≡_ {A = ℕ} 0 1 = cc in absurd (omega arith)))
 
   pub lock-looks : (f : Flow) (t g : List ℕ) → Locking buckets boot c (lockOf e buckets f t g c)
-  unfolding lockOf secondOf takeOf
+  unfolding lockOf secondStageOf takeOf
   lock-looks f t g =
       let b = boundaryOf e f t g in
       let d = boundaryOf e (b .seen .0) (b .seen .1 .0) (b .seen .1 .1) in
@@ -109,8 +109,8 @@ module _ (e : Setting) (buckets boot c : ℕ) where
     where
       go : let b = boundaryOf e f t g in
           (x : Bool) → eqb (waitersAt (b .seen .1 .0) c) 0 ≡ x
-          → (let m = secondOf e buckets (b .seen .0) (b .seen .1 .0) (b .seen .1 .1) c in Locking buckets boot c (record { seen = m .seen; log = b .log ++ m .log }))
-          → let m = if x then secondOf e buckets (b .seen .0) (b .seen .1 .0) (b .seen .1 .1) c else gives (lockedOf (b .seen .0) 1 (outcome.Busy Before), (b .seen .1 .0, b .seen .1 .1)) in
+          → (let m = secondStageOf e buckets (b .seen .0) (b .seen .1 .0) (b .seen .1 .1) c in Locking buckets boot c (record { seen = m .seen; log = b .log ++ m .log }))
+          → let m = if x then secondStageOf e buckets (b .seen .0) (b .seen .1 .0) (b .seen .1 .1) c else gives (lockedOf (b .seen .0) 1 (outcome.Busy Before), (b .seen .1 .0, b .seen .1 .1)) in
           Locking buckets boot c (record { seen = m .seen; log = b .log ++ m .log })
       go true q h = h
       go false q h = behind [] (boundary-foreign e f t g) (waited refl refl end (eqb-false _ _ q))

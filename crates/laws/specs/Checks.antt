@@ -86,12 +86,6 @@ shape-ok h t xs e = first-skip (badShape h t) xs (ap not e)
 pub shape-bad : (h : Head) (t : List ℕ) (xs : List Rule) → shapeFits h (length t) ≡ false → first (badShape h t ∷ xs) ≡ Fault refusal.BadShape
 shape-bad h t xs e = first-hit (badShape h t) xs (ap not e)
 
-pub health-ok : (h : Head) (g : List ℕ) (xs : List Rule) → healthFits h (length g) ≡ true → first (badHealth h g ∷ xs) ≡ first xs
-health-ok h g xs e = first-skip (badHealth h g) xs (ap not e)
-
-pub health-bad : (h : Head) (g : List ℕ) (xs : List Rule) → healthFits h (length g) ≡ false → first (badHealth h g ∷ xs) ≡ Fault refusal.BadShape
-health-bad h g xs e = first-hit (badHealth h g) xs (ap not e)
-
 -- a held list's rules and those behind them
 pub held-then : (h : Head) (t held : List ℕ) (ys : List Rule) → first (badHeld h t held ++ ys) ≡ or-else (first (badHeld h t held)) (first ys)
 held-then h t held ys = first-append (badHeld h t held) ys

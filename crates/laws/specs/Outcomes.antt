@@ -10,7 +10,7 @@ use Rattle.choice.specs.Choice.{if_then_else_}
 use Rattle.model.specs.Log.{Made, gives, _>>=_}
 use Rattle.model.specs.Arena.{headerOf, holdOf, waitersAt}
 use Rattle.model.specs.Foreign.{Setting, protecting, boundaryOf, flowOf}
-use Rattle.model.specs.Lock.{takeOf, lockedOf, giveUpOf, lateOf, afterTake, secondOf, lockOf, attemptOf, pauseOf, isBusy, lastOf, retryOf}
+use Rattle.model.specs.Lock.{takeOf, lockedOf, giveUpOf, lateStageOf, afterTake, secondStageOf, lockOf, attemptOf, pauseOf, isBusy, lastOf, retryOf}
 use Rattle.types.specs.declared.Flow.{Flow}
 use Rattle.types.specs.declared.Locked.{Locked}
 use Rattle.types.specs.declared.Outcome.{Outcome}
@@ -37,8 +37,8 @@ module _ (e : Setting) (buckets c : ℕ) where
   abbrev Locking : Made (Locked × (List ℕ × List ℕ)) → Type 0
   Locking m = Comes buckets c (m .seen .1 .1) (m .seen .0 .answer)
 
-  late-comes : (f : Flow) (t g : List ℕ) (s : ℕ) → Locking (lateOf e buckets f t g c s)
-  unfolding lateOf
+  late-comes : (f : Flow) (t g : List ℕ) (s : ℕ) → Locking (lateStageOf e buckets f t g c s)
+  unfolding lateStageOf
   late-comes f t g s =
       let m = boundaryOf (protecting e (holdOf c s ∷ [])) f t g .seen in
       go (m .0) (m .1 .0) (m .1 .1) (eqb (getD (m .1 .1) (headerOf buckets c) 0) 0) refl
@@ -54,8 +54,8 @@ module _ (e : Setting) (buckets c : ℕ) where
   after-comes taking.Damaged f t g = damaged
   after-comes taking.Spent f t g = spent
 
-  second-comes : (f : Flow) (t g : List ℕ) → Locking (secondOf e buckets f t g c)
-  unfolding secondOf
+  second-comes : (f : Flow) (t g : List ℕ) → Locking (secondStageOf e buckets f t g c)
+  unfolding secondStageOf
   second-comes f t g =
       let m = boundaryOf e f t g .seen in
       let k = takeOf (m .0 .next) (m .1 .0) c .seen in

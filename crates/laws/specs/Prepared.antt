@@ -16,7 +16,6 @@ use Rattle.types.specs.declared.Head.{Head}
 use Rattle.types.specs.declared.Refusal.{Refusal}
 use Rattle.types.specs.declared.Refusal.the-variants.{BadShape}
 use Rattle.types.specs.declared.Reply.{Reply}
-use Rattle.choice.specs.Pick.{determined}
 use Rattle.laws.specs.Shape.{shaped, healthy}
 
 -- what comes of a preparation: its reply, the table, the health
@@ -114,8 +113,3 @@ prepare-alike headers buckets serial boot t g t′ g′ p q d =
 pub prepare-example : prepareOf 2 4 1 5 (replicate 24 7) (replicate 2 7) .seen ≡ prepareOf 2 4 1 5 (replicate 24 4_294_967_295) (replicate 2 255) .seen
 unfolding prepareOf prepareRules first shapeFits headFits healthFits
 prepare-example = refl
-
--- two replies that meet `prepare`'s promise are equal, with every lent word
-pub prepare-determined : (headers buckets serial boot : ℕ) (t g : List ℕ) (a b : Outcome)
-    → a ≡ prepareOf headers buckets serial boot t g .seen → b ≡ prepareOf headers buckets serial boot t g .seen → a ≡ b
-prepare-determined headers buckets serial boot t g a b p q = determined p q

@@ -12,7 +12,7 @@ use Rattle.choice.specs.Choice.{if_then_else_}
 use Rattle.model.specs.Log.{Made}
 use Rattle.model.specs.Arena.{holdOf, headerOf, isPoisoned, waitersAt, setCell, headOf, stateAt, serialRemains}
 use Rattle.model.specs.Foreign.{Setting, protecting, flowOf, stepsIn, boundaryOf}
-use Rattle.model.specs.Lock.{takeIn, takeOf, tookOf, outcomeOf, lateOf, afterTake, secondOf, lockOf, lockedOf}
+use Rattle.model.specs.Lock.{takeIn, takeOf, tookOf, outcomeOf, lateStageOf, afterTake, secondStageOf, lockOf, lockedOf}
 use Rattle.types.specs.declared.Flow.{Flow}
 use Rattle.types.specs.declared.Locked.{Locked}
 use Rattle.types.specs.declared.Outcome.{Outcome}
@@ -48,8 +48,8 @@ module _ (next : ℕ) (t : List ℕ) (c d : ℕ) where
 
 module _ (e : Setting) (buckets : ℕ) (g : List ℕ) (c : ℕ) (healthy : getD g (headerOf buckets c) 0 ≡ 0) where
   late-quiet : (f : Flow) (t : List ℕ) (s : ℕ) → stepsIn (e .script) ≤ f .place → waitersAt t c ≡ 0
-      → lateOf e buckets f t g c s .seen ≡ (lockedOf f 3 (outcome.Granted (holdOf c s)), (t, g))
-  unfolding lateOf
+      → lateStageOf e buckets f t g c s .seen ≡ (lockedOf f 3 (outcome.Granted (holdOf c s)), (t, g))
+  unfolding lateStageOf
   late-quiet f t s l w = rw (boundary-quiet (protecting e (holdOf c s ∷ [])) f t g l, eq-eqb _ _ healthy, eq-eqb _ _ w)
 
   after-quiet : (a : Take) (f : Flow) (t : List ℕ) → stepsIn (e .script) ≤ f .place → waitersAt t c ≡ 0
@@ -63,8 +63,8 @@ module _ (e : Setting) (buckets : ℕ) (g : List ℕ) (c : ℕ) (healthy : getD 
   beside k = (k .0, (k .1, g))
 
   second-quiet : (f : Flow) (t : List ℕ) → stepsIn (e .script) ≤ f .place → waitersAt t c ≡ 0
-      → secondOf e buckets f t g c .seen ≡ beside (quietTake f c (takeOf (f .next) t c .seen))
-  unfolding secondOf
+      → secondStageOf e buckets f t g c .seen ≡ beside (quietTake f c (takeOf (f .next) t c .seen))
+  unfolding secondStageOf
   second-quiet f t l w =
       let k = takeOf (f .next) t c .seen in
       rw (boundary-quiet e f t g l) (after-quiet (k .0 .answer) (flowOf (k .0 .next) (f .place) (f .dropped)) (k .1) l (take-waiters (f .next) t c c ∙ w))
@@ -75,7 +75,7 @@ module _ (e : Setting) (buckets : ℕ) (g : List ℕ) (c : ℕ) (healthy : getD 
   lock-quiet f t l = rw (boundary-quiet e f t g l) (go (eqb (waitersAt t c) 0) refl)
     where
       go : (b : Bool) → eqb (waitersAt t c) 0 ≡ b
-          → (if b then secondOf e buckets f t g c else record { seen = (lockedOf f 1 (outcome.Busy reason.Before), (t, g)); log = [] }) .seen
+          → (if b then secondStageOf e buckets f t g c else record { seen = (lockedOf f 1 (outcome.Busy reason.Before), (t, g)); log = [] }) .seen
           ≡ beside (if b then quietTake f c (takeOf (f .next) t c .seen) else (lockedOf f 1 (outcome.Busy reason.Before), t))
       go true w = second-quiet f t l (eqb-true _ _ w)
       go false w = refl
@@ -109,8 +109,8 @@ module _ (e : Setting) (buckets c : ℕ) where
   abbrev Kept : Made (Locked × (List ℕ × List ℕ)) → Type 0
   Kept m = LockedBound (stepsIn (e .script)) (m .seen .0)
 
-  late-kept : (f : Flow) (t g : List ℕ) (s : ℕ) → FlowBound (stepsIn (e .script)) f → Kept (lateOf e buckets f t g c s)
-  unfolding lateOf
+  late-kept : (f : Flow) (t g : List ℕ) (s : ℕ) → FlowBound (stepsIn (e .script)) f → Kept (lateStageOf e buckets f t g c s)
+  unfolding lateStageOf
   late-kept f t g s b =
       let q = protecting e (holdOf c s ∷ []) in
       let p = boundary-flow-bound _ q f t g refl b in
@@ -124,8 +124,8 @@ module _ (e : Setting) (buckets c : ℕ) where
   after-kept taking.Damaged f t g b = record { flow-bound = b; few = omega arith }
   after-kept taking.Spent f t g b = record { flow-bound = b; few = omega arith }
 
-  second-kept : (f : Flow) (t g : List ℕ) → FlowBound (stepsIn (e .script)) f → Kept (secondOf e buckets f t g c)
-  unfolding secondOf
+  second-kept : (f : Flow) (t g : List ℕ) → FlowBound (stepsIn (e .script)) f → Kept (secondStageOf e buckets f t g c)
+  unfolding secondStageOf
   second-kept f t g b =
       let o = boundaryOf e f t g .seen in
       let p = boundary-flow-bound o e f t g refl b in

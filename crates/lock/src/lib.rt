@@ -21,7 +21,7 @@ ghost use lib.ListN.{length};
 ghost use Rattle.model.specs.Arena.{holdsOf};
 ghost use Rattle.model.specs.Refusals.{first};
 ghost use Rattle.model.specs.Checks.{lockRules};
-ghost use Rattle.model.specs.Lock.{lockedOf, lateOf, secondOf, lockOf};
+ghost use Rattle.model.specs.Lock.{lockedOf, lateStageOf, secondStageOf, lockOf};
 ghost use Rattle.model.specs.Calls.{tryLockOf};
 ghost use Rattle.foreign.specs.Model.{inScope, settingOf, RoomIn};
 ghost use Rattle.foreign.specs.Laws.{FlowBound};
@@ -43,7 +43,7 @@ fn give_up(flow: Flow, table: &mut [u32], cell: u32, answer: Outcome) -> Locked
 }
 
 // The third boundary, then the health of the cell's header, then the second look at the waiters.
-fn late(
+fn late_stage(
     scope: Scope,
     flow: Flow,
     table: &mut [u32],
@@ -57,7 +57,7 @@ fn late(
     requires { ⌜ RoomIn scope (length (now table)) (length (now health)) n (length (now script))
         × (FlowBound (scope .steps) flow × CellIn scope (own .cell)) ⌝ }
     ensures { λ r. ⌜ (r, (now (table .exit), now (health .exit)))
-        ≡ lateOf (settingOf scope (now (script .entry)) (now (held .entry)) (now (taken .entry)) n)
+        ≡ lateStageOf (settingOf scope (now (script .entry)) (now (held .entry)) (now (taken .entry)) n)
         (scope .buckets) flow (now (table .entry)) (now (health .entry)) (own .cell) (own .serial) .seen ⌝ }
 {
     let after = foreign::protecting_boundary(
@@ -103,7 +103,7 @@ fn stopped(flow: Flow, answer: Outcome) -> Locked
 }
 
 // The second boundary, and the compare-and-set.
-fn second(
+fn second_stage(
     scope: Scope,
     flow: Flow,
     table: &mut [u32],
@@ -117,7 +117,7 @@ fn second(
     requires { ⌜ RoomIn scope (length (now table)) (length (now health)) n (length (now script))
         × (FlowBound (scope .steps) flow × CellIn scope cell) ⌝ }
     ensures { λ r. ⌜ (r, (now (table .exit), now (health .exit)))
-        ≡ secondOf (settingOf scope (now (script .entry)) (now (held .entry)) (now (taken .entry)) n)
+        ≡ secondStageOf (settingOf scope (now (script .entry)) (now (held .entry)) (now (taken .entry)) n)
         (scope .buckets) flow (now (table .entry)) (now (health .entry)) cell .seen ⌝ }
 {
     let after = foreign::boundary(scope, flow, table, health, script, held, taken, n);
@@ -132,7 +132,7 @@ fn second(
     match answer {
         Take::Granted(serial) => {
             let own = Hold { cell, serial };
-            late(scope, on, table, health, script, held, taken, n, own)
+            late_stage(scope, on, table, health, script, held, taken, n, own)
         }
         Take::Busy(owner) => stopped(on, Outcome::Busy(Reason::Held(owner))),
         Take::Damaged => stopped(on, Outcome::Refused(Refusal::Damaged(cell))),
@@ -160,7 +160,7 @@ pub fn lock(
 {
     let after = foreign::boundary(scope, flow, table, health, script, held, taken, n);
     if arena::waiters_at(table, cell) == 0 {
-        return second(scope, after, table, health, script, held, taken, n, cell);
+        return second_stage(scope, after, table, health, script, held, taken, n, cell);
     }
     Locked {
         flow: Flow {
@@ -370,7 +370,7 @@ pub fn try_lock(
 {
     let check = lock_check(head, table, health, script, place, held, cell);
     match check {
-        Check::Fault(refusal) => foreign::unplay(head, place, refusal),
+        Check::Fault(refusal) => foreign::refuse_at_once(head, place, refusal),
         Check::Fine => lock_once(head, table, health, script, place, held, cell),
     }
 }

@@ -13,7 +13,7 @@ use Rattle.model.specs.Arena.{headOf, leaseOf, holdOf, bitAt, ownerAt, w
 use Rattle.model.specs.Refusals.{first}
 use Rattle.model.specs.Answers.{refusalIn, kindOf, valuesOf, reasonIn}
 use Rattle.model.specs.Foreign.{stepTakeOf, stepReleaseOf, stepWaitersOf, stepHealthOf, stepOf, runStepsOf, boundaryOf}
-use Rattle.model.specs.Lock.{answerOf, takeOf, lateOf, secondOf, lockOf, findOf, attemptOf, spinOf, pauseOf, noneYet, retryOf, settled, giveBackOf, endedOf, rollbackOf, afterKey, locksOf}
+use Rattle.model.specs.Lock.{answerOf, takeOf, lateStageOf, secondStageOf, lockOf, findOf, attemptOf, spinOf, pauseOf, noneYet, retryOf, settled, giveBackOf, endedOf, rollbackOf, afterKey, locksOf}
 use Rattle.model.specs.Checks.{notLive, badBindings, notReleasable, prepareRules, cellRules, leaseRules, heldCellRules, heldLeaseRules, scriptRules, lockRules, bucketRules, releaseRules, locksRules}
 use Rattle.model.specs.Calls.{played, starting, given, prepareOf, acquireOf, tryAcquireOf, dropLeaseOf, readPermissionOf, competingAcquireOf, releaseThenHandoffOf, foreignReleaseOf, acquirePreservingOf, dropPreservingOf, environmentOf, tryLockOf, transactionalOf, acquireBucketOf, releaseAllOf, acquireLocksOf}
 use Rattle.model.specs.Crew.{summedOf, total, startOf, allWithin, risesFrom, badLists, badTurns, crewRules, crewAtWorkRules, tryTurnOf, heldAllOf, addTurnOf, releaseTurnOf, turnOf, turnsOf, takenOf, releasedOf, shiftOf, crewOf, crewAtWorkOf, orderOf}
@@ -544,5 +544,5 @@ booted =
 
 -- every figure of every case holds of the definitions
 pub cases-hold : (every cases ≡ true) × (every further ≡ true) × (every secondReading ≡ true) × (every reasons ≡ true) × (every atWork ≡ true) × (every booted ≡ true)
-unfolding bitAt ownerAt waitersAt setCell setWaiters isFree isHeld stateOf stateAt isLive leasesOf holdsOf wordsOf sameHold isIn headFits shapeFits healthFits registryFits first stepTakeOf stepReleaseOf stepWaitersOf stepHealthOf stepOf runStepsOf boundaryOf takeOf lateOf secondOf lockOf findOf attemptOf spinOf pauseOf retryOf giveBackOf rollbackOf locksOf notLive badBindings notReleasable prepareRules cellRules leaseRules heldCellRules heldLeaseRules scriptRules lockRules bucketRules releaseRules locksRules prepareOf acquireOf tryAcquireOf dropLeaseOf readPermissionOf competingAcquireOf releaseThenHandoffOf foreignReleaseOf acquirePreservingOf dropPreservingOf environmentOf tryLockOf transactionalOf acquireBucketOf releaseAllOf acquireLocksOf total startOf allWithin risesFrom badLists badTurns crewRules tryTurnOf releaseTurnOf turnOf turnsOf takenOf releasedOf crewOf summedOf crewAtWorkRules heldAllOf addTurnOf shiftOf crewAtWorkOf orderOf
+unfolding bitAt ownerAt waitersAt setCell setWaiters isFree isHeld stateOf stateAt isLive leasesOf holdsOf wordsOf sameHold isIn headFits shapeFits healthFits registryFits first stepTakeOf stepReleaseOf stepWaitersOf stepHealthOf stepOf runStepsOf boundaryOf takeOf lateStageOf secondStageOf lockOf findOf attemptOf spinOf pauseOf retryOf giveBackOf rollbackOf locksOf notLive badBindings notReleasable prepareRules cellRules leaseRules heldCellRules heldLeaseRules scriptRules lockRules bucketRules releaseRules locksRules prepareOf acquireOf tryAcquireOf dropLeaseOf readPermissionOf competingAcquireOf releaseThenHandoffOf foreignReleaseOf acquirePreservingOf dropPreservingOf environmentOf tryLockOf transactionalOf acquireBucketOf releaseAllOf acquireLocksOf total startOf allWithin risesFrom badLists badTurns crewRules tryTurnOf releaseTurnOf turnOf turnsOf takenOf releasedOf crewOf summedOf crewAtWorkRules heldAllOf addTurnOf shiftOf crewAtWorkOf orderOf
 cases-hold = (refl, refl, refl, refl, refl, refl)

@@ -72,8 +72,8 @@ giveUpOf o f t g c s = do
 -- "Read it again after the third boundary, before the waiters. If poisoned, release the lease and refuse with 7; the
 -- serial stays spent." "A call by cell reads the health of its cell's header there." L1: "waiters seen after it. The last one also gives the serial
 -- that was spent."
-unfoldable pub lateOf : Setting → ℕ → Flow → List ℕ → List ℕ → ℕ → ℕ → Made (Locked × (List ℕ × List ℕ))
-lateOf e buckets f t g c s = do
+unfoldable pub lateStageOf : Setting → ℕ → Flow → List ℕ → List ℕ → ℕ → ℕ → Made (Locked × (List ℕ × List ℕ))
+lateStageOf e buckets f t g c s = do
   (k, (u, w)) ← boundaryOf (protecting e (holdOf c s ∷ [])) f t g
   if isPoisoned w (headerOf buckets c) then giveUpOf (outcome.Refused (refusal.Poisoned (headerOf buckets c))) k u w c s
       else if eqb (waitersAt u c) 0 then gives (lockedOf k 3 (outcome.Granted (holdOf c s)), (u, w))
@@ -81,14 +81,14 @@ lateOf e buckets f t g c s = do
 
 -- after try_acquire: a grant goes on, anything else ends the try_lock after two boundaries
 abbrev pub afterTake : Take → Setting → ℕ → Flow → List ℕ → List ℕ → ℕ → Made (Locked × (List ℕ × List ℕ))
-afterTake (taking.Granted s) e buckets f t g c = lateOf e buckets f t g c s
+afterTake (taking.Granted s) e buckets f t g c = lateStageOf e buckets f t g c s
 afterTake (taking.Busy owner) e buckets f t g c = gives (lockedOf f 2 (outcomeOf c (taking.Busy owner)), (t, g))
 afterTake taking.Damaged e buckets f t g c = gives (lockedOf f 2 (outcomeOf c taking.Damaged), (t, g))
 afterTake taking.Spent e buckets f t g c = gives (lockedOf f 2 (outcomeOf c taking.Spent), (t, g))
 
 -- "boundary; try_acquire"
-unfoldable pub secondOf : Setting → ℕ → Flow → List ℕ → List ℕ → ℕ → Made (Locked × (List ℕ × List ℕ))
-secondOf e buckets f t g c = do
+unfoldable pub secondStageOf : Setting → ℕ → Flow → List ℕ → List ℕ → ℕ → Made (Locked × (List ℕ × List ℕ))
+secondStageOf e buckets f t g c = do
   (k, (u, w)) ← boundaryOf e f t g
   (a, v) ← takeOf (k .next) u c
   afterTake (a .answer) e buckets (flowOf (a .next) (k .place) (k .dropped)) v w c
@@ -97,7 +97,7 @@ secondOf e buckets f t g c = do
 unfoldable pub lockOf : Setting → ℕ → Flow → List ℕ → List ℕ → ℕ → Made (Locked × (List ℕ × List ℕ))
 lockOf e buckets f t g c = do
   (k, (u, w)) ← boundaryOf e f t g
-  if eqb (waitersAt u c) 0 then secondOf e buckets k u w c
+  if eqb (waitersAt u c) 0 then secondStageOf e buckets k u w c
       else gives (lockedOf k 1 (outcome.Busy reason.Before), (u, w))
 
 -- what an attempt comes to, as the answer of a call on a head of this boot number

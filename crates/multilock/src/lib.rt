@@ -89,7 +89,7 @@ pub fn acquire_index_locks(
         grants,
     );
     match check {
-        Check::Fault(refusal) => foreign::unplay(head, place, refusal),
+        Check::Fault(refusal) => foreign::refuse_at_once(head, place, refusal),
         Check::Fine => locks_once(
             head,
             table,

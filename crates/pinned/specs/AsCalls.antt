@@ -28,9 +28,9 @@ use Rattle.history.specs.Tests.{In, in-first, in-right, in-cases, differ}
 use Rattle.history.specs.Events.{Fit}
 use Rattle.history.specs.Logs.{Kept, kept-live, arena-now}
 use Rattle.history.specs.Calls.{call-kept}
-use Rattle.exact.specs.Script.{environment-has}
-use Rattle.exact.specs.Theorems.{place-goes}
-use Rattle.exact.specs.Passing.{bucket-on, same-boot, holding-more, in-script, divides, leases-append}
+use Rattle.history_exact.specs.Script.{environment-has}
+use Rattle.history_exact.specs.Theorems.{place-goes}
+use Rattle.history_exact.specs.Passing.{bucket-on, same-boot, holding-more, in-script, divides, leases-append}
 use Rattle.history.specs.Judged.{clear-front, clear-back, clear-append}
 use Rattle.pinned.specs.Words.{Gives, If-granted, Is, If_Then_Else_, With, logged, After, Noting, health-byte, waiters, counted, freed, holds}
 use Rattle.pinned.specs.Checks.{Passed, checks}

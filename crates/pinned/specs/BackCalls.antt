@@ -26,10 +26,10 @@ use Rattle.history.specs.Events.{Fit}
 use Rattle.history.specs.Logs.{Kept, event, weaken, kept-live}
 use Rattle.history.specs.Calls.{call-kept, words-leases, releasable}
 use Rattle.history.specs.Many.{Held}
-use Rattle.exact.specs.Script.{environment-has}
-use Rattle.exact.specs.Theorems.{place-goes}
-use Rattle.exact.specs.KeyByKey.{in-first-of}
-use Rattle.exact.specs.Passing.{bucket-on, same-boot, holding-more, leases-append}
+use Rattle.history_exact.specs.Script.{environment-has}
+use Rattle.history_exact.specs.Theorems.{place-goes}
+use Rattle.history_exact.specs.KeyByKey.{in-first-of}
+use Rattle.history_exact.specs.Passing.{bucket-on, same-boot, holding-more, leases-append}
 use Rattle.pinned.specs.Words.{logged, counted, freed, holds, words}
 use Rattle.pinned.specs.Steps.{At, at, Boundary}
 use Rattle.pinned.specs.Stepping.{Releases-each}

@@ -13,7 +13,7 @@ use Rattle.choice.specs.Pick.{if-both}
 use Rattle.model.specs.Log.{Made, Event, by-caller, attempt-begun, released, held-all, added, gives, note}
 use Rattle.model.specs.Arena.{spentTo, headerOf, isPoisoned, waitersAt, setCell}
 use Rattle.model.specs.Foreign.{flowOf, runStepsOf, boundaryOf}
-use Rattle.model.specs.Lock.{takeOf, answerOf, lateOf, afterTake, secondOf, lockOf}
+use Rattle.model.specs.Lock.{takeOf, answerOf, lateStageOf, afterTake, secondStageOf, lockOf}
 use Rattle.model.specs.Calls.{given}
 use Rattle.model.specs.Crew.{Work, addsOf, countOf, startOf, afterTry, tryTurnOf, heldAllOf, addTurnOf, releaseTurnOf, turnOf, turnsOf, summedOf, takenOf, releasedOf}
 use Rattle.model.specs.Crew as model
@@ -33,7 +33,7 @@ use Rattle.pinned.specs.Stepping.{shown, lock-is}
 -- a lock without a script leaves the health
 module _ (h : Head) (n : ℕ) (t g : List ℕ) (c : ℕ) where
   same-health : lockOf (given h [] []) (h .buckets) (flowOf n 0 0) t g c .seen .1 .1 ≡ g
-  unfolding lockOf secondOf lateOf boundaryOf runStepsOf
+  unfolding lockOf secondStageOf lateStageOf boundaryOf runStepsOf
   same-health = if-both (λ (m : Made (Locked × (List ℕ × List ℕ))). m .seen .1 .1 ≡ g) (eqb (waitersAt t c) 0) (go (takeOf n t c .seen .0 .answer)) refl
     where
       go : (a : Take) → afterTake a (given h [] []) (h .buckets) (flowOf (takeOf n t c .seen .0 .next) 0 0) (takeOf n t c .seen .1) g c .seen .1 .1 ≡ g

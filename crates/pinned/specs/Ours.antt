@@ -36,9 +36,9 @@ use Rattle.history.specs.World.{World, worldOf}
 use Rattle.history.specs.Items.{Says, says, Clear, rules, perform, unchanged, Call, try-acquire, drop-lease, competing-acquire, release-then-handoff, foreign-release, drop-preserving, acquire-preserving, environment, try-lock, transactional, acquire-bucket, release-all, acquire-locks, crew, crew-at-work}
 use Rattle.history.specs.Judged.{steps, clear-fine, clear-front, clear-back, clear-append, performed-by}
 use Rattle.history.specs.Tests.{alive, state-held}
-use Rattle.exact.specs.Attempts as calls
-use Rattle.exact.specs.Attempting.{bucket-attempts}
-use Rattle.exact.specs.KeyByKey.{locks-as-calls}
+use Rattle.history_exact.specs.Attempts as calls
+use Rattle.history_exact.specs.Attempting.{bucket-attempts}
+use Rattle.history_exact.specs.KeyByKey.{locks-as-calls}
 use Rattle.pinned.specs.Words.{Seen-as, logged, counted, holds, words}
 use Rattle.pinned.specs.Steps.{at, Boundary, Locks}
 use Rattle.pinned.specs.Statements.{Beyond, By-key, left-by, place-by, joined, Pauses, After-attempt, Retries, dropping, between, locking, refused-at, Gives-back, all-back, one-back, After-key, Keys}

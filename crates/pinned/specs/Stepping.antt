@@ -13,7 +13,7 @@ use Rattle.choice.specs.Pick.{both}
 use Rattle.model.specs.Log.{Made, gives, by-caller, by-script, attempt-begun, step-dropped, took, released, waiters-set, health-set}
 use Rattle.model.specs.Arena.{lastSerial, serialRemains, spentTo, cellsOf, headerOf, isPoisoned, bitAt, ownerAt, waitersAt, setCell, setWaiters, stateAt, isFree, isLive, isIn, holdOf}
 use Rattle.model.specs.Foreign.{flowOf, stepTakeOf, stepReleaseOf, stepWaitersOf, stepHealthOf, stepOf, runStepsOf, boundaryOf}
-use Rattle.model.specs.Lock.{takeIn, takeOf, outcomeOf, answerOf, lockedOf, giveUpOf, lateOf, afterTake, secondOf, lockOf, giveBackOf, holdAt, runOf}
+use Rattle.model.specs.Lock.{takeIn, takeOf, outcomeOf, answerOf, lockedOf, giveUpOf, lateStageOf, afterTake, secondStageOf, lockOf, giveBackOf, holdAt, runOf}
 use Rattle.model.specs.Calls.{given}
 use Rattle.types.specs.declared.Flow.{Flow}
 use Rattle.types.specs.declared.Head.{Head}
@@ -200,8 +200,8 @@ module _ (h : Head) (script : List ℕ) where
   showing m = logged (shown (m .seen)) (m .log)
 
   late-is : (ps : List Hold) (f : Flow) (t g : List ℕ) (c s : ℕ)
-      → After-take script ps (point h script ps (f, (t, g))) c (answerOf (h .boot) (outcomeOf c (taking.Granted s))) (showing (lateOf (given h script ps) (h .buckets) f t g c s))
-  unfolding lateOf waitersAt setCell
+      → After-take script ps (point h script ps (f, (t, g))) c (answerOf (h .boot) (outcomeOf c (taking.Granted s))) (showing (lateStageOf (given h script ps) (h .buckets) f t g c s))
+  unfolding lateStageOf waitersAt setCell
   late-is ps f t g c s =
       let qs = ps ++ (holdOf c s ∷ []) in
       let m = boundaryOf (given h script qs) f t g in
@@ -239,7 +239,7 @@ module _ (h : Head) (script : List ℕ) where
   pub lock-is : (ps : List Hold) (f : Flow) (t g : List ℕ) (c : ℕ)
       → let m = lockOf (given h script ps) (h .buckets) f t g c in
       Locks script ps (point h script ps (f, (t, g))) c (logged (shown (m .seen)) (attempt-begun ∷ m .log))
-  unfolding lockOf secondOf waitersAt
+  unfolding lockOf secondStageOf waitersAt
   lock-is ps f t g c =
       let m = boundaryOf (given h script ps) f t g in
       let o = m .seen in (
@@ -258,7 +258,7 @@ module _ (h : Head) (script : List ℕ) where
           (After (Boundary script ps (point h script ps (k, (u, w)))) λ d. After (Takes (d .world) c) λ x. After-take script ps (at (x .0) (d .place) (d .dropped)) c (x .1))
 
       go : (k : Flow) (u w : List ℕ) (b : Bool) → eqb (getD u (3 * c + 2) 0) 0 ≡ b
-          → Second k u w (showing (if b then secondOf (given h script ps) (h .buckets) k u w c else gives (lockedOf k 1 (outcome.Busy reason.Before), (u, w))))
+          → Second k u w (showing (if b then secondStageOf (given h script ps) (h .buckets) k u w c else gives (lockedOf k 1 (outcome.Busy reason.Before), (u, w))))
       go k u w false e = inl (eqb-false _ 0 e, refl)
       go k u w true e =
           let m = boundaryOf (given h script ps) k u w in

@@ -109,7 +109,7 @@ Locks script ps a c =
     After-take script ps (at (x .0) (d .place) (d .dropped)) c (x .1))
 
 -- ---- the crew. A member with n cells makes its moves in this order: it takes each cell, rising; at work (document 02, L13) it adds to the counter of each,
--- rising; it releases each, the last first. So its moves so far say what its turn does. `work` is how many moves lie between, by its number of cells: none,
+-- rising; it releases each, the last first. So its moves so far say what its turn does. `crew_at_work` is how many moves lie between, by its number of cells: none,
 -- or one a cell
 
 -- the world, each member's moves, the serial noted at each place of the run of cells, moving and idle turns, the cells' counters, and for each member

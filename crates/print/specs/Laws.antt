@@ -1,19 +1,16 @@
--- Laws of putting text: text behind text, the fewest digits, a form's next byte.
-use Prim.Native.Nat.{ℕ, zero, suc, _+_, _*_, _-_, _/_, _%_, _^_, _≤_, _<_}
+-- Laws of putting text: text behind text, a form's next byte.
+use Prim.Native.Nat.{ℕ, suc, _+_, _*_, _≤_, _<_}
 use mathlib.Core.Path.{_≡_, refl, sym, ap, _∙_}
 use mathlib.Core.List.{List, [], _∷_, _++_}
-use mathlib.Core.Bool.{Bool, true, false}
 use native.Mathlib.Omega.{arith}
 use native.Mathlib.Numerals.{add-one}
-use native.Mathlib.Nat.{pow-le-pow-right}
-use native.Mathlib.Decide.{decLt}
-use lib.Dec.{eqb, ltb}
-use lib.ListN.{length, getD, drop, take, set, length-append, drop-of-length-le}
+use lib.Dec.{eqb}
+use lib.ListN.{length, getD, drop, set, length-append, drop-of-length-le}
 use lib.Seq.{sets, drop-cons}
-use borrow.Author.Tests.{ltb-true, ltb-false}
-use Rattle.choice.specs.Choice.{if_then_else_}
-use Rattle.io.specs.Digits.{glyph, digits, Fewest}
-use Rattle.print.specs.Print.{putOf, placesIn, placesOf, decimalOf, pieceOf, afterOf, formFrom, formOf}
+use Rattle.choice.specs.Pick.{if-both}
+use Rattle.text.specs.Laws.{drop-one}
+use Rattle.text.specs.Decimal.{length-decimal, places-most}
+use Rattle.print.specs.Print.{putOf, pieceOf, afterOf, formFrom, formOf}
 
 -- ---- bytes
 
@@ -56,95 +53,16 @@ pub put-place : (l m : List ℕ) (i j : ℕ) (x : List ℕ) → (j, m) ≡ putOf
 unfolding putOf
 put-place l m i j x e = ap (λ (o : ℕ × List ℕ). o .0) e
 
--- ---- numbers
-
-pub length-digits : (k n : ℕ) → length (digits 10 k n) ≡ k
-length-digits zero n = refl
-length-digits (suc k) n = omega (arith, length-append (digits 10 k (n / 10)) (glyph (n % 10) ∷ []), length-digits k (n / 10))
-
-places-few : (k n : ℕ) → placesIn k n ≤ suc k
-unfolding placesIn
-places-few zero n = omega arith
-places-few (suc k) n = go (ltb n 10) (places-few k (n / 10))
-  where
-    go : (b : Bool) → placesIn k (n / 10) ≤ suc k → (if b then 1 else suc (placesIn k (n / 10))) ≤ suc (suc k)
-    go true h = omega arith
-    go false h = omega arith
-
-pub length-decimal : (n : ℕ) → length (decimalOf n) ≡ placesOf n
-unfolding decimalOf
-length-decimal n = length-digits (placesOf n) n
-
-pub decimal-few : (n : ℕ) → length (decimalOf n) ≤ 20
-unfolding decimalOf placesOf
-decimal-few n = omega (arith, length-digits (placesIn 19 n) n, places-few 19 n)
-
--- one place more than its tenth has
-one-more : (n p : ℕ) → 10 ≤ n → Fewest 10 1 (n / 10) p → Fewest 10 1 n (suc p)
-one-more n zero h f = absurd (omega (arith, f .0))
-one-more n (suc zero) h f = (omega arith, omega (arith, f .1), λ e. omega arith)
-one-more n (suc (suc q)) h f =
-    let a : 10 ^ suc (suc (suc q)) ≡ 10 * 10 ^ suc (suc q) = omega arith in
-    let b : 10 ^ suc (suc q) ≡ 10 * 10 ^ suc q = omega arith in
-    let c : suc (suc (suc q)) - 1 ≡ suc (suc q) = omega arith in
-    let d : suc (suc q) - 1 ≡ suc q = omega arith in
-    (omega arith, rw a (omega (arith, f .1)), λ e. rw (c, b) (omega (arith, rw d at (f .2 (omega arith)))))
-
-places-fewest : (k n : ℕ) → n < 10 ^ suc k → Fewest 10 1 n (placesIn k n)
-unfolding placesIn
-places-fewest zero n h = (omega arith, h, λ e. absurd (omega arith))
-places-fewest (suc k) n h =
-    let a : 10 ^ suc (suc k) ≡ 10 * 10 ^ suc k = omega arith in
-    let b : n < 10 * 10 ^ suc k = rw a at h in
-    go (ltb n 10) refl (places-fewest k (n / 10) (omega arith))
-  where
-    go : (b : Bool) → ltb n 10 ≡ b → Fewest 10 1 (n / 10) (placesIn k (n / 10)) → Fewest 10 1 n (if b then 1 else suc (placesIn k (n / 10)))
-    go true e f = (omega arith, omega (arith, ltb-true n 10 e), λ l. absurd (omega arith))
-    go false e f = one-more n (placesIn k (n / 10)) (ltb-false n 10 e) f
-
-not-fewer : (n j k : ℕ) → Fewest 10 1 n j → Fewest 10 1 n k → j < k → ⊥
-not-fewer n j k f g h =
-    let p : 10 ^ (k - 1) ≤ n = g .2 (omega (arith, f .0)) in
-    let q : 10 ^ j ≤ 10 ^ (k - 1) = pow-le-pow-right (omega arith) (omega arith) in
-    omega (arith, f .1)
-
-pub fewest-one : (n j k : ℕ) → Fewest 10 1 n j → Fewest 10 1 n k → j ≡ k
-fewest-one n j k f g = go (decLt j k) (decLt k j)
-  where
-    go : Dec (j < k) → Dec (k < j) → j ≡ k
-    go (yes a) b = absurd (not-fewer n j k f g a)
-    go (no a) (yes b) = absurd (not-fewer n k j g f b)
-    go (no a) (no b) = omega arith
-
-pub places-are : (n : ℕ) → n < 2 ^ 64 → Fewest 10 1 n (placesOf n)
-unfolding placesOf
-places-are n h = let small : n < 10 ^ 20 = omega arith in places-fewest 19 n small
-
--- the fewest digits are those of the number
-pub decimal-is : (n k : ℕ) (l : List ℕ) → n < 2 ^ 64 → Fewest 10 1 n k → take k l ≡ digits 10 k n → take k l ≡ decimalOf n
-unfolding decimalOf
-decimal-is n k l h f e = e ∙ ap (λ (i : ℕ). digits 10 i n) (fewest-one n k (placesOf n) f (places-are n h))
-
 -- ---- forms
 
 pub piece-few : (numbers : List ℕ) (k b : ℕ) → length (pieceOf numbers k b) ≤ 20
 unfolding pieceOf
-piece-few numbers k b = go (eqb b 35)
-  where
-    go : (t : Bool) → length (if t then decimalOf (getD numbers k 0) else (b ∷ [])) ≤ 20
-    go true = decimal-few (getD numbers k 0)
-    go false = omega arith
+piece-few numbers k b =
+    if-both (λ (l : List ℕ). length l ≤ 20) (eqb b 35) (omega (arith, length-decimal (getD numbers k 0), places-most (getD numbers k 0))) (omega arith)
 
 pub after-next : (k b : ℕ) → afterOf k b ≤ k + 1
 unfolding afterOf
-after-next k b = go (eqb b 35)
-  where
-    go : (t : Bool) → (if t then k + 1 else k) ≤ k + 1
-    go true = omega arith
-    go false = omega arith
-
-drop-one : (l : List ℕ) (i : ℕ) → i < length l → drop i l ≡ getD l i 0 ∷ drop (i + 1) l
-drop-one l i b = rw (add-one i) (drop-cons l i 0 b)
+after-next k b = if-both (λ (n : ℕ). n ≤ k + 1) (eqb b 35) (omega arith) (omega arith)
 
 form-at : (numbers form : List ℕ) (k i : ℕ) → i < length form
     → formFrom numbers k (drop i form) ≡ pieceOf numbers k (getD form i 0) ++ formFrom numbers (afterOf k (getD form i 0)) (drop (i + 1) form)

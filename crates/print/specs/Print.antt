@@ -1,28 +1,15 @@
--- Text put into a lent run: bytes, decimal numbers, and forms in which a `#` stands for the next number.
-use Prim.Native.Nat.{ℕ, zero, suc, _+_, _/_}
+-- Text put into a lent run: bytes, and forms in which a `#` stands for the next number.
+use Prim.Native.Nat.{ℕ, _+_}
 use mathlib.Core.List.{List, [], _∷_, _++_}
-use lib.Dec.{eqb, ltb}
+use lib.Dec.{eqb}
 use lib.ListN.{length, getD}
 use lib.Seq.{sets}
 use Rattle.choice.specs.Choice.{if_then_else_}
-use Rattle.io.specs.Digits.{digits}
+use Rattle.text.specs.Decimal.{decimalOf}
 
 -- bytes put at a place: where they end, and the run, which is as it was before and behind them
 unfoldable pub putOf : List ℕ → ℕ → List ℕ → ℕ × List ℕ
 putOf out at bytes = (at + length bytes, sets out at bytes)
-
--- how many digits a number has, counted up to k + 1
-unfoldable pub placesIn : ℕ → ℕ → ℕ
-placesIn zero n = 1
-placesIn (suc k) n = if ltb n 10 then 1 else suc (placesIn k (n / 10))
-
--- a number of 64 bits has at most 20
-unfoldable pub placesOf : ℕ → ℕ
-placesOf n = placesIn 19 n
-
--- "decimal without leading zeros"
-unfoldable pub decimalOf : ℕ → List ℕ
-decimalOf n = digits 10 (placesOf n) n
 
 -- what a byte of a form stands for: a `#` for the k-th number, another for itself
 unfoldable pub pieceOf : List ℕ → ℕ → ℕ → List ℕ

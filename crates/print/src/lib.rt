@@ -3,7 +3,8 @@
 ghost use mathlib.Core.Path.{_≡_};
 ghost use Prim.Native.Nat.{_+_, _*_, _^_, _<_, _≤_};
 ghost use lib.ListN.{length, getD};
-ghost use Rattle.print.specs.Print.{putOf, decimalOf, pieceOf, afterOf, formOf};
+ghost use Rattle.text.specs.Decimal.{placesOf, decimalOf};
+ghost use Rattle.print.specs.Print.{putOf, pieceOf, afterOf, formOf};
 
 // Puts text at `at`, and says where it ends. A step.
 pub fn put(out: &mut [u8], at: usize, text: &[u8]) -> usize
@@ -20,9 +21,9 @@ pub fn put(out: &mut [u8], at: usize, text: &[u8]) -> usize
     n
 }
 
-// Puts a number in decimal. A step.
+// Puts a number in decimal, where there is room for its digits. A step.
 pub fn put_number(out: &mut [u8], at: usize, n: usize) -> usize
-    requires { ⌜ at + 20 ≤ length (now out) ⌝ }
+    requires { ⌜ at + placesOf n ≤ length (now out) ⌝ }
     ensures { λ r. ⌜ (r, now (out .exit)) ≡ putOf (now (out .entry)) at (decimalOf n) ⌝ }
 {
     let mut digits = [0u8; 20];

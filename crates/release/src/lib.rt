@@ -216,7 +216,7 @@ pub fn release_all(
 {
     let check = release_check(head, table, health, script, place, leases);
     match check {
-        Check::Fault(refusal) => foreign::unplay(head, place, refusal),
+        Check::Fault(refusal) => foreign::refuse_at_once(head, place, refusal),
         Check::Fine => release_once(head, table, health, script, place, leases),
     }
 }

@@ -12,7 +12,7 @@ enum Input {
 }
 
 // Room for more than the longest good input, 1,000 lines of 10 bytes. The report of the first 16,384 bytes is that of
-// all, however many there are: `front-is-enough` of crate `trials`.
+// all, however many there are: `front-is-enough` of crate `report_rules`.
 fn input_room() -> [u8; 16384]
     ensures { λ r. ⌜ 16384 ≡ length r ⌝ }
 {
@@ -74,8 +74,8 @@ fn within(n: usize, run: &[u8]) -> usize
 fn print_report(input: &[u8], n: usize) {
     let mut out = [0u8; 4096];
     let most = within(n, input);
-    let reported = acceptance::report(&input[..most], &mut out);
-    if let trials::Reported::Done(used) = reported {
+    let reported = report_call::report(&input[..most], &mut out);
+    if let report_rules::Reported::Done(used) = reported {
         write_front(&out, used);
     }
 }

@@ -1,6 +1,6 @@
 // The calls of document 01, and document 02's keys in any order, salvage, crew at work, setpoint book and waveform, for
 // a kernel in C or Rust; include/skid.h declares them. Only numbers and lent runs cross: the head goes in as four
-// numbers, a lease as three, and the last parameter is the lent reply, whose words crate `layout` lays out. Each is
+// numbers, a lease as three, and the last parameter is the lent reply, whose words crate `skid_rules` lays out. Each is
 // thin: it makes the head, makes the call, and writes the reply's words.
 use setpoint::Setpoint;
 use types::Head;
@@ -16,10 +16,10 @@ ghost use Rattle.model.specs.Crew.{crewOf, crewAtWorkOf};
 ghost use Rattle.model.specs.Salvage.{salvageOf};
 ghost use Rattle.model.specs.Sorted.{acquireSortedOf};
 ghost use Rattle.setpoint.specs.declared.Setpoint.the-variants.{Pressure, Speed, Valve};
-ghost use Rattle.slots.specs.Calls.{prepareBookOf, writeSetpointOf, readSetpointOf, readVersionOf};
-ghost use Rattle.wave.specs.Calls.{writeOf, readIntoOf};
-ghost use Rattle.layout.specs.Words.{replyWords, playedWords, crewWords, salvageWords, bookWords, dumpedWords};
-ghost use Rattle.layout.specs.Words.{undumpedWords, told};
+ghost use Rattle.book_rules.specs.Calls.{prepareBookOf, writeSetpointOf, readSetpointOf, readVersionOf};
+ghost use Rattle.wave_rules.specs.Calls.{writeOf, readIntoOf};
+ghost use Rattle.skid_rules.specs.Words.{replyWords, playedWords, crewWords, salvageWords, bookWords, dumpedWords};
+ghost use Rattle.skid_rules.specs.Words.{undumpedWords, told};
 
 // The number of this interface, which is a part of the name: a program asks for the name that it was compiled with, and
 // with another interface it does not link. The number rises with every change of a call, of an answer or of a layout.
@@ -47,7 +47,7 @@ pub extern "C" fn skid_prepare(
         ≡ told replyWords (prepareOf headers buckets serial boot (now (table .entry)) (now (health .entry)) .seen) ⌝ }
 {
     let r = arena::prepare(headers, buckets, serial, boot, table, health);
-    *reply = words::reply_words(r);
+    *reply = skid_words::reply_words(r);
 }
 
 // After a warm restart (document 02, L6), by the head that is held on paper. BadShape and ReportFull change no lent
@@ -84,7 +84,7 @@ pub extern "C" fn skid_salvage(
         boot,
     };
     let r = salvage::salvage(head, table, health, report, unconfirmed);
-    *reply = words::salvage_words(r);
+    *reply = skid_words::salvage_words(r);
 }
 
 // ---- calls without a script
@@ -110,7 +110,7 @@ pub extern "C" fn skid_try_acquire(
         boot,
     };
     let r = lease::try_acquire(head, table, cell);
-    *reply = words::reply_words(r);
+    *reply = skid_words::reply_words(r);
 }
 
 // A lease with another boot number than the head's is refused with 16, one that is not live with 12, and nothing
@@ -143,7 +143,7 @@ pub extern "C" fn skid_drop_lease(
         boot: lease_boot,
     };
     let r = lease::drop_lease(head, table, lease);
-    *reply = words::reply_words(r);
+    *reply = skid_words::reply_words(r);
 }
 
 // Changes nothing; a lease with another boot number is refused with 16, one that is not live with 12.
@@ -175,7 +175,7 @@ pub extern "C" fn skid_read_permission(
         boot: lease_boot,
     };
     let r = lease::read_permission(head, table, lease);
-    *reply = words::reply_words(r);
+    *reply = skid_words::reply_words(r);
 }
 
 // Busy with its own serial for every live lease, and nothing changes.
@@ -207,7 +207,7 @@ pub extern "C" fn skid_competing_acquire_is_excluded(
         boot: lease_boot,
     };
     let r = lease::competing_acquire_is_excluded(head, table, lease);
-    *reply = words::reply_words(r);
+    *reply = skid_words::reply_words(r);
 }
 
 // With no serial left the release stands, and the reply is 10.
@@ -239,7 +239,7 @@ pub extern "C" fn skid_release_then_handoff(
         boot: lease_boot,
     };
     let r = lease::release_then_handoff(head, table, lease);
-    *reply = words::reply_words(r);
+    *reply = skid_words::reply_words(r);
 }
 
 // A lease of the held list is refused with 13; with no serial left the cell is free.
@@ -272,7 +272,7 @@ pub extern "C" fn skid_foreign_release_between_attempts(
         boot: lease_boot,
     };
     let r = lease::foreign_release_between_attempts(head, table, held, lease);
-    *reply = words::reply_words(r);
+    *reply = skid_words::reply_words(r);
 }
 
 // A held lease with another boot number is refused with 16 and its position, one that is not live with 3 and its
@@ -299,7 +299,7 @@ pub extern "C" fn skid_acquire_preserving_borrows(
         boot,
     };
     let r = lease::acquire_preserving_borrows(head, table, held, cell);
-    *reply = words::reply_words(r);
+    *reply = skid_words::reply_words(r);
 }
 
 // A lease of the held list is refused with 13, and nothing changes.
@@ -332,7 +332,7 @@ pub extern "C" fn skid_drop_preserving_borrows(
         boot: lease_boot,
     };
     let r = lease::drop_preserving_borrows(head, table, held, lease);
-    *reply = words::reply_words(r);
+    *reply = skid_words::reply_words(r);
 }
 
 // ---- calls with a script
@@ -362,7 +362,7 @@ pub extern "C" fn skid_environment(
         boot,
     };
     let r = foreign::environment(head, table, health, script, place, held);
-    *reply = words::played_words(r);
+    *reply = skid_words::played_words(r);
 }
 
 // The same call under its other name. It goes through the first, so that the inner call has one caller and is compiled
@@ -425,7 +425,7 @@ pub extern "C" fn skid_try_lock(
         boot,
     };
     let r = lock::try_lock(head, table, health, script, place, held, cell);
-    *reply = words::played_words(r);
+    *reply = skid_words::played_words(r);
 }
 
 // The same call under its other name, likewise.
@@ -502,7 +502,7 @@ pub extern "C" fn skid_transactional_try_lock_bucket(
         binding,
         bucket,
     );
-    *reply = words::played_words(r);
+    *reply = skid_words::played_words(r);
 }
 
 // 7 ends it in each attempt's two readings of the health. 4,096 Busy attempts are refused with 11 and the last one's
@@ -545,7 +545,7 @@ pub extern "C" fn skid_acquire_index_bucket(
         binding,
         bucket,
     );
-    *reply = words::played_words(r);
+    *reply = skid_words::played_words(r);
 }
 
 // Any lease with another boot number, or that is not live, or stands twice, refuses the whole list, nothing released.
@@ -573,7 +573,7 @@ pub extern "C" fn skid_release_all(
         boot,
     };
     let r = release::release_all(head, table, health, script, place, leases);
-    *reply = words::played_words(r);
+    *reply = skid_words::played_words(r);
 }
 
 // All keys or none, three words a grant; a refusal leaves the grant buffer as it was.
@@ -615,7 +615,7 @@ pub extern "C" fn skid_acquire_index_locks(
         keys,
         grants,
     );
-    *reply = words::played_words(r);
+    *reply = skid_words::played_words(r);
 }
 
 // Keys in any order (document 02, L4), all or none. Each distinct cell is locked once, keys of one cell share its
@@ -658,7 +658,7 @@ pub extern "C" fn skid_acquire_sorted_locks(
         keys,
         grants,
     );
-    *reply = words::played_words(r);
+    *reply = skid_words::played_words(r);
 }
 
 // ---- the crew
@@ -688,7 +688,7 @@ pub extern "C" fn skid_crew(
         boot,
     };
     let r = crew::crew(head, table, health, counts, cells, turns);
-    *reply = words::crew_words(r);
+    *reply = skid_words::crew_words(r);
 }
 
 // At work (document 02, L13). Counters that are not one a cell are 1; a refusal leaves them. Turns that run out leave
@@ -718,8 +718,8 @@ pub extern "C" fn skid_crew_at_work(
         next,
         boot,
     };
-    let r = work::crew_at_work(head, table, health, counts, cells, turns, counters);
-    *reply = words::crew_words(r);
+    let r = crew_at_work::crew_at_work(head, table, health, counts, cells, turns, counters);
+    *reply = skid_words::crew_words(r);
 }
 
 // ---- the setpoint book (document 02, L2 and L10)
@@ -744,7 +744,7 @@ pub extern "C" fn skid_prepare_book(
         boot,
     };
     let r = book::prepare_book(head, book);
-    *reply = words::book_words(r);
+    *reply = skid_words::book_words(r);
 }
 
 // The pressure with this pattern. The language makes no float of a NaN's pattern; it has one NaN, which is what
@@ -796,7 +796,7 @@ pub extern "C" fn skid_write_pressure(
     };
     let setpoint = pressure(bits);
     let r = book::write_setpoint(head, table, book, slot, lease, setpoint);
-    *reply = words::book_words(r);
+    *reply = skid_words::book_words(r);
 }
 
 // So too; no speed is NotFinite.
@@ -831,7 +831,7 @@ pub extern "C" fn skid_write_speed(
         boot: lease_boot,
     };
     let r = book::write_setpoint(head, table, book, slot, lease, Setpoint::Speed(speed));
-    *reply = words::book_words(r);
+    *reply = skid_words::book_words(r);
 }
 
 // So too; true is open.
@@ -866,7 +866,7 @@ pub extern "C" fn skid_write_valve(
         boot: lease_boot,
     };
     let r = book::write_setpoint(head, table, book, slot, lease, Setpoint::Valve(opened));
-    *reply = words::book_words(r);
+    *reply = skid_words::book_words(r);
 }
 
 // Changes nothing and takes no table: a read needs no lease.
@@ -890,7 +890,7 @@ pub extern "C" fn skid_read_setpoint(
         boot,
     };
     let r = book::read_setpoint(head, book, slot);
-    *reply = words::book_words(r);
+    *reply = skid_words::book_words(r);
 }
 
 // Changes nothing and takes no table, as `skid_read_setpoint`. NeverWritten if the slot does not keep the version.
@@ -915,7 +915,7 @@ pub extern "C" fn skid_read_version(
         boot,
     };
     let r = book::read_version(head, book, slot, version);
-    *reply = words::book_words(r);
+    *reply = skid_words::book_words(r);
 }
 
 // ---- the waveform of the cells (document 02, L11)
@@ -926,8 +926,8 @@ pub extern "C" fn skid_write_dump(cells: u32, script: &[u32], text: &mut [u8], r
     ensures { λ _. ⌜ (now (reply .exit), now (text .exit))
         ≡ told dumpedWords (writeOf cells (now (script .entry)) (now (text .entry))) ⌝ }
 {
-    let r = writer::write(cells, script, text);
-    *reply = words::dumped_words(r);
+    let r = wave_write::write(cells, script, text);
+    *reply = skid_words::dumped_words(r);
 }
 
 // A text that no writer made is refused with its first wrong line, before NoRoom; a refusal writes nothing.
@@ -936,6 +936,6 @@ pub extern "C" fn skid_read_dump(text: &[u8], script: &mut [u32], reply: &mut [u
     ensures { λ _. ⌜ (now (reply .exit), now (script .exit))
         ≡ told undumpedWords (readIntoOf (now (text .entry)) (now (script .entry))) ⌝ }
 {
-    let r = reader::read(text, script);
-    *reply = words::undumped_words(r);
+    let r = wave_read::read(text, script);
+    *reply = skid_words::undumped_words(r);
 }

@@ -11,7 +11,7 @@ use Rattle.model.specs.Checks.{countIn}
 use Rattle.model.specs.Foreign.{Setting}
 use Rattle.model.specs.Lock.{Locks, bindingAt, locksOf}
 use Rattle.model.specs.Calls.{starting, given}
-use Rattle.model.specs.Sorted.{cellsAsked, cellsSorted, sortedKeys, firstKey, judgeAt, unplayedAt, sortedLocksOf}
+use Rattle.model.specs.Sorted.{cellsAsked, cellsSorted, sortedKeys, firstKey, judgeAt, refusedKeyAtOnce, sortedLocksOf}
 use Rattle.types.specs.declared.Ended.{Ended}
 use Rattle.types.specs.declared.Head.{Head}
 use Rattle.types.specs.declared.KeyCheck.the-variants as key
@@ -28,7 +28,7 @@ use Rattle.sorted.specs.Back.{Placed, locks-placed, backOf, finishedOf, 
 -- the checks by position, and then the steps
 abbrev pub checkedOf : Head → List ℕ → List ℕ → List ℕ → List ℕ → ℕ → List ℕ → List ℕ → List ℕ → Made (Played × (List ℕ × (List ℕ × List ℕ)))
 checkedOf h t g registry script place held keys grants =
-    judgeAt (firstKey (countIn keys) 0 h registry keys) (λ r p. gives (unplayedAt h place r p, (t, (g, grants))))
+    judgeAt (firstKey (countIn keys) 0 h registry keys) (λ r p. gives (refusedKeyAtOnce h place r p, (t, (g, grants))))
     (sortedLocksOf h t g registry script place held keys grants)
 
 -- ---- what the ordered keys are

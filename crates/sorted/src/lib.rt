@@ -18,14 +18,14 @@ use types::Played;
 use types::Refusal;
 ghost use mathlib.Core.Path.{_≡_};
 ghost use lib.ListN.{length};
-ghost use Rattle.model.specs.Sorted.{unplayedAt, sortedLocksOf, acquireSortedOf};
+ghost use Rattle.model.specs.Sorted.{refusedKeyAtOnce, sortedLocksOf, acquireSortedOf};
 ghost use Rattle.multilock.specs.Fine.{LocksFine};
 ghost use Rattle.sorted.specs.Order.{KeysFine};
 ghost use Rattle.sorted.specs.Steps.{checkedOf};
 
 // A refusal at a position, before any step.
-fn unplay_at(head: Head, place: usize, refusal: Refusal, p: usize) -> Played
-    ensures { λ r. ⌜ r ≡ unplayedAt head place refusal p ⌝ }
+fn refuse_key_at_once(head: Head, place: usize, refusal: Refusal, p: usize) -> Played
+    ensures { λ r. ⌜ r ≡ refusedKeyAtOnce head place refusal p ⌝ }
 {
     Played {
         head,
@@ -124,7 +124,7 @@ fn sorted_checked(
 {
     let check = first_key_fault(head, registry, keys);
     match check {
-        KeyCheck::FaultAt(refusal, p) => unplay_at(head, place, refusal, p),
+        KeyCheck::FaultAt(refusal, p) => refuse_key_at_once(head, place, refusal, p),
         KeyCheck::Fine => sorted_once(
             head,
             table,
@@ -172,7 +172,7 @@ pub fn acquire_sorted_locks(
         grants,
     );
     match check {
-        Check::Fault(refusal) => foreign::unplay(head, place, refusal),
+        Check::Fault(refusal) => foreign::refuse_at_once(head, place, refusal),
         Check::Fine => sorted_checked(
             head,
             table,

@@ -14,7 +14,7 @@ use Rattle.model.specs.Refusals.{first, judge}
 use Rattle.model.specs.Foreign.{Setting, stepsIn, kindAt, flowOf, runStepsOf, boundaryOf}
 use Rattle.model.specs.Lock.{runOf}
 use Rattle.model.specs.Checks.{scriptRules}
-use Rattle.model.specs.Calls.{given, played, unplayed, environmentOf}
+use Rattle.model.specs.Calls.{given, played, refusedAtOnce, environmentOf}
 use Rattle.types.specs.declared.Answer.the-variants.{Done}
 use Rattle.types.specs.declared.Check.{Check}
 use Rattle.types.specs.declared.Check.the-variants as check
@@ -109,7 +109,7 @@ environment-retake w held pre ss ts post g u x y r =
       gives (played (w .head) (runOf f 0 1 0) Done, a)
 
     none : Refusal → Made (Played × (List ℕ × List ℕ))
-    none x = gives (unplayed (w .head) (length pre) x, (w .table, w .health))
+    none x = gives (refusedAtOnce (w .head) (length pre) x, (w .table, w .health))
 
     go : (k : Check) → Reply-renamed w (judge k none (runs ss) .seen) (judge k none (runs ts) .seen)
     go check.Fine =

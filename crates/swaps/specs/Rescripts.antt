@@ -11,7 +11,7 @@ use Rattle.model.specs.Foreign.{flowOf}
 use Rattle.model.specs.Lock.{takeIn, takeOf, attemptLimit, noneYet}
 use Rattle.model.specs.Checks.{countIn, leaseCount, scriptRules, lockRules, bucketRules, releaseRules, locksRules}
 use Rattle.model.specs.Calls.{starting, environmentOf, tryLockOf, transactionalOf, acquireBucketOf, releaseAllOf, acquireLocksOf}
-use Rattle.model.specs.Sorted.{cellsSorted, sortedKeys, firstKey, judgeAt, unplayedAt, sortedLocksOf, acquireSortedOf}
+use Rattle.model.specs.Sorted.{cellsSorted, sortedKeys, firstKey, judgeAt, refusedKeyAtOnce, sortedLocksOf, acquireSortedOf}
 use Rattle.types.specs.declared.Check.{Check}
 use Rattle.types.specs.declared.Check.the-variants as check
 use Rattle.types.specs.declared.Head.{Head}
@@ -131,8 +131,8 @@ module _ {h : Head} {a b : List ℕ} {Good : Ran → Type 0} (tw : Twins h a b G
       (go (firstKey (countIn keys) 0 h registry keys) (rw r)))
     where
       go : (k : KeyCheck) → sortedLocksOf h t g registry b place held keys grants .seen ≡ sortedLocksOf h t g registry a place held keys grants .seen
-          → judgeAt k (λ y p. gives (unplayedAt h place y p, (t, (g, grants)))) (sortedLocksOf h t g registry b place held keys grants) .seen
-          ≡ judgeAt k (λ y p. gives (unplayedAt h place y p, (t, (g, grants)))) (sortedLocksOf h t g registry a place held keys grants) .seen
+          → judgeAt k (λ y p. gives (refusedKeyAtOnce h place y p, (t, (g, grants)))) (sortedLocksOf h t g registry b place held keys grants) .seen
+          ≡ judgeAt k (λ y p. gives (refusedKeyAtOnce h place y p, (t, (g, grants)))) (sortedLocksOf h t g registry a place held keys grants) .seen
       go key.Fine q = q
       go (key.FaultAt y p) q = refl
 

@@ -9,7 +9,7 @@ use Rattle.choice.specs.Choice.{if_then_else_}
 use Rattle.model.specs.Log.{Made}
 use Rattle.model.specs.Arena.{headerOf, isPoisoned, waitersAt, setCell, holdOf}
 use Rattle.model.specs.Foreign.{flowOf, boundaryOf}
-use Rattle.model.specs.Lock.{takeOf, afterTake, lateOf, secondOf, lockOf, runOf, findOf, attemptAt, attemptOf, spinOf, pauseOf, isBusy, retryOf, holdAt, giveBackOf, rollbackOf, afterKey, bindingAt, bucketAt, attemptLimit, noneYet, Locks, locksOf}
+use Rattle.model.specs.Lock.{takeOf, afterTake, lateStageOf, secondStageOf, lockOf, runOf, findOf, attemptAt, attemptOf, spinOf, pauseOf, isBusy, retryOf, holdAt, giveBackOf, rollbackOf, afterKey, bindingAt, bucketAt, attemptLimit, noneYet, Locks, locksOf}
 use Rattle.model.specs.Calls.{given}
 use Rattle.types.specs.declared.Flow.{Flow}
 use Rattle.types.specs.declared.Found.{Found}
@@ -46,8 +46,8 @@ module _ {h : Head} {a b : List ℕ} {Good : Ran → Type 0} (tw : Twins h a b G
   Locking m n = Same (λ (o : Locked × (List ℕ × List ℕ)). Good (o .0 .flow, o .1)) (m .seen) (n .seen)
 
   late-alike : (ps : List Hold) (buckets : ℕ) (f : Flow) (t g : List ℕ) (c s : ℕ) → Good (f, (t, g))
-      → Locking (lateOf (given h a ps) buckets f t g c s) (lateOf (given h b ps) buckets f t g c s)
-  unfolding lateOf
+      → Locking (lateStageOf (given h a ps) buckets f t g c s) (lateStageOf (given h b ps) buckets f t g c s)
+  unfolding lateStageOf
   late-alike ps buckets f t g c s x =
       let qs = ps ++ (holdOf c s ∷ []) in
       let m = boundaryOf (given h a qs) f t g .seen in
@@ -58,8 +58,8 @@ module _ {h : Head} {a b : List ℕ} {Good : Ran → Type 0} (tw : Twins h a b G
       (record { equal = refl; good = tw .frees (m .0) (m .1 .0) (m .1 .1) c (r .good) })))
 
   second-alike : (ps : List Hold) (buckets : ℕ) (f : Flow) (t g : List ℕ) (c : ℕ) → Good (f, (t, g))
-      → Locking (secondOf (given h a ps) buckets f t g c) (secondOf (given h b ps) buckets f t g c)
-  unfolding secondOf
+      → Locking (secondStageOf (given h a ps) buckets f t g c) (secondStageOf (given h b ps) buckets f t g c)
+  unfolding secondStageOf
   second-alike ps buckets f t g c x =
       let m = boundaryOf (given h a ps) f t g .seen in
       let o = takeOf (m .0 .next) (m .1 .0) c .seen in

@@ -1,5 +1,5 @@
 -- Laws of what lines are made of: one turn and the end of each recursion, and what is read lies within the line.
-use Prim.Native.Nat.{ℕ, zero, suc, _+_, _*_, _-_, _≤_, _<_}
+use Prim.Native.Nat.{ℕ, _+_, _*_, _-_, _≤_, _<_}
 use mathlib.Core.Path.{_≡_, refl, ap, _∙_}
 use mathlib.Core.List.{List, [], _∷_}
 use mathlib.Core.Bool.{Bool, true, false, _&&_}
@@ -9,11 +9,13 @@ use native.Mathlib.Nat.{add-zero}
 use lib.Dec.{eqb, ltb}
 use lib.ListN.{length, getD, drop, drop-of-length-le}
 use lib.Seq.{drop-cons, getD-drop}
-use borrow.Author.Tests.{eqb-true, eqb-false, lt-ltb, le-ltb, ltb-true, ltb-false}
+use borrow.Author.Tests.{lt-ltb, le-ltb, ltb-true, ltb-false}
 use Rattle.choice.specs.Choice.{if_then_else_}
+use Rattle.choice.specs.Pick.{if-both}
+use Rattle.text.specs.declared.Number.{Number}
 use Rattle.text.specs.Text.{before, isDigit, digitsIn, valueFrom, noNumber, endedNumberOf, readNumberOf}
 
-drop-one : (l : List ℕ) (i : ℕ) → i < length l → drop i l ≡ getD l i 0 ∷ drop (i + 1) l
+pub drop-one : (l : List ℕ) (i : ℕ) → i < length l → drop i l ≡ getD l i 0 ∷ drop (i + 1) l
 drop-one l i b = rw (add-one i) (drop-cons l i 0 b)
 
 -- ---- up to a stop
@@ -25,31 +27,6 @@ before-at stop l i b = rw (drop-one l i b)
 pub before-end : (stop : ℕ) (l : List ℕ) (i : ℕ) → length l ≤ i → before stop (drop i l) ≡ 0
 unfolding before
 before-end stop l i b = rw (drop-of-length-le l b)
-
--- what `before` means: no stop stands before it, and a stop stands there, unless the end does
-pub before-none : (stop : ℕ) (l : List ℕ) (k : ℕ) → k < before stop l → getD l k 0 ≡ stop → ⊥
-unfolding before
-before-none stop [] k h e = omega arith
-before-none stop (b ∷ l) zero h e = go (eqb b stop) refl h
-  where
-    go : (t : Bool) → eqb b stop ≡ t → 0 < (if t then 0 else 1 + before stop l) → ⊥
-    go true p q = omega arith
-    go false p q = eqb-false b stop p e
-before-none stop (b ∷ l) (suc k) h e = go (eqb b stop) h (λ i. before-none stop l k i e)
-  where
-    go : (t : Bool) → suc k < (if t then 0 else 1 + before stop l) → (k < before stop l → ⊥) → ⊥
-    go true q r = omega arith
-    go false q r = r (omega arith)
-
-pub before-stop : (stop : ℕ) (l : List ℕ) → before stop l < length l → getD l (before stop l) 0 ≡ stop
-unfolding before
-before-stop stop [] h = omega arith
-before-stop stop (b ∷ l) h = go (eqb b stop) refl h (before-stop stop l)
-  where
-    go : (t : Bool) → eqb b stop ≡ t → (if t then 0 else 1 + before stop l) < length (b ∷ l) → (before stop l < length l → getD l (before stop l) 0 ≡ stop)
-        → getD (b ∷ l) (if t then 0 else 1 + before stop l) 0 ≡ stop
-    go true p q r = eqb-true b stop p
-    go false p q r = let e : 1 + before stop l ≡ suc (before stop l) = omega arith in rw e (r (omega arith))
 
 -- ---- digits
 
@@ -78,40 +55,27 @@ unfolding valueFrom
 value-end v l i b = rw (drop-of-length-le l b)
 
 -- more digits make no less
-pub value-grows : (v : ℕ) (l : List ℕ) → v ≤ valueFrom v l
+value-grows : (v : ℕ) (l : List ℕ) → v ≤ valueFrom v l
 unfolding valueFrom
 value-grows v [] = omega arith
-value-grows v (b ∷ l) = go (isDigit b) (value-grows (10 * v + (b - 48)) l)
-  where
-    go : (t : Bool) → 10 * v + (b - 48) ≤ valueFrom (10 * v + (b - 48)) l → v ≤ (if t then valueFrom (10 * v + (b - 48)) l else v)
-    go true h = omega arith
-    go false h = omega arith
+value-grows v (b ∷ l) = if-both (λ (n : ℕ). v ≤ n) (isDigit b) (omega (arith, value-grows (10 * v + (b - 48)) l)) (omega arith)
 
 digits-within : (l : List ℕ) → digitsIn l ≤ length l
 unfolding digitsIn
 digits-within [] = omega arith
-digits-within (b ∷ l) = go (isDigit b) (digits-within l)
-  where
-    go : (t : Bool) → digitsIn l ≤ length l → (if t then 1 + digitsIn l else 0) ≤ length (b ∷ l)
-    go true h = omega arith
-    go false h = omega arith
+digits-within (b ∷ l) = if-both (λ (n : ℕ). n ≤ length (b ∷ l)) (isDigit b) (omega (arith, digits-within l)) (omega arith)
 
 ended-within : (b digits value : ℕ) → endedNumberOf b digits value .digits ≤ digits
 unfolding endedNumberOf
-ended-within b digits value = go (eqb digits 0) (eqb b 48 && ltb 1 digits)
-  where
-    go : (s t : Bool) → (if s then noNumber else if t then noNumber else record { fine = true; value = value; digits = digits }) .digits ≤ digits
-    go true t = omega arith
-    go false true = omega arith
-    go false false = omega arith
+ended-within b digits value =
+    if-both (λ (n : Number). n .digits ≤ digits) (eqb digits 0) (omega arith)
+    (if-both (λ (n : Number). n .digits ≤ digits) (eqb b 48 && ltb 1 digits) (omega arith) (omega arith))
 
 pub number-within : (l : List ℕ) → readNumberOf l .digits ≤ length l
 unfolding readNumberOf
-number-within l = go (ltb 4294967295 (valueFrom 0 l)) (ended-within (getD l 0 0) (digitsIn l) (valueFrom 0 l)) (digits-within l)
-  where
-    go : (t : Bool) → endedNumberOf (getD l 0 0) (digitsIn l) (valueFrom 0 l) .digits ≤ digitsIn l → digitsIn l ≤ length l → (if t then noNumber else endedNumberOf (getD l 0 0) (digitsIn l) (valueFrom 0 l)) .digits ≤ length l
-    go true h k = omega arith
-    go false h k = omega arith
+number-within l =
+    if-both (λ (n : Number). n .digits ≤ length l) (ltb 4294967295 (valueFrom 0 l)) (omega arith)
+    (omega (arith, ended-within (getD l 0 0) (digitsIn l) (valueFrom 0 l), digits-within l))
 
 -- ---- numbers
 

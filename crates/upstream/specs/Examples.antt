@@ -8,7 +8,7 @@ use Rattle.model.specs.Arena.{headOf, leaseOf, leasesOf, holdsOf, bitAt, ownerA
 use Rattle.model.specs.Refusals.{first}
 use Rattle.model.specs.Checks.{notLive, cellRules, scriptRules, lockRules, bucketRules}
 use Rattle.model.specs.Foreign.{stepHealthOf, stepOf, runStepsOf, boundaryOf, stepTakeOf, stepReleaseOf, stepWaitersOf}
-use Rattle.model.specs.Lock.{takeOf, lateOf, secondOf, lockOf, findOf, attemptOf, retryOf, pauseOf, spinOf}
+use Rattle.model.specs.Lock.{takeOf, lateStageOf, secondStageOf, lockOf, findOf, attemptOf, retryOf, pauseOf, spinOf}
 use Rattle.model.specs.Calls.{acquireOf, tryAcquireOf, tryLockOf, transactionalOf, acquireBucketOf, environmentOf, countsOf}
 use Rattle.types.specs.declared.Answer.the-variants.{Granted, Refused, Done}
 use Rattle.types.specs.declared.Refusal.the-variants.{Poisoned}
@@ -31,7 +31,7 @@ half-broken = worldOf (headOf 1 2 1 5) (0 ∷ 0 ∷ 0 ∷ 1 ∷ 0 ∷ 0 ∷ []) 
 pub granted-beside : (answers half-broken (try-acquire 0) ≡ Granted (leaseOf 0 1 5)) × (answers half-broken (try-lock [] 0 [] 0) ≡ Granted (leaseOf 0 1 5))
     × (answers half-broken (transactional (0 ∷ []) [] 0 [] 0 0) ≡ Granted (leaseOf 0 1 5))
 unfolding perform tryAcquireOf cellRules acquireOf tryLockOf transactionalOf lockRules scriptRules bucketRules registryFits notLive first shapeFits headFits healthFits leasesOf holdsOf boundaryOf runStepsOf
-    lockOf secondOf takeOf lateOf findOf attemptOf waitersAt bitAt ownerAt setCell stateAt stateOf isFree isHeld
+    lockOf secondStageOf takeOf lateStageOf findOf attemptOf waitersAt bitAt ownerAt setCell stateAt stateOf isFree isHeld
 granted-beside = (refl, refl, refl)
 
 never-sound : (n : ℕ) → Valid-cell n (cell 1 0) → ⊥
@@ -40,7 +40,7 @@ never-sound n v = omega (arith, v .owned .1 refl)
 pub not-valid-beside : (valid (leaves half-broken (try-acquire 0)) → ⊥) × (valid (leaves half-broken (try-lock [] 0 [] 0)) → ⊥)
     × (valid (leaves half-broken (transactional (0 ∷ []) [] 0 [] 0 0)) → ⊥)
 unfolding perform tryAcquireOf cellRules acquireOf tryLockOf transactionalOf lockRules scriptRules bucketRules registryFits notLive first shapeFits headFits healthFits leasesOf holdsOf boundaryOf runStepsOf
-    lockOf secondOf takeOf lateOf findOf attemptOf waitersAt bitAt ownerAt setCell stateAt stateOf isFree isHeld
+    lockOf secondStageOf takeOf lateStageOf findOf attemptOf waitersAt bitAt ownerAt setCell stateAt stateOf isFree isHeld
 not-valid-beside = (
   still-damaged half-broken (try-acquire 0) 1 never-sound (omega arith),
   still-damaged half-broken (try-lock [] 0 [] 0) 1 never-sound (omega arith),
@@ -64,20 +64,20 @@ lone-free = worldOf (headOf 1 1 1 5) (0 ∷ 0 ∷ 0 ∷ []) (0 ∷ [])
 
 pub granted-inside : (physical-domain (0 ∷ 9 ∷ []) lone-free → ⊥) × (answers lone-free (transactional (0 ∷ 9 ∷ []) [] 0 [] 0 0) ≡ Granted (leaseOf 0 1 5))
 unfolding perform transactionalOf bucketRules registryFits notLive first shapeFits headFits healthFits leasesOf holdsOf boundaryOf runStepsOf
-    lockOf secondOf takeOf lateOf findOf attemptOf waitersAt bitAt ownerAt setCell stateAt stateOf isFree isHeld
+    lockOf secondStageOf takeOf lateStageOf findOf attemptOf waitersAt bitAt ownerAt setCell stateAt stateOf isFree isHeld
 granted-inside = (λ p. omega (arith, p 1 0 (omega arith) (omega arith) .0), refl)
 
 -- ---- 7 at the second reading: the header is healthy at first, and the third boundary poisons it
 
 pub poisoned-late : answers lone-free (transactional (0 ∷ []) (5 ∷ 0 ∷ 0 ∷ 5 ∷ 0 ∷ 0 ∷ 4 ∷ 0 ∷ 1 ∷ []) 0 [] 0 0) ≡ Refused (Poisoned 0)
 unfolding perform transactionalOf bucketRules registryFits notLive first shapeFits headFits healthFits leasesOf holdsOf boundaryOf runStepsOf stepOf stepHealthOf
-    lockOf secondOf takeOf lateOf findOf attemptOf waitersAt bitAt ownerAt setCell stateAt stateOf isFree isHeld isIn isLive
+    lockOf secondStageOf takeOf lateStageOf findOf attemptOf waitersAt bitAt ownerAt setCell stateAt stateOf isFree isHeld isIn isLive
 poisoned-late = refl
 
 -- the same in the second attempt of the retrying call: the first finds waiters, and the boundary behind it poisons the header
 pub poisoned-later : answers lone-free (acquire-bucket (0 ∷ []) (3 ∷ 0 ∷ 1 ∷ 5 ∷ 0 ∷ 0 ∷ 4 ∷ 0 ∷ 1 ∷ []) 0 [] 0 0) ≡ Refused (Poisoned 0)
 unfolding perform acquireBucketOf bucketRules registryFits notLive first shapeFits headFits healthFits leasesOf holdsOf boundaryOf runStepsOf stepOf stepHealthOf stepWaitersOf
-    lockOf secondOf takeOf lateOf findOf attemptOf retryOf pauseOf spinOf waitersAt setWaiters bitAt ownerAt setCell stateAt stateOf isFree isHeld isIn isLive
+    lockOf secondStageOf takeOf lateStageOf findOf attemptOf retryOf pauseOf spinOf waitersAt setWaiters bitAt ownerAt setCell stateAt stateOf isFree isHeld isIn isLive
 poisoned-later = refl
 
 -- ---- others, on a damaged cell: a take and a release are dropped and counted, waiters are set

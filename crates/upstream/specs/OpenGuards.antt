@@ -15,7 +15,7 @@ use Rattle.model.specs.Answers.{kindOf}
 use Rattle.model.specs.Refusals.{first}
 use Rattle.model.specs.Checks.{countIn, notLive, badBindings, locksRules}
 use Rattle.model.specs.Foreign.{boundaryOf, runStepsOf}
-use Rattle.model.specs.Lock.{bucketAt, takeOf, lateOf, secondOf, lockOf, findOf, attemptOf, retryOf, locksOf}
+use Rattle.model.specs.Lock.{bucketAt, takeOf, lateStageOf, secondStageOf, lockOf, findOf, attemptOf, retryOf, locksOf}
 use Rattle.model.specs.Calls.{countsOf, acquireLocksOf}
 use Rattle.types.specs.declared.Answer.{Answer}
 use Rattle.types.specs.declared.Answer.the-variants.{Granted, AllGranted}
@@ -150,5 +150,5 @@ feigns-all w registry script place held keys grants =
 pub rejected-feigns-all : ((w : Authority) (registry script : List ℕ) (place : ℕ) (held keys grants : List ℕ)
     → feigns-all w registry script place held keys grants ≡ perform w (acquire-locks registry script place held keys grants) .seen) → ⊥
 unfolding perform acquireLocksOf locksRules notLive badBindings first shapeFits headFits healthFits registryFits leasesOf holdsOf wordsOf locksOf retryOf attemptOf findOf boundaryOf runStepsOf
-    lockOf secondOf takeOf lateOf waitersAt bitAt ownerAt setCell stateAt stateOf isFree isHeld
+    lockOf secondStageOf takeOf lateStageOf waitersAt bitAt ownerAt setCell stateAt stateOf isFree isHeld
 rejected-feigns-all p = omega (arith, ap (λ (x : Authority × Says). bitAt (x .0 .table) 0) (p one-free (0 ∷ []) [] 0 [] (0 ∷ 0 ∷ []) (7 ∷ 7 ∷ 7 ∷ [])))

@@ -31,7 +31,7 @@ of input (Ctrl-D) leaves. With --explain it tells the remarks of FILE as a story
 calls are those of the proved library; with --plain those of the plain build, with --both of both, which must agree.
 --fenced: every run that is lent to the library ends, and begins, at a page that nobody may touch.
 `compare` plays random histories through both. `histories` prints one. `dump` writes a history as a waveform, of N cells
-if N is given and else of as many as its first line says; `undump` reads one back. `words` prints the words of the
+if N is given and else of as many as its first line says; `undump` reads one back. `skid_words` prints the words of the
 language, one a line.
 
 status: 0 all is well; 1 some lines were not understood; 2 something was lost or is missing; 3 the two builds differ

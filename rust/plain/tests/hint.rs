@@ -157,7 +157,7 @@ fn notes() {
     assert_eq!(told(&written), None);
 }
 
-/// One table: help names every word, and `words` too.
+/// One table: help names every word, and `skid_words` too.
 #[test]
 fn every_word() {
     let (text, listed) = (help(), words());

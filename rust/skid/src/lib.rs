@@ -1,6 +1,6 @@
 //! The lease layer of the skid kernel: the calls of document 01, keys in any order
 //! ([`Arena::acquire_sorted_locks`]), salvage after a warm restart ([`Arena::salvage`]), the setpoint book
-//! ([`Setpoint`]) and the waveform of the cells ([`wave`]), safe to call.
+//! ([`Setpoint`]) and the waveform of the cells ([`wave_rules`]), safe to call.
 //!
 //! The programs of a pump skid's kernel share one arena of setpoint buckets. Each bucket has a mutex cell. A program
 //! that takes a cell gets a [`Lease`]: the number of the cell, a serial, and the boot number of the arena's preparation.

@@ -1,7 +1,7 @@
 -- `book::claim_check` meets its contract.
-use Rattle.slots.specs.Fine.{shape-head}
+use Rattle.book_rules.specs.Fine.{shape-head}
 use mathlib.Core.Path.{sym, _∙_}
-use Rattle.slots.specs.Rules.{firstFault, claimRules}
+use Rattle.book_rules.specs.Rules.{firstFault, claimRules}
 use borrow.Author.Needs.{needs}
 use Rattle.book.proofs.claim_check.Statement.{statement}
 use Rattle.book.proofs.claim_check.Tie as tie

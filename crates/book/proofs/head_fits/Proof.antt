@@ -3,7 +3,7 @@ use native.Mathlib.Nat.{mul-le-mul}
 use mathlib.Core.Path.{sym, _∙_}
 use native.Mathlib.Omega.{arith}
 use Rattle.book.specs.Model.{many-headers, many-buckets}
-use Rattle.slots.specs.Fine.{head-alone}
+use Rattle.book_rules.specs.Fine.{head-alone}
 use borrow.Author.Needs.{needs}
 use Rattle.book.proofs.head_fits.Statement.{statement}
 use Rattle.book.proofs.head_fits.Tie as tie

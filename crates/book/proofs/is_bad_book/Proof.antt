@@ -1,6 +1,6 @@
 -- `book::is_bad_book` meets its contract.
 use borrow.Author.Tests.{le-ltb, lt-ltb}
-use Rattle.slots.specs.Rules.{isBadBook}
+use Rattle.book_rules.specs.Rules.{isBadBook}
 use borrow.Author.Needs.{needs}
 use Rattle.book.proofs.is_bad_book.Statement.{statement}
 use Rattle.book.proofs.is_bad_book.Tie as tie

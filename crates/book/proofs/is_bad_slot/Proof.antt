@@ -1,5 +1,5 @@
 -- `book::is_bad_slot` meets its contract.
-use Rattle.slots.specs.Rules.{isBadSlot}
+use Rattle.book_rules.specs.Rules.{isBadSlot}
 use borrow.Author.Needs.{needs}
 use Rattle.book.proofs.is_bad_slot.Statement.{statement}
 use Rattle.book.proofs.is_bad_slot.Tie as tie

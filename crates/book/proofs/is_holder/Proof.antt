@@ -1,5 +1,5 @@
 -- `book::is_holder` meets its contract.
-use Rattle.slots.specs.Rules.{isHolder}
+use Rattle.book_rules.specs.Rules.{isHolder}
 use borrow.Author.Needs.{needs}
 use Rattle.book.proofs.is_holder.Statement.{statement}
 use Rattle.book.proofs.is_holder.Tie as tie

@@ -1,5 +1,5 @@
 -- `book::line_told` meets its contract.
-use Rattle.slots.specs.Calls.{lineTold}
+use Rattle.book_rules.specs.Calls.{lineTold}
 use borrow.Author.Needs.{needs}
 use Rattle.book.proofs.line_told.Statement.{statement}
 use Rattle.book.proofs.line_told.Tie as tie

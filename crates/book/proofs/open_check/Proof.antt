@@ -1,8 +1,8 @@
 -- `book::open_check` meets its contract.
 use mathlib.Core.Path.{sym, _∙_}
 use native.Mathlib.Omega.{arith}
-use Rattle.slots.specs.Fine.{slot-fine}
-use Rattle.slots.specs.Rules.{firstFault, openRules}
+use Rattle.book_rules.specs.Fine.{slot-fine}
+use Rattle.book_rules.specs.Rules.{firstFault, openRules}
 use Rattle.book.specs.Model.{some-slots}
 use borrow.Author.Needs.{needs}
 use Rattle.book.proofs.open_check.Statement.{statement}

@@ -1,7 +1,7 @@
 -- `book::prepare_book` meets its contract.
 use mathlib.Core.Path.{sym, _∙_}
-use Rattle.slots.specs.Rules.{firstFault, bookRules}
-use Rattle.slots.specs.Calls.{prepareBookOf}
+use Rattle.book_rules.specs.Rules.{firstFault, bookRules}
+use Rattle.book_rules.specs.Calls.{prepareBookOf}
 use borrow.Author.Needs.{needs}
 use Rattle.book.proofs.prepare_book.Statement.{statement}
 use Rattle.book.proofs.prepare_book.Tie as tie

@@ -2,7 +2,7 @@
 use Prim.Native.Nat.{_+_}
 use native.Mathlib.Omega.{arith}
 use borrow.Author.Tests.{lt-ltb, le-ltb, le-leb, lt-leb, eq-eqb, ne-eqb}
-use Rattle.slots.specs.Rules.{firstFault, isGone, keptRules}
+use Rattle.book_rules.specs.Rules.{firstFault, isGone, keptRules}
 use Rattle.book.specs.Model.{readKeptOf}
 use borrow.Author.Needs.{needs}
 use Rattle.book.proofs.read_kept.Statement.{statement}

@@ -1,8 +1,8 @@
 -- `book::read_setpoint` meets its contract.
 use mathlib.Core.Path.{sym, _∙_}
 use native.Mathlib.Omega.{arith}
-use Rattle.slots.specs.Calls.{readSetpointOf}
-use Rattle.slots.specs.Fine.{open-fine}
+use Rattle.book_rules.specs.Calls.{readSetpointOf}
+use Rattle.book_rules.specs.Fine.{open-fine}
 use Rattle.book.specs.Model.{read-is, open-readable}
 use borrow.Author.Needs.{needs}
 use Rattle.book.proofs.read_setpoint.Statement.{statement}

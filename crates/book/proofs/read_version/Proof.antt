@@ -1,7 +1,7 @@
 -- `book::read_version` meets its contract.
 use mathlib.Core.Path.{sym, _∙_}
 use native.Mathlib.Omega.{arith}
-use Rattle.slots.specs.Fine.{open-fine}
+use Rattle.book_rules.specs.Fine.{open-fine}
 use Rattle.book.specs.Model.{read-is, open-readable}
 use borrow.Author.Needs.{needs}
 use Rattle.book.proofs.read_version.Statement.{statement}

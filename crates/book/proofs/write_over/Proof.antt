@@ -2,10 +2,10 @@
 use mathlib.Core.Path.{sym, _∙_}
 use native.Mathlib.Omega.{arith}
 use borrow.Author.Tests.{eq-eqb, ne-eqb}
-use Rattle.slots.specs.Writing.{putOf}
-use Rattle.slots.specs.Rules.{firstFault, overRules}
+use Rattle.book_rules.specs.Writing.{putOf}
+use Rattle.book_rules.specs.Rules.{firstFault, overRules}
 use Rattle.book.specs.Model.{writeOverOf}
-use Rattle.enter.specs.Steps.{oldest-lies, staying-most, full-is, room-is, left-size, left-fits, left-kept}
+use Rattle.book_enter.specs.Steps.{oldest-lies, staying-most, full-is, room-is, left-size, left-fits, left-kept}
 use borrow.Author.Needs.{needs}
 use Rattle.book.proofs.write_over.Statement.{statement}
 use Rattle.book.proofs.write_over.Tie as tie

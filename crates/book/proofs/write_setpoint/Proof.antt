@@ -1,6 +1,6 @@
 -- `book::write_setpoint` meets its contract.
 use Rattle.book.specs.Model.{some-slots, write-is}
-use Rattle.slots.specs.Fine.{shape-head, claim-fine}
+use Rattle.book_rules.specs.Fine.{shape-head, claim-fine}
 use native.Mathlib.Omega.{arith}
 use mathlib.Core.Path.{sym, _∙_}
 use borrow.Author.Needs.{needs}

@@ -3,7 +3,7 @@ use mathlib.Core.Path.{sym, _∙_}
 use borrow.Author.Needs.{needs}
 use Rattle.model.specs.Crew.{shiftOf, crewOf}
 use Rattle.crew.proofs.crew.Statement.{statement}
-use Rattle.plan.specs.Fine.{crew-fine}
+use Rattle.crew_plan.specs.Fine.{crew-fine}
 use Rattle.crew.specs.Model.{takeTurnsOf, finishOf, crewRunOf}
 use Rattle.crew.proofs.crew.Tie as tie
 

@@ -3,7 +3,7 @@ use mathlib.Core.Path.{sym, _∙_}
 use native.Mathlib.Omega.{arith}
 use borrow.Author.Needs.{needs}
 use Rattle.crew.proofs.crew_check.Statement.{statement}
-use Rattle.plan.specs.Fine.{crew-then}
+use Rattle.crew_plan.specs.Fine.{crew-then}
 use Rattle.laws.specs.Checks.{arena-fine}
 use Rattle.crew.proofs.crew_check.Tie as tie
 

@@ -13,8 +13,8 @@ script-check-requires c κs = search needs
 enum-known-check : tie.Need-enum-known-check
 enum-known-check c = search needs
 
-unplay-requires : tie.Need-unplay-requires
-unplay-requires c κs = search needs
+refuse-at-once-requires : tie.Need-refuse-at-once-requires
+refuse-at-once-requires c κs = search needs
 
 enum-told : tie.Need-enum-told
 enum-told c = search needs
@@ -30,7 +30,7 @@ same-length-2 c = search needs
 
 returns : tie.Need-returns
 unfolding environmentOf
-returns c = rw (← c .before .before .before .before .script-check .ensures, c .before .before .check .given .1, ← c .unplay .ensures)
+returns c = rw (← c .before .before .before .before .script-check .ensures, c .before .before .check .given .1, ← c .refuse-at-once .ensures)
 
 same-length-3 : tie.Need-same-length-3
 same-length-3 c = search needs
@@ -48,7 +48,7 @@ environment-spec =
     (tie.spec
     script-check-requires
     enum-known-check
-    unplay-requires
+    refuse-at-once-requires
     enum-told
     run-once-requires
     same-length

@@ -1,15 +1,12 @@
 -- `print::put` meets its contract.
 use Prim.Native.Nat.{_≤_, _-_, _+_}
-use mathlib.Core.Path.{_≡_, refl, sym, _∙_}
-use native.Mathlib.Omega.{arith}
-use lib.ListN.{length, drop, getD}
+use mathlib.Core.Path.{_≡_, sym, _∙_}
+use lib.ListN.{length, drop}
 use borrow.Author.Needs.{needs}
 use Rattle.print.specs.Print.{putOf}
 use Rattle.print.specs.Laws.{put-at, put-end}
 use Rattle.print.proofs.put.Statement.{statement}
 use Rattle.print.proofs.put.Tie as tie
-use Rattle.print.proofs.put.Reads as reads
-use Rattle.print.proofs.put.Lts as lts
 
 abbrev Inv-loop : tie.InvT-loop
 Inv-loop out₀ at text n₀ i₀ out n i = (length out ≡ length out₀) × (i ≤ length text) × (n ≡ at + i) × (putOf out n (drop i text) ≡ putOf out₀ at text)
@@ -17,42 +14,33 @@ Inv-loop out₀ at text n₀ i₀ out n i = (length out ≡ length out₀) × (i
 abbrev μ-loop : tie.MeasureT-loop
 μ-loop out₀ at text n₀ i₀ out n i = length text - i
 
--- src/lib.rt:27:5
 loop-holds : tie.Need-loop-holds Inv-loop μ-loop
 loop-holds c = search needs
 
--- src/lib.rt:28:18
 shared-slice-read-out : tie.Need-shared-slice-read-out Inv-loop μ-loop
 shared-slice-read-out c = search needs
 
--- src/lib.rt:28:9
 slice-write-out : tie.Need-slice-write-out Inv-loop μ-loop
 slice-write-out c = search needs
 
--- src/lib.rt:29:9
 add-n : tie.Need-add-n Inv-loop μ-loop
 add-n c = search needs
 
--- src/lib.rt:30:9
 add-i : tie.Need-add-i Inv-loop μ-loop
 add-i c = search needs
 
--- src/lib.rt:27:5
 loop-less : tie.Need-loop-less Inv-loop μ-loop
 loop-less c = search needs
 
--- src/lib.rt:27:5
 loop-again : tie.Need-loop-again Inv-loop μ-loop
 loop-again c =
     let l = c .before .before .loop in
     let a = c .before .before .before .args in
     (search needs, search needs, search needs, sym (put-at (l .out) (a .text .now) (l .n) (l .i) (search needs)) ∙ l .inv .3)
 
--- src/lib.rt:21:1
 same-length : tie.Need-same-length Inv-loop μ-loop
 same-length c = search needs
 
--- src/lib.rt:21:1
 returns : tie.Need-returns Inv-loop μ-loop
 returns c =
     let l = c .before .loop in

@@ -3,14 +3,10 @@ use Rattle.print.specs.Print.{putOf, formFrom, formOf}
 use borrow.Author.Needs.{needs}
 use lib.ListN.{length, getD, drop}
 use native.Mathlib.Omega.{arith}
-use mathlib.Core.Path.{_≡_, refl, ap, _∙_}
+use mathlib.Core.Path.{_≡_, refl, _∙_}
 use Prim.Native.Nat.{_≤_, _-_, _+_, _*_}
 use Rattle.print.proofs.put_form.Statement.{statement}
 use Rattle.print.proofs.put_form.Tie as tie
-use Rattle.print.proofs.put_form.Reads as reads
-use Rattle.print.proofs.put_form.Lts as lts
-use Rattle.print.proofs.after.Reads as after-reads
-use Rattle.print.proofs.put_piece.Reads as put-piece-reads
 
 abbrev Inv-loop : tie.InvT-loop
 Inv-loop out₀ at form numbers used₀ k₀ i₀ out used k i = (length out ≡ length out₀) × (i ≤ length form) × (k ≤ i) × (used + 20 * (length form - i) ≤ at + 20 * length form) × (putOf out used (formFrom numbers k (drop i form)) ≡ putOf out₀ at (formFrom numbers 0 form))
@@ -18,35 +14,28 @@ Inv-loop out₀ at form numbers used₀ k₀ i₀ out used k i = (length out ≡
 abbrev μ-loop : tie.MeasureT-loop
 μ-loop out₀ at form numbers used₀ k₀ i₀ out used k i = length form - i
 
--- src/lib.rt:75:5
 loop-holds : tie.Need-loop-holds Inv-loop μ-loop
 loop-holds c = (search needs, search needs, search needs, omega arith, refl)
 
--- src/lib.rt:76:20
 shared-slice-read-byte : tie.Need-shared-slice-read-byte Inv-loop μ-loop
 shared-slice-read-byte c = search needs
 
--- src/lib.rt:77:9
 put-piece-requires : tie.Need-put-piece-requires Inv-loop μ-loop
 put-piece-requires c κs =
     let l = c .before .before .before .loop in
     omega (arith, c .before .before .loop-test .taken, l .inv .0, l .inv .3, c .before .before .before .before .before .before .before .pre)
 
--- src/lib.rt:78:9
 after-requires : tie.Need-after-requires Inv-loop μ-loop
 after-requires c κs =
     let l = c .before .before .before .before .before .before .loop in
     omega (arith, c .before .before .before .before .before .loop-test .taken, l .inv .2, l .inv .1)
 
--- src/lib.rt:79:9
 add-i : tie.Need-add-i Inv-loop μ-loop
 add-i c = search needs
 
--- src/lib.rt:75:5
 loop-less : tie.Need-loop-less Inv-loop μ-loop
 loop-less c = search needs
 
--- src/lib.rt:75:5
 loop-again : tie.Need-loop-again Inv-loop μ-loop
 loop-again c =
     let l = c .before .before .before .before .before .before .before .loop in
@@ -59,11 +48,9 @@ loop-again c =
       rw (c .after .ensures) (form-turn (l .out) _ (a .numbers .now) (a .form .now) (l .used) _ (l .k) (l .i) (search needs) (c .before .before .before .put-piece .ensures) ∙ l .inv .4),
     )
 
--- src/lib.rt:68:1
 same-length : tie.Need-same-length Inv-loop μ-loop
 same-length c = search needs
 
--- src/lib.rt:68:1
 returns : tie.Need-returns Inv-loop μ-loop
 unfolding formOf
 returns c =

@@ -1,5 +1,5 @@
 -- `skid::skid_prepare_book` meets its contract.
-use Rattle.layout.specs.Laws.{prepared-whole}
+use Rattle.skid_rules.specs.Laws.{prepared-whole}
 use borrow.Author.Needs.{needs}
 use Rattle.skid.proofs.skid_prepare_book.Statement.{statement}
 use Rattle.skid.proofs.skid_prepare_book.Tie as tie

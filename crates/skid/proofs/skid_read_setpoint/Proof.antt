@@ -1,5 +1,5 @@
 -- `skid::skid_read_setpoint` meets its contract.
-use Rattle.layout.specs.Laws.{newest-whole}
+use Rattle.skid_rules.specs.Laws.{newest-whole}
 use borrow.Author.Needs.{needs}
 use Rattle.skid.proofs.skid_read_setpoint.Statement.{statement}
 use Rattle.skid.proofs.skid_read_setpoint.Tie as tie

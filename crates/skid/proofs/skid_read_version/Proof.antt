@@ -1,5 +1,5 @@
 -- `skid::skid_read_version` meets its contract.
-use Rattle.slots.specs.Outcomes.{told-whole}
+use Rattle.book_rules.specs.Outcomes.{told-whole}
 use borrow.Author.Needs.{needs}
 use Rattle.skid.proofs.skid_read_version.Statement.{statement}
 use Rattle.skid.proofs.skid_read_version.Tie as tie

@@ -11,8 +11,8 @@ first-key-fault-requires c κs = fine-bindings _ _ _ _ (c .before .before .befor
 enum-known-check : tie.Need-enum-known-check
 enum-known-check c = search needs
 
-unplay-at-requires : tie.Need-unplay-at-requires
-unplay-at-requires c κs = search needs
+refuse-key-at-once-requires : tie.Need-refuse-key-at-once-requires
+refuse-key-at-once-requires c κs = search needs
 
 enum-told : tie.Need-enum-told
 enum-told c = search needs
@@ -21,7 +21,7 @@ sorted-once-requires : tie.Need-sorted-once-requires
 sorted-once-requires c κs = (search needs, checked-fine _ _ _ _ (c .before .before .before .before .before .before .before .before .before .before .before .before .before .args .place) _ _ _ (c .before .before .before .before .before .before .before .before .before .before .before .before .before .pre) (sym (c .before .before .before .before .before .first-key-fault .ensures) ∙ c .before .before .before .enum-told .given .1))
 
 returns : tie.Need-returns
-returns c = rw (← c .before .before .before .before .first-key-fault .ensures, c .before .before .check .given .1, ← c .unplay-at .ensures)
+returns c = rw (← c .before .before .before .before .first-key-fault .ensures, c .before .before .check .given .1, ← c .refuse-key-at-once .ensures)
 
 same-length : tie.Need-same-length
 same-length c = search needs
@@ -41,7 +41,7 @@ sorted-checked-spec =
     (tie.spec
     first-key-fault-requires
     enum-known-check
-    unplay-at-requires
+    refuse-key-at-once-requires
     enum-told
     sorted-once-requires
     returns

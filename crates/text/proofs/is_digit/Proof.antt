@@ -1,5 +1,4 @@
 -- `text::is_digit` meets its contract.
-use Prim.Native.Nat.{_-_}
 use borrow.Author.Tests.{lt-ltb, le-ltb}
 use Rattle.text.specs.Text.{isDigit}
 use Rattle.text.proofs.is_digit.Statement.{statement}

@@ -1,5 +1,4 @@
 -- `text::padded` meets its contract.
-use Prim.Native.Nat.{_-_}
 use borrow.Author.Tests.{eq-eqb, ne-eqb}
 use Rattle.text.proofs.padded.Statement.{statement}
 use Rattle.text.proofs.padded.Tie as tie

@@ -1,12 +1,17 @@
 //! The list of the library's functions, once: the name without `skid_`, what a call is given, and how many words it
-//! replies. It is the only place of this crate that says what include/skid.h says.
+//! replies. tests/signatures.py writes it from the exported functions of crates/skid/src, and the gate compares.
 
 /// Hands the list to a macro.
 macro_rules! for_every_call {
     ($write:ident) => {
         $write! {
+            // calls: begin
             /// The head is the one that is to be made: its next serial is the first one.
             prepare(head: Head, table: &mut [u32], health: &mut [u8]) -> REPLY;
+            salvage(
+                head: Head, table: &mut [u32], health: &mut [u8], report: &mut [u32],
+                unconfirmed: &mut [u32],
+            ) -> SALVAGE;
             try_acquire(head: Head, table: &mut [u32], cell: u32) -> REPLY;
             drop_lease(head: Head, table: &mut [u32], lease: Lease) -> REPLY;
             read_permission(head: Head, table: &[u32], lease: Lease) -> REPLY;
@@ -65,10 +70,6 @@ macro_rules! for_every_call {
                 head: Head, table: &mut [u32], health: &[u8], counts: &[u32], cells: &[u32],
                 turns: &[u32], counters: &mut [u16],
             ) -> CREW;
-            salvage(
-                head: Head, table: &mut [u32], health: &mut [u8], report: &mut [u32],
-                unconfirmed: &mut [u32],
-            ) -> SALVAGE;
             prepare_book(head: Head, book: &mut [u8]) -> BOOK;
             write_pressure(
                 head: Head, table: &[u32], book: &mut [u8], slot: u32, lease: Lease, bits: u32,
@@ -77,12 +78,13 @@ macro_rules! for_every_call {
                 head: Head, table: &[u32], book: &mut [u8], slot: u32, lease: Lease, speed: u32,
             ) -> BOOK;
             write_valve(
-                head: Head, table: &[u32], book: &mut [u8], slot: u32, lease: Lease, open: bool,
+                head: Head, table: &[u32], book: &mut [u8], slot: u32, lease: Lease, opened: bool,
             ) -> BOOK;
             read_setpoint(head: Head, book: &[u8], slot: u32) -> BOOK;
             read_version(head: Head, book: &[u8], slot: u32, version: u32) -> BOOK;
-            write_dump(cells: u32, history: &[u32], text: &mut [u8]) -> WAVE;
-            read_dump(text: &[u8], history: &mut [u32]) -> WAVE;
+            write_dump(cells: u32, script: &[u32], text: &mut [u8]) -> WAVE;
+            read_dump(text: &[u8], script: &mut [u32]) -> WAVE;
+            // calls: end
         }
     };
 }

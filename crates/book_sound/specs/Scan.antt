@@ -1,0 +1,349 @@
+-- A test for damage in one pass over the lines: no pair of bodies is looked at. The room behind the contents is cut into cells of five bytes. Two
+-- bodies that begin in one cell overlap, so a cell has at most one; and a body can overlap only those that begin in its own cell and in the two
+-- beside it. A mark a cell is enough: 0, or where in the cell its body begins, plus 1.
+use Prim.Native.Nat.{ℕ, zero, suc, _+_, _*_, _-_, _/_, _%_, _≤_, _<_}
+use mathlib.Core.Path.{_≡_, refl, sym, ap, _∙_}
+use mathlib.Core.Logic.{_≢_, _⊎_, inl, inr}
+use mathlib.Core.List.{List}
+use mathlib.Core.Bool.{Bool, true, false, _&&_, _||_}
+use native.Mathlib.Omega.{arith}
+use native.Mathlib.Decide.{ℕ-discrete, decLt}
+use lib.Dec.{leb, eqb}
+use lib.ListN.{length, getD, set, replicate, length-set, length-replicate}
+use lib.Seq.{getD-set-same, getD-set-other}
+use borrow.Author.Tests.{eqb-true, eq-eqb, leb-true, le-leb}
+use Rattle.choice.specs.Choice.{if_then_else_}
+use Rattle.choice.specs.Pick.{both}
+use Rattle.laws.specs.Lists.{zeros}
+use Rattle.book_rules.specs.Layout.{all, linesOf, frontOf, placeAt, lengthAt, versionAt, isKept, settingAt, isSetting, isFalling, isFitting, isApart, isSound}
+use Rattle.book_rules.specs.Many.{all-each, each-all}
+use Rattle.book_rules.specs.Sound.{Kept, Apart, is-kept, is-unkept, kept-fits, apart-is, is-apart}
+
+-- ---- the scan, as a loop makes it
+
+-- the cell that a body begins in, and where in it
+abbrev pub cellOf : ℕ → ℕ → ℕ
+cellOf n p = (p - frontOf n) / 5
+
+abbrev pub offsetOf : ℕ → ℕ → ℕ
+offsetOf n p = (p - frontOf n) % 5
+
+-- a body that begins at offset r of cell c overlaps none so far. The mark of cell c stands at c + 1: so the first has one before it too, which
+-- stays 0
+unfoldable pub isClear : List ℕ → ℕ → ℕ → Bool
+isClear marks c r =
+    eqb (getD marks (c + 1) 0) 0
+    && (leb (getD marks c 0) (r + 1) && (eqb (getD marks (c + 2) 0) 0 || leb (r + 1) (getD marks (c + 2) 0)))
+
+abbrev pub markedOf : List ℕ → ℕ → ℕ → List ℕ
+markedOf marks c r = set marks (c + 1) (r + 1)
+
+-- from line k on, so many lines
+unfoldable pub scanOf : ℕ → List ℕ → ℕ → ℕ → List ℕ → Bool
+scanOf n b zero k marks = true
+scanOf n b (suc left) k marks =
+    if isFalling b k then (
+    if isFitting n b k then (
+    if isKept b k then (
+    if isClear marks (cellOf n (placeAt b k)) (offsetOf n (placeAt b k)) then
+    scanOf n b left (k + 1) (markedOf marks (cellOf n (placeAt b k)) (offsetOf n (placeAt b k)))
+    else false)
+    else scanOf n b left (k + 1) marks)
+    else false)
+    else false
+
+-- ---- what it comes to
+
+-- a line and its body, against the lines before
+abbrev lineSound : ℕ → List ℕ → ℕ → Bool
+lineSound n b k = isFalling b k && (isFitting n b k && all k (λ l. isApart b k l))
+
+allFrom : ℕ → ℕ → (ℕ → Bool) → Bool
+allFrom zero k f = true
+allFrom (suc left) k f = f k && allFrom left (k + 1) f
+
+-- the marks after the first k lines, for a book of so many cells
+pub record Marked (n : ℕ) (b : List ℕ) (cells k : ℕ) (marks : List ℕ) : Type 0 where
+  pub long : cells + 2 ≤ length marks
+  pub first : _≡_ {A = ℕ} (getD marks 0 0) 0
+  pub marks-each : (l : ℕ) → l < k → Kept b l → getD marks (cellOf n (placeAt b l) + 1) 0 ≡ offsetOf n (placeAt b l) + 1
+  pub means : (c : ℕ) → getD marks c 0 ≢ 0
+      → (l : ℕ) × (l < k) × Kept b l × (c ≡ cellOf n (placeAt b l) + 1) × (getD marks c 0 ≡ offsetOf n (placeAt b l) + 1)
+
+same-truth : (x y : Bool) → (x ≡ true → y ≡ true) → (y ≡ true → x ≡ true) → x ≡ y
+same-truth true y f g = sym (f refl)
+same-truth false true f g = g refl
+same-truth false false f g = refl
+
+module _ (n : ℕ) (b : List ℕ) (cells : ℕ) (size : length b ≤ frontOf n + 5 * cells) where
+  -- the bodies of the lines before lie behind the contents
+  abbrev pub Behind : ℕ → Type 0
+  Behind k = (l : ℕ) → l < k → Kept b l → (frontOf n ≤ placeAt b l) × (placeAt b l + 5 ≤ length b)
+
+  module _ (k : ℕ) (marks : List ℕ) (w : Marked n b cells k marks) (before : Behind k) (kept : Kept b k) (low : frontOf n ≤ placeAt b k) where
+    clear-apart : isClear marks (cellOf n (placeAt b k)) (offsetOf n (placeAt b k)) ≡ true → (l : ℕ) → l < k → Kept b l → Apart (placeAt b k) (placeAt b l)
+    unfolding isClear
+    clear-apart e l h q =
+        let c = cellOf n (placeAt b k) in
+        let r = offsetOf n (placeAt b k) in
+        let x = both (eqb (getD marks (c + 1) 0) 0) (leb (getD marks c 0) (r + 1) && (eqb (getD marks (c + 2) 0) 0 || leb (r + 1) (getD marks (c + 2) 0))) e in
+        let y = both (leb (getD marks c 0) (r + 1)) (eqb (getD marks (c + 2) 0) 0 || leb (r + 1) (getD marks (c + 2) 0)) (x .1) in
+        go (eqb-true _ _ (x .0)) (leb-true _ _ (y .0)) (either (eqb (getD marks (c + 2) 0) 0) (leb (r + 1) (getD marks (c + 2) 0)) (eqb-true _ _) (leb-true _ _) (y .1))
+        (ℕ-discrete (cellOf n (placeAt b l)) c) (ℕ-discrete (cellOf n (placeAt b l) + 1) c) (ℕ-discrete (cellOf n (placeAt b l)) (c + 1)) (decLt (placeAt b k) (placeAt b l))
+      where
+        either : (u v : Bool) → (u ≡ true → _≡_ {A = ℕ} (getD marks (cellOf n (placeAt b k) + 2) 0) 0)
+            → (v ≡ true → offsetOf n (placeAt b k) + 1 ≤ getD marks (cellOf n (placeAt b k) + 2) 0) → (u || v) ≡ true
+            → (_≡_ {A = ℕ} (getD marks (cellOf n (placeAt b k) + 2) 0) 0) ⊎ (offsetOf n (placeAt b k) + 1 ≤ getD marks (cellOf n (placeAt b k) + 2) 0)
+        either true v f g e = inl (f refl)
+        either false true f g e = inr (g refl)
+        either false false f g e = let z : _≡_ {A = ℕ} 0 1 = cc in absurd (omega arith)
+
+        there : getD marks (cellOf n (placeAt b l) + 1) 0 ≡ offsetOf n (placeAt b l) + 1
+        there = w .marks-each l h q
+
+        go : _≡_ {A = ℕ} (getD marks (cellOf n (placeAt b k) + 1) 0) 0 → getD marks (cellOf n (placeAt b k)) 0 ≤ offsetOf n (placeAt b k) + 1
+            → (_≡_ {A = ℕ} (getD marks (cellOf n (placeAt b k) + 2) 0) 0) ⊎ (offsetOf n (placeAt b k) + 1 ≤ getD marks (cellOf n (placeAt b k) + 2) 0)
+            → Dec (cellOf n (placeAt b l) ≡ cellOf n (placeAt b k)) → Dec (cellOf n (placeAt b l) + 1 ≡ cellOf n (placeAt b k)) → Dec (cellOf n (placeAt b l) ≡ cellOf n (placeAt b k) + 1)
+            → Dec (placeAt b k < placeAt b l) → Apart (placeAt b k) (placeAt b l)
+        go own prev next (yes a) d f o = absurd (omega (arith, there, ap (λ (x : ℕ). getD marks (x + 1) 0) a))
+        go own prev next (no a) (yes d) f o =
+            inr (omega (arith, there, ap (λ (x : ℕ). getD marks x 0) d, before l h q .0, low))
+        go own prev (inl z) (no a) (no d) (yes f) o =
+            let i : cellOf n (placeAt b l) + 1 ≡ cellOf n (placeAt b k) + 2 = omega arith in
+            absurd (omega (arith, there, ap (λ (x : ℕ). getD marks x 0) i))
+        go own prev (inr z) (no a) (no d) (yes f) o =
+            let i : cellOf n (placeAt b l) + 1 ≡ cellOf n (placeAt b k) + 2 = omega arith in
+            inl (omega (arith, there, ap (λ (x : ℕ). getD marks x 0) i, before l h q .0, low))
+        go own prev next (no a) (no d) (no f) (yes o) = inl (omega (arith, before l h q .0, low))
+        go own prev next (no a) (no d) (no f) (no o) = inr (omega (arith, before l h q .0, low))
+
+    pub apart-clear : ((l : ℕ) → l < k → Kept b l → Apart (placeAt b k) (placeAt b l)) → isClear marks (cellOf n (placeAt b k)) (offsetOf n (placeAt b k)) ≡ true
+    unfolding isClear
+    apart-clear h =
+        let c = cellOf n (placeAt b k) in
+        let r = offsetOf n (placeAt b k) in
+        rw (eq-eqb (getD marks (c + 1) 0) 0 (own (ℕ-discrete (getD marks (c + 1) 0) 0)), le-leb (getD marks c 0) (r + 1) (prev (ℕ-discrete (getD marks c 0) 0)))
+        (next (ℕ-discrete (getD marks (c + 2) 0) 0))
+      where
+        own : Dec (_≡_ {A = ℕ} (getD marks (cellOf n (placeAt b k) + 1) 0) 0) → _≡_ {A = ℕ} (getD marks (cellOf n (placeAt b k) + 1) 0) 0
+        own (yes e) = e
+        own (no e) = let t = w .means (cellOf n (placeAt b k) + 1) e in absurd (clash (t .0) (t .1) (t .2) (t .3) (h (t .0) (t .1) (t .2)))
+          where
+            clash : (l : ℕ) → l < k → Kept b l → cellOf n (placeAt b k) + 1 ≡ cellOf n (placeAt b l) + 1 → Apart (placeAt b k) (placeAt b l) → ⊥
+            clash l i q e (inl a) = omega (arith, before l i q .0, low)
+            clash l i q e (inr a) = omega (arith, before l i q .0, low)
+
+        prev : Dec (_≡_ {A = ℕ} (getD marks (cellOf n (placeAt b k)) 0) 0) → getD marks (cellOf n (placeAt b k)) 0 ≤ offsetOf n (placeAt b k) + 1
+        prev (yes e) = omega arith
+        prev (no e) = let t = w .means (cellOf n (placeAt b k)) e in fit (t .0) (t .1) (t .2) (t .3) (t .4) (h (t .0) (t .1) (t .2))
+          where
+            fit : (l : ℕ) → l < k → Kept b l → cellOf n (placeAt b k) ≡ cellOf n (placeAt b l) + 1 → getD marks (cellOf n (placeAt b k)) 0 ≡ offsetOf n (placeAt b l) + 1
+                → Apart (placeAt b k) (placeAt b l) → getD marks (cellOf n (placeAt b k)) 0 ≤ offsetOf n (placeAt b k) + 1
+            fit l i q e g (inl a) = omega (arith, before l i q .0, low)
+            fit l i q e g (inr a) = omega (arith, before l i q .0, low)
+
+        next : Dec (_≡_ {A = ℕ} (getD marks (cellOf n (placeAt b k) + 2) 0) 0)
+            → (eqb (getD marks (cellOf n (placeAt b k) + 2) 0) 0 || leb (offsetOf n (placeAt b k) + 1) (getD marks (cellOf n (placeAt b k) + 2) 0)) ≡ true
+        next (yes e) = rw (eq-eqb (getD marks (cellOf n (placeAt b k) + 2) 0) 0 e)
+        next (no e) =
+            let t = w .means (cellOf n (placeAt b k) + 2) e in
+            rw (le-leb (offsetOf n (placeAt b k) + 1) (getD marks (cellOf n (placeAt b k) + 2) 0) (fit (t .0) (t .1) (t .2) (t .3) (t .4) (h (t .0) (t .1) (t .2))))
+            (or-true (eqb (getD marks (cellOf n (placeAt b k) + 2) 0) 0))
+          where
+            or-true : (x : Bool) → (x || true) ≡ true
+            or-true true = refl
+            or-true false = refl
+
+            fit : (l : ℕ) → l < k → Kept b l → cellOf n (placeAt b k) + 2 ≡ cellOf n (placeAt b l) + 1 → getD marks (cellOf n (placeAt b k) + 2) 0 ≡ offsetOf n (placeAt b l) + 1
+                → Apart (placeAt b k) (placeAt b l) → offsetOf n (placeAt b k) + 1 ≤ getD marks (cellOf n (placeAt b k) + 2) 0
+            fit l i q e g (inl a) = omega (arith, before l i q .0, low)
+            fit l i q e g (inr a) = omega (arith, before l i q .0, low)
+
+    -- the mark of line k
+    pub marked-more : isClear marks (cellOf n (placeAt b k)) (offsetOf n (placeAt b k)) ≡ true → placeAt b k + 5 ≤ length b
+        → Marked n b cells (k + 1) (markedOf marks (cellOf n (placeAt b k)) (offsetOf n (placeAt b k)))
+    unfolding isClear
+    marked-more e u =
+        let c = cellOf n (placeAt b k) in
+        let r = offsetOf n (placeAt b k) in
+        let x = both (eqb (getD marks (c + 1) 0) 0) (leb (getD marks c 0) (r + 1) && (eqb (getD marks (c + 2) 0) 0 || leb (r + 1) (getD marks (c + 2) 0))) e in
+        let own : _≡_ {A = ℕ} (getD marks (c + 1) 0) 0 = eqb-true _ _ (x .0) in
+        record {
+          long = omega (arith, w .long, length-set marks (c + 1) (r + 1));
+          first = getD-set-other marks (c + 1) 0 (r + 1) 0 (omega arith) ∙ w .first;
+          marks-each = λ l h q. each own l h q (ℕ-discrete l k);
+          means = λ i d. mean i d (ℕ-discrete i (c + 1));
+        }
+      where
+        inside : cellOf n (placeAt b k) + 1 < length marks
+        inside = omega (arith, w .long, size, low, u)
+
+        each : _≡_ {A = ℕ} (getD marks (cellOf n (placeAt b k) + 1) 0) 0 → (l : ℕ) → l < k + 1 → Kept b l → Dec (l ≡ k)
+            → getD (markedOf marks (cellOf n (placeAt b k)) (offsetOf n (placeAt b k))) (cellOf n (placeAt b l) + 1) 0 ≡ offsetOf n (placeAt b l) + 1
+        each own l h q (yes d) = rw d (getD-set-same marks (cellOf n (placeAt b k) + 1) (offsetOf n (placeAt b k) + 1) 0 inside)
+        each own l h q (no d) =
+            getD-set-other marks (cellOf n (placeAt b k) + 1) (cellOf n (placeAt b l) + 1) (offsetOf n (placeAt b k) + 1) 0
+            (λ z. omega (arith, w .marks-each l (omega arith) q, ap (λ (i : ℕ). getD marks i 0) z))
+            ∙ w .marks-each l (omega arith) q
+
+        mean : (i : ℕ) → getD (markedOf marks (cellOf n (placeAt b k)) (offsetOf n (placeAt b k))) i 0 ≢ 0 → Dec (i ≡ cellOf n (placeAt b k) + 1)
+            → (l : ℕ) × (l < k + 1) × Kept b l × (i ≡ cellOf n (placeAt b l) + 1)
+            × (getD (markedOf marks (cellOf n (placeAt b k)) (offsetOf n (placeAt b k))) i 0 ≡ offsetOf n (placeAt b l) + 1)
+        mean i d (yes z) =
+            (k, omega arith, kept, z, rw z (getD-set-same marks (cellOf n (placeAt b k) + 1) (offsetOf n (placeAt b k) + 1) 0 inside))
+        mean i d (no z) =
+            let same = getD-set-other marks (cellOf n (placeAt b k) + 1) i (offsetOf n (placeAt b k) + 1) 0 z in
+            let t = w .means i (λ y. d (same ∙ y)) in
+            (t .0, omega (arith, t .1), t .2, t .3, same ∙ t .4)
+
+  -- ---- line by line
+
+  clear-is : (k : ℕ) (marks : List ℕ) → Marked n b cells k marks → Behind k → Kept b k → frontOf n ≤ placeAt b k
+      → isClear marks (cellOf n (placeAt b k)) (offsetOf n (placeAt b k)) ≡ all k (λ l. isApart b k l)
+  clear-is k marks w before kept low =
+      same-truth _ _
+      (λ e. each-all k (λ l. isApart b k l) (λ l h. is-apart b k l (λ u v. clear-apart k marks w before kept low e l h v)))
+      (λ e. apart-clear k marks w before kept low (λ l h q. apart-is b k l (all-each k (λ l. isApart b k l) e l h) kept q))
+
+  unused-apart : (k : ℕ) → isKept b k ≡ false → all k (λ l. isApart b k l) ≡ true
+  unused-apart k e = each-all k (λ l. isApart b k l) (λ l h. is-apart b k l (λ u v. absurd (omega (arith, is-unkept b k e))))
+
+  scan-from : (left k : ℕ) (marks : List ℕ) → Marked n b cells k marks → Behind k → scanOf n b left k marks ≡ allFrom left k (lineSound n b)
+  unfolding scanOf allFrom
+  scan-from zero k marks w before = refl
+  scan-from (suc left) k marks w before =
+      go (isFalling b k) (isFitting n b k) (isKept b k) (isClear marks (cellOf n (placeAt b k)) (offsetOf n (placeAt b k))) (all k (λ l. isApart b k l))
+      (λ e d. kept-fits n b k e d) (is-kept b k) (λ d. unused-apart k d)
+      (λ q low. clear-is k marks w before q low)
+      (λ e q low u. scan-from left (k + 1) (markedOf marks (cellOf n (placeAt b k)) (offsetOf n (placeAt b k))) (marked-more k marks w before q low e u) (longer low u))
+      (λ d. scan-from left (k + 1) marks (skip d) (past d))
+    where
+      longer : frontOf n ≤ placeAt b k → placeAt b k + 5 ≤ length b → Behind (k + 1)
+      longer low u l h q = at (ℕ-discrete l k)
+        where
+          at : Dec (l ≡ k) → (frontOf n ≤ placeAt b l) × (placeAt b l + 5 ≤ length b)
+          at (yes d) = rw d (low, u)
+          at (no d) = before l (omega arith) q
+
+      past : isKept b k ≡ false → Behind (k + 1)
+      past d l h q = at (ℕ-discrete l k)
+        where
+          at : Dec (l ≡ k) → (frontOf n ≤ placeAt b l) × (placeAt b l + 5 ≤ length b)
+          at (yes e) = absurd (omega (arith, is-unkept b k d, ap (versionAt b) e))
+          at (no e) = before l (omega arith) q
+
+      skip : isKept b k ≡ false → Marked n b cells (k + 1) marks
+      skip d =
+          record {
+            long = w .long;
+            first = w .first;
+            marks-each = λ l h q. at l h q (ℕ-discrete l k);
+            means = λ c e. let t = w .means c e in (t .0, omega (arith, t .1), t .2, t .3, t .4);
+          }
+        where
+          at : (l : ℕ) → l < k + 1 → Kept b l → Dec (l ≡ k) → getD marks (cellOf n (placeAt b l) + 1) 0 ≡ offsetOf n (placeAt b l) + 1
+          at l h q (yes e) = absurd (omega (arith, is-unkept b k d, ap (versionAt b) e))
+          at l h q (no e) = w .marks-each l (omega arith) q
+
+      go : (x y z t a : Bool)
+          → (y ≡ true → z ≡ true → (lengthAt b k ≡ 5) × (frontOf n ≤ placeAt b k) × (placeAt b k + 5 ≤ length b) × (isSetting (settingAt b (placeAt b k)) ≡ true))
+          → (z ≡ true → Kept b k) → (z ≡ false → a ≡ true)
+          → (Kept b k → frontOf n ≤ placeAt b k → t ≡ a)
+          → (t ≡ true → Kept b k → frontOf n ≤ placeAt b k → placeAt b k + 5 ≤ length b
+          → scanOf n b left (k + 1) (markedOf marks (cellOf n (placeAt b k)) (offsetOf n (placeAt b k))) ≡ allFrom left (k + 1) (lineSound n b))
+          → (z ≡ false → scanOf n b left (k + 1) marks ≡ allFrom left (k + 1) (lineSound n b))
+          → (if x then (
+          if y then (
+          if z then (if t then scanOf n b left (k + 1) (markedOf marks (cellOf n (placeAt b k)) (offsetOf n (placeAt b k))) else false)
+          else scanOf n b left (k + 1) marks)
+          else false)
+          else false) ≡ ((x && (y && a)) && allFrom left (k + 1) (lineSound n b))
+      go false y z t a fit is un cl more on = refl
+      go true false z t a fit is un cl more on = refl
+      go true true true true a fit is un cl more on =
+          let f = fit refl refl in
+          rw (← cl (is refl) (f .1)) (more refl (is refl) (f .1) (f .2))
+      go true true true false a fit is un cl more on =
+          let f = fit refl refl in
+          rw (← cl (is refl) (f .1)) refl
+      go true true false t a fit is un cl more on = rw (un refl) (on refl)
+
+-- ---- the whole
+
+all-from : (left k : ℕ) (f : ℕ → Bool) → allFrom left k f ≡ true → (l : ℕ) → k ≤ l → l < k + left → f l ≡ true
+unfolding allFrom
+all-from zero k f e l h u = absurd (omega arith)
+all-from (suc left) k f e l h u = go (both (f k) (allFrom left (k + 1) f) e) (ℕ-discrete l k) (λ q. all-from left (k + 1) f q l)
+  where
+    go : (f k ≡ true) × (allFrom left (k + 1) f ≡ true) → Dec (l ≡ k) → (allFrom left (k + 1) f ≡ true → k + 1 ≤ l → l < k + 1 + left → f l ≡ true) → f l ≡ true
+    go p (yes d) r = ap f d ∙ p .0
+    go p (no d) r = r (p .1) (omega arith) (omega arith)
+
+from-all : (left k : ℕ) (f : ℕ → Bool) → ((l : ℕ) → k ≤ l → l < k + left → f l ≡ true) → allFrom left k f ≡ true
+unfolding allFrom
+from-all zero k f h = refl
+from-all (suc left) k f h = rw (h k (omega arith) (omega arith), from-all left (k + 1) f (λ l u v. h l (omega arith) (omega arith)))
+
+lines-sound : (n : ℕ) (b : List ℕ) → allFrom (linesOf n) 0 (lineSound n b) ≡ isSound n b
+unfolding isSound
+lines-sound n b = same-truth _ _ there back
+  where
+    there : allFrom (linesOf n) 0 (lineSound n b) ≡ true
+        → (all (linesOf n) (isFalling b) && (all (linesOf n) (isFitting n b) && all (linesOf n) (λ k. all k (λ l. isApart b k l)))) ≡ true
+    there e =
+        rw (
+          each-all (linesOf n) (isFalling b) (λ k h. parts k h .0),
+          each-all (linesOf n) (isFitting n b) (λ k h. both (isFitting n b k) (all k (λ l. isApart b k l)) (parts k h .1) .0),
+          each-all (linesOf n) (λ k. all k (λ l. isApart b k l)) (λ k h. both (isFitting n b k) (all k (λ l. isApart b k l)) (parts k h .1) .1),
+        )
+      where
+        parts : (k : ℕ) → k < linesOf n → (isFalling b k ≡ true) × ((isFitting n b k && all k (λ l. isApart b k l)) ≡ true)
+        parts k h = both (isFalling b k) (isFitting n b k && all k (λ l. isApart b k l)) (all-from (linesOf n) 0 (lineSound n b) e k (omega arith) (omega arith))
+
+    back : (all (linesOf n) (isFalling b) && (all (linesOf n) (isFitting n b) && all (linesOf n) (λ k. all k (λ l. isApart b k l)))) ≡ true
+        → allFrom (linesOf n) 0 (lineSound n b) ≡ true
+    back e =
+        let p = both (all (linesOf n) (isFalling b)) (all (linesOf n) (isFitting n b) && all (linesOf n) (λ k. all k (λ l. isApart b k l))) e in
+        let q = both (all (linesOf n) (isFitting n b)) (all (linesOf n) (λ k. all k (λ l. isApart b k l))) (p .1) in
+        from-all (linesOf n) 0 (lineSound n b) (λ k u h.
+        rw (
+          all-each (linesOf n) (isFalling b) (p .0) k (omega arith),
+          all-each (linesOf n) (isFitting n b) (q .0) k (omega arith),
+          all-each (linesOf n) (λ k. all k (λ l. isApart b k l)) (q .1) k (omega arith),
+        ))
+
+-- the scan, begun with marks of 0, is the test; a book of 32,768 bytes has at most 6,548 cells
+pub scan-is : (n : ℕ) (b : List ℕ) (cells : ℕ) → length b ≤ frontOf n + 5 * cells → scanOf n b (linesOf n) 0 (replicate (cells + 2) 0) ≡ isSound n b
+scan-is n b cells size =
+    scan-from n b cells size (linesOf n) 0 (replicate (cells + 2) 0)
+    (record {
+      long = omega (arith, length-replicate {A = ℕ} (cells + 2) 0);
+      first = zeros (cells + 2) 0;
+      marks-each = λ l h q. absurd (omega arith);
+      means = λ c d. absurd (d (zeros (cells + 2) c));
+    })
+    (λ l h q. absurd (omega arith))
+    ∙ lines-sound n b
+
+-- ---- for a loop: one turn, and the end
+
+pub scan-turn : (n : ℕ) (b : List ℕ) (k : ℕ) (marks : List ℕ) → k < linesOf n
+    → scanOf n b (linesOf n - k) k marks
+    ≡ (if isFalling b k then (
+    if isFitting n b k then (
+    if isKept b k then (
+    if isClear marks (cellOf n (placeAt b k)) (offsetOf n (placeAt b k)) then
+    scanOf n b (linesOf n - (k + 1)) (k + 1) (markedOf marks (cellOf n (placeAt b k)) (offsetOf n (placeAt b k)))
+    else false)
+    else scanOf n b (linesOf n - (k + 1)) (k + 1) marks)
+    else false)
+    else false)
+unfolding scanOf
+scan-turn n b k marks l = let e : linesOf n - k ≡ suc (linesOf n - (k + 1)) = omega arith in rw e
+
+pub scan-end : (n : ℕ) (b : List ℕ) (k : ℕ) (marks : List ℕ) → linesOf n ≤ k → scanOf n b (linesOf n - k) k marks ≡ true
+unfolding scanOf
+scan-end n b k marks l = let e : linesOf n - k ≡ 0 = omega arith in rw e
+
+pub scan-start : (n : ℕ) (b marks : List ℕ) → scanOf n b (linesOf n - 0) 0 marks ≡ scanOf n b (linesOf n) 0 marks
+scan-start n b marks = let e : linesOf n - 0 ≡ linesOf n = omega arith in ap (λ (x : ℕ). scanOf n b x 0 marks) e

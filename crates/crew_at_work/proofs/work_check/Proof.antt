@@ -1,0 +1,45 @@
+-- `crew_at_work::work_check` meets its contract.
+use mathlib.Core.Path.{sym, _∙_}
+use native.Mathlib.Omega.{arith}
+use Rattle.laws.specs.Checks.{arena-fine}
+use Rattle.crew_at_work.specs.Laws.{work-then}
+use borrow.Author.Needs.{needs}
+use Rattle.crew_at_work.proofs.work_check.Statement.{statement}
+use Rattle.crew_at_work.proofs.work_check.Tie as tie
+
+arena-fault-requires : tie.Need-arena-fault-requires
+arena-fault-requires c κs = search needs
+
+enum-known-shape : tie.Need-enum-known-shape
+enum-known-shape c = search needs
+
+enum-told : tie.Need-enum-told
+enum-told c = search needs
+
+mul-work-fault : tie.Need-mul-work-fault
+mul-work-fault c = let a = c .before .before .before .before .before .before .before .before .before .before .args in
+    let s = arena-fine (a .head) (a .table .now) (a .health .now) (sym (c .before .before .before .arena-fault .ensures) ∙ c .before .enum-told .given .1) in
+    omega (arith, s .0 .few-cells)
+
+work-fault-requires : tie.Need-work-fault-requires
+work-fault-requires c κs = search needs
+
+returns : tie.Need-returns
+returns c = let a = c .before .before .before .before .before .before .before .before .before .before .args in
+    rw (work-then (a .head) (a .table .now) (a .health .now) (a .counts .now) (a .cells .now) (a .turns .now) (a .counters .now), ← c .before .before .before .arena-fault .ensures, c .before .shape .given .1)
+
+returns-2 : tie.Need-returns-2
+returns-2 c = let a = c .before .before .before .before .before .before .before .before .before .before .before .args in
+    rw (work-then (a .head) (a .table .now) (a .health .now) (a .counts .now) (a .cells .now) (a .turns .now) (a .counters .now), ← c .before .before .before .before .arena-fault .ensures, c .before .before .enum-told .given .1, ← c .work-fault .ensures)
+
+pub work-check-spec : {M : Type 1} → statement M
+work-check-spec =
+    tie.close
+    (tie.spec
+    arena-fault-requires
+    enum-known-shape
+    enum-told
+    mul-work-fault
+    work-fault-requires
+    returns
+    returns-2)

@@ -1,8 +1,0 @@
-pub mod Bits
-pub mod Calls
-pub mod Image
-pub mod Numbers
-pub mod Round
-pub mod Texts
-pub mod Theorems
-pub mod Wrong

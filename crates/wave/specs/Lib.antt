@@ -1,9 +1,0 @@
-pub mod Answers
-pub mod Calls
-pub mod Decimal
-pub mod Dump
-pub mod Examples
-pub mod Limits
-pub mod Lines
-pub mod Reader
-pub mod Stages

@@ -1,0 +1,267 @@
+// The stages of the waveform's reader (document 02, L11): what one line leads to. The only lines that lead on are those
+// that the writer would put there. The functions are steps: each may have a `requires`, which its callers prove.
+use wave_rules::Stage;
+use wave_rules::Verdict;
+ghost use mathlib.Core.Path.{_≡_};
+ghost use Prim.Native.Nat.{_+_, _<_, _≤_};
+ghost use mathlib.Core.Bool.{true, false};
+ghost use lib.Dec.{ltb};
+ghost use Rattle.choice.specs.Choice.{if_then_else_};
+ghost use Rattle.wave_rules.specs.Lines.{same as Lines·same};
+ghost use Rattle.wave_rules.specs.Dump.{timeLine, bitLine, varLine, upscope};
+ghost use Rattle.wave_rules.specs.Reader.{timeIn, cellIn, afterVariable, afterValue, isTime, isChange, nextOf, bitsOf};
+ghost use Rattle.wave_rules.specs.Reader.{atEnd};
+ghost use Rattle.wave_rules.specs.declared.Stage.the-variants.{Lost};
+ghost use Rattle.wave_rules.specs.Stages.{Reach};
+ghost use Rattle.wave_line.specs.Stages.{isLost, isChanging, gapOf};
+
+// ---- one line
+
+// Whether two lines have the same bytes.
+fn same(x: &[u8], y: &[u8]) -> bool
+    ensures { λ r. ⌜ r ≡ Lines·same (now (x .entry)) (now (y .entry)) ⌝ }
+{
+    if x.len() != y.len() {
+        return false;
+    }
+    let mut i = 0;
+    while i < x.len() {
+        if x[i] != y[i] {
+            return false;
+        }
+        i += 1;
+    }
+    true
+}
+
+// Whether a line is the one that the writer would put: for a variable, a time, a bit.
+fn is_var(line: &[u8], cell: u8) -> bool
+    requires { ⌜ cell < 94 ⌝ }
+    ensures { λ r. ⌜ r ≡ Lines·same (now (line .entry)) (varLine cell) ⌝ }
+{
+    let mut want = [0u8; 32];
+    let k = wave_write::put_var(&mut want, 0, cell) - 1;
+    same(line, &want[..k])
+}
+
+fn is_at(line: &[u8], t: usize) -> bool
+    requires { ⌜ t < 100000 ⌝ }
+    ensures { λ r. ⌜ r ≡ Lines·same (now (line .entry)) (timeLine t) ⌝ }
+{
+    let mut want = [0u8; 16];
+    let k = wave_write::put_time(&mut want, 0, t) - 1;
+    same(line, &want[..k])
+}
+
+fn is_bit(line: &[u8], bit: u8, cell: u8) -> bool
+    requires { ⌜ (bit ≤ 1) × (cell < 94) ⌝ }
+    ensures { λ r. ⌜ r ≡ Lines·same (now (line .entry)) (bitLine bit cell) ⌝ }
+{
+    let want = [48 + bit, 33 + cell];
+    same(line, &want)
+}
+
+// ---- what a line leads to
+
+// Another variable; the end of them.
+fn more(n: usize, line: &[u8]) -> bool
+    ensures { λ r. ⌜ r ≡ (if ltb n 94 then Lines·same (now (line .entry)) (varLine n) else false) ⌝ }
+{
+    if n < 94 {
+        return is_var(line, n as u8);
+    }
+    false
+}
+
+fn no_more(n: usize, line: &[u8]) -> bool
+    ensures { λ r. ⌜ r ≡ (if ltb 0 n then Lines·same (now (line .entry)) upscope else false) ⌝ }
+{
+    if 0 < n {
+        return same(line, b"$upscope $end");
+    }
+    false
+}
+
+fn after_variable(n: usize, line: &[u8]) -> Stage
+    requires { ⌜ n ≤ 94 ⌝ }
+    ensures { λ r. ⌜ r ≡ afterVariable n (now (line .entry)) ⌝ }
+{
+    if more(n, line) {
+        return Stage::Variables(n + 1);
+    }
+    if no_more(n, line) {
+        return Stage::Ending(n);
+    }
+    Stage::Lost
+}
+
+fn after_value(n: usize, c: usize, line: &[u8]) -> Stage
+    requires { ⌜ (n ≤ 94) × (c < n) ⌝ }
+    ensures { λ r. ⌜ r ≡ afterValue n c (now (line .entry)) ⌝ }
+{
+    if is_bit(line, 0, c as u8) {
+        if c + 1 < n {
+            return Stage::Values(n, c + 1);
+        }
+        return Stage::Waiting(n, 0);
+    }
+    Stage::Lost
+}
+
+// The time that a line names.
+fn time_in(line: &[u8]) -> usize
+    ensures { λ r. ⌜ r ≡ timeIn (now (line .entry)) ⌝ }
+{
+    let number = text::read_number(line, 1);
+    number.value as usize
+}
+
+fn is_time(last: usize, line: &[u8]) -> bool
+    ensures { λ r. ⌜ r ≡ isTime last (now (line .entry)) ⌝ }
+{
+    let t = time_in(line);
+    if last < t {
+        if t <= 32768 {
+            return is_at(line, t);
+        }
+        return false;
+    }
+    false
+}
+
+// The cell that a line names, 0 where it names none. A step: the reader calls it.
+pub fn cell_in(line: &[u8]) -> usize
+    ensures { λ r. ⌜ r ≡ cellIn (now (line .entry)) ⌝ }
+{
+    if line.len() < 2 {
+        return 0;
+    }
+    if line[1] < 33 {
+        return 0;
+    }
+    (line[1] - 33) as usize
+}
+
+fn is_change(n: usize, bits: &[u8; 94], line: &[u8]) -> bool
+    requires { ⌜ n ≤ 94 ⌝ }
+    ensures { λ r. ⌜ r ≡ isChange n (now (bits .entry)) (now (line .entry)) ⌝ }
+{
+    let cell = cell_in(line);
+    if cell < n {
+        let bit = wave_write::turned(bits[cell]);
+        return is_bit(line, bit, cell as u8);
+    }
+    false
+}
+
+// What a line leads to. A step: the reader calls it.
+pub fn next(stage: Stage, bits: &[u8; 94], line: &[u8]) -> Stage
+    requires { ⌜ Reach stage ⌝ }
+    ensures { λ r. ⌜ r ≡ nextOf stage (now (bits .entry)) (now (line .entry)) ⌝ }
+{
+    match stage {
+        Stage::Opening => fixed(same(line, b"$timescale 1 ns $end"), Stage::Scope),
+        Stage::Scope => fixed(same(line, b"$scope module t $end"), Stage::Variables(0)),
+        Stage::Variables(n) => after_variable(n, line),
+        Stage::Ending(n) => fixed(same(line, b"$enddefinitions $end"), Stage::Start(n)),
+        Stage::Start(n) => fixed(same(line, b"#0"), Stage::Values(n, 0)),
+        Stage::Values(n, c) => after_value(n, c, line),
+        Stage::Waiting(n, last) => fixed(
+            is_time(last, line),
+            Stage::Changing(n, last, time_in(line)),
+        ),
+        Stage::Changing(n, _, t) => fixed(is_change(n, bits, line), Stage::Waiting(n, t)),
+        Stage::Lost => Stage::Lost,
+    }
+}
+
+// A line of which there is only one leads on.
+fn fixed(holds: bool, onward: Stage) -> Stage
+    ensures { λ r. ⌜ r ≡ (if holds then onward else Lost) ⌝ }
+{
+    if holds {
+        return onward;
+    }
+    Stage::Lost
+}
+
+// Whether a line led nowhere. A step: the reader calls it.
+pub fn is_lost(stage: Stage) -> bool
+    ensures { λ r. ⌜ r ≡ isLost stage ⌝ }
+{
+    match stage {
+        Stage::Opening => false,
+        Stage::Scope => false,
+        Stage::Variables(_) => false,
+        Stage::Ending(_) => false,
+        Stage::Start(_) => false,
+        Stage::Values(_, _) => false,
+        Stage::Waiting(_, _) => false,
+        Stage::Changing(_, _, _) => false,
+        Stage::Lost => true,
+    }
+}
+
+// Whether a change is waited for. A step: the reader calls it.
+pub fn is_changing(stage: Stage) -> bool
+    ensures { λ r. ⌜ r ≡ isChanging stage ⌝ }
+{
+    match stage {
+        Stage::Opening => false,
+        Stage::Scope => false,
+        Stage::Variables(_) => false,
+        Stage::Ending(_) => false,
+        Stage::Start(_) => false,
+        Stage::Values(_, _) => false,
+        Stage::Waiting(_, _) => false,
+        Stage::Changing(_, _, _) => true,
+        Stage::Lost => false,
+    }
+}
+
+// The bits after a line that was taken. A step: the reader calls it.
+pub fn bits_after(stage: Stage, bits: &mut [u8; 94], line: &[u8])
+    requires { ⌜ Reach stage × (isLost (nextOf stage (now bits) (now line)) ≡ false) ⌝ }
+    ensures { λ r. ⌜ now (bits .exit) ≡ bitsOf stage (now (bits .entry)) (now (line .entry)) ⌝ }
+{
+    if is_changing(stage) {
+        let cell = cell_in(line);
+        let bit = bits[cell];
+        bits[cell] = wave_write::turned(bit);
+    }
+}
+
+// The verdict where the text ends. A step: the reader calls it.
+pub fn at_end(stage: Stage, k: usize) -> Verdict
+    ensures { λ r. ⌜ r ≡ atEnd stage k ⌝ }
+{
+    match stage {
+        Stage::Opening => Verdict::Bad(k),
+        Stage::Scope => Verdict::Bad(k),
+        Stage::Variables(_) => Verdict::Bad(k),
+        Stage::Ending(_) => Verdict::Bad(k),
+        Stage::Start(_) => Verdict::Bad(k),
+        Stage::Values(_, _) => Verdict::Bad(k),
+        Stage::Waiting(n, last) => Verdict::Fine(n, last),
+        Stage::Changing(_, _, _) => Verdict::Bad(k),
+        Stage::Lost => Verdict::Bad(k),
+    }
+}
+
+// How many steps only count before the change that is waited for. A step: the reader calls it.
+pub fn gap(stage: Stage) -> usize
+    requires { ⌜ Reach stage ⌝ }
+    ensures { λ r. ⌜ r ≡ gapOf stage ⌝ }
+{
+    match stage {
+        Stage::Opening => 0,
+        Stage::Scope => 0,
+        Stage::Variables(_) => 0,
+        Stage::Ending(_) => 0,
+        Stage::Start(_) => 0,
+        Stage::Values(_, _) => 0,
+        Stage::Waiting(_, _) => 0,
+        Stage::Changing(_, last, t) => t - 1 - last,
+        Stage::Lost => 0,
+    }
+}
