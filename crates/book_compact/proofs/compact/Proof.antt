@@ -1,3 +1,4 @@
+-- `book_compact::compact` meets its contract.
 use Prim.Native.Nat.{_+_, _*_, _-_, _/_}
 use mathlib.Core.Path.{_∙_}
 use native.Mathlib.Omega.{arith}
@@ -28,37 +29,34 @@ add-cells c = search needs
 slice-aggregate-walk : tie.Need-slice-aggregate-walk
 slice-aggregate-walk c = search needs
 
-slice-aggregate-walk-2 : tie.Need-slice-aggregate-walk-2
-slice-aggregate-walk-2 c = search needs
-
 walk-requires : tie.Need-walk-requires
 walk-requires c κs =
-    let a = c .before .before .before .before .before .before .before .before .args in
-    let p = c .before .before .before .before .before .before .before .before .pre in
+    let a = c .before .before .before .before .before .before .before .args in
+    let p = c .before .before .before .before .before .before .before .pre in
     let cells = (length (a .book .now) - 32 * a .n + 4) / 5 in
-    (search needs, (omega (arith, p .0, p .1 .1 .0), (omega (arith, p .0, p .1 .1 .0, c .before .before .before .before .set-marks .kept), (omega (arith, p .0, p .1 .1 .0), marks-lie (a .n) (a .book .now) cells 6550 _ (p .1 .1 .1 .0) (omega (arith, p .1 .1 .1 .1)) (omega (arith, p .0, p .1 .1 .0)) (c .before .before .before .before .set-marks .ensures)))))
+    (search needs, (omega (arith, p .0, p .1 .1 .0), (omega (arith, p .0, p .1 .1 .0, c .before .before .before .set-marks .kept), marks-lie (a .n) (a .book .now) cells 6550 _ (p .1 .1 .1 .0) (omega (arith, p .1 .1 .1 .1)) (omega (arith, p .0, p .1 .1 .0)) (c .before .before .before .set-marks .ensures))))
 
 slice-aggregate-put-places : tie.Need-slice-aggregate-put-places
 slice-aggregate-put-places c = search needs
 
 put-places-requires : tie.Need-put-places-requires
 put-places-requires c κs =
-    let a = c .before .before .before .before .before .before .before .before .before .before .before .before .before .before .args in
-    let p = c .before .before .before .before .before .before .before .before .before .before .before .before .before .before .pre in
+    let a = c .before .before .before .before .before .before .before .before .before .before .before .before .before .args in
+    let p = c .before .before .before .before .before .before .before .before .before .before .before .before .before .pre in
     let cells = (length (a .book .now) - 32 * a .n + 4) / 5 in
-    let size = laid-size (a .n) (a .book .now) cells 6550 _ (p .1 .1 .1 .0) (omega (arith, p .1 .1 .1 .1)) (omega (arith, p .0, p .1 .1 .0)) (c .before .before .before .before .before .before .before .before .before .before .set-marks .ensures) (p .1 .1 .1 .1) _ _ _ (c .before .before .before .before .before .walk .ensures) (omega (arith, p .0, p .1 .1 .0)) in
-    (search needs, (omega (arith, size, p .1 .1 .1 .1), (laid-lying (a .n) (a .book .now) cells 6550 _ (p .1 .1 .1 .0) (omega (arith, p .1 .1 .1 .1)) (omega (arith, p .0, p .1 .1 .0)) (c .before .before .before .before .before .before .before .before .before .before .set-marks .ensures) (p .1 .1 .1 .1) _ _ _ (c .before .before .before .before .before .walk .ensures) (omega (arith, p .0, p .1 .1 .0)) (p .0) (p .1 .1 .0), search needs)))
+    let size = laid-size (a .n) (a .book .now) cells 6550 _ (p .1 .1 .1 .0) (omega (arith, p .1 .1 .1 .1)) (omega (arith, p .0, p .1 .1 .0)) (c .before .before .before .before .before .before .before .before .before .set-marks .ensures) (p .1 .1 .1 .1) (p .1 .0) _ _ (c .before .before .before .before .before .walk .ensures) in
+    (search needs, (omega (arith, size, p .1 .1 .1 .1), (laid-lying (a .n) (a .book .now) cells 6550 _ (p .1 .1 .1 .0) (omega (arith, p .1 .1 .1 .1)) (omega (arith, p .0, p .1 .1 .0)) (c .before .before .before .before .before .before .before .before .before .set-marks .ensures) (p .1 .1 .1 .1) (p .1 .0) _ _ (c .before .before .before .before .before .walk .ensures) (p .0) (p .1 .1 .0), search needs)))
 
 same-length : tie.Need-same-length
 same-length c = search needs
 
 returns : tie.Need-returns
 returns c =
-    let a = c .before .before .before .before .before .before .before .before .before .before .before .before .before .before .before .before .before .args in
-    let p = c .before .before .before .before .before .before .before .before .before .before .before .before .before .before .before .before .before .pre in
+    let a = c .before .before .before .before .before .before .before .before .before .before .before .before .before .before .before .before .args in
+    let p = c .before .before .before .before .before .before .before .before .before .before .before .before .before .before .before .before .pre in
     let cells = (length (a .book .now) - 32 * a .n + 4) / 5 in
     c .before .before .put-places .ensures
-    ∙ compaction (a .n) (a .book .now) cells 6550 _ (p .1 .1 .1 .0) (omega (arith, p .1 .1 .1 .1)) (omega (arith, p .0, p .1 .1 .0)) (c .before .before .before .before .before .before .before .before .before .before .before .before .before .set-marks .ensures) (p .1 .1 .1 .1) _ _ _ (c .before .before .before .before .before .before .before .before .walk .ensures) (omega (arith, p .0, p .1 .1 .0))
+    ∙ compaction (a .n) (a .book .now) cells 6550 _ (p .1 .1 .1 .0) (omega (arith, p .1 .1 .1 .1)) (omega (arith, p .0, p .1 .1 .0)) (c .before .before .before .before .before .before .before .before .before .before .before .before .set-marks .ensures) (p .1 .1 .1 .1) (p .1 .0) _ _ (c .before .before .before .before .before .before .before .before .walk .ensures)
 
 pub compact-spec : {M : Type 1} → statement M
 compact-spec =
@@ -70,7 +68,6 @@ compact-spec =
     sub-cells
     add-cells
     slice-aggregate-walk
-    slice-aggregate-walk-2
     walk-requires
     slice-aggregate-put-places
     put-places-requires
