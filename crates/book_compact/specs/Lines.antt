@@ -16,7 +16,7 @@ use Rattle.book_rules.specs.Many.{count-same, count-most, length-many, many-out
 use Rattle.book_rules.specs.Sound.{Kept, Fits, is-kept, Alike, line-alike}
 use Rattle.book_rules.specs.Slid.{laid-long, laid-low}
 use Rattle.book_sound.specs.Scan.{cellOf, Marked}
-use Rattle.book_compact.specs.Slide.{walkOf, setMarksOf, marks-are, Within, marks-within, slide-is, ranks-are}
+use Rattle.book_compact.specs.Slide.{walkOf, Within, marks-within, slide-is, ranks-are}
 
 -- a used line has its body behind the contents and before the limit: its cell has a place of its own among 6,550
 abbrev pub LineLies : ℕ → List ℕ → ℕ → Type 0
@@ -192,15 +192,16 @@ module _ (n : ℕ) (b : List ℕ) (f : Fits n b) (room : frontOf n + 5 * keptOf 
       go k l true h = ap placeBytes (are k l (h refl))
       go k l false h = refl
 
--- ---- the three loops of a compaction: marks, the walk, the lines
+-- ---- the two loops of a compaction: the walk, the lines
 
-pub fits-lying : (n : ℕ) (b : List ℕ) → Fits n b → 1 ≤ n → length b ≤ 32768 → Lying n b
+fits-lying : (n : ℕ) (b : List ℕ) → Fits n b → 1 ≤ n → length b ≤ 32768 → Lying n b
 fits-lying n b f some limit k l q = (f .behind k l q, omega (arith, f .within k l q))
 
-module _ (n : ℕ) (b : List ℕ) (cells m : ℕ) (marks : List ℕ) (f : Fits n b) (size : length b ≤ frontOf n + 5 * cells) (long : cells + 2 ≤ m)
-    (made : marks ≡ setMarksOf n b (linesOf n) 0 (replicate m 0)) where
+-- a book of so many cells, and marks that have room for more
+module _ (n : ℕ) (b : List ℕ) (cells most : ℕ) (marks : List ℕ) (f : Fits n b) (size : length b ≤ frontOf n + 5 * cells) (fewer : cells ≤ most)
+    (are : Marked n b most (linesOf n) marks) where
   marked : Marked n b cells (linesOf n) marks
-  marked = rw made (marks-are n b f cells size m long)
+  marked = record { long = omega (arith, are .long); first = are .first; marks-each = are .marks-each; means = are .means }
 
   pub marks-lie : Within n marks cells (length b)
   marks-lie = marks-within n b cells marks f marked

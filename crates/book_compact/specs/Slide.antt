@@ -437,64 +437,6 @@ module _ (n : ℕ) (b : List ℕ) (f : Fits n b) (room : frontOf n + 5 * keptOf 
   ranks-are few ranks l =
       ranked-from few cells 0 0 ranks (omega arith) l (omega (arith, first-rank)) (λ k h u o. absurd (omega (arith, f .behind k h u)))
 
--- ---- the marks of a book that fits: no test is made
-
-unfoldable pub setMarksOf : ℕ → List ℕ → ℕ → ℕ → List ℕ → List ℕ
-setMarksOf n b zero k marks = marks
-setMarksOf n b (suc left) k marks =
-    if isKept b k then setMarksOf n b left (k + 1) (markedOf marks (cellOf n (placeAt b k)) (offsetOf n (placeAt b k)))
-    else setMarksOf n b left (k + 1) marks
-
-module _ (n : ℕ) (b : List ℕ) (f : Fits n b) (cells : ℕ) (size : length b ≤ frontOf n + 5 * cells) where
-  marks-from : (left k : ℕ) (marks : List ℕ) → k + left ≡ linesOf n → Marked n b cells k marks → Marked n b cells (linesOf n) (setMarksOf n b left k marks)
-  unfolding setMarksOf
-  marks-from zero k marks e w = let d : k ≡ linesOf n = omega arith in rw (← d) w
-  marks-from (suc left) k marks e w =
-      go (isKept b k) (is-kept b k) (is-unkept b k)
-      (λ r. marks-from left (k + 1) (markedOf marks (cellOf n (placeAt b k)) (offsetOf n (placeAt b k))) (omega arith) r)
-      (λ r. marks-from left (k + 1) marks (omega arith) r)
-    where
-      before : (l : ℕ) → l < k → Kept b l → (frontOf n ≤ placeAt b l) × (placeAt b l + 5 ≤ length b)
-      before l h q = (f .behind l (omega arith) q, f .within l (omega arith) q)
-
-      skip : versionAt b k ≡ 0 → Marked n b cells (k + 1) marks
-      skip z =
-          record {
-            long = w .long;
-            first = w .first;
-            marks-each = λ l h q. at l h q (ℕ-discrete l k);
-            means = λ c d. let t = w .means c d in (t .0, omega (arith, t .1), t .2, t .3, t .4);
-          }
-        where
-          at : (l : ℕ) → l < k + 1 → Kept b l → Dec (l ≡ k) → getD marks (cellOf n (placeAt b l) + 1) 0 ≡ offsetOf n (placeAt b l) + 1
-          at l h q (yes d) = absurd (omega (arith, z, ap (versionAt b) d))
-          at l h q (no d) = w .marks-each l (omega arith) q
-
-      go : (t : Bool) → (t ≡ true → Kept b k) → (t ≡ false → versionAt b k ≡ 0)
-          → (Marked n b cells (k + 1) (markedOf marks (cellOf n (placeAt b k)) (offsetOf n (placeAt b k)))
-          → Marked n b cells (linesOf n) (setMarksOf n b left (k + 1) (markedOf marks (cellOf n (placeAt b k)) (offsetOf n (placeAt b k)))))
-          → (Marked n b cells (k + 1) marks → Marked n b cells (linesOf n) (setMarksOf n b left (k + 1) marks))
-          → Marked n b cells (linesOf n) (
-          if t then setMarksOf n b left (k + 1) (markedOf marks (cellOf n (placeAt b k)) (offsetOf n (placeAt b k)))
-          else setMarksOf n b left (k + 1) marks)
-      go true q z more on =
-          let kept = q refl in
-          let low = f .behind k (omega arith) kept in
-          more (marked-more n b cells size k marks w before kept low
-          (apart-clear n b cells size k marks w before kept low (λ l h u. f .apart k l (omega arith) (omega arith) (omega arith) kept u))
-          (f .within k (omega arith) kept))
-      go false q z more on = on (skip (z refl))
-
-  pub marks-are : (m : ℕ) → cells + 2 ≤ m → Marked n b cells (linesOf n) (setMarksOf n b (linesOf n) 0 (replicate m 0))
-  marks-are m l =
-      marks-from (linesOf n) 0 (replicate m 0) (omega arith)
-      (record {
-        long = omega (arith, length-replicate {A = ℕ} m 0);
-        first = zeros m 0;
-        marks-each = λ l h q. absurd (omega arith);
-        means = λ c d. absurd (d (zeros m c));
-      })
-
 -- ---- for a loop: what keeps it inside the book; one turn, and the end
 
 -- each marked body lies in a book of that size
@@ -533,17 +475,6 @@ ranks-end marks cells c r ranks l = let e : cells - c ≡ 0 = omega arith in rw 
 
 pub ranks-start : (marks : List ℕ) (cells r : ℕ) (ranks : List ℕ) → ranksOf marks (cells - 0) 0 r ranks ≡ ranksOf marks cells 0 r ranks
 ranks-start marks cells r ranks = let e : cells - 0 ≡ cells = omega arith in ap (λ (x : ℕ). ranksOf marks x 0 r ranks) e
-
-pub marks-turn : (n : ℕ) (b : List ℕ) (k : ℕ) (marks : List ℕ) → k < linesOf n
-    → setMarksOf n b (linesOf n - k) k marks
-    ≡ (if isKept b k then setMarksOf n b (linesOf n - (k + 1)) (k + 1) (markedOf marks (cellOf n (placeAt b k)) (offsetOf n (placeAt b k)))
-    else setMarksOf n b (linesOf n - (k + 1)) (k + 1) marks)
-unfolding setMarksOf
-marks-turn n b k marks l = let e : linesOf n - k ≡ suc (linesOf n - (k + 1)) = omega arith in rw e
-
-pub marks-end : (n : ℕ) (b : List ℕ) (k : ℕ) (marks : List ℕ) → linesOf n ≤ k → setMarksOf n b (linesOf n - k) k marks ≡ marks
-unfolding setMarksOf
-marks-end n b k marks l = let e : linesOf n - k ≡ 0 = omega arith in rw e
 
 -- five stores; ten
 five-stores : (d : List ℕ) (p x0 x1 x2 x3 x4 : ℕ)

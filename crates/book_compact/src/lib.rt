@@ -6,28 +6,9 @@ ghost use lib.ListN.{length};
 ghost use Rattle.book_rules.specs.Layout.{linesOf, frontOf};
 ghost use Rattle.book_rules.specs.Writing.{keptOf};
 ghost use Rattle.book_rules.specs.Sound.{Fits};
-ghost use Rattle.book_compact.specs.Slide.{movedTo, walkOf, setMarksOf, Within};
+ghost use Rattle.book_sound.specs.Scan.{Marked};
+ghost use Rattle.book_compact.specs.Slide.{movedTo, walkOf, Within};
 ghost use Rattle.book_compact.specs.Lines.{Lying, LineLies, putPlaceOf, putPlacesOf, compactedOf};
-
-// Marks the cell of each kept body.
-fn set_marks(n: usize, book: &[u8], marks: &mut [u8])
-    requires { ⌜ n ≤ 64 ⌝ }
-    requires { ⌜ frontOf n ≤ length (now book) ⌝ }
-    requires { ⌜ Lying n (now book) ⌝ }
-    requires { ⌜ 6550 ≤ length (now marks) ⌝ }
-    ensures { λ _. ⌜ now (marks .exit) ≡ setMarksOf n (now (book .entry)) (linesOf n) 0 (now (marks .entry)) ⌝ }
-{
-    let mut k = 0;
-    while k < 4 * n {
-        if book_sound::is_kept(book, k) {
-            let d = book_sound::place_at(book, k) as usize - 32 * n;
-            marks[d / 5 + 1] = (d % 5) as u8 + 1;
-            k += 1;
-            continue;
-        }
-        k += 1;
-    }
-}
 
 // A body from p to q, not behind p. What is vacated becomes zeros.
 fn move_body(book: &mut [u8], p: usize, q: usize)
@@ -115,18 +96,18 @@ fn put_places(n: usize, ranks: &[u8], book: &mut [u8]) -> u32
     moved
 }
 
-// The kept bodies slide to the front, each used line gets its body's new place. Answers the bytes moved.
-pub fn compact(n: usize, book: &mut [u8]) -> u32
+// The kept bodies slide to the front, each used line gets its body's new place. Answers the bytes moved. The marks are
+// those of the book; what they become is of no use.
+pub fn compact(n: usize, book: &mut [u8], marks: &mut [u8]) -> u32
     requires { ⌜ 1 ≤ n ⌝ }
     requires { ⌜ n ≤ 64 ⌝ }
     requires { ⌜ length (now book) ≤ 32768 ⌝ }
     requires { ⌜ Fits n (now book) ⌝ }
     requires { ⌜ frontOf n + 5 * keptOf n (now book) ≤ length (now book) ⌝ }
+    requires { ⌜ Marked n (now book) 6548 (linesOf n) (now marks) ⌝ }
     ensures { λ r. ⌜ (r, now (book .exit)) ≡ compactedOf n (now (book .entry)) ⌝ }
 {
-    let mut marks = [0; 6550];
-    set_marks(n, book, &mut marks);
     let cells = (book.len() - 32 * n + 4) / 5;
-    walk(n, cells, book, &mut marks);
-    put_places(n, &marks, book)
+    walk(n, cells, book, marks);
+    put_places(n, marks, book)
 }
