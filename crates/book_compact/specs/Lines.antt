@@ -7,7 +7,7 @@ use mathlib.Core.List.{List, [], _∷_}
 use mathlib.Core.Bool.{Bool, true, false, not, _&&_}
 use native.Mathlib.Omega.{arith}
 use lib.Dec.{eqb}
-use lib.ListN.{length, getD, set, replicate}
+use lib.ListN.{length, getD, set}
 use lib.Seq.{sets}
 use Rattle.choice.specs.Choice.{if_then_else_}
 use Rattle.book_rules.specs.Layout.{linesOf, frontOf, placeAt, isKept}

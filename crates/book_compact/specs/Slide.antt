@@ -9,18 +9,17 @@ use mathlib.Core.Bool.{Bool, true, false, _&&_}
 use native.Mathlib.Omega.{arith}
 use native.Mathlib.Decide.{ℕ-discrete, decLt}
 use lib.Dec.{ltb, eqb}
-use lib.ListN.{length, getD, set, replicate, getD-replicate, length-replicate, length-set}
+use lib.ListN.{length, getD, set, replicate, getD-replicate, length-set}
 use lib.Seq.{sets, length-sets, ext-getD, getD-set-same, getD-set-other}
 use borrow.Author.Tests.{eqb-true, eqb-false, lt-ltb, le-ltb}
 use Rattle.choice.specs.Choice.{if_then_else_}
 use Rattle.book_rules.specs.Layout.{fiveAt, linesOf, frontOf, placeAt, versionAt, isKept}
 use Rattle.book_rules.specs.Stores.{sets-below, sets-above, sets-in}
-use Rattle.laws.specs.Lists.{zeros}
 use Rattle.book_rules.specs.Writing.{count, keptOf, rankOf, slidOf, erasedOf, laidOf}
 use Rattle.book_rules.specs.Many.{one, count-same, count-none, count-most, Beside}
-use Rattle.book_rules.specs.Sound.{Kept, Apart, Fits, is-kept, is-unkept, kept-is}
+use Rattle.book_rules.specs.Sound.{Kept, Apart, Fits, is-kept, kept-is}
 use Rattle.book_rules.specs.Slid.{rank-few, five-byte, order-is, front-is, laid-long, laid-low, laid-byte, laid-else, erased-body, erased-else}
-use Rattle.book_sound.specs.Scan.{cellOf, offsetOf, markedOf, Marked, apart-clear, marked-more}
+use Rattle.book_sound.specs.Scan.{cellOf, offsetOf, Marked}
 
 -- ---- the walk, as a loop makes it
 

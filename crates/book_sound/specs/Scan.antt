@@ -117,7 +117,7 @@ module _ (n : ℕ) (b : List ℕ) (cells : ℕ) (size : length b ≤ frontOf n +
         go own prev next (no a) (no d) (no f) (yes o) = inl (omega (arith, before l h q .0, low))
         go own prev next (no a) (no d) (no f) (no o) = inr (omega (arith, before l h q .0, low))
 
-    pub apart-clear : ((l : ℕ) → l < k → Kept b l → Apart (placeAt b k) (placeAt b l)) → isClear marks (cellOf n (placeAt b k)) (offsetOf n (placeAt b k)) ≡ true
+    apart-clear : ((l : ℕ) → l < k → Kept b l → Apart (placeAt b k) (placeAt b l)) → isClear marks (cellOf n (placeAt b k)) (offsetOf n (placeAt b k)) ≡ true
     unfolding isClear
     apart-clear h =
         let c = cellOf n (placeAt b k) in
@@ -160,7 +160,7 @@ module _ (n : ℕ) (b : List ℕ) (cells : ℕ) (size : length b ≤ frontOf n +
             fit l i q e g (inr a) = omega (arith, before l i q .0, low)
 
     -- the mark of line k
-    pub marked-more : isClear marks (cellOf n (placeAt b k)) (offsetOf n (placeAt b k)) ≡ true → placeAt b k + 5 ≤ length b
+    marked-more : isClear marks (cellOf n (placeAt b k)) (offsetOf n (placeAt b k)) ≡ true → placeAt b k + 5 ≤ length b
         → Marked n b cells (k + 1) (markedOf marks (cellOf n (placeAt b k)) (offsetOf n (placeAt b k)))
     unfolding isClear
     marked-more e u =
