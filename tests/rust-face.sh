@@ -55,7 +55,7 @@ compiles() {
 #![deny(unused_must_use)]
 use skid::kernel::*;
 pub fn turn() -> Result<(), Box<dyn std::error::Error>> {
-    let mut memory = Memory::<2, 4>::new();
+    let mut memory = Memory::<Headers<2>, Buckets<4>>::new();
     let mut arena = Arena::open(&mut memory, &[0, 1, 1], 5);
     let key = Key { binding: 0, bucket: 2 };
     $1
@@ -97,15 +97,24 @@ refused 'two owners of a shared lease' 'E0507' \
 refused 'the memory changed under an open arena' 'E0499' \
     'arena.heal(0)?; memory.as_mut_slices().0[0] = 1;' \
     'memory.as_mut_slices().0[0] = 1; arena.heal(0)?;'
+refused 'headers and buckets exchanged' 'E0277' \
+    'let m = Memory::<Headers<2>, Buckets<4>>::new();' \
+    'let m = Memory::<Buckets<4>, Headers<2>>::new();'
+refused 'two numbers that do not say which they are' 'E0747' \
+    'let m = Memory::<Headers<2>, Buckets<4>>::new();' \
+    'let m = Memory::<2, 4>::new();'
+refused 'leases that were not given back, forgotten' 'leases that are forgotten leave their cells held' \
+    'let all = arena.take_all([key])?; let back = arena.give_all(all).unwrap_err();' \
+    'let all = arena.take_all([key])?; arena.give_all(all).unwrap_err();'
 refused 'too many headers' '1 to 64 headers, 1 to 1,024 buckets, at most 4,096 cells' \
-    'let m = Memory::<64, 1>::new();' \
-    'let m = Memory::<65, 1>::new();'
+    'let m = Memory::<Headers<64>, Buckets<1>>::new();' \
+    'let m = Memory::<Headers<65>, Buckets<1>>::new();'
 refused 'too many cells' '1 to 64 headers, 1 to 1,024 buckets, at most 4,096 cells' \
-    'let m = Memory::<4, 1024>::new();' \
-    'let m = Memory::<5, 1024>::new();'
+    'let m = Memory::<Headers<4>, Buckets<1024>>::new();' \
+    'let m = Memory::<Headers<5>, Buckets<1024>>::new();'
 refused 'too many bindings' 'at most 64 bindings' \
-    'let mut m = Memory::<1, 1>::new(); let a = Arena::open(&mut m, &[0; 64], 1);' \
-    'let mut m = Memory::<1, 1>::new(); let a = Arena::open(&mut m, &[0; 65], 1);'
+    'let mut m = Memory::<Headers<1>, Buckets<1>>::new(); let a = Arena::open(&mut m, &[0; 64], 1);' \
+    'let mut m = Memory::<Headers<1>, Buckets<1>>::new(); let a = Arena::open(&mut m, &[0; 65], 1);'
 refused 'too many keys' 'at most 64 keys' \
     'let all = arena.take_all([key; 64])?;' \
     'let all = arena.take_all([key; 65])?;'
@@ -113,8 +122,8 @@ refused 'too many slots' '1 to 64 slots' \
     'let p = BookMemory::<64>::new();' \
     'let p = BookMemory::<65>::new();'
 refused 'a report of another shape' 'E0308' \
-    'let (h, mut r) = (arena.head(), Report::<2, 4>::new()); Arena::salvage(h, &mut memory, &[0], &mut r)?.1.left.for_each(drop);' \
-    'let (h, mut r) = (arena.head(), Report::<4, 2>::new()); Arena::salvage(h, &mut memory, &[0], &mut r)?.1.left.for_each(drop);'
+    'let (h, mut r) = (arena.head(), Report::<Headers<2>, Buckets<4>>::new()); Arena::salvage(h, &mut memory, &[0], &mut r)?.1.left.for_each(drop);' \
+    'let (h, mut r) = (arena.head(), Report::<Headers<4>, Buckets<2>>::new()); Arena::salvage(h, &mut memory, &[0], &mut r)?.1.left.for_each(drop);'
 echo "misuse: $misuses refused, each with its error, and what is right beside each compiles"
 
 # ---- what is told

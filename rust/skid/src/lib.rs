@@ -15,9 +15,9 @@
 //! refused. No call of it has a script or a held list, since a kernel's others act between its calls.
 //!
 //! ```
-//! use skid::kernel::{Arena, Key, Memory, TakeError};
+//! use skid::kernel::{Arena, Buckets, Headers, Key, Memory, TakeError};
 //!
-//! let mut memory = Memory::<2, 4>::new(); // headers, buckets: checked when it is compiled
+//! let mut memory = Memory::<Headers<2>, Buckets<4>>::new(); // headers, buckets: checked when it is compiled
 //! let mut arena = Arena::open(&mut memory, &[0, 1, 1], 5); // the registry, boot number 5
 //! match arena.take(Key { binding: 0, bucket: 2 }) {
 //!     Ok(valve) => arena.give(valve).unwrap(), // ours until it is given back
