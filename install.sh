@@ -61,7 +61,7 @@ files() {
     echo "share/skid/cmake/skidConfig.cmake -"
     echo "share/skid/LICENSE LICENSE"
     echo "share/skid/NOTICE NOTICE"
-    find rust/skid -type f ! -path '*/target/*' ! -name '.*' ! -name Cargo.lock | LC_ALL=C sort | sed 's,^rust/skid/\(.*\),share/skid/rust/\1 &,'
+    find rust/skid -type f ! -path '*/target/*' ! -path 'rust/skid/tests/*' ! -name '.*' ! -name Cargo.lock | LC_ALL=C sort | sed 's,^rust/skid/\(.*\),share/skid/rust/\1 &,'
 }
 
 version() { sed -n 's/^#define SKID_VERSION "\(.*\)"$/\1/p' include/skid.h; }

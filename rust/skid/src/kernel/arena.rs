@@ -5,7 +5,7 @@ use crate::{
 };
 
 /// What a cell's words say.
-#[derive(Clone, Copy, Debug, PartialEq, Eq, Hash)]
+#[derive(Clone, Copy, Debug, PartialEq, Eq, PartialOrd, Ord, Hash)]
 pub enum State {
     /// Nobody holds it.
     Free,
@@ -16,7 +16,7 @@ pub enum State {
 }
 
 /// A cell as it stands.
-#[derive(Clone, Copy, Debug, PartialEq, Eq, Hash)]
+#[derive(Clone, Copy, Debug, PartialEq, Eq, PartialOrd, Ord, Hash)]
 pub struct Cell {
     /// Header x B + bucket.
     pub cell: u32,

@@ -35,7 +35,7 @@ impl<const COUNT: usize> Default for BookMemory<COUNT> {
 const _: () = assert!(SLOTS as usize * ROOMY_BYTES <= LONGEST_BOOK);
 
 /// What a write did.
-#[derive(Clone, Copy, Debug, PartialEq, Eq, Hash)]
+#[derive(Clone, Copy, Debug, PartialEq, Eq, PartialOrd, Ord, Hash)]
 pub struct Written {
     /// The slot's new version, from 1.
     pub version: u32,

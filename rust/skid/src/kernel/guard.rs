@@ -30,7 +30,8 @@ use core::mem;
 /// assert_eq!(plant.with(|arena| arena.head().next), 5);
 /// ```
 pub trait Lock<'a> {
-    /// Does the work with the arena while nobody else has it.
+    /// Does the work with the arena while nobody else has it. Where a head is kept on paper, this writes it there,
+    /// after the work and before it lets go: nobody may act by a lease before.
     fn with<R>(&self, work: impl FnOnce(&mut Arena<'a>) -> R) -> R;
 }
 
