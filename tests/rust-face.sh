@@ -99,7 +99,7 @@ refused 'two owners of a shared lease' 'E0507' \
 refused 'the memory changed under an open arena' 'E0499' \
     'arena.heal(0)?; memory.as_mut_slices().0[0] = 1;' \
     'memory.as_mut_slices().0[0] = 1; arena.heal(0)?;'
-refused 'headers and buckets exchanged' 'E0277' \
+refused 'headers and buckets exchanged' 'headers stand first' \
     'let m = Memory::<Headers<2>, Buckets<4>>::new();' \
     'let m = Memory::<Buckets<4>, Headers<2>>::new();'
 refused 'two numbers that do not say which they are' 'E0747' \

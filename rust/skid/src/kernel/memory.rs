@@ -8,8 +8,17 @@ pub struct Headers<const N: usize>;
 #[derive(Clone, Copy, Debug, PartialEq, Eq)]
 pub struct Buckets<const N: usize>;
 
-/// [`Headers`] and nothing else.
-pub trait PerHeader {
+mod sealed {
+    pub trait Number {}
+    impl<const N: usize> Number for super::Headers<N> {}
+    impl<const N: usize> Number for super::Buckets<N> {}
+}
+
+/// Of [`Headers`] alone.
+#[diagnostic::on_unimplemented(
+    message = "headers stand first: `Memory<Headers<H>, Buckets<B>>`, and so in a report"
+)]
+pub trait PerHeader: sealed::Number {
     /// One of these for each header.
     type Of<T>;
 }
@@ -18,8 +27,11 @@ impl<const N: usize> PerHeader for Headers<N> {
     type Of<T> = [T; N];
 }
 
-/// [`Buckets`] and nothing else.
-pub trait PerBucket {
+/// Of [`Buckets`] alone.
+#[diagnostic::on_unimplemented(
+    message = "buckets stand second: `Memory<Headers<H>, Buckets<B>>`, and so in a report"
+)]
+pub trait PerBucket: sealed::Number {
     /// One of these for each bucket of a header.
     type Of<T>;
 }
