@@ -17,7 +17,7 @@
 //! ```
 //! use skid::kernel::{Arena, Buckets, Headers, Key, Memory, TakeError};
 //!
-//! let mut memory = Memory::<Headers<2>, Buckets<4>>::new(); // headers, buckets: checked when it is compiled
+//! let mut memory = Memory::<Headers<2>, Buckets<4>>::new(); // the shape is checked when it is compiled
 //! let mut arena = Arena::open(&mut memory, &[0, 1, 1], 5); // the registry, boot number 5
 //! match arena.take(Key { binding: 0, bucket: 2 }) {
 //!     Ok(valve) => arena.give(valve).unwrap(), // ours until it is given back

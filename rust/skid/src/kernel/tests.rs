@@ -52,6 +52,40 @@ fn a_look_is_what_a_take_finds() {
     assert!(busy > 1000 && busy < 3000, "{busy} of 4,000 were Busy");
 }
 
+/// The same at every edge of a cell's words, of its header's health and of the next serial.
+#[test]
+fn a_look_is_what_a_take_finds_at_the_edges() {
+    const EDGES: [u32; 8] = [0, 1, 2, 3, 4, 5, u32::MAX - 1, u32::MAX];
+    for case in 0..3 * 8 * 3 * 3 * 8 {
+        let mut table = [
+            case as u32 % 3,
+            EDGES[case / 3 % 8],
+            EDGES[3 * (case / 24 % 3)],
+        ];
+        let mut health = [127 * (case / 72 % 3) as u8];
+        let head = Head {
+            headers: 1,
+            buckets: 1,
+            next: EDGES[case / 216],
+            boot: 1,
+        };
+        let calls = crate::Arena::resume(head, &mut table, &mut health);
+        let registry = &[0];
+        let mut arena = Arena { calls, registry };
+        let key = Key {
+            binding: 0,
+            bucket: 0,
+        };
+        let seen = arena.look(key);
+        let found = match arena.take(key) {
+            Err(TakeError::Busy { reason, .. }) => Some(reason),
+            _ => None,
+        };
+        // No open arena has next serial 0: there a take is refused, and what a look says is of no use.
+        assert!(head.next == 0 || seen == found, "{head:?} case {case}");
+    }
+}
+
 /// What a cell's state says is what the library's compare-and-set answers.
 #[test]
 fn a_state_is_what_the_library_finds() {
