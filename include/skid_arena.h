@@ -102,7 +102,7 @@ struct skid_result {
         uint8_t health[(H)];                                                                                           \
     }
 
-/* `memory` is the name of such a struct. It has one arena: with a second there would be two heads, and it is refused. */
+/* `memory` is the name of such a struct. It has one arena: a second one would have a head of its own, and is refused. */
 #define SKID_ARENA(name, memory, R) SKID_ARENA_OF(name, memory, SKID_THIRD_##R)
 #define SKID_ARENA_OF(name, memory, ...)                                                                               \
     enum { memory##_has_one_arena };                                                                                   \
