@@ -102,7 +102,7 @@ struct skid_result {
         uint8_t health[(H)];                                                                                           \
     }
 
-/* `memory` is the name of such a struct. It has one arena: a second one would have a head of its own, and is refused. */
+/* `memory` names such a struct. It has one arena: a second one would have a head of its own, and is refused. */
 #define SKID_ARENA(name, memory, R) SKID_ARENA_OF(name, memory, SKID_THIRD_##R)
 #define SKID_ARENA_OF(name, memory, ...)                                                                               \
     enum { memory##_has_one_arena };                                                                                   \
@@ -306,12 +306,12 @@ static inline struct skid_result skid_look(const struct skid_arena *a, struct sk
     return x;
 }
 
-/* The first of several keys that is Busy, with its position. */
+/* The first of several keys that is Busy, with its position. Of more than 64 none is: the call is to refuse them. */
 static inline struct skid_result skid_look_all(const struct skid_arena *a, const struct skid_key *keys, size_t count)
 {
     struct skid_result x = {SKID_OK, 0, 0, 0, 0};
     size_t i;
-    for (i = 0; i < count && x.code == SKID_OK; i++) {
+    for (i = 0; i < count && count <= SKID_MAX_LEASES && x.code == SKID_OK; i++) {
         x = skid_look(a, keys[i]);
         x.position = (uint32_t)(x.code == SKID_OK ? 0 : i);
     }

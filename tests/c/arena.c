@@ -243,6 +243,7 @@ static void all_keys_refused(void)
     NO_LEASE(leases[1]);
     for (i = 0; i < 65; i++)
         keys[i] = key_of(0, 0);
+    keys[1] = key_of(1, 2); /* which is held: too many are refused all the same */
     REFUSED(skid_take_all(&plant, keys, 65, leases), SKID_TOO_MANY, 0);
     NO_LEASE(leases[64]);
     leases[64] = unset;
