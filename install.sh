@@ -3,8 +3,8 @@
 # lib/pkgconfig/skid.pc, share/skid/rust (the crate, for a path dependency) and share/skid/cmake/skidConfig.cmake. It prints what it put
 # there, and the archive's SHA-256. The archive is that of target/staticlib; if there is none, or a source is newer, it is made first.
 # bash install.sh --uninstall PREFIX: takes the same away again, and the folders below PREFIX that were made for it and are empty.
-# bash install.sh --hash: the archive's SHA-256 alone. Hosts of another kind make another archive, so the top entry of CHANGELOG.md has a
-# line for each. `--hash write` writes the one of this host, `--hash check` looks whether the entry has the hash.
+# bash install.sh --hash: the archive's SHA-256 alone. It differs between kinds of hosts, so the top entry of CHANGELOG.md has a line for
+# each. `--hash write` writes the one of this host, `--hash check` looks whether the entry has the hash.
 # DESTDIR, if it is set, stands before PREFIX where files are put, and not inside them.
 set -euo pipefail
 cd "$(dirname "$0")"
