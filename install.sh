@@ -3,13 +3,17 @@
 # lib/pkgconfig/skid.pc, share/skid/rust (the crate, for a path dependency) and share/skid/cmake/skidConfig.cmake. It prints what it put
 # there, and the archive's SHA-256. The archive is that of target/staticlib; if there is none, or a source is newer, it is made first.
 # bash install.sh --uninstall PREFIX: takes the same away again, and the folders below PREFIX that were made for it and are empty.
-# bash install.sh --hash: the archive's SHA-256 alone. `--hash write` puts it into the top entry of CHANGELOG.md, `--hash check` compares.
+# bash install.sh --hash: the archive's SHA-256 alone. It differs between kinds of hosts, so the top entry of CHANGELOG.md has a line for
+# each. `--hash write` writes the one of this host, `--hash check` looks whether the entry has the hash.
 # DESTDIR, if it is set, stands before PREFIX where files are put, and not inside them.
 set -euo pipefail
 cd "$(dirname "$0")"
 archive=target/staticlib/libskid.a
-# shellcheck disable=SC2016
-said='^- The archive of this version has the SHA-256 `[0-9a-f]*`'
+case $(uname -m) in
+    x86_64) host='an x86-64 host' ;;
+    aarch64) host='an Arm host' ;;
+    *) host="a host of $(uname -m)" ;;
+esac
 
 fail() {
     echo "install: $*" >&2
@@ -38,16 +42,37 @@ the_hash() {
 # top_entry: of the changelog, its newest version alone
 top_entry() { awk '/^## / { n++ } n == 1' CHANGELOG.md; }
 
+# with_hash HASH: the changelog with this host's line in its top entry; a new one stands behind the last item
+with_hash() {
+    awk -v host="$host" -v hash="$1" -v kit="$(rt version | cut -d' ' -f1)" '
+        function told() { return "- The archive of this version has the SHA-256 `" hash "`, as " kit " makes it on " host "." }
+        { line[NR] = $0 }
+        /^## / { n++ }
+        n == 1 && /^- / { last = NR }
+        n == 1 && /^- The archive of this version has the SHA-256 / && index($0, " on " host) { mine = NR }
+        END {
+            for (i = 1; i <= NR; i++) {
+                print i == mine ? told() : line[i]
+                if (!mine && i == last) print told()
+            }
+        }' CHANGELOG.md
+}
+
 hash_of() {
-    local now
+    local now made
     now=$(the_hash)
     case ${1:-} in
         '') echo "$now" ;;
         check)
-            top_entry | grep -qF "\`$now\`" || fail "the archive is $now, and CHANGELOG.md says another: bash install.sh --hash write"
-            echo "the archive of target/staticlib is the one that CHANGELOG.md names"
+            top_entry | grep -qF "\`$now\`" || fail "on $host the archive is $now, which CHANGELOG.md does not name: bash install.sh --hash write"
+            echo "the archive of target/staticlib is one that CHANGELOG.md names"
             ;;
-        write) sed -i "0,/$said/s/$said/- The archive of this version has the SHA-256 \`$now\`/" CHANGELOG.md ;;
+        write)
+            made=$(mktemp)
+            with_hash "$now" >"$made"
+            cat "$made" >CHANGELOG.md
+            rm -f "$made"
+            ;;
         *) usage ;;
     esac
 }
@@ -61,7 +86,7 @@ files() {
     echo "share/skid/cmake/skidConfig.cmake -"
     echo "share/skid/LICENSE LICENSE"
     echo "share/skid/NOTICE NOTICE"
-    find rust/skid -type f ! -path '*/target/*' ! -name '.*' ! -name Cargo.lock | LC_ALL=C sort | sed 's,^rust/skid/\(.*\),share/skid/rust/\1 &,'
+    find rust/skid -type f ! -path '*/target/*' ! -path 'rust/skid/tests/*' ! -name '.*' ! -name Cargo.lock | LC_ALL=C sort | sed 's,^rust/skid/\(.*\),share/skid/rust/\1 &,'
 }
 
 version() { sed -n 's/^#define SKID_VERSION "\(.*\)"$/\1/p' include/skid.h; }

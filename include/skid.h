@@ -14,7 +14,7 @@
  *   and who takes the processor from a task inside a call must save them.
  * - The 128 bytes below the stack pointer (the red zone) are used. An interrupt must not write there: give it a stack
  *   of its own (interrupt stack table), or make the calls with interrupts off.
- * - A write of the setpoint book needs the most stack of all calls, 26,568 bytes; a read 6,680. The page has each.
+ * - Reads and writes of the setpoint book need the most stack of all calls, 6,888 bytes. The page has each.
  * No float crosses: a pressure goes in and comes out as the 32 bits of its binary32. So the calls are the same for a
  * program that is compiled without SSE (-mgeneral-regs-only, -mno-sse).
  *
@@ -77,7 +77,7 @@
  *   Bytes that a body leaves become zeros; preparing sets every byte to 0.
  * - A line or a kept body that fits no rule, or two bodies that overlap, is SKID_DAMAGED_BOOK, for every read and every
  *   write of any slot. Nothing mends such a book but preparing it, which forgets every setting.
- * - A read needs up to 7 KB of stack, a write up to 27 KB: the marks of the test for damage and of a slide stand there.
+ * - A read or a write needs up to 7 KB of stack: the marks of the test for damage stand there.
  */
 #ifndef SKID_H
 #define SKID_H

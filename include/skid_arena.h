@@ -20,7 +20,8 @@
  * cannot come free inside a call, so none of these asks a cell of others a second time.
  *
  * A forgotten head, a length in words, two lent runs that overlap, headers and buckets exchanged, a reply read of the
- * call before: none of these can be written through it.
+ * call before: none of these can be written through it, but for one: do not copy an arena. The copy's head would be
+ * forgotten where the arena goes on.
  */
 #ifndef SKID_ARENA_H
 #define SKID_ARENA_H
@@ -57,7 +58,7 @@ struct skid_arena {
     uint8_t *health;
     uint32_t headers, buckets; /* of the memory: what the lengths are made of */
     const uint32_t *registry;
-    size_t bindings;
+    size_t bindings; /* words of the registry */
 };
 
 /* A call's code: SKID_OK, SKID_TRY_AGAIN for Busy, or the number of a refusal (enum skid_refusal and its kind). */
@@ -101,8 +102,10 @@ struct skid_result {
         uint8_t health[(H)];                                                                                           \
     }
 
+/* `memory` names such a struct. It has one arena: a second one would have a head of its own, and is refused. */
 #define SKID_ARENA(name, memory, R) SKID_ARENA_OF(name, memory, SKID_THIRD_##R)
 #define SKID_ARENA_OF(name, memory, ...)                                                                               \
+    enum { memory##_has_one_arena };                                                                                   \
     static const uint32_t name##_registry[] = __VA_ARGS__;                                                             \
     SKID_FITS(name, sizeof name##_registry <= SKID_MAX_BINDINGS * sizeof(uint32_t), "at most 64 bindings");            \
     static struct skid_arena name = {{0, 0, 0, 0},                                                                     \
@@ -280,6 +283,9 @@ static inline bool skid_is_open(const struct skid_arena *a)
  * Whether a key's cell would be Busy now, as skid_take finds it: waited for, or else held. A key of no cell, of a
  * poisoned header or of a damaged cell is not Busy, and nothing is in an arena that is not open; these are for the call
  * to refuse.
+ *
+ * It reads the words of table and health itself, and that is tested and not proved. It grants nothing: a wrong look
+ * could only say Busy in vain, or let a call of several keys ask a held cell 4,096 times.
  */
 static inline struct skid_result skid_look(const struct skid_arena *a, struct skid_key key)
 {
@@ -300,12 +306,12 @@ static inline struct skid_result skid_look(const struct skid_arena *a, struct sk
     return x;
 }
 
-/* The first of several keys that is Busy, with its position. */
+/* The first of several keys that is Busy, with its position. Of more than 64 none is: the call is to refuse them. */
 static inline struct skid_result skid_look_all(const struct skid_arena *a, const struct skid_key *keys, size_t count)
 {
     struct skid_result x = {SKID_OK, 0, 0, 0, 0};
     size_t i;
-    for (i = 0; i < count && x.code == SKID_OK; i++) {
+    for (i = 0; i < count && count <= SKID_MAX_LEASES && x.code == SKID_OK; i++) {
         x = skid_look(a, keys[i]);
         x.position = (uint32_t)(x.code == SKID_OK ? 0 : i);
     }

@@ -1,8 +1,10 @@
 #!/usr/bin/env bash
 # include/skid_arena.h: clean in C99, C11, C17 and C++17 by gcc and clang, hosted and for a kernel without SSE registers and red zone, where
 # a pressure arrives bit for bit; a governor, a panel and a logger through it over cold RAM of ten seeds, each figure checked; README's two
-# examples. The archive is that of target/staticlib. On x86-64 the programs run under the address and undefined-behaviour sanitizers too.
-# Elsewhere an emulator runs them, under which the first does not work; of the second only its traps are used.
+# examples. The archive is that of target/staticlib. On x86-64 this program and those of tests/library.sh run under the address and
+# undefined-behaviour sanitizers too, which see the programs and what the library gives to memcpy and memset, and under valgrind, where
+# it is at hand, which sees the library's own code. Elsewhere an emulator runs them, under which the first does not work; of the second
+# only its traps are used.
 set -euo pipefail
 cd "$(dirname "$0")/.."
 # shellcheck source=tests/lib.sh
@@ -20,11 +22,11 @@ fail() {
 }
 [ -e "$archive" ] || fail "no $archive: rt staticlib skid makes it"
 
-# passes NAME LAST FLAGS..: tests/c/arena.c made with these flags (the compiler first) prints this last line
+# passes NAME SOURCE LAST FLAGS..: tests/c/SOURCE.c made with these flags (the compiler first) prints this last line
 passes() {
-    local name=$1 last=$2
-    shift 2
-    "$@" tests/c/arena.c -x none "$archive" -o "$out/$name" || fail "$name is not clean"
+    local name=$1 source=$2 last=$3
+    shift 3
+    "$@" "tests/c/$source.c" -x none "$archive" -o "$out/$name" || fail "$name is not clean"
     "${run[@]}" "$out/$name" >"$out/$name.out" || { cat "$out/$name.out"; fail "$name failed"; }
     grep -qE "$last" "$out/$name.out" || { cat "$out/$name.out"; fail "$name: the last line is another"; }
     echo "$name: $(tail -n 1 "$out/$name.out")"
@@ -72,7 +74,7 @@ number=0
 while read -r dialect; do
     number=$((number + 1))
     # shellcheck disable=SC2086
-    passes "arena-$number" "$done" $dialect -O2 $strict
+    passes "arena-$number" arena "$done" $dialect -O2 $strict
     # shellcheck disable=SC2086
     $dialect $strict $kernel -O2 -c "$out/kernel.c" -o "$out/kernel.o" || fail "$dialect: not clean for a kernel"
     $gcc "$out/host.c" "$out/kernel.o" "$archive" -o "$out/kernel"
@@ -81,18 +83,45 @@ done < <(dialects)
 [ "$(cat "$out"/arena-?.out | sort -u | wc -l)" = 1 ] || fail "two dialects count other figures"
 
 # ---- under the sanitizers
-if [ "$(uname -m)" = x86_64 ]; then
-    for cc in "$gcc" "$clang"; do
-        # shellcheck disable=SC2086
-        passes "sanitized-${cc%% *}" "$done" $cc -std=c11 -O1 -g $strict -fsanitize=address,undefined -fno-sanitize-recover=all
-    done
-else
-    for cc in "$gcc" "$clang"; do
-        trap=-fsanitize-trap=undefined
-        [ "$cc" = "$clang" ] || trap=-fsanitize-undefined-trap-on-error
-        # shellcheck disable=SC2086
-        passes "trapped-${cc%% *}" "$done" $cc -std=c11 -O1 -g $strict -fsanitize=undefined $trap
-    done
+cat >"$out/slips.c" <<'C'
+#include <stdint.h>
+#include <stdlib.h>
+#include <string.h>
+/* A byte behind a buffer is written, or a sum is too large. */
+int main(int count, char **words)
+{
+    char *buffer = malloc((size_t)count);
+    if (strcmp(words[1], "address") == 0)
+        buffer[count] = 1;
+    else
+        count += INT32_MAX;
+    return buffer[0] == count;
+}
+C
+# seen WHAT COMPILER..: the sanitizers stop such a slip, or they would show nothing below
+seen() {
+    "${@:2}" "$out/slips.c" -o "$out/slips"
+    ! "${run[@]}" "$out/slips" "$1" >/dev/null 2>&1 || fail "${*:2}: $1 is not seen"
+}
+for cc in "$gcc" "$clang"; do
+    name=${cc%% *}
+    if [ "$(uname -m)" = x86_64 ]; then
+        sanitized=($cc -O1 -g -fsanitize=address,undefined -fno-sanitize-recover=all)
+        seen address "${sanitized[@]}"
+    elif [ "$cc" = "$clang" ]; then
+        sanitized=($cc -O1 -g -fsanitize=undefined -fsanitize-trap=undefined)
+    else
+        sanitized=($cc -O1 -g -fsanitize=undefined -fsanitize-undefined-trap-on-error)
+    fi
+    seen undefined "${sanitized[@]}"
+    # shellcheck disable=SC2086
+    passes "sanitized-arena-$name" arena "$done" "${sanitized[@]}" -std=c11 $strict
+    passes "sanitized-bench-$name" bench '^bench cases in C: 16 passed$' "${sanitized[@]}" -std=c99 -Iinclude
+    passes "sanitized-wave-$name" wave '^waveform in C: passed$' "${sanitized[@]}" -std=c99 -Iinclude
+done
+if [ "$(uname -m)" = x86_64 ] && command -v valgrind >/dev/null; then
+    valgrind -q --error-exitcode=1 "$out/arena-3" >"$out/valgrind" 2>&1 || { cat "$out/valgrind"; fail "valgrind complains"; }
+    echo "valgrind: no complaint"
 fi
 
 # ---- README's examples

@@ -2,7 +2,7 @@
 # install.sh: the library put into an empty folder; the programs of docs/INTEGRATION.md compiled from there, outside the repository, by
 # pkg-config's flags alone, in C and C++, and run, each with the output that the page shows; one program by CMake, where it is at hand, and
 # one in Rust by cargo; then all of it taken away again, and nothing is left but what was there before. A second installing over the first
-# is as the first. The archive is that of target/staticlib; on Arm it has the hash of CHANGELOG.md.
+# is as the first; a hash that is written to the changelog is found there. The archive is that of target/staticlib.
 set -euo pipefail
 cd "$(dirname "$0")/.."
 # shellcheck source=tests/lib.sh
@@ -32,11 +32,24 @@ bash install.sh "$prefix" >"$room/second"
 cmp "$room/first" "$room/second" || fail "a second installing says something else"
 (cd "$prefix" && find . -type f | sort | xargs sha256sum) | cmp - "$room/sums" || fail "a second installing leaves something else"
 tail -n 1 "$room/first" | grep -qF "$(sha256sum target/staticlib/libskid.a | cut -d' ' -f1)" || fail "it does not print the archive's hash"
-# The hash is that of an Arm host. Whether others make the same archive is not known; here it is said, and is no failure.
-if [ "$(uname -m)" = aarch64 ]; then
-    bash install.sh --hash check
-else
-    bash install.sh --hash check || echo "install: on this host, $(uname -m), the archive is another one than on Arm"
+# ---- the hash: written into a copy of the changelog it is found there, beside that of another host; a wrong one is not
+cp -r install.sh CHANGELOG.md "$room"
+mkdir -p "$room/target/staticlib"
+cp target/staticlib/libskid.a "$room/target/staticlib"
+count() { awk '/^## / { n++ } n == 1' "$room/CHANGELOG.md" | grep -c 'The archive of this version has the SHA-256' || true; }
+sed -i 's/ on an Arm host/ on a host of another kind/; s/ on an x86-64 host/ on a host of another kind/' "$room/CHANGELOG.md"
+others=$(count)
+bash "$room/install.sh" --hash write
+bash "$room/install.sh" --hash write
+[ "$(count)" = $((others + 1)) ] || fail "this host's hash has not one line"
+bash "$room/install.sh" --hash check
+echo >>"$room/target/staticlib/libskid.a"
+! bash "$room/install.sh" --hash check 2>/dev/null || fail "an archive that the changelog does not name is taken"
+# A version that was not made on a host of this kind has no hash of it; that is said, and is no failure.
+if ! bash install.sh --hash check 2>"$room/said"; then
+    host=$(sed -n 's/^install: on \(.*\) the archive is .*/\1/p' "$room/said")
+    ! awk '/^## / { n++ } n == 1' CHANGELOG.md | grep -qF " makes it on $host" || fail "$(cat "$room/said")"
+    echo "install: CHANGELOG.md has no hash of $host"
 fi
 
 # ---- the page's programs

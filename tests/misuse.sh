@@ -63,6 +63,7 @@ allowed() {
 
 call() { echo "struct skid_result call(void); struct skid_result call(void) { return $1; }"; }
 allowed 'SKID_MEMORY(m, headers(64), buckets(64)); SKID_BOOK_MEMORY(b, slots(64));'
+allowed 'static struct plant_memory more; SKID_ARENA(other, more, registry(0)); struct skid_arena *o(void); struct skid_arena *o(void) { return &other; }'
 allowed "$(call 'skid_take_all(&plant, keys, 2, leases)')"
 allowed "$(call 'skid_give_all(&plant, leases, 2)')"
 allowed "$(call 'skid_give(&plant, leases[0])')"
@@ -77,11 +78,13 @@ refused '65 headers' "$negative" 'SKID_MEMORY(m, headers(65), buckets(1));'
 refused 'no headers' "$negative" 'SKID_MEMORY(m, headers(0), buckets(4));'
 refused '1,025 buckets' "$negative" 'SKID_MEMORY(m, headers(1), buckets(1025));'
 refused 'a registry of 65' 'negative|at most 64 bindings' \
-    "SKID_ARENA(other, memory, registry($(printf '0, %.0s' {1..64})0)); struct skid_arena *o(void); struct skid_arena *o(void) { return &other; }"
+    "static struct plant_memory more; SKID_ARENA(other, more, registry($(printf '0, %.0s' {1..64})0)); struct skid_arena *o(void); struct skid_arena *o(void) { return &other; }"
 refused 'a book of 65 slots' 'negative|1 to 64 slots' 'SKID_BOOK_MEMORY(b, slots(65));'
 refused 'a book of no slots' 'negative|1 to 64 slots' 'SKID_BOOK_MEMORY(b, slots(0));'
+refused 'two arenas over one memory' '(redeclaration|redefinition) of .*has_one_arena|has_one_arena.* conflicts' \
+    'SKID_ARENA(other, memory, registry(0)); struct skid_arena *o(void); struct skid_arena *o(void) { return &other; }'
 refused 'an arena over words of some length' 'member' 'SKID_ARENA(other, words, registry(0));'
-refused 'an arena over the table alone' 'member' 'SKID_ARENA(other, memory.table, registry(0));'
+refused 'an arena over the table alone' 'member|expected' 'SKID_ARENA(other, memory.table, registry(0));'
 refused 'a book over bytes of some length' 'member' 'SKID_BOOK(other, bytes);'
 types='incompatible|no matching function|cannot convert|could not convert|no known conversion|cannot initialize'
 refused 'leases as words, and their number' "$types" "$(call 'skid_give_all(&plant, words, 6)')"

@@ -243,6 +243,7 @@ static void all_keys_refused(void)
     NO_LEASE(leases[1]);
     for (i = 0; i < 65; i++)
         keys[i] = key_of(0, 0);
+    keys[1] = key_of(1, 2); /* which is held: too many are refused all the same */
     REFUSED(skid_take_all(&plant, keys, 65, leases), SKID_TOO_MANY, 0);
     NO_LEASE(leases[64]);
     leases[64] = unset;
@@ -299,25 +300,53 @@ static void health_and_waiters(struct skid_lease panel)
     CHECK(plant.head.next, next + 1);
 }
 
-/* A look says Busy exactly where a take does, and for the same reason, whatever the words are. */
+/*
+ * A look says Busy exactly where a take does, and for the same reason; and a list of that key alone is answered as the
+ * key is, but that there the bucket is tested before the health. Nothing has changed behind it.
+ */
+static void look_is_take(struct skid_key key)
+{
+    const struct skid_arena before = plant;
+    const struct plant_memory kept = memory;
+    struct skid_lease lease, all;
+    struct skid_result seen, got, listed;
+    seen = skid_look(&plant, key);
+    got = skid_take(&plant, key, &lease);
+    plant = before;
+    memory = kept;
+    listed = skid_take_all(&plant, &key, 1, &all);
+    CHECK(seen.code == SKID_TRY_AGAIN, got.code == SKID_TRY_AGAIN);
+    CHECK(seen.reason, got.reason);
+    CHECK(seen.reason_serial, got.reason_serial);
+    if (key.bucket < BUCKETS)
+        says_at(__LINE__, listed, got.code, got.carried, got.position, got.reason, got.reason_serial);
+    LEASE(all, lease.cell, lease.serial, lease.boot);
+    plant = before;
+    memory = kept;
+}
+
+/* Words by chance, and then every edge of a cell's words, of its header's health and of the next serial. */
 static void looks(void)
 {
+    static const uint32_t edges[] = {0, 1, 2, 3, 4, 5, 4294967294u, 4294967295u};
     const struct skid_arena before = plant;
     const struct plant_memory kept = memory;
     unsigned i;
     for (i = 0; i < 400; i++) {
         struct skid_key key = any_key(6, 5);
-        struct skid_result seen, got;
-        struct skid_lease lease;
         uint32_t word = chance(WORDS), header = chance(HEADERS);
         uint32_t about_next = plant.head.next - 1 + chance(3);
         memory.table[word] = chance(2) ? chance(2) : about_next;
         memory.health[header] = (uint8_t)(chance(4) == 0);
-        seen = skid_look(&plant, key);
-        got = skid_take(&plant, key, &lease);
-        CHECK(seen.code == SKID_TRY_AGAIN, got.code == SKID_TRY_AGAIN);
-        CHECK(seen.reason, got.reason);
-        CHECK(seen.reason_serial, got.reason_serial);
+        look_is_take(key);
+    }
+    for (i = 0; i < 3 * 8 * 3 * 3 * 8; i++) {
+        memory.table[18] = i % 3;
+        memory.table[19] = edges[i / 3 % 8];
+        memory.table[20] = edges[3 * (i / 24 % 3)];
+        memory.health[VALVES] = (uint8_t)(127 * (i / 72 % 3));
+        plant.head.next = edges[i / 216];
+        look_is_take(key_of(3, 2));
     }
     plant = before;
     memory = kept;

@@ -127,7 +127,8 @@ fn claim_check(
     BookCheck::Fault(BookRefusal::BadShape)
 }
 
-// Over what the book says: refused, or the oldest dropped and one version more.
+// Over what the book says: refused, or the oldest dropped and one version more. One run of marks serves the test of the
+// book and the slide: it is most of the stack that a write takes.
 fn write_over(n: usize, book: &mut [u8], slot: usize, s: Setpoint) -> BookAnswer
     requires { ⌜ 1 ≤ n ⌝ }
     requires { ⌜ n ≤ 64 ⌝ }
@@ -137,7 +138,8 @@ fn write_over(n: usize, book: &mut [u8], slot: usize, s: Setpoint) -> BookAnswer
     requires { ⌜ hasBody s ≡ true ⌝ }
     ensures { λ r. ⌜ (r, now (book .exit)) ≡ writeOverOf n (now (book .entry)) slot s ⌝ }
 {
-    if book_sound::is_sound(n, book) {
+    let mut marks = [0; 6550];
+    if book_sound::scan(n, book, &mut marks) {
         let newest = book_sound::version_at(book, 4 * slot);
         if newest == LAST_VERSION {
             return BookAnswer::Refused(BookRefusal::VersionsSpent);
@@ -146,8 +148,9 @@ fn write_over(n: usize, book: &mut [u8], slot: usize, s: Setpoint) -> BookAnswer
         if book.len() < 32 * n + 5 * kept + 5 {
             return BookAnswer::Refused(BookRefusal::BookFull);
         }
+        book_enter::unmark_oldest(n, book, slot, &mut marks);
         book_enter::drop_oldest(book, slot);
-        let moved = book_enter::put_over(n, kept, book, slot, s, newest + 1);
+        let moved = book_enter::put_over(n, kept, book, &mut marks, slot, s, newest + 1);
         return BookAnswer::Written(newest + 1, moved);
     }
     BookAnswer::Refused(BookRefusal::DamagedBook)

@@ -1,7 +1,7 @@
 -- The slide in one pass, in place. The marks of `Scan` stand in the order of places, so a walk over the cells meets the bodies in that order, and
 -- each goes to where the one before ended. That is never behind where it stood, and what lies there has gone already; so it is the slide of
 -- `Writing`, which takes all bodies up first.
-use Prim.Native.Nat.{ℕ, zero, suc, _+_, _*_, _-_, _≤_, _<_}
+use Prim.Native.Nat.{ℕ, zero, suc, _+_, _*_, _-_, _%_, _≤_, _<_}
 use mathlib.Core.Path.{_≡_, refl, sym, ap, _∙_}
 use mathlib.Core.Logic.{_≢_, _⊎_, inl, inr}
 use mathlib.Core.List.{List, [], _∷_}
@@ -9,18 +9,17 @@ use mathlib.Core.Bool.{Bool, true, false, _&&_}
 use native.Mathlib.Omega.{arith}
 use native.Mathlib.Decide.{ℕ-discrete, decLt}
 use lib.Dec.{ltb, eqb}
-use lib.ListN.{length, getD, set, replicate, getD-replicate, length-replicate, length-set}
+use lib.ListN.{length, getD, set, replicate, getD-replicate, length-set}
 use lib.Seq.{sets, length-sets, ext-getD, getD-set-same, getD-set-other}
 use borrow.Author.Tests.{eqb-true, eqb-false, lt-ltb, le-ltb}
 use Rattle.choice.specs.Choice.{if_then_else_}
 use Rattle.book_rules.specs.Layout.{fiveAt, linesOf, frontOf, placeAt, versionAt, isKept}
 use Rattle.book_rules.specs.Stores.{sets-below, sets-above, sets-in}
-use Rattle.laws.specs.Lists.{zeros}
 use Rattle.book_rules.specs.Writing.{count, keptOf, rankOf, slidOf, erasedOf, laidOf}
-use Rattle.book_rules.specs.Many.{one, count-same, count-none, Beside}
-use Rattle.book_rules.specs.Sound.{Kept, Apart, Fits, is-kept, is-unkept, kept-is}
-use Rattle.book_rules.specs.Slid.{five-byte, order-is, front-is, laid-long, laid-low, laid-byte, laid-else, erased-body, erased-else}
-use Rattle.book_sound.specs.Scan.{cellOf, offsetOf, markedOf, Marked, apart-clear, marked-more}
+use Rattle.book_rules.specs.Many.{one, count-same, count-none, count-most, Beside}
+use Rattle.book_rules.specs.Sound.{Kept, Apart, Fits, is-kept, kept-is}
+use Rattle.book_rules.specs.Slid.{rank-few, five-byte, order-is, front-is, laid-long, laid-low, laid-byte, laid-else, erased-body, erased-else}
+use Rattle.book_sound.specs.Scan.{cellOf, offsetOf, Marked}
 
 -- ---- the walk, as a loop makes it
 
@@ -35,16 +34,16 @@ slideOf n marks (suc left) c q d =
     if eqb (getD marks (c + 1) 0) 0 then slideOf n marks left (c + 1) q d
     else slideOf n marks left (c + 1) (q + 5) (movedTo d (frontOf n + 5 * c + (getD marks (c + 1) 0 - 1)) q)
 
--- where each marked body slides to, by its cell
-unfoldable pub placesOf : List ℕ → ℕ → ℕ → ℕ → List ℕ → List ℕ
-placesOf marks zero c q places = places
-placesOf marks (suc left) c q places =
-    if eqb (getD marks (c + 1) 0) 0 then placesOf marks left (c + 1) q places
-    else placesOf marks left (c + 1) (q + 5) (set places (c + 1) q)
+-- the rank of each marked body, by its cell: it takes the place of the mark
+unfoldable pub ranksOf : List ℕ → ℕ → ℕ → ℕ → List ℕ → List ℕ
+ranksOf marks zero c r ranks = ranks
+ranksOf marks (suc left) c r ranks =
+    if eqb (getD marks (c + 1) 0) 0 then ranksOf marks left (c + 1) r ranks
+    else ranksOf marks left (c + 1) (r + 1) (set ranks (c + 1) (r % 256))
 
--- both: the book, and the places
-unfoldable pub walkOf : ℕ → List ℕ → ℕ → List ℕ → List ℕ → List ℕ × List ℕ
-walkOf n marks cells d places = (slideOf n marks cells 0 (frontOf n) d, placesOf marks cells 0 (frontOf n) places)
+-- both: the book, and the ranks
+unfoldable pub walkOf : ℕ → ℕ → List ℕ → List ℕ → List ℕ × List ℕ
+walkOf n cells d marks = (slideOf n marks cells 0 (frontOf n) d, ranksOf marks cells 0 0 marks)
 
 -- ---- counts that differ at one place
 
@@ -374,35 +373,46 @@ module _ (n : ℕ) (b : List ℕ) (f : Fits n b) (room : frontOf n + 5 * keptOf 
               s (placeAt b a) (next-full c q g a t) (omega arith)
               (rw same (stepped (frontOf n + 5 * c) (frontOf n + 5 * (c + 1)) d half a (t .line) (t .kept) (t .from) (t .till) (t .alone) (omega (arith, same, t .from)))))
 
-  -- ---- the new place of each body, by its cell
+  -- ---- the rank of each body, by its cell
 
-  abbrev Placed : ℕ → List ℕ → Type 0
-  Placed c places = (k : ℕ) → k < m → Kept b k → placeAt b k < frontOf n + 5 * c → getD places (cellOf n (placeAt b k) + 1) 0 ≡ to k
+  -- it fits a byte
+  rank-small : (r a : ℕ) → n ≤ 64 → a < m → Kept b a → frontOf n + 5 * r ≡ slidOf n b (placeAt b a) → r % 256 ≡ r
+  unfolding slidOf keptOf
+  rank-small r a few h q e = omega (arith, e, rank-few n b a h q, count-most m (isKept b))
 
-  placed-from : (left c q : ℕ) (places : List ℕ) → c + left ≡ cells → cells + 2 ≤ length places → q ≡ slidOf n b (frontOf n + 5 * c) → Placed c places
-      → Placed cells (placesOf marks left c q places)
-  unfolding placesOf
-  placed-from zero c q places e l g p = let d : c ≡ cells = omega arith in rw (← d) p
-  placed-from (suc left) c q places e l g p = go (eqb (getD marks (c + 1) 0) 0) (eqb-true (getD marks (c + 1) 0) 0) (eqb-false (getD marks (c + 1) 0) 0)
-      (λ z i. placed-from left (c + 1) q places (omega arith) l z i)
-      (λ z i. placed-from left (c + 1) (q + 5) (set places (c + 1) q) (omega arith) (omega (arith, length-set places (c + 1) q)) z i)
-    where
-      go : (t : Bool) → (t ≡ true → _≡_ {A = ℕ} (getD marks (c + 1) 0) 0) → (t ≡ false → _≡_ {A = ℕ} (getD marks (c + 1) 0) 0 → ⊥)
-          → (q ≡ slidOf n b (frontOf n + 5 * (c + 1)) → Placed (c + 1) places → Placed cells (placesOf marks left (c + 1) q places))
-          → (q + 5 ≡ slidOf n b (frontOf n + 5 * (c + 1)) → Placed (c + 1) (set places (c + 1) q) → Placed cells (placesOf marks left (c + 1) (q + 5) (set places (c + 1) q)))
-          → Placed cells (if t then placesOf marks left (c + 1) q places else placesOf marks left (c + 1) (q + 5) (set places (c + 1) q))
-      go true z z0 r s = r (next-empty c q g (z refl)) (λ k h u o. p k h u (empty c (z refl) k h u o))
-      go false z z0 r s = let t = begins c (z0 refl) in s (next-full c q g (t .0) (t .1)) (λ k h u o. at (t .0) (t .1) k h u o (ℕ-discrete k (t .0)))
-        where
-          at : (a : ℕ) → Begins c a → (k : ℕ) → k < m → Kept b k → placeAt b k < frontOf n + 5 * (c + 1) → Dec (k ≡ a)
-              → getD (set places (c + 1) q) (cellOf n (placeAt b k) + 1) 0 ≡ to k
-          at a t k h u o (yes d) =
-              let x : placeAt b k ≡ placeAt b a = ap (placeAt b) d in
-              let i : cellOf n (placeAt b k) + 1 ≡ c + 1 = omega (arith, t .from, t .till) in
-              rw i (getD-set-same places (c + 1) q 0 (omega arith)) ∙ slides-to c q g a t ∙ sym (ap (slidOf n b) x)
-          at a t k h u o (no d) =
-              let x : placeAt b k < frontOf n + 5 * c = t .alone k h u d o in
-              getD-set-other places (c + 1) (cellOf n (placeAt b k) + 1) q 0 (omega (arith, f .behind k h u)) ∙ p k h u x
+  abbrev Ranked : ℕ → List ℕ → Type 0
+  Ranked c ranks = (k : ℕ) → k < m → Kept b k → placeAt b k < frontOf n + 5 * c → frontOf n + 5 * getD ranks (cellOf n (placeAt b k) + 1) 0 ≡ to k
+
+  module _ (few : n ≤ 64) where
+    ranked-from : (left c r : ℕ) (ranks : List ℕ) → c + left ≡ cells → cells + 2 ≤ length ranks → frontOf n + 5 * r ≡ slidOf n b (frontOf n + 5 * c) → Ranked c ranks
+        → Ranked cells (ranksOf marks left c r ranks)
+    unfolding ranksOf
+    ranked-from zero c r ranks e l g p = let d : c ≡ cells = omega arith in rw (← d) p
+    ranked-from (suc left) c r ranks e l g p = go (eqb (getD marks (c + 1) 0) 0) (eqb-true (getD marks (c + 1) 0) 0) (eqb-false (getD marks (c + 1) 0) 0)
+        (λ z i. ranked-from left (c + 1) r ranks (omega arith) l z i)
+        (λ z i. ranked-from left (c + 1) (r + 1) (set ranks (c + 1) (r % 256)) (omega arith) (omega (arith, length-set ranks (c + 1) (r % 256))) z i)
+      where
+        go : (t : Bool) → (t ≡ true → _≡_ {A = ℕ} (getD marks (c + 1) 0) 0) → (t ≡ false → _≡_ {A = ℕ} (getD marks (c + 1) 0) 0 → ⊥)
+            → (frontOf n + 5 * r ≡ slidOf n b (frontOf n + 5 * (c + 1)) → Ranked (c + 1) ranks → Ranked cells (ranksOf marks left (c + 1) r ranks))
+            → (frontOf n + 5 * (r + 1) ≡ slidOf n b (frontOf n + 5 * (c + 1)) → Ranked (c + 1) (set ranks (c + 1) (r % 256))
+            → Ranked cells (ranksOf marks left (c + 1) (r + 1) (set ranks (c + 1) (r % 256))))
+            → Ranked cells (if t then ranksOf marks left (c + 1) r ranks else ranksOf marks left (c + 1) (r + 1) (set ranks (c + 1) (r % 256)))
+        go true z z0 y s = y (next-empty c (frontOf n + 5 * r) g (z refl)) (λ k h u o. p k h u (empty c (z refl) k h u o))
+        go false z z0 y s =
+            let t = begins c (z0 refl) in
+            s (omega (arith, next-full c (frontOf n + 5 * r) g (t .0) (t .1))) (λ k h u o. at (t .0) (t .1) k h u o (ℕ-discrete k (t .0)))
+          where
+            at : (a : ℕ) → Begins c a → (k : ℕ) → k < m → Kept b k → placeAt b k < frontOf n + 5 * (c + 1) → Dec (k ≡ a)
+                → frontOf n + 5 * getD (set ranks (c + 1) (r % 256)) (cellOf n (placeAt b k) + 1) 0 ≡ to k
+            at a t k h u o (yes d) =
+                let x : placeAt b k ≡ placeAt b a = ap (placeAt b) d in
+                let i : cellOf n (placeAt b k) + 1 ≡ c + 1 = omega (arith, t .from, t .till) in
+                let is = slides-to c (frontOf n + 5 * r) g a t in
+                let small = rank-small r a few (t .line) (t .kept) is in
+                rw (i, getD-set-same ranks (c + 1) (r % 256) 0 (omega arith), small) (is ∙ sym (ap (slidOf n b) x))
+            at a t k h u o (no d) =
+                let x : placeAt b k < frontOf n + 5 * c = t .alone k h u d o in
+                rw (getD-set-other ranks (c + 1) (cellOf n (placeAt b k) + 1) (r % 256) 0 (omega (arith, f .behind k h u))) (p k h u x)
 
   first-rank : slidOf n b (frontOf n + 5 * 0) ≡ frontOf n
   unfolding slidOf rankOf
@@ -422,67 +432,9 @@ module _ (n : ℕ) (b : List ℕ) (f : Fits n b) (room : frontOf n + 5 * keptOf 
       let e : frontOf n + 5 * 0 ≡ frontOf n = omega arith in
       walked cells 0 (frontOf n) b (omega arith) (sym first-rank) (omega arith) (rw e begun)
 
-  pub places-are : (places : List ℕ) → cells + 2 ≤ length places → Placed cells (placesOf marks cells 0 (frontOf n) places)
-  places-are places l =
-      placed-from cells 0 (frontOf n) places (omega arith) l (sym first-rank) (λ k h u o. absurd (omega (arith, f .behind k h u)))
-
--- ---- the marks of a book that fits: no test is made
-
-unfoldable pub setMarksOf : ℕ → List ℕ → ℕ → ℕ → List ℕ → List ℕ
-setMarksOf n b zero k marks = marks
-setMarksOf n b (suc left) k marks =
-    if isKept b k then setMarksOf n b left (k + 1) (markedOf marks (cellOf n (placeAt b k)) (offsetOf n (placeAt b k)))
-    else setMarksOf n b left (k + 1) marks
-
-module _ (n : ℕ) (b : List ℕ) (f : Fits n b) (cells : ℕ) (size : length b ≤ frontOf n + 5 * cells) where
-  marks-from : (left k : ℕ) (marks : List ℕ) → k + left ≡ linesOf n → Marked n b cells k marks → Marked n b cells (linesOf n) (setMarksOf n b left k marks)
-  unfolding setMarksOf
-  marks-from zero k marks e w = let d : k ≡ linesOf n = omega arith in rw (← d) w
-  marks-from (suc left) k marks e w =
-      go (isKept b k) (is-kept b k) (is-unkept b k)
-      (λ r. marks-from left (k + 1) (markedOf marks (cellOf n (placeAt b k)) (offsetOf n (placeAt b k))) (omega arith) r)
-      (λ r. marks-from left (k + 1) marks (omega arith) r)
-    where
-      before : (l : ℕ) → l < k → Kept b l → (frontOf n ≤ placeAt b l) × (placeAt b l + 5 ≤ length b)
-      before l h q = (f .behind l (omega arith) q, f .within l (omega arith) q)
-
-      skip : versionAt b k ≡ 0 → Marked n b cells (k + 1) marks
-      skip z =
-          record {
-            long = w .long;
-            first = w .first;
-            marks-each = λ l h q. at l h q (ℕ-discrete l k);
-            means = λ c d. let t = w .means c d in (t .0, omega (arith, t .1), t .2, t .3, t .4);
-          }
-        where
-          at : (l : ℕ) → l < k + 1 → Kept b l → Dec (l ≡ k) → getD marks (cellOf n (placeAt b l) + 1) 0 ≡ offsetOf n (placeAt b l) + 1
-          at l h q (yes d) = absurd (omega (arith, z, ap (versionAt b) d))
-          at l h q (no d) = w .marks-each l (omega arith) q
-
-      go : (t : Bool) → (t ≡ true → Kept b k) → (t ≡ false → versionAt b k ≡ 0)
-          → (Marked n b cells (k + 1) (markedOf marks (cellOf n (placeAt b k)) (offsetOf n (placeAt b k)))
-          → Marked n b cells (linesOf n) (setMarksOf n b left (k + 1) (markedOf marks (cellOf n (placeAt b k)) (offsetOf n (placeAt b k)))))
-          → (Marked n b cells (k + 1) marks → Marked n b cells (linesOf n) (setMarksOf n b left (k + 1) marks))
-          → Marked n b cells (linesOf n) (
-          if t then setMarksOf n b left (k + 1) (markedOf marks (cellOf n (placeAt b k)) (offsetOf n (placeAt b k)))
-          else setMarksOf n b left (k + 1) marks)
-      go true q z more on =
-          let kept = q refl in
-          let low = f .behind k (omega arith) kept in
-          more (marked-more n b cells size k marks w before kept low
-          (apart-clear n b cells size k marks w before kept low (λ l h u. f .apart k l (omega arith) (omega arith) (omega arith) kept u))
-          (f .within k (omega arith) kept))
-      go false q z more on = on (skip (z refl))
-
-  pub marks-are : (m : ℕ) → cells + 2 ≤ m → Marked n b cells (linesOf n) (setMarksOf n b (linesOf n) 0 (replicate m 0))
-  marks-are m l =
-      marks-from (linesOf n) 0 (replicate m 0) (omega arith)
-      (record {
-        long = omega (arith, length-replicate {A = ℕ} m 0);
-        first = zeros m 0;
-        marks-each = λ l h q. absurd (omega arith);
-        means = λ c d. absurd (d (zeros m c));
-      })
+  pub ranks-are : n ≤ 64 → (ranks : List ℕ) → cells + 2 ≤ length ranks → Ranked cells (ranksOf marks cells 0 0 ranks)
+  ranks-are few ranks l =
+      ranked-from few cells 0 0 ranks (omega arith) l (omega (arith, first-rank)) (λ k h u o. absurd (omega (arith, f .behind k h u)))
 
 -- ---- for a loop: what keeps it inside the book; one turn, and the end
 
@@ -509,30 +461,19 @@ slide-end n marks cells c q d l = let e : cells - c ≡ 0 = omega arith in rw e
 pub slide-start : (n : ℕ) (marks : List ℕ) (cells q : ℕ) (d : List ℕ) → slideOf n marks (cells - 0) 0 q d ≡ slideOf n marks cells 0 q d
 slide-start n marks cells q d = let e : cells - 0 ≡ cells = omega arith in ap (λ (x : ℕ). slideOf n marks x 0 q d) e
 
-pub places-turn : (marks : List ℕ) (cells c q : ℕ) (places : List ℕ) → c < cells
-    → placesOf marks (cells - c) c q places
-    ≡ (if eqb (getD marks (c + 1) 0) 0 then placesOf marks (cells - (c + 1)) (c + 1) q places
-    else placesOf marks (cells - (c + 1)) (c + 1) (q + 5) (set places (c + 1) q))
-unfolding placesOf
-places-turn marks cells c q places l = let e : cells - c ≡ suc (cells - (c + 1)) = omega arith in rw e
+pub ranks-turn : (marks : List ℕ) (cells c r : ℕ) (ranks : List ℕ) → c < cells
+    → ranksOf marks (cells - c) c r ranks
+    ≡ (if eqb (getD marks (c + 1) 0) 0 then ranksOf marks (cells - (c + 1)) (c + 1) r ranks
+    else ranksOf marks (cells - (c + 1)) (c + 1) (r + 1) (set ranks (c + 1) (r % 256)))
+unfolding ranksOf
+ranks-turn marks cells c r ranks l = let e : cells - c ≡ suc (cells - (c + 1)) = omega arith in rw e
 
-pub places-end : (marks : List ℕ) (cells c q : ℕ) (places : List ℕ) → cells ≤ c → placesOf marks (cells - c) c q places ≡ places
-unfolding placesOf
-places-end marks cells c q places l = let e : cells - c ≡ 0 = omega arith in rw e
+pub ranks-end : (marks : List ℕ) (cells c r : ℕ) (ranks : List ℕ) → cells ≤ c → ranksOf marks (cells - c) c r ranks ≡ ranks
+unfolding ranksOf
+ranks-end marks cells c r ranks l = let e : cells - c ≡ 0 = omega arith in rw e
 
-pub places-start : (marks : List ℕ) (cells q : ℕ) (places : List ℕ) → placesOf marks (cells - 0) 0 q places ≡ placesOf marks cells 0 q places
-places-start marks cells q places = let e : cells - 0 ≡ cells = omega arith in ap (λ (x : ℕ). placesOf marks x 0 q places) e
-
-pub marks-turn : (n : ℕ) (b : List ℕ) (k : ℕ) (marks : List ℕ) → k < linesOf n
-    → setMarksOf n b (linesOf n - k) k marks
-    ≡ (if isKept b k then setMarksOf n b (linesOf n - (k + 1)) (k + 1) (markedOf marks (cellOf n (placeAt b k)) (offsetOf n (placeAt b k)))
-    else setMarksOf n b (linesOf n - (k + 1)) (k + 1) marks)
-unfolding setMarksOf
-marks-turn n b k marks l = let e : linesOf n - k ≡ suc (linesOf n - (k + 1)) = omega arith in rw e
-
-pub marks-end : (n : ℕ) (b : List ℕ) (k : ℕ) (marks : List ℕ) → linesOf n ≤ k → setMarksOf n b (linesOf n - k) k marks ≡ marks
-unfolding setMarksOf
-marks-end n b k marks l = let e : linesOf n - k ≡ 0 = omega arith in rw e
+pub ranks-start : (marks : List ℕ) (cells r : ℕ) (ranks : List ℕ) → ranksOf marks (cells - 0) 0 r ranks ≡ ranksOf marks cells 0 r ranks
+ranks-start marks cells r ranks = let e : cells - 0 ≡ cells = omega arith in ap (λ (x : ℕ). ranksOf marks x 0 r ranks) e
 
 -- five stores; ten
 five-stores : (d : List ℕ) (p x0 x1 x2 x3 x4 : ℕ)

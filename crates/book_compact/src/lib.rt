@@ -1,33 +1,15 @@
 // Compaction of a setpoint book (document 02, L10): kept bodies slide to the front in one pass, and the lines follow.
-// All functions are steps: the book fits its rules, and its bodies leave the room that a write needs.
+// All functions are steps: the book fits its rules, its bodies leave the room that a write needs, and the scan of crate
+// `book_sound` has marked them.
 ghost use mathlib.Core.Path.{_≡_};
 ghost use Prim.Native.Nat.{_+_, _*_, _≤_, _<_};
 ghost use lib.ListN.{length};
 ghost use Rattle.book_rules.specs.Layout.{linesOf, frontOf};
 ghost use Rattle.book_rules.specs.Writing.{keptOf};
 ghost use Rattle.book_rules.specs.Sound.{Fits};
-ghost use Rattle.book_compact.specs.Slide.{movedTo, walkOf, setMarksOf, Within};
+ghost use Rattle.book_sound.specs.Scan.{Marked};
+ghost use Rattle.book_compact.specs.Slide.{movedTo, walkOf, Within};
 ghost use Rattle.book_compact.specs.Lines.{Lying, LineLies, putPlaceOf, putPlacesOf, compactedOf};
-
-// Marks the cell of each kept body.
-fn set_marks(n: usize, book: &[u8], marks: &mut [u8])
-    requires { ⌜ n ≤ 64 ⌝ }
-    requires { ⌜ frontOf n ≤ length (now book) ⌝ }
-    requires { ⌜ Lying n (now book) ⌝ }
-    requires { ⌜ 6550 ≤ length (now marks) ⌝ }
-    ensures { λ _. ⌜ now (marks .exit) ≡ setMarksOf n (now (book .entry)) (linesOf n) 0 (now (marks .entry)) ⌝ }
-{
-    let mut k = 0;
-    while k < 4 * n {
-        if book_sound::is_kept(book, k) {
-            let d = book_sound::place_at(book, k) as usize - 32 * n;
-            marks[d / 5 + 1] = (d % 5) as u8 + 1;
-            k += 1;
-            continue;
-        }
-        k += 1;
-    }
-}
 
 // A body from p to q, not behind p. What is vacated becomes zeros.
 fn move_body(book: &mut [u8], p: usize, q: usize)
@@ -52,43 +34,42 @@ fn move_body(book: &mut [u8], p: usize, q: usize)
     book[q + 4] = e;
 }
 
-// The bodies of the marked cells slide to the front, in the order of their places. Where each went is noted by its
-// cell.
-fn walk(n: usize, marks: &[u8], cells: usize, book: &mut [u8], places: &mut [u16])
+// The bodies of the marked cells slide to the front, in the order of their places. The rank of each takes the place of
+// its mark: a book has at most 256 bodies, so a rank fits a byte.
+fn walk(n: usize, cells: usize, book: &mut [u8], marks: &mut [u8])
     requires { ⌜ n ≤ 64 ⌝ }
     requires { ⌜ cells ≤ 6548 ⌝ }
     requires { ⌜ cells + 2 ≤ length (now marks) ⌝ }
-    requires { ⌜ cells + 2 ≤ length (now places) ⌝ }
     requires { ⌜ Within n (now marks) cells (length (now book)) ⌝ }
-    ensures { λ _. ⌜ (now (book .exit), now (places .exit))
-        ≡ walkOf n (now (marks .entry)) cells (now (book .entry)) (now (places .entry)) ⌝ }
+    ensures { λ _. ⌜ (now (book .exit), now (marks .exit))
+        ≡ walkOf n cells (now (book .entry)) (now (marks .entry)) ⌝ }
 {
     let mut c = 0;
-    let mut q = 32 * n;
+    let mut rank = 0;
     while c < cells {
         let mark = marks[c + 1] as usize;
         if mark == 0 {
             c += 1;
             continue;
         }
-        places[c + 1] = q as u16;
-        move_body(book, 32 * n + 5 * c + (mark - 1), q);
-        q += 5;
+        marks[c + 1] = (rank % 256) as u8;
+        move_body(book, 32 * n + 5 * c + (mark - 1), 32 * n + 5 * rank);
+        rank += 1;
         c += 1;
     }
 }
 
 // Line k, if it is used, gets its body's new place. Answers the bytes that moved: 5, or 0.
-fn put_place(n: usize, places: &[u16], book: &mut [u8], k: usize) -> u32
+fn put_place(n: usize, ranks: &[u8], book: &mut [u8], k: usize) -> u32
     requires { ⌜ n ≤ 64 ⌝ }
     requires { ⌜ 8 * k + 8 ≤ length (now book) ⌝ }
     requires { ⌜ LineLies n (now book) k ⌝ }
-    requires { ⌜ 6550 ≤ length (now places) ⌝ }
-    ensures { λ r. ⌜ (r, now (book .exit)) ≡ putPlaceOf n (now (places .entry)) (now (book .entry)) k ⌝ }
+    requires { ⌜ 6550 ≤ length (now ranks) ⌝ }
+    ensures { λ r. ⌜ (r, now (book .exit)) ≡ putPlaceOf n (now (ranks .entry)) (now (book .entry)) k ⌝ }
 {
     if book_sound::is_kept(book, k) {
         let old = book_sound::place_at(book, k);
-        let place = places[(old as usize - 32 * n) / 5 + 1] as u32;
+        let place = 32 * n as u32 + 5 * ranks[(old as usize - 32 * n) / 5 + 1] as u32;
         book[8 * k] = (place % 256) as u8;
         book[8 * k + 1] = (place / 256) as u8;
         if place == old {
@@ -100,35 +81,34 @@ fn put_place(n: usize, places: &[u16], book: &mut [u8], k: usize) -> u32
 }
 
 // Every line. Answers the bytes moved.
-fn put_places(n: usize, places: &[u16], book: &mut [u8]) -> u32
+fn put_places(n: usize, ranks: &[u8], book: &mut [u8]) -> u32
     requires { ⌜ n ≤ 64 ⌝ }
     requires { ⌜ frontOf n ≤ length (now book) ⌝ }
     requires { ⌜ Lying n (now book) ⌝ }
-    requires { ⌜ 6550 ≤ length (now places) ⌝ }
-    ensures { λ r. ⌜ (r, now (book .exit)) ≡ putPlacesOf n (now (places .entry)) (now (book .entry)) ⌝ }
+    requires { ⌜ 6550 ≤ length (now ranks) ⌝ }
+    ensures { λ r. ⌜ (r, now (book .exit)) ≡ putPlacesOf n (now (ranks .entry)) (now (book .entry)) ⌝ }
 {
     let mut moved = 0;
     let mut k = 0;
     while k < 4 * n {
-        moved += put_place(n, places, book, k);
+        moved += put_place(n, ranks, book, k);
         k += 1;
     }
     moved
 }
 
-// The kept bodies slide to the front, each used line gets its body's new place. Answers the bytes moved.
-pub fn compact(n: usize, book: &mut [u8]) -> u32
+// The kept bodies slide to the front, each used line gets its body's new place. Answers the bytes moved. The marks are
+// those of the book; what they become is of no use.
+pub fn compact(n: usize, book: &mut [u8], marks: &mut [u8]) -> u32
     requires { ⌜ 1 ≤ n ⌝ }
     requires { ⌜ n ≤ 64 ⌝ }
     requires { ⌜ length (now book) ≤ 32768 ⌝ }
     requires { ⌜ Fits n (now book) ⌝ }
     requires { ⌜ frontOf n + 5 * keptOf n (now book) ≤ length (now book) ⌝ }
+    requires { ⌜ Marked n (now book) 6548 (linesOf n) (now marks) ⌝ }
     ensures { λ r. ⌜ (r, now (book .exit)) ≡ compactedOf n (now (book .entry)) ⌝ }
 {
-    let mut marks = [0; 6550];
-    let mut places = [0; 6550];
-    set_marks(n, book, &mut marks);
     let cells = (book.len() - 32 * n + 4) / 5;
-    walk(n, &marks, cells, book, &mut places);
-    put_places(n, &places, book)
+    walk(n, cells, book, marks);
+    put_places(n, marks, book)
 }

@@ -1,19 +1,22 @@
 -- Laws for the steps of a write: counts and the end of the last body line by line, four lines put one behind the other.
 use Prim.Native.Nat.{ℕ, suc, _+_, _*_, _≤_, _<_, max}
 use mathlib.Core.Path.{_≡_, refl, sym, ap, _∙_}
+use mathlib.Core.Logic.{_≢_, inl, inr}
 use mathlib.Core.List.{List, [], _∷_, _++_}
 use mathlib.Core.Bool.{Bool, true, false}
 use native.Mathlib.Omega.{arith}
-use lib.ListN.{length, set}
-use lib.Seq.{sets}
+use native.Mathlib.Decide.{ℕ-discrete}
+use lib.ListN.{length, getD, set, length-set}
+use lib.Seq.{sets, getD-set-same, getD-set-other}
 use Rattle.choice.specs.Choice.{if_then_else_}
 use borrow.Author.Tests.{lt-ltb, le-ltb}
-use Rattle.book_rules.specs.Layout.{linesOf, frontOf, lineAt, placeAt, isKept, lineOf, isSound}
+use Rattle.book_rules.specs.Layout.{linesOf, frontOf, lineAt, placeAt, versionAt, isKept, lineOf, isSound}
 use Rattle.book_rules.specs.Writing.{count, most, dropOldestOf, keptOf, endOf, isCrowded, isFull, appendOf, putOverOf}
 use Rattle.book_rules.specs.Many.{count-most, most-within}
-use Rattle.book_rules.specs.Sound.{Kept, Fits, is-kept, sound-is}
+use Rattle.book_rules.specs.Sound.{Kept, Apart, Fits, is-kept, is-unkept, sound-is, Alike}
 use Rattle.book_rules.specs.Dropped.{dropped}
 use Rattle.book_rules.specs.Wrote.{isStaying, stayingOf, staying-is}
+use Rattle.book_sound.specs.Scan.{cellOf, offsetOf, Marked}
 use Rattle.book_compact.specs.Lines.{compactedOf}
 use Rattle.setpoint.specs.Codec.{bodyOf}
 use Rattle.setpoint.specs.declared.Setpoint.{Setpoint}
@@ -23,8 +26,12 @@ unfolding count
 count-suc k f = refl
 
 -- the slot's oldest of four, if it has four, lies in the book
-abbrev pub OldestLies : List ℕ → ℕ → Type 0
-OldestLies b slot = Kept b (4 * slot + 3) → placeAt b (4 * slot + 3) + 5 ≤ length b
+abbrev pub OldestWithin : List ℕ → ℕ → Type 0
+OldestWithin b slot = Kept b (4 * slot + 3) → placeAt b (4 * slot + 3) + 5 ≤ length b
+
+-- and behind the contents
+abbrev pub OldestLies : ℕ → List ℕ → ℕ → Type 0
+OldestLies n b slot = Kept b (4 * slot + 3) → (frontOf n ≤ placeAt b (4 * slot + 3)) × (placeAt b (4 * slot + 3) + 5 ≤ length b)
 
 -- ---- how many bodies stay
 
@@ -126,11 +133,83 @@ append-is b slot s v place =
     ∙ ap (λ (x : ℕ). sets b (32 * slot) (lineOf place v ++ (lineAt b (32 * slot) ++ (lineAt b (8 * (4 * slot + 1)) ++ lineAt b x)))) d
     ∙ ap (λ (x : ℕ). sets b x (lineOf place v ++ (lineAt b x ++ (lineAt b (8 * (4 * slot + 1)) ++ lineAt b (8 * (4 * slot + 2)))))) a)
 
+-- ---- the marks of what the drop leaves
+
+unfoldable pub unmarkOldestOf : ℕ → List ℕ → ℕ → List ℕ → List ℕ
+unmarkOldestOf n b slot marks = if isKept b (4 * slot + 3) then set marks (cellOf n (placeAt b (4 * slot + 3)) + 1) 0 else marks
+
+module _ (n : ℕ) (b : List ℕ) (slot : ℕ) (i : slot < n) (f : Fits n b) (cells : ℕ) (size : length b ≤ frontOf n + 5 * cells) (marks : List ℕ)
+    (w : Marked n b cells (linesOf n) marks) where
+  abbrev x : ℕ
+  x = 4 * slot + 3
+
+  abbrev c : List ℕ
+  c = dropOldestOf b slot
+
+  lines : (k : ℕ) → k < linesOf n → k ≢ x → Alike c b k k
+  lines = dropped n b slot i f .lines
+
+  -- a line that is kept still is another, and was kept
+  other : (k : ℕ) → Kept c k → k ≢ x
+  other k h e = omega (arith, dropped n b slot i f .gone, ap (versionAt c) e)
+
+  was : (k : ℕ) → k < linesOf n → Kept c k → Kept b k
+  was k l h = omega (arith, lines k l (other k h) .2)
+
+  each : (k : ℕ) → k < linesOf n → Kept c k → getD marks (cellOf n (placeAt c k) + 1) 0 ≡ offsetOf n (placeAt c k) + 1
+  each k l h = rw (lines k l (other k h) .0) (w .marks-each k l (was k l h))
+
+  -- what a mark means, if it is none of the oldest
+  mean : (j : ℕ) (m : ℕ) → m ≡ getD marks j 0 → m ≢ 0 → ((k : ℕ) → Kept b k → j ≡ cellOf n (placeAt b k) + 1 → k ≢ x)
+      → (k : ℕ) × (k < linesOf n) × Kept c k × (j ≡ cellOf n (placeAt c k) + 1) × (m ≡ offsetOf n (placeAt c k) + 1)
+  mean j m e d away =
+      let t = w .means j (λ z. d (e ∙ z)) in
+      let a = lines (t .0) (t .1) (away (t .0) (t .2) (t .3)) in
+      (t .0, t .1, omega (arith, a .2, t .2), rw (a .0) (t .3), rw (a .0) (e ∙ t .4))
+
+  pub unmarked : Marked n c cells (linesOf n) (unmarkOldestOf n b slot marks)
+  unfolding unmarkOldestOf
+  unmarked = go (isKept b x) (is-kept b x) (is-unkept b x)
+    where
+      go : (t : Bool) → (t ≡ true → Kept b x) → (t ≡ false → versionAt b x ≡ 0) → Marked n c cells (linesOf n) (if t then set marks (cellOf n (placeAt b x) + 1) 0 else marks)
+      go true h g =
+          record {
+            long = omega (arith, w .long, length-set marks (cellOf n (placeAt b x) + 1) 0);
+            first = getD-set-other marks (cellOf n (placeAt b x) + 1) 0 0 0 (omega arith) ∙ w .first;
+            marks-each = λ k l q.
+                getD-set-other marks (cellOf n (placeAt b x) + 1) (cellOf n (placeAt c k) + 1) 0 0 (apart-cell k l q (f .apart k x l (omega arith) (other k q) (was k l q) (h refl)))
+                ∙ each k l q;
+            means = λ j d. at j d (ℕ-discrete j (cellOf n (placeAt b x) + 1));
+          }
+        where
+          apart-cell : (k : ℕ) → k < linesOf n → Kept c k → Apart (placeAt b k) (placeAt b x) → cellOf n (placeAt c k) + 1 ≢ cellOf n (placeAt b x) + 1
+          apart-cell k l q (inl a) z = omega (arith, lines k l (other k q) .0, f .behind k l (was k l q), f .behind x (omega arith) (h refl))
+          apart-cell k l q (inr a) z = omega (arith, lines k l (other k q) .0, f .behind k l (was k l q), f .behind x (omega arith) (h refl))
+
+          at : (j : ℕ) → getD (set marks (cellOf n (placeAt b x) + 1) 0) j 0 ≢ 0 → Dec (j ≡ cellOf n (placeAt b x) + 1)
+              → (k : ℕ) × (k < linesOf n) × Kept c k × (j ≡ cellOf n (placeAt c k) + 1)
+              × (getD (set marks (cellOf n (placeAt b x) + 1) 0) j 0 ≡ offsetOf n (placeAt c k) + 1)
+          at j d (yes e) =
+              absurd (d (rw e (getD-set-same marks (cellOf n (placeAt b x) + 1) 0 0
+              (omega (arith, w .long, size, f .behind x (omega arith) (h refl), f .within x (omega arith) (h refl))))))
+          at j d (no e) =
+              mean j (getD (set marks (cellOf n (placeAt b x) + 1) 0) j 0) (getD-set-other marks (cellOf n (placeAt b x) + 1) j 0 0 e) d
+              (λ k q z y. e (z ∙ ap (λ (k : ℕ). cellOf n (placeAt b k) + 1) y))
+      go false h g =
+          record {
+            long = w .long;
+            first = w .first;
+            marks-each = each;
+            means = λ j d. mean j (getD marks j 0) refl d (λ k q z y. omega (arith, g refl, ap (versionAt b) y));
+          }
+
 -- ---- a write on a book that is not damaged
 
 module _ (n : ℕ) (b : List ℕ) (slot : ℕ) (i : slot < n) (sound : isSound n b ≡ true) where
-  pub oldest-lies : OldestLies b slot
-  oldest-lies q = sound-is n b sound .fits .within (4 * slot + 3) (omega arith) q
+  pub oldest-lies : OldestLies n b slot
+  oldest-lies q =
+      let f = sound-is n b sound .fits in
+      (f .behind (4 * slot + 3) (omega arith) q, f .within (4 * slot + 3) (omega arith) q)
 
   drop-size : length (dropOldestOf b slot) ≡ length b
   drop-size = dropped n b slot i (sound-is n b sound .fits) .long
@@ -161,6 +240,10 @@ module _ (n : ℕ) (b : List ℕ) (slot : ℕ) (i : slot < n) (sound : isSound n
 
       pub left-kept : kept ≡ keptOf n d
       left-kept = rw is kept-is
+
+      pub left-marked : (cells : ℕ) (marks less : List ℕ) → length b ≤ frontOf n + 5 * cells → Marked n b cells (linesOf n) marks
+          → less ≡ unmarkOldestOf n b slot marks → Marked n d cells (linesOf n) less
+      left-marked cells marks less size w e = rw (is, e) (unmarked n b slot i (sound-is n b sound .fits) cells size marks w)
 
 -- ---- a write after the drop
 

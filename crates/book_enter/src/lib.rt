@@ -7,11 +7,12 @@ ghost use mathlib.Core.Bool.{true};
 ghost use lib.ListN.{length};
 ghost use lib.Seq.{sets};
 ghost use Rattle.setpoint.specs.Codec.{hasBody};
-ghost use Rattle.book_rules.specs.Layout.{frontOf, lineAt, lineOf};
+ghost use Rattle.book_rules.specs.Layout.{linesOf, frontOf, lineAt, lineOf};
 ghost use Rattle.book_rules.specs.Writing.{dropOldestOf, keptOf, endOf, appendOf, putOverOf};
 ghost use Rattle.book_rules.specs.Sound.{Fits};
 ghost use Rattle.book_rules.specs.Wrote.{stayingOf};
-ghost use Rattle.book_enter.specs.Steps.{OldestLies, stayingAt, laterOf, shiftOf};
+ghost use Rattle.book_sound.specs.Scan.{Marked};
+ghost use Rattle.book_enter.specs.Steps.{OldestWithin, OldestLies, unmarkOldestOf, stayingAt, laterOf, shiftOf};
 
 // ---- bytes
 
@@ -94,11 +95,28 @@ pub fn staying(n: usize, book: &[u8], slot: usize) -> usize
     total
 }
 
+// The mark of the slot's oldest of four becomes 0.
+pub fn unmark_oldest(n: usize, book: &[u8], slot: usize, marks: &mut [u8])
+    requires { ⌜ 1 ≤ n ⌝ }
+    requires { ⌜ n ≤ 64 ⌝ }
+    requires { ⌜ 32 * slot + 32 ≤ length (now book) ⌝ }
+    requires { ⌜ length (now book) ≤ 32768 ⌝ }
+    requires { ⌜ OldestLies n (now book) slot ⌝ }
+    requires { ⌜ 6550 ≤ length (now marks) ⌝ }
+    ensures { λ _. ⌜ now (marks .exit) ≡ unmarkOldestOf n (now (book .entry)) slot (now (marks .entry)) ⌝ }
+{
+    let k = 4 * slot + 3;
+    if book_sound::is_kept(book, k) {
+        marks[(book_sound::place_at(book, k) as usize - 32 * n) / 5 + 1] = 0;
+        return;
+    }
+}
+
 // The slot's oldest of four becomes zeros, line and body.
 pub fn drop_oldest(book: &mut [u8], slot: usize)
     requires { ⌜ 32 * slot + 32 ≤ length (now book) ⌝ }
     requires { ⌜ length (now book) ≤ 32768 ⌝ }
-    requires { ⌜ OldestLies (now book) slot ⌝ }
+    requires { ⌜ OldestWithin (now book) slot ⌝ }
     ensures { λ _. ⌜ now (book .exit) ≡ dropOldestOf (now (book .entry)) slot ⌝ }
 {
     let k = 4 * slot + 3;
@@ -172,11 +190,12 @@ fn append(book: &mut [u8], slot: usize, s: Setpoint, version: u32, place: usize)
 }
 
 // A setpoint into a book whose slot has at most three versions and whose kept bodies leave room for one more: behind
-// the last, if there is room, else after a compaction. Answers the bytes moved.
+// the last, if there is room, else after a compaction. Answers the bytes moved. The marks are those of the book.
 pub fn put_over(
     n: usize,
     kept: usize,
     book: &mut [u8],
+    marks: &mut [u8],
     slot: usize,
     s: Setpoint,
     version: u32,
@@ -189,11 +208,12 @@ pub fn put_over(
     requires { ⌜ kept ≡ keptOf n (now book) ⌝ }
     requires { ⌜ frontOf n + 5 * kept + 5 ≤ length (now book) ⌝ }
     requires { ⌜ hasBody s ≡ true ⌝ }
+    requires { ⌜ Marked n (now book) 6548 (linesOf n) (now marks) ⌝ }
     ensures { λ r. ⌜ (r, now (book .exit)) ≡ putOverOf n (now (book .entry)) slot s version ⌝ }
 {
     let last = end(n, book);
     if book.len() < last + 5 {
-        let moved = book_compact::compact(n, book);
+        let moved = book_compact::compact(n, book, marks);
         append(book, slot, s, version, 32 * n + 5 * kept);
         return moved;
     }

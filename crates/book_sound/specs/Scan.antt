@@ -38,19 +38,19 @@ isClear marks c r =
 abbrev pub markedOf : List ℕ → ℕ → ℕ → List ℕ
 markedOf marks c r = set marks (c + 1) (r + 1)
 
--- from line k on, so many lines
-unfoldable pub scanOf : ℕ → List ℕ → ℕ → ℕ → List ℕ → Bool
-scanOf n b zero k marks = true
+-- from line k on, so many lines: whether they are sound, and the marks
+unfoldable pub scanOf : ℕ → List ℕ → ℕ → ℕ → List ℕ → Bool × List ℕ
+scanOf n b zero k marks = (true, marks)
 scanOf n b (suc left) k marks =
     if isFalling b k then (
     if isFitting n b k then (
     if isKept b k then (
     if isClear marks (cellOf n (placeAt b k)) (offsetOf n (placeAt b k)) then
     scanOf n b left (k + 1) (markedOf marks (cellOf n (placeAt b k)) (offsetOf n (placeAt b k)))
-    else false)
+    else (false, marks))
     else scanOf n b left (k + 1) marks)
-    else false)
-    else false
+    else (false, marks))
+    else (false, marks)
 
 -- ---- what it comes to
 
@@ -117,7 +117,7 @@ module _ (n : ℕ) (b : List ℕ) (cells : ℕ) (size : length b ≤ frontOf n +
         go own prev next (no a) (no d) (no f) (yes o) = inl (omega (arith, before l h q .0, low))
         go own prev next (no a) (no d) (no f) (no o) = inr (omega (arith, before l h q .0, low))
 
-    pub apart-clear : ((l : ℕ) → l < k → Kept b l → Apart (placeAt b k) (placeAt b l)) → isClear marks (cellOf n (placeAt b k)) (offsetOf n (placeAt b k)) ≡ true
+    apart-clear : ((l : ℕ) → l < k → Kept b l → Apart (placeAt b k) (placeAt b l)) → isClear marks (cellOf n (placeAt b k)) (offsetOf n (placeAt b k)) ≡ true
     unfolding isClear
     apart-clear h =
         let c = cellOf n (placeAt b k) in
@@ -160,7 +160,7 @@ module _ (n : ℕ) (b : List ℕ) (cells : ℕ) (size : length b ≤ frontOf n +
             fit l i q e g (inr a) = omega (arith, before l i q .0, low)
 
     -- the mark of line k
-    pub marked-more : isClear marks (cellOf n (placeAt b k)) (offsetOf n (placeAt b k)) ≡ true → placeAt b k + 5 ≤ length b
+    marked-more : isClear marks (cellOf n (placeAt b k)) (offsetOf n (placeAt b k)) ≡ true → placeAt b k + 5 ≤ length b
         → Marked n b cells (k + 1) (markedOf marks (cellOf n (placeAt b k)) (offsetOf n (placeAt b k)))
     unfolding isClear
     marked-more e u =
@@ -208,15 +208,19 @@ module _ (n : ℕ) (b : List ℕ) (cells : ℕ) (size : length b ≤ frontOf n +
   unused-apart : (k : ℕ) → isKept b k ≡ false → all k (λ l. isApart b k l) ≡ true
   unused-apart k e = each-all k (λ l. isApart b k l) (λ l h. is-apart b k l (λ u v. absurd (omega (arith, is-unkept b k e))))
 
-  scan-from : (left k : ℕ) (marks : List ℕ) → Marked n b cells k marks → Behind k → scanOf n b left k marks ≡ allFrom left k (lineSound n b)
+  -- the answer is this; and if it is true, the marks are those of the first m lines
+  abbrev Told : ℕ → Bool × List ℕ → Bool → Type 0
+  Told m o sound = (o .0 ≡ sound) × (o .0 ≡ true → Marked n b cells m (o .1))
+
+  scan-from : (left k m : ℕ) (marks : List ℕ) → k + left ≡ m → Marked n b cells k marks → Behind k → Told m (scanOf n b left k marks) (allFrom left k (lineSound n b))
   unfolding scanOf allFrom
-  scan-from zero k marks w before = refl
-  scan-from (suc left) k marks w before =
+  scan-from zero k m marks i w before = let same : k ≡ m = omega arith in (refl, λ e. rw (← same) w)
+  scan-from (suc left) k m marks i w before =
       go (isFalling b k) (isFitting n b k) (isKept b k) (isClear marks (cellOf n (placeAt b k)) (offsetOf n (placeAt b k))) (all k (λ l. isApart b k l))
       (λ e d. kept-fits n b k e d) (is-kept b k) (λ d. unused-apart k d)
       (λ q low. clear-is k marks w before q low)
-      (λ e q low u. scan-from left (k + 1) (markedOf marks (cellOf n (placeAt b k)) (offsetOf n (placeAt b k))) (marked-more k marks w before q low e u) (longer low u))
-      (λ d. scan-from left (k + 1) marks (skip d) (past d))
+      (λ e q low u. scan-from left (k + 1) m (markedOf marks (cellOf n (placeAt b k)) (offsetOf n (placeAt b k))) (omega arith) (marked-more k marks w before q low e u) (longer low u))
+      (λ d. scan-from left (k + 1) m marks (omega arith) (skip d) (past d))
     where
       longer : frontOf n ≤ placeAt b k → placeAt b k + 5 ≤ length b → Behind (k + 1)
       longer low u l h q = at (ℕ-discrete l k)
@@ -250,22 +254,23 @@ module _ (n : ℕ) (b : List ℕ) (cells : ℕ) (size : length b ≤ frontOf n +
           → (z ≡ true → Kept b k) → (z ≡ false → a ≡ true)
           → (Kept b k → frontOf n ≤ placeAt b k → t ≡ a)
           → (t ≡ true → Kept b k → frontOf n ≤ placeAt b k → placeAt b k + 5 ≤ length b
-          → scanOf n b left (k + 1) (markedOf marks (cellOf n (placeAt b k)) (offsetOf n (placeAt b k))) ≡ allFrom left (k + 1) (lineSound n b))
-          → (z ≡ false → scanOf n b left (k + 1) marks ≡ allFrom left (k + 1) (lineSound n b))
-          → (if x then (
+          → Told m (scanOf n b left (k + 1) (markedOf marks (cellOf n (placeAt b k)) (offsetOf n (placeAt b k)))) (allFrom left (k + 1) (lineSound n b)))
+          → (z ≡ false → Told m (scanOf n b left (k + 1) marks) (allFrom left (k + 1) (lineSound n b)))
+          → Told m (
+          if x then (
           if y then (
-          if z then (if t then scanOf n b left (k + 1) (markedOf marks (cellOf n (placeAt b k)) (offsetOf n (placeAt b k))) else false)
+          if z then (if t then scanOf n b left (k + 1) (markedOf marks (cellOf n (placeAt b k)) (offsetOf n (placeAt b k))) else (false, marks))
           else scanOf n b left (k + 1) marks)
-          else false)
-          else false) ≡ ((x && (y && a)) && allFrom left (k + 1) (lineSound n b))
-      go false y z t a fit is un cl more on = refl
-      go true false z t a fit is un cl more on = refl
+          else (false, marks))
+          else (false, marks)) ((x && (y && a)) && allFrom left (k + 1) (lineSound n b))
+      go false y z t a fit is un cl more on = (refl, λ e. let z : _≡_ {A = ℕ} 0 1 = cc in absurd (omega arith))
+      go true false z t a fit is un cl more on = (refl, λ e. let z : _≡_ {A = ℕ} 0 1 = cc in absurd (omega arith))
       go true true true true a fit is un cl more on =
           let f = fit refl refl in
           rw (← cl (is refl) (f .1)) (more refl (is refl) (f .1) (f .2))
       go true true true false a fit is un cl more on =
           let f = fit refl refl in
-          rw (← cl (is refl) (f .1)) refl
+          rw (← cl (is refl) (f .1)) (refl, λ e. let z : _≡_ {A = ℕ} 0 1 = cc in absurd (omega arith))
       go true true false t a fit is un cl more on = rw (un refl) (on refl)
 
 -- ---- the whole
@@ -312,18 +317,22 @@ lines-sound n b = same-truth _ _ there back
           all-each (linesOf n) (λ k. all k (λ l. isApart b k l)) (q .1) k (omega arith),
         ))
 
--- the scan, begun with marks of 0, is the test; a book of 32,768 bytes has at most 6,548 cells
-pub scan-is : (n : ℕ) (b : List ℕ) (cells : ℕ) → length b ≤ frontOf n + 5 * cells → scanOf n b (linesOf n) 0 (replicate (cells + 2) 0) ≡ isSound n b
-scan-is n b cells size =
-    scan-from n b cells size (linesOf n) 0 (replicate (cells + 2) 0)
-    (record {
-      long = omega (arith, length-replicate {A = ℕ} (cells + 2) 0);
-      first = zeros (cells + 2) 0;
-      marks-each = λ l h q. absurd (omega arith);
-      means = λ c d. absurd (d (zeros (cells + 2) c));
-    })
-    (λ l h q. absurd (omega arith))
-    ∙ lines-sound n b
+-- the scan, begun with marks of 0, is the test, and leaves the marks of all lines; a book of 32,768 bytes has at most 6,548 cells
+pub scan-is : (n : ℕ) (b : List ℕ) (cells : ℕ) (o : Bool × List ℕ) → length b ≤ frontOf n + 5 * cells → o ≡ scanOf n b (linesOf n) 0 (replicate (cells + 2) 0)
+    → (o .0 ≡ isSound n b) × (o .0 ≡ true → Marked n b cells (linesOf n) (o .1))
+scan-is n b cells o size e = rw e (told .0 ∙ lines-sound n b, told .1)
+  where
+    told : (scanOf n b (linesOf n) 0 (replicate (cells + 2) 0) .0 ≡ allFrom (linesOf n) 0 (lineSound n b))
+        × (scanOf n b (linesOf n) 0 (replicate (cells + 2) 0) .0 ≡ true → Marked n b cells (linesOf n) (scanOf n b (linesOf n) 0 (replicate (cells + 2) 0) .1))
+    told =
+        scan-from n b cells size (linesOf n) 0 (linesOf n) (replicate (cells + 2) 0) (omega arith)
+        (record {
+          long = omega (arith, length-replicate {A = ℕ} (cells + 2) 0);
+          first = zeros (cells + 2) 0;
+          marks-each = λ l h q. absurd (omega arith);
+          means = λ c d. absurd (d (zeros (cells + 2) c));
+        })
+        (λ l h q. absurd (omega arith))
 
 -- ---- for a loop: one turn, and the end
 
@@ -334,14 +343,14 @@ pub scan-turn : (n : ℕ) (b : List ℕ) (k : ℕ) (marks : List ℕ) → k < li
     if isKept b k then (
     if isClear marks (cellOf n (placeAt b k)) (offsetOf n (placeAt b k)) then
     scanOf n b (linesOf n - (k + 1)) (k + 1) (markedOf marks (cellOf n (placeAt b k)) (offsetOf n (placeAt b k)))
-    else false)
+    else (false, marks))
     else scanOf n b (linesOf n - (k + 1)) (k + 1) marks)
-    else false)
-    else false)
+    else (false, marks))
+    else (false, marks))
 unfolding scanOf
 scan-turn n b k marks l = let e : linesOf n - k ≡ suc (linesOf n - (k + 1)) = omega arith in rw e
 
-pub scan-end : (n : ℕ) (b : List ℕ) (k : ℕ) (marks : List ℕ) → linesOf n ≤ k → scanOf n b (linesOf n - k) k marks ≡ true
+pub scan-end : (n : ℕ) (b : List ℕ) (k : ℕ) (marks : List ℕ) → linesOf n ≤ k → scanOf n b (linesOf n - k) k marks ≡ (true, marks)
 unfolding scanOf
 scan-end n b k marks l = let e : linesOf n - k ≡ 0 = omega arith in rw e
 

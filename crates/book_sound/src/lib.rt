@@ -124,13 +124,14 @@ fn is_clear(marks: &[u8], c: usize, r: u8) -> bool
     false
 }
 
-// From line 0 on: each line fits, and its body overlaps none of a line before. The marks are those of the lines seen.
-fn scan(n: usize, book: &[u8], marks: &mut [u8]) -> bool
+// Whether no line or kept body fits no rule, and no two bodies overlap, with marks that begin as zeros: from line 0 on,
+// each line fits, and its body overlaps none of a line before. The marks become those of the lines seen.
+pub fn scan(n: usize, book: &[u8], marks: &mut [u8]) -> bool
     requires { ⌜ n ≤ 64 ⌝ }
     requires { ⌜ frontOf n ≤ length (now book) ⌝ }
     requires { ⌜ length (now book) ≤ frontOf n + 32740 ⌝ }
     requires { ⌜ 6550 ≤ length (now marks) ⌝ }
-    ensures { λ r. ⌜ r ≡ scanOf n (now (book .entry)) (linesOf n) 0 (now (marks .entry)) ⌝ }
+    ensures { λ r. ⌜ (r, now (marks .exit)) ≡ scanOf n (now (book .entry)) (linesOf n) 0 (now (marks .entry)) ⌝ }
 {
     let mut k = 0;
     while k < 4 * n {
@@ -156,7 +157,7 @@ fn scan(n: usize, book: &[u8], marks: &mut [u8]) -> bool
     true
 }
 
-// Whether no line or kept body fits no rule, and no two bodies overlap.
+// The same, with marks of its own.
 pub fn is_sound(n: usize, book: &[u8]) -> bool
     requires { ⌜ 1 ≤ n ⌝ }
     requires { ⌜ n ≤ 64 ⌝ }

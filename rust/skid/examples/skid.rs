@@ -2,8 +2,8 @@
 //! keys at once, health and waiters, the book with its slides and versions, a dip and its salvage, leases of the boot
 //! before. Each figure is checked; the last line says how many were.
 use skid::kernel::{
-    Arena, Book, BookMemory, BookRefusal, Change, Guard, Head, Key, Lease, Lock, Memory, Reason,
-    Refusal, Report, SalvageRefusal, Setpoint, State, TakeError,
+    Arena, Book, BookMemory, BookRefusal, Buckets, Change, Guard, Head, Headers, Key, Lease, Lock,
+    Memory, Reason, Refusal, Report, SalvageRefusal, Setpoint, State, TakeError,
 };
 use std::cell::RefCell;
 use std::sync::atomic::{AtomicUsize, Ordering};
@@ -16,12 +16,13 @@ const SENSORS: u32 = 2;
 /// Bindings 1 and 3 both name the valves; binding 4 names a header that is not there.
 const REGISTRY: [u32; 5] = [0, VALVES, SENSORS, VALVES, 7];
 
-type Plant = Memory<HEADERS, BUCKETS>;
+type Plant = Memory<Headers<HEADERS>, Buckets<BUCKETS>>;
 type Pages = BookMemory<CELLS>;
 
 /// The limits themselves are allowed.
-const _: (Memory<64, 64>, Memory<4, 1024>, BookMemory<64>) =
-    (Memory::new(), Memory::new(), BookMemory::new());
+const _: Memory<Headers<64>, Buckets<64>> = Memory::new();
+const _: Memory<Headers<4>, Buckets<1024>> = Memory::new();
+const _: BookMemory<64> = BookMemory::new();
 
 static CHECKS: AtomicUsize = AtomicUsize::new(0);
 
@@ -196,21 +197,24 @@ fn all_keys_refused(arena: &mut Arena) {
     check!((held(arena), arena.head().next), (2, 11));
 }
 
-/// A list with a double of which one lease is gone: none is given back, and the position is that of the key.
+/// A list with a double of which one lease is gone: none is given back, the position is that of the key, and the leases
+/// come back.
 fn not_all_given(arena: &mut Arena) {
     let grants = arena.take_all([key(0, 0), key(0, 0), key(0, 1)]).unwrap();
     let last = numbers(grants.get(2).unwrap());
     let (cell, serial, boot) = last;
     let copy = Lease::from_raw(skid::Lease { cell, serial, boot });
     check!(arena.give(copy), Ok(()));
-    check!(arena.give_all(grants), Err(Refusal::NotHeld(2)));
+    let not_given = arena.give_all(grants).unwrap_err();
+    check!(not_given.refusal, Refusal::NotHeld(2));
     check!(held(arena), 3);
-    let first = Lease::from_raw(skid::Lease {
-        cell: 0,
-        serial: serial - 1,
-        boot,
-    });
-    check!(arena.give(first), Ok(()));
+    let mut leases = not_given.grants.into_leases();
+    check!(leases.next().map(|lease| arena.give(lease)), Some(Ok(())));
+    check!(
+        leases.next().map(|lease| arena.give(lease)),
+        Some(Err(Refusal::NotHeld(0)))
+    );
+    check!(leases.next(), None);
 }
 
 /// What others set.

@@ -37,8 +37,8 @@ impl Setpoint {
     }
 }
 
-/// The refusals of the book's calls. Each changes no byte.
-#[derive(Clone, Copy, Debug, PartialEq, Eq, Hash)]
+/// The refusals of the book's calls, in the order of their tests. Each changes no byte.
+#[derive(Clone, Copy, Debug, PartialEq, Eq, PartialOrd, Ord, Hash)]
 #[non_exhaustive]
 pub enum BookRefusal {
     /// Document 01's 1: the head or the table's length breaks the arena's rules.

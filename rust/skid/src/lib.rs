@@ -15,9 +15,9 @@
 //! refused. No call of it has a script or a held list, since a kernel's others act between its calls.
 //!
 //! ```
-//! use skid::kernel::{Arena, Key, Memory, TakeError};
+//! use skid::kernel::{Arena, Buckets, Headers, Key, Memory, TakeError};
 //!
-//! let mut memory = Memory::<2, 4>::new(); // headers, buckets: checked when it is compiled
+//! let mut memory = Memory::<Headers<2>, Buckets<4>>::new(); // the shape is checked when it is compiled
 //! let mut arena = Arena::open(&mut memory, &[0, 1, 1], 5); // the registry, boot number 5
 //! match arena.take(Key { binding: 0, bucket: 2 }) {
 //!     Ok(valve) => arena.give(valve).unwrap(), // ours until it is given back
@@ -62,6 +62,12 @@
 
 #[cfg(not(any(target_arch = "x86_64", doc, clippy)))]
 compile_error!("libskid.a is x86-64 code: build for an x86-64 target; elsewhere cross compile");
+#[cfg(any(
+    all(target_arch = "x86_64", not(target_pointer_width = "64")),
+    windows,
+    target_os = "uefi"
+))]
+compile_error!("libskid.a is called by the System V convention, with 64 bits in a pointer, and this target has another one");
 #[cfg(all(
     target_arch = "x86_64",
     not(any(target_feature = "sse", feature = "sse_is_on"))
@@ -233,7 +239,7 @@ pub struct Counts {
 
 /// Why it is Busy. In a try_lock the waiters are looked at first, so a held cell that somebody waits for is `Before`
 /// there.
-#[derive(Clone, Copy, Debug, PartialEq, Eq, Hash)]
+#[derive(Clone, Copy, Debug, PartialEq, Eq, PartialOrd, Ord, Hash)]
 pub enum Reason {
     /// The cell is held, by this serial.
     Held(u32),
@@ -255,8 +261,8 @@ impl Reason {
     }
 }
 
-/// The sixteen refusals, with what each carries.
-#[derive(Clone, Copy, Debug, PartialEq, Eq, Hash)]
+/// The sixteen refusals, with what each carries, in the order of their numbers.
+#[derive(Clone, Copy, Debug, PartialEq, Eq, PartialOrd, Ord, Hash)]
 #[non_exhaustive]
 pub enum Refusal {
     /// 1: the head or a length breaks the arena's rules.

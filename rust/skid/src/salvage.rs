@@ -23,7 +23,7 @@ pub struct Salvaged {
 }
 
 /// The refusals of a salvage. Each changes no lent word.
-#[derive(Clone, Copy, Debug, PartialEq, Eq, Hash)]
+#[derive(Clone, Copy, Debug, PartialEq, Eq, PartialOrd, Ord, Hash)]
 #[non_exhaustive]
 pub enum SalvageRefusal {
     /// Document 01's 1: the head or a length breaks the arena's rules.

@@ -8,16 +8,16 @@ use Rattle.book_compact.proofs.put_places.Statement.{statement}
 use Rattle.book_compact.proofs.put_places.Tie as tie
 
 abbrev Inv-loop : tie.InvT-loop
-Inv-loop n places book₀ moved₀ k₀ book moved k =
-    (k ≤ 4 * n) × (moved ≡ countedOf n places book₀ k) × (book ≡ placedOf n places book₀ k)
+Inv-loop n ranks book₀ moved₀ k₀ book moved k =
+    (k ≤ 4 * n) × (moved ≡ countedOf n ranks book₀ k) × (book ≡ placedOf n ranks book₀ k)
 
 abbrev μ-loop : tie.MeasureT-loop
-μ-loop n places book₀ moved₀ k₀ book moved k = 4 * n - k
+μ-loop n ranks book₀ moved₀ k₀ book moved k = 4 * n - k
 
 loop-holds : tie.Need-loop-holds Inv-loop μ-loop
 loop-holds c =
     let a = c .before .before .args in
-    (search needs, sym (counted-start (a .n) (a .places .now) (a .book .now)), sym (placed-start (a .n) (a .places .now) (a .book .now)))
+    (search needs, sym (counted-start (a .n) (a .ranks .now) (a .book .now)), sym (placed-start (a .n) (a .ranks .now) (a .book .now)))
 
 mul-loop : tie.Need-mul-loop Inv-loop μ-loop
 mul-loop c = search needs
@@ -26,14 +26,14 @@ put-place-requires : tie.Need-put-place-requires Inv-loop μ-loop
 put-place-requires c κs =
     let l = c .before .before .loop in
     let a = c .before .before .before .before .before .args in
-    let size = placed-size (a .n) (a .places .now) (a .book .now) (l .book) (l .k) (l .inv .2) in
-    (search needs, (omega (arith, size, c .before .loop-test .taken, c .before .before .before .before .before .pre .1 .0), (placed-lies (a .n) (a .places .now) (a .book .now) (l .book) (l .k) (l .inv .2) (c .before .before .before .before .before .pre .1 .1 .0) (c .before .loop-test .taken), search needs)))
+    let size = placed-size (a .n) (a .ranks .now) (a .book .now) (l .book) (l .k) (l .inv .2) in
+    (search needs, (omega (arith, size, c .before .loop-test .taken, c .before .before .before .before .before .pre .1 .0), (placed-lies (a .n) (a .ranks .now) (a .book .now) (l .book) (l .k) (l .inv .2) (c .before .before .before .before .before .pre .1 .1 .0) (c .before .loop-test .taken), search needs)))
 
 add-moved : tie.Need-add-moved Inv-loop μ-loop
 add-moved c =
     let l = c .before .before .before .before .before .loop in
     let a = c .before .before .before .before .before .before .before .before .args in
-    omega (arith, l .inv .1, counted-small (a .n) (a .places .now) (a .book .now) (l .k), done-small _ _ _ _ _ (c .before .before .put-place .ensures), c .before .before .before .before .loop-test .taken, c .before .before .before .before .before .before .before .before .pre .0)
+    omega (arith, l .inv .1, counted-small (a .n) (a .ranks .now) (a .book .now) (l .k), done-small _ _ _ _ _ (c .before .before .put-place .ensures), c .before .before .before .before .loop-test .taken, c .before .before .before .before .before .before .before .before .pre .0)
 
 add-k : tie.Need-add-k Inv-loop μ-loop
 add-k c = search needs
@@ -45,14 +45,14 @@ loop-again : tie.Need-loop-again Inv-loop μ-loop
 loop-again c =
     let l = c .before .before .before .before .before .loop in
     let a = c .before .before .before .before .before .before .before .before .args in
-    let t = turned (a .n) (a .places .now) (a .book .now) _ (l .book) (l .k) (l .moved) (c .before .before .put-place .ensures) (l .inv .2) (l .inv .1) in
+    let t = turned (a .n) (a .ranks .now) (a .book .now) _ (l .book) (l .k) (l .moved) (c .before .before .put-place .ensures) (l .inv .2) (l .inv .1) in
     (search needs, t .0, t .1)
 
 same-length : tie.Need-same-length Inv-loop μ-loop
 same-length c =
     let l = c .before .loop in
     let a = c .before .before .before .before .args in
-    omega (arith, placed-size (a .n) (a .places .now) (a .book .now) (l .book) (l .k) (l .inv .2))
+    omega (arith, placed-size (a .n) (a .ranks .now) (a .book .now) (l .book) (l .k) (l .inv .2))
 
 returns : tie.Need-returns Inv-loop μ-loop
 unfolding putPlacesOf

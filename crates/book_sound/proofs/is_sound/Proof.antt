@@ -1,5 +1,4 @@
 -- `book_sound::is_sound` meets its contract.
-use mathlib.Core.Path.{_∙_}
 use borrow.Author.Needs.{needs}
 use Rattle.book_sound.specs.Scan.{scan-is}
 use Rattle.book_sound.proofs.is_sound.Statement.{statement}
@@ -14,7 +13,7 @@ scan-requires c κs = search needs
 returns : tie.Need-returns
 returns c =
     let a = c .before .before .before .before .args in
-    c .before .scan .ensures ∙ scan-is (a .n) (a .book .now) 6548 (search needs)
+    scan-is (a .n) (a .book .now) 6548 _ (search needs) (c .before .scan .ensures) .0
 
 pub is-sound-spec : {M : Type 1} → statement M
 is-sound-spec = tie.close (tie.spec slice-aggregate-scan scan-requires returns)

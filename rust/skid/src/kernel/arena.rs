@@ -1,11 +1,11 @@
 use super::error::not_taken;
-use super::{Grants, Lease, Memory, TakeError};
+use super::{Buckets, Grants, Headers, Lease, Memory, NotGiven, TakeError};
 use crate::{
     raw, Answer, Head, Key, Reason, Refusal, Script, Step, CELL_WORDS, MAX_BINDINGS, MAX_LEASES,
 };
 
 /// What a cell's words say.
-#[derive(Clone, Copy, Debug, PartialEq, Eq, Hash)]
+#[derive(Clone, Copy, Debug, PartialEq, Eq, PartialOrd, Ord, Hash)]
 pub enum State {
     /// Nobody holds it.
     Free,
@@ -16,7 +16,7 @@ pub enum State {
 }
 
 /// A cell as it stands.
-#[derive(Clone, Copy, Debug, PartialEq, Eq, Hash)]
+#[derive(Clone, Copy, Debug, PartialEq, Eq, PartialOrd, Ord, Hash)]
 pub struct Cell {
     /// Header x B + bucket.
     pub cell: u32,
@@ -24,6 +24,21 @@ pub struct Cell {
     pub state: State,
     /// How many wait for it; one with waiters is not granted.
     pub waiters: u32,
+}
+
+impl Cell {
+    /// The cell that three words are, by the next serial.
+    fn of(cell: u32, words: &[u32], next: u32) -> Cell {
+        Cell {
+            cell,
+            state: match (words[0], words[1]) {
+                (0, 0) => State::Free,
+                (1, owner) if owner >= 1 && owner < next => State::Held(owner),
+                _ => State::Damaged,
+            },
+            waiters: words[2],
+        }
+    }
 }
 
 /// An open arena: its head, its registry, and the memory that it borrows.
@@ -59,16 +74,16 @@ impl<'a> Arena<'a> {
     /// Prepares the arena: every cell free, every header healthy, serials from 1. `boot` is a number that no opening
     /// before it had. The registry says which header each binding names. It cannot be refused: lengths and limits are
     /// checked when it is compiled.
-    pub fn open<const HEADERS: usize, const BUCKETS: usize, const BINDINGS: usize>(
-        memory: &'a mut Memory<HEADERS, BUCKETS>,
+    pub fn open<const H: usize, const B: usize, const BINDINGS: usize>(
+        memory: &'a mut Memory<Headers<H>, Buckets<B>>,
         registry: &'a [u32; BINDINGS],
         boot: u32,
     ) -> Arena<'a> {
-        let () = Memory::<HEADERS, BUCKETS>::FITS;
+        let () = Memory::<Headers<H>, Buckets<B>>::FITS;
         Self::registry_fits::<BINDINGS>();
         let head = Head {
-            headers: HEADERS as u32,
-            buckets: BUCKETS as u32,
+            headers: H as u32,
+            buckets: B as u32,
             next: 1,
             boot,
         };
@@ -113,13 +128,16 @@ impl<'a> Arena<'a> {
 
     /// Why a key's cell would be Busy now, as [`Arena::take`] would find it. A key of no cell or of a poisoned header is
     /// not Busy, nor a damaged cell that nobody waits for: these are for the call to refuse.
+    ///
+    /// It reads the cell's words itself, and that is tested and not proved. It grants nothing: a wrong look could only
+    /// say Busy in vain, or let a call of several keys ask a held cell 4,096 times.
     pub fn look(&self, key: Key) -> Option<Reason> {
         let Head { buckets, .. } = self.head();
         let header = *self.registry.get(key.binding as usize)?;
         if *self.calls.health().get(header as usize)? != 0 || key.bucket >= buckets {
             return None;
         }
-        let cell = self.cells().nth((header * buckets + key.bucket) as usize)?;
+        let cell = self.cell(header * buckets + key.bucket)?;
         match cell.state {
             _ if cell.waiters != 0 => Some(Reason::Before),
             State::Held(serial) => Some(Reason::Held(serial)),
@@ -138,15 +156,15 @@ impl<'a> Arena<'a> {
     }
 
     /// All keys or none, in any order, doubles too. Cells are taken in rising order, so that callers who take all they
-    /// need at once never wait for one another in a circle. Keys of one cell share a lease. Busy is looked for first:
-    /// the library's own call would ask a held cell 4,096 times.
+    /// need at once never wait for one another in a circle. Keys of one cell share a lease. Busy is looked for first
+    /// ([`Arena::look`]): the library's own call would ask a held cell 4,096 times.
     ///
     /// Bindings 1 and 2 both name header 1, so two of these three keys are one cell:
     ///
     /// ```
-    /// use skid::kernel::{Arena, Key, Memory};
+    /// use skid::kernel::{Arena, Buckets, Headers, Key, Memory};
     ///
-    /// let mut memory = Memory::<2, 4>::new();
+    /// let mut memory = Memory::<Headers<2>, Buckets<4>>::new();
     /// let mut arena = Arena::open(&mut memory, &[0, 1, 1], 1);
     /// let keys = [(1, 0), (0, 2), (2, 0)].map(|(binding, bucket)| Key { binding, bucket });
     /// let grants = arena.take_all(keys).unwrap();
@@ -192,20 +210,24 @@ impl<'a> Arena<'a> {
         done(self.calls.drop_lease(lease.0).answer)
     }
 
-    /// Gives the cells of several keys back, each once; or, if one is refused, none. A position is that of the key.
-    pub fn give_all<const N: usize>(&mut self, grants: Grants<N>) -> Result<(), Refusal> {
+    /// Gives the cells of several keys back, each once; or, if one is refused, none, and the leases come back with the
+    /// refusal. A position is that of the key.
+    pub fn give_all<const N: usize>(&mut self, grants: Grants<N>) -> Result<(), NotGiven<N>> {
         let mut once = [crate::Lease::default(); MAX_LEASES];
         let mut count = 0;
         for at in grants.firsts() {
             once[count] = grants.0[at].0;
             count += 1;
         }
-        let at_key = |at| grants.firsts().nth(at).unwrap_or(at);
         let played = self.calls.release_all(&mut Script::quiet(), &once[..count]);
-        done(played.answer).map_err(|refusal| match refusal {
-            Refusal::NotHeld(at) => Refusal::NotHeld(at_key(at)),
-            Refusal::StaleBoot(at) => Refusal::StaleBoot(at_key(at)),
-            other => other,
+        done(played.answer).map_err(|refusal| {
+            let at_key = |at| grants.firsts().nth(at).unwrap_or(at);
+            let refusal = match refusal {
+                Refusal::NotHeld(at) => Refusal::NotHeld(at_key(at)),
+                Refusal::StaleBoot(at) => Refusal::StaleBoot(at_key(at)),
+                other => other,
+            };
+            NotGiven { refusal, grants }
         })
     }
 
@@ -251,18 +273,17 @@ impl<'a> Arena<'a> {
         Some(*health == 0)
     }
 
+    /// A cell as it stands; none if it is not there.
+    pub fn cell(&self, cell: u32) -> Option<Cell> {
+        let place = CELL_WORDS * cell as usize;
+        let words = self.calls.table().get(place..place + CELL_WORDS)?;
+        Some(Cell::of(cell, words, self.head().next))
+    }
+
     /// The cells as they stand, rising.
     pub fn cells(&self) -> impl ExactSizeIterator<Item = Cell> + '_ {
         let next = self.head().next;
         let cells = self.calls.table().chunks_exact(CELL_WORDS).enumerate();
-        cells.map(move |(cell, words)| Cell {
-            cell: cell as u32,
-            state: match (words[0], words[1]) {
-                (0, 0) => State::Free,
-                (1, owner) if owner >= 1 && owner < next => State::Held(owner),
-                _ => State::Damaged,
-            },
-            waiters: words[2],
-        })
+        cells.map(move |(cell, words)| Cell::of(cell as u32, words, next))
     }
 }

@@ -35,7 +35,7 @@ impl<const COUNT: usize> Default for BookMemory<COUNT> {
 const _: () = assert!(SLOTS as usize * ROOMY_BYTES <= LONGEST_BOOK);
 
 /// What a write did.
-#[derive(Clone, Copy, Debug, PartialEq, Eq, Hash)]
+#[derive(Clone, Copy, Debug, PartialEq, Eq, PartialOrd, Ord, Hash)]
 pub struct Written {
     /// The slot's new version, from 1.
     pub version: u32,
@@ -55,9 +55,9 @@ pub struct Setting {
 /// The setpoint book: the newest four settings of each of the first 64 cells.
 ///
 /// ```
-/// use skid::kernel::{Arena, Book, BookMemory, Key, Memory, Setpoint};
+/// use skid::kernel::{Arena, Book, BookMemory, Buckets, Headers, Key, Memory, Setpoint};
 ///
-/// let (mut memory, mut pages) = (Memory::<2, 4>::new(), BookMemory::<8>::new());
+/// let (mut memory, mut pages) = (Memory::<Headers<2>, Buckets<4>>::new(), BookMemory::<8>::new());
 /// let mut arena = Arena::open(&mut memory, &[0, 1], 1);
 /// let mut book = Book::open(&arena, &mut pages)?;
 /// let valve = arena.take(Key { binding: 0, bucket: 2 }).unwrap();

@@ -1,9 +1,10 @@
+use super::Grants;
 use crate::{Answer, Reason, Refusal};
 use core::error::Error;
 use core::fmt::{self, Display, Formatter};
 
 /// Why nothing was taken. The position is that of the key among several, and else 0.
-#[derive(Clone, Copy, Debug, PartialEq, Eq, Hash)]
+#[derive(Clone, Copy, Debug, PartialEq, Eq, PartialOrd, Ord, Hash)]
 #[non_exhaustive]
 pub enum TakeError {
     /// Another holds the cell or waits for it: come back from the scheduler.
@@ -70,6 +71,29 @@ impl Error for TakeError {
             TakeError::Busy { .. } => None,
             TakeError::Refused { refusal, .. } => Some(refusal),
         }
+    }
+}
+
+/// Why the cells of several keys were not given back, and their leases, which are still the caller's: those that are
+/// live can be given one by one ([`Grants::into_leases`]).
+#[derive(Debug, PartialEq, Eq)]
+#[must_use = "leases that are forgotten leave their cells held"]
+pub struct NotGiven<const N: usize> {
+    /// Why; a position is that of the key.
+    pub refusal: Refusal,
+    /// The leases, none of them given back.
+    pub grants: Grants<N>,
+}
+
+impl<const N: usize> Display for NotGiven<N> {
+    fn fmt(&self, f: &mut Formatter<'_>) -> fmt::Result {
+        write!(f, "none of {N} keys is given back: {}", self.refusal)
+    }
+}
+
+impl<const N: usize> Error for NotGiven<N> {
+    fn source(&self) -> Option<&(dyn Error + 'static)> {
+        Some(&self.refusal)
     }
 }
 

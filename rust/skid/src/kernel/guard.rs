@@ -6,7 +6,7 @@ use core::mem;
 /// The kernel's own lock around its arena: one caller at a time, interrupts off where they call too.
 ///
 /// ```
-/// use skid::kernel::{Arena, Guard, Key, Lock, Memory};
+/// use skid::kernel::{Arena, Buckets, Guard, Headers, Key, Lock, Memory};
 /// use std::sync::Mutex;
 ///
 /// struct Plant<'a>(Mutex<Arena<'a>>);
@@ -17,7 +17,7 @@ use core::mem;
 ///     }
 /// }
 ///
-/// let mut memory = Memory::<2, 4>::new();
+/// let mut memory = Memory::<Headers<2>, Buckets<4>>::new();
 /// let plant = Plant(Mutex::new(Arena::open(&mut memory, &[0, 1], 1)));
 /// std::thread::scope(|tasks| {
 ///     for bucket in 0..4 {
@@ -30,7 +30,8 @@ use core::mem;
 /// assert_eq!(plant.with(|arena| arena.head().next), 5);
 /// ```
 pub trait Lock<'a> {
-    /// Does the work with the arena while nobody else has it.
+    /// Does the work with the arena while nobody else has it. Where a head is kept on paper, this writes it there,
+    /// after the work and before it lets go: nobody may act by a lease before.
     fn with<R>(&self, work: impl FnOnce(&mut Arena<'a>) -> R) -> R;
 }
 
@@ -45,9 +46,9 @@ impl<'a> Lock<'a> for RefCell<Arena<'a>> {
 ///
 /// ```
 /// use core::cell::RefCell;
-/// use skid::kernel::{Arena, Guard, Key, Memory};
+/// use skid::kernel::{Arena, Buckets, Guard, Headers, Key, Memory};
 ///
-/// let mut memory = Memory::<2, 4>::new();
+/// let mut memory = Memory::<Headers<2>, Buckets<4>>::new();
 /// let arena = RefCell::new(Arena::open(&mut memory, &[0, 1], 1));
 /// let key = Key { binding: 0, bucket: 2 };
 /// {

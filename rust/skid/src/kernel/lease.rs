@@ -3,8 +3,8 @@ use crate::MAX_LEASES;
 /// A cell that is ours, until it is given back: whoever gives it back has it no longer.
 ///
 /// ```compile_fail,E0382
-/// # use skid::kernel::{Arena, Key, Memory};
-/// # let mut memory = Memory::<2, 4>::new();
+/// # use skid::kernel::{Arena, Buckets, Headers, Key, Memory};
+/// # let mut memory = Memory::<Headers<2>, Buckets<4>>::new();
 /// # let mut arena = Arena::open(&mut memory, &[0, 1], 1);
 /// let lease = arena.take(Key { binding: 0, bucket: 0 }).unwrap();
 /// arena.give(lease).unwrap();

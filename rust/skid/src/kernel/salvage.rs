@@ -1,34 +1,58 @@
-use super::{Arena, Lease, Memory};
+use super::memory::{PerBucket, PerHeader};
+use super::{Arena, Buckets, Headers, Lease, Memory};
 use crate::{Change, Head, SalvageRefusal, CELL_WORDS};
 
 /// Room for all that a salvage of such a memory can find, so that it is never [`SalvageRefusal::ReportFull`]. It has 56
 /// bytes a cell: of a large arena it is better a static than on the stack.
 #[derive(Clone, Debug)]
-pub struct Report<const HEADERS: usize, const BUCKETS: usize> {
+pub struct Report<H: PerHeader, B: PerBucket> {
     // A change for each word and each health byte: (3 x B + 1) x H, at most this.
-    changes: [[[Change; CELL_WORDS + 1]; BUCKETS]; HEADERS],
-    cells: [[u32; BUCKETS]; HEADERS],
-    owners: [[u32; BUCKETS]; HEADERS],
+    changes: H::Of<B::Of<[Change; CELL_WORDS + 1]>>,
+    cells: H::Of<B::Of<u32>>,
+    owners: H::Of<B::Of<u32>>,
 }
 
-impl<const HEADERS: usize, const BUCKETS: usize> Report<HEADERS, BUCKETS> {
+impl<const H: usize, const B: usize> Report<Headers<H>, Buckets<B>> {
     /// Empty.
     pub const fn new() -> Self {
-        let () = Memory::<HEADERS, BUCKETS>::FITS;
+        let () = Memory::<Headers<H>, Buckets<B>>::FITS;
         let none = Change {
             place: 0,
             old: 0,
             new: 0,
         };
         Report {
-            changes: [[[none; CELL_WORDS + 1]; BUCKETS]; HEADERS],
-            cells: [[0; BUCKETS]; HEADERS],
-            owners: [[0; BUCKETS]; HEADERS],
+            changes: [[[none; CELL_WORDS + 1]; B]; H],
+            cells: [[0; B]; H],
+            owners: [[0; B]; H],
         }
+    }
+
+    /// Salvages table and health by this head, and tells what was found.
+    fn salvaged(
+        &mut self,
+        head: Head,
+        table: &mut [u32],
+        health: &mut [u8],
+    ) -> Result<Salvaged<'_>, SalvageRefusal> {
+        let changes = self.changes.as_flattened_mut().as_flattened_mut();
+        let cells = self.cells.as_flattened_mut();
+        let owners = self.owners.as_flattened_mut();
+        let (calls, found) = crate::Arena::salvage(head, table, health, changes, cells)?;
+        for (owner, cell) in owners.iter_mut().zip(&cells[..found.held]) {
+            *owner = calls.table()[CELL_WORDS * *cell as usize + 1];
+        }
+        let left = Left {
+            cells: &cells[..found.held],
+            owners: &owners[..found.held],
+            boot: head.boot,
+        };
+        let changes = &changes[..found.changed];
+        Ok(Salvaged { changes, left })
     }
 }
 
-impl<const HEADERS: usize, const BUCKETS: usize> Default for Report<HEADERS, BUCKETS> {
+impl<const H: usize, const B: usize> Default for Report<Headers<H>, Buckets<B>> {
     fn default() -> Self {
         Self::new()
     }
@@ -36,6 +60,7 @@ impl<const HEADERS: usize, const BUCKETS: usize> Default for Report<HEADERS, BUC
 
 /// What a salvage found.
 #[derive(Debug)]
+#[must_use = "each cell left held is to be confirmed or given back"]
 pub struct Salvaged<'r> {
     /// Each word and byte that it changed, rising.
     pub changes: &'r [Change],
@@ -79,9 +104,10 @@ impl<'a> Arena<'a> {
     /// memory. An older head than the last one frees leases that were given since, and gives their serials out again.
     ///
     /// ```
-    /// use skid::kernel::{Arena, Key, Memory, Report};
+    /// use skid::kernel::{Arena, Buckets, Headers, Key, Memory, Report};
     ///
-    /// let (mut memory, mut report) = (Memory::<2, 4>::new(), Report::<2, 4>::new());
+    /// let mut memory = Memory::<Headers<2>, Buckets<4>>::new();
+    /// let mut report = Report::<Headers<2>, Buckets<4>>::new();
     /// let mut arena = Arena::open(&mut memory, &[0, 1], 1);
     /// let numbers = arena.take(Key { binding: 0, bucket: 2 }).unwrap().into_raw();
     /// let paper = arena.head();
@@ -94,29 +120,31 @@ impl<'a> Arena<'a> {
     /// }
     /// # Ok::<(), skid::SalvageRefusal>(())
     /// ```
-    pub fn salvage<'r, const HEADERS: usize, const BUCKETS: usize, const BINDINGS: usize>(
+    pub fn salvage<'r, const H: usize, const B: usize, const BINDINGS: usize>(
         paper: Head,
-        memory: &'a mut Memory<HEADERS, BUCKETS>,
+        memory: &'a mut Memory<Headers<H>, Buckets<B>>,
         registry: &'a [u32; BINDINGS],
-        report: &'r mut Report<HEADERS, BUCKETS>,
+        report: &'r mut Report<Headers<H>, Buckets<B>>,
     ) -> Result<(Arena<'a>, Salvaged<'r>), SalvageRefusal> {
-        let () = Memory::<HEADERS, BUCKETS>::FITS;
+        let () = Memory::<Headers<H>, Buckets<B>>::FITS;
         Self::registry_fits::<BINDINGS>();
         let (table, health) = memory.as_mut_slices();
-        let room = table.len() + health.len();
-        let changes = &mut report.changes.as_flattened_mut().as_flattened_mut()[..room];
-        let cells = report.cells.as_flattened_mut();
-        let owners = report.owners.as_flattened_mut();
-        let (calls, found) = crate::Arena::salvage(paper, table, health, changes, cells)?;
-        for (owner, cell) in owners.iter_mut().zip(&cells[..found.held]) {
-            *owner = calls.table()[CELL_WORDS * *cell as usize + 1];
-        }
-        let left = Left {
-            cells: &cells[..found.held],
-            owners: &owners[..found.held],
-            boot: paper.boot,
-        };
-        let changes = &changes[..found.changed];
-        Ok((Arena { calls, registry }, Salvaged { changes, left }))
+        let found = report.salvaged(paper, table, health)?;
+        let calls = crate::Arena::resume(paper, table, health);
+        Ok((Arena { calls, registry }, found))
+    }
+
+    /// Mends an open arena in place, by the head in force: where a stray write has hit it, [`Refusal::Damaged`]. It
+    /// tells what was changed. Leases that were live stay so, with their owners; waiters become 0.
+    /// [`SalvageRefusal::ReportFull`] if the report is of a smaller memory and has no room: then nothing was mended.
+    ///
+    /// [`Refusal::Damaged`]: crate::Refusal::Damaged
+    pub fn mend<'r, const H: usize, const B: usize>(
+        &mut self,
+        report: &'r mut Report<Headers<H>, Buckets<B>>,
+    ) -> Result<&'r [Change], SalvageRefusal> {
+        let head = self.head();
+        let found = report.salvaged(head, self.calls.table, self.calls.health)?;
+        Ok(found.changes)
     }
 }

@@ -52,6 +52,40 @@ fn a_look_is_what_a_take_finds() {
     assert!(busy > 1000 && busy < 3000, "{busy} of 4,000 were Busy");
 }
 
+/// The same at every edge of a cell's words, of its header's health and of the next serial.
+#[test]
+fn a_look_is_what_a_take_finds_at_the_edges() {
+    const EDGES: [u32; 8] = [0, 1, 2, 3, 4, 5, u32::MAX - 1, u32::MAX];
+    for case in 0..3 * 8 * 3 * 3 * 8 {
+        let mut table = [
+            case as u32 % 3,
+            EDGES[case / 3 % 8],
+            EDGES[3 * (case / 24 % 3)],
+        ];
+        let mut health = [127 * (case / 72 % 3) as u8];
+        let head = Head {
+            headers: 1,
+            buckets: 1,
+            next: EDGES[case / 216],
+            boot: 1,
+        };
+        let calls = crate::Arena::resume(head, &mut table, &mut health);
+        let registry = &[0];
+        let mut arena = Arena { calls, registry };
+        let key = Key {
+            binding: 0,
+            bucket: 0,
+        };
+        let seen = arena.look(key);
+        let found = match arena.take(key) {
+            Err(TakeError::Busy { reason, .. }) => Some(reason),
+            _ => None,
+        };
+        // No open arena has next serial 0: there a take is refused, and what a look says is of no use.
+        assert!(head.next == 0 || seen == found, "{head:?} case {case}");
+    }
+}
+
 /// What a cell's state says is what the library's compare-and-set answers.
 #[test]
 fn a_state_is_what_the_library_finds() {
@@ -177,7 +211,8 @@ fn take_errors_have_words() {
 /// The largest memory, and a report that has room for every word of it.
 #[test]
 fn the_widest_memory_is_salvaged() {
-    let (mut memory, mut report) = (Memory::<64, 64>::new(), Report::<64, 64>::new());
+    let mut memory = Memory::<Headers<64>, Buckets<64>>::new();
+    let mut report = Report::<Headers<64>, Buckets<64>>::new();
     let paper = Arena::open(&mut memory, &[], 1).head();
     let (table, health) = memory.as_mut_slices();
     table.fill(7);
@@ -192,11 +227,40 @@ fn the_widest_memory_is_salvaged() {
         .all(|cell| cell.state == State::Free && cell.waiters == 0));
 }
 
+/// An open arena is mended in place: what was live stays so, what was damaged can be taken again.
+#[test]
+fn an_open_arena_is_mended() {
+    let (mut table, mut health) = ([0; 24], [0; 2]);
+    let calls = crate::Arena::prepare(2, 4, 1, 1, &mut table, &mut health).unwrap();
+    let registry = &[0, 1];
+    let mut arena = Arena { calls, registry };
+    let held = [arena.take_cell(2).unwrap(), arena.take_cell(3).unwrap()];
+    arena.calls.table[3 * 5] = 7;
+    assert!(arena
+        .take_cell(5)
+        .is_err_and(|error| error.number() == Some(9)));
+    let mut small = Report::<Headers<1>, Buckets<1>>::new();
+    assert_eq!(arena.mend(&mut small), Err(SalvageRefusal::ReportFull));
+    let mut report = Report::<Headers<2>, Buckets<4>>::new();
+    let change = Change {
+        place: 15,
+        old: 7,
+        new: 0,
+    };
+    assert_eq!(arena.mend(&mut report), Ok(&[change][..]));
+    assert_eq!(arena.mend(&mut report), Ok(&[][..]));
+    assert_eq!(
+        held.map(|lease| arena.read_permission(&lease)),
+        [Ok(2), Ok(3)]
+    );
+    assert!(arena.take_cell(5).is_ok());
+}
+
 /// The sizes that the pages say.
 #[test]
 fn sizes_are_as_said() {
     use core::mem::size_of;
-    assert_eq!(size_of::<Memory<4, 4>>(), 12 * 16 + 4);
-    assert_eq!(size_of::<Report<4, 4>>(), 56 * 16);
+    assert_eq!(size_of::<Memory<Headers<4>, Buckets<4>>>(), 12 * 16 + 4);
+    assert_eq!(size_of::<Report<Headers<4>, Buckets<4>>>(), 56 * 16);
     assert_eq!(size_of::<BookMemory<16>>(), 52 * 16);
 }
