@@ -18,7 +18,7 @@ start:
     movl $boot_stack_top, %esp
     movl %ebx, %edi         /* the start info: first argument of kernel() */
 
-    /* Addresses are as they are: one PML4 entry, one PDPT entry, 512 pages of 2 MiB. */
+    /* Addresses are as they are, up to 1 GiB: one PML4 entry, one PDPT entry, 512 pages of 2 MiB. */
     movl $pdpt + 3, pml4
     movl $pd + 3, pdpt
     xorl %ecx, %ecx
@@ -29,6 +29,11 @@ start:
     incl %ecx
     cmpl $512, %ecx
     jne 1b
+
+    /* The battery-backed memory, 2 MiB at 4 GiB. */
+    movl $paper_pd + 3, pdpt + 32
+    movl $0x83, paper_pd
+    movl $1, paper_pd + 4
 
     movl $pml4, %eax
     movl %eax, %cr3
@@ -102,6 +107,27 @@ tick_entry:
     popq %rax
     iretq
 
+/* The two functions that the library asks for. */
+    .globl memcpy, memset
+memcpy:
+    movq %rdi, %rax
+    movq %rdx, %rcx
+    rep movsb
+    ret
+memset:
+    movq %rdi, %r8
+    movzbl %sil, %eax
+    movabsq $0x0101010101010101, %rcx
+    imulq %rcx, %rax
+    movq %rdx, %rcx
+    shrq $3, %rcx
+    rep stosq               /* eight bytes at a time, then the rest */
+    movq %rdx, %rcx
+    andq $7, %rcx
+    rep stosb
+    movq %r8, %rax
+    ret
+
     .data
     .align 8
     .globl gdt
@@ -119,6 +145,7 @@ gdt_pointer:
 pml4: .skip 4096
 pdpt: .skip 4096
 pd:   .skip 4096
+paper_pd: .skip 4096
 boot_stack: .skip 32768
 boot_stack_top:
     .section .note.GNU-stack, "", @progbits

@@ -1,124 +1,168 @@
-/* The story: three tasks at work, what happens to them, a referee, and the counts at the end. */
+/*
+ * A skid in a box: a governor, a panel and a logger share motors and valves. Their programs, what happens to them, a
+ * referee, and the counts at the end. With -DBELIEVING the calls are those of believing.h, under the same names.
+ */
 #include "demo.h"
 
-const char *const cell_name[CELLS] = {"the main pump", "the spare pump", "the fan", "the chart drive",
-                                      "the inlet valve", "the outlet valve", "the bypass valve", "the drain valve"};
-const char *const task_name[TASKS] = {"governor", "panel", "logger"};
-struct plant_memory memory;
-struct pages_memory pages;
+enum { BUCKETS = 4, CELLS = 8, VALVES = 1, FIRST_VALVE = 4 }; /* header 0 has four motors, header 1 four valves */
+SKID_MEMORY(plant_memory, headers(2), buckets(4));
+static struct plant_memory memory;
+SKID_ARENA(plant, memory, registry(0, 1));
+SKID_REPORT(report, memory);
+SKID_BOOK_MEMORY(pages_memory, slots(8));
+static struct pages_memory pages;
+SKID_BOOK(book, pages);
+static const char *const name[TASKS] = {"governor", "panel", "logger"};
+static const char *const cell_name[CELLS] = {"the main pump", "the spare pump", "the fan", "the chart drive",
+                                             "the inlet valve", "the outlet valve", "the bypass valve", "the drain valve"};
 
-static struct task { /* a task's own notes */
-    struct skid_lease lease[CELLS];
-    size_t held;
-    bool working, resting;
-} task[TASKS];
-static uint32_t turns, left; /* turns so far, and until the story goes on */
-static bool is_new, is_calm, closing;
+#ifdef BELIEVING
+#include "believing.h"
+#else
+/* Whether a cell is a task's own when power comes: no, for nothing was granted since. */
+static bool is_still_mine(uint32_t me, uint32_t cell) { return (void)me, (void)cell, false; }
+
+/*
+ * A take during which somebody else does something: after the cell has been taken, before the library looks again.
+ * Nobody can act inside a call of skid_arena.h, since there is one caller at a time. Where a hand wheel or a sensor sets
+ * waiters and health by itself it happens; the library then gives the cell back. Here a script stands for it, which
+ * only the call of skid.h takes: two empty boundaries, then the step. All else is the arena's own.
+ */
+static struct skid_result take_meanwhile(struct skid_key key, uint32_t kind, uint32_t place, struct skid_lease *lease)
+{
+    const uint32_t script[9] = {SKID_STEP_END, 0, 0, SKID_STEP_END, 0, 0, kind, place, 1};
+    uint64_t reply[SKID_REPLY_WORDS];
+    skid_transactional_try_lock_bucket(SKID_THE_HEAD(&plant), SKID_THE_TABLE(&plant), SKID_THE_HEALTH(&plant), plant.registry,
+                                       plant.bindings, script, 9, 0, NULL, 0, key.binding, key.bucket, reply);
+    return skid_kept_lease(&plant, reply, lease);
+}
+#endif
+
+/*
+ * ---- paper: memory with a battery, which no power cut reaches; the emulator keeps it in a file. As docs/INTEGRATION.md
+ * asks, the boot number and the last head are there in two copies, each with a check sum and a running number. They are
+ * written in turn; of those that are right the newer counts.
+ */
+static struct paper { uint64_t running_number; uint32_t boot; struct skid_head head; uint32_t sum; } paper;
+static struct { struct paper copy[2]; struct skid_lease panels_note; } *const battery = (void *)0x100000000;
+
+static uint32_t sum_of(const struct paper *p)
+{
+    const uint8_t *byte = (const uint8_t *)p;
+    uint32_t sum = 2166136261u;
+    while (byte < (const uint8_t *)&p->sum) sum = (sum ^ *byte++) * 16777619u;
+    return sum;
+}
+static void write_paper(void)
+{
+    paper.running_number++;
+    paper.sum = sum_of(&paper);
+    battery->copy[paper.running_number % 2] = paper;
+}
+static bool read_paper(void)
+{
+    bool right[2], newer;
+    uint32_t i;
+    for (i = 0; i < 2; i++) {
+        right[i] = battery->copy[i].sum == sum_of(&battery->copy[i]);
+        if (!right[i]) say("Copy %u of the boot number is not right.", i);
+    }
+    newer = right[1] && (!right[0] || battery->copy[1].running_number > battery->copy[0].running_number);
+    paper = battery->copy[newer];
+    return right[newer];
+}
+/* A head that has changed is on paper before anybody acts by the lease. */
+static struct skid_result on_paper(struct skid_result r)
+{
+    if (plant.head.next == paper.head.next && plant.head.boot == paper.head.boot) return r;
+    paper.head = plant.head;
+    write_paper();
+    return r;
+}
 
 /* ---- the referee: it goes by the answers alone and reads no memory of the plant */
 
+static struct skid_lease note[TASKS][CELLS]; /* the tasks' own notes: what they have; a serial of 0 is no lease */
+static bool working[TASKS], resting[TASKS], closing, good = true;
 static uint32_t holder[CELLS]; /* who was granted the cell and has not given it back; TASKS for nobody */
 static uint32_t wrote[CELLS];  /* a bit for each task that has set it and still has it */
-static uint32_t written[CELLS], value[CELLS]; /* settings that were accepted, and the last one */
-static uint32_t grants, busy[4], poisoned, late_poisoned, stale, lost, no_grant, late_cell;
-static uint32_t bad_header = HEADERS;
+static uint32_t written[CELLS], value[CELLS]; /* settings accepted, and the last of them */
+static uint32_t turns, grants, busy[4], poisoned, late_poisoned, stale, ungranted;
+static uint32_t bad_header = 2, late_kind, late_cell; /* a step that comes during a take, and which cell was taken then */
 
-static struct skid_lease *note_of(uint32_t t, uint32_t cell)
+static void is_free(uint32_t cell) { holder[cell] = TASKS, wrote[cell] = 0; }
+static uint32_t held_bits(void)
 {
-    struct skid_lease *l = task[t].lease;
-    while (l < task[t].lease + task[t].held && (l->cell != cell || l->serial == 0)) l++;
-    return l < task[t].lease + task[t].held ? l : NULL;
-}
-uint32_t who_has(struct skid_lease lease)
-{
-    uint32_t t;
-    for (t = 0; t < TASKS; t++) {
-        struct skid_lease *l = note_of(t, lease.cell);
-        if (l && l->serial == lease.serial && l->boot == lease.boot) break;
-    }
-    return t;
-}
-void cell_was_freed(uint32_t cell)
-{
-    holder[cell] = TASKS;
-    wrote[cell] = 0;
+    uint32_t c, n = 0;
+    for (c = 0; c < CELLS; c++) n += memory.table[3 * c] != 0;
+    return n;
 }
 
 /* ---- the waveform: a step for each bit that a turn has changed, or one step if it has changed none */
 
-static uint32_t history[3 * 4096], steps;
-static bool drawn[CELLS];
-
-static void step(uint32_t kind, uint32_t cell)
-{
-    if (steps == sizeof history / sizeof *history / 3) return;
-    history[3 * steps] = kind;
-    history[3 * steps++ + 1] = cell;
-}
+static uint32_t history[4096][3], steps;
 static void draw(void)
 {
+    static bool drawn[CELLS];
     uint32_t c, before = steps;
-    for (c = 0; c < CELLS; c++) {
+    for (c = 0; c < CELLS && steps < 4096; c++) {
         if ((memory.table[3 * c] != 0) == drawn[c]) continue;
         drawn[c] = !drawn[c];
-        step(drawn[c] ? SKID_STEP_TAKE : SKID_STEP_RELEASE, c);
+        history[steps][0] = drawn[c] ? SKID_STEP_TAKE : SKID_STEP_RELEASE;
+        history[steps++][1] = c;
     }
-    if (steps == before) step(SKID_STEP_OBSERVE, 0);
+    if (steps == before && steps < 4096) steps++; /* of kind 0: it only counts */
 }
 static _Noreturn void finish(uint32_t code, const char *sentence)
 {
     static uint8_t text[65536];
     uint64_t reply[SKID_WAVE_WORDS];
-    skid_write_dump(CELLS, history, 3 * steps, text, sizeof text, reply);
+    skid_write_dump(CELLS, history[0], 3 * steps, text, sizeof text, reply);
     if (reply[SKID_WAVE_KIND] == SKID_WAVE_DONE) send_wave(text, reply[SKID_WAVE_SIZE]);
     say(sentence);
     stop(code);
 }
 
-/* ---- what a task does. Each of these is called on turn; next_turn() gives the turn away and waits for another. */
+/* ---- what a task does. It is on turn; next_turn() gives the turn to one by chance, and waits until it is back. */
 
+static uint32_t left; /* turns until the story goes on */
 static void next_turn(uint32_t me)
 {
     draw();
     turns++;
-    give_turn(--left ? chance(TASKS) : (uint32_t)STORY);
+    on_turn = --left ? chance(TASKS) : (uint32_t)STORY;
     await_turn(me);
 }
-
-static void say_busy(uint32_t me, uint32_t cell, struct skid_result r)
+static void say_busy(uint32_t me, const char *cell, struct skid_result r)
 {
-    const char *who = task_name[me];
     if (r.reason == SKID_REASON_HELD)
-        say("The %s wants %c: Busy, held by serial %u. It comes back later.", who, cell, r.reason_serial);
+        say("The %s wants %s: Busy, held by serial %u. It comes back later.", name[me], cell, r.reason_serial);
     else if (r.reason == SKID_REASON_BEFORE)
-        say("The %s wants %c: Busy, somebody waits for it. It comes back later.", who, cell);
+        say("The %s wants %s: Busy, somebody waits for it. It comes back later.", name[me], cell);
     else
-        say("The %s takes %c, and meanwhile somebody comes to wait for it: Busy, serial %u is spent. It comes back later.",
-            who, cell, r.reason_serial);
+        say("The %s takes %s, and just then somebody comes to wait for it: Busy, serial %u is spent. It comes back later.",
+            name[me], cell, r.reason_serial);
 }
-
-/* Asks once. It says why it is Busy when the reason is another than it has told. */
+/* Asks once. Why it is Busy it says when it has not just said so. */
 static struct skid_result ask(uint32_t me, uint32_t cell, uint32_t told)
 {
+    const struct skid_key key = {cell / BUCKETS, cell % BUCKETS};
     struct skid_lease l;
-    struct skid_result r = lock_take(me, cell, &l);
+    struct skid_result r = !late_kind ? skid_take(&plant, key, &l)
+                                      : take_meanwhile(key, late_kind, late_kind == SKID_STEP_WAITERS ? cell : key.binding, &l);
+    bool late = r.code == SKID_TRY_AGAIN ? r.reason == SKID_REASON_AFTER : r.code != SKID_OK && key.binding != bad_header;
+    on_paper(r);
+    if (late) late_kind = 0, late_cell = cell;
     if (r.code == SKID_OK) {
-        grants++;
-        holder[cell] = me;
-        task[me].lease[task[me].held++] = l;
-        say("The %s takes %c (serial %u).", task_name[me], cell, l.serial);
+        grants++, note[me][cell] = l, holder[cell] = me;
+        say("The %s takes %s (serial %u).", name[me], cell_name[cell], l.serial);
     } else if (r.code == SKID_TRY_AGAIN) {
         busy[r.reason]++;
-        if (r.reason == SKID_REASON_AFTER) late_cell = cell, lock_late(NOTHING_LATE);
-        if (r.reason != told) say_busy(me, cell, r);
-    } else if (cell / BUCKETS == bad_header) {
-        poisoned++;
-        say("The %s wants %c: refused, %s. It gives back what it has.", task_name[me], cell, skid_code_text(r.code));
+        if (r.reason != told) say_busy(me, cell_name[cell], r);
     } else {
-        late_poisoned++;
-        late_cell = cell, lock_late(NOTHING_LATE);
-        say("The %s takes %c, and meanwhile its header goes bad: refused, %s, and a serial is spent.", task_name[me], cell,
-            skid_code_text(r.code));
+        late_poisoned += late, poisoned += !late;
+        say(late ? "The %s takes %s, and just then its header goes bad: refused, %s, and a serial is spent."
+                 : "The %s wants %s: refused, %s. It gives back what it has.", name[me], cell_name[cell], skid_code_text(r.code));
     }
     return r;
 }
@@ -132,99 +176,95 @@ static bool take(uint32_t me, uint32_t cell)
     return r.code == SKID_OK;
 }
 
-/* Two that have a cell and have both set it; or one to whom it was not granted. */
+/* Two that have a cell and have both set it; or one that was not granted it. */
 static void judge(uint32_t me, uint32_t cell)
 {
     uint32_t t;
     wrote[cell] |= 1u << me;
     for (t = 0; t < TASKS && (t == me || !(wrote[cell] >> t & 1)); t++) {}
-    if (t < TASKS) say("*** TWO WRITERS: the %s and the %s both have %c, and both have set it.", task_name[t], task_name[me], cell);
+    if (t < TASKS) say("*** TWO WRITERS: the %s and the %s both have %s, and both have set it.", name[t], name[me], cell_name[cell]);
     if (t < TASKS && cell >= FIRST_VALVE) finish(TWO_WRITERS, "Two writers on one valve.");
-    if (holder[cell] != me) {
-        no_grant++;
-        say("*** A WRITER WITHOUT A GRANT: the %s has set %c.", task_name[me], cell);
-    }
+    if (holder[cell] == me) return;
+    ungranted++;
+    say("*** A WRITER WITHOUT A GRANT: the %s has set %s.", name[me], cell_name[cell]);
 }
-static bool set(uint32_t me, struct skid_lease *l)
+/* A lease that is refused is no lease any more. */
+static void lose(uint32_t me, const char *does, uint32_t cell, struct skid_result r)
 {
-    uint32_t c = l->cell, v = c < FIRST_VALVE ? 600 + 10 * chance(90) : chance(2), version;
-    struct skid_result r = lock_write(*l, v, &version);
+    struct skid_lease *l = &note[me][cell];
+    stale += r.code == SKID_STALE_BOOT;
+    say("The %s %s %s by serial %u of boot %u: refused, %s.", name[me], does, cell_name[cell], l->serial, l->boot, skid_code_text(r.code));
+    l->serial = 0;
+}
+static void set(uint32_t me, uint32_t c)
+{
+    uint32_t v = c < FIRST_VALVE ? 600 + 10 * chance(90) : chance(2);
+    struct skid_written w;
+    struct skid_result r = c < FIRST_VALVE ? skid_set_speed(&plant, &book, note[me][c], v, &w)
+                                           : skid_set_valve(&plant, &book, note[me][c], v, &w);
     if (r.code != SKID_OK) {
-        if (r.code == SKID_STALE_BOOT) stale++;
-        else lost++;
-        say("The %s sets %c by serial %u of boot %u: refused, %s.", task_name[me], c, l->serial, l->boot, skid_code_text(r.code));
-        l->serial = 0; /* it has no such lease any more */
-        return false;
+        lose(me, "sets", c, r);
+        return;
     }
-    written[c]++;
-    value[c] = v;
-    if (c < FIRST_VALVE) say("The %s sets %c to %u turns a minute (version %u).", task_name[me], c, v, version);
-    else say("The %s sets %c %s (version %u).", task_name[me], c, v ? "open" : "shut", version);
+    written[c]++, value[c] = v;
+    if (c < FIRST_VALVE) say("The %s sets %s to %u turns a minute (version %u).", name[me], cell_name[c], v, w.version);
+    else say("The %s sets %s %s (version %u).", name[me], cell_name[c], v ? "open" : "shut", w.version);
     judge(me, c);
-    return true;
 }
-static void give(uint32_t me, struct skid_lease l)
+static void give(uint32_t me, uint32_t c)
 {
-    struct skid_result r = lock_give(me, l);
-    wrote[l.cell] &= ~(1u << me);
-    if (r.code == SKID_OK) {
-        if (holder[l.cell] == me) holder[l.cell] = TASKS;
-        say("The %s releases %c.", task_name[me], l.cell);
-    } else {
-        lost++;
-        say("The %s releases %c: refused, %s.", task_name[me], l.cell, skid_code_text(r.code));
+    struct skid_result r = skid_give(&plant, note[me][c]);
+    wrote[c] &= ~(1u << me);
+    if (r.code != SKID_OK) {
+        lose(me, "releases", c, r);
+        return;
     }
+    if (holder[c] == me) is_free(c);
+    note[me][c].serial = 0;
+    say("The %s releases %s.", name[me], cell_name[c]);
 }
 
-/* Works with what it has, sets it, gives it back: a turn each. */
-static void work(uint32_t me, bool set_it)
+/* Works with all that it wanted, sets it, and in any case gives back what it has: a turn each. */
+static void work(uint32_t me, bool has_all)
 {
-    struct task *t = task + me;
-    uint32_t n;
-    size_t i;
-    t->working = set_it;
-    for (n = set_it ? 2 + chance(4) : 0; n; n--) next_turn(me);
-    for (i = 0; set_it && i < t->held && set(me, t->lease + i); i++) next_turn(me);
-    t->working = false;
-    for (i = 0; i < t->held; i++) {
-        if (t->lease[i].serial == 0) continue;
-        give(me, t->lease[i]);
-        t->lease[i].serial = 0;
-        next_turn(me);
-    }
-    t->held = 0;
+    uint32_t n = has_all ? 2 + chance(4) : 0;
+    for (working[me] = has_all; n; n--) next_turn(me);
+    for (n = 0; has_all && n < CELLS; n++)
+        if (note[me][n].serial) set(me, n), next_turn(me);
+    working[me] = false;
+    for (n = 0; n < CELLS; n++)
+        if (note[me][n].serial) give(me, n), next_turn(me);
 }
 
-/* At a task's first turn. The panel has a memory of its own, and in it the lease that it had when the power was cut. */
-enum { PANELS_NOTE = 8 }; /* a sector */
+/* A task's first turn. The panel has its own note of the lease that it had when the power was cut. */
 static void come_back(uint32_t me)
 {
-    struct task *t = task + me;
-    size_t i;
-    if (me == PANEL && !is_new) {
-        disk_read(PANELS_NOTE, t->lease, sizeof *t->lease);
-        t->held = 1;
-        say("The panel still has a lease of boot %u on %c and goes on by it.", t->lease->boot, t->lease->cell);
+    const struct skid_lease old = battery->panels_note;
+    uint32_t c, has = 0;
+    if (me == PANEL && paper.boot > 1) {
+        note[me][old.cell] = old, has++;
+        say("The panel still has its lease on %s, serial %u of boot %u, and goes on by it.", cell_name[old.cell], old.serial, old.boot);
     }
-    i = t->held;
-    t->held += lock_resume(me, t->lease + i, CELLS - i);
-    for (; i < t->held; i++) say("The %s finds its name on %c and goes on where it was.", task_name[me], t->lease[i].cell);
-    if (t->held) work(me, true);
+    for (c = 0; c < CELLS; c++) {
+        if (!is_still_mine(me, c)) continue;
+        note[me][c] = (struct skid_lease){c, me + 1, 0}, has++;
+        say("The %s finds its name on %s and goes on there.", name[me], cell_name[c]);
+    }
+    if (has) work(me, true);
 }
 
-/* One or two neighbours of a task's row, in rising order: so nobody waits in a circle. */
-static const uint32_t wants[TASKS][4] = {{0, 4, 5, 6}, {1, 4, 5, 7}, {3, 5, 6, 7}};
 static void program(uint32_t me)
 {
+    static const uint32_t wants[TASKS][4] = {{0, 4, 5, 6}, {1, 4, 5, 7}, {3, 5, 6, 7}};
     uint32_t n, i;
     await_turn(me);
     for (n = chance(10); n; n--) next_turn(me);
     come_back(me);
     for (;;) {
-        task[me].resting = true;
+        resting[me] = true;
         for (n = 1 + chance(3); n || closing; n -= !closing) next_turn(me);
-        task[me].resting = false;
-        i = chance(4);
+        resting[me] = false;
+        i = chance(4); /* one or two neighbours of its row, in rising order: so nobody waits in a circle */
         n = i < 3 ? chance(2) : 0;
         work(me, take(me, wants[me][i]) && (n == 0 || take(me, wants[me][i + 1])));
     }
@@ -235,39 +275,83 @@ static void program(uint32_t me)
 static void run(uint32_t n)
 {
     left = n;
-    give_turn(chance(TASKS));
+    on_turn = chance(TASKS);
     await_turn(STORY);
-}
-static uint32_t at_work(void) { return (uint32_t)task[0].working + task[1].working + task[2].working; }
-static bool all_rest(void) { return task[0].resting && task[1].resting && task[2].resting; }
-static bool panel_has_valve(void)
-{
-    const struct task *t = task + PANEL;
-    return t->working && t->held && t->lease[t->held - 1].serial && t->lease[t->held - 1].cell >= FIRST_VALVE;
 }
 static void run_until(const uint32_t *count)
 {
     uint32_t before = *count, n;
     for (n = 0; n < 300 && *count == before; n++) run(1);
 }
+static uint32_t panels_valve(void) /* that it is at work with; CELLS if there is none */
+{
+    uint32_t c = FIRST_VALVE;
+    while (c < CELLS && !(working[PANEL] && note[PANEL][c].serial)) c++;
+    return c;
+}
 
 /* Words that pass for cells, held or waited for, and bytes that pass for a book with a setting of each slot. */
 static void rubbish(void)
 {
-    uint32_t c, held = 0;
+    uint32_t c, at;
     for (c = 0; c < CELLS; c++) {
-        uint8_t *line = pages.bytes + SKID_SLOT_BYTES * c, *body = pages.bytes + SKID_SLOT_BYTES * CELLS + 5 * c;
+        uint8_t *line = pages.bytes + SKID_SLOT_BYTES * c; /* the place of the body, its length 5, version 1 */
+        at = SKID_SLOT_BYTES * CELLS + 5 * c;
+        line[0] = (uint8_t)at, line[1] = (uint8_t)(at >> 8), line[2] = 5, line[4] = 1;
+        pages.bytes[at] = c < FIRST_VALVE ? SKID_SPEED : SKID_VALVE, pages.bytes[at + 1] = (uint8_t)chance(2);
         memory.table[3 * c] = chance(4) == 0;
         memory.table[3 * c + 1] = chance(2) ? 0 : 1 + chance(6);
         memory.table[3 * c + 2] = chance(8) == 0;
-        held += memory.table[3 * c];
-        line[0] = (uint8_t)(body - pages.bytes), line[1] = (uint8_t)((body - pages.bytes) >> 8);
-        line[2] = 5, line[4] = 1;
-        body[0] = c < FIRST_VALVE ? SKID_SPEED : SKID_VALVE, body[1] = (uint8_t)chance(2);
+        memory.health[c / BUCKETS] = chance(8) == 0;
     }
-    memory.health[0] = chance(8) == 0;
-    memory.health[1] = chance(8) == 0;
-    say("Power comes. The memory holds rubbish: %u of %u cells pass for held, %u setpoints for set.", held, CELLS, CELLS);
+    say("Power comes. The memory holds rubbish: %u of %u cells pass for held, each setpoint for set.", held_bits(), CELLS);
+}
+static void cold_start(bool is_new)
+{
+    struct skid_setting s;
+    uint32_t c, set_ones = 0;
+    if ((!is_new && !read_paper()) || paper.boot == 4294967295u) {
+        say("The boot number is not known, or was the last. The kernel does not guess, and stops.");
+        stop(NO_NUMBER);
+    }
+    paper.boot++; /* on paper first, then used */
+    write_paper();
+    say("The boot number on paper is raised to %u%s.", paper.boot, is_new ? ", the first of a new skid" : "");
+    if (on_paper(skid_open(&plant, paper.boot)).code || skid_book_open(&plant, &book).code) stop(WRONG);
+    for (c = 0; c < CELLS; c++) set_ones += skid_book_read(&plant, &book, c, &s).code == SKID_OK;
+    say("The arena and the book are opened: %u cells are held, %u setpoints set.", held_bits(), set_ones);
+}
+
+/* A cell that the salvage left held is confirmed by the task that has it in its notes, or given back. */
+static void confirm(uint32_t c)
+{
+    struct skid_lease l = skid_left_lease(&plant, c);
+    uint32_t t = 0;
+    while (t < TASKS && (note[t][c].serial != l.serial || note[t][c].boot != l.boot)) t++;
+    if (t < TASKS) {
+        say("  %s is left held by serial %u: the %s confirms it.", cell_name[c], l.serial, name[t]);
+        return;
+    }
+    say("  %s is left held by serial %u: nobody knows it, it is given back.", cell_name[c], l.serial);
+    skid_give(&plant, l);
+}
+static void mend(void)
+{
+    static const char *const word[3] = {"bit", "owner", "waiters"};
+    uint32_t i;
+    read_paper();
+    say("The head in memory says next serial %u, the one on paper %u.", plant.head.next, paper.head.next);
+    if (skid_mend(&plant, paper.head, &report).code != SKID_OK) {
+        say("Nothing is mended: the lock believes what the dip left.");
+        return;
+    }
+    for (i = 0; i < report.changed; i++) {
+        const struct skid_change *c = report.changes + i; /* no health byte: the dip has hit none */
+        say("  Mended: %s, %s: was %u, is %u.", cell_name[c->place / 3], word[c->place % 3], c->was, c->now);
+    }
+    for (i = 0; i < report.held; i++) confirm(report.cells[i]);
+    for (i = 0; i < CELLS; i++)
+        if (memory.table[3 * i] == 0) is_free(i);
 }
 static void dip(void)
 {
@@ -277,12 +361,14 @@ static void dip(void)
         uint32_t c = chance(CELLS), word = chance(3);
         memory.table[3 * c + word] ^= 1u << (word == 0 ? 0 : chance(6));
     }
+    plant.head.next ^= 0x1010; /* the head in memory is not spared */
     draw();
-    lock_mend();
-    draw();
+    mend();
+    plant.head = paper.head;
 }
 
-static bool good = true;
+/* ---- what the theorems promise, as numbers */
+
 static void check(const char *what, uint32_t is, uint32_t should)
 {
     say("  %s: %u, should be %u: %s", what, is, should, is == should ? "right." : "WRONG.");
@@ -293,98 +379,93 @@ static void check_some(const char *what, uint32_t is)
     say("  %s: %s", what, is ? "at least one, right." : "none, WRONG.");
     good = good && is;
 }
-
-/* What the theorems promise, as numbers. */
 static void count(void)
 {
-    uint32_t c, held = 0, should = 0, v, wrong = 0;
-    for (c = 0; c < CELLS; c++) held += memory.table[3 * c], should += holder[c] < TASKS;
+    uint32_t c, granted = 0, wrong = 0;
+    struct skid_setting s;
+    for (c = 0; c < CELLS; c++) granted += holder[c] < TASKS;
     say("-- The kernel counts, after %u turns.", turns);
-    check("Serials spent; grants, and those given up late", lock_serials_spent(), grants + busy[SKID_REASON_AFTER] + late_poisoned);
-    check("Cells held; granted and not given back", held, should);
+    check("Serials spent (grants, and what was given up late)", plant.head.next - 1, grants + busy[SKID_REASON_AFTER] + late_poisoned);
+    check("Cells held (granted and not given back)", held_bits(), granted);
     for (c = 0; c < CELLS; c++) {
-        check(cell_name[c], lock_read(c, &v), written[c]);
-        wrong += written[c] && v != value[c];
+        skid_book_read(&plant, &book, c, &s);
+        check(cell_name[c], s.version, written[c]);
+        wrong += s.bits != value[c];
     }
-    check("Settings that do not read as they were set", wrong, 0);
-    check("Writers without a grant", no_grant, 0);
-    check("SSE registers lost when the timer took the processor away", registers_lost, 0);
+    check("Settings that read other than they were set", wrong, 0);
+    check("Writers without a grant", ungranted, 0);
+    check("SSE registers lost when the timer took the processor", registers_lost, 0);
     check_some("Ticks of the timer inside a call of the library", taken_inside);
-    check_some("Bytes of each stack never used", least_stack_left());
+    check_some("Bytes of each stack that were never used", least_stack_left());
 }
 
-static _Noreturn void first_boot(void)
+static _Noreturn void first_boot(bool is_calm)
 {
     uint32_t n;
     run(60);
     say("-- The header of the valves goes bad.");
-    lock_set_health(bad_header = 1, true);
+    skid_poison(&plant, bad_header = VALVES);
     run_until(&poisoned);
-    lock_set_health(1, false);
-    bad_header = HEADERS;
+    skid_heal(&plant, VALVES);
+    bad_header = 2;
     say("-- It is well again.");
     run(20);
     say("-- Somebody stands at the hand wheel of the outlet valve and waits for it.");
-    lock_set_waiters(5, 1);
+    skid_set_waiters(&plant, 5, 1);
     run_until(&busy[SKID_REASON_BEFORE]);
-    lock_set_waiters(5, 0);
+    skid_set_waiters(&plant, 5, 0);
     say("-- He has gone.");
     run(20);
-    lock_late(LATE_WAITER);
+    late_kind = SKID_STEP_WAITERS;
     run_until(&busy[SKID_REASON_AFTER]);
-    lock_set_waiters(late_cell, 0);
+    skid_set_waiters(&plant, late_cell, 0);
     say("-- Who came has gone.");
     run(20);
-    lock_late(LATE_HEALTH);
+    late_kind = SKID_STEP_HEALTH;
     run_until(&late_poisoned);
-    lock_set_health(late_cell / BUCKETS, false);
+    skid_heal(&plant, late_cell / BUCKETS);
     say("-- The header is well again.");
-    for (n = 0; n < 20 || (n < 500 && at_work() < 2); n++) run(1);
+    for (n = 0; n < 20 || (n < 500 && working[0] + working[1] + working[2] < 2); n++) run(1);
     if (!is_calm) dip();
     run(80);
-    for (n = 0; n < 500 && !panel_has_valve(); n++) run(1);
+    for (n = 0; n < 500 && panels_valve() == CELLS; n++) run(1);
     count();
-    check_some("Refused: the header is poisoned", poisoned);
-    check_some("Busy: somebody waits", busy[SKID_REASON_BEFORE]);
-    check_some("Busy: somebody comes while the cell is being taken", busy[SKID_REASON_AFTER]);
-    check_some("Refused: the header goes bad while the cell is being taken", late_poisoned);
-    disk_write(PANELS_NOTE, &task[PANEL].lease[task[PANEL].held - 1], sizeof(struct skid_lease));
+    check_some("Refused, the header is bad", poisoned);
+    check_some("Busy, somebody waits", busy[SKID_REASON_BEFORE]);
+    check_some("Busy, somebody comes just then", busy[SKID_REASON_AFTER]);
+    check_some("Refused, the header goes bad just then", late_poisoned);
+    battery->panels_note = note[PANEL][panels_valve() % CELLS];
     finish(good ? POWER_CUT : WRONG, good ? "-- The power is cut." : "Something is wrong.");
 }
-static _Noreturn void second_boot(void)
+static _Noreturn void later_boot(void)
 {
     uint32_t n;
     run(100);
     closing = true;
-    for (n = 0; n < 400 && !all_rest(); n++) run(1);
+    for (n = 0; n < 400 && !(resting[0] && resting[1] && resting[2]); n++) run(1);
     count();
-    check_some("Refused: a lease of an earlier boot", stale);
+    check_some("Refused, the lease is of an earlier boot", stale);
     finish(good ? ALL_RIGHT : WRONG, good ? "All as it should be." : "Something is wrong.");
 }
 
-static bool has_word(const char *line, char first)
-{
-    for (; *line; line++)
-        if (*line == first) return true;
-    return false;
-}
-
-/* The command line: a seed; `new` for a skid whose disk is empty; `calm` for clean memory and no dip. */
-void kernel(const uint8_t *start_info);
+/* The command line: a seed; `new` for a skid that has nothing on paper; `calm` for clean memory and no dip. */
+_Noreturn void kernel(const uint8_t *start_info);
 void kernel(const uint8_t *start_info)
 {
-    const char *line = (const char *)*(const uintptr_t *)(const void *)(start_info + 24), *at = line;
+    const char *at = *(const char *const *)(const void *)(start_info + 24);
+    bool is_new = false, is_calm = false;
     uint32_t seed = 0, i;
-    while (*at && (*at < '0' || *at > '9')) at++;
-    while (*at >= '0' && *at <= '9') seed = 10 * seed + (uint32_t)(*at++ - '0');
-    is_new = has_word(at, 'n'), is_calm = has_word(at, 'c');
-    seed_chance(is_new ? seed : seed + 1000000);
-    for (i = 0; i < CELLS; i++) holder[i] = TASKS;
+    for (; *at; at++) {
+        if (*at >= '0' && *at <= '9') seed = 10 * seed + (uint32_t)(*at - '0');
+        is_new |= *at == 'n', is_calm |= *at == 'c';
+    }
+    chance_state = (2 * seed + is_new) * 2654435761u | 1;
+    for (i = 0; i < CELLS; i++) is_free(i);
     if (is_new) say("Seed %u.", seed);
     if (!is_calm) rubbish();
-    if (!lock_start(is_new)) stop(NO_NUMBER);
+    cold_start(is_new);
     for (i = 0; i < TASKS; i++) start_task(i, program);
     start_timer();
-    if (is_new) first_boot();
-    second_boot();
+    if (is_new) first_boot(is_calm);
+    later_boot();
 }
