@@ -1,5 +1,5 @@
 /*
- * Where the machine begins, and where the timer interrupts.
+ * Where the machine begins, how its timer is started, and where the timer interrupts.
  *
  * The emulator enters by the PVH boot protocol: 32-bit, no paging, ebx the start info. From there to long mode, and to
  * kernel() in C.
@@ -64,6 +64,51 @@ long_mode:
 2:  cli
     hlt
     jmp 2b
+
+/* start_timer(): the interrupts and their stacks, the timer; then interrupts are on. */
+    .globl start_timer
+start_timer:
+    movl $task_state, %eax  /* a segment for the task state, which has the stacks; it is below 16 MiB */
+    movl %eax, %ecx
+    shll $16, %ecx
+    orl $103, %ecx
+    movl %ecx, gdt + 24
+    shrl $16, %eax
+    orl $0x8900, %eax
+    movl %eax, gdt + 28
+    movw $24, %ax
+    ltr %ax
+
+    movl $idt, %edi
+    movl $trap, %eax        /* what the processor cannot do, 0 to 31, on the second stack */
+    movl $2, %edx
+    xorl %ecx, %ecx
+1:  cmpl $32, %ecx
+    jne 2f
+    movl $tick_entry, %eax  /* the timer, on the first */
+    movl $1, %edx
+2:  movw %ax, (%rdi)
+    movw $8, 2(%rdi)
+    movb %dl, 4(%rdi)
+    movb $0x8E, 5(%rdi)     /* present; interrupts are off inside */
+    movl %eax, %esi
+    shrl $16, %esi
+    movw %si, 6(%rdi)
+    addq $16, %rdi
+    incl %ecx
+    cmpl $33, %ecx
+    jne 1b
+    lidt idt_pointer
+
+    movl $settings, %esi
+    movl $9, %ecx
+3:  movzbl (%rsi), %edx     /* a port, and what goes there */
+    movb 1(%rsi), %al
+    outb %al, %dx
+    addq $2, %rsi
+    loop 3b
+    sti
+    ret
 
 /*
  * The timer. The processor has changed to the interrupt's own stack (its gate says so) and has pushed five words there;
@@ -139,6 +184,18 @@ gdt:
 gdt_pointer:
     .word gdt_pointer - gdt - 1
     .long gdt
+idt_pointer:
+    .word 33 * 16 - 1
+    .quad idt
+task_state:
+    .skip 36
+    .quad tick_stack_top, trap_stack_top    /* the interrupt stack table */
+    .skip 50
+    .word 104
+settings:
+    .byte 0x20, 0x11, 0x21, 32, 0x21, 4, 0x21, 1    /* interrupts from 32 on, */
+    .byte 0x21, 0xFE, 0xA1, 0xFF                    /* the timer's and no other; */
+    .byte 0x43, 0x34, 0x40, 30, 0x40, 0             /* it ticks 1,193,182 / 30 times a second */
 
     .section .bss
     .align 4096
@@ -146,6 +203,12 @@ pml4: .skip 4096
 pdpt: .skip 4096
 pd:   .skip 4096
 paper_pd: .skip 4096
-boot_stack: .skip 32768
+idt:  .skip 33 * 16
+    .align 16
+    .skip 4096
+tick_stack_top:
+    .skip 4096
+trap_stack_top:
+    .skip 32768
 boot_stack_top:
     .section .note.GNU-stack, "", @progbits

@@ -4,7 +4,7 @@
 #include "skid_arena.h"
 
 enum { GOVERNOR, PANEL, LOGGER, TASKS, STORY = TASKS }; /* the story itself runs beside its three tasks */
-enum { STACK = 32768 }; /* docs/INTEGRATION.md: a write of the book needs 26,568; the rest is for the task's own frames */
+enum { STACK = 32768 }; /* docs/INTEGRATION.md: a write of the book needs 26,568; the rest is for our own frames */
 enum { ALL_RIGHT = 16, WRONG = 17, TWO_WRITERS = 18, TRAPPED = 19, POWER_CUT = 20, NO_NUMBER = 21 };
 
 void say(const char *text, ...); /* a line of the story; %s, %u */
@@ -16,6 +16,6 @@ void start_task(uint32_t who, void (*program)(uint32_t who));
 void start_timer(void);
 void await_turn(uint32_t me);
 extern volatile uint32_t on_turn;             /* who may call the library */
-extern uint32_t taken_inside, registers_lost; /* ticks inside a call of the library; SSE registers that a task found changed */
+extern uint32_t taken_inside, registers_lost; /* ticks inside a call of the library; SSE registers found changed */
 uint32_t least_stack_left(void);
 #endif

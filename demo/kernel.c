@@ -13,8 +13,8 @@ SKID_BOOK_MEMORY(pages_memory, slots(8));
 static struct pages_memory pages;
 SKID_BOOK(book, pages);
 static const char *const name[TASKS] = {"governor", "panel", "logger"};
-static const char *const cell_name[CELLS] = {"the main pump", "the spare pump", "the fan", "the chart drive",
-                                             "the inlet valve", "the outlet valve", "the bypass valve", "the drain valve"};
+static const char *const unit[CELLS] = {"the main pump",   "the spare pump",   "the fan",          "the chart drive",
+                                        "the inlet valve", "the outlet valve", "the bypass valve", "the drain valve"};
 
 #ifdef BELIEVING
 #include "believing.h"
@@ -24,23 +24,23 @@ static bool is_still_mine(uint32_t me, uint32_t cell) { return (void)me, (void)c
 
 /*
  * A take during which somebody else does something: after the cell has been taken, before the library looks again.
- * Nobody can act inside a call of skid_arena.h, since there is one caller at a time. Where a hand wheel or a sensor sets
- * waiters and health by itself it happens; the library then gives the cell back. Here a script stands for it, which
+ * Nobody can act inside a call of skid_arena.h, since there is one caller at a time. It happens where a hand wheel or a
+ * sensor sets waiters and health by itself; the library then gives the cell back. Here a script stands for it, which
  * only the call of skid.h takes: two empty boundaries, then the step. All else is the arena's own.
  */
 static struct skid_result take_meanwhile(struct skid_key key, uint32_t kind, uint32_t place, struct skid_lease *lease)
 {
     const uint32_t script[9] = {SKID_STEP_END, 0, 0, SKID_STEP_END, 0, 0, kind, place, 1};
     uint64_t reply[SKID_REPLY_WORDS];
-    skid_transactional_try_lock_bucket(SKID_THE_HEAD(&plant), SKID_THE_TABLE(&plant), SKID_THE_HEALTH(&plant), plant.registry,
-                                       plant.bindings, script, 9, 0, NULL, 0, key.binding, key.bucket, reply);
+    skid_transactional_try_lock_bucket(SKID_THE_HEAD(&plant), SKID_THE_TABLE(&plant), SKID_THE_HEALTH(&plant),
+                                       plant.registry, plant.bindings, script, 9, 0, NULL, 0, key.binding, key.bucket,
+                                       reply);
     return skid_kept_lease(&plant, reply, lease);
 }
 #endif
-
 /*
- * ---- paper: memory with a battery, which no power cut reaches; the emulator keeps it in a file. As docs/INTEGRATION.md
- * asks, the boot number and the last head are there in two copies, each with a check sum and a running number. They are
+ * ---- paper: memory with a battery, which no power cut reaches; the emulator keeps it in a file. The boot number and
+ * the last head are there as docs/INTEGRATION.md asks: two copies, each with a check sum and a running number. They are
  * written in turn; of those that are right the newer counts.
  */
 static struct paper { uint64_t running_number; uint32_t boot; struct skid_head head; uint32_t sum; } paper;
@@ -81,15 +81,13 @@ static struct skid_result on_paper(struct skid_result r)
 }
 
 /* ---- the referee: it goes by the answers alone and reads no memory of the plant */
-
 static struct skid_lease note[TASKS][CELLS]; /* the tasks' own notes: what they have; a serial of 0 is no lease */
 static bool working[TASKS], resting[TASKS], closing, good = true;
 static uint32_t holder[CELLS]; /* who was granted the cell and has not given it back; TASKS for nobody */
 static uint32_t wrote[CELLS];  /* a bit for each task that has set it and still has it */
 static uint32_t written[CELLS], value[CELLS]; /* settings accepted, and the last of them */
 static uint32_t turns, grants, busy[4], poisoned, late_poisoned, stale, ungranted;
-static uint32_t bad_header = 2, late_kind, late_cell; /* a step that comes during a take, and which cell was taken then */
-
+static uint32_t late_kind, late_cell; /* a step that comes during a take, and which cell was taken then */
 static void is_free(uint32_t cell) { holder[cell] = TASKS, wrote[cell] = 0; }
 static uint32_t held_bits(void)
 {
@@ -99,7 +97,6 @@ static uint32_t held_bits(void)
 }
 
 /* ---- the waveform: a step for each bit that a turn has changed, or one step if it has changed none */
-
 static uint32_t history[4096][3], steps;
 static void draw(void)
 {
@@ -124,7 +121,6 @@ static _Noreturn void finish(uint32_t code, const char *sentence)
 }
 
 /* ---- what a task does. It is on turn; next_turn() gives the turn to one by chance, and waits until it is back. */
-
 static uint32_t left; /* turns until the story goes on */
 static void next_turn(uint32_t me)
 {
@@ -133,36 +129,31 @@ static void next_turn(uint32_t me)
     on_turn = --left ? chance(TASKS) : (uint32_t)STORY;
     await_turn(me);
 }
-static void say_busy(uint32_t me, const char *cell, struct skid_result r)
-{
-    if (r.reason == SKID_REASON_HELD)
-        say("The %s wants %s: Busy, held by serial %u. It comes back later.", name[me], cell, r.reason_serial);
-    else if (r.reason == SKID_REASON_BEFORE)
-        say("The %s wants %s: Busy, somebody waits for it. It comes back later.", name[me], cell);
-    else
-        say("The %s takes %s, and just then somebody comes to wait for it: Busy, serial %u is spent. It comes back later.",
-            name[me], cell, r.reason_serial);
-}
+static const char *const why_busy[4] = { /* by enum skid_reason */
+    "", "The %s wants %s: Busy, held by serial %u. It comes back later.",
+    "The %s wants %s: Busy, somebody waits for it. It comes back later.",
+    "The %s takes %s, and just then somebody comes to wait for it: Busy, serial %u is spent. It comes back later."};
 /* Asks once. Why it is Busy it says when it has not just said so. */
 static struct skid_result ask(uint32_t me, uint32_t cell, uint32_t told)
 {
     const struct skid_key key = {cell / BUCKETS, cell % BUCKETS};
     struct skid_lease l;
-    struct skid_result r = !late_kind ? skid_take(&plant, key, &l)
-                                      : take_meanwhile(key, late_kind, late_kind == SKID_STEP_WAITERS ? cell : key.binding, &l);
-    bool late = r.code == SKID_TRY_AGAIN ? r.reason == SKID_REASON_AFTER : r.code != SKID_OK && key.binding != bad_header;
+    uint32_t place = late_kind == SKID_STEP_WAITERS ? cell : key.binding;
+    struct skid_result r = late_kind ? take_meanwhile(key, late_kind, place, &l) : skid_take(&plant, key, &l);
+    bool late = r.code == SKID_TRY_AGAIN ? r.reason == SKID_REASON_AFTER : r.code && late_kind == SKID_STEP_HEALTH;
     on_paper(r);
     if (late) late_kind = 0, late_cell = cell;
     if (r.code == SKID_OK) {
         grants++, note[me][cell] = l, holder[cell] = me;
-        say("The %s takes %s (serial %u).", name[me], cell_name[cell], l.serial);
+        say("The %s takes %s (serial %u).", name[me], unit[cell], l.serial);
     } else if (r.code == SKID_TRY_AGAIN) {
         busy[r.reason]++;
-        if (r.reason != told) say_busy(me, cell_name[cell], r);
+        if (r.reason != told) say(why_busy[r.reason], name[me], unit[cell], r.reason_serial);
     } else {
         late_poisoned += late, poisoned += !late;
         say(late ? "The %s takes %s, and just then its header goes bad: refused, %s, and a serial is spent."
-                 : "The %s wants %s: refused, %s. It gives back what it has.", name[me], cell_name[cell], skid_code_text(r.code));
+                 : "The %s wants %s: refused, %s. It gives back what it has.",
+            name[me], unit[cell], skid_code_text(r.code));
     }
     return r;
 }
@@ -176,25 +167,26 @@ static bool take(uint32_t me, uint32_t cell)
     return r.code == SKID_OK;
 }
 
-/* Two that have a cell and have both set it; or one that was not granted it. */
+/* Two that have a cell and have both set it; or one to whom it was not granted. */
 static void judge(uint32_t me, uint32_t cell)
 {
     uint32_t t;
     wrote[cell] |= 1u << me;
     for (t = 0; t < TASKS && (t == me || !(wrote[cell] >> t & 1)); t++) {}
-    if (t < TASKS) say("*** TWO WRITERS: the %s and the %s both have %s, and both have set it.", name[t], name[me], cell_name[cell]);
+    if (t < TASKS)
+        say("*** TWO WRITERS: the %s and the %s both have %s, and both have set it.", name[t], name[me], unit[cell]);
     if (t < TASKS && cell >= FIRST_VALVE) finish(TWO_WRITERS, "Two writers on one valve.");
     if (holder[cell] == me) return;
     ungranted++;
-    say("*** A WRITER WITHOUT A GRANT: the %s has set %s.", name[me], cell_name[cell]);
+    say("*** A WRITER WITHOUT A GRANT: the %s has set %s.", name[me], unit[cell]);
 }
 /* A lease that is refused is no lease any more. */
 static void lose(uint32_t me, const char *does, uint32_t cell, struct skid_result r)
 {
-    struct skid_lease *l = &note[me][cell];
     stale += r.code == SKID_STALE_BOOT;
-    say("The %s %s %s by serial %u of boot %u: refused, %s.", name[me], does, cell_name[cell], l->serial, l->boot, skid_code_text(r.code));
-    l->serial = 0;
+    say("The %s %s %s by serial %u of boot %u: refused, %s.", name[me], does, unit[cell], note[me][cell].serial,
+        note[me][cell].boot, skid_code_text(r.code));
+    note[me][cell].serial = 0;
 }
 static void set(uint32_t me, uint32_t c)
 {
@@ -202,26 +194,23 @@ static void set(uint32_t me, uint32_t c)
     struct skid_written w;
     struct skid_result r = c < FIRST_VALVE ? skid_set_speed(&plant, &book, note[me][c], v, &w)
                                            : skid_set_valve(&plant, &book, note[me][c], v, &w);
-    if (r.code != SKID_OK) {
+    if (r.code) {
         lose(me, "sets", c, r);
         return;
     }
     written[c]++, value[c] = v;
-    if (c < FIRST_VALVE) say("The %s sets %s to %u turns a minute (version %u).", name[me], cell_name[c], v, w.version);
-    else say("The %s sets %s %s (version %u).", name[me], cell_name[c], v ? "open" : "shut", w.version);
+    if (c < FIRST_VALVE) say("The %s sets %s to %u turns a minute (version %u).", name[me], unit[c], v, w.version);
+    else say("The %s sets %s %s (version %u).", name[me], unit[c], v ? "open" : "shut", w.version);
     judge(me, c);
 }
 static void give(uint32_t me, uint32_t c)
 {
     struct skid_result r = skid_give(&plant, note[me][c]);
     wrote[c] &= ~(1u << me);
-    if (r.code != SKID_OK) {
-        lose(me, "releases", c, r);
-        return;
-    }
-    if (holder[c] == me) is_free(c);
+    if (r.code) lose(me, "releases", c, r);
+    else say("The %s releases %s.", name[me], unit[c]);
+    if (!r.code && holder[c] == me) is_free(c);
     note[me][c].serial = 0;
-    say("The %s releases %s.", name[me], cell_name[c]);
 }
 
 /* Works with all that it wanted, sets it, and in any case gives back what it has: a turn each. */
@@ -243,12 +232,13 @@ static void come_back(uint32_t me)
     uint32_t c, has = 0;
     if (me == PANEL && paper.boot > 1) {
         note[me][old.cell] = old, has++;
-        say("The panel still has its lease on %s, serial %u of boot %u, and goes on by it.", cell_name[old.cell], old.serial, old.boot);
+        say("The panel still has its lease on %s, serial %u of boot %u, and goes on by it.", unit[old.cell], old.serial,
+            old.boot);
     }
     for (c = 0; c < CELLS; c++) {
         if (!is_still_mine(me, c)) continue;
         note[me][c] = (struct skid_lease){c, me + 1, 0}, has++;
-        say("The %s finds its name on %s and goes on there.", name[me], cell_name[c]);
+        say("The %s finds its name on %s and goes on there.", name[me], unit[c]);
     }
     if (has) work(me, true);
 }
@@ -271,17 +261,17 @@ static void program(uint32_t me)
 }
 
 /* ---- what happens to them */
-
 static void run(uint32_t n)
 {
     left = n;
     on_turn = chance(TASKS);
     await_turn(STORY);
 }
-static void run_until(const uint32_t *count)
+static void run_until(const uint32_t *count, const char *then)
 {
     uint32_t before = *count, n;
     for (n = 0; n < 300 && *count == before; n++) run(1);
+    say(then);
 }
 static uint32_t panels_valve(void) /* that it is at work with; CELLS if there is none */
 {
@@ -301,10 +291,10 @@ static void rubbish(void)
         pages.bytes[at] = c < FIRST_VALVE ? SKID_SPEED : SKID_VALVE, pages.bytes[at + 1] = (uint8_t)chance(2);
         memory.table[3 * c] = chance(4) == 0;
         memory.table[3 * c + 1] = chance(2) ? 0 : 1 + chance(6);
-        memory.table[3 * c + 2] = chance(8) == 0;
-        memory.health[c / BUCKETS] = chance(8) == 0;
+        memory.table[3 * c + 2] = chance(16) == 0;
+        memory.health[c / BUCKETS] = chance(16) == 0;
     }
-    say("Power comes. The memory holds rubbish: %u of %u cells pass for held, each setpoint for set.", held_bits(), CELLS);
+    say("Power comes. The memory is rubbish: %u of %u cells pass for held, each setpoint for set.", held_bits(), CELLS);
 }
 static void cold_start(bool is_new)
 {
@@ -323,22 +313,19 @@ static void cold_start(bool is_new)
 }
 
 /* A cell that the salvage left held is confirmed by the task that has it in its notes, or given back. */
-static void confirm(uint32_t c)
+static bool is_confirmed(uint32_t c)
 {
     struct skid_lease l = skid_left_lease(&plant, c);
     uint32_t t = 0;
     while (t < TASKS && (note[t][c].serial != l.serial || note[t][c].boot != l.boot)) t++;
-    if (t < TASKS) {
-        say("  %s is left held by serial %u: the %s confirms it.", cell_name[c], l.serial, name[t]);
-        return;
-    }
-    say("  %s is left held by serial %u: nobody knows it, it is given back.", cell_name[c], l.serial);
-    skid_give(&plant, l);
+    if (t < TASKS) say("  %s is left held by serial %u: the %s confirms it.", unit[c], l.serial, name[t]);
+    else say("  %s is left held by serial %u: nobody knows it, it is given back.", unit[c], l.serial);
+    return t < TASKS || skid_give(&plant, l).code;
 }
 static void mend(void)
 {
     static const char *const word[3] = {"bit", "owner", "waiters"};
-    uint32_t i;
+    uint32_t i, stay = 0; /* a bit for each cell that stays held */
     read_paper();
     say("The head in memory says next serial %u, the one on paper %u.", plant.head.next, paper.head.next);
     if (skid_mend(&plant, paper.head, &report).code != SKID_OK) {
@@ -347,11 +334,11 @@ static void mend(void)
     }
     for (i = 0; i < report.changed; i++) {
         const struct skid_change *c = report.changes + i; /* no health byte: the dip has hit none */
-        say("  Mended: %s, %s: was %u, is %u.", cell_name[c->place / 3], word[c->place % 3], c->was, c->now);
+        say("  Mended: %s, %s: was %u, is %u.", unit[c->place / 3], word[c->place % 3], c->was, c->now);
     }
-    for (i = 0; i < report.held; i++) confirm(report.cells[i]);
+    for (i = 0; i < report.held; i++) stay |= (uint32_t)is_confirmed(report.cells[i]) << report.cells[i];
     for (i = 0; i < CELLS; i++)
-        if (memory.table[3 * i] == 0) is_free(i);
+        if (!(stay >> i & 1)) is_free(i);
 }
 static void dip(void)
 {
@@ -368,7 +355,6 @@ static void dip(void)
 }
 
 /* ---- what the theorems promise, as numbers */
-
 static void check(const char *what, uint32_t is, uint32_t should)
 {
     say("  %s: %u, should be %u: %s", what, is, should, is == should ? "right." : "WRONG.");
@@ -385,11 +371,12 @@ static void count(void)
     struct skid_setting s;
     for (c = 0; c < CELLS; c++) granted += holder[c] < TASKS;
     say("-- The kernel counts, after %u turns.", turns);
-    check("Serials spent (grants, and what was given up late)", plant.head.next - 1, grants + busy[SKID_REASON_AFTER] + late_poisoned);
+    check("Serials spent (grants, and what was given up late)", plant.head.next - 1,
+          grants + busy[SKID_REASON_AFTER] + late_poisoned);
     check("Cells held (granted and not given back)", held_bits(), granted);
     for (c = 0; c < CELLS; c++) {
         skid_book_read(&plant, &book, c, &s);
-        check(cell_name[c], s.version, written[c]);
+        check(unit[c], s.version, written[c]);
         wrong += s.bits != value[c];
     }
     check("Settings that read other than they were set", wrong, 0);
@@ -399,34 +386,29 @@ static void count(void)
     check_some("Bytes of each stack that were never used", least_stack_left());
 }
 
-static _Noreturn void first_boot(bool is_calm)
+static _Noreturn void first_boot(bool is_steady)
 {
     uint32_t n;
     run(60);
     say("-- The header of the valves goes bad.");
-    skid_poison(&plant, bad_header = VALVES);
-    run_until(&poisoned);
+    skid_poison(&plant, VALVES);
+    run_until(&poisoned, "-- It is well again.");
     skid_heal(&plant, VALVES);
-    bad_header = 2;
-    say("-- It is well again.");
     run(20);
     say("-- Somebody stands at the hand wheel of the outlet valve and waits for it.");
     skid_set_waiters(&plant, 5, 1);
-    run_until(&busy[SKID_REASON_BEFORE]);
+    run_until(&busy[SKID_REASON_BEFORE], "-- He has gone.");
     skid_set_waiters(&plant, 5, 0);
-    say("-- He has gone.");
     run(20);
     late_kind = SKID_STEP_WAITERS;
-    run_until(&busy[SKID_REASON_AFTER]);
+    run_until(&busy[SKID_REASON_AFTER], "-- Who came has gone.");
     skid_set_waiters(&plant, late_cell, 0);
-    say("-- Who came has gone.");
     run(20);
     late_kind = SKID_STEP_HEALTH;
-    run_until(&late_poisoned);
+    run_until(&late_poisoned, "-- It is well again.");
     skid_heal(&plant, late_cell / BUCKETS);
-    say("-- The header is well again.");
     for (n = 0; n < 20 || (n < 500 && working[0] + working[1] + working[2] < 2); n++) run(1);
-    if (!is_calm) dip();
+    if (!is_steady) dip();
     run(80);
     for (n = 0; n < 500 && panels_valve() == CELLS; n++) run(1);
     count();
@@ -448,24 +430,24 @@ static _Noreturn void later_boot(void)
     finish(good ? ALL_RIGHT : WRONG, good ? "All as it should be." : "Something is wrong.");
 }
 
-/* The command line: a seed; `new` for a skid that has nothing on paper; `calm` for clean memory and no dip. */
+/* The command line: a seed; `n` for a new skid, with nothing on paper; `c` for clean memory, `s` for steady power. */
 _Noreturn void kernel(const uint8_t *start_info);
 void kernel(const uint8_t *start_info)
 {
     const char *at = *(const char *const *)(const void *)(start_info + 24);
-    bool is_new = false, is_calm = false;
+    bool is_new = false, is_clean = false, is_steady = false;
     uint32_t seed = 0, i;
     for (; *at; at++) {
         if (*at >= '0' && *at <= '9') seed = 10 * seed + (uint32_t)(*at - '0');
-        is_new |= *at == 'n', is_calm |= *at == 'c';
+        is_new |= *at == 'n', is_clean |= *at == 'c', is_steady |= *at == 's';
     }
-    chance_state = (2 * seed + is_new) * 2654435761u | 1;
+    chance_state = (2 * (seed + 1) + is_new) * 2654435761u | 1;
     for (i = 0; i < CELLS; i++) is_free(i);
     if (is_new) say("Seed %u.", seed);
-    if (!is_calm) rubbish();
+    if (!is_clean) rubbish();
     cold_start(is_new);
     for (i = 0; i < TASKS; i++) start_task(i, program);
     start_timer();
-    if (is_new) first_boot(is_calm);
+    if (is_new) first_boot(is_steady);
     later_boot();
 }

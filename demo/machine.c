@@ -11,7 +11,6 @@ static inline uint8_t in8(uint32_t port)
 }
 
 /* ---- the serial lines: COM1 tells the story, COM2 has the waveform */
-
 enum { COM1 = 0x3F8, COM2 = 0x2F8 };
 static void put(uint32_t line, char c)
 {
@@ -45,7 +44,6 @@ void stop(uint32_t code) /* the emulator's isa-debug-exit: it ends with 2 x code
 }
 
 /* ---- chance: xorshift. Only who is on turn draws, so that all of the story comes from the seed. */
-
 uint32_t chance_state;
 uint32_t chance(uint32_t below)
 {
@@ -120,40 +118,8 @@ uint32_t least_stack_left(void) /* of the task that has used the most */
     return at;
 }
 
-void tick_entry(void);
-extern uint64_t gdt[];
-static struct { uint16_t low, segment; uint8_t ist, type; uint16_t middle; uint32_t high, zero; } idt[33];
-static struct __attribute__((packed)) { uint32_t zero; uint64_t rsp[3], zero2, ist[7], zero3; uint16_t zero4, map; } tss;
-static uint8_t tick_stack[4096] __attribute__((aligned(16))), trap_stack[4096] __attribute__((aligned(16)));
-
-__attribute__((interrupt)) static void trap(void *frame)
+_Noreturn void trap(void)
 {
-    (void)frame;
     say("*** A TRAP: the processor could not go on.");
     stop(TRAPPED);
-}
-static void gate(uint32_t n, void *to, uint8_t ist)
-{
-    uint64_t a = (uintptr_t)to;
-    idt[n].low = (uint16_t)a, idt[n].middle = (uint16_t)(a >> 16), idt[n].high = (uint32_t)(a >> 32);
-    idt[n].segment = 8, idt[n].ist = ist, idt[n].type = 0x8E; /* present, interrupts off inside */
-}
-void start_timer(void)
-{
-    struct __attribute__((packed)) { uint16_t size; void *at; } pointer = {sizeof idt - 1, idt};
-    static const uint8_t setting[][2] = {{0x20, 0x11}, {0x21, 32}, {0x21, 4}, {0x21, 1}, /* its interrupts from 32 on, */
-                                         {0x21, 0xFE}, {0xA1, 0xFF},                     /* the timer's and no other, */
-                                         {0x43, 0x34}, {0x40, 30}, {0x40, 0}};           /* 1,193,182 / 30 a second */
-    uint64_t n, t = (uintptr_t)&tss;
-    tss.ist[0] = (uintptr_t)(tick_stack + sizeof tick_stack);
-    tss.ist[1] = (uintptr_t)(trap_stack + sizeof trap_stack);
-    tss.map = sizeof tss;
-    gdt[3] = (sizeof tss - 1) | (t & 0xFFFFFF) << 16 | 0x89ull << 40 | (t >> 24 & 0xFF) << 56;
-    gdt[4] = t >> 32;
-    __asm__ volatile("ltr %w0" : : "r"(24));
-    for (n = 0; n < 32; n++) gate((uint32_t)n, trap, 2);
-    gate(32, tick_entry, 1);
-    __asm__ volatile("lidt %0" : : "m"(pointer));
-    for (n = 0; n < sizeof setting / sizeof *setting; n++) out8(setting[n][0], setting[n][1]);
-    __asm__ volatile("sti");
 }
