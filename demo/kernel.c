@@ -83,7 +83,7 @@ static struct skid_result on_paper(struct skid_result r)
 /* ---- the referee: it goes by the answers alone and reads no memory of the plant */
 static struct skid_lease note[TASKS][CELLS]; /* the tasks' own notes: what they have; a serial of 0 is no lease */
 static bool working[TASKS], resting[TASKS], closing, good = true;
-static uint32_t holder[CELLS]; /* who was granted the cell and has not given it back; TASKS for nobody */
+static uint32_t holder[CELLS]; /* who was last granted the cell and has not given it back; TASKS for nobody */
 static uint32_t wrote[CELLS];  /* a bit for each task that has set it and still has it */
 static uint32_t written[CELLS], value[CELLS]; /* settings accepted, and the last of them */
 static uint32_t turns, grants, busy[4], poisoned, late_poisoned, stale, ungranted;
@@ -151,9 +151,9 @@ static struct skid_result ask(uint32_t me, uint32_t cell, uint32_t told)
         if (r.reason != told) say(why_busy[r.reason], name[me], unit[cell], r.reason_serial);
     } else {
         late_poisoned += late, poisoned += !late;
-        say(late ? "The %s takes %s, and just then its header goes bad: refused, %s, and a serial is spent."
-                 : "The %s wants %s: refused, %s. It gives back what it has.",
-            name[me], unit[cell], skid_code_text(r.code));
+        say(late ? "The %s takes %s, and just then its header goes bad: refused by %u, %s, and a serial is spent."
+                 : "The %s wants %s: refused by %u, %s. It gives back what it has.",
+            name[me], unit[cell], r.code, skid_code_text(r.code));
     }
     return r;
 }
@@ -184,8 +184,8 @@ static void judge(uint32_t me, uint32_t cell)
 static void lose(uint32_t me, const char *does, uint32_t cell, struct skid_result r)
 {
     stale += r.code == SKID_STALE_BOOT;
-    say("The %s %s %s by serial %u of boot %u: refused, %s.", name[me], does, unit[cell], note[me][cell].serial,
-        note[me][cell].boot, skid_code_text(r.code));
+    say("The %s %s %s by serial %u of boot %u: refused by %u, %s.", name[me], does, unit[cell], note[me][cell].serial,
+        note[me][cell].boot, r.code, skid_code_text(r.code));
     note[me][cell].serial = 0;
 }
 static void set(uint32_t me, uint32_t c)
@@ -230,7 +230,7 @@ static void come_back(uint32_t me)
 {
     const struct skid_lease old = battery->panels_note;
     uint32_t c, has = 0;
-    if (me == PANEL && paper.boot > 1) {
+    if (me == PANEL && old.serial) {
         note[me][old.cell] = old, has++;
         say("The panel still has its lease on %s, serial %u of boot %u, and goes on by it.", unit[old.cell], old.serial,
             old.boot);
@@ -294,7 +294,7 @@ static void rubbish(void)
         memory.table[3 * c + 2] = chance(16) == 0;
         memory.health[c / BUCKETS] = chance(16) == 0;
     }
-    say("Power comes. The memory is rubbish: %u of %u cells pass for held, each setpoint for set.", held_bits(), CELLS);
+    say("Power comes. The memory is rubbish: of %u cells %u pass for held, all setpoints for set.", CELLS, held_bits());
 }
 static void cold_start(bool is_new)
 {
@@ -309,7 +309,7 @@ static void cold_start(bool is_new)
     say("The boot number on paper is raised to %u%s.", paper.boot, is_new ? ", the first of a new skid" : "");
     if (on_paper(skid_open(&plant, paper.boot)).code || skid_book_open(&plant, &book).code) stop(WRONG);
     for (c = 0; c < CELLS; c++) set_ones += skid_book_read(&plant, &book, c, &s).code == SKID_OK;
-    say("The arena and the book are opened: %u cells are held, %u setpoints set.", held_bits(), set_ones);
+    say("The arena and the book are opened. Cells held now: %u, setpoints set: %u.", held_bits(), set_ones);
 }
 
 /* A cell that the salvage left held is confirmed by the task that has it in its notes, or given back. */
@@ -318,8 +318,8 @@ static bool is_confirmed(uint32_t c)
     struct skid_lease l = skid_left_lease(&plant, c);
     uint32_t t = 0;
     while (t < TASKS && (note[t][c].serial != l.serial || note[t][c].boot != l.boot)) t++;
-    if (t < TASKS) say("  %s is left held by serial %u: the %s confirms it.", unit[c], l.serial, name[t]);
-    else say("  %s is left held by serial %u: nobody knows it, it is given back.", unit[c], l.serial);
+    if (t < TASKS) say("  Left held: %s, by serial %u. The %s confirms it.", unit[c], l.serial, name[t]);
+    else say("  Left held: %s, by serial %u. Nobody has that lease, so it is given back.", unit[c], l.serial);
     return t < TASKS || skid_give(&plant, l).code;
 }
 static void mend(void)
@@ -355,9 +355,9 @@ static void dip(void)
 }
 
 /* ---- what the theorems promise, as numbers */
-static void check(const char *what, uint32_t is, uint32_t should)
+static void check(const char *what, const char *of, uint32_t is, uint32_t should)
 {
-    say("  %s: %u, should be %u: %s", what, is, should, is == should ? "right." : "WRONG.");
+    say("  %s%s: %u, should be %u: %s", what, of, is, should, is == should ? "right." : "WRONG.");
     good = good && is == should;
 }
 static void check_some(const char *what, uint32_t is)
@@ -371,17 +371,17 @@ static void count(void)
     struct skid_setting s;
     for (c = 0; c < CELLS; c++) granted += holder[c] < TASKS;
     say("-- The kernel counts, after %u turns.", turns);
-    check("Serials spent (grants, and what was given up late)", plant.head.next - 1,
+    check("Serials spent ", "(grants, and what was given up late)", plant.head.next - 1,
           grants + busy[SKID_REASON_AFTER] + late_poisoned);
-    check("Cells held (granted and not given back)", held_bits(), granted);
+    check("Cells held ", "(granted and not given back)", held_bits(), granted);
     for (c = 0; c < CELLS; c++) {
         skid_book_read(&plant, &book, c, &s);
-        check(unit[c], s.version, written[c]);
+        check("Version of ", unit[c], s.version, written[c]);
         wrong += s.bits != value[c];
     }
-    check("Settings that read other than they were set", wrong, 0);
-    check("Writers without a grant", ungranted, 0);
-    check("SSE registers lost when the timer took the processor", registers_lost, 0);
+    check("Settings that read other than they were set", "", wrong, 0);
+    check("Writers without a grant", "", ungranted, 0);
+    check("SSE registers lost when the timer took the processor", "", registers_lost, 0);
     check_some("Ticks of the timer inside a call of the library", taken_inside);
     check_some("Bytes of each stack that were never used", least_stack_left());
 }

@@ -71,7 +71,7 @@ static struct context {
     uint8_t sse[512];
     struct frame frame;
 } __attribute__((aligned(16))) context[TASKS + 1];
-static uint8_t stack[TASKS][STACK] __attribute__((aligned(16)));
+static uint8_t stack[TASKS][GUARD + STACK] __attribute__((aligned(16)));
 static uint32_t running = STORY;
 volatile uint32_t on_turn = STORY;
 extern const uint8_t library_begin[], library_end[];
@@ -103,21 +103,18 @@ void await_turn(uint32_t me)
 void start_task(uint32_t who, void (*program)(uint32_t who))
 {
     struct context *c = context + who;
-    __builtin_memset(stack[who], 0xA5, STACK);
+    __builtin_memset(stack[who], 0xA5, GUARD + STACK);
     __asm__ volatile("fxsave64 %0" : "=m"(c->sse));
     c->frame.rip = (uintptr_t)program, c->frame.rdi = who, c->frame.cs = 8, c->frame.ss = 16;
-    c->frame.rsp = (uintptr_t)(stack[who] + STACK - 8); /* at a function's begin: 8 more than a multiple of 16 */
+    c->frame.rsp = (uintptr_t)(stack[who] + GUARD + STACK - 8); /* at a function's begin: 8 more than a multiple of 16 */
     c->frame.flags = 0x202;                             /* interrupts on */
 }
-uint32_t least_stack_left(void) /* of the task that has used the most */
+uint32_t least_stack_left(void) /* of the task that has used the most; 0 if the guard below a stack was touched */
 {
     uint32_t at, t;
-    for (at = 0; at < STACK; at++)
-        for (t = 0; t < TASKS; t++)
-            if (stack[t][at] != 0xA5) return at;
-    return at;
+    for (at = t = 0; at < GUARD + STACK && stack[t][at] == 0xA5; t = (t + 1) % TASKS) at += t == TASKS - 1;
+    return at < GUARD ? 0 : at - GUARD;
 }
-
 _Noreturn void trap(void)
 {
     say("*** A TRAP: the processor could not go on.");

@@ -39,8 +39,13 @@ while [ $# -gt 0 ]; do
     shift
 done
 case $many$seed in *[!0-9]*) usage >&2; exit 3 ;; esac
-# The first seed by which the lock that believes memory has two writers on one valve; tests/demo.sh looks for it anew.
-if [ -z "$seed" ]; then if [ "$lock$without" = believing ]; then seed=1; else seed=1; fi; fi
+# The first seeds by which the lock that believes memory has two writers on one valve; tests/demo.sh looks for them anew.
+case $lock$without in
+    believing) first=10 ;;
+    believingc) first=13 ;;
+    *) first=1 ;;
+esac
+seed=${seed:-$first}
 
 cd "$(dirname "$0")/.."
 . tests/lib.sh
@@ -133,7 +138,7 @@ else
     play "$out" "$seed" || status=$?
     if [ $status = 2 ]; then
         cell=$(sed -n 's/.* both have \(.*\), and both have set it\.$/\1/p' "$out/story.txt" | tail -n 1)
-        grep -e "$cell" -e '^Seed' -e '^Power' -e 'opened:' -e 'dips' -e 'mended:' -e 'power is cut' -e '^Two' "$out/story.txt" | tail -n 10
+        grep -e "$cell" -e '^Seed' -e '^Power' -e 'are opened' -e 'dips' -e 'mended:' -e 'power is cut' -e '^Two' "$out/story.txt" | tail -n 10
     else
         cat "$out/story.txt"
     fi
