@@ -106,14 +106,16 @@ void start_task(uint32_t who, void (*program)(uint32_t who))
     __builtin_memset(stack[who], 0xA5, GUARD + STACK);
     __asm__ volatile("fxsave64 %0" : "=m"(c->sse));
     c->frame.rip = (uintptr_t)program, c->frame.rdi = who, c->frame.cs = 8, c->frame.ss = 16;
-    c->frame.rsp = (uintptr_t)(stack[who] + GUARD + STACK - 8); /* at a function's begin: 8 more than a multiple of 16 */
-    c->frame.flags = 0x202;                             /* interrupts on */
+    c->frame.rsp = (uintptr_t)(stack[who] + GUARD + STACK - 8); /* at a function's begin: 16 n + 8 */
+    c->frame.flags = 0x202;                                     /* interrupts on */
 }
 uint32_t least_stack_left(void) /* of the task that has used the most; 0 if the guard below a stack was touched */
 {
     uint32_t at, t;
-    for (at = t = 0; at < GUARD + STACK && stack[t][at] == 0xA5; t = (t + 1) % TASKS) at += t == TASKS - 1;
-    return at < GUARD ? 0 : at - GUARD;
+    for (at = 0; at < GUARD + STACK; at++)
+        for (t = 0; t < TASKS; t++)
+            if (stack[t][at] != 0xA5) return at < GUARD ? 0 : at - GUARD;
+    return STACK;
 }
 _Noreturn void trap(void)
 {

@@ -124,7 +124,7 @@ how_many() {
     [ "${ended[0]}" = "$1" ]
 }
 
-build
+build || { echo "run.sh: the kernel cannot be built" >&2; exit 3; }
 if [ "$many" -gt 0 ]; then
     how_many "$many"
 elif [ $again = yes ]; then
