@@ -16,7 +16,7 @@ fail() {
     echo "demo: $*" >&2
     exit 1
 }
-command -v vcd2fst >/dev/null && command -v fst2vcd >/dev/null || install_packages gtkwave
+if ! command -v vcd2fst >/dev/null || ! command -v fst2vcd >/dev/null; then install_packages gtkwave; fi
 [ -e target/staticlib/libskid.a ] || fail "no target/staticlib/libskid.a: rt staticlib skid makes it"
 
 # ends WANTED NAME WORDS..: demo/run.sh with these words ends so; what it prints is in $room/said
@@ -78,10 +78,11 @@ first() {
     local seed=$1 got=0
     shift
     bash demo/run.sh --believing "$@" --many "$seed" >"$room/said" || got=$?
-    [ "$got $(grep -c 'TWO WRITERS.* valve' "$room/said")" = '1 1' ] && says "seed $seed" "seed $seed: *** TWO WRITERS" ||
+    [ "$got $(grep 'TWO WRITERS.* valve' "$room/said" | sed 's/:.*//')" = "1 seed $seed" ] ||
         { cat "$room/said"; fail "the lock that believes memory ($*): seed $seed is not the first with two writers"; }
     ends 2 "the lock that believes memory ($*)" --believing "$@"
-    [ "$(wc -l <"$room/said")" -le 10 ] && says "seed $seed" 'Two writers on one valve.' || fail 'more than ten lines'
+    says "seed $seed" 'Two writers on one valve.'
+    [ "$(wc -l <"$room/said")" -le 10 ] || fail "seed $seed: more than ten lines"
     [ "$(grep -c ' sets the ' "$room/said")" -ge 2 ] || fail 'two writers, and not two that set'
 }
 first 10
@@ -110,6 +111,7 @@ noticed 1 'WRONG' kernel.c '/^static struct skid_result on_paper/,/^}/s/^    wri
 noticed 1 'SSE registers lost .*WRONG' machine.c '/fxrstor64/d'
 noticed 1 'never used: none, WRONG' demo.h 's/STACK = 32768/STACK = 24576/'
 # without its own stack the interrupt writes over what the library keeps below the stack pointer
+# shellcheck disable=SC2016
 noticed 1 'WRONG' boot.S 's/^    movl \$1, %edx$/    movl $0, %edx/'
 rm -f "$out/library.elf"
 echo "demo: $slips kernels with a slip, each noticed"
