@@ -18,7 +18,9 @@ prints the story that it tells. SEED is a number, 1 if there is none; the same s
     --many N      seeds 1 to N; prints how they ended
     --again       one more boot, on the paper that the last run left
 
-target/demo has the whole story, story.txt, and the waveforms of the cells, boot-1.vcd and boot-2.vcd.
+target/demo has the whole story, story.txt, and the waveforms of the cells, boot-1.vcd and boot-2.vcd. The library is that
+of target/staticlib; the first time, and when a source has changed, it is proved and built, which takes some minutes. The
+environment variable SKID_LIB_DIR names another folder that has libskid.a.
 
 status: 0 all as it should be; 1 a count is wrong; 2 two writers on one valve; 3 no such end, or a word that is not
 understood; 4 the boot number is not known. With --many: 0 if all seeds ended with 0, else 1.
@@ -32,7 +34,7 @@ while [ $# -gt 0 ]; do
         --believing) lock=believing ;;
         --clean) without+=c ;;
         --steady) without+=s ;;
-        --many) many=${2:-x}; shift ;;
+        --many) many=${2:-x}; [ $# -eq 1 ] || shift ;;
         --again) again=yes ;;
         *) seed=$1 ;;
     esac
@@ -47,12 +49,13 @@ case $lock$without in
 esac
 seed=${seed:-$first}
 
+library=${SKID_LIB_DIR:+$(realpath -- "$SKID_LIB_DIR")/libskid.a}
 cd "$(dirname "$0")/.."
 . tests/lib.sh
 out=target/demo
 mkdir -p "$out"
-library=${SKID_LIB_DIR:-target/staticlib}/libskid.a
-[ -n "${SKID_LIB_DIR:-}" ] || build_library >&2
+[ -n "$library" ] || build_library >&2
+library=${library:-target/staticlib/libskid.a}
 need_cross >&2
 cc=gcc
 [ "$(uname -m)" = x86_64 ] || cc=x86_64-linux-gnu-gcc

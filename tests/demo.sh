@@ -87,6 +87,8 @@ first() {
 }
 first 10
 says 'from the cold start' 'finds its name on'
+awk '$0 == "```" && inside { exit } inside { print } $0 == "```out" { inside = 1 }' demo/README.md >"$room/page"
+cmp -s "$room/page" "$room/said" || { show_difference "$room/page" "$room/said"; fail 'demo/README.md has other lines'; }
 first 13 --clean
 says 'after the dip' '-- The power dips'
 ends 0 'the lock that believes memory, with nothing to believe' --believing --clean --steady --many 10
