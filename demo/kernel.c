@@ -434,7 +434,7 @@ static _Noreturn void later_boot(void)
 _Noreturn void kernel(const uint8_t *start_info);
 void kernel(const uint8_t *start_info)
 {
-    const char *at = *(const char *const *)(const void *)(start_info + 24);
+    const char *at = *(const char *const *)(const void *)(start_info + 24); /* where PVH has its address */
     bool is_new = false, is_clean = false, is_steady = false;
     uint32_t seed = 0, i;
     for (; *at; at++) {

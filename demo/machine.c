@@ -2,7 +2,7 @@
 #include <stdarg.h>
 #include "demo.h"
 
-static inline void out8(uint32_t port, uint32_t v) { __asm__ volatile("outb %b0, %w1" : : "a"(v), "Nd"(port)); }
+static inline void out8(uint32_t at, uint32_t v) { __asm__ volatile("outb %b0, %w1" : : "a"(v), "Nd"(at) : "memory"); }
 static inline uint8_t in8(uint32_t port)
 {
     uint8_t v;
