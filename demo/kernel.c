@@ -326,7 +326,7 @@ static void mend(void)
 {
     static const char *const word[3] = {"bit", "owner", "waiters"};
     uint32_t i, stay = 0; /* a bit for each cell that stays held */
-    read_paper();
+    if (!read_paper()) stop(NO_NUMBER);
     say("The head in memory says next serial %u, the one on paper %u.", plant.head.next, paper.head.next);
     if (skid_mend(&plant, paper.head, &report).code != SKID_OK) {
         say("Nothing is mended: the lock believes what the dip left.");

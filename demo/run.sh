@@ -16,11 +16,11 @@ prints the story that it tells. SEED is a number, 1 if there is none; the same s
     --clean       the memory is clean when power comes; only the first boot
     --steady      no power dip; only the first boot
     --many N      seeds 1 to N; prints how they ended
-    --again       one more boot, on the paper that the last run left
+    --again       one more boot of the kernel with the library, on the paper that the last run left
 
-target/demo has the whole story, story.txt, and the waveforms of the cells, boot-1.vcd and boot-2.vcd. The library is that
-of target/staticlib; the first time, and when a source has changed, it is proved and built, which takes some minutes. The
-environment variable SKID_LIB_DIR names another folder that has libskid.a.
+target/demo has the whole story, story.txt, and the waveforms of the cells, boot-1.vcd and boot-2.vcd; with --believing they
+are in target/demo/believing. The library is that of target/staticlib; the first time, and when a source has changed, it is proved
+and built, which takes some minutes. The environment variable SKID_LIB_DIR names another folder that has libskid.a.
 
 status: 0 all as it should be; 1 a count is wrong; 2 two writers on one valve; 3 no such end, or a word that is not
 understood; 4 the boot number is not known. With --many: 0 if all seeds ended with 0, else 1.
@@ -62,7 +62,7 @@ cc=gcc
 command -v "$cc" >/dev/null || install_packages gcc >&2
 command -v qemu-system-x86_64 >/dev/null || install_packages qemu-system-x86 >&2
 
-# As kernels are compiled: no host, no red zone, no SSE in its own code.
+# As kernels are compiled: no host, no red zone, no SSE in its own code. DEMO_SOURCE is for tests/demo.sh: another folder of sources.
 build() {
     local source=${DEMO_SOURCE:-demo} define=()
     [ "$lock" = library ] || define=(-DBELIEVING)
@@ -137,13 +137,14 @@ elif [ $again = yes ]; then
     cat "$out/story.txt"
     exit "$status"
 else
-    status=0
-    play "$out" "$seed" || status=$?
+    status=0 folder=$out
+    [ $lock = library ] || folder=$out/believing
+    play "$folder" "$seed" || status=$?
     if [ $status = 2 ]; then
-        cell=$(sed -n 's/.* both have \(.*\), and both have set it\.$/\1/p' "$out/story.txt" | tail -n 1)
-        grep -e "$cell" -e '^Seed' -e '^Power' -e 'are opened' -e 'dips' -e 'mended:' -e 'power is cut' -e '^Two' "$out/story.txt" | tail -n 10
+        cell=$(sed -n 's/.* both have \(.*\), and both have set it\.$/\1/p' "$folder/story.txt" | tail -n 1)
+        grep -e "$cell" -e '^Seed' -e '^Power' -e 'are opened' -e 'dips' -e 'mended:' -e 'power is cut' -e '^Two' "$folder/story.txt" | tail -n 10
     else
-        cat "$out/story.txt"
+        cat "$folder/story.txt"
     fi
     exit "$status"
 fi
