@@ -1,7 +1,8 @@
 #!/usr/bin/env bash
 # wave-picture.sh CASES N PNG: a picture of the waveform that bench/wave.sh writes, as GTKWave shows it, for a page such
-# as docs/WAVE.md. It needs no screen: the viewer runs on a virtual one (Debian's xvfb), and imagemagick takes the picture;
-# what is missing is installed from Debian's packages.
+# as docs/WAVE.md. In place of CASES a waveform of N cells, a file that ends in .vcd, as demo/run.sh leaves it. It needs no
+# screen: the viewer runs on a virtual one (Debian's xvfb), and imagemagick takes the picture; what is missing is
+# installed from Debian's packages.
 set -euo pipefail
 [ $# -eq 3 ] || { echo "usage: bash bench/wave-picture.sh CASES N PNG" >&2; exit 2; }
 here=$(dirname "$(realpath -- "$0")")
@@ -16,7 +17,10 @@ if [ "${#missing[@]}" -gt 0 ]; then
 fi
 room=$(mktemp -d)
 trap 'rm -rf "$room"' EXIT
-bash "$here/wave.sh" "$1" "$2" >"$room/cells.vcd"
+case $1 in
+    *.vcd) cp -- "$1" "$room/cells.vcd" ;;
+    *) bash "$here/wave.sh" "$1" "$2" >"$room/cells.vcd" ;;
+esac
 height=$((125 + 21 * $2))
 
 # all signals, and all of the time
