@@ -6,20 +6,23 @@ use mathlib.Core.List.{List, [], _∷_, _++_, append-assoc}
 use mathlib.Core.Bool.{Bool, true, false}
 use native.Mathlib.Omega.{arith}
 use native.Mathlib.Numerals.{add-one}
-use lib.Dec.{eqb, ltb}
+use lib.Dec.{eqb, ltb, leb}
 use lib.ListN.{length, getD, drop, take, length-append, drop-of-length-le}
 use lib.Seq.{sets, sets-eq, take-at, drop-cons}
-use borrow.Author.Tests.{ltb-true}
+use borrow.Author.Tests.{ltb-true, lt-ltb}
 use Rattle.choice.specs.Choice.{if_then_else_}
+use Rattle.choice.specs.Pick.{if-both}
 use Rattle.wave_rules.specs.Lines.{joined, same}
 use Rattle.wave_rules.specs.Dump.{turned}
 use Rattle.wave_rules.specs.declared.Stage.{Stage}
 use Rattle.wave_rules.specs.declared.Stage.the-variants.{Opening, Scope, Variables, Ending, Start, Values, Waiting, Changing, Lost}
-use Rattle.wave_rules.specs.Dump.{flipOf, bitLine}
-use Rattle.wave_rules.specs.Reader.{cellIn, isChange, nextOf, bitsOf}
+use Rattle.wave_rules.specs.Decimal.{placesOf}
+use Rattle.wave_rules.specs.Dump.{flipOf, timescale, scopeLine, varLine, upscope, endLine, timeLine, bitLine}
+use Rattle.wave_rules.specs.Reader.{timeIn, cellIn, afterVariable, afterValue, isTime, isChange, nextOf, bitsOf}
 use Rattle.wave_rules.specs.Stages.{false-not, Reach}
 use Rattle.wave_line.specs.Stages.{isLost, isChanging}
 use Rattle.print.specs.Print.{putOf}
+use Rattle.wave_write.specs.Laws.{length-time, length-bit, length-var}
 
 pub same-short : (x y : List ℕ) → length x ≢ length y → same x y ≡ false
 unfolding same
@@ -104,3 +107,52 @@ change-within (Changing n last t) bits x h e f = go (ltb (cellIn x) n) refl f
     go true p q = omega (arith, h .1, ltb-true (cellIn x) n p)
     go false p q = false-not (sym q)
 change-within Lost bits x h e f = false-not e
+
+-- ---- lines that are too long: no line of a dump has more than 22 bytes, which a variable from c10 on has
+
+too-long : (x y : List ℕ) → length y ≤ 22 → 22 < length x → same x y ≡ false
+too-long x y h k = same-short x y (omega arith)
+
+fixed-short : (length timescale ≤ 22) × (length scopeLine ≤ 22) × (length upscope ≤ 22) × (length endLine ≤ 22)
+unfolding timescale scopeLine upscope endLine
+fixed-short = (omega arith, omega arith, omega arith, omega arith)
+
+var-short : (c : ℕ) → c < 94 → length (varLine c) ≤ 22
+unfolding placesOf
+var-short c h = rw (length-var c, lt-ltb c 100 (omega arith)) (if-both (λ (n : ℕ). 20 + n ≤ 22) (ltb c 10) (omega arith) (omega arith))
+
+time-short : (t : ℕ) → length (timeLine t) ≤ 22
+unfolding placesOf
+time-short t =
+    let P : ℕ → Type 0 = λ (n : ℕ). 1 + n ≤ 22 in
+    rw (length-time t) (if-both P (ltb t 10) (omega arith) (if-both P (ltb t 100) (omega arith) (if-both P (ltb t 1000) (omega arith) (if-both P (ltb t 10000) (omega arith) (omega arith)))))
+
+bit-short : (bit c : ℕ) → length (bitLine bit c) ≤ 22
+bit-short bit c = omega (arith, length-bit bit c)
+
+neither : (b : Bool) → (if b then false else false) ≡ false
+neither true = refl
+neither false = refl
+
+no-variable : (n : ℕ) (x : List ℕ) → 22 < length x → (if ltb n 94 then same x (varLine n) else false) ≡ false
+no-variable n x h = go (ltb n 94) refl
+  where
+    go : (b : Bool) → ltb n 94 ≡ b → (if b then same x (varLine n) else false) ≡ false
+    go true e = too-long x (varLine n) (var-short n (ltb-true n 94 e)) h
+    go false e = refl
+
+-- such a line is wrong, whatever is waited for
+pub long-lost : (s : Stage) (bits x : List ℕ) → 22 < length x → nextOf s bits x ≡ Lost
+unfolding afterVariable afterValue isTime isChange
+long-lost Opening bits x h = rw (too-long x timescale (fixed-short .0) h)
+long-lost Scope bits x h = rw (too-long x scopeLine (fixed-short .1) h)
+long-lost (Variables n) bits x h = rw (no-variable n x h, too-long x upscope (fixed-short .2) h, neither (ltb 0 n))
+long-lost (Ending n) bits x h = rw (too-long x endLine (fixed-short .3) h)
+long-lost (Start n) bits x h = rw (too-long x (timeLine 0) (time-short 0) h)
+long-lost (Values n c) bits x h = rw (too-long x (bitLine 0 c) (bit-short 0 c) h)
+long-lost (Waiting n last) bits x h =
+    rw (too-long x (timeLine (timeIn x)) (time-short (timeIn x)) h, neither (leb (timeIn x) 32768), neither (ltb last (timeIn x)))
+long-lost (Changing n last t) bits x h =
+    let b = turned (getD bits (cellIn x) 0) in
+    rw (too-long x (bitLine b (cellIn x)) (bit-short b (cellIn x)) h, neither (ltb (cellIn x) n))
+long-lost Lost bits x h = refl
