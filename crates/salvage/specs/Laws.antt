@@ -1,4 +1,5 @@
--- What the salvage's functions promise of one cell, and the laws of their loops: one turn, and the end.
+-- What the salvage's functions promise, by the parts of `mendOf` (crate `model`), and the laws of their loops: the start, one turn, the
+-- end.
 use Prim.Native.Nat.{ℕ, zero, suc, _+_, _*_, _-_, _≤_, _<_}
 use mathlib.Core.Logic.{_≢_}
 use mathlib.Core.Path.{_≡_, refl, sym, ap, _∙_}
@@ -80,7 +81,7 @@ laidOf run at words = (at + length words, sets run at words)
 unfoldable pub clearedOf : List ℕ → ℕ → ℕ → List ℕ → ℕ → ℕ × (List ℕ × List ℕ)
 clearedOf t place old report at = (at + length (changeOf place old 0), (set t place 0, sets report at (changeOf place old 0)))
 
--- what goes over cells gives: where the entries of report and list end, the table, the report and the list
+-- what mending cells gives: where the entries of report and list end, then table, report and list
 abbrev pub Mended : Type 0
 Mended = Ends × (List ℕ × (List ℕ × List ℕ))
 
@@ -117,7 +118,7 @@ mendedBytes g place report at = (at + length (byteEntries place g), (mendedHealt
 -- ---- a cell by whether it is held: it keeps bit and owner, or all three words become 0
 
 module _ (next b o : ℕ) where
-  pub kept-held : (w : ℕ) → isHeld next b o ≡ true → keptOf next b o w ≡ w
+  kept-held : (w : ℕ) → isHeld next b o ≡ true → keptOf next b o w ≡ w
   unfolding keptOf stateOf
   kept-held w e = rw e (go (isFree b o))
     where
@@ -142,12 +143,13 @@ module _ (next b o : ℕ) where
       go true false p q r = (let z : false ≡ true = r in cc, let z : false ≡ true = r in cc)
       go false y p q r = (let z : false ≡ true = r in cc, let z : false ≡ true = r in cc)
 
-  pub kept-bit : isHeld next b o ≡ false → keptOf next b o b ≡ 0
+  kept-bit : isHeld next b o ≡ false → keptOf next b o b ≡ 0
   kept-bit e = kept-free b e (λ f. free-words f .0)
 
-  pub kept-owner : isHeld next b o ≡ false → keptOf next b o o ≡ 0
+  kept-owner : isHeld next b o ≡ false → keptOf next b o o ≡ 0
   kept-owner e = kept-free o e (λ f. free-words f .1)
 
+-- a word stored where it stands
 stays : (l : List ℕ) (i a : ℕ) → a ≡ getD l i 0 → set l i a ≡ l
 stays l i a e = rw e (set-getD l i 0)
 
@@ -269,14 +271,14 @@ module _ (next : ℕ) (t : List ℕ) where
   abbrev pub entriesLeft : ℕ → List ℕ
   entriesLeft c = changesFrom (3 * c) (from c) (mendedTable next (from c))
 
-  pub entries-turn : (c : ℕ) → 3 * c + 2 < length t → entriesLeft c ≡ changesIn next t c ++ entriesLeft (c + 1)
+  entries-turn : (c : ℕ) → 3 * c + 2 < length t → entriesLeft c ≡ changesIn next t c ++ entriesLeft (c + 1)
   unfolding changesFrom mendedTable mendedCell changesIn
   entries-turn c h =
       let e : 3 * c + 1 + 1 ≡ 3 * c + 2 = omega arith in
       let f : 3 * c + 2 + 1 ≡ 3 * (c + 1) = omega arith in
       rw (from-cell c h, e, f, append-assoc, append-assoc)
 
-  pub entries-end : (c : ℕ) → length t ≤ 3 * c → entriesLeft c ≡ []
+  entries-end : (c : ℕ) → length t ≤ 3 * c → entriesLeft c ≡ []
   unfolding changesFrom
   entries-end c h = rw (from-end c h)
 
@@ -285,7 +287,7 @@ module _ (next : ℕ) (t : List ℕ) where
   abbrev pub heldLeft : ℕ → ℕ → List ℕ
   heldLeft cells c = heldFrom next (cells - c) c t
 
-  pub held-turn : (cells c : ℕ) → c < cells → heldLeft cells c ≡ heldIn next t c ++ heldLeft cells (c + 1)
+  held-turn : (cells c : ℕ) → c < cells → heldLeft cells c ≡ heldIn next t c ++ heldLeft cells (c + 1)
   unfolding heldFrom heldIn
   held-turn cells c h = let e : cells - c ≡ suc (cells - (c + 1)) = omega arith in rw e (go (isHeld next (bitAt t c) (ownerAt t c)))
     where
@@ -294,7 +296,7 @@ module _ (next : ℕ) (t : List ℕ) where
       go true = refl
       go false = refl
 
-  pub held-end : (cells c : ℕ) → cells ≤ c → heldLeft cells c ≡ []
+  held-end : (cells c : ℕ) → cells ≤ c → heldLeft cells c ≡ []
   unfolding heldFrom
   held-end cells c h = let e : cells - c ≡ 0 = omega arith in rw e
 
@@ -304,7 +306,7 @@ module _ (next : ℕ) (t : List ℕ) where
   abbrev pub mendedOn : ℕ → List ℕ
   mendedOn c = take (3 * c) t ++ mendedTable next (from c)
 
-  pub mended-end : (c : ℕ) → length t ≤ 3 * c → mendedOn c ≡ t
+  mended-end : (c : ℕ) → length t ≤ 3 * c → mendedOn c ≡ t
   unfolding mendedTable
   mended-end c h = rw (from-end c h, take-all (3 * c) t h) (append-nil t)
 
@@ -382,12 +384,12 @@ module _ (g : List ℕ) where
   abbrev pub byteEntriesLeft : ℕ → ℕ → List ℕ
   byteEntriesLeft place i = changesFrom (place + i) (drop i g) (mendedHealth (drop i g))
 
-  pub byte-entries-turn : (place i : ℕ) → i < length g
+  byte-entries-turn : (place i : ℕ) → i < length g
       → byteEntriesLeft place i ≡ changeOf (place + i) (getD g i 0) (mendedByte (getD g i 0)) ++ byteEntriesLeft place (i + 1)
   unfolding changesFrom mendedHealth
   byte-entries-turn place i h = let e : place + i + 1 ≡ place + (i + 1) = omega arith in rw (drop-one g i h, e)
 
-  pub byte-entries-end : (place i : ℕ) → length g ≤ i → byteEntriesLeft place i ≡ []
+  byte-entries-end : (place i : ℕ) → length g ≤ i → byteEntriesLeft place i ≡ []
   unfolding changesFrom
   byte-entries-end place i h = rw (drop-of-length-le g h)
 
@@ -395,11 +397,11 @@ module _ (g : List ℕ) where
   abbrev pub healthOn : ℕ → List ℕ
   healthOn i = take i g ++ mendedHealth (drop i g)
 
-  pub health-end : (i : ℕ) → length g ≤ i → healthOn i ≡ g
+  health-end : (i : ℕ) → length g ≤ i → healthOn i ≡ g
   unfolding mendedHealth
   health-end i h = rw (drop-of-length-le g h, take-all i g h) (append-nil g)
 
-pub health-turn : (g : List ℕ) (i : ℕ) → i < length g → healthOn (set g i (mendedByte (getD g i 0))) (i + 1) ≡ healthOn g i
+health-turn : (g : List ℕ) (i : ℕ) → i < length g → healthOn (set g i (mendedByte (getD g i 0))) (i + 1) ≡ healthOn g i
 unfolding mendedHealth
 health-turn g i h =
     let w = mendedByte (getD g i 0) in
@@ -411,7 +413,7 @@ health-turn g i h =
 
 -- ---- words laid
 
-pub laid-none : (l : List ℕ) (i : ℕ) → (i, l) ≡ laidOf l i []
+laid-none : (l : List ℕ) (i : ℕ) → (i, l) ≡ laidOf l i []
 unfolding laidOf
 laid-none l i = let e : i + 0 ≡ i = omega arith in rw e
 
@@ -420,7 +422,7 @@ laid-twice l [] y i = let e : i + 0 ≡ i = omega arith in rw e
 laid-twice l (a ∷ x) y i = let e : i + suc (length x) ≡ suc i + length x = omega arith in rw e (laid-twice (set l i a) x y (suc i))
 
 -- some words are laid, and others are left to lay
-pub laid-first : (l m : List ℕ) (i j : ℕ) (x y : List ℕ) → (j, m) ≡ laidOf l i x → laidOf m j y ≡ laidOf l i (x ++ y)
+laid-first : (l m : List ℕ) (i j : ℕ) (x y : List ℕ) → (j, m) ≡ laidOf l i x → laidOf m j y ≡ laidOf l i (x ++ y)
 unfolding laidOf
 laid-first l m i j x y e =
     let p : j ≡ i + length x = ap (λ (o : ℕ × List ℕ). o .0) e in
@@ -429,16 +431,16 @@ laid-first l m i j x y e =
     rw (p, q, r, laid-twice l x y i)
 
 -- both are laid
-pub laid-both : (l m : List ℕ) (i j : ℕ) (x y : List ℕ) (o : ℕ × List ℕ) → (j, m) ≡ laidOf l i x → o ≡ laidOf m j y → o ≡ laidOf l i (x ++ y)
+laid-both : (l m : List ℕ) (i j : ℕ) (x y : List ℕ) (o : ℕ × List ℕ) → (j, m) ≡ laidOf l i x → o ≡ laidOf m j y → o ≡ laidOf l i (x ++ y)
 laid-both l m i j x y o e f = f ∙ laid-first l m i j x y e
 
 -- an entry is three stores, or none
-pub laid-change : (l : List ℕ) (i place old new : ℕ) → eqb old new ≡ false
+laid-change : (l : List ℕ) (i place old new : ℕ) → eqb old new ≡ false
     → (i + 3, set (set (set l i place) (i + 1) old) (i + 2) new) ≡ laidOf l i (changeOf place old new)
 unfolding laidOf changeOf
 laid-change l i place old new d = let e : i + 1 ≡ suc i = omega arith in let f : i + 2 ≡ suc (suc i) = omega arith in rw (d, e, f)
 
-pub laid-same : (l : List ℕ) (i place old new : ℕ) → eqb old new ≡ true → (i, l) ≡ laidOf l i (changeOf place old new)
+laid-same : (l : List ℕ) (i place old new : ℕ) → eqb old new ≡ true → (i, l) ≡ laidOf l i (changeOf place old new)
 unfolding changeOf
 laid-same l i place old new d = rw d (laid-none l i)
 
@@ -448,6 +450,7 @@ length-change-new place old new d = rw d
 
 -- ---- a word cleared, a cell and a byte mended
 
+-- words laid, with a run u beside them
 beside : (l r x u : List ℕ) (n i : ℕ) → (n, r) ≡ laidOf l i x
     → _≡_ {A = ℕ × (List ℕ × List ℕ)} (n, (u, r)) (i + length x, (u, sets l i x))
 unfolding laidOf
@@ -564,9 +567,7 @@ unfolding mendedAt
 at-changed g report i b place at h =
     rw (byte-mended b h) (beside report (set (set (set report at place) (at + 1) b) (at + 2) 1) (changeOf place b 1) (set g i 1) (at + 3) at (laid-change report at place b 1 (ne-eqb b 1 (omega arith))))
 
--- ---- the loops' turns, over the whole w that is to be laid
-
--- what is left at the start is all
+-- ---- what is left at the start is all
 pub count-start : (next : ℕ) (t : List ℕ) → 0 + changesLeft next t 0 ≡ countCellsOf next t
 unfolding countCellsOf
 count-start next t = omega arith
@@ -579,24 +580,24 @@ pub held-count-start : (next cells : ℕ) (t : List ℕ) → 0 + length (heldLef
 unfolding countHeldOf
 held-count-start next cells t = let e : cells - 0 ≡ cells = omega arith in rw e (omega arith)
 
-pub entries-start : (next : ℕ) (t : List ℕ) → entriesLeft next t 0 ≡ cellEntries next t
+entries-start : (next : ℕ) (t : List ℕ) → entriesLeft next t 0 ≡ cellEntries next t
 unfolding cellEntries
 entries-start next t = refl
 
-pub byte-entries-start : (place : ℕ) (g : List ℕ) → byteEntriesLeft g place 0 ≡ byteEntries place g
+byte-entries-start : (place : ℕ) (g : List ℕ) → byteEntriesLeft g place 0 ≡ byteEntries place g
 unfolding byteEntries
 byte-entries-start place g = let e : place + 0 ≡ place = omega arith in rw e
 
-pub held-start : (next cells : ℕ) (t : List ℕ) → heldLeft next t cells 0 ≡ heldFrom next cells 0 t
+held-start : (next cells : ℕ) (t : List ℕ) → heldLeft next t cells 0 ≡ heldFrom next cells 0 t
 held-start next cells t = let e : cells - 0 ≡ cells = omega arith in rw e
 
 -- a cell has at most three changes, and is at most one held cell
-pub changed-in-small : (n next : ℕ) (t : List ℕ) (c : ℕ) → n ≡ changedIn next t c → n ≤ 3
+changed-in-small : (n next : ℕ) (t : List ℕ) (c : ℕ) → n ≡ changedIn next t c → n ≤ 3
 unfolding changedIn
 changed-in-small n next t c e =
     omega (arith, changed-few (bitAt t c) (keptOf next (bitAt t c) (ownerAt t c) (bitAt t c)), changed-few (ownerAt t c) (keptOf next (bitAt t c) (ownerAt t c) (ownerAt t c)), changed-few (waitersAt t c) 0)
 
-pub held-in-small : (n next : ℕ) (t : List ℕ) (c : ℕ) → n ≡ length (heldIn next t c) → n ≤ 1
+held-in-small : (n next : ℕ) (t : List ℕ) (c : ℕ) → n ≡ length (heldIn next t c) → n ≤ 1
 unfolding heldIn
 held-in-small n next t c e = rw e (if-both (λ (x : List ℕ). length x ≤ 1) (isHeld next (bitAt t c) (ownerAt t c)) (omega arith) (omega arith))
 
@@ -626,6 +627,7 @@ tally-cells next cells t n m e f = rw (e, f)
 
 -- ---- the two passes that write, from cell c or byte i on
 
+-- what is given from here on; the loop keeps it
 unfoldable pub cellsFrom : ℕ → ℕ → List ℕ → ℕ → List ℕ → ℕ → List ℕ → ℕ → Mended
 cellsFrom next cells t c report at list left = laying (mendedOn next t c) (entriesLeft next t c) (heldLeft next t cells c) report at list left
 
@@ -670,6 +672,7 @@ cells-fit next cells t c report at list left u r s n m l h e p q =
     let y = held-turn-length next t cells c l in
     (omega (arith, length-append (changesIn next t c) (entriesLeft next t (c + 1))), omega arith)
 
+-- the same of health bytes
 unfoldable pub bytesFrom : List ℕ → ℕ → ℕ → List ℕ → ℕ → ℕ × (List ℕ × List ℕ)
 bytesFrom g i place report at = (at + length (byteEntriesLeft g place i), (healthOn g i, sets report at (byteEntriesLeft g place i)))
 
@@ -705,7 +708,7 @@ bytes-fit g i place report at u r k n h e l b f =
 
 -- ---- the whole
 
-pub count-cells-small : (n next : ℕ) (t : List ℕ) → n ≡ countCellsOf next t → n ≤ length t
+count-cells-small : (n next : ℕ) (t : List ℕ) → n ≡ countCellsOf next t → n ≤ length t
 unfolding countCellsOf
 count-cells-small n next t e = omega (arith, differing-few t (mendedTable next t))
 
@@ -713,11 +716,11 @@ pub count-bytes-small : (n : ℕ) (g : List ℕ) → n ≡ countBytesOf g → n 
 unfolding countBytesOf
 count-bytes-small n g e = omega (arith, differing-few g (mendedHealth g))
 
-pub entries-count : (h : Head) (t g : List ℕ) (n m : ℕ) → n ≡ countCellsOf (h .next) t → m ≡ countBytesOf g → n + m ≡ entriesOf h t g
+entries-count : (h : Head) (t g : List ℕ) (n m : ℕ) → n ≡ countCellsOf (h .next) t → m ≡ countBytesOf g → n + m ≡ entriesOf h t g
 unfolding countCellsOf countBytesOf
 entries-count h t g n m e f = omega (arith, entries-number h t g)
 
-pub held-count : (h : Head) (t : List ℕ) (n : ℕ) → Shaped h (length t) → n ≡ countHeldOf (h .next) (cellsOf h) t → n ≡ length (leftHeld (h .next) (cellsOf h) t)
+held-count : (h : Head) (t : List ℕ) (n : ℕ) → Shaped h (length t) → n ≡ countHeldOf (h .next) (cellsOf h) t → n ≡ length (leftHeld (h .next) (cellsOf h) t)
 unfolding countHeldOf
 held-count h t n s e = e ∙ ap (λ (x : List ℕ). length x) (sym (left-held-is (h .next) (cellsOf h) t (omega (arith, s .words-are))))
 
