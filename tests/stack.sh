@@ -45,7 +45,7 @@ take_in_order | skid_acquire_index_locks | n keys | 1 16 32 64 | 640 + 178 n
 take_in_order_in_vain | skid_acquire_index_locks | the same, the last key of a poisoned header | 1 16 32 64 | 640 + 178 n
 give_all | skid_release_all | n leases | 1 16 32 64 | 430 + 43 n + 2.5 n^2
 open | skid_prepare | n cells | 64 1024 4096 | 260 + 1.33 n
-mend | skid_salvage | n cells, each word and byte to be mended | 64 1024 4096 | 1800 + 77 n
+mend | skid_salvage | n cells, each word and byte to be mended | 64 1024 4096 | 1400 + 54 n
 book_open | skid_prepare_book | n slots of 52 bytes | 1 16 64 | 110 + 6.5 n
 write | skid_write_speed | n slots of four versions, nothing slides | 1 16 32 64 | 1050 + 254 n
 write_slide | skid_write_speed | the same, every kept body slides | 1 16 32 64 | 3500 + 470 n
