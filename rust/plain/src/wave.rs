@@ -94,6 +94,39 @@ fn change_of(cells: usize, step: &[u32]) -> Option<(usize, bool)> {
     }
 }
 
+/// As [`write`], into a lent buffer; gives the bytes written.
+pub fn write_into(cells: u32, script: &[u32], text: &mut [u8]) -> Result<usize, Refusal> {
+    let dump = write(cells, script, text.len())?;
+    text[..dump.len()].copy_from_slice(dump.as_bytes());
+    Ok(dump.len())
+}
+
+/// What was read into a lent buffer.
+#[derive(Clone, Copy, Debug, PartialEq, Eq)]
+pub struct Read {
+    pub cells: usize,
+    pub steps: usize,
+}
+
+/// Why nothing was read.
+#[derive(Clone, Copy, Debug, PartialEq, Eq)]
+pub enum NotRead {
+    BadLine(usize),
+    NoRoom,
+}
+
+/// As [`read`], into a lent buffer.
+pub fn read_into(text: &[u8], script: &mut [u32]) -> Result<Read, NotRead> {
+    let reading = read(text).map_err(NotRead::BadLine)?;
+    let words = reading.script.len();
+    let room = script.get_mut(..words).ok_or(NotRead::NoRoom)?;
+    room.copy_from_slice(&reading.script);
+    Ok(Read {
+        cells: reading.cells,
+        steps: words / 3,
+    })
+}
+
 // ---- The reader
 
 /// What a dump says.
