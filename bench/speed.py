@@ -1,16 +1,19 @@
 """What bench/speed.sh measures, and what it makes of it: the tables and the picture of docs/SPEED.md.
 
-It is run by bench/speed.sh, from the top folder of the repository, with how it is to be used (as that says) and
-the folder of the counter, and behind `--` the command that runs a program under the emulator.
+bench/speed.sh runs it from the top folder of the repository, with its own word and behind that the command that runs an
+x86-64 program under the emulator.
 """
 
 import os
 import re
 import subprocess
 import sys
+import tempfile
+from html import escape
 
 PAGE = "docs/SPEED.md"
 PICTURE = "docs/speed.svg"
+OUT = "target/speed"
 PROGRAM = "target/rust/x86_64-unknown-linux-gnu/release/speed"
 REPORTS = {"proved": "target/bin/report", "plain": "target/rust/x86_64-unknown-linux-gnu/release/report"}
 SIDES = ("proved", "plain")
@@ -57,22 +60,26 @@ ROWS = [
     ("`report` of 1,000 lines, the program less an empty run", "report", 1000),
 ]
 
-# How cost grows: a panel of the picture, its axis, and its lines: a name, a case, and the sizes.
+# How cost grows: a panel of the picture, by what its lines grow, and of each line a name, a case, and the sizes.
 CELLS = (1, 16, 256, 1024, 4096)
 FEW = (1, 16, 32, 48, 64)
+MANY = (0, 8192, 16384, 24576, 32768)
 GROWTH = [
-    ("cells", [("prepare", "prepare", CELLS), ("salvage, nothing to mend", "salvage_sound", CELLS),
-               ("salvage, all to mend", "salvage_broken", CELLS)]),
-    ("leases held", [("drop_preserving_borrows", "drop_preserving", (0,) + FEW),
-                     ("environment of one release", "release", (0,) + FEW)]),
-    ("keys or leases", [("acquire_index_locks", "locks", FEW), ("acquire_sorted_locks", "sorted", FEW),
-                        ("release_all", "release_all", FEW)]),
-    ("steps", [("environment", "steps", (0, 8192, 16384, 24576, 32768)),
-               ("acquire_index_bucket, held cell", "refusal", (0, 8192, 16384, 24576, 32768))]),
-    ("slots", [("read_version", "read", FEW), ("write_speed", "write", FEW), ("write_speed, all slide", "slide", FEW)]),
-    ("turns", [("crew", "crew", (0, 16384, 32768, 49152, 65536)),
-               ("crew_at_work", "crew_at_work", (0, 16384, 32768, 49152, 65536))]),
+    ("cell", [("prepare", "prepare", CELLS)]),
+    ("cell", [("salvage, all to mend", "salvage_broken", CELLS), ("salvage, nothing to mend", "salvage_sound", CELLS)]),
+    ("lease held", [("environment of one release", "release", (0,) + FEW),
+                    ("drop_preserving_borrows", "drop_preserving", (0,) + FEW)]),
+    ("key", [("acquire_sorted_locks", "sorted", FEW), ("acquire_index_locks", "locks", FEW),
+             ("release_all", "release_all", FEW)]),
+    ("step", [("acquire_index_bucket, held cell", "refusal", MANY), ("environment", "steps", MANY)]),
+    ("turn", [("crew_at_work", "crew_at_work", tuple(2 * n for n in MANY)),
+              ("crew", "crew", tuple(2 * n for n in MANY))]),
+    ("slot", [("write_speed, all slide", "slide", FEW), ("write_speed", "write", FEW), ("read_version", "read", FEW)]),
+    ("step", [("read_dump", "read_dump", MANY), ("write_dump", "write_dump", MANY)]),
 ]
+
+# A point that is so far from the line through the first and the last one, in parts of the last, lies beside it.
+STRAIGHT = 0.03
 
 
 def fail(text):
@@ -82,17 +89,16 @@ def fail(text):
 # ---- measuring
 
 class Counter:
-    def __init__(self, out, emulate):
-        self.out, self.emulate = out, emulate
+    def __init__(self, emulate):
+        self.emulate = emulate
 
     def run(self, words, lent=b""):
         """The instructions of a program from start to end, and what it prints. The processor has no more than every
         x86-64 machine has, so that the C library's functions are the same ones everywhere."""
-        command = self.emulate + ["-cpu", "qemu64", "-plugin", f"{self.out}/insn.so"] + words
-        # a program that waits for input must not count how often it asked
-        with open(f"{self.out}/input", "wb") as file:
+        command = self.emulate + ["-cpu", "qemu64", "-plugin", f"{OUT}/insn.so"] + words
+        with open(f"{OUT}/input", "wb") as file:
             file.write(lent)
-        with open(f"{self.out}/input", "rb") as file:
+        with open(f"{OUT}/input", "rb") as file:
             done = subprocess.run(command, stdin=file, capture_output=True)
         found = re.fullmatch(rb"insns (\d+)\n", done.stderr)
         if done.returncode or not found:
@@ -131,11 +137,17 @@ def counts(counter, case, size):
     proved, plain = (counter.said(side, case, size) for side in SIDES)
     if proved != plain:
         fail(f"{case} {size}: the two sides answer differently\n  proved: {proved}\n  plain:  {plain}")
-    return re.sub(r" \[[0-9a-f]*\]$", "", proved)
+    # without the sum over all words, and without the report's lines behind the fourth
+    return re.sub(r" \[[0-9a-f]*\]$| 1 BadShape .*", "", proved)
+
+
+# ---- the table of cases
+
+HEAD = "| call | counts of both | proved, instructions | plain | ratio |"
 
 
 def figure(number):
-    return f"{number:.1f}" if isinstance(number, float) and number < 1000 else f"{number:.0f}"
+    return f"{number:.1f}" if number < 1000 else f"{number:.0f}"
 
 
 def row(counter, label, case, size, time):
@@ -149,14 +161,213 @@ def row(counter, label, case, size, time):
 
 
 def table(counter, time):
-    """The rows, as they come."""
-    yield ("| call | counts of both | proved, instructions | plain | ratio |" + (" proved, ns | plain | ratio |" if time else ""))
+    """The lines of the table, as they come."""
+    yield HEAD + (" proved, ns | plain | ratio |" if time else "")
     yield "|---|---|---|---|---|" + ("---|---|---|" if time else "")
     for label, case, size in ROWS:
         yield row(counter, label, case, size, time)
 
 
-if __name__ == "__main__":
-    counter = Counter("target/speed", ["qemu-x86_64"])
-    for line in table(counter, len(sys.argv) > 1):
+def rows_of(text):
+    """The rows of such a table: call, counts, instructions of both."""
+    rows = (line.strip("| ").split(" | ") for line in text.split("\n") if line.startswith("| ") and not line.startswith("| call"))
+    return [(cells[0], cells[1], int(cells[2]), int(cells[3])) for cells in rows]
+
+
+def judged(page, found):
+    """What is wrong with what was found, by the bar and by the page."""
+    wrong = []
+    if [row[:2] for row in page] != [row[:2] for row in found]:
+        wrong.append("the page has other rows or counts")
+    for (label, _, proved, plain), (_, _, said, _) in zip(found, page):
+        if proved > BAR * plain:
+            wrong.append(f"{label}: {proved / plain:.2f} of plain Rust's instructions; the bar is {BAR}")
+        if proved > SLACK * said:
+            wrong.append(f"{label}: {proved} instructions, the page says {said}")
+    return wrong
+
+
+# ---- how cost grows
+
+class Line:
+    """Points, and the straight line through the first and the last."""
+
+    def __init__(self, counter, name, by, case, sizes):
+        self.name, self.by = name, by
+        self.points = [(size, counter.counted("proved", case, size)) for size in sizes]
+        (x, y), (last_x, last_y) = self.points[0], self.points[-1]
+        self.slope = (last_y - y) / (last_x - x)
+        self.start = y - self.slope * x
+        self.beside = max((abs(y - self.at(x)) / last_y, x) for x, y in self.points)
+
+    def at(self, x):
+        return self.start + self.slope * x
+
+    def formula(self):
+        slope = f"{self.slope:.3g}" if self.slope < 1000 else f"{self.slope:.0f}"
+        return f"{self.start:.0f} a call, {slope} a {self.by}"
+
+    def row(self):
+        found = ", ".join(f"{x}: {y}" for x, y in self.points)
+        off, x = self.beside
+        straight = "yes" if off <= STRAIGHT else f"no: at {x} the point lies {100 * off:.0f} % beside it"
+        return f"| `{self.name.split(',')[0].split(' ')[0]}`{self.name[len(re.split('[, ]', self.name)[0]):]} | {found} | {self.formula()} | {straight} |"
+
+
+def panels(counter):
+    return [(by, [Line(counter, name, by, case, sizes) for name, case, sizes in lines]) for by, lines in GROWTH]
+
+
+def growth(drawn):
+    yield "| call | instructions by size | the line through the first and the last | straight |"
+    yield "|---|---|---|---|"
+    for _, lines in drawn:
+        for line in lines:
+            yield line.row()
+
+
+# ---- the picture
+
+WIDE, HIGH = 440, 300
+LEFT, TOP, RIGHT, BOTTOM = 62, 78, 20, 44
+COLOURS = ("#1f5fa8", "#b04a12", "#2b7a3d")
+
+
+def short(number):
+    """A number for an axis."""
+    if number >= 1e6:
+        return f"{number / 1e6:g} M"
+    return f"{number / 1e3:g} k" if number >= 1e3 else f"{number:g}"
+
+
+def top_of(number):
+    """The least of 1, 2, 2.5, 5 times a power of ten that is not below it."""
+    power = 10 ** (len(str(int(number))) - 1)
+    return next(step * power for step in (1, 2, 2.5, 5, 10) if step * power >= number)
+
+
+def text(x, y, said, **more):
+    extra = "".join(f' {name.replace("_", "-")}="{value}"' for name, value in more.items())
+    return f'<text x="{x:.1f}" y="{y:.1f}"{extra}>{escape(said)}</text>'
+
+
+def panel(by, lines, left, top):
+    most_x = max(x for line in lines for x, _ in line.points)
+    most_y = top_of(max(y for line in lines for _, y in line.points))
+    wide, high = WIDE - LEFT - RIGHT, HIGH - TOP - BOTTOM
+    across = lambda x: left + LEFT + wide * x / most_x
+    up = lambda y: top + TOP + high * (1 - y / most_y)
+    yield f'<path d="M{across(0):.1f} {up(most_y):.1f}V{up(0):.1f}H{across(most_x):.1f}" fill="none" stroke="#555"/>'
+    for part in (0, 0.5, 1):
+        x, y = across(part * most_x), up(part * most_y)
+        yield f'<path d="M{across(0):.1f} {y:.1f}H{across(most_x):.1f}" stroke="#ddd"/>'
+        yield text(across(0) - 6, y + 4, short(part * most_y), text_anchor="end")
+        yield text(x, up(0) + 16, short(part * most_x), text_anchor="middle")
+    yield text(across(most_x / 2), up(0) + 34, f"{by}s", text_anchor="middle")
+    yield text(left + 8, top + TOP - 8, "instructions")
+    for number, (line, colour) in enumerate(zip(lines, COLOURS)):
+        start, end = line.points[0][0], line.points[-1][0]
+        yield f'<path d="M{across(start):.1f} {up(line.at(start)):.1f}L{across(end):.1f} {up(line.at(end)):.1f}" stroke="{colour}"/>'
+        for x, y in line.points:
+            yield f'<circle cx="{across(x):.1f}" cy="{up(y):.1f}" r="3" fill="{colour}"/>'
+        yield text(left + LEFT, top + 16 + 16 * number, f"{line.name}: {line.formula()}", fill=colour)
+
+
+def picture(drawn):
+    rows = (len(drawn) + 1) // 2
+    yield f'<svg xmlns="http://www.w3.org/2000/svg" viewBox="0 0 {2 * WIDE} {rows * HIGH}" font-family="sans-serif" font-size="12">'
+    yield "<title>Instructions of a call by its size, and the straight line through the first and the last point</title>"
+    yield f'<rect width="{2 * WIDE}" height="{rows * HIGH}" fill="#fff"/>'
+    for place, (by, lines) in enumerate(drawn):
+        yield from panel(by, lines, place % 2 * WIDE, place // 2 * HIGH)
+    yield "</svg>"
+
+
+# ---- the page
+
+def marks(name):
+    return f"<!-- {name}: begin -->\n", f"<!-- {name}: end -->\n"
+
+
+def listed(page, name):
+    """What stands between the marks."""
+    begin, end = marks(name)
+    if page.count(begin) != 1 or page.count(end) != 1:
+        fail(f"{PAGE} has not one pair of marks for {name}")
+    return page[page.index(begin) + len(begin):page.index(end)]
+
+
+def replaced(page, name, new):
+    begin, end = marks(name)
+    return page[:page.index(begin) + len(begin)] + new + page[page.index(end):]
+
+
+def made_on():
+    """When and with what it was measured."""
+    def version(*command):
+        return subprocess.run(command, capture_output=True, text=True).stdout.split("\n")[0]
+    date, machine = version("date", "-u", "+%Y-%m-%d"), os.uname().machine
+    return f"\nMeasured {date}, {machine}, {version('rustc', '--version')}, {version('rt', 'version')}.\n"
+
+
+def measure(counter, write):
+    rows = []
+    for line in table(counter, True):
+        rows.append(line)
         print(line, flush=True)
+    print()
+    drawn = panels(counter)
+    grown = list(growth(drawn))
+    print("\n".join(grown))
+    if not write:
+        return
+    page = open(PAGE).read()
+    page = replaced(page, "cases", "\n".join(rows) + "\n" + made_on())
+    page = replaced(page, "growth", "\n".join(grown) + "\n")
+    open(PAGE, "w").write(page)
+    open(PICTURE, "w").write("\n".join(picture(drawn)) + "\n")
+
+
+def quick(counter):
+    """The gate: counts and instructions alone, judged by the page; and a try whether that can fail."""
+    found = rows_of("\n".join(table(counter, False)))
+    page = listed(open(PAGE).read(), "cases")
+    try_itself(page, rows_of(page))
+    wrong = judged(rows_of(page), found)
+    for said in wrong:
+        print(f"speed: {said}", file=sys.stderr)
+    if wrong:
+        fail(f"{len(wrong)} rows are not as {PAGE} says; if they are as they should be: bash bench/speed.sh --write")
+    greatest = max((proved / plain, label) for label, _, proved, plain in found)
+    print(f"speed: {len(found)} rows with equal counts, none above {BAR} or dearer than the page says; "
+          f"greatest {greatest[0]:.2f}, {greatest[1]}")
+
+
+def try_itself(page, rows):
+    """What the page says of itself is taken, but for the bar; copies with a smaller figure, another count, a row less, and a plain
+    side of a third are refused."""
+    first = rows[0]
+    smaller = str(int(first[2] / SLACK) - 1)
+    damages = [(f"| {first[2]} |", f"| {smaller} |"), ("attempts 4096", "attempts 4095"), (page.split("\n")[2] + "\n", "")]
+    with tempfile.TemporaryDirectory() as folder:
+        for old, new in damages:
+            with open(f"{folder}/page", "w") as file:
+                file.write(page.replace(old, new, 1))
+            with open(f"{folder}/page") as file:
+                if not set(judged(rows_of(file.read()), rows)) - set(judged(rows, rows)):
+                    fail(f"a page with {new!r} for {old!r} is taken")
+    slow = [(first[0], first[1], first[2], first[2] // 3)]
+    if not judged([first], slow):
+        fail("a row above the bar is taken")
+
+
+def main(how, emulate):
+    counter = Counter(emulate)
+    if how == "--quick":
+        quick(counter)
+    else:
+        measure(counter, how == "--write")
+
+
+if __name__ == "__main__":
+    main(sys.argv[1], sys.argv[2:])

@@ -305,7 +305,7 @@ impl Side for Plain {
         let reply = rules::crew(
             head_of(desk),
             &mut desk.table,
-            &mut desk.health,
+            &desk.health,
             &desk.counts,
             &desk.cells,
             &desk.turns,
@@ -318,7 +318,7 @@ impl Side for Plain {
         let reply = rules::crew_at_work(
             head_of(desk),
             &mut desk.table,
-            &mut desk.health,
+            &desk.health,
             &desk.counts,
             &desk.cells,
             &desk.turns,
@@ -344,7 +344,7 @@ impl Side for Plain {
         let lease = lease_of(desk);
         let reply = book::write_setpoint(
             head_of(desk),
-            &mut desk.table,
+            &desk.table,
             &mut desk.book,
             desk.slot,
             lease,
