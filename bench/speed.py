@@ -64,6 +64,7 @@ ROWS = [
 CELLS = (1, 16, 256, 1024, 4096)
 FEW = (1, 16, 32, 48, 64)
 MANY = (0, 8192, 16384, 24576, 32768)
+TURNS = (16384, 32768, 49152, 65536)
 GROWTH = [
     ("cell", [("prepare", "prepare", CELLS)]),
     ("cell", [("salvage, all to mend", "salvage_broken", CELLS), ("salvage, nothing to mend", "salvage_sound", CELLS)]),
@@ -72,8 +73,8 @@ GROWTH = [
     ("key", [("acquire_sorted_locks", "sorted", FEW), ("acquire_index_locks", "locks", FEW),
              ("release_all", "release_all", FEW)]),
     ("step", [("acquire_index_bucket, held cell", "refusal", MANY), ("environment", "steps", MANY)]),
-    ("turn", [("crew_at_work", "crew_at_work", tuple(2 * n for n in MANY)),
-              ("crew", "crew", tuple(2 * n for n in MANY))]),
+    # after 12,288 turns all members have finished
+    ("turn", [("crew_at_work", "crew_at_work", TURNS), ("crew", "crew", TURNS)]),
     ("slot", [("write_speed, all slide", "slide", FEW), ("write_speed", "write", FEW), ("read_version", "read", FEW)]),
     ("step", [("read_dump", "read_dump", MANY), ("write_dump", "write_dump", MANY)]),
 ]

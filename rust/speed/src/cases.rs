@@ -137,7 +137,7 @@ pub fn crew(turns: usize) -> Desk {
 
 /// An arena of so many cells, which is a square number, that nobody has prepared.
 pub fn cold(cells: usize) -> Desk {
-    let side = cells.isqrt() as u32;
+    let side = (cells as f64).sqrt() as u32;
     let mut desk = Desk::new(side, side);
     desk.table.fill(7);
     desk.health.fill(7);
