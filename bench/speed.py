@@ -26,38 +26,38 @@ SLACK = 1.10
 ROWS = [
     ("`acquire_index_bucket` of a held cell, no script: 4,096 attempts (L9)", "refusal", 0),
     ("`crew` of 16 members, 256 cells, 65,536 turns (L9)", "crew", 65536),
-    ("`crew_at_work` of the same", "crew_at_work", 65536),
+    ("`crew_at_work` of the same crew", "crew_at_work", 65536),
     ("`acquire_index_bucket` of a held cell, a script of 32,768 steps", "refusal", 32768),
     ("`try_lock` of a free cell", "try_lock", 0),
     ("`transactional_try_lock_bucket` of a free key", "transactional", 0),
     ("`acquire_index_bucket` of a free key", "bucket", 0),
     ("`drop_lease`", "drop_lease", 0),
-    ("`drop_preserving_borrows`, 0 leases held", "drop_preserving", 0),
-    ("the same, 1 lease held", "drop_preserving", 1),
-    ("the same, 64 leases held", "drop_preserving", 64),
-    ("`environment` of one step that sets waiters", "waiters", 0),
-    ("`environment` of one release, 0 leases held", "release", 0),
-    ("the same, 1 lease held", "release", 1),
-    ("the same, 64 leases held", "release", 64),
-    ("`environment` of 32,768 takes and releases, 0 leases held", "releases", 0),
-    ("the same, 1 lease held", "releases", 1),
-    ("the same, 64 leases held", "releases", 64),
+    ("`drop_preserving_borrows`, none held", "drop_preserving", 0),
+    ("`drop_preserving_borrows`, 1 held", "drop_preserving", 1),
+    ("`drop_preserving_borrows`, 64 held", "drop_preserving", 64),
+    ("`environment`, one step that sets waiters", "waiters", 0),
+    ("`environment`, one release, none held", "release", 0),
+    ("`environment`, one release, 1 held", "release", 1),
+    ("`environment`, one release, 64 held", "release", 64),
+    ("`environment`, 32,768 takes and releases, none held", "releases", 0),
+    ("`environment`, 32,768 takes and releases, 1 held", "releases", 1),
+    ("`environment`, 32,768 takes and releases, 64 held", "releases", 64),
     ("`acquire_index_locks` of 16 free keys", "locks", 16),
-    ("the same of 64", "locks", 64),
+    ("`acquire_index_locks` of 64 free keys", "locks", 64),
     ("`acquire_sorted_locks` of 16 free keys, falling", "sorted", 16),
-    ("the same of 64", "sorted", 64),
+    ("`acquire_sorted_locks` of 64 free keys, falling", "sorted", 64),
     ("`release_all` of 16 leases", "release_all", 16),
-    ("the same of 64", "release_all", 64),
+    ("`release_all` of 64 leases", "release_all", 64),
     ("`prepare` of 4,096 cells", "prepare", 4096),
     ("`salvage` of 4,096 cells, nothing to mend", "salvage_sound", 4096),
-    ("the same, a word in twelve to mend", "salvage_dipped", 4096),
-    ("the same, every word and byte to mend", "salvage_broken", 4096),
-    ("`write_speed` to a full book of 64 slots, nothing slides", "write", 64),
-    ("the same, 255 bodies slide", "slide", 64),
-    ("`read_version` in that book", "read", 64),
+    ("`salvage` of 4,096 cells, a word in twelve to mend", "salvage_dipped", 4096),
+    ("`salvage` of 4,096 cells, all to mend", "salvage_broken", 4096),
+    ("`write_speed`, full book of 64 slots, nothing slides", "write", 64),
+    ("`write_speed`, full book of 64 slots, 255 bodies slide", "slide", 64),
+    ("`read_version`, full book of 64 slots", "read", 64),
     ("`write_dump` of 94 cells, 32,768 changes", "write_dump", 32768),
     ("`read_dump` of that dump", "read_dump", 32768),
-    ("`report` of 1,000 lines, the program less an empty run", "report", 1000),
+    ("`report` of 1,000 lines", "report", 1000),
 ]
 
 # How cost grows: a panel of the picture, by what its lines grow, and of each line a name, a case, and the sizes.
@@ -68,9 +68,9 @@ TURNS = (16384, 32768, 49152, 65536)
 GROWTH = [
     ("cell", [("prepare", "prepare", CELLS)]),
     ("cell", [("salvage, all to mend", "salvage_broken", CELLS), ("salvage, nothing to mend", "salvage_sound", CELLS)]),
-    ("lease held", [("environment of one release", "release", (0,) + FEW),
-                    ("drop_preserving_borrows", "drop_preserving", (0,) + FEW)]),
-    ("key", [("acquire_sorted_locks", "sorted", FEW), ("acquire_index_locks", "locks", FEW),
+    ("lease", [("environment of one release, leases held", "release", (0,) + FEW),
+               ("drop_preserving_borrows, leases held", "drop_preserving", (0,) + FEW)]),
+    ("key", [("acquire_sorted_locks, falling", "sorted", FEW), ("acquire_index_locks", "locks", FEW),
              ("release_all", "release_all", FEW)]),
     ("step", [("acquire_index_bucket, held cell", "refusal", MANY), ("environment", "steps", MANY)]),
     # after 12,288 turns all members have finished
@@ -209,10 +209,11 @@ class Line:
         return f"{self.start:.0f} a call, {slope} a {self.by}"
 
     def row(self):
+        call, what = re.fullmatch(r"(\w+)(.*)", self.name).groups()
         found = ", ".join(f"{x}: {y}" for x, y in self.points)
         off, x = self.beside
         straight = "yes" if off <= STRAIGHT else f"no: at {x} the point lies {100 * off:.0f} % beside it"
-        return f"| `{self.name.split(',')[0].split(' ')[0]}`{self.name[len(re.split('[, ]', self.name)[0]):]} | {found} | {self.formula()} | {straight} |"
+        return f"| `{call}`{what} | {found} | {self.formula()} | {straight} |"
 
 
 def panels(counter):
@@ -230,21 +231,14 @@ def growth(drawn):
 # ---- the picture
 
 WIDE, HIGH = 440, 300
-LEFT, TOP, RIGHT, BOTTOM = 62, 78, 20, 44
+LEFT, TOP, RIGHT, BOTTOM = 76, 78, 26, 44
 COLOURS = ("#1f5fa8", "#b04a12", "#2b7a3d")
 
 
-def short(number):
-    """A number for an axis."""
-    if number >= 1e6:
-        return f"{number / 1e6:g} M"
-    return f"{number / 1e3:g} k" if number >= 1e3 else f"{number:g}"
-
-
 def top_of(number):
-    """The least of 1, 2, 2.5, 5 times a power of ten that is not below it."""
+    """A round number that is not below it."""
     power = 10 ** (len(str(int(number))) - 1)
-    return next(step * power for step in (1, 2, 2.5, 5, 10) if step * power >= number)
+    return next(step * power for step in (1, 1.2, 1.6, 2, 3, 4, 5, 6, 8, 10) if step * power >= number)
 
 
 def text(x, y, said, **more):
@@ -262,8 +256,8 @@ def panel(by, lines, left, top):
     for part in (0, 0.5, 1):
         x, y = across(part * most_x), up(part * most_y)
         yield f'<path d="M{across(0):.1f} {y:.1f}H{across(most_x):.1f}" stroke="#ddd"/>'
-        yield text(across(0) - 6, y + 4, short(part * most_y), text_anchor="end")
-        yield text(x, up(0) + 16, short(part * most_x), text_anchor="middle")
+        yield text(across(0) - 6, y + 4, f"{part * most_y:,.0f}", text_anchor="end")
+        yield text(x, up(0) + 16, f"{part * most_x:,.0f}", text_anchor="middle")
     yield text(across(most_x / 2), up(0) + 34, f"{by}s", text_anchor="middle")
     yield text(left + 8, top + TOP - 8, "instructions")
     for number, (line, colour) in enumerate(zip(lines, COLOURS)):
@@ -338,27 +332,28 @@ def quick(counter):
     for said in wrong:
         print(f"speed: {said}", file=sys.stderr)
     if wrong:
-        fail(f"{len(wrong)} rows are not as {PAGE} says; if they are as they should be: bash bench/speed.sh --write")
+        fail(f"{len(wrong)} rows fail; where only {PAGE} is old, bash bench/speed.sh --write measures it anew")
     greatest = max((proved / plain, label) for label, _, proved, plain in found)
     print(f"speed: {len(found)} rows with equal counts, none above {BAR} or dearer than the page says; "
           f"greatest {greatest[0]:.2f}, {greatest[1]}")
 
 
 def try_itself(page, rows):
-    """What the page says of itself is taken, but for the bar; copies with a smaller figure, another count, a row less, and a plain
-    side of a third are refused."""
-    first = rows[0]
-    smaller = str(int(first[2] / SLACK) - 1)
-    damages = [(f"| {first[2]} |", f"| {smaller} |"), ("attempts 4096", "attempts 4095"), (page.split("\n")[2] + "\n", "")]
-    with tempfile.TemporaryDirectory() as folder:
-        for old, new in damages:
-            with open(f"{folder}/page", "w") as file:
-                file.write(page.replace(old, new, 1))
-            with open(f"{folder}/page") as file:
-                if not set(judged(rows_of(file.read()), rows)) - set(judged(rows, rows)):
-                    fail(f"a page with {new!r} for {old!r} is taken")
-    slow = [(first[0], first[1], first[2], first[2] // 3)]
-    if not judged([first], slow):
+    """A copy of the page with a smaller figure, with another count or without a row is refused; and so is a row above the
+    bar."""
+    if not rows:
+        fail(f"{PAGE} has no rows")
+    label, said, proved, _ = rows[0]
+    smaller = int(proved / SLACK) - 1
+    damages = [(f"| {proved} |", f"| {smaller} |"), (said, "refused 11"), (page.split("\n")[2] + "\n", "")]
+    usual = judged(rows, rows)
+    for old, new in damages:
+        with tempfile.NamedTemporaryFile("w+") as copy:
+            copy.write(page.replace(old, new, 1))
+            copy.seek(0)
+            if len(judged(rows_of(copy.read()), rows)) <= len(usual):
+                fail(f"a page with {new!r} for {old!r} is taken")
+    if not judged(rows[:1], [(label, said, proved, proved // 3)]):
         fail("a row above the bar is taken")
 
 

@@ -673,8 +673,7 @@ impl<'a> Run<'a> {
         keys: impl Iterator<Item = (u32, u32, usize)>,
         taken: &mut [[u32; 2]; MOST_LEASES],
     ) -> Answer {
-        let mut count = 0;
-        for (header, bucket, position) in keys {
+        for (count, (header, bucket, position)) in keys.enumerate() {
             match self.acquire_bucket(header, bucket) {
                 Ok(lease) => taken[count] = [lease.cell, lease.serial],
                 Err(refusal) => {
@@ -685,7 +684,6 @@ impl<'a> Run<'a> {
                     return Answer::RefusedAt(refusal, position as u32);
                 }
             }
-            count += 1;
         }
         Answer::AllGranted
     }
@@ -1316,7 +1314,7 @@ fn check_crew<'c>(
         members[number].left = moves * list.len();
         rest = behind;
     }
-    let is_member = |turn: u32| (turn as usize) < counts.len();
+    let is_member = |turn: u32| turn < counts.len() as u32;
     // without a stop at the first one the compiler tests several at once
     if turns.iter().fold(true, |all, &turn| all & is_member(turn)) {
         return Ok(members);
