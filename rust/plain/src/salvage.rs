@@ -48,7 +48,12 @@ pub fn salvage(
         if report.len() / ENTRY < found.changed || unconfirmed.len() < found.held {
             Err(SalvageRefusal::ReportFull)
         } else {
-            mend(head.next, table, health, report, unconfirmed);
+            if found.held > 0 {
+                list(head.next, table, unconfirmed);
+            }
+            if found.changed > 0 {
+                mend(head.next, table, health, report);
+            }
             Ok(found)
         }
     } else {
@@ -82,35 +87,35 @@ fn look(next: u32, table: &[u32], health: &[u8]) -> Salvaged {
     found
 }
 
-/// Makes the changes, and lists them and the cells left held. There is room for all.
+/// Lists the cells left held. There is room for all.
 #[inline(never)]
-fn mend(
-    next: u32,
-    table: &mut [u32],
-    health: &mut [u8],
-    report: &mut [u32],
-    unconfirmed: &mut [u32],
-) {
+fn list(next: u32, table: &[u32], unconfirmed: &mut [u32]) {
+    let mut room = unconfirmed.iter_mut();
+    for (number, cell) in (0..).zip(table.chunks_exact(3)) {
+        if is_held(cell[0], cell[1], next) {
+            if let Some(entry) = room.next() {
+                *entry = number;
+            }
+        }
+    }
+}
+
+/// Makes the changes, and lists them. There is room for all.
+#[inline(never)]
+fn mend(next: u32, table: &mut [u32], health: &mut [u8], report: &mut [u32]) {
     let mut entries = report.chunks_exact_mut(ENTRY);
-    let mut held = unconfirmed.iter_mut();
-    for (number, cell) in table.chunks_exact_mut(3).enumerate() {
+    for (number, cell) in (0..).zip(table.chunks_exact_mut(3)) {
         let (bit, owner, waiters) = (cell[0], cell[1], cell[2]);
         if bit | owner | waiters == 0 {
             continue;
         }
-        let place = 3 * number as u32;
-        cell[2] = 0;
-        if is_held(bit, owner, next) {
-            if let Some(entry) = held.next() {
-                *entry = number as u32;
-            }
-        } else {
-            cell[0] = 0;
-            cell[1] = 0;
-            enter(&mut entries, place, bit);
-            enter(&mut entries, place + 1, owner);
+        if !is_held(bit, owner, next) {
+            (cell[0], cell[1]) = (0, 0);
+            enter(&mut entries, 3 * number, bit);
+            enter(&mut entries, 3 * number + 1, owner);
         }
-        enter(&mut entries, place + 2, waiters);
+        cell[2] = 0;
+        enter(&mut entries, 3 * number + 2, waiters);
     }
     for (place, byte) in (table.len() as u32..).zip(health) {
         if *byte > 1 {
