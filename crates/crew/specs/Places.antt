@@ -38,10 +38,6 @@ placed-rests start n count k e =
     }
 
 -- it lies in the member's list
--- of a list whose length stands in two places
-pub placed-for : (work : Work) (start n count count′ k : ℕ) → count ≡ count′ → Placed work start n count k → Placed work start n count′ k
-placed-for work start n count count′ k e p = subst (λ (x : ℕ). Placed work start n x k) e p
-
 place-in : (work : Work) (start n count k : ℕ) → Placed work start n count k → n < movesOf work count → (start ≤ k) × (k < start + count)
 place-in work start n count k p l = go (decLt n count) (decLt n (count + addsOf work count))
   where

@@ -28,11 +28,6 @@ pub record Resting (headers buckets : ℕ) (g counts cells turns : List ℕ) (st
   pub noted : List ℕ
   pub run : Working rests headers buckets g counts cells turns start next t made moving i [] noted
 
--- a turn of a member whose list's length stands in two places
-pub move-for : (o : Move × List ℕ) (next buckets : ℕ) (t g : List ℕ) (n count count′ cell : ℕ) → count ≡ count′
-    → o ≡ makeMoveOf next buckets t g (ltb n count) cell → o ≡ makeMoveOf next buckets t g (ltb n count′) cell
-move-for o next buckets t g n count count′ cell e q = q ∙ ap (λ (x : ℕ). makeMoveOf next buckets t g (ltb n x) cell) e
-
 module _ (headers buckets : ℕ) (g counts cells turns : List ℕ) (start : Crew) (next : ℕ) (t made : List ℕ) (moving i : ℕ) where
   abbrev Here : Type 0
   Here = Resting headers buckets g counts cells turns start next t made moving i

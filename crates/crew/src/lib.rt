@@ -14,7 +14,7 @@ ghost use Prim.Native.Nat.{_+_, _*_, _-_, _/_, _<_, _≤_, min};
 ghost use lib.ListN.{length, getD};
 ghost use Rattle.model.specs.Refusals.{first};
 ghost use Rattle.model.specs.Crew.{addsOf, crewRules, crewRefused, crewOf};
-ghost use Rattle.crew_plan.specs.Starts.{Begun, Measured};
+ghost use Rattle.crew_plan.specs.Starts.{Begun};
 ghost use Rattle.crew_plan.specs.Fine.{CrewFine};
 ghost use Rattle.crew.specs.Model.{placeOf, tryMoveOf, makeMoveOf, takeTurnsOf, workBy, finishOf, crewRunOf};
 
@@ -125,11 +125,10 @@ fn take_turns(
     counts: &[u32],
     cells: &[u32],
     starts: &[usize; 16],
-    lengths: &[usize; 16],
     turns: &[u32],
 ) -> Worked
     requires { ⌜ CrewFine head (length (now table)) (length (now health)) (now counts) (now cells) (now turns)
-        × (Begun (now counts) (now starts) × Measured (now counts) (now lengths)) ⌝ }
+        × Begun (now counts) (now starts) ⌝ }
     ensures { λ r. ⌜ (r, now (table .exit))
         ≡ takeTurnsOf head (now (table .entry)) (now (health .entry))
         (now (counts .entry)) (now (cells .entry)) (now (turns .entry)) ⌝ }
@@ -142,7 +141,7 @@ fn take_turns(
         let m = turns[i] as usize;
         i += 1;
         let n = made[m];
-        let count = lengths[m];
+        let count = counts[m] as usize;
         if 2 * count <= n {
             continue;
         }
@@ -267,8 +266,7 @@ fn crew_run(
         (now (counts .entry)) (now (cells .entry)) (now (turns .entry)) ⌝ }
 {
     let starts = crew_plan::starts_of(counts);
-    let lengths = crew_plan::lengths_of(counts);
-    let worked = take_turns(head, table, health, counts, cells, &starts, &lengths, turns);
+    let worked = take_turns(head, table, health, counts, cells, &starts, turns);
     finish(head, counts, worked, false)
 }
 

@@ -85,14 +85,6 @@ stand-few n count j f l = go (decLt n count)
     go (yes a) = omega (arith, f, stand-low n count a)
     go (no a) = omega (arith, f, stand-high n count (omega arith))
 
--- a turn of a member whose list's length stands in two places, and what it notes
-pub work-move-for : (o : Move × (List ℕ × List ℕ)) (next buckets : ℕ) (t g counters : List ℕ) (n count count′ cell value : ℕ) → count ≡ count′
-    → o ≡ workMoveOf adds next buckets t g counters n count cell value → o ≡ workMoveOf adds next buckets t g counters n count′ cell value
-work-move-for o next buckets t g counters n count count′ cell value e q = q ∙ ap (λ (x : ℕ). workMoveOf adds next buckets t g counters n x cell value) e
-
-pub note-for : (o m count count′ before : ℕ) (counters : List ℕ) (low : ℕ) → count ≡ count′ → o ≡ noteOf (eqb m count) before counters low → o ≡ noteOf (eqb m count′) before counters low
-note-for o m count count′ before counters low e q = q ∙ ap (λ (x : ℕ). noteOf (eqb m x) before counters low) e
-
 -- ---- the loop
 
 -- what is noted, as one store

@@ -14,7 +14,7 @@ ghost use lib.ListN.{length};
 ghost use Rattle.model.specs.Arena.{cellsOf};
 ghost use Rattle.model.specs.Refusals.{first};
 ghost use Rattle.model.specs.Crew.{adds, addedTo, crewAtWorkRules, crewAtWorkOf};
-ghost use Rattle.crew_plan.specs.Starts.{Begun, Measured};
+ghost use Rattle.crew_plan.specs.Starts.{Begun};
 ghost use Rattle.crew_plan.specs.Fine.{CrewFine};
 ghost use Rattle.crew.specs.Model.{workMoveOf};
 ghost use Rattle.crew_at_work.specs.Model.{workFaultOf, standOf, noteOf, workTurnsOf, workRunOf};
@@ -125,13 +125,11 @@ fn work_turns(
     counts: &[u32],
     cells: &[u32],
     starts: &[usize; 16],
-    lengths: &[usize; 16],
     turns: &[u32],
     counters: &mut [u16],
 ) -> Worked
     requires { ⌜ CrewFine head (length (now table)) (length (now health)) (now counts) (now cells) (now turns)
-        × (Begun (now counts) (now starts) × (Measured (now counts) (now lengths)
-        × (length (now counters) ≡ cellsOf head))) ⌝ }
+        × (Begun (now counts) (now starts) × (length (now counters) ≡ cellsOf head)) ⌝ }
     ensures { λ r. ⌜ (r, (now (table .exit), now (counters .exit)))
         ≡ workTurnsOf head (now (table .entry)) (now (health .entry))
         (now (counts .entry)) (now (cells .entry)) (now (turns .entry)) (now (counters .entry)) ⌝ }
@@ -145,7 +143,7 @@ fn work_turns(
         let m = turns[i] as usize;
         i += 1;
         let n = made[m];
-        let count = lengths[m];
+        let count = counts[m] as usize;
         if 3 * count <= n {
             continue;
         }
@@ -195,18 +193,7 @@ fn work_run(
         (now (counts .entry)) (now (cells .entry)) (now (turns .entry)) (now (counters .entry)) ⌝ }
 {
     let starts = crew_plan::starts_of(counts);
-    let lengths = crew_plan::lengths_of(counts);
-    let worked = work_turns(
-        head,
-        table,
-        health,
-        counts,
-        cells,
-        &starts,
-        &lengths,
-        turns,
-        counters,
-    );
+    let worked = work_turns(head, table, health, counts, cells, &starts, turns, counters);
     crew::finish(head, counts, worked, true)
 }
 

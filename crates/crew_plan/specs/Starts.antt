@@ -52,31 +52,3 @@ begin-more counts starts start m few l small b =
 
 pub begin-done : (counts starts : List ℕ) (start m : ℕ) → length counts ≤ m → Beginning counts starts start m → Begun counts starts
 begin-done counts starts start m l b = record { sixteen = b .sixteen; begins = λ j k. b .begins j (omega arith) }
-
--- ---- how long each member's list is
-
--- an entry for each of sixteen members; those of the members that are there are their counts
-pub record Measured (counts lengths : List ℕ) : Type 0 where
-  pub sixteen : length lengths ≡ 16
-  pub wants : (m : ℕ) → m < length counts → getD lengths m 0 ≡ getD counts m 0
-
--- the same up to member m
-pub record Measuring (counts lengths : List ℕ) (m : ℕ) : Type 0 where
-  pub place : m ≤ length counts
-  pub sixteen : length lengths ≡ 16
-  pub wants : (j : ℕ) → j < m → getD lengths j 0 ≡ getD counts j 0
-
-wants-more : (counts lengths : List ℕ) (m : ℕ) → m < length lengths → ((j : ℕ) → j < m → getD lengths j 0 ≡ getD counts j 0)
-    → (j : ℕ) → j < m + 1 → getD (set lengths m (getD counts m 0)) j 0 ≡ getD counts j 0
-wants-more counts lengths m l b j k = go (ℕ-discrete j m)
-  where
-    go : Dec (j ≡ m) → getD (set lengths m (getD counts m 0)) j 0 ≡ getD counts j 0
-    go (yes e) = rw e (getD-set-same lengths m (getD counts m 0) 0 l)
-    go (no e) = getD-set-other lengths m j (getD counts m 0) 0 e ∙ b j (omega arith)
-
-pub measure-more : (counts lengths : List ℕ) (m : ℕ) → length counts ≤ 16 → m < length counts → Measuring counts lengths m → Measuring counts (set lengths m (getD counts m 0)) (m + 1)
-measure-more counts lengths m few l b =
-    record { place = omega arith; sixteen = length-set lengths m (getD counts m 0) ∙ b .sixteen; wants = wants-more counts lengths m (omega (arith, b .sixteen)) (b .wants) }
-
-pub measure-done : (counts lengths : List ℕ) (m : ℕ) → length counts ≤ m → Measuring counts lengths m → Measured counts lengths
-measure-done counts lengths m l b = record { sixteen = b .sixteen; wants = λ j k. b .wants j (omega arith) }

@@ -9,7 +9,7 @@ ghost use Prim.Native.Nat.{_+_, _≤_};
 ghost use lib.ListN.{length, take, drop};
 ghost use Rattle.model.specs.Refusals.{first};
 ghost use Rattle.model.specs.Crew.{total, allWithin, badLimits, risesFrom, badLists, badTurns};
-ghost use Rattle.crew_plan.specs.Starts.{Begun, Measured};
+ghost use Rattle.crew_plan.specs.Starts.{Begun};
 
 // ---- the checks: limits, then lists by member, then turns by position
 
@@ -166,19 +166,4 @@ pub fn starts_of(counts: &[u32]) -> [usize; 16]
         m += 1;
     }
     starts
-}
-
-// How long each member's list is, beside where it begins: a turn then reads both of the same frame, and not through the
-// lent run.
-pub fn lengths_of(counts: &[u32]) -> [usize; 16]
-    requires { ⌜ length (now counts) ≤ 16 ⌝ }
-    ensures { λ r. ⌜ Measured (now (counts .entry)) r ⌝ }
-{
-    let mut lengths = [0usize; 16];
-    let mut m = 0;
-    while m < counts.len() {
-        lengths[m] = counts[m] as usize;
-        m += 1;
-    }
-    lengths
 }

@@ -7,9 +7,6 @@ use Rattle.crew.proofs.crew_run.Tie as tie
 starts-of-requires : tie.Need-starts-of-requires
 starts-of-requires c κs = search needs
 
-lengths-of-requires : tie.Need-lengths-of-requires
-lengths-of-requires c κs = search needs
-
 take-turns-requires : tie.Need-take-turns-requires
 take-turns-requires c κs = search needs
 
@@ -25,4 +22,4 @@ returns c = rw (← c .before .before .before .take-turns .ensures, ← c .finis
 
 pub crew-run-spec : {M : Type 1} → statement M
 crew-run-spec =
-    tie.close (tie.spec starts-of-requires lengths-of-requires take-turns-requires finish-requires same-length returns)
+    tie.close (tie.spec starts-of-requires take-turns-requires finish-requires same-length returns)

@@ -7,41 +7,37 @@ use lib.ListN.{length, getD, replicate}
 use borrow.Author.Needs.{needs}
 use Rattle.model.specs.Crew.{rests, startOf, crewStart}
 use Rattle.crew.proofs.take_turns.Statement.{statement}
-use Rattle.crew.specs.Places.{placed-rests, placed-for, Spot, spot}
+use Rattle.crew.specs.Places.{placed-rests, Spot, spot}
 use Rattle.laws.specs.Crew.{start-fits}
 use Rattle.crew.specs.Model.{handed, takeTurnsOf}
 use Rattle.crew.specs.Turns.{Unfinished, work-done}
-use Rattle.crew.specs.Rests.{Resting, move-for, rest-idle, rest-tried, rest-took, rest-moved}
+use Rattle.crew.specs.Rests.{Resting, rest-idle, rest-tried, rest-took, rest-moved}
 use Rattle.crew.proofs.take_turns.Tie as tie
 
 abbrev Inv-loop : tie.InvT-loop
-Inv-loop head table₀ health counts cells starts lengths turns made₀ next₀ moving₀ i₀ table made next moving i =
+Inv-loop head table₀ health counts cells starts turns made₀ next₀ moving₀ i₀ table made next moving i =
     Resting (head .headers) (head .buckets) health counts cells turns (crewStart head table₀ []) next table made moving i
 
 abbrev μ-loop : tie.MeasureT-loop
-μ-loop head table₀ health counts cells starts lengths turns made₀ next₀ moving₀ i₀ table made next moving i = length turns - i
+μ-loop head table₀ health counts cells starts turns made₀ next₀ moving₀ i₀ table made next moving i = length turns - i
 
--- the member whose turn it is: it is named, its list begins where `starts` says and is as long as `lengths` says, and it wants few cells
+-- the member whose turn it is: it is named, its list begins where `starts` says, and it wants few cells
 named : (c : tie.In-loop Inv-loop μ-loop) → let a = c .before .before .before .before .before .before .before .args in getD (a .turns .now) (c .before .loop .i) 0 < length (a .counts .now)
 named c = c .before .before .before .before .before .before .before .pre .0 .named _ (c .loop-test .taken)
 
 begins : (c : tie.In-loop Inv-loop μ-loop)
     → let a = c .before .before .before .before .before .before .before .args in let m = getD (a .turns .now) (c .before .loop .i) 0 in getD (a .starts .now) m 0 ≡ startOf (a .counts .now) m
-begins c = c .before .before .before .before .before .before .before .pre .1 .0 .begins _ (named c)
+begins c = c .before .before .before .before .before .before .before .pre .1 .begins _ (named c)
 
 wants-few : (c : tie.In-loop Inv-loop μ-loop) → let a = c .before .before .before .before .before .before .before .args in getD (a .counts .now) (getD (a .turns .now) (c .before .loop .i) 0) 0 ≤ 64
 wants-few c = c .before .before .before .before .before .before .before .pre .0 .limits .each-few _
-
-wants : (c : tie.In-loop Inv-loop μ-loop)
-    → let a = c .before .before .before .before .before .before .before .args in let m = getD (a .turns .now) (c .before .loop .i) 0 in getD (a .lengths .now) m 0 ≡ getD (a .counts .now) m 0
-wants c = c .before .before .before .before .before .before .before .pre .1 .1 .wants _ (named c)
 
 -- where it moves
 unfinished : (c : tie.After-place Inv-loop μ-loop)
     → let a = c .before .before .before .before .before .before .before .before .before .before .before .before .args in let l = c .before .before .before .before .before .before .loop in
     Unfinished rests (a .head .headers) (a .head .buckets) (a .health .now) (a .counts .now) (a .cells .now) (a .turns .now) (crewStart (a .head) (a .table .now) []) (l .next) (l .table) (l .made) (l .moving) (l .i) [] (l .inv .noted) (getD (a .starts .now) (getD (a .turns .now) (l .i) 0) 0) (c .place .result)
 unfinished c = let l = c .before .before .before .before .before .before .loop in
-    record { counted = omega (arith, named (c .before .before .before .before .before), c .before .before .before .before .before .before .before .before .before .before .before .before .pre .0 .limits .few-members, l .inv .run .made-length); begins = begins (c .before .before .before .before .before); placed = placed-for _ _ _ _ _ _ (wants (c .before .before .before .before .before)) (placed-rests _ _ _ _ (c .place .ensures)); unfinished = omega (arith, wants (c .before .before .before .before .before), c .before .before .if1 .left) }
+    record { counted = omega (arith, named (c .before .before .before .before .before), c .before .before .before .before .before .before .before .before .before .before .before .before .pre .0 .limits .few-members, l .inv .run .made-length); begins = begins (c .before .before .before .before .before); placed = placed-rests _ _ _ _ (c .place .ensures); unfinished = omega (arith, c .before .before .if1 .left) }
 
 spot-of : (c : tie.After-place Inv-loop μ-loop)
     → let a = c .before .before .before .before .before .before .before .before .before .before .before .before .args in Spot (a .head) (length (a .table .now)) (length (a .health .now)) (a .cells .now) (c .place .result)
@@ -69,19 +65,22 @@ array-read-n : tie.Need-array-read-n Inv-loop μ-loop
 array-read-n c = omega (arith, named (c .before), c .before .before .before .before .before .before .before .before .pre .0 .limits .few-members, c .before .before .loop .inv .run .made-length)
 
 mul-count : tie.Need-mul-count Inv-loop μ-loop
-mul-count c = omega (arith, named (c .before), c .before .before .before .before .before .before .before .before .pre .0 .limits .few-members)
+mul-count c = omega (arith, named (c .before))
 
-element-copy-out-count : tie.Need-element-copy-out-count Inv-loop μ-loop
-element-copy-out-count c = omega (arith, named (c .before), c .before .before .before .before .before .before .before .before .pre .0 .limits .few-members)
+shared-slice-read-count : tie.Need-shared-slice-read-count Inv-loop μ-loop
+shared-slice-read-count c = named (c .before .before)
+
+cast-count : tie.Need-cast-count Inv-loop μ-loop
+cast-count c = omega (arith, wants-few (c .before .before))
 
 mul-if1 : tie.Need-mul-if1 Inv-loop μ-loop
-mul-if1 c = omega (arith, wants (c .before .before), wants-few (c .before .before))
+mul-if1 c = omega (arith, wants-few (c .before .before))
 
 loop-less : tie.Need-loop-less Inv-loop μ-loop
 loop-less c = search needs
 
 loop-again : tie.Need-loop-again Inv-loop μ-loop
-loop-again c = rest-idle _ _ _ _ _ _ _ _ _ _ _ _ (c .before .before .before .before .loop .inv) (c .before .before .before .loop-test .taken) (omega (arith, wants (c .before .before .before), c .if1 .taken))
+loop-again c = rest-idle _ _ _ _ _ _ _ _ _ _ _ _ (c .before .before .before .before .loop .inv) (c .before .before .before .loop-test .taken) (c .if1 .taken)
 
 mul-place : tie.Need-mul-place Inv-loop μ-loop
 mul-place c = omega (arith, named (c .before .before .before), c .before .before .before .before .before .before .before .before .before .before .pre .0 .limits .few-members)
@@ -90,10 +89,10 @@ element-copy-out-place : tie.Need-element-copy-out-place Inv-loop μ-loop
 element-copy-out-place c = omega (arith, named (c .before .before .before), c .before .before .before .before .before .before .before .before .before .before .pre .0 .limits .few-members)
 
 place-requires : tie.Need-place-requires Inv-loop μ-loop
-place-requires c κs = (omega (arith, wants (c .before .before .before .before), begins (c .before .before .before .before), start-fits (c .before .before .before .before .before .before .before .before .before .before .before .args .counts .now) (getD (c .before .before .before .before .before .before .before .before .before .before .before .args .turns .now) (c .before .before .before .before .before .loop .i) 0), c .before .before .before .before .before .before .before .before .before .before .before .pre .0 .limits .few-cells), c .before .if1 .left)
+place-requires c κs = (omega (arith, begins (c .before .before .before .before), start-fits (c .before .before .before .before .before .before .before .before .before .before .before .args .counts .now) (getD (c .before .before .before .before .before .before .before .before .before .before .before .args .turns .now) (c .before .before .before .before .before .loop .i) 0), c .before .before .before .before .before .before .before .before .before .before .before .pre .0 .limits .few-cells), c .before .if1 .left)
 
 add-once-more : tie.Need-add-once-more Inv-loop μ-loop
-add-once-more c = omega (arith, wants (c .before .before .before .before .before), wants-few (c .before .before .before .before .before), c .before .before .if1 .left)
+add-once-more c = omega (arith, wants-few (c .before .before .before .before .before), c .before .before .if1 .left)
 
 mul-make-move : tie.Need-mul-make-move Inv-loop μ-loop
 mul-make-move c = omega (arith, spot-of (c .before) .in-run)
@@ -111,7 +110,7 @@ loop-less-2 : tie.Need-loop-less-2 Inv-loop μ-loop
 loop-less-2 c = search needs
 
 loop-again-2 : tie.Need-loop-again-2 Inv-loop μ-loop
-loop-again-2 c = rest-tried _ _ _ _ _ _ _ _ _ _ _ _ (c .before .before .before .before .before .before .before .before .before .before .before .before .before .loop .inv) (c .before .before .before .before .before .before .before .before .before .before .before .before .loop-test .taken) _ _ (unfinished (c .before .before .before .before .before .before .before)) _ _ (move-for _ _ _ _ _ _ _ _ _ (wants (c .before .before .before .before .before .before .before .before .before .before .before .before)) (c .before .before .before .before .make-move .ensures)) (search needs) (c .enum-told .given .1)
+loop-again-2 c = rest-tried _ _ _ _ _ _ _ _ _ _ _ _ (c .before .before .before .before .before .before .before .before .before .before .before .before .before .loop .inv) (c .before .before .before .before .before .before .before .before .before .before .before .before .loop-test .taken) _ _ (unfinished (c .before .before .before .before .before .before .before)) _ _ (c .before .before .before .before .make-move .ensures) (search needs) (c .enum-told .given .1)
 
 enum-known-after : tie.Need-enum-known-after Inv-loop μ-loop
 enum-known-after c = search needs
@@ -129,7 +128,7 @@ loop-less-3 : tie.Need-loop-less-3 Inv-loop μ-loop
 loop-less-3 c = search needs
 
 loop-again-3 : tie.Need-loop-again-3 Inv-loop μ-loop
-loop-again-3 c = rest-took _ _ _ _ _ _ _ _ _ _ _ _ (c .before .before .before .before .before .before .before .before .before .before .before .before .before .before .loop .inv) (c .before .before .before .before .before .before .before .before .before .before .before .before .before .loop-test .taken) _ _ (unfinished (c .before .before .before .before .before .before .before .before)) _ _ (move-for _ _ _ _ _ _ _ _ _ (wants (c .before .before .before .before .before .before .before .before .before .before .before .before .before)) (c .before .before .before .before .before .make-move .ensures)) (search needs) _ _ (c .before .after .given .1)
+loop-again-3 c = rest-took _ _ _ _ _ _ _ _ _ _ _ _ (c .before .before .before .before .before .before .before .before .before .before .before .before .before .before .loop .inv) (c .before .before .before .before .before .before .before .before .before .before .before .before .before .loop-test .taken) _ _ (unfinished (c .before .before .before .before .before .before .before .before)) _ _ (c .before .before .before .before .before .make-move .ensures) (search needs) _ _ (c .before .after .given .1)
 
 enum-told-2 : tie.Need-enum-told-2 Inv-loop μ-loop
 enum-told-2 c = search needs
@@ -147,7 +146,7 @@ loop-less-4 : tie.Need-loop-less-4 Inv-loop μ-loop
 loop-less-4 c = search needs
 
 loop-again-4 : tie.Need-loop-again-4 Inv-loop μ-loop
-loop-again-4 c = rest-moved _ _ _ _ _ _ _ _ _ _ _ _ (c .before .before .before .before .before .before .before .before .before .before .before .before .before .loop .inv) (c .before .before .before .before .before .before .before .before .before .before .before .before .loop-test .taken) _ _ (unfinished (c .before .before .before .before .before .before .before)) _ _ (move-for _ _ _ _ _ _ _ _ _ (wants (c .before .before .before .before .before .before .before .before .before .before .before .before)) (c .before .before .before .before .make-move .ensures)) (search needs) (c .enum-told2 .given .1)
+loop-again-4 c = rest-moved _ _ _ _ _ _ _ _ _ _ _ _ (c .before .before .before .before .before .before .before .before .before .before .before .before .before .loop .inv) (c .before .before .before .before .before .before .before .before .before .before .before .before .loop-test .taken) _ _ (unfinished (c .before .before .before .before .before .before .before)) _ _ (c .before .before .before .before .make-move .ensures) (search needs) (c .enum-told2 .given .1)
 
 sub-idle : tie.Need-sub-idle Inv-loop μ-loop
 sub-idle c = search needs
@@ -173,7 +172,8 @@ take-turns-spec =
     mul-n
     array-read-n
     mul-count
-    element-copy-out-count
+    shared-slice-read-count
+    cast-count
     mul-if1
     loop-less
     loop-again

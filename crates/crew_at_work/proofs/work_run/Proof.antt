@@ -7,9 +7,6 @@ use Rattle.crew_at_work.proofs.work_run.Tie as tie
 starts-of-requires : tie.Need-starts-of-requires
 starts-of-requires c κs = search needs
 
-lengths-of-requires : tie.Need-lengths-of-requires
-lengths-of-requires c κs = search needs
-
 work-turns-requires : tie.Need-work-turns-requires
 work-turns-requires c κs = search needs
 
@@ -31,7 +28,6 @@ work-run-spec =
     tie.close
     (tie.spec
     starts-of-requires
-    lengths-of-requires
     work-turns-requires
     finish-requires
     same-length

@@ -6,22 +6,21 @@ use lib.ListN.{length, getD, replicate}
 use borrow.Author.Needs.{needs}
 use Rattle.model.specs.Crew.{adds, startOf, crewStart}
 use Rattle.laws.specs.Crew.{start-fits}
-use Rattle.crew.specs.Places.{placed-for, Spot, spot}
+use Rattle.crew.specs.Places.{Spot, spot}
 use Rattle.crew.specs.Turns.{Unfinished, work-done}
 use Rattle.crew_at_work.proofs.work_turns.Statement.{statement}
 use Rattle.crew_at_work.specs.Model.{handedWith, workTurnsOf}
-use Rattle.crew_at_work.specs.Laws.{placed-adds, lowest-in, stand-few, Noting, work-move-for, note-for, add-idle, add-tried, add-took, add-moved}
+use Rattle.crew_at_work.specs.Laws.{placed-adds, lowest-in, stand-few, Noting, add-idle, add-tried, add-took, add-moved}
 use Rattle.crew_at_work.proofs.work_turns.Tie as tie
 
 abbrev Inv-loop : tie.InvT-loop
-Inv-loop head table₀ health counts cells starts lengths turns counters₀ made₀ noted₀ next₀ moving₀ i₀ table counters made noted next moving i =
+Inv-loop head table₀ health counts cells starts turns counters₀ made₀ noted₀ next₀ moving₀ i₀ table counters made noted next moving i =
     Noting (head .headers) (head .buckets) health counts cells turns (crewStart head table₀ counters₀) next table made moving i counters noted
 
 abbrev μ-loop : tie.MeasureT-loop
-μ-loop head table₀ health counts cells starts lengths turns counters₀ made₀ noted₀ next₀ moving₀ i₀ table counters made noted next moving i = length turns - i
+μ-loop head table₀ health counts cells starts turns counters₀ made₀ noted₀ next₀ moving₀ i₀ table counters made noted next moving i = length turns - i
 
--- the member whose turn it is: it is named, one of sixteen, its list begins where `starts` says and is as long as
--- `lengths` says, and it wants few cells
+-- the member whose turn it is: it is named, one of sixteen, its list begins where `starts` says, and it wants few cells
 named : (c : tie.In-loop Inv-loop μ-loop) → let a = c .before .before .before .before .before .before .before .before .args in getD (a .turns .now) (c .before .loop .i) 0 < length (a .counts .now)
 named c = c .before .before .before .before .before .before .before .before .pre .0 .named _ (c .loop-test .taken)
 
@@ -38,15 +37,11 @@ begins c = c .before .before .before .before .before .before .before .before .pr
 wants-few : (c : tie.In-loop Inv-loop μ-loop) → let a = c .before .before .before .before .before .before .before .before .args in getD (a .counts .now) (getD (a .turns .now) (c .before .loop .i) 0) 0 ≤ 64
 wants-few c = c .before .before .before .before .before .before .before .before .pre .0 .limits .each-few _
 
-wants : (c : tie.In-loop Inv-loop μ-loop)
-    → let a = c .before .before .before .before .before .before .before .before .args in let m = getD (a .turns .now) (c .before .loop .i) 0 in getD (a .lengths .now) m 0 ≡ getD (a .counts .now) m 0
-wants c = c .before .before .before .before .before .before .before .before .pre .1 .1 .0 .wants _ (named c)
-
 -- where it moves, and its lowest cell
 unfinished : (c : tie.After-place Inv-loop μ-loop)
     → let a = c .before .before .before .before .before .before .before .before .before .before .before .before .before .before .args in let l = c .before .before .before .before .before .before .before .loop in
     Unfinished adds (a .head .headers) (a .head .buckets) (a .health .now) (a .counts .now) (a .cells .now) (a .turns .now) (crewStart (a .head) (a .table .now) (a .counters .now)) (l .next) (l .table) (l .made) (l .moving) (l .i) (l .counters) (l .noted) (getD (a .starts .now) (getD (a .turns .now) (l .i) 0) 0) (c .place .result)
-unfinished c = record { counted = in-made (c .before .before .before .before .before .before); begins = begins (c .before .before .before .before .before .before); placed = placed-for _ _ _ _ _ _ (wants (c .before .before .before .before .before .before)) (placed-adds _ _ _ _ _ (c .before .stand .ensures) (c .place .ensures)); unfinished = omega (arith, wants (c .before .before .before .before .before .before), c .before .before .before .if1 .left) }
+unfinished c = record { counted = in-made (c .before .before .before .before .before .before); begins = begins (c .before .before .before .before .before .before); placed = placed-adds _ _ _ _ _ (c .before .stand .ensures) (c .place .ensures); unfinished = omega (arith, c .before .before .before .if1 .left) }
 
 spot-of : (c : tie.After-place Inv-loop μ-loop)
     → let a = c .before .before .before .before .before .before .before .before .before .before .before .before .before .before .args in Spot (a .head) (length (a .table .now)) (length (a .health .now)) (a .cells .now) (c .place .result)
@@ -54,7 +49,7 @@ spot-of c = spot adds _ _ _ _ _ _ _ _ _ _ (c .before .before .before .before .be
 
 low-of : (c : tie.After-place Inv-loop μ-loop)
     → let a = c .before .before .before .before .before .before .before .before .before .before .before .before .before .before .args in Spot (a .head) (length (a .table .now)) (length (a .health .now)) (a .cells .now) (getD (a .starts .now) (getD (a .turns .now) (c .before .before .before .before .before .before .before .loop .i) 0) 0)
-low-of c = lowest-in _ _ _ _ _ _ _ _ (c .before .before .before .before .before .before .before .before .before .before .before .before .before .before .pre .0) (named (c .before .before .before .before .before .before)) (begins (c .before .before .before .before .before .before)) (omega (arith, wants (c .before .before .before .before .before .before), c .before .before .before .if1 .left))
+low-of c = lowest-in _ _ _ _ _ _ _ _ (c .before .before .before .before .before .before .before .before .before .before .before .before .before .before .pre .0) (named (c .before .before .before .before .before .before)) (begins (c .before .before .before .before .before .before)) (omega (arith, c .before .before .before .if1 .left))
 
 loop-holds : tie.Need-loop-holds Inv-loop μ-loop
 loop-holds c = record { run = record { serials = replicate 256 0; place = search needs; few = search needs; words = refl; made-length = refl; rest = refl }; wide = refl }
@@ -78,19 +73,22 @@ array-read-n : tie.Need-array-read-n Inv-loop μ-loop
 array-read-n c = few (c .before)
 
 mul-count : tie.Need-mul-count Inv-loop μ-loop
-mul-count c = omega (arith, few (c .before))
+mul-count c = omega (arith, named (c .before))
 
-element-copy-out-count : tie.Need-element-copy-out-count Inv-loop μ-loop
-element-copy-out-count c = omega (arith, few (c .before))
+shared-slice-read-count : tie.Need-shared-slice-read-count Inv-loop μ-loop
+shared-slice-read-count c = named (c .before .before)
+
+cast-count : tie.Need-cast-count Inv-loop μ-loop
+cast-count c = omega (arith, wants-few (c .before .before))
 
 mul-if1 : tie.Need-mul-if1 Inv-loop μ-loop
-mul-if1 c = omega (arith, wants (c .before .before), wants-few (c .before .before))
+mul-if1 c = omega (arith, wants-few (c .before .before))
 
 loop-less : tie.Need-loop-less Inv-loop μ-loop
 loop-less c = search needs
 
 loop-again : tie.Need-loop-again Inv-loop μ-loop
-loop-again c = add-idle _ _ _ _ _ _ _ _ _ _ _ _ _ _ (c .before .before .before .before .loop .inv) (c .before .before .before .loop-test .taken) (omega (arith, wants (c .before .before .before), c .if1 .taken))
+loop-again c = add-idle _ _ _ _ _ _ _ _ _ _ _ _ _ _ (c .before .before .before .before .loop .inv) (c .before .before .before .loop-test .taken) (c .if1 .taken)
 
 mul-start : tie.Need-mul-start Inv-loop μ-loop
 mul-start c = omega (arith, few (c .before .before .before))
@@ -103,7 +101,7 @@ stand-requires c κs = search needs
 
 place-requires : tie.Need-place-requires Inv-loop μ-loop
 place-requires c κs = let a = c .before .before .before .before .before .before .before .before .before .before .before .before .before .args in let m = getD (a .turns .now) (c .before .before .before .before .before .before .loop .i) 0 in
-    (omega (arith, wants (c .before .before .before .before .before), begins (c .before .before .before .before .before), start-fits (a .counts .now) m, c .before .before .before .before .before .before .before .before .before .before .before .before .before .pre .0 .limits .few-cells), stand-few _ _ _ (c .stand .ensures) (c .before .before .if1 .left))
+    (omega (arith, begins (c .before .before .before .before .before), start-fits (a .counts .now) m, c .before .before .before .before .before .before .before .before .before .before .before .before .before .pre .0 .limits .few-cells), stand-few _ _ _ (c .stand .ensures) (c .before .before .if1 .left))
 
 mul-cell : tie.Need-mul-cell Inv-loop μ-loop
 mul-cell c = omega (arith, spot-of c .in-run)
@@ -118,11 +116,11 @@ array-read-value : tie.Need-array-read-value Inv-loop μ-loop
 array-read-value c = few (c .before .before .before .before .before .before .before)
 
 add-once-more : tie.Need-add-once-more Inv-loop μ-loop
-add-once-more c = omega (arith, wants (c .before .before .before .before .before .before .before), wants-few (c .before .before .before .before .before .before .before), c .before .before .before .before .if1 .left)
+add-once-more c = omega (arith, wants-few (c .before .before .before .before .before .before .before), c .before .before .before .before .if1 .left)
 
 work-move-requires : tie.Need-work-move-requires Inv-loop μ-loop
 work-move-requires c κs = let l = c .before .before .before .before .before .before .before .before .before .before .loop in let s = spot-of (c .before .before .before) in let f = c .before .before .before .before .before .before .before .before .before .before .before .before .before .before .before .before .before .pre in
-    (omega (arith, s .cell-fits, l .inv .run .words), (f .0 .shape .some-buckets, (s .header-fits, (omega (arith, s .cell-in, l .inv .wide, f .1 .1 .1), omega (arith, wants (c .before .before .before .before .before .before .before .before .before), wants-few (c .before .before .before .before .before .before .before .before .before))))))
+    (omega (arith, s .cell-fits, l .inv .run .words), (f .0 .shape .some-buckets, (s .header-fits, (omega (arith, s .cell-in, l .inv .wide, f .1 .1), wants-few (c .before .before .before .before .before .before .before .before .before)))))
 
 enum-told : tie.Need-enum-told Inv-loop μ-loop
 enum-told c = search needs
@@ -131,7 +129,7 @@ loop-less-2 : tie.Need-loop-less-2 Inv-loop μ-loop
 loop-less-2 c = search needs
 
 loop-again-2 : tie.Need-loop-again-2 Inv-loop μ-loop
-loop-again-2 c = add-tried _ _ _ _ _ _ _ _ _ _ _ _ _ _ (c .before .before .before .before .before .before .before .before .before .before .before .before .before .before .before .before .before .loop .inv) (c .before .before .before .before .before .before .before .before .before .before .before .before .before .before .before .before .loop-test .taken) _ _ (unfinished (c .before .before .before .before .before .before .before .before .before .before)) _ _ _ (work-move-for _ _ _ _ _ _ _ _ _ _ _ (wants (c .before .before .before .before .before .before .before .before .before .before .before .before .before .before .before .before)) (c .before .before .before .before .before .before .work-move .ensures)) (search needs) (search needs) (c .enum-told .given .1)
+loop-again-2 c = add-tried _ _ _ _ _ _ _ _ _ _ _ _ _ _ (c .before .before .before .before .before .before .before .before .before .before .before .before .before .before .before .before .before .loop .inv) (c .before .before .before .before .before .before .before .before .before .before .before .before .before .before .before .before .loop-test .taken) _ _ (unfinished (c .before .before .before .before .before .before .before .before .before .before)) _ _ _ (c .before .before .before .before .before .before .work-move .ensures) (search needs) (search needs) (c .enum-told .given .1)
 
 enum-known-after : tie.Need-enum-known-after Inv-loop μ-loop
 enum-known-after c = search needs
@@ -152,7 +150,7 @@ shared-slice-read-note : tie.Need-shared-slice-read-note Inv-loop μ-loop
 shared-slice-read-note c = low-of (c .before .before .before .before .before .before .before .before .before .before .before .before .before) .in-run
 
 note-requires : tie.Need-note-requires Inv-loop μ-loop
-note-requires c κs = omega (arith, low-of (c .before .before .before .before .before .before .before .before .before .before .before .before .before) .cell-in, c .before .before .before .before .before .before .before .before .before .before .before .before .before .before .before .before .before .before .before .before .loop .inv .wide, c .before .before .before .before .before .before .before .before .before .before .before .before .before .before .before .before .before .before .before .before .before .before .before .before .before .before .before .pre .1 .1 .1, c .before .before .before .before .before .before .before .before .before .work-move .kept)
+note-requires c κs = omega (arith, low-of (c .before .before .before .before .before .before .before .before .before .before .before .before .before) .cell-in, c .before .before .before .before .before .before .before .before .before .before .before .before .before .before .before .before .before .before .before .before .loop .inv .wide, c .before .before .before .before .before .before .before .before .before .before .before .before .before .before .before .before .before .before .before .before .before .before .before .before .before .before .before .pre .1 .1, c .before .before .before .before .before .before .before .before .before .work-move .kept)
 
 mul-noted : tie.Need-mul-noted Inv-loop μ-loop
 mul-noted c = omega (arith, few (c .before .before .before .before .before .before .before .before .before .before .before .before .before .before .before .before .before .before .before .before))
@@ -164,7 +162,7 @@ loop-less-3 : tie.Need-loop-less-3 Inv-loop μ-loop
 loop-less-3 c = search needs
 
 loop-again-3 : tie.Need-loop-again-3 Inv-loop μ-loop
-loop-again-3 c = add-took _ _ _ _ _ _ _ _ _ _ _ _ _ _ (c .before .before .before .before .before .before .before .before .before .before .before .before .before .before .before .before .before .before .before .before .before .loop .inv) (c .before .before .before .before .before .before .before .before .before .before .before .before .before .before .before .before .before .before .before .before .loop-test .taken) _ _ (unfinished (c .before .before .before .before .before .before .before .before .before .before .before .before .before .before)) _ _ _ (work-move-for _ _ _ _ _ _ _ _ _ _ _ (wants (c .before .before .before .before .before .before .before .before .before .before .before .before .before .before .before .before .before .before .before .before)) (c .before .before .before .before .before .before .before .before .before .before .work-move .ensures)) (search needs) (search needs) _ _ _ (c .before .before .before .before .after .given .1) (note-for _ _ _ _ _ _ _ (wants (c .before .before .before .before .before .before .before .before .before .before .before .before .before .before .before .before .before .before .before .before)) (c .note .ensures))
+loop-again-3 c = add-took _ _ _ _ _ _ _ _ _ _ _ _ _ _ (c .before .before .before .before .before .before .before .before .before .before .before .before .before .before .before .before .before .before .before .before .before .loop .inv) (c .before .before .before .before .before .before .before .before .before .before .before .before .before .before .before .before .before .before .before .before .loop-test .taken) _ _ (unfinished (c .before .before .before .before .before .before .before .before .before .before .before .before .before .before)) _ _ _ (c .before .before .before .before .before .before .before .before .before .before .work-move .ensures) (search needs) (search needs) _ _ _ (c .before .before .before .before .after .given .1) (c .note .ensures)
 
 enum-told-2 : tie.Need-enum-told-2 Inv-loop μ-loop
 enum-told-2 c = search needs
@@ -182,7 +180,7 @@ loop-less-4 : tie.Need-loop-less-4 Inv-loop μ-loop
 loop-less-4 c = search needs
 
 loop-again-4 : tie.Need-loop-again-4 Inv-loop μ-loop
-loop-again-4 c = add-moved _ _ _ _ _ _ _ _ _ _ _ _ _ _ (c .before .before .before .before .before .before .before .before .before .before .before .before .before .before .before .before .before .loop .inv) (c .before .before .before .before .before .before .before .before .before .before .before .before .before .before .before .before .loop-test .taken) _ _ (unfinished (c .before .before .before .before .before .before .before .before .before .before)) _ _ _ (work-move-for _ _ _ _ _ _ _ _ _ _ _ (wants (c .before .before .before .before .before .before .before .before .before .before .before .before .before .before .before .before)) (c .before .before .before .before .before .before .work-move .ensures)) (search needs) (search needs) (c .enum-told2 .given .1)
+loop-again-4 c = add-moved _ _ _ _ _ _ _ _ _ _ _ _ _ _ (c .before .before .before .before .before .before .before .before .before .before .before .before .before .before .before .before .before .loop .inv) (c .before .before .before .before .before .before .before .before .before .before .before .before .before .before .before .before .loop-test .taken) _ _ (unfinished (c .before .before .before .before .before .before .before .before .before .before)) _ _ _ (c .before .before .before .before .before .before .work-move .ensures) (search needs) (search needs) (c .enum-told2 .given .1)
 
 sub-idle : tie.Need-sub-idle Inv-loop μ-loop
 sub-idle c = omega (arith, c .before .loop .inv .run .few, c .before .loop .inv .run .place)
@@ -211,7 +209,8 @@ work-turns-spec =
     mul-n
     array-read-n
     mul-count
-    element-copy-out-count
+    shared-slice-read-count
+    cast-count
     mul-if1
     loop-less
     loop-again
