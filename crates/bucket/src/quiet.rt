@@ -17,8 +17,8 @@ ghost use Prim.Native.Nat.{_+_, _*_, _<_, _≤_};
 ghost use lib.ListN.{length};
 ghost use Rattle.model.specs.Lock.{noneYet};
 ghost use Rattle.bucket.specs.Bounds.{callMost, tryMost};
-ghost use Rattle.bucket.specs.Quiet.{Few, Within, quietAttemptOf, quietPauseOf, quietRetryOf, quietOnceAt};
-ghost use Rattle.bucket.specs.Quiet.{quietRetryAt};
+ghost use Rattle.bucket.specs.Quiet.{Few, Within, quietAttemptOf, quietPauseOf, quietRetryOf};
+ghost use Rattle.bucket.specs.Quiet.{quietOnceAt, quietRetryAt};
 
 // An attempt on a cell of a healthy header.
 fn quiet_attempt(head: Head, run: Run, table: &mut [u32], cell: u32) -> Tried
