@@ -1,4 +1,4 @@
--- `release::releasable_fault` meets its contract.
+-- `release::few_fault` meets its contract.
 use Prim.Native.Nat.{_≤_, _*_, _-_, _/_}
 use mathlib.Core.Path.{_≡_, refl, sym}
 use mathlib.Core.List.{[]}
@@ -10,8 +10,8 @@ use Rattle.model.specs.Arena.{holdsOf, leasesOf}
 use Rattle.model.specs.Checks.{notReleasable}
 use Rattle.model.specs.Refusals.{first}
 use Rattle.release.specs.Release.{releasable-at, releasable-end}
-use Rattle.release.proofs.releasable_fault.Statement.{statement}
-use Rattle.release.proofs.releasable_fault.Tie as tie
+use Rattle.release.proofs.few_fault.Statement.{statement}
+use Rattle.release.proofs.few_fault.Tie as tie
 
 abbrev Inv-loop : tie.InvT-loop
 Inv-loop head table leases i₀ i =
@@ -82,8 +82,8 @@ returns-4 c =
     let a = c .before .before .before .before .args in
     rw (← l .inv .1, releasable-end (a .head) (a .table .now) (a .leases .now) (l .i) (search needs))
 
-pub releasable-fault-spec : {M : Type 1} → statement M
-releasable-fault-spec =
+pub few-fault-spec : {M : Type 1} → statement M
+few-fault-spec =
     tie.close
     (tie.spec
     Inv-loop
