@@ -339,3 +339,12 @@ put-all l m i x e = ap (λ (o : ℕ × List ℕ). o .1) e
 -- no line of a text that is fine is wrong
 pub not-bad : {A : Type 0} (k n last : ℕ) (v : Verdict) → Bad k ≡ v → v ≡ Fine n last → A
 not-bad k n last v e f = bad-not (e ∙ f)
+
+pub scan-live : (text : List ℕ) (at end k n last : ℕ) (s : Stage) (bits : List ℕ) → end ≡ at + before 10 (drop at text)
+    → end < length text → verdictOf k s bits (splitOf (drop at text)) ≡ Fine n last
+    → isLost (nextOf s bits (take (end - at) (drop at text))) ≡ false
+scan-live text at end k n last s bits e h v = go (isLost (nextOf s bits (take (end - at) (drop at text)))) refl
+  where
+    go : (t : Bool) → isLost (nextOf s bits (take (end - at) (drop at text))) ≡ t → isLost (nextOf s bits (take (end - at) (drop at text))) ≡ false
+    go true p = not-bad k n last _ (scan-lost text at end k s _ bits e h refl p) v
+    go false p = p

@@ -119,7 +119,7 @@ fn put_words(stage: Stage, bits: &[u8; 94], line: &[u8], out: &mut [u32], at: us
     at
 }
 
-// The words of a text that is fine.
+// The words of a text that is fine: no line is tested again.
 fn fill(text: &[u8], n: usize, last: usize, out: &mut [u32])
     requires { ⌜ (verdictOf 1 Opening noBits (splitOf (now text)) ≡ Fine n last) × (3 * last ≤ length (now out)) ⌝ }
     ensures { λ r. ⌜ now (out .exit)
@@ -135,10 +135,7 @@ fn fill(text: &[u8], n: usize, last: usize, out: &mut [u32])
         if end == text.len() {
             return;
         }
-        let after = wave_line::next(stage, &bits, &text[at..end]);
-        if wave_line::is_lost(after) {
-            return;
-        }
+        let after = wave_line::onward(stage, &text[at..end]);
         used = put_words(stage, &bits, &text[at..end], out, used);
         wave_line::bits_after(stage, &mut bits, &text[at..end]);
         stage = after;
