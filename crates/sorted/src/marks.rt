@@ -1,6 +1,6 @@
 // Marks on a list: for each remainder of a cell number by 256, the position of the first listed cell that has it, and 0
-// where none has. They are noted from the end, so that the first stays; a byte has the remainder of its position by 256,
-// which is not behind it.
+// where none has. They are noted from the end, so that the first stays; a byte has the remainder of its position by
+// 256, which is not behind it.
 // Nothing here is reached from outside the crate.
 ghost use Rattle.sorted.specs.Marks.{Marked, LeaseMarked};
 
