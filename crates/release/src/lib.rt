@@ -166,12 +166,12 @@ fn many_fault(head: Head, table: &[u32], leases: &[u32]) -> Check
     Check::Fine
 }
 
-// The same, by whichever costs less: marks pay from the fifth lease on.
+// The same, by whichever costs less: marks pay from the ninth lease on.
 fn releasable_fault(head: Head, table: &[u32], leases: &[u32]) -> Check
     requires { ⌜ shapeFits head (length (now table)) ≡ true ⌝ }
     ensures { λ r. ⌜ r ≡ first (notReleasable head (now (table .entry)) 0 [] (leasesOf (now (leases .entry)))) ⌝ }
 {
-    if leases.len() < 15 {
+    if leases.len() < 27 {
         return few_fault(head, table, leases);
     }
     many_fault(head, table, leases)
