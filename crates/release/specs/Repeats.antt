@@ -17,7 +17,7 @@ use Rattle.laws.specs.Checks.{leaseIn}
 use Rattle.foreign.specs.Laws.{is-in-append}
 use Rattle.release.specs.Release.{more-leases}
 
--- 251 is a prime above 64: the cells of one bucket have a remainder each, and so have neighbours
+-- the mark of a hold's cell
 abbrev pub markAt : List ℕ → Hold → ℕ
 markAt marks h = getD marks (h .cell % 251) 0
 

@@ -137,7 +137,8 @@ fn is_repeated(leases: &[u32], i: usize, marks: &[u8; 251], hold: Hold) -> bool
     lease::is_in(&leases[..3 * i], hold)
 }
 
-// The same in any list, with a mark for each lease passed.
+// 16, 12 and 14 in a list of any length, with a mark for each lease passed, by the remainder of its cell number by 251:
+// a prime, so that neither the cells of one bucket nor those of one header share a mark.
 fn many_fault(head: Head, table: &[u32], leases: &[u32]) -> Check
     requires { ⌜ shapeFits head (length (now table)) ≡ true ⌝ }
     ensures { λ r. ⌜ r ≡ first (notReleasable head (now (table .entry)) 0 [] (leasesOf (now (leases .entry)))) ⌝ }
@@ -166,7 +167,7 @@ fn many_fault(head: Head, table: &[u32], leases: &[u32]) -> Check
     Check::Fine
 }
 
-// The same, by whichever costs less: marks pay from the ninth lease on.
+// The same in either way: marks pay from the ninth lease on.
 fn releasable_fault(head: Head, table: &[u32], leases: &[u32]) -> Check
     requires { ⌜ shapeFits head (length (now table)) ≡ true ⌝ }
     ensures { λ r. ⌜ r ≡ first (notReleasable head (now (table .entry)) 0 [] (leasesOf (now (leases .entry)))) ⌝ }
