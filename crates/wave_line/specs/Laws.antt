@@ -1,19 +1,21 @@
 -- Laws for the steps: lines compared, and what a stage changes.
-use Prim.Native.Nat.{ℕ, suc, _+_, _-_, _≤_, _<_}
+use Prim.Native.Nat.{ℕ, suc, _+_, _*_, _-_, _^_, _≤_, _<_}
 use mathlib.Core.Path.{_≡_, refl, sym, ap, _∙_}
 use mathlib.Core.Logic.{_≢_}
 use mathlib.Core.List.{List, [], _∷_, _++_, append-assoc, append-nil}
-use mathlib.Core.Bool.{Bool, true, false}
+use mathlib.Core.Bool.{Bool, true, false, _&&_}
 use native.Mathlib.Omega.{arith}
 use native.Mathlib.Numerals.{add-one}
+use native.Mathlib.Nat.{pow-le-pow-right}
 use lib.Dec.{eqb, ltb, leb}
 use lib.ListN.{length, getD, drop, take, length-append, drop-of-length-le}
 use lib.Seq.{sets, sets-eq, take-at, drop-cons}
-use borrow.Author.Tests.{ltb-true, lt-ltb, le-ltb, le-leb, lt-leb, eq-eqb, ne-eqb, eqb-true, eqb-false}
+use borrow.Author.Tests.{ltb-true, ltb-false, lt-ltb, le-ltb, le-leb, lt-leb, eq-eqb, ne-eqb, eqb-true, eqb-false}
 use Rattle.choice.specs.Choice.{if_then_else_}
 use Rattle.choice.specs.Pick.{if-both}
 use Rattle.text.specs.declared.Number.{Number}
-use Rattle.text.specs.Text.{digitsIn, valueFrom, endedNumberOf, readNumberOf}
+use Rattle.text.specs.Text.{isDigit, digitsIn, valueFrom, noNumber, endedNumberOf, readNumberOf}
+use Rattle.text.specs.Laws.{digit-is, digits-at, digits-end, value-at, value-end}
 use Rattle.text.specs.Decimal.{decimalOf, placesOf, length-decimal, places-most, places-few}
 use Rattle.text.specs.Back.{wholeNumber, number-back, number-whole}
 use Rattle.wave_rules.specs.Lines.{joined, same}
@@ -22,10 +24,10 @@ use Rattle.wave_rules.specs.declared.Stage.{Stage}
 use Rattle.wave_rules.specs.declared.Stage.the-variants.{Opening, Scope, Variables, Ending, Start, Values, Waiting, Changing, Lost}
 use Rattle.wave_rules.specs.Dump.{flipOf, timescale, scopeLine, varLine, upscope, endLine, timeLine, bitLine}
 use Rattle.wave_rules.specs.Reader.{timeIn, cellIn, afterVariable, afterValue, isTime, isChange, nextOf, bitsOf}
-use Rattle.wave_rules.specs.Stages.{false-not, nested, Reach}
-use Rattle.wave_line.specs.Stages.{isLost, isChanging, isMarked, afterTime, onwardOf}
+use Rattle.wave_rules.specs.Stages.{false-not, nested, time-later, Reach}
+use Rattle.wave_line.specs.Stages.{isLost, isChanging, sumOf, stampOf, afterTime, onwardOf}
 use Rattle.print.specs.Print.{putOf}
-use Rattle.wave_write.specs.Laws.{length-time, length-bit, length-var}
+use Rattle.wave_write.specs.Laws.{length-time, length-bit, length-var, five-places}
 
 neither : (b : Bool) → (if b then false else false) ≡ false
 neither true = refl
@@ -103,41 +105,157 @@ same-decimal y h k = go (eqb (length y) (readNumberOf y .digits)) refl (same y (
         absurd (eqb-false (length y) (readNumberOf y .digits) p (l ∙ sym d))
     go false p false q = q
 
-pub time-marked : (x : List ℕ) → 0 < timeIn x → timeIn x ≤ 32768 → same x (timeLine (timeIn x)) ≡ isMarked x (readNumberOf (drop 1 x) .digits)
-unfolding same timeIn timeLine isMarked
-time-marked [] h k = absurd (omega (arith, number-some [] h))
-time-marked (a ∷ y) h k = rw (same-decimal y h k) (go (eqb a 35) (eqb (length y) (readNumberOf y .digits)) refl)
+-- what a number that is not 0 says of its bytes, and the other way round
+read-parts : (y : List ℕ) → 0 < readNumberOf y .value
+    → (readNumberOf y .digits ≡ digitsIn y) × (readNumberOf y .value ≡ valueFrom 0 y) × ((eqb (getD y 0 0) 48 && ltb 1 (digitsIn y)) ≡ false) × (0 < digitsIn y)
+unfolding readNumberOf endedNumberOf
+read-parts y h = go (ltb 4294967295 (valueFrom 0 y)) (eqb (digitsIn y) 0) refl (eqb (getD y 0 0) 48 && ltb 1 (digitsIn y)) refl h
   where
-    n : ℕ
-    n = readNumberOf y .digits
+    made : (t u w : Bool) → Number
+    made t u w = if t then noNumber else if u then noNumber else if w then noNumber else record { fine = true; value = valueFrom 0 y; digits = digitsIn y }
 
-    go : (t u : Bool) → eqb (length y) n ≡ u → (if t then u else false) ≡ (if eqb (suc (length y)) (n + 1) then t else false)
-    go true true p = let q : suc (length y) ≡ n + 1 = omega (arith, eqb-true (length y) n p) in rw (eq-eqb (suc (length y)) (n + 1) q)
-    go false true p = let q : suc (length y) ≡ n + 1 = omega (arith, eqb-true (length y) n p) in rw (eq-eqb (suc (length y)) (n + 1) q)
-    go t false p = let q : suc (length y) ≢ n + 1 = (λ e. eqb-false (length y) n p (omega arith)) in rw (ne-eqb (suc (length y)) (n + 1) q) (neither t)
+    go : (t u : Bool) → eqb (digitsIn y) 0 ≡ u → (w : Bool) → (eqb (getD y 0 0) 48 && ltb 1 (digitsIn y)) ≡ w → 0 < made t u w .value
+        → (made t u w .digits ≡ digitsIn y) × (made t u w .value ≡ valueFrom 0 y) × ((eqb (getD y 0 0) 48 && ltb 1 (digitsIn y)) ≡ false) × (0 < digitsIn y)
+    go true u p w q k = absurd (omega arith)
+    go false true p w q k = absurd (omega arith)
+    go false false p true q k = absurd (omega arith)
+    go false false p false q k = (refl, refl, q, omega (arith, eqb-false (digitsIn y) 0 p))
 
--- what a line leads to, by the number that was read in it
-module _ (n last : ℕ) (x : List ℕ) (o : Number) (e : o ≡ readNumberOf (drop 1 x)) where
-  time-value : o .value ≡ timeIn x
-  unfolding timeIn
-  time-value = ap (λ (q : Number). q .value) e
+read-made : (y : List ℕ) → valueFrom 0 y ≤ 4294967295 → 0 < digitsIn y → getD y 0 0 ≢ 48
+    → readNumberOf y ≡ record { fine = true; value = valueFrom 0 y; digits = digitsIn y }
+unfolding readNumberOf endedNumberOf
+read-made y h k z = let some : digitsIn y ≢ 0 = omega arith in rw (le-ltb 4294967295 (valueFrom 0 y) h, ne-eqb (digitsIn y) 0 some, ne-eqb (getD y 0 0) 48 z)
 
-  pub time-past : o .value ≤ last → Lost ≡ afterTime n last x
-  unfolding isTime
-  time-past h = rw (le-ltb last (timeIn x) (omega (arith, time-value)))
+-- the digits up to i come to t
+abbrev pub Summed : List ℕ → ℕ → ℕ → Type 0
+Summed x t i = (1 ≤ i) × (i ≤ length x) × (t < 10 ^ (i - 1)) × (valueFrom t (drop i x) ≡ valueFrom 0 (drop 1 x)) × (digitsIn (drop i x) + (i - 1) ≡ digitsIn (drop 1 x))
 
-  pub time-far : last < o .value → 32768 < o .value → Lost ≡ afterTime n last x
-  unfolding isTime
-  time-far h k = rw (lt-ltb last (timeIn x) (omega (arith, time-value)), lt-leb (timeIn x) 32768 (omega (arith, time-value)))
+pub sum-start : (x : List ℕ) → 1 ≤ length x → Summed x 0 1
+sum-start x h = (omega arith, h, omega arith, refl, omega arith)
 
-  pub time-taken : (b : Bool) → last < o .value → o .value ≤ 32768 → b ≡ isMarked x (o .digits)
-      → (if b then Changing n last (o .value) else Lost) ≡ afterTime n last x
-  unfolding isTime
-  time-taken b h k m =
-      let p : last < timeIn x = omega (arith, time-value) in
-      let q : timeIn x ≤ 32768 = omega (arith, time-value) in
-      let w : same x (timeLine (timeIn x)) ≡ b = time-marked x (omega arith) q ∙ ap (λ (r : Number). isMarked x (r .digits)) (sym e) ∙ sym m in
-      rw (lt-ltb last (timeIn x) p, le-leb (timeIn x) 32768 q, w, time-value)
+pub sum-small : (x : List ℕ) (t i : ℕ) → Summed x t i → i ≤ 6 → t < 100000
+sum-small x t i s h =
+    let q : 10 ^ (i - 1) ≤ 10 ^ 5 = pow-le-pow-right {n = 10} (omega arith) {i = i - 1} {j = 5} (omega arith) in
+    omega (arith, s .2)
+
+pub low-byte : (b : ℕ) → b < 48 → isDigit b ≡ false
+unfolding isDigit
+low-byte b h = rw (lt-ltb b 48 h)
+
+pub high-byte : (b : ℕ) → 57 < b → isDigit b ≡ false
+unfolding isDigit
+high-byte b h = let p : 48 ≤ b = omega arith in let q : 58 ≤ b = omega arith in rw (le-ltb b 48 p, le-ltb b 58 q)
+
+pub digit-byte : (b : ℕ) → 48 ≤ b → b ≤ 57 → isDigit b ≡ true
+unfolding isDigit
+digit-byte b h k = let q : b < 58 = omega arith in rw (le-ltb b 48 h, lt-ltb b 58 q)
+
+pub sum-stop : (x : List ℕ) (t i : ℕ) → Summed x t i → i < length x → isDigit (getD x i 0) ≡ false → 0 ≡ sumOf x
+unfolding sumOf
+sum-stop x t i s h e =
+    let d : digitsIn (drop i x) ≡ 0 = rw e at (digits-at x i h) in
+    let q : digitsIn (drop 1 x) ≢ length x - 1 = (λ w. omega (arith, s .0, s .4)) in
+    rw (ne-eqb _ _ q)
+
+pub sum-turn : (x : List ℕ) (t i : ℕ) → Summed x t i → i < length x → isDigit (getD x i 0) ≡ true
+    → Summed x (10 * t + (getD x i 0 - 48)) (i + 1)
+sum-turn x t i s h e =
+    let b = digit-is (getD x i 0) e in
+    let d = rw e at (digits-at x i h) in
+    let v = rw e at (value-at t x i h) in
+    let k : i + 1 - 1 ≡ suc (i - 1) = omega (arith, s .0) in
+    let p : 10 ^ suc (i - 1) ≡ 10 * 10 ^ (i - 1) = omega arith in
+    (omega arith, omega arith, rw (k, p) (omega (arith, s .2, b)), sym v ∙ s .3, omega (arith, d, s .4, s .0))
+
+pub sum-end : (x : List ℕ) (t i : ℕ) → Summed x t i → length x ≤ i → t ≡ sumOf x
+unfolding sumOf
+sum-end x t i s h =
+    let d = digits-end x i h in
+    let q : digitsIn (drop 1 x) ≡ length x - 1 = omega (arith, s .1, s .4) in
+    rw (eq-eqb _ _ q) (sym (value-end t x i h) ∙ s .3)
+
+-- a number that is not 0 does not begin with 0
+first-some : (y : List ℕ) → digitsIn y ≡ length y → 0 < valueFrom 0 y → (eqb (getD y 0 0) 48 && ltb 1 (digitsIn y)) ≡ false → getD y 0 0 ≢ 48
+unfolding valueFrom isDigit
+first-some [] d h z = absurd (omega arith)
+first-some (b ∷ []) d h z = (λ e. absurd (omega (arith, rw e at h)))
+first-some (b ∷ a ∷ y) d h z = (λ e. omega (arith, d, ltb-false 1 (digitsIn (b ∷ a ∷ y)) (rw (eq-eqb b 48 e) at z)))
+
+-- the stamp of a time line is its time
+pub stamp-is : (last : ℕ) (x : List ℕ) → isTime last x ≡ true → stampOf x ≡ timeIn x
+unfolding isTime stampOf sumOf timeIn timeLine same
+stamp-is last [] e = absurd (omega (arith, number-some [] (omega (arith, time-later last [] e .0))))
+stamp-is last (a ∷ y) e =
+    let l = time-later last (a ∷ y) e in
+    let t = readNumberOf y .value in
+    let p = nested (ltb last t) (if leb t 32768 then (if eqb a 35 then same y (decimalOf t) else false) else false) e in
+    let q = nested (leb t 32768) (if eqb a 35 then same y (decimalOf t) else false) (p .1) in
+    let r = nested (eqb a 35) (same y (decimalOf t)) (q .1) in
+    let some : 0 < t = omega (arith, l .0) in
+    let w = read-parts y some in
+    let n : length y ≡ digitsIn y = eqb-true (length y) (readNumberOf y .digits) (sym (same-decimal y some (l .1)) ∙ r .1) ∙ w .0 in
+    let few : length y ≤ 5 = omega (arith, ap length (same-true y (decimalOf t) (r .1)), length-decimal t, five-places t (omega (arith, l .1))) in
+    let z = first-some y (sym n) (omega (arith, some, w .1)) (w .2) in
+    let c : 2 ≤ suc (length y) = omega (arith, n, w .3) in
+    let f : suc (length y) ≤ 6 = omega arith in
+    let g : digitsIn y ≡ suc (length y) - 1 = omega (arith, n) in
+    rw (le-ltb (suc (length y)) 2 c, le-ltb 6 (suc (length y)) f, r .0, ne-eqb (getD y 0 0) 48 z, eq-eqb (digitsIn y) (suc (length y) - 1) g) (sym (w .1))
+
+-- and a line with one is the time line of it
+stamp-made : (a : ℕ) (y : List ℕ) → 0 < stampOf (a ∷ y)
+    → (a ≡ 35) × (getD y 0 0 ≢ 48) × (digitsIn y ≡ length y) × (stampOf (a ∷ y) ≡ valueFrom 0 y) × (1 ≤ length y)
+unfolding stampOf sumOf
+stamp-made a y h = go (ltb (suc (length y)) 2) refl (ltb 6 (suc (length y))) (eqb a 35) refl (eqb (getD y 0 0) 48) refl (eqb (digitsIn y) (suc (length y) - 1)) refl h
+  where
+    made : Bool → Bool → Bool → Bool → Bool → ℕ
+    made p q r s t = if p then 0 else if q then 0 else if r then (if s then 0 else if t then valueFrom 0 y else 0) else 0
+
+    go : (p : Bool) → ltb (suc (length y)) 2 ≡ p → (q r : Bool) → eqb a 35 ≡ r → (s : Bool) → eqb (getD y 0 0) 48 ≡ s → (t : Bool)
+        → eqb (digitsIn y) (suc (length y) - 1) ≡ t → 0 < made p q r s t
+        → (a ≡ 35) × (getD y 0 0 ≢ 48) × (digitsIn y ≡ length y) × (made p q r s t ≡ valueFrom 0 y) × (1 ≤ length y)
+    go true e q r f s g t w k = absurd (omega arith)
+    go false e true r f s g t w k = absurd (omega arith)
+    go false e false false f s g t w k = absurd (omega arith)
+    go false e false true f true g t w k = absurd (omega arith)
+    go false e false true f false g false w k = absurd (omega arith)
+    go false e false true f false g true w k = (eqb-true a 35 f, eqb-false (getD y 0 0) 48 g, omega (arith, eqb-true (digitsIn y) (suc (length y) - 1) w), refl, omega (arith, ltb-false (suc (length y)) 2 e))
+
+stamp-none : 0 < stampOf [] → ⊥
+unfolding stampOf
+stamp-none h = omega arith
+
+pub stamp-time : (last : ℕ) (x : List ℕ) → last < stampOf x → stampOf x ≤ 32768 → isTime last x ≡ true
+unfolding isTime timeIn timeLine same
+stamp-time last [] h k = absurd (stamp-none (omega arith))
+stamp-time last (a ∷ y) h k =
+    let m = stamp-made a y (omega arith) in
+    let n = read-made y (omega (arith, m .3)) (omega (arith, m .2, m .4)) (m .1) in
+    let t = readNumberOf y .value in
+    let v : t ≡ stampOf (a ∷ y) = ap (λ (o : Number). o .value) n ∙ sym (m .3) in
+    let d : readNumberOf y .digits ≡ length y = ap (λ (o : Number). o .digits) n ∙ m .2 in
+    let w : same y (decimalOf t) ≡ true = same-decimal y (omega (arith, v)) (omega (arith, v)) ∙ eq-eqb (length y) (readNumberOf y .digits) (sym d) in
+    let p : last < t = omega (arith, v) in
+    let q : t ≤ 32768 = omega (arith, v) in
+    rw (lt-ltb last t p, le-leb t 32768 q, eq-eqb a 35 (m .0), w)
+
+-- what a line leads to, by its stamp
+module _ (n last : ℕ) (x : List ℕ) (t : ℕ) (e : t ≡ stampOf x) where
+  pub time-past : t ≤ last → Lost ≡ afterTime n last x
+  time-past h = go (isTime last x) refl
+    where
+      go : (b : Bool) → isTime last x ≡ b → Lost ≡ (if b then Changing n last (timeIn x) else Lost)
+      go true p = absurd (omega (arith, e, stamp-is last x p, time-later last x p .0))
+      go false p = refl
+
+  pub time-far : 32768 < t → Lost ≡ afterTime n last x
+  time-far h = go (isTime last x) refl
+    where
+      go : (b : Bool) → isTime last x ≡ b → Lost ≡ (if b then Changing n last (timeIn x) else Lost)
+      go true p = absurd (omega (arith, e, stamp-is last x p, time-later last x p .1))
+      go false p = refl
+
+  pub time-taken : last < t → t ≤ 32768 → Changing n last t ≡ afterTime n last x
+  time-taken h k = let p = stamp-time last x (omega arith) (omega arith) in rw (p, ← stamp-is last x p, e)
 
 -- a line that was put, without its line feed
 pub line-put : (l m x : List ℕ) (j : ℕ) → length x + 1 ≤ length l → (j, m) ≡ putOf l 0 (joined (x ∷ []))
@@ -216,7 +334,11 @@ onward-is (Variables n) bits x h = refl
 onward-is (Ending n) bits x h = onward-fixed (same x endLine) (Start n) h
 onward-is (Start n) bits x h = onward-fixed (same x (timeLine 0)) (Values n 0) h
 onward-is (Values n c) bits x h = onward-fixed (same x (bitLine 0 c)) (if ltb (c + 1) n then Values n (c + 1) else Waiting n 0) h
-onward-is (Waiting n last) bits x h = onward-fixed (isTime last x) (Changing n last (timeIn x)) h
+onward-is (Waiting n last) bits x h = go (isTime last x) refl h
+  where
+    go : (b : Bool) → isTime last x ≡ b → isLost (if b then Changing n last (timeIn x) else Lost) ≡ false → Changing n last (stampOf x) ≡ (if b then Changing n last (timeIn x) else Lost)
+    go true e k = rw (stamp-is last x e)
+    go false e k = false-not (sym k)
 onward-is (Changing n last t) bits x h = onward-fixed (isChange n bits x) (Waiting n t) h
 onward-is Lost bits x h = refl
 

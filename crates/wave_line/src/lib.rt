@@ -10,11 +10,11 @@ ghost use lib.ListN.{length};
 ghost use Rattle.choice.specs.Choice.{if_then_else_};
 ghost use Rattle.wave_rules.specs.Lines.{same as Lines·same};
 ghost use Rattle.wave_rules.specs.Dump.{bitLine, varLine, upscope};
-ghost use Rattle.wave_rules.specs.Reader.{timeIn, cellIn, afterVariable, afterValue, isChange, nextOf, bitsOf};
+ghost use Rattle.wave_rules.specs.Reader.{cellIn, afterVariable, afterValue, isChange, nextOf, bitsOf};
 ghost use Rattle.wave_rules.specs.Reader.{atEnd};
 ghost use Rattle.wave_rules.specs.declared.Stage.the-variants.{Values, Waiting, Lost};
 ghost use Rattle.wave_rules.specs.Stages.{Reach};
-ghost use Rattle.wave_line.specs.Stages.{isLost, isChanging, gapOf, isMarked, afterTime, onwardOf};
+ghost use Rattle.wave_line.specs.Stages.{isLost, isChanging, gapOf, sumOf, stampOf, afterTime, onwardOf};
 
 // ---- one line
 
@@ -43,17 +43,6 @@ fn is_var(line: &[u8], cell: u8) -> bool
     let mut want = [0u8; 32];
     let k = wave_write::put_var(&mut want, 0, cell) - 1;
     same(line, &want[..k])
-}
-
-// A time line is a `#` and the digits that were read behind it.
-fn is_marked(line: &[u8], digits: usize) -> bool
-    requires { ⌜ digits ≤ length (now line) ⌝ }
-    ensures { λ r. ⌜ r ≡ isMarked (now (line .entry)) digits ⌝ }
-{
-    if line.len() == digits + 1 {
-        return line[0] == 35;
-    }
-    false
 }
 
 fn is_bit(line: &[u8], bit: u8, cell: u8) -> bool
@@ -121,30 +110,58 @@ fn after_value(n: usize, c: usize, line: &[u8]) -> Stage
     fixed(is_bit(line, 0, c as u8), value_after(n, c))
 }
 
-// The time that a line names.
-fn time_in(line: &[u8]) -> usize
-    ensures { λ r. ⌜ r ≡ timeIn (now (line .entry)) ⌝ }
+// What the digits behind a line's first byte come to; 0 if another byte stands among them.
+fn sum(line: &[u8]) -> usize
+    requires { ⌜ (1 ≤ length (now line)) × (length (now line) ≤ 6) ⌝ }
+    ensures { λ r. ⌜ r ≡ sumOf (now (line .entry)) ⌝ }
 {
-    let number = text::read_number(line, 1);
-    number.value as usize
+    let mut t: usize = 0;
+    let mut i = 1;
+    while i < line.len() {
+        let b = line[i];
+        if b < 48 {
+            return 0;
+        }
+        if 57 < b {
+            return 0;
+        }
+        t = 10 * t + (b - 48) as usize;
+        i += 1;
+    }
+    t
 }
 
-// A time: its number is read once.
+// The time of a time line, not printed to be compared; 0 if it is none, or later than any.
+fn stamp(line: &[u8]) -> usize
+    ensures { λ r. ⌜ r ≡ stampOf (now (line .entry)) ⌝ }
+{
+    if line.len() < 2 {
+        return 0;
+    }
+    if 6 < line.len() {
+        return 0;
+    }
+    if line[0] == 35 {
+        if line[1] == 48 {
+            return 0;
+        }
+        return sum(line);
+    }
+    0
+}
+
+// A time, which is later than the last.
 fn after_time(n: usize, last: usize, line: &[u8]) -> Stage
     ensures { λ r. ⌜ r ≡ afterTime n last (now (line .entry)) ⌝ }
 {
-    let number = text::read_number(line, 1);
-    let t = number.value as usize;
+    let t = stamp(line);
     if t <= last {
         return Stage::Lost;
     }
     if 32768 < t {
         return Stage::Lost;
     }
-    if is_marked(line, number.digits) {
-        return Stage::Changing(n, last, t);
-    }
-    Stage::Lost
+    Stage::Changing(n, last, t)
 }
 
 // The cell that a line names, 0 where it names none. A step: the reader calls it.
@@ -202,7 +219,7 @@ pub fn onward(stage: Stage, line: &[u8]) -> Stage
         Stage::Ending(n) => Stage::Start(n),
         Stage::Start(n) => Stage::Values(n, 0),
         Stage::Values(n, c) => value_after(n, c),
-        Stage::Waiting(n, last) => Stage::Changing(n, last, time_in(line)),
+        Stage::Waiting(n, last) => Stage::Changing(n, last, stamp(line)),
         Stage::Changing(n, _, t) => Stage::Waiting(n, t),
         Stage::Lost => Stage::Lost,
     }

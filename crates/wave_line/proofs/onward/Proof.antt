@@ -30,8 +30,8 @@ value-after-requires c κs = let r = rw (c .before .stage4 .given .1) at (c .bef
 enum-known-stage-5 : tie.Need-enum-known-stage-5
 enum-known-stage-5 c = search needs
 
-time-in-requires : tie.Need-time-in-requires
-time-in-requires c κs = search needs
+stamp-requires : tie.Need-stamp-requires
+stamp-requires c κs = search needs
 
 enum-known-stage-6 : tie.Need-enum-known-stage-6
 enum-known-stage-6 c = search needs
@@ -58,7 +58,7 @@ returns-6 : tie.Need-returns-6
 returns-6 c = rw (c .before .before .stage4 .given .1, ← c .value-after .ensures)
 
 returns-7 : tie.Need-returns-7
-returns-7 c = rw (c .before .before .stage5 .given .1, ← c .time-in .ensures)
+returns-7 c = rw (c .before .before .stage5 .given .1, ← c .stamp .ensures)
 
 returns-8 : tie.Need-returns-8
 returns-8 c = rw (c .before .stage6 .given .1)
@@ -79,7 +79,7 @@ onward-spec =
     enum-known-stage-4
     value-after-requires
     enum-known-stage-5
-    time-in-requires
+    stamp-requires
     enum-known-stage-6
     enum-told-3
     returns
