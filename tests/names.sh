@@ -115,6 +115,7 @@ wrong_names() {
             return name
         }
         function looks_like_a_name(word) {
+            if (length(word) == 64 && word !~ /[^0-9a-f]/) return 0 # a hash
             return word ~ /^[A-Za-z][A-Za-z0-9]*([-_][A-Za-z0-9]+)*$/ && word ~ /[a-z].*[a-z]|_/ && word !~ /-f$/ # Ensures-f: of any f
         }
         # a word by itself

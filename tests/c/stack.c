@@ -361,6 +361,24 @@ static void by_keys_in_vain(uint32_t size)
     health[63] = 1;
 }
 
+/* One bucket of each header, falling: cells 64 apart share their marks in the sorted call, so that all are looked at. */
+static void by_far_keys(uint32_t size)
+{
+    uint32_t i;
+    arena(64, 64);
+    for (i = 0; i < size; i++) {
+        keys[2 * i] = 63 - i;
+        keys[2 * i + 1] = 0;
+    }
+    keys_len = (size_t)2 * size;
+}
+
+static void by_far_keys_in_vain(uint32_t size)
+{
+    by_far_keys(size);
+    health[63] = 1;
+}
+
 /* In the order given the poisoned one comes last. */
 static void by_rising_keys_in_vain(uint32_t size)
 {
@@ -369,10 +387,17 @@ static void by_rising_keys_in_vain(uint32_t size)
     keys[2 * size - 2] = 63;
 }
 
+/* Of sixteen cells 251 apart, their neighbours, and so on: leases that share their marks, so that all are looked at. */
 static void by_leases(uint32_t size)
 {
+    uint32_t i;
     arena(64, 64);
-    hold(size);
+    for (i = 0; i < size; i++) {
+        held[3 * i] = i % 16 * 251 + i / 16;
+        held[3 * i + 1] = taken(held[3 * i]);
+        held[3 * i + 2] = BOOT;
+    }
+    leases_len = (size_t)3 * size;
 }
 
 static void one_cell(uint32_t is_held)
@@ -451,8 +476,8 @@ static const struct {
     {"give", one_cell, drop_lease, SKID_DONE, SKID_KIND},
     {"is_mine", one_cell, read_permission, SKID_A_CELL, SKID_KIND},
     {"set", one_step, environment, SKID_DONE, SKID_KIND},
-    {"take_all", by_keys, acquire_sorted_locks, SKID_ALL_GRANTED, SKID_KIND},
-    {"take_all_in_vain", by_keys_in_vain, acquire_sorted_locks, SKID_REFUSED_AT, SKID_KIND},
+    {"take_all", by_far_keys, acquire_sorted_locks, SKID_ALL_GRANTED, SKID_KIND},
+    {"take_all_in_vain", by_far_keys_in_vain, acquire_sorted_locks, SKID_REFUSED_AT, SKID_KIND},
     {"take_in_order_in_vain", by_rising_keys_in_vain, acquire_index_locks, SKID_REFUSED_AT, SKID_KIND},
     {"take_in_order", by_keys, acquire_index_locks, SKID_ALL_GRANTED, SKID_KIND},
     {"give_all", by_leases, release_all, SKID_DONE, SKID_KIND},

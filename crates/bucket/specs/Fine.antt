@@ -3,7 +3,7 @@ use Prim.Native.Nat.{ℕ, _≤_, _<_}
 use mathlib.Core.Path.{_≡_, refl, ap}
 use mathlib.Core.List.{List, [], _∷_}
 use native.Mathlib.Omega.{arith}
-use lib.ListN.{getD, length}
+use lib.ListN.{length}
 use borrow.Author.Tests.{leb-false}
 use Rattle.model.specs.Arena.{holdsOf}
 use Rattle.model.specs.Lock.{findOf, attemptAt, attemptOf, noneYet, retryOf, answerOf, settled}
@@ -18,8 +18,8 @@ use Rattle.types.specs.declared.Reason.{Reason}
 use Rattle.types.specs.declared.Run.{Run}
 use Rattle.laws.specs.Checks.{or-else, first-append, first-two, fine-rest, fine-append, arena-fine}
 use Rattle.foreign.specs.declared.Scope.{Scope}
-use Rattle.foreign.specs.Model.{scopeOf, settingOf}
-use Rattle.foreign.specs.Fine.{ScriptFine, place-fine, fine-room, scope-flow-bound, scope-none}
+use Rattle.foreign.specs.Model.{scopeOf, inScope}
+use Rattle.foreign.specs.Fine.{ScriptFine, place-fine, fine-room, scope-flow-bound, scope-given}
 use Rattle.bucket.specs.Model.{KeyFits}
 use Rattle.bucket.specs.Laws.{RunBound}
 
@@ -87,18 +87,18 @@ fine-key s h words bytes registry script place binding n e f b m =
     })
 
 -- what a call that has taken nothing gives its steps is what document 01 gives them
-module _ (s : Scope) (h : Head) (script held : List ℕ) (taken : List (List ℕ)) (registry : List ℕ) (binding bucket : ℕ) (r : Run) (t g : List ℕ) (e : s ≡ scopeOf h (length script)) where
-  pub once-given : (k : Found) → k ≡ findOf (s .headers) (s .buckets) g (getD registry binding 0 ∷ []) 0 bucket
-      → attemptAt k (settingOf s script held taken 0) (s .buckets) r t g .seen ≡ attemptOf (given h script (holdsOf held)) (h .buckets) registry binding bucket r t g .seen
-  unfolding attemptOf findOf
+module _ (s : Scope) (h : Head) (script held registry : List ℕ) (binding bucket : ℕ) (r : Run) (t g : List ℕ) (e : s ≡ scopeOf h (length script)) where
+  pub once-given : (k : Found) → k ≡ findOf (s .headers) (s .buckets) g registry binding bucket
+      → attemptAt k (inScope s script (holdsOf held)) (s .buckets) r t g .seen ≡ attemptOf (given h script (holdsOf held)) (h .buckets) registry binding bucket r t g .seen
+  unfolding attemptOf
   once-given k f =
-      rw (f, scope-none s h script held taken e)
+      rw (f, scope-given s h script (holdsOf held) e)
       (ap (λ (x : Scope). attemptAt (findOf (x .headers) (x .buckets) g registry binding bucket) (given h script (holdsOf held)) (x .buckets) r t g .seen) e)
 
   pub retry-given : (left i : ℕ) (last : Reason)
-      → retryOf left i last (settingOf s script held taken 0) (s .buckets) registry binding bucket r t g .seen ≡ retryOf left i last (given h script (holdsOf held)) (h .buckets) registry binding bucket r t g .seen
+      → retryOf left i last (inScope s script (holdsOf held)) (s .buckets) registry binding bucket r t g .seen ≡ retryOf left i last (given h script (holdsOf held)) (h .buckets) registry binding bucket r t g .seen
   retry-given left i last =
-      rw (scope-none s h script held taken e)
+      rw (scope-given s h script (holdsOf held) e)
       (ap (λ (x : Scope). retryOf left i last (given h script (holdsOf held)) (x .buckets) registry binding bucket r t g .seen) e)
 
 -- the steps of the two calls, once their checks are fine

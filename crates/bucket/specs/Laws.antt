@@ -1,6 +1,6 @@
 -- Laws of attempts by key: one turn of the retry loop, and what a run's counts keep.
 use Prim.Native.Nat.{ℕ, suc, _+_, _*_, _-_, _/_, _%_, _≤_, _<_}
-use mathlib.Core.Path.{_≡_, refl, sym, _∙_}
+use mathlib.Core.Path.{_≡_, refl, sym, ap, _∙_}
 use mathlib.Core.List.{List, [], _∷_}
 use mathlib.Core.Bool.{Bool, true, false}
 use native.Mathlib.Omega.{arith}
@@ -30,7 +30,8 @@ use Rattle.laws.specs.Seen.{seen-if}
 use Rattle.foreign.specs.declared.Scope.{Scope}
 use Rattle.foreign.specs.Laws.{FlowBound, boundary-flow-bound}
 use Rattle.bucket.specs.Bounds.{callMost}
-use Rattle.bucket.specs.Model.{Lands, bareOf, trialWith, asideOf, trialOf, againOf}
+use Rattle.bucket.specs.Model.{Lands, targetOf, bareOf, trialWith, asideOf, trialOf, againOf}
+use Rattle.bucket.specs.declared.Target.{Target}
 use Rattle.bucket.specs.declared.Trial.{Trial}
 use Rattle.lock.specs.declared.Quiet.{Quiet}
 use Rattle.lock.specs.Model.{boundariesFor, quietTakeOf}
@@ -180,6 +181,12 @@ pub again-header : (i : ℕ) (e : Setting) (buckets : ℕ) (registry : List ℕ)
     → againOf i e buckets (getD registry binding 0 ∷ []) 0 bucket r t g ≡ againOf i e buckets registry binding bucket r t g
 unfolding againOf attemptOf findOf
 again-header i e buckets registry binding bucket r t g = refl
+
+-- so may what a key stands for
+pub find-target : (headers buckets : ℕ) (k : Found) (g registry : List ℕ) (binding bucket : ℕ) (x : Target) → x ≡ targetOf registry binding bucket
+    → k ≡ findOf headers buckets g (x .header ∷ []) 0 (x .bucket) → k ≡ findOf headers buckets g registry binding bucket
+unfolding findOf
+find-target headers buckets k g registry binding bucket x e q = q ∙ ap (λ (y : Target). findOf headers buckets g (y .header ∷ []) 0 (y .bucket)) e
 
 -- the cell that is found of a key that fits is there, and its header is healthy
 pub lands : (s : Scope) (k : Found) (g registry : List ℕ) (binding bucket : ℕ) → s .cells ≡ s .headers * s .buckets

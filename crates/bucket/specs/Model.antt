@@ -18,6 +18,7 @@ use Rattle.types.specs.declared.Tried.{Tried}
 use Rattle.foreign.specs.declared.Scope.{Scope}
 use Rattle.foreign.specs.Model.{RoomIn}
 use Rattle.lock.specs.Model.{CellIn}
+use Rattle.bucket.specs.declared.Target.{Target}
 use Rattle.bucket.specs.declared.Trial.{Trial}
 
 pub record Fit (headers buckets bytes : ℕ) : Type 0 where
@@ -47,6 +48,10 @@ pub record Landed (s : Scope) (g : List ℕ) (c : ℕ) : Type 0 where
 
 abbrev pub Lands : Scope → List ℕ → Found → Type 0
 Lands s g k = (c : ℕ) → k ≡ found.At c → Landed s g c
+
+-- what a key stands for
+abbrev pub targetOf : List ℕ → ℕ → ℕ → Target
+targetOf registry binding bucket = record { header = getD registry binding 0; bucket = bucket }
 
 -- an outcome without its reason
 abbrev pub bareOf : Outcome → Outcome

@@ -15,7 +15,7 @@ ghost use mathlib.Core.Path.{_≡_};
 ghost use mathlib.Core.List.{[], _∷_};
 ghost use Prim.Native.Nat.{_+_, _*_, _<_, _≤_};
 ghost use lib.ListN.{length};
-ghost use Rattle.model.specs.Lock.{runOf, triedOf, findOf, attemptAt, lastOf};
+ghost use Rattle.model.specs.Lock.{runOf, triedOf, findOf, attemptAt, isBusy, lastOf};
 ghost use Rattle.types.specs.declared.Outcome.the-variants as outcome;
 ghost use Rattle.foreign.specs.Model.{settingOf, RoomIn};
 ghost use Rattle.bucket.specs.Bounds.{tryMost};
@@ -43,7 +43,7 @@ pub fn find(scope: Scope, health: &[u8], target: Target) -> Found
 }
 
 // The run after an attempt that found no cell, and after one that tried it.
-fn missed(run: Run, refusal: Refusal) -> Tried
+pub fn missed(run: Run, refusal: Refusal) -> Tried
     requires { ⌜ run .attempts ≤ tryMost ⌝ }
     ensures { λ r. ⌜ r
         ≡ triedOf (runOf (run .flow) (run .attempts + 1) (run .boundaries) (run .yields)) (outcome.Refused refusal) ⌝ }
@@ -60,7 +60,7 @@ fn missed(run: Run, refusal: Refusal) -> Tried
     }
 }
 
-fn counted(run: Run, locked: Locked) -> Tried
+pub fn counted(run: Run, locked: Locked) -> Tried
     requires { ⌜ (run .attempts ≤ tryMost) × ((run .boundaries ≤ tryMost) × (locked .boundaries ≤ 3)) ⌝ }
     ensures { λ r. ⌜ r
         ≡ triedOf (runOf (locked .flow) (run .attempts + 1) (run .boundaries + locked .boundaries) (run .yields))
@@ -118,8 +118,18 @@ fn bare(outcome: Outcome) -> Outcome
     }
 }
 
+pub fn is_busy(outcome: Outcome) -> bool
+    ensures { λ r. ⌜ r ≡ isBusy outcome ⌝ }
+{
+    match outcome {
+        Outcome::Granted(_) => false,
+        Outcome::Busy(_) => true,
+        Outcome::Refused(_) => false,
+    }
+}
+
 // The reason of the last Busy attempt, after one more that came to this.
-fn last_of(last: Reason, outcome: Outcome) -> Reason
+pub fn last_of(last: Reason, outcome: Outcome) -> Reason
     ensures { λ r. ⌜ r ≡ lastOf last outcome ⌝ }
 {
     match outcome {

@@ -4,24 +4,36 @@
 // caller proves their `requires`.
 mod attempts;
 pub mod checks;
+mod quiet;
 pub mod retries;
 
 use attempts::attempt_once;
 use attempts::find;
 use checks::bucket_check;
+use foreign::Scope;
+use quiet::quiet_once_at;
+use quiet::quiet_retry_at;
 use retries::retry;
 use types::Check;
 use types::Flow;
+use types::Found;
 use types::Head;
 use types::Outcome;
 use types::Played;
 use types::Reason;
 use types::Refusal;
 use types::Run;
+use types::Tried;
 ghost use mathlib.Core.Path.{_≡_};
+ghost use Prim.Native.Nat.{_<_};
 ghost use lib.ListN.{length};
-ghost use Rattle.model.specs.Lock.{settled};
+ghost use Rattle.model.specs.Arena.{holdsOf};
+ghost use Rattle.model.specs.Lock.{attemptAt, noneYet, retryOf, settled};
 ghost use Rattle.model.specs.Calls.{starting, transactionalOf, acquireBucketOf};
+ghost use Rattle.foreign.specs.Model.{inScope, RoomIn};
+ghost use Rattle.bucket.specs.Bounds.{callMost};
+ghost use Rattle.bucket.specs.Laws.{RunBound};
+ghost use Rattle.bucket.specs.Model.{KeyFits, Lands, targetOf};
 ghost use Rattle.bucket.specs.Fine.{BucketFine, onceByKeyOf, retryByKeyOf};
 
 // A key as a caller names it: a binding, which is a place in the registry, and a bucket.
@@ -34,6 +46,15 @@ struct Key {
 struct Target {
     header: u32,
     bucket: u32,
+}
+
+fn target_of(registry: &[u32], key: Key) -> Target
+    requires { ⌜ key .binding < length (now registry) ⌝ }
+    ensures { λ r. ⌜ r ≡ targetOf (now (registry .entry)) (key .binding) (key .bucket) ⌝ }
+{
+    let header = registry[key.binding as usize];
+    let bucket = key.bucket;
+    Target { header, bucket }
 }
 
 // An attempt of the retry loop. Why it was Busy stands beside what it came to: the loop tests the one and keeps the
@@ -73,6 +94,69 @@ pub fn settle(outcome: Outcome) -> Outcome
     }
 }
 
+// One attempt of a call that has taken nothing, at what its key was found to name. Past the script's end it is the
+// quiet one, and no room for leases is made; so with all attempts.
+fn attempt_alone(
+    scope: Scope,
+    run: Run,
+    table: &mut [u32],
+    health: &mut [u8],
+    script: &[u32],
+    held: &[u32],
+    found: Found,
+) -> Tried
+    requires { ⌜ RoomIn scope (length (now table)) (length (now health)) 0 (length (now script))
+        × (RunBound (scope .steps) callMost run × Lands scope (now health) found) ⌝ }
+    ensures { λ r. ⌜ (r, (now (table .exit), now (health .exit)))
+        ≡ attemptAt found (inScope scope (now (script .entry)) (holdsOf (now (held .entry))))
+        (scope .buckets) run (now (table .entry)) (now (health .entry)) .seen ⌝ }
+{
+    let flow = run.flow;
+    if scope.steps <= flow.place {
+        return quiet_once_at(scope.head(flow.next), run, table, found);
+    }
+    let taken = [[0; 2]; 64];
+    attempt_once(scope, run, table, health, script, held, &taken, 0, found)
+}
+
+fn retry_alone(
+    scope: Scope,
+    run: Run,
+    table: &mut [u32],
+    health: &mut [u8],
+    registry: &[u32],
+    script: &[u32],
+    held: &[u32],
+    key: Key,
+) -> Tried
+    requires { ⌜ KeyFits scope (length (now table)) (length (now health)) 0 (length (now script))
+        (length (now registry)) (key .binding) × RunBound (scope .steps) callMost run ⌝ }
+    ensures { λ r. ⌜ (r, (now (table .exit), now (health .exit)))
+        ≡ retryOf 4096 0 noneYet (inScope scope (now (script .entry)) (holdsOf (now (held .entry))))
+        (scope .buckets) (now (registry .entry)) (key .binding) (key .bucket)
+        run (now (table .entry)) (now (health .entry)) .seen ⌝ }
+{
+    let flow = run.flow;
+    if scope.steps <= flow.place {
+        let found = find(scope, health, target_of(registry, key));
+        return quiet_retry_at(scope.head(flow.next), run, table, found);
+    }
+    let taken = [[0; 2]; 64];
+    retry(
+        scope,
+        run,
+        table,
+        health,
+        script,
+        held,
+        &taken,
+        0,
+        registry,
+        key.binding,
+        key.bucket,
+    )
+}
+
 // One attempt of a call whose checks are fine.
 fn once_by_key(
     head: Head,
@@ -90,14 +174,10 @@ fn once_by_key(
         ≡ onceByKeyOf head (now (table .entry)) (now (health .entry))
         (now (registry .entry)) (now (script .entry)) place (now (held .entry)) (key .binding) (key .bucket) ⌝ }
 {
-    let taken = [[0; 2]; 64];
     let scope = foreign::scope_of(head, script);
     let start = starting(head, place);
-    let header = registry[key.binding as usize];
-    let bucket = key.bucket;
-    let target = Target { header, bucket };
-    let found = find(scope, health, target);
-    let tried = attempt_once(scope, start, table, health, script, held, &taken, 0, found);
+    let found = find(scope, health, target_of(registry, key));
+    let tried = attempt_alone(scope, start, table, health, script, held, found);
     let run = tried.run;
     let outcome = tried.outcome;
     foreign::play(head, run, lease::answer_of(head.boot, outcome))
@@ -120,22 +200,9 @@ fn retry_by_key(
         ≡ retryByKeyOf head (now (table .entry)) (now (health .entry))
         (now (registry .entry)) (now (script .entry)) place (now (held .entry)) (key .binding) (key .bucket) ⌝ }
 {
-    let taken = [[0; 2]; 64];
     let scope = foreign::scope_of(head, script);
     let start = starting(head, place);
-    let tried = retry(
-        scope,
-        start,
-        table,
-        health,
-        script,
-        held,
-        &taken,
-        0,
-        registry,
-        key.binding,
-        key.bucket,
-    );
+    let tried = retry_alone(scope, start, table, health, registry, script, held, key);
     let run = tried.run;
     let outcome = tried.outcome;
     let last = settle(outcome);

@@ -6,6 +6,7 @@ use crate::Target;
 use crate::Trial;
 use crate::attempts::attempt;
 use crate::attempts::find;
+use crate::attempts::is_busy;
 use foreign::Scope;
 use types::Outcome;
 use types::Reason;
@@ -16,7 +17,7 @@ ghost use mathlib.Core.Bool.{true};
 ghost use mathlib.Core.List.{[], _∷_};
 ghost use Prim.Native.Nat.{_+_, _<_};
 ghost use lib.ListN.{length};
-ghost use Rattle.model.specs.Lock.{triedOf, spinOf, pauseOf, isBusy, noneYet, retryOf};
+ghost use Rattle.model.specs.Lock.{triedOf, spinOf, pauseOf, noneYet, retryOf};
 ghost use Rattle.model.specs.Refusals.{first};
 ghost use Rattle.foreign.specs.Model.{settingOf, RoomIn};
 ghost use Rattle.bucket.specs.Bounds.{callMost, tryMost};
@@ -80,16 +81,6 @@ fn pause(
         return spin(scope, yielded, table, health, script, held, taken, n);
     }
     spin(scope, run, table, health, script, held, taken, n)
-}
-
-fn is_busy(outcome: Outcome) -> bool
-    ensures { λ r. ⌜ r ≡ isBusy outcome ⌝ }
-{
-    match outcome {
-        Outcome::Granted(_) => false,
-        Outcome::Busy(_) => true,
-        Outcome::Refused(_) => false,
-    }
 }
 
 // Attempt number i, and, if it was Busy, the pause after it.

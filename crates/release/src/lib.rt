@@ -14,9 +14,9 @@ use types::Run;
 ghost use mathlib.Core.Path.{_≡_};
 ghost use mathlib.Core.Bool.{true};
 ghost use mathlib.Core.List.{[], _∷_};
-ghost use Prim.Native.Nat.{_/_, _<_, _≤_};
-ghost use lib.ListN.{length};
-ghost use Rattle.model.specs.Arena.{holdsOf, leasesOf, shapeFits};
+ghost use Prim.Native.Nat.{_*_, _/_, _<_, _≤_};
+ghost use lib.ListN.{length, take};
+ghost use Rattle.model.specs.Arena.{holdsOf, isIn, leasesOf, shapeFits};
 ghost use Rattle.model.specs.Refusals.{first};
 ghost use Rattle.model.specs.Checks.{badScript, notReleasable, releaseRules};
 ghost use Rattle.model.specs.Lock.{giveBackOf};
@@ -24,6 +24,7 @@ ghost use Rattle.model.specs.Calls.{releaseAllOf};
 ghost use Rattle.foreign.specs.Model.{settingOf, inScope, RoomIn};
 ghost use Rattle.bucket.specs.Bounds.{callMost, tryMost};
 ghost use Rattle.bucket.specs.Laws.{RunBound};
+ghost use Rattle.release.specs.Repeats.{Spares};
 ghost use Rattle.release.specs.Release.{Inside, ReleaseFine, leasesRules, giveOneOf, releaseOnceOf};
 
 // ---- giving back
@@ -98,8 +99,8 @@ pub fn give_back(
 
 // ---- the checks, in the order of document 01's table
 
-// 16, 12 and 14, tested together by position.
-fn releasable_fault(head: Head, table: &[u32], leases: &[u32]) -> Check
+// 16, 12 and 14, tested together by position, in a short list: each lease is looked for in those before it.
+fn few_fault(head: Head, table: &[u32], leases: &[u32]) -> Check
     requires { ⌜ shapeFits head (length (now table)) ≡ true ⌝ }
     ensures { λ r. ⌜ r ≡ first (notReleasable head (now (table .entry)) 0 [] (leasesOf (now (leases .entry)))) ⌝ }
 {
@@ -122,6 +123,59 @@ fn releasable_fault(head: Head, table: &[u32], leases: &[u32]) -> Check
         }
     }
     Check::Fine
+}
+
+// Whether a lease stands among the first i of a list: without a mark it does not, and none of them is looked at.
+fn is_repeated(leases: &[u32], i: usize, marks: &[u8; 251], hold: Hold) -> bool
+    requires { ⌜ (3 * i ≤ length (now leases)) × Spares (now marks) (holdsOf (take (3 * i) (now leases))) ⌝ }
+    ensures { λ r. ⌜ r ≡ isIn hold (holdsOf (take (3 * i) (now (leases .entry)))) ⌝ }
+{
+    let at = (hold.cell % 251) as usize;
+    if marks[at] == 0 {
+        return false;
+    }
+    lease::is_in(&leases[..3 * i], hold)
+}
+
+// 16, 12 and 14 in a list of any length, with a mark for each lease passed, by the remainder of its cell number by 251:
+// a prime, so that neither the cells of one bucket nor those of one header share a mark.
+fn many_fault(head: Head, table: &[u32], leases: &[u32]) -> Check
+    requires { ⌜ shapeFits head (length (now table)) ≡ true ⌝ }
+    ensures { λ r. ⌜ r ≡ first (notReleasable head (now (table .entry)) 0 [] (leasesOf (now (leases .entry)))) ⌝ }
+{
+    let mut marks = [0; 251];
+    let mut i = 0;
+    while i < leases.len() / 3 {
+        let given = lease::lease_in(leases, i);
+        if head.is_stale(given) {
+            return Check::Fault(Refusal::StaleBoot(i));
+        }
+        let cell = given.cell;
+        let serial = given.serial;
+        if lease::is_live(head, table, cell, serial) {
+            let hold = Hold { cell, serial };
+            if is_repeated(leases, i, &marks, hold) {
+                return Check::Fault(Refusal::Repeated(i));
+            }
+            let at = (cell % 251) as usize;
+            marks[at] = 1;
+            i += 1;
+        } else {
+            return Check::Fault(Refusal::NotHeld(i));
+        }
+    }
+    Check::Fine
+}
+
+// The same in either way: marks pay from the ninth lease on.
+fn releasable_fault(head: Head, table: &[u32], leases: &[u32]) -> Check
+    requires { ⌜ shapeFits head (length (now table)) ≡ true ⌝ }
+    ensures { λ r. ⌜ r ≡ first (notReleasable head (now (table .entry)) 0 [] (leasesOf (now (leases .entry)))) ⌝ }
+{
+    if leases.len() < 27 {
+        return few_fault(head, table, leases);
+    }
+    many_fault(head, table, leases)
 }
 
 // 4, and then 16, 12 and 14.

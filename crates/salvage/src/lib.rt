@@ -1,51 +1,41 @@
 // Salvage after a warm restart (document 02, L6). Each function but `salvage` is a step: it may have a `requires`,
 // which its callers prove. A first pass counts what would be written, so that ReportFull is known before the first
-// change; a second lists and mends.
+// change; a second reads each cell once, lists it and mends it.
 use types::Check;
 use types::Head;
 use types::SalvageAnswer;
 use types::SalvageReply;
-use types::State;
 ghost use mathlib.Core.Path.{_≡_};
 ghost use Prim.Native.Nat.{_+_, _*_, _<_, _≤_};
-ghost use lib.ListN.{length};
-ghost use Rattle.model.specs.Arena.{bitAt, ownerAt, isHeld, cellsOf};
-ghost use Rattle.model.specs.Salvage.{keptOf, mendedTable, mendedByte, mendedHealth, changeOf, heldFrom};
-ghost use Rattle.model.specs.Salvage.{changesOf, entriesOf, leftHeld, overOf, concluded, mendOf, goOverOf, salvageOf};
+ghost use lib.ListN.{length, getD};
+ghost use Rattle.model.specs.Arena.{isHeld, cellsOf};
+ghost use Rattle.model.specs.Salvage.{mendedByte, changeOf, heldFrom};
+ghost use Rattle.model.specs.Salvage.{changesOf, leftHeld, concluded, mendOf, goOverOf, salvageOf};
 ghost use Rattle.laws.specs.Shape.{Shaped};
 ghost use Rattle.laws.specs.Salvage.{changedOf};
-ghost use Rattle.salvage.specs.Laws.{changedIn, changesIn, mendCellOf, heldIn, laidOf};
-ghost use Rattle.salvage.specs.Laws.{countCellsOf, countBytesOf, countHeldOf, cellEntries, byteEntries};
+ghost use Rattle.salvage.specs.Laws.{tallyIn, tallyCells, countBytesOf, tallyOf};
+ghost use Rattle.salvage.specs.Laws.{changesIn, heldIn, clearedOf, mendedIn, cellEntries, mendedCells};
+ghost use Rattle.salvage.specs.Laws.{mendedAt, byteEntries, mendedBytes};
 
-// ---- one word, one cell
-
-// What becomes of a bit or an owner: 0 in a damaged cell.
-fn kept(next: u32, bit: u32, owner: u32, word: u32) -> u32
-    ensures { λ r. ⌜ r ≡ keptOf next bit owner word ⌝ }
-{
-    let state = arena::state_of(next, bit, owner);
-    match state {
-        State::Free => word,
-        State::Held(_) => word,
-        State::Damaged => 0,
-    }
+// How many words or bytes change, and how many cells are held.
+struct Tally {
+    changes: usize,
+    left: usize,
 }
 
-// What becomes of a health byte.
-fn mended_byte(byte: u8) -> u8
-    ensures { λ r. ⌜ r ≡ mendedByte byte ⌝ }
-{
-    if byte <= 1 {
-        return byte;
-    }
-    1
+// Where the entries of the report end, and those of the list.
+struct Ends {
+    at: usize,
+    left: usize,
 }
 
-// 1 for a word that changes.
-fn changed(old: u32, new: u32) -> usize
-    ensures { λ r. ⌜ r ≡ changedOf old new ⌝ }
+// ---- counting
+
+// 1 for a word that changes if it becomes 0; for a byte that changes.
+fn changed(word: u32) -> usize
+    ensures { λ r. ⌜ r ≡ changedOf word 0 ⌝ }
 {
-    if old == new {
+    if word == 0 {
         return 0;
     }
     1
@@ -54,30 +44,16 @@ fn changed(old: u32, new: u32) -> usize
 fn changed_byte(byte: u8) -> usize
     ensures { λ r. ⌜ r ≡ changedOf byte (mendedByte byte) ⌝ }
 {
-    changed(byte as u32, mended_byte(byte) as u32)
+    if byte <= 1 {
+        return 0;
+    }
+    1
 }
 
-// How many words of a cell change.
-fn changed_in(next: u32, table: &[u32], cell: u32) -> usize
-    requires { ⌜ 3 * cell + 2 < length (now table) ⌝ }
-    ensures { λ r. ⌜ r ≡ changedIn next (now (table .entry)) cell ⌝ }
+// Whether a cell of this bit and owner is held; a mended one is exactly if it was.
+fn is_held(next: u32, bit: u32, owner: u32) -> bool
+    ensures { λ r. ⌜ r ≡ isHeld next bit owner ⌝ }
 {
-    let bit = arena::bit_at(table, cell);
-    let owner = arena::owner_at(table, cell);
-    let waiters = arena::waiters_at(table, cell);
-    let a = changed(bit, kept(next, bit, owner, bit));
-    let b = changed(owner, kept(next, bit, owner, owner));
-    let c = changed(waiters, 0);
-    a + b + c
-}
-
-// Whether a cell is held; a mended one is exactly if it was.
-fn is_held(next: u32, table: &[u32], cell: u32) -> bool
-    requires { ⌜ 3 * cell + 2 < length (now table) ⌝ }
-    ensures { λ r. ⌜ r ≡ isHeld next (bitAt (now (table .entry)) cell) (ownerAt (now (table .entry)) cell) ⌝ }
-{
-    let bit = arena::bit_at(table, cell);
-    let owner = arena::owner_at(table, cell);
     if bit == 1 {
         if owner < 1 {
             return false;
@@ -87,30 +63,43 @@ fn is_held(next: u32, table: &[u32], cell: u32) -> bool
     false
 }
 
-fn one_if_held(next: u32, table: &[u32], cell: u32) -> usize
+// One cell: a held one keeps bit and owner, of any other all three words become 0.
+fn tally_in(next: u32, table: &[u32], cell: u32) -> Tally
     requires { ⌜ 3 * cell + 2 < length (now table) ⌝ }
-    ensures { λ r. ⌜ r ≡ length (heldIn next (now (table .entry)) cell) ⌝ }
+    ensures { λ r. ⌜ r ≡ tallyIn next (now (table .entry)) cell ⌝ }
 {
-    if is_held(next, table, cell) {
-        return 1;
+    let bit = arena::bit_at(table, cell);
+    let owner = arena::owner_at(table, cell);
+    let c = changed(arena::waiters_at(table, cell));
+    if is_held(next, bit, owner) {
+        return Tally {
+            changes: c,
+            left: 1,
+        };
     }
-    0
+    let a = changed(bit);
+    let b = changed(owner);
+    Tally {
+        changes: a + b + c,
+        left: 0,
+    }
 }
 
-// ---- counting
-
-// Words of the table that change.
-fn count_cells(next: u32, table: &[u32], cells: u32) -> usize
+// All cells.
+fn count_cells(next: u32, table: &[u32], cells: u32) -> Tally
     requires { ⌜ length (now table) ≡ 3 * cells ⌝ }
-    ensures { λ r. ⌜ r ≡ countCellsOf next (now (table .entry)) ⌝ }
+    ensures { λ r. ⌜ r ≡ tallyCells next cells (now (table .entry)) ⌝ }
 {
-    let mut count = 0;
+    let mut changes = 0;
+    let mut left = 0;
     let mut cell = 0;
     while cell < cells {
-        count += changed_in(next, table, cell);
+        let one = tally_in(next, table, cell);
+        changes += one.changes;
+        left += one.left;
         cell += 1;
     }
-    count
+    Tally { changes, left }
 }
 
 // Health bytes that change.
@@ -126,183 +115,141 @@ fn count_bytes(health: &[u8]) -> usize
     count
 }
 
-// Cells that are held.
-fn count_held(next: u32, table: &[u32], cells: u32) -> usize
-    requires { ⌜ length (now table) ≡ 3 * cells ⌝ }
-    ensures { λ r. ⌜ r ≡ countHeldOf next cells (now (table .entry)) ⌝ }
+// How many entries report and list need.
+fn count_all(head: Head, table: &[u32], health: &[u8]) -> Tally
+    requires { ⌜ Shaped head (length (now table)) × (length (now health) ≡ head .headers) ⌝ }
+    ensures { λ r. ⌜ r ≡ tallyOf head (now (table .entry)) (now (health .entry)) ⌝ }
 {
-    let mut count = 0;
-    let mut cell = 0;
-    while cell < cells {
-        count += one_if_held(next, table, cell);
-        cell += 1;
+    let all = count_cells(head.next, table, head.headers * head.buckets);
+    let bytes = count_bytes(health);
+    Tally {
+        changes: all.changes + bytes,
+        left: all.left,
     }
-    count
 }
 
-// ---- the report and the list
+// ---- listing and mending
 
-// An entry, if the word changes: place, old, new.
-fn put_change(report: &mut [u32], at: usize, place: u32, old: u32, new: u32) -> usize
-    requires { ⌜ at + length (changeOf place old new) ≤ length (now report) ⌝ }
-    ensures { λ r. ⌜ (r, now (report .exit)) ≡ laidOf (now (report .entry)) at (changeOf place old new) ⌝ }
+// A word of the table becomes 0, with its entry (place, old, new); nothing is written where it is 0.
+fn clear_word(table: &mut [u32], place: u32, old: u32, report: &mut [u32], at: usize) -> usize
+    requires { ⌜ (place < length (now table)) × (old ≡ getD (now table) place 0) ×
+        (at + length (changeOf place old 0) ≤ length (now report)) ⌝ }
+    ensures { λ r. ⌜ (r, (now (table .exit), now (report .exit)))
+        ≡ clearedOf (now (table .entry)) place old (now (report .entry)) at ⌝ }
 {
-    if old == new {
+    if old == 0 {
         return at;
     }
     report[at] = place;
     report[at + 1] = old;
-    report[at + 2] = new;
+    report[at + 2] = 0;
+    table[place as usize] = 0;
     at + 3
 }
 
-// The entries of a cell.
-fn put_cell(report: &mut [u32], at: usize, next: u32, table: &[u32], cell: u32) -> usize
+// One cell: its entries to the report, its number to the list if it is held; what changes is stored.
+fn mend_cell(
+    next: u32,
+    table: &mut [u32],
+    cell: u32,
+    report: &mut [u32],
+    at: usize,
+    list: &mut [u32],
+    left: usize,
+) -> Ends
     requires { ⌜ (3 * cell + 2 < length (now table)) × (cell < 4096) ×
-        (at + length (changesIn next (now table) cell) ≤ length (now report)) ⌝ }
-    ensures { λ r. ⌜ (r, now (report .exit))
-        ≡ laidOf (now (report .entry)) at (changesIn next (now (table .entry)) cell) ⌝ }
+        (at + length (changesIn next (now table) cell) ≤ length (now report)) ×
+        (left + length (heldIn next (now table) cell) ≤ length (now list)) ⌝ }
+    ensures { λ r. ⌜ (r, (now (table .exit), (now (report .exit), now (list .exit))))
+        ≡ mendedIn next (now (table .entry)) cell (now (report .entry)) at (now (list .entry)) left ⌝ }
 {
     let bit = arena::bit_at(table, cell);
     let owner = arena::owner_at(table, cell);
     let waiters = arena::waiters_at(table, cell);
-    let b = kept(next, bit, owner, bit);
-    let o = kept(next, bit, owner, owner);
-    let x = put_change(report, at, 3 * cell, bit, b);
-    let y = put_change(report, x, 3 * cell + 1, owner, o);
-    put_change(report, y, 3 * cell + 2, waiters, 0)
+    if is_held(next, bit, owner) {
+        list[left] = cell;
+        let end = clear_word(table, 3 * cell + 2, waiters, report, at);
+        return Ends {
+            at: end,
+            left: left + 1,
+        };
+    }
+    let a = clear_word(table, 3 * cell, bit, report, at);
+    let b = clear_word(table, 3 * cell + 1, owner, report, a);
+    let c = clear_word(table, 3 * cell + 2, waiters, report, b);
+    Ends { at: c, left }
 }
 
-// The entries of all cells, from the front of the report on.
-fn report_cells(next: u32, table: &[u32], cells: u32, report: &mut [u32]) -> usize
+// All cells, from the front of report and list on.
+fn mend_cells(
+    next: u32,
+    table: &mut [u32],
+    cells: u32,
+    report: &mut [u32],
+    list: &mut [u32],
+) -> Ends
     requires { ⌜ (length (now table) ≡ 3 * cells) × (cells ≤ 4096) ×
-        (length (cellEntries next (now table)) ≤ length (now report)) ⌝ }
-    ensures { λ r. ⌜ (r, now (report .exit))
-        ≡ laidOf (now (report .entry)) 0 (cellEntries next (now (table .entry))) ⌝ }
+        (length (cellEntries next (now table)) ≤ length (now report)) ×
+        (length (heldFrom next cells 0 (now table)) ≤ length (now list)) ⌝ }
+    ensures { λ r. ⌜ (r, (now (table .exit), (now (report .exit), now (list .exit))))
+        ≡ mendedCells next cells (now (table .entry)) (now (report .entry)) (now (list .entry)) ⌝ }
 {
     let mut at = 0;
+    let mut left = 0;
     let mut cell = 0;
     while cell < cells {
-        at = put_cell(report, at, next, table, cell);
+        let ends = mend_cell(next, table, cell, report, at, list, left);
+        at = ends.at;
+        left = ends.left;
         cell += 1;
     }
-    at
+    Ends { at, left }
 }
 
-// The entry of a health byte.
-fn put_byte(report: &mut [u32], at: usize, place: u32, byte: u8) -> usize
-    requires { ⌜ at + length (changeOf place byte (mendedByte byte)) ≤ length (now report) ⌝ }
-    ensures { λ r. ⌜ (r, now (report .exit))
-        ≡ laidOf (now (report .entry)) at (changeOf place byte (mendedByte byte)) ⌝ }
+// A health byte other than 0 and 1 becomes 1, with its entry.
+fn mend_byte(
+    health: &mut [u8],
+    i: usize,
+    byte: u8,
+    place: u32,
+    report: &mut [u32],
+    at: usize,
+) -> usize
+    requires { ⌜ (i < length (now health)) × (byte ≡ getD (now health) i 0) ×
+        (at + length (changeOf place byte (mendedByte byte)) ≤ length (now report)) ⌝ }
+    ensures { λ r. ⌜ (r, (now (health .exit), now (report .exit)))
+        ≡ mendedAt (now (health .entry)) i byte place (now (report .entry)) at ⌝ }
 {
-    put_change(report, at, place, byte as u32, mended_byte(byte) as u32)
+    if byte <= 1 {
+        return at;
+    }
+    report[at] = place;
+    report[at + 1] = byte as u32;
+    report[at + 2] = 1;
+    health[i] = 1;
+    at + 3
 }
 
-// The entries of the health bytes, whose places count on from the table's.
-fn report_bytes(health: &[u8], place: u32, report: &mut [u32], at: usize) -> usize
+// All health bytes, whose places count on from the table's.
+fn mend_bytes(health: &mut [u8], place: u32, report: &mut [u32], at: usize) -> usize
     requires { ⌜ (place + length (now health) ≤ 20000) ×
         (at + length (byteEntries place (now health)) ≤ length (now report)) ⌝ }
-    ensures { λ r. ⌜ (r, now (report .exit))
-        ≡ laidOf (now (report .entry)) at (byteEntries place (now (health .entry))) ⌝ }
+    ensures { λ r. ⌜ (r, (now (health .exit), now (report .exit)))
+        ≡ mendedBytes (now (health .entry)) place (now (report .entry)) at ⌝ }
 {
     let mut end = at;
     let mut i = 0;
     while i < health.len() {
-        end = put_byte(report, end, place + (i as u32), health[i]);
+        let byte = health[i];
+        end = mend_byte(health, i, byte, place + (i as u32), report, end);
         i += 1;
     }
     end
 }
 
-// A cell's number, if it is held.
-fn put_held(list: &mut [u32], at: usize, next: u32, table: &[u32], cell: u32) -> usize
-    requires { ⌜ (3 * cell + 2 < length (now table)) ×
-        (at + length (heldIn next (now table) cell) ≤ length (now list)) ⌝ }
-    ensures { λ r. ⌜ (r, now (list .exit)) ≡ laidOf (now (list .entry)) at (heldIn next (now (table .entry)) cell) ⌝ }
-{
-    if is_held(next, table, cell) {
-        list[at] = cell;
-        return at + 1;
-    }
-    at
-}
-
-// The cells that are held, from the front of the list on.
-fn list_held(next: u32, table: &[u32], cells: u32, list: &mut [u32]) -> usize
-    requires { ⌜ (length (now table) ≡ 3 * cells) × (length (heldFrom next cells 0 (now table)) ≤ length (now list)) ⌝ }
-    ensures { λ r. ⌜ (r, now (list .exit))
-        ≡ laidOf (now (list .entry)) 0 (heldFrom next cells 0 (now (table .entry))) ⌝ }
-{
-    let mut at = 0;
-    let mut cell = 0;
-    while cell < cells {
-        at = put_held(list, at, next, table, cell);
-        cell += 1;
-    }
-    at
-}
-
-// ---- mending
-
-fn mend_cell(next: u32, table: &mut [u32], cell: u32)
-    requires { ⌜ 3 * cell + 2 < length (now table) ⌝ }
-    ensures { λ _. ⌜ now (table .exit) ≡ mendCellOf next (now (table .entry)) cell ⌝ }
-{
-    let bit = arena::bit_at(table, cell);
-    let owner = arena::owner_at(table, cell);
-    let b = kept(next, bit, owner, bit);
-    let o = kept(next, bit, owner, owner);
-    arena::set_cell(table, cell, b, o);
-    arena::set_waiters(table, cell, 0);
-}
-
-fn mend_cells(next: u32, table: &mut [u32], cells: u32)
-    requires { ⌜ length (now table) ≡ 3 * cells ⌝ }
-    ensures { λ _. ⌜ now (table .exit) ≡ mendedTable next (now (table .entry)) ⌝ }
-{
-    let mut cell = 0;
-    while cell < cells {
-        mend_cell(next, table, cell);
-        cell += 1;
-    }
-}
-
-fn mend_bytes(health: &mut [u8])
-    ensures { λ _. ⌜ now (health .exit) ≡ mendedHealth (now (health .entry)) ⌝ }
-{
-    let mut i = 0;
-    while i < health.len() {
-        health[i] = mended_byte(health[i]);
-        i += 1;
-    }
-}
-
 // ---- the call
 
-// All entries: the table's, then those of the health bytes.
-fn fill_report(head: Head, table: &[u32], health: &[u8], report: &mut [u32])
-    requires { ⌜ Shaped head (length (now table)) × (length (now health) ≡ head .headers) ×
-        (length (changesOf head (now table) (now health)) ≤ length (now report)) ⌝ }
-    ensures { λ _. ⌜ now (report .exit)
-        ≡ overOf (changesOf head (now (table .entry)) (now (health .entry))) (now (report .entry)) ⌝ }
-{
-    let cells = head.headers * head.buckets;
-    let at = report_cells(head.next, table, cells, report);
-    report_bytes(health, 3 * cells, report, at);
-}
-
-// The cells left held: a mended cell is held exactly if it was.
-fn fill_list(head: Head, table: &[u32], list: &mut [u32])
-    requires { ⌜ Shaped head (length (now table)) ×
-        (length (leftHeld (head .next) (cellsOf head) (now table)) ≤ length (now list)) ⌝ }
-    ensures { λ _. ⌜ now (list .exit)
-        ≡ overOf (leftHeld (head .next) (cellsOf head) (now (table .entry))) (now (list .entry)) ⌝ }
-{
-    let cells = head.headers * head.buckets;
-    list_held(head.next, table, cells, list);
-}
-
-// Everything is listed as it stands, then mended.
+// All is listed and mended: the table, then the health bytes.
 fn mend(
     head: Head,
     table: &mut [u32],
@@ -316,28 +263,9 @@ fn mend(
     ensures { λ _. ⌜ (now (table .exit), (now (health .exit), (now (report .exit), now (unconfirmed .exit))))
         ≡ mendOf head (now (table .entry)) (now (health .entry)) (now (report .entry)) (now (unconfirmed .entry)) ⌝ }
 {
-    fill_report(head, table, health, report);
-    fill_list(head, table, unconfirmed);
-    mend_cells(head.next, table, head.headers * head.buckets);
-    mend_bytes(health);
-}
-
-// How many entries the report needs.
-fn entries(head: Head, table: &[u32], health: &[u8]) -> usize
-    requires { ⌜ Shaped head (length (now table)) × (length (now health) ≡ head .headers) ⌝ }
-    ensures { λ r. ⌜ r ≡ entriesOf head (now (table .entry)) (now (health .entry)) ⌝ }
-{
-    let words = count_cells(head.next, table, head.headers * head.buckets);
-    let bytes = count_bytes(health);
-    words + bytes
-}
-
-// How many cells the list needs room for.
-fn held(head: Head, table: &[u32]) -> usize
-    requires { ⌜ Shaped head (length (now table)) ⌝ }
-    ensures { λ r. ⌜ r ≡ length (leftHeld (head .next) (cellsOf head) (now (table .entry))) ⌝ }
-{
-    count_held(head.next, table, head.headers * head.buckets)
+    let cells = head.headers * head.buckets;
+    let ends = mend_cells(head.next, table, cells, report, unconfirmed);
+    mend_bytes(health, 3 * cells, report, ends.at);
 }
 
 // An arena whose shape is good: ReportFull is known before the first change.
@@ -352,8 +280,9 @@ fn go_over(
     ensures { λ r. ⌜ (r, (now (table .exit), (now (health .exit), (now (report .exit), now (unconfirmed .exit)))))
         ≡ goOverOf head (now (table .entry)) (now (health .entry)) (now (report .entry)) (now (unconfirmed .entry)) ⌝ }
 {
-    let changes = entries(head, table, health);
-    let left = held(head, table);
+    let counted = count_all(head, table, health);
+    let changes = counted.changes;
+    let left = counted.left;
     if report.len() / 3 < changes {
         return conclude(head, SalvageAnswer::ReportFull);
     }

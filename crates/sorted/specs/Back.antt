@@ -1,12 +1,13 @@
 -- The leases of the distinct cells handed back, one for each key; and multi-lock's steps with a buffer of the call's own.
-use Prim.Native.Nat.{ℕ, zero, suc, _+_, _*_, _<_, _≤_}
-use mathlib.Core.Path.{_≡_, refl, ap}
+use Prim.Native.Nat.{ℕ, zero, suc, _+_, _*_, _/_, _<_, _≤_}
+use mathlib.Core.Path.{_≡_, refl, ap, _∙_}
 use mathlib.Core.List.{List, [], _∷_, _++_}
 use native.Mathlib.Omega.{arith}
 use native.Mathlib.Numerals.{add-one}
 use lib.Dec.{eqb}
 use lib.ListN.{length, getD, set, take, drop}
 use lib.Seq.{take-suc}
+use borrow.Author.Tests.{ne-eqb}
 use Rattle.choice.specs.Choice.{if_then_else_}
 use Rattle.model.specs.Arena.{holdOf, holdsOf, wordsOf}
 use Rattle.model.specs.Foreign.{Setting, protecting}
@@ -23,6 +24,7 @@ use Rattle.types.specs.declared.Outcome.the-variants as outcome
 use Rattle.types.specs.declared.Played.{Played}
 use Rattle.types.specs.declared.Run.{Run}
 use Rattle.laws.specs.Checks.{holds-at, holds-end}
+use Rattle.sorted.specs.Marks.{markOf, LeaseMarked, found-from}
 use Rattle.sorted.specs.Order.{take-three}
 
 -- ---- the lease of a cell, a position at a time
@@ -35,6 +37,11 @@ hold-on-at l i c b = rw (holds-at l i b)
 pub hold-on-end : (l : List ℕ) (i c : ℕ) → length l ≤ 3 * i + 2 → holdOn (holdsOf (drop (3 * i) l)) c ≡ noHold
 unfolding holdOn
 hold-on-end l i c b = rw (holds-end l i b)
+
+-- the search may begin at the mark
+pub hold-marked : (marks l : List ℕ) (c : ℕ) → LeaseMarked marks l 0 → holdOn (holdsOf l) c ≡ holdOn (holdsOf (drop (3 * markOf marks c) l)) c
+hold-marked marks l c w =
+    found-from (λ k. holdOn (holdsOf (drop (3 * k) l)) c) (λ i. getD l (3 * i) 0) (length l / 3) c (λ k b n. hold-on-at l k c (omega arith) ∙ rw (ne-eqb _ _ n)) marks w
 
 -- ---- the grant buffer
 

@@ -2,6 +2,7 @@
 // of one call have one boot number, the head's.
 // Functions with a `requires` are steps: calls have tested the shape, and a step tests nothing twice.
 // Nothing here is reached from outside the crate.
+use crate::marks::lease_marks;
 use crate::order::first_asking;
 use types::Answer;
 use types::Ended;
@@ -10,16 +11,17 @@ use types::Hold;
 use types::Played;
 ghost use mathlib.Core.Path.{_≡_};
 ghost use Prim.Native.Nat.{_*_};
-ghost use lib.ListN.{length};
+ghost use lib.ListN.{length, drop};
 ghost use Rattle.model.specs.Arena.{holdsOf, wordsOf};
 ghost use Rattle.model.specs.Sorted.{holdOn, sharedOf};
+ghost use Rattle.sorted.specs.Marks.{LeaseMarked};
 ghost use Rattle.sorted.specs.Back.{backOf, Placed};
 
-// The lease of a cell, among leases, without its boot number.
-fn hold_on(leases: &[u32], cell: u32) -> Hold
-    ensures { λ r. ⌜ r ≡ holdOn (holdsOf (now (leases .entry))) cell ⌝ }
+// The lease of a cell, among leases from a position on, without its boot number.
+fn hold_on(leases: &[u32], from: usize, cell: u32) -> Hold
+    ensures { λ r. ⌜ r ≡ holdOn (holdsOf (drop (3 * from) (now (leases .entry)))) cell ⌝ }
 {
-    let mut i = 0;
+    let mut i = from;
     while i < leases.len() / 3 {
         if leases[3 * i] == cell {
             return Hold {
@@ -32,15 +34,26 @@ fn hold_on(leases: &[u32], cell: u32) -> Hold
     Hold { cell: 0, serial: 0 }
 }
 
+// The same among all; the marks say where to begin.
+fn marked_hold(leases: &[u32], marks: &[u8; 256], cell: u32) -> Hold
+    requires { ⌜ LeaseMarked (now marks) (now leases) 0 ⌝ }
+    ensures { λ r. ⌜ r ≡ holdOn (holdsOf (now (leases .entry))) cell ⌝ }
+{
+    let at = (cell % 256) as usize;
+    let from = marks[at] as usize;
+    hold_on(leases, from, cell)
+}
+
 // One lease for each key; keys of one cell share one.
 fn share(boot: u32, asked: &[u32], leases: &[u32], grants: &mut [u32])
     requires { ⌜ length (now grants) ≡ 3 * length (now asked) ⌝ }
     ensures { λ _. ⌜ now (grants .exit)
         ≡ wordsOf boot (sharedOf (holdsOf (now (leases .entry))) (now (asked .entry))) ⌝ }
 {
+    let marks = lease_marks(leases);
     let mut i = 0;
     while i < asked.len() {
-        let hold = hold_on(leases, asked[i]);
+        let hold = marked_hold(leases, &marks, asked[i]);
         grants[3 * i] = hold.cell;
         grants[3 * i + 1] = hold.serial;
         grants[3 * i + 2] = boot;
@@ -69,7 +82,7 @@ pub fn finish(
             foreign::play(head, run, Answer::AllGranted)
         }
         Answer::RefusedAt(refusal, q) => {
-            let p = first_asking(asked, sorted[q]);
+            let p = first_asking(asked, 0, sorted[q]);
             foreign::play(head, run, Answer::RefusedAt(refusal, p))
         }
         Answer::Done => foreign::play(head, run, Answer::Done),

@@ -4,6 +4,7 @@
 // Functions with a `requires` are steps: calls have tested the shape, and a step tests nothing twice.
 mod back;
 mod check;
+mod marks;
 mod order;
 
 use back::finish;

@@ -1,18 +1,20 @@
 -- A number that is printed is read: its digits as the reader of numbers counts and sums them, with anything behind.
 use Prim.Native.Nat.{ℕ, zero, suc, _+_, _*_, _-_, _/_, _%_, _^_, _≤_, _<_}
 use mathlib.Core.Logic.{_≢_}
-use mathlib.Core.Path.{_≡_, refl, ap, _∙_}
-use mathlib.Core.List.{List, [], _∷_, _++_, append-assoc}
+use mathlib.Core.Path.{_≡_, refl, sym, ap, _∙_}
+use mathlib.Core.List.{List, [], _∷_, _++_, append-assoc, append-nil}
 use mathlib.Core.Bool.{Bool, true, false, _&&_}
 use native.Mathlib.Omega.{arith}
+use native.Mathlib.Nat.{mul-le-mul}
 use lib.Dec.{eqb, ltb}
-use lib.ListN.{getD}
-use borrow.Author.Tests.{ne-eqb, lt-ltb, le-ltb}
+use lib.ListN.{length, getD}
+use borrow.Author.Tests.{ne-eqb, lt-ltb, le-ltb, ltb-false, eqb-false}
 use Rattle.choice.specs.Choice.{if_then_else_}
 use Rattle.io.specs.Digits.{glyph, digits, Fewest}
 use Rattle.text.specs.declared.Number.{Number}
 use Rattle.text.specs.Text.{isDigit, digitsIn, valueFrom, noNumber, endedNumberOf, readNumberOf}
-use Rattle.text.specs.Decimal.{placesOf, decimalOf, places-are}
+use Rattle.text.specs.Decimal.{placesOf, decimalOf, length-decimal, places-are, places-is}
+use Rattle.text.specs.Laws.{digit-is}
 
 pub glyph-is : (d : ℕ) → d < 10 → glyph d ≡ 48 + d
 glyph-is d h = rw (lt-ltb d 10 h)
@@ -95,3 +97,94 @@ number-back n r small none = go (places-are n (omega arith))
         let c : digitsIn (digits 10 (placesOf n) n ++ r) ≡ placesOf n = count-digits (placesOf n) n r ∙ rw none (omega arith) in
         let some : placesOf n ≢ 0 = omega (arith, f .0) in
         rw (v, c, le-ltb _ _ small, ne-eqb _ _ some, unpadded (placesOf n) n r f)
+
+-- ---- and only what was printed is read whole
+
+-- a digit at the front of digits, and digits behind it
+all-more : (b : ℕ) (l : List ℕ) → digitsIn (b ∷ l) ≡ length (b ∷ l) → (isDigit b ≡ true) × (digitsIn l ≡ length l)
+unfolding digitsIn
+all-more b l h = go (isDigit b) refl h
+  where
+    go : (t : Bool) → isDigit b ≡ t → (if t then 1 + digitsIn l else 0) ≡ suc (length l) → (isDigit b ≡ true) × (digitsIn l ≡ length l)
+    go true e q = (e, omega arith)
+    go false e q = absurd (omega arith)
+
+value-more : (v b : ℕ) (l : List ℕ) → isDigit b ≡ true → valueFrom v (b ∷ l) ≡ valueFrom (10 * v + (b - 48)) l
+unfolding valueFrom
+value-more v b l e = rw e
+
+-- so many digits behind v: at least that many zeros, at most that many nines
+value-bounds : (v : ℕ) (l : List ℕ) → digitsIn l ≡ length l
+    → (10 ^ length l * v ≤ valueFrom v l) × (valueFrom v l < 10 ^ length l * (v + 1))
+unfolding valueFrom
+value-bounds v [] h = (omega arith, omega arith)
+value-bounds v (b ∷ l) h =
+    let a = all-more b l h in
+    let d = digit-is b (a .0) in
+    let w = 10 * v + (b - 48) in
+    let i = value-bounds w l (a .1) in
+    let p : 10 ^ suc (length l) ≡ 10 * 10 ^ length l = omega arith in
+    let low : 10 ^ length l * (10 * v) ≤ 10 ^ length l * w = mul-le-mul (omega arith) (omega arith) in
+    let high : 10 ^ length l * (w + 1) ≤ 10 ^ length l * (10 * (v + 1)) = mul-le-mul (omega arith) (omega (arith, d)) in
+    rw (value-more v b l (a .0), p) (omega (arith, i .0, low), omega (arith, i .1, high))
+
+-- as many digits with the same value are the same digits
+same-digits : (v w : ℕ) (l m : List ℕ) → length l ≡ length m → digitsIn l ≡ length l → digitsIn m ≡ length m
+    → valueFrom v l ≡ valueFrom w m → (v ≡ w) × (l ≡ m)
+unfolding valueFrom
+same-digits v w [] [] n h k e = (e, refl)
+same-digits v w [] (c ∷ m) n h k e = absurd (omega arith)
+same-digits v w (b ∷ l) [] n h k e = absurd (omega arith)
+same-digits v w (b ∷ l) (c ∷ m) n h k e =
+    let a = all-more b l h in
+    let f = all-more c m k in
+    let d = digit-is b (a .0) in
+    let g = digit-is c (f .0) in
+    let i = same-digits (10 * v + (b - 48)) (10 * w + (c - 48)) l m (omega arith) (a .1) (f .1) (sym (value-more v b l (a .0)) ∙ e ∙ value-more w c m (f .0)) in
+    let x : v ≡ w = omega (arith, i .0, d, g) in
+    let y : b ≡ c = omega (arith, i .0, d, g) in
+    (x, rw (y, i .1))
+
+-- without a leading zero there are as few as the number has
+fewest-is : (b : ℕ) (l : List ℕ) → digitsIn (b ∷ l) ≡ length (b ∷ l) → (eqb b 48 && ltb 1 (length (b ∷ l))) ≡ false
+    → Fewest 10 1 (valueFrom 0 (b ∷ l)) (length (b ∷ l))
+fewest-is b l h z = (omega arith, omega (arith, value-bounds 0 (b ∷ l) h .1), λ more. go (eqb b 48) refl z more)
+  where
+    go : (t : Bool) → eqb b 48 ≡ t → (t && ltb 1 (length (b ∷ l))) ≡ false → 1 < length (b ∷ l) → 10 ^ (length (b ∷ l) - 1) ≤ valueFrom 0 (b ∷ l)
+    go true e q more = absurd (omega (arith, more, ltb-false 1 (length (b ∷ l)) q))
+    go false e q more =
+        let a = all-more b l h in
+        let d = digit-is b (a .0) in
+        let k : suc (length l) - 1 ≡ length l = omega arith in
+        let i = value-bounds (10 * 0 + (b - 48)) l (a .1) in
+        let low : 10 ^ length l * 1 ≤ 10 ^ length l * (10 * 0 + (b - 48)) = mul-le-mul (omega arith) (omega (arith, d, eqb-false b 48 e)) in
+        rw (k, value-more 0 b l (a .0)) (omega (arith, i .0, low))
+
+decimal-back : (n : ℕ) → n < 2 ^ 64 → (digitsIn (decimalOf n) ≡ placesOf n) × (valueFrom 0 (decimalOf n) ≡ n)
+unfolding decimalOf digitsIn valueFrom
+decimal-back n h =
+    let c = count-digits (placesOf n) n [] in
+    let v = value-digits (placesOf n) n 0 [] (places-are n h .1) in
+    (rw (append-nil (digits 10 (placesOf n) n)) at c ∙ (omega arith), rw (append-nil (digits 10 (placesOf n) n)) at v ∙ (omega arith))
+
+-- digits that are read as a number, with nothing behind them, are that number printed
+pub number-whole : (l : List ℕ) → 0 < length l → readNumberOf l .digits ≡ length l → l ≡ decimalOf (readNumberOf l .value)
+unfolding readNumberOf endedNumberOf
+number-whole [] h e = absurd (omega arith)
+number-whole (b ∷ l) h e = go (ltb 4294967295 (valueFrom 0 (b ∷ l))) refl (eqb (digitsIn (b ∷ l)) 0) (eqb b 48 && ltb 1 (digitsIn (b ∷ l))) refl e
+  where
+    whole : valueFrom 0 (b ∷ l) ≤ 4294967295 → (eqb b 48 && ltb 1 (digitsIn (b ∷ l))) ≡ false → digitsIn (b ∷ l) ≡ length (b ∷ l) → b ∷ l ≡ decimalOf (valueFrom 0 (b ∷ l))
+    whole small z all =
+        let n = valueFrom 0 (b ∷ l) in
+        let few : n < 2 ^ 64 = omega arith in
+        let k = places-is n (length (b ∷ l)) few (fewest-is b l all (rw all at z)) in
+        let back = decimal-back n few in
+        same-digits 0 0 (b ∷ l) (decimalOf n) (k ∙ sym (length-decimal n)) all (back .0 ∙ sym (length-decimal n)) (sym (back .1)) .1
+
+    go : (t : Bool) → ltb 4294967295 (valueFrom 0 (b ∷ l)) ≡ t → (u w : Bool) → (eqb b 48 && ltb 1 (digitsIn (b ∷ l))) ≡ w
+        → (if t then noNumber else if u then noNumber else if w then noNumber else record { fine = true; value = valueFrom 0 (b ∷ l); digits = digitsIn (b ∷ l) }) .digits ≡ suc (length l)
+        → b ∷ l ≡ decimalOf ((if t then noNumber else if u then noNumber else if w then noNumber else record { fine = true; value = valueFrom 0 (b ∷ l); digits = digitsIn (b ∷ l) }) .value)
+    go true p u w z q = absurd (omega arith)
+    go false p true w z q = absurd (omega arith)
+    go false p false true z q = absurd (omega arith)
+    go false p false false z q = whole (ltb-false 4294967295 (valueFrom 0 (b ∷ l)) p) z q

@@ -6,14 +6,15 @@ ghost use mathlib.Core.Path.{_≡_};
 ghost use Prim.Native.Nat.{_+_, _<_, _≤_};
 ghost use mathlib.Core.Bool.{true, false};
 ghost use lib.Dec.{ltb};
+ghost use lib.ListN.{length};
 ghost use Rattle.choice.specs.Choice.{if_then_else_};
 ghost use Rattle.wave_rules.specs.Lines.{same as Lines·same};
-ghost use Rattle.wave_rules.specs.Dump.{timeLine, bitLine, varLine, upscope};
-ghost use Rattle.wave_rules.specs.Reader.{timeIn, cellIn, afterVariable, afterValue, isTime, isChange, nextOf, bitsOf};
+ghost use Rattle.wave_rules.specs.Dump.{bitLine, varLine, upscope};
+ghost use Rattle.wave_rules.specs.Reader.{cellIn, afterVariable, afterValue, isChange, nextOf, bitsOf};
 ghost use Rattle.wave_rules.specs.Reader.{atEnd};
-ghost use Rattle.wave_rules.specs.declared.Stage.the-variants.{Lost};
+ghost use Rattle.wave_rules.specs.declared.Stage.the-variants.{Values, Waiting, Lost};
 ghost use Rattle.wave_rules.specs.Stages.{Reach};
-ghost use Rattle.wave_line.specs.Stages.{isLost, isChanging, gapOf};
+ghost use Rattle.wave_line.specs.Stages.{isLost, isChanging, gapOf, sumOf, stampOf, afterTime, onwardOf};
 
 // ---- one line
 
@@ -44,21 +45,17 @@ fn is_var(line: &[u8], cell: u8) -> bool
     same(line, &want[..k])
 }
 
-fn is_at(line: &[u8], t: usize) -> bool
-    requires { ⌜ t < 100000 ⌝ }
-    ensures { λ r. ⌜ r ≡ Lines·same (now (line .entry)) (timeLine t) ⌝ }
-{
-    let mut want = [0u8; 16];
-    let k = wave_write::put_time(&mut want, 0, t) - 1;
-    same(line, &want[..k])
-}
-
 fn is_bit(line: &[u8], bit: u8, cell: u8) -> bool
     requires { ⌜ (bit ≤ 1) × (cell < 94) ⌝ }
     ensures { λ r. ⌜ r ≡ Lines·same (now (line .entry)) (bitLine bit cell) ⌝ }
 {
-    let want = [48 + bit, 33 + cell];
-    same(line, &want)
+    if line.len() == 2 {
+        if line[0] == 48 + bit {
+            return line[1] == 33 + cell;
+        }
+        return false;
+    }
+    false
 }
 
 // ---- what a line leads to
@@ -95,38 +92,76 @@ fn after_variable(n: usize, line: &[u8]) -> Stage
     Stage::Lost
 }
 
+// The next cell's first value, or the end of them.
+fn value_after(n: usize, c: usize) -> Stage
+    requires { ⌜ (n ≤ 94) × (c < n) ⌝ }
+    ensures { λ r. ⌜ r ≡ (if ltb (c + 1) n then Values n (c + 1) else Waiting n 0) ⌝ }
+{
+    if c + 1 < n {
+        return Stage::Values(n, c + 1);
+    }
+    Stage::Waiting(n, 0)
+}
+
 fn after_value(n: usize, c: usize, line: &[u8]) -> Stage
     requires { ⌜ (n ≤ 94) × (c < n) ⌝ }
     ensures { λ r. ⌜ r ≡ afterValue n c (now (line .entry)) ⌝ }
 {
-    if is_bit(line, 0, c as u8) {
-        if c + 1 < n {
-            return Stage::Values(n, c + 1);
-        }
-        return Stage::Waiting(n, 0);
-    }
-    Stage::Lost
+    fixed(is_bit(line, 0, c as u8), value_after(n, c))
 }
 
-// The time that a line names.
-fn time_in(line: &[u8]) -> usize
-    ensures { λ r. ⌜ r ≡ timeIn (now (line .entry)) ⌝ }
+// What the digits behind a line's first byte come to; 0 if another byte stands among them.
+fn sum(line: &[u8]) -> usize
+    requires { ⌜ (1 ≤ length (now line)) × (length (now line) ≤ 6) ⌝ }
+    ensures { λ r. ⌜ r ≡ sumOf (now (line .entry)) ⌝ }
 {
-    let number = text::read_number(line, 1);
-    number.value as usize
+    let mut t: usize = 0;
+    let mut i = 1;
+    while i < line.len() {
+        let b = line[i];
+        if b < 48 {
+            return 0;
+        }
+        if 57 < b {
+            return 0;
+        }
+        t = 10 * t + (b - 48) as usize;
+        i += 1;
+    }
+    t
 }
 
-fn is_time(last: usize, line: &[u8]) -> bool
-    ensures { λ r. ⌜ r ≡ isTime last (now (line .entry)) ⌝ }
+// The time of a time line, not printed to be compared; 0 if it is none, or later than any.
+fn stamp(line: &[u8]) -> usize
+    ensures { λ r. ⌜ r ≡ stampOf (now (line .entry)) ⌝ }
 {
-    let t = time_in(line);
-    if last < t {
-        if t <= 32768 {
-            return is_at(line, t);
-        }
-        return false;
+    if line.len() < 2 {
+        return 0;
     }
-    false
+    if 6 < line.len() {
+        return 0;
+    }
+    if line[0] == 35 {
+        if line[1] == 48 {
+            return 0;
+        }
+        return sum(line);
+    }
+    0
+}
+
+// A time, which is later than the last.
+fn after_time(n: usize, last: usize, line: &[u8]) -> Stage
+    ensures { λ r. ⌜ r ≡ afterTime n last (now (line .entry)) ⌝ }
+{
+    let t = stamp(line);
+    if t <= last {
+        return Stage::Lost;
+    }
+    if 32768 < t {
+        return Stage::Lost;
+    }
+    Stage::Changing(n, last, t)
 }
 
 // The cell that a line names, 0 where it names none. A step: the reader calls it.
@@ -166,11 +201,26 @@ pub fn next(stage: Stage, bits: &[u8; 94], line: &[u8]) -> Stage
         Stage::Ending(n) => fixed(same(line, b"$enddefinitions $end"), Stage::Start(n)),
         Stage::Start(n) => fixed(same(line, b"#0"), Stage::Values(n, 0)),
         Stage::Values(n, c) => after_value(n, c, line),
-        Stage::Waiting(n, last) => fixed(
-            is_time(last, line),
-            Stage::Changing(n, last, time_in(line)),
-        ),
+        Stage::Waiting(n, last) => after_time(n, last, line),
         Stage::Changing(n, _, t) => fixed(is_change(n, bits, line), Stage::Waiting(n, t)),
+        Stage::Lost => Stage::Lost,
+    }
+}
+
+// What a line leads to that was found right before. A step: the reader calls it.
+pub fn onward(stage: Stage, line: &[u8]) -> Stage
+    requires { ⌜ Reach stage ⌝ }
+    ensures { λ r. ⌜ r ≡ onwardOf stage (now (line .entry)) ⌝ }
+{
+    match stage {
+        Stage::Opening => Stage::Scope,
+        Stage::Scope => Stage::Variables(0),
+        Stage::Variables(n) => after_variable(n, line),
+        Stage::Ending(n) => Stage::Start(n),
+        Stage::Start(n) => Stage::Values(n, 0),
+        Stage::Values(n, c) => value_after(n, c),
+        Stage::Waiting(n, last) => Stage::Changing(n, last, stamp(line)),
+        Stage::Changing(n, _, t) => Stage::Waiting(n, t),
         Stage::Lost => Stage::Lost,
     }
 }

@@ -1,14 +1,16 @@
 -- Laws for the reader's functions.
 use Prim.Native.Nat.{ℕ, zero, suc, _+_, _*_, _-_, _/_, _≤_, _<_}
 use mathlib.Core.Path.{_≡_, refl, sym, ap, _∙_}
+use mathlib.Core.Logic.{_≢_}
 use mathlib.Core.List.{List, [], _∷_, _++_, append-assoc}
 use mathlib.Core.Bool.{Bool, true, false}
 use native.Mathlib.Omega.{arith}
-use lib.Dec.{eqb}
+use lib.Dec.{eqb, leb}
 use lib.ListN.{length, getD, drop, take, set, length-append, length-drop, drop-of-length-le, replicate, length-replicate}
-use lib.Seq.{sets, drop-drop}
-use borrow.Author.Tests.{lt-ltb, le-ltb}
+use lib.Seq.{sets, drop-drop, length-take-le}
+use borrow.Author.Tests.{lt-ltb, le-ltb, le-leb, lt-leb, leb-true, leb-false, eqb-true, eqb-false}
 use Rattle.choice.specs.Choice.{if_then_else_}
+use Rattle.choice.specs.Pick.{if-both}
 use Rattle.text.specs.Text.{before}
 use Rattle.wave_rules.specs.declared.Stage.{Stage}
 use Rattle.wave_rules.specs.declared.Stage.the-variants.{Opening, Scope, Variables, Ending, Start, Values, Waiting, Changing, Lost}
@@ -21,6 +23,7 @@ use Rattle.wave_rules.specs.Stages.{false-not, bad-not, words-count}
 use Rattle.wave_rules.specs.Calls.{answered}
 use Rattle.wave_rules.specs.declared.Undumped.the-variants.{Read, NoRoom}
 use Rattle.wave_line.specs.Stages.{isLost, isChanging, gapOf}
+use Rattle.wave_line.specs.Laws.{long-lost}
 use Rattle.print.specs.Print.{putOf}
 use Rattle.print.specs.Laws.{put-none, put-join, put-more}
 use Rattle.wave_write.specs.Laws.{put-size}
@@ -79,6 +82,82 @@ split-at (b ∷ l) h = go (eqb b 10) (split-at l) h
         let d : suc (before 10 l) + 1 ≡ suc (before 10 l + 1) = omega arith in
         rw (e, d, f (omega arith))
 
+before-within : (l : List ℕ) → before 10 l ≤ length l
+unfolding before
+before-within [] = omega arith
+before-within (b ∷ l) = if-both (λ (n : ℕ). n ≤ suc (length l)) (eqb b 10) (omega arith) (omega (arith, before-within l))
+
+-- a line feed among the first m bytes is the first of all
+before-front : (m : ℕ) (l : List ℕ) → before 10 (take m l) < m → before 10 l ≡ before 10 (take m l)
+unfolding before
+before-front zero l h = absurd (omega arith)
+before-front (suc m) [] h = refl
+before-front (suc m) (b ∷ l) h = go (eqb b 10) h (before-front m l)
+  where
+    go : (t : Bool) → (if t then 0 else 1 + before 10 (take m l)) < suc m
+        → (before 10 (take m l) < m → before 10 l ≡ before 10 (take m l))
+        → (if t then 0 else 1 + before 10 l) ≡ (if t then 0 else 1 + before 10 (take m l))
+    go true q f = refl
+    go false q f = ap (λ (n : ℕ). 1 + n) (f (omega arith))
+
+-- and where there is none, it stands behind them
+before-behind : (m : ℕ) (l : List ℕ) → before 10 (take m l) ≡ m → m ≤ before 10 l
+unfolding before
+before-behind zero l e = omega arith
+before-behind (suc m) [] e = absurd (omega arith)
+before-behind (suc m) (b ∷ l) e = go (eqb b 10) e (before-behind m l)
+  where
+    go : (t : Bool) → (if t then 0 else 1 + before 10 (take m l)) ≡ suc m → (before 10 (take m l) ≡ m → m ≤ before 10 l)
+        → suc m ≤ (if t then 0 else 1 + before 10 l)
+    go true q f = absurd (omega arith)
+    go false q f = omega (arith, f (omega arith))
+
+-- ---- where a line ends
+
+-- the line feed, if it stands behind at most 22 bytes; else the end of the text: such a line is wrong (`long-lost`)
+unfoldable pub lineEndOf : List ℕ → ℕ → ℕ
+lineEndOf text at = if leb (before 10 (drop at text)) 22 then at + before 10 (drop at text) else length text
+
+module _ (text : List ℕ) (at : ℕ) where
+  near : before 10 (drop at text) ≤ 22 → lineEndOf text at ≡ at + before 10 (drop at text)
+  unfolding lineEndOf
+  near h = rw (le-leb (before 10 (drop at text)) 22 h)
+
+  far : 22 < before 10 (drop at text) → lineEndOf text at ≡ length text
+  unfolding lineEndOf
+  far h = rw (lt-leb (before 10 (drop at text)) 22 h)
+
+  -- few bytes are left
+  pub line-near : (r : ℕ) → at ≤ length text → length text < at + 24 → r ≡ at + before 10 (drop at text) → r ≡ lineEndOf text at
+  line-near r a h e = go (leb (before 10 (drop at text)) 22) refl
+    where
+      go : (t : Bool) → leb (before 10 (drop at text)) 22 ≡ t → r ≡ lineEndOf text at
+      go true p = e ∙ sym (near (leb-true (before 10 (drop at text)) 22 p))
+      go false p =
+          let k = leb-false (before 10 (drop at text)) 22 p in
+          omega (arith, far k, before-within (drop at text), length-drop at text)
+
+  -- of many, the first 23 have no line feed, or one
+  pub line-far : (n m : ℕ) → m ≡ 23 → n ≡ 0 + before 10 (take m (drop at text)) → n ≡ 23 → length text ≡ lineEndOf text at
+  line-far n m k e f =
+      let g : n ≡ 0 + before 10 (take 23 (drop at text)) = rw k at e in
+      let b = before-behind 23 (drop at text) (omega arith) in
+      sym (far (omega arith))
+
+  pub line-within : (n m : ℕ) → m ≡ 23 → n ≡ 0 + before 10 (take m (drop at text)) → n < 23 → at + n ≡ lineEndOf text at
+  line-within n m k e f =
+      let g : n ≡ 0 + before 10 (take 23 (drop at text)) = rw k at e in
+      let b = before-front 23 (drop at text) (omega arith) in
+      omega (arith, near (omega arith))
+
+  -- a line that ends before the text does
+  pub line-found : (r : ℕ) → r ≡ lineEndOf text at → r ≢ length text → r ≡ at + before 10 (drop at text)
+  line-found r e h = go (leb (before 10 (drop at text)) 22) refl
+    where
+      go : (t : Bool) → leb (before 10 (drop at text)) 22 ≡ t → r ≡ at + before 10 (drop at text)
+      go true p = e ∙ near (leb-true (before 10 (drop at text)) 22 p)
+      go false p = absurd (h (e ∙ far (leb-false (before 10 (drop at text)) 22 p)))
+
 -- where the text ends; a last line without a line feed; a line
 pub scan-end : (text : List ℕ) (at k : ℕ) (s : Stage) (bits : List ℕ) → length text ≤ at
     → atEnd s k ≡ verdictOf k s bits (splitOf (drop at text))
@@ -105,6 +184,21 @@ pub scan-lost : (text : List ℕ) (at end k : ℕ) (s after : Stage) (bits : Lis
     → end < length text → after ≡ nextOf s bits (take (end - at) (drop at text)) → isLost after ≡ true
     → Bad k ≡ verdictOf k s bits (splitOf (drop at text))
 scan-lost text at end k s after bits e h n l = sym (scan-line text at end k s bits e h ∙ rw (← n) (unless-lost after k _ l))
+
+-- a line without a line feed, or one that is too long
+pub scan-stop : (text : List ℕ) (at r k : ℕ) (s : Stage) (bits : List ℕ) → at < length text → r ≡ lineEndOf text at → r ≡ length text
+    → Bad k ≡ verdictOf k s bits (splitOf (drop at text))
+scan-stop text at r k s bits h e f = go (eqb (at + before 10 (drop at text)) (length text)) refl (leb (before 10 (drop at text)) 22) refl
+  where
+    go : (t : Bool) → eqb (at + before 10 (drop at text)) (length text) ≡ t → (u : Bool) → leb (before 10 (drop at text)) 22 ≡ u → Bad k ≡ verdictOf k s bits (splitOf (drop at text))
+    go true p u q = scan-torn text at (at + before 10 (drop at text)) k s bits h refl (eqb-true (at + before 10 (drop at text)) (length text) p)
+    go false p true q = absurd (eqb-false (at + before 10 (drop at text)) (length text) p (sym (near text at (leb-true (before 10 (drop at text)) 22 q)) ∙ sym e ∙ f))
+    go false p false q =
+        let y = take (at + before 10 (drop at text) - at) (drop at text) in
+        let out = eqb-false (at + before 10 (drop at text)) (length text) p in
+        let inside : at + before 10 (drop at text) < length text = omega (arith, out, before-within (drop at text), length-drop at text) in
+        let long : 22 < length y = omega (arith, leb-false (before 10 (drop at text)) 22 q, length-take-le (at + before 10 (drop at text) - at) (drop at text) (omega (arith, length-drop at text))) in
+        scan-lost text at (at + before 10 (drop at text)) k s (nextOf s bits y) bits refl inside refl (rw (long-lost s bits y long))
 
 pub scan-turn : (text : List ℕ) (at end k : ℕ) (s after : Stage) (bits b : List ℕ) → end ≡ at + before 10 (drop at text)
     → end < length text → after ≡ nextOf s bits (take (end - at) (drop at text)) → isLost after ≡ false
@@ -245,3 +339,12 @@ put-all l m i x e = ap (λ (o : ℕ × List ℕ). o .1) e
 -- no line of a text that is fine is wrong
 pub not-bad : {A : Type 0} (k n last : ℕ) (v : Verdict) → Bad k ≡ v → v ≡ Fine n last → A
 not-bad k n last v e f = bad-not (e ∙ f)
+
+pub scan-live : (text : List ℕ) (at end k n last : ℕ) (s : Stage) (bits : List ℕ) → end ≡ at + before 10 (drop at text)
+    → end < length text → verdictOf k s bits (splitOf (drop at text)) ≡ Fine n last
+    → isLost (nextOf s bits (take (end - at) (drop at text))) ≡ false
+scan-live text at end k n last s bits e h v = go (isLost (nextOf s bits (take (end - at) (drop at text)))) refl
+  where
+    go : (t : Bool) → isLost (nextOf s bits (take (end - at) (drop at text))) ≡ t → isLost (nextOf s bits (take (end - at) (drop at text))) ≡ false
+    go true p = not-bad k n last _ (scan-lost text at end k s _ bits e h refl p) v
+    go false p = p

@@ -20,6 +20,25 @@ ghost use Rattle.wave_rules.specs.declared.Stage.the-variants.{Opening};
 ghost use Rattle.wave_rules.specs.declared.Verdict.the-variants.{Fine};
 ghost use Rattle.print.specs.Print.{putOf};
 ghost use Rattle.wave_line.specs.Stages.{isLost};
+ghost use Rattle.wave_read.specs.Laws.{lineEndOf};
+
+// Where the line from `at` on ends. The end of the text, if no line feed stands there within 22 bytes: a line of a dump
+// has no more, so what stands behind them is not read.
+fn line_end(text: &[u8], at: usize) -> usize
+    requires { ⌜ at ≤ length (now text) ⌝ }
+    ensures { λ r. ⌜ r ≡ lineEndOf (now (text .entry)) at ⌝ }
+    ensures { λ r. ⌜ (at ≤ r) × (r ≤ length (now (text .entry))) ⌝ }
+{
+    let left = text.len() - at;
+    if left < 24 {
+        return text::end_of(text, at, 10);
+    }
+    let n = text::end_of(&text[at..at + 23], 0, 10);
+    if n == 23 {
+        return text.len();
+    }
+    at + n
+}
 
 // The first wrong line, or how many cells and steps.
 fn scan(text: &[u8]) -> Verdict
@@ -30,7 +49,7 @@ fn scan(text: &[u8]) -> Verdict
     let mut at = 0;
     let mut k = 1;
     while at < text.len() {
-        let end = text::end_of(text, at, 10);
+        let end = line_end(text, at);
         if end == text.len() {
             return Verdict::Bad(k);
         }
@@ -100,7 +119,7 @@ fn put_words(stage: Stage, bits: &[u8; 94], line: &[u8], out: &mut [u32], at: us
     at
 }
 
-// The words of a text that is fine.
+// The words of a text that is fine: no line is tested again.
 fn fill(text: &[u8], n: usize, last: usize, out: &mut [u32])
     requires { ⌜ (verdictOf 1 Opening noBits (splitOf (now text)) ≡ Fine n last) × (3 * last ≤ length (now out)) ⌝ }
     ensures { λ r. ⌜ now (out .exit)
@@ -116,10 +135,7 @@ fn fill(text: &[u8], n: usize, last: usize, out: &mut [u32])
         if end == text.len() {
             return;
         }
-        let after = wave_line::next(stage, &bits, &text[at..end]);
-        if wave_line::is_lost(after) {
-            return;
-        }
+        let after = wave_line::onward(stage, &text[at..end]);
         used = put_words(stage, &bits, &text[at..end], out, used);
         wave_line::bits_after(stage, &mut bits, &text[at..end]);
         stage = after;

@@ -4,7 +4,7 @@
 //!
 //! One public function for each call, over lent slices; no argument makes it panic. Refusals change nothing.
 
-use crate::rules::{self, Arena, Head, Lease, Refusal};
+use crate::rules::{self, Head, Lease, Refusal};
 
 /// "A lent book, at most 32,768 bytes, one slot for each cell, at most the first 64."
 pub const MOST_BYTES: usize = 32_768;
@@ -109,16 +109,6 @@ pub struct Written {
     pub moved: u32,
 }
 
-/// A setting that is kept, and the place of its body.
-#[derive(Clone, Copy, Debug, PartialEq)]
-struct Body {
-    place: usize,
-    kept: Kept,
-}
-
-/// What a book keeps: of each slot its bodies, newest first.
-type Contents = Vec<Vec<Body>>;
-
 // ---- What a book keeps
 
 /// "one slot for each cell, at most the first 64"
@@ -150,57 +140,102 @@ fn check_slot(cells: u32, book: &[u8], slot: u32) -> Result<u32, BookRefusal> {
     }
 }
 
-/// All that the book keeps. "a line or kept body that fits no rule, or two bodies that overlap, make every read and write
-/// DamagedBook": of whichever slot they are. Bytes that no kept body covers are nothing to it.
-fn contents(book: &[u8], slots: u32) -> Result<Contents, BookRefusal> {
-    let lines = book[..contents_length(slots)].chunks_exact(LINE * KEPT);
-    let contents: Option<Contents> = lines.map(|lines| bodies_of(book, slots, lines)).collect();
-    match contents {
-        Some(contents) if !overlap(&contents) => Ok(contents),
-        _ => Err(BookRefusal::DamagedBook),
+/// A line of the table of contents as one number: "place 2, length 2, version 4, low byte first".
+fn line_of(bytes: &[u8]) -> u64 {
+    let mut line = [0; LINE];
+    line.copy_from_slice(bytes);
+    u64::from_le_bytes(line)
+}
+
+fn line(place: usize, version: u32) -> u64 {
+    place as u64 | (BODY as u64) << 16 | u64::from(version) << 32
+}
+
+fn place_of(line: u64) -> usize {
+    line as usize & 0xffff
+}
+
+fn version_of(line: u64) -> u32 {
+    (line >> 32) as u32
+}
+
+/// The places where bodies begin: a bit for each byte of the book, and two bytes behind them.
+struct Starts<'a>(&'a mut [u8]);
+
+/// Bytes of them for a book of 64 slots and some room, and for the longest one.
+const FEW_STARTS: usize = 4096 / 8 + 2;
+const MOST_STARTS: usize = MOST_BYTES / 8 + 2;
+
+/// Starts for this book: to clear them takes as long as the book is.
+macro_rules! starts {
+    ($starts:ident of $book:expr) => {
+        let (mut few, mut most);
+        let starts: &mut [u8] = if $book.len() <= 4096 {
+            few = [0; FEW_STARTS];
+            &mut few
+        } else {
+            most = [0; MOST_STARTS];
+            &mut most
+        };
+        let $starts = Starts(starts);
+    };
+}
+
+impl Starts<'_> {
+    /// Adds one. False: another is less than 5 bytes away, so the bodies overlap. Those that touch do not. No place is
+    /// below 5.
+    #[inline(always)]
+    fn add(&mut self, place: usize) -> bool {
+        let first = place - (BODY - 1);
+        let near = u16::from_le_bytes([self.0[first / 8], self.0[first / 8 + 1]]);
+        self.0[place / 8] |= 1 << (place % 8);
+        near >> (first % 8) & 0x1ff == 0
     }
 }
 
-/// A slot's bodies by its four lines, "newest first, versions falling by one, unused lines zero". As many lines are in
-/// use as there were settings, four at most. None: a line or a body fits no rule.
-fn bodies_of(book: &[u8], slots: u32, lines: &[u8]) -> Option<Vec<Body>> {
-    let newest = version_of(lines);
-    let in_use = KEPT.min(newest as usize);
-    let (used, unused) = lines.split_at(LINE * in_use);
-    if unused.iter().any(|&byte| byte != 0) {
+/// Tests all that the book keeps; gives the number of bodies. "a line or kept body that
+/// fits no rule, or two bodies that overlap, make every read and write DamagedBook": of whichever slot they are. Bytes
+/// that no kept body covers are nothing to it.
+///
+/// A slot's four lines are "newest first, versions falling by one, unused lines zero": as many are in use as there were
+/// settings, four at most. One in use has length 5, its version, and a place behind the contents.
+#[inline(always)]
+fn check_contents(book: &[u8], slots: u32, mut starts: Starts) -> Result<usize, BookRefusal> {
+    let front = contents_length(slots);
+    let mut bodies = 0;
+    for lines in book[..front].chunks_exact(LINE * KEPT) {
+        let newest = version_of(line_of(&lines[..LINE]));
+        for (age, bytes) in (0..).zip(lines.chunks_exact(LINE)) {
+            let found = line_of(bytes);
+            if newest <= age {
+                if found != 0 {
+                    return Err(BookRefusal::DamagedBook);
+                }
+                continue;
+            }
+            let place = place_of(found);
+            if found != line(place, newest - age)
+                || place < front
+                || setpoint_at(book, place).is_none()
+                || !starts.add(place)
+            {
+                return Err(BookRefusal::DamagedBook);
+            }
+            bodies += 1;
+        }
+    }
+    Ok(bodies)
+}
+
+/// The body at this place: "A body is a kind byte (1, 2, 3 in that order) and four bytes, low byte first; a valve is 0 or
+/// 1", a pressure is finite. None: it fits no rule, or is not whole.
+#[inline(always)]
+fn setpoint_at(book: &[u8], place: usize) -> Option<Setpoint> {
+    let &[kind, a, b, c, d] = book.get(place..place + BODY)? else {
         return None;
-    }
-    let used = used.chunks_exact(LINE).zip(0..);
-    used.map(|(line, age)| body_of(book, slots, line, newest - age))
-        .collect()
-}
-
-/// The version of a line.
-fn version_of(line: &[u8]) -> u32 {
-    u32::from_le_bytes([line[4], line[5], line[6], line[7]])
-}
-
-/// The body of a line that is in use: length 5, this version, a place behind the contents and not past the end. "A body is
-/// a kind byte (1, 2, 3 in that order) and four bytes, low byte first; a valve is 0 or 1", a pressure is finite.
-fn body_of(book: &[u8], slots: u32, line: &[u8], version: u32) -> Option<Body> {
-    let place = usize::from(u16::from_le_bytes([line[0], line[1]]));
-    let length = usize::from(u16::from_le_bytes([line[2], line[3]]));
-    if length != BODY || version_of(line) != version || place < contents_length(slots) {
-        return None;
-    }
-    let body = book.get(place..place + BODY)?;
-    let number = u32::from_le_bytes([body[1], body[2], body[3], body[4]]);
-    let setpoint = Setpoint::of(u32::from(body[0]), number)?;
-    let kept = Kept { setpoint, version };
-    setpoint.is_finite().then_some(Body { place, kept })
-}
-
-/// Whether two bodies overlap: of two neighbours, in the order of their places, the second begins less than 5 bytes
-/// behind the first. Bodies that touch do not.
-fn overlap(contents: &Contents) -> bool {
-    let mut places: Vec<usize> = contents.iter().flatten().map(|body| body.place).collect();
-    places.sort_unstable();
-    places.windows(2).any(|pair| pair[1] - pair[0] < BODY)
+    };
+    let setpoint = Setpoint::of(u32::from(kind), u32::from_le_bytes([a, b, c, d]))?;
+    setpoint.is_finite().then_some(setpoint)
 }
 
 // ---- The calls
@@ -216,129 +251,124 @@ pub fn prepare_book(head: Head, book: &mut [u8]) -> Result<(), BookRefusal> {
 /// 12, NotFinite, DamagedBook (of the whole book), VersionsSpent, BookFull.
 pub fn write_setpoint(
     head: Head,
-    table: &mut [u32],
+    table: &[u32],
     book: &mut [u8],
     slot: u32,
     lease: Lease,
     setpoint: Setpoint,
 ) -> Result<Written, BookRefusal> {
-    let arena = Arena::new(head, table)?;
-    let slots = check_slot(arena.cells, book, slot)?;
+    let slots = check_slot(rules::shape(head, table)?, book, slot)?;
     // 16 right before 12
-    arena.check_live(lease)?;
+    rules::check_live(head, table, lease)?;
     if lease.cell != slot {
         return Err(Refusal::NotHeld(0).into());
     }
     if !setpoint.is_finite() {
         return Err(BookRefusal::NotFinite);
     }
-    let old = contents(book, slots)?;
+    starts!(starts of book);
+    let mut bodies = check_contents(book, slots, starts)?;
+    let newest = KEPT * slot as usize;
+    let oldest = newest + KEPT - 1;
     // an unwritten slot has version 0
-    let newest = old[slot as usize].first();
-    let version = newest.map_or(0, |body| body.kept.version);
-    if version == NO_VERSION {
+    let Some(version) = version_at(book, newest).checked_add(1) else {
         return Err(BookRefusal::VersionsSpent);
+    };
+    // "Writing drops the slot's oldest of four before it looks for room"
+    let dropped = line_of(&book[LINE * oldest..][..LINE]);
+    bodies -= usize::from(dropped != 0);
+    // "exactly when kept bodies after that drop leave fewer than 5 bytes"
+    let front = contents_length(slots);
+    if book.len() - front < BODY * (bodies + 1) {
+        return Err(BookRefusal::BookFull);
     }
-    let version = version + 1;
-    let (new, moved) = append(&old, book.len(), slot, Kept { setpoint, version })?;
-    store(book, &old, &new);
+    if dropped != 0 {
+        book[place_of(dropped)..][..BODY].fill(0);
+        book[LINE * oldest..][..LINE].fill(0);
+    }
+    let (end, moved) = make_room(book, front, bodies);
+    book.copy_within(LINE * newest..LINE * oldest, LINE * (newest + 1));
+    book[LINE * newest..][..LINE].copy_from_slice(&line(end, version).to_le_bytes());
+    book[end] = setpoint.kind();
+    book[end + 1..end + BODY].copy_from_slice(&setpoint.number().to_le_bytes());
     Ok(Written { version, moved })
 }
 
-/// "Version 0 reads as NeverWritten": a slot's newest setting.
-pub fn read_setpoint(head: Head, book: &[u8], slot: u32) -> Result<Kept, BookRefusal> {
-    read(head, book, slot, |_| true)
-}
-
-/// "NeverWritten now also answers for an older version not kept", and for 0 and a version not yet written.
-pub fn read_version(head: Head, book: &[u8], slot: u32, version: u32) -> Result<Kept, BookRefusal> {
-    read(head, book, slot, |kept| kept.version == version)
-}
-
-/// The newest setting of a slot that is asked for.
-fn read(
-    head: Head,
-    book: &[u8],
-    slot: u32,
-    asked: impl Fn(&Kept) -> bool,
-) -> Result<Kept, BookRefusal> {
-    let slots = check_slot(rules::cells_of(head)?, book, slot)?;
-    let contents = contents(book, slots)?;
-    let mut kept = contents[slot as usize].iter().map(|body| body.kept);
-    kept.find(asked).ok_or(BookRefusal::NeverWritten)
-}
-
-// ---- Room for a body
-
-/// What the book is to keep once this setting is written to the slot, and the bytes moved for it.
-fn append(
-    old: &Contents,
-    length: usize,
-    slot: u32,
-    kept: Kept,
-) -> Result<(Contents, u32), BookRefusal> {
-    let mut new = old.clone();
-    let front = contents_length(new.len() as u32);
-    // "Writing drops the slot's oldest of four before it looks for room"
-    new[slot as usize].truncate(KEPT - 1);
-    // "exactly when kept bodies after that drop leave fewer than 5 bytes"
-    let bodies = new.iter().flatten().count();
-    if length - front - BODY * bodies < BODY {
-        return Err(BookRefusal::BookFull);
+/// Where the next body is to stand, and the bytes moved for it. "When no room is left behind the last body, kept bodies
+/// slide to the front".
+fn make_room(book: &mut [u8], front: usize, bodies: usize) -> (usize, u32) {
+    let lines = book[..front].chunks_exact(LINE).map(line_of);
+    let last = lines.map(place_of).max().unwrap_or(0);
+    // an unused line has place 0
+    let end = front.max(last + BODY);
+    if book.len() - end >= BODY {
+        return (end, 0);
     }
-    // "When no room is left behind the last body, kept bodies slide to the front"
-    let mut moved = 0;
-    if length - behind_last(&new, front) < BODY {
-        moved = slide(&mut new, front);
+    (front + BODY * bodies, slide(book, front))
+}
+
+/// Slides the bodies to the front "in the order of their places". "Vacated bytes become zeros": every byte of an old body
+/// that no new body covers. Bytes that no body covered or covers stay. The "bytes moved, equal to the summed lengths of
+/// the bodies whose place changed".
+fn slide(book: &mut [u8], front: usize) -> u32 {
+    // no two bodies begin in one stretch of five bytes: of each stretch the number of its body's line, and 0 for none
+    let mut lines = [0u16; MOST_BYTES / BODY + 1];
+    for (number, bytes) in (1..).zip(book[..front].chunks_exact(LINE)) {
+        let found = line_of(bytes);
+        if found != 0 {
+            lines[(place_of(found) - front) / BODY] = number;
+        }
     }
-    let place = behind_last(&new, front);
-    new[slot as usize].insert(0, Body { place, kept });
-    Ok((new, moved))
-}
-
-/// Where the last body ends; without bodies, where the contents end.
-fn behind_last(contents: &Contents, front: usize) -> usize {
-    let ends = contents.iter().flatten().map(|body| body.place + BODY);
-    ends.max().unwrap_or(front)
-}
-
-/// Slides the bodies to the front "in the order of their places". The "bytes moved, equal to the summed lengths of the
-/// bodies whose place changed".
-fn slide(contents: &mut Contents, front: usize) -> u32 {
-    let mut bodies: Vec<&mut Body> = contents.iter_mut().flatten().collect();
-    bodies.sort_unstable_by_key(|body| body.place);
-    let mut moved = 0;
-    for (body, place) in bodies.into_iter().zip((front..).step_by(BODY)) {
-        if body.place != place {
-            body.place = place;
+    let stretches = (book.len() - front).div_ceil(BODY);
+    let (mut new, mut moved) = (front, 0);
+    for &number in lines[..stretches].iter().filter(|&&number| number != 0) {
+        let at = LINE * (usize::from(number) - 1);
+        let old = place_of(line_of(&book[at..][..LINE]));
+        if old != new {
+            let mut body = [0; BODY];
+            body.copy_from_slice(&book[old..][..BODY]);
+            book[old..][..BODY].fill(0);
+            book[new..][..BODY].copy_from_slice(&body);
+            book[at..][..2].copy_from_slice(&(new as u16).to_le_bytes());
             moved += BODY as u32;
         }
+        new += BODY;
     }
     moved
 }
 
-/// Makes a book that keeps `old` keep `new`. "Vacated bytes become zeros": every byte of an old body that no new body
-/// covers. Bytes that no body covered or covers stay.
-fn store(book: &mut [u8], old: &Contents, new: &Contents) {
-    for body in old.iter().flatten() {
-        book[body.place..body.place + BODY].fill(0);
-    }
-    book[..contents_length(new.len() as u32)].fill(0);
-    for (slot, bodies) in new.iter().enumerate() {
-        for (age, body) in bodies.iter().enumerate() {
-            store_body(book, LINE * (KEPT * slot + age), body);
-        }
-    }
+fn version_at(book: &[u8], line: usize) -> u32 {
+    version_of(line_of(&book[LINE * line..][..LINE]))
 }
 
-/// Writes a body, and its line at this place.
-fn store_body(book: &mut [u8], line_at: usize, body: &Body) {
-    let Kept { setpoint, version } = body.kept;
-    let line = &mut book[line_at..line_at + LINE];
-    line[..2].copy_from_slice(&(body.place as u16).to_le_bytes());
-    line[2..4].copy_from_slice(&(BODY as u16).to_le_bytes());
-    line[4..].copy_from_slice(&version.to_le_bytes());
-    let bytes = &mut book[body.place..body.place + BODY];
-    bytes[0] = setpoint.kind();
-    bytes[1..].copy_from_slice(&setpoint.number().to_le_bytes());
+/// "Version 0 reads as NeverWritten": a slot's newest setting.
+pub fn read_setpoint(head: Head, book: &[u8], slot: u32) -> Result<Kept, BookRefusal> {
+    read(head, book, slot, |newest| newest)
+}
+
+/// "NeverWritten now also answers for an older version not kept", and for 0 and a version not yet written.
+pub fn read_version(head: Head, book: &[u8], slot: u32, version: u32) -> Result<Kept, BookRefusal> {
+    read(head, book, slot, |_| version)
+}
+
+/// The version of a slot that is asked for, by its newest.
+fn read(
+    head: Head,
+    book: &[u8],
+    slot: u32,
+    asked: impl Fn(u32) -> u32,
+) -> Result<Kept, BookRefusal> {
+    let slots = check_slot(rules::cells_of(head)?, book, slot)?;
+    starts!(starts of book);
+    check_contents(book, slots, starts)?;
+    let first = KEPT * slot as usize;
+    let newest = version_at(book, first);
+    let version = asked(newest);
+    if version == 0 || version > newest || newest - version >= KEPT as u32 {
+        return Err(BookRefusal::NeverWritten);
+    }
+    let age = (newest - version) as usize;
+    let place = place_of(line_of(&book[LINE * (first + age)..][..LINE]));
+    let setpoint = setpoint_at(book, place).ok_or(BookRefusal::DamagedBook)?;
+    Ok(Kept { setpoint, version })
 }

@@ -110,8 +110,7 @@ fn write_setpoint(
     lease: Lease,
     setpoint: Setpoint,
 ) -> BookReply {
-    let mut table = table.to_vec();
-    match book::write_setpoint(head, &mut table, book, slot, lease, setpoint) {
+    match book::write_setpoint(head, table, book, slot, lease, setpoint) {
         Ok(Written { version, moved }) => [1, version.into(), moved.into(), 0],
         Err(refusal) => book_refusal(refusal),
     }
@@ -149,8 +148,7 @@ impl Build for Plain {
     }
 
     fn read_permission(&mut self, head: Head, table: &[u32], lease: Lease) -> Reply {
-        let mut table = table.to_vec();
-        replied(rules::read_permission(head, &mut table, lease))
+        replied(rules::read_permission(head, table, lease))
     }
 
     fn competing_acquire_is_excluded(
@@ -345,8 +343,7 @@ impl Build for Plain {
         cells: &[u32],
         turns: &[u32],
     ) -> CrewReply {
-        let mut health = health.to_vec();
-        crew_words(rules::crew(head, table, &mut health, counts, cells, turns))
+        crew_words(rules::crew(head, table, health, counts, cells, turns))
     }
 
     fn crew_at_work(
@@ -359,15 +356,8 @@ impl Build for Plain {
         turns: &[u32],
         counters: &mut [u16],
     ) -> CrewReply {
-        let mut health = health.to_vec();
         crew_words(rules::crew_at_work(
-            head,
-            table,
-            &mut health,
-            counts,
-            cells,
-            turns,
-            counters,
+            head, table, health, counts, cells, turns, counters,
         ))
     }
 
@@ -444,11 +434,8 @@ impl Build for Plain {
     }
 
     fn write_dump(&mut self, cells: u32, script: &[u32], text: &mut [u8]) -> WaveReply {
-        match wave::write(cells, script, text.len()) {
-            Ok(dump) => {
-                text[..dump.len()].copy_from_slice(dump.as_bytes());
-                [0, dump.len() as u64, 0]
-            }
+        match wave::write_into(cells, script, text) {
+            Ok(length) => [0, length as u64, 0],
             Err(wave::Refusal::BadScript) => [1, 2, 0],
             Err(wave::Refusal::TooWide) => [2, 0, 0],
             Err(wave::Refusal::NoRoom) => [3, 0, 0],
@@ -456,13 +443,10 @@ impl Build for Plain {
     }
 
     fn read_dump(&mut self, text: &[u8], script: &mut [u32]) -> WaveReply {
-        match wave::read(text) {
-            Ok(reading) if reading.script.len() <= script.len() => {
-                script[..reading.script.len()].copy_from_slice(&reading.script);
-                [0, reading.cells as u64, (reading.script.len() / 3) as u64]
-            }
-            Ok(_) => [3, 0, 0],
-            Err(line) => [4, line as u64, 0],
+        match wave::read_into(text, script) {
+            Ok(wave::Read { cells, steps }) => [0, cells as u64, steps as u64],
+            Err(wave::NotRead::NoRoom) => [3, 0, 0],
+            Err(wave::NotRead::BadLine(line)) => [4, line as u64, 0],
         }
     }
 }

@@ -1,6 +1,6 @@
 //! Document 02, L12: the acceptance report over acquisition trials.
 
-use console::line::number;
+use std::fmt::Write;
 
 /// "up to 1,000 acquisition trials"
 pub const MOST_TRIALS: usize = 1_000;
@@ -31,71 +31,84 @@ pub const NAMES: [&str; 16] = [
     "StaleBoot",
 ];
 
-/// One line of the input.
-#[derive(Clone, Copy, Debug, PartialEq, Eq)]
-pub struct Trial {
-    pub attempts: u32,
-    /// 0 for granted.
-    pub refusal: u32,
+/// The sums over the lines so far.
+#[derive(Default)]
+struct Sums {
+    trials: usize,
+    attempts: u64,
+    greatest: u32,
+    /// By number; 0 for granted.
+    refusals: [usize; 1 + MOST_REFUSAL as usize],
 }
 
 /// What the program prints for this input. Of an input longer than `LONGEST` the first `LONGEST` + 1 bytes are enough:
 /// a bad line, or the beginning of line 1,001, is among them.
 pub fn report(input: &[u8]) -> String {
-    match trials(input) {
-        Ok(trials) => sums(&trials),
+    match sums(input) {
+        Ok(sums) => text_of(&sums),
         // "A bad line N, or line 1,001, prints only `bad line N`."
         Err(line) => format!("bad line {line}\n"),
     }
 }
 
-/// The trials of the input, a line each; or the number of the first bad line, from 1. Line 1,001 is bad whatever it
+/// The sums over the input, a trial a line; or the number of the first bad line, from 1. Line 1,001 is bad whatever it
 /// holds.
-fn trials(input: &[u8]) -> Result<Vec<Trial>, usize> {
-    let mut trials = Vec::new();
-    for line in input.split_inclusive(|&byte| byte == b'\n') {
-        let number = trials.len() + 1;
-        if number > MOST_TRIALS {
-            return Err(number);
-        }
-        trials.push(trial(line).ok_or(number)?);
-    }
-    Ok(trials)
-}
-
+///
 /// "a line each (attempts up to 262,144, a space, refusal 1 to 16 or 0 for granted, decimal without leading zeros,
 /// line feed)"
-fn trial(line: &[u8]) -> Option<Trial> {
-    let line = line.strip_suffix(b"\n")?;
-    let space = line.iter().position(|&byte| byte == b' ')?;
-    let attempts = number(&line[..space])?;
-    let refusal = number(&line[space + 1..])?;
-    if attempts > MOST_ATTEMPTS || refusal > MOST_REFUSAL {
-        return None;
+fn sums(input: &[u8]) -> Result<Sums, usize> {
+    let mut sums = Sums::default();
+    let mut rest = input;
+    while !rest.is_empty() {
+        let line = sums.trials + 1;
+        if line > MOST_TRIALS {
+            return Err(line);
+        }
+        let (attempts, behind) = number(rest, b' ', MOST_ATTEMPTS).ok_or(line)?;
+        let (refusal, behind) = number(behind, b'\n', MOST_REFUSAL).ok_or(line)?;
+        rest = behind;
+        sums.trials = line;
+        sums.attempts += u64::from(attempts);
+        sums.greatest = sums.greatest.max(attempts);
+        sums.refusals[refusal as usize] += 1;
     }
-    Some(Trial { attempts, refusal })
+    Ok(sums)
+}
+
+/// A decimal number without leading zeros, at most `most`, and the byte that ends it; and what is left. None: there is no
+/// such number in front. `most` is far below a u32's greatest, so no sum here is too great.
+#[inline(always)]
+fn number(text: &[u8], end: u8, most: u32) -> Option<(u32, &[u8])> {
+    let mut number = 0;
+    for (at, &byte) in text.iter().enumerate() {
+        let digit = byte.wrapping_sub(b'0');
+        if digit > 9 {
+            let leading = at == 0 || at > 1 && text[0] == b'0';
+            return (byte == end && !leading).then(|| (number, &text[at + 1..]));
+        }
+        number = 10 * number + u32::from(digit);
+        if number > most {
+            return None;
+        }
+    }
+    None
 }
 
 /// "prints exact numbers: trials, grants, summed attempts, greatest attempts, then one line for each refusal seen, in
 /// number order, with its name"
-fn sums(trials: &[Trial]) -> String {
-    let with = |refusal: u32| {
-        trials
-            .iter()
-            .filter(|trial| trial.refusal == refusal)
-            .count()
-    };
-    let count = trials.len();
-    let grants = with(0);
-    let attempts: u64 = trials.iter().map(|trial| u64::from(trial.attempts)).sum();
-    let greatest = trials.iter().map(|trial| trial.attempts).max().unwrap_or(0);
+fn text_of(sums: &Sums) -> String {
+    let Sums {
+        trials,
+        attempts,
+        greatest,
+        refusals: [grants, refusals @ ..],
+    } = sums;
     let mut text = format!(
-        "trials {count}\ngrants {grants}\nattempts {attempts} of {count} trials\ngreatest {greatest}\n"
+        "trials {trials}\ngrants {grants}\nattempts {attempts} of {trials} trials\ngreatest {greatest}\n"
     );
-    for (refusal, name) in (1..).zip(NAMES) {
-        let seen = with(refusal);
-        if seen > 0 {
-            text.push_str(&format!("{refusal} {name} {seen}\n"));
+    for ((number, name), seen) in (1..).zip(NAMES).zip(refusals) {
+        if *seen > 0 {
+            let _ = writeln!(text, "{number} {name} {seen}");
         }
     }
     text

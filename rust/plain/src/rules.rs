@@ -192,32 +192,26 @@ pub struct CrewRun {
     pub idle: u32,
 }
 
-/// How an attempt ends that is not refused.
+/// How an attempt ends that is not refused: the serial of the new lease, or the reason.
 #[derive(Clone, Copy, Debug, PartialEq, Eq)]
 enum Tried {
-    Granted(Lease),
+    Granted(u32),
     Busy(Reason),
 }
 
 /// How an attempt ends.
 type Attempt = Result<Tried, Refusal>;
 
-fn answer_of(attempt: Attempt) -> Answer {
-    match attempt {
-        Ok(Tried::Granted(lease)) => Answer::Granted(lease),
-        Ok(Tried::Busy(reason)) => Answer::Busy(reason),
-        Err(refusal) => Answer::Refused(refusal),
-    }
-}
-
 // ---- The arena
 
 /// A table whose length fits its head.
-pub(crate) struct Arena<'a> {
+struct Arena<'a> {
     head: Head,
-    pub(crate) cells: u32,
     table: &'a mut [u32],
 }
+
+/// Bit, owner, waiters.
+type Cell = [u32; 3];
 
 /// Refusal 1, as far as the head goes; else the number of cells.
 pub(crate) fn cells_of(head: Head) -> Result<u32, Refusal> {
@@ -235,7 +229,7 @@ pub(crate) fn cells_of(head: Head) -> Result<u32, Refusal> {
 }
 
 /// Refusal 1, as far as head and table go; else the number of cells.
-fn shape(head: Head, table: &[u32]) -> Result<u32, Refusal> {
+pub(crate) fn shape(head: Head, table: &[u32]) -> Result<u32, Refusal> {
     let cells = cells_of(head)?;
     if table.len() != 3 * cells as usize {
         return Err(Refusal::BadShape);
@@ -248,23 +242,32 @@ pub fn is_arena(head: Head, table: &[u32], health: &[u8]) -> bool {
     shape(head, table).is_ok() && health.len() == head.headers as usize
 }
 
-/// Where a cell's three words stand: bit, owner, waiters.
-fn bit(cell: u32) -> usize {
-    3 * cell as usize
+/// The owner of a held cell is a serial that was issued: from 1 to next - 1. The next serial is not 0.
+pub(crate) fn is_issued(serial: u32, next: u32) -> bool {
+    serial.wrapping_sub(1) < next.wrapping_sub(1)
 }
 
-fn owner(cell: u32) -> usize {
-    3 * cell as usize + 1
-}
-
-fn waiters(cell: u32) -> usize {
-    3 * cell as usize + 2
+/// A lease is live if the cell is held by that serial; one whose cell is out of range is not. Its boot number is asked
+/// for apart, by refusal 16.
+pub(crate) fn is_live(table: &[u32], next: u32, lease: Lease) -> bool {
+    let at = 3 * lease.cell as usize;
+    match table.get(at..at + 2) {
+        Some(&[bit, owner]) => bit == 1 && owner == lease.serial && is_issued(owner, next),
+        _ => false,
+    }
 }
 
 impl<'a> Arena<'a> {
-    pub(crate) fn new(head: Head, table: &'a mut [u32]) -> Result<Self, Refusal> {
-        let cells = shape(head, table)?;
-        Ok(Arena { head, cells, table })
+    fn new(head: Head, table: &'a mut [u32]) -> Result<Self, Refusal> {
+        shape(head, table)?;
+        Ok(Arena { head, table })
+    }
+
+    /// A cell's words; none if it is out of range.
+    #[inline(always)]
+    fn cell(&mut self, cell: u32) -> Option<&mut Cell> {
+        let at = 3 * cell as usize;
+        self.table.get_mut(at..at + 3)?.try_into().ok()
     }
 
     /// Cell number = header x B + bucket.
@@ -272,94 +275,87 @@ impl<'a> Arena<'a> {
         cell / self.head.buckets
     }
 
-    /// A cell is free: bit 0, owner 0.
-    fn is_free(&self, cell: u32) -> bool {
-        self.table[bit(cell)] == 0 && self.table[owner(cell)] == 0
+    fn lease(&self, cell: u32, serial: u32) -> Lease {
+        let boot = self.head.boot;
+        Lease { cell, serial, boot }
     }
 
-    /// Held: bit 1, owner from 1 to next - 1.
-    fn is_held(&self, cell: u32) -> bool {
-        let owner = self.table[owner(cell)];
-        self.table[bit(cell)] == 1 && owner != 0 && owner < self.head.next
-    }
-
-    /// A lease is live if the cell is held by that serial; one whose cell is out of range is not. Its boot number is
-    /// asked for apart, by refusal 16.
     fn is_live(&self, lease: Lease) -> bool {
-        lease.cell < self.cells
-            && self.is_held(lease.cell)
-            && self.table[owner(lease.cell)] == lease.serial
-    }
-
-    /// Bit 1 and the next serial, which rises by 1. The cell is free, and a serial remains.
-    fn take(&mut self, cell: u32) -> Lease {
-        let serial = self.head.next;
-        self.table[bit(cell)] = 1;
-        self.table[owner(cell)] = serial;
-        self.head.next += 1;
-        Lease {
-            cell,
-            serial,
-            boot: self.head.boot,
-        }
+        is_live(self.table, self.head.next, lease)
     }
 
     /// The cell is in range and held.
+    #[inline(always)]
     fn release(&mut self, cell: u32) {
-        self.table[bit(cell)] = 0;
-        self.table[owner(cell)] = 0;
-    }
-
-    /// In order, damaged: Damaged; held: Busy, with the owner's serial; no serial: SerialsSpent; else it is taken.
-    fn try_acquire(&mut self, cell: u32) -> Attempt {
-        if self.is_held(cell) {
-            Ok(Tried::Busy(Reason::Held(self.table[owner(cell)])))
-        } else if !self.is_free(cell) {
-            Err(Refusal::Damaged(cell))
-        } else if self.head.next == NO_SERIAL {
-            Err(Refusal::SerialsSpent(cell))
-        } else {
-            Ok(Tried::Granted(self.take(cell)))
+        if let Some([bit, owner, _]) = self.cell(cell) {
+            (*bit, *owner) = (0, 0);
         }
     }
 
-    /// Refusal 16: "A lease with another boot number is refused as StaleBoot (16), with its position".
-    fn check_boot(&self, lease: Lease, position: usize) -> Result<(), Refusal> {
-        if lease.boot == self.head.boot {
-            Ok(())
-        } else {
-            Err(Refusal::StaleBoot(position as u32))
+    /// In order, damaged: Damaged; held: Busy, with the owner's serial; no serial: SerialsSpent; else it gets bit 1 and
+    /// the next serial, which rises by 1. The cell is in range.
+    #[inline(always)]
+    fn try_acquire(&mut self, cell: u32) -> Attempt {
+        let next = self.head.next;
+        let Some([bit, owner, _]) = self.cell(cell) else {
+            return Err(Refusal::Damaged(cell));
+        };
+        if *bit == 1 && is_issued(*owner, next) {
+            return Ok(Tried::Busy(Reason::Held(*owner)));
+        }
+        if *bit != 0 || *owner != 0 {
+            return Err(Refusal::Damaged(cell));
+        }
+        if next == NO_SERIAL {
+            return Err(Refusal::SerialsSpent(cell));
+        }
+        (*bit, *owner) = (1, next);
+        self.head.next = next + 1;
+        Ok(Tried::Granted(next))
+    }
+
+    /// What an attempt on a cell comes to.
+    fn answer(&self, cell: u32, attempt: Attempt) -> Answer {
+        match attempt {
+            Ok(Tried::Granted(serial)) => Answer::Granted(self.lease(cell, serial)),
+            Ok(Tried::Busy(reason)) => Answer::Busy(reason),
+            Err(refusal) => Answer::Refused(refusal),
         }
     }
 
     /// Refusal 3 by length: no whole leases, or over 64 of them. Then "position by position" 16, and 3 where the lease
     /// is not live.
+    #[inline(always)]
     fn check_held(&self, held: &[u32]) -> Result<(), Refusal> {
-        if held.len() % LEASE != 0 || held.len() / LEASE > MOST_LEASES {
-            return Err(Refusal::BadHeld((held.len() / LEASE) as u32));
+        if held.is_empty() {
+            return Ok(());
         }
-        for (position, lease) in leases_of(held).enumerate() {
-            self.check_boot(lease, position)?;
-            if !self.is_live(lease) {
-                return Err(Refusal::BadHeld(position as u32));
-            }
+        let count = held.len() / LEASE;
+        if held.len() % LEASE != 0 || count > MOST_LEASES {
+            return Err(Refusal::BadHeld(count as u32));
         }
-        Ok(())
+        let Head { next, boot, .. } = self.head;
+        let live = live_in_front(self.table, next, boot, held);
+        match held.get(LEASE * live + 2) {
+            None => Ok(()),
+            Some(&stale) if stale != boot => Err(Refusal::StaleBoot(live as u32)),
+            Some(_) => Err(Refusal::BadHeld(live as u32)),
+        }
     }
 
-    /// Refusals 16 and 12 for one lease.
-    pub(crate) fn check_live(&self, lease: Lease) -> Result<(), Refusal> {
-        self.check_boot(lease, 0)?;
-        if self.is_live(lease) {
-            Ok(())
-        } else {
-            Err(Refusal::NotHeld(0))
-        }
+    /// The same as a function of its own: among all that a call with a script keeps in registers its loop is slow.
+    #[inline(never)]
+    fn check_held_apart(&self, held: &[u32]) -> Result<(), Refusal> {
+        self.check_held(held)
+    }
+
+    fn check_live(&self, lease: Lease) -> Result<(), Refusal> {
+        check_live(self.head, self.table, lease)
     }
 
     /// Refusal 8 in a call by cell.
     fn check_cell(&self, cell: u32) -> Result<(), Refusal> {
-        if cell < self.cells {
+        if 3 * (cell as usize) < self.table.len() {
             Ok(())
         } else {
             Err(Refusal::InvalidBucket(cell))
@@ -367,9 +363,35 @@ impl<'a> Arena<'a> {
     }
 }
 
-/// Refusal 13: the lease is in the held list.
+/// How many leases in front of a list are of this boot number and live.
+#[inline(always)]
+fn live_in_front(table: &[u32], next: u32, boot: u32, held: &[u32]) -> usize {
+    let (mut live, mut rest) = (0, held);
+    while let [cell, serial, lease_boot, behind @ ..] = rest {
+        let (cell, serial) = (*cell, *serial);
+        if *lease_boot != boot || !is_live(table, next, Lease { cell, serial, boot }) {
+            break;
+        }
+        live += 1;
+        rest = behind;
+    }
+    live
+}
+
+/// Refusals 16, "A lease with another boot number is refused as StaleBoot (16), with its position", and 12 for one lease.
+pub(crate) fn check_live(head: Head, table: &[u32], lease: Lease) -> Result<(), Refusal> {
+    if lease.boot != head.boot {
+        Err(Refusal::StaleBoot(0))
+    } else if is_live(table, head.next, lease) {
+        Ok(())
+    } else {
+        Err(Refusal::NotHeld(0))
+    }
+}
+
+/// Refusal 13: the lease is in the held list. It is live, and so are those of the list: one on the same cell is the same.
 fn check_unprotected(held: &[u32], lease: Lease) -> Result<(), Refusal> {
-    if leases_of(held).any(|one| one == lease) {
+    if leases_of(held).any(|one| one.cell == lease.cell) {
         Err(Refusal::Protected)
     } else {
         Ok(())
@@ -387,35 +409,80 @@ fn leases_of(words: &[u32]) -> impl Iterator<Item = Lease> + '_ {
 
 // ---- Foreign steps
 
+/// The cells of protected leases, a bit each; empty where nothing can be released. A protected lease stays live, for
+/// nobody may release it, and a cell has one owner: so a live lease on such a cell is the protected one.
+struct Marks<'a>(&'a mut [u64]);
+
+/// Words of marks for every cell there can be.
+const MARKS: usize = MOST_CELLS as usize / 64;
+
+impl Marks<'_> {
+    fn set(&mut self, cell: u32) {
+        if let Some(word) = self.0.get_mut(cell as usize / 64) {
+            *word |= 1 << (cell % 64);
+        }
+    }
+
+    fn clear(&mut self, cell: u32) {
+        if let Some(word) = self.0.get_mut(cell as usize / 64) {
+            *word &= !(1 << (cell % 64));
+        }
+    }
+
+    fn has(&self, cell: u32) -> bool {
+        let word = self.0.get(cell as usize / 64);
+        word.is_some_and(|word| word >> (cell % 64) & 1 == 1)
+    }
+}
+
+/// Marks if they are needed, and else none: then nothing is cleared for them.
+macro_rules! marks {
+    ($marks:ident if $needed:expr) => {
+        let mut words;
+        let $marks: &mut [u64] = if $needed {
+            words = [0; MARKS];
+            &mut words
+        } else {
+            &mut []
+        };
+    };
+}
+
+/// Whether a script has steps left.
+fn has_steps(script: &[u32], place: usize) -> bool {
+    place < script.len() / 3
+}
+
+/// So few steps that to look through the held list costs less than to mark it.
+const FEW_STEPS: usize = 8;
+
 /// A call with a script, past its checks: what its steps read and change.
 struct Run<'a> {
     arena: Arena<'a>,
     health: &'a mut [u8],
-    registry: &'a [u32],
-    script: &'a [u32],
-    /// In steps.
-    place: usize,
-    /// Protected in every boundary: the held list; in `release_all` what it was given and has not given up.
+    /// How many steps the script has, and those that are left.
+    steps: usize,
+    left: &'a [u32],
     held: &'a [u32],
-    /// Protected too: the first `count` are cell and serial of the leases that this call has taken and not given up.
-    taken: &'a mut [[u32; 2]],
-    count: usize,
+    /// The held list; in `release_all` what it was given; what this call has taken. And never what it has given up. Where
+    /// they are empty, the held list is all.
+    protected: Marks<'a>,
     counts: Counts,
 }
 
 impl<'a> Run<'a> {
-    /// Refusals 1, 2, and 3 and 16 of the held list. A call without a registry gives an empty one. `taken` has room for
-    /// each lease that the call may take.
+    /// Refusals 1, 2, and 3 and 16 of the held list. A call without a registry gives an empty one.
+    #[inline(always)]
     #[allow(clippy::too_many_arguments)]
     fn new(
         head: Head,
         table: &'a mut [u32],
         health: &'a mut [u8],
-        registry: &'a [u32],
+        registry: &[u32],
         script: &'a [u32],
         place: usize,
         held: &'a [u32],
-        taken: &'a mut [[u32; 2]],
+        marks: &'a mut [u64],
     ) -> Result<Self, Refusal> {
         let arena = Arena::new(head, table)?;
         if health.len() != head.headers as usize || registry.len() > MOST_BINDINGS {
@@ -425,16 +492,22 @@ impl<'a> Run<'a> {
         if script.len() % 3 != 0 || steps > MOST_STEPS || place > steps {
             return Err(Refusal::BadScript);
         }
-        arena.check_held(held)?;
+        if !held.is_empty() {
+            arena.check_held_apart(held)?;
+        }
+        let mut protected = Marks(marks);
+        if !protected.0.is_empty() {
+            for lease in leases_of(held) {
+                protected.set(lease.cell);
+            }
+        }
         Ok(Run {
             arena,
             health,
-            registry,
-            script,
-            place,
+            steps,
+            left: &script[3 * place..],
             held,
-            taken,
-            count: 0,
+            protected,
             counts: Counts::default(),
         })
     }
@@ -442,73 +515,95 @@ impl<'a> Run<'a> {
     fn reply(self, answer: Answer) -> ScriptReply {
         ScriptReply {
             head: self.arena.head,
-            place: self.place,
+            place: self.steps - self.left.len() / 3,
             answer,
             counts: self.counts,
         }
     }
 
-    fn is_protected(&self, lease: Lease) -> bool {
-        self.taken[..self.count].contains(&[lease.cell, lease.serial])
-            || leases_of(self.held).any(|one| one == lease)
-    }
-
     /// Steps up to and including the next 5, or to the script's end; past the end it is quiet.
+    #[inline(always)]
     fn boundary(&mut self) {
         self.counts.boundaries += 1;
-        for step in self.script[3 * self.place..].chunks_exact(3) {
-            self.place += 1;
-            match step[0] {
-                0 => {}
-                5 => return,
-                kind => {
-                    if !self.foreign_step(kind, step[1], step[2]) {
-                        self.counts.dropped += 1;
-                    }
-                }
-            }
+        if !self.left.is_empty() {
+            self.play();
         }
     }
 
-    /// False: the step is to be dropped, and nothing has changed.
-    fn foreign_step(&mut self, kind: u32, place: u32, number: u32) -> bool {
-        let arena = &mut self.arena;
-        match kind {
-            // take: in range and free, and a serial remains
-            1 => {
-                let legal =
-                    place < arena.cells && arena.is_free(place) && arena.head.next != NO_SERIAL;
-                if legal {
-                    arena.take(place);
-                }
-                legal
+    #[inline(never)]
+    fn play(&mut self) {
+        let mut dropped = 0;
+        let mut left = self.left;
+        while let [kind, place, number, behind @ ..] = left {
+            left = behind;
+            let legal = match *kind {
+                0 => true,
+                1 => self.step_take(*place),
+                2 => self.step_release(*place, *number),
+                3 => self.step_waiters(*place, *number),
+                4 => self.step_health(*place, *number),
+                5 => break,
+                _ => false,
+            };
+            dropped += u32::from(!legal);
+        }
+        self.left = left;
+        self.counts.dropped += dropped;
+    }
+
+    // Of these steps false: the step is to be dropped, and nothing has changed.
+
+    /// In range and free, and a serial remains.
+    #[inline(always)]
+    fn step_take(&mut self, cell: u32) -> bool {
+        let next = self.arena.head.next;
+        match self.arena.cell(cell) {
+            Some([bit @ 0, owner @ 0, _]) if next != NO_SERIAL => {
+                (*bit, *owner) = (1, next);
+                self.arena.head.next = next + 1;
+                true
             }
-            // release: that lease is live and not protected. "Script steps mean the head's own boot number."
-            2 => {
-                let lease = Lease {
-                    cell: place,
-                    serial: number,
-                    boot: arena.head.boot,
+            _ => false,
+        }
+    }
+
+    /// That lease is live and not protected. "Script steps mean the head's own boot number."
+    #[inline(always)]
+    fn step_release(&mut self, cell: u32, serial: u32) -> bool {
+        let next = self.arena.head.next;
+        match self.arena.cell(cell) {
+            Some([bit @ 1, owner, _]) if *owner == serial && is_issued(serial, next) => {
+                let protected = if self.protected.0.is_empty() {
+                    leases_of(self.held).any(|one| one.cell == cell)
+                } else {
+                    self.protected.has(cell)
                 };
-                let legal = arena.is_live(lease) && !self.is_protected(lease);
-                if legal {
-                    self.arena.release(place);
+                if !protected {
+                    (*bit, *owner) = (0, 0);
                 }
-                legal
+                !protected
             }
-            3 => {
-                let legal = place < arena.cells;
-                if legal {
-                    arena.table[waiters(place)] = number;
-                }
-                legal
+            _ => false,
+        }
+    }
+
+    #[inline(always)]
+    fn step_waiters(&mut self, cell: u32, number: u32) -> bool {
+        match self.arena.cell(cell) {
+            Some([_, _, waiters]) => {
+                *waiters = number;
+                true
             }
-            4 => {
-                let legal = place < arena.head.headers && number <= 1;
-                if legal {
-                    self.health[place as usize] = number as u8;
-                }
-                legal
+            None => false,
+        }
+    }
+
+    #[inline(always)]
+    fn step_health(&mut self, header: u32, number: u32) -> bool {
+        match self.health.get_mut(header as usize) {
+            Some(health) if number <= 1 => {
+                *health = number as u8;
+                true
             }
             _ => false,
         }
@@ -516,68 +611,68 @@ impl<'a> Run<'a> {
 
     // ---- The steps of a lock
 
+    fn has_waiters(&mut self, cell: u32) -> bool {
+        self.arena.cell(cell).is_some_and(|words| words[2] != 0)
+    }
+
     /// Boundary, look at the waiters, boundary, try_acquire, boundary (protecting the new lease), look at the
     /// health of the cell's header, look at the waiters again. The serial of a lease given up here stays spent, and
-    /// where others wait the reason gives it. The cell is in range.
-    fn try_lock(&mut self, cell: u32) -> Attempt {
+    /// where others wait the reason gives it. The cell is in range, and of this header.
+    #[inline(always)]
+    fn try_lock(&mut self, header: u32, cell: u32) -> Attempt {
         self.boundary();
-        if self.arena.table[waiters(cell)] != 0 {
+        if self.has_waiters(cell) {
             return Ok(Tried::Busy(Reason::Before));
         }
         self.boundary();
-        let lease = match self.arena.try_acquire(cell)? {
-            Tried::Granted(lease) => lease,
+        let serial = match self.arena.try_acquire(cell)? {
+            Tried::Granted(serial) => serial,
             busy => return Ok(busy),
         };
-        self.taken[self.count] = [lease.cell, lease.serial];
-        self.count += 1;
+        self.protected.set(cell);
         self.boundary();
-        let header = self.arena.header_of(cell);
         if self.health[header as usize] != 0 {
-            self.release_last();
+            self.give_up(cell);
             return Err(Refusal::Poisoned(header));
         }
-        if self.arena.table[waiters(cell)] != 0 {
-            self.release_last();
-            return Ok(Tried::Busy(Reason::After(lease.serial)));
+        if self.has_waiters(cell) {
+            self.give_up(cell);
+            return Ok(Tried::Busy(Reason::After(serial)));
         }
-        Ok(Tried::Granted(lease))
+        Ok(Tried::Granted(serial))
     }
 
-    /// Gives up the last lease that this call has taken. It was protected, so it is live.
-    fn release_last(&mut self) {
-        self.count -= 1;
-        self.arena.release(self.taken[self.count][0]);
+    /// Gives up a lease that this call has taken. It was protected, so it is live.
+    fn give_up(&mut self, cell: u32) {
+        self.protected.clear(cell);
+        self.arena.release(cell);
     }
 
-    /// Header from the registry, then its health, then the bucket, then `try_lock`, which reads that health again.
-    /// The binding is in the registry.
-    fn try_bucket(&mut self, binding: u32, bucket: u32) -> Attempt {
-        self.counts.attempts += 1;
-        let Head {
-            headers, buckets, ..
-        } = self.arena.head;
-        let header = self.registry[binding as usize];
-        if header >= headers {
-            return Err(Refusal::BadHeader(header));
+    /// Header, then its health, then the bucket: the cell.
+    #[inline(always)]
+    fn find(&self, header: u32, bucket: u32) -> Result<u32, Refusal> {
+        match self.health.get(header as usize) {
+            None => Err(Refusal::BadHeader(header)),
+            Some(0) if bucket < self.arena.head.buckets => {
+                Ok(header * self.arena.head.buckets + bucket)
+            }
+            Some(0) => Err(Refusal::InvalidBucket(bucket)),
+            Some(_) => Err(Refusal::Poisoned(header)),
         }
-        if self.health[header as usize] != 0 {
-            return Err(Refusal::Poisoned(header));
-        }
-        if bucket >= buckets {
-            return Err(Refusal::InvalidBucket(bucket));
-        }
-        self.try_lock(header * buckets + bucket)
     }
 
     /// Up to 4,096 attempts. After a Busy one whose number has remainder 63 by 64, a boundary and a yield; then,
     /// after each Busy one, a boundary and a spin. A spin is not counted. The reason of the last Busy attempt is passed
-    /// on.
-    fn acquire_bucket(&mut self, binding: u32, bucket: u32) -> Result<Lease, Refusal> {
+    /// on. Nobody changes the registry or the head's shape, so the cell is found once; the header's health is read at each
+    /// attempt.
+    #[inline(always)]
+    fn acquire_bucket(&mut self, header: u32, bucket: u32) -> Result<Lease, Refusal> {
+        self.counts.attempts += 1;
+        let cell = self.find(header, bucket)?;
         let mut attempt = 0;
         loop {
-            let reason = match self.try_bucket(binding, bucket)? {
-                Tried::Granted(lease) => return Ok(lease),
+            let reason = match self.try_lock(header, cell)? {
+                Tried::Granted(serial) => return Ok(self.arena.lease(cell, serial)),
                 Tried::Busy(reason) => reason,
             };
             if attempt % YIELD_EVERY == YIELD_EVERY - 1 {
@@ -589,64 +684,64 @@ impl<'a> Run<'a> {
             if attempt == ATTEMPTS {
                 return Err(Refusal::SerializationFailure(reason));
             }
+            self.counts.attempts += 1;
+            if self.health[header as usize] != 0 {
+                return Err(Refusal::Poisoned(header));
+            }
         }
     }
 
-    /// Keys in the order given, each with its position in the caller's list. On a refusal all taken leases are
-    /// released, last first, a boundary after each.
-    fn acquire_all<'k>(&mut self, keys: impl Iterator<Item = (usize, &'k [u32])>) -> Answer {
-        for (position, key) in keys {
-            if let Err(refusal) = self.acquire_bucket(key[0], key[1]) {
-                while self.count > 0 {
-                    self.release_last();
-                    self.boundary();
+    /// Keys in the order given: header, bucket, and the position in the caller's list. The leases go to `taken`, which has
+    /// room for them. On a refusal all are released, last first, a boundary after each.
+    #[inline(always)]
+    fn acquire_all(
+        &mut self,
+        keys: impl Iterator<Item = (u32, u32, usize)>,
+        taken: &mut [[u32; 2]; MOST_LEASES],
+    ) -> Answer {
+        for (count, (header, bucket, position)) in keys.enumerate() {
+            match self.acquire_bucket(header, bucket) {
+                Ok(lease) => taken[count] = [lease.cell, lease.serial],
+                Err(refusal) => {
+                    for &[cell, _] in taken[..count].iter().rev() {
+                        self.give_up(cell);
+                        self.boundary();
+                    }
+                    return Answer::RefusedAt(refusal, position as u32);
                 }
-                return Answer::RefusedAt(refusal, position as u32);
             }
         }
         Answer::AllGranted
     }
 
-    /// Refusal 5: the first key whose binding is past the registry.
-    fn check_bindings(&self, keys: &[u32]) -> Result<(), Refusal> {
-        let past = |key: &[u32]| key[0] as usize >= self.registry.len();
-        match keys.chunks_exact(KEY).position(past) {
-            Some(position) => Err(Refusal::BadBinding(position as u32)),
-            None => Ok(()),
-        }
-    }
-
-    /// The cell of a key whose binding is in the registry, for L4: "BadHeader and InvalidBucket are now also tested in
-    /// this call before any attempt, .. header before bucket".
-    fn resolve(&self, key: &[u32]) -> Result<u32, Refusal> {
-        let Head {
-            headers, buckets, ..
-        } = self.arena.head;
-        let (header, bucket) = (self.registry[key[0] as usize], key[1]);
-        if header >= headers {
-            return Err(Refusal::BadHeader(header));
-        }
-        if bucket >= buckets {
-            return Err(Refusal::InvalidBucket(bucket));
-        }
-        Ok(header * buckets + bucket)
-    }
-
-    /// Refusals 4, 16, 12 and 14 of `release_all`; the last three together, by position.
-    fn check_leases(&self, leases: &[u32]) -> Result<(), Refusal> {
+    /// Refusals 4, 16, 12 and 14 of `release_all`; the last three together, by position. A live lease on a cell that is
+    /// marked stood in the list before. One lease alone needs no marks.
+    fn check_leases(&mut self, leases: &[u32]) -> Result<(), Refusal> {
         if leases.len() % LEASE != 0 || leases.len() / LEASE > MOST_LEASES {
             return Err(Refusal::TooMany);
         }
         for (position, lease) in leases_of(leases).enumerate() {
-            self.arena.check_boot(lease, position)?;
+            if lease.boot != self.arena.head.boot {
+                return Err(Refusal::StaleBoot(position as u32));
+            }
             if !self.arena.is_live(lease) {
                 return Err(Refusal::NotHeld(position as u32));
             }
-            if leases_of(leases).take(position).any(|one| one == lease) {
+            if self.protected.has(lease.cell) {
                 return Err(Refusal::Repeated(position as u32));
             }
+            self.protected.set(lease.cell);
         }
         Ok(())
+    }
+}
+
+/// Refusal 5: the first key whose binding is past the registry.
+fn check_bindings(registry: &[u32], keys: &[u32]) -> Result<(), Refusal> {
+    let past = |key: &[u32]| key[0] as usize >= registry.len();
+    match keys.chunks_exact(KEY).position(past) {
+        Some(position) => Err(Refusal::BadBinding(position as u32)),
+        None => Ok(()),
     }
 }
 
@@ -673,10 +768,10 @@ impl Reply {
         }
     }
 
-    fn attempted(head: Head, attempts: u32, attempt: Attempt) -> Self {
+    fn attempted(arena: &Arena, attempts: u32, cell: u32, attempt: Attempt) -> Self {
         Reply {
-            head,
-            answer: answer_of(attempt),
+            head: arena.head,
+            answer: arena.answer(cell, attempt),
             counts: Counts {
                 attempts,
                 ..Counts::default()
@@ -727,7 +822,7 @@ pub fn try_acquire(head: Head, table: &mut [u32], cell: u32) -> Reply {
         let mut arena = Arena::new(head, table)?;
         arena.check_cell(cell)?;
         let attempt = arena.try_acquire(cell);
-        Ok(Reply::attempted(arena.head, 1, attempt))
+        Ok(Reply::attempted(&arena, 1, cell, attempt))
     })
 }
 
@@ -742,9 +837,10 @@ pub fn drop_lease(head: Head, table: &mut [u32], lease: Lease) -> Reply {
 }
 
 /// The lease's cell.
-pub fn read_permission(head: Head, table: &mut [u32], lease: Lease) -> Reply {
+pub fn read_permission(head: Head, table: &[u32], lease: Lease) -> Reply {
     Reply::of(head, || {
-        Arena::new(head, table)?.check_live(lease)?;
+        shape(head, table)?;
+        check_live(head, table, lease)?;
         Ok(Reply {
             answer: Answer::Cell(lease.cell),
             ..Reply::done(head)
@@ -758,7 +854,7 @@ pub fn competing_acquire_is_excluded(head: Head, table: &mut [u32], lease: Lease
         let mut arena = Arena::new(head, table)?;
         arena.check_live(lease)?;
         let attempt = arena.try_acquire(lease.cell);
-        Ok(Reply::attempted(arena.head, 1, attempt))
+        Ok(Reply::attempted(&arena, 1, lease.cell, attempt))
     })
 }
 
@@ -769,7 +865,7 @@ pub fn release_then_handoff(head: Head, table: &mut [u32], lease: Lease) -> Repl
         arena.check_live(lease)?;
         arena.release(lease.cell);
         let attempt = arena.try_acquire(lease.cell);
-        Ok(Reply::attempted(arena.head, 1, attempt))
+        Ok(Reply::attempted(&arena, 1, lease.cell, attempt))
     })
 }
 
@@ -789,7 +885,7 @@ pub fn foreign_release_between_attempts(
         let _busy = arena.try_acquire(lease.cell);
         arena.release(lease.cell);
         let attempt = arena.try_acquire(lease.cell);
-        Ok(Reply::attempted(arena.head, 2, attempt))
+        Ok(Reply::attempted(&arena, 2, lease.cell, attempt))
     })
 }
 
@@ -800,7 +896,7 @@ pub fn acquire_preserving_borrows(head: Head, table: &mut [u32], held: &[u32], c
         arena.check_held(held)?;
         arena.check_cell(cell)?;
         let attempt = arena.try_acquire(cell);
-        Ok(Reply::attempted(arena.head, 1, attempt))
+        Ok(Reply::attempted(&arena, 1, cell, attempt))
     })
 }
 
@@ -827,8 +923,9 @@ pub fn environment(
     place: usize,
     held: &[u32],
 ) -> ScriptReply {
+    marks!(marks if !held.is_empty() && has_steps(script, place.saturating_add(FEW_STEPS)));
     ScriptReply::of(head, place, || {
-        let mut run = Run::new(head, table, health, &[], script, place, held, &mut [])?;
+        let mut run = Run::new(head, table, health, &[], script, place, held, marks)?;
         run.boundary();
         Ok(run.reply(Answer::Done))
     })
@@ -855,12 +952,14 @@ pub fn try_lock(
     held: &[u32],
     cell: u32,
 ) -> ScriptReply {
-    let mut taken = [[0; 2]; 1];
+    marks!(marks if has_steps(script, place));
     ScriptReply::of(head, place, || {
-        let mut run = Run::new(head, table, health, &[], script, place, held, &mut taken)?;
+        let mut run = Run::new(head, table, health, &[], script, place, held, marks)?;
         run.arena.check_cell(cell)?;
         run.counts.attempts = 1;
-        let answer = answer_of(run.try_lock(cell));
+        let header = run.arena.header_of(cell);
+        let attempt = run.try_lock(header, cell);
+        let answer = run.arena.answer(cell, attempt);
         Ok(run.reply(answer))
     })
 }
@@ -878,6 +977,7 @@ pub fn other_mutex_preserves_leases(
     try_lock(head, table, health, script, place, held, cell)
 }
 
+/// Header from the registry, then its health, then the bucket, then `try_lock`, which reads that health again.
 #[allow(clippy::too_many_arguments)]
 pub fn transactional_try_lock_bucket(
     head: Head,
@@ -890,13 +990,20 @@ pub fn transactional_try_lock_bucket(
     binding: u32,
     bucket: u32,
 ) -> ScriptReply {
-    let mut taken = [[0; 2]; 1];
+    marks!(marks if has_steps(script, place));
     ScriptReply::of(head, place, || {
-        let mut run = Run::new(
-            head, table, health, registry, script, place, held, &mut taken,
-        )?;
-        run.check_bindings(&[binding, bucket])?;
-        let answer = answer_of(run.try_bucket(binding, bucket));
+        let mut run = Run::new(head, table, health, registry, script, place, held, marks)?;
+        let &header = registry
+            .get(binding as usize)
+            .ok_or(Refusal::BadBinding(0))?;
+        run.counts.attempts = 1;
+        let answer = match run.find(header, bucket) {
+            Ok(cell) => {
+                let attempt = run.try_lock(header, cell);
+                run.arena.answer(cell, attempt)
+            }
+            Err(refusal) => Answer::Refused(refusal),
+        };
         Ok(run.reply(answer))
     })
 }
@@ -913,13 +1020,16 @@ pub fn acquire_index_bucket(
     binding: u32,
     bucket: u32,
 ) -> ScriptReply {
-    let mut taken = [[0; 2]; 1];
+    marks!(marks if has_steps(script, place));
     ScriptReply::of(head, place, || {
-        let mut run = Run::new(
-            head, table, health, registry, script, place, held, &mut taken,
-        )?;
-        run.check_bindings(&[binding, bucket])?;
-        let answer = answer_of(run.acquire_bucket(binding, bucket).map(Tried::Granted));
+        let mut run = Run::new(head, table, health, registry, script, place, held, marks)?;
+        let &header = registry
+            .get(binding as usize)
+            .ok_or(Refusal::BadBinding(0))?;
+        let answer = match run.acquire_bucket(header, bucket) {
+            Ok(lease) => Answer::Granted(lease),
+            Err(refusal) => Answer::Refused(refusal),
+        };
         Ok(run.reply(answer))
     })
 }
@@ -933,12 +1043,12 @@ pub fn release_all(
     place: usize,
     leases: &[u32],
 ) -> ScriptReply {
+    marks!(marks if leases.len() > LEASE);
     ScriptReply::of(head, place, || {
-        let mut run = Run::new(head, table, health, &[], script, place, &[], &mut [])?;
+        let mut run = Run::new(head, table, health, &[], script, place, &[], marks)?;
         run.check_leases(leases)?;
-        for position in (0..leases.len() / LEASE).rev() {
-            run.held = &leases[..LEASE * position];
-            run.arena.release(leases[LEASE * position]);
+        for lease in leases.rchunks_exact(LEASE) {
+            run.give_up(lease[0]);
             run.boundary();
         }
         Ok(run.reply(Answer::Done))
@@ -970,16 +1080,19 @@ pub fn acquire_index_locks(
     keys: &[u32],
     grants: &mut [u32],
 ) -> ScriptReply {
+    marks!(marks if has_steps(script, place));
     let mut taken = [[0; 2]; MOST_LEASES];
     ScriptReply::of(head, place, || {
-        let mut run = Run::new(
-            head, table, health, registry, script, place, held, &mut taken,
-        )?;
+        let mut run = Run::new(head, table, health, registry, script, place, held, marks)?;
         check_keys(held, keys, grants)?;
-        run.check_bindings(keys)?;
-        let answer = run.acquire_all(keys.chunks_exact(KEY).enumerate());
+        check_bindings(registry, keys)?;
+        let asked = keys.chunks_exact(KEY).enumerate();
+        let answer = run.acquire_all(
+            asked.map(|(position, key)| (registry[key[0] as usize], key[1], position)),
+            &mut taken,
+        );
         if answer == Answer::AllGranted {
-            for (grant, &[cell, serial]) in grants.chunks_exact_mut(LEASE).zip(run.taken.iter()) {
+            for (grant, [cell, serial]) in grants.chunks_exact_mut(LEASE).zip(taken) {
                 grant.copy_from_slice(&[cell, serial, head.boot]);
             }
         }
@@ -987,8 +1100,14 @@ pub fn acquire_index_locks(
     })
 }
 
+/// A key's cell and position in one number, which sort by cell and then by position: a position is below 64.
+fn packed(cell: u32, position: usize) -> u32 {
+    cell * MOST_LEASES as u32 + position as u32
+}
+
 /// Multi-lock with keys in any order, and doubles (L4). "Resolve the keys, sort by cell .., drop doubles, lock in
-/// rising order, then hand back one lease per key in the caller's order, doubled keys sharing one."
+/// rising order, then hand back one lease per key in the caller's order, doubled keys sharing one." "BadHeader and
+/// InvalidBucket are now also tested in this call before any attempt, .. header before bucket".
 #[allow(clippy::too_many_arguments)]
 pub fn acquire_sorted_locks(
     head: Head,
@@ -1001,33 +1120,43 @@ pub fn acquire_sorted_locks(
     keys: &[u32],
     grants: &mut [u32],
 ) -> ScriptReply {
+    marks!(marks if has_steps(script, place));
     let mut taken = [[0; 2]; MOST_LEASES];
     ScriptReply::of(head, place, || {
-        let mut run = Run::new(
-            head, table, health, registry, script, place, held, &mut taken,
-        )?;
+        let mut run = Run::new(head, table, health, registry, script, place, held, marks)?;
         check_keys(held, keys, grants)?;
-        run.check_bindings(keys)?;
-        // of each key its cell and its position; sorted, the first position of equal cells comes first
-        let mut asked = [(0, 0); MOST_LEASES];
+        check_bindings(registry, keys)?;
+        let mut asked = [0; MOST_LEASES];
         let asked = &mut asked[..keys.len() / KEY];
         for (position, key) in keys.chunks_exact(KEY).enumerate() {
-            match run.resolve(key) {
-                Ok(cell) => asked[position] = (cell, position),
-                Err(refusal) => return Ok(run.reply(Answer::RefusedAt(refusal, position as u32))),
-            }
+            let (header, bucket) = (registry[key[0] as usize], key[1]);
+            let refusal = match (header < head.headers, bucket < head.buckets) {
+                (true, true) => {
+                    asked[position] = packed(header * head.buckets + bucket, position);
+                    continue;
+                }
+                (false, _) => Refusal::BadHeader(header),
+                (true, false) => Refusal::InvalidBucket(bucket),
+            };
+            return Ok(run.reply(Answer::RefusedAt(refusal, position as u32)));
         }
         asked.sort_unstable();
-        let doubles = || asked.chunk_by(|one, other| one.0 == other.0);
-        let answer = run.acquire_all(doubles().map(|same| {
-            let (_, position) = same[0];
-            (position, &keys[KEY * position..][..KEY])
-        }));
+        // the first position of equal cells comes first
+        let firsts = asked.chunk_by(|one, other| one / 64 == other / 64);
+        let answer = run.acquire_all(
+            firsts.map(|same| {
+                let position = same[0] as usize % MOST_LEASES;
+                let (binding, bucket) = (keys[KEY * position], keys[KEY * position + 1]);
+                (registry[binding as usize], bucket, position)
+            }),
+            &mut taken,
+        );
         if answer == Answer::AllGranted {
-            for (same, &[cell, serial]) in doubles().zip(run.taken.iter()) {
-                for &(_, position) in same {
-                    let lease = [cell, serial, head.boot];
-                    grants[LEASE * position..][..LEASE].copy_from_slice(&lease);
+            let firsts = asked.chunk_by(|one, other| one / 64 == other / 64);
+            for (same, [cell, serial]) in firsts.zip(taken) {
+                for &one in same {
+                    let at = LEASE * (one as usize % MOST_LEASES);
+                    grants[at..at + LEASE].copy_from_slice(&[cell, serial, head.boot]);
                 }
             }
         }
@@ -1037,11 +1166,21 @@ pub fn acquire_sorted_locks(
 
 // ---- The crew
 
-/// The crew's run: `counts` has the number of cells of each member, `cells` their lists one behind the other.
+/// A member of a crew: its list, and how many moves it has still to make until it is finished.
+#[derive(Clone, Copy, Default)]
+struct Member<'c> {
+    cells: &'c [u32],
+    left: usize,
+    /// In the crew at work: what it adds.
+    adds: u16,
+}
+
+/// The crew's run: `counts` has the number of cells of each member, `cells` their lists one behind the other. A member
+/// takes its cells, as many moves, and then releases them, last first.
 pub fn crew(
     head: Head,
     table: &mut [u32],
-    health: &mut [u8],
+    health: &[u8],
     counts: &[u32],
     cells: &[u32],
     turns: &[u32],
@@ -1051,15 +1190,25 @@ pub fn crew(
         if health.len() != head.headers as usize {
             return Err(Refusal::BadShape);
         }
-        let starts = check_crew(&arena, counts, cells, turns)?;
-        let mut run = CrewRun::default();
+        let mut members = check_crew(&arena, counts, cells, turns, 2)?;
+        let mut moving = 0;
         for &turn in turns {
-            let member = turn as usize;
-            let list = &cells[starts[member]..starts[member + 1]];
-            let moved = crew_turn(&mut arena, health, list, member, &mut run);
-            run.count(moved);
+            let member = &mut members[turn as usize];
+            let (left, count) = (member.left, member.cells.len());
+            if left == 0 {
+                continue;
+            }
+            if left > count {
+                if !crew_take(&mut arena, health, member.cells[2 * count - left]) {
+                    continue;
+                }
+            } else {
+                arena.release(member.cells[left - 1]);
+            }
+            member.left = left - 1;
+            moving += 1;
         }
-        Ok((arena.head, run))
+        Ok((arena.head, CrewRun::of(&members, 2, moving, turns.len())))
     })
 }
 
@@ -1069,7 +1218,7 @@ pub fn crew(
 pub fn crew_at_work(
     head: Head,
     table: &mut [u32],
-    health: &mut [u8],
+    health: &[u8],
     counts: &[u32],
     cells: &[u32],
     turns: &[u32],
@@ -1078,33 +1227,51 @@ pub fn crew_at_work(
     CrewReply::of(head, || {
         let mut arena = Arena::new(head, table)?;
         // "not one a cell: BadShape"
-        if health.len() != head.headers as usize || counters.len() != arena.cells as usize {
+        if health.len() != head.headers as usize || 3 * counters.len() != arena.table.len() {
             return Err(Refusal::BadShape);
         }
-        let starts = check_crew(&arena, counts, cells, turns)?;
-        let mut run = CrewRun::default();
-        // of each member: to how many cells it has added, and what it adds
-        let mut added = [0; MOST_MEMBERS];
-        let mut values = [0u16; MOST_MEMBERS];
+        let mut members = check_crew(&arena, counts, cells, turns, 3)?;
+        let mut moving = 0;
         for &turn in turns {
-            let member = turn as usize;
-            let list = &cells[starts[member]..starts[member + 1]];
-            let held_all = run.taken[member] as usize == list.len();
-            if held_all && added[member] < list.len() {
-                let counter = &mut counters[list[added[member]] as usize];
-                *counter = counter.wrapping_add(values[member]);
-                added[member] += 1;
-                run.count(true);
+            let member = &mut members[turn as usize];
+            let (left, count) = (member.left, member.cells.len());
+            if left == 0 {
                 continue;
             }
-            let moved = crew_turn(&mut arena, health, list, member, &mut run);
-            run.count(moved);
-            if !held_all && run.taken[member] as usize == list.len() {
-                values[member] = counters[list[0] as usize];
+            if left > 2 * count {
+                if !crew_take(&mut arena, health, member.cells[3 * count - left]) {
+                    continue;
+                }
+                if left == 2 * count + 1 {
+                    member.adds = counters[member.cells[0] as usize];
+                }
+            } else if left > count {
+                let counter = &mut counters[member.cells[2 * count - left] as usize];
+                *counter = counter.wrapping_add(member.adds);
+            } else {
+                arena.release(member.cells[left - 1]);
             }
+            member.left = left - 1;
+            moving += 1;
         }
-        Ok((arena.head, run))
+        Ok((arena.head, CrewRun::of(&members, 3, moving, turns.len())))
     })
+}
+
+/// One try_lock with no script, after a health reading: nothing can change between that reading and the one in it, nor
+/// between its two looks at the waiters. True if it was granted; else nothing has changed.
+#[inline(always)]
+fn crew_take(arena: &mut Arena, health: &[u8], cell: u32) -> bool {
+    let next = arena.head.next;
+    let header = arena.header_of(cell) as usize;
+    match arena.cell(cell) {
+        Some([bit @ 0, owner @ 0, 0]) if next != NO_SERIAL && health[header] == 0 => {
+            (*bit, *owner) = (1, next);
+            arena.head.next = next + 1;
+            true
+        }
+        _ => false,
+    }
 }
 
 impl CrewReply {
@@ -1124,79 +1291,60 @@ impl CrewReply {
 }
 
 impl CrewRun {
-    /// A turn that moved, or one that idled.
-    fn count(&mut self, moved: bool) {
-        if moved {
-            self.moving += 1;
-        } else {
-            self.idle += 1;
+    /// Of a member's moves, so many a cell, the first are takes and the last releases.
+    fn of(members: &[Member], moves: usize, moving: u32, turns: usize) -> Self {
+        let mut run = CrewRun {
+            moving,
+            idle: turns as u32 - moving,
+            ..CrewRun::default()
+        };
+        for (place, member) in members.iter().enumerate() {
+            let count = member.cells.len();
+            run.taken[place] = count.min(moves * count - member.left) as u32;
+            run.released[place] = count.saturating_sub(member.left) as u32;
         }
+        run
     }
 }
 
-/// Refusal 15: crew limits; then the lists, by member; then the turns. Else where each member's list starts, and
-/// behind the last one where it ends.
-fn check_crew(
+/// Refusal 15: crew limits; then the lists, by member; then the turns. Else the members, each with
+/// so many moves a cell to make; those that there are not have no cells.
+fn check_crew<'c>(
     arena: &Arena,
     counts: &[u32],
-    cells: &[u32],
+    cells: &'c [u32],
     turns: &[u32],
-) -> Result<[usize; MOST_MEMBERS + 1], Refusal> {
-    let members = counts.len();
-    if !(1..=MOST_MEMBERS).contains(&members)
+    moves: usize,
+) -> Result<[Member<'c>; MOST_MEMBERS], Refusal> {
+    let sum: u64 = counts.iter().map(|&count| u64::from(count)).sum();
+    if !(1..=MOST_MEMBERS).contains(&counts.len())
         || counts.iter().any(|&count| count > MOST_MEMBER_CELLS)
         || cells.len() > MOST_CREW_CELLS
         || turns.len() > MOST_TURNS
+        || sum != cells.len() as u64
     {
         return Err(Refusal::BadCrew(0));
     }
-    let mut starts = [0; MOST_MEMBERS + 1];
-    for (member, &count) in counts.iter().enumerate() {
-        starts[member + 1] = starts[member] + count as usize;
-    }
-    if starts[members] != cells.len() {
-        return Err(Refusal::BadCrew(0));
-    }
-    for member in 0..members {
-        let list = &cells[starts[member]..starts[member + 1]];
-        if list.iter().any(|&cell| cell >= arena.cells)
+    let mut members = [Member::default(); MOST_MEMBERS];
+    let mut rest = cells;
+    for (number, &count) in counts.iter().enumerate() {
+        let (list, behind) = rest.split_at(count as usize);
+        if list
+            .iter()
+            .any(|&cell| 3 * cell as usize >= arena.table.len())
             || list.windows(2).any(|pair| pair[0] >= pair[1])
         {
-            return Err(Refusal::BadCrew(member as u32));
+            return Err(Refusal::BadCrew(number as u32));
         }
+        members[number].cells = list;
+        members[number].left = moves * list.len();
+        rest = behind;
     }
-    match turns.iter().position(|&turn| turn as usize >= members) {
-        Some(turn) => Err(Refusal::BadCrew(turn as u32)),
-        None => Ok(starts),
+    let is_member = |turn: u32| turn < counts.len() as u32;
+    // without a stop at the first one the compiler tests several at once
+    if turns.iter().fold(true, |all, &turn| all & is_member(turn)) {
+        return Ok(members);
     }
-}
-
-/// One turn of a member: true if it moved, by a grant or a release.
-fn crew_turn(
-    arena: &mut Arena,
-    health: &[u8],
-    list: &[u32],
-    member: usize,
-    run: &mut CrewRun,
-) -> bool {
-    let taken = run.taken[member] as usize;
-    let released = run.released[member] as usize;
-    if taken < list.len() {
-        // one try_lock with no script, after a health reading: nothing can change between that reading and the one
-        // in it, nor between its two looks at the waiters
-        let cell = list[taken];
-        let healthy = health[arena.header_of(cell) as usize] == 0;
-        let granted = healthy
-            && arena.table[waiters(cell)] == 0
-            && matches!(arena.try_acquire(cell), Ok(Tried::Granted(_)));
-        run.taken[member] += u32::from(granted);
-        granted
-    } else if released < taken {
-        // the last it still holds; nobody else can have released it
-        arena.release(list[taken - 1 - released]);
-        run.released[member] += 1;
-        true
-    } else {
-        false
-    }
+    let first = turns.iter().position(|&turn| !is_member(turn));
+    Err(Refusal::BadCrew(first.unwrap_or(0) as u32))
 }

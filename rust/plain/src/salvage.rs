@@ -4,6 +4,7 @@
 //! No argument makes it panic. Refusals change nothing.
 
 use crate::rules::{self, Head};
+use std::slice::ChunksExactMut;
 
 /// Words of an entry of the report: "place, old, new".
 pub const ENTRY: usize = 3;
@@ -47,7 +48,12 @@ pub fn salvage(
         if report.len() / ENTRY < found.changed || unconfirmed.len() < found.held {
             Err(SalvageRefusal::ReportFull)
         } else {
-            mend(head.next, table, health, report, unconfirmed);
+            if found.held > 0 {
+                list(head.next, table, unconfirmed);
+            }
+            if found.changed > 0 {
+                mend(head.next, table, health, report);
+            }
             Ok(found)
         }
     } else {
@@ -56,66 +62,77 @@ pub fn salvage(
     SalvageReply { head, answer }
 }
 
-/// What a cell's three words become. Held: bit 1, owner from 1 to next - 1; its waiters become 0. A free cell and a
-/// damaged one are all 0 then.
-fn mended(cell: &[u32], next: u32) -> [u32; 3] {
-    let (bit, owner) = (cell[0], cell[1]);
-    if bit == 1 && owner != 0 && owner < next {
-        [bit, owner, 0]
-    } else {
-        [0; 3]
-    }
+/// Held: bit 1, owner from 1 to next - 1.
+fn is_held(bit: u32, owner: u32, next: u32) -> bool {
+    bit == 1 && rules::is_issued(owner, next)
 }
 
-/// What there is to change, and what is held.
+/// What there is to change, and what is held. Of a held cell the waiters become 0, of any other every word. Most are all 0.
+#[inline(never)]
 fn look(next: u32, table: &[u32], health: &[u8]) -> Salvaged {
     let mut found = Salvaged::default();
     for cell in table.chunks_exact(3) {
-        let new = mended(cell, next);
-        found.changed += cell
-            .iter()
-            .zip(&new)
-            .filter(|(old, new)| old != new)
-            .count();
-        found.held += new[0] as usize;
+        let (bit, owner, waiters) = (cell[0], cell[1], cell[2]);
+        if bit | owner | waiters == 0 {
+            continue;
+        }
+        if is_held(bit, owner, next) {
+            found.held += 1;
+        } else {
+            found.changed += usize::from(bit != 0) + usize::from(owner != 0);
+        }
+        found.changed += usize::from(waiters != 0);
     }
     found.changed += health.iter().filter(|&&byte| byte > 1).count();
     found
 }
 
-/// Makes the changes, and lists them and the cells left held. There is room for all.
-fn mend(
-    next: u32,
-    table: &mut [u32],
-    health: &mut [u8],
-    report: &mut [u32],
-    unconfirmed: &mut [u32],
-) {
-    let mut entries = report.chunks_exact_mut(ENTRY);
-    let mut enter = |place: usize, old: u32, new: u32| {
-        if let Some(entry) = entries.next() {
-            entry.copy_from_slice(&[place as u32, old, new]);
-        }
-    };
-    let mut held = unconfirmed.iter_mut();
-    for (cell, words) in table.chunks_exact_mut(3).enumerate() {
-        let new = mended(words, next);
-        for (at, (word, new)) in words.iter_mut().zip(new).enumerate() {
-            if *word != new {
-                enter(3 * cell + at, *word, new);
-                *word = new;
-            }
-        }
-        if new[0] == 1 {
-            if let Some(entry) = held.next() {
-                *entry = cell as u32;
+/// Lists the cells left held. There is room for all.
+#[inline(never)]
+fn list(next: u32, table: &[u32], unconfirmed: &mut [u32]) {
+    let mut room = unconfirmed.iter_mut();
+    for (number, cell) in (0..).zip(table.chunks_exact(3)) {
+        if is_held(cell[0], cell[1], next) {
+            if let Some(entry) = room.next() {
+                *entry = number;
             }
         }
     }
-    for (header, byte) in health.iter_mut().enumerate() {
+}
+
+/// Makes the changes, and lists them. There is room for all.
+#[inline(never)]
+fn mend(next: u32, table: &mut [u32], health: &mut [u8], report: &mut [u32]) {
+    let mut entries = report.chunks_exact_mut(ENTRY);
+    for (number, cell) in (0..).zip(table.chunks_exact_mut(3)) {
+        let (bit, owner, waiters) = (cell[0], cell[1], cell[2]);
+        if bit | owner | waiters == 0 {
+            continue;
+        }
+        if !is_held(bit, owner, next) {
+            (cell[0], cell[1]) = (0, 0);
+            enter(&mut entries, 3 * number, bit);
+            enter(&mut entries, 3 * number + 1, owner);
+        }
+        cell[2] = 0;
+        enter(&mut entries, 3 * number + 2, waiters);
+    }
+    for (place, byte) in (table.len() as u32..).zip(health) {
         if *byte > 1 {
-            enter(table.len() + header, u32::from(*byte), 1);
+            if let Some(entry) = entries.next() {
+                entry.copy_from_slice(&[place, u32::from(*byte), 1]);
+            }
             *byte = 1;
+        }
+    }
+}
+
+/// The entry of a word that becomes 0, if it was not.
+#[inline(always)]
+fn enter(entries: &mut ChunksExactMut<u32>, place: u32, old: u32) {
+    if old != 0 {
+        if let Some(entry) = entries.next() {
+            entry.copy_from_slice(&[place, old, 0]);
         }
     }
 }

@@ -1,7 +1,6 @@
 //! Document 02, L11: the bits of the first cells over a history, as a value change dump; and back.
 
 use crate::rules::MOST_STEPS;
-use console::line::number;
 
 /// "n up to 94", one for each code.
 pub const MOST_CELLS: usize = 94;
@@ -16,22 +15,35 @@ pub const STEP_ROOM: usize = 32_800;
 const TAKE: u32 = 1;
 const RELEASE: u32 = 2;
 
-const TIMESCALE: &str = "$timescale 1 ns $end";
-const SCOPE: &str = "$scope module t $end";
-const UPSCOPE: &str = "$upscope $end";
-const END_OF_DEFINITIONS: &str = "$enddefinitions $end";
-const START: &str = "#0";
+/// A line feed stands behind every line.
+const HEADER: &[u8] = b"$timescale 1 ns $end\n$scope module t $end\n";
+const END_OF_HEADER: &[u8] = b"$upscope $end\n$enddefinitions $end\n#0\n";
+const VARIABLE: &[u8] = b"$var wire 1 ";
+const END_OF_VARIABLE: &[u8] = b" $end\n";
 
-fn code(cell: usize) -> char {
-    char::from(FIRST_CODE + cell as u8)
+fn code(cell: usize) -> u8 {
+    FIRST_CODE + cell as u8
 }
 
-fn variable(cell: usize) -> String {
-    format!("$var wire 1 {} c{cell} $end", code(cell))
+/// The digits of a number, and how many there are. A number here is at most 32,768.
+#[inline(always)]
+fn digits(mut number: usize) -> ([u8; 5], usize) {
+    let count = length_of(number);
+    let mut digits = [0; 5];
+    for digit in digits[..count].iter_mut().rev() {
+        *digit = b'0' + (number % 10) as u8;
+        number /= 10;
+    }
+    (digits, count)
 }
 
-fn value(bit: bool, cell: usize) -> String {
-    format!("{}{}", u8::from(bit), code(cell))
+/// How many digits a number has.
+#[inline(always)]
+fn length_of(number: usize) -> usize {
+    1 + usize::from(number > 9)
+        + usize::from(number > 99)
+        + usize::from(number > 999)
+        + usize::from(number > 9999)
 }
 
 // ---- The writer
@@ -47,8 +59,9 @@ pub enum Refusal {
     NoRoom,
 }
 
-/// The dump of the first `cells` cells over the history that the script is, in a buffer of `room` bytes.
-pub fn write(cells: u32, script: &[u32], room: usize) -> Result<String, Refusal> {
+/// Writes the dump of the first `cells` cells over the history that the script is, and gives its length. The length is
+/// known first, so that a refusal writes nothing.
+pub fn write_into(cells: u32, script: &[u32], text: &mut [u8]) -> Result<usize, Refusal> {
     if script.len() % 3 != 0 || script.len() / 3 > MOST_STEPS {
         return Err(Refusal::BadScript);
     }
@@ -56,41 +69,88 @@ pub fn write(cells: u32, script: &[u32], room: usize) -> Result<String, Refusal>
     if cells == 0 || cells > MOST_CELLS {
         return Err(Refusal::TooWide);
     }
-    let text = dump_text(cells, script);
-    if text.len() > room {
+    let length = length(cells, script);
+    let Some(text) = text.get_mut(..length) else {
         return Err(Refusal::NoRoom);
-    }
-    Ok(text)
+    };
+    let mut rest = start(cells, text);
+    changes(cells, script, |time, bit, cell| {
+        let (digits, count) = digits(time);
+        let (line, behind) = std::mem::take(&mut rest).split_at_mut(count + 5);
+        line[0] = b'#';
+        line[1..1 + count].copy_from_slice(&digits[..count]);
+        line[1 + count..].copy_from_slice(&[b'\n', b'0' + u8::from(bit), code(cell), b'\n']);
+        rest = behind;
+    });
+    Ok(length)
 }
 
-/// The steps are "numbered from 1, from all bits 0". "After `#0`, a time line stands only where a bit changed." One
-/// step changes at most one bit.
-fn dump_text(cells: usize, script: &[u32]) -> String {
-    let mut lines = vec![TIMESCALE.to_string(), SCOPE.to_string()];
-    lines.extend((0..cells).map(variable));
-    lines.extend([UPSCOPE, END_OF_DEFINITIONS, START].map(String::from));
-    lines.extend((0..cells).map(|cell| value(false, cell)));
-    let mut bits = vec![false; cells];
+/// As [`write_into`], in a buffer of its own.
+pub fn write(cells: u32, script: &[u32], room: usize) -> Result<String, Refusal> {
+    let mut text = vec![0; room.min(LONGEST)];
+    let length = write_into(cells, script, &mut text)?;
+    text.truncate(length);
+    Ok(String::from_utf8(text).expect("a dump is text"))
+}
+
+/// No dump is longer: 94 cells, and a change at each of 32,768 steps.
+pub const LONGEST: usize = 319_088;
+
+/// The length of a dump.
+fn length(cells: usize, script: &[u32]) -> usize {
+    let variables: usize = (0..cells)
+        .map(|cell| VARIABLE.len() + 3 + length_of(cell) + END_OF_VARIABLE.len())
+        .sum();
+    let mut length = HEADER.len() + variables + END_OF_HEADER.len() + 3 * cells;
+    changes(cells, script, |time, _, _| length += 5 + length_of(time));
+    length
+}
+
+/// The lines before the first change; gives what is left of the text.
+fn start(cells: usize, text: &mut [u8]) -> &mut [u8] {
+    let mut rest = put(text, HEADER);
+    for cell in 0..cells {
+        let (digits, count) = digits(cell);
+        rest = put(rest, VARIABLE);
+        rest = put(rest, &[code(cell), b' ', b'c']);
+        rest = put(rest, &digits[..count]);
+        rest = put(rest, END_OF_VARIABLE);
+    }
+    rest = put(rest, END_OF_HEADER);
+    for cell in 0..cells {
+        rest = put(rest, &[b'0', code(cell), b'\n']);
+    }
+    rest
+}
+
+/// Writes these bytes in front; gives what is left.
+fn put<'a>(text: &'a mut [u8], bytes: &[u8]) -> &'a mut [u8] {
+    let (front, rest) = text.split_at_mut(bytes.len());
+    front.copy_from_slice(bytes);
+    rest
+}
+
+/// Shows each change: its time, the bit, the cell. The steps are "numbered from 1, from all bits 0". "a take sets its cell's
+/// bit, a release clears it, any other step only counts", and so does a step on another cell than the first ones. Whether
+/// the step is legal is not asked. "After `#0`, a time line stands only where a bit changed." One step changes at most
+/// one bit.
+#[inline(always)]
+fn changes(cells: usize, script: &[u32], mut seen: impl FnMut(usize, bool, usize)) {
+    let mut bits = [false; MOST_CELLS];
+    let bits = &mut bits[..cells];
     for (time, step) in (1..).zip(script.chunks_exact(3)) {
-        if let Some((cell, bit)) = change_of(cells, step) {
-            if bits[cell] != bit {
-                bits[cell] = bit;
-                lines.push(format!("#{time}"));
-                lines.push(value(bit, cell));
-            }
+        let (kind, cell) = (step[0], step[1] as usize);
+        if kind != TAKE && kind != RELEASE {
+            continue;
         }
-    }
-    lines.iter().map(|line| format!("{line}\n")).collect()
-}
-
-/// "a take sets its cell's bit, a release clears it, any other step only counts", and so does a step on another cell
-/// than the first ones. Whether the step is legal is not asked.
-fn change_of(cells: usize, step: &[u32]) -> Option<(usize, bool)> {
-    let cell = step[1] as usize;
-    match step[0] {
-        TAKE if cell < cells => Some((cell, true)),
-        RELEASE if cell < cells => Some((cell, false)),
-        _ => None,
+        let taken = kind == TAKE;
+        match bits.get_mut(cell) {
+            Some(bit) if *bit != taken => {
+                *bit = taken;
+                seen(time, taken, cell);
+            }
+            _ => {}
+        }
     }
 }
 
@@ -104,106 +164,136 @@ pub struct Reading {
     pub script: Vec<u32>,
 }
 
+/// What was read into a lent buffer: the cells, and the steps up to the last change.
+#[derive(Clone, Copy, Debug, PartialEq, Eq)]
+pub struct Read {
+    pub cells: usize,
+    pub steps: usize,
+}
+
+/// Why nothing was read.
+#[derive(Clone, Copy, Debug, PartialEq, Eq)]
+pub enum NotRead {
+    /// Its first wrong line.
+    BadLine(usize),
+    /// The buffer is too short for the whole reading.
+    NoRoom,
+}
+
+/// As [`read_into`], into a buffer of its own.
+pub fn read(text: &[u8]) -> Result<Reading, usize> {
+    let mut script = vec![0; 3 * MOST_STEPS];
+    match read_into(text, &mut script) {
+        Ok(Read { cells, steps }) => {
+            script.truncate(3 * steps);
+            Ok(Reading { cells, script })
+        }
+        Err(NotRead::BadLine(line)) => Err(line),
+        Err(NotRead::NoRoom) => unreachable!("there is room for every reading"),
+    }
+}
+
 /// "The reader takes only what the writer could have written; anything else is refused with its first wrong line, from
 /// 1": the first line such that no dump begins with the lines up to it. If the text stops too early, that is the line
-/// which is missing.
-pub fn read(text: &[u8]) -> Result<Reading, usize> {
-    let mut lines = Lines {
-        rest: text,
-        number: 0,
+/// which is missing. All is tested before the first word is written.
+pub fn read_into(text: &[u8], script: &mut [u32]) -> Result<Read, NotRead> {
+    let (cells, changes, line) = read_start(text).map_err(NotRead::BadLine)?;
+    let steps = check_changes(cells, changes, line).map_err(NotRead::BadLine)?;
+    let Some(script) = script.get_mut(..3 * steps) else {
+        return Err(NotRead::NoRoom);
     };
-    lines.must_be(TIMESCALE)?;
-    lines.must_be(SCOPE)?;
-    let cells = read_variables(&mut lines)?;
-    lines.must_be(END_OF_DEFINITIONS)?;
-    lines.must_be(START)?;
-    for cell in 0..cells {
-        lines.must_be(&value(false, cell))?;
+    script.fill(0);
+    let mut rest = changes;
+    while let Some((time, value, behind)) = change_of(rest, 0).ok().flatten() {
+        let kind = if value[0] == b'1' { TAKE } else { RELEASE };
+        let at = 3 * (time - 1);
+        script[at] = kind;
+        script[at + 1] = u32::from(value[1] - FIRST_CODE);
+        rest = behind;
     }
-    let script = read_changes(&mut lines, cells)?;
-    Ok(Reading { cells, script })
+    Ok(Read { cells, steps })
 }
 
-/// The variables, from 1 to 94, and the end of the scope; gives their number.
-fn read_variables(lines: &mut Lines) -> Result<usize, usize> {
+/// The lines before the first change: how many cells there are, the text behind them, and the number of the next line.
+fn read_start(text: &[u8]) -> Result<(usize, &[u8], usize), usize> {
+    let mut line = 1;
+    let mut rest = text;
+    for wanted in HEADER.split_inclusive(|&byte| byte == b'\n') {
+        rest = rest.strip_prefix(wanted).ok_or(line)?;
+        line += 1;
+    }
     let mut cells = 0;
-    loop {
-        let line = lines.next()?;
-        if cells > 0 && line == UPSCOPE.as_bytes() {
-            return Ok(cells);
-        }
-        if cells == MOST_CELLS || line != variable(cells).as_bytes() {
-            return Err(lines.number);
-        }
+    while let Some(behind) = variable(rest, cells).filter(|_| cells < MOST_CELLS) {
+        rest = behind;
         cells += 1;
+        line += 1;
     }
-}
-
-/// The time lines, each with the change behind it, to the end of the text.
-fn read_changes(lines: &mut Lines, cells: usize) -> Result<Vec<u32>, usize> {
-    let mut script = Vec::new();
-    let mut bits = vec![false; cells];
-    while !lines.rest.is_empty() {
-        let line = lines.next()?;
-        let steps = script.len() / 3;
-        let time = time_of(line)
-            .filter(|&time| time > steps && time <= MOST_STEPS)
-            .ok_or(lines.number)?;
-        let line = lines.next()?;
-        let (cell, bit) = value_of(line, cells)
-            .filter(|&(cell, bit)| bits[cell] != bit)
-            .ok_or(lines.number)?;
-        bits[cell] = bit;
-        // the steps in between changed nothing
-        script.resize(3 * (time - 1), 0);
-        script.extend([if bit { TAKE } else { RELEASE }, cell as u32, 0]);
+    if cells == 0 {
+        return Err(line);
     }
-    Ok(script)
-}
-
-/// `#` and a number without leading zeros.
-fn time_of(line: &[u8]) -> Option<usize> {
-    let digits = line.strip_prefix(b"#")?;
-    number(digits).map(|time| time as usize)
-}
-
-/// `0` or `1`, and the code of one of the cells.
-fn value_of(line: &[u8], cells: usize) -> Option<(usize, bool)> {
-    let &[bit, code] = line else {
-        return None;
-    };
-    let bit = match bit {
-        b'0' => false,
-        b'1' => true,
-        _ => return None,
-    };
-    let cell = usize::from(code.checked_sub(FIRST_CODE)?);
-    (cell < cells).then_some((cell, bit))
-}
-
-/// What is left of a text, and the number of the last line taken from it.
-struct Lines<'a> {
-    rest: &'a [u8],
-    number: usize,
-}
-
-impl<'a> Lines<'a> {
-    /// The next line without its line feed. It is wrong if it is missing, or if its line feed is.
-    fn next(&mut self) -> Result<&'a [u8], usize> {
-        self.number += 1;
-        let end = self.rest.iter().position(|&byte| byte == b'\n');
-        let end = end.ok_or(self.number)?;
-        let line = &self.rest[..end];
-        self.rest = &self.rest[end + 1..];
-        Ok(line)
+    for wanted in END_OF_HEADER.split_inclusive(|&byte| byte == b'\n') {
+        rest = rest.strip_prefix(wanted).ok_or(line)?;
+        line += 1;
     }
+    for cell in 0..cells {
+        rest = rest.strip_prefix(&[b'0', code(cell), b'\n']).ok_or(line)?;
+        line += 1;
+    }
+    Ok((cells, rest, line))
+}
 
-    fn must_be(&mut self, text: &str) -> Result<(), usize> {
-        if self.next()? == text.as_bytes() {
-            Ok(())
-        } else {
-            Err(self.number)
+/// The text behind the variable of this cell, if it stands in front.
+fn variable(text: &[u8], cell: usize) -> Option<&[u8]> {
+    let (digits, count) = digits(cell);
+    text.strip_prefix(VARIABLE)?
+        .strip_prefix(&[code(cell), b' ', b'c'])?
+        .strip_prefix(&digits[..count])?
+        .strip_prefix(END_OF_VARIABLE)
+}
+
+/// The time lines, each with the change behind it, to the end of the text; gives the last time. The first has this number.
+fn check_changes(cells: usize, text: &[u8], first: usize) -> Result<usize, usize> {
+    let mut bits = [b'0'; MOST_CELLS];
+    let bits = &mut bits[..cells];
+    let (mut rest, mut line, mut last) = (text, first, 0);
+    loop {
+        let found = change_of(rest, last).map_err(|late| line + late)?;
+        let Some((time, value, behind)) = found else {
+            return Ok(last);
+        };
+        match bits.get_mut(usize::from(value[1].wrapping_sub(FIRST_CODE))) {
+            Some(bit) if *bit ^ 1 == value[0] => *bit = value[0],
+            _ => return Err(line + 1),
         }
+        (rest, line, last) = (behind, line + 2, time);
+    }
+}
+
+/// `#`, a number without leading zeros that is later than the last one, and the line behind it, of two bytes; and what is
+/// left. None at the end of the text. An error is 0 where the time line is wrong, and 1 where the one behind it is. A
+/// number of more than five digits is too great.
+#[inline(always)]
+#[allow(clippy::type_complexity)]
+fn change_of(text: &[u8], last: usize) -> Result<Option<(usize, [u8; 2], &[u8])>, usize> {
+    let [b'#', rest @ ..] = text else {
+        return if text.is_empty() { Ok(None) } else { Err(0) };
+    };
+    let mut time = 0;
+    let mut count = 0;
+    while let Some(digit) = rest.get(count).map(|byte| byte.wrapping_sub(b'0')) {
+        if digit > 9 || count == 5 {
+            break;
+        }
+        time = 10 * time + usize::from(digit);
+        count += 1;
+    }
+    let is_number = count > 0 && rest[0] != b'0' && rest.get(count) == Some(&b'\n');
+    if !is_number || time <= last || time > MOST_STEPS {
+        return Err(0);
+    }
+    match rest[count + 1..] {
+        [bit, code, b'\n', ref behind @ ..] => Ok(Some((time, [bit, code], behind))),
+        _ => Err(1),
     }
 }
 
@@ -239,6 +329,7 @@ $enddefinitions $end
 #1
 1!
 ";
+    const UPSCOPE: &str = "$upscope $end";
     const ANY: usize = usize::MAX;
 
     fn written(cells: u32, script: &[u32]) -> String {
@@ -490,7 +581,7 @@ $enddefinitions $end
                 let line = line.strip_suffix(b"\n").unwrap_or(line);
                 match line.strip_prefix(b"#") {
                     Some(time) => time.len() <= 1 && time <= b"3",
-                    None => line != variable(2).as_bytes(),
+                    None => line != b"$var wire 1 # c2 $end",
                 }
             };
             if !lines.iter().all(known) {

@@ -104,7 +104,7 @@ impl Skid {
     fn set(&mut self, slot: u32, setpoint: Setpoint) -> Result<Written, BookRefusal> {
         book::write_setpoint(
             self.head,
-            &mut self.table,
+            &self.table,
             &mut self.book,
             slot,
             lease(slot),
@@ -324,11 +324,11 @@ fn the_fifth_write() {
 #[test]
 fn sixty_four_slots() {
     let cells: Vec<u32> = (0..64).collect();
-    let (head, mut table) = arena(8, 8, &cells);
+    let (head, table) = arena(8, 8, &cells);
     let mut book = vec![0; 2048 + 1280];
-    let mut write = |book: &mut [u8], slot: u32, version: u32| {
+    let write = |book: &mut [u8], slot: u32, version: u32| {
         let setpoint = Setpoint::Speed(100 * slot + version);
-        book::write_setpoint(head, &mut table, book, slot, lease(slot), setpoint)
+        book::write_setpoint(head, &table, book, slot, lease(slot), setpoint)
     };
     for version in 1..=6 {
         for slot in 0..64 {
@@ -606,7 +606,7 @@ const SHAPES: [(u32, u32, u32); 7] = [
 fn books_of_a_good_length() {
     for (headers, buckets, slots) in SHAPES {
         let last = slots - 1;
-        let (head, mut table) = arena(headers, buckets, &[last]);
+        let (head, table) = arena(headers, buckets, &[last]);
         let contents = 32 * slots as usize;
         for length in [contents + 5, contents + 6, 32_768] {
             let mut book = vec![7; length];
@@ -615,9 +615,8 @@ fn books_of_a_good_length() {
             let read = book::read_setpoint(head, &book, last);
             assert_eq!(read, Err(BookRefusal::NeverWritten));
             let setpoint = Setpoint::Valve(true);
-            let mut write = |slot| {
-                book::write_setpoint(head, &mut table, &mut book, slot, lease(last), setpoint)
-            };
+            let mut write =
+                |slot| book::write_setpoint(head, &table, &mut book, slot, lease(last), setpoint);
             let (version, moved) = (1, 0);
             assert_eq!(write(last), Ok(Written { version, moved }));
             let bad = BookRefusal::BadSlot;
@@ -639,9 +638,9 @@ fn books_of_a_good_length() {
 #[test]
 fn books_of_a_bad_length() {
     for (headers, buckets, slots) in SHAPES {
-        let (head, mut table) = arena(headers, buckets, &[0]);
-        let mut write = |book: &mut [u8]| {
-            book::write_setpoint(head, &mut table, book, 0, lease(0), Setpoint::Speed(1))
+        let (head, table) = arena(headers, buckets, &[0]);
+        let write = |book: &mut [u8]| {
+            book::write_setpoint(head, &table, book, 0, lease(0), Setpoint::Speed(1))
         };
         let contents = 32 * slots as usize;
         for length in [0, 1, contents - 1, 32_769, 33_000] {
@@ -662,12 +661,12 @@ fn books_of_a_bad_length() {
 /// A cell behind the first 64 has no slot, though its lease is live.
 #[test]
 fn a_cell_without_a_slot() {
-    let (head, mut table) = arena(5, 13, &[64]);
+    let (head, table) = arena(5, 13, &[64]);
     let mut book = vec![0; 2100];
     let speed = Setpoint::Speed(1);
-    let written = book::write_setpoint(head, &mut table, &mut book, 64, lease(64), speed);
+    let written = book::write_setpoint(head, &table, &mut book, 64, lease(64), speed);
     assert_eq!(written, Err(BookRefusal::BadSlot));
-    let written = book::write_setpoint(head, &mut table, &mut book, 0, lease(64), speed);
+    let written = book::write_setpoint(head, &table, &mut book, 0, lease(64), speed);
     assert_eq!(written, Err(Refusal::NotHeld(0).into()));
 }
 

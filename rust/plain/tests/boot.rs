@@ -660,7 +660,7 @@ fn issued_and_dead() {
                     (true, false) => Answer::Refused(Refusal::NotHeld(0)),
                     (true, true) => Answer::Cell(lease.cell),
                 };
-                let read = rules::read_permission(head, &mut table, lease);
+                let read = rules::read_permission(head, &table, lease);
                 assert_eq!(read.answer, expected);
             }
         }

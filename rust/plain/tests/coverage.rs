@@ -846,10 +846,10 @@ fn faults_of_a_write(console: &Desk, line: &str) -> Vec<&'static str> {
         serial: numbers(3),
         boot: head.boot,
     };
-    let mut table = console.table[..words].to_vec();
+    let table = console.table[..words].to_vec();
     let (book, slots) = lent_book(console);
     let mut faults = Vec::new();
-    let permission = rules::read_permission(head, &mut table, lease).answer;
+    let permission = rules::read_permission(head, &table, lease).answer;
     if permission == Answer::Refused(rules::Refusal::BadShape) {
         faults.push("1");
     }

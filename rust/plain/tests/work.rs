@@ -399,7 +399,7 @@ impl Crew {
         let reply = rules::crew_at_work(
             head,
             &mut table,
-            &mut [0],
+            &[0],
             &counts,
             &self.members.concat(),
             turns,

@@ -1,6 +1,6 @@
 //! What the calls are lent. Both sides get the same desk, and read their arguments from it.
 
-use skid::raw::{BOOK, CREW, REPLY, SALVAGE};
+use skid::raw::{BOOK, CREW, REPLY, SALVAGE, WAVE};
 use std::hint::black_box;
 
 /// The head's four numbers.
@@ -29,7 +29,6 @@ pub struct Desk {
     pub binding: u32,
     pub bucket: u32,
     pub serial: u32,
-    pub lease_boot: u32,
     /// Multi-lock's keys, and its leases.
     pub keys: Vec<u32>,
     pub grants: Vec<u32>,
@@ -41,15 +40,17 @@ pub struct Desk {
     /// A salvage's report, and its list of cells left held.
     pub report: Vec<u32>,
     pub unconfirmed: Vec<u32>,
-    /// Table and health as a power dip left them.
-    pub dipped_table: Vec<u32>,
-    pub dipped_health: Vec<u8>,
-    /// The setpoint book; the slot, its version and the speed of a call on it; the lease is the one to drop.
+    /// The setpoint book; the slot, its version and the speed of a call on it.
     pub book: Vec<u8>,
     pub slot: u32,
     pub version: u32,
     pub speed: u32,
-    /// The book as it was before a write.
+    /// The waveform's text, and what is read from it.
+    pub text: Vec<u8>,
+    pub history: Vec<u32>,
+    /// What table, health and book hold before each call; empty where no call changes them.
+    pub earlier_table: Vec<u32>,
+    pub earlier_health: Vec<u8>,
     pub earlier_book: Vec<u8>,
     pub replies: Replies,
 }
@@ -60,6 +61,7 @@ pub struct Replies {
     pub crew: [u64; CREW],
     pub salvage: [u64; SALVAGE],
     pub book: [u64; BOOK],
+    pub wave: [u64; WAVE],
 }
 
 impl Default for Replies {
@@ -69,28 +71,64 @@ impl Default for Replies {
             crew: [0; CREW],
             salvage: [0; SALVAGE],
             book: [0; BOOK],
+            wave: [0; WAVE],
         }
     }
 }
 
 impl Desk {
-    /// An arena that nobody has prepared.
+    /// A prepared arena.
     pub fn new(headers: u32, buckets: u32) -> Desk {
+        let head = Head {
+            headers,
+            buckets,
+            next: 1,
+            boot: BOOT,
+        };
         Desk {
-            head: Head {
-                headers,
-                buckets,
-                next: 1,
-                boot: BOOT,
-            },
-            table: vec![7; (3 * headers * buckets) as usize],
-            health: vec![7; headers as usize],
+            head,
+            table: vec![0; (3 * headers * buckets) as usize],
+            health: vec![0; headers as usize],
             ..Desk::default()
         }
     }
 
+    /// The first cells are held, cell C by serial C + 1.
+    pub fn hold(&mut self, cells: u32) {
+        for cell in 0..cells {
+            self.table[3 * cell as usize..][..2].copy_from_slice(&[1, cell + 1]);
+        }
+        self.head.next = cells + 1;
+    }
+
+    /// What table, health and book hold now they hold before each call.
+    pub fn keep(&mut self) {
+        self.earlier_table.clone_from(&self.table);
+        self.earlier_health.clone_from(&self.health);
+        self.earlier_book.clone_from(&self.book);
+    }
+
+    /// Puts back what the call before has changed. This is counted and timed apart, and subtracted.
+    #[inline(always)]
+    pub fn restore(&mut self) {
+        fn copy<T: Copy>(to: &mut [T], from: &[T]) {
+            if !from.is_empty() {
+                to.copy_from_slice(from);
+            }
+        }
+        copy(&mut self.table, &self.earlier_table);
+        copy(&mut self.health, &self.earlier_health);
+        copy(&mut self.book, &self.earlier_book);
+    }
+
     /// The desk again, with nothing known about it: a call cannot be shortened by what the compiler sees here.
+    #[inline(always)]
     pub fn hidden(&mut self) -> &mut Desk {
         black_box(self)
     }
+}
+
+/// The leases on the first cells that `hold` made.
+pub fn leases(cells: u32) -> Vec<u32> {
+    (0..cells).flat_map(|cell| [cell, cell + 1, BOOT]).collect()
 }

@@ -1,13 +1,14 @@
-//! The plain side: plain::rules, plain::salvage and plain::book. Its replies are told in the library's words, so that the two can be
+//! The plain side: the functions of rust/plain. Its replies are told in the library's words, so that the two can be
 //! compared.
 
-use crate::desk::Desk;
-use crate::side::{Side, Words};
+use crate::desk::{Desk, BOOT};
+use crate::side::{self, Side, Told, Watch};
 use plain::book::{self, BookRefusal, Kept, Setpoint, Written};
 use plain::rules::{
     self, Answer, Counts, CrewReply, Head, Lease, Reason, Refusal, Reply, ScriptReply,
 };
 use plain::salvage::{self, SalvageRefusal, SalvageReply, Salvaged};
+use plain::wave;
 
 pub struct Plain;
 
@@ -22,8 +23,12 @@ fn head_of(desk: &Desk) -> Head {
 }
 
 #[inline(always)]
-fn lease_of(cell: u32, serial: u32, boot: u32) -> Lease {
-    Lease { cell, serial, boot }
+fn lease_of(desk: &Desk) -> Lease {
+    Lease {
+        cell: desk.cell,
+        serial: desk.serial,
+        boot: BOOT,
+    }
 }
 
 fn reason_words(reason: Option<Reason>) -> [u64; 2] {
@@ -71,7 +76,7 @@ fn answer_words(answer: Answer) -> [u64; 6] {
     }
 }
 
-fn words(head: Head, place: usize, counts: Counts, answer: Answer) -> Words {
+fn words(head: Head, place: usize, counts: Counts, answer: Answer) -> Vec<u64> {
     let mut words = vec![
         head.headers.into(),
         head.buckets.into(),
@@ -87,55 +92,127 @@ fn words(head: Head, place: usize, counts: Counts, answer: Answer) -> Words {
     words
 }
 
-impl Side for Plain {
-    type Reply = Reply;
-    type Played = ScriptReply;
-    type Crew = CrewReply;
-    type Salvage = SalvageReply;
-    type Written = Result<Written, BookRefusal>;
-    type Read = Result<Kept, BookRefusal>;
+fn reply_told(reply: &Reply) -> Told {
+    side::told_reply(&words(reply.head, 0, reply.counts, reply.answer))
+}
 
+fn played_told(played: &ScriptReply) -> Told {
+    side::told_reply(&words(
+        played.head,
+        played.place,
+        played.counts,
+        played.answer,
+    ))
+}
+
+fn crew_told(crew: &CrewReply) -> Told {
+    let answer = match crew.answer {
+        Ok(_) => Answer::Done,
+        Err(refusal) => Answer::Refused(refusal),
+    };
+    let run = crew.answer.unwrap_or_default();
+    let mut words = words(crew.head, 0, Counts::default(), answer);
+    words.extend([run.moving, run.idle].map(u64::from));
+    words.extend(run.taken.map(u64::from));
+    words.extend(run.released.map(u64::from));
+    side::told_crew(&words)
+}
+
+fn salvage_told(salvage: &SalvageReply) -> Told {
+    let SalvageReply { head, answer } = salvage;
+    let [kind, one, two] = match *answer {
+        Ok(Salvaged { changed, held }) => [0, changed as u64, held as u64],
+        Err(SalvageRefusal::BadShape) => [5, 1, 0],
+        Err(SalvageRefusal::ReportFull) => [5, 106, 0],
+    };
+    let mut words = [head.headers, head.buckets, head.next, head.boot]
+        .map(u64::from)
+        .to_vec();
+    words.extend([kind, one, two]);
+    side::told_salvage(&words)
+}
+
+// A refused call of the book is no case: its number is left out, and so differs from the library's.
+fn written_told(written: &Result<Written, BookRefusal>) -> Told {
+    side::told_written(&match *written {
+        Ok(Written { version, moved }) => [1, version.into(), moved.into(), 0],
+        Err(_) => [3, 0, 0, 0],
+    })
+}
+
+fn read_told(read: &Result<Kept, BookRefusal>) -> Told {
+    side::told_read(&match *read {
+        Ok(Kept { setpoint, version }) => {
+            let (kind, number) = (setpoint.kind().into(), setpoint.number().into());
+            [2, version.into(), kind, number]
+        }
+        Err(_) => [3, 0, 0, 0],
+    })
+}
+
+fn dump_told(written: &Result<usize, wave::Refusal>) -> Told {
+    side::told_dump(&match *written {
+        Ok(bytes) => [0, bytes as u64, 0],
+        Err(wave::Refusal::BadScript) => [1, 2, 0],
+        Err(wave::Refusal::TooWide) => [2, 0, 0],
+        Err(wave::Refusal::NoRoom) => [3, 0, 0],
+    })
+}
+
+fn history_told(read: &Result<wave::Read, wave::NotRead>) -> Told {
+    side::told_history(&match *read {
+        Ok(wave::Read { cells, steps }) => [0, cells as u64, steps as u64],
+        Err(wave::NotRead::NoRoom) => [3, 0, 0],
+        Err(wave::NotRead::BadLine(line)) => [4, line as u64, 0],
+    })
+}
+
+impl Side for Plain {
     #[inline(always)]
-    fn prepare<T>(desk: &mut Desk, seen: impl FnOnce(&Reply) -> T) -> T {
-        let head = desk.head;
+    fn prepare(desk: &mut Desk, watch: &mut impl Watch) {
         let reply = rules::prepare(
-            head.headers,
-            head.buckets,
-            1,
-            head.boot,
+            desk.head.headers,
+            desk.head.buckets,
+            desk.head.next,
+            desk.head.boot,
             &mut desk.table,
             &mut desk.health,
         );
-        seen(&reply)
+        watch.see(&reply, reply_told);
     }
 
     #[inline(always)]
-    fn drop_lease<T>(desk: &mut Desk, seen: impl FnOnce(&Reply) -> T) -> T {
-        let head = head_of(desk);
-        let lease = lease_of(desk.cell, desk.serial, desk.lease_boot);
-        let reply = rules::drop_lease(head, &mut desk.table, lease);
-        seen(&reply)
+    fn drop_lease(desk: &mut Desk, watch: &mut impl Watch) {
+        let lease = lease_of(desk);
+        let reply = rules::drop_lease(head_of(desk), &mut desk.table, lease);
+        watch.see(&reply, reply_told);
     }
 
     #[inline(always)]
-    fn environment<T>(desk: &mut Desk, seen: impl FnOnce(&ScriptReply) -> T) -> T {
-        let head = head_of(desk);
+    fn drop_preserving_borrows(desk: &mut Desk, watch: &mut impl Watch) {
+        let lease = lease_of(desk);
+        let reply =
+            rules::drop_preserving_borrows(head_of(desk), &mut desk.table, &desk.held, lease);
+        watch.see(&reply, reply_told);
+    }
+
+    #[inline(always)]
+    fn environment(desk: &mut Desk, watch: &mut impl Watch) {
         let reply = rules::environment(
-            head,
+            head_of(desk),
             &mut desk.table,
             &mut desk.health,
             &desk.script,
             0,
             &desk.held,
         );
-        seen(&reply)
+        watch.see(&reply, played_told);
     }
 
     #[inline(always)]
-    fn try_lock<T>(desk: &mut Desk, seen: impl FnOnce(&ScriptReply) -> T) -> T {
-        let head = head_of(desk);
+    fn try_lock(desk: &mut Desk, watch: &mut impl Watch) {
         let reply = rules::try_lock(
-            head,
+            head_of(desk),
             &mut desk.table,
             &mut desk.health,
             &desk.script,
@@ -143,14 +220,13 @@ impl Side for Plain {
             &desk.held,
             desk.cell,
         );
-        seen(&reply)
+        watch.see(&reply, played_told);
     }
 
     #[inline(always)]
-    fn acquire_index_bucket<T>(desk: &mut Desk, seen: impl FnOnce(&ScriptReply) -> T) -> T {
-        let head = head_of(desk);
-        let reply = rules::acquire_index_bucket(
-            head,
+    fn transactional_try_lock_bucket(desk: &mut Desk, watch: &mut impl Watch) {
+        let reply = rules::transactional_try_lock_bucket(
+            head_of(desk),
             &mut desk.table,
             &mut desk.health,
             &desk.registry,
@@ -160,14 +236,29 @@ impl Side for Plain {
             desk.binding,
             desk.bucket,
         );
-        seen(&reply)
+        watch.see(&reply, played_told);
     }
 
     #[inline(always)]
-    fn acquire_index_locks<T>(desk: &mut Desk, seen: impl FnOnce(&ScriptReply) -> T) -> T {
-        let head = head_of(desk);
+    fn acquire_index_bucket(desk: &mut Desk, watch: &mut impl Watch) {
+        let reply = rules::acquire_index_bucket(
+            head_of(desk),
+            &mut desk.table,
+            &mut desk.health,
+            &desk.registry,
+            &desk.script,
+            0,
+            &desk.held,
+            desk.binding,
+            desk.bucket,
+        );
+        watch.see(&reply, played_told);
+    }
+
+    #[inline(always)]
+    fn acquire_index_locks(desk: &mut Desk, watch: &mut impl Watch) {
         let reply = rules::acquire_index_locks(
-            head,
+            head_of(desk),
             &mut desk.table,
             &mut desk.health,
             &desk.registry,
@@ -177,14 +268,13 @@ impl Side for Plain {
             &desk.keys,
             &mut desk.grants,
         );
-        seen(&reply)
+        watch.see(&reply, played_told);
     }
 
     #[inline(always)]
-    fn acquire_sorted_locks<T>(desk: &mut Desk, seen: impl FnOnce(&ScriptReply) -> T) -> T {
-        let head = head_of(desk);
+    fn acquire_sorted_locks(desk: &mut Desk, watch: &mut impl Watch) {
         let reply = rules::acquire_sorted_locks(
-            head,
+            head_of(desk),
             &mut desk.table,
             &mut desk.health,
             &desk.registry,
@@ -194,154 +284,90 @@ impl Side for Plain {
             &desk.keys,
             &mut desk.grants,
         );
-        seen(&reply)
+        watch.see(&reply, played_told);
     }
 
     #[inline(always)]
-    fn release_all<T>(desk: &mut Desk, seen: impl FnOnce(&ScriptReply) -> T) -> T {
-        let head = head_of(desk);
+    fn release_all(desk: &mut Desk, watch: &mut impl Watch) {
         let reply = rules::release_all(
-            head,
+            head_of(desk),
             &mut desk.table,
             &mut desk.health,
             &desk.script,
             0,
             &desk.grants,
         );
-        seen(&reply)
+        watch.see(&reply, played_told);
     }
 
     #[inline(always)]
-    fn crew<T>(desk: &mut Desk, seen: impl FnOnce(&CrewReply) -> T) -> T {
-        let head = head_of(desk);
+    fn crew(desk: &mut Desk, watch: &mut impl Watch) {
         let reply = rules::crew(
-            head,
+            head_of(desk),
             &mut desk.table,
-            &mut desk.health,
+            &desk.health,
             &desk.counts,
             &desk.cells,
             &desk.turns,
         );
-        seen(&reply)
+        watch.see(&reply, crew_told);
     }
 
     #[inline(always)]
-    fn crew_at_work<T>(desk: &mut Desk, seen: impl FnOnce(&CrewReply) -> T) -> T {
-        let head = head_of(desk);
+    fn crew_at_work(desk: &mut Desk, watch: &mut impl Watch) {
         let reply = rules::crew_at_work(
-            head,
+            head_of(desk),
             &mut desk.table,
-            &mut desk.health,
+            &desk.health,
             &desk.counts,
             &desk.cells,
             &desk.turns,
             &mut desk.counters,
         );
-        seen(&reply)
+        watch.see(&reply, crew_told);
     }
 
     #[inline(always)]
-    fn salvage<T>(desk: &mut Desk, seen: impl FnOnce(&SalvageReply) -> T) -> T {
-        let head = head_of(desk);
+    fn salvage(desk: &mut Desk, watch: &mut impl Watch) {
         let reply = salvage::salvage(
-            head,
+            head_of(desk),
             &mut desk.table,
             &mut desk.health,
             &mut desk.report,
             &mut desk.unconfirmed,
         );
-        seen(&reply)
+        watch.see(&reply, salvage_told);
     }
 
     #[inline(always)]
-    fn write_speed<T>(desk: &mut Desk, seen: impl FnOnce(&Self::Written) -> T) -> T {
-        let head = head_of(desk);
+    fn write_speed(desk: &mut Desk, watch: &mut impl Watch) {
+        let lease = lease_of(desk);
         let reply = book::write_setpoint(
-            head,
-            &mut desk.table,
+            head_of(desk),
+            &desk.table,
             &mut desk.book,
             desk.slot,
-            lease_of(desk.cell, desk.serial, desk.lease_boot),
+            lease,
             Setpoint::Speed(desk.speed),
         );
-        seen(&reply)
+        watch.see(&reply, written_told);
     }
 
     #[inline(always)]
-    fn read_version<T>(desk: &mut Desk, seen: impl FnOnce(&Self::Read) -> T) -> T {
-        let head = head_of(desk);
-        let reply = book::read_version(head, &desk.book, desk.slot, desk.version);
-        seen(&reply)
+    fn read_version(desk: &mut Desk, watch: &mut impl Watch) {
+        let reply = book::read_version(head_of(desk), &desk.book, desk.slot, desk.version);
+        watch.see(&reply, read_told);
     }
 
     #[inline(always)]
-    fn next(played: &ScriptReply) -> u32 {
-        played.head.next
+    fn write_dump(desk: &mut Desk, watch: &mut impl Watch) {
+        let reply = wave::write_into(desk.cell, &desk.script, &mut desk.text);
+        watch.see(&reply, dump_told);
     }
 
     #[inline(always)]
-    fn granted(played: &ScriptReply) -> Option<[u32; 3]> {
-        match played.answer {
-            Answer::Granted(lease) => Some([lease.cell, lease.serial, lease.boot]),
-            _ => None,
-        }
-    }
-
-    fn reply_words(reply: &Reply) -> Words {
-        words(reply.head, 0, reply.counts, reply.answer)
-    }
-
-    fn played_words(played: &ScriptReply) -> Words {
-        words(played.head, played.place, played.counts, played.answer)
-    }
-
-    fn crew_words(crew: &CrewReply) -> Words {
-        let none = Counts::default();
-        match crew.answer {
-            Ok(run) => {
-                let mut words = words(crew.head, 0, none, Answer::Done);
-                words.extend([run.moving, run.idle].map(u64::from));
-                words.extend(run.taken.map(u64::from));
-                words.extend(run.released.map(u64::from));
-                words
-            }
-            Err(refusal) => {
-                let mut words = words(crew.head, 0, none, Answer::Refused(refusal));
-                words.resize(49, 0);
-                words
-            }
-        }
-    }
-
-    fn salvage_words(salvage: &SalvageReply) -> Words {
-        let SalvageReply { head, answer } = salvage;
-        let [kind, one, two] = match *answer {
-            Ok(Salvaged { changed, held }) => [0, changed as u64, held as u64],
-            Err(SalvageRefusal::BadShape) => [5, 1, 0],
-            Err(SalvageRefusal::ReportFull) => [5, 106, 0],
-        };
-        let mut words = [head.headers, head.buckets, head.next, head.boot]
-            .map(u64::from)
-            .to_vec();
-        words.extend([kind, one, two]);
-        words
-    }
-
-    // A refused call of the book is no case: its number is left out, and so differs from the library's.
-    fn written_words(written: &Self::Written) -> Words {
-        match *written {
-            Ok(Written { version, moved }) => vec![1, version.into(), moved.into(), 0],
-            Err(_) => vec![3, 0, 0, 0],
-        }
-    }
-
-    fn read_words(read: &Self::Read) -> Words {
-        match *read {
-            Ok(Kept { setpoint, version }) => {
-                let (kind, number) = (setpoint.kind().into(), setpoint.number().into());
-                vec![2, version.into(), kind, number]
-            }
-            Err(_) => vec![3, 0, 0, 0],
-        }
+    fn read_dump(desk: &mut Desk, watch: &mut impl Watch) {
+        let reply = wave::read_into(&desk.text, &mut desk.history);
+        watch.see(&reply, history_told);
     }
 }

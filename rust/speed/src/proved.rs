@@ -1,9 +1,9 @@
 //! The proved side: the functions of libskid.a through `skid::raw`, with the reply lent from the desk like all else. So
 //! nothing is filled or copied that C would not.
 
-use crate::desk::Desk;
-use crate::side::{Side, Words};
-use skid::raw::{self, lent};
+use crate::desk::{Desk, BOOT};
+use crate::side::{self, Side, Watch};
+use skid::raw::lent;
 use skid::{Head, Key, Lease};
 
 pub struct Proved;
@@ -19,46 +19,63 @@ fn head_of(desk: &Desk) -> Head {
 }
 
 #[inline(always)]
-fn lease_of(cell: u32, serial: u32, boot: u32) -> Lease {
-    Lease { cell, serial, boot }
+fn lease_of(desk: &Desk) -> Lease {
+    Lease {
+        cell: desk.cell,
+        serial: desk.serial,
+        boot: BOOT,
+    }
+}
+
+#[inline(always)]
+fn key_of(desk: &Desk) -> Key {
+    Key {
+        binding: desk.binding,
+        bucket: desk.bucket,
+    }
 }
 
 impl Side for Proved {
-    type Reply = [u64; raw::REPLY];
-    type Played = [u64; raw::REPLY];
-    type Crew = [u64; raw::CREW];
-    type Salvage = [u64; raw::SALVAGE];
-    type Written = [u64; raw::BOOK];
-    type Read = [u64; raw::BOOK];
-
     #[inline(always)]
-    fn prepare<T>(desk: &mut Desk, seen: impl FnOnce(&Self::Reply) -> T) -> T {
-        let head = Head {
-            next: 1,
-            ..head_of(desk)
-        };
+    fn prepare(desk: &mut Desk, watch: &mut impl Watch) {
         lent::prepare(
-            head,
+            head_of(desk),
             &mut desk.table,
             &mut desk.health,
             &mut desk.replies.reply,
         );
-        seen(&desk.replies.reply)
+        watch.see(&desk.replies.reply, |words| side::told_reply(words));
     }
 
     #[inline(always)]
-    fn drop_lease<T>(desk: &mut Desk, seen: impl FnOnce(&Self::Reply) -> T) -> T {
-        let head = head_of(desk);
-        let lease = lease_of(desk.cell, desk.serial, desk.lease_boot);
-        lent::drop_lease(head, &mut desk.table, lease, &mut desk.replies.reply);
-        seen(&desk.replies.reply)
+    fn drop_lease(desk: &mut Desk, watch: &mut impl Watch) {
+        let lease = lease_of(desk);
+        lent::drop_lease(
+            head_of(desk),
+            &mut desk.table,
+            lease,
+            &mut desk.replies.reply,
+        );
+        watch.see(&desk.replies.reply, |words| side::told_reply(words));
     }
 
     #[inline(always)]
-    fn environment<T>(desk: &mut Desk, seen: impl FnOnce(&Self::Played) -> T) -> T {
-        let head = head_of(desk);
+    fn drop_preserving_borrows(desk: &mut Desk, watch: &mut impl Watch) {
+        let lease = lease_of(desk);
+        lent::drop_preserving_borrows(
+            head_of(desk),
+            &mut desk.table,
+            &desk.held,
+            lease,
+            &mut desk.replies.reply,
+        );
+        watch.see(&desk.replies.reply, |words| side::told_reply(words));
+    }
+
+    #[inline(always)]
+    fn environment(desk: &mut Desk, watch: &mut impl Watch) {
         lent::environment(
-            head,
+            head_of(desk),
             &mut desk.table,
             &mut desk.health,
             &desk.script,
@@ -66,14 +83,13 @@ impl Side for Proved {
             &desk.held,
             &mut desk.replies.reply,
         );
-        seen(&desk.replies.reply)
+        watch.see(&desk.replies.reply, |words| side::told_reply(words));
     }
 
     #[inline(always)]
-    fn try_lock<T>(desk: &mut Desk, seen: impl FnOnce(&Self::Played) -> T) -> T {
-        let head = head_of(desk);
+    fn try_lock(desk: &mut Desk, watch: &mut impl Watch) {
         lent::try_lock(
-            head,
+            head_of(desk),
             &mut desk.table,
             &mut desk.health,
             &desk.script,
@@ -82,18 +98,14 @@ impl Side for Proved {
             desk.cell,
             &mut desk.replies.reply,
         );
-        seen(&desk.replies.reply)
+        watch.see(&desk.replies.reply, |words| side::told_reply(words));
     }
 
     #[inline(always)]
-    fn acquire_index_bucket<T>(desk: &mut Desk, seen: impl FnOnce(&Self::Played) -> T) -> T {
-        let head = head_of(desk);
-        let key = Key {
-            binding: desk.binding,
-            bucket: desk.bucket,
-        };
-        lent::acquire_index_bucket(
-            head,
+    fn transactional_try_lock_bucket(desk: &mut Desk, watch: &mut impl Watch) {
+        let key = key_of(desk);
+        lent::transactional_try_lock_bucket(
+            head_of(desk),
             &mut desk.table,
             &mut desk.health,
             &desk.registry,
@@ -103,14 +115,30 @@ impl Side for Proved {
             key,
             &mut desk.replies.reply,
         );
-        seen(&desk.replies.reply)
+        watch.see(&desk.replies.reply, |words| side::told_reply(words));
     }
 
     #[inline(always)]
-    fn acquire_index_locks<T>(desk: &mut Desk, seen: impl FnOnce(&Self::Played) -> T) -> T {
-        let head = head_of(desk);
+    fn acquire_index_bucket(desk: &mut Desk, watch: &mut impl Watch) {
+        let key = key_of(desk);
+        lent::acquire_index_bucket(
+            head_of(desk),
+            &mut desk.table,
+            &mut desk.health,
+            &desk.registry,
+            &desk.script,
+            0,
+            &desk.held,
+            key,
+            &mut desk.replies.reply,
+        );
+        watch.see(&desk.replies.reply, |words| side::told_reply(words));
+    }
+
+    #[inline(always)]
+    fn acquire_index_locks(desk: &mut Desk, watch: &mut impl Watch) {
         lent::acquire_index_locks(
-            head,
+            head_of(desk),
             &mut desk.table,
             &mut desk.health,
             &desk.registry,
@@ -121,14 +149,13 @@ impl Side for Proved {
             &mut desk.grants,
             &mut desk.replies.reply,
         );
-        seen(&desk.replies.reply)
+        watch.see(&desk.replies.reply, |words| side::told_reply(words));
     }
 
     #[inline(always)]
-    fn acquire_sorted_locks<T>(desk: &mut Desk, seen: impl FnOnce(&Self::Played) -> T) -> T {
-        let head = head_of(desk);
+    fn acquire_sorted_locks(desk: &mut Desk, watch: &mut impl Watch) {
         lent::acquire_sorted_locks(
-            head,
+            head_of(desk),
             &mut desk.table,
             &mut desk.health,
             &desk.registry,
@@ -139,14 +166,13 @@ impl Side for Proved {
             &mut desk.grants,
             &mut desk.replies.reply,
         );
-        seen(&desk.replies.reply)
+        watch.see(&desk.replies.reply, |words| side::told_reply(words));
     }
 
     #[inline(always)]
-    fn release_all<T>(desk: &mut Desk, seen: impl FnOnce(&Self::Played) -> T) -> T {
-        let head = head_of(desk);
+    fn release_all(desk: &mut Desk, watch: &mut impl Watch) {
         lent::release_all(
-            head,
+            head_of(desk),
             &mut desk.table,
             &mut desk.health,
             &desk.script,
@@ -154,14 +180,13 @@ impl Side for Proved {
             &desk.grants,
             &mut desk.replies.reply,
         );
-        seen(&desk.replies.reply)
+        watch.see(&desk.replies.reply, |words| side::told_reply(words));
     }
 
     #[inline(always)]
-    fn crew<T>(desk: &mut Desk, seen: impl FnOnce(&Self::Crew) -> T) -> T {
-        let head = head_of(desk);
+    fn crew(desk: &mut Desk, watch: &mut impl Watch) {
         lent::crew(
-            head,
+            head_of(desk),
             &mut desk.table,
             &desk.health,
             &desk.counts,
@@ -169,14 +194,13 @@ impl Side for Proved {
             &desk.turns,
             &mut desk.replies.crew,
         );
-        seen(&desk.replies.crew)
+        watch.see(&desk.replies.crew, |words| side::told_crew(words));
     }
 
     #[inline(always)]
-    fn crew_at_work<T>(desk: &mut Desk, seen: impl FnOnce(&Self::Crew) -> T) -> T {
-        let head = head_of(desk);
+    fn crew_at_work(desk: &mut Desk, watch: &mut impl Watch) {
         lent::crew_at_work(
-            head,
+            head_of(desk),
             &mut desk.table,
             &desk.health,
             &desk.counts,
@@ -185,82 +209,59 @@ impl Side for Proved {
             &mut desk.counters,
             &mut desk.replies.crew,
         );
-        seen(&desk.replies.crew)
+        watch.see(&desk.replies.crew, |words| side::told_crew(words));
     }
 
     #[inline(always)]
-    fn salvage<T>(desk: &mut Desk, seen: impl FnOnce(&Self::Salvage) -> T) -> T {
-        let head = head_of(desk);
+    fn salvage(desk: &mut Desk, watch: &mut impl Watch) {
         lent::salvage(
-            head,
+            head_of(desk),
             &mut desk.table,
             &mut desk.health,
             &mut desk.report,
             &mut desk.unconfirmed,
             &mut desk.replies.salvage,
         );
-        seen(&desk.replies.salvage)
+        watch.see(&desk.replies.salvage, |words| side::told_salvage(words));
     }
 
     #[inline(always)]
-    fn write_speed<T>(desk: &mut Desk, seen: impl FnOnce(&Self::Written) -> T) -> T {
-        let head = head_of(desk);
+    fn write_speed(desk: &mut Desk, watch: &mut impl Watch) {
+        let lease = lease_of(desk);
         lent::write_speed(
-            head,
+            head_of(desk),
             &desk.table,
             &mut desk.book,
             desk.slot,
-            lease_of(desk.cell, desk.serial, desk.lease_boot),
+            lease,
             desk.speed,
             &mut desk.replies.book,
         );
-        seen(&desk.replies.book)
+        watch.see(&desk.replies.book, |words| side::told_written(words));
     }
 
     #[inline(always)]
-    fn read_version<T>(desk: &mut Desk, seen: impl FnOnce(&Self::Read) -> T) -> T {
-        let head = head_of(desk);
+    fn read_version(desk: &mut Desk, watch: &mut impl Watch) {
         lent::read_version(
-            head,
+            head_of(desk),
             &desk.book,
             desk.slot,
             desk.version,
             &mut desk.replies.book,
         );
-        seen(&desk.replies.book)
+        watch.see(&desk.replies.book, |words| side::told_read(words));
     }
 
     #[inline(always)]
-    fn next(played: &Self::Played) -> u32 {
-        played[2] as u32
+    fn write_dump(desk: &mut Desk, watch: &mut impl Watch) {
+        let cells = desk.cell;
+        lent::write_dump(cells, &desk.script, &mut desk.text, &mut desk.replies.wave);
+        watch.see(&desk.replies.wave, |words| side::told_dump(words));
     }
 
     #[inline(always)]
-    fn granted(played: &Self::Played) -> Option<[u32; 3]> {
-        (played[9] == 2).then_some([played[10] as u32, played[11] as u32, played[12] as u32])
-    }
-
-    fn reply_words(reply: &Self::Reply) -> Words {
-        reply.to_vec()
-    }
-
-    fn played_words(played: &Self::Played) -> Words {
-        played.to_vec()
-    }
-
-    fn crew_words(crew: &Self::Crew) -> Words {
-        crew.to_vec()
-    }
-
-    fn salvage_words(salvage: &Self::Salvage) -> Words {
-        salvage.to_vec()
-    }
-
-    fn written_words(written: &Self::Written) -> Words {
-        written.to_vec()
-    }
-
-    fn read_words(read: &Self::Read) -> Words {
-        read.to_vec()
+    fn read_dump(desk: &mut Desk, watch: &mut impl Watch) {
+        lent::read_dump(&desk.text, &mut desk.history, &mut desk.replies.wave);
+        watch.see(&desk.replies.wave, |words| side::told_history(words));
     }
 }

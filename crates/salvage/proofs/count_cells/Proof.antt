@@ -1,26 +1,30 @@
 -- `salvage::count_cells` meets its contract.
-use borrow.Author.Needs.{needs}
 use native.Mathlib.Omega.{arith}
+use borrow.Author.Needs.{needs}
 use Prim.Native.Nat.{_+_, _*_, _-_, _≤_}
 use mathlib.Core.Path.{_≡_}
-use Rattle.salvage.specs.Laws.{changesLeft, countCellsOf, count-turn, count-end, count-start, changed-in-small}
+use lib.ListN.{length}
+use Rattle.salvage.specs.Laws.{changesLeft, heldLeft, countCellsOf, countHeldOf, count-start, count-turn, count-end, held-count-start, held-turn-length, held-count-end, tally-parts, tally-cells}
 use Rattle.salvage.proofs.count_cells.Statement.{statement}
 use Rattle.salvage.proofs.count_cells.Tie as tie
 
 abbrev Inv-loop : tie.InvT-loop
-Inv-loop next table cells count₀ cell₀ count cell = (cell ≤ cells) × (count ≤ 3 * cell) × (count + changesLeft next table cell ≡ countCellsOf next table)
+Inv-loop next table cells changes₀ left₀ cell₀ changes left cell = (cell ≤ cells) × (changes ≤ 3 * cell) × (left ≤ cell) × (changes + changesLeft next table cell ≡ countCellsOf next table) × (left + length (heldLeft next table cells cell) ≡ countHeldOf next cells table)
 
 abbrev μ-loop : tie.MeasureT-loop
-μ-loop next table cells count₀ cell₀ count cell = cells - cell
+μ-loop next table cells changes₀ left₀ cell₀ changes left cell = cells - cell
 
 loop-holds : tie.Need-loop-holds Inv-loop μ-loop
-loop-holds c = let a = c .before .args in (search needs, search needs, count-start (a .next) (a .table .now))
+loop-holds c = let a = c .before .args in (search needs, search needs, search needs, count-start (a .next) (a .table .now), held-count-start (a .next) (a .cells) (a .table .now))
 
-changed-in-requires : tie.Need-changed-in-requires Inv-loop μ-loop
-changed-in-requires c κs = search needs
+tally-in-requires : tie.Need-tally-in-requires Inv-loop μ-loop
+tally-in-requires c κs = search needs
 
-add-count : tie.Need-add-count Inv-loop μ-loop
-add-count c = omega (arith, changed-in-small _ _ _ _ (c .changed-in .ensures), c .before .before .loop .inv .1)
+add-changes : tie.Need-add-changes Inv-loop μ-loop
+add-changes c = let one = tally-parts _ _ _ _ (c .before .tally-in .ensures) in omega (arith, one .2, c .before .before .before .loop .inv .1)
+
+add-left : tie.Need-add-left Inv-loop μ-loop
+add-left c = let one = tally-parts _ _ _ _ (c .before .before .tally-in .ensures) in omega (arith, one .3, c .before .before .before .before .loop .inv .2)
 
 add-cell : tie.Need-add-cell Inv-loop μ-loop
 add-cell c = search needs
@@ -30,15 +34,16 @@ loop-less c = search needs
 
 loop-again : tie.Need-loop-again Inv-loop μ-loop
 loop-again c =
-    let l = c .before .before .loop in
-    let a = c .before .before .before .before .args in
-    (search needs, omega (arith, changed-in-small _ _ _ _ (c .changed-in .ensures), l .inv .1), omega (arith, count-turn (a .next) (a .table .now) (l .cell) (search needs), c .changed-in .ensures, l .inv .2))
+    let l = c .before .before .before .before .loop in
+    let a = c .before .before .before .before .before .before .args in
+    let one = tally-parts _ _ _ _ (c .before .before .tally-in .ensures) in
+    (search needs, omega (arith, one .2, l .inv .1), omega (arith, one .3, l .inv .2), omega (arith, count-turn (a .next) (a .table .now) (l .cell) (search needs), one .0, l .inv .3), omega (arith, held-turn-length (a .next) (a .table .now) (a .cells) (l .cell) (search needs), one .1, l .inv .4))
 
 returns : tie.Need-returns Inv-loop μ-loop
 returns c =
     let l = c .before .loop in
     let a = c .before .before .before .args in
-    omega (arith, count-end (a .next) (a .table .now) (l .cell) (search needs), l .inv .2)
+    tally-cells (a .next) (a .cells) (a .table .now) _ _ (omega (arith, count-end (a .next) (a .table .now) (l .cell) (search needs), l .inv .3)) (omega (arith, held-count-end (a .next) (a .table .now) (a .cells) (l .cell) (search needs), l .inv .4))
 
 pub count-cells-spec : {M : Type 1} → statement M
 count-cells-spec =
@@ -47,8 +52,9 @@ count-cells-spec =
     Inv-loop
     μ-loop
     loop-holds
-    changed-in-requires
-    add-count
+    tally-in-requires
+    add-changes
+    add-left
     add-cell
     loop-less
     loop-again

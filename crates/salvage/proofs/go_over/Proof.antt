@@ -1,16 +1,14 @@
 -- `salvage::go_over` meets its contract.
 use Rattle.model.specs.Salvage.{goOverOf, isReportFull}
 use Rattle.laws.specs.Salvage.{entries-room}
+use Rattle.salvage.specs.Laws.{tally-changes, tally-left}
 use borrow.Author.Tests.{le-ltb, lt-ltb}
 use borrow.Author.Needs.{needs}
 use Rattle.salvage.proofs.go_over.Statement.{statement}
 use Rattle.salvage.proofs.go_over.Tie as tie
 
-entries-requires : tie.Need-entries-requires
-entries-requires c κs = search needs
-
-held-requires : tie.Need-held-requires
-held-requires c κs = search needs
+count-all-requires : tie.Need-count-all-requires
+count-all-requires c κs = search needs
 
 conclude-requires : tie.Need-conclude-requires
 conclude-requires c κs = search needs
@@ -23,7 +21,7 @@ same-length-2 c = search needs
 
 returns : tie.Need-returns
 unfolding goOverOf isReportFull
-returns c = rw (← c .before .before .before .before .entries .ensures, lt-ltb _ _ (c .before .if1 .taken), ← c .conclude .ensures)
+returns c = rw (← tally-changes _ _ _ _ (c .before .before .count-all .ensures), lt-ltb _ _ (c .before .if1 .taken), ← c .conclude .ensures)
 
 conclude-requires-2 : tie.Need-conclude-requires-2
 conclude-requires-2 c κs = search needs
@@ -36,13 +34,13 @@ same-length-4 c = search needs
 
 returns-2 : tie.Need-returns-2
 unfolding goOverOf isReportFull
-returns-2 c = rw (← c .before .before .before .before .before .entries .ensures, le-ltb _ _ (c .before .before .if1 .left), ← c .before .before .before .held .ensures, lt-ltb _ _ (c .before .if2 .taken), ← c .conclude2 .ensures)
+returns-2 c = rw (← tally-changes _ _ _ _ (c .before .before .before .count-all .ensures), le-ltb _ _ (c .before .before .if1 .left), ← tally-left _ _ _ _ (c .before .before .before .count-all .ensures), lt-ltb _ _ (c .before .if2 .taken), ← c .conclude2 .ensures)
 
 mend-requires : tie.Need-mend-requires
 mend-requires c κs =
-    let a = c .before .before .before .before .before .before .before .before .before .before .before .before .before .before .before .args in
-    let p = c .before .before .before .before .before .before .before .before .before .before .before .before .before .before .before .pre in
-    (p .0, p .1, entries-room (a .head) (a .table .now) (a .health .now) _ _ (c .before .before .before .before .before .before .before .before .entries .ensures) (c .before .before .before .before .before .if1 .left), rw (← c .before .before .before .before .before .before .held .ensures) (c .before .before .before .before .if2 .left))
+    let a = c .before .before .before .before .before .before .before .before .before .before .before .before .before .args in
+    let p = c .before .before .before .before .before .before .before .before .before .before .before .before .before .pre in
+    (p .0, p .1, entries-room (a .head) (a .table .now) (a .health .now) _ _ (tally-changes _ _ _ _ (c .before .before .before .before .before .before .count-all .ensures)) (c .before .before .before .before .before .if1 .left), rw (← tally-left _ _ _ _ (c .before .before .before .before .before .before .count-all .ensures)) (c .before .before .before .before .if2 .left))
 
 conclude-requires-3 : tie.Need-conclude-requires-3
 conclude-requires-3 c κs = search needs
@@ -61,14 +59,13 @@ same-length-8 c = search needs
 
 returns-3 : tie.Need-returns-3
 unfolding goOverOf isReportFull
-returns-3 c = rw (← c .before .before .before .before .before .before .before .before .before .before .before .before .before .before .before .before .before .before .entries .ensures, le-ltb _ _ (c .before .before .before .before .before .before .before .before .before .before .before .before .before .before .before .if1 .left), ← c .before .before .before .before .before .before .before .before .before .before .before .before .before .before .before .before .held .ensures, le-ltb _ _ (c .before .before .before .before .before .before .before .before .before .before .before .before .before .before .if2 .left), ← c .before .before .before .before .before .before .before .before .before .mend .ensures, ← c .conclude3 .ensures)
+returns-3 c = rw (← tally-changes _ _ _ _ (c .before .before .before .before .before .before .before .before .before .before .before .before .before .before .before .before .count-all .ensures), le-ltb _ _ (c .before .before .before .before .before .before .before .before .before .before .before .before .before .before .before .if1 .left), ← tally-left _ _ _ _ (c .before .before .before .before .before .before .before .before .before .before .before .before .before .before .before .before .count-all .ensures), le-ltb _ _ (c .before .before .before .before .before .before .before .before .before .before .before .before .before .before .if2 .left), ← c .before .before .before .before .before .before .before .before .before .mend .ensures, ← c .conclude3 .ensures)
 
 pub go-over-spec : {M : Type 1} → statement M
 go-over-spec =
     tie.close
     (tie.spec
-    entries-requires
-    held-requires
+    count-all-requires
     conclude-requires
     same-length
     same-length-2

@@ -1,27 +1,20 @@
 -- `salvage::is_held` meets its contract.
 use Rattle.model.specs.Arena.{isHeld}
 use borrow.Author.Tests.{eq-eqb, le-leb, lt-leb, ne-eqb}
-use borrow.Author.Needs.{needs}
 use Rattle.salvage.proofs.is_held.Statement.{statement}
 use Rattle.salvage.proofs.is_held.Tie as tie
 
-bit-at-requires : tie.Need-bit-at-requires
-bit-at-requires c κs = search needs
-
-owner-at-requires : tie.Need-owner-at-requires
-owner-at-requires c κs = search needs
-
 returns : tie.Need-returns
 unfolding isHeld
-returns c = rw (← c .before .before .before .bit-at .ensures, ← c .before .before .owner-at .ensures, eq-eqb _ _ (c .before .if1 .taken), lt-leb 1 _ (c .if2 .taken))
+returns c = rw (eq-eqb _ _ (c .before .if1 .taken), lt-leb 1 _ (c .if2 .taken))
 
 returns-2 : tie.Need-returns-2
 unfolding isHeld
-returns-2 c = rw (← c .before .before .before .bit-at .ensures, ← c .before .before .owner-at .ensures, eq-eqb _ _ (c .before .if1 .taken), le-leb 1 _ (c .if2 .left))
+returns-2 c = rw (eq-eqb _ _ (c .before .if1 .taken), le-leb 1 _ (c .if2 .left))
 
 returns-3 : tie.Need-returns-3
 unfolding isHeld
-returns-3 c = rw (← c .before .before .bit-at .ensures, ← c .before .owner-at .ensures, ne-eqb _ _ (c .if1 .left))
+returns-3 c = rw (ne-eqb _ _ (c .if1 .left))
 
 pub is-held-spec : {M : Type 1} → statement M
-is-held-spec = tie.close (tie.spec bit-at-requires owner-at-requires returns returns-2 returns-3)
+is-held-spec = tie.close (tie.spec returns returns-2 returns-3)

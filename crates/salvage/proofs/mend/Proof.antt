@@ -1,23 +1,27 @@
 -- `salvage::mend` meets its contract.
-use Rattle.model.specs.Salvage.{mendOf}
+use native.Mathlib.Omega.{arith}
+use Rattle.salvage.specs.Laws.{changes-long, list-fits, cells-place, mend-whole}
 use borrow.Author.Needs.{needs}
 use Rattle.salvage.proofs.mend.Statement.{statement}
 use Rattle.salvage.proofs.mend.Tie as tie
 
-fill-report-requires : tie.Need-fill-report-requires
-fill-report-requires c κs = search needs
-
-fill-list-requires : tie.Need-fill-list-requires
-fill-list-requires c κs = search needs
-
-mul-mend-cells : tie.Need-mul-mend-cells
-mul-mend-cells c = search needs
+mul-cells : tie.Need-mul-cells
+mul-cells c = search needs
 
 mend-cells-requires : tie.Need-mend-cells-requires
-mend-cells-requires c κs = search needs
+mend-cells-requires c κs =
+    let a = c .before .before .before .before .before .before .before .before .args in
+    let p = c .before .before .before .before .before .before .before .before .pre in
+    (search needs, search needs, omega (arith, changes-long (a .head) (a .table .now) (a .health .now), p .2), list-fits (a .head) (a .table .now) _ (p .0) (p .3))
+
+mul-mend-bytes : tie.Need-mul-mend-bytes
+mul-mend-bytes c = search needs
 
 mend-bytes-requires : tie.Need-mend-bytes-requires
-mend-bytes-requires c κs = search needs
+mend-bytes-requires c κs =
+    let a = c .before .before .before .before .before .before .before .before .before .before .before .before .before .before .before .before .before .args in
+    let p = c .before .before .before .before .before .before .before .before .before .before .before .before .before .before .before .before .before .pre in
+    (search needs, omega (arith, changes-long (a .head) (a .table .now) (a .health .now), p .2, cells-place _ _ _ _ _ _ (c .before .before .before .before .before .before .before .before .mend-cells .ensures), c .before .before .before .before .before .before .before .before .mend-cells .kept))
 
 same-length : tie.Need-same-length
 same-length c = search needs
@@ -32,17 +36,18 @@ same-length-4 : tie.Need-same-length-4
 same-length-4 c = search needs
 
 returns : tie.Need-returns
-unfolding mendOf
-returns c = rw (← c .before .before .before .before .before .before .before .before .before .before .before .before .before .before .before .before .fill-report .ensures, ← c .before .before .before .before .before .before .before .before .before .before .before .fill-list .ensures, ← c .before .before .before .before .before .before .mend-cells .ensures, ← c .before .before .mend-bytes .ensures)
+returns c =
+    let a = c .before .before .before .before .before .before .before .before .before .before .before .before .before .before .before .before .before .before .before .before .before .before .args in
+    let p = c .before .before .before .before .before .before .before .before .before .before .before .before .before .before .before .before .before .before .before .before .before .before .pre in
+    mend-whole (a .head) (a .table .now) (a .health .now) (a .report .now) (a .unconfirmed .now) _ _ (p .0) (p .2) (p .3) (c .before .before .before .before .before .before .before .before .before .before .before .before .before .mend-cells .ensures) (c .before .before .before .before .mend-bytes .ensures)
 
 pub mend-spec : {M : Type 1} → statement M
 mend-spec =
     tie.close
     (tie.spec
-    fill-report-requires
-    fill-list-requires
-    mul-mend-cells
+    mul-cells
     mend-cells-requires
+    mul-mend-bytes
     mend-bytes-requires
     same-length
     same-length-2

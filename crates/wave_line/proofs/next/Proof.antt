@@ -68,14 +68,8 @@ after-value-requires c κs = let r = rw (c .before .stage4 .given .1) at (c .bef
 enum-known-stage-5 : tie.Need-enum-known-stage-5
 enum-known-stage-5 c = search needs
 
-is-time-requires : tie.Need-is-time-requires
-is-time-requires c κs = search needs
-
-time-in-requires : tie.Need-time-in-requires
-time-in-requires c κs = search needs
-
-fixed-requires-5 : tie.Need-fixed-requires-5
-fixed-requires-5 c κs = search needs
+after-time-requires : tie.Need-after-time-requires
+after-time-requires c κs = search needs
 
 enum-known-stage-6 : tie.Need-enum-known-stage-6
 enum-known-stage-6 c = search needs
@@ -83,8 +77,8 @@ enum-known-stage-6 c = search needs
 is-change-requires : tie.Need-is-change-requires
 is-change-requires c κs = (rw (c .before .stage6 .given .1) at (c .before .before .before .before .pre)) .1
 
-fixed-requires-6 : tie.Need-fixed-requires-6
-fixed-requires-6 c κs = search needs
+fixed-requires-5 : tie.Need-fixed-requires-5
+fixed-requires-5 c κs = search needs
 
 enum-told-3 : tie.Need-enum-told-3
 enum-told-3 c = search needs
@@ -112,10 +106,10 @@ returns-6 : tie.Need-returns-6
 returns-6 c = rw (c .before .before .stage4 .given .1, ← c .after-value .ensures)
 
 returns-7 : tie.Need-returns-7
-returns-7 c = rw (c .before .before .before .before .stage5 .given .1, ← c .before .before .is-time .ensures, ← c .before .time-in .ensures, ← c .fixed5 .ensures)
+returns-7 c = rw (c .before .before .stage5 .given .1, ← c .after-time .ensures)
 
 returns-8 : tie.Need-returns-8
-returns-8 c = rw (c .before .before .before .stage6 .given .1, ← c .before .is-change .ensures, ← c .fixed6 .ensures)
+returns-8 c = rw (c .before .before .before .stage6 .given .1, ← c .before .is-change .ensures, ← c .fixed5 .ensures)
 
 returns-9 : tie.Need-returns-9
 returns-9 c = search needs
@@ -145,12 +139,10 @@ next-spec =
     enum-known-stage-4
     after-value-requires
     enum-known-stage-5
-    is-time-requires
-    time-in-requires
-    fixed-requires-5
+    after-time-requires
     enum-known-stage-6
     is-change-requires
-    fixed-requires-6
+    fixed-requires-5
     enum-told-3
     returns
     returns-2

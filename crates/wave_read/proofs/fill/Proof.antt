@@ -1,9 +1,10 @@
 -- `wave_read::fill` meets its contract.
 use borrow.Author.Needs.{needs}
-use Prim.Native.Nat.{_≤_, _-_, _+_}
-use mathlib.Core.Path.{_≡_, refl, sym, _∙_}
+use Prim.Native.Nat.{_≤_, _<_, _-_, _+_}
+use mathlib.Core.Path.{_≡_, refl, ap, _∙_}
 use native.Mathlib.Omega.{arith}
 use lib.ListN.{length, drop}
+use Rattle.wave_rules.specs.declared.Stage.{Stage}
 use Rattle.wave_rules.specs.declared.Stage.the-variants.{Opening}
 use Rattle.wave_rules.specs.declared.Verdict.the-variants.{Fine}
 use Rattle.wave_rules.specs.Lines.{splitOf}
@@ -11,7 +12,9 @@ use Rattle.wave_rules.specs.Dump.{noBits}
 use Rattle.wave_rules.specs.Reader.{verdictOf, scriptWordsOf}
 use Rattle.print.specs.Print.{putOf}
 use Rattle.wave_rules.specs.Stages.{Reach, reach-next, words-count}
-use Rattle.wave_read.specs.Laws.{scan-torn, scan-lost, scan-turn, words-turn, words-room, words-end, put-all, not-bad}
+use Rattle.wave_line.specs.Stages.{isLost}
+use Rattle.wave_line.specs.Laws.{onward-is}
+use Rattle.wave_read.specs.Laws.{scan-torn, scan-live, scan-turn, words-turn, words-room, words-end, put-all, not-bad}
 use Rattle.wave_read.proofs.fill.Statement.{statement}
 use Rattle.wave_read.proofs.fill.Tie as tie
 
@@ -37,88 +40,86 @@ returns c =
     let a = c .before .before .before .before .before .before .args in
     not-bad (l .k) (a .n) (a .last) _ (scan-torn (a .text .now) (l .at) _ (l .k) (l .stage) (l .bits) (search needs) (c .before .end-of .ensures .0) (c .if1 .taken)) (l .inv .4)
 
-sub-next : tie.Need-sub-next Inv-loop μ-loop
-sub-next c = search needs
+sub-onward : tie.Need-sub-onward Inv-loop μ-loop
+sub-onward c = search needs
 
-part-next-start : tie.Need-part-next-start Inv-loop μ-loop
-part-next-start c = omega (arith, c .before .before .end-of .ensures .1)
+part-onward-start : tie.Need-part-onward-start Inv-loop μ-loop
+part-onward-start c = omega (arith, c .before .end-of .ensures .1)
 
-part-next-end : tie.Need-part-next-end Inv-loop μ-loop
-part-next-end c = omega (arith, c .before .before .end-of .ensures .1)
+part-onward-end : tie.Need-part-onward-end Inv-loop μ-loop
+part-onward-end c = omega (arith, c .before .end-of .ensures .1)
 
-next-requires : tie.Need-next-requires Inv-loop μ-loop
-next-requires c κs = c .before .before .before .before .before .loop .inv .0
+onward-requires : tie.Need-onward-requires Inv-loop μ-loop
+onward-requires c κs = c .before .before .before .before .loop .inv .0
 
-is-lost-requires : tie.Need-is-lost-requires Inv-loop μ-loop
-is-lost-requires c κs = search needs
+sub-put-words : tie.Need-sub-put-words Inv-loop μ-loop
+sub-put-words c = search needs
+
+part-put-words-start : tie.Need-part-put-words-start Inv-loop μ-loop
+part-put-words-start c = omega (arith, c .before .before .before .before .end-of .ensures .1)
+
+part-put-words-end : tie.Need-part-put-words-end Inv-loop μ-loop
+part-put-words-end c = omega (arith, c .before .before .before .before .end-of .ensures .1)
+
+put-words-requires : tie.Need-put-words-requires Inv-loop μ-loop
+put-words-requires c κs =
+    let l = c .before .before .before .before .before .before .before .before .loop in
+    let a = c .before .before .before .before .before .before .before .before .before .before .before .args in
+    let e = c .before .before .before .before .before .before .end-of .ensures in
+    let inside : c .before .before .before .before .before .before .end-of .result < length (a .text .now) = omega (arith, e .1, c .before .before .before .before .before .if1 .left) in
+    let room = words-room (a .text .now) (l .at) _ (l .stage) (l .bits) (l .out) (a .out .now) (l .used) 0 (scriptWordsOf Opening noBits (splitOf (a .text .now))) (e .0) inside (l .inv .5) in (
+      l .inv .0,
+      scan-live (a .text .now) (l .at) _ (l .k) (a .n) (a .last) (l .stage) (l .bits) (e .0) inside (l .inv .4),
+      omega (arith, room, l .inv .3, c .before .before .before .before .before .before .before .before .before .before .before .pre .1, words-count (splitOf (a .text .now)) (a .n) (a .last) noBits (c .before .before .before .before .before .before .before .before .before .before .before .pre .0)),
+    )
+
+sub-bits-after : tie.Need-sub-bits-after Inv-loop μ-loop
+sub-bits-after c = search needs
+
+part-bits-after-start : tie.Need-part-bits-after-start Inv-loop μ-loop
+part-bits-after-start c = omega (arith, c .before .before .before .before .before .before .before .before .before .before .end-of .ensures .1)
+
+part-bits-after-end : tie.Need-part-bits-after-end Inv-loop μ-loop
+part-bits-after-end c = omega (arith, c .before .before .before .before .before .before .before .before .before .before .end-of .ensures .1)
+
+bits-after-requires : tie.Need-bits-after-requires Inv-loop μ-loop
+bits-after-requires c κs =
+    let l = c .before .before .before .before .before .before .before .before .before .before .before .before .before .loop in
+    let a = c .before .before .before .before .before .before .before .before .before .before .before .before .before .before .before .before .args in
+    let e = c .before .before .before .before .before .before .before .before .before .before .before .end-of .ensures in
+    let inside : c .before .before .before .before .before .before .before .before .before .before .before .end-of .result < length (a .text .now) = omega (arith, e .1, c .before .before .before .before .before .before .before .before .before .before .if1 .left) in
+    (l .inv .0, scan-live (a .text .now) (l .at) _ (l .k) (a .n) (a .last) (l .stage) (l .bits) (e .0) inside (l .inv .4))
+
+add-at : tie.Need-add-at Inv-loop μ-loop
+add-at c = omega (arith, c .before .before .before .before .before .before .before .before .before .before .before .before .end-of .ensures .1, c .before .before .before .before .before .before .before .before .before .before .before .if1 .left)
+
+add-k : tie.Need-add-k Inv-loop μ-loop
+add-k c = omega (arith, c .before .before .before .before .before .before .before .before .before .before .before .before .before .before .loop .inv .1, c .before .before .before .before .before .before .before .before .before .before .before .before .end-of .ensures .1, c .before .before .before .before .before .before .before .before .before .before .before .if1 .left)
+
+loop-less : tie.Need-loop-less Inv-loop μ-loop
+loop-less c = omega (arith, c .before .before .before .before .before .before .before .before .before .before .before .before .end-of .ensures .1, c .before .before .before .before .before .before .before .before .before .before .before .if1 .left, c .before .before .before .before .before .before .before .before .before .before .before .before .before .loop-test .taken)
+
+loop-again : tie.Need-loop-again Inv-loop μ-loop
+loop-again c =
+    let l = c .before .before .before .before .before .before .before .before .before .before .before .before .before .before .loop in
+    let a = c .before .before .before .before .before .before .before .before .before .before .before .before .before .before .before .before .before .args in
+    let e = c .before .before .before .before .before .before .before .before .before .before .before .before .end-of .ensures in
+    let inside : c .before .before .before .before .before .before .before .before .before .before .before .before .end-of .result < length (a .text .now) = omega (arith, e .1, c .before .before .before .before .before .before .before .before .before .before .before .if1 .left) in
+    let live = scan-live (a .text .now) (l .at) _ (l .k) (a .n) (a .last) (l .stage) (l .bits) (e .0) inside (l .inv .4) in
+    let next = c .before .before .before .before .before .before .before .before .before .onward .ensures ∙ onward-is (l .stage) (l .bits) _ live in (
+      rw next (reach-next (l .stage) (l .bits) _ (l .inv .0)),
+      omega (arith, l .inv .1, e .1),
+      omega (arith, inside),
+      omega (arith, c .before .before .before .before .before .put-words .kept, l .inv .3),
+      scan-turn (a .text .now) (l .at) _ (l .k) (l .stage) _ (l .bits) _ (e .0) inside next (ap (λ (s : Stage). isLost s) next ∙ live) (c .bits-after .ensures) ∙ l .inv .4,
+      words-turn (a .text .now) (l .at) _ (l .stage) _ (l .bits) _ (l .out) _ (l .used) _ (e .0) inside next (c .bits-after .ensures) (c .before .before .before .before .before .put-words .ensures) ∙ l .inv .5,
+    )
 
 same-length-2 : tie.Need-same-length-2 Inv-loop μ-loop
 same-length-2 c = search needs
 
 returns-2 : tie.Need-returns-2 Inv-loop μ-loop
 returns-2 c =
-    let l = c .before .before .before .before .before .before .before .before .loop in
-    let a = c .before .before .before .before .before .before .before .before .before .before .before .args in
-    not-bad (l .k) (a .n) (a .last) _ (scan-lost (a .text .now) (l .at) _ (l .k) (l .stage) _ (l .bits) (c .before .before .before .before .before .before .end-of .ensures .0) (omega (arith, c .before .before .before .before .before .before .end-of .ensures .1, c .before .before .before .before .before .if1 .left)) (c .before .before .next .ensures) (sym (c .before .is-lost .ensures) ∙ c .if2 .taken)) (l .inv .4)
-
-sub-put-words : tie.Need-sub-put-words Inv-loop μ-loop
-sub-put-words c = search needs
-
-part-put-words-start : tie.Need-part-put-words-start Inv-loop μ-loop
-part-put-words-start c = omega (arith, c .before .before .before .before .before .before .before .end-of .ensures .1)
-
-part-put-words-end : tie.Need-part-put-words-end Inv-loop μ-loop
-part-put-words-end c = omega (arith, c .before .before .before .before .before .before .before .end-of .ensures .1)
-
-put-words-requires : tie.Need-put-words-requires Inv-loop μ-loop
-put-words-requires c κs =
-    let l = c .before .before .before .before .before .before .before .before .before .before .before .loop in
-    let a = c .before .before .before .before .before .before .before .before .before .before .before .before .before .before .args in
-    let e = c .before .before .before .before .before .before .before .before .before .end-of .ensures in
-    let room = words-room (a .text .now) (l .at) _ (l .stage) (l .bits) (l .out) (a .out .now) (l .used) 0 (scriptWordsOf Opening noBits (splitOf (a .text .now))) (e .0) (omega (arith, e .1, c .before .before .before .before .before .before .before .before .if1 .left)) (l .inv .5) in
-    (l .inv .0, rw (← c .before .before .before .before .before .next .ensures) (sym (c .before .before .before .before .is-lost .ensures) ∙ c .before .before .before .if2 .left), omega (arith, room, l .inv .3, c .before .before .before .before .before .before .before .before .before .before .before .before .before .before .pre .1, words-count (splitOf (a .text .now)) (a .n) (a .last) noBits (c .before .before .before .before .before .before .before .before .before .before .before .before .before .before .pre .0)))
-
-sub-bits-after : tie.Need-sub-bits-after Inv-loop μ-loop
-sub-bits-after c = search needs
-
-part-bits-after-start : tie.Need-part-bits-after-start Inv-loop μ-loop
-part-bits-after-start c = omega (arith, c .before .before .before .before .before .before .before .before .before .before .before .before .before .end-of .ensures .1)
-
-part-bits-after-end : tie.Need-part-bits-after-end Inv-loop μ-loop
-part-bits-after-end c = omega (arith, c .before .before .before .before .before .before .before .before .before .before .before .before .before .end-of .ensures .1)
-
-bits-after-requires : tie.Need-bits-after-requires Inv-loop μ-loop
-bits-after-requires c κs = (c .before .before .before .before .before .before .before .before .before .before .before .before .before .before .before .before .loop .inv .0, rw (← c .before .before .before .before .before .before .before .before .before .before .next .ensures) (sym (c .before .before .before .before .before .before .before .before .before .is-lost .ensures) ∙ c .before .before .before .before .before .before .before .before .if2 .left))
-
-add-at : tie.Need-add-at Inv-loop μ-loop
-add-at c = omega (arith, c .before .before .before .before .before .before .before .before .before .before .before .before .before .before .before .end-of .ensures .1, c .before .before .before .before .before .before .before .before .before .before .before .before .before .before .if1 .left)
-
-add-k : tie.Need-add-k Inv-loop μ-loop
-add-k c = omega (arith, c .before .before .before .before .before .before .before .before .before .before .before .before .before .before .before .before .before .loop .inv .1, c .before .before .before .before .before .before .before .before .before .before .before .before .before .before .before .end-of .ensures .1, c .before .before .before .before .before .before .before .before .before .before .before .before .before .before .if1 .left)
-
-loop-less : tie.Need-loop-less Inv-loop μ-loop
-loop-less c = omega (arith, c .before .before .before .before .before .before .before .before .before .before .before .before .before .before .before .end-of .ensures .1, c .before .before .before .before .before .before .before .before .before .before .before .before .before .before .if1 .left, c .before .before .before .before .before .before .before .before .before .before .before .before .before .before .before .before .loop-test .taken)
-
-loop-again : tie.Need-loop-again Inv-loop μ-loop
-loop-again c =
-    let l = c .before .before .before .before .before .before .before .before .before .before .before .before .before .before .before .before .before .loop in
-    let a = c .before .before .before .before .before .before .before .before .before .before .before .before .before .before .before .before .before .before .before .before .args in
-    let e = c .before .before .before .before .before .before .before .before .before .before .before .before .before .before .before .end-of .ensures in
-    let inside = c .before .before .before .before .before .before .before .before .before .before .before .before .before .before .if1 .left in
-    let live = sym (c .before .before .before .before .before .before .before .before .before .before .is-lost .ensures) ∙ c .before .before .before .before .before .before .before .before .before .if2 .left in (
-      rw (c .before .before .before .before .before .before .before .before .before .before .before .next .ensures) (reach-next (l .stage) (l .bits) _ (l .inv .0)),
-      omega (arith, l .inv .1, e .1),
-      omega (arith, e .1, inside),
-      omega (arith, c .before .before .before .before .before .put-words .kept, l .inv .3),
-      scan-turn (a .text .now) (l .at) _ (l .k) (l .stage) _ (l .bits) _ (e .0) (omega (arith, e .1, inside)) (c .before .before .before .before .before .before .before .before .before .before .before .next .ensures) live (c .bits-after .ensures) ∙ l .inv .4,
-      words-turn (a .text .now) (l .at) _ (l .stage) _ (l .bits) _ (l .out) _ (l .used) _ (e .0) (omega (arith, e .1, inside)) (c .before .before .before .before .before .before .before .before .before .before .before .next .ensures) (c .bits-after .ensures) (c .before .before .before .before .before .put-words .ensures) ∙ l .inv .5,
-    )
-
-same-length-3 : tie.Need-same-length-3 Inv-loop μ-loop
-same-length-3 c = search needs
-
-returns-3 : tie.Need-returns-3 Inv-loop μ-loop
-returns-3 c =
     let l = c .before .loop in
     let a = c .before .before .before .before .args in
     put-all (a .out .now) (l .out) (l .used) _ (rw (words-end (a .text .now) (l .at) (l .stage) (l .bits) (search needs)) at (l .inv .5))
@@ -133,13 +134,10 @@ fill-spec =
     end-of-requires
     same-length
     returns
-    sub-next
-    part-next-start
-    part-next-end
-    next-requires
-    is-lost-requires
-    same-length-2
-    returns-2
+    sub-onward
+    part-onward-start
+    part-onward-end
+    onward-requires
     sub-put-words
     part-put-words-start
     part-put-words-end
@@ -152,5 +150,5 @@ fill-spec =
     add-k
     loop-less
     loop-again
-    same-length-3
-    returns-3)
+    same-length-2
+    returns-2)

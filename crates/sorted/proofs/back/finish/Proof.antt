@@ -3,6 +3,7 @@ use mathlib.Core.Path.{subst}
 use native.Mathlib.Omega.{arith}
 use lib.ListN.{length}
 use borrow.Author.Needs.{needs}
+use Rattle.sorted.specs.Order.{asking-front}
 use Rattle.sorted.specs.Back.{Placed}
 use Rattle.sorted.proofs.back.finish.Statement.{statement}
 use Rattle.sorted.proofs.back.finish.Tie as tie
@@ -68,7 +69,7 @@ returns : tie.Need-returns
 returns c = rw (c .before .before .before .before .before .enum-told .given .1, ← c .before .before .before .share .ensures, ← c .play .ensures)
 
 returns-2 : tie.Need-returns-2
-returns-2 c = rw (c .before .before .before .before .answer .given .1, ← c .before .first-asking .ensures, ← c .play2 .ensures)
+returns-2 c = rw (c .before .before .before .before .answer .given .1, ← asking-front _ _ _ (c .before .first-asking .ensures), ← c .play2 .ensures)
 
 returns-3 : tie.Need-returns-3
 returns-3 c = rw (c .before .enum-told2 .given .1, ← c .play3 .ensures)
