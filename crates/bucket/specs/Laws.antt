@@ -30,9 +30,9 @@ use Rattle.laws.specs.Seen.{seen-if}
 use Rattle.foreign.specs.declared.Scope.{Scope}
 use Rattle.foreign.specs.Laws.{FlowBound, boundary-flow-bound}
 use Rattle.bucket.specs.Bounds.{callMost}
-use Rattle.bucket.specs.Model.{Lands, targetOf, bareOf, trialWith, asideOf, trialOf, againOf}
+use Rattle.bucket.specs.Model.{Lands, targetOf, withoutReasonOf, trialWith, reasonApartOf, attemptedOf, againOf}
 use Rattle.bucket.specs.declared.Target.{Target}
-use Rattle.bucket.specs.declared.Trial.{Trial}
+use Rattle.bucket.specs.declared.Attempted.{Attempted}
 use Rattle.lock.specs.declared.Quiet.{Quiet}
 use Rattle.lock.specs.Model.{boundariesFor, quietTakeOf}
 use Rattle.lock.specs.Laws.{LockedBound, lock-locked-bound}
@@ -87,9 +87,9 @@ module _ (e : Setting) where
 
 -- as a caller has it: steps, and a promise
 module _ (headers cells steps : ℕ) (script : List ℕ) (ps : List Hold) (n : steps ≡ length script / 3) where
-  pub attempt-goes : (o : Trial × (List ℕ × List ℕ)) (k : Found) (buckets most : ℕ) (r : Run) (t g : List ℕ)
-      → o ≡ trialOf (attemptAt k (setting headers cells script ps) buckets r t g .seen) → RunBound steps most r → RunBound steps (most + 3) (o .0 .run)
-  unfolding trialOf asideOf
+  pub attempt-goes : (o : Attempted × (List ℕ × List ℕ)) (k : Found) (buckets most : ℕ) (r : Run) (t g : List ℕ)
+      → o ≡ attemptedOf (attemptAt k (setting headers cells script ps) buckets r t g .seen) → RunBound steps most r → RunBound steps (most + 3) (o .0 .run)
+  unfolding attemptedOf reasonApartOf
   attempt-goes o k buckets most r t g q b = rw (q, n) (attempt-at (setting headers cells script ps) k buckets most r t g (rw (← n) b))
 
   pub pause-goes : (o : Run × (List ℕ × List ℕ)) (i most : ℕ) (r : Run) (t g : List ℕ)
@@ -115,8 +115,8 @@ quiet-few o f t c q =
 -- ---- one turn of the retry loop, and its end
 
 -- a turn whose attempt came to x: with the reason set aside it goes on, and ends, as it is defined
-abbrev turnBy : {A : Type 0} → Outcome → Run → A → Run × A → Trial × A
-turnBy x r a p = if isBusy (bareOf x) then (trialWith (p .0) (bareOf x) (lastOf noneYet x), p .1) else (trialWith r (bareOf x) (lastOf noneYet x), a)
+abbrev turnBy : {A : Type 0} → Outcome → Run → A → Run × A → Attempted × A
+turnBy x r a p = if isBusy (withoutReasonOf x) then (trialWith (p .0) (withoutReasonOf x) (lastOf noneYet x), p .1) else (trialWith r (withoutReasonOf x) (lastOf noneYet x), a)
 
 turned : {A : Type 0} (last : Reason) (x : Outcome) (r : Run) (a : A) (p : Run × A) (more : Reason → Run × A → Tried × A)
     → (if isBusy x then more (lastOf last x) p else (triedOf r x, a))
@@ -139,9 +139,9 @@ module _ (n i : ℕ) (last : Reason) (e : Setting) (buckets : ℕ) (registry : L
   unfolding retryOf
   retry-once l = let k : n - i ≡ suc (n - (i + 1)) = omega arith in rw k (seen-if (isBusy (tried .0 .outcome)) _ _)
 
-  pub retry-at : (o : Trial × (List ℕ × List ℕ)) → o ≡ againOf i e buckets registry binding bucket r t g → i < n
+  pub retry-at : (o : Attempted × (List ℕ × List ℕ)) → o ≡ againOf i e buckets registry binding bucket r t g → i < n
       → retryOf (n - i) i last e buckets registry binding bucket r t g .seen ≡ (if isBusy (o .0 .outcome) then more (o .0 .why) (o .0 .run, o .1) else (triedOf (o .0 .run) (o .0 .outcome), o .1))
-  unfolding againOf trialOf asideOf
+  unfolding againOf attemptedOf reasonApartOf
   retry-at o q l = retry-once l ∙ rw q (turned last (tried .0 .outcome) (tried .0 .run) (tried .1) paused more)
 
   pub retry-end : n ≤ i → retryOf (n - i) i last e buckets registry binding bucket r t g .seen ≡ (triedOf r (outcome.Busy last), (t, g))
@@ -151,16 +151,16 @@ module _ (n i : ℕ) (last : Reason) (e : Setting) (buckets : ℕ) (registry : L
 -- a turn is one attempt and at most five boundaries
 turn-run-bound : (e : Setting) (i buckets : ℕ) (registry : List ℕ) (binding bucket most : ℕ) (r : Run) (t g : List ℕ) → RunBound (stepsIn (e .script)) most r
     → RunBound (stepsIn (e .script)) (most + 5) (againOf i e buckets registry binding bucket r t g .0 .run)
-unfolding againOf trialOf asideOf
+unfolding againOf attemptedOf reasonApartOf
 turn-run-bound e i buckets registry binding bucket most r t g b =
-    let o = trialOf (attemptOf e buckets registry binding bucket r t g .seen) in
+    let o = attemptedOf (attemptOf e buckets registry binding bucket r t g .seen) in
     let c = attempt-run-bound e buckets registry binding bucket most r t g b in
-    if-both (λ (k : Trial × (List ℕ × List ℕ)). RunBound (stepsIn (e .script)) (most + 5) (k .0 .run)) (isBusy (o .0 .outcome))
+    if-both (λ (k : Attempted × (List ℕ × List ℕ)). RunBound (stepsIn (e .script)) (most + 5) (k .0 .run)) (isBusy (o .0 .outcome))
     (more-run-bound _ (most + 3 + 2) (most + 5) _ (omega arith) (pause-run-bound e i (most + 3) (o .0 .run) (o .1 .0) (o .1 .1) c))
     (more-run-bound _ (most + 3) (most + 5) _ (omega arith) c)
 
 pub turn-goes : (headers cells steps : ℕ) (script : List ℕ) (ps : List Hold) → steps ≡ length script / 3
-    → (o : Trial × (List ℕ × List ℕ)) (i buckets : ℕ) (registry : List ℕ) (binding bucket most : ℕ) (r : Run) (t g : List ℕ)
+    → (o : Attempted × (List ℕ × List ℕ)) (i buckets : ℕ) (registry : List ℕ) (binding bucket most : ℕ) (r : Run) (t g : List ℕ)
     → o ≡ againOf i (setting headers cells script ps) buckets registry binding bucket r t g → RunBound steps most r → RunBound steps (most + 5) (o .0 .run)
 turn-goes headers cells steps script ps n o i buckets registry binding bucket most r t g q b =
     rw (q, n) (turn-run-bound (setting headers cells script ps) i buckets registry binding bucket most r t g (rw (← n) b))

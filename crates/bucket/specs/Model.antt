@@ -19,7 +19,7 @@ use Rattle.foreign.specs.declared.Scope.{Scope}
 use Rattle.foreign.specs.Model.{RoomIn}
 use Rattle.lock.specs.Model.{CellIn}
 use Rattle.bucket.specs.declared.Target.{Target}
-use Rattle.bucket.specs.declared.Trial.{Trial}
+use Rattle.bucket.specs.declared.Attempted.{Attempted}
 
 pub record Fit (headers buckets bytes : ℕ) : Type 0 where
   pub bytes-fit : headers ≤ bytes
@@ -54,24 +54,24 @@ abbrev pub targetOf : List ℕ → ℕ → ℕ → Target
 targetOf registry binding bucket = record { header = getD registry binding 0; bucket = bucket }
 
 -- an outcome without its reason
-abbrev pub bareOf : Outcome → Outcome
-bareOf (outcome.Granted l) = outcome.Granted l
-bareOf (outcome.Busy why) = outcome.Busy noneYet
-bareOf (outcome.Refused x) = outcome.Refused x
+abbrev pub withoutReasonOf : Outcome → Outcome
+withoutReasonOf (outcome.Granted l) = outcome.Granted l
+withoutReasonOf (outcome.Busy why) = outcome.Busy noneYet
+withoutReasonOf (outcome.Refused x) = outcome.Refused x
 
 -- an attempt of the retry loop: the reason beside the outcome
-abbrev pub trialWith : Run → Outcome → Reason → Trial
+abbrev pub trialWith : Run → Outcome → Reason → Attempted
 trialWith r o why = record { run = r; outcome = o; why = why }
 
-unfoldable pub asideOf : Tried → Trial
-asideOf k = trialWith (k .run) (bareOf (k .outcome)) (lastOf noneYet (k .outcome))
+unfoldable pub reasonApartOf : Tried → Attempted
+reasonApartOf k = trialWith (k .run) (withoutReasonOf (k .outcome)) (lastOf noneYet (k .outcome))
 
-unfoldable pub trialOf : Tried × (List ℕ × List ℕ) → Trial × (List ℕ × List ℕ)
-trialOf k = (asideOf (k .0), k .1)
+unfoldable pub attemptedOf : Tried × (List ℕ × List ℕ) → Attempted × (List ℕ × List ℕ)
+attemptedOf k = (reasonApartOf (k .0), k .1)
 
 -- attempt number i and, if it was Busy, the pause after it
-unfoldable pub againOf : ℕ → Setting → ℕ → List ℕ → ℕ → ℕ → Run → List ℕ → List ℕ → Trial × (List ℕ × List ℕ)
+unfoldable pub againOf : ℕ → Setting → ℕ → List ℕ → ℕ → ℕ → Run → List ℕ → List ℕ → Attempted × (List ℕ × List ℕ)
 againOf i e buckets registry binding bucket r t g =
-    let o = trialOf (attemptOf e buckets registry binding bucket r t g .seen) in
+    let o = attemptedOf (attemptOf e buckets registry binding bucket r t g .seen) in
     let p = pauseOf e i (o .0 .run) (o .1 .0) (o .1 .1) .seen in
     if isBusy (o .0 .outcome) then (trialWith (p .0) (o .0 .outcome) (o .0 .why), p .1) else o

@@ -1,8 +1,8 @@
 // One attempt by key: the cell that the key names, and the lock of it.
 // Functions with a `requires` are steps: calls have tested the shape, and a step tests nothing twice.
 // Nothing here is reached from outside the crate.
+use crate::Attempted;
 use crate::Target;
-use crate::Trial;
 use foreign::Scope;
 use types::Found;
 use types::Locked;
@@ -20,7 +20,7 @@ ghost use Rattle.types.specs.declared.Outcome.the-variants as outcome;
 ghost use Rattle.foreign.specs.Model.{settingOf, RoomIn};
 ghost use Rattle.bucket.specs.Bounds.{tryMost};
 ghost use Rattle.bucket.specs.Laws.{RunBound};
-ghost use Rattle.bucket.specs.Model.{Fit, Lands, bareOf, asideOf, trialOf};
+ghost use Rattle.bucket.specs.Model.{Fit, Lands, withoutReasonOf, reasonApartOf, attemptedOf};
 
 // A key's cell: its header is looked at, then the header's health, then the bucket.
 // The definition reads the header from a registry: here it is the only one there.
@@ -108,8 +108,8 @@ pub fn attempt_once(
 }
 
 // An outcome without its reason: Busy is always the same.
-fn bare(outcome: Outcome) -> Outcome
-    ensures { λ r. ⌜ r ≡ bareOf outcome ⌝ }
+fn without_reason(outcome: Outcome) -> Outcome
+    ensures { λ r. ⌜ r ≡ withoutReasonOf outcome ⌝ }
 {
     match outcome {
         Outcome::Granted(lease) => Outcome::Granted(lease),
@@ -140,14 +140,14 @@ pub fn last_of(last: Reason, outcome: Outcome) -> Reason
 }
 
 // The reason set aside. Each result of `attempt` is set aside where it is made: it never is one outcome first.
-fn aside(tried: Tried) -> Trial
-    ensures { λ r. ⌜ r ≡ asideOf tried ⌝ }
+fn reason_apart(tried: Tried) -> Attempted
+    ensures { λ r. ⌜ r ≡ reasonApartOf tried ⌝ }
 {
     let run = tried.run;
     let outcome = tried.outcome;
-    Trial {
+    Attempted {
         run,
-        outcome: bare(outcome),
+        outcome: without_reason(outcome),
         why: last_of(Reason::Before, outcome),
     }
 }
@@ -165,27 +165,28 @@ pub fn attempt(
     taken: &[[u32; 2]; 64],
     n: usize,
     found: Found,
-) -> Trial
+) -> Attempted
     requires { ⌜ RoomIn scope (length (now table)) (length (now health)) n (length (now script))
         × (RunBound (scope .steps) tryMost run × Lands scope (now health) found) ⌝ }
     ensures { λ r. ⌜ (r, (now (table .exit), now (health .exit)))
-        ≡ trialOf (attemptAt found (settingOf scope (now (script .entry)) (now (held .entry)) (now (taken .entry)) n)
+        ≡ attemptedOf (attemptAt found
+        (settingOf scope (now (script .entry)) (now (held .entry)) (now (taken .entry)) n)
         (scope .buckets) run (now (table .entry)) (now (health .entry)) .seen) ⌝ }
 {
     match found {
-        Found::Fault(refusal) => aside(missed(run, refusal)),
+        Found::Fault(refusal) => reason_apart(missed(run, refusal)),
         Found::At(cell) => {
             let flow = run.flow;
             if flow.place < scope.steps {
                 let here = scope;
                 let from = run.flow;
                 let locked = lock::lock(here, from, table, health, script, held, taken, n, cell);
-                return aside(counted(run, locked));
+                return reason_apart(counted(run, locked));
             }
             let quiet = lock::quiet_take(scope.head(flow.next), flow, table, cell);
             let after = quiet.flow;
             let answer = quiet.answer;
-            aside(Tried {
+            reason_apart(Tried {
                 run: Run {
                     flow: after,
                     attempts: run.attempts + 1,

@@ -59,7 +59,7 @@ fn target_of(registry: &[u32], key: Key) -> Target
 
 // An attempt of the retry loop. Why it was Busy stands beside what it came to: the loop tests the one and keeps the
 // other, and both stay in few words.
-struct Trial {
+struct Attempted {
     run: Run,
     outcome: Outcome,
     why: Reason,

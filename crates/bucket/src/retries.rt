@@ -2,8 +2,8 @@
 // Functions with a `requires` are steps: calls have tested the shape, and a step tests nothing twice.
 // Steps are no calls of document 01, public ones neither: only the layers here call them (tests/layers.sh), and each
 // caller proves their `requires`.
+use crate::Attempted;
 use crate::Target;
-use crate::Trial;
 use crate::attempts::attempt;
 use crate::attempts::find;
 use crate::attempts::is_busy;
@@ -95,7 +95,7 @@ fn again(
     taken: &[[u32; 2]; 64],
     n: usize,
     target: Target,
-) -> Trial
+) -> Attempted
     requires { ⌜ KeyFits scope (length (now table)) (length (now health)) n (length (now script)) 1 0
         × RunBound (scope .steps) tryMost run ⌝ }
     ensures { λ r. ⌜ (r, (now (table .exit), now (health .exit)))
@@ -104,27 +104,27 @@ fn again(
         run (now (table .entry)) (now (health .entry)) ⌝ }
 {
     let found = find(scope, health, target);
-    let trial = attempt(scope, run, table, health, script, held, taken, n, found);
-    let after = trial.run;
-    let outcome = trial.outcome;
-    let why = trial.why;
+    let attempted = attempt(scope, run, table, health, script, held, taken, n, found);
+    let after = attempted.run;
+    let outcome = attempted.outcome;
+    let why = attempted.why;
     if is_busy(outcome) {
         let paused = pause(i, scope, after, table, health, script, held, taken, n);
-        return Trial {
+        return Attempted {
             run: paused,
             outcome,
             why,
         };
     }
-    trial
+    attempted
 }
 
 // The attempt that concluded it: it was not Busy, so there is no reason beside it.
-fn concluded(trial: Trial) -> Tried
-    ensures { λ r. ⌜ r ≡ triedOf (trial .run) (trial .outcome) ⌝ }
+fn concluded(attempted: Attempted) -> Tried
+    ensures { λ r. ⌜ r ≡ triedOf (attempted .run) (attempted .outcome) ⌝ }
 {
-    let run = trial.run;
-    let outcome = trial.outcome;
+    let run = attempted.run;
+    let outcome = attempted.outcome;
     Tried { run, outcome }
 }
 
@@ -156,13 +156,13 @@ pub fn retry(
     let mut last = Reason::Before;
     let mut i = 0;
     while i < 4096 {
-        let trial = again(i, scope, run, table, health, script, held, taken, n, target);
-        let outcome = trial.outcome;
+        let attempted = again(i, scope, run, table, health, script, held, taken, n, target);
+        let outcome = attempted.outcome;
         if is_busy(outcome) {
-            run = trial.run;
-            last = trial.why;
+            run = attempted.run;
+            last = attempted.why;
         } else {
-            return concluded(trial);
+            return concluded(attempted);
         }
         i += 1;
     }

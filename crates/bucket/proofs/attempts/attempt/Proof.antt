@@ -2,7 +2,7 @@
 use native.Mathlib.Omega.{arith}
 use borrow.Author.Needs.{needs}
 use Rattle.bucket.specs.Laws.{locked-bound-of, quiet-few}
-use Rattle.bucket.specs.Model.{trialOf}
+use Rattle.bucket.specs.Model.{attemptedOf}
 use Rattle.foreign.specs.Model.{settingOf}
 use Rattle.lock.specs.Laws.{lock-quiet, quiet-is}
 use Rattle.bucket.proofs.attempts.attempt.Statement.{statement}
@@ -14,8 +14,8 @@ enum-known-found c = search needs
 missed-requires : tie.Need-missed-requires
 missed-requires c κs = search needs
 
-aside-requires : tie.Need-aside-requires
-aside-requires c κs = search needs
+reason-apart-requires : tie.Need-reason-apart-requires
+reason-apart-requires c κs = search needs
 
 enum-known-found-2 : tie.Need-enum-known-found-2
 enum-known-found-2 c = search needs
@@ -29,8 +29,8 @@ counted-requires c κs =
     let k = locked-bound-of _ _ _ _ _ (c .before .before .before .before .before .before .before .before .before .before .before .before .before .before .before .before .before .before .before .pre .0 .steps-are) _ _ _ _ _ _ (c .before .before .before .before .lock .ensures) (run-bound .flow-bound) in
     (run-bound .few-attempts, (run-bound .few-boundaries, k .few))
 
-aside-requires-2 : tie.Need-aside-requires-2
-aside-requires-2 c κs = search needs
+reason-apart-requires-2 : tie.Need-reason-apart-requires-2
+reason-apart-requires-2 c κs = search needs
 
 same-length : tie.Need-same-length
 same-length c = search needs
@@ -39,8 +39,8 @@ same-length-2 : tie.Need-same-length-2
 same-length-2 c = search needs
 
 returns : tie.Need-returns
-unfolding trialOf
-returns c = rw (c .before .before .before .before .before .before .before .before .before .before .before .before .before .before .before .found2 .given .1, ← c .before .before .before .before .before .before .lock .ensures, ← c .before .counted .ensures, ← c .aside2 .ensures)
+unfolding attemptedOf
+returns c = rw (c .before .before .before .before .before .before .before .before .before .before .before .before .before .before .before .found2 .given .1, ← c .before .before .before .before .before .before .lock .ensures, ← c .before .counted .ensures, ← c .reason-apart2 .ensures)
 
 head-requires : tie.Need-head-requires
 head-requires c κs = search needs
@@ -61,23 +61,23 @@ add-t31 c =
 quiet-outcome-requires : tie.Need-quiet-outcome-requires
 quiet-outcome-requires c κs = search needs
 
-aside-requires-3 : tie.Need-aside-requires-3
-aside-requires-3 c κs = search needs
+reason-apart-requires-3 : tie.Need-reason-apart-requires-3
+reason-apart-requires-3 c κs = search needs
 
 returns-2 : tie.Need-returns-2
-unfolding trialOf
-returns-2 c = rw (c .before .before .before .found .given .1, ← c .before .missed .ensures, ← c .aside .ensures)
+unfolding attemptedOf
+returns-2 c = rw (c .before .before .before .found .given .1, ← c .before .missed .ensures, ← c .reason-apart .ensures)
 
 same-length-3 : tie.Need-same-length-3
 same-length-3 c = search needs
 
 returns-3 : tie.Need-returns-3
-unfolding trialOf
+unfolding attemptedOf
 returns-3 c =
     let a = c .before .before .before .before .before .before .before .before .before .before .before .before .before .before .before .before .before .before .before .before .before .before .args in
     let e = settingOf (a .scope) (a .script .now) (a .held .now) (a .taken .now) (a .n) in
     let f = c .before .before .before .before .before .before .before .before .before .before .before .before .before .before .before .before .found2 .given .1 in
-    rw (f, lock-quiet e (a .scope .buckets) (a .health .now) _ (c .before .before .before .before .before .before .before .before .before .before .before .before .before .before .before .before .before .before .before .before .before .before .pre .1 .1 _ f .healthy) (a .run .flow) (a .table .now) (omega (arith, c .before .before .before .before .before .before .before .before .before .before .before .if1 .left, c .before .before .before .before .before .before .before .before .before .before .before .before .before .before .before .before .before .before .before .before .before .before .pre .0 .steps-are)), quiet-is _ _ _, ← c .before .before .before .before .before .before .before .before .quiet-take .ensures, ← c .before .quiet-outcome .ensures, ← c .aside3 .ensures)
+    rw (f, lock-quiet e (a .scope .buckets) (a .health .now) _ (c .before .before .before .before .before .before .before .before .before .before .before .before .before .before .before .before .before .before .before .before .before .before .pre .1 .1 _ f .healthy) (a .run .flow) (a .table .now) (omega (arith, c .before .before .before .before .before .before .before .before .before .before .before .if1 .left, c .before .before .before .before .before .before .before .before .before .before .before .before .before .before .before .before .before .before .before .before .before .before .pre .0 .steps-are)), quiet-is _ _ _, ← c .before .before .before .before .before .before .before .before .quiet-take .ensures, ← c .before .quiet-outcome .ensures, ← c .reason-apart3 .ensures)
 
 pub attempt-spec : {M : Type 1} → statement M
 attempt-spec =
@@ -85,11 +85,11 @@ attempt-spec =
     (tie.spec
     enum-known-found
     missed-requires
-    aside-requires
+    reason-apart-requires
     enum-known-found-2
     lock-requires
     counted-requires
-    aside-requires-2
+    reason-apart-requires-2
     same-length
     same-length-2
     returns
@@ -98,7 +98,7 @@ attempt-spec =
     add-t30
     add-t31
     quiet-outcome-requires
-    aside-requires-3
+    reason-apart-requires-3
     returns-2
     same-length-3
     returns-3)

@@ -1,7 +1,7 @@
--- `bucket::attempts::bare` meets its contract.
+-- `bucket::attempts::without_reason` meets its contract.
 use borrow.Author.Needs.{needs}
-use Rattle.bucket.proofs.attempts.bare.Statement.{statement}
-use Rattle.bucket.proofs.attempts.bare.Tie as tie
+use Rattle.bucket.proofs.attempts.without_reason.Statement.{statement}
+use Rattle.bucket.proofs.attempts.without_reason.Tie as tie
 
 enum-known-outcome : tie.Need-enum-known-outcome
 enum-known-outcome c = search needs
@@ -21,5 +21,5 @@ returns-2 c = rw (c .enum-told .given .1)
 returns-3 : tie.Need-returns-3
 returns-3 c = rw (c .before .outcome2 .given .1)
 
-pub bare-spec : {M : Type 1} → statement M
-bare-spec = tie.close (tie.spec enum-known-outcome enum-told enum-known-outcome-2 returns returns-2 returns-3)
+pub without-reason-spec : {M : Type 1} → statement M
+without-reason-spec = tie.close (tie.spec enum-known-outcome enum-told enum-known-outcome-2 returns returns-2 returns-3)
