@@ -111,7 +111,7 @@ noticed 1 'Cells held .*WRONG' kernel.c 's/= skid_give(&plant, note/= skid_is_mi
 noticed 1 'earlier boot: none, WRONG' kernel.c 's/^    paper.boot++; .*/    if (is_new) paper.boot++;/'
 noticed 1 'WRONG' kernel.c '/^static struct skid_result on_paper/,/^}/s/^    write_paper();//'
 noticed 1 'SSE registers lost .*WRONG' machine.c '/fxrstor64/d'
-noticed 1 'never used: none, WRONG' demo.h 's/STACK = 32768/STACK = 24576/'
+noticed 1 'never used: none, WRONG' demo.h 's/STACK = 8192/STACK = 6144/'
 # without its own stack the interrupt writes over what the library keeps below the stack pointer
 # shellcheck disable=SC2016
 noticed 1 'WRONG' boot.S 's/^    movl \$1, %edx$/    movl $0, %edx/'
