@@ -19,7 +19,7 @@ DAMAGES = [
     # a verdict changed, a row left out
     (PAGE, 'fill', r'(\| 000\.try_lock\.e2 \|.*\|) stronger \(', r'\1 same (',
      '000.try_lock.e2: the page says same, tests/contracts.txt stronger'),
-    (PAGE, 'fill', r'(\| 000\.try_lock\.e2 \|.*\|) stronger .*', r'\1 left out (not asked for) | - |',
+    (PAGE, 'fill', r'(\| 000\.try_lock\.e2 \|.*\|) stronger .*', r'\1 left out (not asked for) |',
      '000.try_lock.e2: the page says left out'),
     (PAGE, 'fill', r'\| 000\.drop_lease\.e5 .*\n', '', '000.drop_lease.e5: the page has no such row'),
     (PAGE, 'fill', r'\| 000\.release_all\.i9 .*\n', '', '000.release_all.i9: the page has no such row'),
@@ -58,10 +58,12 @@ DAMAGES = [
     ('crates/upstream/specs/Met.antt', 'fill', r'pub met-try-lock : Requires-try-lock',
      'pub met-try-lock : Ensures-try-lock',
      'records try-lock: no arguments meet what is required'),
-    # a call swapped: in the row, in row and list, in the promise
-    (PAGE, 'fill', r'(\| 000\.try_lock\.e2 \|.*)`try_lock` \|', r'\1`drop_lease` |',
-     '000.try_lock.e2: its call is `drop_lease`'),
-    (PAGE + ' ' + LIST, 'fill', r'(000\.read_permission.*?)`?\bread_permission`?( \|\n|:)', r'\1`drop_lease`\2',
+    # a call swapped, or named where all is left out: on the page, on page and list, in the promise
+    (PAGE, 'fill', r'(### 000\.try_lock\n\n.* Call: )`try_lock`', r'\1`drop_lease`',
+     '000.try_lock: its call is `drop_lease`'),
+    (PAGE, 'fill', r'(### 000\.spin_loop\n\n.*)', r'\1 Call: `try_lock`.', '000.spin_loop: its call is `try_lock`'),
+    (PAGE, 'fill', r'(### 000\.try_lock\n\n.*) Call: .*', r'\1', '000.try_lock: its call is -'),
+    (PAGE + ' ' + LIST, 'fill', r'(000\.read_permission(?:\n\n.* Call:)?) `?read_permission`?(\.\n|:)', r'\1 drop_lease\2',
      '000.read_permission: its promise is about read_permission'),
     (CELLS, 'fill', r'(Promise-read-permission b = .*)\(read-permission l\)', r'\1(drop-lease l)',
      '000.read_permission: its promise is about drop_lease'),
@@ -69,9 +71,10 @@ DAMAGES = [
     (BORROWS, 'fill', r'(Ensures-environment-for-borrows \(m(?:.*\n)*?.*pub e3 : ).*', r'\1Unit {0}',
      '000.environment_for_borrows.e3: elsewhere its clause is said so'),
     (PAGE, 'fill', r'(\| 000\.drop_lease\.r2 \|.*)\(12\)', r'\1(13)', '000.drop_lease.r2: refused with 13'),
-    (PAGE, 'fill', r'(\| 000\.try_lock\.e2 \|.*)\(needs only .*?authorized\)',
+    (PAGE, 'fill', r'(\| 000\.try_lock\.e2 \|.*)\(needs only the held leases\)',
      r'\1(always)',
      '000.try_lock.e2: "always'),
+    (PAGE, 'fill', r'(\| 000\.drop_lease\.e4 \|.*)\(always\)', r'\1(its cell only)', '000.drop_lease.e4: "its cell only'),
     # a loop's field renamed: in the row, in row and list, in the crate
     (PAGE, 'fill', r'(\| 001\.acquire_index_locks\.i2 \|.*)as-many', r'\1as-few',
      '001.acquire_index_locks.i2: the page says'),

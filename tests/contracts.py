@@ -12,7 +12,8 @@ What `check` holds:
   `A ==> B` and `A ==> C`), no clause and no definition is missing; and it stands above the field of that name in the
   function's records. Upstream's text is not in the repository: SHARED_DOCS names the folder of the documents,
   ../shared/docs if it is not set. Without it this part is left out, and said so; where CI is set that is an error;
-- the call of a row is a heading of docs/REFERENCE.md, and the call that the function's promise is about;
+- the call that a function's line names is a heading of docs/REFERENCE.md, and the call that its promise is about; a
+  function all of whose rows are left out names none;
 - a refusal's number in a row is that of a refusal in the field; `different` says what stands above the field; a clause
   that several functions have is one statement; some words of a verdict (WORDS) say what the field must be;
 - a row of a loop names crate, file, record and field, and the field is there; or it says that there is nothing to keep;
@@ -42,11 +43,11 @@ CALLS = {'try-acquire': 'try_acquire', 'drop-lease': 'drop_lease', 'read-permiss
 # what a verdict says in these words, the field of `Here` must be: a pattern, or None for the field of `Ensures` itself
 WORDS = {'always': None,
          'cell by cell': r'keeps-valid w \(final m\)',
-         'needs only that the held leases are authorized':
+         'needs only the held leases':
              r'(leases-authorized w \(holdsOf held\)|protected-valid w \(held-ids \(holdsOf held\)\)) → '
              r'(?!.*valid-at w).*',
-         'needs only that the lease is authorized': r'authorized w \(holdIn l\) → [^→]*',
-         'of any script, legal or not, and any table': None}
+         'needs only the lease': r'authorized w \(holdIn l\) → [^→]*',
+         'its cell only': r'(?!.*\bvalid w\b).*valid-at w \(lease-key \(holdIn l\)\) → .*'}
 # words of ours outside file Premises
 FURTHER = ['Damage.Damage', 'Damage.Drops-damaged', 'Damage.waited', 'Damage.Sets-waiters',
            'Health.Sick-again', 'Health.Sick', 'Health.Sick-within', 'Health.Read-again', 'Health.Reads-poison']
@@ -317,12 +318,16 @@ class Page:
     def __init__(self):
         self.lines = read(PAGE).split('\n')
         self.rows, self.definitions, self.unget, self.premises = [], [], [], []
+        self.calls = {}
         under = part = ''
         for line in self.lines:
             if line.startswith('## '):
                 part = line[3:]
             if line.startswith('### '):
                 under = line[4:]
+            call = re.search(r' Call: (.*)\.$', line)
+            if call:
+                self.calls[under] = self.calls.get(under, '') + call.group(1)
             cells = cells_of(line) if line.startswith('| ') else []
             if cells and re.match(r'00[01]\.[a-z_]+\.[renid]\d+$', cells[0]):
                 row = Row(cells[0], cells[1:])
@@ -353,8 +358,8 @@ def tally(rows, of):
 
 
 def index(page, listed):
-    """function, clauses, verdicts, records"""
-    lines = ['<!-- index -->', '', '| function | clauses | here | file |', '|---|---|---|---|']
+    """function, verdicts, records; of all the clauses too"""
+    lines = ['<!-- index -->', '', '| function | here | file |', '|---|---|---|']
     order = {v: i for i, v in enumerate(VERDICTS)}
     short = {'refused instead of required': 'refused'}
 
@@ -367,9 +372,9 @@ def index(page, listed):
     for function in page.headings():
         rows = [r for r in page.rows if r.function == function]
         home = '`%s`' % listed.file(function) if listed.file(function) else '-'
-        lines.append('| %s | %s | %s | %s |' % (link(function), kinds(rows), verdicts(rows), home))
+        lines.append('| %s | %s | %s |' % (link(function), verdicts(rows), home))
     every = sorted(page.rows, key=lambda r: 'renid'.index(r.kind))
-    lines.append('| all | %s | %s | |' % (kinds(every), verdicts(every)))
+    lines.append('| all: %s | %s | |' % (kinds(every), verdicts(every)))
     return lines + ['', '<!-- end of index -->']
 
 
@@ -378,11 +383,11 @@ def block(crate, function):
     file = crate.files[crate.home[function]]
     ours, others = crate.theorems(function)
     homes = ' and '.join('`%s`' % home for home in dict.fromkeys(home for home, _ in ours))
-    lines = ['<!-- records %s -->' % function, '', 'Proved, in %s:' % homes, '', '```text']
-    lines += [line for _, line in ours] + ['```', '', 'The records, in `%s`:' % file.file, '', '```text']
+    lines = ['<!-- records %s -->' % function, '', 'Proved in %s:' % homes, '', '```text']
+    lines += [line for _, line in ours] + ['```', '', 'Records of `%s`:' % file.file, '', '```text']
     lines += file.shown(crate.records(function)) + ['```', '']
     if others:
-        lines += ['Wrong builds that meet the contract too: %s.' % ', '.join('`%s`' % name for name in others), '']
+        lines += ['Wrong builds that meet it too: %s.' % ', '.join('`%s`' % name for name in others), '']
     return lines + ['<!-- end of records -->']
 
 
@@ -477,16 +482,17 @@ def check_list(page, listed):
 
 def check_calls(page, listed, crate):
     calls = re.findall(r'(?m)^### `([a-z_]+)`', read('docs', 'REFERENCE.md'))
-    for row in page.rows:
-        if row.kind not in 'ren':
-            continue
-        call, records = listed.functions.get(row.function, ('-', []))
-        want = '-' if row.verdict == 'left out' else call
-        if row.last.replace('`', '') != want:
-            complain('%s: its call is %s, and not %s' % (row.name, row.last, want))
-        for name in re.findall(r'`([a-z_]+)`', row.last):
+    for function in page.headings():
+        want = listed.functions.get(function, ('-', []))[0]
+        said = page.calls.get(function, '-')
+        if said.replace('`', '') != want:
+            complain('%s: its call is %s, and not %s' % (function, said, want))
+        for name in re.findall(r'`([a-z_]+)`', said):
             if name not in calls:
-                complain('%s: %s is no call of docs/REFERENCE.md' % (row.name, name))
+                complain('%s: %s is no call of docs/REFERENCE.md' % (function, name))
+        rows = [r for r in page.rows if r.function == function and r.kind in 'ren']
+        if (said == '-') != all(r.verdict == 'left out' for r in rows):
+            complain('%s: its call is %s, and its rows say otherwise' % (function, said))
     for function, (call, records) in listed.functions.items():
         if records and records[0] in crate.home and crate.call(records[0]) != call.split()[-1]:
             complain('%s: its promise is about %s, and its call is %s' % (function, crate.call(records[0]), call))
