@@ -357,9 +357,9 @@ def tally(rows, of):
     return [(name, sum(1 for r in rows if of(r) == name)) for name in dict.fromkeys(of(r) for r in rows)]
 
 
-def index(page, listed):
-    """function, verdicts, records; of all the clauses too"""
-    lines = ['<!-- index -->', '', '| function | here | file |', '|---|---|---|']
+def index(page):
+    """each function with its verdicts; of all the clauses too"""
+    lines = ['<!-- index -->', '', '| function | here |', '|---|---|']
     order = {v: i for i, v in enumerate(VERDICTS)}
     short = {'refused instead of required': 'refused'}
 
@@ -371,10 +371,9 @@ def index(page, listed):
         return ', '.join('%d %s' % (n, k) for k, n in tally(rows, lambda r: KINDS[r.kind]))
     for function in page.headings():
         rows = [r for r in page.rows if r.function == function]
-        home = '`%s`' % listed.file(function) if listed.file(function) else '-'
-        lines.append('| %s | %s | %s |' % (link(function), verdicts(rows), home))
+        lines.append('| %s | %s |' % (link(function), verdicts(rows)))
     every = sorted(page.rows, key=lambda r: 'renid'.index(r.kind))
-    lines.append('| all: %s | %s | |' % (kinds(every), verdicts(every)))
+    lines.append('| all: %s | %s |' % (kinds(every), verdicts(every)))
     return lines + ['', '<!-- end of index -->']
 
 
@@ -399,7 +398,7 @@ def words(crate):
     return lines[:-1] + ['```', '', '<!-- end of words -->']
 
 
-def made(page, crate, listed):
+def made(page, crate):
     """the page with the parts that are made; and those that were not as they are made"""
     out, stale, shown, i = [], [], [], 0
     while i < len(page.lines):
@@ -414,7 +413,7 @@ def made(page, crate, listed):
             shown.append(mark.group(2))
             fresh = block(crate, mark.group(2)) if mark.group(2) in crate.home else [page.lines[i]]
         else:
-            fresh = index(page, listed) if what == 'index' else words(crate)
+            fresh = index(page) if what == 'index' else words(crate)
         if page.lines[i:end + 1] != fresh:
             stale.append(mark.group(1))
         out += fresh
@@ -427,8 +426,7 @@ def made(page, crate, listed):
 class Listed:
     """tests/contracts.txt"""
 
-    def __init__(self, crate):
-        self.crate = crate
+    def __init__(self):
         self.functions, self.rows, self.definitions = {}, {}, {}
         for line in read('tests', 'contracts.txt').split('\n'):
             if not line or line.startswith('#'):
@@ -441,10 +439,6 @@ class Listed:
                 self.functions[name] = (call, [] if records == '-' else records.split())
             else:
                 self.definitions[name] = said
-
-    def file(self, function):
-        records = self.functions.get(function, ('-', []))[1]
-        return self.crate.home.get(records[0]) if records else None
 
 
 # ---- what is checked
@@ -607,7 +601,7 @@ def check_loops(page, listed):
 
 
 def check_made(page, listed, crate):
-    _, stale, shown = made(page, crate, listed)
+    _, stale, shown = made(page, crate)
     for what in stale:
         complain('%s: the page is not what the crate says; python3 tests/contracts.py fill' % what)
     for record in crate.home:
@@ -666,14 +660,14 @@ def check_names(page, crate):
 def filled():
     """the page with its made parts written anew"""
     crate = Upstream()
-    return '\n'.join(made(Page(), crate, Listed(crate))[0])
+    return '\n'.join(made(Page(), crate)[0])
 
 
 def check():
     """what is wrong, and how much there is"""
     wrong.clear()
     crate, page = Upstream(), Page()
-    listed = Listed(crate)
+    listed = Listed()
     check_list(page, listed)
     check_calls(page, listed, crate)
     check_fields(page, listed, crate)
