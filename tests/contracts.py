@@ -381,9 +381,9 @@ def block(crate, function):
     """what is proved, the records, and who meets the contract too"""
     file = crate.files[crate.home[function]]
     ours, others = crate.theorems(function)
-    homes = ' and '.join('`%s`' % home for home in dict.fromkeys(home for home, _ in ours))
-    lines = ['<!-- records %s -->' % function, '', 'Proved in %s:' % homes, '', '```text']
-    lines += [line for _, line in ours] + ['```', '', 'Records of `%s`:' % file.file, '', '```text']
+    homes = ', '.join(dict.fromkeys(home for home, _ in ours))
+    lines = ['<!-- records %s -->' % function, '', '```text', '-- proved in %s' % homes]
+    lines += [line for _, line in ours] + ['', '-- file %s' % file.file]
     lines += file.shown(crate.records(function)) + ['```', '']
     if others:
         lines += ['Wrong builds that meet it too: %s.' % ', '.join('`%s`' % name for name in others), '']
