@@ -125,24 +125,24 @@ module _ (h : Head) (registry script held : List ℕ) (binding bucket : ℕ) whe
       let b = pausing i r t g .seen in
       rw (pause-from i r t g, retry-on (counted r) e (h .buckets) registry binding bucket left (i + 1) last (b .0) (b .1 .0) (b .1 .1), retry-from left (i + 1) last (b .0) (b .1 .0) (b .1 .1))
 
-  abbrev Tries : ℕ → ℕ → List ℕ → List ℕ → ℕ → Reason → Made (World × Says) → Type 0
-  Tries n p t g i last = Attempts (attempting registry script held binding bucket) (bounding script held) i last (worldAt h n t g) p
+  abbrev Attempts-from : ℕ → ℕ → List ℕ → List ℕ → ℕ → Reason → Made (World × Says) → Type 0
+  Attempts-from n p t g i last = Attempts (attempting registry script held binding bucket) (bounding script held) i last (worldAt h n t g) p
 
   retry-is : (left i : ℕ) (last : Reason) (n p : ℕ) (t g : List ℕ) → i + left ≡ 4096
-      → Tries n p t g i last (at-last h (retryOf left i last e (h .buckets) registry binding bucket (nil n p) t g))
+      → Attempts-from n p t g i last (at-last h (retryOf left i last e (h .buckets) registry binding bucket (nil n p) t g))
   unfolding retryOf
   retry-is zero i last n p t g l =
       let z : i ≡ 4096 = omega arith in
-      subst (λ x. Tries n p t g x last (at-last h (record { seen = (triedOf (nil n p) (outcome.Busy last), (t, g)); log = [] }))) (sym z) all-busy
+      subst (λ x. Attempts-from n p t g x last (at-last h (record { seen = (triedOf (nil n p) (outcome.Busy last), (t, g)); log = [] }))) (sym z) all-busy
   retry-is (suc left) i last n p t g l =
       let m = attemptOf e (h .buckets) registry binding bucket (nil n p) t g in
       let r = m .seen .0 .run in
       let b = pauseOf e i (nil (r .flow .next) (r .flow .place)) (m .seen .1 .0) (m .seen .1 .1) in
       let s = b .seen .0 in
       let j : i < 4096 = omega arith in
-      if-cases (λ (o : Made (With Tried)). Tries n p t g i last (at-last h (record { seen = o .seen; log = m .log ++ o .log }))) (isBusy (m .seen .0 .outcome))
+      if-cases (λ (o : Made (With Tried)). Attempts-from n p t g i last (at-last h (record { seen = o .seen; log = m .log ++ o .log }))) (isBusy (m .seen .0 .outcome))
       (λ c.
-      subst (λ (o : Made (With Tried)). Tries n p t g i last (at-last h (record { seen = o .seen; log = m .log ++ o .log }))) (sym (both-from left i (lastOf last (m .seen .0 .outcome)) r (m .seen .1 .0) (m .seen .1 .1)))
+      subst (λ (o : Made (With Tried)). Attempts-from n p t g i last (at-last h (record { seen = o .seen; log = m .log ++ o .log }))) (sym (both-from left i (lastOf last (m .seen .0 .outcome)) r (m .seen .1 .0) (m .seen .1 .1)))
       (one-busy (lastOf last (m .seen .0 .outcome)) j (busy-is (h .boot) last (m .seen .0 .outcome) c) (pause-is i (r .flow .next) (r .flow .place) (m .seen .1 .0) (m .seen .1 .1))
       (retry-is left (i + 1) _ (s .flow .next) (s .flow .place) (b .seen .1 .0) (b .seen .1 .1) (omega arith))))
       (λ c. rw (append-nil (m .log), same-settled (m .seen .0 .outcome) c) (the-last j (not-busy (h .boot) (m .seen .0 .outcome) c)))

@@ -35,13 +35,14 @@ use Rattle.history.specs.Tests.{In, in-left, in-right, in-take, in-index}
 use Rattle.history.specs.Events.{Fit, lives}
 use Rattle.history.specs.Logs.{Kept, nothing, event, kept-live, kept-next, weaken}
 use Rattle.history.specs.Judged.{clear-front, clear-back}
+use Rattle.history.specs.HeldLists.{clear-live}
 use Rattle.history.specs.Steps.{With, worldAt, of-run, of-tried, Won, won, none-yet, no-more, boundary-kept, retry-kept}
 use Rattle.history.specs.Many.{Held, of-locks, one-more}
 use Rattle.history_exact.specs.Statements.{Passes}
 use Rattle.history_exact.specs.Script.{acquire-bucket-has, acquire-locks-has, environment-has, place-in}
 use Rattle.history_exact.specs.Attempts.{added-up, _and-then_, locking, dropping, between, Gives-back, all-back, one-back, refused-at, Key-by-key, all-locked, one-locked, one-refused, Locks-as-calls, key-at}
 use Rattle.history_exact.specs.Made.{made, drop-made}
-use Rattle.history_exact.specs.Passing.{clear-live, boundary-on, divides, holding-more, in-script, key-passes, leases-append}
+use Rattle.history_exact.specs.Passing.{boundary-on, divides, holding-more, in-script, key-passes, leases-append}
 use Rattle.history_exact.specs.Passing as passing
 use Rattle.history_exact.specs.ScriptFacts.{place-goes}
 use Rattle.history_exact.specs.CountedOn.{run-on, locks-on, back-on, keys-on}
