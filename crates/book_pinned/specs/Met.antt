@@ -7,7 +7,7 @@ use mathlib.Core.Bool.{Bool, false, not, _&&_, _||_}
 use native.Mathlib.Omega.{arith}
 use lib.Dec.{ltb, leb, eqb}
 use lib.ListN.{length, replicate}
-use borrow.Author.Tests.{ltb-true, ltb-false, leb-true, leb-false, eqb-true, eqb-false, eq-eqb, not-true, not-false}
+use borrow.Author.Tests.{ltb-true, ltb-false, eqb-true, eqb-false, eq-eqb, not-false}
 use Rattle.choice.specs.Pick.{both}
 use Rattle.model.specs.Arena.{cellsOf, headFits, shapeFits, isStale, holdIn, isLive}
 use Rattle.types.specs.declared.Head.{Head}
@@ -29,9 +29,9 @@ use Rattle.book_rules.specs.declared.BookCheck.{BookCheck}
 use Rattle.book_rules.specs.declared.BookRefusal.the-variants.{BadSlot, StaleBoot, NotHeld, NotFinite, DamagedBook, VersionsSpent, BookFull, NeverWritten}
 use Rattle.history.specs.Tests.{if-cases}
 use Rattle.pinned.specs.Words.{Is, If_Then_Else_, With, arena, Is-live}
-use Rattle.pinned.specs.Decided.{Decides, shape-decides, or-decides, ltb-decides, owned, owning}
+use Rattle.pinned.specs.Decided.{Decides, shape-decides, or-decides, ltb-decides, owned, owning, leb-decides, ne-decides, not-decides}
 use Rattle.book_pinned.specs.Statement.{slots, place-in, newest, Not-finite, Body-at, Undamaged, staying, Book-build, Bad-head, Bad-book, Not-holder, Prepares-book, Puts, Writes-over, Writes, Not-kept, Reads-version, Meets-book}
-use Rattle.book_pinned.specs.Plain.{not-so, place-is, version-is, body-is, finite-decides, undamaged-there, undamaged-back, damage-decides, staying-is}
+use Rattle.book_pinned.specs.Plain.{place-is, version-is, body-is, finite-decides, undamaged-there, undamaged-back, damage-decides, staying-is}
 use Rattle.book_pinned.specs.Puts.{puts-is}
 
 abbrev pub ours : Book-build
@@ -39,14 +39,8 @@ ours = record { prepare = prepareBookOf; write = writeSetpointOf; read = readSet
 
 -- ---- tests
 
-leb-decides : (a b : ℕ) → Decides (leb a b) (a ≤ b)
-leb-decides a b = (leb-true a b, λ e l. let k = leb-false a b e in omega arith)
-
 eqb-decides : (a b : ℕ) → Decides (eqb a b) (a ≡ b)
 eqb-decides a b = (eqb-true a b, eqb-false a b)
-
-ne-decides : (a b : ℕ) → Decides (not (eqb a b)) (a ≢ b)
-ne-decides a b = (λ e. eqb-false a b (not-true (eqb a b) e), λ e k. k (eqb-true a b (not-false (eqb a b) e)))
 
 head-decides : (h : Head) → Decides (not (headFits h)) (Bad-head h)
 head-decides h = subst (λ (x : Bool). Decides (not x) (Bad-head h)) (sym (head-alone h)) (shape-decides h (3 * (h .headers * h .buckets)))
@@ -62,7 +56,7 @@ slot-decides n b slot = or-decides (isBadBook n (length b)) (leb n slot) (book-d
 holder-decides : (h : Head) (t : List ℕ) (slot : ℕ) (l : Lease) → Decides (not (isHolder h t slot (holdIn l))) (Not-holder h t slot l)
 unfolding isHolder
 holder-decides h t slot l =
-    not-so (isLive (h .next) (cellsOf h) t (holdIn l) && eqb (l .cell) slot) (Is-live (arena h t []) (l .cell) (l .serial) × (l .cell ≡ slot))
+    not-decides (isLive (h .next) (cellsOf h) t (holdIn l) && eqb (l .cell) slot) (Is-live (arena h t []) (l .cell) (l .serial) × (l .cell ≡ slot))
     (λ e. let x = both (isLive (h .next) (cellsOf h) t (holdIn l)) (eqb (l .cell) slot) e in (owned (arena h t []) (l .cell) (l .serial) (x .0), eqb-true (l .cell) slot (x .1)))
     (λ x. rw (owning (arena h t []) (l .cell) (l .serial) (x .0), eq-eqb (l .cell) slot (x .1)))
 

@@ -9,6 +9,7 @@ use native.Mathlib.Decide.{decLt}
 use lib.Dec.{ltb, leb, eqb}
 use lib.ListN.{length, replicate}
 use borrow.Author.Tests.{ltb-false, leb-false, eqb-true, eqb-false, ne-eqb, le-ltb, lt-leb}
+use Rattle.choice.specs.Pick.{false-not}
 use Rattle.choice.specs.Choice.{if_then_else_}
 use Rattle.model.specs.Arena.{headFits, shapeFits, isStale, holdIn}
 use Rattle.types.specs.declared.Head.{Head}
@@ -82,9 +83,6 @@ abbrev faultOf : BookCheck → BookRefusal
 faultOf Fine = BookFull
 faultOf (Fault r) = r
 
-pub apart : {A : Type 0} → false ≡ true → A
-apart e = let z : _≡_ {A = ℕ} 0 1 = cc in absurd (omega arith)
-
 module _ (h : Head) (t b : List ℕ) (slot : ℕ) (l : Lease) (s : Setpoint) where
   abbrev n : ℕ
   n = slotsOf h
@@ -115,7 +113,7 @@ module _ (h : Head) (t b : List ℕ) (slot : ℕ) (l : Lease) (s : Setpoint) whe
   given-refused : (r : BookRefusal) → firstFault (claimRules h t (length b) slot l s) ≡ Fault r → Outcome (Refused r, b)
   given-refused r e =
       let g = by-given r e in
-      refused r (λ q. apart (sym (ap isGiven q) ∙ g)) (λ q. apart (sym (ap isGiven q) ∙ g))
+      refused r (λ q. false-not (sym (ap isGiven q) ∙ g)) (λ q. false-not (sym (ap isGiven q) ∙ g))
       (λ c. let z : Fine ≡ Fault r = sym (fine-claim h t (length b) slot l s (c .given)) ∙ e in let y : _≡_ {A = ℕ} 0 1 = cc in omega arith)
 
   -- all that was given passes: by what the book says
@@ -129,7 +127,7 @@ module _ (h : Head) (t b : List ℕ) (slot : ℕ) (l : Lease) (s : Setpoint) whe
           → Outcome (judgeBook (if not x then Fault DamagedBook else if y then Fault VersionsSpent else if z then Fault BookFull else Fine) (λ r. (Refused r, b))
           (writtenOf (newestAt b slot + 1) (putOf n b slot s (newestAt b slot + 1))))
       go false y z e f p q =
-          refused DamagedBook (λ w. let z : _≡_ {A = ℕ} 0 1 = cc in omega arith) (λ w. e) (λ k. apart (sym e ∙ k .sound))
+          refused DamagedBook (λ w. let z : _≡_ {A = ℕ} 0 1 = cc in omega arith) (λ w. e) (λ k. false-not (sym e ∙ k .sound))
       go true true z e f p q =
           refused VersionsSpent (λ w. let z : _≡_ {A = ℕ} 0 1 = cc in omega arith) (λ w. let z : _≡_ {A = ℕ} 0 1 = cc in absurd (omega arith))
           (λ k. k .remains (p refl))

@@ -34,7 +34,7 @@ kept-line n b slot w s i k =
     omega (arith, s .falls x (omega (arith, k .0, k .1, k .2)), ap (versionAt b) top, k .0, k .1, k .2)
 
 -- so it tells a setpoint
-pub line-tells : (d : Decoded) (v : ℕ) → isSetting d ≡ true → (p : Setpoint) × (toldOf d v ≡ Setting p v)
+line-tells : (d : Decoded) (v : ℕ) → isSetting d ≡ true → (p : Setpoint) × (toldOf d v ≡ Setting p v)
 line-tells (decoded.Setting p) v e = (p, refl)
 line-tells decoded.Damaged v e = let z : _≡_ {A = ℕ} 0 1 = cc in absurd (omega arith)
 

@@ -5,6 +5,7 @@ use mathlib.Core.List.{List}
 use mathlib.Core.Bool.{Bool, true, false}
 use native.Mathlib.Omega.{arith}
 use lib.ListN.{length, getD}
+use Rattle.choice.specs.Pick.{false-not}
 use Rattle.model.specs.Arena.{headFits}
 use Rattle.types.specs.declared.Head.{Head}
 use Rattle.setpoint.specs.Codec.{hasBody, bodyOf, joinOf, decodeOf}
@@ -17,7 +18,7 @@ use Rattle.book_rules.specs.Rules.{isBadSlot}
 use Rattle.book_rules.specs.Calls.{toldOf, lineTold, readVersionOf}
 use Rattle.book_rules.specs.Fine.{SlotFine, slot-fine}
 use Rattle.book_rules.specs.Sound.{Sound, sound-is, is-sound}
-use Rattle.book_rules.specs.Outcomes.{Keeps, kept-or, read-kept, read-lost, read-damaged, apart}
+use Rattle.book_rules.specs.Outcomes.{Keeps, kept-or, read-kept, read-lost, read-damaged}
 use Rattle.book_rules.specs.Reads.{kept-tells}
 use Rattle.book_rules.specs.declared.BookAnswer.{BookAnswer}
 use Rattle.book_rules.specs.declared.BookAnswer.the-variants.{Setting, Refused}
@@ -79,7 +80,7 @@ module _ (h : Head) (b : List ℕ) (slot w : ℕ) (bytes : (j : ℕ) → getD b 
       go : (x : Bool) → isSound n b ≡ x → Dec (Keeps (newestAt b slot) w) → Read (readVersionOf h b slot w)
       go true e (yes q) = subst Read (sym (read-kept h b slot fits here w e q)) (is-kept (sound-is n b e) q)
       go true e (no q) = subst Read (sym (read-lost h b slot fits here w e q)) (is-lost (sound-is n b e) q)
-      go false e q = subst Read (sym (read-damaged h b slot fits here w e)) (is-damaged (λ s. apart (sym e ∙ is-sound n b s)))
+      go false e q = subst Read (sym (read-damaged h b slot fits here w e)) (is-damaged (λ s. false-not (sym e ∙ is-sound n b s)))
 
   tells : (p : Setpoint) (v : ℕ) → lineTold b k w ≡ Setting p v → (v ≡ w) × (settingAt b (placeAt b k) ≡ decoded.Setting p)
   unfolding lineTold

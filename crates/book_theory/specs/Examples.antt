@@ -1,6 +1,6 @@
 -- Examples that meet the premises of each theorem, so that none speaks of nothing. By computation, on an arena of one header with two buckets:
 -- two slots, a book of 84 bytes, which has room for four bodies; boot number 6.
-use Prim.Native.Nat.{ℕ, zero, suc, _+_, _<_}
+use Prim.Native.Nat.{ℕ, zero, suc, _<_}
 use mathlib.Core.Path.{_≡_, refl, sym, ap, _∙_, subst}
 use mathlib.Core.Logic.{_≢_, inr, _↔_}
 use mathlib.Core.List.{List, [], _∷_, _++_}

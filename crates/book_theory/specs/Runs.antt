@@ -10,6 +10,7 @@ use native.Mathlib.Decide.{ℕ-discrete, decLt}
 use lib.Dec.{eqb}
 use lib.ListN.{length, getD, replicate, length-replicate}
 use borrow.Author.Tests.{eq-eqb, ne-eqb}
+use Rattle.choice.specs.Pick.{false-not}
 use Rattle.choice.specs.Choice.{if_then_else_}
 use Rattle.model.specs.Arena.{headFits}
 use Rattle.types.specs.declared.Head.{Head}
@@ -25,7 +26,7 @@ use Rattle.book_rules.specs.Sound.{Kept, Apart, Sound, Clean, sound-is, is-soun
 use Rattle.book_rules.specs.Appended.{goesOf, goes-own, goes-other}
 use Rattle.book_rules.specs.Wrote.{Wrote, put-wrote}
 use Rattle.book_rules.specs.Fine.{SlotFine, slot-fine, BookFine}
-use Rattle.book_rules.specs.Outcomes.{Prepared, was-prepared, not-prepared, preparing-is, prepare-alike, Outcome, done, full, refused, writing-is, Keeps, kept-or, read-kept, read-lost, apart}
+use Rattle.book_rules.specs.Outcomes.{Prepared, was-prepared, not-prepared, preparing-is, prepare-alike, Outcome, done, full, refused, writing-is, Keeps, kept-or, read-kept, read-lost}
 use Rattle.book_rules.specs.Reads.{kept-tells, other-reads, own-reads, new-reads, dropped-reads, newest-other, version-zero, prepared-sound, prepared-clean}
 use Rattle.book_rules.specs.declared.BookAnswer.{BookAnswer}
 use Rattle.book_rules.specs.declared.BookAnswer.the-variants.{Done, Written, Setting, Refused}
@@ -200,7 +201,7 @@ module _ (n : ℕ) (b : List ℕ) (f : ℕ → List Setpoint) (g : Keeping n b f
           (omega (arith, goes-own slot y (omega arith) (omega arith)))
           (λ k. g .newer t (i - 1) (j - 1) ht (omega arith) (omega arith) k)
 
-  pub wrote-keeping : Keeping n c (added f slot s)
+  wrote-keeping : Keeping n c (added f slot s)
   wrote-keeping =
       record {
         sound = r .sound;
@@ -444,7 +445,7 @@ sound-writes h t b slot l s f = go (writing-is h t b slot l s)
     go : {o : BookAnswer × List ℕ} → Outcome h t b slot l s o → o .0 ≡ Refused DamagedBook → ⊥
     go (done c r) e = let z : _≡_ {A = ℕ} 0 1 = cc in omega arith
     go (full c r) e = let z : _≡_ {A = ℕ} 0 1 = cc in omega arith
-    go (refused r d g c) e = apart (sym (g (ap refusalIn e)) ∙ is-sound (slotsOf h) b f)
+    go (refused r d g c) e = false-not (sym (g (ap refusalIn e)) ∙ is-sound (slotsOf h) b f)
 
 pub never-damaged : Never-damaged
 never-damaged =

@@ -1,14 +1,14 @@
 -- The counters after any turns are those before them with the adds of the log.
-use Prim.Native.Nat.{ℕ, _+_}
+use Prim.Native.Nat.{ℕ}
 use mathlib.Core.Path.{_≡_, refl, sym, ap, _∙_}
 use mathlib.Core.List.{List, [], _∷_, _++_}
 use mathlib.Core.Bool.{Bool, true, false}
 use lib.ListN.{length, getD, length-set}
 use Rattle.choice.specs.Choice.{if_then_else_}
-use Rattle.model.specs.Log.{Event, by-caller, attempt-begun, boundary-run, yielded, spun, step-dropped, took, released, waiters-set, health-set, held-all, added}
+use Rattle.model.specs.Log.{Event, attempt-begun, boundary-run, yielded, spun, step-dropped, took, released, waiters-set, health-set, held-all, added}
 use Rattle.model.specs.Crew.{Work, summedOf, Crew, moved, isFull, addedTo, turnOf, turnsOf}
 use Rattle.types.specs.declared.Head.{Head}
-use Rattle.crew_theory.specs.Statements.{filling, deeds-in, Turn, idled, grabbed, summed, gave}
+use Rattle.crew_theory.specs.Statements.{deeds-in, Turn, idled, grabbed, summed, gave}
 use Rattle.crew_theory.specs.Turns.{same, turn-is}
 use Rattle.crew_at_work_theory.specs.Statements.{playedOf}
 

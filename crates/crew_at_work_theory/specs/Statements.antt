@@ -1,7 +1,7 @@
 -- Document 02, L13: what "must look one after another" says of the crew at work, as statements. `Theorems` gives their proofs by name. What
 -- is spoken of is the call's own result and its log: the order in which members came to hold all is read off the log, and so is what each
 -- member still owes.
-use Prim.Native.Nat.{ℕ, zero, suc, _+_, _*_, _%_, _≤_, _<_}
+use Prim.Native.Nat.{ℕ, zero, suc, _+_, _%_, _≤_, _<_}
 use mathlib.Core.Path.{_≡_}
 use mathlib.Core.List.{List, [], _∷_, _++_}
 use mathlib.Core.Logic.{_≢_, _⊎_}

@@ -1,22 +1,18 @@
 -- The theorems of this crate by the names of their statements.
-use Prim.Native.Nat.{ℕ, _+_, _%_, _≤_, _<_}
+use Prim.Native.Nat.{ℕ, _<_}
 use mathlib.Core.Path.{_≡_, refl, sym, ap, _∙_, subst}
-use mathlib.Core.List.{List, []}
+use mathlib.Core.List.{List}
 use native.Mathlib.Omega.{arith}
 use native.Mathlib.Decide.{decLt}
 use lib.ListN.{length, getD, List·getD-eq-default}
 use lib.Seq.{ext-getD}
-use Rattle.model.specs.Log.{Made, Event}
-use Rattle.model.specs.Arena.{cellsOf}
 use Rattle.model.specs.Refusals.{first}
 use Rattle.model.specs.Crew.{adds, summedOf, crewAtWorkRules, crewStart, crewAtWorkOf, orderOf}
 use Rattle.types.specs.declared.Check.{Check}
 use Rattle.types.specs.declared.Check.the-variants.{Fine, Fault}
-use Rattle.types.specs.declared.CrewReply.{CrewReply}
 use Rattle.types.specs.declared.Head.{Head}
 use Rattle.laws.specs.Crew.{member}
-use Rattle.crew_theory.specs.Statements.{named}
-use Rattle.crew_at_work_theory.specs.Statements.{replayOf, replayBy, All-finished, One-after-another, Low, Over-remainders, playedOf, Adds-are-all, Sums-wrap, Stays-low, Owes, Owes-only, As-replayed, Named-once, Released-first, Any-order}
+use Rattle.crew_at_work_theory.specs.Statements.{replayOf, All-finished, One-after-another, Over-remainders, playedOf, Adds-are-all, Sums-wrap, Stays-low, Owes, Owes-only, As-replayed, Named-once, Released-first, Any-order}
 use Rattle.crew_at_work_theory.specs.Due.{Settled, level, waits}
 use Rattle.crew_at_work_theory.specs.Kept.{Good, turns-good, start-good}
 use Rattle.crew_at_work_theory.specs.Reorders.{reorder}

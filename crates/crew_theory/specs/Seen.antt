@@ -94,15 +94,15 @@ rounds-same reply other counts turns same before (r ∷ rs) e x = (
 )
 
 module _ (h : Head) (t g counts cells turns : List ℕ) (fine : first (crewRules h t g counts cells turns) ≡ Fine) where
-  pub prefix-fine : (before later : List ℕ) → turns ≡ before ++ later → first (crewRules h t g counts cells before) ≡ Fine
+  prefix-fine : (before later : List ℕ) → turns ≡ before ++ later → first (crewRules h t g counts cells before) ≡ Fine
   prefix-fine before later e = fine-front h t g counts cells before later (subst (λ (ts : List ℕ). first (crewRules h t g counts cells ts) ≡ Fine) e fine)
 
   -- what the crew replies to the first turns
-  pub crew-replies : (before later : List ℕ) → turns ≡ before ++ later
+  crew-replies : (before later : List ℕ) → turns ≡ before ++ later
       → crewOf h t g counts cells before .seen .0 ≡ shiftOf rests h t g counts cells before [] .seen .0
   crew-replies before later e = ap (λ (o : Made (CrewReply × List ℕ)). o .seen .0) (crew-is h t g counts cells before (prefix-fine before later e))
 
-  pub crew-at-work-replies : (counters : List ℕ) → length counters ≡ cellsOf h → (before later : List ℕ) → turns ≡ before ++ later
+  crew-at-work-replies : (counters : List ℕ) → length counters ≡ cellsOf h → (before later : List ℕ) → turns ≡ before ++ later
       → crewAtWorkOf h t g counts cells before counters .seen .0 ≡ shiftOf adds h t g counts cells before counters .seen .0
   crew-at-work-replies counters wide before later e =
       ap (λ (o : Made (CrewReply × (List ℕ × List ℕ))). o .seen .0)

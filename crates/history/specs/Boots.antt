@@ -60,7 +60,7 @@ module _ (h : Head) (t : List ℕ) where
   leases-owned i earlier (k ∷ ks) l (inl e) c = owned h t k l e (c .0) (c .1 .0)
   leases-owned i earlier (k ∷ ks) l (inr a) c = leases-owned (i + 1) (earlier ++ (holdIn k ∷ [])) ks l a (c .1 .1 .1)
 
-pub names-owned : (w : World) (k : Call) (l : Lease) → Names-lease k l → Clear (rules w k) → leaseLive (w .head) (w .table) l ≡ true
+names-owned : (w : World) (k : Call) (l : Lease) → Names-lease k l → Clear (rules w k) → leaseLive (w .head) (w .table) l ≡ true
 unfolding leaseRules heldCellRules heldLeaseRules scriptRules lockRules bucketRules releaseRules locksRules
 names-owned w (try-acquire c) l n k = absurd n
 names-owned w (drop-lease m) l n k = owned (w .head) (w .table) m l n (k .1 .0) (k .1 .1 .0)

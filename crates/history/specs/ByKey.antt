@@ -1,6 +1,6 @@
 -- Which cells grants name: the cell that was asked for, by key the key's own; in the grant buffer, at each position that of the key there.
 -- which order leases are given back. What stands in quotes is of document 01.
-use Prim.Native.Nat.{ℕ, zero, suc, _+_, _*_, _-_, _<_}
+use Prim.Native.Nat.{ℕ, zero, suc, _+_, _*_, _<_}
 use mathlib.Core.Path.{_≡_, refl, sym, ap, _∙_}
 use mathlib.Core.List.{List, [], _∷_, _++_}
 use native.Mathlib.Decide.{ℕ-discrete}

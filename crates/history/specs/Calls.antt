@@ -82,7 +82,7 @@ words-leases (c ∷ s ∷ b ∷ ws) = omega (arith, words-leases ws)
 
 -- ---- what is handed over is live
 
-pub live-won : (boot : ℕ) {n : ℕ} {v : World} {o : Outcome} → Won n v o → (l : Hold) → Hands-over (answerOf boot o) [] l → Live v l
+live-won : (boot : ℕ) {n : ℕ} {v : World} {o : Outcome} → Won n v o → (l : Hold) → Hands-over (answerOf boot o) [] l → Live v l
 live-won boot {v = v} (won k x i) l e = subst (Live v) e x
 live-won boot none-yet l e = absurd e
 live-won boot (no-more r) l e = absurd e

@@ -169,7 +169,7 @@ same-arena w (added m c v) = refl
 -- ---- leases
 
 -- live words in another table, with the next serial no lower
-pub moved-live : (next cells next′ : ℕ) (t u : List ℕ) (l : Hold) → Alive next cells t l → next ≤ next′
+moved-live : (next cells next′ : ℕ) (t u : List ℕ) (l : Hold) → Alive next cells t l → next ≤ next′
     → bitAt u (l .cell) ≡ bitAt t (l .cell) → ownerAt u (l .cell) ≡ ownerAt t (l .cell) → isLive next′ cells u l ≡ true
 moved-live next cells next′ t u l a n p q =
     live next′ cells u l (record { in-range = a .in-range; bit-is = p ∙ a .bit-is; owner-is = q ∙ a .owner-is; low = a .low; high = omega (arith, a .high) })
@@ -286,7 +286,7 @@ apart-step w e g k a c d s x y = go (decLt s (w .head .next))
     go (yes o) = a c d s (live-before w e (holdOf c s) (fit g) k x o) (live-before w e (holdOf d s) (fit g) k y o)
     go (no n) = late-apart w e g k c d s n x y
 
-pub bits-same : (n : ℕ) (t u : List ℕ) → ((d : ℕ) → d < n → bitAt t d ≡ bitAt u d) → bits n t ≡ bits n u
+bits-same : (n : ℕ) (t u : List ℕ) → ((d : ℕ) → d < n → bitAt t d ≡ bitAt u d) → bits n t ≡ bits n u
 unfolding bits
 bits-same zero t u h = refl
 bits-same (suc n) t u h = cc (h n (omega arith), bits-same n t u (λ d l. h d (omega arith)))

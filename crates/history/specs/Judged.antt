@@ -1,6 +1,6 @@
 -- How a call goes: if a check applies it is refused and nothing changes, else its steps are made. What holds of both holds of the call.
 use Prim.Native.Nat.{ℕ}
-use mathlib.Core.Path.{_≡_, refl, sym, subst}
+use mathlib.Core.Path.{_≡_, refl, sym, ap, _∙_, subst}
 use mathlib.Core.List.{List, [], _∷_, _++_, append-nil}
 use mathlib.Core.Bool.{Bool, true, false}
 use native.Mathlib.Omega.{arith}
@@ -56,7 +56,7 @@ clear-back [] ys c = c
 clear-back (x ∷ xs) ys c = clear-back xs ys (c .1)
 
 -- a call that is refused, by the first rule that applies, or whose checks found nothing
-pub judged-by : {A : Type 0} (P : A → Type 0) (rules : List Rule) {refused : Refusal → A} {steps : A}
+judged-by : {A : Type 0} (P : A → Type 0) (rules : List Rule) {refused : Refusal → A} {steps : A}
     → ((r : Refusal) → first rules ≡ Fault r → P (refused r)) → (Clear rules → P steps) → P (judge (first rules) refused steps)
 judged-by P rules {refused} {steps} r s = go (first rules) refl
   where
@@ -175,12 +175,6 @@ unfolding sortedLocksOf
 sorted-steps w registry script place held keys grants key.Fine = simp append-nil
 sorted-steps w registry script place held keys grants (key.FaultAt r p) = refl
 
--- multi-lock's checks found nothing: the sorted call is its steps
-pub sorted-made : (w : World) (registry script : List ℕ) (place : ℕ) (held keys grants : List ℕ)
-    → let k = acquire-sorted registry script place held keys grants in first (rules w k) ≡ Fine → perform w k ≡ steps w k
-unfolding perform acquireSortedOf
-sorted-made w registry script place held keys grants e = rw e (sorted-steps w registry script place held keys grants (firstKey (countIn keys) 0 (w .head) registry keys))
-
 -- what holds of the call as it was and of its steps
 module _ (P : Made (World × Says) → Type 0) (w : World) where
   abbrev By : {A : Type 0} → (A → World × Says) → Made A → Type 0
@@ -214,3 +208,14 @@ module _ (P : Made (World × Says) → Type 0) (w : World) where
 
   pub performed : (k : Call) → ((r : Refusal) → P (unchanged w k r)) → (Clear (rules w k) → P (steps w k)) → P (perform w k)
   performed k x y = performed-by k (λ r _. x r) y
+
+-- a call is refused by the first rule that applies, or is its steps
+pub refused-so : (w : World) (k : Call) (r : Refusal) → first (rules w k) ≡ Fault r → perform w k ≡ unchanged w k r
+refused-so w k r e =
+    performed-by (λ m. m ≡ unchanged w k r) w k (λ x f. let g : Fault x ≡ Fault r = sym f ∙ e in let i : x ≡ r = cc in ap (unchanged w k) i)
+    (λ c. let g : Fine ≡ Fault r = sym (clear-fine (rules w k) c) ∙ e in let z : _≡_ {A = ℕ} 0 1 = cc in absurd (omega arith))
+
+pub made-so : (w : World) (k : Call) → Clear (rules w k) → perform w k ≡ steps w k
+made-so w k c =
+    performed-by (λ m. m ≡ steps w k) w k
+    (λ x f. let g : Fine ≡ Fault x = sym (clear-fine (rules w k) c) ∙ f in let z : _≡_ {A = ℕ} 0 1 = cc in absurd (omega arith)) (λ _. refl)

@@ -24,7 +24,7 @@ pub lawful-split : (w : World) (xs ys : List Event) → Lawful w (xs ++ ys) → 
 lawful-split w [] ys p = (tt, p)
 lawful-split w (x ∷ xs) ys p = let r = lawful-split (step w x) xs ys (p .1) in ((p .0, r .0), r .1)
 
-pub unreleased-append : (l : Hold) (xs ys : List Event) → Unreleased l xs → Unreleased l ys → Unreleased l (xs ++ ys)
+unreleased-append : (l : Hold) (xs ys : List Event) → Unreleased l xs → Unreleased l ys → Unreleased l (xs ++ ys)
 unreleased-append l [] ys p q = q
 unreleased-append l (x ∷ xs) ys p q = (p .0, unreleased-append l xs ys (p .1) q)
 

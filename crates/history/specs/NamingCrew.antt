@@ -142,7 +142,7 @@ module _ (work : Work) (counts cells : List ℕ) where
         (λ held. if-cases (Turned A) (ltb n (count + addsOf work count)) (λ less. add-told w m n (getD cells (startOf counts m + (n - count)) 0) A refl (ltb-false n count held) k)
         (λ worked. release-told w m n A refl (ltb-false n (count + addsOf work count) worked) (leb-false all n some) k)))
 
-    pub turns-told : (turns : List ℕ) (w : Crew) (A : Leases) → Keeps w A → Turned A (turnsOf work headers buckets g counts cells w turns)
+    turns-told : (turns : List ℕ) (w : Crew) (A : Leases) → Keeps w A → Turned A (turnsOf work headers buckets g counts cells w turns)
     unfolding turnsOf
     turns-told [] w A k = none k
     turns-told (m ∷ ms) w A k = andthen (turn-told w m A k) (λ B i h. turns-told ms (turnOf work headers buckets g counts cells w m .seen) B h)

@@ -35,7 +35,7 @@ use Rattle.history.specs.Writers.{through}
 
 -- ---- a call that takes or releases
 
-pub taken-alone : (w : World) (c : ℕ) → Shape-fits w → Free w c → w .head .next < lastSerial
+taken-alone : (w : World) (c : ℕ) → Shape-fits w → Free w c → w .head .next < lastSerial
     → perform w (try-acquire c)
     ≡ record { seen = (step w (took by-caller c (w .head .next)), says (Granted (leaseOf c (w .head .next) (w .head .boot))) (countsOf 1 0 0 0) 0 []); log = attempt-begun ∷ took by-caller c (w .head .next) ∷ [] }
 unfolding perform tryAcquireOf cellRules first acquireOf takeOf

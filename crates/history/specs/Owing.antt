@@ -61,7 +61,7 @@ pub data Settles (L : Hold → Type 0) : List Event → Type 0 where
   none : Settles L []
   more : (e : Event) {es : List Event} → Owed L e es → Settles L es → Settles L (e ∷ es)
 
-pub frees-left : {l : Hold} {xs : List Event} (ys : List Event) → Frees l xs → Frees l (xs ++ ys)
+frees-left : {l : Hold} {xs : List Event} (ys : List Event) → Frees l xs → Frees l (xs ++ ys)
 frees-left ys (freed-here es) = freed-here (es ++ ys)
 frees-left ys (freed-later e f) = freed-later e (frees-left ys f)
 
@@ -124,7 +124,7 @@ loosen {es = es} f a = subst (Settles _) (append-nil es) (join a none (λ l x. i
 pub quiet : {K : Hold → Type 0} {es : List Event} → Settles Nobody es → Settles K es
 quiet a = loosen (λ l x. absurd x) a
 
-pub after-quiet : {A : Type 0} {L : A → Hold → Type 0} {before : Hold → Type 0} {xs : List Event} {m : Made A}
+after-quiet : {A : Type 0} {L : A → Hold → Type 0} {before : Hold → Type 0} {xs : List Event} {m : Made A}
     → Settles Nobody xs → Hands L before m → Hands L before (record { seen = m .seen; log = xs ++ m .log })
 after-quiet a b = hand (quiet a) (λ l x. inl x) b
 

@@ -124,7 +124,7 @@ steps-settles w (acquire-sorted registry script place held keys grants) n k =
 steps-settles w (crew counts cells turns) n k = absurd (n tt)
 steps-settles w (crew-at-work counts cells turns counters) n k = absurd (n tt)
 
-pub call-settles : (w : World) (k : Call) → (IsCrew k → ⊥) → Settles (Gives (perform w k)) (log-of w k)
+call-settles : (w : World) (k : Call) → (IsCrew k → ⊥) → Settles (Gives (perform w k)) (log-of w k)
 call-settles w k n = performed (λ m. Settles (Gives m) (m .log)) w k (λ r. none) (steps-settles w k n)
 
 -- a log with an event is not empty

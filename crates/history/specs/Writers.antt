@@ -192,7 +192,7 @@ seam : (xs js before after zs : List Event) (new : Event) → js ≡ before ++ (
 seam xs js before after zs new e =
     ap (λ (l : List Event). xs ++ (l ++ zs)) e ∙ ap (λ (l : List Event). xs ++ l) (append-assoc before (new ∷ after) zs) ∙ sym (append-assoc xs before (new ∷ (after ++ zs)))
 
-pub spliced : (xs js before after m n : List Event) (new old : Event) → js ≡ before ++ (new ∷ after) → xs ++ before ≡ m ++ (old ∷ n)
+spliced : (xs js before after m n : List Event) (new old : Event) → js ≡ before ++ (new ∷ after) → xs ++ before ≡ m ++ (old ∷ n)
     → xs ++ js ≡ m ++ (old ∷ (n ++ (new ∷ after)))
 spliced xs js before after m n new old e f =
     ap (λ (l : List Event). xs ++ l) e ∙ sym (append-assoc xs before (new ∷ after)) ∙ ap (λ (l : List Event). l ++ (new ∷ after)) f ∙ append-assoc m (old ∷ n) (new ∷ after)

@@ -21,11 +21,10 @@ use Rattle.laws.specs.Lists.{holds-few, words-back}
 use Rattle.history.specs.World.{World}
 use Rattle.history.specs.Items.{Call, perform}
 use Rattle.history.specs.Theorems.{lawful-always}
-use Rattle.history.specs.Judged.{judged-at, sorted-locks, steps}
+use Rattle.history.specs.Judged.{judged-at, sorted-locks, steps, made-so}
 use Rattle.history.specs.Shared.{steps-hand-back, back-once}
 use Rattle.history.specs.Calls.{words-leases}
 use Rattle.history_exact.specs.Script.{Scripted, environment-has, try-lock-has, transactional-has, acquire-bucket-has, release-all-has, acquire-locks-has, acquire-sorted-has, attempts-one, at-rest, counts, handed, Consumes, Script-consumed}
-use Rattle.history_exact.specs.Made.{made}
 use Rattle.history_exact.specs.Consuming.{lawfully}
 use Rattle.history_exact.specs.ConsumingSteps.{held-after, granted-after, boundary-consumed, lock-consumed, attempt-consumed, retry-consumed, back-consumed, locks-consumed, Any}
 
@@ -117,4 +116,4 @@ steps-consumed w (acquire-sorted-has registry script place held keys grants) =
     (locks-consumed (w .head) script ps (w .head .buckets) (w .head .boot) registry (sortedKeys (w .head .buckets) registry keys) grants (length (cellsSorted (w .head .buckets) registry keys)) 0 [] (starting (w .head) place) (w .table) (w .health)))
 
 pub script-consumed : Script-consumed perform
-script-consumed w k s fine = lawfully {Own = Any} (rw (made w s fine) (steps-consumed w s)) (lawful-always w k .0)
+script-consumed w k s fine = lawfully {Own = Any} (rw (made-so w k fine) (steps-consumed w s)) (lawful-always w k .0)

@@ -8,15 +8,11 @@ use lib.Dec.{eqb}
 use lib.ListN.{length, getD, drop, set, length-append, drop-of-length-le}
 use lib.Seq.{sets, drop-cons}
 use Rattle.choice.specs.Pick.{if-both}
-use Rattle.text.specs.Laws.{drop-one}
+use Rattle.choice.specs.Lists.{drop-one, sets-sets}
 use Rattle.text.specs.Decimal.{length-decimal, places-most}
 use Rattle.print.specs.Print.{putOf, pieceOf, afterOf, formFrom, formOf}
 
 -- ---- bytes
-
-sets-sets : (l a b : List ℕ) (i : ℕ) → sets (sets l i a) (i + length a) b ≡ sets l i (a ++ b)
-sets-sets l [] b i = let e : i + 0 ≡ i = omega arith in rw e
-sets-sets l (x ∷ a) b i = let e : i + suc (length a) ≡ suc i + length a = omega arith in rw e (sets-sets (set l i x) a b (suc i))
 
 -- nothing put
 pub put-none : (l : List ℕ) (i : ℕ) → (i, l) ≡ putOf l i []

@@ -64,12 +64,6 @@ owner-spelled [] c = refl
 owner-spelled (x ∷ l) zero = refl
 owner-spelled (x ∷ l) (suc c) = let e : 3 * suc c + 1 ≡ suc (suc (suc (3 * c + 1))) = omega arith in rw e (owner-spelled l c)
 
-pub waiters-spelled : (l : List Cell) (c : ℕ) → waitersAt (spelled l) c ≡ getD l c none .waiters
-unfolding spelled waitersAt
-waiters-spelled [] c = refl
-waiters-spelled (x ∷ l) zero = refl
-waiters-spelled (x ∷ l) (suc c) = let e : 3 * suc c + 2 ≡ suc (suc (suc (3 * c + 2))) = omega arith in rw e (waiters-spelled l c)
-
 -- another bit and owner in one cell is another record in one place; past the end both change nothing
 pub set-spelled : (l : List Cell) (c b o : ℕ) → setCell (spelled l) c b o ≡ spelled (set l c (cellOf b o (getD l c none .waiters)))
 unfolding spelled setCell

@@ -28,10 +28,10 @@ use Rattle.history.specs.Events.{Fit, fit, keep-step}
 use Rattle.history.specs.Logs.{boot-now}
 use Rattle.history.specs.Others.{released-alone}
 use Rattle.history.specs.Salvages.{Came, bad, full, done, came, inside, now-whole, now-owned, now-freed, now-kept}
-use Rattle.laws.specs.Salvage.{length-mended, length-mended-health, waiters-mended}
+use Rattle.laws.specs.Salvage.{length-mended, length-mended-health, waiters-mended, byte-kept}
 use Rattle.salvage_theory.specs.Statements.{answerIn, tableIn, healthIn, listIn, fits, No-room, Bad-shape-exactly, Report-full-exactly, placeIn, oldIn, newIn, Reports, Report-is, Places-are, undone, undoneOf, Rebuilds, Lists, Held-in, Unconfirmed-is, Mends, Mended, Twice, Keeps-boot, Owners-differ, Apart-exactly, Doubled-apart, other, Held-at-start, Goes-on-from, Boot-from-salvage, Counts-from-salvage, Dead-stays-dead, Dead-over-salvages, Apart-from-there, Unconfirmed-alone, Live-over-salvage}
 use Rattle.salvage_theory.specs.Report.{Lines, lines, told, listed, rising, undone-is, changes-none}
-use Rattle.salvage_theory.specs.Cells.{table-again, byte-kept, byte-mended, byte-few, health-twice, byte-in, holds-state, holding, state-holds, Picks, picks, pick-held, pick-listed, pick-rising}
+use Rattle.salvage_theory.specs.Cells.{table-again, byte-mended, byte-few, health-twice, byte-in, holds-state, holding, state-holds, Picks, picks, pick-held, pick-listed, pick-rising}
 use Rattle.salvage_theory.specs.Came.{words-are, was-done, changes-are}
 use Rattle.salvage_theory.specs.Onward as onward
 

@@ -24,12 +24,6 @@ Held (Pressure x) = T (fits binary32 x)
 Held (Speed n) = n < 4294967296
 Held (Valve b) = Unit
 
-pub word-small : (s : Setpoint) → Held s → wordOf s < 4294967296
-word-small (Pressure x) h = bits-small x h
-word-small (Speed n) h = h
-word-small (Valve true) h = omega arith
-word-small (Valve false) h = omega arith
-
 -- ---- what was written reads back
 
 pub join-low : (w : ℕ) → joinOf (w % 256) (w / 256 % 256) (w / 65536 % 256) (w / 16777216) ≡ w

@@ -27,10 +27,8 @@ use Rattle.types.specs.declared.Refusal.{Refusal}
 use Rattle.types.specs.declared.Run.{Run}
 use Rattle.history.specs.World.{World}
 use Rattle.history.specs.Items.{Call, Says, unchanged, unchanged-at, acquire-locks, acquire-sorted, perform, Clear, rules}
-use Rattle.history.specs.Judged.{clear-front, clear-back, clear-append, clear-fine, judged-at, grant, seen-as, sorted-locks, as-asked, sorted-made, performed}
+use Rattle.history.specs.Judged.{clear-front, clear-back, clear-append, judged-at, grant, seen-as, sorted-locks, as-asked, performed, made-so}
 use Rattle.history.specs.Shared.{asked-cells, sorted-cells, chosen-keys, first-place, first-place-at, chosen-length, chosen-count, chosen-cell, chosen-binding, sorted-few}
-use Rattle.history_exact.specs.Script.{acquire-locks-has}
-use Rattle.history_exact.specs.Made.{made}
 use Rattle.history_exact.specs.Passing.{bindings-clear}
 use Rattle.sorted_theory.specs.Statements.{First-bad, Beyond-checks, As-locks, As-multilock}
 use Rattle.sorted_theory.specs.Keys.{fault-first}
@@ -58,9 +56,9 @@ module _ (w : World) (registry script : List ℕ) (place : ℕ) (held keys grant
   granted-beyond (refused-key r p c f) a = let z : _≡_ {A = ℕ} 0 1 = cc in absurd (omega arith)
   granted-beyond (locks c) a = c
 
-  pub beyond-made : Beyond-checks w registry script place held keys grants
+  beyond-made : Beyond-checks w registry script place held keys grants
       → perform w sorted-call ≡ seen-as (as-asked w registry keys) (sorted-locks w registry script place held keys grants)
-  beyond-made b = sorted-made w registry script place held keys grants (clear-fine (rules w sorted-call) (b .0)) ∙ ap (λ (k : KeyCheck). judgeAt k (unchanged-at w sorted-call) (seen-as (as-asked w registry keys) (sorted-locks w registry script place held keys grants))) (b .1)
+  beyond-made b = made-so w sorted-call (b .0) ∙ ap (λ (k : KeyCheck). judgeAt k (unchanged-at w sorted-call) (seen-as (as-asked w registry keys) (sorted-locks w registry script place held keys grants))) (b .1)
 
 -- ---- multi-lock's steps with another buffer: a refusal hands it back, a grant writes all of it
 
@@ -152,7 +150,7 @@ module _ (w : World) (registry script : List ℕ) (place : ℕ) (held keys grant
 
   chosen-made : length other ≡ 3 * n → Clear (rules w (acquire-sorted registry script place held keys grants)) → perform w chosen-call ≡ seen-as plainly (inner other)
   chosen-made fit c =
-      made w (acquire-locks-has registry script place held (chosen-keys b registry keys) other) (chosen-passes fit c)
+      made-so w (acquire-locks registry script place held (chosen-keys b registry keys) other) (chosen-passes fit c)
       ∙ ap (λ (k : ℕ). seen-as plainly (locksOf k 0 (given (w .head) script (holdsOf held)) b (w .head .boot) registry (chosen-keys b registry keys) [] (starting (w .head) place) (w .table) (w .health) other))
       (chosen-count b registry keys)
 

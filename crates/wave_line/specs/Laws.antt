@@ -10,9 +10,8 @@ use native.Mathlib.Nat.{pow-le-pow-right}
 use lib.Dec.{eqb, ltb, leb}
 use lib.ListN.{length, getD, drop, take, length-append, drop-of-length-le}
 use lib.Seq.{sets, sets-eq, take-at, drop-cons}
-use borrow.Author.Tests.{ltb-true, ltb-false, lt-ltb, le-ltb, le-leb, lt-leb, eq-eqb, ne-eqb, eqb-true, eqb-false}
+use borrow.Author.Tests.{ltb-true, ltb-false, lt-ltb, le-ltb, le-leb, eq-eqb, ne-eqb, eqb-true, eqb-false}
 use Rattle.choice.specs.Choice.{if_then_else_}
-use Rattle.choice.specs.Pick.{if-both}
 use Rattle.text.specs.declared.Number.{Number}
 use Rattle.text.specs.Text.{isDigit, digitsIn, valueFrom, noNumber, endedNumberOf, readNumberOf}
 use Rattle.text.specs.Laws.{digit-is, digits-at, digits-end, value-at, value-end}
@@ -24,7 +23,7 @@ use Rattle.wave_rules.specs.declared.Stage.{Stage}
 use Rattle.wave_rules.specs.declared.Stage.the-variants.{Opening, Scope, Variables, Ending, Start, Values, Waiting, Changing, Lost}
 use Rattle.wave_rules.specs.Dump.{flipOf, timescale, scopeLine, varLine, upscope, endLine, timeLine, bitLine}
 use Rattle.wave_rules.specs.Reader.{timeIn, cellIn, afterVariable, afterValue, isTime, isChange, nextOf, bitsOf}
-use Rattle.wave_rules.specs.Stages.{false-not, nested, time-later, Reach}
+use Rattle.wave_rules.specs.Stages.{false-not, nested, same-refl as same-self, same-true, time-later, Reach}
 use Rattle.wave_line.specs.Stages.{isLost, isChanging, sumOf, stampOf, afterTime, onwardOf}
 use Rattle.print.specs.Print.{putOf}
 use Rattle.wave_write.specs.Laws.{length-time, length-bit, length-var, five-places}
@@ -52,18 +51,6 @@ same-at x y i h k = rw (drop-cons x i 0 h, drop-cons y i 0 k, add-one i)
 pub same-end : (x y : List ℕ) (i : ℕ) → length x ≤ i → length y ≤ i → same (drop i x) (drop i y) ≡ true
 unfolding same
 same-end x y i h k = rw (drop-of-length-le x h, drop-of-length-le y k)
-
-same-self : (x : List ℕ) → same x x ≡ true
-unfolding same
-same-self [] = refl
-same-self (a ∷ x) = rw (eq-eqb a a refl, same-self x)
-
-same-true : (x y : List ℕ) → same x y ≡ true → x ≡ y
-unfolding same
-same-true [] [] e = refl
-same-true [] (b ∷ y) e = false-not e
-same-true (a ∷ x) [] e = false-not e
-same-true (a ∷ x) (b ∷ y) e = let p = nested (eqb a b) (same x y) e in cc (eqb-true a b (p .0), same-true x y (p .1))
 
 -- a line of a bit has two bytes
 pub same-bit : (x : List ℕ) (bit c : ℕ) → length x ≡ 2

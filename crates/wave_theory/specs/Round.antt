@@ -15,9 +15,9 @@ use Rattle.text.specs.Text.{digitsIn}
 use Rattle.text.specs.Decimal.{decimalOf, placesOf}
 use Rattle.text.specs.Back.{glyph-is, number-back}
 use Rattle.wave_rules.specs.Lines.{Items, line, same}
-use Rattle.wave_theory.specs.Texts.{itemsOf, plain, allPlain, same-refl, split-joined}
+use Rattle.wave_theory.specs.Texts.{itemsOf, plain, allPlain, split-joined}
 use Rattle.wave_theory.specs.Bits.{bitsAfter}
-use Rattle.wave_rules.specs.Stages.{changes-in}
+use Rattle.wave_rules.specs.Stages.{changes-in, same-refl}
 use Rattle.wave_rules.specs.Dump.{noBits, turns, turned, changesOf, flipOf, timescale, scopeLine, varLine, upscope, endLine, timeLine, bitLine, eachOf, varsOf, firstOf, bodyOf, middleOf, linesOf, dumpOf, Dumpable}
 use Rattle.wave_rules.specs.declared.Stage.{Stage}
 use Rattle.wave_rules.specs.declared.Stage.the-variants.{Opening, Scope, Variables, Ending, Start, Values, Waiting, Changing}

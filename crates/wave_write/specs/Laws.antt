@@ -6,8 +6,9 @@ use mathlib.Core.Bool.{Bool, true, false}
 use native.Mathlib.Omega.{arith}
 use lib.Dec.{eqb}
 use lib.ListN.{length, getD, drop, length-append, length-drop}
-use lib.Seq.{sets, drop-cons}
+use lib.Seq.{sets}
 use borrow.Author.Tests.{eqb-true}
+use Rattle.choice.specs.Lists.{drop-three}
 use Rattle.choice.specs.Choice.{if_then_else_}
 use Rattle.choice.specs.Pick.{if-both}
 use Rattle.print.specs.Print.{putOf}
@@ -130,14 +131,6 @@ pub five-places : (t : ℕ) → t < 100000 → placesOf t ≤ 5
 five-places t h = places-few t 5 (omega arith) (omega arith) (omega arith)
 
 -- ---- a loop over steps: one turn, and the end
-
-drop-three : (l : List ℕ) (i : ℕ) → i + 2 < length l
-    → drop i l ≡ getD l i 0 ∷ getD l (i + 1) 0 ∷ getD l (i + 2) 0 ∷ drop (i + 3) l
-drop-three l i h =
-    let a : suc i ≡ i + 1 = omega arith in
-    let b : suc (i + 1) ≡ i + 2 = omega arith in
-    let c : suc (i + 2) ≡ i + 3 = omega arith in
-    rw (drop-cons l i 0 (omega arith), a, drop-cons l (i + 1) 0 (omega arith), b, drop-cons l (i + 2) 0 h, c)
 
 body-at : (n t : ℕ) (bits script : List ℕ) (i : ℕ) → i + 2 < length script
     → bodyOf n t bits (drop i script)
