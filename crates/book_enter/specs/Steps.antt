@@ -1,4 +1,4 @@
--- Laws for the steps of a write: counts and the end of the last body line by line, four lines put one behind the other.
+-- Laws for the parts of a write: counts and the end of the last body line by line, four lines put one behind the other.
 use Prim.Native.Nat.{ℕ, suc, _+_, _*_, _≤_, _<_, max}
 use mathlib.Core.Path.{_≡_, refl, sym, ap, _∙_}
 use mathlib.Core.Logic.{_≢_, inl, inr}

@@ -19,7 +19,7 @@ use Rattle.setpoint.specs.declared.Decoded.the-variants as decoded
 use Rattle.book_rules.specs.Layout.{slotsOf, frontOf, placeAt, newestAt, settingAt, isSound}
 use Rattle.book_rules.specs.Writing.{dropOldestOf, keptOf, isFull, putOf}
 use Rattle.book_rules.specs.Rules.{firstFault, judgeBook, isBadBook, isBadSlot, isHolder, isGone, lastVersion, bookRules, claimRules, overRules, openRules, keptRules}
-use Rattle.book_rules.specs.Calls.{prepareBookOf, writtenOf, writeSetpointOf, toldOf, lineTold, readVersionOf, readSetpointOf}
+use Rattle.book_rules.specs.Calls.{prepareBookOf, writtenOf, writeSetpointOf, readAs, lineRead, readVersionOf, readSetpointOf}
 use Rattle.book_rules.specs.Sound.{Sound, sound-is}
 use Rattle.book_rules.specs.Dropped.{dropped}
 use Rattle.book_rules.specs.Fine.{head-alone}
@@ -109,10 +109,10 @@ prepares-is h b =
     Rest = If_Then_Else_ (Bad-book (slots h) b) (Is (Refused BadSlot, b)) (Is (Done, replicate (length b) 0))
 
 -- a kept version's line is used, so its five bytes mean a setpoint, and this is told
-told-is : (n : ℕ) (b : List ℕ) (slot w : ℕ) → slot < n → Undamaged n b → (Not-kept b slot w → ⊥)
-    → With (Body-at b (place-in b (4 * slot + (newest b slot - w)))) (λ s. Is (Setting s w)) (lineTold b (4 * slot + (newestAt b slot - w)) w)
-unfolding lineTold
-told-is n b slot w i u g = subst (λ (v : ℕ). With (Body-at b (place-in b k)) (λ s. Is (Setting s w)) (toldOf (settingAt b (placeAt b (4 * slot + (v - w)))) w)) (sym (version-is b (4 * slot))) (go (body-is b (place-in b k)))
+version-read-is : (n : ℕ) (b : List ℕ) (slot w : ℕ) → slot < n → Undamaged n b → (Not-kept b slot w → ⊥)
+    → With (Body-at b (place-in b (4 * slot + (newest b slot - w)))) (λ s. Is (Setting s w)) (lineRead b (4 * slot + (newestAt b slot - w)) w)
+unfolding lineRead
+version-read-is n b slot w i u g = subst (λ (v : ℕ). With (Body-at b (place-in b k)) (λ s. Is (Setting s w)) (readAs (settingAt b (placeAt b (4 * slot + (v - w)))) w)) (sym (version-is b (4 * slot))) (go (body-is b (place-in b k)))
   where
     k : ℕ
     k = 4 * slot + (newest b slot - w)
@@ -125,8 +125,8 @@ told-is n b slot w i u g = subst (λ (v : ℕ). With (Body-at b (place-in b k)) 
         u .means k (omega arith) (omega (arith, u .falling slot (newest b slot - w) i (omega arith)))
 
     go : ((s : Setpoint) × Body-at b (place-in b k) s × (settingAt b (place-in b k) ≡ decoded.Setting s)) ⊎ (((s : Setpoint) → Body-at b (place-in b k) s → ⊥) × (settingAt b (place-in b k) ≡ decoded.Damaged))
-        → With (Body-at b (place-in b k)) (λ s. Is (Setting s w)) (toldOf (settingAt b (placeAt b k)) w)
-    go (inl (s, m, e)) = (s, m, ap (λ (p : ℕ). toldOf (settingAt b p) w) (place-is b k) ∙ ap (λ (x : Decoded). toldOf x w) e)
+        → With (Body-at b (place-in b k)) (λ s. Is (Setting s w)) (readAs (settingAt b (placeAt b k)) w)
+    go (inl (s, m, e)) = (s, m, ap (λ (p : ℕ). readAs (settingAt b p) w) (place-is b k) ∙ ap (λ (x : Decoded). readAs x w) e)
     go (inr (f, e)) = absurd (f (means .0) (means .1))
 
 reads-is : (h : Head) (b : List ℕ) (slot w : ℕ) → Reads-version h b slot w (readVersionOf h b slot w)
@@ -145,14 +145,14 @@ reads-is h b slot w =
                   if-cases (λ (k : BookCheck). Kept-version (judged k)) (isGone b slot w) (λ z. inl (gone-decides b slot w .0 z, refl))
                       (λ z. inr (
                         gone-decides b slot w .1 z,
-                        told-is (slots h) b slot w (below (slots h) slot (λ k. there (inr k))) (undamaged (slots h) b y) (gone-decides b slot w .1 z),
+                        version-read-is (slots h) b slot w (below (slots h) slot (λ k. there (inr k))) (undamaged (slots h) b y) (gone-decides b slot w .1 z),
                       )),
                 )),
           )),
     ))
   where
     judged : BookCheck → BookAnswer
-    judged k = judgeBook k Refused (lineTold b (4 * slot + (newestAt b slot - w)) w)
+    judged k = judgeBook k Refused (lineRead b (4 * slot + (newestAt b slot - w)) w)
 
     Kept-version : BookAnswer → Type 0
     Kept-version =

@@ -10,8 +10,8 @@ use borrow.Author.Tests.{eq-eqb, ne-eqb}
 use Rattle.model.specs.Log.{Event, attempt-begun, boundary-run, yielded, spun, step-dropped, took, released, waiters-set, health-set, held-all, added}
 use Rattle.model.specs.Crew.{summedOf, startOf, countOf}
 use Rattle.crew_theory.specs.Statements.{named}
-use Rattle.crew_at_work_theory.specs.Statements.{raisedBy, wholeBy, replayBy, playedOf, value-to, values-to}
-use Rattle.crew_at_work_theory.specs.Played.{effect, played-more}
+use Rattle.crew_at_work_theory.specs.Statements.{raisedBy, wholeBy, replayBy, countersBy, value-to, values-to}
+use Rattle.crew_at_work_theory.specs.Counters.{effect, counters-more}
 
 -- ---- one counter, over a log
 
@@ -51,13 +51,13 @@ module _ (d : ℕ) where
           (wide, e ∙ rw (eq-eqb c d p) (unfold summedOf in refl))
       go (no p) = (wide, getD-set-other l c d (summedOf (getD l c 0) v) 0 (λ z. p (sym z)) ∙ rw (ne-eqb c d p) (omega (arith, f .1)))
 
-  pub played-at : (l : List ℕ) (log : List Event) → Fit l → getD (playedOf l log) d 0 ≡ (getD l d 0 + values-to d log) % 65536
-  unfolding playedOf values-to
-  played-at l [] f = omega (arith, f .1)
-  played-at l (e ∷ es) f =
+  pub counters-at : (l : List ℕ) (log : List Event) → Fit l → getD (countersBy l log) d 0 ≡ (getD l d 0 + values-to d log) % 65536
+  unfolding countersBy values-to
+  counters-at l [] f = omega (arith, f .1)
+  counters-at l (e ∷ es) f =
       let a = effect-at l e f in
-      let b = played-at (effect e l) es (a .0, omega (arith, a .1)) in
-      ap (λ (z : List ℕ). getD z d 0) (played-more l e es) ∙ b ∙ rw (a .1) (omega arith)
+      let b = counters-at (effect e l) es (a .0, omega (arith, a .1)) in
+      ap (λ (z : List ℕ). getD z d 0) (counters-more l e es) ∙ b ∙ rw (a .1) (omega arith)
 
 -- ---- the replay
 

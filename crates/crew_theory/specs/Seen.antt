@@ -19,7 +19,7 @@ use Rattle.types.specs.declared.Head.{Head}
 use Rattle.choice.specs.Pick.{neither}
 use Rattle.laws.specs.Checks.{first-skip, first-append, fine-rest, fine-append}
 use Rattle.laws.specs.Crew.{adds-few, at-work-fine}
-use Rattle.crew_theory.specs.Statements.{In, flat, after, Rounds, Rounds-told, Rounds-after, Rounds-at-work, Rounds-over, Open, tabled}
+use Rattle.crew_theory.specs.Statements.{In, flat, after, Rounds, Rounds-said, Rounds-after, Rounds-at-work, Rounds-over, Open, tabled}
 use Rattle.crew_theory.specs.Turns.{turns-append, in-left}
 use Rattle.crew_theory.specs.Ended.{released-at}
 
@@ -86,7 +86,7 @@ crew-at-work-is h t g counts cells turns counters fine = rw fine
 
 -- rounds by other replies that say the same to the first of these turns
 rounds-same : (reply other : List ℕ → CrewReply) (counts turns : List ℕ) → ((before later : List ℕ) → turns ≡ before ++ later → reply before ≡ other before)
-    → (before : List ℕ) (rs : List (List ℕ)) → turns ≡ before ++ flat rs → Rounds-told reply counts before rs → Rounds-told other counts before rs
+    → (before : List ℕ) (rs : List (List ℕ)) → turns ≡ before ++ flat rs → Rounds-said reply counts before rs → Rounds-said other counts before rs
 rounds-same reply other counts turns same before [] e x = tt
 rounds-same reply other counts turns same before (r ∷ rs) e x = (
   λ m u. x .0 m (u .0, rw (same before (r ++ flat rs) e) (u .1)),

@@ -31,7 +31,7 @@ use Rattle.history.specs.Tests.{differ}
 use Rattle.history.specs.Logs.{boot-now}
 use Rattle.history.specs.Judged.{clear-fine, clear-front, clear-back, performed-by}
 use Rattle.history.specs.Calls.{call-kept}
-use Rattle.history.specs.Refused.{steps-never}
+use Rattle.history.specs.Refused.{past-checks-never}
 
 -- ---- the head's own
 
@@ -357,7 +357,7 @@ hit-placed w k l _ _ (listed leases ahead i o b e) f s = hit-listed w k leases a
 refused-by : (w : World) (k : Call) (r : Refusal) → Early k r → answers w k ≡ Refused r → first (rules w k) ≡ Fault r
 refused-by w k r early =
     performed-by (λ (m : Made (World × Says)). m .seen .1 .answer ≡ Refused r → first (rules w k) ≡ Fault r) w k
-    (λ x e q. let z : x ≡ r = cc in e ∙ ap Fault z) (λ _ q. absurd (steps-never w k r q early))
+    (λ x e q. let z : x ≡ r = cc in e ∙ ap Fault z) (λ _ q. absurd (past-checks-never w k r q early))
 
 -- checks of other numbers
 abbrev Below-16 : List Rule → Type 0

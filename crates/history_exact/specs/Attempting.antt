@@ -28,7 +28,7 @@ use Rattle.history.specs.Items.{Says, says, perform, acquire-bucket, environmen
 use Rattle.history.specs.Statements.{world-in, answer-in}
 use Rattle.history.specs.Tests.{differ, if-cases, In}
 use Rattle.history.specs.Logs.{nothing}
-use Rattle.history.specs.Judged.{steps, made-so}
+use Rattle.history.specs.Judged.{past-checks, made-so}
 use Rattle.history.specs.Steps.{With, worldAt, of-run, of-tried}
 use Rattle.history.specs.Calls.{call-kept}
 use Rattle.history_exact.specs.Statements.{Passes}
@@ -42,10 +42,10 @@ use Rattle.history_exact.specs.CountedOn.{on-run, run-on, tried-on, boun
 
 -- an attempt and a boundary by the definitions' own steps; where the checks pass, these are the calls
 abbrev pub attempting : (registry script held : List ℕ) (binding bucket : ℕ) → World → ℕ → Made (World × Says)
-attempting registry script held binding bucket w p = steps w (transactional registry script p held binding bucket)
+attempting registry script held binding bucket w p = past-checks w (transactional registry script p held binding bucket)
 
 abbrev pub bounding : (script held : List ℕ) → World → ℕ → Made (World × Says)
-bounding script held w p = steps w (environment script p held)
+bounding script held w p = past-checks w (environment script p held)
 
 -- a run that has counted nothing
 abbrev pub nil : ℕ → ℕ → Run

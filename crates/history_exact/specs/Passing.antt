@@ -19,7 +19,7 @@ use Rattle.types.specs.declared.Hold.{Hold}
 use Rattle.choice.specs.Pick.{neither}
 use Rattle.laws.specs.Shape.{shaped}
 use Rattle.laws.specs.Lists.{length-words, words-back}
-use Rattle.history.specs.World.{World, step, now}
+use Rattle.history.specs.World.{World, after-event, now}
 use Rattle.history.specs.Items.{Clear}
 use Rattle.history.specs.Tests.{In, in-either}
 use Rattle.history.specs.Events.{Fit, fits}
@@ -29,7 +29,7 @@ use Rattle.history.specs.HeldLists.{All-of, clear-own, live-clear, clear-live}
 
 -- ---- the arena
 
-one-health : (w : World) (e : Event) → length (step w e .health) ≡ length (w .health)
+one-health : (w : World) (e : Event) → length (after-event w e .health) ≡ length (w .health)
 one-health w attempt-begun = refl
 one-health w boundary-run = refl
 one-health w yielded = refl
@@ -44,7 +44,7 @@ one-health w (added m c v) = refl
 
 health-now : (w : World) (es : List Event) → length (now w es .health) ≡ length (w .health)
 health-now w [] = refl
-health-now w (e ∷ es) = health-now (step w e) es ∙ one-health w e
+health-now w (e ∷ es) = health-now (after-event w e) es ∙ one-health w e
 
 module _ {w v : World} {es : List Event} (held : List ℕ) (k : Kept w (In (holdsOf held)) v es) where
   shape-fit : not (shapeFits (w .head) (length (w .table))) ≡ false → Fit w

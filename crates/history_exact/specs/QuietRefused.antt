@@ -37,7 +37,7 @@ use Rattle.history.specs.World.{World, worldOf, Unreleased, now, Lawful}
 use Rattle.history.specs.Items.{Says, says, acquire-bucket, acquire-locks, perform, keyCell, Call, Clear, rules}
 use Rattle.history.specs.Tests.{state-free, In}
 use Rattle.history.specs.Logs.{Kept}
-use Rattle.history.specs.Judged.{steps, made-so}
+use Rattle.history.specs.Judged.{past-checks, made-so}
 use Rattle.history.specs.Steps.{With, worldAt}
 use Rattle.history_exact.specs.Statements.{leases-from, Locks-refused-quiet, takes-of, Names, Unwaited, Is-free}
 use Rattle.history_exact.specs.Passing.{bucket-on, key-passes, in-script}
@@ -346,7 +346,7 @@ module _ (w : World) (registry script : List ℕ) (place : ℕ) (held keys grant
         bucket-on held k registry script place place (bindingAt keys j) (in-script script place (unfold locksRules in fine .1 .1 .1 .0))
         (key-passes w registry script place held keys grants j few fine)
 
-    by-steps : Says-so (steps then-world key .seen .1)
+    by-steps : Says-so (past-checks then-world key .seen .1)
     by-steps =
         let s = w .head .next in
         let t = w .table in
@@ -364,7 +364,7 @@ module _ (w : World) (registry script : List ℕ) (place : ℕ) (held keys grant
         let m = retried f u g (w .head .buckets) registry (bindingAt keys j) (bucketAt keys j) e end 0 0 0 in
         let counted = retry-on f u g (w .head .buckets) registry (bindingAt keys j) (bucketAt keys j) (protecting e ls) e end end j (3 * j) 0 refl in
         let back : undo (length ls) ls u ≡ t = rw (from-length cell j 0 s) (undone cell j s t (λ p i. ready p i .2) apart j (omega arith)) in
-        subst (λ (v : World). Says-so (steps v key .seen .1)) (sym (now-takes (w .head) g cell j 0 s t))
+        subst (λ (v : World). Says-so (past-checks v key .seen .1)) (sym (now-takes (w .head) g cell j 0 s t))
         (λ refused.
         let here = refused-here e f end (w .head .boot) ls j u g grants left (w .head .buckets) registry keys r j (3 * j) m counted
         (unmoved f u g (w .head .buckets) registry (bindingAt keys j) (bucketAt keys j) e end (refused-not (w .head .boot) (m .0 .outcome) r refused)) refused in

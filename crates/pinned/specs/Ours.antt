@@ -32,7 +32,7 @@ use Rattle.types.specs.declared.Take.the-variants as taking
 use Rattle.laws.specs.Checks.{live-inside}
 use Rattle.history.specs.World.{World, worldOf}
 use Rattle.history.specs.Items.{Says, says, Clear, rules, perform, Call, try-acquire, drop-lease, competing-acquire, release-then-handoff, foreign-release, drop-preserving, acquire-preserving, environment, try-lock, transactional, acquire-bucket, release-all, acquire-locks, crew, crew-at-work}
-use Rattle.history.specs.Judged.{steps, clear-front, clear-back, clear-append, made-so}
+use Rattle.history.specs.Judged.{past-checks, clear-front, clear-back, clear-append, made-so}
 use Rattle.history.specs.Tests.{alive, state-held}
 use Rattle.history_exact.specs.Attempts as calls
 use Rattle.history_exact.specs.Attempting.{bucket-attempts}
@@ -128,7 +128,7 @@ module _ (w : World) where
       let x : perform w (try-acquire c) ≡ one = made-so w (try-acquire c) cell ∙ rw busy in
       let y : perform w (drop-lease l) ≡ two = made-so w (drop-lease l) lease in
       let z = made-so (after c) (try-acquire c) (cell-after c cell) in
-      let all : steps w (foreign-release held l) ≡ joined one (joined two (steps (after c) (try-acquire c))) = rw busy in
+      let all : past-checks w (foreign-release held l) ≡ joined one (joined two (past-checks (after c) (try-acquire c))) = rw busy in
       made-so w (foreign-release held l) k ∙ (all ∙ sym (
       ap (λ (m : Made (World × Says)). joined m (joined (perform (left-by m) (drop-lease l)) (perform (left-by (perform (left-by m) (drop-lease l))) (try-acquire c)))) x
       ∙ (ap (λ (m : Made (World × Says)). joined one (joined m (perform (left-by m) (try-acquire c)))) y

@@ -9,7 +9,7 @@ use lib.ListN.{length, getD, drop, set, length-append, drop-of-length-le}
 use lib.Seq.{sets, drop-cons}
 use Rattle.choice.specs.Pick.{if-both}
 use Rattle.choice.specs.Lists.{drop-one, sets-sets}
-use Rattle.text.specs.Decimal.{length-decimal, places-most}
+use Rattle.text.specs.Decimal.{length-decimal, digit-count-most}
 use Rattle.print.specs.Print.{putOf, pieceOf, afterOf, formFrom, formOf}
 
 -- ---- bytes
@@ -54,7 +54,7 @@ put-place l m i j x e = ap (λ (o : ℕ × List ℕ). o .0) e
 pub piece-few : (numbers : List ℕ) (k b : ℕ) → length (pieceOf numbers k b) ≤ 20
 unfolding pieceOf
 piece-few numbers k b =
-    if-both (λ (l : List ℕ). length l ≤ 20) (eqb b 35) (omega (arith, length-decimal (getD numbers k 0), places-most (getD numbers k 0))) (omega arith)
+    if-both (λ (l : List ℕ). length l ≤ 20) (eqb b 35) (omega (arith, length-decimal (getD numbers k 0), digit-count-most (getD numbers k 0))) (omega arith)
 
 pub after-next : (k b : ℕ) → afterOf k b ≤ k + 1
 unfolding afterOf

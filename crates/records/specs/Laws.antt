@@ -8,7 +8,7 @@ use borrow.Author.Tests.{le-leb, lt-leb, le-ltb, lt-ltb, leb-true, leb-false}
 use lib.Dec.{leb}
 use lib.ListN.{length, getD, set}
 use lib.Seq.{set-getD}
-use Rattle.model.specs.Arena.{serialRemains, cellsOf, headOf, spentTo, headFits, shapeFits, bitAt, ownerAt, waitersAt, setCell, isFree, isHeld, stateOf, stateAt, leaseOf, isStale, holdIn, heldBy, isLive, issueOf}
+use Rattle.model.specs.Arena.{serialRemains, cellsOf, headOf, spentTo, headFits, shapeFits, bitAt, ownerAt, setCell, isFree, isHeld, stateOf, stateAt, leaseOf, isStale, holdIn, heldBy, isLive, issueOf}
 use Rattle.model.specs.Refusals.{Rule, first}
 use Rattle.model.specs.Lock.{takeIn, takeOf, outcomeOf, answerOf}
 use Rattle.model.specs.Checks.{badCell, staleBoot, notHeld, cellRules, leaseRules}

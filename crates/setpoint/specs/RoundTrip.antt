@@ -11,7 +11,7 @@ use lib.Ieee.Bits.{ofBits-fits}
 use borrow.Author.Tests.{eqb-true}
 use Rattle.choice.specs.Choice.{if_then_else_}
 use Rattle.setpoint.specs.Codec.{hasBody, kindOf, wordOf, bytesOf, bodyOf, encodeOf, finiteBits, settingOf, joinOf, decodeOf}
-use Rattle.setpoint.specs.Float32.{finite-bits, value-back, pattern-back, bits-finite, bits-small}
+use Rattle.setpoint.specs.Float32.{finite-bits, value-back, pattern-back, bits-finite}
 use Rattle.setpoint.specs.declared.Setpoint.{Setpoint}
 use Rattle.setpoint.specs.declared.Setpoint.the-variants.{Pressure, Speed, Valve}
 use Rattle.setpoint.specs.declared.Encoded.the-variants.{Written, NotFinite}

@@ -1,4 +1,4 @@
--- How the call goes: refused whole, refused at a position before any attempt, or multi-lock's steps over the sorted keys. And that these are the
+-- How the call goes: refused whole, refused at a position before any attempt, or multi-lock's parts over the sorted keys. And that these are the
 -- steps of multi-lock's own call, given the sorted keys.
 use Prim.Native.Nat.{ℕ, zero, suc, _+_, _*_, _/_, _%_, _<_}
 use mathlib.Core.Path.{_≡_, refl, sym, ap, _∙_, subst}
@@ -14,7 +14,7 @@ use Rattle.model.specs.Arena.{leasesOf, holdsOf, wordsOf}
 use Rattle.model.specs.Foreign.{Setting, protecting}
 use Rattle.model.specs.Lock.{Locks, afterKey, rollbackOf, retryOf, attemptLimit, noneYet, bindingAt, bucketAt, locksOf}
 use Rattle.model.specs.Checks.{countIn, leaseCount, isOdd, tooManyKeys, notLive, badBindings, locksRules}
-use Rattle.model.specs.Calls.{given, starting, played}
+use Rattle.model.specs.Calls.{given, starting, scriptReply}
 use Rattle.model.specs.Sorted.{firstKey, judgeAt, sharedOf, handedBack}
 use Rattle.types.specs.declared.Answer.{Answer}
 use Rattle.types.specs.declared.Answer.the-variants.{Done, Cell, Granted, AllGranted, Busy, Refused, RefusedAt}
@@ -60,7 +60,7 @@ module _ (w : World) (registry script : List ℕ) (place : ℕ) (held keys grant
       → perform w sorted-call ≡ seen-as (as-asked w registry keys) (sorted-locks w registry script place held keys grants)
   beyond-made b = made-so w sorted-call (b .0) ∙ ap (λ (k : KeyCheck). judgeAt k (unchanged-at w sorted-call) (seen-as (as-asked w registry keys) (sorted-locks w registry script place held keys grants))) (b .1)
 
--- ---- multi-lock's steps with another buffer: a refusal hands it back, a grant writes all of it
+-- ---- multi-lock's parts with another buffer: a refusal hands it back, a grant writes all of it
 
 abbrev kept : Answer → List ℕ → List ℕ → List ℕ
 kept Done own other = other
@@ -143,7 +143,7 @@ module _ (w : World) (registry script : List ℕ) (place : ℕ) (held keys grant
 
   -- seen as multi-lock's own call over them
   abbrev plainly : Locks → World × Says
-  plainly m = grant (played (w .head) (m .0 .run) (m .0 .answer), m .1)
+  plainly m = grant (scriptReply (w .head) (m .0 .run) (m .0 .answer), m .1)
 
   abbrev inner : List ℕ → Made Locks
   inner buffer = sorted-locks w registry script place held keys buffer

@@ -14,7 +14,7 @@ use Rattle.model.specs.Log.{Event, by-script, took, released}
 use Rattle.model.specs.Arena.{holdOf, cellsOf, bitAt, ownerAt, isFree, isLive, isIn, sameHold, serialRemains}
 use Rattle.types.specs.declared.Head.{Head}
 use Rattle.types.specs.declared.Hold.{Hold}
-use Rattle.history.specs.World.{World, cells, step}
+use Rattle.history.specs.World.{World, cells, after-event}
 use Rattle.history.specs.Tests.{alive, live}
 use Rattle.swaps.specs.Steps.{Step, stepWords, take-step, leaves, dropped, after-all, dropped-in}
 use Rattle.swaps.specs.Renaming.{Serials, flip, renamed, renamed-step, renamed-steps, Retaken, same, neighbours, two-takes, idle-take, behind, onward, Older}
@@ -208,7 +208,7 @@ exchange ps w c n d m ss f x y l =
     let b = takes-both-ways ps w c n d m f x l in
     let r : Renamed (flip k) (leaves ps (leaves ps w s) t) (leaves ps (leaves ps w t) s) =
     subst (λ (u : World). Renamed (flip k) u (leaves ps (leaves ps w t) s)) (sym (b .one-way))
-    (subst (λ (u : World). Renamed (flip k) (step (step w (took by-script c k)) (took by-script d (k + 1))) u) (sym (b .other-way))
+    (subst (λ (u : World). Renamed (flip k) (after-event (after-event w (took by-script c k)) (took by-script d (k + 1))) u) (sym (b .other-way))
     (takes-renamed w by-script by-script c d k f x (b .events))) in
     let z : Serials k (leaves ps (leaves ps w s) t .head .next) (flip k) (flip k) =
     subst (λ (u : World). Serials k (u .head .next) (flip k) (flip k)) (sym (b .one-way)) (flips k) in

@@ -15,7 +15,7 @@ use Rattle.choice.specs.Choice.{if_then_else_}
 use Rattle.text.specs.declared.Number.{Number}
 use Rattle.text.specs.Text.{isDigit, digitsIn, valueFrom, noNumber, endedNumberOf, readNumberOf}
 use Rattle.text.specs.Laws.{digit-is, digits-at, digits-end, value-at, value-end}
-use Rattle.text.specs.Decimal.{decimalOf, placesOf, length-decimal, places-most, places-few}
+use Rattle.text.specs.Decimal.{decimalOf, digitCount, length-decimal, digit-count-most, digit-count-few}
 use Rattle.text.specs.Back.{wholeNumber, number-back, number-whole}
 use Rattle.wave_rules.specs.Lines.{joined, same}
 use Rattle.wave_rules.specs.Dump.{turned}
@@ -26,7 +26,7 @@ use Rattle.wave_rules.specs.Reader.{timeIn, cellIn, afterVariable, afterValue, 
 use Rattle.wave_rules.specs.Stages.{false-not, nested, same-refl as same-self, same-true, time-later, Reach}
 use Rattle.wave_line.specs.Stages.{isLost, isChanging, sumOf, stampOf, afterTime, onwardOf}
 use Rattle.print.specs.Print.{putOf}
-use Rattle.wave_write.specs.Laws.{length-time, length-bit, length-var, five-places}
+use Rattle.wave_write.specs.Laws.{length-time, length-bit, length-var, five-digits}
 
 neither : (b : Bool) → (if b then false else false) ≡ false
 neither true = refl
@@ -87,8 +87,8 @@ same-decimal y h k = go (eqb (length y) (readNumberOf y .digits)) refl (same y (
         let t = readNumberOf y .value in
         let w : decimalOf t ++ [] ≡ y = append-nil (decimalOf t) ∙ sym (same-true y (decimalOf t) q) in
         let back : readNumberOf (decimalOf t ++ []) ≡ wholeNumber t = number-back t [] (omega arith) refl in
-        let d : readNumberOf y .digits ≡ placesOf t = sym (ap (λ (o : List ℕ). readNumberOf o .digits) w) ∙ ap (λ (o : Number). o .digits) back in
-        let l : length y ≡ placesOf t = ap length (same-true y (decimalOf t) q) ∙ length-decimal t in
+        let d : readNumberOf y .digits ≡ digitCount t = sym (ap (λ (o : List ℕ). readNumberOf o .digits) w) ∙ ap (λ (o : Number). o .digits) back in
+        let l : length y ≡ digitCount t = ap length (same-true y (decimalOf t) q) ∙ length-decimal t in
         absurd (eqb-false (length y) (readNumberOf y .digits) p (l ∙ sym d))
     go false p false q = q
 
@@ -181,7 +181,7 @@ stamp-is last (a ∷ y) e =
     let some : 0 < t = omega (arith, l .0) in
     let w = read-parts y some in
     let n : length y ≡ digitsIn y = eqb-true (length y) (readNumberOf y .digits) (sym (same-decimal y some (l .1)) ∙ r .1) ∙ w .0 in
-    let few : length y ≤ 5 = omega (arith, ap length (same-true y (decimalOf t) (r .1)), length-decimal t, five-places t (omega (arith, l .1))) in
+    let few : length y ≤ 5 = omega (arith, ap length (same-true y (decimalOf t) (r .1)), length-decimal t, five-digits t (omega (arith, l .1))) in
     let z = first-some y (sym n) (omega (arith, some, w .1)) (w .2) in
     let c : 2 ≤ suc (length y) = omega (arith, n, w .3) in
     let f : suc (length y) ≤ 6 = omega arith in
@@ -339,10 +339,10 @@ unfolding timescale scopeLine upscope endLine
 fixed-short = (omega arith, omega arith, omega arith, omega arith)
 
 var-short : (c : ℕ) → c < 94 → length (varLine c) ≤ 22
-var-short c h = omega (arith, length-var c, places-few c 2 (omega arith) (omega arith) (omega arith))
+var-short c h = omega (arith, length-var c, digit-count-few c 2 (omega arith) (omega arith) (omega arith))
 
 time-short : (t : ℕ) → length (timeLine t) ≤ 22
-time-short t = omega (arith, length-time t, places-most t)
+time-short t = omega (arith, length-time t, digit-count-most t)
 
 bit-short : (bit c : ℕ) → length (bitLine bit c) ≤ 22
 bit-short bit c = omega (arith, length-bit bit c)

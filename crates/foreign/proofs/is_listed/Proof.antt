@@ -1,10 +1,10 @@
--- `foreign::is_held` meets its contract.
+-- `foreign::is_listed` meets its contract.
 use mathlib.Core.Path.{sym}
 use native.Mathlib.Omega.{arith}
 use borrow.Author.Needs.{needs}
 use Rattle.foreign.specs.Marks.{unmarked, marked}
-use Rattle.foreign.proofs.is_held.Statement.{statement}
-use Rattle.foreign.proofs.is_held.Tie as tie
+use Rattle.foreign.proofs.is_listed.Statement.{statement}
+use Rattle.foreign.proofs.is_listed.Tie as tie
 
 cast-at : tie.Need-cast-at
 cast-at c = search needs
@@ -27,8 +27,8 @@ is-in-from-requires c κs = search needs
 returns-2 : tie.Need-returns-2
 returns-2 c = let a = c .before .before .before .before .before .args in rw (marked (a .marks .now) (a .held .now) (a .hold) (c .before .before .before .before .before .pre)) (c .is-in-from .ensures)
 
-pub is-held-spec : {M : Type 1} → statement M
-is-held-spec =
+pub is-listed-spec : {M : Type 1} → statement M
+is-listed-spec =
     tie.close
     (tie.spec
     cast-at

@@ -1,8 +1,8 @@
--- `book::line_told` meets its contract.
-use Rattle.book_rules.specs.Calls.{lineTold}
+-- `book::line_read` meets its contract.
+use Rattle.book_rules.specs.Calls.{lineRead}
 use borrow.Author.Needs.{needs}
-use Rattle.book.proofs.line_told.Statement.{statement}
-use Rattle.book.proofs.line_told.Tie as tie
+use Rattle.book.proofs.line_read.Statement.{statement}
+use Rattle.book.proofs.line_read.Tie as tie
 
 place-at-requires : tie.Need-place-at-requires
 place-at-requires c κs = search needs
@@ -20,15 +20,15 @@ enum-told : tie.Need-enum-told
 enum-told c = search needs
 
 returns : tie.Need-returns
-unfolding lineTold
+unfolding lineRead
 returns c = rw (← c .before .before .before .before .place-at .ensures, ← c .before .before .before .setting-at .ensures, c .before .found .given .1)
 
 returns-2 : tie.Need-returns-2
-unfolding lineTold
+unfolding lineRead
 returns-2 c = rw (← c .before .before .before .place-at .ensures, ← c .before .before .setting-at .ensures, c .enum-told .given .1)
 
-pub line-told-spec : {M : Type 1} → statement M
-line-told-spec =
+pub line-read-spec : {M : Type 1} → statement M
+line-read-spec =
     tie.close
     (tie.spec
     place-at-requires
