@@ -12,7 +12,8 @@ What `check` holds:
   `A ==> B` and `A ==> C`), no clause and no definition is missing; and it stands above the field of that name in the
   function's records. Upstream's text is not in the repository: SHARED_DOCS names the folder of the documents,
   ../shared/docs if it is not set. Without it this part is left out, and said so; where CI is set that is an error;
-- the call of a row is a heading of docs/REFERENCE.md, and the call that the function's promise is about;
+- the call that a function's line names is a heading of docs/REFERENCE.md, and the call that its promise is about; a
+  function all of whose rows are left out names none;
 - a refusal's number in a row is that of a refusal in the field; `different` says what stands above the field; a clause
   that several functions have is one statement; some words of a verdict (WORDS) say what the field must be;
 - a row of a loop names crate, file, record and field, and the field is there; or it says that there is nothing to keep;
@@ -42,11 +43,11 @@ CALLS = {'try-acquire': 'try_acquire', 'drop-lease': 'drop_lease', 'read-permiss
 # what a verdict says in these words, the field of `Here` must be: a pattern, or None for the field of `Ensures` itself
 WORDS = {'always': None,
          'cell by cell': r'keeps-valid w \(final m\)',
-         'needs only that the held leases are authorized':
+         'needs only the held leases':
              r'(leases-authorized w \(holdsOf held\)|protected-valid w \(held-ids \(holdsOf held\)\)) → '
              r'(?!.*valid-at w).*',
-         'needs only that the lease is authorized': r'authorized w \(holdIn l\) → [^→]*',
-         'of any script, legal or not, and any table': None}
+         'needs only the lease': r'authorized w \(holdIn l\) → [^→]*',
+         'its cell only': r'(?!.*\bvalid w\b).*valid-at w \(lease-key \(holdIn l\)\) → .*'}
 # words of ours outside file Premises
 FURTHER = ['Damage.Damage', 'Damage.Drops-damaged', 'Damage.waited', 'Damage.Sets-waiters',
            'Health.Sick-again', 'Health.Sick', 'Health.Sick-within', 'Health.Read-again', 'Health.Reads-poison']
@@ -317,12 +318,16 @@ class Page:
     def __init__(self):
         self.lines = read(PAGE).split('\n')
         self.rows, self.definitions, self.unget, self.premises = [], [], [], []
+        self.calls = {}
         under = part = ''
         for line in self.lines:
             if line.startswith('## '):
                 part = line[3:]
             if line.startswith('### '):
                 under = line[4:]
+            call = re.search(r' Call: (.*)\.$', line)
+            if call:
+                self.calls[under] = self.calls.get(under, '') + call.group(1)
             cells = cells_of(line) if line.startswith('| ') else []
             if cells and re.match(r'00[01]\.[a-z_]+\.[renid]\d+$', cells[0]):
                 row = Row(cells[0], cells[1:])
@@ -352,9 +357,9 @@ def tally(rows, of):
     return [(name, sum(1 for r in rows if of(r) == name)) for name in dict.fromkeys(of(r) for r in rows)]
 
 
-def index(page, listed):
-    """function, clauses, verdicts, records"""
-    lines = ['<!-- index -->', '', '| function | clauses | here | file |', '|---|---|---|---|']
+def index(page):
+    """each function with its verdicts; of all the clauses too"""
+    lines = ['<!-- index -->', '', '| function | here |', '|---|---|']
     order = {v: i for i, v in enumerate(VERDICTS)}
     short = {'refused instead of required': 'refused'}
 
@@ -366,10 +371,9 @@ def index(page, listed):
         return ', '.join('%d %s' % (n, k) for k, n in tally(rows, lambda r: KINDS[r.kind]))
     for function in page.headings():
         rows = [r for r in page.rows if r.function == function]
-        home = '`%s`' % listed.file(function) if listed.file(function) else '-'
-        lines.append('| %s | %s | %s | %s |' % (link(function), kinds(rows), verdicts(rows), home))
+        lines.append('| %s | %s |' % (link(function), verdicts(rows)))
     every = sorted(page.rows, key=lambda r: 'renid'.index(r.kind))
-    lines.append('| all | %s | %s | |' % (kinds(every), verdicts(every)))
+    lines.append('| all: %s | %s |' % (kinds(every), verdicts(every)))
     return lines + ['', '<!-- end of index -->']
 
 
@@ -377,12 +381,12 @@ def block(crate, function):
     """what is proved, the records, and who meets the contract too"""
     file = crate.files[crate.home[function]]
     ours, others = crate.theorems(function)
-    homes = ' and '.join('`%s`' % home for home in dict.fromkeys(home for home, _ in ours))
-    lines = ['<!-- records %s -->' % function, '', 'Proved, in %s:' % homes, '', '```text']
-    lines += [line for _, line in ours] + ['```', '', 'The records, in `%s`:' % file.file, '', '```text']
+    homes = ', '.join(dict.fromkeys(home for home, _ in ours))
+    lines = ['<!-- records %s -->' % function, '', '```text', '-- proved in %s' % homes]
+    lines += [line for _, line in ours] + ['', '-- file %s' % file.file]
     lines += file.shown(crate.records(function)) + ['```', '']
     if others:
-        lines += ['Wrong builds that meet the contract too: %s.' % ', '.join('`%s`' % name for name in others), '']
+        lines += ['Wrong builds that meet it too: %s.' % ', '.join('`%s`' % name for name in others), '']
     return lines + ['<!-- end of records -->']
 
 
@@ -394,7 +398,7 @@ def words(crate):
     return lines[:-1] + ['```', '', '<!-- end of words -->']
 
 
-def made(page, crate, listed):
+def made(page, crate):
     """the page with the parts that are made; and those that were not as they are made"""
     out, stale, shown, i = [], [], [], 0
     while i < len(page.lines):
@@ -409,7 +413,7 @@ def made(page, crate, listed):
             shown.append(mark.group(2))
             fresh = block(crate, mark.group(2)) if mark.group(2) in crate.home else [page.lines[i]]
         else:
-            fresh = index(page, listed) if what == 'index' else words(crate)
+            fresh = index(page) if what == 'index' else words(crate)
         if page.lines[i:end + 1] != fresh:
             stale.append(mark.group(1))
         out += fresh
@@ -422,8 +426,7 @@ def made(page, crate, listed):
 class Listed:
     """tests/contracts.txt"""
 
-    def __init__(self, crate):
-        self.crate = crate
+    def __init__(self):
         self.functions, self.rows, self.definitions = {}, {}, {}
         for line in read('tests', 'contracts.txt').split('\n'):
             if not line or line.startswith('#'):
@@ -436,10 +439,6 @@ class Listed:
                 self.functions[name] = (call, [] if records == '-' else records.split())
             else:
                 self.definitions[name] = said
-
-    def file(self, function):
-        records = self.functions.get(function, ('-', []))[1]
-        return self.crate.home.get(records[0]) if records else None
 
 
 # ---- what is checked
@@ -477,16 +476,17 @@ def check_list(page, listed):
 
 def check_calls(page, listed, crate):
     calls = re.findall(r'(?m)^### `([a-z_]+)`', read('docs', 'REFERENCE.md'))
-    for row in page.rows:
-        if row.kind not in 'ren':
-            continue
-        call, records = listed.functions.get(row.function, ('-', []))
-        want = '-' if row.verdict == 'left out' else call
-        if row.last.replace('`', '') != want:
-            complain('%s: its call is %s, and not %s' % (row.name, row.last, want))
-        for name in re.findall(r'`([a-z_]+)`', row.last):
+    for function in page.headings():
+        want = listed.functions.get(function, ('-', []))[0]
+        said = page.calls.get(function, '-')
+        if said.replace('`', '') != want:
+            complain('%s: its call is %s, and not %s' % (function, said, want))
+        for name in re.findall(r'`([a-z_]+)`', said):
             if name not in calls:
-                complain('%s: %s is no call of docs/REFERENCE.md' % (row.name, name))
+                complain('%s: %s is no call of docs/REFERENCE.md' % (function, name))
+        rows = [r for r in page.rows if r.function == function and r.kind in 'ren']
+        if (said == '-') != all(r.verdict == 'left out' for r in rows):
+            complain('%s: its call is %s, and its rows say otherwise' % (function, said))
     for function, (call, records) in listed.functions.items():
         if records and records[0] in crate.home and crate.call(records[0]) != call.split()[-1]:
             complain('%s: its promise is about %s, and its call is %s' % (function, crate.call(records[0]), call))
@@ -601,7 +601,7 @@ def check_loops(page, listed):
 
 
 def check_made(page, listed, crate):
-    _, stale, shown = made(page, crate, listed)
+    _, stale, shown = made(page, crate)
     for what in stale:
         complain('%s: the page is not what the crate says; python3 tests/contracts.py fill' % what)
     for record in crate.home:
@@ -660,14 +660,14 @@ def check_names(page, crate):
 def filled():
     """the page with its made parts written anew"""
     crate = Upstream()
-    return '\n'.join(made(Page(), crate, Listed(crate))[0])
+    return '\n'.join(made(Page(), crate)[0])
 
 
 def check():
     """what is wrong, and how much there is"""
     wrong.clear()
     crate, page = Upstream(), Page()
-    listed = Listed(crate)
+    listed = Listed()
     check_list(page, listed)
     check_calls(page, listed, crate)
     check_fields(page, listed, crate)

@@ -14,7 +14,7 @@ use Rattle.setpoint.specs.declared.Setpoint.{Setpoint}
 use Rattle.book_rules.specs.Layout.{slotsOf, placeAt, newestAt}
 use Rattle.book_rules.specs.Writing.{putOf}
 use Rattle.book_rules.specs.Rules.{firstFault, judgeBook, claimRules, overRules, openRules, keptRules}
-use Rattle.book_rules.specs.Calls.{writtenOf, writeSetpointOf, lineTold, readVersionOf}
+use Rattle.book_rules.specs.Calls.{writtenOf, writeSetpointOf, lineRead, readVersionOf}
 use Rattle.book_rules.specs.Sound.{sound-is}
 use Rattle.book_rules.specs.Outcomes.{Keeps}
 use Rattle.book_rules.specs.Reads.{kept-line}
@@ -70,14 +70,14 @@ write-is h t b slot l s =
 -- ---- reading a version of a book that is open to reads
 
 unfoldable pub readKeptOf : List ℕ → ℕ → ℕ → BookAnswer
-readKeptOf b slot w = judgeBook (firstFault (keptRules b slot w)) Refused (lineTold b (4 * slot + (newestAt b slot - w)) w)
+readKeptOf b slot w = judgeBook (firstFault (keptRules b slot w)) Refused (lineRead b (4 * slot + (newestAt b slot - w)) w)
 
 pub read-is : (h : Head) (b : List ℕ) (slot w : ℕ) → readVersionOf h b slot w ≡ judgeBook (firstFault (openRules h b slot)) Refused (readKeptOf b slot w)
 unfolding readVersionOf readKeptOf
 read-is h b slot w = rw (faults-append (openRules h b slot) (keptRules b slot w)) (go (firstFault (openRules h b slot)))
   where
     told : BookAnswer
-    told = lineTold b (4 * slot + (newestAt b slot - w)) w
+    told = lineRead b (4 * slot + (newestAt b slot - w)) w
 
     go : (c : BookCheck)
         → judgeBook (or-then c (firstFault (keptRules b slot w))) Refused told ≡ judgeBook c Refused (judgeBook (firstFault (keptRules b slot w)) Refused told)

@@ -1,6 +1,6 @@
 // The calls of the setpoint book (document 02, L2 and L10): preparing, writing, reading. `book_rules` has the rules.
-// Functions with a `requires` are steps: calls have tested the head, the book's length and the slot, and a step tests
-// nothing twice. No other crate calls a step of this file.
+// Functions with a `requires` are parts: calls have tested the head, the book's length and the slot, and a part tests
+// nothing twice. No other crate calls a part of this file.
 use book_rules::BookAnswer;
 use book_rules::BookCheck;
 use book_rules::BookRefusal;
@@ -16,7 +16,7 @@ ghost use Rattle.model.specs.Arena.{headFits, shapeFits, holdIn};
 ghost use Rattle.setpoint.specs.Codec.{hasBody};
 ghost use Rattle.book_rules.specs.Layout.{slotsOf, frontOf, placeAt};
 ghost use Rattle.book_rules.specs.Rules.{firstFault, isBadBook, isBadSlot, isHolder, claimRules, openRules};
-ghost use Rattle.book_rules.specs.Calls.{prepareBookOf, writeSetpointOf, lineTold, readVersionOf, readSetpointOf};
+ghost use Rattle.book_rules.specs.Calls.{prepareBookOf, writeSetpointOf, lineRead, readVersionOf, readSetpointOf};
 ghost use Rattle.book.specs.Model.{writeOverOf, readKeptOf, Readable};
 
 // The last version. A slot that has reached it is written no more.
@@ -198,10 +198,10 @@ fn open_check(head: Head, book: &[u8], slot: u32) -> BookCheck
 }
 
 // What line k holds, with its version.
-fn line_told(book: &[u8], k: usize, version: u32) -> BookAnswer
+fn line_read(book: &[u8], k: usize, version: u32) -> BookAnswer
     requires { ⌜ 8 * k + 8 ≤ length (now book) ⌝ }
     requires { ⌜ placeAt (now book) k + 5 ≤ length (now book) ⌝ }
-    ensures { λ r. ⌜ r ≡ lineTold (now (book .entry)) k version ⌝ }
+    ensures { λ r. ⌜ r ≡ lineRead (now (book .entry)) k version ⌝ }
 {
     let found = book_sound::setting_at(book, book_sound::place_at(book, k) as usize);
     match found {
@@ -227,7 +227,7 @@ fn read_kept(book: &[u8], slot: usize, version: u32) -> BookAnswer
     if 4 <= age {
         return BookAnswer::Refused(BookRefusal::NeverWritten);
     }
-    line_told(book, 4 * slot + age as usize, version)
+    line_read(book, 4 * slot + age as usize, version)
 }
 
 // A version of a slot: its setpoint. NeverWritten for one that the slot does not keep: 0, not yet written, or older

@@ -12,11 +12,12 @@ use lib.Dec.{ltb, eqb}
 use lib.ListN.{length, getD, set, replicate, getD-replicate, length-set}
 use lib.Seq.{sets, length-sets, ext-getD, getD-set-same, getD-set-other}
 use borrow.Author.Tests.{eqb-true, eqb-false, lt-ltb, le-ltb}
+use Rattle.choice.specs.Pick.{and-false}
 use Rattle.choice.specs.Choice.{if_then_else_}
 use Rattle.book_rules.specs.Layout.{fiveAt, linesOf, frontOf, placeAt, versionAt, isKept}
 use Rattle.book_rules.specs.Stores.{sets-below, sets-above, sets-in}
 use Rattle.book_rules.specs.Writing.{count, keptOf, rankOf, slidOf, erasedOf, laidOf}
-use Rattle.book_rules.specs.Many.{one, count-same, count-none, count-most, Beside}
+use Rattle.book_rules.specs.Many.{one, count-same, count-none, count-most, Beside, one-true, one-false}
 use Rattle.book_rules.specs.Sound.{Kept, Apart, Fits, is-kept, kept-is}
 use Rattle.book_rules.specs.Slid.{rank-few, five-byte, order-is, front-is, laid-long, laid-low, laid-byte, laid-else, erased-body, erased-else}
 use Rattle.book_sound.specs.Scan.{cellOf, offsetOf, Marked}
@@ -46,12 +47,6 @@ unfoldable pub walkOf : ℕ → ℕ → List ℕ → List ℕ → List ℕ × Li
 walkOf n cells d marks = (slideOf n marks cells 0 (frontOf n) d, ranksOf marks cells 0 0 marks)
 
 -- ---- counts that differ at one place
-
-one-true : (b : Bool) → b ≡ true → one b ≡ 1
-one-true b e = ap one e
-
-one-false : (b : Bool) → b ≡ false → one b ≡ 0
-one-false b e = ap one e
 
 count-more : (m : ℕ) (f g : ℕ → Bool) (i : ℕ) → i < m → f i ≡ false → g i ≡ true → ((k : ℕ) → k < m → k ≢ i → f k ≡ g k) → count m g ≡ count m f + 1
 unfolding count
@@ -261,11 +256,7 @@ module _ (n : ℕ) (b : List ℕ) (f : Fits n b) (room : frontOf n + 5 * keptOf 
   kept-below k x q l = rw (kept-is b k q, lt-ltb (placeAt b k) x l)
 
   kept-above : (k x : ℕ) → x ≤ placeAt b k → (isKept b k && ltb (placeAt b k) x) ≡ false
-  kept-above k x l = rw (le-ltb (placeAt b k) x l) (none (isKept b k))
-    where
-      none : (t : Bool) → (t && false) ≡ false
-      none true = refl
-      none false = refl
+  kept-above k x l = rw (le-ltb (placeAt b k) x l) (and-false (isKept b k))
 
   -- a line for which x and y make no difference
   alike : (k x y : ℕ) → x ≤ y → (Kept b k → placeAt b k < y → placeAt b k < x) → (isKept b k && ltb (placeAt b k) x) ≡ (isKept b k && ltb (placeAt b k) y)

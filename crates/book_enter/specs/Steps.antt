@@ -1,4 +1,4 @@
--- Laws for the steps of a write: counts and the end of the last body line by line, four lines put one behind the other.
+-- Laws for the parts of a write: counts and the end of the last body line by line, four lines put one behind the other.
 use Prim.Native.Nat.{ℕ, suc, _+_, _*_, _≤_, _<_, max}
 use mathlib.Core.Path.{_≡_, refl, sym, ap, _∙_}
 use mathlib.Core.Logic.{_≢_, inl, inr}
@@ -16,6 +16,7 @@ use Rattle.book_rules.specs.Many.{count-most, most-within}
 use Rattle.book_rules.specs.Sound.{Kept, Apart, Fits, is-kept, is-unkept, sound-is, Alike}
 use Rattle.book_rules.specs.Dropped.{dropped}
 use Rattle.book_rules.specs.Wrote.{isStaying, stayingOf, staying-is}
+use Rattle.book_rules.specs.Appended.{line-long}
 use Rattle.book_sound.specs.Scan.{cellOf, offsetOf, Marked}
 use Rattle.book_compact.specs.Lines.{compactedOf}
 use Rattle.setpoint.specs.Codec.{bodyOf}
@@ -96,10 +97,6 @@ sets-append b p (x ∷ xs) ys =
     let e : suc p + length xs ≡ p + suc (length xs) = omega arith in
     sets-append (set b p x) (suc p) xs ys ∙ ap (λ (q : ℕ). sets (sets (set b p x) (suc p) xs) q ys) e
 
-line-eight : (b : List ℕ) (p : ℕ) → length (lineAt b p) ≡ 8
-unfolding lineAt
-line-eight b p = refl
-
 -- a line to `at`, and the three that stood from there on behind it
 unfoldable pub shiftOf : List ℕ → ℕ → List ℕ → List ℕ
 shiftOf b at line = sets b at (line ++ (lineAt b at ++ (lineAt b (at + 8) ++ lineAt b (at + 16))))
@@ -112,8 +109,8 @@ shift-is b at line e =
     let y = lineAt b (at + 8) in
     let z = lineAt b (at + 16) in
     let p1 : at + length line ≡ at + 8 = omega arith in
-    let p2 : at + 8 + length x ≡ at + 16 = omega (arith, line-eight b at) in
-    let p3 : at + 16 + length y ≡ at + 24 = omega (arith, line-eight b (at + 8)) in
+    let p2 : at + 8 + length x ≡ at + 16 = omega (arith, line-long b at) in
+    let p3 : at + 16 + length y ≡ at + 24 = omega (arith, line-long b (at + 8)) in
     sym
     (sets-append b at line (x ++ (y ++ z))
     ∙ ap (λ (p : ℕ). sets (sets b at line) p (x ++ (y ++ z))) p1

@@ -1,5 +1,5 @@
-// The steps of a write on a setpoint book (document 02, L2 and L10): what stays after the drop, the drop, the room
-// behind the last body, the append. All functions are steps: a call has tested the book, and that there is room.
+// The parts of a write on a setpoint book (document 02, L2 and L10): what stays after the drop, the drop, the room
+// behind the last body, the append. All functions are parts: a call has tested the book, and that there is room.
 use setpoint::Setpoint;
 ghost use mathlib.Core.Path.{_≡_};
 ghost use Prim.Native.Nat.{_+_, _*_, _≤_, _<_};
@@ -62,7 +62,7 @@ fn line_at(book: &[u8], at: usize) -> [u8; 8]
     ]
 }
 
-// ---- the steps of a write
+// ---- the parts of a write
 
 // Whether line k counts among those that a write on the slot leaves: 1, or 0.
 fn staying_at(book: &[u8], slot: usize, k: usize) -> usize

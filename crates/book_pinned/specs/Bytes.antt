@@ -41,7 +41,7 @@ module _ (n : ℕ) (b : List ℕ) (slot : ℕ) (inside : slot < n) (f : Fits n b
   abbrev x : ℕ
   x = 4 * slot + 3
 
-  pub drop-else : (j : ℕ) → Beside j (8 * x) 8 → (Kept b x → Beside j (placeAt b x) 5) → getD (dropOldestOf b slot) j 0 ≡ getD b j 0
+  drop-else : (j : ℕ) → Beside j (8 * x) 8 → (Kept b x → Beside j (placeAt b x) 5) → getD (dropOldestOf b slot) j 0 ≡ getD b j 0
   unfolding dropOldestOf
   drop-else j u v = go (isKept b x) (is-kept b x)
     where
@@ -97,7 +97,7 @@ module _ (n : ℕ) (d : List ℕ) (f : Fits n d) (room : frontOf n + 5 * keptOf 
   run j k q true h l = h refl
   run j k q false h l = absurd (omega arith)
 
-  pub compact-else : (j : ℕ) → ((k : ℕ) → k < linesOf n → Kept d k → Beside j (8 * k) 2) → getD (compactOf n d) j 0 ≡ getD (laidOf n d) j 0
+  compact-else : (j : ℕ) → ((k : ℕ) → k < linesOf n → Kept d k → Beside j (8 * k) 2) → getD (compactOf n d) j 0 ≡ getD (laidOf n d) j 0
   unfolding compactOf
   compact-else j o =
       many-outside (linesOf n) (λ k. 8 * k) (λ k. if isKept d k then placeBytes (to k) else []) (laidOf n d) j

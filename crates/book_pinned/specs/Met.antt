@@ -7,7 +7,7 @@ use mathlib.Core.Bool.{Bool, false, not, _&&_, _||_}
 use native.Mathlib.Omega.{arith}
 use lib.Dec.{ltb, leb, eqb}
 use lib.ListN.{length, replicate}
-use borrow.Author.Tests.{ltb-true, ltb-false, leb-true, leb-false, eqb-true, eqb-false, eq-eqb, not-true, not-false}
+use borrow.Author.Tests.{ltb-true, ltb-false, eqb-true, eqb-false, eq-eqb, not-false}
 use Rattle.choice.specs.Pick.{both}
 use Rattle.model.specs.Arena.{cellsOf, headFits, shapeFits, isStale, holdIn, isLive}
 use Rattle.types.specs.declared.Head.{Head}
@@ -19,7 +19,7 @@ use Rattle.setpoint.specs.declared.Decoded.the-variants as decoded
 use Rattle.book_rules.specs.Layout.{slotsOf, frontOf, placeAt, newestAt, settingAt, isSound}
 use Rattle.book_rules.specs.Writing.{dropOldestOf, keptOf, isFull, putOf}
 use Rattle.book_rules.specs.Rules.{firstFault, judgeBook, isBadBook, isBadSlot, isHolder, isGone, lastVersion, bookRules, claimRules, overRules, openRules, keptRules}
-use Rattle.book_rules.specs.Calls.{prepareBookOf, writtenOf, writeSetpointOf, toldOf, lineTold, readVersionOf, readSetpointOf}
+use Rattle.book_rules.specs.Calls.{prepareBookOf, writtenOf, writeSetpointOf, readAs, lineRead, readVersionOf, readSetpointOf}
 use Rattle.book_rules.specs.Sound.{Sound, sound-is}
 use Rattle.book_rules.specs.Dropped.{dropped}
 use Rattle.book_rules.specs.Fine.{head-alone}
@@ -29,9 +29,9 @@ use Rattle.book_rules.specs.declared.BookCheck.{BookCheck}
 use Rattle.book_rules.specs.declared.BookRefusal.the-variants.{BadSlot, StaleBoot, NotHeld, NotFinite, DamagedBook, VersionsSpent, BookFull, NeverWritten}
 use Rattle.history.specs.Tests.{if-cases}
 use Rattle.pinned.specs.Words.{Is, If_Then_Else_, With, arena, Is-live}
-use Rattle.pinned.specs.Decided.{Decides, shape-decides, or-decides, ltb-decides, owned, owning}
+use Rattle.pinned.specs.Decided.{Decides, shape-decides, or-decides, ltb-decides, owned, owning, leb-decides, ne-decides, not-decides}
 use Rattle.book_pinned.specs.Statement.{slots, place-in, newest, Not-finite, Body-at, Undamaged, staying, Book-build, Bad-head, Bad-book, Not-holder, Prepares-book, Puts, Writes-over, Writes, Not-kept, Reads-version, Meets-book}
-use Rattle.book_pinned.specs.Plain.{not-so, place-is, version-is, body-is, finite-decides, undamaged-there, undamaged-back, damage-decides, staying-is}
+use Rattle.book_pinned.specs.Plain.{place-is, version-is, body-is, finite-decides, undamaged-there, undamaged-back, damage-decides, staying-is}
 use Rattle.book_pinned.specs.Puts.{puts-is}
 
 abbrev pub ours : Book-build
@@ -39,14 +39,8 @@ ours = record { prepare = prepareBookOf; write = writeSetpointOf; read = readSet
 
 -- ---- tests
 
-leb-decides : (a b : ℕ) → Decides (leb a b) (a ≤ b)
-leb-decides a b = (leb-true a b, λ e l. let k = leb-false a b e in omega arith)
-
 eqb-decides : (a b : ℕ) → Decides (eqb a b) (a ≡ b)
 eqb-decides a b = (eqb-true a b, eqb-false a b)
-
-ne-decides : (a b : ℕ) → Decides (not (eqb a b)) (a ≢ b)
-ne-decides a b = (λ e. eqb-false a b (not-true (eqb a b) e), λ e k. k (eqb-true a b (not-false (eqb a b) e)))
 
 head-decides : (h : Head) → Decides (not (headFits h)) (Bad-head h)
 head-decides h = subst (λ (x : Bool). Decides (not x) (Bad-head h)) (sym (head-alone h)) (shape-decides h (3 * (h .headers * h .buckets)))
@@ -62,7 +56,7 @@ slot-decides n b slot = or-decides (isBadBook n (length b)) (leb n slot) (book-d
 holder-decides : (h : Head) (t : List ℕ) (slot : ℕ) (l : Lease) → Decides (not (isHolder h t slot (holdIn l))) (Not-holder h t slot l)
 unfolding isHolder
 holder-decides h t slot l =
-    not-so (isLive (h .next) (cellsOf h) t (holdIn l) && eqb (l .cell) slot) (Is-live (arena h t []) (l .cell) (l .serial) × (l .cell ≡ slot))
+    not-decides (isLive (h .next) (cellsOf h) t (holdIn l) && eqb (l .cell) slot) (Is-live (arena h t []) (l .cell) (l .serial) × (l .cell ≡ slot))
     (λ e. let x = both (isLive (h .next) (cellsOf h) t (holdIn l)) (eqb (l .cell) slot) e in (owned (arena h t []) (l .cell) (l .serial) (x .0), eqb-true (l .cell) slot (x .1)))
     (λ x. rw (owning (arena h t []) (l .cell) (l .serial) (x .0), eq-eqb (l .cell) slot (x .1)))
 
@@ -115,10 +109,10 @@ prepares-is h b =
     Rest = If_Then_Else_ (Bad-book (slots h) b) (Is (Refused BadSlot, b)) (Is (Done, replicate (length b) 0))
 
 -- a kept version's line is used, so its five bytes mean a setpoint, and this is told
-told-is : (n : ℕ) (b : List ℕ) (slot w : ℕ) → slot < n → Undamaged n b → (Not-kept b slot w → ⊥)
-    → With (Body-at b (place-in b (4 * slot + (newest b slot - w)))) (λ s. Is (Setting s w)) (lineTold b (4 * slot + (newestAt b slot - w)) w)
-unfolding lineTold
-told-is n b slot w i u g = subst (λ (v : ℕ). With (Body-at b (place-in b k)) (λ s. Is (Setting s w)) (toldOf (settingAt b (placeAt b (4 * slot + (v - w)))) w)) (sym (version-is b (4 * slot))) (go (body-is b (place-in b k)))
+version-read-is : (n : ℕ) (b : List ℕ) (slot w : ℕ) → slot < n → Undamaged n b → (Not-kept b slot w → ⊥)
+    → With (Body-at b (place-in b (4 * slot + (newest b slot - w)))) (λ s. Is (Setting s w)) (lineRead b (4 * slot + (newestAt b slot - w)) w)
+unfolding lineRead
+version-read-is n b slot w i u g = subst (λ (v : ℕ). With (Body-at b (place-in b k)) (λ s. Is (Setting s w)) (readAs (settingAt b (placeAt b (4 * slot + (v - w)))) w)) (sym (version-is b (4 * slot))) (go (body-is b (place-in b k)))
   where
     k : ℕ
     k = 4 * slot + (newest b slot - w)
@@ -131,8 +125,8 @@ told-is n b slot w i u g = subst (λ (v : ℕ). With (Body-at b (place-in b k)) 
         u .means k (omega arith) (omega (arith, u .falling slot (newest b slot - w) i (omega arith)))
 
     go : ((s : Setpoint) × Body-at b (place-in b k) s × (settingAt b (place-in b k) ≡ decoded.Setting s)) ⊎ (((s : Setpoint) → Body-at b (place-in b k) s → ⊥) × (settingAt b (place-in b k) ≡ decoded.Damaged))
-        → With (Body-at b (place-in b k)) (λ s. Is (Setting s w)) (toldOf (settingAt b (placeAt b k)) w)
-    go (inl (s, m, e)) = (s, m, ap (λ (p : ℕ). toldOf (settingAt b p) w) (place-is b k) ∙ ap (λ (x : Decoded). toldOf x w) e)
+        → With (Body-at b (place-in b k)) (λ s. Is (Setting s w)) (readAs (settingAt b (placeAt b k)) w)
+    go (inl (s, m, e)) = (s, m, ap (λ (p : ℕ). readAs (settingAt b p) w) (place-is b k) ∙ ap (λ (x : Decoded). readAs x w) e)
     go (inr (f, e)) = absurd (f (means .0) (means .1))
 
 reads-is : (h : Head) (b : List ℕ) (slot w : ℕ) → Reads-version h b slot w (readVersionOf h b slot w)
@@ -151,14 +145,14 @@ reads-is h b slot w =
                   if-cases (λ (k : BookCheck). Kept-version (judged k)) (isGone b slot w) (λ z. inl (gone-decides b slot w .0 z, refl))
                       (λ z. inr (
                         gone-decides b slot w .1 z,
-                        told-is (slots h) b slot w (below (slots h) slot (λ k. there (inr k))) (undamaged (slots h) b y) (gone-decides b slot w .1 z),
+                        version-read-is (slots h) b slot w (below (slots h) slot (λ k. there (inr k))) (undamaged (slots h) b y) (gone-decides b slot w .1 z),
                       )),
                 )),
           )),
     ))
   where
     judged : BookCheck → BookAnswer
-    judged k = judgeBook k Refused (lineTold b (4 * slot + (newestAt b slot - w)) w)
+    judged k = judgeBook k Refused (lineRead b (4 * slot + (newestAt b slot - w)) w)
 
     Kept-version : BookAnswer → Type 0
     Kept-version =

@@ -21,12 +21,8 @@ use Rattle.book_rules.specs.Writing.{count, dropOldestOf, keptOf, rankOf, slidO
 use Rattle.book_rules.specs.Sound.{Kept, Fits, Sound, kept-is, unkept-is, sound-is, is-sound}
 use Rattle.book_rules.specs.Dropped.{Dropped, dropped}
 use Rattle.history.specs.Tests.{differ as apart-from}
-use Rattle.pinned.specs.Decided.{Decides}
+use Rattle.pinned.specs.Decided.{Decides, not-decides}
 use Rattle.book_pinned.specs.Statement.{place-in, length-in, version-in, Not-finite, Means, Body-at, Undamaged, Stays, differ, less, stays, sum, staying, staying-before, slid, moved}
-
-pub not-so : (b : Bool) (C : Type 0) → (b ≡ true → C) → (C → b ≡ true) → Decides (not b) (C → ⊥)
-not-so true C f g = (λ e. absurd (apart-from e), λ e k. k (f refl))
-not-so false C f g = (λ e c. apart-from (g c), λ e k. let z : true ≡ false = e in let y : false ≡ true = sym z in apart-from y)
 
 -- ---- lines
 
@@ -34,7 +30,7 @@ pub place-is : (b : List ℕ) (k : ℕ) → placeAt b k ≡ place-in b k
 unfolding placeAt place-in joinOf
 place-is b k = omega arith
 
-pub length-is : (b : List ℕ) (k : ℕ) → lengthAt b k ≡ length-in b k
+length-is : (b : List ℕ) (k : ℕ) → lengthAt b k ≡ length-in b k
 unfolding lengthAt length-in joinOf
 length-is b k = omega arith
 
@@ -99,7 +95,7 @@ pub body-is : (b : List ℕ) (p : ℕ)
 unfolding settingAt decodeOf fiveAt joinOf Body-at
 body-is b p = read-is (getD b p 0) (getD b (p + 1) 0 + getD b (p + 2) 0 * 256 + getD b (p + 3) 0 * 65536 + getD b (p + 4) 0 * 16777216)
 
-pub body-there : (b : List ℕ) (p : ℕ) → isSetting (settingAt b p) ≡ true → (s : Setpoint) × Body-at b p s
+body-there : (b : List ℕ) (p : ℕ) → isSetting (settingAt b p) ≡ true → (s : Setpoint) × Body-at b p s
 body-there b p e = go (body-is b p)
   where
     go : ((s : Setpoint) × Body-at b p s × (settingAt b p ≡ decoded.Setting s)) ⊎ (((s : Setpoint) → Body-at b p s → ⊥) × (settingAt b p ≡ decoded.Damaged))
@@ -107,7 +103,7 @@ body-there b p e = go (body-is b p)
     go (inl (s, m, f)) = (s, m)
     go (inr (f, g)) = absurd (apart-from (sym (ap isSetting g) ∙ e))
 
-pub body-back : (b : List ℕ) (p : ℕ) (s : Setpoint) → Body-at b p s → isSetting (settingAt b p) ≡ true
+body-back : (b : List ℕ) (p : ℕ) (s : Setpoint) → Body-at b p s → isSetting (settingAt b p) ≡ true
 body-back b p s m = go (body-is b p)
   where
     go : ((s : Setpoint) × Body-at b p s × (settingAt b p ≡ decoded.Setting s)) ⊎ (((s : Setpoint) → Body-at b p s → ⊥) × (settingAt b p ≡ decoded.Damaged))
@@ -158,7 +154,7 @@ undamaged-back n b u =
     }
 
 pub damage-decides : (n : ℕ) (b : List ℕ) → Decides (not (isSound n b)) (Undamaged n b → ⊥)
-damage-decides n b = not-so (isSound n b) (Undamaged n b) (λ e. undamaged-there n b (sound-is n b e)) (λ u. is-sound n b (undamaged-back n b u))
+damage-decides n b = not-decides (isSound n b) (Undamaged n b) (λ e. undamaged-there n b (sound-is n b e)) (λ u. is-sound n b (undamaged-back n b u))
 
 -- ---- counting
 
@@ -242,7 +238,7 @@ module _ (n : ℕ) (b : List ℕ) (slot : ℕ) (inside : slot < n) (f : Fits n b
       go k (it-stays t u v) = rw (u, v)
       go k (it-goes u v) = rw (u, v)
 
-  pub before-is : (p : ℕ) → rankOf n d p ≡ staying-before n b slot p
+  before-is : (p : ℕ) → rankOf n d p ≡ staying-before n b slot p
   unfolding rankOf
   before-is p = counted (λ k. ltb (placeAt d k) p) (λ k. less (place-in b k) p) (λ k t. rw (stays-place k t) (go (place-in b k) (decLt (place-in b k) p)))
     where

@@ -52,7 +52,7 @@ module _ (n : ℕ) (b : List ℕ) (slot : ℕ) (inside : slot < n) (f : Fits n b
   no-dropped j q h w =
       q (4 * slot + 3) (omega arith) (used b (4 * slot + 3) h) (omega (arith, w .0, place-is b (4 * slot + 3)), omega (arith, w .1, place-is b (4 * slot + 3)))
 
-  pub still-before : Before n b d slot (place-in b)
+  still-before : Before n b d slot (place-in b)
   still-before =
       record {
         long = drops .long;
@@ -100,7 +100,7 @@ module _ (n : ℕ) (b : List ℕ) (slot : ℕ) (inside : slot < n) (f : Fits n b
         beside y p q w (inl a) = inr (omega (arith, w .1))
         beside y p q w (inr a) = inl (omega (arith, w .2))
 
-    pub slid-before : Before n b e slot (slid n b slot)
+    slid-before : Before n b e slot (slid n b slot)
     slid-before =
         record {
           long = compact-long n d (drops .fits) room ∙ drops .long;
@@ -124,12 +124,12 @@ module _ (n : ℕ) (b : List ℕ) (slot : ℕ) (inside : slot < n) (f : Fits n b
               ∙ drop-behind n b slot inside f j l (no-dropped j q);
         }
 
-    pub slid-places : (k i j : ℕ) → Stays n b slot k → i < 2 → j ≡ 8 * k + i → getD e j 0 ≡ getD (placeBytes (slid n b slot k)) i 0
+    slid-places : (k i j : ℕ) → Stays n b slot k → i < 2 → j ≡ 8 * k + i → getD e j 0 ≡ getD (placeBytes (slid n b slot k)) i 0
     slid-places k i j t l g =
         compact-place n d (drops .fits) room k i j (t .inside) (stays-kept n b slot inside f k t) l g
         ∙ ap (λ (y : ℕ). getD (placeBytes y) i 0) (slid-is n b slot inside f k t)
 
-    pub slid-ends : (k : ℕ) → Stays n b slot k → slid n b slot k + 5 ≤ 32 * n + 5 * staying n b slot
+    slid-ends : (k : ℕ) → Stays n b slot k → slid n b slot k + 5 ≤ 32 * n + 5 * staying n b slot
     slid-ends k t =
         omega (
           arith,
@@ -171,7 +171,7 @@ module _ (n : ℕ) (b : List ℕ) (slot : ℕ) (inside : slot < n) (f : Fits n b
   unfolding endOf
   end-front = most-start (linesOf n) ends (frontOf n)
 
-  pub behind-is : Behind-all n b slot (endOf n d)
+  behind-is : Behind-all n b slot (endOf n d)
   behind-is = record { behind = end-behind; right-behind = go end-is }
     where
       go : (endOf n d ≡ 32 * n) ⊎ ((k : ℕ) × Stays n b slot k × (endOf n d ≡ place-in b k + 5))

@@ -32,7 +32,7 @@ each-of-eight Q p q0 q1 q2 q3 q4 q5 q6 q7 j l m = go (j - p) (omega arith) (omeg
     go (suc (suc (suc (suc (suc (suc (suc zero))))))) e k = subst Q e q7
     go (suc (suc (suc (suc (suc (suc (suc (suc i)))))))) e k = absurd (omega arith)
 
-pub each-of-five : (Q : ℕ → Type 0) (p : ℕ) → Q p → Q (p + 1) → Q (p + 2) → Q (p + 3) → Q (p + 4) → (j : ℕ) → p ≤ j → j < p + 5 → Q j
+each-of-five : (Q : ℕ → Type 0) (p : ℕ) → Q p → Q (p + 1) → Q (p + 2) → Q (p + 3) → Q (p + 4) → (j : ℕ) → p ≤ j → j < p + 5 → Q j
 each-of-five Q p q0 q1 q2 q3 q4 j l m = go (j - p) (omega arith) (omega arith)
   where
     go : (i : ℕ) → p + i ≡ j → i < 5 → Q j
@@ -45,7 +45,7 @@ each-of-five Q p q0 q1 q2 q3 q4 j l m = go (j - p) (omega arith) (omega arith)
 
 -- ---- what five bytes mean
 
-pub means-one : (k w : ℕ) (s r : Setpoint) → Means k w s → Means k w r → s ≡ r
+means-one : (k w : ℕ) (s r : Setpoint) → Means k w s → Means k w r → s ≡ r
 means-one k w s r (inl a) (inl b) = a .2 ∙ sym (b .2)
 means-one k w s r (inl a) (inr (inl b)) = absurd (omega (arith, a .0, b .0))
 means-one k w s r (inl a) (inr (inr (inl b))) = absurd (omega (arith, a .0, b .0))
@@ -176,7 +176,7 @@ module _ (n : ℕ) (b : List ℕ) (slot : ℕ) (s : Setpoint) (to : ℕ → ℕ)
             not-old = λ k t v. f (k, t .inside, ((t .is-used, t .not-dropped), v));
           })
 
-  pub left-one : c ≡ d
+  left-one : c ≡ d
   left-one = ext-getD 0 c d (x .long ∙ sym (y .long)) (λ i l. go i l (decLt i (32 * n)))
     where
       go : (i : ℕ) → i < length c → Dec (i < 32 * n) → Agree i
@@ -184,7 +184,7 @@ module _ (n : ℕ) (b : List ℕ) (slot : ℕ) (s : Setpoint) (to : ℕ → ℕ)
       go i l (no u) = behind-lines i (omega arith) l
 
 module _ (n : ℕ) (b : List ℕ) (slot : ℕ) (s : Setpoint) (inside : slot < n) where
-  pub slid-one : (to : ℕ → ℕ) (p : ℕ) → Same (λ c. Left n b c slot s to p × New-places n b c slot to) (λ c. Left n b c slot s to p × New-places n b c slot to)
+  slid-one : (to : ℕ → ℕ) (p : ℕ) → Same (λ c. Left n b c slot s to p × New-places n b c slot to) (λ c. Left n b c slot s to p × New-places n b c slot to)
   slid-one to p c d x y = left-one n b slot s to p c d (x .0) (y .0) inside (λ k j i t g l. at k j i t g l)
     where
       at : (k j i : ℕ) → Stays n b slot k → Goes slot k j → i < 2 → byte c (8 * j + i) ≡ byte d (8 * j + i)
@@ -192,7 +192,7 @@ module _ (n : ℕ) (b : List ℕ) (slot : ℕ) (s : Setpoint) (inside : slot < n
       at k j (suc zero) t g l = x .1 k j t g .1 ∙ sym (y .1 k j t g .1)
       at k j (suc (suc i)) t g l = absurd (omega arith)
 
-  pub still-one : (to : ℕ → ℕ) (p : ℕ) → Same (λ c. Left n b c slot s to p × Same-places n b c slot) (λ c. Left n b c slot s to p × Same-places n b c slot)
+  still-one : (to : ℕ → ℕ) (p : ℕ) → Same (λ c. Left n b c slot s to p × Same-places n b c slot) (λ c. Left n b c slot s to p × Same-places n b c slot)
   still-one to p c d x y = left-one n b slot s to p c d (x .0) (y .0) inside (λ k j i t g l. x .1 k j i t g l ∙ sym (y .1 k j i t g l))
 
   behind-one : Same (Behind-all n b slot) (Behind-all n b slot)

@@ -62,7 +62,7 @@ line-byte b p (suc (suc (suc (suc (suc (suc zero)))))) l = refl
 line-byte b p (suc (suc (suc (suc (suc (suc (suc zero))))))) l = refl
 line-byte b p (suc (suc (suc (suc (suc (suc (suc (suc i)))))))) l = absurd (omega arith)
 
-line-long : (b : List ℕ) (p : ℕ) → length (lineAt b p) ≡ 8
+pub line-long : (b : List ℕ) (p : ℕ) → length (lineAt b p) ≡ 8
 unfolding lineAt
 line-long b p = refl
 

@@ -29,18 +29,18 @@ writeSetpointOf h t b slot l s =
     (writtenOf (newestAt b slot + 1) (putOf (slotsOf h) b slot s (newestAt b slot + 1)))
 
 -- the second is refused by the rules already
-abbrev pub toldOf : Decoded → ℕ → BookAnswer
-toldOf (decoded.Setting s) v = Setting s v
-toldOf decoded.Damaged v = Refused DamagedBook
+abbrev pub readAs : Decoded → ℕ → BookAnswer
+readAs (decoded.Setting s) v = Setting s v
+readAs decoded.Damaged v = Refused DamagedBook
 
 -- what line k holds, with version v
-unfoldable pub lineTold : List ℕ → ℕ → ℕ → BookAnswer
-lineTold b k v = toldOf (settingAt b (placeAt b k)) v
+unfoldable pub lineRead : List ℕ → ℕ → ℕ → BookAnswer
+lineRead b k v = readAs (settingAt b (placeAt b k)) v
 
 -- version w of a slot stands newest - w lines behind the newest
 unfoldable pub readVersionOf : Head → List ℕ → ℕ → ℕ → BookAnswer
 readVersionOf h b slot w =
-    judgeBook (firstFault (readRules h b slot w)) Refused (lineTold b (4 * slot + (newestAt b slot - w)) w)
+    judgeBook (firstFault (readRules h b slot w)) Refused (lineRead b (4 * slot + (newestAt b slot - w)) w)
 
 -- a slot is read as its newest version is
 unfoldable pub readSetpointOf : Head → List ℕ → ℕ → BookAnswer

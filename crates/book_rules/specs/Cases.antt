@@ -15,7 +15,7 @@ use Rattle.setpoint.specs.declared.Setpoint.the-variants.{Pressure, Speed, Valv
 use Rattle.book_rules.specs.Layout.{slotsOf, lineAt, fiveAt, lineOf, all, placeAt, lengthAt, versionAt, isKept, settingAt, isFalling, isFitting, isApart, isSound}
 use Rattle.book_rules.specs.Rules.{isHolder, firstFault, isBadBook, isBadSlot, isGone, bookRules, claimRules, overRules, openRules, keptRules}
 use Rattle.book_rules.specs.Writing.{count, most, putMany, dropOldestOf, keptOf, endOf, isCrowded, isFull, rankOf, slidOf, movedOf, erasedOf, laidOf, compactOf, appendOf, putOverOf, putOf}
-use Rattle.book_rules.specs.Calls.{prepareBookOf, writeSetpointOf, lineTold, readVersionOf, readSetpointOf}
+use Rattle.book_rules.specs.Calls.{prepareBookOf, writeSetpointOf, lineRead, readVersionOf, readSetpointOf}
 use Rattle.book_rules.specs.declared.BookAnswer.{BookAnswer}
 use Rattle.book_rules.specs.declared.BookAnswer.the-variants.{Done, Written, Setting, Refused}
 use Rattle.book_rules.specs.declared.BookRefusal.the-variants.{BadShape, BadSlot, StaleBoot, NotHeld, NotFinite, DamagedBook, VersionsSpent, BookFull, NeverWritten}
@@ -104,7 +104,7 @@ pub reads : (newest after5 1 ≡ Setting (Speed 15) 5) × (read after5 1 5 ≡ S
     × (read after5 1 3 ≡ Setting (Speed 13) 3) × (read after5 1 2 ≡ Setting (Speed 12) 2) × (read after5 1 1 ≡ Refused NeverWritten)
     × (read after5 1 0 ≡ Refused NeverWritten) × (read after5 1 6 ≡ Refused NeverWritten) × (newest after5 0 ≡ Refused NeverWritten)
     × (read after6 1 3 ≡ Setting (Speed 13) 3) × (read after6 1 2 ≡ Refused NeverWritten) × (newest after5 2 ≡ Refused BadSlot)
-unfolding readVersionOf readSetpointOf openRules keptRules lineTold firstFault isBadSlot isBadBook isGone headFits isSound isFalling isFitting isApart all placeAt lengthAt versionAt isKept settingAt joinOf settingOf decodeOf fiveAt
+unfolding readVersionOf readSetpointOf openRules keptRules lineRead firstFault isBadSlot isBadBook isGone headFits isSound isFalling isFitting isApart all placeAt lengthAt versionAt isKept settingAt joinOf settingOf decodeOf fiveAt
 reads = (refl, refl, refl, refl, refl, refl, refl, refl, refl, refl, refl, refl)
 
 -- ---- a compaction that moves some bodies and not others: slot 0's body lies first and stays
@@ -183,7 +183,7 @@ lapped-back = four (line 68 1) none none none ++ (four (line 64 1) none none non
 
 pub overlaps : (isSound 2 touching ≡ true) × (isSound 2 lapped ≡ false) × (isSound 2 lapped-back ≡ false) × (newest touching 1 ≡ Setting (Speed 11) 1)
     × (newest lapped 1 ≡ Refused DamagedBook) × (newest lapped 0 ≡ Refused DamagedBook) × (read lapped 1 9 ≡ Refused DamagedBook)
-unfolding readVersionOf readSetpointOf openRules keptRules lineTold firstFault isBadSlot isBadBook isGone headFits isSound isFalling isFitting isApart all placeAt lengthAt versionAt isKept settingAt joinOf settingOf decodeOf fiveAt
+unfolding readVersionOf readSetpointOf openRules keptRules lineRead firstFault isBadSlot isBadBook isGone headFits isSound isFalling isFitting isApart all placeAt lengthAt versionAt isKept settingAt joinOf settingOf decodeOf fiveAt
 overlaps = (refl, refl, refl, refl, refl, refl, refl)
 
 -- a place in the contents, a place whose body ends behind the book, a length of 6, a body of kind 4; a version that does not fall by one, too
@@ -197,7 +197,7 @@ fits-no-rule = (refl, refl, refl, refl, refl, refl, refl, refl, refl, refl, refl
 
 -- a write of slot 0 on a book that is damaged in slot 1, and a read of it
 pub whole-book : (write0 lapped 9 ≡ (Refused DamagedBook, lapped)) × (newest (set after2 34 6) 0 ≡ Refused DamagedBook)
-unfolding writeSetpointOf claimRules overRules readSetpointOf readVersionOf openRules keptRules lineTold firstFault isBadSlot isBadBook isGone isHolder isLive stateAt stateOf isFree isHeld bitAt ownerAt headFits shapeFits isFinite isSound isFalling isFitting isApart all placeAt lengthAt versionAt isKept settingAt count dropOldestOf keptOf isFull joinOf settingOf decodeOf fiveAt
+unfolding writeSetpointOf claimRules overRules readSetpointOf readVersionOf openRules keptRules lineRead firstFault isBadSlot isBadBook isGone isHolder isLive stateAt stateOf isFree isHeld bitAt ownerAt headFits shapeFits isFinite isSound isFalling isFitting isApart all placeAt lengthAt versionAt isKept settingAt count dropOldestOf keptOf isFull joinOf settingOf decodeOf fiveAt
 whole-book = (refl, refl)
 
 -- ---- the order of refusals: each case keeps what the next has wrong. Full, spent and damaged at once
@@ -229,7 +229,7 @@ stale = (refl, refl, refl)
 -- a read refuses 1, then BadSlot, then DamagedBook, then NeverWritten
 pub read-refused : (readVersionOf (headOf 0 2 3 5) [] 9 1 ≡ Refused BadShape) × (newest [] 0 ≡ Refused BadSlot) × (read lapped 2 1 ≡ Refused BadSlot)
     × (read lapped 0 9 ≡ Refused DamagedBook) × (read touching 0 9 ≡ Refused NeverWritten)
-unfolding readVersionOf readSetpointOf openRules keptRules lineTold firstFault isBadSlot isBadBook isGone headFits isSound isFalling isFitting isApart all placeAt lengthAt versionAt isKept settingAt joinOf settingOf decodeOf fiveAt
+unfolding readVersionOf readSetpointOf openRules keptRules lineRead firstFault isBadSlot isBadBook isGone headFits isSound isFalling isFitting isApart all placeAt lengthAt versionAt isKept settingAt joinOf settingOf decodeOf fiveAt
 read-refused = (refl, refl, refl, refl, refl)
 
 -- ---- the bytes of a line and of a body: "low byte first", "a kind byte (1, 2, 3 in that order) and four bytes, low byte first; a valve is 0 or 1"
@@ -255,7 +255,7 @@ unfolding writeSetpointOf claimRules overRules firstFault isBadSlot isBadBook is
 kinds = (refl, refl, refl)
 
 pub kinds-read : (newest opened 0 ≡ Setting (Valve true) 2) × (read opened 0 1 ≡ Setting bar 1)
-unfolding readVersionOf readSetpointOf openRules keptRules lineTold firstFault isBadSlot isBadBook isGone headFits isSound isFalling isFitting isApart all placeAt lengthAt versionAt isKept settingAt joinOf settingOf decodeOf fiveAt ofBits
+unfolding readVersionOf readSetpointOf openRules keptRules lineRead firstFault isBadSlot isBadBook isGone headFits isSound isFalling isFitting isApart all placeAt lengthAt versionAt isKept settingAt joinOf settingOf decodeOf fiveAt ofBits
 kinds-read = (refl, refl)
 
 -- a body that means nothing: zeros, a kind of 4, a valve of 2, a pressure's pattern that is not finite

@@ -34,7 +34,7 @@ faults-append (x ∷ xs) ys = go (x .applies) (faults-append xs ys)
     go true e = refl
     go false e = e
 
-pub no-fault : (x : BookRule) (xs : List BookRule) → firstFault (x ∷ xs) ≡ Fine → (x .applies ≡ false) × (firstFault xs ≡ Fine)
+no-fault : (x : BookRule) (xs : List BookRule) → firstFault (x ∷ xs) ≡ Fine → (x .applies ≡ false) × (firstFault xs ≡ Fine)
 unfolding firstFault
 no-fault x xs e = go (x .applies) refl e
   where

@@ -35,17 +35,17 @@ each-all (suc m) f h = rw (each-all m f (λ k l. h k (omega arith)), h m (omega 
 abbrev pub one : Bool → ℕ
 one b = if b then 1 else 0
 
-one-true : (b : Bool) → b ≡ true → one b ≡ 1
+pub one-true : (b : Bool) → b ≡ true → one b ≡ 1
 one-true b e = ap one e
 
-one-false : (b : Bool) → b ≡ false → one b ≡ 0
+pub one-false : (b : Bool) → b ≡ false → one b ≡ 0
 one-false b e = ap one e
 
 one-le : (b c : Bool) → (b ≡ true → c ≡ true) → one b ≤ one c
 one-le true c h = omega (arith, one-true c (h refl))
 one-le false c h = omega arith
 
-pub count-le : (m : ℕ) (f g : ℕ → Bool) → ((k : ℕ) → k < m → f k ≡ true → g k ≡ true) → count m f ≤ count m g
+count-le : (m : ℕ) (f g : ℕ → Bool) → ((k : ℕ) → k < m → f k ≡ true → g k ≡ true) → count m f ≤ count m g
 unfolding count
 count-le zero f g h = omega arith
 count-le (suc m) f g h = omega (arith, count-le m f g (λ k l. h k (omega arith)), one-le (f m) (g m) (h m (omega arith)))

@@ -9,6 +9,7 @@ use native.Mathlib.Decide.{decLt}
 use lib.Dec.{ltb, leb, eqb}
 use lib.ListN.{length, replicate}
 use borrow.Author.Tests.{ltb-false, leb-false, eqb-true, eqb-false, ne-eqb, le-ltb, lt-leb}
+use Rattle.choice.specs.Pick.{false-not}
 use Rattle.choice.specs.Choice.{if_then_else_}
 use Rattle.model.specs.Arena.{headFits, shapeFits, isStale, holdIn}
 use Rattle.types.specs.declared.Head.{Head}
@@ -21,7 +22,7 @@ use Rattle.setpoint.specs.declared.Setpoint.{Setpoint}
 use Rattle.book_rules.specs.Layout.{slotsOf, placeAt, newestAt, settingAt, isSound}
 use Rattle.book_rules.specs.Writing.{dropOldestOf, isFull, putOf}
 use Rattle.book_rules.specs.Rules.{firstFault, judgeBook, isBadBook, isBadSlot, isHolder, isGone, lastVersion, bookRules, claimRules, overRules, openRules, keptRules, readRules}
-use Rattle.book_rules.specs.Calls.{prepareBookOf, writtenOf, writeSetpointOf, toldOf, lineTold, readVersionOf}
+use Rattle.book_rules.specs.Calls.{prepareBookOf, writtenOf, writeSetpointOf, readAs, lineRead, readVersionOf}
 use Rattle.book_rules.specs.Fine.{BookFine, book-fine, SlotFine, fine-slot, ClaimFine, claim-fine, fine-claim, OpenFine, fine-open, or-then, faults-append}
 use Rattle.book_rules.specs.declared.BookAnswer.{BookAnswer}
 use Rattle.book_rules.specs.declared.BookAnswer.the-variants.{Done, Written, Setting, Refused}
@@ -82,9 +83,6 @@ abbrev faultOf : BookCheck → BookRefusal
 faultOf Fine = BookFull
 faultOf (Fault r) = r
 
-pub apart : {A : Type 0} → false ≡ true → A
-apart e = let z : _≡_ {A = ℕ} 0 1 = cc in absurd (omega arith)
-
 module _ (h : Head) (t b : List ℕ) (slot : ℕ) (l : Lease) (s : Setpoint) where
   abbrev n : ℕ
   n = slotsOf h
@@ -115,7 +113,7 @@ module _ (h : Head) (t b : List ℕ) (slot : ℕ) (l : Lease) (s : Setpoint) whe
   given-refused : (r : BookRefusal) → firstFault (claimRules h t (length b) slot l s) ≡ Fault r → Outcome (Refused r, b)
   given-refused r e =
       let g = by-given r e in
-      refused r (λ q. apart (sym (ap isGiven q) ∙ g)) (λ q. apart (sym (ap isGiven q) ∙ g))
+      refused r (λ q. false-not (sym (ap isGiven q) ∙ g)) (λ q. false-not (sym (ap isGiven q) ∙ g))
       (λ c. let z : Fine ≡ Fault r = sym (fine-claim h t (length b) slot l s (c .given)) ∙ e in let y : _≡_ {A = ℕ} 0 1 = cc in omega arith)
 
   -- all that was given passes: by what the book says
@@ -129,7 +127,7 @@ module _ (h : Head) (t b : List ℕ) (slot : ℕ) (l : Lease) (s : Setpoint) whe
           → Outcome (judgeBook (if not x then Fault DamagedBook else if y then Fault VersionsSpent else if z then Fault BookFull else Fine) (λ r. (Refused r, b))
           (writtenOf (newestAt b slot + 1) (putOf n b slot s (newestAt b slot + 1))))
       go false y z e f p q =
-          refused DamagedBook (λ w. let z : _≡_ {A = ℕ} 0 1 = cc in omega arith) (λ w. e) (λ k. apart (sym e ∙ k .sound))
+          refused DamagedBook (λ w. let z : _≡_ {A = ℕ} 0 1 = cc in omega arith) (λ w. e) (λ k. false-not (sym e ∙ k .sound))
       go true true z e f p q =
           refused VersionsSpent (λ w. let z : _≡_ {A = ℕ} 0 1 = cc in omega arith) (λ w. let z : _≡_ {A = ℕ} 0 1 = cc in absurd (omega arith))
           (λ k. k .remains (p refl))
@@ -185,7 +183,7 @@ module _ (h : Head) (b : List ℕ) (slot : ℕ) (fits : headFits h ≡ true) (fi
   opens s = record { head-fits = fits; slot-is = fine; sound = s }
 
   pub read-kept : (w : ℕ) → isSound (slotsOf h) b ≡ true → Keeps (newestAt b slot) w
-      → readVersionOf h b slot w ≡ lineTold b (4 * slot + (newestAt b slot - w)) w
+      → readVersionOf h b slot w ≡ lineRead b (4 * slot + (newestAt b slot - w)) w
   unfolding readVersionOf keptRules firstFault
   read-kept w s k =
       rw (faults-append (openRules h b slot) (keptRules b slot w), fine-open h b slot (opens s), keeps-is b slot w k)
@@ -200,25 +198,25 @@ module _ (h : Head) (b : List ℕ) (slot : ℕ) (fits : headFits h ≡ true) (fi
   read-damaged w s = rw (fits, fine-slot (slotsOf h) (length b) slot fine, s)
 
 -- what a read tells has a body: a face may take its word
-abbrev pub bodyTold : BookAnswer → Bool
-bodyTold Done = true
-bodyTold (Written v m) = true
-bodyTold (Setting s v) = hasBody s
-bodyTold (Refused r) = true
+abbrev pub bodyRead : BookAnswer → Bool
+bodyRead Done = true
+bodyRead (Written v m) = true
+bodyRead (Setting s v) = hasBody s
+bodyRead (Refused r) = true
 
-line-whole : (b : List ℕ) (k v : ℕ) → bodyTold (lineTold b k v) ≡ true
-unfolding lineTold settingAt decodeOf
+line-whole : (b : List ℕ) (k v : ℕ) → bodyRead (lineRead b k v) ≡ true
+unfolding lineRead settingAt decodeOf
 line-whole b k v = go (settingAt b (placeAt b k)) (setting-whole (settingAt b (placeAt b k)) _ _ refl)
   where
-    go : (d : Decoded) → wholeIn d ≡ true → bodyTold (toldOf d v) ≡ true
+    go : (d : Decoded) → wholeIn d ≡ true → bodyRead (readAs d v) ≡ true
     go (decoded.Setting s) w = w
     go decoded.Damaged w = refl
 
-pub told-whole : (a : BookAnswer) (h : Head) (b : List ℕ) (slot w : ℕ) → a ≡ readVersionOf h b slot w → bodyTold a ≡ true
+pub body-read : (a : BookAnswer) (h : Head) (b : List ℕ) (slot w : ℕ) → a ≡ readVersionOf h b slot w → bodyRead a ≡ true
 unfolding readVersionOf
-told-whole a h b slot w e =
-    ap bodyTold e ∙ go (firstFault (readRules h b slot w)) (lineTold b (4 * slot + (newestAt b slot - w)) w) (line-whole b (4 * slot + (newestAt b slot - w)) w)
+body-read a h b slot w e =
+    ap bodyRead e ∙ go (firstFault (readRules h b slot w)) (lineRead b (4 * slot + (newestAt b slot - w)) w) (line-whole b (4 * slot + (newestAt b slot - w)) w)
   where
-    go : (c : BookCheck) (a : BookAnswer) → bodyTold a ≡ true → bodyTold (judgeBook c Refused a) ≡ true
+    go : (c : BookCheck) (a : BookAnswer) → bodyRead a ≡ true → bodyRead (judgeBook c Refused a) ≡ true
     go Fine a w = w
     go (Fault x) a w = refl

@@ -14,7 +14,7 @@ use Rattle.setpoint.specs.declared.Setpoint.{Setpoint}
 use Rattle.setpoint.specs.declared.Decoded.{Decoded}
 use Rattle.setpoint.specs.declared.Decoded.the-variants as decoded
 use Rattle.book_rules.specs.Layout.{slotsOf, linesOf, frontOf, placeAt, versionAt, newestAt, settingAt, isSetting, isSound}
-use Rattle.book_rules.specs.Calls.{toldOf, lineTold, readVersionOf}
+use Rattle.book_rules.specs.Calls.{readAs, lineRead, readVersionOf}
 use Rattle.book_rules.specs.Sound.{Kept, Sound, Clean, is-sound, line-zero, setting-alike}
 use Rattle.book_rules.specs.Appended.{goesOf, goes-own, goes-other}
 use Rattle.book_rules.specs.Wrote.{Wrote}
@@ -34,13 +34,13 @@ kept-line n b slot w s i k =
     omega (arith, s .falls x (omega (arith, k .0, k .1, k .2)), ap (versionAt b) top, k .0, k .1, k .2)
 
 -- so it tells a setpoint
-pub line-tells : (d : Decoded) (v : ℕ) → isSetting d ≡ true → (p : Setpoint) × (toldOf d v ≡ Setting p v)
+line-tells : (d : Decoded) (v : ℕ) → isSetting d ≡ true → (p : Setpoint) × (readAs d v ≡ Setting p v)
 line-tells (decoded.Setting p) v e = (p, refl)
 line-tells decoded.Damaged v e = let z : _≡_ {A = ℕ} 0 1 = cc in absurd (omega arith)
 
 pub kept-tells : (n : ℕ) (b : List ℕ) (slot w : ℕ) → Sound n b → slot < n → Keeps (newestAt b slot) w
-    → (p : Setpoint) × (lineTold b (4 * slot + (newestAt b slot - w)) w ≡ Setting p w)
-unfolding lineTold
+    → (p : Setpoint) × (lineRead b (4 * slot + (newestAt b slot - w)) w ≡ Setting p w)
+unfolding lineRead
 kept-tells n b slot w s i k =
     let x = 4 * slot + (newestAt b slot - w) in
     line-tells (settingAt b (placeAt b x)) w (s .fits .means x (omega (arith, k .0, k .1, k .2)) (omega (arith, kept-line n b slot w s i k, k .0)))
@@ -49,9 +49,9 @@ kept-tells n b slot w s i k =
 
 module _ (n : ℕ) (b c : List ℕ) (slot : ℕ) (s : Setpoint) (m : ℕ) (inside : slot < n) (sound : Sound n b) (r : Wrote n b c slot s m) where
   -- a line that stays tells what it told
-  line-stays : (k w : ℕ) → k < linesOf n → k ≢ 4 * slot + 3 → Kept b k → lineTold c (goesOf slot k) w ≡ lineTold b k w
-  unfolding lineTold
-  line-stays k w h d q = ap (λ (x : Decoded). toldOf x w) (setting-alike c b (placeAt c (goesOf slot k)) (placeAt b k) (r .bodies k h d q))
+  line-stays : (k w : ℕ) → k < linesOf n → k ≢ 4 * slot + 3 → Kept b k → lineRead c (goesOf slot k) w ≡ lineRead b k w
+  unfolding lineRead
+  line-stays k w h d q = ap (λ (x : Decoded). readAs x w) (setting-alike c b (placeAt c (goesOf slot k)) (placeAt b k) (r .bodies k h d q))
 
   pub newest-other : (t : ℕ) → t < n → t ≢ slot → newestAt c t ≡ newestAt b t
   newest-other t h d = go (decLt t slot)
@@ -60,32 +60,32 @@ module _ (n : ℕ) (b c : List ℕ) (slot : ℕ) (s : Setpoint) (m : ℕ) (insid
       go (yes q) = ap (versionAt c) (sym (goes-other slot (4 * t) (inl (omega arith)))) ∙ r .versions (4 * t) (omega arith) (omega arith)
       go (no q) = ap (versionAt c) (sym (goes-other slot (4 * t) (inr (omega arith)))) ∙ r .versions (4 * t) (omega arith) (omega arith)
 
-  other-told : (t w : ℕ) → t < n → t ≢ slot → Keeps (newestAt b t) w
-      → lineTold c (4 * t + (newestAt c t - w)) w ≡ lineTold b (4 * t + (newestAt b t - w)) w
-  other-told t w h d k =
+  other-read : (t w : ℕ) → t < n → t ≢ slot → Keeps (newestAt b t) w
+      → lineRead c (4 * t + (newestAt c t - w)) w ≡ lineRead b (4 * t + (newestAt b t - w)) w
+  other-read t w h d k =
       let x = 4 * t + (newestAt b t - w) in
-      ap (λ (u : ℕ). lineTold c (4 * t + (u - w)) w) (newest-other t h d)
-      ∙ ap (λ (u : ℕ). lineTold c u w) (sym (away (decLt t slot)))
+      ap (λ (u : ℕ). lineRead c (4 * t + (u - w)) w) (newest-other t h d)
+      ∙ ap (λ (u : ℕ). lineRead c u w) (sym (away (decLt t slot)))
       ∙ line-stays x w (omega (arith, k .2)) (omega (arith, k .2)) (omega (arith, kept-line n b t w sound h k, k .0))
     where
       away : Dec (t < slot) → goesOf slot (4 * t + (newestAt b t - w)) ≡ 4 * t + (newestAt b t - w)
       away (yes q) = goes-other slot (4 * t + (newestAt b t - w)) (inl (omega (arith, k .0, k .1, k .2)))
       away (no q) = goes-other slot (4 * t + (newestAt b t - w)) (inr (omega arith))
 
-  own-told : (w : ℕ) → w ≢ newestAt b slot + 1 → w + 4 ≢ newestAt b slot + 1 → Keeps (newestAt b slot) w
-      → lineTold c (4 * slot + (newestAt c slot - w)) w ≡ lineTold b (4 * slot + (newestAt b slot - w)) w
-  own-told w d e k =
+  own-read : (w : ℕ) → w ≢ newestAt b slot + 1 → w + 4 ≢ newestAt b slot + 1 → Keeps (newestAt b slot) w
+      → lineRead c (4 * slot + (newestAt c slot - w)) w ≡ lineRead b (4 * slot + (newestAt b slot - w)) w
+  own-read w d e k =
       let x = 4 * slot + (newestAt b slot - w) in
       let g : 4 * slot + (newestAt c slot - w) ≡ goesOf slot x = omega (arith, r .newest, k .0, k .1, k .2, goes-own slot x (omega arith) (omega (arith, k .0, k .1, k .2))) in
-      ap (λ (u : ℕ). lineTold c u w) g
+      ap (λ (u : ℕ). lineRead c u w) g
       ∙ line-stays x w (omega (arith, k .0, k .1, k .2)) (omega (arith, k .0, k .1, k .2)) (omega (arith, kept-line n b slot w sound inside k, k .0))
 
-  new-told : lineTold c (4 * slot + (newestAt c slot - (newestAt b slot + 1))) (newestAt b slot + 1) ≡ Setting s (newestAt b slot + 1)
-  unfolding lineTold
-  new-told =
+  new-read : lineRead c (4 * slot + (newestAt c slot - (newestAt b slot + 1))) (newestAt b slot + 1) ≡ Setting s (newestAt b slot + 1)
+  unfolding lineRead
+  new-read =
       let e : 4 * slot + (newestAt c slot - (newestAt b slot + 1)) ≡ 4 * slot = omega (arith, r .newest) in
-      ap (λ (u : ℕ). toldOf (settingAt c (placeAt c u)) (newestAt b slot + 1)) e
-      ∙ ap (λ (x : Decoded). toldOf x (newestAt b slot + 1)) (r .written)
+      ap (λ (u : ℕ). readAs (settingAt c (placeAt c u)) (newestAt b slot + 1)) e
+      ∙ ap (λ (x : Decoded). readAs x (newestAt b slot + 1)) (r .written)
 
   -- ---- as the calls answer
 
@@ -109,7 +109,7 @@ module _ (n : ℕ) (b c : List ℕ) (slot : ℕ) (s : Setpoint) (m : ℕ) (insid
         go : Dec (Keeps (newestAt b t) w) → readVersionOf h c t w ≡ readVersionOf h b t w
         go (yes k) =
             read-kept h c t fits (fine-c t i) w sound-c (rw (newest-other t i d) k)
-            ∙ other-told t w i d k
+            ∙ other-read t w i d k
             ∙ sym (read-kept h b t fits (fine-b t i) w sound-b k)
         go (no k) =
             read-lost h c t fits (fine-c t i) w sound-c (rw (newest-other t i d) k)
@@ -122,7 +122,7 @@ module _ (n : ℕ) (b c : List ℕ) (slot : ℕ) (s : Setpoint) (m : ℕ) (insid
         go : Dec (Keeps (newestAt b slot) w) → readVersionOf h c slot w ≡ readVersionOf h b slot w
         go (yes k) =
             read-kept h c slot fits (fine-c slot inside) w sound-c (omega (arith, k .0), omega (arith, k .1, r .newest), omega (arith, k .2, r .newest))
-            ∙ own-told w d e k
+            ∙ own-read w d e k
             ∙ sym (read-kept h b slot fits (fine-b slot inside) w sound-b k)
         go (no k) =
             read-lost h c slot fits (fine-c slot inside) w sound-c
@@ -132,7 +132,7 @@ module _ (n : ℕ) (b c : List ℕ) (slot : ℕ) (s : Setpoint) (m : ℕ) (insid
     pub new-reads : readVersionOf h c slot (newestAt b slot + 1) ≡ Setting s (newestAt b slot + 1)
     new-reads =
         read-kept h c slot fits (fine-c slot inside) (newestAt b slot + 1) sound-c (omega arith, omega (arith, r .newest), omega (arith, r .newest))
-        ∙ new-told
+        ∙ new-read
 
     -- what was dropped
     pub dropped-reads : (w : ℕ) → w + 4 ≡ newestAt b slot + 1 → readVersionOf h c slot w ≡ Refused NeverWritten

@@ -53,7 +53,7 @@ long-kept b k xs h = ap length (if-kept b k xs (some-kept b k xs h))
 -- ---- ranks
 
 module _ (n : ℕ) (b : List ℕ) where
-  pub rank-less : (k l : ℕ) → k < linesOf n → Kept b k → placeAt b k < placeAt b l → rankOf n b (placeAt b k) < rankOf n b (placeAt b l)
+  rank-less : (k l : ℕ) → k < linesOf n → Kept b k → placeAt b k < placeAt b l → rankOf n b (placeAt b k) < rankOf n b (placeAt b l)
   unfolding rankOf
   rank-less k l hk h o =
       count-less (linesOf n) (λ x. isKept b x && ltb (placeAt b x) (placeAt b k)) (λ x. isKept b x && ltb (placeAt b x) (placeAt b l)) k hk
@@ -106,7 +106,7 @@ module _ (n : ℕ) (b : List ℕ) (f : Fits n b) (room : frontOf n + 5 * keptOf 
   unfolding slidOf
   front-is k = omega arith
 
-  pub apart-is : (k l : ℕ) → k < m → l < m → k ≢ l → Kept b k → Kept b l → Apart (to k) (to l)
+  apart-is : (k l : ℕ) → k < m → l < m → k ≢ l → Kept b k → Kept b l → Apart (to k) (to l)
   apart-is k l hk hl e u v = go (f .apart k l hk hl e u v)
     where
       go : Apart (placeAt b k) (placeAt b l) → Apart (to k) (to l)
@@ -115,7 +115,7 @@ module _ (n : ℕ) (b : List ℕ) (f : Fits n b) (room : frontOf n + 5 * keptOf 
 
   -- ---- bytes
 
-  pub erased-long : length (erasedOf n b) ≡ length b
+  erased-long : length (erasedOf n b) ≡ length b
   unfolding erasedOf
   erased-long = length-many m (placeAt b) (λ k. ifKept b k (replicate 5 0)) b
 
@@ -127,7 +127,7 @@ module _ (n : ℕ) (b : List ℕ) (f : Fits n b) (room : frontOf n + 5 * keptOf 
   unfolding compactOf
   long-is = length-many m (λ k. 8 * k) (λ k. ifKept b k (placeBytes (to k))) (laidOf n b) ∙ laid-long
 
-  pub erased-low : (j : ℕ) → j < frontOf n → getD (erasedOf n b) j 0 ≡ getD b j 0
+  erased-low : (j : ℕ) → j < frontOf n → getD (erasedOf n b) j 0 ≡ getD b j 0
   unfolding erasedOf
   erased-low j l =
       many-outside m (placeAt b) (λ k. ifKept b k (replicate 5 0)) b j

@@ -10,7 +10,7 @@ use lib.Dec.{leb, eqb}
 use lib.ListN.{length, getD}
 use borrow.Author.Tests.{eqb-true, eqb-false, eq-eqb, ne-eqb, leb-true, le-leb, not-true, not-false}
 use Rattle.choice.specs.Choice.{if_then_else_}
-use Rattle.choice.specs.Pick.{both}
+use Rattle.choice.specs.Pick.{both, or-true}
 use Rattle.setpoint.specs.Codec.{joinOf}
 use Rattle.book_rules.specs.Layout.{fiveAt, all, linesOf, frontOf, placeAt, lengthAt, versionAt, isKept, settingAt, isSetting, isFalling, isFitting, isApart, isSound}
 use Rattle.book_rules.specs.Many.{all-each, each-all, Beside}
@@ -113,7 +113,7 @@ module _ (n : ℕ) (b : List ℕ) (k : ℕ) where
 
 -- ---- two lines apart
 
-pub swap-apart : (p q : ℕ) → Apart p q → Apart q p
+swap-apart : (p q : ℕ) → Apart p q → Apart q p
 swap-apart p q (inl x) = inr x
 swap-apart p q (inr x) = inl x
 
@@ -138,10 +138,6 @@ is-apart b k l h = go (isKept b k) (isKept b l) (is-kept b k) (is-kept b l)
     two : Apart (placeAt b k) (placeAt b l) → (leb (placeAt b k + 5) (placeAt b l) || leb (placeAt b l + 5) (placeAt b k)) ≡ true
     two (inl x) = rw (le-leb _ _ x)
     two (inr x) = rw (le-leb (placeAt b l + 5) (placeAt b k) x) (or-true (leb (placeAt b k + 5) (placeAt b l)))
-      where
-        or-true : (y : Bool) → (y || true) ≡ true
-        or-true true = refl
-        or-true false = refl
 
     go : (x y : Bool) → (x ≡ true → Kept b k) → (y ≡ true → Kept b l)
         → (not (x && y) || (leb (placeAt b k + 5) (placeAt b l) || leb (placeAt b l + 5) (placeAt b k))) ≡ true

@@ -1,4 +1,4 @@
--- Document 02, L10: the steps of a write. The oldest of four is dropped, room is looked for, kept bodies slide, a body is appended.
+-- Document 02, L10: the parts of a write. The oldest of four is dropped, room is looked for, kept bodies slide, a body is appended.
 use Prim.Native.Nat.{ℕ, zero, suc, _+_, _*_, _/_, _%_, max}
 use mathlib.Core.List.{List, [], _∷_, _++_}
 use mathlib.Core.Bool.{Bool, not, _&&_}

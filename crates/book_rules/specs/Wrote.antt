@@ -9,6 +9,7 @@ use native.Mathlib.Decide.{ℕ-discrete, decLt}
 use lib.Dec.{eqb}
 use lib.ListN.{length}
 use borrow.Author.Tests.{ltb-false, eq-eqb, ne-eqb}
+use Rattle.choice.specs.Pick.{and-false}
 use Rattle.choice.specs.Choice.{if_then_else_}
 use Rattle.setpoint.specs.Codec.{hasBody}
 use Rattle.setpoint.specs.RoundTrip.{Held}
@@ -76,10 +77,6 @@ record Ready (n : ℕ) (d e : List ℕ) (p moved : ℕ) : Type 0 where
   last : (k : ℕ) → k < linesOf n → Kept e k → placeAt e k + 5 ≤ p
   fit : p + 5 ≤ length e
   moved-is : moved ≡ 5 * count (linesOf n) (λ k. isKept d k && not (eqb (placeAt e k) (placeAt d k)))
-
-and-false : (x : Bool) → (x && false) ≡ false
-and-false true = refl
-and-false false = refl
 
 module _ (n : ℕ) (d : List ℕ) (f : Fits n d) where
   -- behind the last body there is room

@@ -2,7 +2,7 @@
 -- bodies that begin in one cell overlap, so a cell has at most one; and a body can overlap only those that begin in its own cell and in the two
 -- beside it. A mark a cell is enough: 0, or where in the cell its body begins, plus 1.
 use Prim.Native.Nat.{ℕ, zero, suc, _+_, _*_, _-_, _/_, _%_, _≤_, _<_}
-use mathlib.Core.Path.{_≡_, refl, sym, ap, _∙_}
+use mathlib.Core.Path.{_≡_, refl, ap, _∙_}
 use mathlib.Core.Logic.{_≢_, _⊎_, inl, inr}
 use mathlib.Core.List.{List}
 use mathlib.Core.Bool.{Bool, true, false, _&&_, _||_}
@@ -13,7 +13,7 @@ use lib.ListN.{length, getD, set, replicate, length-set, length-replicate}
 use lib.Seq.{getD-set-same, getD-set-other}
 use borrow.Author.Tests.{eqb-true, eq-eqb, leb-true, le-leb}
 use Rattle.choice.specs.Choice.{if_then_else_}
-use Rattle.choice.specs.Pick.{both}
+use Rattle.choice.specs.Pick.{both, or-true, same-truth}
 use Rattle.laws.specs.Lists.{zeros}
 use Rattle.book_rules.specs.Layout.{all, linesOf, frontOf, placeAt, lengthAt, versionAt, isKept, settingAt, isSetting, isFalling, isFitting, isApart, isSound}
 use Rattle.book_rules.specs.Many.{all-each, each-all}
@@ -69,11 +69,6 @@ pub record Marked (n : ℕ) (b : List ℕ) (cells k : ℕ) (marks : List ℕ) : 
   pub marks-each : (l : ℕ) → l < k → Kept b l → getD marks (cellOf n (placeAt b l) + 1) 0 ≡ offsetOf n (placeAt b l) + 1
   pub means : (c : ℕ) → getD marks c 0 ≢ 0
       → (l : ℕ) × (l < k) × Kept b l × (c ≡ cellOf n (placeAt b l) + 1) × (getD marks c 0 ≡ offsetOf n (placeAt b l) + 1)
-
-same-truth : (x y : Bool) → (x ≡ true → y ≡ true) → (y ≡ true → x ≡ true) → x ≡ y
-same-truth true y f g = sym (f refl)
-same-truth false true f g = g refl
-same-truth false false f g = refl
 
 module _ (n : ℕ) (b : List ℕ) (cells : ℕ) (size : length b ≤ frontOf n + 5 * cells) where
   -- the bodies of the lines before lie behind the contents
@@ -150,10 +145,6 @@ module _ (n : ℕ) (b : List ℕ) (cells : ℕ) (size : length b ≤ frontOf n +
             rw (le-leb (offsetOf n (placeAt b k) + 1) (getD marks (cellOf n (placeAt b k) + 2) 0) (fit (t .0) (t .1) (t .2) (t .3) (t .4) (h (t .0) (t .1) (t .2))))
             (or-true (eqb (getD marks (cellOf n (placeAt b k) + 2) 0) 0))
           where
-            or-true : (x : Bool) → (x || true) ≡ true
-            or-true true = refl
-            or-true false = refl
-
             fit : (l : ℕ) → l < k → Kept b l → cellOf n (placeAt b k) + 2 ≡ cellOf n (placeAt b l) + 1 → getD marks (cellOf n (placeAt b k) + 2) 0 ≡ offsetOf n (placeAt b l) + 1
                 → Apart (placeAt b k) (placeAt b l) → offsetOf n (placeAt b k) + 1 ≤ getD marks (cellOf n (placeAt b k) + 2) 0
             fit l i q e g (inl a) = omega (arith, before l i q .0, low)

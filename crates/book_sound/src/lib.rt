@@ -1,5 +1,5 @@
 // Whether a setpoint book is damaged (document 02, L10), in one pass over its lines, and the numbers of a line.
-// Functions with a `requires` are steps: calls have tested the head, the book's length and the slot.
+// Functions with a `requires` are parts: calls have tested the head, the book's length and the slot.
 use setpoint::Decoded;
 ghost use mathlib.Core.Path.{_≡_};
 ghost use Prim.Native.Nat.{_+_, _*_, _≤_, _<_};

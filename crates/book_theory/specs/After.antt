@@ -10,7 +10,7 @@ use lib.Dec.{eqb}
 use lib.ListN.{length}
 use borrow.Author.Tests.{ltb-true, ltb-false, eq-eqb, eqb-true, eqb-false, not-true, not-false}
 use Rattle.choice.specs.Choice.{if_then_else_}
-use Rattle.choice.specs.Pick.{both}
+use Rattle.choice.specs.Pick.{both, false-not}
 use Rattle.laws.specs.Shape.{shaped}
 use Rattle.model.specs.Arena.{cellsOf, holdIn, headFits}
 use Rattle.types.specs.declared.Head.{Head}
@@ -27,7 +27,7 @@ use Rattle.book_rules.specs.Slid.{ends-is}
 use Rattle.book_rules.specs.Appended.{goesOf}
 use Rattle.book_rules.specs.Wrote.{isStaying, stayingOf, staying-is, Wrote, put-wrote, still-moved}
 use Rattle.book_rules.specs.Fine.{shape-head}
-use Rattle.book_rules.specs.Outcomes.{Claim, Outcome, done, full, refused, writing-is, apart}
+use Rattle.book_rules.specs.Outcomes.{Claim, Outcome, done, full, refused, writing-is}
 use Rattle.book_rules.specs.Reads.{other-reads, own-reads, new-reads, dropped-reads}
 use Rattle.book_rules.specs.declared.BookAnswer.{BookAnswer}
 use Rattle.book_rules.specs.declared.BookAnswer.the-variants.{Done, Written, Setting, Refused}
@@ -155,7 +155,7 @@ count-zero : (m : ℕ) (f : ℕ → Bool) → count m f ≡ 0 → (k : ℕ) → 
 count-zero m f e k l = go (f k) refl
   where
     go : (x : Bool) → f k ≡ x → x ≡ false
-    go true q = absurd (omega (arith, e, count-less m (λ i. false) f k l refl q (λ i h z. apart z)))
+    go true q = absurd (omega (arith, e, count-less m (λ i. false) f k l refl q (λ i h z. false-not z)))
     go false q = refl
 
 pub still-moves-nothing : Still-moves-nothing writeSetpointOf
@@ -172,7 +172,7 @@ still-moves-nothing h t b slot l s v moved held e q =
     at : (k : ℕ) (x : Bool) → x ≡ true → (x && not (eqb (placeAt (writeSetpointOf h t b slot l s .1) (goesOf slot k)) (placeAt b k))) ≡ false
         → placeAt (writeSetpointOf h t b slot l s .1) (goesOf slot k) ≡ placeAt b k
     at k true y z = eqb-true _ _ (not-false _ z)
-    at k false y z = apart y
+    at k false y z = false-not y
 
 -- crowded, with room for one more body: the last body does not end where the kept ones do
 crowded-full : (n : ℕ) (d : List ℕ) → isCrowded n d ≡ true → isFull n d ≡ false

@@ -5,6 +5,7 @@ use mathlib.Core.List.{List}
 use mathlib.Core.Bool.{Bool, true, false}
 use native.Mathlib.Omega.{arith}
 use lib.ListN.{length, getD}
+use Rattle.choice.specs.Pick.{false-not}
 use Rattle.model.specs.Arena.{headFits}
 use Rattle.types.specs.declared.Head.{Head}
 use Rattle.setpoint.specs.Codec.{hasBody, bodyOf, joinOf, decodeOf}
@@ -14,10 +15,10 @@ use Rattle.setpoint.specs.declared.Decoded.the-variants as decoded
 use Rattle.setpoint.specs.declared.Setpoint.{Setpoint}
 use Rattle.book_rules.specs.Layout.{slotsOf, fiveAt, placeAt, newestAt, settingAt, isSound}
 use Rattle.book_rules.specs.Rules.{isBadSlot}
-use Rattle.book_rules.specs.Calls.{toldOf, lineTold, readVersionOf}
+use Rattle.book_rules.specs.Calls.{readAs, lineRead, readVersionOf}
 use Rattle.book_rules.specs.Fine.{SlotFine, slot-fine}
 use Rattle.book_rules.specs.Sound.{Sound, sound-is, is-sound}
-use Rattle.book_rules.specs.Outcomes.{Keeps, kept-or, read-kept, read-lost, read-damaged, apart}
+use Rattle.book_rules.specs.Outcomes.{Keeps, kept-or, read-kept, read-lost, read-damaged}
 use Rattle.book_rules.specs.Reads.{kept-tells}
 use Rattle.book_rules.specs.declared.BookAnswer.{BookAnswer}
 use Rattle.book_rules.specs.declared.BookAnswer.the-variants.{Setting, Refused}
@@ -69,7 +70,7 @@ module _ (h : Head) (b : List ℕ) (slot w : ℕ) (bytes : (j : ℕ) → getD b 
   here = slot-fine n (length b) slot fine
 
   data Read : BookAnswer → Type 0 where
-    is-kept : Sound n b → Keeps (newestAt b slot) w → Read (lineTold b k w)
+    is-kept : Sound n b → Keeps (newestAt b slot) w → Read (lineRead b k w)
     is-lost : Sound n b → (Keeps (newestAt b slot) w → ⊥) → Read (Refused NeverWritten)
     is-damaged : (Sound n b → ⊥) → Read (Refused DamagedBook)
 
@@ -79,19 +80,19 @@ module _ (h : Head) (b : List ℕ) (slot w : ℕ) (bytes : (j : ℕ) → getD b 
       go : (x : Bool) → isSound n b ≡ x → Dec (Keeps (newestAt b slot) w) → Read (readVersionOf h b slot w)
       go true e (yes q) = subst Read (sym (read-kept h b slot fits here w e q)) (is-kept (sound-is n b e) q)
       go true e (no q) = subst Read (sym (read-lost h b slot fits here w e q)) (is-lost (sound-is n b e) q)
-      go false e q = subst Read (sym (read-damaged h b slot fits here w e)) (is-damaged (λ s. apart (sym e ∙ is-sound n b s)))
+      go false e q = subst Read (sym (read-damaged h b slot fits here w e)) (is-damaged (λ s. false-not (sym e ∙ is-sound n b s)))
 
-  tells : (p : Setpoint) (v : ℕ) → lineTold b k w ≡ Setting p v → (v ≡ w) × (settingAt b (placeAt b k) ≡ decoded.Setting p)
-  unfolding lineTold
+  tells : (p : Setpoint) (v : ℕ) → lineRead b k w ≡ Setting p v → (v ≡ w) × (settingAt b (placeAt b k) ≡ decoded.Setting p)
+  unfolding lineRead
   tells p v e = go (settingAt b (placeAt b k)) e
     where
-      go : (d : Decoded) → toldOf d w ≡ Setting p v → (v ≡ w) × (d ≡ decoded.Setting p)
+      go : (d : Decoded) → readAs d w ≡ Setting p v → (v ≡ w) × (d ≡ decoded.Setting p)
       go (decoded.Setting s) x = (cc, cc)
       go decoded.Damaged x = let z : _≡_ {A = ℕ} 0 1 = cc in absurd (omega arith)
 
-  told-by : (p : Setpoint) → settingAt b (placeAt b k) ≡ decoded.Setting p → lineTold b k w ≡ Setting p w
-  unfolding lineTold
-  told-by p e = ap (λ (d : Decoded). toldOf d w) e
+  line-by : (p : Setpoint) → settingAt b (placeAt b k) ≡ decoded.Setting p → lineRead b k w ≡ Setting p w
+  unfolding lineRead
+  line-by p e = ap (λ (d : Decoded). readAs d w) e
 
   setting-is : (p : Setpoint) (v : ℕ) → readVersionOf h b slot w ≡ Setting p v → (v ≡ w) × Sound n b × Keeps (newestAt b slot) w × As-written b slot w p
   setting-is p v e = go read-one e
@@ -103,10 +104,10 @@ module _ (h : Head) (b : List ℕ) (slot w : ℕ) (bytes : (j : ℕ) → getD b 
 
   is-setting : (p : Setpoint) → Sound n b → Keeps (newestAt b slot) w → As-written b slot w p → readVersionOf h b slot w ≡ Setting p w
   is-setting p s q a =
-      read-kept h b slot fits here w (is-sound n b s) q ∙ told-by p (is-body b (placeAt b k) bytes p (a .0) (a .1) (a .2))
+      read-kept h b slot fits here w (is-sound n b s) q ∙ line-by p (is-body b (placeAt b k) bytes p (a .0) (a .1) (a .2))
 
   -- a kept version of a sound book is a setting
-  kept-setting : Sound n b → Keeps (newestAt b slot) w → (p : Setpoint) × (lineTold b k w ≡ Setting p w)
+  kept-setting : Sound n b → Keeps (newestAt b slot) w → (p : Setpoint) × (lineRead b k w ≡ Setting p w)
   kept-setting s q = kept-tells n b slot w s (here .inside) q
 
   never-is : readVersionOf h b slot w ≡ Refused NeverWritten → Sound n b × (Keeps (newestAt b slot) w → ⊥)

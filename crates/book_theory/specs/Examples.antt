@@ -1,6 +1,6 @@
 -- Examples that meet the premises of each theorem, so that none speaks of nothing. By computation, on an arena of one header with two buckets:
 -- two slots, a book of 84 bytes, which has room for four bodies; boot number 6.
-use Prim.Native.Nat.{ℕ, zero, suc, _+_, _<_}
+use Prim.Native.Nat.{ℕ, zero, suc, _<_}
 use mathlib.Core.Path.{_≡_, refl, sym, ap, _∙_, subst}
 use mathlib.Core.Logic.{_≢_, inr, _↔_}
 use mathlib.Core.List.{List, [], _∷_, _++_}
@@ -27,14 +27,14 @@ use Rattle.setpoint.specs.declared.Setpoint.the-variants.{Pressure, Speed, Valv
 use Rattle.book_rules.specs.Layout.{all, lineAt, fiveAt, placeAt, lengthAt, versionAt, newestAt, isKept, settingAt, lineOf, isFalling, isFitting, isApart, isSound}
 use Rattle.book_rules.specs.Writing.{count, most, putMany, dropOldestOf, keptOf, endOf, isCrowded, isFull, rankOf, slidOf, movedOf, erasedOf, laidOf, compactOf, appendOf, putOverOf, putOf}
 use Rattle.book_rules.specs.Rules.{firstFault, isBadBook, isBadSlot, isHolder, isGone, bookRules, claimRules, overRules, openRules, keptRules}
-use Rattle.book_rules.specs.Calls.{prepareBookOf, writeSetpointOf, lineTold, readVersionOf, readSetpointOf}
+use Rattle.book_rules.specs.Calls.{prepareBookOf, writeSetpointOf, lineRead, readVersionOf, readSetpointOf}
 use Rattle.book_rules.specs.Sound.{Sound}
 use Rattle.book_rules.specs.Outcomes.{Keeps}
 use Rattle.book_rules.specs.declared.BookAnswer.the-variants.{Done, Written, Setting, Refused}
 use Rattle.book_rules.specs.declared.BookRefusal.the-variants.{StaleBoot, NotHeld, DamagedBook, BookFull, NeverWritten}
 use Rattle.history.specs.World.{World, worldOf}
 use Rattle.history.specs.Items.{call, try-acquire, drop-lease, preparation, preparation-over, perform, cold, next-item, preparing}
-use Rattle.book_theory.specs.Items.{BookItem, arena-item, prepare-book, write-setpoint, read-setpoint, read-version, BookEntry, prepared, wrote, was-read, version-read, Shift, shiftOf, slots-in, preparing-book, writing, reading, reading-version, next-shift, run-shift, settings, told, toldBy, Same-slots, All-typed}
+use Rattle.book_theory.specs.Items.{BookItem, arena-item, prepare-book, write-setpoint, read-setpoint, read-version, BookEntry, prepared, wrote, was-read, version-read, Shift, shiftOf, slots-in, preparing-book, writing, reading, reading-version, next-shift, run-shift, settings, newestRead, versionRead, Same-slots, All-typed}
 use Rattle.book_theory.specs.Statements.{summed, isMoved, Released-between, Writable, Needed, As-written}
 use Rattle.book_theory.specs.Theorems.{others-read-as-before, new-reads-as-written, oldest-is-dropped, moved-is-summed, full-exactly, done-exactly, reads-exactly, prepared-reads-nothing, reads-last-write, reads-newest-four, never-exactly, forgets-older-bytes, never-damaged, written-by-holder, one-writer, writers-parted, damage-stays}
 
@@ -122,7 +122,7 @@ abbrev the-day : Shift
 the-day = shiftOf (cold (worldOf (headOf 2 1 5 7) (replicate 6 0) (replicate 2 0))) at-night answers
 
 pub day-is : run-shift fresh (prepare-book ∷ day) ≡ the-day
-unfolding run-shift next-shift next-item preparing perform prepareOf prepareRules first headFits shapeFits healthFits tryAcquireOf acquireOf dropLeaseOf cellRules leaseRules takeOf setCell bitAt ownerAt isFree isHeld stateOf stateAt isLive prepareBookOf bookRules firstFault isBadBook isBadSlot isHolder writeSetpointOf claimRules overRules readSetpointOf readVersionOf openRules keptRules isGone lineTold isFinite isSound isFalling isFitting isApart all placeAt lengthAt versionAt isKept settingAt count most putMany dropOldestOf keptOf endOf isCrowded isFull rankOf slidOf movedOf erasedOf laidOf compactOf appendOf putOverOf putOf joinOf settingOf decodeOf lineAt fiveAt lineOf bodyOf bytesOf ofBits toBits
+unfolding run-shift next-shift next-item preparing perform prepareOf prepareRules first headFits shapeFits healthFits tryAcquireOf acquireOf dropLeaseOf cellRules leaseRules takeOf setCell bitAt ownerAt isFree isHeld stateOf stateAt isLive prepareBookOf bookRules firstFault isBadBook isBadSlot isHolder writeSetpointOf claimRules overRules readSetpointOf readVersionOf openRules keptRules isGone lineRead isFinite isSound isFalling isFitting isApart all placeAt lengthAt versionAt isKept settingAt count most putMany dropOldestOf keptOf endOf isCrowded isFull rankOf slidOf movedOf erasedOf laidOf compactOf appendOf putOverOf putOf joinOf settingOf decodeOf lineAt fiveAt lineOf bodyOf bytesOf ofBits toBits
 day-is = refl
 
 -- ---- the premises: both preparations are done, the head in force always has two slots, the setpoints are values of their types
@@ -132,18 +132,18 @@ unfolding preparing prepareOf prepareRules first headFits shapeFits healthFits
 boot-done = refl
 
 pub book-done : preparing-book fresh .0 ≡ Done
-unfolding run-shift next-shift next-item preparing perform prepareOf prepareRules first headFits shapeFits healthFits tryAcquireOf acquireOf dropLeaseOf cellRules leaseRules takeOf setCell bitAt ownerAt isFree isHeld stateOf stateAt isLive prepareBookOf bookRules firstFault isBadBook isBadSlot isHolder writeSetpointOf claimRules overRules readSetpointOf readVersionOf openRules keptRules isGone lineTold isFinite isSound isFalling isFitting isApart all placeAt lengthAt versionAt isKept settingAt count most putMany dropOldestOf keptOf endOf isCrowded isFull rankOf slidOf movedOf erasedOf laidOf compactOf appendOf putOverOf putOf joinOf settingOf decodeOf lineAt fiveAt lineOf bodyOf bytesOf ofBits toBits
+unfolding run-shift next-shift next-item preparing perform prepareOf prepareRules first headFits shapeFits healthFits tryAcquireOf acquireOf dropLeaseOf cellRules leaseRules takeOf setCell bitAt ownerAt isFree isHeld stateOf stateAt isLive prepareBookOf bookRules firstFault isBadBook isBadSlot isHolder writeSetpointOf claimRules overRules readSetpointOf readVersionOf openRules keptRules isGone lineRead isFinite isSound isFalling isFitting isApart all placeAt lengthAt versionAt isKept settingAt count most putMany dropOldestOf keptOf endOf isCrowded isFull rankOf slidOf movedOf erasedOf laidOf compactOf appendOf putOverOf putOf joinOf settingOf decodeOf lineAt fiveAt lineOf bodyOf bytesOf ofBits toBits
 book-done = refl
 
 pub two-slots : Same-slots 2 (next-shift fresh prepare-book) day
-unfolding run-shift next-shift next-item preparing perform prepareOf prepareRules first headFits shapeFits healthFits tryAcquireOf acquireOf dropLeaseOf cellRules leaseRules takeOf setCell bitAt ownerAt isFree isHeld stateOf stateAt isLive prepareBookOf bookRules firstFault isBadBook isBadSlot isHolder writeSetpointOf claimRules overRules readSetpointOf readVersionOf openRules keptRules isGone lineTold isFinite isSound isFalling isFitting isApart all placeAt lengthAt versionAt isKept settingAt count most putMany dropOldestOf keptOf endOf isCrowded isFull rankOf slidOf movedOf erasedOf laidOf compactOf appendOf putOverOf putOf joinOf settingOf decodeOf lineAt fiveAt lineOf bodyOf bytesOf ofBits toBits
+unfolding run-shift next-shift next-item preparing perform prepareOf prepareRules first headFits shapeFits healthFits tryAcquireOf acquireOf dropLeaseOf cellRules leaseRules takeOf setCell bitAt ownerAt isFree isHeld stateOf stateAt isLive prepareBookOf bookRules firstFault isBadBook isBadSlot isHolder writeSetpointOf claimRules overRules readSetpointOf readVersionOf openRules keptRules isGone lineRead isFinite isSound isFalling isFitting isApart all placeAt lengthAt versionAt isKept settingAt count most putMany dropOldestOf keptOf endOf isCrowded isFull rankOf slidOf movedOf erasedOf laidOf compactOf appendOf putOverOf putOf joinOf settingOf decodeOf lineAt fiveAt lineOf bodyOf bytesOf ofBits toBits
 two-slots = (refl, (refl, (refl, (refl, (refl, (refl, (refl, (refl, (refl, (refl, (refl, (refl, (refl, (refl, (refl, tt)))))))))))))))
 
 pub values : All-typed day
 values = (tt, (ofBits-fits binary32 0x3fc0_0000, (omega arith, (tt, (tt, (ofBits-fits binary32 0x3fc0_0000, (tt, (omega arith, (omega arith, (tt, (tt, (tt, (tt, (tt, (tt, tt)))))))))))))))
 
 pub fresh-slots : slots-in fresh ≡ 2
-unfolding run-shift next-shift next-item preparing perform prepareOf prepareRules first headFits shapeFits healthFits tryAcquireOf acquireOf dropLeaseOf cellRules leaseRules takeOf setCell bitAt ownerAt isFree isHeld stateOf stateAt isLive prepareBookOf bookRules firstFault isBadBook isBadSlot isHolder writeSetpointOf claimRules overRules readSetpointOf readVersionOf openRules keptRules isGone lineTold isFinite isSound isFalling isFitting isApart all placeAt lengthAt versionAt isKept settingAt count most putMany dropOldestOf keptOf endOf isCrowded isFull rankOf slidOf movedOf erasedOf laidOf compactOf appendOf putOverOf putOf joinOf settingOf decodeOf lineAt fiveAt lineOf bodyOf bytesOf ofBits toBits
+unfolding run-shift next-shift next-item preparing perform prepareOf prepareRules first headFits shapeFits healthFits tryAcquireOf acquireOf dropLeaseOf cellRules leaseRules takeOf setCell bitAt ownerAt isFree isHeld stateOf stateAt isLive prepareBookOf bookRules firstFault isBadBook isBadSlot isHolder writeSetpointOf claimRules overRules readSetpointOf readVersionOf openRules keptRules isGone lineRead isFinite isSound isFalling isFitting isApart all placeAt lengthAt versionAt isKept settingAt count most putMany dropOldestOf keptOf endOf isCrowded isFull rankOf slidOf movedOf erasedOf laidOf compactOf appendOf putOverOf putOf joinOf settingOf decodeOf lineAt fiveAt lineOf bodyOf bytesOf ofBits toBits
 fresh-slots = refl
 
 same : Same-slots (slots-in fresh) (next-shift fresh prepare-book) day
@@ -160,14 +160,14 @@ nothing-yet = prepared-reads-nothing fresh 1 1 book-done (omega (arith, fresh-sl
 pub last-is : (reading the-day 1 ≡ Setting (Speed 5) 5) × (reading the-day 0 ≡ Refused NeverWritten)
 unfolding settings
 last-is =
-    let r = subst (λ (v : Shift). (slot : ℕ) → slot < slots-in v → reading v slot ≡ told (settings slot (v .entries)))
+    let r = subst (λ (v : Shift). (slot : ℕ) → slot < slots-in v → reading v slot ≡ newestRead (settings slot (v .entries)))
     day-is (reads-last-write fresh day book-done same values) in
     (r 1 (omega arith), r 0 (omega arith))
 
-pub second-is : reading-version the-day 1 2 ≡ toldBy (Speed 5 ∷ Speed 4 ∷ Valve true ∷ Speed 258 ∷ bar ∷ []) 2
+pub second-is : reading-version the-day 1 2 ≡ versionRead (Speed 5 ∷ Speed 4 ∷ Valve true ∷ Speed 258 ∷ bar ∷ []) 2
 unfolding settings
 second-is =
-    subst (λ (v : Shift). (slot w : ℕ) → slot < slots-in v → reading-version v slot w ≡ toldBy (settings slot (v .entries)) w)
+    subst (λ (v : Shift). (slot w : ℕ) → slot < slots-in v → reading-version v slot w ≡ versionRead (settings slot (v .entries)) w)
     day-is (reads-newest-four fresh day book-done same values) 1 2 (omega arith)
 
 pub first-is : reading-version the-day 1 1 ≡ Refused NeverWritten
@@ -192,7 +192,7 @@ abbrev blots : List ℕ
 blots = replicate 84 255
 
 pub same-day : run-shift (shiftOf (fresh .course) blots []) (prepare-book ∷ day) ≡ the-day
-unfolding run-shift next-shift next-item preparing perform prepareOf prepareRules first headFits shapeFits healthFits tryAcquireOf acquireOf dropLeaseOf cellRules leaseRules takeOf setCell bitAt ownerAt isFree isHeld stateOf stateAt isLive prepareBookOf bookRules firstFault isBadBook isBadSlot isHolder writeSetpointOf claimRules overRules readSetpointOf readVersionOf openRules keptRules isGone lineTold isFinite isSound isFalling isFitting isApart all placeAt lengthAt versionAt isKept settingAt count most putMany dropOldestOf keptOf endOf isCrowded isFull rankOf slidOf movedOf erasedOf laidOf compactOf appendOf putOverOf putOf joinOf settingOf decodeOf lineAt fiveAt lineOf bodyOf bytesOf ofBits toBits
+unfolding run-shift next-shift next-item preparing perform prepareOf prepareRules first headFits shapeFits healthFits tryAcquireOf acquireOf dropLeaseOf cellRules leaseRules takeOf setCell bitAt ownerAt isFree isHeld stateOf stateAt isLive prepareBookOf bookRules firstFault isBadBook isBadSlot isHolder writeSetpointOf claimRules overRules readSetpointOf readVersionOf openRules keptRules isGone lineRead isFinite isSound isFalling isFitting isApart all placeAt lengthAt versionAt isKept settingAt count most putMany dropOldestOf keptOf endOf isCrowded isFull rankOf slidOf movedOf erasedOf laidOf compactOf appendOf putOverOf putOf joinOf settingOf decodeOf lineAt fiveAt lineOf bodyOf bytesOf ofBits toBits
 same-day = sym (forgets-older-bytes (fresh .course) old blots [] day refl book-done) ∙ day-is
 
 -- ---- `written-by-holder`, `one-writer`, `writers-parted`
@@ -201,16 +201,16 @@ abbrev first-write : Shift
 first-write = run-shift (shiftOf (cold rubbish) old []) (boot ∷ (prepare-book ∷ arena-item (call (try-acquire 1)) ∷ []))
 
 pub first-done : writing first-write 1 one-lease bar .0 ≡ Written 1 0
-unfolding run-shift next-shift next-item preparing perform prepareOf prepareRules first headFits shapeFits healthFits tryAcquireOf acquireOf dropLeaseOf cellRules leaseRules takeOf setCell bitAt ownerAt isFree isHeld stateOf stateAt isLive prepareBookOf bookRules firstFault isBadBook isBadSlot isHolder writeSetpointOf claimRules overRules readSetpointOf readVersionOf openRules keptRules isGone lineTold isFinite isSound isFalling isFitting isApart all placeAt lengthAt versionAt isKept settingAt count most putMany dropOldestOf keptOf endOf isCrowded isFull rankOf slidOf movedOf erasedOf laidOf compactOf appendOf putOverOf putOf joinOf settingOf decodeOf lineAt fiveAt lineOf bodyOf bytesOf ofBits toBits
+unfolding run-shift next-shift next-item preparing perform prepareOf prepareRules first headFits shapeFits healthFits tryAcquireOf acquireOf dropLeaseOf cellRules leaseRules takeOf setCell bitAt ownerAt isFree isHeld stateOf stateAt isLive prepareBookOf bookRules firstFault isBadBook isBadSlot isHolder writeSetpointOf claimRules overRules readSetpointOf readVersionOf openRules keptRules isGone lineRead isFinite isSound isFalling isFitting isApart all placeAt lengthAt versionAt isKept settingAt count most putMany dropOldestOf keptOf endOf isCrowded isFull rankOf slidOf movedOf erasedOf laidOf compactOf appendOf putOverOf putOf joinOf settingOf decodeOf lineAt fiveAt lineOf bodyOf bytesOf ofBits toBits
 first-done = refl
 
 pub second-done : writing (run-shift first-write (write-setpoint 1 one-lease bar ∷ change)) 1 other-lease (Valve true) .0 ≡ Written 2 0
-unfolding run-shift next-shift next-item preparing perform prepareOf prepareRules first headFits shapeFits healthFits tryAcquireOf acquireOf dropLeaseOf cellRules leaseRules takeOf setCell bitAt ownerAt isFree isHeld stateOf stateAt isLive prepareBookOf bookRules firstFault isBadBook isBadSlot isHolder writeSetpointOf claimRules overRules readSetpointOf readVersionOf openRules keptRules isGone lineTold isFinite isSound isFalling isFitting isApart all placeAt lengthAt versionAt isKept settingAt count most putMany dropOldestOf keptOf endOf isCrowded isFull rankOf slidOf movedOf erasedOf laidOf compactOf appendOf putOverOf putOf joinOf settingOf decodeOf lineAt fiveAt lineOf bodyOf bytesOf ofBits toBits
+unfolding run-shift next-shift next-item preparing perform prepareOf prepareRules first headFits shapeFits healthFits tryAcquireOf acquireOf dropLeaseOf cellRules leaseRules takeOf setCell bitAt ownerAt isFree isHeld stateOf stateAt isLive prepareBookOf bookRules firstFault isBadBook isBadSlot isHolder writeSetpointOf claimRules overRules readSetpointOf readVersionOf openRules keptRules isGone lineRead isFinite isSound isFalling isFitting isApart all placeAt lengthAt versionAt isKept settingAt count most putMany dropOldestOf keptOf endOf isCrowded isFull rankOf slidOf movedOf erasedOf laidOf compactOf appendOf putOverOf putOf joinOf settingOf decodeOf lineAt fiveAt lineOf bodyOf bytesOf ofBits toBits
 second-done = refl
 
 -- document 02, L8: with the same cell and serial from another boot it is not
 pub stale-refused : writing first-write 1 (leaseOf 1 1 5) bar .0 ≡ Refused StaleBoot
-unfolding run-shift next-shift next-item preparing perform prepareOf prepareRules first headFits shapeFits healthFits tryAcquireOf acquireOf dropLeaseOf cellRules leaseRules takeOf setCell bitAt ownerAt isFree isHeld stateOf stateAt isLive prepareBookOf bookRules firstFault isBadBook isBadSlot isHolder writeSetpointOf claimRules overRules readSetpointOf readVersionOf openRules keptRules isGone lineTold isFinite isSound isFalling isFitting isApart all placeAt lengthAt versionAt isKept settingAt count most putMany dropOldestOf keptOf endOf isCrowded isFull rankOf slidOf movedOf erasedOf laidOf compactOf appendOf putOverOf putOf joinOf settingOf decodeOf lineAt fiveAt lineOf bodyOf bytesOf ofBits toBits
+unfolding run-shift next-shift next-item preparing perform prepareOf prepareRules first headFits shapeFits healthFits tryAcquireOf acquireOf dropLeaseOf cellRules leaseRules takeOf setCell bitAt ownerAt isFree isHeld stateOf stateAt isLive prepareBookOf bookRules firstFault isBadBook isBadSlot isHolder writeSetpointOf claimRules overRules readSetpointOf readVersionOf openRules keptRules isGone lineRead isFinite isSound isFalling isFitting isApart all placeAt lengthAt versionAt isKept settingAt count most putMany dropOldestOf keptOf endOf isCrowded isFull rankOf slidOf movedOf erasedOf laidOf compactOf appendOf putOverOf putOf joinOf settingOf decodeOf lineAt fiveAt lineOf bodyOf bytesOf ofBits toBits
 stale-refused = refl
 
 pub holder : (one-lease .cell ≡ 1) × ((l : Lease) → writing first-write 1 l bar .0 ≡ Written 1 0 → l ≡ one-lease)
@@ -249,11 +249,11 @@ at-evening =
     ∷ 2 ∷ 4 ∷ 0 ∷ 0 ∷ 0 ∷ [])
 
 pub evening-is : run-shift fresh (prepare-book ∷ till-evening) .book ≡ at-evening
-unfolding run-shift next-shift next-item preparing perform prepareOf prepareRules first headFits shapeFits healthFits tryAcquireOf acquireOf dropLeaseOf cellRules leaseRules takeOf setCell bitAt ownerAt isFree isHeld stateOf stateAt isLive prepareBookOf bookRules firstFault isBadBook isBadSlot isHolder writeSetpointOf claimRules overRules readSetpointOf readVersionOf openRules keptRules isGone lineTold isFinite isSound isFalling isFitting isApart all placeAt lengthAt versionAt isKept settingAt count most putMany dropOldestOf keptOf endOf isCrowded isFull rankOf slidOf movedOf erasedOf laidOf compactOf appendOf putOverOf putOf joinOf settingOf decodeOf lineAt fiveAt lineOf bodyOf bytesOf ofBits toBits
+unfolding run-shift next-shift next-item preparing perform prepareOf prepareRules first headFits shapeFits healthFits tryAcquireOf acquireOf dropLeaseOf cellRules leaseRules takeOf setCell bitAt ownerAt isFree isHeld stateOf stateAt isLive prepareBookOf bookRules firstFault isBadBook isBadSlot isHolder writeSetpointOf claimRules overRules readSetpointOf readVersionOf openRules keptRules isGone lineRead isFinite isSound isFalling isFitting isApart all placeAt lengthAt versionAt isKept settingAt count most putMany dropOldestOf keptOf endOf isCrowded isFull rankOf slidOf movedOf erasedOf laidOf compactOf appendOf putOverOf putOf joinOf settingOf decodeOf lineAt fiveAt lineOf bodyOf bytesOf ofBits toBits
 evening-is = refl
 
 pub slid : writeSetpointOf the-head the-table at-evening 1 other-lease (Speed 5) ≡ (Written 5 15, at-night)
-unfolding run-shift next-shift next-item preparing perform prepareOf prepareRules first headFits shapeFits healthFits tryAcquireOf acquireOf dropLeaseOf cellRules leaseRules takeOf setCell bitAt ownerAt isFree isHeld stateOf stateAt isLive prepareBookOf bookRules firstFault isBadBook isBadSlot isHolder writeSetpointOf claimRules overRules readSetpointOf readVersionOf openRules keptRules isGone lineTold isFinite isSound isFalling isFitting isApart all placeAt lengthAt versionAt isKept settingAt count most putMany dropOldestOf keptOf endOf isCrowded isFull rankOf slidOf movedOf erasedOf laidOf compactOf appendOf putOverOf putOf joinOf settingOf decodeOf lineAt fiveAt lineOf bodyOf bytesOf ofBits toBits
+unfolding run-shift next-shift next-item preparing perform prepareOf prepareRules first headFits shapeFits healthFits tryAcquireOf acquireOf dropLeaseOf cellRules leaseRules takeOf setCell bitAt ownerAt isFree isHeld stateOf stateAt isLive prepareBookOf bookRules firstFault isBadBook isBadSlot isHolder writeSetpointOf claimRules overRules readSetpointOf readVersionOf openRules keptRules isGone lineRead isFinite isSound isFalling isFitting isApart all placeAt lengthAt versionAt isKept settingAt count most putMany dropOldestOf keptOf endOf isCrowded isFull rankOf slidOf movedOf erasedOf laidOf compactOf appendOf putOverOf putOf joinOf settingOf decodeOf lineAt fiveAt lineOf bodyOf bytesOf ofBits toBits
 slid = refl
 
 slid-done : writeSetpointOf the-head the-table at-evening 1 other-lease (Speed 5) .0 ≡ Written 5 15
@@ -293,7 +293,7 @@ at-limit =
     ∷ 2 ∷ 3 ∷ 0 ∷ 0 ∷ 0 ∷ [])
 
 pub too-full : writeSetpointOf the-head the-table at-limit 1 other-lease (Speed 4) ≡ (Refused BookFull, at-limit)
-unfolding run-shift next-shift next-item preparing perform prepareOf prepareRules first headFits shapeFits healthFits tryAcquireOf acquireOf dropLeaseOf cellRules leaseRules takeOf setCell bitAt ownerAt isFree isHeld stateOf stateAt isLive prepareBookOf bookRules firstFault isBadBook isBadSlot isHolder writeSetpointOf claimRules overRules readSetpointOf readVersionOf openRules keptRules isGone lineTold isFinite isSound isFalling isFitting isApart all placeAt lengthAt versionAt isKept settingAt count most putMany dropOldestOf keptOf endOf isCrowded isFull rankOf slidOf movedOf erasedOf laidOf compactOf appendOf putOverOf putOf joinOf settingOf decodeOf lineAt fiveAt lineOf bodyOf bytesOf ofBits toBits
+unfolding run-shift next-shift next-item preparing perform prepareOf prepareRules first headFits shapeFits healthFits tryAcquireOf acquireOf dropLeaseOf cellRules leaseRules takeOf setCell bitAt ownerAt isFree isHeld stateOf stateAt isLive prepareBookOf bookRules firstFault isBadBook isBadSlot isHolder writeSetpointOf claimRules overRules readSetpointOf readVersionOf openRules keptRules isGone lineRead isFinite isSound isFalling isFitting isApart all placeAt lengthAt versionAt isKept settingAt count most putMany dropOldestOf keptOf endOf isCrowded isFull rankOf slidOf movedOf erasedOf laidOf compactOf appendOf putOverOf putOf joinOf settingOf decodeOf lineAt fiveAt lineOf bodyOf bytesOf ofBits toBits
 too-full = refl
 
 pub leaves-too-few : length at-limit < Needed the-head at-limit 1
@@ -316,7 +316,7 @@ small (x ∷ xs) e zero = ltb-true x 256 (both (ltb x 256) (all-small xs) e .0)
 small (x ∷ xs) e (suc j) = small xs (both (ltb x 256) (all-small xs) e .1) j
 
 pub three-answers : As-written at-night 1 3 (Valve true) × (Keeps (newestAt at-night 0) 1 → ⊥) × (Sound 2 torn → ⊥)
-unfolding run-shift next-shift next-item preparing perform prepareOf prepareRules first headFits shapeFits healthFits tryAcquireOf acquireOf dropLeaseOf cellRules leaseRules takeOf setCell bitAt ownerAt isFree isHeld stateOf stateAt isLive prepareBookOf bookRules firstFault isBadBook isBadSlot isHolder writeSetpointOf claimRules overRules readSetpointOf readVersionOf openRules keptRules isGone lineTold isFinite isSound isFalling isFitting isApart all placeAt lengthAt versionAt isKept settingAt count most putMany dropOldestOf keptOf endOf isCrowded isFull rankOf slidOf movedOf erasedOf laidOf compactOf appendOf putOverOf putOf joinOf settingOf decodeOf lineAt fiveAt lineOf bodyOf bytesOf ofBits toBits
+unfolding run-shift next-shift next-item preparing perform prepareOf prepareRules first headFits shapeFits healthFits tryAcquireOf acquireOf dropLeaseOf cellRules leaseRules takeOf setCell bitAt ownerAt isFree isHeld stateOf stateAt isLive prepareBookOf bookRules firstFault isBadBook isBadSlot isHolder writeSetpointOf claimRules overRules readSetpointOf readVersionOf openRules keptRules isGone lineRead isFinite isSound isFalling isFitting isApart all placeAt lengthAt versionAt isKept settingAt count most putMany dropOldestOf keptOf endOf isCrowded isFull rankOf slidOf movedOf erasedOf laidOf compactOf appendOf putOverOf putOf joinOf settingOf decodeOf lineAt fiveAt lineOf bodyOf bytesOf ofBits toBits
 three-answers = (
   reads-exactly the-head at-night 1 3 (small at-night refl) refl refl .0 (Valve true) 3 .0 refl .3,
   reads-exactly the-head at-night 0 1 (small at-night refl) refl refl .1 .0 refl .1,
@@ -332,7 +332,7 @@ abbrev tries : List BookItem
 tries = write-setpoint 1 other-lease (Speed 9) ∷ read-version 1 3 ∷ []
 
 tries-slots : Same-slots 2 broken tries
-unfolding run-shift next-shift next-item preparing perform prepareOf prepareRules first headFits shapeFits healthFits tryAcquireOf acquireOf dropLeaseOf cellRules leaseRules takeOf setCell bitAt ownerAt isFree isHeld stateOf stateAt isLive prepareBookOf bookRules firstFault isBadBook isBadSlot isHolder writeSetpointOf claimRules overRules readSetpointOf readVersionOf openRules keptRules isGone lineTold isFinite isSound isFalling isFitting isApart all placeAt lengthAt versionAt isKept settingAt count most putMany dropOldestOf keptOf endOf isCrowded isFull rankOf slidOf movedOf erasedOf laidOf compactOf appendOf putOverOf putOf joinOf settingOf decodeOf lineAt fiveAt lineOf bodyOf bytesOf ofBits toBits
+unfolding run-shift next-shift next-item preparing perform prepareOf prepareRules first headFits shapeFits healthFits tryAcquireOf acquireOf dropLeaseOf cellRules leaseRules takeOf setCell bitAt ownerAt isFree isHeld stateOf stateAt isLive prepareBookOf bookRules firstFault isBadBook isBadSlot isHolder writeSetpointOf claimRules overRules readSetpointOf readVersionOf openRules keptRules isGone lineRead isFinite isSound isFalling isFitting isApart all placeAt lengthAt versionAt isKept settingAt count most putMany dropOldestOf keptOf endOf isCrowded isFull rankOf slidOf movedOf erasedOf laidOf compactOf appendOf putOverOf putOf joinOf settingOf decodeOf lineAt fiveAt lineOf bodyOf bytesOf ofBits toBits
 tries-slots = (refl, (refl, tt))
 
 pub torn-stays : run-shift broken tries .book ≡ torn

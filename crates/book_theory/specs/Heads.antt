@@ -14,7 +14,7 @@ use Rattle.choice.specs.Pick.{both}
 use Rattle.laws.specs.Shape.{Shaped, shaped}
 use Rattle.laws.specs.Prepared.{Outcome, Came, was-done, was-refused, came}
 use Rattle.book_rules.specs.Fine.{head-alone, shape-head}
-use Rattle.history.specs.World.{World, worldOf, Legal, step, now, Lawful}
+use Rattle.history.specs.World.{World, worldOf, Legal, after-event, now, Lawful}
 use Rattle.history.specs.Items.{Item, call, foreign-step, preparation, preparation-over, salvage, salvage-over, Course, perform, foreign, prepared-by, preparing, salvaged-by, salvaging, next-item}
 use Rattle.history.specs.Events.{fits}
 use Rattle.history.specs.Salvages.{Came as Salvages-came, bad, full, done, came as salvage-came}
@@ -45,22 +45,22 @@ spent-fits h e l =
       words-are = refl;
     })
 
-step-fits : (w : World) (e : Event) → Legal w e → Fits (w .head) → Fits (step w e .head)
-step-fits w attempt-begun g f = f
-step-fits w boundary-run g f = f
-step-fits w yielded g f = f
-step-fits w spun g f = f
-step-fits w step-dropped g f = f
-step-fits w (took a c s) g f = spent-fits (w .head) f (omega (arith, g .1 .0, g .1 .1))
-step-fits w (released a c s) g f = f
-step-fits w (waiters-set c n) g f = f
-step-fits w (health-set i n) g f = f
-step-fits w (held-all m) g f = f
-step-fits w (added m c v) g f = f
+fits-after : (w : World) (e : Event) → Legal w e → Fits (w .head) → Fits (after-event w e .head)
+fits-after w attempt-begun g f = f
+fits-after w boundary-run g f = f
+fits-after w yielded g f = f
+fits-after w spun g f = f
+fits-after w step-dropped g f = f
+fits-after w (took a c s) g f = spent-fits (w .head) f (omega (arith, g .1 .0, g .1 .1))
+fits-after w (released a c s) g f = f
+fits-after w (waiters-set c n) g f = f
+fits-after w (health-set i n) g f = f
+fits-after w (held-all m) g f = f
+fits-after w (added m c v) g f = f
 
 now-fits : (w : World) (es : List Event) → Lawful w es → Fits (w .head) → Fits (now w es .head)
 now-fits w [] g f = f
-now-fits w (e ∷ es) g f = now-fits (step w e) es (g .1) (step-fits w e (g .0) f)
+now-fits w (e ∷ es) g f = now-fits (after-event w e) es (g .1) (fits-after w e (g .0) f)
 
 -- a preparation: done, its head fits; refused, the head before it stays
 module _ (headers buckets serial boot : ℕ) (t g : List ℕ) (v : World) (k : Course) where

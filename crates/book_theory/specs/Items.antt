@@ -99,13 +99,13 @@ settings slot [] = []
 settings slot (e ∷ es) = settings-after e slot (settings slot es)
 
 -- what a read is to answer then: the last, with their number as its version
-abbrev pub told : List Setpoint → BookAnswer
-told [] = Refused NeverWritten
-told (p ∷ ps) = Setting p (length (p ∷ ps))
+abbrev pub newestRead : List Setpoint → BookAnswer
+newestRead [] = Refused NeverWritten
+newestRead (p ∷ ps) = Setting p (length (p ∷ ps))
 
 -- and what a read of a version is to answer: the w-th setting, if it is one of "the newest four settings", else NeverWritten
-unfoldable pub toldBy : List Setpoint → ℕ → BookAnswer
-toldBy ss w = elim (kept-or (length ss) w) [ yes k ↦ Setting (getD ss (length ss - w) (Speed 0)) w | no k ↦ Refused NeverWritten ]
+unfoldable pub versionRead : List Setpoint → ℕ → BookAnswer
+versionRead ss w = elim (kept-or (length ss) w) [ yes k ↦ Setting (getD ss (length ss - w) (Speed 0)) w | no k ↦ Refused NeverWritten ]
 
 -- ---- premises
 

@@ -10,6 +10,7 @@ use native.Mathlib.Decide.{ℕ-discrete, decLt}
 use lib.Dec.{eqb}
 use lib.ListN.{length, getD, replicate, length-replicate}
 use borrow.Author.Tests.{eq-eqb, ne-eqb}
+use Rattle.choice.specs.Pick.{false-not}
 use Rattle.choice.specs.Choice.{if_then_else_}
 use Rattle.model.specs.Arena.{headFits}
 use Rattle.types.specs.declared.Head.{Head}
@@ -25,59 +26,59 @@ use Rattle.book_rules.specs.Sound.{Kept, Apart, Sound, Clean, sound-is, is-soun
 use Rattle.book_rules.specs.Appended.{goesOf, goes-own, goes-other}
 use Rattle.book_rules.specs.Wrote.{Wrote, put-wrote}
 use Rattle.book_rules.specs.Fine.{SlotFine, slot-fine, BookFine}
-use Rattle.book_rules.specs.Outcomes.{Prepared, was-prepared, not-prepared, preparing-is, prepare-alike, Outcome, done, full, refused, writing-is, Keeps, kept-or, read-kept, read-lost, apart}
+use Rattle.book_rules.specs.Outcomes.{Prepared, was-prepared, not-prepared, preparing-is, prepare-alike, Outcome, done, full, refused, writing-is, Keeps, kept-or, read-kept, read-lost}
 use Rattle.book_rules.specs.Reads.{kept-tells, other-reads, own-reads, new-reads, dropped-reads, newest-other, version-zero, prepared-sound, prepared-clean}
 use Rattle.book_rules.specs.declared.BookAnswer.{BookAnswer}
 use Rattle.book_rules.specs.declared.BookAnswer.the-variants.{Done, Written, Setting, Refused}
 use Rattle.book_rules.specs.declared.BookRefusal.the-variants.{BadShape, BadSlot, DamagedBook, NeverWritten}
-use Rattle.book_theory.specs.Items.{BookItem, arena-item, prepare-book, write-setpoint, read-setpoint, read-version, BookEntry, prepared, wrote, was-read, version-read, Shift, shiftOf, world-of, head-of, slots-in, preparing-book, writing, reading, reading-version, next-shift, run-shift, settings-after, settings, told, toldBy, Same-slots, Typed, All-typed}
+use Rattle.book_theory.specs.Items.{BookItem, arena-item, prepare-book, write-setpoint, read-setpoint, read-version, BookEntry, prepared, wrote, was-read, version-read, Shift, shiftOf, world-of, head-of, slots-in, preparing-book, writing, reading, reading-version, next-shift, run-shift, settings-after, settings, newestRead, versionRead, Same-slots, Typed, All-typed}
 use Rattle.book_theory.specs.Statements.{Prepared-reads-nothing, Forgets-older-bytes, From-prepared, Reads-last-write, Reads-newest-four, Never-exactly, Never-damaged, Never-overlap, Free-are-zeros, Newer-lie-behind, Untouched-otherwise, Unprepared, Damage-stays}
 use Rattle.book_theory.specs.Heads.{item-fits}
 use Rattle.book_theory.specs.After.{refusalIn}
 
 -- ---- what the settings of a slot tell
 
-told-kept : (ss : List Setpoint) (w : ℕ) → Keeps (length ss) w → toldBy ss w ≡ Setting (getD ss (length ss - w) (Speed 0)) w
-unfolding toldBy
-told-kept ss w k = go (kept-or (length ss) w)
+version-kept : (ss : List Setpoint) (w : ℕ) → Keeps (length ss) w → versionRead ss w ≡ Setting (getD ss (length ss - w) (Speed 0)) w
+unfolding versionRead
+version-kept ss w k = go (kept-or (length ss) w)
   where
     go : (d : Dec (Keeps (length ss) w)) → elim d [ yes q ↦ Setting (getD ss (length ss - w) (Speed 0)) w | no q ↦ Refused NeverWritten ] ≡ Setting (getD ss (length ss - w) (Speed 0)) w
     go (yes q) = refl
     go (no q) = absurd (q k)
 
-told-lost : (ss : List Setpoint) (w : ℕ) → (Keeps (length ss) w → ⊥) → toldBy ss w ≡ Refused NeverWritten
-unfolding toldBy
-told-lost ss w k = go (kept-or (length ss) w)
+version-lost : (ss : List Setpoint) (w : ℕ) → (Keeps (length ss) w → ⊥) → versionRead ss w ≡ Refused NeverWritten
+unfolding versionRead
+version-lost ss w k = go (kept-or (length ss) w)
   where
     go : (d : Dec (Keeps (length ss) w)) → elim d [ yes q ↦ Setting (getD ss (length ss - w) (Speed 0)) w | no q ↦ Refused NeverWritten ] ≡ Refused NeverWritten
     go (yes q) = absurd (k q)
     go (no q) = refl
 
 -- one setting more: the new one, the one that is lost, the others
-told-new : (ss : List Setpoint) (s : Setpoint) → toldBy (s ∷ ss) (length ss + 1) ≡ Setting s (length ss + 1)
-told-new ss s =
+version-new : (ss : List Setpoint) (s : Setpoint) → versionRead (s ∷ ss) (length ss + 1) ≡ Setting s (length ss + 1)
+version-new ss s =
     let e : length (s ∷ ss) - (length ss + 1) ≡ 0 = omega arith in
-    told-kept (s ∷ ss) (length ss + 1) (omega arith, omega arith, omega arith)
+    version-kept (s ∷ ss) (length ss + 1) (omega arith, omega arith, omega arith)
     ∙ ap (λ (i : ℕ). Setting (getD (s ∷ ss) i (Speed 0)) (length ss + 1)) e
 
-told-older : (ss : List Setpoint) (s : Setpoint) (w : ℕ) → w ≢ length ss + 1 → w + 4 ≢ length ss + 1 → toldBy (s ∷ ss) w ≡ toldBy ss w
-told-older ss s w d e = go (kept-or (length ss) w)
+version-older : (ss : List Setpoint) (s : Setpoint) (w : ℕ) → w ≢ length ss + 1 → w + 4 ≢ length ss + 1 → versionRead (s ∷ ss) w ≡ versionRead ss w
+version-older ss s w d e = go (kept-or (length ss) w)
   where
-    go : Dec (Keeps (length ss) w) → toldBy (s ∷ ss) w ≡ toldBy ss w
+    go : Dec (Keeps (length ss) w) → versionRead (s ∷ ss) w ≡ versionRead ss w
     go (yes k) =
         let g : length (s ∷ ss) - w ≡ suc (length ss - w) = omega (arith, k .1) in
-        told-kept (s ∷ ss) w (k .0, omega (arith, k .1), omega (arith, k .2))
+        version-kept (s ∷ ss) w (k .0, omega (arith, k .1), omega (arith, k .2))
         ∙ ap (λ (i : ℕ). Setting (getD (s ∷ ss) i (Speed 0)) w) g
-        ∙ sym (told-kept ss w k)
+        ∙ sym (version-kept ss w k)
     go (no k) =
-        told-lost (s ∷ ss) w (λ q. k (q .0, omega (arith, q .1), omega (arith, q .2))) ∙ sym (told-lost ss w k)
+        version-lost (s ∷ ss) w (λ q. k (q .0, omega (arith, q .1), omega (arith, q .2))) ∙ sym (version-lost ss w k)
 
 -- the newest
-told-newest : (ss : List Setpoint) → toldBy ss (length ss) ≡ told ss
-told-newest [] = told-lost [] 0 (λ q. omega (arith, q .0))
-told-newest (p ∷ ps) =
+version-newest : (ss : List Setpoint) → versionRead ss (length ss) ≡ newestRead ss
+version-newest [] = version-lost [] 0 (λ q. omega (arith, q .0))
+version-newest (p ∷ ps) =
     let e : length (p ∷ ps) - length (p ∷ ps) ≡ 0 = omega arith in
-    told-kept (p ∷ ps) (length (p ∷ ps)) (omega arith, omega arith, omega arith)
+    version-kept (p ∷ ps) (length (p ∷ ps)) (omega arith, omega arith, omega arith)
     ∙ ap (λ (i : ℕ). Setting (getD (p ∷ ps) i (Speed 0)) (length (p ∷ ps))) e
 
 -- ---- what holds of a book of n slots with these settings
@@ -88,7 +89,7 @@ pub record Keeping (n : ℕ) (b : List ℕ) (f : ℕ → List Setpoint) : Type 0
   pub room : frontOf n ≤ length b
   pub limit : length b ≤ 32768
   pub newest : (slot : ℕ) → slot < n → newestAt b slot ≡ length (f slot)
-  pub says : (h : Head) (slot w : ℕ) → headFits h ≡ true → slotsOf h ≡ n → slot < n → readVersionOf h b slot w ≡ toldBy (f slot) w
+  pub says : (h : Head) (slot w : ℕ) → headFits h ≡ true → slotsOf h ≡ n → slot < n → readVersionOf h b slot w ≡ versionRead (f slot) w
   pub newer : (slot i j : ℕ) → slot < n → i < j → j < 4 → Kept b (4 * slot + j) → placeAt b (4 * slot + j) + 5 ≤ placeAt b (4 * slot + i)
 
 -- a done preparation begins it
@@ -104,7 +105,7 @@ prepared-keeping n m l u =
           read-lost h (replicate m 0) slot fits
           (rw (e, length-replicate {A = ℕ} m 0) (record { room = l; limit = u; inside = i })) w (rw e (is-sound n (replicate m 0) (prepared-sound n m)))
           (λ q. omega (arith, q .0, q .1, version-zero m (4 * slot)))
-          ∙ sym (told-lost [] w (λ q. omega (arith, q .0, q .1)));
+          ∙ sym (version-lost [] w (λ q. omega (arith, q .0, q .1)));
       newer = λ slot i j h l u q. absurd (omega (arith, version-zero m (4 * slot + j)));
     }
 
@@ -127,30 +128,30 @@ module _ (n : ℕ) (b : List ℕ) (f : ℕ → List Setpoint) (g : Keeping n b f
       go (yes e) = rw e (omega (arith, r .newest, g .newest slot inside, ap length own-settings))
       go (no e) = newest-other n b c slot s moved inside (g .sound) r i hi e ∙ g .newest i hi ∙ sym (ap length (other-settings i e))
 
-  says-now : (p : Head) (i w : ℕ) → headFits p ≡ true → slotsOf p ≡ n → i < n → readVersionOf p c i w ≡ toldBy (added f slot s i) w
+  says-now : (p : Head) (i w : ℕ) → headFits p ≡ true → slotsOf p ≡ n → i < n → readVersionOf p c i w ≡ versionRead (added f slot s i) w
   says-now p i w fits e hi = go (ℕ-discrete i slot)
     where
       u : newestAt b slot ≡ length (f slot)
       u = g .newest slot inside
 
-      own : Dec (w ≡ newestAt b slot + 1) → Dec (w + 4 ≡ newestAt b slot + 1) → readVersionOf p c slot w ≡ toldBy (s ∷ f slot) w
+      own : Dec (w ≡ newestAt b slot + 1) → Dec (w + 4 ≡ newestAt b slot + 1) → readVersionOf p c slot w ≡ versionRead (s ∷ f slot) w
       own (yes d) x =
           rw d (new-reads n b c slot s moved inside (g .sound) r p fits e (g .room) (g .limit)
-          ∙ subst (λ (y : ℕ). Setting s (y + 1) ≡ toldBy (s ∷ f slot) (y + 1)) (sym u) (sym (told-new (f slot) s)))
+          ∙ subst (λ (y : ℕ). Setting s (y + 1) ≡ versionRead (s ∷ f slot) (y + 1)) (sym u) (sym (version-new (f slot) s)))
       own (no d) (yes x) =
           dropped-reads n b c slot s moved inside (g .sound) r p fits e (g .room) (g .limit) w x
-          ∙ sym (told-lost (s ∷ f slot) w (λ q. omega (arith, q .2, u)))
+          ∙ sym (version-lost (s ∷ f slot) w (λ q. omega (arith, q .2, u)))
       own (no d) (no x) =
           own-reads n b c slot s moved inside (g .sound) r p fits e (g .room) (g .limit) w d x
           ∙ g .says p slot w fits e inside
-          ∙ sym (told-older (f slot) s w (λ z. d (omega (arith, u))) (λ z. x (omega (arith, u))))
+          ∙ sym (version-older (f slot) s w (λ z. d (omega (arith, u))) (λ z. x (omega (arith, u))))
 
-      go : Dec (i ≡ slot) → readVersionOf p c i w ≡ toldBy (added f slot s i) w
+      go : Dec (i ≡ slot) → readVersionOf p c i w ≡ versionRead (added f slot s i) w
       go (yes d) = rw (d, own-settings) (own (ℕ-discrete w (newestAt b slot + 1)) (ℕ-discrete (w + 4) (newestAt b slot + 1)))
       go (no d) =
           other-reads n b c slot s moved inside (g .sound) r p fits e (g .room) (g .limit) i w hi d
           ∙ g .says p i w fits e hi
-          ∙ ap (λ (ss : List Setpoint). toldBy ss w) (sym (other-settings i d))
+          ∙ ap (λ (ss : List Setpoint). versionRead ss w) (sym (other-settings i d))
 
   -- of a slot's lines the earlier is used where a later one is
   used-before : (d : List ℕ) → Sound n d → (t i j : ℕ) → t < n → i < j → j < 4 → Kept d (4 * t + j) → Kept d (4 * t + i)
@@ -200,7 +201,7 @@ module _ (n : ℕ) (b : List ℕ) (f : ℕ → List Setpoint) (g : Keeping n b f
           (omega (arith, goes-own slot y (omega arith) (omega arith)))
           (λ k. g .newer t (i - 1) (j - 1) ht (omega arith) (omega arith) k)
 
-  pub wrote-keeping : Keeping n c (added f slot s)
+  wrote-keeping : Keeping n c (added f slot s)
   wrote-keeping =
       record {
         sound = r .sound;
@@ -240,7 +241,7 @@ idle {n} {h} {b} {es} e p k =
             room = g .room;
             limit = g .limit;
             newest = λ slot i. g .newest slot i ∙ sym (ap length (p slot (settings slot es)));
-            says = λ q slot w x y i. g .says q slot w x y i ∙ ap (λ (ss : List Setpoint). toldBy ss w) (sym (p slot (settings slot es)));
+            says = λ q slot w x y i. g .says q slot w x y i ∙ ap (λ (ss : List Setpoint). versionRead ss w) (sym (p slot (settings slot es)));
             newer = g .newer;
           };
     }
@@ -333,15 +334,15 @@ from-prepared P f s items d e t =
 -- ---- what is read
 
 module _ (v : Shift) (k : Holding (slots-in v) (head-of v) (v .book) (v .entries)) where
-  version-holds : (slot w : ℕ) → slot < slots-in v → reading-version v slot w ≡ toldBy (settings slot (v .entries)) w
+  version-holds : (slot w : ℕ) → slot < slots-in v → reading-version v slot w ≡ versionRead (settings slot (v .entries)) w
   version-holds slot w i = k .book-is .says (head-of v) slot w (k .head-fits) refl i
 
-  read-holds : (slot : ℕ) → slot < slots-in v → reading v slot ≡ told (settings slot (v .entries))
+  read-holds : (slot : ℕ) → slot < slots-in v → reading v slot ≡ newestRead (settings slot (v .entries))
   unfolding readSetpointOf
   read-holds slot i =
       version-holds slot (newestAt (v .book) slot) i
-      ∙ ap (toldBy (settings slot (v .entries))) (k .book-is .newest slot i)
-      ∙ told-newest (settings slot (v .entries))
+      ∙ ap (versionRead (settings slot (v .entries))) (k .book-is .newest slot i)
+      ∙ version-newest (settings slot (v .entries))
 
 pub reads-last-write : Reads-last-write
 reads-last-write = from-prepared _ read-holds
@@ -360,8 +361,8 @@ never-exactly =
     exactly : (v : Shift) → Holding (slots-in v) (head-of v) (v .book) (v .entries)
         → (slot w : ℕ) → slot < slots-in v → (reading-version v slot w ≡ Refused NeverWritten) ↔ (Keeps (length (settings slot (v .entries))) w → ⊥)
     exactly v k slot w i = (
-      λ e q. setting-apart _ w (sym (told-kept (settings slot (v .entries)) w q) ∙ sym (version-holds v k slot w i) ∙ e),
-      λ d. version-holds v k slot w i ∙ told-lost (settings slot (v .entries)) w d,
+      λ e q. setting-apart _ w (sym (version-kept (settings slot (v .entries)) w q) ∙ sym (version-holds v k slot w i) ∙ e),
+      λ d. version-holds v k slot w i ∙ version-lost (settings slot (v .entries)) w d,
     )
 
 pub prepared-reads-nothing : Prepared-reads-nothing
@@ -372,8 +373,8 @@ prepared-reads-nothing s slot w d i =
     let same : slots-in v ≡ slots-in s = ap slots-in e in
     let k = own (slots-in s) v (prepared-holds s d) in
     let none = ap (λ (u : Shift). settings slot (u .entries)) e in (
-      read-holds v k slot (omega (arith, same)) ∙ ap told none,
-      version-holds v k slot w (omega (arith, same)) ∙ ap (λ (ss : List Setpoint). toldBy ss w) none ∙ told-lost [] w (λ q. omega (arith, q .0, q .1)),
+      read-holds v k slot (omega (arith, same)) ∙ ap newestRead none,
+      version-holds v k slot w (omega (arith, same)) ∙ ap (λ (ss : List Setpoint). versionRead ss w) none ∙ version-lost [] w (λ q. omega (arith, q .0, q .1)),
     )
 
 pub forgets-older-bytes : Forgets-older-bytes
@@ -418,18 +419,18 @@ sound-reads h b slot w s e = go (headFits h) (isBadSlot (slotsOf h) (length b) s
     go : (x y : Bool) → headFits h ≡ x → isBadSlot (slotsOf h) (length b) slot ≡ y → ⊥
     go false y p q = let z : Refused BadShape ≡ Refused DamagedBook = sym (no-head h b slot w p) ∙ e in let o : _≡_ {A = ℕ} 0 1 = cc in omega arith
     go true true p q = let z : Refused BadSlot ≡ Refused DamagedBook = sym (no-slot h b slot w p q) ∙ e in let o : _≡_ {A = ℕ} 0 1 = cc in omega arith
-    go true false p q = told (kept-or (newestAt b slot) w)
+    go true false p q = newestRead (kept-or (newestAt b slot) w)
       where
         fine : SlotFine (slotsOf h) (length b) slot
         fine = slot-fine (slotsOf h) (length b) slot q
 
-        told : Dec (Keeps (newestAt b slot) w) → ⊥
-        told (yes k) =
+        newestRead : Dec (Keeps (newestAt b slot) w) → ⊥
+        newestRead (yes k) =
             let t = kept-tells (slotsOf h) b slot w s (fine .inside) k in
             let z : Setting (t .0) w ≡ Refused DamagedBook = sym (read-kept h b slot p fine w tests k ∙ t .1) ∙ e in
             let o : _≡_ {A = ℕ} 0 1 = cc in
             omega arith
-        told (no k) =
+        newestRead (no k) =
             let z : Refused NeverWritten ≡ Refused DamagedBook = sym (read-lost h b slot p fine w tests k) ∙ e in
             let o : _≡_ {A = ℕ} 0 1 = cc in
             omega arith
@@ -444,7 +445,7 @@ sound-writes h t b slot l s f = go (writing-is h t b slot l s)
     go : {o : BookAnswer × List ℕ} → Outcome h t b slot l s o → o .0 ≡ Refused DamagedBook → ⊥
     go (done c r) e = let z : _≡_ {A = ℕ} 0 1 = cc in omega arith
     go (full c r) e = let z : _≡_ {A = ℕ} 0 1 = cc in omega arith
-    go (refused r d g c) e = apart (sym (g (ap refusalIn e)) ∙ is-sound (slotsOf h) b f)
+    go (refused r d g c) e = false-not (sym (g (ap refusalIn e)) ∙ is-sound (slotsOf h) b f)
 
 pub never-damaged : Never-damaged
 never-damaged =

@@ -33,7 +33,7 @@ use Rattle.history.specs.Tests.{Alive}
 use Rattle.history.specs.World.{World, Live}
 use Rattle.history.specs.Items.{Item, Course, cold, history-of}
 use Rattle.history.specs.Statements.{Begins}
-use Rattle.book_theory.specs.Items.{BookItem, arena-item, prepare-book, write-setpoint, read-setpoint, read-version, BookEntry, Shift, shiftOf, world-of, slots-in, preparing-book, writing, reading, reading-version, next-shift, run-shift, settings, told, toldBy, Same-slots, All-typed}
+use Rattle.book_theory.specs.Items.{BookItem, arena-item, prepare-book, write-setpoint, read-setpoint, read-version, BookEntry, Shift, shiftOf, world-of, slots-in, preparing-book, writing, reading, reading-version, next-shift, run-shift, settings, newestRead, versionRead, Same-slots, All-typed}
 
 -- what answers a write, and what answers a read of a version; `writeSetpointOf` and `readVersionOf` are ours. A statement about one call is one of
 -- any such function, so that a wrong one can be seen to fail it
@@ -184,11 +184,11 @@ From-prepared P =
 -- a read of a slot answers the setpoint of the last done write on it, with the number of done writes on it as the version; where there was
 -- none, NeverWritten
 abbrev pub Reads-last-write : Type 0
-Reads-last-write = From-prepared (λ v. (slot : ℕ) → slot < slots-in v → reading v slot ≡ told (settings slot (v .entries)))
+Reads-last-write = From-prepared (λ v. (slot : ℕ) → slot < slots-in v → reading v slot ≡ newestRead (settings slot (v .entries)))
 
 -- "keeps the newest four settings of each slot", exactly: version w reads as the w-th done write on the slot, if that is one of the last four
 abbrev pub Reads-newest-four : Type 0
-Reads-newest-four = From-prepared (λ v. (slot w : ℕ) → slot < slots-in v → reading-version v slot w ≡ toldBy (settings slot (v .entries)) w)
+Reads-newest-four = From-prepared (λ v. (slot w : ℕ) → slot < slots-in v → reading-version v slot w ≡ versionRead (settings slot (v .entries)) w)
 
 -- so a version is NeverWritten exactly if it is 0, has not been written, or is four or more behind the last
 abbrev pub Never-exactly : Type 0

@@ -18,7 +18,7 @@ use Rattle.types.specs.declared.Lease.{Lease}
 use Rattle.laws.specs.Checks.{not-stale}
 use Rattle.choice.specs.Pick.{both}
 use Rattle.laws.specs.Prepared.{Outcome, Came, was-done, was-refused, came}
-use Rattle.history.specs.World.{World, worldOf, Live, Legal, step, now, Lawful}
+use Rattle.history.specs.World.{World, worldOf, Live, Legal, after-event, now, Lawful}
 use Rattle.history.specs.Items.{perform, foreign, Item, call, foreign-step, preparation, preparation-over, salvage, salvage-over, Course, history-of, prepared-by, preparing, next-item, run}
 use Rattle.history.specs.Statements.{Begins}
 use Rattle.history.specs.Tests.{differ, free-words}
@@ -250,10 +250,10 @@ module _ (w v : World) (l : Lease) (t : Taken w v l) where
   abbrev there : World
   there = now w (t .before)
 
-  parted : Lawful w (t .before) × (Legal there its-take × Lawful (step there its-take) (t .after))
+  parted : Lawful w (t .before) × (Legal there its-take × Lawful (after-event there its-take) (t .after))
   parted = lawful-split w (t .before) (its-take ∷ t .after) (t .lawful)
 
-  from-there : v ≡ now (step there its-take) (t .after)
+  from-there : v ≡ now (after-event there its-take) (t .after)
   from-there = t .leads ∙ now-append w (t .before) (its-take ∷ t .after)
 
   pub boot-taken : v .head .boot ≡ w .head .boot
@@ -264,7 +264,7 @@ module _ (w v : World) (l : Lease) (t : Taken w v l) where
   serial-from = omega (arith, parted .1 .0 .1 .0, next-now w (t .before))
 
   pub serial-below : l .serial < v .head .next
-  serial-below = omega (arith, parted .1 .0 .1 .0, ap (λ (u : World). u .head .next) from-there, next-now (step there its-take) (t .after))
+  serial-below = omega (arith, parted .1 .0 .1 .0, ap (λ (u : World). u .head .next) from-there, next-now (after-event there its-take) (t .after))
 
   -- the cell is free there, so that a lease on it that was issued before owns nothing behind it
   pub dead-behind : (m : Hold) → Fit w → m .cell ≡ l .cell → m .serial < w .head .next → Live v m → ⊥

@@ -9,11 +9,11 @@ use Rattle.model.specs.Arena.{holdsOf}
 use Rattle.model.specs.Lock.{findOf, attemptAt, attemptOf, noneYet, retryOf, answerOf, settled}
 use Rattle.model.specs.Refusals.{Rule, first}
 use Rattle.model.specs.Checks.{badShape, badHealth, badRegistry, badScript, badHeld, badBinding, bucketRules}
-use Rattle.model.specs.Calls.{starting, given, played}
+use Rattle.model.specs.Calls.{starting, given, scriptReply}
 use Rattle.types.specs.declared.Check.the-variants.{Fine}
 use Rattle.types.specs.declared.Found.{Found}
 use Rattle.types.specs.declared.Head.{Head}
-use Rattle.types.specs.declared.Played.{Played}
+use Rattle.types.specs.declared.ScriptReply.{ScriptReply}
 use Rattle.types.specs.declared.Reason.{Reason}
 use Rattle.types.specs.declared.Run.{Run}
 use Rattle.laws.specs.Checks.{or-else, first-append, first-two, fine-rest, fine-append, arena-fine}
@@ -102,12 +102,12 @@ module _ (s : Scope) (h : Head) (script held registry : List ℕ) (binding bucke
       (ap (λ (x : Scope). retryOf left i last (given h script (holdsOf held)) (x .buckets) registry binding bucket r t g .seen) e)
 
 -- the steps of the two calls, once their checks are fine
-unfoldable pub onceByKeyOf : Head → List ℕ → List ℕ → List ℕ → List ℕ → ℕ → List ℕ → ℕ → ℕ → Played × (List ℕ × List ℕ)
+unfoldable pub onceByKeyOf : Head → List ℕ → List ℕ → List ℕ → List ℕ → ℕ → List ℕ → ℕ → ℕ → ScriptReply × (List ℕ × List ℕ)
 onceByKeyOf h t g registry script place held binding bucket =
     let o = attemptOf (given h script (holdsOf held)) (h .buckets) registry binding bucket (starting h place) t g .seen in
-    (played h (o .0 .run) (answerOf (h .boot) (o .0 .outcome)), o .1)
+    (scriptReply h (o .0 .run) (answerOf (h .boot) (o .0 .outcome)), o .1)
 
-unfoldable pub retryByKeyOf : Head → List ℕ → List ℕ → List ℕ → List ℕ → ℕ → List ℕ → ℕ → ℕ → Played × (List ℕ × List ℕ)
+unfoldable pub retryByKeyOf : Head → List ℕ → List ℕ → List ℕ → List ℕ → ℕ → List ℕ → ℕ → ℕ → ScriptReply × (List ℕ × List ℕ)
 retryByKeyOf h t g registry script place held binding bucket =
     let o = retryOf 4096 0 noneYet (given h script (holdsOf held)) (h .buckets) registry binding bucket (starting h place) t g .seen in
-    (played h (o .0 .run) (answerOf (h .boot) (settled (o .0 .outcome))), o .1)
+    (scriptReply h (o .0 .run) (answerOf (h .boot) (settled (o .0 .outcome))), o .1)

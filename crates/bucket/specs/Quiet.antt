@@ -11,7 +11,7 @@ use Rattle.choice.specs.Choice.{if_then_else_}
 use Rattle.choice.specs.Pick.{if-both}
 use Rattle.model.specs.Arena.{headerOf, waitersAt}
 use Rattle.model.specs.Foreign.{Setting, stepsIn}
-use Rattle.model.specs.Lock.{takeOf, runOf, triedOf, findOf, attemptAt, attemptOf, spinOf, pauseOf, isBusy, lastOf, noneYet, retryOf}
+use Rattle.model.specs.Lock.{runOf, triedOf, findOf, attemptAt, attemptOf, spinOf, pauseOf, isBusy, lastOf, noneYet, retryOf}
 use Rattle.types.specs.declared.Flow.{Flow}
 use Rattle.types.specs.declared.Found.{Found}
 use Rattle.types.specs.declared.Found.the-variants as found

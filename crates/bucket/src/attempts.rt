@@ -1,5 +1,5 @@
 // One attempt by key: the cell that the key names, and the lock of it.
-// Functions with a `requires` are steps: calls have tested the shape, and a step tests nothing twice.
+// Functions with a `requires` are parts: calls have tested the shape, and a part tests nothing twice.
 // Nothing here is reached from outside the crate.
 use crate::Attempted;
 use crate::Target;

@@ -1,6 +1,6 @@
 // The checks of calls by key, in the order of document 01's table.
-// Functions with a `requires` are steps: calls have tested the shape, and a step tests nothing twice.
-// Steps are no calls of document 01, public ones neither: only the layers here call them (tests/layers.sh), and each
+// Functions with a `requires` are parts: calls have tested the shape, and a part tests nothing twice.
+// Parts are no calls of document 01, public ones neither: only the layers here call them (tests/layers.sh), and each
 // caller proves their `requires`.
 use types::Check;
 use types::Head;

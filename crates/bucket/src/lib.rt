@@ -1,6 +1,6 @@
 // Bucket resolution, one attempt by key, and the retry of 4,096 attempts.
-// Functions with a `requires` are steps: calls have tested the shape, and a step tests nothing twice.
-// Steps are no calls of document 01, public ones neither: only the layers here call them (tests/layers.sh), and each
+// Functions with a `requires` are parts: calls have tested the shape, and a part tests nothing twice.
+// Parts are no calls of document 01, public ones neither: only the layers here call them (tests/layers.sh), and each
 // caller proves their `requires`.
 mod attempts;
 pub mod checks;
@@ -19,10 +19,10 @@ use types::Flow;
 use types::Found;
 use types::Head;
 use types::Outcome;
-use types::Played;
 use types::Reason;
 use types::Refusal;
 use types::Run;
+use types::ScriptReply;
 use types::Tried;
 ghost use mathlib.Core.Path.{_≡_};
 ghost use Prim.Native.Nat.{_<_};
@@ -167,7 +167,7 @@ fn once_by_key(
     place: usize,
     held: &[u32],
     key: Key,
-) -> Played
+) -> ScriptReply
     requires { ⌜ BucketFine head (length (now table)) (length (now health)) (length (now registry))
         (length (now script)) place (key .binding) ⌝ }
     ensures { λ r. ⌜ (r, (now (table .exit), now (health .exit)))
@@ -180,7 +180,7 @@ fn once_by_key(
     let tried = attempt_alone(scope, start, table, health, script, held, found);
     let run = tried.run;
     let outcome = tried.outcome;
-    foreign::play(head, run, lease::answer_of(head.boot, outcome))
+    foreign::script_reply(head, run, lease::answer_of(head.boot, outcome))
 }
 
 // All attempts of a call whose checks are fine.
@@ -193,7 +193,7 @@ fn retry_by_key(
     place: usize,
     held: &[u32],
     key: Key,
-) -> Played
+) -> ScriptReply
     requires { ⌜ BucketFine head (length (now table)) (length (now health)) (length (now registry))
         (length (now script)) place (key .binding) ⌝ }
     ensures { λ r. ⌜ (r, (now (table .exit), now (health .exit)))
@@ -206,7 +206,7 @@ fn retry_by_key(
     let run = tried.run;
     let outcome = tried.outcome;
     let last = settle(outcome);
-    foreign::play(head, run, lease::answer_of(head.boot, last))
+    foreign::script_reply(head, run, lease::answer_of(head.boot, last))
 }
 
 // One attempt by key: the header from the registry (6 if there is none), its health (7 if poisoned), the bucket (8 if
@@ -222,7 +222,7 @@ pub fn transactional_try_lock_bucket(
     held: &[u32],
     binding: u32,
     bucket: u32,
-) -> Played
+) -> ScriptReply
     ensures { λ r. ⌜ (r, (now (table .exit), now (health .exit)))
         ≡ transactionalOf head (now (table .entry)) (now (health .entry))
         (now (registry .entry)) (now (script .entry)) place (now (held .entry)) binding bucket .seen ⌝ }
@@ -250,7 +250,7 @@ pub fn acquire_index_bucket(
     held: &[u32],
     binding: u32,
     bucket: u32,
-) -> Played
+) -> ScriptReply
     ensures { λ r. ⌜ (r, (now (table .exit), now (health .exit)))
         ≡ acquireBucketOf head (now (table .entry)) (now (health .entry))
         (now (registry .entry)) (now (script .entry)) place (now (held .entry)) binding bucket .seen ⌝ }

@@ -1,6 +1,6 @@
 // Attempts past the script's end. Every boundary is quiet there, and nothing changes between two attempts: the key's
 // cell is found once, and no room for leases is made.
-// Functions with a `requires` are steps: calls have tested the shape, and a step tests nothing twice.
+// Functions with a `requires` are parts: calls have tested the shape, and a part tests nothing twice.
 // Nothing here is reached from outside the crate.
 use crate::attempts::counted;
 use crate::attempts::is_busy;
@@ -13,7 +13,7 @@ use types::Reason;
 use types::Run;
 use types::Tried;
 ghost use mathlib.Core.Path.{_≡_};
-ghost use Prim.Native.Nat.{_+_, _*_, _<_, _≤_};
+ghost use Prim.Native.Nat.{_+_, _*_, _<_};
 ghost use lib.ListN.{length};
 ghost use Rattle.model.specs.Lock.{noneYet};
 ghost use Rattle.bucket.specs.Bounds.{callMost, tryMost};

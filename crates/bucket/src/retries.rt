@@ -1,6 +1,6 @@
 // The retry: attempts 0 to 4,095, and the pause after each Busy one.
-// Functions with a `requires` are steps: calls have tested the shape, and a step tests nothing twice.
-// Steps are no calls of document 01, public ones neither: only the layers here call them (tests/layers.sh), and each
+// Functions with a `requires` are parts: calls have tested the shape, and a part tests nothing twice.
+// Parts are no calls of document 01, public ones neither: only the layers here call them (tests/layers.sh), and each
 // caller proves their `requires`.
 use crate::Attempted;
 use crate::Target;
@@ -13,12 +13,10 @@ use types::Reason;
 use types::Run;
 use types::Tried;
 ghost use mathlib.Core.Path.{_≡_};
-ghost use mathlib.Core.Bool.{true};
 ghost use mathlib.Core.List.{[], _∷_};
 ghost use Prim.Native.Nat.{_+_, _<_};
 ghost use lib.ListN.{length};
 ghost use Rattle.model.specs.Lock.{triedOf, spinOf, pauseOf, noneYet, retryOf};
-ghost use Rattle.model.specs.Refusals.{first};
 ghost use Rattle.foreign.specs.Model.{settingOf, RoomIn};
 ghost use Rattle.bucket.specs.Bounds.{callMost, tryMost};
 ghost use Rattle.bucket.specs.Laws.{RunBound};

@@ -13,7 +13,7 @@ use Rattle.choice.specs.Choice.{if_then_else_}
 use Rattle.model.specs.Arena.{cellsOf}
 use Rattle.model.specs.Refusals.{Rule, first}
 use Rattle.model.specs.Checks.{badShape, badHealth}
-use Rattle.model.specs.Crew.{adds, movesOf, notedAt, startOf, badLimits, badLists, badTurns, badCounters, crewAtWorkRules, Crew}
+use Rattle.model.specs.Crew.{adds, notedAt, startOf, badLimits, badLists, badTurns, badCounters, crewAtWorkRules, Crew}
 use Rattle.types.specs.declared.Check.the-variants.{Fine, Fault}
 use Rattle.types.specs.declared.Head.{Head}
 use Rattle.types.specs.declared.Refusal.the-variants.{BadShape}

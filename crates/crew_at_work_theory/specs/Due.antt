@@ -1,6 +1,6 @@
 -- What ties the counters to the replay so far: a cell's counter is the replayed one, but for the one add that a member at work still owes
 -- it. Members at work hold their cells apart, so no cell is owed two.
-use Prim.Native.Nat.{ℕ, zero, suc, _+_, _*_, _-_, _≤_, _<_}
+use Prim.Native.Nat.{ℕ, _+_, _-_, _≤_, _<_}
 use mathlib.Core.Path.{_≡_, sym, ap, _∙_}
 use mathlib.Core.List.{List}
 use mathlib.Core.Logic.{_≢_, _⊎_, inl, inr}

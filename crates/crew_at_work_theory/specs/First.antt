@@ -2,7 +2,6 @@
 use Prim.Native.Nat.{ℕ, _+_, _-_, _≤_, _<_}
 use mathlib.Core.Path.{_≡_, refl, sym, ap, _∙_, subst}
 use mathlib.Core.List.{List, [], _∷_, _++_, append-assoc}
-use mathlib.Core.Bool.{Bool, true}
 use mathlib.Core.Logic.{_≢_, _⊎_, inl, inr}
 use native.Mathlib.Omega.{arith}
 use native.Mathlib.Decide.{decLt}
@@ -18,12 +17,12 @@ use Rattle.types.specs.declared.State.the-variants as state
 use Rattle.laws.specs.Lists.{zeros}
 use Rattle.history.specs.Tests.{free-words}
 use Rattle.history.specs.Crew.{Holds}
-use Rattle.crew_theory.specs.Statements.{In, named, wish, deeds-in, Turn, idled, grabbed, summed, gave, own-log}
+use Rattle.crew_theory.specs.Statements.{In, named, wish, deeds-in, idled, grabbed, summed, gave, own-log}
 use Rattle.crew_theory.specs.Lists.{Fits}
-use Rattle.crew_theory.specs.Turns.{turn-is, turns-append}
+use Rattle.crew_theory.specs.Turns.{turn-is}
 use Rattle.crew_theory.specs.Whole.{Shown, turn-shown, turns-shown, start-shown, Moves, none-made, one-made, turn-moves}
 use Rattle.crew_at_work_theory.specs.Statements.{Before, Has, Gives-way}
-use Rattle.crew_at_work_theory.specs.Orders.{in-times, before-last, order-append, heldAll, most-once, Turned, Fills, names-none, names-one, turn-fills, run, log-of, turns-grow, not-again}
+use Rattle.crew_at_work_theory.specs.Orders.{in-times, before-last, order-append, heldAll, Turned, Fills, names-none, names-one, turn-fills, run, log-of, turns-grow, not-again}
 
 -- ---- events of a log
 
@@ -138,7 +137,7 @@ module _ (h : Head) (words : ℕ) (counts cells : List ℕ) (fit : Fits h words 
           let k = subst (λ i. Has (released by-caller (named cells (startOf counts m + i)) (getD (w .serials) (startOf counts m + (movesOf adds (countOf counts m) - 1 - getD (w .made) m 0)) 0)) (turn-log w m)) n f in
           record { serial = _; in-log = has-left (log (turn w m) ms) k; in-own = own-has m w ms k }
 
-  pub gave-in : (w : Crew) (ms : List ℕ) (m j : ℕ) → X w → j < countOf counts m → j + getD (w .made) m 0 < movesOf adds (countOf counts m)
+  gave-in : (w : Crew) (ms : List ℕ) (m j : ℕ) → X w → j < countOf counts m → j + getD (w .made) m 0 < movesOf adds (countOf counts m)
       → movesOf adds (countOf counts m) ≤ j + getD (go-on w ms .made) m 0 → Gave-in w ms m (named cells (startOf counts m + j))
   unfolding turnsOf own-log
   gave-in w [] m j x b l k = absurd (omega arith)
@@ -190,7 +189,7 @@ module _ (h : Head) (words : ℕ) (counts cells : List ℕ) (fit : Fits h words 
       go (summed y r e d) (one-made z s) = absurd (omega arith)
       go (gave y r e d) (one-made z s) = absurd (omega arith)
 
-  pub took-at : (w : Crew) (ms : List ℕ) (q i : ℕ) → X w → i < countOf counts q → getD (w .made) q 0 ≤ i → i < getD (go-on w ms .made) q 0 → Took-at w ms q i
+  took-at : (w : Crew) (ms : List ℕ) (q i : ℕ) → X w → i < countOf counts q → getD (w .made) q 0 ≤ i → i < getD (go-on w ms .made) q 0 → Took-at w ms q i
   unfolding turnsOf
   took-at w [] q i x b l k = absurd (omega arith)
   took-at w (n ∷ ms) q i x b l k = go (decLt i (getD (turn w n .made) q 0)) (steps-to q w n x) (λ a. took-at (turn w n) ms q i (shown-on w n x) b a k)

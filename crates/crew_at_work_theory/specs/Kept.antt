@@ -1,7 +1,7 @@
 -- Every turn keeps it: the counters are those of the replay so far, but for the adds still owed.
 use Prim.Native.Nat.{ℕ, _+_, _≤_, _<_}
 use mathlib.Core.Path.{_≡_, refl, ap, _∙_, subst}
-use mathlib.Core.List.{List, [], _∷_, _++_}
+use mathlib.Core.List.{List, [], _∷_}
 use native.Mathlib.Omega.{arith}
 use lib.ListN.{length, getD, length-set}
 use lib.Seq.{getD-set-same}
@@ -103,7 +103,7 @@ module _ (h : Head) (words : ℕ) (counts cells : List ℕ) (fit : Fits h words 
   turn-kept {w} {m = m} {r = r} s (gave a b e q) (names-none z f) = rw (z, e) (gave-kept w m r s a b)
   turn-kept s (gave a b e q) (names-one z c d) = absurd (omega arith)
 
-  pub turn-good : {w v : Crew} {m : ℕ} {log : List Event} {r : List ℕ} → Goes w r → Turn adds (h .buckets) g counts cells w m v log → Goes v (replay r (orderOf log))
+  turn-good : {w v : Crew} {m : ℕ} {log : List Event} {r : List ℕ} → Goes w r → Turn adds (h .buckets) g counts cells w m v log → Goes v (replay r (orderOf log))
   turn-good s p =
       let k = turn-kept s p (turn-fills h words counts cells fit g (s .shown) p) in
       record { shown = turn-shown adds h words counts cells fit g (s .shown) p; notes = k .0; wide = k .1; replay-wide = k .2; owed = k .3 }

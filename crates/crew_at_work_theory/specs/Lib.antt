@@ -7,6 +7,6 @@ pub mod Due
 pub mod Kept
 pub mod Reorders
 pub mod First
-pub mod Played
+pub mod Counters
 pub mod Wraps
 pub mod Once

@@ -1,6 +1,6 @@
 -- The call's own result: what it is where it is not refused, whom its order names, and what members still owe as the log tells it.
 use Prim.Native.Nat.{ℕ, _+_, _-_, min, _≤_, _<_}
-use mathlib.Core.Path.{_≡_, refl, sym, ap, _∙_, subst}
+use mathlib.Core.Path.{_≡_, refl, sym, _∙_}
 use mathlib.Core.List.{List, append-nil}
 use mathlib.Core.Logic.{_⊎_, inl, inr}
 use native.Mathlib.Omega.{arith}
@@ -10,7 +10,7 @@ use borrow.Author.Tests.{lt-leb, le-leb}
 use Rattle.model.specs.Log.{Made, Event}
 use Rattle.model.specs.Arena.{cellsOf, spentTo}
 use Rattle.model.specs.Refusals.{first}
-use Rattle.model.specs.Crew.{adds, addsOf, movesOf, summedOf, startOf, countOf, crewRules, crewAtWorkRules, Crew, crewStart, takenOf, releasedOf, shiftOf, crewAtWorkOf, orderOf}
+use Rattle.model.specs.Crew.{adds, movesOf, summedOf, startOf, countOf, crewAtWorkRules, Crew, crewStart, takenOf, releasedOf, shiftOf, crewAtWorkOf, orderOf}
 use Rattle.types.specs.declared.Answer.the-variants.{Done}
 use Rattle.types.specs.declared.Check.{Check}
 use Rattle.types.specs.declared.Check.the-variants.{Fine, Fault}
@@ -81,12 +81,12 @@ module _ (h : Head) (t g counts cells turns counters : List ℕ) (fine : first (
   some-none : (m : ℕ) → 1 ≤ countOf counts m → heldAll (countOf counts m) 0 ≡ 0
   some-none m l = rw (lt-leb (countOf counts m) 0 l)
 
-  pub named-full : (m : ℕ) → 1 ≤ countOf counts m → countOf counts m ≤ getD (end .made) m 0 → times m (orderOf log) ≡ 1
+  named-full : (m : ℕ) → 1 ≤ countOf counts m → countOf counts m ≤ getD (end .made) m 0 → times m (orderOf log) ≡ 1
   named-full m l k =
       let a : heldAll (countOf counts m) (getD (end .made) m 0) ≡ 1 = rw (le-leb (countOf counts m) (getD (end .made) m 0) k) in
       omega (arith, grown m, some-none m l)
 
-  pub named-not : (m : ℕ) → getD (end .made) m 0 < countOf counts m → times m (orderOf log) ≡ 0
+  named-not : (m : ℕ) → getD (end .made) m 0 < countOf counts m → times m (orderOf log) ≡ 0
   named-not m k =
       let a : heldAll (countOf counts m) (getD (end .made) m 0) ≡ 0 = rw (lt-leb (countOf counts m) (getD (end .made) m 0) k) in
       omega (arith, grown m, some-none m (omega arith))
@@ -107,7 +107,7 @@ module _ (h : Head) (t g counts cells turns counters : List ℕ) (fine : first (
 
   -- ---- its adds, by the log
 
-  pub adds-so-far : (m : ℕ) → m < length counts → adds-of m log ≡ min (getD (end .made) m 0 - countOf counts m) (countOf counts m)
+  adds-so-far : (m : ℕ) → m < length counts → adds-of m log ≡ min (getD (end .made) m 0 - countOf counts m) (countOf counts m)
   adds-so-far m l =
       let tally = turns-tally adds h g counts cells m (crewStart h t counters) turns (omega (arith, fit .few)) .adds-are in
       let none : min (getD (crewStart h t counters .made) m 0 - countOf counts m) (countOf counts m) ≡ 0 = omega (arith, zeros 16 m) in

@@ -6,12 +6,12 @@ use mathlib.Core.Bool.{Bool, true, false}
 use mathlib.Core.Logic.{_≢_, _⊎_, inl, inr}
 use native.Mathlib.Omega.{arith}
 use native.Mathlib.Decide.{ℕ-discrete, decLt}
-use lib.Dec.{leb, eqb}
-use lib.ListN.{length, getD}
+use lib.Dec.{leb}
+use lib.ListN.{getD}
 use lib.Seq.{getD-set-same}
 use borrow.Author.Tests.{eq-eqb, ne-eqb, lt-leb, le-leb}
 use Rattle.choice.specs.Choice.{if_then_else_}
-use Rattle.model.specs.Log.{Event, by-caller, attempt-begun, boundary-run, yielded, spun, step-dropped, took, released, waiters-set, health-set, held-all, added}
+use Rattle.model.specs.Log.{Event, attempt-begun, boundary-run, yielded, spun, step-dropped, took, released, waiters-set, health-set, held-all, added}
 use Rattle.model.specs.Crew.{adds, countOf, Crew, moved, isFull, turnOf, turnsOf, orderOf}
 use Rattle.types.specs.declared.Head.{Head}
 use Rattle.crew_theory.specs.Statements.{In, filling, deeds-in, Turn, idled, grabbed, summed, gave}
@@ -34,7 +34,7 @@ counted m x l = go (ℕ-discrete x m)
     go (yes e) = this e (rw (eq-eqb x m e) (omega arith))
     go (no e) = that e (rw (ne-eqb x m e) (omega arith))
 
-pub times-append : (m : ℕ) (xs ys : List ℕ) → times m (xs ++ ys) ≡ times m xs + times m ys
+times-append : (m : ℕ) (xs ys : List ℕ) → times m (xs ++ ys) ≡ times m xs + times m ys
 unfolding times
 times-append m [] ys = omega arith
 times-append m (x ∷ xs) ys = omega (arith, times-append m xs ys)

@@ -1,7 +1,7 @@
 -- Document 02, L13: what "must look one after another" says of the crew at work, as statements. `Theorems` gives their proofs by name. What
 -- is spoken of is the call's own result and its log: the order in which members came to hold all is read off the log, and so is what each
 -- member still owes.
-use Prim.Native.Nat.{ℕ, zero, suc, _+_, _*_, _%_, _≤_, _<_}
+use Prim.Native.Nat.{ℕ, zero, suc, _+_, _%_, _≤_, _<_}
 use mathlib.Core.Path.{_≡_}
 use mathlib.Core.List.{List, [], _∷_, _++_}
 use mathlib.Core.Logic.{_≢_, _⊎_}
@@ -63,25 +63,25 @@ Over-remainders f =
 -- ---- the adds of the log, finished or not
 
 -- the adds of a log made to some counters
-unfoldable pub playedOf : List ℕ → List Event → List ℕ
-playedOf l [] = l
-playedOf l (attempt-begun ∷ es) = playedOf l es
-playedOf l (boundary-run ∷ es) = playedOf l es
-playedOf l (yielded ∷ es) = playedOf l es
-playedOf l (spun ∷ es) = playedOf l es
-playedOf l (step-dropped ∷ es) = playedOf l es
-playedOf l (took a c s ∷ es) = playedOf l es
-playedOf l (released a c s ∷ es) = playedOf l es
-playedOf l (waiters-set c n ∷ es) = playedOf l es
-playedOf l (health-set i n ∷ es) = playedOf l es
-playedOf l (held-all m ∷ es) = playedOf l es
-playedOf l (added m c v ∷ es) = playedOf (addedTo l c v) es
+unfoldable pub countersBy : List ℕ → List Event → List ℕ
+countersBy l [] = l
+countersBy l (attempt-begun ∷ es) = countersBy l es
+countersBy l (boundary-run ∷ es) = countersBy l es
+countersBy l (yielded ∷ es) = countersBy l es
+countersBy l (spun ∷ es) = countersBy l es
+countersBy l (step-dropped ∷ es) = countersBy l es
+countersBy l (took a c s ∷ es) = countersBy l es
+countersBy l (released a c s ∷ es) = countersBy l es
+countersBy l (waiters-set c n ∷ es) = countersBy l es
+countersBy l (health-set i n ∷ es) = countersBy l es
+countersBy l (held-all m ∷ es) = countersBy l es
+countersBy l (added m c v ∷ es) = countersBy (addedTo l c v) es
 
 -- of all members, finished or not: the counters are those that the caller set, with exactly the adds of the log
 abbrev pub Adds-are-all : Crew-at-work-build → Type 0
 Adds-are-all f =
     (h : Head) (t g counts cells turns counters : List ℕ) → let o = f h t g counts cells turns counters in
-    o .seen .1 .1 ≡ playedOf counters (o .log)
+    o .seen .1 .1 ≡ countersBy counters (o .log)
 
 -- what a log adds to a cell's counter, in plain numbers
 abbrev pub value-to : ℕ → Event → ℕ

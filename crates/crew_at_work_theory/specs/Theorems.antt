@@ -1,28 +1,24 @@
 -- The theorems of this crate by the names of their statements.
-use Prim.Native.Nat.{ℕ, _+_, _%_, _≤_, _<_}
+use Prim.Native.Nat.{ℕ, _<_}
 use mathlib.Core.Path.{_≡_, refl, sym, ap, _∙_, subst}
-use mathlib.Core.List.{List, []}
+use mathlib.Core.List.{List}
 use native.Mathlib.Omega.{arith}
 use native.Mathlib.Decide.{decLt}
 use lib.ListN.{length, getD, List·getD-eq-default}
 use lib.Seq.{ext-getD}
-use Rattle.model.specs.Log.{Made, Event}
-use Rattle.model.specs.Arena.{cellsOf}
 use Rattle.model.specs.Refusals.{first}
 use Rattle.model.specs.Crew.{adds, summedOf, crewAtWorkRules, crewStart, crewAtWorkOf, orderOf}
 use Rattle.types.specs.declared.Check.{Check}
 use Rattle.types.specs.declared.Check.the-variants.{Fine, Fault}
-use Rattle.types.specs.declared.CrewReply.{CrewReply}
 use Rattle.types.specs.declared.Head.{Head}
 use Rattle.laws.specs.Crew.{member}
-use Rattle.crew_theory.specs.Statements.{named}
-use Rattle.crew_at_work_theory.specs.Statements.{replayOf, replayBy, All-finished, One-after-another, Low, Over-remainders, playedOf, Adds-are-all, Sums-wrap, Stays-low, Owes, Owes-only, As-replayed, Named-once, Released-first, Any-order}
+use Rattle.crew_at_work_theory.specs.Statements.{replayOf, All-finished, One-after-another, Over-remainders, countersBy, Adds-are-all, Sums-wrap, Stays-low, Owes, Owes-only, As-replayed, Named-once, Released-first, Any-order}
 use Rattle.crew_at_work_theory.specs.Due.{Settled, level, waits}
 use Rattle.crew_at_work_theory.specs.Kept.{Good, turns-good, start-good}
 use Rattle.crew_at_work_theory.specs.Reorders.{reorder}
 use Rattle.crew_at_work_theory.specs.First as first-of
-use Rattle.crew_at_work_theory.specs.Played.{played-long, turns-play}
-use Rattle.crew_at_work_theory.specs.Wraps.{played-at, replay-remainders}
+use Rattle.crew_at_work_theory.specs.Counters.{counters-long, turns-count}
+use Rattle.crew_at_work_theory.specs.Wraps.{counters-at, replay-remainders}
 use Rattle.crew_at_work_theory.specs.Once.{done-fine, fit, wide, end, log, reply, result-is, at-most-once, owes-so, owes-none, named-so, all-moved}
 
 module _ (h : Head) (t g counts cells turns counters : List ℕ) (fine : first (crewAtWorkRules h t g counts cells turns counters) ≡ Fine) where
@@ -61,17 +57,17 @@ over-remainders h t g counts cells turns counters done all low c =
     ∙ replay-remainders counts cells counters counters _ (record { long = refl; each = λ d. omega (arith, low d) }) .each c
 
 pub adds-are-all : Adds-are-all crewAtWorkOf
-unfolding crewAtWorkOf playedOf
+unfolding crewAtWorkOf countersBy
 adds-are-all h t g counts cells turns counters = go (first (crewAtWorkRules h t g counts cells turns counters)) refl
   where
     go : (k : Check) → first (crewAtWorkRules h t g counts cells turns counters) ≡ k
-        → crewAtWorkOf h t g counts cells turns counters .seen .1 .1 ≡ playedOf counters (crewAtWorkOf h t g counts cells turns counters .log)
-    go Fine e = rw (result-is h t g counts cells turns counters e) (turns-play adds h g counts cells (crewStart h t counters) turns)
+        → crewAtWorkOf h t g counts cells turns counters .seen .1 .1 ≡ countersBy counters (crewAtWorkOf h t g counts cells turns counters .log)
+    go Fine e = rw (result-is h t g counts cells turns counters e) (turns-count adds h g counts cells (crewStart h t counters) turns)
     go (Fault r) e = rw e
 
 pub sums-wrap : Sums-wrap crewAtWorkOf
 sums-wrap h t g counts cells turns counters done low c l =
-    ap (λ (x : List ℕ). getD x c 0) (adds-are-all h t g counts cells turns counters) ∙ played-at c counters (crewAtWorkOf h t g counts cells turns counters .log) (l, low c)
+    ap (λ (x : List ℕ). getD x c 0) (adds-are-all h t g counts cells turns counters) ∙ counters-at c counters (crewAtWorkOf h t g counts cells turns counters .log) (l, low c)
 
 pub owes-only : Owes-only crewAtWorkOf
 owes-only h t g counts cells turns counters done =
@@ -108,6 +104,6 @@ stays-low h t g counts cells turns counters low c =
     let l = adds-are-all h t g counts cells turns counters in
     rw l (go (decLt c (length counters)))
   where
-    go : Dec (c < length counters) → getD (playedOf counters (crewAtWorkOf h t g counts cells turns counters .log)) c 0 < 65536
-    go (yes k) = omega (arith, played-at c counters (crewAtWorkOf h t g counts cells turns counters .log) (k, low c))
-    go (no k) = omega (arith, List·getD-eq-default (playedOf counters (crewAtWorkOf h t g counts cells turns counters .log)) 0 {n = c} (omega (arith, played-long counters (crewAtWorkOf h t g counts cells turns counters .log))))
+    go : Dec (c < length counters) → getD (countersBy counters (crewAtWorkOf h t g counts cells turns counters .log)) c 0 < 65536
+    go (yes k) = omega (arith, counters-at c counters (crewAtWorkOf h t g counts cells turns counters .log) (k, low c))
+    go (no k) = omega (arith, List·getD-eq-default (countersBy counters (crewAtWorkOf h t g counts cells turns counters .log)) 0 {n = c} (omega (arith, counters-long counters (crewAtWorkOf h t g counts cells turns counters .log))))

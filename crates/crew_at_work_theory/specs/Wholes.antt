@@ -32,7 +32,7 @@ among cells (suc left) k c = go (ℕ-discrete (named cells (k + left)) c) (among
         at j b (no p) = f j (omega arith)
 
 module _ (plus : ℕ → ℕ → ℕ) (cells : List ℕ) where
-  pub raised-length : (v left k : ℕ) (l : List ℕ) → length (raisedBy plus left k cells v l) ≡ length l
+  raised-length : (v left k : ℕ) (l : List ℕ) → length (raisedBy plus left k cells v l) ≡ length l
   unfolding raisedBy
   raised-length v zero k l = refl
   raised-length v (suc left) k l = raised-length _ left (k + 1) _ ∙ length-set l (named cells k) _

@@ -2,19 +2,16 @@
 use Prim.Native.Nat.{ℕ, zero, suc, _+_, _%_, _<_}
 use mathlib.Core.Path.{_≡_, refl, sym, ap, _∙_}
 use mathlib.Core.List.{List, [], _∷_}
-use mathlib.Core.Bool.{Bool, true, false}
 use native.Mathlib.Omega.{arith}
 use native.Mathlib.Decide.{ℕ-discrete, decLt}
-use lib.Dec.{eqb}
 use lib.ListN.{length, getD, set, length-set, List·getD-eq-default}
 use lib.Seq.{getD-set-same, getD-set-other}
 use borrow.Author.Tests.{eq-eqb, ne-eqb}
-use Rattle.choice.specs.Choice.{if_then_else_}
 use Rattle.model.specs.Log.{Event, attempt-begun, boundary-run, yielded, spun, step-dropped, took, released, waiters-set, health-set, held-all, added}
 use Rattle.model.specs.Crew.{summedOf, startOf, countOf}
 use Rattle.crew_theory.specs.Statements.{named}
-use Rattle.crew_at_work_theory.specs.Statements.{raisedBy, wholeBy, replayBy, playedOf, value-to, values-to}
-use Rattle.crew_at_work_theory.specs.Played.{effect, played-more}
+use Rattle.crew_at_work_theory.specs.Statements.{raisedBy, wholeBy, replayBy, countersBy, value-to, values-to}
+use Rattle.crew_at_work_theory.specs.Counters.{effect, counters-more}
 
 -- ---- one counter, over a log
 
@@ -54,13 +51,13 @@ module _ (d : ℕ) where
           (wide, e ∙ rw (eq-eqb c d p) (unfold summedOf in refl))
       go (no p) = (wide, getD-set-other l c d (summedOf (getD l c 0) v) 0 (λ z. p (sym z)) ∙ rw (ne-eqb c d p) (omega (arith, f .1)))
 
-  pub played-at : (l : List ℕ) (log : List Event) → Fit l → getD (playedOf l log) d 0 ≡ (getD l d 0 + values-to d log) % 65536
-  unfolding playedOf values-to
-  played-at l [] f = omega (arith, f .1)
-  played-at l (e ∷ es) f =
+  pub counters-at : (l : List ℕ) (log : List Event) → Fit l → getD (countersBy l log) d 0 ≡ (getD l d 0 + values-to d log) % 65536
+  unfolding countersBy values-to
+  counters-at l [] f = omega (arith, f .1)
+  counters-at l (e ∷ es) f =
       let a = effect-at l e f in
-      let b = played-at (effect e l) es (a .0, omega (arith, a .1)) in
-      ap (λ (z : List ℕ). getD z d 0) (played-more l e es) ∙ b ∙ rw (a .1) (omega arith)
+      let b = counters-at (effect e l) es (a .0, omega (arith, a .1)) in
+      ap (λ (z : List ℕ). getD z d 0) (counters-more l e es) ∙ b ∙ rw (a .1) (omega arith)
 
 -- ---- the replay
 

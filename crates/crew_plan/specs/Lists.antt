@@ -1,7 +1,7 @@
 -- Laws of the lent lists: one turn and the end of each recursion over them.
 use Prim.Native.Nat.{ℕ, suc, _+_, _-_, _≤_, _<_}
 use mathlib.Core.Path.{_≡_}
-use mathlib.Core.List.{List, [], _∷_}
+use mathlib.Core.List.{List}
 use mathlib.Core.Bool.{true, not, _&&_}
 use native.Mathlib.Omega.{arith}
 use lib.Dec.{ltb, leb}

@@ -1,6 +1,6 @@
 // The plan of a crew's run, for document 01's and document 02's: what its limits, lists and turns must keep, and where
 // each member's list begins.
-// Functions with a `requires` are steps: the call has tested the limits, and a step tests nothing twice.
+// Functions with a `requires` are parts: the call has tested the limits, and a part tests nothing twice.
 use types::Check;
 use types::Refusal;
 ghost use mathlib.Core.Path.{_≡_};

@@ -1,6 +1,6 @@
 -- A crew, in any work, whose members all begin with the same cell: whoever has taken it moves alone until it gives it back, so there are rounds that have
 -- at most one move each, as many as one likes.
-use Prim.Native.Nat.{ℕ, zero, suc, _+_, _*_, _-_, _≤_, _<_}
+use Prim.Native.Nat.{ℕ, zero, suc, _+_, _*_, _≤_, _<_}
 use mathlib.Core.Path.{_≡_, refl, sym, ap, _∙_}
 use mathlib.Core.List.{List, [], _∷_, _++_}
 use mathlib.Core.Bool.{Bool, true, false}
@@ -14,7 +14,7 @@ use borrow.Author.Tests.{eqb-true, eqb-false}
 use Rattle.choice.specs.Choice.{if_then_else_}
 use Rattle.model.specs.Log.{Event}
 use Rattle.model.specs.Arena.{bitAt}
-use Rattle.model.specs.Crew.{Work, movesOf, startOf, countOf, listOf, Crew, turnOf, turnsOf}
+use Rattle.model.specs.Crew.{Work, movesOf, startOf, countOf, Crew, turnOf, turnsOf}
 use Rattle.types.specs.declared.Head.{Head}
 use Rattle.laws.specs.Crew.{adds-few, member, listed}
 use Rattle.history.specs.Tests.{free-words, if-cases}

@@ -1,7 +1,7 @@
 -- Document 02, L3, leaves the crew as it was: a turn's try_lock has no script, so the health read after the third boundary
 -- is the health that the turn has read first, and that was 0. Here stand the steps of a lock as document 01 has them,
 -- without the second reading, only to be compared with; a Busy there has its reason too.
-use Prim.Native.Nat.{ℕ, _+_, _*_}
+use Prim.Native.Nat.{ℕ, _*_}
 use mathlib.Core.Path.{_≡_, refl, ap}
 use mathlib.Core.List.{List, [], _∷_, _++_}
 use lib.Dec.{eqb}
@@ -79,7 +79,7 @@ module _ (headers cells buckets n : ℕ) (t g : List ℕ) (c : ℕ) (healthy : g
       let k = takeOf n t c in
       ap (λ (m : Made (With Locked)). record { seen = m .seen; log = (boundary-run ∷ []) ++ (k .log ++ m .log) }) (after-same (k .seen .0 .answer) (k .seen .0 .next) 0 (k .seen .1))
 
-  pub lock-as-before : lockOf e buckets (flowOf n 0 0) t g c ≡ lock-before e (flowOf n 0 0) t g c
+  lock-as-before : lockOf e buckets (flowOf n 0 0) t g c ≡ lock-before e (flowOf n 0 0) t g c
   unfolding lockOf boundaryOf runStepsOf
   lock-as-before = rw second-same
 

@@ -195,7 +195,7 @@ module _ (work : Work) (h : Head) (t g counts cells turns : List ℕ) (o : Open 
   own : {w v : Crew} {n : ℕ} {log : List Event} → n ≡ m → length (w .made) ≡ 16 → Turn work (h .buckets) g counts cells w n v log → Did w v log
   own {w} {v} {log = log} e size p = mine size (subst (λ q. Turn work (h .buckets) g counts cells w q v log) e p)
 
-  pub turns-did : (w : Crew) (ns : List ℕ) → Goes work h t g counts cells turns o w → Did w (after work h g counts cells w ns) (own-log work h g counts cells m w ns)
+  turns-did : (w : Crew) (ns : List ℕ) → Goes work h t g counts cells turns o w → Did w (after work h g counts cells w ns) (own-log work h g counts cells m w ns)
   unfolding turnsOf own-log
   turns-did w [] s = waits refl
   turns-did w (n ∷ ns) s =

@@ -1,6 +1,6 @@
 -- The end: where nothing is left to move, every member has held and released its whole list, the serials are spent, and the table is as it was.
 use Prim.Native.Nat.{ℕ, zero, suc, _+_, _*_, _-_, _/_, min, _≤_, _<_}
-use mathlib.Core.Path.{_≡_, refl, sym, ap, _∙_}
+use mathlib.Core.Path.{_≡_, refl, ap}
 use mathlib.Core.List.{List, [], _∷_, append-nil}
 use native.Mathlib.Decide.{ℕ-discrete, decLt}
 use native.Mathlib.Omega.{arith}
@@ -8,11 +8,11 @@ use lib.ListN.{length, getD, replicate}
 use lib.Seq.{ext-getD}
 use Rattle.model.specs.Log.{Made, Event}
 use Rattle.model.specs.Arena.{bitAt, ownerAt, waitersAt, spentTo}
-use Rattle.model.specs.Crew.{Work, addsOf, movesOf, total, countOf, listOf, takenOf, releasedOf, Crew, crewStart, moved, turnOf, turnsOf, shiftOf}
+use Rattle.model.specs.Crew.{Work, addsOf, movesOf, total, countOf, takenOf, releasedOf, Crew, crewStart, moved, turnOf, turnsOf, shiftOf}
 use Rattle.types.specs.declared.Head.{Head}
 use Rattle.laws.specs.Lists.{zeros}
 use Rattle.laws.specs.Crew.{adds-few, member}
-use Rattle.history.specs.World.{takes, releases, number-of}
+use Rattle.history.specs.World.{takes, number-of}
 use Rattle.history.specs.Counted.{number-append}
 use Rattle.crew_theory.specs.Statements.{Open, adds-in, Completed, tabled, Turn, idled, grabbed, summed, gave}
 use Rattle.crew_theory.specs.Turns.{adds-append, none-done, one-took, one-added, one-gave, turn-is, turns-count}
@@ -54,14 +54,14 @@ module _ (work : Work) (h : Head) (t counts cells : List ℕ) (next : ℕ) (u ma
       go (yes l) = absurd (omega (arith, left-at (movesOf work) counts made m (omega (arith, adds-few work (countOf counts m)))))
       go (no l) = omega (arith, s .bound m)
 
-  pub spent-all : next ≡ h .next + total counts
+  spent-all : next ≡ h .next + total counts
   spent-all = go (decLt 0 (left takingsOf counts made))
     where
       go : Dec (0 < left takingsOf counts made) → next ≡ h .next + total counts
       go (yes l) = let x = some-left takingsOf counts made l in absurd (omega (arith, x .1 .1, ended (x .0)))
       go (no l) = omega (arith, s .serials)
 
-  pub table-same : u ≡ t
+  table-same : u ≡ t
   table-same = same-words u t (s .words) (λ c. go c (s .status c) .0) (λ c. go c (s .status c) .1) (s .waiters-are)
     where
       go : (c : ℕ) → Status work h t counts cells u made c → (bitAt u c ≡ bitAt t c) × (ownerAt u c ≡ ownerAt t c)
@@ -95,7 +95,7 @@ module _ (work : Work) (h : Head) (t g counts cells turns : List ℕ) (o : Open 
       let k = member counts m (omega (arith, adds-few work (countOf counts m))) in
       rw e (omega (arith, x .takes-are, x .adds-are, left-move (worksOf work) counts (w .made) m k (omega (arith, fit work h t g counts cells turns o .few, s .size))))
 
-  pub turns-work : (w : Crew) (ms : List ℕ) → Goes work h t g counts cells turns o w
+  turns-work : (w : Crew) (ms : List ℕ) → Goes work h t g counts cells turns o w
       → let r = turnsOf work (h .headers) (h .buckets) g counts cells w ms in
       number-of takes (r .log) + adds-in (r .log) + left (worksOf work) counts (r .seen .made) ≡ left (worksOf work) counts (w .made)
   unfolding turnsOf number-of adds-in

@@ -12,7 +12,7 @@ use Rattle.types.specs.declared.Check.the-variants.{Fine}
 use Rattle.types.specs.declared.CrewReply.{CrewReply}
 use Rattle.types.specs.declared.Head.{Head}
 use Rattle.laws.specs.Lists.{zeros}
-use Rattle.crew_theory.specs.Statements.{In, flat, Unfinished-told, Rounds-told, Open, Met, Met-at-work}
+use Rattle.crew_theory.specs.Statements.{In, flat, Unfinished-said, Rounds-said, Open, Met, Met-at-work}
 
 abbrev bench : Head
 bench = headOf 2 4 1 6
@@ -42,11 +42,11 @@ opened turns fine =
     }
 
 -- turns that name everyone are rounds, whatever the replies
-again : (reply : List ℕ → CrewReply) (n : ℕ) (before : List ℕ) → Rounds-told reply counts before (replicate n (0 ∷ 1 ∷ []))
+again : (reply : List ℕ → CrewReply) (n : ℕ) (before : List ℕ) → Rounds-said reply counts before (replicate n (0 ∷ 1 ∷ []))
 again reply zero before = tt
 again reply (suc n) before = (everyone, again reply n (before ++ (0 ∷ 1 ∷ [])))
   where
-    everyone : (m : ℕ) → Unfinished-told reply counts before m → In m (0 ∷ 1 ∷ [])
+    everyone : (m : ℕ) → Unfinished-said reply counts before m → In m (0 ∷ 1 ∷ [])
     everyone zero u = inl refl
     everyone (suc zero) u = inr (inl refl)
     everyone (suc (suc m)) u = absurd (omega (arith, u .0))

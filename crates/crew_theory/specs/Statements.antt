@@ -50,24 +50,24 @@ module _ (work : Work) (h : Head) (g counts cells : List ℕ) where
 
 module _ (reply : List ℕ → CrewReply) (counts : List ℕ) where
   -- after these turns a member is unfinished if the reply to them says that it has not released its whole list
-  abbrev pub Unfinished-told : List ℕ → ℕ → Type 0
-  Unfinished-told turns m = (m < length counts) × (getD (reply turns .released) m 0 < countOf counts m)
+  abbrev pub Unfinished-said : List ℕ → ℕ → Type 0
+  Unfinished-said turns m = (m < length counts) × (getD (reply turns .released) m 0 < countOf counts m)
 
   -- rounds behind the turns `before`
-  abbrev pub Rounds-told : List ℕ → List (List ℕ) → Type 0
-  Rounds-told before [] = Unit {0}
-  Rounds-told before (r ∷ rs) = ((m : ℕ) → Unfinished-told before m → In m r) × Rounds-told (before ++ r) rs
+  abbrev pub Rounds-said : List ℕ → List (List ℕ) → Type 0
+  Rounds-said before [] = Unit {0}
+  Rounds-said before (r ∷ rs) = ((m : ℕ) → Unfinished-said before m → In m r) × Rounds-said (before ++ r) rs
 
 -- of any build of the crew, and of the crew at work
 abbrev pub Rounds-after : Crew-build → Head → (t g counts cells before : List ℕ) → List (List ℕ) → Type 0
-Rounds-after f h t g counts cells before rounds = Rounds-told (λ turns. f h t g counts cells turns .seen .0) counts before rounds
+Rounds-after f h t g counts cells before rounds = Rounds-said (λ turns. f h t g counts cells turns .seen .0) counts before rounds
 
 abbrev pub Rounds-at-work : Crew-at-work-build → Head → (t g counts cells counters before : List ℕ) → List (List ℕ) → Type 0
-Rounds-at-work f h t g counts cells counters before rounds = Rounds-told (λ turns. f h t g counts cells turns counters .seen .0) counts before rounds
+Rounds-at-work f h t g counts cells counters before rounds = Rounds-said (λ turns. f h t g counts cells turns counters .seen .0) counts before rounds
 
 -- of a run in a work
 abbrev pub Rounds-over : Work → Head → (t g counts cells counters before : List ℕ) → List (List ℕ) → Type 0
-Rounds-over work h t g counts cells counters before rounds = Rounds-told (λ turns. shiftOf work h t g counts cells turns counters .seen .0) counts before rounds
+Rounds-over work h t g counts cells counters before rounds = Rounds-said (λ turns. shiftOf work h t g counts cells turns counters .seen .0) counts before rounds
 
 -- ---- the premises: "Named cells start free and unwaited, headers healthy, K serials remain, nobody else steps."
 
@@ -448,7 +448,7 @@ Hold-whole-at-work =
 pub record Short-of (moves : ℕ) (h : Head) (t g counts cells : List ℕ) (reply : List ℕ → CrewReply) : Type 0 where
   pub rounds : List (List ℕ)
   pub opens : Open h t g counts cells (flat rounds)
-  pub are-rounds : Rounds-told reply counts [] rounds
+  pub are-rounds : Rounds-said reply counts [] rounds
   pub one-fewer : length rounds + 1 ≡ moves
   pub one-move-left : reply (flat rounds) .moving + 1 ≡ moves
   pub member : ℕ

@@ -1,6 +1,6 @@
 -- What stays true of a crew that nobody disturbs, in any work, over any turns: a cell has the words that it had at the start, or a member holds it,
 -- and the moves and the serials still to come make up what is missing.
-use Prim.Native.Nat.{ℕ, _+_, _*_, _-_, _≤_, _<_}
+use Prim.Native.Nat.{ℕ, _+_, _-_, _≤_, _<_}
 use mathlib.Core.Path.{_≡_, refl, sym, ap, _∙_}
 use mathlib.Core.List.{List, [], _∷_}
 use mathlib.Core.Logic.{_≢_}
@@ -42,10 +42,10 @@ pub record Plus (f : ℕ → ℕ) : Type 0 where
   pub nil : f 0 ≡ 0
   pub plus : (n k : ℕ) → f (n + k) ≡ f n + f k
 
-pub takings-plus : Plus takingsOf
+takings-plus : Plus takingsOf
 takings-plus = record { nil = refl; plus = λ n k. refl }
 
-pub moves-plus : (work : Work) → Plus (movesOf work)
+moves-plus : (work : Work) → Plus (movesOf work)
 moves-plus work = record { nil = omega (arith, adds-none work); plus = λ n k. omega (arith, adds-plus work n k) }
 
 pub works-plus : (work : Work) → Plus (worksOf work)

@@ -1,17 +1,13 @@
 -- The theorems of this crate by the names of their statements. Each is proved of a run in any work; the two calls are its instances.
-use Prim.Native.Nat.{ℕ, _+_, _≤_}
+use Prim.Native.Nat.{ℕ, _≤_}
 use mathlib.Core.Path.{_∙_, subst}
 use mathlib.Core.List.{List, [], _++_}
 use native.Mathlib.Omega.{arith}
-use lib.ListN.{length, take}
 use lib.Seq.{take-all}
-use Rattle.model.specs.Arena.{cellsOf}
-use Rattle.model.specs.Refusals.{first}
-use Rattle.model.specs.Crew.{Work, rests, adds, addsOf, movesOf, total, countOf, listOf, crewRules, crewStart, turnsOf, shiftOf, crewOf, crewAtWorkOf}
-use Rattle.types.specs.declared.Check.the-variants.{Fine}
+use Rattle.model.specs.Crew.{Work, rests, adds, movesOf, total, countOf, listOf, crewStart, turnsOf, shiftOf, crewOf, crewAtWorkOf}
 use Rattle.types.specs.declared.Head.{Head}
 use Rattle.laws.specs.Crew.{moves-two, moves-three, at-work-fine, fine-at-work}
-use Rattle.crew_theory.specs.Statements.{flat, after, Rounds-over, Open, Enough-over, Completed, tabled, Turns-are, Stays-finished, Round-moves, Demand-3, Demand-3-at-work, Demand-3-over, Crew-deeds, Crew-deeds-at-work, Crew-deeds-over, Told, Tells, Tells-at-work, Tells-over, Taken-is-held, Taken-is-held-over, Hold-whole, Hold-whole-at-work, Tight-over, Tight-where-shared, Tight-where-shared-at-work, Tight-for-every, Tight-for-every-at-work, Met, Met-at-work}
+use Rattle.crew_theory.specs.Statements.{flat, after, Rounds-over, Open, Enough-over, Completed, tabled, Turns-are, Stays-finished, Round-moves, Demand-3, Demand-3-at-work, Demand-3-over, Crew-deeds, Crew-deeds-at-work, Crew-deeds-over, Tells, Tells-at-work, Tells-over, Taken-is-held, Taken-is-held-over, Hold-whole, Hold-whole-at-work, Tight-over, Tight-where-shared, Tight-where-shared-at-work, Tight-for-every, Tight-for-every-at-work, Met, Met-at-work}
 use Rattle.crew_theory.specs.Examples.{contending, contending-at-work}
 use Rattle.crew_theory.specs.Turns.{turn-is, turns-stay}
 use Rattle.crew_theory.specs.Steady.{fit, start-steady, turns-steady}

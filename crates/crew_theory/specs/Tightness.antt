@@ -19,7 +19,7 @@ use Rattle.types.specs.declared.Head.{Head}
 use Rattle.laws.specs.Lists.{zeros}
 use Rattle.laws.specs.Checks.{first-skip, first-append}
 use Rattle.laws.specs.Crew.{adds-few, moves-two, moves-three, at-work-fine}
-use Rattle.crew_theory.specs.Statements.{flat, after, Rounds-told, Open, Short-of, Short, Short-at-work, Begin-with, Tight-over, Tight-where-shared, Tight-where-shared-at-work, Tight-for-every, Tight-for-every-at-work}
+use Rattle.crew_theory.specs.Statements.{flat, after, Rounds-said, Open, Short-of, Short, Short-at-work, Begin-with, Tight-over, Tight-where-shared, Tight-where-shared-at-work, Tight-for-every, Tight-for-every-at-work}
 use Rattle.crew_theory.specs.Lists.{fits}
 use Rattle.crew_theory.specs.Steady.{fit, start-steady, turns-steady}
 use Rattle.crew_theory.specs.Rounds.{rounds-move, some-left}
@@ -63,7 +63,7 @@ tight-over work h t g counts cells counters c o begins some =
 -- the same by other replies that say the same
 short-same : (moves : ℕ) (h : Head) (t g counts cells : List ℕ) (reply other : List ℕ → CrewReply)
     → ((turns : List ℕ) → first (crewRules h t g counts cells turns) ≡ Fine → reply turns ≡ other turns)
-    → ((rounds : List (List ℕ)) → first (crewRules h t g counts cells (flat rounds)) ≡ Fine → Rounds-told reply counts [] rounds → Rounds-told other counts [] rounds)
+    → ((rounds : List (List ℕ)) → first (crewRules h t g counts cells (flat rounds)) ≡ Fine → Rounds-said reply counts [] rounds → Rounds-said other counts [] rounds)
     → Short-of moves h t g counts cells reply → Short-of moves h t g counts cells other
 short-same moves h t g counts cells reply other same rounds-too x =
     let e = same (flat (x .rounds)) (x .opens .fine) in

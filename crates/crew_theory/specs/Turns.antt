@@ -1,6 +1,6 @@
 -- One turn, in any work: the cases of what comes of it, each with its reason, and what turns add to the counts. Nothing is assumed of the
 -- crew.
-use Prim.Native.Nat.{ℕ, _+_, _-_, _/_, _≤_, _<_}
+use Prim.Native.Nat.{ℕ, _+_, _/_, _≤_, _<_}
 use mathlib.Core.Path.{_≡_, refl, sym, ap, _∙_}
 use mathlib.Core.List.{List, [], _∷_, _++_}
 use mathlib.Core.Bool.{Bool, true, false}
@@ -74,15 +74,15 @@ module _ {A : Type 0} (F : List Event → A) (pick : Event → A → A) (more : 
   same (held-all m ∷ es) = also (held-all m) es (same es)
   same (added m c v ∷ es) = also (added m c v) es (same es)
 
-pub same-takes : (log : List Event) → number-of takes log ≡ number-of takes (deeds-in log)
+same-takes : (log : List Event) → number-of takes log ≡ number-of takes (deeds-in log)
 unfolding number-of
 same-takes = same (number-of takes) (λ e n. one (eqb (code (kind-of e)) 4) + n) (λ e es. refl) (λ n. omega arith) (λ n. omega arith) (λ n. omega arith) (λ n. omega arith)
 
-pub same-releases : (log : List Event) → number-of releases log ≡ number-of releases (deeds-in log)
+same-releases : (log : List Event) → number-of releases log ≡ number-of releases (deeds-in log)
 unfolding number-of
 same-releases = same (number-of releases) (λ e n. one (eqb (code (kind-of e)) 5) + n) (λ e es. refl) (λ n. omega arith) (λ n. omega arith) (λ n. omega arith) (λ n. omega arith)
 
-pub same-adds : (log : List Event) → adds-in log ≡ adds-in (deeds-in log)
+same-adds : (log : List Event) → adds-in log ≡ adds-in (deeds-in log)
 unfolding adds-in
 same-adds = same adds-in (λ e n. is-add e + n) (λ e es. refl) (λ n. omega arith) (λ n. omega arith) (λ n. omega arith) (λ n. omega arith)
 

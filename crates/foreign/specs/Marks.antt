@@ -2,16 +2,14 @@
 -- They spare the scan of a list for a lease whose cell no listed lease names; a scan starts at the first that can match.
 use Prim.Native.Nat.{ℕ, zero, suc, _+_, _*_, _-_, _/_, _%_, _≤_, _<_}
 use mathlib.Core.Path.{_≡_, refl, sym, ap, _∙_}
-use mathlib.Core.List.{List, [], _∷_}
-use mathlib.Core.Bool.{Bool, true, false, _&&_}
+use mathlib.Core.List.{List}
+use mathlib.Core.Bool.{false}
 use mathlib.Core.Logic.{_≢_}
 use native.Mathlib.Omega.{arith}
 use native.Mathlib.Decide.{ℕ-discrete, decLt}
-use lib.Dec.{eqb}
 use lib.ListN.{length, getD, set, drop, replicate, getD-replicate}
 use lib.Seq.{getD-set-same, getD-set-other}
 use borrow.Author.Tests.{ne-eqb}
-use Rattle.choice.specs.Choice.{if_then_else_}
 use Rattle.model.specs.Arena.{holdOf, holdsOf, sameHold, isIn}
 use Rattle.types.specs.declared.Hold.{Hold}
 use Rattle.laws.specs.Checks.{is-in-at, is-in-end}

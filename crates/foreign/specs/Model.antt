@@ -6,11 +6,11 @@ use lib.ListN.{getD}
 use Rattle.model.specs.Arena.{holdOf, holdsOf, cellsOf}
 use Rattle.model.specs.Foreign.{Setting, setting, flowOf, boundaryOf}
 use Rattle.model.specs.Lock.{runOf}
-use Rattle.model.specs.Calls.{played, given}
+use Rattle.model.specs.Calls.{scriptReply, given}
 use Rattle.types.specs.declared.Answer.the-variants.{Done}
 use Rattle.types.specs.declared.Head.{Head}
 use Rattle.types.specs.declared.Hold.{Hold}
-use Rattle.types.specs.declared.Played.{Played}
+use Rattle.types.specs.declared.ScriptReply.{ScriptReply}
 use Rattle.foreign.specs.declared.Scope.{Scope}
 
 -- `left` pairs of an array from place i on, as leases
@@ -48,7 +48,7 @@ abbrev pub RoomIn : Scope → ℕ → ℕ → ℕ → ℕ → Type 0
 RoomIn s words bytes n script = Room (s .headers) (s .cells) words bytes n (s .steps) script
 
 -- the boundary of `environment`, once its checks are fine
-unfoldable pub runOnceOf : Head → List ℕ → List ℕ → List ℕ → ℕ → List ℕ → Played × (List ℕ × List ℕ)
+unfoldable pub runOnceOf : Head → List ℕ → List ℕ → List ℕ → ℕ → List ℕ → ScriptReply × (List ℕ × List ℕ)
 runOnceOf h t g script place held =
     let o = boundaryOf (given h script (holdsOf held)) (flowOf (h .next) place 0) t g .seen in
-    (played h (runOf (o .0) 0 1 0) Done, o .1)
+    (scriptReply h (runOf (o .0) 0 1 0) Done, o .1)

@@ -1,6 +1,6 @@
 // Foreign steps: a script's steps, a boundary, and the two calls that are one boundary.
-// Functions with a `requires` are steps: calls have tested the shape, and a step tests nothing twice.
-// Steps are no calls of document 01, public ones neither: only the layers here call them (tests/layers.sh), and each
+// Functions with a `requires` are parts: calls have tested the shape, and a part tests nothing twice.
+// Parts are no calls of document 01, public ones neither: only the layers here call them (tests/layers.sh), and each
 // caller proves their `requires`.
 use types::Answer;
 use types::Check;
@@ -8,9 +8,9 @@ use types::Counts;
 use types::Flow;
 use types::Head;
 use types::Hold;
-use types::Played;
 use types::Refusal;
 use types::Run;
+use types::ScriptReply;
 use types::Stepped;
 ghost use mathlib.Core.Path.{_≡_};
 ghost use mathlib.Core.Bool.{true};
@@ -22,13 +22,13 @@ ghost use Rattle.model.specs.Refusals.{first};
 ghost use Rattle.model.specs.Checks.{badScript, badHeld, scriptRules};
 ghost use Rattle.model.specs.Foreign.{setting, protecting, flowOf, stepTakeOf, stepReleaseOf};
 ghost use Rattle.model.specs.Foreign.{stepWaitersOf, stepHealthOf, stepOf, runStepsOf, boundaryOf};
-ghost use Rattle.model.specs.Calls.{played, refusedAtOnce, environmentOf};
+ghost use Rattle.model.specs.Calls.{scriptReply, refusedAtOnce, environmentOf};
 ghost use Rattle.foreign.specs.Model.{pairsOf, guardsOf, Room, RoomIn, scopeOf, settingOf, runOnceOf};
 ghost use Rattle.foreign.specs.Laws.{FlowBound};
 ghost use Rattle.foreign.specs.Marks.{Marked};
 ghost use Rattle.foreign.specs.Fine.{ScriptFine};
 
-// What the steps of a call are given and never change: the arena's sizes, its boot number, its number of cells, and the
+// What the parts of a call are given and never change: the arena's sizes, its boot number, its number of cells, and the
 // number of steps of the script.
 pub struct Scope {
     pub headers: u32,
@@ -102,7 +102,7 @@ fn marks_of(held: &[u32]) -> [u8; 256]
 }
 
 // Whether a lease is held: without a mark it is not, and no lease is looked at; else up to the first match.
-fn is_held(held: &[u32], marks: &[u8; 256], hold: Hold) -> bool
+fn is_listed(held: &[u32], marks: &[u8; 256], hold: Hold) -> bool
     requires { ⌜ Marked (now marks) (now held) ⌝ }
     ensures { λ r. ⌜ r ≡ isIn hold (holdsOf (now (held .entry))) ⌝ }
 {
@@ -126,7 +126,7 @@ fn is_guarded(
     requires { ⌜ (n ≤ 64) × Marked (now marks) (now held) ⌝ }
     ensures { λ r. ⌜ r ≡ isIn hold (guardsOf (now (held .entry)) (now (taken .entry)) n ++ (own ∷ [])) ⌝ }
 {
-    if is_held(held, marks, hold) {
+    if is_listed(held, marks, hold) {
         return true;
     }
     if is_in_pairs(taken, n, hold) {
@@ -551,11 +551,11 @@ pub fn script_check(
 
 // ---- results of calls with a script
 
-pub fn play(head: Head, run: Run, answer: Answer) -> Played
-    ensures { λ r. ⌜ r ≡ played head run answer ⌝ }
+pub fn script_reply(head: Head, run: Run, answer: Answer) -> ScriptReply
+    ensures { λ r. ⌜ r ≡ scriptReply head run answer ⌝ }
 {
     let flow = run.flow;
-    Played {
+    ScriptReply {
         head: head.spent_to(flow.next),
         place: flow.place,
         counts: Counts {
@@ -569,10 +569,10 @@ pub fn play(head: Head, run: Run, answer: Answer) -> Played
 }
 
 // A refusal that changes nothing.
-pub fn refuse_at_once(head: Head, place: usize, refusal: Refusal) -> Played
+pub fn refuse_at_once(head: Head, place: usize, refusal: Refusal) -> ScriptReply
     ensures { λ r. ⌜ r ≡ refusedAtOnce head place refusal ⌝ }
 {
-    Played {
+    ScriptReply {
         head,
         place,
         counts: Counts {
@@ -596,7 +596,7 @@ pub fn environment(
     script: &[u32],
     place: usize,
     held: &[u32],
-) -> Played
+) -> ScriptReply
     ensures { λ r. ⌜ (r, (now (table .exit), now (health .exit)))
         ≡ environmentOf head (now (table .entry)) (now (health .entry))
         (now (script .entry)) place (now (held .entry)) .seen ⌝ }
@@ -617,7 +617,7 @@ pub fn environment_for_borrows(
     script: &[u32],
     place: usize,
     held: &[u32],
-) -> Played
+) -> ScriptReply
     ensures { λ r. ⌜ (r, (now (table .exit), now (health .exit)))
         ≡ environmentOf head (now (table .entry)) (now (health .entry))
         (now (script .entry)) place (now (held .entry)) .seen ⌝ }
@@ -633,7 +633,7 @@ fn run_once(
     script: &[u32],
     place: usize,
     held: &[u32],
-) -> Played
+) -> ScriptReply
     requires { ⌜ ScriptFine head (length (now table)) (length (now health)) (length (now script)) place ⌝ }
     ensures { λ r. ⌜ (r, (now (table .exit), now (health .exit)))
         ≡ runOnceOf head (now (table .entry)) (now (health .entry)) (now (script .entry)) place (now (held .entry)) ⌝ }
@@ -652,5 +652,5 @@ fn run_once(
         boundaries: 1,
         yields: 0,
     };
-    play(head, run, Answer::Done)
+    script_reply(head, run, Answer::Done)
 }

@@ -31,7 +31,7 @@ use Rattle.history.specs.Tests.{differ}
 use Rattle.history.specs.Logs.{boot-now}
 use Rattle.history.specs.Judged.{clear-fine, clear-front, clear-back, performed-by}
 use Rattle.history.specs.Calls.{call-kept}
-use Rattle.history.specs.Refused.{steps-never}
+use Rattle.history.specs.Refused.{past-checks-never}
 
 -- ---- the head's own
 
@@ -60,7 +60,7 @@ module _ (h : Head) (t : List ℕ) where
   leases-owned i earlier (k ∷ ks) l (inl e) c = owned h t k l e (c .0) (c .1 .0)
   leases-owned i earlier (k ∷ ks) l (inr a) c = leases-owned (i + 1) (earlier ++ (holdIn k ∷ [])) ks l a (c .1 .1 .1)
 
-pub names-owned : (w : World) (k : Call) (l : Lease) → Names-lease k l → Clear (rules w k) → leaseLive (w .head) (w .table) l ≡ true
+names-owned : (w : World) (k : Call) (l : Lease) → Names-lease k l → Clear (rules w k) → leaseLive (w .head) (w .table) l ≡ true
 unfolding leaseRules heldCellRules heldLeaseRules scriptRules lockRules bucketRules releaseRules locksRules
 names-owned w (try-acquire c) l n k = absurd n
 names-owned w (drop-lease m) l n k = owned (w .head) (w .table) m l n (k .1 .0) (k .1 .1 .0)
@@ -357,7 +357,7 @@ hit-placed w k l _ _ (listed leases ahead i o b e) f s = hit-listed w k leases a
 refused-by : (w : World) (k : Call) (r : Refusal) → Early k r → answers w k ≡ Refused r → first (rules w k) ≡ Fault r
 refused-by w k r early =
     performed-by (λ (m : Made (World × Says)). m .seen .1 .answer ≡ Refused r → first (rules w k) ≡ Fault r) w k
-    (λ x e q. let z : x ≡ r = cc in e ∙ ap Fault z) (λ _ q. absurd (steps-never w k r q early))
+    (λ x e q. let z : x ≡ r = cc in e ∙ ap Fault z) (λ _ q. absurd (past-checks-never w k r q early))
 
 -- checks of other numbers
 abbrev Below-16 : List Rule → Type 0

@@ -1,6 +1,6 @@
 -- Which cells grants name: the cell that was asked for, by key the key's own; in the grant buffer, at each position that of the key there.
 -- which order leases are given back. What stands in quotes is of document 01.
-use Prim.Native.Nat.{ℕ, zero, suc, _+_, _*_, _-_, _<_}
+use Prim.Native.Nat.{ℕ, zero, suc, _+_, _*_, _<_}
 use mathlib.Core.Path.{_≡_, refl, sym, ap, _∙_}
 use mathlib.Core.List.{List, [], _∷_, _++_}
 use native.Mathlib.Decide.{ℕ-discrete}
@@ -38,7 +38,7 @@ use Rattle.history.specs.World.{World}
 use Rattle.history.specs.Items.{Call, Says, try-acquire, drop-lease, read-permission, competing-acquire, release-then-handoff, foreign-release, drop-preserving, acquire-preserving, environment, try-lock, transactional, acquire-bucket, release-all, acquire-locks, acquire-sorted, crew, crew-at-work, perform, asked, cellOf, keyCell}
 use Rattle.history.specs.Statements.{Grant-is}
 use Rattle.history.specs.Tests.{words-boot}
-use Rattle.history.specs.Judged.{acting, steps, performed, judged-at}
+use Rattle.history.specs.Judged.{acting, past-checks, performed, judged-at}
 use Rattle.history.specs.Steps.{With}
 
 -- ---- which cell a grant names
@@ -128,36 +128,36 @@ locks-all (suc left) p e buckets boot registry keys taken r t g grants l a =
     go (outcome.Busy why) s u y on = λ a. let z : _≡_ {A = ℕ} 0 1 = cc in omega arith
     go (outcome.Refused x) s u y on = λ a. let z : _≡_ {A = ℕ} 0 1 = cc in omega arith
 
-steps-names : (w : World) (k : Call) (l : Lease) → steps w k .seen .1 .answer ≡ Granted l → (l .cell ≡ asked w k) × (l .boot ≡ w .head .boot)
+past-checks-names : (w : World) (k : Call) (l : Lease) → past-checks w k .seen .1 .answer ≡ Granted l → (l .cell ≡ asked w k) × (l .boot ≡ w .head .boot)
 unfolding acquireOf
-steps-names w (try-acquire c) l a = acquire-names 1 (w .head) (w .table) c l a
-steps-names w (drop-lease m) l a = let z : _≡_ {A = ℕ} 0 1 = cc in absurd (omega arith)
-steps-names w (read-permission m) l a = let z : _≡_ {A = ℕ} 0 1 = cc in absurd (omega arith)
-steps-names w (competing-acquire m) l a = acquire-names 1 (w .head) (w .table) (m .cell) l a
-steps-names w (release-then-handoff m) l a = acquire-names 1 (w .head) (setCell (w .table) (m .cell) 0 0) (m .cell) l a
-steps-names w (foreign-release held m) l a =
+past-checks-names w (try-acquire c) l a = acquire-names 1 (w .head) (w .table) c l a
+past-checks-names w (drop-lease m) l a = let z : _≡_ {A = ℕ} 0 1 = cc in absurd (omega arith)
+past-checks-names w (read-permission m) l a = let z : _≡_ {A = ℕ} 0 1 = cc in absurd (omega arith)
+past-checks-names w (competing-acquire m) l a = acquire-names 1 (w .head) (w .table) (m .cell) l a
+past-checks-names w (release-then-handoff m) l a = acquire-names 1 (w .head) (setCell (w .table) (m .cell) 0 0) (m .cell) l a
+past-checks-names w (foreign-release held m) l a =
     let x = acquireOf 1 (w .head) (w .table) (m .cell) .seen in
     acquire-names 2 (x .0 .head) (setCell (x .1) (m .cell) 0 0) (m .cell) l a
-steps-names w (drop-preserving held m) l a = let z : _≡_ {A = ℕ} 0 1 = cc in absurd (omega arith)
-steps-names w (acquire-preserving held c) l a = acquire-names 1 (w .head) (w .table) c l a
-steps-names w (environment script place held) l a = let z : _≡_ {A = ℕ} 0 1 = cc in absurd (omega arith)
-steps-names w (try-lock script place held c) l a =
+past-checks-names w (drop-preserving held m) l a = let z : _≡_ {A = ℕ} 0 1 = cc in absurd (omega arith)
+past-checks-names w (acquire-preserving held c) l a = acquire-names 1 (w .head) (w .table) c l a
+past-checks-names w (environment script place held) l a = let z : _≡_ {A = ℕ} 0 1 = cc in absurd (omega arith)
+past-checks-names w (try-lock script place held c) l a =
     let e = acting w (try-lock script place held c) in
     let f = flowOf (w .head .next) place 0 in
     answer-names (w .head .boot) c (lockOf e (w .head .buckets) f (w .table) (w .health) c .seen .0 .answer) (lock-names (lock-comes e (w .head .buckets) c f (w .table) (w .health))) l a
-steps-names w (transactional registry script place held binding bucket) l a =
+past-checks-names w (transactional registry script place held binding bucket) l a =
     let e = acting w (transactional registry script place held binding bucket) in
     answer-names (w .head .boot) _ (attemptOf e (w .head .buckets) registry binding bucket (starting (w .head) place) (w .table) (w .health) .seen .0 .outcome)
     (attempt-names e (w .head .buckets) registry binding bucket (starting (w .head) place) (w .table) (w .health)) l a
-steps-names w (acquire-bucket registry script place held binding bucket) l a =
+past-checks-names w (acquire-bucket registry script place held binding bucket) l a =
     let e = acting w (acquire-bucket registry script place held binding bucket) in
     settled-names (w .head .boot) _ (retryOf attemptLimit 0 noneYet e (w .head .buckets) registry binding bucket (starting (w .head) place) (w .table) (w .health) .seen .0 .outcome)
     (retry-names e (w .head .buckets) registry binding bucket attemptLimit 0 noneYet (starting (w .head) place) (w .table) (w .health)) l a
-steps-names w (release-all script place leases) l a = let z : _≡_ {A = ℕ} 0 1 = cc in absurd (omega arith)
-steps-names w (acquire-locks registry script place held keys grants) l a =
+past-checks-names w (release-all script place leases) l a = let z : _≡_ {A = ℕ} 0 1 = cc in absurd (omega arith)
+past-checks-names w (acquire-locks registry script place held keys grants) l a =
     let e = acting w (acquire-locks registry script place held keys grants) in
     absurd (locks-all (countIn keys) 0 e (w .head .buckets) (w .head .boot) registry keys [] (starting (w .head) place) (w .table) (w .health) grants l a)
-steps-names w (acquire-sorted registry script place held keys grants) l a =
+past-checks-names w (acquire-sorted registry script place held keys grants) l a =
     absurd (judged-at (λ (m : Made (World × Says)). m .seen .1 .answer ≡ Granted l → ⊥) (firstKey (countIn keys) 0 (w .head) registry keys)
     (λ r p _ a. let z : _≡_ {A = ℕ} 0 1 = cc in omega arith) (λ _. none _ _ _ (locks-all (length (cellsSorted (w .head .buckets) registry keys)) 0 (acting w k) (w .head .buckets) (w .head .boot) registry (sortedKeys (w .head .buckets) registry keys) [] (starting (w .head) place) (w .table) (w .health) grants l)) a)
   where
@@ -173,12 +173,12 @@ steps-names w (acquire-sorted registry script place held keys grants) l a =
     none asked sorted (Busy why) n a = let z : _≡_ {A = ℕ} 0 1 = cc in omega arith
     none asked sorted (Refused r) n a = let z : _≡_ {A = ℕ} 0 1 = cc in omega arith
     none asked sorted (RefusedAt r p) n a = let z : _≡_ {A = ℕ} 0 1 = cc in omega arith
-steps-names w (crew counts cells turns) l a = let z : _≡_ {A = ℕ} 0 1 = cc in absurd (omega arith)
-steps-names w (crew-at-work counts cells turns counters) l a = let z : _≡_ {A = ℕ} 0 1 = cc in absurd (omega arith)
+past-checks-names w (crew counts cells turns) l a = let z : _≡_ {A = ℕ} 0 1 = cc in absurd (omega arith)
+past-checks-names w (crew-at-work counts cells turns counters) l a = let z : _≡_ {A = ℕ} 0 1 = cc in absurd (omega arith)
 
 pub grants-name : Grant-is perform
 grants-name w k l =
-    performed (λ m. m .seen .1 .answer ≡ Granted l → (l .cell ≡ asked w k) × (l .boot ≡ w .head .boot)) w k (λ r a. let z : _≡_ {A = ℕ} 0 1 = cc in absurd (omega arith)) (λ _. steps-names w k l)
+    performed (λ m. m .seen .1 .answer ≡ Granted l → (l .cell ≡ asked w k) × (l .boot ≡ w .head .boot)) w k (λ r a. let z : _≡_ {A = ℕ} 0 1 = cc in absurd (omega arith)) (λ _. past-checks-names w k l)
 
 -- ---- what multi-lock's buffer holds
 

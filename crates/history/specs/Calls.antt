@@ -29,7 +29,7 @@ use Rattle.history.specs.Statements.{Hands-over, Held-live, log-of}
 use Rattle.history.specs.Tests.{differ, In, in-take}
 use Rattle.history.specs.Events.{Fit, lives, good}
 use Rattle.history.specs.Logs.{Kept, nothing, event, kept-fit, kept-live, weaken, chain, ended, lawful-split, unreleased-front, keep-now}
-use Rattle.history.specs.Judged.{clear-back, judged-at, reply, seen-as, steps, performed}
+use Rattle.history.specs.Judged.{clear-back, judged-at, reply, seen-as, past-checks, performed}
 use Rattle.history.specs.Steps.{Gains, followed, Won, won, won-of, none-yet, no-more, boundary-kept, take-kept, lock-kept, attempt-kept, retry-kept}
 use Rattle.history.specs.Many.{Held, Taken, give-back-kept, locks-kept}
 use Rattle.history.specs.Crew.{crew-kept, crew-plan, crew-at-work-plan}
@@ -82,7 +82,7 @@ words-leases (c ∷ s ∷ b ∷ ws) = omega (arith, words-leases ws)
 
 -- ---- what is handed over is live
 
-pub live-won : (boot : ℕ) {n : ℕ} {v : World} {o : Outcome} → Won n v o → (l : Hold) → Hands-over (answerOf boot o) [] l → Live v l
+live-won : (boot : ℕ) {n : ℕ} {v : World} {o : Outcome} → Won n v o → (l : Hold) → Hands-over (answerOf boot o) [] l → Live v l
 live-won boot {v = v} (won k x i) l e = subst (Live v) e x
 live-won boot none-yet l e = absurd e
 live-won boot (no-more r) l e = absurd e
@@ -128,16 +128,16 @@ none-taken w =
       young = λ i x. absurd (omega arith);
     }
 
-steps-kept : (w : World) (k : Call) → Fit w → Clear (rules w k) → Said w (In (held-of k)) (steps w k)
+past-checks-kept : (w : World) (k : Call) → Fit w → Clear (rules w k) → Said w (In (held-of k)) (past-checks w k)
 unfolding cellRules leaseRules heldCellRules heldLeaseRules lockRules releaseRules isIn acquireOf
-steps-kept w (try-acquire c) g k = acquire-kept w g (In []) 1 c (leb-false (cells w) c (k .1 .0))
-steps-kept w (drop-lease l) g k = record { kept = release-kept w g (In []) (holdIn l) (is-live w g (holdIn l) (k .1 .1 .0)) (λ _ i _. differ i); gain = λ l x. absurd x }
-steps-kept w (read-permission l) g k = record { kept = nothing; gain = λ l x. absurd x }
-steps-kept w (competing-acquire l) g k = acquire-kept w g (In []) 1 (l .cell) (inside w g (holdIn l) (k .1 .1 .0))
-steps-kept w (release-then-handoff l) g k =
+past-checks-kept w (try-acquire c) g k = acquire-kept w g (In []) 1 c (leb-false (cells w) c (k .1 .0))
+past-checks-kept w (drop-lease l) g k = record { kept = release-kept w g (In []) (holdIn l) (is-live w g (holdIn l) (k .1 .1 .0)) (λ _ i _. differ i); gain = λ l x. absurd x }
+past-checks-kept w (read-permission l) g k = record { kept = nothing; gain = λ l x. absurd x }
+past-checks-kept w (competing-acquire l) g k = acquire-kept w g (In []) 1 (l .cell) (inside w g (holdIn l) (k .1 .1 .0))
+past-checks-kept w (release-then-handoff l) g k =
     let a = release-kept w g (In []) (holdIn l) (is-live w g (holdIn l) (k .1 .1 .0)) (λ _ i _. differ i) in
     followed g a (acquire-kept (worldOf (w .head) (setCell (w .table) (l .cell) 0 0) (w .health)) (kept-fit g a) (In []) 1 (l .cell) (inside w g (holdIn l) (k .1 .1 .0)))
-steps-kept w (foreign-release held l) g k =
+past-checks-kept w (foreign-release held l) g k =
     let c = clear-back (badShape (w .head) (w .table) ∷ badHeld (w .head) (w .table) held) _ k in
     let m = acquireOf 1 (w .head) (w .table) (l .cell) .seen in
     let v = worldOf (m .0 .head) (m .1) (w .health) in
@@ -146,39 +146,39 @@ steps-kept w (foreign-release held l) g k =
     let b = release-kept v g₁ (In (holdsOf held)) (holdIn l) (kept-live g a (holdIn l) tt (is-live w g (holdIn l) (c .1 .0))) (apart-from held (holdIn l) (c .1 .1 .0)) in
     followed g (weaken (λ _ _ _. tt) a)
     (followed g₁ b (acquire-kept (worldOf (m .0 .head) (setCell (m .1) (l .cell) 0 0) (w .health)) (kept-fit g₁ b) (In (holdsOf held)) 2 (l .cell) (inside w g (holdIn l) (c .1 .0))))
-steps-kept w (drop-preserving held l) g k =
+past-checks-kept w (drop-preserving held l) g k =
     let c = clear-back (badShape (w .head) (w .table) ∷ badHeld (w .head) (w .table) held) _ k in
     record { kept = release-kept w g (In (holdsOf held)) (holdIn l) (is-live w g (holdIn l) (c .1 .0)) (apart-from held (holdIn l) (c .1 .1 .0)); gain = λ l x. absurd x }
-steps-kept w (acquire-preserving held c) g k =
+past-checks-kept w (acquire-preserving held c) g k =
     acquire-kept w g (In (holdsOf held)) 1 c (leb-false (cells w) c (clear-back (badShape (w .head) (w .table) ∷ badHeld (w .head) (w .table) held) _ k .0))
-steps-kept w (environment script place held) g k =
+past-checks-kept w (environment script place held) g k =
     record { kept = boundary-kept (w .head) script (holdsOf held) (flowOf (w .head .next) place 0) (w .table) (w .health) g .kept; gain = λ l x. absurd x }
-steps-kept w (try-lock script place held c) g k =
+past-checks-kept w (try-lock script place held c) g k =
     let inside = clear-back (scriptRules (w .head) (w .table) (w .health) script place held) (badCell (w .head) c ∷ []) k .0 in
     let m = lock-kept (w .head) script (holdsOf held) (flowOf (w .head .next) place 0) (w .table) (w .health) c g (leb-false (cells w) c inside) in
     record { kept = chain g (event attempt-begun tt (λ l i v x. x)) (m .kept); gain = live-won (w .head .boot) (won-of (m .gain)) }
-steps-kept w (transactional registry script place held binding bucket) g k =
+past-checks-kept w (transactional registry script place held binding bucket) g k =
     let m = attempt-kept (w .head) script (holdsOf held) registry binding bucket (starting (w .head) place) (w .table) (w .health) g in
     record { kept = m .kept; gain = live-won (w .head .boot) (m .gain) }
-steps-kept w (acquire-bucket registry script place held binding bucket) g k =
+past-checks-kept w (acquire-bucket registry script place held binding bucket) g k =
     let m = retry-kept (w .head) script attemptLimit 0 noneYet (holdsOf held) registry binding bucket (starting (w .head) place) (w .table) (w .health) g in
     record { kept = m .kept; gain = live-settled (w .head .boot) (m .gain) }
-steps-kept w (release-all script place leases) g k =
+past-checks-kept w (release-all script place leases) g k =
     let held = releasable (w .head) (w .table) (w .health) (leaseCount leases) leases (omega (arith, words-leases leases)) (k .1 .1 .1 .1) in
     let m = give-back-kept (w .head) script (leaseCount leases) [] (holdsOf leases) (starting (w .head) place) (w .table) (w .health) g held in
     record { kept = weaken (λ l i v. absurd (differ i)) (m .kept); gain = λ l x. absurd x }
-steps-kept w (acquire-locks registry script place held keys grants) g k =
+past-checks-kept w (acquire-locks registry script place held keys grants) g k =
     let m = locks-kept (w .head) script (countIn keys) 0 (holdsOf held) [] registry keys (starting (w .head) place) (w .table) (w .health) grants (w .head .next) g (omega arith) (none-taken w) in
     record { kept = weaken (λ l i v. (i, lives w l v .high)) (m .kept); gain = m .gain }
-steps-kept w (acquire-sorted registry script place held keys grants) g k =
+past-checks-kept w (acquire-sorted registry script place held keys grants) g k =
     let n = length (cellsSorted (w .head .buckets) registry keys) in
     let chosen = sortedKeys (w .head .buckets) registry keys in
     let m = locks-kept (w .head) script n 0 (holdsOf held) [] registry chosen (starting (w .head) place) (w .table) (w .health) grants (w .head .next) g (omega arith) (none-taken w) in
     judged-at (Said w (In (holdsOf held))) (firstKey (countIn keys) 0 (w .head) registry keys) (λ r p _. record { kept = nothing; gain = λ l x. absurd x })
     (λ _. record { kept = weaken (λ l i v. (i, lives w l v .high)) (m .kept); gain = λ l x. m .gain l (handed-inner w registry script place held keys grants l x) })
-steps-kept w (crew counts lists turns) g k =
+past-checks-kept w (crew counts lists turns) g k =
     record { kept = crew-kept rests (w .head) (w .table) (w .health) counts lists turns [] g (crew-plan _ _ _ counts lists turns k); gain = λ l x. absurd x }
-steps-kept w (crew-at-work counts lists turns counters) g k =
+past-checks-kept w (crew-at-work counts lists turns counters) g k =
     record { kept = crew-kept adds (w .head) (w .table) (w .health) counts lists turns counters g (crew-at-work-plan _ _ _ counts lists turns counters k); gain = λ l x. absurd x }
 
 -- the first check of every call is the shape
@@ -211,7 +211,7 @@ call-fit w k = performed (λ m. (m .log ≡ []) ⊎ Fit w) w k (λ r. inl refl) 
 
 -- whatever the arena holds: a call whose shape does not fit is refused
 pub call-kept : (w : World) (k : Call) → Said w (In (held-of k)) (perform w k)
-call-kept w k = performed (Said w (In (held-of k))) w k (λ r. record { kept = nothing; gain = λ l x. absurd x }) (λ c. steps-kept w k (clear-fit w k c) c)
+call-kept w k = performed (Said w (In (held-of k))) w k (λ r. record { kept = nothing; gain = λ l x. absurd x }) (λ c. past-checks-kept w k (clear-fit w k c) c)
 
 -- what is held is spared at every point
 

@@ -146,22 +146,22 @@ module _ (a b y : ℕ) where
 -- ---- attempts by key
 
 -- from a run to the run that is seen
-abbrev pub Tries : Run → Made (Tried × (List ℕ × List ℕ)) → Type 0
-Tries r m = Counted (counts r) (counts (m .seen .0 .run)) (m .log)
+abbrev pub Tries-counted : Run → Made (Tried × (List ℕ × List ℕ)) → Type 0
+Tries-counted r m = Counted (counts r) (counts (m .seen .0 .run)) (m .log)
 
 abbrev pub Runs : Run → Made (Run × (List ℕ × List ℕ)) → Type 0
 Runs r m = Counted (counts r) (counts (m .seen .0)) (m .log)
 
 module _ (e : Setting) where
   pub attempt-counted : (buckets : ℕ) (registry : List ℕ) (binding bucket : ℕ) (r : Run) (t g : List ℕ)
-      → Tries r (attemptOf e buckets registry binding bucket r t g)
+      → Tries-counted r (attemptOf e buckets registry binding bucket r t g)
   unfolding attemptOf number-of
   attempt-counted buckets registry binding bucket r t g = go (findOf (e .headers) buckets g registry binding bucket)
     where
       begun : Counts
       begun = countsOf (r .attempts + 1) (r .boundaries + 0) (r .yields) (r .flow .dropped)
 
-      go : (x : Found) → Tries r (note attempt-begun >> attemptAt x e buckets r t g)
+      go : (x : Found) → Tries-counted r (note attempt-begun >> attemptAt x e buckets r t g)
       go (found.Fault x) = omega arith
       go (found.At c) =
           then-counted {q = countsOf (r .attempts + 1) (r .boundaries + 0) (r .yields) (r .flow .dropped)} {xs = attempt-begun ∷ []} (omega arith)
@@ -183,14 +183,14 @@ module _ (e : Setting) where
       (spin-counted r t g)
 
   module _ (buckets : ℕ) (registry : List ℕ) (binding bucket : ℕ) where
-    pub retry-counted : (left i : ℕ) (last : Reason) (r : Run) (t g : List ℕ) → Tries r (retryOf left i last e buckets registry binding bucket r t g)
+    pub retry-counted : (left i : ℕ) (last : Reason) (r : Run) (t g : List ℕ) → Tries-counted r (retryOf left i last e buckets registry binding bucket r t g)
     unfolding retryOf
     retry-counted zero i last r t g = none-counted (counts r)
     retry-counted (suc left) i last r t g =
         let m = attemptOf e buckets registry binding bucket r t g .seen in
         let p = pauseOf e i (m .0 .run) (m .1 .0) (m .1 .1) .seen in
         then-counted (attempt-counted buckets registry binding bucket r t g)
-        (if-both (Tries (m .0 .run)) (isBusy (m .0 .outcome))
+        (if-both (Tries-counted (m .0 .run)) (isBusy (m .0 .outcome))
         (then-counted (pause-counted i (m .0 .run) (m .1 .0) (m .1 .1)) (retry-counted left (i + 1) _ (p .0) (p .1 .0) (p .1 .1)))
         (none-counted (counts (m .0 .run))))
 

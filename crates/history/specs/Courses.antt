@@ -1,5 +1,5 @@
 -- Every item of a history keeps the ledger: calls, lone foreign steps, further preparations and salvages.
-use Prim.Native.Nat.{ℕ, zero, suc, _+_, _*_}
+use Prim.Native.Nat.{ℕ, zero, suc, _*_}
 use mathlib.Core.Path.{_≡_, refl, sym, ap, _∙_, subst}
 use mathlib.Core.List.{List, [], _∷_, _++_, append-nil, append-assoc}
 use native.Mathlib.Omega.{arith}
@@ -74,7 +74,7 @@ module _ (headers buckets serial boot : ℕ) where
   begins d = record { begun = by-preparation refl; good = prepared-good d; lawful = tt; leads = refl }
 
   -- done, it begins a stretch; refused, the one before goes on in the world that stays
-  pub preparation-stretch : (t g : List ℕ) (v : World) (k : Course)
+  preparation-stretch : (t g : List ℕ) (v : World) (k : Course)
       → let p = preparing headers buckets serial boot t g in
       ((p .0 ≡ Done → ⊥) → Stretch (noted k [] (saying (p .0)) v)) → Stretch (prepared-by (p .0) (p .1) v k)
   unfolding preparing
@@ -98,7 +98,7 @@ module _ (paper : Head) (t g report list : List ℕ) where
   Undone a = (e n : ℕ) × (a ≡ salvaged.Done e n) → ⊥
 
   -- done, it begins a stretch; refused, the one before goes on in the world that stays
-  pub salvage-stretch : (v : World) (k : Course)
+  salvage-stretch : (v : World) (k : Course)
       → let p = salvaging paper t g report list in
       (Undone (p .0) → Stretch (courseOf (k .origin) (k .entries) v)) → Stretch (salvaged-by (p .0) (p .1) v k)
   unfolding salvaging mendOf

@@ -35,7 +35,7 @@ use Rattle.history.specs.Steps.{worldAt, Gains, followed, With, Gained, 
 
 -- ---- the places of the lists
 
-pub start-rises : (counts : List ℕ) (m k : ℕ) → m < k → startOf counts m + countOf counts m ≤ startOf counts k
+start-rises : (counts : List ℕ) (m k : ℕ) → m < k → startOf counts m + countOf counts m ≤ startOf counts k
 unfolding startOf total
 start-rises [] zero k l = omega arith
 start-rises [] (suc m) k l = omega arith
@@ -142,7 +142,7 @@ module _ (h : Head) (n : ℕ) (t g : List ℕ) (c : ℕ) where
   unfolding lockOf boundaryOf runStepsOf
   lock-same ps = rw (second-same ps)
 
-  same-health : lockOf (given h [] []) (h .buckets) (flowOf n 0 0) t g c .seen .1 .1 ≡ g
+  pub same-health : lockOf (given h [] []) (h .buckets) (flowOf n 0 0) t g c .seen .1 .1 ≡ g
   unfolding lockOf secondStageOf lateStageOf boundaryOf runStepsOf
   same-health = if-both (λ (m : Made (With Locked)). m .seen .1 .1 ≡ g) (eqb (waitersAt t c) 0) (go (takeOf n t c .seen .0 .answer)) refl
     where

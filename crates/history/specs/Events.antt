@@ -15,7 +15,7 @@ use Rattle.types.specs.declared.Head.{Head}
 use Rattle.types.specs.declared.Hold.{Hold}
 use Rattle.laws.specs.Shape.{Shaped, shaped, healthy}
 use Rattle.laws.specs.Words.{length-set-cell, length-set-waiters, bit-set, bit-set-other, owner-set-other, bit-set-waiters, owner-set-waiters, Seen, here, there, see}
-use Rattle.history.specs.World.{World, cells, Live, Legal, step, Whole, Apart, one, bits, Kind, kind-of, code, takes, releases, Releases, Spent}
+use Rattle.history.specs.World.{World, cells, Live, Legal, after-event, Whole, Apart, one, bits, Kind, kind-of, code, takes, releases, Releases, Spent}
 use Rattle.history.specs.Tests.{Status, free, held, undamaged, not-damaged, free-words, Alive, alive, live, holds-equal}
 
 -- ---- a whole arena, as facts about its words
@@ -107,53 +107,53 @@ reshaped h n m words s a b e =
       words-are = e ∙ s .words-are;
     }
 
-pub good-step : (w : World) (e : Event) → Good w → Legal w e → Good (step w e)
-good-step w attempt-begun g l = g
-good-step w boundary-run g l = g
-good-step w yielded g l = g
-good-step w spun g l = g
-good-step w step-dropped g l = g
-good-step w (took a c s) g l =
+pub good-after : (w : World) (e : Event) → Good w → Legal w e → Good (after-event w e)
+good-after w attempt-begun g l = g
+good-after w boundary-run g l = g
+good-after w yielded g l = g
+good-after w spun g l = g
+good-after w step-dropped g l = g
+good-after w (took a c s) g l =
     record {
       shape = reshaped (w .head) (w .head .next + 1) (length (w .table)) (length (setCell (w .table) c 1 s)) (g .shape) (omega arith) (omega arith) (length-set-cell (w .table) c 1 s);
       health-is = g .health-is;
       status = status-put (cells w) (w .head .next + 1) (w .table) c 1 s (g .shape .words-are) (held refl (omega (arith, g .shape .low)) (omega arith)) (λ d k. older (g .status d k));
     }
-good-step w (released a c s) g l =
+good-after w (released a c s) g l =
     let i = lives w (holdOf c s) l .in-range in
     record {
       shape = reshaped (w .head) (w .head .next) (length (w .table)) (length (setCell (w .table) c 0 0)) (g .shape) (g .shape .low) (g .shape .high) (length-set-cell (w .table) c 0 0);
       health-is = g .health-is;
       status = status-put (cells w) (w .head .next) (w .table) c 0 0 (g .shape .words-are) (free refl refl) (g .status);
     }
-good-step w (waiters-set c n) g l =
+good-after w (waiters-set c n) g l =
     record {
       shape = reshaped (w .head) (w .head .next) (length (w .table)) (length (setWaiters (w .table) c n)) (g .shape) (g .shape .low) (g .shape .high) (length-set-waiters (w .table) c n);
       health-is = g .health-is;
       status = λ d k. simp (bit-set-waiters, owner-set-waiters) (g .status d k);
     }
-good-step w (health-set i n) g l = record { shape = g .shape; health-is = length-set (w .health) i n ∙ g .health-is; status = g .status }
-good-step w (held-all m) g l = g
-good-step w (added m c v) g l = g
+good-after w (health-set i n) g l = record { shape = g .shape; health-is = length-set (w .health) i n ∙ g .health-is; status = g .status }
+good-after w (held-all m) g l = g
+good-after w (added m c v) g l = g
 
-pub fit-step : (w : World) (e : Event) → Fit w → Legal w e → Fit (step w e)
-fit-step w attempt-begun f l = f
-fit-step w boundary-run f l = f
-fit-step w yielded f l = f
-fit-step w spun f l = f
-fit-step w step-dropped f l = f
-fit-step w (took a c s) f l =
+pub fit-after : (w : World) (e : Event) → Fit w → Legal w e → Fit (after-event w e)
+fit-after w attempt-begun f l = f
+fit-after w boundary-run f l = f
+fit-after w yielded f l = f
+fit-after w spun f l = f
+fit-after w step-dropped f l = f
+fit-after w (took a c s) f l =
     record { shape = reshaped (w .head) (w .head .next + 1) (length (w .table)) (length (setCell (w .table) c 1 s)) (f .shape) (omega arith) (omega arith) (length-set-cell (w .table) c 1 s) }
-fit-step w (released a c s) f l =
+fit-after w (released a c s) f l =
     record { shape = reshaped (w .head) (w .head .next) (length (w .table)) (length (setCell (w .table) c 0 0)) (f .shape) (f .shape .low) (f .shape .high) (length-set-cell (w .table) c 0 0) }
-fit-step w (waiters-set c n) f l =
+fit-after w (waiters-set c n) f l =
     record { shape = reshaped (w .head) (w .head .next) (length (w .table)) (length (setWaiters (w .table) c n)) (f .shape) (f .shape .low) (f .shape .high) (length-set-waiters (w .table) c n) }
-fit-step w (health-set i n) f l = record { shape = f .shape }
-fit-step w (held-all m) f l = f
-fit-step w (added m c v) f l = f
+fit-after w (health-set i n) f l = record { shape = f .shape }
+fit-after w (held-all m) f l = f
+fit-after w (added m c v) f l = f
 
 -- the head but for the next serial stays
-pub same-arena : (w : World) (e : Event) → step w e .head ≡ spentTo (w .head) (step w e .head .next)
+pub same-arena : (w : World) (e : Event) → after-event w e .head ≡ spentTo (w .head) (after-event w e .head .next)
 same-arena w attempt-begun = refl
 same-arena w boundary-run = refl
 same-arena w yielded = refl
@@ -169,59 +169,59 @@ same-arena w (added m c v) = refl
 -- ---- leases
 
 -- live words in another table, with the next serial no lower
-pub moved-live : (next cells next′ : ℕ) (t u : List ℕ) (l : Hold) → Alive next cells t l → next ≤ next′
+moved-live : (next cells next′ : ℕ) (t u : List ℕ) (l : Hold) → Alive next cells t l → next ≤ next′
     → bitAt u (l .cell) ≡ bitAt t (l .cell) → ownerAt u (l .cell) ≡ ownerAt t (l .cell) → isLive next′ cells u l ≡ true
 moved-live next cells next′ t u l a n p q =
     live next′ cells u l (record { in-range = a .in-range; bit-is = p ∙ a .bit-is; owner-is = q ∙ a .owner-is; low = a .low; high = omega (arith, a .high) })
 
-pub keep-step : (w : World) (e : Event) (l : Hold) → Fit w → Legal w e → Live w l → (Releases l e → ⊥) → Live (step w e) l
-keep-step w attempt-begun l g k v n = v
-keep-step w boundary-run l g k v n = v
-keep-step w yielded l g k v n = v
-keep-step w spun l g k v n = v
-keep-step w step-dropped l g k v n = v
-keep-step w (took a c s) l g k v n = go (see (w .table) c 1 s (l .cell) (omega (arith, at w g c (k .0 .0)))) (lives w l v)
+pub keep-after : (w : World) (e : Event) (l : Hold) → Fit w → Legal w e → Live w l → (Releases l e → ⊥) → Live (after-event w e) l
+keep-after w attempt-begun l g k v n = v
+keep-after w boundary-run l g k v n = v
+keep-after w yielded l g k v n = v
+keep-after w spun l g k v n = v
+keep-after w step-dropped l g k v n = v
+keep-after w (took a c s) l g k v n = go (see (w .table) c 1 s (l .cell) (omega (arith, at w g c (k .0 .0)))) (lives w l v)
   where
-    go : Seen (w .table) c 1 s (l .cell) → Alive (w .head .next) (cells w) (w .table) l → Live (step w (took a c s)) l
+    go : Seen (w .table) c 1 s (l .cell) → Alive (w .head .next) (cells w) (w .table) l → Live (after-event w (took a c s)) l
     go (here e p q) x =
         let z : bitAt (w .table) (l .cell) ≡ 0 = rw e (free-words (w .head .next) (w .table) c (k .0 .1) .0) in
         absurd (omega (arith, x .bit-is))
     go (there e p q) x = moved-live (w .head .next) (cells w) (w .head .next + 1) (w .table) (setCell (w .table) c 1 s) l x (omega arith) p q
-keep-step w (released a c s) l g k v n =
+keep-after w (released a c s) l g k v n =
     go (see (w .table) c 0 0 (l .cell) (omega (arith, at w g c (lives w (holdOf c s) k .in-range)))) (lives w l v) (lives w (holdOf c s) k)
   where
     go : Seen (w .table) c 0 0 (l .cell) → Alive (w .head .next) (cells w) (w .table) l → Alive (w .head .next) (cells w) (w .table) (holdOf c s)
-        → Live (step w (released a c s)) l
+        → Live (after-event w (released a c s)) l
     go (here e p q) x y = absurd (n (holds-equal l (holdOf c s) e (sym (x .owner-is) ∙ ap (ownerAt (w .table)) e ∙ y .owner-is)))
     go (there e p q) x y = moved-live (w .head .next) (cells w) (w .head .next) (w .table) (setCell (w .table) c 0 0) l x (omega arith) p q
-keep-step w (waiters-set c n) l g k v u =
+keep-after w (waiters-set c n) l g k v u =
     moved-live (w .head .next) (cells w) (w .head .next) (w .table) (setWaiters (w .table) c n) l (lives w l v) (omega arith)
     (bit-set-waiters (w .table) c n (l .cell)) (owner-set-waiters (w .table) c n (l .cell))
-keep-step w (health-set i n) l g k v u = v
-keep-step w (held-all i) l g k v n = v
-keep-step w (added i d x) l g k v n = v
+keep-after w (health-set i n) l g k v u = v
+keep-after w (held-all i) l g k v n = v
+keep-after w (added i d x) l g k v n = v
 
 -- a live lease after an event was live before it, or its serial is the one just issued
-pub live-before : (w : World) (e : Event) (l : Hold) → Fit w → Legal w e → Live (step w e) l → l .serial < w .head .next → Live w l
+pub live-before : (w : World) (e : Event) (l : Hold) → Fit w → Legal w e → Live (after-event w e) l → l .serial < w .head .next → Live w l
 live-before w attempt-begun l g k v o = v
 live-before w boundary-run l g k v o = v
 live-before w yielded l g k v o = v
 live-before w spun l g k v o = v
 live-before w step-dropped l g k v o = v
-live-before w (took a c s) l g k v o = go (see (w .table) c 1 s (l .cell) (omega (arith, at w g c (k .0 .0)))) (lives (step w (took a c s)) l v)
+live-before w (took a c s) l g k v o = go (see (w .table) c 1 s (l .cell) (omega (arith, at w g c (k .0 .0)))) (lives (after-event w (took a c s)) l v)
   where
     go : Seen (w .table) c 1 s (l .cell) → Alive (w .head .next + 1) (cells w) (setCell (w .table) c 1 s) l → Live w l
     go (here e p q) x = absurd (omega (arith, x .owner-is, k .1 .0))
     go (there e p q) x =
         live (w .head .next) (cells w) (w .table) l (record { in-range = x .in-range; bit-is = sym p ∙ x .bit-is; owner-is = sym q ∙ x .owner-is; low = x .low; high = o })
 live-before w (released a c s) l g k v o =
-    go (see (w .table) c 0 0 (l .cell) (omega (arith, at w g c (lives w (holdOf c s) k .in-range)))) (lives (step w (released a c s)) l v)
+    go (see (w .table) c 0 0 (l .cell) (omega (arith, at w g c (lives w (holdOf c s) k .in-range)))) (lives (after-event w (released a c s)) l v)
   where
     go : Seen (w .table) c 0 0 (l .cell) → Alive (w .head .next) (cells w) (setCell (w .table) c 0 0) l → Live w l
     go (here e p q) x = absurd (omega (arith, x .bit-is))
     go (there e p q) x = moved-live (w .head .next) (cells w) (w .head .next) (setCell (w .table) c 0 0) (w .table) l x (omega arith) (sym p) (sym q)
 live-before w (waiters-set c n) l g k v o =
-    moved-live (w .head .next) (cells w) (w .head .next) (setWaiters (w .table) c n) (w .table) l (lives (step w (waiters-set c n)) l v) (omega arith)
+    moved-live (w .head .next) (cells w) (w .head .next) (setWaiters (w .table) c n) (w .table) l (lives (after-event w (waiters-set c n)) l v) (omega arith)
     (sym (bit-set-waiters (w .table) c n (l .cell))) (sym (owner-set-waiters (w .table) c n (l .cell)))
 live-before w (health-set i n) l g k v o = v
 live-before w (held-all i) l g k v o = v
@@ -233,23 +233,23 @@ live-before w (added i d x) l g k v o = v
 abbrev pub counts : Kind → Event → ℕ
 counts k e = one (eqb (code (kind-of e)) (code k))
 
-pub next-step : (w : World) (e : Event) → step w e .head .next ≡ w .head .next + counts takes e
-next-step w attempt-begun = omega arith
-next-step w boundary-run = omega arith
-next-step w yielded = omega arith
-next-step w spun = omega arith
-next-step w step-dropped = omega arith
-next-step w (took a c s) = refl
-next-step w (released a c s) = omega arith
-next-step w (waiters-set c n) = omega arith
-next-step w (health-set i n) = omega arith
-next-step w (held-all m) = omega arith
-next-step w (added m c v) = omega arith
+pub next-after : (w : World) (e : Event) → after-event w e .head .next ≡ w .head .next + counts takes e
+next-after w attempt-begun = omega arith
+next-after w boundary-run = omega arith
+next-after w yielded = omega arith
+next-after w spun = omega arith
+next-after w step-dropped = omega arith
+next-after w (took a c s) = refl
+next-after w (released a c s) = omega arith
+next-after w (waiters-set c n) = omega arith
+next-after w (health-set i n) = omega arith
+next-after w (held-all m) = omega arith
+next-after w (added m c v) = omega arith
 
-pub spent-step : (w : World) (e : Event) (s : ℕ) → Fit w → Legal w e → Spent w s → Spent (step w e) s
-spent-step w e s g k p =
+pub spent-after : (w : World) (e : Event) (s : ℕ) → Fit w → Legal w e → Spent w s → Spent (after-event w e) s
+spent-after w e s g k p =
     record {
-      was-issued = omega (arith, p .was-issued, next-step w e);
+      was-issued = omega (arith, p .was-issued, next-after w e);
       owns-none = λ c v. p .owns-none c (live-before w e (holdOf c s) g k v (p .was-issued));
     }
 
@@ -257,8 +257,8 @@ spent-step w e s g k p =
 
 -- a serial that an event issues is the cell's that it took
 pub new-owner : (w : World) (a : Actor) (c s : ℕ) → Good w → Legal w (took a c s) → (d n : ℕ) → (n < w .head .next → ⊥)
-    → Live (step w (took a c s)) (holdOf d n) → d ≡ c
-new-owner w a c s g k d n old v = go (see (w .table) c 1 s d (omega (arith, at w (fit g) c (k .0 .0)))) (lives (step w (took a c s)) (holdOf d n) v)
+    → Live (after-event w (took a c s)) (holdOf d n) → d ≡ c
+new-owner w a c s g k d n old v = go (see (w .table) c 1 s d (omega (arith, at w (fit g) c (k .0 .0)))) (lives (after-event w (took a c s)) (holdOf d n) v)
   where
     go : Seen (w .table) c 1 s d → Alive (w .head .next + 1) (cells w) (setCell (w .table) c 1 s) (holdOf d n) → d ≡ c
     go (here e p q) x = e
@@ -266,27 +266,27 @@ new-owner w a c s g k d n old v = go (see (w .table) c 1 s d (omega (arith, at w
         absurd (old (omega (arith, x .owner-is, issued (g .status d (x .in-range)) (sym p ∙ x .bit-is) .1)))
 
 late-apart : (w : World) (e : Event) → Good w → Legal w e → (c d s : ℕ) → (s < w .head .next → ⊥)
-    → Live (step w e) (holdOf c s) → Live (step w e) (holdOf d s) → c ≡ d
+    → Live (after-event w e) (holdOf c s) → Live (after-event w e) (holdOf d s) → c ≡ d
 late-apart w attempt-begun g k c d s n x y = absurd (n (lives w (holdOf c s) x .high))
 late-apart w boundary-run g k c d s n x y = absurd (n (lives w (holdOf c s) x .high))
 late-apart w yielded g k c d s n x y = absurd (n (lives w (holdOf c s) x .high))
 late-apart w spun g k c d s n x y = absurd (n (lives w (holdOf c s) x .high))
 late-apart w step-dropped g k c d s n x y = absurd (n (lives w (holdOf c s) x .high))
 late-apart w (took a i m) g k c d s n x y = new-owner w a i m g k c s n x ∙ sym (new-owner w a i m g k d s n y)
-late-apart w (released a i m) g k c d s n x y = absurd (n (lives (step w (released a i m)) (holdOf c s) x .high))
-late-apart w (waiters-set i m) g k c d s n x y = absurd (n (lives (step w (waiters-set i m)) (holdOf c s) x .high))
+late-apart w (released a i m) g k c d s n x y = absurd (n (lives (after-event w (released a i m)) (holdOf c s) x .high))
+late-apart w (waiters-set i m) g k c d s n x y = absurd (n (lives (after-event w (waiters-set i m)) (holdOf c s) x .high))
 late-apart w (health-set i m) g k c d s n x y = absurd (n (lives w (holdOf c s) x .high))
 late-apart w (held-all i) g k c d s n x y = absurd (n (lives w (holdOf c s) x .high))
 late-apart w (added i j v) g k c d s n x y = absurd (n (lives w (holdOf c s) x .high))
 
-pub apart-step : (w : World) (e : Event) → Good w → Legal w e → Apart w → Apart (step w e)
-apart-step w e g k a c d s x y = go (decLt s (w .head .next))
+pub apart-after : (w : World) (e : Event) → Good w → Legal w e → Apart w → Apart (after-event w e)
+apart-after w e g k a c d s x y = go (decLt s (w .head .next))
   where
     go : Dec (s < w .head .next) → c ≡ d
     go (yes o) = a c d s (live-before w e (holdOf c s) (fit g) k x o) (live-before w e (holdOf d s) (fit g) k y o)
     go (no n) = late-apart w e g k c d s n x y
 
-pub bits-same : (n : ℕ) (t u : List ℕ) → ((d : ℕ) → d < n → bitAt t d ≡ bitAt u d) → bits n t ≡ bits n u
+bits-same : (n : ℕ) (t u : List ℕ) → ((d : ℕ) → d < n → bitAt t d ≡ bitAt u d) → bits n t ≡ bits n u
 unfolding bits
 bits-same zero t u h = refl
 bits-same (suc n) t u h = cc (h n (omega arith), bits-same n t u (λ d l. h d (omega arith)))
@@ -308,28 +308,28 @@ bits-put : (n : ℕ) (t : List ℕ) (c b o : ℕ) → c < n → 3 * c + 2 < leng
 bits-put n t c b o l h =
     bits-change n (setCell t c b o) t c l (λ d e. bit-set-other t c b o d e) ∙ ap (λ (x : ℕ). bits n t + one (eqb x 1)) (bit-set t c b o (omega arith))
 
-pub bits-step : (w : World) (e : Event) → Fit w → Legal w e
-    → bits (cells w) (step w e .table) + counts releases e ≡ bits (cells w) (w .table) + counts takes e
-bits-step w attempt-begun g k = refl
-bits-step w boundary-run g k = refl
-bits-step w yielded g k = refl
-bits-step w spun g k = refl
-bits-step w step-dropped g k = refl
-bits-step w (took a c s) g k =
+pub bits-after : (w : World) (e : Event) → Fit w → Legal w e
+    → bits (cells w) (after-event w e .table) + counts releases e ≡ bits (cells w) (w .table) + counts takes e
+bits-after w attempt-begun g k = refl
+bits-after w boundary-run g k = refl
+bits-after w yielded g k = refl
+bits-after w spun g k = refl
+bits-after w step-dropped g k = refl
+bits-after w (took a c s) g k =
     omega (arith, bits-put (cells w) (w .table) c 1 s (k .0 .0) (at w g c (k .0 .0)), ap (λ (x : ℕ). one (eqb x 1)) (free-words (w .head .next) (w .table) c (k .0 .1) .0))
-bits-step w (released a c s) g k =
+bits-after w (released a c s) g k =
     let i = lives w (holdOf c s) k in
     omega (arith, bits-put (cells w) (w .table) c 0 0 (i .in-range) (at w g c (i .in-range)), ap (λ (x : ℕ). one (eqb x 1)) (i .bit-is))
-bits-step w (waiters-set c n) g k = ap (λ (x : ℕ). x + 0) (bits-same (cells w) (setWaiters (w .table) c n) (w .table) (λ d l. bit-set-waiters (w .table) c n d))
-bits-step w (health-set i n) g k = refl
-bits-step w (held-all m) g k = refl
-bits-step w (added m c v) g k = refl
+bits-after w (waiters-set c n) g k = ap (λ (x : ℕ). x + 0) (bits-same (cells w) (setWaiters (w .table) c n) (w .table) (λ d l. bit-set-waiters (w .table) c n d))
+bits-after w (health-set i n) g k = refl
+bits-after w (held-all m) g k = refl
+bits-after w (added m c v) g k = refl
 
 -- the lease that a take makes
-pub taken-live : (w : World) (a : Actor) (c : ℕ) → Fit w → c < cells w → Live (step w (took a c (w .head .next))) (holdOf c (w .head .next))
+pub taken-live : (w : World) (a : Actor) (c : ℕ) → Fit w → c < cells w → Live (after-event w (took a c (w .head .next))) (holdOf c (w .head .next))
 taken-live w a c g l = go (see (w .table) c 1 (w .head .next) c (omega (arith, at w g c l)))
   where
-    go : Seen (w .table) c 1 (w .head .next) c → Live (step w (took a c (w .head .next))) (holdOf c (w .head .next))
+    go : Seen (w .table) c 1 (w .head .next) c → Live (after-event w (took a c (w .head .next))) (holdOf c (w .head .next))
     go (here e p q) =
         live (w .head .next + 1) (cells w) (setCell (w .table) c 1 (w .head .next)) (holdOf c (w .head .next))
         (record { in-range = l; bit-is = p; owner-is = q; low = g .shape .low; high = omega arith })

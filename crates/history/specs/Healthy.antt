@@ -37,7 +37,7 @@ use Rattle.history.specs.Statements.{answers, log-of, Fails}
 use Rattle.history.specs.Answers.{Reads-again, Granted-healthy, Grant-point, Locks-healthy, Poisoned-holds-nothing}
 use Rattle.history.specs.Events.{Fit}
 use Rattle.history.specs.Logs.{now-append, next-now, kept-fit}
-use Rattle.history.specs.Judged.{acting, steps, performed}
+use Rattle.history.specs.Judged.{acting, past-checks, performed}
 use Rattle.history.specs.Steps.{With, worldAt, retry-kept}
 use Rattle.history.specs.Calls.{clear-fit, call-kept}
 use Rattle.history.specs.Owing.{Given, no-grant, no-refused}
@@ -139,34 +139,34 @@ of-settled boot (outcome.Granted k) l e = let y : leaseUnder boot k ≡ l = cc i
 of-settled boot (outcome.Busy why) l e = let z : _≡_ {A = ℕ} 0 1 = cc in absurd (omega arith)
 of-settled boot (outcome.Refused r) l e = let z : _≡_ {A = ℕ} 0 1 = cc in absurd (omega arith)
 
-steps-healthy : (w : World) (k : Call) (l : Lease) → Reads-again k → steps w k .seen .1 .answer ≡ Granted l → Healthy (steps w k .seen .0) (l .cell)
-steps-healthy w (try-acquire c) l y a = absurd y
-steps-healthy w (drop-lease m) l y a = absurd y
-steps-healthy w (read-permission m) l y a = absurd y
-steps-healthy w (competing-acquire m) l y a = absurd y
-steps-healthy w (release-then-handoff m) l y a = absurd y
-steps-healthy w (foreign-release held m) l y a = absurd y
-steps-healthy w (drop-preserving held m) l y a = absurd y
-steps-healthy w (acquire-preserving held c) l y a = absurd y
-steps-healthy w (environment script place held) l y a = absurd y
-steps-healthy w (try-lock script place held c) l y a =
+past-checks-healthy : (w : World) (k : Call) (l : Lease) → Reads-again k → past-checks w k .seen .1 .answer ≡ Granted l → Healthy (past-checks w k .seen .0) (l .cell)
+past-checks-healthy w (try-acquire c) l y a = absurd y
+past-checks-healthy w (drop-lease m) l y a = absurd y
+past-checks-healthy w (read-permission m) l y a = absurd y
+past-checks-healthy w (competing-acquire m) l y a = absurd y
+past-checks-healthy w (release-then-handoff m) l y a = absurd y
+past-checks-healthy w (foreign-release held m) l y a = absurd y
+past-checks-healthy w (drop-preserving held m) l y a = absurd y
+past-checks-healthy w (acquire-preserving held c) l y a = absurd y
+past-checks-healthy w (environment script place held) l y a = absurd y
+past-checks-healthy w (try-lock script place held c) l y a =
     let e = acting w (try-lock script place held c) in
     lock-so e (w .head .buckets) (flowOf (w .head .next) place 0) (w .table) (w .health) c (holdIn l) (of-answer (w .head .boot) _ l a) .healthy
-steps-healthy w (transactional registry script place held binding bucket) l y a =
+past-checks-healthy w (transactional registry script place held binding bucket) l y a =
     let e = acting w (transactional registry script place held binding bucket) in
     attempt-so e (w .head .buckets) registry binding bucket (starting (w .head) place) (w .table) (w .health) (holdIn l) (of-answer (w .head .boot) _ l a) .healthy
-steps-healthy w (acquire-bucket registry script place held binding bucket) l y a =
+past-checks-healthy w (acquire-bucket registry script place held binding bucket) l y a =
     let e = acting w (acquire-bucket registry script place held binding bucket) in
     retry-so e (w .head .buckets) registry binding bucket attemptLimit 0 noneYet (starting (w .head) place) (w .table) (w .health) (holdIn l) (of-settled (w .head .boot) _ l a) .healthy
-steps-healthy w (release-all script place leases) l y a = absurd y
-steps-healthy w (acquire-locks registry script place held keys grants) l y a = absurd y
-steps-healthy w (acquire-sorted registry script place held keys grants) l y a = absurd y
-steps-healthy w (crew counts cells turns) l y a = absurd y
-steps-healthy w (crew-at-work counts cells turns counters) l y a = absurd y
+past-checks-healthy w (release-all script place leases) l y a = absurd y
+past-checks-healthy w (acquire-locks registry script place held keys grants) l y a = absurd y
+past-checks-healthy w (acquire-sorted registry script place held keys grants) l y a = absurd y
+past-checks-healthy w (crew counts cells turns) l y a = absurd y
+past-checks-healthy w (crew-at-work counts cells turns counters) l y a = absurd y
 
 pub grants-healthy : Granted-healthy perform
 grants-healthy w k l y =
-    performed (λ m. m .seen .1 .answer ≡ Granted l → Healthy (m .seen .0) (l .cell)) w k (λ r a. let z : _≡_ {A = ℕ} 0 1 = cc in absurd (omega arith)) (λ _. steps-healthy w k l y)
+    performed (λ m. m .seen .1 .answer ≡ Granted l → Healthy (m .seen .0) (l .cell)) w k (λ r a. let z : _≡_ {A = ℕ} 0 1 = cc in absurd (omega arith)) (λ _. past-checks-healthy w k l y)
 
 -- ---- multi-lock
 

@@ -11,6 +11,7 @@ pub mod Tests
 pub mod Events
 pub mod Logs
 pub mod Judged
+pub mod HeldLists
 pub mod Steps
 pub mod Many
 pub mod Crew

@@ -7,24 +7,24 @@ use Rattle.model.specs.Log.{Event}
 use Rattle.model.specs.Arena.{spentTo}
 use Rattle.types.specs.declared.Head.{Head}
 use Rattle.types.specs.declared.Hold.{Hold}
-use Rattle.history.specs.World.{World, cells, Live, Apart, Legal, step, now, Lawful, bits, takes, releases, number-of, Releases, Unreleased, Spent}
-use Rattle.history.specs.Events.{Good, good-step, apart-step, Fit, fit-step, same-arena, keep-step, live-before, next-step, spent-step, bits-step}
+use Rattle.history.specs.World.{World, cells, Live, Apart, Legal, after-event, now, Lawful, bits, takes, releases, number-of, Releases, Unreleased, Spent}
+use Rattle.history.specs.Events.{Good, good-after, apart-after, Fit, fit-after, same-arena, keep-after, live-before, next-after, spent-after, bits-after}
 
 -- ---- logs one behind the other
 
 pub now-append : (w : World) (xs ys : List Event) → now w (xs ++ ys) ≡ now (now w xs) ys
 now-append w [] ys = refl
-now-append w (x ∷ xs) ys = now-append (step w x) xs ys
+now-append w (x ∷ xs) ys = now-append (after-event w x) xs ys
 
 pub lawful-append : (w : World) (xs ys : List Event) → Lawful w xs → Lawful (now w xs) ys → Lawful w (xs ++ ys)
 lawful-append w [] ys p q = q
-lawful-append w (x ∷ xs) ys p q = (p .0, lawful-append (step w x) xs ys (p .1) q)
+lawful-append w (x ∷ xs) ys p q = (p .0, lawful-append (after-event w x) xs ys (p .1) q)
 
 pub lawful-split : (w : World) (xs ys : List Event) → Lawful w (xs ++ ys) → Lawful w xs × Lawful (now w xs) ys
 lawful-split w [] ys p = (tt, p)
-lawful-split w (x ∷ xs) ys p = let r = lawful-split (step w x) xs ys (p .1) in ((p .0, r .0), r .1)
+lawful-split w (x ∷ xs) ys p = let r = lawful-split (after-event w x) xs ys (p .1) in ((p .0, r .0), r .1)
 
-pub unreleased-append : (l : Hold) (xs ys : List Event) → Unreleased l xs → Unreleased l ys → Unreleased l (xs ++ ys)
+unreleased-append : (l : Hold) (xs ys : List Event) → Unreleased l xs → Unreleased l ys → Unreleased l (xs ++ ys)
 unreleased-append l [] ys p q = q
 unreleased-append l (x ∷ xs) ys p q = (p .0, unreleased-append l xs ys (p .1) q)
 
@@ -36,19 +36,19 @@ unreleased-front l (x ∷ xs) ys p = (p .0, unreleased-front l xs ys (p .1))
 
 pub good-now : (w : World) (es : List Event) → Good w → Lawful w es → Good (now w es)
 good-now w [] g t = g
-good-now w (e ∷ es) g t = good-now (step w e) es (good-step w e g (t .0)) (t .1)
+good-now w (e ∷ es) g t = good-now (after-event w e) es (good-after w e g (t .0)) (t .1)
 
 pub apart-now : (w : World) (es : List Event) → Good w → Lawful w es → Apart w → Apart (now w es)
 apart-now w [] g t a = a
-apart-now w (e ∷ es) g t a = apart-now (step w e) es (good-step w e g (t .0)) (t .1) (apart-step w e g (t .0) a)
+apart-now w (e ∷ es) g t a = apart-now (after-event w e) es (good-after w e g (t .0)) (t .1) (apart-after w e g (t .0) a)
 
 pub fit-now : (w : World) (es : List Event) → Fit w → Lawful w es → Fit (now w es)
 fit-now w [] f t = f
-fit-now w (e ∷ es) f t = fit-now (step w e) es (fit-step w e f (t .0)) (t .1)
+fit-now w (e ∷ es) f t = fit-now (after-event w e) es (fit-after w e f (t .0)) (t .1)
 
 pub arena-now : (w : World) (es : List Event) → now w es .head ≡ spentTo (w .head) (now w es .head .next)
 arena-now w [] = refl
-arena-now w (e ∷ es) = arena-now (step w e) es ∙ ap (λ h. spentTo h (now (step w e) es .head .next)) (same-arena w e)
+arena-now w (e ∷ es) = arena-now (after-event w e) es ∙ ap (λ h. spentTo h (now (after-event w e) es .head .next)) (same-arena w e)
 
 -- no event changes the boot number
 pub boot-now : (w : World) (es : List Event) → now w es .head .boot ≡ w .head .boot
@@ -57,29 +57,29 @@ boot-now w es = ap (λ (h : Head). h .boot) (arena-now w es)
 pub next-now : (w : World) (es : List Event) → now w es .head .next ≡ w .head .next + number-of takes es
 unfolding number-of
 next-now w [] = omega arith
-next-now w (e ∷ es) = omega (arith, next-now (step w e) es, next-step w e)
+next-now w (e ∷ es) = omega (arith, next-now (after-event w e) es, next-after w e)
 
 pub bits-now : (w : World) (es : List Event) → Fit w → Lawful w es
     → bits (cells w) (now w es .table) + number-of releases es ≡ bits (cells w) (w .table) + number-of takes es
 unfolding number-of
 bits-now w [] g t = omega arith
 bits-now w (e ∷ es) g t =
-    let same : cells (step w e) ≡ cells w = ap (λ h. h .headers * h .buckets) (same-arena w e) in
-    omega (arith, rw same at (bits-now (step w e) es (fit-step w e g (t .0)) (t .1)), bits-step w e g (t .0))
+    let same : cells (after-event w e) ≡ cells w = ap (λ h. h .headers * h .buckets) (same-arena w e) in
+    omega (arith, rw same at (bits-now (after-event w e) es (fit-after w e g (t .0)) (t .1)), bits-after w e g (t .0))
 
 pub keep-now : (w : World) (es : List Event) (l : Hold) → Fit w → Lawful w es → Live w l → Unreleased l es → Live (now w es) l
 keep-now w [] l g t v u = v
-keep-now w (e ∷ es) l g t v u = keep-now (step w e) es l (fit-step w e g (t .0)) (t .1) (keep-step w e l g (t .0) v (u .0)) (u .1)
+keep-now w (e ∷ es) l g t v u = keep-now (after-event w e) es l (fit-after w e g (t .0)) (t .1) (keep-after w e l g (t .0) v (u .0)) (u .1)
 
 -- a live lease behind a log was live before it, if its serial was issued before
 pub live-back : (w : World) (es : List Event) (l : Hold) → Fit w → Lawful w es → l .serial < w .head .next → Live (now w es) l → Live w l
 live-back w [] l g t o v = v
 live-back w (e ∷ es) l g t o v =
-    live-before w e l g (t .0) (live-back (step w e) es l (fit-step w e g (t .0)) (t .1) (omega (arith, next-step w e)) v) o
+    live-before w e l g (t .0) (live-back (after-event w e) es l (fit-after w e g (t .0)) (t .1) (omega (arith, next-after w e)) v) o
 
 pub spent-now : (w : World) (es : List Event) (s : ℕ) → Fit w → Lawful w es → Spent w s → Spent (now w es) s
 spent-now w [] s g t p = p
-spent-now w (e ∷ es) s g t p = spent-now (step w e) es s (fit-step w e g (t .0)) (t .1) (spent-step w e s g (t .0) p)
+spent-now w (e ∷ es) s g t p = spent-now (after-event w e) es s (fit-after w e g (t .0)) (t .1) (spent-after w e s g (t .0) p)
 
 -- ---- what every step of a call keeps: its log is lawful and leads from the world w to the world v; a lease that is live in w and that P
 -- protects is not released
@@ -92,7 +92,7 @@ pub record Kept (w : World) (P : Hold → Type 0) (v : World) (log : List Event)
 pub nothing : {w : World} {P : Hold → Type 0} → Kept w P w []
 nothing = record { lawful = tt; leads = refl; spares = λ l p v. tt }
 
-pub event : {w : World} {P : Hold → Type 0} (e : Event) → Legal w e → ((l : Hold) → P l → Live w l → Releases l e → ⊥) → Kept w P (step w e) (e ∷ [])
+pub event : {w : World} {P : Hold → Type 0} (e : Event) → Legal w e → ((l : Hold) → P l → Live w l → Releases l e → ⊥) → Kept w P (after-event w e) (e ∷ [])
 event e k n = record { lawful = (k, tt); leads = refl; spares = λ l p v. (n l p v, tt) }
 
 pub kept-fit : {w v : World} {P : Hold → Type 0} {es : List Event} → Fit w → Kept w P v es → Fit v

@@ -25,10 +25,10 @@ use Rattle.history.specs.World.{World}
 use Rattle.history.specs.Items.{Call, Says, try-acquire, drop-lease, read-permission, competing-acquire, release-then-handoff, foreign-release, drop-preserving, acquire-preserving, environment, try-lock, transactional, acquire-bucket, release-all, acquire-locks, acquire-sorted, crew, crew-at-work, script-of, place-of, given-up, foreign, perform, Clear, rules}
 use Rattle.history.specs.Statements.{log-of, Named, Named-alone}
 use Rattle.history.specs.Tests.{in-take, if-cases}
-use Rattle.history.specs.Judged.{judged-at, acting, steps, performed}
+use Rattle.history.specs.Judged.{judged-at, acting, past-checks, performed}
 use Rattle.history.specs.Calls.{words-leases}
-use Rattle.history.specs.Naming.{Leases, Told, any, none, more, andthen, told, handed, and-took, at-script, at-caller, boundary-told, take-told, lock-told, attempt-told, retry-told, back-told, locks-told}
-use Rattle.history.specs.NamingCrew.{crew-told}
+use Rattle.history.specs.Naming.{Leases, Accounted, any, none, more, andthen, accounted, handed, and-took, at-script, at-caller, boundary-accounted, take-accounted, lock-accounted, attempt-accounted, retry-accounted, back-accounted, locks-accounted}
+use Rattle.history.specs.NamingCrew.{crew-accounted}
 
 -- ---- leases in a list
 
@@ -41,54 +41,54 @@ in-at ls i h = rw (take-length ls) at (in-take ls (length ls) i noHold h h)
 abbrev Mine : Call → Leases
 Mine k c s = isIn (holdOf c s) (given-up k) ≡ true
 
-acquire-told : (n : ℕ) (h : Head) (t : List ℕ) (c : ℕ) (A : Leases) → Told [] 0 A (acquireOf n h t c .log) any
+acquire-accounted : (n : ℕ) (h : Head) (t : List ℕ) (c : ℕ) (A : Leases) → Accounted [] 0 A (acquireOf n h t c .log) any
 unfolding acquireOf
-acquire-told n h t c A = more tt (handed (take-told [] 0 (and-took A attempt-begun) (h .next) t c))
+acquire-accounted n h t c A = more tt (handed (take-accounted [] 0 (and-took A attempt-begun) (h .next) t c))
 
-steps-told : (w : World) (k : Call) → Clear (rules w k) → Told (script-of k) (place-of k) (Mine k) (steps w k .log) any
-steps-told w (try-acquire c) _ = acquire-told 1 (w .head) (w .table) c _
-steps-told w (drop-lease l) _ = more (in-at (holdIn l ∷ []) 0 (omega arith)) (none tt)
-steps-told w (read-permission l) _ = none tt
-steps-told w (competing-acquire l) _ = acquire-told 1 (w .head) (w .table) (l .cell) _
-steps-told w (release-then-handoff l) _ = more (in-at (holdIn l ∷ []) 0 (omega arith)) (acquire-told 1 (w .head) (setCell (w .table) (l .cell) 0 0) (l .cell) _)
-steps-told w (foreign-release held l) _ =
+past-checks-accounted : (w : World) (k : Call) → Clear (rules w k) → Accounted (script-of k) (place-of k) (Mine k) (past-checks w k .log) any
+past-checks-accounted w (try-acquire c) _ = acquire-accounted 1 (w .head) (w .table) c _
+past-checks-accounted w (drop-lease l) _ = more (in-at (holdIn l ∷ []) 0 (omega arith)) (none tt)
+past-checks-accounted w (read-permission l) _ = none tt
+past-checks-accounted w (competing-acquire l) _ = acquire-accounted 1 (w .head) (w .table) (l .cell) _
+past-checks-accounted w (release-then-handoff l) _ = more (in-at (holdIn l ∷ []) 0 (omega arith)) (acquire-accounted 1 (w .head) (setCell (w .table) (l .cell) 0 0) (l .cell) _)
+past-checks-accounted w (foreign-release held l) _ =
     let m = acquireOf 1 (w .head) (w .table) (l .cell) .seen in
-    andthen (acquire-told 1 (w .head) (w .table) (l .cell) _)
-    (λ B i _. more (i _ _ (in-at (holdIn l ∷ []) 0 (omega arith))) (acquire-told 2 (m .0 .head) (setCell (m .1) (l .cell) 0 0) (l .cell) _))
-steps-told w (drop-preserving held l) _ = more (in-at (holdIn l ∷ []) 0 (omega arith)) (none tt)
-steps-told w (acquire-preserving held c) _ = acquire-told 1 (w .head) (w .table) c _
-steps-told w (environment script place held) _ =
-    told (boundary-told (acting w (environment script place held)) place (flowOf (w .head .next) place 0) (w .table) (w .health) _ (omega arith))
-steps-told w (try-lock script place held c) _ =
-    more tt (told (lock-told (acting w (try-lock script place held c)) (w .head .buckets) place (flowOf (w .head .next) place 0) (w .table) (w .health) c _ (omega arith)))
-steps-told w (transactional registry script place held binding bucket) _ =
+    andthen (acquire-accounted 1 (w .head) (w .table) (l .cell) _)
+    (λ B i _. more (i _ _ (in-at (holdIn l ∷ []) 0 (omega arith))) (acquire-accounted 2 (m .0 .head) (setCell (m .1) (l .cell) 0 0) (l .cell) _))
+past-checks-accounted w (drop-preserving held l) _ = more (in-at (holdIn l ∷ []) 0 (omega arith)) (none tt)
+past-checks-accounted w (acquire-preserving held c) _ = acquire-accounted 1 (w .head) (w .table) c _
+past-checks-accounted w (environment script place held) _ =
+    accounted (boundary-accounted (acting w (environment script place held)) place (flowOf (w .head .next) place 0) (w .table) (w .health) _ (omega arith))
+past-checks-accounted w (try-lock script place held c) _ =
+    more tt (accounted (lock-accounted (acting w (try-lock script place held c)) (w .head .buckets) place (flowOf (w .head .next) place 0) (w .table) (w .health) c _ (omega arith)))
+past-checks-accounted w (transactional registry script place held binding bucket) _ =
     let k = transactional registry script place held binding bucket in
-    told (attempt-told (acting w k) place (w .head .buckets) registry binding bucket (starting (w .head) place) (w .table) (w .health) (Mine k) (omega arith))
-steps-told w (acquire-bucket registry script place held binding bucket) _ =
+    accounted (attempt-accounted (acting w k) place (w .head .buckets) registry binding bucket (starting (w .head) place) (w .table) (w .health) (Mine k) (omega arith))
+past-checks-accounted w (acquire-bucket registry script place held binding bucket) _ =
     let k = acquire-bucket registry script place held binding bucket in
-    told (retry-told (acting w k) place (w .head .buckets) registry binding bucket attemptLimit 0 noneYet (starting (w .head) place) (w .table) (w .health) (Mine k) (omega arith))
-steps-told w (release-all script place leases) _ =
-    back-told (leaseCount leases) (acting w (release-all script place leases)) place (holdsOf leases) (starting (w .head) place) (w .table) (w .health) _ (omega arith)
+    accounted (retry-accounted (acting w k) place (w .head .buckets) registry binding bucket attemptLimit 0 noneYet (starting (w .head) place) (w .table) (w .health) (Mine k) (omega arith))
+past-checks-accounted w (release-all script place leases) _ =
+    back-accounted (leaseCount leases) (acting w (release-all script place leases)) place (holdsOf leases) (starting (w .head) place) (w .table) (w .health) _ (omega arith)
     (λ i h. in-at (holdsOf leases) i (omega (arith, words-leases leases)))
-steps-told w (acquire-locks registry script place held keys grants) _ =
+past-checks-accounted w (acquire-locks registry script place held keys grants) _ =
     let k = acquire-locks registry script place held keys grants in
-    locks-told (acting w k) place (w .head .buckets) (w .head .boot) registry keys grants (countIn keys) 0 [] (starting (w .head) place) (w .table) (w .health) (Mine k) (omega arith)
+    locks-accounted (acting w k) place (w .head .buckets) (w .head .boot) registry keys grants (countIn keys) 0 [] (starting (w .head) place) (w .table) (w .health) (Mine k) (omega arith)
     (λ i h. absurd (omega arith))
-steps-told w (acquire-sorted registry script place held keys grants) _ =
+past-checks-accounted w (acquire-sorted registry script place held keys grants) _ =
     let k = acquire-sorted registry script place held keys grants in
-    judged-at (λ (m : Made (World × Says)). Told script place (Mine k) (m .log) any) (firstKey (countIn keys) 0 (w .head) registry keys) (λ r p _. none tt)
+    judged-at (λ (m : Made (World × Says)). Accounted script place (Mine k) (m .log) any) (firstKey (countIn keys) 0 (w .head) registry keys) (λ r p _. none tt)
     (λ _.
-    locks-told (acting w k) place (w .head .buckets) (w .head .boot) registry (sortedKeys (w .head .buckets) registry keys) grants (length (cellsSorted (w .head .buckets) registry keys)) 0 [] (starting (w .head) place) (w .table) (w .health) (Mine k) (omega arith)
+    locks-accounted (acting w k) place (w .head .buckets) (w .head .boot) registry (sortedKeys (w .head .buckets) registry keys) grants (length (cellsSorted (w .head .buckets) registry keys)) 0 [] (starting (w .head) place) (w .table) (w .health) (Mine k) (omega arith)
     (λ i h. absurd (omega arith)))
-steps-told w (crew counts cells turns) fine = crew-told rests w counts cells turns [] (Mine (crew counts cells turns)) (crew-plan _ _ _ counts cells turns fine)
-steps-told w (crew-at-work counts cells turns counters) fine =
-    crew-told adds w counts cells turns counters (Mine (crew-at-work counts cells turns counters)) (crew-at-work-plan _ _ _ counts cells turns counters fine)
+past-checks-accounted w (crew counts cells turns) fine = crew-accounted rests w counts cells turns [] (Mine (crew counts cells turns)) (crew-plan _ _ _ counts cells turns fine)
+past-checks-accounted w (crew-at-work counts cells turns counters) fine =
+    crew-accounted adds w counts cells turns counters (Mine (crew-at-work counts cells turns counters)) (crew-at-work-plan _ _ _ counts cells turns counters fine)
 
-call-told : (w : World) (k : Call) → Told (script-of k) (place-of k) (Mine k) (log-of w k) any
-call-told w k = performed (λ m. Told (script-of k) (place-of k) (Mine k) (m .log) any) w k (λ r. none tt) (steps-told w k)
+call-accounted : (w : World) (k : Call) → Accounted (script-of k) (place-of k) (Mine k) (log-of w k) any
+call-accounted w k = performed (λ m. Accounted (script-of k) (place-of k) (Mine k) (m .log) any) w k (λ r. none tt) (past-checks-accounted w k)
 
 pub calls-named : Named perform
-calls-named w k c s before after = (λ e. at-script c s (call-told w k) before after e, λ e. at-caller c s (call-told w k) before after e)
+calls-named w k c s before after = (λ e. at-script c s (call-accounted w k) before after e, λ e. at-caller c s (call-accounted w k) before after e)
 
 -- ---- a lone foreign step
 

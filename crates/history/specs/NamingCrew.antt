@@ -26,7 +26,7 @@ use Rattle.history.specs.Items.{Clear}
 use Rattle.history.specs.Tests.{if-cases}
 use Rattle.history.specs.Judged.{shifted}
 use Rattle.history.specs.Crew.{limits, Holds}
-use Rattle.history.specs.Naming.{Leases, Sub, Told, any, none, more, andthen, told, Given, lock-told}
+use Rattle.history.specs.Naming.{Leases, Sub, Accounted, any, none, more, andthen, accounted, Given, lock-accounted}
 
 -- a list after one place was written, perhaps past its end
 set-at : (l : List ℕ) (i j v : ℕ) → (getD (set l i v) j 0 ≡ getD l j 0) ⊎ ((j ≡ i) × (getD (set l i v) j 0 ≡ v))
@@ -87,18 +87,18 @@ module _ (work : Work) (counts cells : List ℕ) where
   -- ---- turns
 
   abbrev Turned : Leases → Made Crew → Type 0
-  Turned A m = Told [] 0 A (m .log) (Keeps (m .seen))
+  Turned A m = Accounted [] 0 A (m .log) (Keeps (m .seen))
 
   module _ (headers buckets : ℕ) (g : List ℕ) (few : total counts ≤ 256) where
-    try-told : (w : Crew) (m n : ℕ) (A : Leases) → n ≡ getD (w .made) m 0 → n < countOf counts m → Keeps w A
+    try-accounted : (w : Crew) (m n : ℕ) (A : Leases) → n ≡ getD (w .made) m 0 → n < countOf counts m → Keeps w A
         → Turned A (tryTurnOf headers buckets g w m (startOf counts m + n) (getD cells (startOf counts m + n) 0))
     unfolding tryTurnOf
-    try-told w m n A is less k =
+    try-accounted w m n A is less k =
         let c = getD cells (startOf counts m + n) 0 in
         let e = setting headers (headers * buckets) [] [] in
         let l = lockOf e buckets (flowOf (w .next) 0 0) (w .table) g c .seen in
         if-both (Turned A) (isPoisoned g (headerOf buckets c)) (none k)
-        (more tt (andthen (lock-told e buckets 0 (flowOf (w .next) 0 0) (w .table) g c _ (omega arith))
+        (more tt (andthen (lock-accounted e buckets 0 (flowOf (w .next) 0 0) (w .table) g c _ (omega arith))
         (λ B i h. none (go (l .0 .flow .next) (l .1 .0) B (wider (λ c s a. i c s (inl a)) k) (lock-comes e buckets c (flowOf (w .next) 0 0) (w .table) g) (h .0)))))
       where
         go : {x : List ℕ} {o : Outcome} (next : ℕ) (t : List ℕ) (B : Leases) → Keeps w B
@@ -110,46 +110,46 @@ module _ (work : Work) (counts cells : List ℕ) where
         go next t B h spent a = h
 
     -- that it holds all tells of no lease
-    filled-told : (w : Crew) (m : ℕ) (A : Leases) → Keeps w A → Turned A (heldAllOf counts cells w m)
+    filled-accounted : (w : Crew) (m : ℕ) (A : Leases) → Keeps w A → Turned A (heldAllOf counts cells w m)
     unfolding heldAllOf
-    filled-told w m A k = go (isFull counts (w .made) m)
+    filled-accounted w m A k = go (isFull counts (w .made) m)
       where
-        go : (b : Bool) → Told [] 0 A (((if b then note (held-all m) else gives tt) >> gives w) .log) (Keeps w)
+        go : (b : Bool) → Accounted [] 0 A (((if b then note (held-all m) else gives tt) >> gives w) .log) (Keeps w)
         go true = more tt (none (wider (λ c s a. inl a) k))
         go false = none k
 
-    add-told : (w : Crew) (m n c : ℕ) (A : Leases) → n ≡ getD (w .made) m 0 → countOf counts m ≤ n → Keeps w A → Turned A (addTurnOf w m c)
+    add-accounted : (w : Crew) (m n c : ℕ) (A : Leases) → n ≡ getD (w .made) m 0 → countOf counts m ≤ n → Keeps w A → Turned A (addTurnOf w m c)
     unfolding addTurnOf
-    add-told w m n c A is all k = more tt (none (wider (λ c s a. inl a) (rw (← is) (gave-noted (w .made) (w .serials) m n A is all k))))
+    add-accounted w m n c A is all k = more tt (none (wider (λ c s a. inl a) (rw (← is) (gave-noted (w .made) (w .serials) m n A is all k))))
 
-    release-told : (w : Crew) (m n : ℕ) (A : Leases) → n ≡ getD (w .made) m 0 → countOf counts m + addsOf work (countOf counts m) ≤ n → n < movesOf work (countOf counts m) → Keeps w A
+    release-accounted : (w : Crew) (m n : ℕ) (A : Leases) → n ≡ getD (w .made) m 0 → countOf counts m + addsOf work (countOf counts m) ≤ n → n < movesOf work (countOf counts m) → Keeps w A
         → let j = startOf counts m + (movesOf work (countOf counts m) - 1 - n) in Turned A (releaseTurnOf w m j (getD cells j 0))
     unfolding releaseTurnOf
-    release-told w m n A is all some k =
+    release-accounted w m n A is all some k =
         more (k .names m (movesOf work (countOf counts m) - 1 - n) (omega arith, omega arith, omega arith))
         (none (wider (λ c s a. inl a) (rw (← is) (gave-noted (w .made) (w .serials) m n A is (omega arith) k))))
 
-    turn-told : (w : Crew) (m : ℕ) (A : Leases) → Keeps w A → Turned A (turnOf work headers buckets g counts cells w m)
+    turn-accounted : (w : Crew) (m : ℕ) (A : Leases) → Keeps w A → Turned A (turnOf work headers buckets g counts cells w m)
     unfolding turnOf
-    turn-told w m A k =
+    turn-accounted w m A k =
         let n = getD (w .made) m 0 in
         let count = countOf counts m in
         let all = movesOf work count in
         if-cases (Turned A) (leb all n) (λ _. none k)
         (λ some. if-cases (Turned A) (ltb n count)
-        (λ less. andthen (try-told w m n A refl (ltb-true n count less) k)
-        (λ B i h. filled-told (tryTurnOf headers buckets g w m (startOf counts m + n) (getD cells (startOf counts m + n) 0) .seen) m B h))
-        (λ held. if-cases (Turned A) (ltb n (count + addsOf work count)) (λ less. add-told w m n (getD cells (startOf counts m + (n - count)) 0) A refl (ltb-false n count held) k)
-        (λ worked. release-told w m n A refl (ltb-false n (count + addsOf work count) worked) (leb-false all n some) k)))
+        (λ less. andthen (try-accounted w m n A refl (ltb-true n count less) k)
+        (λ B i h. filled-accounted (tryTurnOf headers buckets g w m (startOf counts m + n) (getD cells (startOf counts m + n) 0) .seen) m B h))
+        (λ held. if-cases (Turned A) (ltb n (count + addsOf work count)) (λ less. add-accounted w m n (getD cells (startOf counts m + (n - count)) 0) A refl (ltb-false n count held) k)
+        (λ worked. release-accounted w m n A refl (ltb-false n (count + addsOf work count) worked) (leb-false all n some) k)))
 
-    pub turns-told : (turns : List ℕ) (w : Crew) (A : Leases) → Keeps w A → Turned A (turnsOf work headers buckets g counts cells w turns)
+    turns-accounted : (turns : List ℕ) (w : Crew) (A : Leases) → Keeps w A → Turned A (turnsOf work headers buckets g counts cells w turns)
     unfolding turnsOf
-    turns-told [] w A k = none k
-    turns-told (m ∷ ms) w A k = andthen (turn-told w m A k) (λ B i h. turns-told ms (turnOf work headers buckets g counts cells w m .seen) B h)
+    turns-accounted [] w A k = none k
+    turns-accounted (m ∷ ms) w A k = andthen (turn-accounted w m A k) (λ B i h. turns-accounted ms (turnOf work headers buckets g counts cells w m .seen) B h)
 
 -- from nothing noted
-pub crew-told : (work : Work) (w : World) (counts cells turns counters : List ℕ) (A : Leases) → Clear (planRules (w .head) counts cells turns) → Told [] 0 A (shifted work w counts cells turns counters .log) any
-crew-told work w counts cells turns counters A fine =
-    told (turns-told work counts cells (w .head .headers) (w .head .buckets) (w .health) (limits (w .head) counts cells turns fine .small)
+pub crew-accounted : (work : Work) (w : World) (counts cells turns counters : List ℕ) (A : Leases) → Clear (planRules (w .head) counts cells turns) → Accounted [] 0 A (shifted work w counts cells turns counters .log) any
+crew-accounted work w counts cells turns counters A fine =
+    accounted (turns-accounted work counts cells (w .head .headers) (w .head .buckets) (w .health) (limits (w .head) counts cells turns fine .small)
     turns (crewStart (w .head) (w .table) counters) A
     (record { room = refl; names = λ q j h. absurd (omega (arith, zeros 16 q)) }))

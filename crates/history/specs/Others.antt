@@ -21,12 +21,12 @@ use Rattle.types.specs.declared.State.the-variants as state
 use Rattle.types.specs.declared.Stepped.{Stepped}
 use Rattle.types.specs.declared.Took.{Took}
 use Rattle.choice.specs.Pick.{both}
-use Rattle.history.specs.World.{World, worldOf, cells, Free, Live, Legal, step, now, Lawful}
+use Rattle.history.specs.World.{World, worldOf, cells, Free, Live, Legal, after-event, now, Lawful}
 use Rattle.history.specs.Items.{Says, says, try-acquire, drop-lease, perform, foreign, Item, Course, next-item, run, Call, cold, foreign-step, history-of, call, noted, saying, entryOf}
 use Rattle.history.specs.Statements.{answers, leaves, log-of}
-use Rattle.history.specs.Callers.{Shape-fits, Takes-alike, Take-is-call, Releases-alike, Release-is-call, single, singles, replay, replays, By-single-calls, Histories-single, Played-singly}
+use Rattle.history.specs.Callers.{Shape-fits, Takes-alike, Take-is-call, Releases-alike, Release-is-call, single, singles, replay, replays, By-single-calls, Histories-single, Done-singly}
 use Rattle.history.specs.Tests.{differ, free-words, is-free-state, if-cases}
-use Rattle.history.specs.Events.{Fit, fit, fit-step, fits, good}
+use Rattle.history.specs.Events.{Fit, fit, fit-after, fits, good}
 use Rattle.history.specs.Logs.{lawful-split, boot-now}
 use Rattle.history.specs.Judged.{performed}
 use Rattle.history.specs.Calls.{at-point}
@@ -35,15 +35,15 @@ use Rattle.history.specs.Writers.{through}
 
 -- ---- a call that takes or releases
 
-pub taken-alone : (w : World) (c : ℕ) → Shape-fits w → Free w c → w .head .next < lastSerial
+taken-alone : (w : World) (c : ℕ) → Shape-fits w → Free w c → w .head .next < lastSerial
     → perform w (try-acquire c)
-    ≡ record { seen = (step w (took by-caller c (w .head .next)), says (Granted (leaseOf c (w .head .next) (w .head .boot))) (countsOf 1 0 0 0) 0 []); log = attempt-begun ∷ took by-caller c (w .head .next) ∷ [] }
+    ≡ record { seen = (after-event w (took by-caller c (w .head .next)), says (Granted (leaseOf c (w .head .next) (w .head .boot))) (countsOf 1 0 0 0) 0 []); log = attempt-begun ∷ took by-caller c (w .head .next) ∷ [] }
 unfolding perform tryAcquireOf cellRules first acquireOf takeOf
 taken-alone w c s f l = rw (s, lt-leb (cells w) c (f .0), f .1, lt-ltb (w .head .next) lastSerial l)
 
 pub released-alone : (w : World) (c s : ℕ) → Shape-fits w → Live w (holdOf c s)
     → perform w (drop-lease (leaseOf c s (w .head .boot)))
-    ≡ record { seen = (step w (released by-caller c s), says Done (countsOf 0 0 0 0) 0 []); log = released by-caller c s ∷ [] }
+    ≡ record { seen = (after-event w (released by-caller c s), says Done (countsOf 0 0 0 0) 0 []); log = released by-caller c s ∷ [] }
 unfolding perform dropLeaseOf leaseRules first
 released-alone w c s f l = rw (f, eq-eqb (w .head .boot) (w .head .boot) refl, l)
 
@@ -69,7 +69,7 @@ not-released w l n = performed (λ m. m .seen .0 ≡ w) w (drop-lease l) (λ r. 
 -- what a foreign take comes to
 data Foreign-take (w : World) (c : ℕ) : Made World → Type 0 where
   performed-take : Free w c → w .head .next < lastSerial
-      → Foreign-take w c (record { seen = step w (took by-script c (w .head .next)); log = took by-script c (w .head .next) ∷ [] })
+      → Foreign-take w c (record { seen = after-event w (took by-script c (w .head .next)); log = took by-script c (w .head .next) ∷ [] })
   dropped-take : (Free w c → w .head .next < lastSerial → ⊥) → Foreign-take w c (record { seen = w; log = step-dropped ∷ [] })
 
 free-test : (w : World) (c : ℕ) → Free w c → isFree (bitAt (w .table) c) (ownerAt (w .table) c) ≡ true
@@ -114,7 +114,7 @@ take-is-call w c number s fit = go (foreign-take w c number)
 
 -- what a foreign release comes to: nobody's lease is protected between calls
 data Foreign-release (w : World) (c s : ℕ) : Made World → Type 0 where
-  performed-release : Live w (holdOf c s) → Foreign-release w c s (record { seen = step w (released by-script c s); log = released by-script c s ∷ [] })
+  performed-release : Live w (holdOf c s) → Foreign-release w c s (record { seen = after-event w (released by-script c s); log = released by-script c s ∷ [] })
   dropped-release : isLive (w .head .next) (cells w) (w .table) (holdOf c s) ≡ false → Foreign-release w c s (record { seen = w; log = step-dropped ∷ [] })
 
 foreign-release : (w : World) (c s : ℕ) → Foreign-release w c s (foreign w 2 c s)
@@ -144,27 +144,27 @@ release-is-call w c s fit = go (foreign-release w c s)
 
 -- ---- a log is a history of single calls
 
-waiters-alone : (w : World) (c n : ℕ) → c < cells w → foreign w 3 c n ≡ record { seen = step w (waiters-set c n); log = waiters-set c n ∷ [] }
+waiters-alone : (w : World) (c n : ℕ) → c < cells w → foreign w 3 c n ≡ record { seen = after-event w (waiters-set c n); log = waiters-set c n ∷ [] }
 unfolding foreign stepOf stepWaitersOf
 waiters-alone w c n l = rw (lt-ltb c (cells w) l)
 
-health-alone : (w : World) (i n : ℕ) → Legal w (health-set i n) → foreign w 4 i n ≡ record { seen = step w (health-set i n); log = health-set i n ∷ [] }
+health-alone : (w : World) (i n : ℕ) → Legal w (health-set i n) → foreign w 4 i n ≡ record { seen = after-event w (health-set i n); log = health-set i n ∷ [] }
 unfolding foreign stepOf stepHealthOf
 health-alone w i n l = rw (lt-ltb i (w .head .headers) (l .0), le-leb n 1 (l .1))
 
 -- one event, behind others: what is done, and the world that is left
-record Plays (k : Course) (is : List Item) (es : List Event) (v : World) : Type 0 where
+record Comes-to (k : Course) (is : List Item) (es : List Event) (v : World) : Type 0 where
   did : history-of (run k is) ≡ history-of k ++ es
   left : run k is .world ≡ v
 
 one-item : (k : Course) (es : List Event) (s : Says) (v : World) → history-of (noted k es s v) ≡ history-of k ++ es
 one-item k es s v = events-append (k .entries) (entryOf es s ∷ []) ∙ ap (λ (l : List Event). history-of k ++ l) (append-nil es)
 
-no-item : (k : Course) → Plays k [] [] (k .world)
+no-item : (k : Course) → Comes-to k [] [] (k .world)
 unfolding run
 no-item k = record { did = sym (append-nil (history-of k)); left = refl }
 
-called : (k : Course) (c : Call) {v : World} {s : Says} {es : List Event} → perform (k .world) c ≡ record { seen = (v, s); log = es } → Plays k (call c ∷ []) es v
+called : (k : Course) (c : Call) {v : World} {s : Says} {es : List Event} → perform (k .world) c ≡ record { seen = (v, s); log = es } → Comes-to k (call c ∷ []) es v
 unfolding run next-item
 called k c {v} {s} {es} p =
     record {
@@ -173,7 +173,7 @@ called k c {v} {s} {es} p =
     }
 
 stepped : (k : Course) (kind place number : ℕ) {v : World} {es : List Event} → foreign (k .world) kind place number ≡ record { seen = v; log = es }
-    → Plays k (foreign-step kind place number ∷ []) es v
+    → Comes-to k (foreign-step kind place number ∷ []) es v
 unfolding run next-item
 stepped k kind place number {v} {es} p =
     record {
@@ -181,7 +181,7 @@ stepped k kind place number {v} {es} p =
       left = ap (λ (m : Made World). m .seen) p;
     }
 
-replayed : (k : Course) (e : Event) → Fit (k .world) → Legal (k .world) e → Plays k (single (k .world .head .boot) e) (replay e) (step (k .world) e)
+replayed : (k : Course) (e : Event) → Fit (k .world) → Legal (k .world) e → Comes-to k (single (k .world .head .boot) e) (replay e) (after-event (k .world) e)
 unfolding run next-item
 replayed k attempt-begun g l = no-item k
 replayed k boundary-run g l = no-item k
@@ -204,13 +204,13 @@ unfolding run
 run-append k [] ys = refl
 run-append k (x ∷ xs) ys = run-append (next-item k x) xs ys
 
-log-replayed : (k : Course) (es : List Event) → Fit (k .world) → Lawful (k .world) es → Plays k (singles (k .world .head .boot) es) (replays es) (now (k .world) es)
+log-replayed : (k : Course) (es : List Event) → Fit (k .world) → Lawful (k .world) es → Comes-to k (singles (k .world .head .boot) es) (replays es) (now (k .world) es)
 log-replayed k [] g l = no-item k
 log-replayed k (e ∷ es) g l =
     let boot = k .world .head .boot in
     let one = replayed k e g (l .0) in
     let j = run k (single boot e) in
-    let all = log-replayed j es (subst Fit (sym (one .left)) (fit-step (k .world) e g (l .0))) (subst (λ (v : World). Lawful v es) (sym (one .left)) (l .1)) in
+    let all = log-replayed j es (subst Fit (sym (one .left)) (fit-after (k .world) e g (l .0))) (subst (λ (v : World). Lawful v es) (sym (one .left)) (l .1)) in
     -- the boot number is the one before
     let same : j .world .head .boot ≡ boot = ap (λ (v : World). v .head .boot) (one .left) ∙ boot-now (k .world) (e ∷ []) in
     let parts = run-append k (single boot e) (singles boot es) in
@@ -220,17 +220,17 @@ log-replayed k (e ∷ es) g l =
       left = ap (λ (c : Course). c .world) (parts ∙ sym on) ∙ all .left ∙ ap (λ (v : World). now v es) (one .left);
     }
 
-played-singly : (w : World) (es : List Event) → Fit w → Lawful w es → Played-singly w es
-played-singly w es g l = let p = log-replayed (cold w) es g l in record { did = p .did; left = p .left }
+done-singly : (w : World) (es : List Event) → Fit w → Lawful w es → Done-singly w es
+done-singly w es g l = let p = log-replayed (cold w) es g l in record { did = p .did; left = p .left }
 
 pub by-single-calls : By-single-calls perform
-by-single-calls w k before after e = at-point (Played-singly w) w k before after e nothing-played (λ g l. played-singly w before g l)
+by-single-calls w k before after e = at-point (Done-singly w) w k before after e nothing-done (λ g l. done-singly w before g l)
   where
-    nothing-played : Played-singly w []
-    nothing-played = let p = no-item (cold w) in record { did = p .did; left = p .left }
+    nothing-done : Done-singly w []
+    nothing-done = let p = no-item (cold w) in record { did = p .did; left = p .left }
 
 pub histories-single : Histories-single
 histories-single rubbish start items d before after e =
     let w = run (cold rubbish) (start ∷ items) in
     let s = through rubbish start items d .stretch in
-    played-singly (w .origin) before (fit (s .good)) (lawful-split (w .origin) before after (subst (Lawful (w .origin)) e (s .lawful)) .0)
+    done-singly (w .origin) before (fit (s .good)) (lawful-split (w .origin) before after (subst (Lawful (w .origin)) e (s .lawful)) .0)

@@ -61,7 +61,7 @@ pub data Settles (L : Hold → Type 0) : List Event → Type 0 where
   none : Settles L []
   more : (e : Event) {es : List Event} → Owed L e es → Settles L es → Settles L (e ∷ es)
 
-pub frees-left : {l : Hold} {xs : List Event} (ys : List Event) → Frees l xs → Frees l (xs ++ ys)
+frees-left : {l : Hold} {xs : List Event} (ys : List Event) → Frees l xs → Frees l (xs ++ ys)
 frees-left ys (freed-here es) = freed-here (es ++ ys)
 frees-left ys (freed-later e f) = freed-later e (frees-left ys f)
 
@@ -121,12 +121,12 @@ pub loosen : {L M : Hold → Type 0} {es : List Event} → ((l : Hold) → L l �
 loosen {es = es} f a = subst (Settles _) (append-nil es) (join a none (λ l x. inl (f l x)))
 
 -- a part in which the caller takes nothing
-pub quiet : {K : Hold → Type 0} {es : List Event} → Settles Nobody es → Settles K es
-quiet a = loosen (λ l x. absurd x) a
+pub nobody-owes : {K : Hold → Type 0} {es : List Event} → Settles Nobody es → Settles K es
+nobody-owes a = loosen (λ l x. absurd x) a
 
-pub after-quiet : {A : Type 0} {L : A → Hold → Type 0} {before : Hold → Type 0} {xs : List Event} {m : Made A}
+after-nobody : {A : Type 0} {L : A → Hold → Type 0} {before : Hold → Type 0} {xs : List Event} {m : Made A}
     → Settles Nobody xs → Hands L before m → Hands L before (record { seen = m .seen; log = xs ++ m .log })
-after-quiet a b = hand (quiet a) (λ l x. inl x) b
+after-nobody a b = hand (nobody-owes a) (λ l x. inl x) b
 
 -- ---- foreign steps and boundaries
 
@@ -209,7 +209,7 @@ module _ (e : Setting) (buckets : ℕ) where
   unfolding lateStageOf
   late-hands f t g c s =
       let m = boundaryOf (protecting e (holdOf c s ∷ [])) f t g .seen in
-      after-quiet (boundary-silent (protecting e (holdOf c s ∷ [])) f t g)
+      after-nobody (boundary-silent (protecting e (holdOf c s ∷ [])) f t g)
       (if-both (Hands of-locked (λ l. holdOf c s ≡ l)) (isPoisoned (m .1 .1) (headerOf buckets c))
       (record { settles = more (released by-caller c s) tt none; passes = λ l x. inr (subst (λ k. Frees k (released by-caller c s ∷ [])) x (freed-here [])) })
       (if-both (Hands of-locked (λ l. holdOf c s ≡ l)) (eqb (waitersAt (m .1 .0) c) 0)
@@ -229,14 +229,14 @@ module _ (e : Setting) (buckets : ℕ) where
   second-hands f t g c =
       let m = boundaryOf e f t g .seen in
       let k = takeOf (m .0 .next) (m .1 .0) c .seen in
-      after-quiet (boundary-silent e f t g)
+      after-nobody (boundary-silent e f t g)
       (hand (take-hands (m .0 .next) (m .1 .0) c) (λ l x. absurd x) (after-hands (k .0 .answer) (flowOf (k .0 .next) (m .0 .place) (m .0 .dropped)) (k .1) (m .1 .1) c))
 
   pub lock-hands : (f : Flow) (t g : List ℕ) (c : ℕ) → Hands of-locked Nobody (lockOf e buckets f t g c)
   unfolding lockOf
   lock-hands f t g c =
       let m = boundaryOf e f t g .seen in
-      after-quiet (boundary-silent e f t g)
+      after-nobody (boundary-silent e f t g)
       (if-both (Hands of-locked Nobody) (eqb (waitersAt (m .1 .0) c) 0) (second-hands (m .0) (m .1 .0) (m .1 .1) c)
       (record { settles = none; passes = λ l x. absurd x }))
 
@@ -250,7 +250,7 @@ module _ (e : Setting) where
       → Hands of-tried Nobody (attemptOf e buckets registry binding bucket r t g)
   unfolding attemptOf
   attempt-hands buckets registry binding bucket r t g =
-      after-quiet (more attempt-begun tt none) (attempt-at-hands e buckets (findOf (e .headers) buckets g registry binding bucket) r t g)
+      after-nobody (more attempt-begun tt none) (attempt-at-hands e buckets (findOf (e .headers) buckets g registry binding bucket) r t g)
 
   spin-silent : (r : Run) (t g : List ℕ) → Silent (spinOf e r t g)
   unfolding spinOf
@@ -278,7 +278,7 @@ module _ (e : Setting) where
       let again = retry-hands left (i + 1) _ buckets registry binding bucket (p .0) (p .1 .0) (p .1 .1) in
       hand (attempt-hands buckets registry binding bucket r t g .settles) (λ l x. absurd x)
       (if-cases (Hands of-tried (of-tried m)) (isBusy (m .0 .outcome))
-      (λ b. busy (m .0 .outcome) b (after-quiet (pause-silent i (m .0 .run) (m .1 .0) (m .1 .1)) again))
+      (λ b. busy (m .0 .outcome) b (after-nobody (pause-silent i (m .0 .run) (m .1 .0) (m .1 .1)) again))
       (λ b. record { settles = none; passes = λ l x. inl x }))
     where
       -- a Busy attempt hands nothing on
@@ -300,7 +300,7 @@ module _ (e : Setting) where
       let rest = give-back-hands n ls (runOf (m .0) (r .attempts) (r .boundaries + 1) (r .yields)) (m .1 .0) (m .1 .1) (omega arith) in
       hand {K = In (take n ls)} (more (released by-caller (l .cell) (l .serial)) tt none)
       (λ x i. go x (in-either x (take n ls) (l ∷ []) (subst (λ z. In z x) (take-suc ls n noHold (omega arith)) i)))
-      (after-quiet (boundary-silent (protecting e (take n ls)) (r .flow) u g) rest)
+      (after-nobody (boundary-silent (protecting e (take n ls)) (r .flow) u g) rest)
     where
       go : (x : Hold) → In (take n ls) x ⊎ In (holdAt ls n ∷ []) x → In (take n ls) x ⊎ Frees x (released by-caller (holdAt ls n .cell) (holdAt ls n .serial) ∷ [])
       go x (inl i) = inl i

@@ -35,7 +35,7 @@ use Rattle.laws.specs.Outcomes.{Comes, granted, busy, poisoned, damaged, spent,
 use Rattle.history.specs.World.{World}
 use Rattle.history.specs.Items.{Call, Says, unchanged, try-acquire, drop-lease, read-permission, competing-acquire, release-then-handoff, foreign-release, drop-preserving, acquire-preserving, environment, try-lock, transactional, acquire-bucket, release-all, acquire-locks, acquire-sorted, crew, crew-at-work, ByCell, perform}
 use Rattle.history.specs.Statements.{Early, Changes-nothing, Crew-refused, nobody-moved, Crew-at-work-refused}
-use Rattle.history.specs.Judged.{judged, judged-at, acting, sorted-locks, steps, performed}
+use Rattle.history.specs.Judged.{judged, judged-at, acting, sorted-locks, past-checks, performed}
 
 -- ---- which refusals steps answer
 
@@ -152,43 +152,43 @@ asked-late P asked sorted (answer.RefusedAt r p) h = tt
 abbrev Bounded : Call → Answer → Type 0
 Bounded k a = OfAnswer Late-by-cell a ⊎ ((ByCell k → ⊥) × OfAnswer Late a)
 
-steps-late : (w : World) (k : Call) → Bounded k (steps w k .seen .1 .answer)
-steps-late w (try-acquire c) = inl (acquire-late 1 (w .head) (w .table) c)
-steps-late w (drop-lease l) = inl tt
-steps-late w (read-permission l) = inl tt
-steps-late w (competing-acquire l) = inl (acquire-late 1 (w .head) (w .table) (l .cell))
-steps-late w (release-then-handoff l) = inl (acquire-late 1 (w .head) (setCell (w .table) (l .cell) 0 0) (l .cell))
-steps-late w (foreign-release held l) =
+past-checks-late : (w : World) (k : Call) → Bounded k (past-checks w k .seen .1 .answer)
+past-checks-late w (try-acquire c) = inl (acquire-late 1 (w .head) (w .table) c)
+past-checks-late w (drop-lease l) = inl tt
+past-checks-late w (read-permission l) = inl tt
+past-checks-late w (competing-acquire l) = inl (acquire-late 1 (w .head) (w .table) (l .cell))
+past-checks-late w (release-then-handoff l) = inl (acquire-late 1 (w .head) (setCell (w .table) (l .cell) 0 0) (l .cell))
+past-checks-late w (foreign-release held l) =
     let m = acquireOf 1 (w .head) (w .table) (l .cell) .seen in
     inl (acquire-late 2 (m .0 .head) (setCell (m .1) (l .cell) 0 0) (l .cell))
-steps-late w (drop-preserving held l) = inl tt
-steps-late w (acquire-preserving held c) = inl (acquire-late 1 (w .head) (w .table) c)
-steps-late w (environment script place held) = inl tt
-steps-late w (try-lock script place held c) =
+past-checks-late w (drop-preserving held l) = inl tt
+past-checks-late w (acquire-preserving held c) = inl (acquire-late 1 (w .head) (w .table) c)
+past-checks-late w (environment script place held) = inl tt
+past-checks-late w (try-lock script place held c) =
     let e = acting w (try-lock script place held c) in
     let f = flowOf (w .head .next) place 0 in
     inl (answer-late Late-by-cell (w .head .boot) (lockOf e (w .head .buckets) f (w .table) (w .health) c .seen .0 .answer) (lock-late (lock-comes e (w .head .buckets) c f (w .table) (w .health))))
-steps-late w (transactional registry script place held binding bucket) =
+past-checks-late w (transactional registry script place held binding bucket) =
     let e = acting w (transactional registry script place held binding bucket) in
     let o = attemptOf e (w .head .buckets) registry binding bucket (starting (w .head) place) (w .table) (w .health) .seen .0 .outcome in
     inr (λ z. z, answer-late Late (w .head .boot) o (attempt-late e (w .head .buckets) registry binding bucket (starting (w .head) place) (w .table) (w .health)))
-steps-late w (acquire-bucket registry script place held binding bucket) =
+past-checks-late w (acquire-bucket registry script place held binding bucket) =
     let e = acting w (acquire-bucket registry script place held binding bucket) in
     let o = retryOf attemptLimit 0 noneYet e (w .head .buckets) registry binding bucket (starting (w .head) place) (w .table) (w .health) .seen .0 .outcome in
     let late = retry-late e (w .head .buckets) registry binding bucket attemptLimit 0 noneYet (starting (w .head) place) (w .table) (w .health) in
     inr (λ z. z, answer-late Late (w .head .boot) (settled o) (settled-late o late))
-steps-late w (release-all script place leases) = inl tt
-steps-late w (acquire-locks registry script place held keys grants) =
+past-checks-late w (release-all script place leases) = inl tt
+past-checks-late w (acquire-locks registry script place held keys grants) =
     let e = acting w (acquire-locks registry script place held keys grants) in
     inl (locks-late Late-by-cell (countIn keys) 0 e (w .head .buckets) (w .head .boot) registry keys [] (starting (w .head) place) (w .table) (w .health) grants)
-steps-late w (acquire-sorted registry script place held keys grants) =
+past-checks-late w (acquire-sorted registry script place held keys grants) =
     let e = acting w (acquire-sorted registry script place held keys grants) in
     inl (judged-at (λ (m : Made (World × Says)). OfAnswer Late-by-cell (m .seen .1 .answer)) (firstKey (countIn keys) 0 (w .head) registry keys) (λ r p _. tt)
     (λ _.
     asked-late Late-by-cell (cellsAsked (w .head .buckets) registry keys) (cellsSorted (w .head .buckets) registry keys) (sorted-locks w registry script place held keys grants .seen .0 .answer)
     (locks-late Late-by-cell (length (cellsSorted (w .head .buckets) registry keys)) 0 e (w .head .buckets) (w .head .boot) registry (sortedKeys (w .head .buckets) registry keys) [] (starting (w .head) place) (w .table) (w .health) grants)))
-steps-late w (crew counts cells turns) = inl tt
-steps-late w (crew-at-work counts cells turns counters) = inl tt
+past-checks-late w (crew counts cells turns) = inl tt
+past-checks-late w (crew-at-work counts cells turns counters) = inl tt
 
 -- so no steps answer an early one, and checks leave all as it was
 never : (k : Call) (a : Answer) (r : Refusal) → Bounded k a → a ≡ answer.Refused r → Early k r → ⊥
@@ -202,13 +202,13 @@ never k a r b q = go (rw q at b)
     go (inr l) (inr (inl x)) = l .0 (x .1)
     go (inr l) (inr (inr x)) = omega arith
 
-pub steps-never : (w : World) (k : Call) (r : Refusal) → steps w k .seen .1 .answer ≡ answer.Refused r → Early k r → ⊥
-steps-never w k r = never k (steps w k .seen .1 .answer) r (steps-late w k)
+pub past-checks-never : (w : World) (k : Call) (r : Refusal) → past-checks w k .seen .1 .answer ≡ answer.Refused r → Early k r → ⊥
+past-checks-never w k r = never k (past-checks w k .seen .1 .answer) r (past-checks-late w k)
 
 pub refusals-early : Changes-nothing perform
 refusals-early w k r =
     performed (λ m. m .seen .1 .answer ≡ answer.Refused r → Early k r → m ≡ unchanged w k r) w k
-    (λ x q h. let z : x ≡ r = cc in rw z) (λ _ q h. absurd (steps-never w k r q h))
+    (λ x q h. let z : x ≡ r = cc in rw z) (λ _ q h. absurd (past-checks-never w k r q h))
 
 -- and a crew's reply, with its own counts
 pub crew-unmoved : Crew-refused crewOf

@@ -23,15 +23,15 @@ use Rattle.types.specs.declared.Outcome.the-variants as outcome
 use Rattle.types.specs.declared.Reply.{Reply}
 use Rattle.types.specs.declared.Run.{Run}
 use Rattle.laws.specs.Words.{Seen, here, there, see}
-use Rattle.history.specs.World.{World, cells, Live, step, now, Lawful}
+use Rattle.history.specs.World.{World, cells, Live, after-event, now, Lawful}
 use Rattle.history.specs.Items.{Call, Says, try-acquire, drop-lease, read-permission, competing-acquire, release-then-handoff, foreign-release, drop-preserving, acquire-preserving, environment, try-lock, transactional, acquire-bucket, release-all, acquire-locks, acquire-sorted, crew, crew-at-work, perform, IsCrew, buffer, Clear, rules}
 use Rattle.history.specs.Statements.{Hands-over, answers, log-of, Nothing-kept, leaves, Given-back, Gives, Nothing-new, buffer-in, Fails}
 use Rattle.history.specs.Tests.{alive, state-held, Alive}
-use Rattle.history.specs.Events.{Fit, fit-step, lives, next-step, live-before, at}
-use Rattle.history.specs.Judged.{clear-back, judged-at, acting, sorted-locks, steps, performed}
+use Rattle.history.specs.Events.{Fit, fit-after, lives, next-after, live-before, at}
+use Rattle.history.specs.Judged.{clear-back, judged-at, acting, sorted-locks, past-checks, performed}
 use Rattle.history.specs.Shared.{inner-handed}
 use Rattle.history.specs.Calls.{words-leases, call-kept, call-fit}
-use Rattle.history.specs.Owing.{Frees, freed-here, freed-later, Settles, none, more, join, loosen, quiet, Nobody, Given, boundary-silent, take-hands, lock-hands, attempt-hands, retry-hands, give-back-hands, locks-hands, frees-right, freed-at, settled-at}
+use Rattle.history.specs.Owing.{Frees, freed-here, freed-later, Settles, none, more, join, loosen, nobody-owes, Nobody, Given, boundary-silent, take-hands, lock-hands, attempt-hands, retry-hands, give-back-hands, locks-hands, frees-right, freed-at, settled-at}
 
 -- ---- what is released is gone
 
@@ -39,12 +39,12 @@ use Rattle.history.specs.Owing.{Frees, freed-here, freed-later, Settles,
 dead : (w : World) (es : List Event) (l : Hold) → Fit w → Lawful w es → l .serial < w .head .next → (Live w l → ⊥) → Live (now w es) l → ⊥
 dead w [] l f k i n v = n v
 dead w (e ∷ es) l f k i n v =
-    dead (step w e) es l (fit-step w e f (k .0)) (k .1) (omega (arith, next-step w e)) (λ x. n (live-before w e l f (k .0) x i)) v
+    dead (after-event w e) es l (fit-after w e f (k .0)) (k .1) (omega (arith, next-after w e)) (λ x. n (live-before w e l f (k .0) x i)) v
 
 -- a cell that was released is free
-pub released-dead : (w : World) (l : Hold) → Fit w → Live w l → Live (step w (released by-caller (l .cell) (l .serial))) l → ⊥
+pub released-dead : (w : World) (l : Hold) → Fit w → Live w l → Live (after-event w (released by-caller (l .cell) (l .serial))) l → ⊥
 released-dead w l f v u =
-    go (see (w .table) (l .cell) 0 0 (l .cell) (omega (arith, at w f (l .cell) (lives w l v .in-range)))) (lives (step w (released by-caller (l .cell) (l .serial))) l u)
+    go (see (w .table) (l .cell) 0 0 (l .cell) (omega (arith, at w f (l .cell) (lives w l v .in-range)))) (lives (after-event w (released by-caller (l .cell) (l .serial))) l u)
   where
     go : Seen (w .table) (l .cell) 0 0 (l .cell) → Alive (w .head .next) (cells w) (setCell (w .table) (l .cell) 0 0) l → ⊥
     go (here e p q) a = omega (arith, a .bit-is)
@@ -53,8 +53,8 @@ released-dead w l f v u =
 gone : {l : Hold} (w : World) (es : List Event) → Fit w → Lawful w es → Frees l es → Live (now w es) l → ⊥
 gone {l} w es f k (freed-here xs) v =
     let e = released by-caller (l .cell) (l .serial) in
-    dead (step w e) xs l (fit-step w e f (k .0)) (k .1) (lives w l (k .0) .high) (released-dead w l f (k .0)) v
-gone w es f k (freed-later e {es = xs} g) v = gone (step w e) xs (fit-step w e f (k .0)) (k .1) g v
+    dead (after-event w e) xs l (fit-after w e f (k .0)) (k .1) (lives w l (k .0) .high) (released-dead w l f (k .0)) v
+gone w es f k (freed-later e {es = xs} g) v = gone (after-event w e) xs (fit-after w e f (k .0)) (k .1) g v
 
 -- ---- what each call hands over
 
@@ -85,47 +85,47 @@ module _ (h : Head) (t : List ℕ) where
       let e = state-held (h .next) (bitAt t (l .cell)) (ownerAt t (l .cell)) (a .bit-is) (omega arith) (omega arith) in
       rw e (more attempt-begun tt none)
 
-steps-settles : (w : World) (k : Call) → (IsCrew k → ⊥) → Clear (rules w k) → let m = steps w k in Settles (Hands-over (m .seen .1 .answer) (m .seen .1 .grants)) (m .log)
+past-checks-settles : (w : World) (k : Call) → (IsCrew k → ⊥) → Clear (rules w k) → let m = past-checks w k in Settles (Hands-over (m .seen .1 .answer) (m .seen .1 .grants)) (m .log)
 unfolding heldLeaseRules
-steps-settles w (try-acquire c) n k = acquire-settles (w .head) (w .table) 1 c
-steps-settles w (drop-lease l) n k = more _ tt none
-steps-settles w (read-permission l) n k = none
-steps-settles w (competing-acquire l) n k = acquire-settles (w .head) (w .table) 1 (l .cell)
-steps-settles w (release-then-handoff l) n k = more _ tt (acquire-settles (w .head) (setCell (w .table) (l .cell) 0 0) 1 (l .cell))
-steps-settles w (foreign-release held l) n k =
+past-checks-settles w (try-acquire c) n k = acquire-settles (w .head) (w .table) 1 c
+past-checks-settles w (drop-lease l) n k = more _ tt none
+past-checks-settles w (read-permission l) n k = none
+past-checks-settles w (competing-acquire l) n k = acquire-settles (w .head) (w .table) 1 (l .cell)
+past-checks-settles w (release-then-handoff l) n k = more _ tt (acquire-settles (w .head) (setCell (w .table) (l .cell) 0 0) 1 (l .cell))
+past-checks-settles w (foreign-release held l) n k =
     let c = clear-back (badShape (w .head) (w .table) ∷ badHeld (w .head) (w .table) held) _ k in
     let m = acquireOf 1 (w .head) (w .table) (l .cell) .seen in
     join (acquire-held (w .head) (w .table) 1 (holdIn l) (not-false (isLive (w .head .next) (cells w) (w .table) (holdIn l)) (c .1 .0)))
     (more (released by-caller (l .cell) (l .serial)) tt (acquire-settles (m .0 .head) (setCell (m .1) (l .cell) 0 0) 2 (l .cell))) (λ l x. absurd x)
-steps-settles w (drop-preserving held l) n k = more _ tt none
-steps-settles w (acquire-preserving held c) n k = acquire-settles (w .head) (w .table) 1 c
-steps-settles w (environment script place held) n k =
-    quiet (boundary-silent (acting w (environment script place held)) (flowOf (w .head .next) place 0) (w .table) (w .health))
-steps-settles w (try-lock script place held c) n k =
+past-checks-settles w (drop-preserving held l) n k = more _ tt none
+past-checks-settles w (acquire-preserving held c) n k = acquire-settles (w .head) (w .table) 1 c
+past-checks-settles w (environment script place held) n k =
+    nobody-owes (boundary-silent (acting w (environment script place held)) (flowOf (w .head .next) place 0) (w .table) (w .health))
+past-checks-settles w (try-lock script place held c) n k =
     more attempt-begun tt (loosen (given-over (w .head .boot) _) (lock-hands (acting w (try-lock script place held c)) (w .head .buckets) (flowOf (w .head .next) place 0) (w .table) (w .health) c .settles))
-steps-settles w (transactional registry script place held binding bucket) n k =
+past-checks-settles w (transactional registry script place held binding bucket) n k =
     let e = acting w (transactional registry script place held binding bucket) in
     loosen (given-over (w .head .boot) _) (attempt-hands e (w .head .buckets) registry binding bucket (starting (w .head) place) (w .table) (w .health) .settles)
-steps-settles w (acquire-bucket registry script place held binding bucket) n k =
+past-checks-settles w (acquire-bucket registry script place held binding bucket) n k =
     let e = acting w (acquire-bucket registry script place held binding bucket) in
     loosen (given-settled (w .head .boot) _) (retry-hands e attemptLimit 0 noneYet (w .head .buckets) registry binding bucket (starting (w .head) place) (w .table) (w .health) .settles)
-steps-settles w (release-all script place leases) n k =
+past-checks-settles w (release-all script place leases) n k =
     give-back-hands (acting w (release-all script place leases)) (leaseCount leases) (holdsOf leases) (starting (w .head) place) (w .table) (w .health)
     (omega (arith, words-leases leases)) .settles
-steps-settles w (acquire-locks registry script place held keys grants) n k =
+past-checks-settles w (acquire-locks registry script place held keys grants) n k =
     let e = acting w (acquire-locks registry script place held keys grants) in
     locks-hands e (countIn keys) 0 (w .head .buckets) (w .head .boot) registry keys [] (starting (w .head) place) (w .table) (w .health) grants .settles
-steps-settles w (acquire-sorted registry script place held keys grants) n k =
+past-checks-settles w (acquire-sorted registry script place held keys grants) n k =
     let e = acting w (acquire-sorted registry script place held keys grants) in
     judged-at (λ (m : Made (World × Says)). Settles (Hands-over (m .seen .1 .answer) (m .seen .1 .grants)) (m .log)) (firstKey (countIn keys) 0 (w .head) registry keys) (λ r p _. none)
     (λ _.
     loosen (inner-handed w registry script place held keys grants)
     (locks-hands e (length (cellsSorted (w .head .buckets) registry keys)) 0 (w .head .buckets) (w .head .boot) registry (sortedKeys (w .head .buckets) registry keys) [] (starting (w .head) place) (w .table) (w .health) grants .settles))
-steps-settles w (crew counts cells turns) n k = absurd (n tt)
-steps-settles w (crew-at-work counts cells turns counters) n k = absurd (n tt)
+past-checks-settles w (crew counts cells turns) n k = absurd (n tt)
+past-checks-settles w (crew-at-work counts cells turns counters) n k = absurd (n tt)
 
-pub call-settles : (w : World) (k : Call) → (IsCrew k → ⊥) → Settles (Gives (perform w k)) (log-of w k)
-call-settles w k n = performed (λ m. Settles (Gives m) (m .log)) w k (λ r. none) (steps-settles w k n)
+call-settles : (w : World) (k : Call) → (IsCrew k → ⊥) → Settles (Gives (perform w k)) (log-of w k)
+call-settles w k n = performed (λ m. Settles (Gives m) (m .log)) w k (λ r. none) (past-checks-settles w k n)
 
 -- a log with an event is not empty
 pub not-empty : (e : Event) (xs ys : List Event) → [] ≡ xs ++ (e ∷ ys) → ⊥
@@ -171,23 +171,23 @@ locks-buffer (suc left) p e buckets boot registry keys taken r t g grants n =
     go (outcome.Busy why) s u y on = λ _. refl
     go (outcome.Refused z) s u y on = λ _. refl
 
-steps-buffer : (w : World) (k : Call) → (steps w k .seen .1 .answer ≡ AllGranted → ⊥) → steps w k .seen .1 .grants ≡ buffer k
-steps-buffer w (try-acquire c) n = refl
-steps-buffer w (drop-lease l) n = refl
-steps-buffer w (read-permission l) n = refl
-steps-buffer w (competing-acquire l) n = refl
-steps-buffer w (release-then-handoff l) n = refl
-steps-buffer w (foreign-release held l) n = refl
-steps-buffer w (drop-preserving held l) n = refl
-steps-buffer w (acquire-preserving held c) n = refl
-steps-buffer w (environment script place held) n = refl
-steps-buffer w (try-lock script place held c) n = refl
-steps-buffer w (transactional registry script place held binding bucket) n = refl
-steps-buffer w (acquire-bucket registry script place held binding bucket) n = refl
-steps-buffer w (release-all script place leases) n = refl
-steps-buffer w (acquire-locks registry script place held keys grants) n =
+past-checks-buffer : (w : World) (k : Call) → (past-checks w k .seen .1 .answer ≡ AllGranted → ⊥) → past-checks w k .seen .1 .grants ≡ buffer k
+past-checks-buffer w (try-acquire c) n = refl
+past-checks-buffer w (drop-lease l) n = refl
+past-checks-buffer w (read-permission l) n = refl
+past-checks-buffer w (competing-acquire l) n = refl
+past-checks-buffer w (release-then-handoff l) n = refl
+past-checks-buffer w (foreign-release held l) n = refl
+past-checks-buffer w (drop-preserving held l) n = refl
+past-checks-buffer w (acquire-preserving held c) n = refl
+past-checks-buffer w (environment script place held) n = refl
+past-checks-buffer w (try-lock script place held c) n = refl
+past-checks-buffer w (transactional registry script place held binding bucket) n = refl
+past-checks-buffer w (acquire-bucket registry script place held binding bucket) n = refl
+past-checks-buffer w (release-all script place leases) n = refl
+past-checks-buffer w (acquire-locks registry script place held keys grants) n =
     locks-buffer (countIn keys) 0 (acting w (acquire-locks registry script place held keys grants)) (w .head .buckets) (w .head .boot) registry keys [] (starting (w .head) place) (w .table) (w .health) grants n
-steps-buffer w (acquire-sorted registry script place held keys grants) n =
+past-checks-buffer w (acquire-sorted registry script place held keys grants) n =
     judged-at (λ (m : Made (World × Says)). (m .seen .1 .answer ≡ AllGranted → ⊥) → m .seen .1 .grants ≡ grants) (firstKey (countIn keys) 0 (w .head) registry keys) (λ r p _ _. refl)
     (λ _.
     kept _ _ _ (sorted-locks w registry script place held keys grants .seen .0 .answer)
@@ -202,11 +202,11 @@ steps-buffer w (acquire-sorted registry script place held keys grants) n =
     kept asked sorted b (Busy why) f n = f n
     kept asked sorted b (Refused r) f n = f n
     kept asked sorted b (RefusedAt r p) f n = f (λ e. let z : _≡_ {A = ℕ} 0 1 = cc in omega arith)
-steps-buffer w (crew counts cells turns) n = refl
-steps-buffer w (crew-at-work counts cells turns counters) n = refl
+past-checks-buffer w (crew counts cells turns) n = refl
+past-checks-buffer w (crew-at-work counts cells turns counters) n = refl
 
 buffer-kept : (w : World) (k : Call) → (answers w k ≡ AllGranted → ⊥) → buffer-in (perform w k) ≡ buffer k
-buffer-kept w k = performed (λ m. (m .seen .1 .answer ≡ AllGranted → ⊥) → m .seen .1 .grants ≡ buffer k) w k (λ r n. refl) (λ _. steps-buffer w k)
+buffer-kept w k = performed (λ m. (m .seen .1 .answer ≡ AllGranted → ⊥) → m .seen .1 .grants ≡ buffer k) w k (λ r n. refl) (λ _. past-checks-buffer w k)
 
 -- ---- a call that fails
 

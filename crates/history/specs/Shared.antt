@@ -21,7 +21,7 @@ use Rattle.types.specs.declared.Answer.the-variants.{Done, Cell, Granted, AllGr
 use Rattle.types.specs.declared.Hold.{Hold}
 use Rattle.laws.specs.Checks.{leaseIn}
 use Rattle.laws.specs.Lists.{length-words, words-back}
-use Rattle.laws.specs.Sorting.{Rising, isAmong, sorted-is, first-asking, stands-at}
+use Rattle.laws.specs.Sorting.{Rising, isAmong, sorted-is, first-asking, stands-at, length-cells, length-keys, keys-among}
 use Rattle.history.specs.World.{World}
 use Rattle.history.specs.Items.{Says, acquire-locks, acquire-sorted, in-order, any-order, keyCell, perform}
 use Rattle.history.specs.Statements.{Hands-over, Buffer-is}
@@ -76,22 +76,6 @@ asked-from (suc n) p buckets registry keys (suc i) l =
     let e : p + 1 + i ≡ p + suc i = omega arith in
     asked-from n (p + 1) buckets registry keys i (omega arith) ∙ ap (cellOfKey buckets registry keys) e
 
-asked-many : (n p buckets : ℕ) (registry keys : List ℕ) → length (cellsFrom n p buckets registry keys) ≡ n
-unfolding cellsFrom
-asked-many zero p buckets registry keys = refl
-asked-many (suc n) p buckets registry keys = ap suc (asked-many n (p + 1) buckets registry keys)
-
-for-count : (keys asked cs : List ℕ) → length (keysFor keys asked cs) ≡ 2 * length cs
-unfolding keysFor
-for-count keys asked [] = refl
-for-count keys asked (c ∷ cs) = omega (arith, for-count keys asked cs)
-
-for-binding : (keys asked cs : List ℕ) (i : ℕ) → i < length cs → bindingAt (keysFor keys asked cs) i ≡ bindingAt keys (firstAsking asked (getD cs i 0))
-unfolding keysFor
-for-binding keys asked [] i l = absurd (omega arith)
-for-binding keys asked (c ∷ cs) zero l = refl
-for-binding keys asked (c ∷ cs) (suc i) l = let e : 2 * suc i ≡ suc (suc (2 * i)) = omega arith in rw e (for-binding keys asked cs i (omega arith))
-
 for-bucket : (keys asked cs : List ℕ) (i : ℕ) → i < length cs → bucketAt (keysFor keys asked cs) i ≡ bucketAt keys (firstAsking asked (getD cs i 0))
 unfolding keysFor
 for-bucket keys asked [] i l = absurd (omega arith)
@@ -109,7 +93,7 @@ module _ (buckets : ℕ) (registry keys : List ℕ) where
   chosen-keys = sortedKeys buckets registry keys
 
   pub asked-length : length asked-cells ≡ countIn keys
-  asked-length = asked-many (countIn keys) 0 buckets registry keys
+  asked-length = length-cells (countIn keys) 0 buckets registry keys
 
   pub asked-at : (p : ℕ) → p < countIn keys → getD asked-cells p 0 ≡ keyCell buckets registry keys p
   asked-at p l = let e : 0 + p ≡ p = omega arith in asked-from (countIn keys) 0 buckets registry keys p l ∙ ap (keyCell buckets registry keys) e
@@ -123,7 +107,7 @@ module _ (buckets : ℕ) (registry keys : List ℕ) where
 
   -- a key for each of its cells
   pub chosen-length : length chosen-keys ≡ 2 * length sorted-cells
-  chosen-length = for-count keys asked-cells sorted-cells
+  chosen-length = length-keys keys asked-cells sorted-cells
 
   pub chosen-count : countIn chosen-keys ≡ length sorted-cells
   chosen-count = omega (arith, chosen-length)
@@ -142,12 +126,12 @@ module _ (buckets : ℕ) (registry keys : List ℕ) where
   -- the key chosen for a sorted cell names that cell
   pub chosen-cell : (i : ℕ) → i < length sorted-cells → keyCell buckets registry chosen-keys i ≡ getD sorted-cells i 0
   chosen-cell i l =
-      let b = for-binding keys asked-cells sorted-cells i l in
+      let b = keys-among keys asked-cells sorted-cells i l in
       let k = for-bucket keys asked-cells sorted-cells i l in
       rw (b, k) (first-place-at i l .1)
 
   pub chosen-binding : (i : ℕ) → i < length sorted-cells → bindingAt chosen-keys i ≡ bindingAt keys (first-place i)
-  chosen-binding i l = for-binding keys asked-cells sorted-cells i l
+  chosen-binding i l = keys-among keys asked-cells sorted-cells i l
 
   pub chosen-bucket : (i : ℕ) → i < length sorted-cells → bucketAt chosen-keys i ≡ bucketAt keys (first-place i)
   chosen-bucket i l = for-bucket keys asked-cells sorted-cells i l
@@ -238,14 +222,14 @@ module _ (buckets : ℕ) (registry keys : List ℕ) where
 
   module _ {leases back : List Hold} (h : Handed-back buckets registry keys leases back) where
     -- nothing is made up, and nothing is lost
-    pub back-among : (l : Hold) → In back l → In leases l
+    back-among : (l : Hold) → In back l → In leases l
     back-among l i =
         let x = in-index back l noHold i in
         let p : x .0 < countIn keys = omega (arith, x .1, h .as-many) in
         let q = sorted-place-at buckets registry keys (x .0) p in
         subst (In leases) (sym (x .2 ∙ h .each (x .0) p)) (in-place leases (sorted-place buckets registry keys (x .0)) (omega (arith, q .0, h .many)))
 
-    pub among-back : (l : Hold) → In leases l → In back l
+    among-back : (l : Hold) → In leases l → In back l
     among-back l i =
         let x = in-index leases l noHold i in
         let b : x .0 < length (sorted-cells buckets registry keys) = omega (arith, x .1, h .many) in

@@ -122,19 +122,23 @@ live next cells t l a =
 pub holds-equal : (l k : Hold) → l .cell ≡ k .cell → l .serial ≡ k .serial → l ≡ k
 holds-equal l k p q = ap (λ (x : ℕ). holdOf x (l .serial)) p ∙ ap (holdOf (k .cell)) q
 
-pub same-true : (l k : Hold) → sameHold l k ≡ true → l ≡ k
+same-true : (l k : Hold) → sameHold l k ≡ true → l ≡ k
 unfolding sameHold
 same-true l k e =
     let p = both (eqb (l .cell) (k .cell)) (eqb (l .serial) (k .serial)) e in
     holds-equal l k (eqb-true _ _ (p .0)) (eqb-true _ _ (p .1))
 
-pub same-refl : (l : Hold) → sameHold l l ≡ true
+same-refl : (l : Hold) → sameHold l l ≡ true
 unfolding sameHold
 same-refl l = rw (eq-eqb (l .cell) (l .cell) refl, eq-eqb (l .serial) (l .serial) refl)
 
 -- the lease stands in the list
 abbrev pub In : List Hold → Hold → Type 0
 In ls l = isIn l ls ≡ true
+
+pub none-in : (l : Hold) → In [] l → ⊥
+unfolding isIn
+none-in l i = differ i
 
 pub in-first : (l : Hold) (ls : List Hold) → In (l ∷ ls) l
 unfolding isIn

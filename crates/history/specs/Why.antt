@@ -1,5 +1,5 @@
 -- Why it is Busy: what one attempt saw, by a table of its endings, and the reasons read off it.
-use Prim.Native.Nat.{ℕ, _+_}
+use Prim.Native.Nat.{ℕ}
 use mathlib.Core.Path.{_≡_, refl, sym, ap, _∙_}
 use mathlib.Core.List.{List, [], _∷_, _++_, append-nil, append-assoc}
 use mathlib.Core.Bool.{Bool, true, false, not}
@@ -98,7 +98,7 @@ module _ (e : Setting) (buckets boot c : ℕ) where
       (serialRemains n) (late-looks _ _ _ n)
       (stopped _ refl refl end (λ s h. let z : state.Free ≡ state.Held s = sym q ∙ h in let y : _≡_ {A = ℕ} 0 1 = cc in absurd (omega arith)))
 
-  pub lock-looks : (f : Flow) (t g : List ℕ) → Locking buckets boot c (lockOf e buckets f t g c)
+  lock-looks : (f : Flow) (t g : List ℕ) → Locking buckets boot c (lockOf e buckets f t g c)
   unfolding lockOf secondStageOf takeOf
   lock-looks f t g =
       let b = boundaryOf e f t g in

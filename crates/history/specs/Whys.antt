@@ -1,5 +1,5 @@
 -- The reasons, read off the table of `Why`; a holder lives, a late serial is spent.
-use Prim.Native.Nat.{ℕ, _+_, _*_, _≤_, _<_}
+use Prim.Native.Nat.{ℕ, _*_, _≤_, _<_}
 use mathlib.Core.Path.{_≡_, refl, sym, ap, _∙_, subst}
 use mathlib.Core.List.{List, [], _∷_, _++_, append-assoc}
 use mathlib.Core.Bool.{Bool, true, false}
@@ -20,10 +20,10 @@ use Rattle.types.specs.declared.Reason.the-variants.{Held, Before, After}
 use Rattle.types.specs.declared.State.{State}
 use Rattle.types.specs.declared.State.the-variants as state
 use Rattle.laws.specs.Words.{waiters-set-cell}
-use Rattle.history.specs.World.{World, cells, Live, step, now, Lawful, Spent, number-of, boundaries, caller-releases}
+use Rattle.history.specs.World.{World, cells, Live, after-event, now, Lawful, Spent, number-of, boundaries, caller-releases}
 use Rattle.history.specs.Items.{Call, try-acquire, drop-lease, read-permission, competing-acquire, release-then-handoff, foreign-release, drop-preserving, acquire-preserving, environment, try-lock, transactional, acquire-bucket, release-all, acquire-locks, acquire-sorted, crew, crew-at-work, IsCrew, asked, perform}
 use Rattle.history.specs.Statements.{answer-in, leaves, log-of}
-use Rattle.history.specs.Events.{Good, Fit, good, fit, good-step, lives, live-before, new-owner}
+use Rattle.history.specs.Events.{Good, Fit, good, fit, good-after, lives, live-before, new-owner}
 use Rattle.history.specs.Logs.{now-append, lawful-split, good-now, arena-now, live-back, kept-fit}
 use Rattle.history.specs.Calls.{call-kept, call-fit}
 use Rattle.history.specs.CountedCalls.{calls-counted}
@@ -159,7 +159,7 @@ module _ {buckets c : ℕ} {a : Answer} {b : ℕ} {log : List Event} {next : ℕ
 -- ---- of a call: just before its last release, header and waiters are as the call leaves them
 
 module _ (w : World) (k : Call) (c s : ℕ) (up-to : List Event) (e : log-of w k ≡ up-to ++ (released by-caller c s ∷ [])) where
-  left : leaves w k ≡ step (now w up-to) (released by-caller c s)
+  left : leaves w k ≡ after-event (now w up-to) (released by-caller c s)
   left = call-kept w k .kept .leads ∙ ap (now w) e ∙ now-append w up-to (released by-caller c s ∷ [])
 
   same-buckets : now w up-to .head .buckets ≡ w .head .buckets
@@ -269,9 +269,9 @@ sole w c s log front behind e g t d v =
     let parts = lawful-split w front (e′ ∷ behind) (subst (Lawful w) e t) in
     let legal = parts .1 .0 in
     let then = good-now w front g (parts .0) in
-    let last : Live (now (step u e′) behind) (holdOf d s) = subst (λ (x : World). Live x (holdOf d s)) (ap (now w) e ∙ now-append w front (e′ ∷ behind)) v in
+    let last : Live (now (after-event u e′) behind) (holdOf d s) = subst (λ (x : World). Live x (holdOf d s)) (ap (now w) e ∙ now-append w front (e′ ∷ behind)) v in
     new-owner u by-caller c s then legal d s (λ o. omega (arith, legal .1 .0))
-    (live-back (step u e′) behind (holdOf d s) (fit (good-step u e′ then legal)) (parts .1 .1) (omega (arith, legal .1 .0)) last)
+    (live-back (after-event u e′) behind (holdOf d s) (fit (good-after u e′ then legal)) (parts .1 .1) (omega (arith, legal .1 .0)) last)
 
 pub late-is-spent : Late-is-spent perform
 late-is-spent w k s o whole q =
@@ -288,7 +288,7 @@ late-is-spent w k s o whole q =
       owns-none = λ d l.
           let before = live-before u e (holdOf d s) (fit g) (lawful .1 .0) l (alive-then .high) in
           let same : d ≡ c = sole w c s (x .up-to) (x .front) (x .behind) (x .taken) (good w whole) (lawful .0) d before in
-          released-dead u (holdOf c s) (fit g) (lawful .1 .0) (subst (λ (n : ℕ). Live (step u e) (holdOf n s)) same l);
+          released-dead u (holdOf c s) (fit g) (lawful .1 .0) (subst (λ (n : ℕ). Live (after-event u e) (holdOf n s)) same l);
     })
 
 -- ---- one compare-and-set by itself

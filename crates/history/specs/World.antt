@@ -48,27 +48,27 @@ Legal w (health-set i n) = (i < w .head .headers) × (n ≤ 1)
 Legal w (held-all m) = Unit {0}
 Legal w (added m c v) = Unit {0}
 
-abbrev pub step : World → Event → World
-step w attempt-begun = w
-step w boundary-run = w
-step w yielded = w
-step w spun = w
-step w step-dropped = w
-step w (took a c s) = worldOf (spentTo (w .head) (w .head .next + 1)) (setCell (w .table) c 1 s) (w .health)
-step w (released a c s) = worldOf (w .head) (setCell (w .table) c 0 0) (w .health)
-step w (waiters-set c n) = worldOf (w .head) (setWaiters (w .table) c n) (w .health)
-step w (health-set i n) = worldOf (w .head) (w .table) (set (w .health) i n)
-step w (held-all m) = w
-step w (added m c v) = w
+abbrev pub after-event : World → Event → World
+after-event w attempt-begun = w
+after-event w boundary-run = w
+after-event w yielded = w
+after-event w spun = w
+after-event w step-dropped = w
+after-event w (took a c s) = worldOf (spentTo (w .head) (w .head .next + 1)) (setCell (w .table) c 1 s) (w .health)
+after-event w (released a c s) = worldOf (w .head) (setCell (w .table) c 0 0) (w .health)
+after-event w (waiters-set c n) = worldOf (w .head) (setWaiters (w .table) c n) (w .health)
+after-event w (health-set i n) = worldOf (w .head) (w .table) (set (w .health) i n)
+after-event w (held-all m) = w
+after-event w (added m c v) = w
 
 -- a log is oldest first: the world after it, and that each event was legal when it happened
 abbrev pub now : World → List Event → World
 now w [] = w
-now w (e ∷ es) = now (step w e) es
+now w (e ∷ es) = now (after-event w e) es
 
 abbrev pub Lawful : World → List Event → Type 0
 Lawful w [] = Unit {0}
-Lawful w (e ∷ es) = Legal w e × Lawful (step w e) es
+Lawful w (e ∷ es) = Legal w e × Lawful (after-event w e) es
 
 -- ---- a sound arena: "no cell is damaged, owners are below next and no two cells have one owner"
 

@@ -26,14 +26,14 @@ use Rattle.types.specs.declared.Run.{Run}
 use Rattle.types.specs.declared.SalvageAnswer.{SalvageAnswer}
 use Rattle.types.specs.declared.SalvageAnswer.the-variants as salvaged
 use Rattle.laws.specs.Prepared.{Outcome as Prepared, Came, was-done, was-refused, came}
-use Rattle.history.specs.World.{World, Live, step, now, Lawful, Releases, Unreleased, worldOf}
+use Rattle.history.specs.World.{World, Live, after-event, now, Lawful, Releases, Unreleased, worldOf}
 use Rattle.history.specs.Items.{Call, Says, By-keys, in-order, any-order, try-acquire, drop-lease, read-permission, competing-acquire, release-then-handoff, foreign-release, drop-preserving, acquire-preserving, environment, try-lock, transactional, acquire-bucket, release-all, acquire-locks, acquire-sorted, crew, crew-at-work, perform, Item, call, foreign-step, preparation, prepared-by, preparing, next-item, run, cold, asked, Entry, entryOf, events-of, Course, keyCell, preparation-over, salvage, salvage-over, salvaged-by, salvaging}
 use Rattle.history.specs.Statements.{Hands-over, answers, log-of, Gives, Through, buffer-in}
 use Rattle.history.specs.Answers.{Asks-one, Busy-or-refused, Locks-refused, Never-twice, None-takes, Not-over-live, Once-each, Takes-parted, Two-writers, Hands, Alone-until-released}
 use Rattle.history.specs.Tests.{free-words, holds-equal, In, in-take}
-use Rattle.history.specs.Events.{Fit, fit, fit-step, keep-step, lives, taken-live, good}
+use Rattle.history.specs.Events.{Fit, fit, fit-after, keep-after, lives, taken-live, good}
 use Rattle.history.specs.Logs.{now-append, lawful-split, fit-now, next-now}
-use Rattle.history.specs.Judged.{acting, judged-at, sorted-locks, steps, performed}
+use Rattle.history.specs.Judged.{acting, judged-at, sorted-locks, past-checks, performed}
 use Rattle.history.specs.Calls.{words-leases, call-kept, call-fit}
 use Rattle.history.specs.Courses.{Stretch, run-stretch, events-append, begun, nothing-yet}
 use Rattle.history.specs.Returns.{not-empty}
@@ -68,7 +68,7 @@ pub parted : (w : World) (c s s′ : ℕ) (b : Actor) (between after : List Even
 parted w c s s′ b [] after g v k =
     absurd (omega (arith, lives w (holdOf c s) v .bit-is, free-words (w .head .next) (w .table) c (k .0 .0 .1) .0))
 parted w c s s′ b (e ∷ es) after g v k =
-    go (looked (holdOf c s) e) (λ n. parted (step w e) c s s′ b es after (fit-step w e g (k .0)) (keep-step w e (holdOf c s) g (k .0) v n) (k .1))
+    go (looked (holdOf c s) e) (λ n. parted (after-event w e) c s s′ b es after (fit-after w e g (k .0)) (keep-after w e (holdOf c s) g (k .0) v n) (k .1))
   where
     Out : List Event → Type 0
     Out xs = (a : Actor) × (before middle : List Event) × (xs ≡ before ++ (released a c s ∷ middle))
@@ -192,7 +192,7 @@ seam : (xs js before after zs : List Event) (new : Event) → js ≡ before ++ (
 seam xs js before after zs new e =
     ap (λ (l : List Event). xs ++ (l ++ zs)) e ∙ ap (λ (l : List Event). xs ++ l) (append-assoc before (new ∷ after) zs) ∙ sym (append-assoc xs before (new ∷ (after ++ zs)))
 
-pub spliced : (xs js before after m n : List Event) (new old : Event) → js ≡ before ++ (new ∷ after) → xs ++ before ≡ m ++ (old ∷ n)
+spliced : (xs js before after m n : List Event) (new old : Event) → js ≡ before ++ (new ∷ after) → xs ++ before ≡ m ++ (old ∷ n)
     → xs ++ js ≡ m ++ (old ∷ (n ++ (new ∷ after)))
 spliced xs js before after m n new old e f =
     ap (λ (l : List Event). xs ++ l) e ∙ sym (append-assoc xs before (new ∷ after)) ∙ ap (λ (l : List Event). l ++ (new ∷ after)) f ∙ append-assoc m (old ∷ n) (new ∷ after)
@@ -261,8 +261,8 @@ takes-parted rubbish start items d c s s′ a b x between z e =
     let v = now (w .origin) x in
     let v-fits = fit-now (w .origin) x (fit (k .good)) (p .0) in
     let same : s ≡ v .head .next = p .1 .0 .1 .0 in
-    let new : Live (step v (took a c s)) (holdOf c s) = rw same (taken-live v a c v-fits (p .1 .0 .0 .0)) in
-    parted (step v (took a c s)) c s s′ b between z (fit-step v (took a c s) v-fits (p .1 .0)) new (p .1 .1)
+    let new : Live (after-event v (took a c s)) (holdOf c s) = rw same (taken-live v a c v-fits (p .1 .0 .0 .0)) in
+    parted (after-event v (took a c s)) c s s′ b between z (fit-after v (took a c s) v-fits (p .1 .0)) new (p .1 .1)
 
 -- ---- one call over a live lease
 
@@ -307,34 +307,34 @@ acquire-one : (n : ℕ) (h : Head) (t : List ℕ) (c : ℕ) → One (acquireOf n
 unfolding acquireOf
 acquire-one n h t c = one-of (h .boot) (outcomeOf c (takeOf (h .next) t c .seen .0 .answer))
 
-steps-one : (w : World) (k : Call) → Asks-one k → One (steps w k .seen .1 .answer)
-steps-one w (try-acquire c) a = acquire-one 1 (w .head) (w .table) c
-steps-one w (drop-lease l) a = absurd a
-steps-one w (read-permission l) a = absurd a
-steps-one w (competing-acquire l) a = acquire-one 1 (w .head) (w .table) (l .cell)
-steps-one w (release-then-handoff l) a = acquire-one 1 (w .head) (setCell (w .table) (l .cell) 0 0) (l .cell)
-steps-one w (foreign-release held l) a =
+past-checks-one : (w : World) (k : Call) → Asks-one k → One (past-checks w k .seen .1 .answer)
+past-checks-one w (try-acquire c) a = acquire-one 1 (w .head) (w .table) c
+past-checks-one w (drop-lease l) a = absurd a
+past-checks-one w (read-permission l) a = absurd a
+past-checks-one w (competing-acquire l) a = acquire-one 1 (w .head) (w .table) (l .cell)
+past-checks-one w (release-then-handoff l) a = acquire-one 1 (w .head) (setCell (w .table) (l .cell) 0 0) (l .cell)
+past-checks-one w (foreign-release held l) a =
     let m = acquireOf 1 (w .head) (w .table) (l .cell) .seen in
     acquire-one 2 (m .0 .head) (setCell (m .1) (l .cell) 0 0) (l .cell)
-steps-one w (drop-preserving held l) a = absurd a
-steps-one w (acquire-preserving held c) a = acquire-one 1 (w .head) (w .table) c
-steps-one w (environment script place held) a = absurd a
-steps-one w (try-lock script place held c) a =
+past-checks-one w (drop-preserving held l) a = absurd a
+past-checks-one w (acquire-preserving held c) a = acquire-one 1 (w .head) (w .table) c
+past-checks-one w (environment script place held) a = absurd a
+past-checks-one w (try-lock script place held c) a =
     one-of (w .head .boot) (lockOf (acting w (try-lock script place held c)) (w .head .buckets) (flowOf (w .head .next) place 0) (w .table) (w .health) c .seen .0 .answer)
-steps-one w (transactional registry script place held binding bucket) a =
+past-checks-one w (transactional registry script place held binding bucket) a =
     let e = acting w (transactional registry script place held binding bucket) in
     one-of (w .head .boot) (attemptOf e (w .head .buckets) registry binding bucket (starting (w .head) place) (w .table) (w .health) .seen .0 .outcome)
-steps-one w (acquire-bucket registry script place held binding bucket) a =
+past-checks-one w (acquire-bucket registry script place held binding bucket) a =
     let e = acting w (acquire-bucket registry script place held binding bucket) in
     one-settled (w .head .boot) (retryOf attemptLimit 0 noneYet e (w .head .buckets) registry binding bucket (starting (w .head) place) (w .table) (w .health) .seen .0 .outcome)
-steps-one w (release-all script place leases) a = absurd a
-steps-one w (acquire-locks registry script place held keys grants) a = absurd a
-steps-one w (acquire-sorted registry script place held keys grants) a = absurd a
-steps-one w (crew counts cells turns) a = absurd a
-steps-one w (crew-at-work counts cells turns counters) a = absurd a
+past-checks-one w (release-all script place leases) a = absurd a
+past-checks-one w (acquire-locks registry script place held keys grants) a = absurd a
+past-checks-one w (acquire-sorted registry script place held keys grants) a = absurd a
+past-checks-one w (crew counts cells turns) a = absurd a
+past-checks-one w (crew-at-work counts cells turns counters) a = absurd a
 
 pub busy-or-refused : Busy-or-refused perform
-busy-or-refused w k s a v u = go (answers w k) refl (performed (λ m. One (m .seen .1 .answer)) w k (λ r. tt) (λ _. steps-one w k a))
+busy-or-refused w k s a v u = go (answers w k) refl (performed (λ m. One (m .seen .1 .answer)) w k (λ r. tt) (λ _. past-checks-one w k a))
   where
     go : (x : Answer) → answers w k ≡ x → One x → ((why : Reason) × (answers w k ≡ Busy why)) ⊎ ((r : Refusal) × (answers w k ≡ Refused r))
     go Done e o = absurd o

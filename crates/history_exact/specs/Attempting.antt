@@ -28,13 +28,12 @@ use Rattle.history.specs.Items.{Says, says, perform, acquire-bucket, environmen
 use Rattle.history.specs.Statements.{world-in, answer-in}
 use Rattle.history.specs.Tests.{differ, if-cases, In}
 use Rattle.history.specs.Logs.{nothing}
-use Rattle.history.specs.Judged.{steps}
+use Rattle.history.specs.Judged.{past-checks, made-so}
 use Rattle.history.specs.Steps.{With, worldAt, of-run, of-tried}
 use Rattle.history.specs.Calls.{call-kept}
 use Rattle.history_exact.specs.Statements.{Passes}
-use Rattle.history_exact.specs.Script.{acquire-bucket-has, environment-has, transactional-has, place-in}
+use Rattle.history_exact.specs.Script.{environment-has, transactional-has, place-in}
 use Rattle.history_exact.specs.Attempts.{Attempts, Pause, all-busy, yield, _and-then_, one-busy, spin, the-last, also-yields, only-spins, Bucket-attempts}
-use Rattle.history_exact.specs.Made.{made}
 use Rattle.history_exact.specs.Passing.{boundary-on, bucket-on, in-script}
 use Rattle.history_exact.specs.ScriptFacts.{place-goes}
 use Rattle.history_exact.specs.CountedOn.{on-run, run-on, tried-on, boundary-from, pause-on, retry-on}
@@ -43,10 +42,10 @@ use Rattle.history_exact.specs.CountedOn.{on-run, run-on, tried-on, boun
 
 -- an attempt and a boundary by the definitions' own steps; where the checks pass, these are the calls
 abbrev pub attempting : (registry script held : List ℕ) (binding bucket : ℕ) → World → ℕ → Made (World × Says)
-attempting registry script held binding bucket w p = steps w (transactional registry script p held binding bucket)
+attempting registry script held binding bucket w p = past-checks w (transactional registry script p held binding bucket)
 
 abbrev pub bounding : (script held : List ℕ) → World → ℕ → Made (World × Says)
-bounding script held w p = steps w (environment script p held)
+bounding script held w p = past-checks w (environment script p held)
 
 -- a run that has counted nothing
 abbrev pub nil : ℕ → ℕ → Run
@@ -125,24 +124,24 @@ module _ (h : Head) (registry script held : List ℕ) (binding bucket : ℕ) whe
       let b = pausing i r t g .seen in
       rw (pause-from i r t g, retry-on (counted r) e (h .buckets) registry binding bucket left (i + 1) last (b .0) (b .1 .0) (b .1 .1), retry-from left (i + 1) last (b .0) (b .1 .0) (b .1 .1))
 
-  abbrev Tries : ℕ → ℕ → List ℕ → List ℕ → ℕ → Reason → Made (World × Says) → Type 0
-  Tries n p t g i last = Attempts (attempting registry script held binding bucket) (bounding script held) i last (worldAt h n t g) p
+  abbrev Attempts-from : ℕ → ℕ → List ℕ → List ℕ → ℕ → Reason → Made (World × Says) → Type 0
+  Attempts-from n p t g i last = Attempts (attempting registry script held binding bucket) (bounding script held) i last (worldAt h n t g) p
 
   retry-is : (left i : ℕ) (last : Reason) (n p : ℕ) (t g : List ℕ) → i + left ≡ 4096
-      → Tries n p t g i last (at-last h (retryOf left i last e (h .buckets) registry binding bucket (nil n p) t g))
+      → Attempts-from n p t g i last (at-last h (retryOf left i last e (h .buckets) registry binding bucket (nil n p) t g))
   unfolding retryOf
   retry-is zero i last n p t g l =
       let z : i ≡ 4096 = omega arith in
-      subst (λ x. Tries n p t g x last (at-last h (record { seen = (triedOf (nil n p) (outcome.Busy last), (t, g)); log = [] }))) (sym z) all-busy
+      subst (λ x. Attempts-from n p t g x last (at-last h (record { seen = (triedOf (nil n p) (outcome.Busy last), (t, g)); log = [] }))) (sym z) all-busy
   retry-is (suc left) i last n p t g l =
       let m = attemptOf e (h .buckets) registry binding bucket (nil n p) t g in
       let r = m .seen .0 .run in
       let b = pauseOf e i (nil (r .flow .next) (r .flow .place)) (m .seen .1 .0) (m .seen .1 .1) in
       let s = b .seen .0 in
       let j : i < 4096 = omega arith in
-      if-cases (λ (o : Made (With Tried)). Tries n p t g i last (at-last h (record { seen = o .seen; log = m .log ++ o .log }))) (isBusy (m .seen .0 .outcome))
+      if-cases (λ (o : Made (With Tried)). Attempts-from n p t g i last (at-last h (record { seen = o .seen; log = m .log ++ o .log }))) (isBusy (m .seen .0 .outcome))
       (λ c.
-      subst (λ (o : Made (With Tried)). Tries n p t g i last (at-last h (record { seen = o .seen; log = m .log ++ o .log }))) (sym (both-from left i (lastOf last (m .seen .0 .outcome)) r (m .seen .1 .0) (m .seen .1 .1)))
+      subst (λ (o : Made (With Tried)). Attempts-from n p t g i last (at-last h (record { seen = o .seen; log = m .log ++ o .log }))) (sym (both-from left i (lastOf last (m .seen .0 .outcome)) r (m .seen .1 .0) (m .seen .1 .1)))
       (one-busy (lastOf last (m .seen .0 .outcome)) j (busy-is (h .boot) last (m .seen .0 .outcome) c) (pause-is i (r .flow .next) (r .flow .place) (m .seen .1 .0) (m .seen .1 .1))
       (retry-is left (i + 1) _ (s .flow .next) (s .flow .place) (b .seen .1 .0) (b .seen .1 .1) (omega arith))))
       (λ c. rw (append-nil (m .log), same-settled (m .seen .0 .outcome) c) (the-last j (not-busy (h .boot) (m .seen .0 .outcome) c)))
@@ -155,7 +154,7 @@ by-steps w registry script place held binding bucket last fine =
     let e = given h script (holdsOf held) in
     subst (Attempts (attempting registry script held binding bucket) (bounding script held) 0 last w place)
     (ap (at-last h) (retry-first 4095 0 last noneYet e (h .buckets) registry binding bucket (nil (h .next) place) (w .table) (w .health))
-    ∙ sym (made w (acquire-bucket-has registry script place held binding bucket) fine))
+    ∙ sym (made-so w (acquire-bucket registry script place held binding bucket) fine))
     (retry-is (w .head) registry script held binding bucket attemptLimit 0 last (w .head .next) place (w .table) (w .health) (omega arith))
 
 -- ---- from steps to calls
@@ -211,17 +210,17 @@ module _ (registry script held : List ℕ) (binding bucket : ℕ) where
   boundary-fine w p k = boundary-on held (nothing {w = w} {P = In (holdsOf held)}) registry script p p binding (in-script script p (k .1 .1 .1 .0)) k
 
   calling-is : (w : World) (p : ℕ) → Fine-at w p → calling w p ≡ attempting registry script held binding bucket w p
-  calling-is w p k = made w (transactional-has registry script p held binding bucket) k
+  calling-is w p k = made-so w (transactional registry script p held binding bucket) k
 
   waiting-is : (w : World) (p : ℕ) → Fine-at w p → waiting w p ≡ bounding script held w p
-  waiting-is w p k = made w (environment-has script p held) (boundary-fine w p k)
+  waiting-is w p k = made-so w (environment script p held) (boundary-fine w p k)
 
-  pub calling-fine : (w : World) (p : ℕ) → Fine-at w p → Fine-at (world-in (calling w p)) (place-in (calling w p))
+  calling-fine : (w : World) (p : ℕ) → Fine-at w p → Fine-at (world-in (calling w p)) (place-in (calling w p))
   calling-fine w p k =
       let c = transactional registry script p held binding bucket in
       bucket-on held (call-kept w c .kept) registry script p (place-in (calling w p)) binding (place-goes w c (transactional-has registry script p held binding bucket) k .1) k
 
-  pub waiting-fine : (w : World) (p : ℕ) → Fine-at w p → Fine-at (world-in (waiting w p)) (place-in (waiting w p))
+  waiting-fine : (w : World) (p : ℕ) → Fine-at w p → Fine-at (world-in (waiting w p)) (place-in (waiting w p))
   waiting-fine w p k =
       let c = environment script p held in
       bucket-on held (call-kept w c .kept) registry script p (place-in (waiting w p)) binding (place-goes w c (environment-has script p held) (boundary-fine w p k) .1) k

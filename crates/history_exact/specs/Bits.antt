@@ -12,7 +12,7 @@ use Rattle.model.specs.Calls.{prepareOf}
 use Rattle.laws.specs.Lists.{zero-bit}
 use Rattle.laws.specs.Prepared.{Outcome, Came, was-done, was-refused, came}
 use Rattle.laws.specs.Words.{length-set-cell, length-set-waiters, bit-set, bit-set-other, bit-set-waiters}
-use Rattle.history.specs.World.{World, now, step}
+use Rattle.history.specs.World.{World, now, after-event}
 use Rattle.history.specs.Items.{Build, Call, perform}
 use Rattle.history.specs.Statements.{world-in}
 use Rattle.history.specs.Theorems.{lawful-always}
@@ -34,31 +34,31 @@ put t d b o c small l = go (ℕ-discrete c d)
     go (yes e) = a-bit (rw (← e, bit-set t c b o l) small)
     go (no e) = as-it-was (bit-set-other t d b o c e)
 
-length-step : (w : World) (e : Event) → length (step w e .table) ≡ length (w .table)
-length-step w attempt-begun = refl
-length-step w boundary-run = refl
-length-step w yielded = refl
-length-step w spun = refl
-length-step w step-dropped = refl
-length-step w (took a d s) = length-set-cell (w .table) d 1 s
-length-step w (released a d s) = length-set-cell (w .table) d 0 0
-length-step w (waiters-set d n) = length-set-waiters (w .table) d n
-length-step w (health-set i n) = refl
-length-step w (held-all m) = refl
-length-step w (added m c v) = refl
+length-after : (w : World) (e : Event) → length (after-event w e .table) ≡ length (w .table)
+length-after w attempt-begun = refl
+length-after w boundary-run = refl
+length-after w yielded = refl
+length-after w spun = refl
+length-after w step-dropped = refl
+length-after w (took a d s) = length-set-cell (w .table) d 1 s
+length-after w (released a d s) = length-set-cell (w .table) d 0 0
+length-after w (waiters-set d n) = length-set-waiters (w .table) d n
+length-after w (health-set i n) = refl
+length-after w (held-all m) = refl
+length-after w (added m c v) = refl
 
-left-step : (w : World) (e : Event) (c : ℕ) → 3 * c < length (w .table) → Left (bitAt (w .table) c) (bitAt (step w e .table) c)
-left-step w attempt-begun c l = as-it-was refl
-left-step w boundary-run c l = as-it-was refl
-left-step w yielded c l = as-it-was refl
-left-step w spun c l = as-it-was refl
-left-step w step-dropped c l = as-it-was refl
-left-step w (took a d s) c l = put (w .table) d 1 s c (omega arith) l
-left-step w (released a d s) c l = put (w .table) d 0 0 c (omega arith) l
-left-step w (waiters-set d n) c l = as-it-was (bit-set-waiters (w .table) d n c)
-left-step w (health-set i n) c l = as-it-was refl
-left-step w (held-all i) c l = as-it-was refl
-left-step w (added i d x) c l = as-it-was refl
+left-after : (w : World) (e : Event) (c : ℕ) → 3 * c < length (w .table) → Left (bitAt (w .table) c) (bitAt (after-event w e .table) c)
+left-after w attempt-begun c l = as-it-was refl
+left-after w boundary-run c l = as-it-was refl
+left-after w yielded c l = as-it-was refl
+left-after w spun c l = as-it-was refl
+left-after w step-dropped c l = as-it-was refl
+left-after w (took a d s) c l = put (w .table) d 1 s c (omega arith) l
+left-after w (released a d s) c l = put (w .table) d 0 0 c (omega arith) l
+left-after w (waiters-set d n) c l = as-it-was (bit-set-waiters (w .table) d n c)
+left-after w (health-set i n) c l = as-it-was refl
+left-after w (held-all i) c l = as-it-was refl
+left-after w (added i d x) c l = as-it-was refl
 
 then : {a b c : ℕ} → Left a b → Left b c → Left a c
 then _ (a-bit l) = a-bit l
@@ -67,7 +67,7 @@ then (a-bit l) (as-it-was q) = a-bit (omega (arith, l, q))
 
 left-now : (w : World) (es : List Event) (c : ℕ) → 3 * c < length (w .table) → Left (bitAt (w .table) c) (bitAt (now w es .table) c)
 left-now w [] c l = as-it-was refl
-left-now w (e ∷ es) c l = then (left-step w e c l) (left-now (step w e) es c (omega (arith, l, length-step w e)))
+left-now w (e ∷ es) c l = then (left-after w e c l) (left-now (after-event w e) es c (omega (arith, l, length-after w e)))
 
 pub bits-left : Bits-left perform
 bits-left w k c l = rw (lawful-always w k .1) (left-now w (perform w k .log) c l)

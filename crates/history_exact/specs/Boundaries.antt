@@ -23,10 +23,8 @@ use Rattle.laws.specs.Crew.{total-append}
 use Rattle.history.specs.World.{World}
 use Rattle.history.specs.Items.{Says, perform, acquire-bucket, drop-lease, environment}
 use Rattle.history.specs.Statements.{answer-in}
-use Rattle.history.specs.Judged.{performed}
-use Rattle.history_exact.specs.Script.{acquire-bucket-has}
+use Rattle.history.specs.Judged.{performed, made-so}
 use Rattle.history_exact.specs.Attempts.{Ends, no-cell, waited, held, not-takable, poisoned, late, granted, _and-then_, spin, yield, Pause, only-spins, also-yields, Attempts, all-busy, the-last, one-busy, locking, between, Gives-back, all-back, one-back, Key-by-key, all-locked, one-locked, one-refused, spins-in, Boundaries-add, Bucket-boundaries, rolled-back, Locks-boundaries}
-use Rattle.history_exact.specs.Made.{made}
 use Rattle.history_exact.specs.Retried.{spins-append, boundary-still, attempt-one}
 use Rattle.history_exact.specs.Ending.{tried-ends}
 use Rattle.history_exact.specs.Attempting.{attempting, bounding, by-steps}
@@ -159,7 +157,7 @@ key-adds : (w : World) (registry script : List ℕ) (place : ℕ) (words : List 
 unfolding spins-in
 key-adds w registry script place words binding bucket =
     performed (Adds 0) w (acquire-bucket registry script place words binding bucket) (λ r. adds-none)
-    (λ fine. subst (Adds 0) (made w (acquire-bucket-has registry script place words binding bucket) fine) (bucket-boundaries w registry script place words binding bucket fine))
+    (λ fine. subst (Adds 0) (made-so w (acquire-bucket registry script place words binding bucket) fine) (bucket-boundaries w registry script place words binding bucket fine))
 
 drop-adds : (w : World) (l : Lease) → Adds 0 (perform w (drop-lease l))
 unfolding spins-in

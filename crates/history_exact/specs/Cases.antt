@@ -15,7 +15,7 @@ use Rattle.types.specs.declared.Answer.the-variants.{Granted, Refused, RefusedA
 use Rattle.types.specs.declared.Check.the-variants.{Fine}
 use Rattle.types.specs.declared.Reason.the-variants as reason
 use Rattle.types.specs.declared.Refusal.the-variants.{SerialsSpent, SerializationFailure}
-use Rattle.history.specs.World.{World, worldOf, step}
+use Rattle.history.specs.World.{World, worldOf, after-event}
 use Rattle.history.specs.Items.{Call, Says, says, acquire-bucket, acquire-locks, keyCell, perform, rules}
 use Rattle.history.specs.Judged.{clear}
 use Rattle.history_exact.specs.Statements.{Is-free, Is-held, Unwaited, Quietly, at-waited, at-held, at-damaged, at-spent, at-free, Names, leases-from, Passes}
@@ -48,7 +48,7 @@ module _ {w : World} {place : ℕ} {waiting : Says} {holding : ℕ → Says} {c 
   spent-row u f e (at-free v g s) = absurd (omega arith)
 
   free-row : {x : World × Says} → Unwaited w c → Is-free w c → w .head .next < lastSerial → Quietly w place waiting holding c x
-      → x ≡ (step w (took by-caller c (w .head .next)), says (Granted (leaseOf c (w .head .next) (w .head .boot))) (countsOf 1 3 0 0) place [])
+      → x ≡ (after-event w (took by-caller c (w .head .next)), says (Granted (leaseOf c (w .head .next) (w .head .boot))) (countsOf 1 3 0 0) place [])
   free-row u f e (at-waited m) = absurd (m u)
   free-row u f e (at-held v k) = absurd (omega (arith, k .0, f .0))
   free-row u f e (at-damaged v d) = absurd (d .0 f)

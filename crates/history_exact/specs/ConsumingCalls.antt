@@ -21,11 +21,10 @@ use Rattle.laws.specs.Lists.{holds-few, words-back}
 use Rattle.history.specs.World.{World}
 use Rattle.history.specs.Items.{Call, perform}
 use Rattle.history.specs.Theorems.{lawful-always}
-use Rattle.history.specs.Judged.{judged-at, sorted-locks, steps}
+use Rattle.history.specs.Judged.{judged-at, sorted-locks, past-checks, made-so}
 use Rattle.history.specs.Shared.{steps-hand-back, back-once}
 use Rattle.history.specs.Calls.{words-leases}
 use Rattle.history_exact.specs.Script.{Scripted, environment-has, try-lock-has, transactional-has, acquire-bucket-has, release-all-has, acquire-locks-has, acquire-sorted-has, attempts-one, at-rest, counts, handed, Consumes, Script-consumed}
-use Rattle.history_exact.specs.Made.{made}
 use Rattle.history_exact.specs.Consuming.{lawfully}
 use Rattle.history_exact.specs.ConsumingSteps.{held-after, granted-after, boundary-consumed, lock-consumed, attempt-consumed, retry-consumed, back-consumed, locks-consumed, Any}
 
@@ -81,34 +80,34 @@ sorted-handed w registry script place held keys grants =
     go (RefusedAt r p) f = refl
 
 -- nothing is asked of the caller's own events here
-steps-consumed : (w : World) {k : Call} (s : Scripted k) → Consumes Any w s (steps w k)
-steps-consumed w (environment-has script place held) =
+past-checks-consumed : (w : World) {k : Call} (s : Scripted k) → Consumes Any w s (past-checks w k)
+past-checks-consumed w (environment-has script place held) =
     simp append-nil (boundary-consumed (w .head) script (holdsOf held) (flowOf (w .head .next) place 0) (w .table) (w .health))
-steps-consumed w (try-lock-has script place held c) =
+past-checks-consumed w (try-lock-has script place held c) =
     let ps = holdsOf held in
     let m = lockOf (given (w .head) script ps) (w .head .buckets) (flowOf (w .head .next) place 0) (w .table) (w .health) c .seen in
     rw (append-nil ps, ← (outcome-handed (w .head .boot) ps (m .0 .answer) []))
     (counts attempts-one (lock-consumed (w .head) script ps (w .head .buckets) (flowOf (w .head .next) place 0) (w .table) (w .health) c))
-steps-consumed w (transactional-has registry script place held binding bucket) =
+past-checks-consumed w (transactional-has registry script place held binding bucket) =
     let ps = holdsOf held in
     let m = attemptOf (given (w .head) script ps) (w .head .buckets) registry binding bucket (starting (w .head) place) (w .table) (w .health) .seen in
     rw (append-nil ps, ← (outcome-handed (w .head .boot) ps (m .0 .outcome) []))
     (attempt-consumed (w .head) script ps (w .head .buckets) registry binding bucket (starting (w .head) place) (w .table) (w .health))
-steps-consumed w (acquire-bucket-has registry script place held binding bucket) =
+past-checks-consumed w (acquire-bucket-has registry script place held binding bucket) =
     let ps = holdsOf held in
     let m = retryOf attemptLimit 0 noneYet (given (w .head) script ps) (w .head .buckets) registry binding bucket (starting (w .head) place) (w .table) (w .health) .seen in
     rw (append-nil ps, ← (settled-handed (w .head .boot) ps (m .0 .outcome) []))
     (retry-consumed (w .head) script attemptLimit 0 noneYet ps (w .head .buckets) registry binding bucket (starting (w .head) place) (w .table) (w .health))
-steps-consumed w (release-all-has script place leases) =
+past-checks-consumed w (release-all-has script place leases) =
     let ls = holdsOf leases in
     rw (take-all (leaseCount leases) ls (omega (arith, holds-few leases)))
     at (back-consumed (w .head) script (leaseCount leases) [] ls (starting (w .head) place) (w .table) (w .health) (omega (arith, words-leases leases)))
-steps-consumed w (acquire-locks-has registry script place held keys grants) =
+past-checks-consumed w (acquire-locks-has registry script place held keys grants) =
     let ps = holdsOf held in
     let m = locksOf (countIn keys) 0 (given (w .head) script ps) (w .head .buckets) (w .head .boot) registry keys [] (starting (w .head) place) (w .table) (w .health) grants .seen in
     rw (← (granted-handed ps (m .0 .answer) (m .1 .1 .1)))
     (locks-consumed (w .head) script ps (w .head .buckets) (w .head .boot) registry keys grants (countIn keys) 0 [] (starting (w .head) place) (w .table) (w .health))
-steps-consumed w (acquire-sorted-has registry script place held keys grants) =
+past-checks-consumed w (acquire-sorted-has registry script place held keys grants) =
     let ps = holdsOf held in
     let m = sorted-locks w registry script place held keys grants .seen in
     judged-at (Consumes Any w (acquire-sorted-has registry script place held keys grants)) (firstKey (countIn keys) 0 (w .head) registry keys) (λ r p _. at-rest)
@@ -117,4 +116,4 @@ steps-consumed w (acquire-sorted-has registry script place held keys grants) =
     (locks-consumed (w .head) script ps (w .head .buckets) (w .head .boot) registry (sortedKeys (w .head .buckets) registry keys) grants (length (cellsSorted (w .head .buckets) registry keys)) 0 [] (starting (w .head) place) (w .table) (w .health)))
 
 pub script-consumed : Script-consumed perform
-script-consumed w k s fine = lawfully {Own = Any} (rw (made w s fine) (steps-consumed w s)) (lawful-always w k .0)
+script-consumed w k s fine = lawfully {Own = Any} (rw (made-so w k fine) (past-checks-consumed w s)) (lawful-always w k .0)

@@ -129,7 +129,7 @@ boundary-from e f t g = rw (add-zero (f .dropped)) at (boundary-on (f .dropped) 
 
 module _ (k : Counts) (e : Setting) where
   module _ (buckets : ℕ) (registry : List ℕ) (binding bucket : ℕ) where
-    pub attempt-on : (r : Run) (t g : List ℕ)
+    attempt-on : (r : Run) (t g : List ℕ)
         → attemptOf e buckets registry binding bucket (on-run k r) t g ≡ tried-on k (attemptOf e buckets registry binding bucket r t g)
     unfolding attemptOf
     attempt-on r t g = ap (after (attempt-begun ∷ [])) (go (findOf (e .headers) buckets g registry binding bucket))
@@ -138,7 +138,7 @@ module _ (k : Counts) (e : Setting) where
         go (found.Fault x) = rw (assoc (k .attempts) (r .attempts) 1)
         go (found.At c) = rw (lock-counts (k .dropped) e buckets (r .flow) t g c, assoc (k .attempts) (r .attempts) 1, assoc (k .boundaries) (r .boundaries) (lockOf e buckets (r .flow) t g c .seen .0 .boundaries))
 
-  pub spin-on : (r : Run) (t g : List ℕ) → spinOf e (on-run k r) t g ≡ run-on k (spinOf e r t g)
+  spin-on : (r : Run) (t g : List ℕ) → spinOf e (on-run k r) t g ≡ run-on k (spinOf e r t g)
   unfolding spinOf
   spin-on r t g = rw (boundary-on (k .dropped) e (r .flow) t g, assoc (k .boundaries) (r .boundaries) 1)
 

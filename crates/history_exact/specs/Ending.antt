@@ -23,13 +23,12 @@ use Rattle.types.specs.declared.State.{State}
 use Rattle.types.specs.declared.State.the-variants as state
 use Rattle.types.specs.declared.Took.{Took}
 use Rattle.choice.specs.Pick.{if-both}
+use Rattle.history.specs.Judged.{made-so}
 use Rattle.history.specs.World.{caller-releases}
-use Rattle.history.specs.Items.{perform}
+use Rattle.history.specs.Items.{perform, transactional}
 use Rattle.history.specs.Steps.{With}
 use Rattle.history.specs.Rollback.{Foreigner, Every, end, also, boundary-foreign, still-then}
-use Rattle.history_exact.specs.Script.{transactional-has}
 use Rattle.history_exact.specs.Attempts.{Ends, Ending, Attempt-ends, caller-takes, no-cell, waited, held, not-takable, poisoned, late, granted}
-use Rattle.history_exact.specs.Made.{made}
 
 -- what follows a boundary's log is all that the caller takes
 none-then : {xs : List Event} (ys : List Event) → Every Foreigner xs → caller-takes (xs ++ ys) ≡ caller-takes ys
@@ -122,5 +121,5 @@ module _ (e : Setting) (buckets boot : ℕ) (registry : List ℕ) (binding bucke
 
 pub attempt-ends : Attempt-ends perform
 attempt-ends w registry script place words binding bucket fine =
-    subst Ending (sym (made w (transactional-has registry script place words binding bucket) fine))
+    subst Ending (sym (made-so w (transactional registry script place words binding bucket) fine))
     (tried-ends (given (w .head) script (holdsOf words)) (w .head .buckets) (w .head .boot) registry binding bucket (starting (w .head) place) (w .table) (w .health) refl)

@@ -29,19 +29,19 @@ use Rattle.choice.specs.Pick.{neither}
 use Rattle.laws.specs.Shape.{shaped}
 use Rattle.laws.specs.Checks.{not-stale}
 use Rattle.history.specs.World.{World, Live}
-use Rattle.history.specs.Items.{Says, says, perform, acquire-bucket, acquire-locks, environment}
+use Rattle.history.specs.Items.{Says, says, perform, acquire-bucket, acquire-locks, environment, drop-lease}
 use Rattle.history.specs.Statements.{answer-in, world-in}
 use Rattle.history.specs.Tests.{In, in-left, in-right, in-take, in-index}
 use Rattle.history.specs.Events.{Fit, lives}
 use Rattle.history.specs.Logs.{Kept, nothing, event, kept-live, kept-next, weaken}
-use Rattle.history.specs.Judged.{clear-front, clear-back}
+use Rattle.history.specs.Judged.{clear-front, clear-back, made-so}
+use Rattle.history.specs.HeldLists.{clear-live}
 use Rattle.history.specs.Steps.{With, worldAt, of-run, of-tried, Won, won, none-yet, no-more, boundary-kept, retry-kept}
 use Rattle.history.specs.Many.{Held, of-locks, one-more}
 use Rattle.history_exact.specs.Statements.{Passes}
-use Rattle.history_exact.specs.Script.{acquire-bucket-has, acquire-locks-has, environment-has, place-in}
+use Rattle.history_exact.specs.Script.{acquire-bucket-has, environment-has, place-in}
 use Rattle.history_exact.specs.Attempts.{added-up, _and-then_, locking, dropping, between, Gives-back, all-back, one-back, refused-at, Key-by-key, all-locked, one-locked, one-refused, Locks-as-calls, key-at}
-use Rattle.history_exact.specs.Made.{made, drop-made}
-use Rattle.history_exact.specs.Passing.{clear-live, boundary-on, divides, holding-more, in-script, key-passes, leases-append}
+use Rattle.history_exact.specs.Passing.{boundary-on, divides, holding-more, in-script, key-passes, leases-append}
 use Rattle.history_exact.specs.Passing as passing
 use Rattle.history_exact.specs.ScriptFacts.{place-goes}
 use Rattle.history_exact.specs.CountedOn.{run-on, locks-on, back-on, keys-on}
@@ -191,7 +191,7 @@ module _ (h : Head) (registry script held keys grants : List ℕ) where
       let kept = boundary-kept h script (holdsOf held ++ take n ls) (flowOf s place 0) u g (shape-stands dropped) .kept in
       let call = environment script place (held ++ wordsOf (h .boot) (take n ls)) in
       let is : bounds (take n ls) (worldAt h s u g) place ≡ done-with h (record { seen = (runOf f 0 1 0, c .seen .1); log = c .log }) =
-      made (worldAt h s u g) (environment-has script place (held ++ wordsOf (h .boot) (take n ls))) (boundary-fine dropped p b)
+      made-so (worldAt h s u g) (environment script place (held ++ wordsOf (h .boot) (take n ls))) (boundary-fine dropped p b)
       ∙ ap (λ (ps : List Hold). let c = boundaryOf (given h script ps) (flowOf s place 0) u g in done-with h (record { seen = (runOf (c .seen .0) 0 1 0, c .seen .1); log = c .log }))
       (leases-append (h .boot) held (take n ls) (whole-leases dropped)) in
       let within = subst (λ (x : Made (World × Says)). place-in x ≤ stepsIn script) is
@@ -209,7 +209,7 @@ module _ (h : Head) (registry script held keys grants : List ℕ) where
       (sym (back-from e n ls (runOf f 0 1 0) (c .seen .1 .0) (c .seen .1 .1))) in
       subst (λ (ks : List Hold). Backs ks v place (done-with h (giveBackOf (suc n) e ls (nil s place) t g))) (sym (take-suc ls n noHold (omega (arith, st .mine .enough))))
       (subst (Backs (take n ls ++ (l ∷ [])) v place) whole
-      (back-as l (drop-made v named (st .passes .0, (not-stale h named refl, (ap not live, tt)))) refl is refl rest))
+      (back-as l (made-so v (drop-lease named) (st .passes .0, (not-stale h named refl, (ap not live, tt)))) refl is refl rest))
 
   -- ---- locking
 
@@ -271,7 +271,7 @@ module _ (h : Head) (registry script held keys grants : List ℕ) where
       let fine : Passes v call =
       subst (λ (ls : List Hold). Passes v (acquire-bucket registry script place (held ++ wordsOf (h .boot) ls) (bindingAt keys p) (bucketAt keys p))) (take-length taken) (key-fine st p b) in
       let is : locks-it p taken v place ≡ at-last h m =
-      made v has fine
+      made-so v call fine
       ∙ ap (λ (ps : List Hold). at-last h (retryOf attemptLimit 0 noneYet (given h script ps) (h .buckets) registry (bindingAt keys p) (bucketAt keys p) (nil n place) t g))
       (leases-append (h .boot) held taken (whole-leases st)) in
       let within = subst (λ (x : Made (World × Says)). place-in x ≤ stepsIn script) is (place-goes v call has fine .1) in
@@ -290,7 +290,7 @@ pub locks-as-calls : Locks-as-calls perform
 unfolding locksRules
 locks-as-calls w registry script place held keys grants fine =
     let old = clear-live (w .head) (w .table) held (clear-front (notLive (w .head) (w .table) 0 (leasesOf held)) _ (fine .1 .1 .1 .1 .1)) in
-    subst (Key-by-key perform (w .head .boot) registry script held keys grants 0 [] w place) (sym (made w (acquire-locks-has registry script place held keys grants) fine))
+    subst (Key-by-key perform (w .head .boot) registry script held keys grants 0 [] w place) (sym (made-so w (acquire-locks registry script place held keys grants) fine))
     (locks-are (w .head) registry script held keys grants (λ l i. lives w l (old l i) .high) (countIn keys) 0 (w .head .next) place (w .table) (w .health) [] (omega arith) refl (omega arith)
     (record {
       passes = fine;

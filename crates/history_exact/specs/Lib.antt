@@ -3,7 +3,6 @@ pub mod Script
 pub mod Attempts
 pub mod Theorems
 pub mod Cases
-pub mod Made
 pub mod Passing
 pub mod ForeignSteps
 pub mod Quiet

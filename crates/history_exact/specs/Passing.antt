@@ -1,7 +1,7 @@
 -- Checks go on passing: over lawful events that spare the held leases, and from one place of the script to another.
 use Prim.Native.Nat.{zero, suc, _<_, ℕ, _+_, _≤_, _%_, _*_, _/_}
 use mathlib.Core.Path.{_≡_, refl, ap, _∙_, subst}
-use mathlib.Core.List.{List, [], _∷_, _++_, map}
+use mathlib.Core.List.{List, [], _∷_, _++_}
 use mathlib.Core.Bool.{true, false, not, _||_}
 use mathlib.Core.Logic.{inl, inr}
 use native.Mathlib.Decide.{ℕ-discrete}
@@ -10,63 +10,26 @@ use lib.Dec.{ltb, eqb}
 use lib.ListN.{length, length-set, length-append}
 use borrow.Author.Tests.{not-false, le-ltb, ltb-false, eqb-true, eq-eqb}
 use Rattle.model.specs.Log.{Event, attempt-begun, boundary-run, yielded, spun, step-dropped, took, released, waiters-set, health-set, held-all, added}
-use Rattle.model.specs.Arena.{cellsOf, shapeFits, healthFits, isLive, leasesOf, holdsOf, isIn, wordsOf, holdOf, holdIn}
+use Rattle.model.specs.Arena.{cellsOf, shapeFits, healthFits, isLive, leasesOf, holdsOf, wordsOf, holdOf}
 use Rattle.model.specs.Foreign.{stepsIn}
 use Rattle.model.specs.Lock.{bindingAt}
 use Rattle.model.specs.Checks.{notLive, badScript, bucketRules, scriptRules, badBindings, locksRules, badBinding, countIn, leaseCount, badHeldLength, isUneven}
 use Rattle.types.specs.declared.Head.{Head}
 use Rattle.types.specs.declared.Hold.{Hold}
-use Rattle.types.specs.declared.Lease.{Lease}
 use Rattle.choice.specs.Pick.{neither}
 use Rattle.laws.specs.Shape.{shaped}
-use Rattle.laws.specs.Checks.{not-stale}
-use Rattle.laws.specs.Lists.{length-words, holds-are, words-back}
-use Rattle.history.specs.World.{World, step, now}
+use Rattle.laws.specs.Lists.{length-words, words-back}
+use Rattle.history.specs.World.{World, after-event, now}
 use Rattle.history.specs.Items.{Clear}
-use Rattle.history.specs.Tests.{In, in-first, in-rest, in-cases, differ, in-either}
+use Rattle.history.specs.Tests.{In, in-either}
 use Rattle.history.specs.Events.{Fit, fits}
 use Rattle.history.specs.Logs.{Kept, kept-fit, kept-live, arena-now, boot-now}
 use Rattle.history.specs.Judged.{clear-front, clear-back, clear-append}
-
--- ---- the held list
-
--- all leases of a list have this boot number
-abbrev pub All-of : ℕ → List Lease → Type 0
-All-of boot [] = Unit {0}
-All-of boot (l ∷ ls) = (l .boot ≡ boot) × All-of boot ls
-
-leases-clear : (h : Head) (t : List ℕ) (i : ℕ) (ls : List Lease) → All-of (h .boot) ls → ((l : Hold) → In (map holdIn ls) l → isLive (h .next) (cellsOf h) t l ≡ true)
-    → Clear (notLive h t i ls)
-unfolding notLive
-leases-clear h t i [] o f = tt
-leases-clear h t i (l ∷ ls) o f =
-    (not-stale h l (o .0), (ap not (f (holdIn l) (in-first (holdIn l) (map holdIn ls))), leases-clear h t (i + 1) ls (o .1) (λ k j. f k (in-rest (holdIn l) k (map holdIn ls) j))))
-
-clear-leases : (h : Head) (t : List ℕ) (i : ℕ) (ls : List Lease) → Clear (notLive h t i ls) → (l : Hold) → In (map holdIn ls) l → isLive (h .next) (cellsOf h) t l ≡ true
-unfolding notLive isIn
-clear-leases h t i [] c l j = absurd (differ j)
-clear-leases h t i (k ∷ ls) c l j =
-    elim (in-cases (holdIn k) l (map holdIn ls) j) [
-      | inl e ↦ subst (λ (x : Hold). isLive (h .next) (cellsOf h) t x ≡ true) e (not-false (isLive (h .next) (cellsOf h) t (holdIn k)) (c .1 .0))
-      | inr r ↦ clear-leases h t (i + 1) ls (c .1 .1) l r
-    ]
-
-clear-own : (h : Head) (t : List ℕ) (i : ℕ) (ls : List Lease) → Clear (notLive h t i ls) → All-of (h .boot) ls
-unfolding notLive
-clear-own h t i [] c = tt
-clear-own h t i (l ∷ ls) c = (eqb-true (l .boot) (h .boot) (not-false _ (c .0)), clear-own h t (i + 1) ls (c .1 .1))
-
--- the same of a list as words: its leases are of the head's boot number, and its holds are live
-pub live-clear : (h : Head) (t held : List ℕ) → All-of (h .boot) (leasesOf held) → ((l : Hold) → In (holdsOf held) l → isLive (h .next) (cellsOf h) t l ≡ true)
-    → Clear (notLive h t 0 (leasesOf held))
-live-clear h t held o f = leases-clear h t 0 (leasesOf held) o (rw (holds-are held) at f)
-
-pub clear-live : (h : Head) (t held : List ℕ) → Clear (notLive h t 0 (leasesOf held)) → (l : Hold) → In (holdsOf held) l → isLive (h .next) (cellsOf h) t l ≡ true
-clear-live h t held c = rw (holds-are held) (clear-leases h t 0 (leasesOf held) c)
+use Rattle.history.specs.HeldLists.{All-of, clear-own, live-clear, clear-live}
 
 -- ---- the arena
 
-one-health : (w : World) (e : Event) → length (step w e .health) ≡ length (w .health)
+one-health : (w : World) (e : Event) → length (after-event w e .health) ≡ length (w .health)
 one-health w attempt-begun = refl
 one-health w boundary-run = refl
 one-health w yielded = refl
@@ -81,7 +44,7 @@ one-health w (added m c v) = refl
 
 health-now : (w : World) (es : List Event) → length (now w es .health) ≡ length (w .health)
 health-now w [] = refl
-health-now w (e ∷ es) = health-now (step w e) es ∙ one-health w e
+health-now w (e ∷ es) = health-now (after-event w e) es ∙ one-health w e
 
 module _ {w v : World} {es : List Event} (held : List ℕ) (k : Kept w (In (holdsOf held)) v es) where
   shape-fit : not (shapeFits (w .head) (length (w .table))) ≡ false → Fit w

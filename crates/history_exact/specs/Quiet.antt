@@ -113,7 +113,7 @@ unfoldable pub yieldsIn : ℕ → ℕ → ℕ
 yieldsIn zero i = 0
 yieldsIn (suc left) i = one (eqb (i % 64) 63) + yieldsIn left (i + 1)
 
-pub one-more : (i : ℕ) → one (eqb (i % 64) 63) + i / 64 ≡ (i + 1) / 64
+one-more : (i : ℕ) → one (eqb (i % 64) 63) + i / 64 ≡ (i + 1) / 64
 one-more i = go (eqb (i % 64) 63) refl
   where
     go : (b : Bool) → eqb (i % 64) 63 ≡ b → one b + i / 64 ≡ (i + 1) / 64

@@ -29,13 +29,12 @@ use Rattle.types.specs.declared.Run.{Run}
 use Rattle.types.specs.declared.Tried.{Tried}
 use Rattle.laws.specs.Keys.{header-of-key}
 use Rattle.laws.specs.Outcomes.{retry-first}
+use Rattle.history.specs.Judged.{made-so}
 use Rattle.history.specs.World.{World, worldOf, Healthy}
-use Rattle.history.specs.Items.{Says, says, perform, cellOf}
+use Rattle.history.specs.Items.{Says, says, perform, cellOf, try-lock, transactional, acquire-bucket}
 use Rattle.history.specs.Tests.{if-cases}
 use Rattle.history.specs.Steps.{With}
 use Rattle.history_exact.specs.Statements.{By-cell, sick-cell, sound-cell, Ready, Acquire-bucket-exactly, Acquire-bucket-quiet, By-key, Names, Quietly, Transactional-quiet, Try-lock-exactly, Try-lock-quiet, bad-header, Locks-exactly, at-waited, busy-after, failed-after, is-poisoned, at-held, bad-bucket, at-damaged, names, at-spent, at-free}
-use Rattle.history_exact.specs.Script.{acquire-bucket-has, transactional-has, try-lock-has}
-use Rattle.history_exact.specs.Made.{made}
 use Rattle.history_exact.specs.Quiet.{Quiet-lock, was-waited, was-held, was-damaged, was-spent, was-free, was-sick, lock-quiet, yieldsIn, yields-are, busy-retry}
 
 -- ---- proofs
@@ -69,7 +68,7 @@ sound-row h (sound-cell n y) = y
 
 pub try-lock-quiet : Try-lock-quiet perform
 try-lock-quiet w script place held c fine end =
-    subst (By-cell w c place (Row-of w place c)) (sym (ap (λ m. m .seen) (made w (try-lock-has script place held c) fine)))
+    subst (By-cell w c place (Row-of w place c)) (sym (ap (λ m. m .seen) (made-so w (try-lock script place held c) fine)))
     (rw (zero-add (lockOf (given (w .head) script (holdsOf held)) (w .head .buckets) (flowOf (w .head .next) place 0) (w .table) (w .health) c .seen .0 .boundaries))
     at (lock-row w place c (lock-quiet (given (w .head) script (holdsOf held)) (w .head .buckets) (flowOf (w .head .next) place 0) (w .table) (w .health) c end)))
 
@@ -106,7 +105,7 @@ key-healthy w registry binding bucket q r =
 pub transactional-quiet : Transactional-quiet perform
 unfolding attemptOf
 transactional-quiet w registry script place held binding bucket fine end =
-    subst (By-key w registry binding bucket place Row) (sym (ap (λ m. m .seen) (made w (transactional-has registry script place held binding bucket) fine)))
+    subst (By-key w registry binding bucket place Row) (sym (ap (λ m. m .seen) (made-so w (transactional registry script place held binding bucket) fine)))
     (go (keyed (w .head .headers) (w .head .buckets) (w .health) registry binding bucket))
   where
     Row : ℕ → World × Says → Type 0
@@ -195,7 +194,7 @@ module _ (w : World) (registry script : List ℕ) (place : ℕ) (held : List ℕ
 
 pub acquire-bucket-quiet : Acquire-bucket-quiet perform
 acquire-bucket-quiet w registry script place held binding bucket fine end =
-    subst (By-key w registry binding bucket place (Row w registry script place held binding bucket end)) (sym (ap (λ m. m .seen) (made w (acquire-bucket-has registry script place held binding bucket) fine)))
+    subst (By-key w registry binding bucket place (Row w registry script place held binding bucket end)) (sym (ap (λ m. m .seen) (made-so w (acquire-bucket registry script place held binding bucket) fine)))
     (all-rows w registry script place held binding bucket end (keyed (w .head .headers) (w .head .buckets) (w .health) registry binding bucket) refl)
 
 -- the answers of a Busy row are Busy, or 11

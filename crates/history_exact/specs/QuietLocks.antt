@@ -24,12 +24,11 @@ use Rattle.types.specs.declared.Outcome.the-variants as outcome
 use Rattle.types.specs.declared.Run.{Run}
 use Rattle.laws.specs.Keys.{find-healthy}
 use Rattle.laws.specs.Words.{waiters-set-cell, bit-set-other, owner-set-other}
+use Rattle.history.specs.Judged.{made-so}
 use Rattle.history.specs.World.{World, worldOf, now}
-use Rattle.history.specs.Items.{Says, says, perform, keyCell}
+use Rattle.history.specs.Items.{Says, says, perform, keyCell, acquire-locks}
 use Rattle.history.specs.Steps.{With, worldAt}
 use Rattle.history_exact.specs.Statements.{Locks-quiet, leases-from, takes-of}
-use Rattle.history_exact.specs.Script.{acquire-locks-has}
-use Rattle.history_exact.specs.Made.{made}
 use Rattle.history_exact.specs.Quiet.{Quiet-lock, was-waited, was-held, was-damaged, was-spent, was-free, was-sick, lock-quiet}
 use Rattle.history_exact.specs.QuietCalls.{Keyed, no-header, sick, no-bucket, at-cell, keyed, retry-stops, attempt-as}
 
@@ -166,6 +165,6 @@ locks-quiet w registry script place held keys grants fine end ready apart few =
     = λ p i. let a = ready p i .0 in find-named (w .head .headers) (w .head .buckets) (w .health) registry (bindingAt keys p) (bucketAt keys p) (a .0) (a .1) (a .2) in
     let all = ready-keys e place end 0 0 (w .head .buckets) (w .head .boot) registry keys (w .health) grants n apart there n 0 0 [] s 0 0 (w .table) (omega arith)
     (λ q _ h. let a = ready q (omega arith) in record { unwaited = a .1; no-bit = a .2 .0; no-owner = a .2 .1 }) few in
-    ap (λ m. m .seen) (made w (acquire-locks-has registry script place held keys grants) fine)
+    ap (λ m. m .seen) (made-so w (acquire-locks registry script place held keys grants) fine)
     ∙ ap (said w) (rw (add-zero n) at all ∙ done e (w .head .buckets) (w .head .boot) registry keys (0 + n) ls (runOf (flowOf (s + n) place 0) (0 + n) (0 + 3 * n) 0) (set-all (w .table) ls) (w .health) grants)
     ∙ rw (zero-add n, zero-add (3 * n), now-takes (w .head) (w .health) cell n 0 s (w .table))

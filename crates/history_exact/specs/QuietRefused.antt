@@ -37,11 +37,9 @@ use Rattle.history.specs.World.{World, worldOf, Unreleased, now, Lawful}
 use Rattle.history.specs.Items.{Says, says, acquire-bucket, acquire-locks, perform, keyCell, Call, Clear, rules}
 use Rattle.history.specs.Tests.{state-free, In}
 use Rattle.history.specs.Logs.{Kept}
-use Rattle.history.specs.Judged.{steps}
+use Rattle.history.specs.Judged.{past-checks, made-so}
 use Rattle.history.specs.Steps.{With, worldAt}
 use Rattle.history_exact.specs.Statements.{leases-from, Locks-refused-quiet, takes-of, Names, Unwaited, Is-free}
-use Rattle.history_exact.specs.Script.{acquire-locks-has, acquire-bucket-has}
-use Rattle.history_exact.specs.Made.{made}
 use Rattle.history_exact.specs.Passing.{bucket-on, key-passes, in-script}
 use Rattle.history_exact.specs.Quiet.{boundary-quiet, Quiet-lock, was-waited, was-held, was-damaged, was-spent, was-free, was-sick, taken-back, lock-quiet, yieldsIn, yields-are, busy-retry}
 use Rattle.history_exact.specs.QuietCalls.{retry-stops, attempt-as}
@@ -179,12 +177,6 @@ module _ (cell : ℕ → ℕ) where
   unfolding leases-from
   from-length zero p s = refl
   from-length (suc j) p s = ap (λ (n : ℕ). suc n) (from-length j (p + 1) (s + 1))
-
-  from-take : (n j p s : ℕ) → n ≤ j → take n (leases-from cell j p s) ≡ leases-from cell n p s
-  unfolding leases-from
-  from-take zero j p s l = refl
-  from-take (suc n) zero p s l = absurd (omega arith)
-  from-take (suc n) (suc j) p s l = ap (λ (ls : List Hold). holdOf (cell p) s ∷ ls) (from-take n j (p + 1) (s + 1) (omega arith))
 
   from-end : (n p s : ℕ) → leases-from cell (suc n) p s ≡ leases-from cell n p s ++ (holdOf (cell (p + n)) (s + n) ∷ [])
   unfolding leases-from
@@ -354,7 +346,7 @@ module _ (w : World) (registry script : List ℕ) (place : ℕ) (held keys grant
         bucket-on held k registry script place place (bindingAt keys j) (in-script script place (unfold locksRules in fine .1 .1 .1 .0))
         (key-passes w registry script place held keys grants j few fine)
 
-    by-steps : Says-so (steps then-world key .seen .1)
+    by-steps : Says-so (past-checks then-world key .seen .1)
     by-steps =
         let s = w .head .next in
         let t = w .table in
@@ -372,17 +364,17 @@ module _ (w : World) (registry script : List ℕ) (place : ℕ) (held keys grant
         let m = retried f u g (w .head .buckets) registry (bindingAt keys j) (bucketAt keys j) e end 0 0 0 in
         let counted = retry-on f u g (w .head .buckets) registry (bindingAt keys j) (bucketAt keys j) (protecting e ls) e end end j (3 * j) 0 refl in
         let back : undo (length ls) ls u ≡ t = rw (from-length cell j 0 s) (undone cell j s t (λ p i. ready p i .2) apart j (omega arith)) in
-        subst (λ (v : World). Says-so (steps v key .seen .1)) (sym (now-takes (w .head) g cell j 0 s t))
+        subst (λ (v : World). Says-so (past-checks v key .seen .1)) (sym (now-takes (w .head) g cell j 0 s t))
         (λ refused.
         let here = refused-here e f end (w .head .boot) ls j u g grants left (w .head .buckets) registry keys r j (3 * j) m counted
         (unmoved f u g (w .head .buckets) registry (bindingAt keys j) (bucketAt keys j) e end (refused-not (w .head .boot) (m .0 .outcome) r refused)) refused in
-        ap (λ x. x .seen) (made w (acquire-locks-has registry script place held keys grants) fine)
+        ap (λ x. x .seen) (made-so w (acquire-locks registry script place held keys grants) fine)
         ∙ ap (said w) (rw (n, zero-add j, zero-add (3 * j)) at all ∙ here)
         ∙ same-says back (omega (arith, from-length cell j 0 s)) (zero-add (m .0 .run .yields)))
 
 pub locks-refused-quiet : Locks-refused-quiet perform
 locks-refused-quiet w registry script place held keys grants j r fine end few ready apart serials =
-    let k = acquire-bucket-has registry script place held (bindingAt keys j) (bucketAt keys j) in
+    let k = acquire-bucket registry script place held (bindingAt keys j) (bucketAt keys j) in
     subst (λ (x : Made (World × Says)). Says-so w registry script place held keys grants j r (x .seen .1))
-    (sym (made (then-world w registry script place held keys grants j r) k (key-fine w registry script place held keys grants j r fine end few ready apart serials)))
+    (sym (made-so (then-world w registry script place held keys grants j r) k (key-fine w registry script place held keys grants j r fine end few ready apart serials)))
     (by-steps w registry script place held keys grants j r fine end few ready apart serials)

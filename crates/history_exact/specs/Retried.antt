@@ -38,13 +38,12 @@ use Rattle.types.specs.declared.Took.{Took}
 use Rattle.types.specs.declared.Tried.{Tried}
 use Rattle.choice.specs.Pick.{if-both}
 use Rattle.laws.specs.Outcomes.{Comes, granted, busy, poisoned, damaged, spent, lock-comes}
+use Rattle.history.specs.Judged.{made-so}
 use Rattle.history.specs.World.{World}
-use Rattle.history.specs.Items.{Says, perform}
+use Rattle.history.specs.Items.{Says, perform, acquire-locks, acquire-bucket}
 use Rattle.history.specs.Tests.{differ, if-cases}
 use Rattle.history.specs.Steps.{With}
-use Rattle.history_exact.specs.Script.{acquire-bucket-has, acquire-locks-has}
 use Rattle.history_exact.specs.Attempts.{Bucket-retries, Failed, Failed-at, Keys-retried, Locks-retry, Retries, total-64, Some-4096, a-later, this-key, spins-in}
-use Rattle.history_exact.specs.Made.{made}
 
 -- ---- no spin in a lock
 
@@ -266,7 +265,7 @@ bucket-retries w registry script place held binding bucket fine =
     let m = retryOf attemptLimit 0 noneYet (given (w .head) script (holdsOf held)) (w .head .buckets) registry binding bucket (starting (w .head) place) (w .table) (w .health) in
     let z = retry-ran (given (w .head) script (holdsOf held)) (w .head .buckets) registry binding bucket attemptLimit 0 noneYet (starting (w .head) place) (w .table) (w .health) in
     subst (λ (x : Made (World × Says)). Retries (x .seen .1 .answer) (x .seen .1 .counts .attempts) (x .seen .1 .counts .yields) (spins-in (x .log)))
-    (sym (made w (acquire-bucket-has registry script place held binding bucket) fine))
+    (sym (made-so w (acquire-bucket registry script place held binding bucket) fine))
     (go (m .seen .0 .outcome) (m .seen .0 .run .attempts) (m .seen .0 .run .yields) (spins-in (m .log)) (omega (arith, z .yields-at)) (z .other)
     (λ q. (z .all q .0, omega (arith, z .all q .1))) (λ q. (z .fewer q .0, omega (arith, z .fewer q .1))))
   where
@@ -401,4 +400,4 @@ pub locks-retry : Locks-retry perform
 locks-retry w registry script place held keys grants fine =
     let k = locks-sums (given (w .head) script (holdsOf held)) (w .head .buckets) (w .head .boot) registry keys grants (countIn keys) 0 [] (starting (w .head) place) (w .table) (w .health) in
     subst (λ (x : Made (World × Says)). Keys-retried (countIn keys) (x .seen .1 .answer) (x .seen .1 .counts .yields) (spins-in (x .log)))
-    (sym (made w (acquire-locks-has registry script place held keys grants) fine)) (same-tally (omega (arith, k .1)) refl (k .2))
+    (sym (made-so w (acquire-locks registry script place held keys grants) fine)) (same-tally (omega (arith, k .1)) refl (k .2))

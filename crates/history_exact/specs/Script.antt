@@ -12,7 +12,7 @@ use Rattle.model.specs.Crew.{total}
 use Rattle.types.specs.declared.Answer.{Answer}
 use Rattle.types.specs.declared.Answer.the-variants.{Done, Busy, Refused, Cell, Granted, AllGranted, RefusedAt}
 use Rattle.types.specs.declared.Hold.{Hold}
-use Rattle.history.specs.World.{World, step, now, Legal}
+use Rattle.history.specs.World.{World, after-event, now, Legal}
 use Rattle.history.specs.Items.{Build, Call, Says, environment, place-of, script-of, try-lock, held-of, transactional, acquire-bucket, given-up, release-all, acquire-locks, acquire-sorted}
 use Rattle.history_exact.specs.Statements.{Passes, Stepping}
 
@@ -58,10 +58,10 @@ pub data Consumed (Own : World → Event → Type 0) (script : List ℕ)
   counts : {ps rs : List Hold} {p d q c : ℕ} {w v : World} {es : List Event} {e : Event} → Counted-only e
       → Consumed Own script ps p d w rs q c v es → Consumed Own script ps p d w rs q c v (e ∷ es)
   takes : {ps rs : List Hold} {p d q c : ℕ} {w v : World} {es : List Event} (l : Hold) → Own w (took by-caller (l .cell) (l .serial))
-      → Consumed Own script (ps ++ (l ∷ [])) p d (step w (took by-caller (l .cell) (l .serial))) rs q c v es
+      → Consumed Own script (ps ++ (l ∷ [])) p d (after-event w (took by-caller (l .cell) (l .serial))) rs q c v es
       → Consumed Own script ps p d w rs q c v (took by-caller (l .cell) (l .serial) ∷ es)
   gives-up : {ps rs : List Hold} {p d q c : ℕ} {w v : World} {es : List Event} (l : Hold) → Own w (released by-caller (l .cell) (l .serial))
-      → Consumed Own script ps p d (step w (released by-caller (l .cell) (l .serial))) rs q c v es
+      → Consumed Own script ps p d (after-event w (released by-caller (l .cell) (l .serial))) rs q c v es
       → Consumed Own script (ps ++ (l ∷ [])) p d w rs q c v (released by-caller (l .cell) (l .serial) ∷ es)
   boundary : {ps rs : List Hold} {p d x y q c : ℕ} {w u v : World} {es fs : List Event} → Boundary script ps p d w x y u es
       → Consumed Own script ps x y u rs q c v fs → Consumed Own script ps p d w rs q c v (boundary-run ∷ (es ++ fs))

@@ -22,7 +22,7 @@ use Rattle.types.specs.declared.Reason.{Reason}
 use Rattle.types.specs.declared.Reason.the-variants as reason
 use Rattle.types.specs.declared.Refusal.{Refusal}
 use Rattle.types.specs.declared.Refusal.the-variants.{BadHeader, Damaged, InvalidBucket, SerializationFailure, SerialsSpent, Poisoned}
-use Rattle.history.specs.World.{World, Healthy, Legal, now, step, worldOf}
+use Rattle.history.specs.World.{World, Healthy, Legal, now, after-event, worldOf}
 use Rattle.history.specs.Items.{Build, Says, Call, acquire-bucket, acquire-locks, says, transactional, try-lock, keyCell, cellOf, Clear, rules}
 use Rattle.history.specs.Statements.{answer-in}
 
@@ -68,7 +68,7 @@ pub data Stepping (w : World) (ps : List Hold) (kind place number : ℕ) : World
   -- "0 observe", "5 end of boundary"
   looks : kind ≡ 0 → Stepping w ps kind place number w [] 0
   ends : kind ≡ 5 → Stepping w ps kind place number w [] 0
-  performed : (e : Event) → Asks w kind place number e → Allowed w ps e → Stepping w ps kind place number (step w e) (e ∷ []) 0
+  performed : (e : Event) → Asks w kind place number e → Allowed w ps e → Stepping w ps kind place number (after-event w e) (e ∷ []) 0
   -- "another kind, or not legal"
   dropped : (kind ≡ 0 → ⊥) → (kind ≡ 5 → ⊥) → ((e : Event) → Asks w kind place number e → Allowed w ps e → ⊥)
       → Stepping w ps kind place number w (step-dropped ∷ []) 1
@@ -85,7 +85,7 @@ pub data Quietly (w : World) (place : ℕ) (waiting : Says) (holding : ℕ → S
   at-spent : Unwaited w c → Is-free w c → lastSerial ≤ w .head .next
       → Quietly w place waiting holding c (w, says (Refused (SerialsSpent c)) (countsOf 1 2 0 0) place [])
   at-free : Unwaited w c → Is-free w c → w .head .next < lastSerial
-      → Quietly w place waiting holding c (step w (took by-caller c (w .head .next)), says (Granted (leaseOf c (w .head .next) (w .head .boot))) (countsOf 1 3 0 0) place [])
+      → Quietly w place waiting holding c (after-event w (took by-caller c (w .head .next)), says (Granted (leaseOf c (w .head .next) (w .head .boot))) (countsOf 1 3 0 0) place [])
 
 -- ---- the table of a call by cell: document 02, L3, "A call by cell reads the health of its cell's header there", which
 -- is after the third boundary. A cell that would be granted is then 7 if its header is poisoned: the table is as before,

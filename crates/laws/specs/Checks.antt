@@ -1,16 +1,15 @@
 -- Lists of rules: how `first` goes on, what it means that all is fine, and one position of a list of leases at a time.
-use Prim.Native.Nat.{ℕ, zero, suc, _+_, _*_, _-_, _≤_, _<_}
+use Prim.Native.Nat.{ℕ, zero, suc, _+_, _*_, _≤_, _<_}
 use mathlib.Core.Path.{_≡_, refl, sym, ap, _∙_}
 use mathlib.Core.List.{List, [], _∷_, _++_}
 use mathlib.Core.Bool.{Bool, true, false, not}
 use native.Mathlib.Omega.{arith}
-use native.Mathlib.Numerals.{add-one}
 use lib.Dec.{ltb}
 use lib.ListN.{length, getD, drop, length-drop}
-use lib.Seq.{drop-cons}
 use borrow.Author.Tests.{eq-eqb, leb-false, ltb-true, not-false}
+pub use Rattle.choice.specs.Lists.{drop-three}
 use Rattle.choice.specs.Choice.{if_then_else_}
-use Rattle.model.specs.Arena.{cellsOf, leaseOf, isStale, holdIn, shapeFits, healthFits, isLive, leasesOf, holdsOf, sameHold, isIn, heldBy, stateAt}
+use Rattle.model.specs.Arena.{cellsOf, leaseOf, isStale, holdIn, shapeFits, isLive, leasesOf, holdsOf, sameHold, isIn, heldBy, stateAt}
 use Rattle.model.specs.Refusals.{Rule, refusalOf, first}
 use Rattle.model.specs.Lock.{holdAt}
 use Rattle.model.specs.Checks.{badShape, badHealth, notLive, cellRules, leaseRules, heldCellRules, heldLeaseRules, badHeld}
@@ -91,16 +90,6 @@ pub held-then : (h : Head) (t held : List ℕ) (ys : List Rule) → first (badHe
 held-then h t held ys = first-append (badHeld h t held) ys
 
 -- ---- lists of leases, a position at a time
-
-pub drop-two : (l : List ℕ) (n : ℕ) → n + 1 < length l → drop n l ≡ getD l n 0 ∷ getD l (n + 1) 0 ∷ drop (n + 2) l
-drop-two l n b =
-    drop-cons l n 0 (omega arith)
-    ∙ ap (λ (r : List ℕ). getD l n 0 ∷ r) (rw (← add-one n) (drop-cons l (n + 1) 0 b ∙ ap (λ (k : ℕ). getD l (n + 1) 0 ∷ drop k l) (let e : suc (n + 1) ≡ n + 2 = omega arith in e)))
-
-pub drop-three : (l : List ℕ) (n : ℕ) → n + 2 < length l → drop n l ≡ getD l n 0 ∷ getD l (n + 1) 0 ∷ getD l (n + 2) 0 ∷ drop (n + 3) l
-drop-three l n b =
-    drop-two l n (omega arith)
-    ∙ ap (λ (r : List ℕ). getD l n 0 ∷ getD l (n + 1) 0 ∷ r) (drop-cons l (n + 2) 0 b ∙ ap (λ (k : ℕ). getD l (n + 2) 0 ∷ drop k l) (let e : suc (n + 2) ≡ n + 3 = omega arith in e))
 
 -- the lease at position i of a list, and its hold
 abbrev pub leaseIn : List ℕ → ℕ → Lease

@@ -1,21 +1,19 @@
 -- The moves of a crew's work, and what its checks give: few members with few cells, each member's list in the run, in range and strictly
 -- rising, and one counter a cell.
-use Prim.Native.Nat.{ℕ, zero, suc, _+_, _*_, _-_, _≤_, _<_}
+use Prim.Native.Nat.{ℕ, zero, suc, _+_, _*_, _≤_, _<_}
 use mathlib.Core.Path.{_≡_, refl, _∙_}
 use mathlib.Core.List.{List, [], _∷_, _++_}
-use mathlib.Core.Bool.{Bool, true, false, not, _&&_, _||_}
+use mathlib.Core.Bool.{true, not, _&&_, _||_}
 use native.Mathlib.Omega.{arith}
 use native.Mathlib.Decide.{decLt, ℕ-discrete}
 use lib.Dec.{ltb, leb, eqb}
 use lib.ListN.{length, getD, drop, length-take, length-drop, List·getD-eq-default}
 use lib.Seq.{getD-take, getD-drop}
 use borrow.Author.Tests.{ltb-true, ltb-false, leb-true, eqb-true, eq-eqb, not-false}
-use Rattle.choice.specs.Choice.{if_then_else_}
-use Rattle.model.specs.Log.{gives, _>>=_}
 use Rattle.model.specs.Arena.{within, cellsOf}
 use Rattle.model.specs.Refusals.{first}
 use Rattle.model.specs.Checks.{badShape, badHealth}
-use Rattle.model.specs.Crew.{Work, rests, adds, addsOf, movesOf, total, startOf, countOf, listOf, allWithin, badLimits, risesFrom, badLists, planRules, crewRules, badCounters, crewAtWorkRules, Crew, idled, tryTurnOf, heldAllOf, addTurnOf, releaseTurnOf, turnOf, releasedOf}
+use Rattle.model.specs.Crew.{Work, rests, adds, addsOf, movesOf, total, startOf, countOf, listOf, allWithin, badLimits, risesFrom, badLists, planRules, crewRules, badCounters, crewAtWorkRules}
 use Rattle.types.specs.declared.Check.the-variants.{Fine}
 use Rattle.types.specs.declared.Head.{Head}
 use Rattle.choice.specs.Pick.{both, neither}

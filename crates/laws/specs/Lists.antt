@@ -1,18 +1,13 @@
 -- Runs of words, and the leases in them: one step of a walk, lengths, and a run of zeros.
-use Prim.Native.Nat.{ℕ, zero, suc, _+_, _*_, _≤_, _<_}
+use Prim.Native.Nat.{ℕ, zero, suc, _+_, _*_, _≤_}
 use mathlib.Core.Path.{_≡_, refl, ap, _∙_}
 use mathlib.Core.List.{List, [], _∷_, map}
 use native.Mathlib.Omega.{arith}
-use native.Mathlib.Numerals.{add-one}
-use lib.ListN.{length, getD, drop, replicate}
-use lib.Seq.{drop-cons}
+use lib.ListN.{length, getD, replicate}
+pub use Rattle.choice.specs.Lists.{drop-one}
 use Rattle.model.specs.Arena.{bitAt, ownerAt, holdIn, leasesOf, holdsOf, wordsOf, leaseOf, leaseUnder}
 use Rattle.types.specs.declared.Hold.{Hold}
 use Rattle.types.specs.declared.Lease.{Lease}
-
--- what is left from place i on begins with what stands there
-pub drop-one : (l : List ℕ) (i : ℕ) → i < length l → drop i l ≡ getD l i 0 ∷ drop (i + 1) l
-drop-one l i b = rw (add-one i) (drop-cons l i 0 b)
 
 -- ---- leases, and leases as words
 

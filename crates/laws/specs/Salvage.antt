@@ -6,10 +6,11 @@ use mathlib.Core.Bool.{Bool, true, false}
 use native.Mathlib.Omega.{arith}
 use lib.Dec.{eqb}
 use lib.ListN.{length, getD, length-append}
+use borrow.Author.Tests.{le-leb}
 use Rattle.choice.specs.Choice.{if_then_else_}
 use Rattle.choice.specs.Pick.{if-both}
 use Rattle.model.specs.Arena.{cellsOf, bitAt, ownerAt, waitersAt, isFree, isHeld, stateOf}
-use Rattle.model.specs.Salvage.{keptIn, keptOf, mendedCell, mendedTable, mendedHealth, changeOf, changesFrom, changesOf, entriesOf, heldFrom, leftHeld}
+use Rattle.model.specs.Salvage.{keptIn, keptOf, mendedCell, mendedTable, mendedByte, mendedHealth, changeOf, changesFrom, changesOf, entriesOf, heldFrom, leftHeld}
 use Rattle.types.specs.declared.Head.{Head}
 use Rattle.types.specs.declared.State.the-variants.{Free, Held, Damaged}
 
@@ -152,3 +153,8 @@ entries-room h t g n m e k = omega (arith, entries-are h t g)
 pub left-held-is : (next cells : ℕ) (t : List ℕ) → 3 * cells ≤ length t → leftHeld next cells t ≡ heldFrom next cells 0 t
 unfolding leftHeld
 left-held-is next cells t h = held-same next cells 0 t (omega arith)
+
+-- a health byte that stays
+pub byte-kept : (b : ℕ) → b ≤ 1 → mendedByte b ≡ b
+unfolding mendedByte
+byte-kept b h = rw (le-leb b 1 h)

@@ -1,7 +1,7 @@
 // try_lock: three boundaries, the waiters read before and after, the health after, and a late release whose serial
 // stays spent.
-// Functions with a `requires` are steps: calls have tested the shape, and a step tests nothing twice.
-// Steps are no calls of document 01, public ones neither: only the layers here call them (tests/layers.sh), and each
+// Functions with a `requires` are parts: calls have tested the shape, and a part tests nothing twice.
+// Parts are no calls of document 01, public ones neither: only the layers here call them (tests/layers.sh), and each
 // caller proves their `requires`.
 use foreign::Scope;
 use types::Check;
@@ -10,10 +10,10 @@ use types::Head;
 use types::Hold;
 use types::Locked;
 use types::Outcome;
-use types::Played;
 use types::Reason;
 use types::Refusal;
 use types::Run;
+use types::ScriptReply;
 use types::Take;
 ghost use mathlib.Core.Path.{_≡_};
 ghost use Prim.Native.Nat.{_+_, _*_, _<_};
@@ -327,7 +327,7 @@ fn lock_once(
     place: usize,
     held: &[u32],
     cell: u32,
-) -> Played
+) -> ScriptReply
     requires { ⌜ LockFine head (length (now table)) (length (now health)) (length (now script)) place cell ⌝ }
     ensures { λ r. ⌜ (r, (now (table .exit), now (health .exit)))
         ≡ lockOnceOf head (now (table .entry)) (now (health .entry))
@@ -348,7 +348,7 @@ fn lock_once(
         boundaries: locked.boundaries,
         yields: 0,
     };
-    foreign::play(head, run, lease::answer_of(head.boot, answer))
+    foreign::script_reply(head, run, lease::answer_of(head.boot, answer))
 }
 
 // One attempt by cell, with up to three boundaries: Busy where somebody waits, or holds it, then with the owner's
@@ -363,7 +363,7 @@ pub fn try_lock(
     place: usize,
     held: &[u32],
     cell: u32,
-) -> Played
+) -> ScriptReply
     ensures { λ r. ⌜ (r, (now (table .exit), now (health .exit)))
         ≡ tryLockOf head (now (table .entry)) (now (health .entry))
         (now (script .entry)) place (now (held .entry)) cell .seen ⌝ }
@@ -384,7 +384,7 @@ pub fn other_mutex_preserves_leases(
     place: usize,
     held: &[u32],
     cell: u32,
-) -> Played
+) -> ScriptReply
     ensures { λ r. ⌜ (r, (now (table .exit), now (health .exit)))
         ≡ tryLockOf head (now (table .entry)) (now (health .entry))
         (now (script .entry)) place (now (held .entry)) cell .seen ⌝ }

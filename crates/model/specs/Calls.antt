@@ -15,7 +15,7 @@ use Rattle.types.specs.declared.Counts.{Counts}
 use Rattle.types.specs.declared.Head.{Head}
 use Rattle.types.specs.declared.Hold.{Hold}
 use Rattle.types.specs.declared.Lease.{Lease}
-use Rattle.types.specs.declared.Played.{Played}
+use Rattle.types.specs.declared.ScriptReply.{ScriptReply}
 use Rattle.types.specs.declared.Refusal.{Refusal}
 use Rattle.types.specs.declared.Reply.{Reply}
 use Rattle.types.specs.declared.Run.{Run}
@@ -34,8 +34,8 @@ abbrev pub refused : Head → Refusal → Reply
 refused h r = replied h 0 (Refused r)
 
 -- with a script: "Each result gives attempts begun, boundaries, yields and dropped steps"
-abbrev pub played : Head → Run → Answer → Played
-played h r a =
+abbrev pub scriptReply : Head → Run → Answer → ScriptReply
+scriptReply h r a =
     record {
       head = spentTo h (r .flow .next);
       place = r .flow .place;
@@ -47,7 +47,7 @@ played h r a =
 abbrev pub starting : Head → ℕ → Run
 starting h place = runOf (flowOf (h .next) place 0) 0 0 0
 
-abbrev pub refusedAtOnce : Head → ℕ → Refusal → Played
+abbrev pub refusedAtOnce : Head → ℕ → Refusal → ScriptReply
 refusedAtOnce h place r = record { head = h; place = place; counts = countsOf 0 0 0 0; answer = Refused r }
 
 -- what the steps of a call with a script are given: a held list's leases are protected
@@ -128,42 +128,42 @@ dropPreservingOf h t held l =
 -- ---- calls with a script
 
 -- "`environment` and `environment_for_borrows` are one boundary."
-unfoldable pub environmentOf : Head → List ℕ → List ℕ → List ℕ → ℕ → List ℕ → Made (Played × (List ℕ × List ℕ))
+unfoldable pub environmentOf : Head → List ℕ → List ℕ → List ℕ → ℕ → List ℕ → Made (ScriptReply × (List ℕ × List ℕ))
 environmentOf h t g script place held =
     judge (first (scriptRules h t g script place held)) (λ r. gives (refusedAtOnce h place r, (t, g))) do
       (f, a) ← boundaryOf (given h script (holdsOf held)) (flowOf (h .next) place 0) t g
-      gives (played h (runOf f 0 1 0) Done, a)
+      gives (scriptReply h (runOf f 0 1 0) Done, a)
 
 -- `try_lock`; "`other_mutex_preserves_leases` is `try_lock`"
-unfoldable pub tryLockOf : Head → List ℕ → List ℕ → List ℕ → ℕ → List ℕ → ℕ → Made (Played × (List ℕ × List ℕ))
+unfoldable pub tryLockOf : Head → List ℕ → List ℕ → List ℕ → ℕ → List ℕ → ℕ → Made (ScriptReply × (List ℕ × List ℕ))
 tryLockOf h t g script place held c =
     judge (first (lockRules h t g script place held c)) (λ r. gives (refusedAtOnce h place r, (t, g))) do
       note attempt-begun
       (k, a) ← lockOf (given h script (holdsOf held)) (h .buckets) (flowOf (h .next) place 0) t g c
-      gives (played h (runOf (k .flow) 1 (k .boundaries) 0) (answerOf (h .boot) (k .answer)), a)
+      gives (scriptReply h (runOf (k .flow) 1 (k .boundaries) 0) (answerOf (h .boot) (k .answer)), a)
 
-unfoldable pub transactionalOf : Head → List ℕ → List ℕ → List ℕ → List ℕ → ℕ → List ℕ → ℕ → ℕ → Made (Played × (List ℕ × List ℕ))
+unfoldable pub transactionalOf : Head → List ℕ → List ℕ → List ℕ → List ℕ → ℕ → List ℕ → ℕ → ℕ → Made (ScriptReply × (List ℕ × List ℕ))
 transactionalOf h t g registry script place held binding bucket =
     judge (first (bucketRules h t g registry script place held binding)) (λ r. gives (refusedAtOnce h place r, (t, g))) do
       (k, a) ← attemptOf (given h script (holdsOf held)) (h .buckets) registry binding bucket (starting h place) t g
-      gives (played h (k .run) (answerOf (h .boot) (k .outcome)), a)
+      gives (scriptReply h (k .run) (answerOf (h .boot) (k .outcome)), a)
 
 -- "attempts 0 to 4,095 .. After 4,096: SerializationFailure."
-unfoldable pub acquireBucketOf : Head → List ℕ → List ℕ → List ℕ → List ℕ → ℕ → List ℕ → ℕ → ℕ → Made (Played × (List ℕ × List ℕ))
+unfoldable pub acquireBucketOf : Head → List ℕ → List ℕ → List ℕ → List ℕ → ℕ → List ℕ → ℕ → ℕ → Made (ScriptReply × (List ℕ × List ℕ))
 acquireBucketOf h t g registry script place held binding bucket =
     judge (first (bucketRules h t g registry script place held binding)) (λ r. gives (refusedAtOnce h place r, (t, g))) do
       (k, a) ← retryOf attemptLimit 0 noneYet (given h script (holdsOf held)) (h .buckets) registry binding bucket (starting h place) t g
-      gives (played h (k .run) (answerOf (h .boot) (settled (k .outcome))), a)
+      gives (scriptReply h (k .run) (answerOf (h .boot) (settled (k .outcome))), a)
 
 -- "in `release_all` those it was given" are protected, each until it is released
-unfoldable pub releaseAllOf : Head → List ℕ → List ℕ → List ℕ → ℕ → List ℕ → Made (Played × (List ℕ × List ℕ))
+unfoldable pub releaseAllOf : Head → List ℕ → List ℕ → List ℕ → ℕ → List ℕ → Made (ScriptReply × (List ℕ × List ℕ))
 releaseAllOf h t g script place leases =
     judge (first (releaseRules h t g script place leases)) (λ r. gives (refusedAtOnce h place r, (t, g))) do
       (k, a) ← giveBackOf (leaseCount leases) (given h script []) (holdsOf leases) (starting h place) t g
-      gives (played h k Done, a)
+      gives (scriptReply h k Done, a)
 
-unfoldable pub acquireLocksOf : Head → List ℕ → List ℕ → List ℕ → List ℕ → ℕ → List ℕ → List ℕ → List ℕ → Made (Played × (List ℕ × (List ℕ × List ℕ)))
+unfoldable pub acquireLocksOf : Head → List ℕ → List ℕ → List ℕ → List ℕ → ℕ → List ℕ → List ℕ → List ℕ → Made (ScriptReply × (List ℕ × (List ℕ × List ℕ)))
 acquireLocksOf h t g registry script place held keys grants =
     judge (first (locksRules h t g registry script place held keys grants)) (λ r. gives (refusedAtOnce h place r, (t, (g, grants)))) do
       (k, a) ← locksOf (countIn keys) 0 (given h script (holdsOf held)) (h .buckets) (h .boot) registry keys [] (starting h place) t g grants
-      gives (played h (k .run) (k .answer), a)
+      gives (scriptReply h (k .run) (k .answer), a)

@@ -15,7 +15,7 @@ use Rattle.model.specs.Answers.{refusalIn, kindOf, valuesOf, reasonIn}
 use Rattle.model.specs.Foreign.{stepTakeOf, stepReleaseOf, stepWaitersOf, stepHealthOf, stepOf, runStepsOf, boundaryOf}
 use Rattle.model.specs.Lock.{answerOf, takeOf, lateStageOf, secondStageOf, lockOf, findOf, attemptOf, spinOf, pauseOf, noneYet, retryOf, settled, giveBackOf, endedOf, rollbackOf, afterKey, locksOf}
 use Rattle.model.specs.Checks.{notLive, badBindings, notReleasable, prepareRules, cellRules, leaseRules, heldCellRules, heldLeaseRules, scriptRules, lockRules, bucketRules, releaseRules, locksRules}
-use Rattle.model.specs.Calls.{played, starting, given, prepareOf, acquireOf, tryAcquireOf, dropLeaseOf, readPermissionOf, competingAcquireOf, releaseThenHandoffOf, foreignReleaseOf, acquirePreservingOf, dropPreservingOf, environmentOf, tryLockOf, transactionalOf, acquireBucketOf, releaseAllOf, acquireLocksOf}
+use Rattle.model.specs.Calls.{scriptReply, starting, given, prepareOf, acquireOf, tryAcquireOf, dropLeaseOf, readPermissionOf, competingAcquireOf, releaseThenHandoffOf, foreignReleaseOf, acquirePreservingOf, dropPreservingOf, environmentOf, tryLockOf, transactionalOf, acquireBucketOf, releaseAllOf, acquireLocksOf}
 use Rattle.model.specs.Crew.{summedOf, total, startOf, allWithin, risesFrom, badLists, badTurns, crewRules, crewAtWorkRules, tryTurnOf, heldAllOf, addTurnOf, releaseTurnOf, turnOf, turnsOf, takenOf, releasedOf, shiftOf, crewOf, crewAtWorkOf, orderOf}
 use Rattle.types.specs.declared.Answer.{Answer}
 use Rattle.types.specs.declared.Answer.the-variants as answer
@@ -23,7 +23,7 @@ use Rattle.types.specs.declared.Counts.{Counts}
 use Rattle.types.specs.declared.CrewReply.{CrewReply}
 use Rattle.types.specs.declared.Head.{Head}
 use Rattle.types.specs.declared.Outcome.the-variants as outcome
-use Rattle.types.specs.declared.Played.{Played}
+use Rattle.types.specs.declared.ScriptReply.{ScriptReply}
 use Rattle.types.specs.declared.Reason.{Reason}
 use Rattle.types.specs.declared.Reason.the-variants as reason
 use Rattle.types.specs.declared.Reply.{Reply}
@@ -57,12 +57,12 @@ fromRead m =
     let r = m .seen in
     record { answer = r .answer; head = r .head; at = 0; counts = r .counts; turns = (0, 0); table = []; lease = valuesOf (r .answer); counters = []; order = [] }
 
-abbrev fromPlayed : Made (Played × (List ℕ × List ℕ)) → Out
-fromPlayed m =
+abbrev fromScriptReply : Made (ScriptReply × (List ℕ × List ℕ)) → Out
+fromScriptReply m =
     let r = m .seen .0 in
     record { answer = r .answer; head = r .head; at = r .place; counts = r .counts; turns = (0, 0); table = m .seen .1 .0; lease = valuesOf (r .answer); counters = []; order = [] }
 
-abbrev fromLocks : Made (Played × (List ℕ × (List ℕ × List ℕ))) → Out
+abbrev fromLocks : Made (ScriptReply × (List ℕ × (List ℕ × List ℕ))) → Out
 fromLocks m =
     let r = m .seen .0 in
     record { answer = r .answer; head = r .head; at = r .place; counts = r .counts; turns = (0, 0); table = m .seen .1 .0; lease = m .seen .1 .1 .1; counters = []; order = [] }
@@ -206,14 +206,14 @@ registry = 0 ∷ 1 ∷ 1 ∷ []
 -- a key by the calls that take one: multi-lock and `acquire_index_bucket`, with this next serial, table, health, script and held list
 abbrev byKeyAgain : ℕ → List ℕ → List ℕ → List ℕ → List ℕ → ℕ → ℕ → List Out
 byKeyAgain n t g script held binding bucket =
-    fromPlayed (acquireBucketOf (bench n) t g registry script 0 held binding bucket)
+    fromScriptReply (acquireBucketOf (bench n) t g registry script 0 held binding bucket)
     ∷ fromLocks (acquireLocksOf (bench n) t g registry script 0 held (binding ∷ bucket ∷ []) (9 ∷ 9 ∷ 9 ∷ []))
     ∷ []
 
 -- and, where one attempt decides, `transactional_try_lock_bucket`
 abbrev byKeyOnce : ℕ → List ℕ → List ℕ → List ℕ → ℕ → ℕ → List Out
 byKeyOnce n t g script binding bucket =
-    fromPlayed (transactionalOf (bench n) t g registry script 0 [] binding bucket) ∷ byKeyAgain n t g script [] binding bucket
+    fromScriptReply (transactionalOf (bench n) t g registry script 0 [] binding bucket) ∷ byKeyAgain n t g script [] binding bucket
 
 abbrev byKey : ℕ → List ℕ → List ℕ → ℕ → ℕ → List Out
 byKey n t g binding bucket = byKeyOnce n t g [] binding bucket
@@ -222,7 +222,7 @@ abbrev byKeys : List ℕ → List ℕ → List ℕ → List Out
 byKeys t keys grants = fromLocks (acquireLocksOf (bench 1) t healthy registry [] 0 [] keys grants) ∷ []
 
 abbrev tryLock : List ℕ → ℕ → List Out
-tryLock script c = fromPlayed (tryLockOf (bench 1) prepared healthy script 0 [] c) ∷ []
+tryLock script c = fromScriptReply (tryLockOf (bench 1) prepared healthy script 0 [] c) ∷ []
 
 abbrev crew : List ℕ → List ℕ → List ℕ → List Out
 crew counts cells turns = fromCrew (crewOf (bench 1) prepared healthy counts cells turns) ∷ []
@@ -268,19 +268,19 @@ dropLease t c s = fromReply (dropLeaseOf (bench 3) t (leaseOf c s 5)) ∷ []
 abbrev tryAcquire : List ℕ → ℕ → List Out
 tryAcquire t c = fromReply (tryAcquireOf (bench 3) t c) ∷ []
 
-abbrev play : List ℕ → List ℕ → List Out
-play script held = fromPlayed (environmentOf (bench 3) used healthy script 0 held) ∷ []
+abbrev boundaryBy : List ℕ → List ℕ → List Out
+boundaryBy script held = fromScriptReply (environmentOf (bench 3) used healthy script 0 held) ∷ []
 
 abbrev releaseAll : List ℕ → List Out
-releaseAll leases = fromPlayed (releaseAllOf (bench 3) used healthy [] 0 leases) ∷ []
+releaseAll leases = fromScriptReply (releaseAllOf (bench 3) used healthy [] 0 leases) ∷ []
 
 abbrev pub further : List Case
 further =
     -- a rollback releases every lease taken, the last too, and leaves the buffer as it was
     (byKeys prepared (0 ∷ 0 ∷ 1 ∷ 1 ∷ 0 ∷ 9 ∷ []) (9 ∷ 8 ∷ 7 ∷ 9 ∷ 9 ∷ 9 ∷ 9 ∷ 9 ∷ 9 ∷ []) give (refusal is 8 ∷ carries is 9 ∷ position is 2 ∷ attempts is 3 ∷ boundaries is 8 ∷ next is 3 ∷ bit 0 is 0 ∷ bit 5 is 0 ∷ cell is 9 ∷ serial is 8 ∷ []))
     -- a foreign take with no serial left is dropped; the last serial is taken
-    ∷ (fromPlayed (environmentOf (bench 4_294_967_295) prepared healthy (1 ∷ 2 ∷ 0 ∷ []) 0 []) ∷ [] give (done is 1 ∷ dropped is 1 ∷ bit 2 is 0 ∷ next is 4_294_967_295 ∷ []))
-    ∷ (fromPlayed (environmentOf (bench 4_294_967_294) prepared healthy (1 ∷ 2 ∷ 0 ∷ []) 0 []) ∷ [] give (done is 1 ∷ dropped is 0 ∷ owner 2 is 4_294_967_294 ∷ next is 4_294_967_295 ∷ []))
+    ∷ (fromScriptReply (environmentOf (bench 4_294_967_295) prepared healthy (1 ∷ 2 ∷ 0 ∷ []) 0 []) ∷ [] give (done is 1 ∷ dropped is 1 ∷ bit 2 is 0 ∷ next is 4_294_967_295 ∷ []))
+    ∷ (fromScriptReply (environmentOf (bench 4_294_967_294) prepared healthy (1 ∷ 2 ∷ 0 ∷ []) 0 []) ∷ [] give (done is 1 ∷ dropped is 0 ∷ owner 2 is 4_294_967_294 ∷ next is 4_294_967_295 ∷ []))
     -- a release compares the serial, and clears bit and owner
     ∷ (dropLease used 2 1 give (refusal is 12 ∷ carries is 0 ∷ bit 2 is 1 ∷ owner 2 is 2 ∷ []))
     ∷ (dropLease used 2 2 give (done is 1 ∷ bit 2 is 0 ∷ owner 2 is 0 ∷ bit 0 is 1 ∷ next is 3 ∷ []))
@@ -293,21 +293,21 @@ further =
     ∷ (tryAcquire used 5 give (granted is 1 ∷ cell is 5 ∷ serial is 3 ∷ next is 4 ∷ bit 5 is 1 ∷ owner 5 is 3 ∷ []))
     ∷ (tryAcquire used 8 give (refusal is 8 ∷ carries is 8 ∷ attempts is 0 ∷ []))
     -- waiters are read before the cell
-    ∷ (fromPlayed (tryLockOf (bench 3) used healthy [] 0 [] 5) ∷ [] give (busy is 1 ∷ why is 2 ∷ by is 0 ∷ attempts is 1 ∷ boundaries is 1 ∷ next is 3 ∷ []))
+    ∷ (fromScriptReply (tryLockOf (bench 3) used healthy [] 0 [] 5) ∷ [] give (busy is 1 ∷ why is 2 ∷ by is 0 ∷ attempts is 1 ∷ boundaries is 1 ∷ next is 3 ∷ []))
     -- steps: a take, a release by another serial, a protected release, a release, health 2, kind 6, a place out of range; nothing behind the 5
-    ∷ (play (1 ∷ 3 ∷ 7 ∷ 2 ∷ 2 ∷ 1 ∷ 2 ∷ 0 ∷ 1 ∷ 2 ∷ 2 ∷ 2 ∷ 4 ∷ 0 ∷ 2 ∷ 6 ∷ 0 ∷ 0 ∷ 3 ∷ 8 ∷ 1 ∷ 0 ∷ 9 ∷ 9 ∷ 5 ∷ 9 ∷ 9 ∷ 1 ∷ 4 ∷ 0 ∷ []) (0 ∷ 1 ∷ 5 ∷ []) give (done is 1 ∷ dropped is 5 ∷ place is 9 ∷ boundaries is 1 ∷ next is 4 ∷ owner 3 is 3 ∷ bit 2 is 0 ∷ bit 0 is 1 ∷ bit 4 is 0 ∷ []))
+    ∷ (boundaryBy (1 ∷ 3 ∷ 7 ∷ 2 ∷ 2 ∷ 1 ∷ 2 ∷ 0 ∷ 1 ∷ 2 ∷ 2 ∷ 2 ∷ 4 ∷ 0 ∷ 2 ∷ 6 ∷ 0 ∷ 0 ∷ 3 ∷ 8 ∷ 1 ∷ 0 ∷ 9 ∷ 9 ∷ 5 ∷ 9 ∷ 9 ∷ 1 ∷ 4 ∷ 0 ∷ []) (0 ∷ 1 ∷ 5 ∷ []) give (done is 1 ∷ dropped is 5 ∷ place is 9 ∷ boundaries is 1 ∷ next is 4 ∷ owner 3 is 3 ∷ bit 2 is 0 ∷ bit 0 is 1 ∷ bit 4 is 0 ∷ []))
     -- a place past the script's end
-    ∷ (fromPlayed (environmentOf (bench 3) used healthy (5 ∷ 0 ∷ 0 ∷ []) 2 []) ∷ [] give (refusal is 2 ∷ place is 2 ∷ boundaries is 0 ∷ []))
+    ∷ (fromScriptReply (environmentOf (bench 3) used healthy (5 ∷ 0 ∷ 0 ∷ []) 2 []) ∷ [] give (refusal is 2 ∷ place is 2 ∷ boundaries is 0 ∷ []))
     -- a list to release: in order of position, 12 before 14 at one place
     ∷ (releaseAll (0 ∷ 1 ∷ 5 ∷ 0 ∷ 1 ∷ 5 ∷ 7 ∷ 7 ∷ 5 ∷ []) give (refusal is 14 ∷ carries is 1 ∷ bit 0 is 1 ∷ []))
     ∷ (releaseAll (0 ∷ 1 ∷ 5 ∷ 7 ∷ 7 ∷ 5 ∷ 0 ∷ 1 ∷ 5 ∷ []) give (refusal is 12 ∷ carries is 1 ∷ bit 0 is 1 ∷ []))
     ∷ (releaseAll (0 ∷ 1 ∷ 5 ∷ 2 ∷ 2 ∷ 5 ∷ []) give (done is 1 ∷ boundaries is 2 ∷ attempts is 0 ∷ bit 0 is 0 ∷ bit 2 is 0 ∷ next is 3 ∷ []))
     -- a held list: one that does not divide by three carries its count, else the first lease not live
-    ∷ (play [] (0 ∷ 1 ∷ 5 ∷ 7 ∷ []) ++ play [] (0 ∷ 1 ∷ 5 ∷ 2 ∷ 2 ∷ []) give (refusal is 3 ∷ carries is 1 ∷ boundaries is 0 ∷ []))
-    ∷ (play [] (0 ∷ 1 ∷ 5 ∷ 2 ∷ 1 ∷ 5 ∷ 7 ∷ 7 ∷ 5 ∷ []) give (refusal is 3 ∷ carries is 1 ∷ []))
+    ∷ (boundaryBy [] (0 ∷ 1 ∷ 5 ∷ 7 ∷ []) ++ boundaryBy [] (0 ∷ 1 ∷ 5 ∷ 2 ∷ 2 ∷ []) give (refusal is 3 ∷ carries is 1 ∷ boundaries is 0 ∷ []))
+    ∷ (boundaryBy [] (0 ∷ 1 ∷ 5 ∷ 2 ∷ 1 ∷ 5 ∷ 7 ∷ 7 ∷ 5 ∷ []) give (refusal is 3 ∷ carries is 1 ∷ []))
     -- a held list and a registry that are one too long
-    ∷ (play [] (replicate 195 7) give (refusal is 3 ∷ carries is 65 ∷ []))
-    ∷ (fromPlayed (acquireBucketOf (bench 3) used healthy (replicate 65 0) [] 0 [] 0 3) ∷ [] give (refusal is 1 ∷ attempts is 0 ∷ []))
+    ∷ (boundaryBy [] (replicate 195 7) give (refusal is 3 ∷ carries is 65 ∷ []))
+    ∷ (fromScriptReply (acquireBucketOf (bench 3) used healthy (replicate 65 0) [] 0 [] 0 3) ∷ [] give (refusal is 1 ∷ attempts is 0 ∷ []))
     -- the small calls
     ∷ (fromRead (readPermissionOf (bench 3) (setCell used 5 1 1) (leaseOf 5 1 5)) ∷ [] give (carries is 5 ∷ refusal is 0 ∷ attempts is 0 ∷ next is 3 ∷ []))
     ∷ (fromReply (competingAcquireOf (bench 3) used (leaseOf 2 2 5)) ∷ [] give (busy is 1 ∷ why is 1 ∷ by is 2 ∷ attempts is 1 ∷ owner 2 is 2 ∷ next is 3 ∷ []))
@@ -344,7 +344,7 @@ free = 2 ∷ 6 ∷ 1 ∷ []
 
 -- one cell by a call by cell, in a health
 abbrev tryLockIn : List ℕ → List ℕ → ℕ → List Out
-tryLockIn g script c = fromPlayed (tryLockOf (bench 1) prepared g script 0 [] c) ∷ []
+tryLockIn g script c = fromScriptReply (tryLockOf (bench 1) prepared g script 0 [] c) ∷ []
 
 -- header 1 poisoned
 abbrev sick : List ℕ
@@ -374,8 +374,8 @@ secondReading =
     ∷ (byKeyOnce 1 prepared sick (mend ++ end) 1 2 give (refusal is 7 ∷ boundaries is 0 ∷ place is 0 ∷ next is 1 ∷ []))
     ∷ (tryLockIn sick (mend ++ end) 6 give (granted is 1 ∷ cell is 6 ∷ serial is 1 ∷ boundaries is 3 ∷ next is 2 ∷ owner 6 is 1 ∷ []))
     -- a Busy before the take ends the attempt before the reading: held after two boundaries, waited for after one
-    ∷ (fromPlayed (tryLockOf (bench 3) used (1 ∷ 1 ∷ []) [] 0 [] 2) ∷ [] give (busy is 1 ∷ why is 1 ∷ by is 2 ∷ boundaries is 2 ∷ next is 3 ∷ []))
-    ∷ (fromPlayed (tryLockOf (bench 3) used (1 ∷ 1 ∷ []) [] 0 [] 5) ∷ [] give (busy is 1 ∷ why is 2 ∷ boundaries is 1 ∷ next is 3 ∷ []))
+    ∷ (fromScriptReply (tryLockOf (bench 3) used (1 ∷ 1 ∷ []) [] 0 [] 2) ∷ [] give (busy is 1 ∷ why is 1 ∷ by is 2 ∷ boundaries is 2 ∷ next is 3 ∷ []))
+    ∷ (fromScriptReply (tryLockOf (bench 3) used (1 ∷ 1 ∷ []) [] 0 [] 5) ∷ [] give (busy is 1 ∷ why is 2 ∷ boundaries is 1 ∷ next is 3 ∷ []))
     ∷ []
 
 -- ---- document 02, L1: why it is Busy. Cells 0 and 2 are held by serials 1 and 2 in `used`
@@ -397,13 +397,13 @@ leave = 3 ∷ 2 ∷ 0 ∷ []
 abbrev retried : ℕ → ℕ → List ℕ → List ℕ → List Out
 retried left n t script =
     let m = retryOf left 0 noneYet (given (bench n) script []) 4 registry 0 2 (starting (bench n) 0) t healthy in
-    fromPlayed (record { seen = (played (bench n) (m .seen .0 .run) (answerOf 5 (settled (m .seen .0 .outcome))), m .seen .1); log = m .log }) ∷ []
+    fromScriptReply (record { seen = (scriptReply (bench n) (m .seen .0 .run) (answerOf 5 (settled (m .seen .0 .outcome))), m .seen .1); log = m .log }) ∷ []
 
 -- multi-lock at its key number 1, with cell 0 taken as its first: after attempts that were all Busy, the last for this reason
 abbrev keyBusy : Reason → List Out
 keyBusy why =
     let m = afterKey (outcome.Busy why) (given (bench 3) [] []) (holdOf 0 1 ∷ []) 1 (starting (bench 3) 0) used healthy (9 ∷ 8 ∷ 7 ∷ 9 ∷ 9 ∷ 9 ∷ []) (λ l. gives (endedOf (starting (bench 3) 0) answer.Done, (used, (healthy, [])))) in
-    fromLocks (record { seen = (played (bench 3) (m .seen .0 .run) (m .seen .0 .answer), m .seen .1); log = m .log }) ∷ []
+    fromLocks (record { seen = (scriptReply (bench 3) (m .seen .0 .run) (m .seen .0 .answer), m .seen .1); log = m .log }) ∷ []
 
 abbrev pub reasons : List Case
 reasons =
@@ -415,10 +415,10 @@ reasons =
     -- come in the second boundary, they are seen only after it
     ∷ (tryLockIn healthy (end ++ come ++ end) 2 give (busy is 1 ∷ why is 3 ∷ by is 1 ∷ boundaries is 3 ∷ next is 2 ∷ bit 2 is 0 ∷ []))
     -- "waiters seen after it. The last one also gives the serial that was spent": of this call, not the first of the arena
-    ∷ (fromPlayed (tryLockOf (bench 3) used healthy (end ++ end ++ wait ++ end) 0 [] 6) ∷ [] give (busy is 1 ∷ why is 3 ∷ by is 3 ∷ next is 4 ∷ bit 6 is 0 ∷ []))
+    ∷ (fromScriptReply (tryLockOf (bench 3) used healthy (end ++ end ++ wait ++ end) 0 [] 6) ∷ [] give (busy is 1 ∷ why is 3 ∷ by is 3 ∷ next is 4 ∷ bit 6 is 0 ∷ []))
     -- the same by key
-    ∷ (fromPlayed (transactionalOf (bench 3) used healthy registry [] 0 [] 0 2) ∷ [] give (busy is 1 ∷ why is 1 ∷ by is 2 ∷ boundaries is 2 ∷ []))
-    ∷ (fromPlayed (transactionalOf (bench 3) used healthy registry (end ++ end ++ wait ++ end) 0 [] 1 2) ∷ [] give (busy is 1 ∷ why is 3 ∷ by is 3 ∷ boundaries is 3 ∷ []))
+    ∷ (fromScriptReply (transactionalOf (bench 3) used healthy registry [] 0 [] 0 2) ∷ [] give (busy is 1 ∷ why is 1 ∷ by is 2 ∷ boundaries is 2 ∷ []))
+    ∷ (fromScriptReply (transactionalOf (bench 3) used healthy registry (end ++ end ++ wait ++ end) 0 [] 1 2) ∷ [] give (busy is 1 ∷ why is 3 ∷ by is 3 ∷ boundaries is 3 ∷ []))
     -- a compare-and-set by itself
     ∷ (fromReply (acquirePreservingOf (bench 3) used (0 ∷ 1 ∷ 5 ∷ []) 2) ∷ [] give (busy is 1 ∷ why is 1 ∷ by is 2 ∷ []))
     -- "the reason of the last Busy attempt": held, then waited for; waited for, then held; waited for, then taken too late
@@ -516,8 +516,8 @@ booted =
     -- stale and dead: 16, not 12
     ∷ (dropStale 2 1 6 ++ dropStale 8 1 6 ++ byHeld [] 2 1 6 give (refusal is 16 ∷ carries is 0 ∷ owner 2 is 2 ∷ []))
     -- in a held list, at position 1 behind a live one; a dead one before it is 3, and at one place 16 comes before 3
-    ∷ (play [] (0 ∷ 1 ∷ 5 ∷ 2 ∷ 2 ∷ 6 ∷ []) ++ play [] (0 ∷ 1 ∷ 5 ∷ 2 ∷ 1 ∷ 6 ∷ []) ++ byHeld (0 ∷ 1 ∷ 5 ∷ 2 ∷ 2 ∷ 6 ∷ []) 0 1 5 give (refusal is 16 ∷ carries is 1 ∷ boundaries is 0 ∷ next is 3 ∷ bit 0 is 1 ∷ []))
-    ∷ (play [] (0 ∷ 2 ∷ 5 ∷ 2 ∷ 2 ∷ 6 ∷ []) give (refusal is 3 ∷ carries is 0 ∷ []))
+    ∷ (boundaryBy [] (0 ∷ 1 ∷ 5 ∷ 2 ∷ 2 ∷ 6 ∷ []) ++ boundaryBy [] (0 ∷ 1 ∷ 5 ∷ 2 ∷ 1 ∷ 6 ∷ []) ++ byHeld (0 ∷ 1 ∷ 5 ∷ 2 ∷ 2 ∷ 6 ∷ []) 0 1 5 give (refusal is 16 ∷ carries is 1 ∷ boundaries is 0 ∷ next is 3 ∷ bit 0 is 1 ∷ []))
+    ∷ (boundaryBy [] (0 ∷ 2 ∷ 5 ∷ 2 ∷ 2 ∷ 6 ∷ []) give (refusal is 3 ∷ carries is 0 ∷ []))
     -- a lease of the held list but for its boot number: 16, not 13
     ∷ (byHeld (0 ∷ 1 ∷ 5 ∷ []) 0 1 6 give (refusal is 16 ∷ carries is 0 ∷ bit 0 is 1 ∷ []))
     -- the held list before the lease
@@ -527,8 +527,8 @@ booted =
     ∷ (releaseAll (0 ∷ 2 ∷ 5 ∷ 2 ∷ 2 ∷ 6 ∷ []) give (refusal is 12 ∷ carries is 0 ∷ []))
     ∷ (releaseAll (0 ∷ 1 ∷ 5 ∷ 0 ∷ 1 ∷ 5 ∷ 2 ∷ 2 ∷ 6 ∷ []) give (refusal is 14 ∷ carries is 1 ∷ []))
     -- "Lease lists must now divide by three": two words are 3, with a count of 0, and 4; a stale lease behind a wrong length is not looked at
-    ∷ (play [] (0 ∷ 1 ∷ []) ++ byHeld (0 ∷ 1 ∷ []) 2 2 6 give (refusal is 3 ∷ carries is 0 ∷ []))
-    ∷ (play [] (0 ∷ 1 ∷ 6 ∷ 0 ∷ []) give (refusal is 3 ∷ carries is 1 ∷ []))
+    ∷ (boundaryBy [] (0 ∷ 1 ∷ []) ++ byHeld (0 ∷ 1 ∷ []) 2 2 6 give (refusal is 3 ∷ carries is 0 ∷ []))
+    ∷ (boundaryBy [] (0 ∷ 1 ∷ 6 ∷ 0 ∷ []) give (refusal is 3 ∷ carries is 1 ∷ []))
     ∷ (releaseAll (0 ∷ 1 ∷ []) ++ releaseAll (0 ∷ 1 ∷ 6 ∷ 0 ∷ []) give (refusal is 4 ∷ carries is 0 ∷ bit 0 is 1 ∷ []))
     -- a stale held lease before 4: the length test of its own list comes first, no other
     ∷ (fromLocks (acquireLocksOf (bench 3) used healthy registry [] 0 (0 ∷ 1 ∷ 6 ∷ []) (0 ∷ []) []) ∷ [] give (refusal is 16 ∷ carries is 0 ∷ []))
@@ -539,7 +539,7 @@ booted =
     ∷ (fromReply (tryAcquireOf (headOf 2 4 3 0) used 3) ∷ [] give (granted is 1 ∷ boot is 0 ∷ headBoot is 0 ∷ []))
     ∷ (fromReply (dropLeaseOf (headOf 2 4 3 0) used (leaseOf 2 2 5)) ∷ [] give (refusal is 16 ∷ bit 2 is 1 ∷ []))
     -- "Script steps mean the head's own boot number": a release of (2, 2), which has no word for another
-    ∷ (play (2 ∷ 2 ∷ 2 ∷ []) [] give (done is 1 ∷ dropped is 0 ∷ bit 2 is 0 ∷ []))
+    ∷ (boundaryBy (2 ∷ 2 ∷ 2 ∷ []) [] give (done is 1 ∷ dropped is 0 ∷ bit 2 is 0 ∷ []))
     ∷ []
 
 -- every figure of every case holds of the definitions

@@ -205,7 +205,7 @@ giveBackOf (suc n) e ls r t g = do
 
 -- ---- `acquire_index_locks`
 
--- what multi-lock's steps come to; then table, health, grant buffer
+-- what multi-lock's parts come to; then table, health, grant buffer
 abbrev pub Locks : Type 0
 Locks = Ended × (List ℕ × (List ℕ × List ℕ))
 

@@ -67,7 +67,7 @@ abbrev pub together : ℕ → List ℕ
 together zero = []
 together (suc n) = 16 ∷ 12 ∷ 14 ∷ together n
 
-numbers-append : (xs ys : List Rule) → numbersOf (xs ++ ys) ≡ numbersOf xs ++ numbersOf ys
+pub numbers-append : (xs ys : List Rule) → numbersOf (xs ++ ys) ≡ numbersOf xs ++ numbersOf ys
 numbers-append [] ys = refl
 numbers-append (x ∷ xs) ys = ap {B = List ℕ} (λ l. x .number ∷ l) (numbers-append xs ys)
 

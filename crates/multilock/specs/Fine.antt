@@ -1,5 +1,5 @@
 -- The checks of multi-lock, one key at a time, and what is known once they are fine.
-use Prim.Native.Nat.{ℕ, zero, suc, _+_, _*_, _-_, _/_, _≤_, _<_}
+use Prim.Native.Nat.{ℕ, zero, suc, _+_, _*_, _-_, _≤_, _<_}
 use mathlib.Core.Path.{_≡_, ap, _∙_}
 use mathlib.Core.List.{List, [], _∷_}
 use mathlib.Core.Bool.{not, _||_}
@@ -12,12 +12,12 @@ use Rattle.model.specs.Arena.{holdsOf}
 use Rattle.model.specs.Refusals.{first}
 use Rattle.model.specs.Checks.{leaseCount, countIn, isOdd, badShape, badHealth, badRegistry, badScript, badHeld, tooManyKeys, badBinding, badBindings, locksRules}
 use Rattle.model.specs.Lock.{bindingAt, locksOf}
-use Rattle.model.specs.Calls.{starting, given, played}
+use Rattle.model.specs.Calls.{starting, given, scriptReply}
 use Rattle.types.specs.declared.Check.{Check}
 use Rattle.types.specs.declared.Check.the-variants.{Fine}
 use Rattle.types.specs.declared.Head.{Head}
 use Rattle.types.specs.declared.Hold.{Hold}
-use Rattle.types.specs.declared.Played.{Played}
+use Rattle.types.specs.declared.ScriptReply.{ScriptReply}
 use Rattle.types.specs.declared.Run.{Run}
 use Rattle.choice.specs.Pick.{neither}
 use Rattle.laws.specs.Checks.{or-else, first-append, first-two, fine-rest, fine-append}
@@ -90,10 +90,10 @@ fine-bound s h words bytes script place registry keys grants e f =
     record { key = fine-key s h words bytes 1 script place 0 64 e (f .script-ok) (omega arith) (omega arith); bound = f .bound }
 
 -- the steps, once the checks are fine
-unfoldable pub locksOnceOf : Head → List ℕ → List ℕ → List ℕ → List ℕ → ℕ → List ℕ → List ℕ → List ℕ → Played × (List ℕ × (List ℕ × List ℕ))
+unfoldable pub locksOnceOf : Head → List ℕ → List ℕ → List ℕ → List ℕ → ℕ → List ℕ → List ℕ → List ℕ → ScriptReply × (List ℕ × (List ℕ × List ℕ))
 locksOnceOf h t g registry script place held keys grants =
     let o = locksOf (countIn keys) 0 (given h script (holdsOf held)) (h .buckets) (h .boot) registry keys [] (starting h place) t g grants .seen in
-    (played h (o .0 .run) (o .0 .answer), o .1)
+    (scriptReply h (o .0 .run) (o .0 .answer), o .1)
 
 -- the same, by the scope that the steps are given
 pub locks-given : (s : Scope) (h : Head) (script : List ℕ) → s ≡ scopeOf h (length script)

@@ -1,5 +1,5 @@
 // The keys in the order given, and the grant buffer.
-// Functions with a `requires` are steps: calls have tested the shape, and a step tests nothing twice.
+// Functions with a `requires` are parts: calls have tested the shape, and a part tests nothing twice.
 // Crate `sorted` calls `lock_keys` too.
 use crate::rollback::roll_back;
 use foreign::Scope;

@@ -1,8 +1,8 @@
 // Multi-lock: `acquire_index_locks`, all keys or none.
 // The leases taken so far stand in an array of sixty-four pairs, passed by value with a count; a refusal rolls it back
 // from the end.
-// Functions with a `requires` are steps: calls have tested the shape, and a step tests nothing twice.
-// Steps are no calls of document 01, public ones neither: only the layers here call them (tests/layers.sh), and each
+// Functions with a `requires` are parts: calls have tested the shape, and a part tests nothing twice.
+// Parts are no calls of document 01, public ones neither: only the layers here call them (tests/layers.sh), and each
 // caller proves their `requires`.
 pub mod checks;
 pub mod keys;
@@ -12,16 +12,15 @@ use checks::locks_check;
 use keys::lock_keys;
 use types::Check;
 use types::Head;
-use types::Played;
+use types::ScriptReply;
 ghost use mathlib.Core.Path.{_≡_};
 ghost use lib.ListN.{length};
-ghost use Rattle.model.specs.Refusals.{first};
 ghost use Rattle.model.specs.Calls.{acquireLocksOf};
 ghost use Rattle.multilock.specs.Fine.{LocksFine, locksOnceOf};
 
 // ---- the call
 
-// The steps of a call whose checks are fine.
+// What a call does whose checks are fine.
 fn locks_once(
     head: Head,
     table: &mut [u32],
@@ -32,7 +31,7 @@ fn locks_once(
     held: &[u32],
     keys: &[u32],
     grants: &mut [u32],
-) -> Played
+) -> ScriptReply
     requires { ⌜ LocksFine head (length (now table)) (length (now health)) (length (now script)) place
         (now registry) (now keys) (length (now grants)) ⌝ }
     ensures { λ r. ⌜ (r, (now (table .exit), (now (health .exit), now (grants .exit))))
@@ -56,7 +55,7 @@ fn locks_once(
     );
     let run = ended.run;
     let answer = ended.answer;
-    foreign::play(head, run, answer)
+    foreign::script_reply(head, run, answer)
 }
 
 // The keys in the order given, all or none. A refusal at a position gives back all that was taken, last first, and
@@ -72,7 +71,7 @@ pub fn acquire_index_locks(
     held: &[u32],
     keys: &[u32],
     grants: &mut [u32],
-) -> Played
+) -> ScriptReply
     ensures { λ r. ⌜ (r, (now (table .exit), (now (health .exit), now (grants .exit))))
         ≡ acquireLocksOf head (now (table .entry)) (now (health .entry)) (now (registry .entry))
         (now (script .entry)) place (now (held .entry)) (now (keys .entry)) (now (grants .entry)) .seen ⌝ }

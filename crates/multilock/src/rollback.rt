@@ -1,5 +1,5 @@
 // The rollback: what was taken is given back, last first.
-// Functions with a `requires` are steps: calls have tested the shape, and a step tests nothing twice.
+// Functions with a `requires` are parts: calls have tested the shape, and a part tests nothing twice.
 // Nothing here is reached from outside the crate.
 use foreign::Scope;
 use types::Answer;
@@ -11,7 +11,6 @@ ghost use mathlib.Core.List.{[]};
 ghost use Prim.Native.Nat.{ℕ, _<_};
 ghost use lib.ListN.{length, getD};
 ghost use Rattle.model.specs.Arena.{holdsOf};
-ghost use Rattle.model.specs.Refusals.{first};
 ghost use Rattle.model.specs.Lock.{giveBackOf};
 ghost use Rattle.foreign.specs.Model.{pairsOf, inScope, RoomIn};
 ghost use Rattle.bucket.specs.Bounds.{callMost};

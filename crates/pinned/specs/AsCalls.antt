@@ -24,21 +24,21 @@ use Rattle.history.specs.World.{World, Unreleased}
 use Rattle.history.specs.Items.{Build, Says, says, Clear, rules, perform, try-acquire, drop-lease, environment, try-lock}
 use Rattle.history.specs.Statements.{Hands-over}
 use Rattle.history.specs.Theorems.{given-live, grant-is}
-use Rattle.history.specs.Tests.{In, in-first, in-right, in-cases, differ}
+use Rattle.history.specs.Tests.{In, in-first, in-right, in-cases, none-in}
 use Rattle.history.specs.Events.{Fit}
 use Rattle.history.specs.Logs.{Kept, kept-live, arena-now}
 use Rattle.history.specs.Calls.{call-kept}
 use Rattle.history_exact.specs.Script.{environment-has}
 use Rattle.history_exact.specs.Theorems.{place-goes}
 use Rattle.history_exact.specs.Passing.{bucket-on, same-boot, holding-more, in-script, divides, leases-append}
-use Rattle.history.specs.Judged.{clear-front, clear-back, clear-append}
+use Rattle.history.specs.Judged.{clear-front, clear-back, clear-append, refused-so}
 use Rattle.pinned.specs.Words.{Gives, If-granted, Is, If_Then_Else_, With, logged, After, Noting, health-byte, waiters, counted, freed, holds}
 use Rattle.pinned.specs.Checks.{Passed, checks}
 use Rattle.pinned.specs.Steps.{Takes, At, at, Runs, Boundary, releasing, ended, After-take, header-of}
 use Rattle.pinned.specs.Statements.{left-by, place-by}
 use Rattle.pinned.specs.Decided.{holds-same, matched, decided, first-is, passed-clear}
 use Rattle.pinned.specs.Same.{runs-same, takes-same, noting-same}
-use Rattle.pinned.specs.Ours.{refused-so, acquire-is, drop-is, environment-is, try-lock-is}
+use Rattle.pinned.specs.Ours.{acquire-is, drop-is, environment-is, try-lock-is}
 
 -- ---- a boundary that begins with so many steps dropped
 
@@ -232,11 +232,8 @@ module _ (v : World) (script : List ℕ) (p : ℕ) (hs : List ℕ) (c : ℕ) (l 
   more-fine =
       subst (λ (x : ℕ). Fine now script p (hs ++ (l .cell ∷ l .serial ∷ x ∷ []))) (sym boot)
       (holding-more now (0 ∷ []) script p hs 0 (holdIn l ∷ []) (omega arith)
-      (λ k i. elim (in-cases (holdIn l) k [] i) [ inl e ↦ subst (λ (x : Hold). isLive (now .head .next) (cellsOf (now .head)) (now .table) x ≡ true) e live | inr j ↦ absurd (none k j) ])
+      (λ k i. elim (in-cases (holdIn l) k [] i) [ inl e ↦ subst (λ (x : Hold). isLive (now .head .next) (cellsOf (now .head)) (now .table) x ≡ true) e live | inr j ↦ absurd (none-in k j) ])
       (bucket-on hs kept (0 ∷ []) script p p 0 (fine-place v script p hs fine) fine))
-    where
-      none : (k : Hold) → In [] k → ⊥
-      none k j = differ j
 
   more-holds : holds more ≡ holds hs ++ (holdIn l ∷ [])
   unfolding wordsOf

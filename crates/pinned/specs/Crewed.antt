@@ -9,40 +9,24 @@ use lib.Dec.{ltb, leb, eqb}
 use lib.ListN.{getD, set, take}
 use borrow.Author.Tests.{ltb-true, ltb-false, leb-true, leb-false, eqb-true, eqb-false, ne-eqb, not-true, not-false}
 use Rattle.choice.specs.Choice.{if_then_else_}
-use Rattle.choice.specs.Pick.{if-both}
 use Rattle.model.specs.Log.{Made, Event, by-caller, attempt-begun, released, held-all, added, gives, note}
-use Rattle.model.specs.Arena.{spentTo, headerOf, isPoisoned, waitersAt, setCell}
-use Rattle.model.specs.Foreign.{flowOf, runStepsOf, boundaryOf}
-use Rattle.model.specs.Lock.{takeOf, answerOf, lateStageOf, afterTake, secondStageOf, lockOf}
+use Rattle.model.specs.Arena.{spentTo, headerOf, isPoisoned, setCell}
+use Rattle.model.specs.Foreign.{flowOf}
+use Rattle.model.specs.Lock.{answerOf, lockOf}
 use Rattle.model.specs.Calls.{given}
 use Rattle.model.specs.Crew.{Work, addsOf, countOf, startOf, afterTry, tryTurnOf, heldAllOf, addTurnOf, releaseTurnOf, turnOf, turnsOf, summedOf, takenOf, releasedOf}
 use Rattle.model.specs.Crew as model
 use Rattle.types.specs.declared.Head.{Head}
-use Rattle.types.specs.declared.Locked.{Locked}
 use Rattle.types.specs.declared.Outcome.{Outcome}
 use Rattle.types.specs.declared.Outcome.the-variants as outcome
-use Rattle.types.specs.declared.Take.{Take}
 use Rattle.types.specs.declared.Take.the-variants as taking
 use Rattle.history.specs.World.{worldOf}
 use Rattle.history.specs.Tests.{if-cases}
+use Rattle.history.specs.Crew.{same-health}
 use Rattle.pinned.specs.Words.{Is, If_Then_Else_, logged, freed}
 use Rattle.pinned.specs.Steps.{Crew, moved, After-try, Try-turn, Turn-from, Turn, Turns, taken-by, released-by}
 use Rattle.pinned.specs.Decided.{sum-same}
 use Rattle.pinned.specs.Stepping.{shown, lock-is}
-
--- a lock without a script leaves the health
-module _ (h : Head) (n : ℕ) (t g : List ℕ) (c : ℕ) where
-  same-health : lockOf (given h [] []) (h .buckets) (flowOf n 0 0) t g c .seen .1 .1 ≡ g
-  unfolding lockOf secondStageOf lateStageOf boundaryOf runStepsOf
-  same-health = if-both (λ (m : Made (Locked × (List ℕ × List ℕ))). m .seen .1 .1 ≡ g) (eqb (waitersAt t c) 0) (go (takeOf n t c .seen .0 .answer)) refl
-    where
-      go : (a : Take) → afterTake a (given h [] []) (h .buckets) (flowOf (takeOf n t c .seen .0 .next) 0 0) (takeOf n t c .seen .1) g c .seen .1 .1 ≡ g
-      go (taking.Granted s) =
-          if-both (λ (m : Made (Locked × (List ℕ × List ℕ))). m .seen .1 .1 ≡ g) (isPoisoned g (headerOf (h .buckets) c)) refl
-          (if-both (λ (m : Made (Locked × (List ℕ × List ℕ))). m .seen .1 .1 ≡ g) (eqb (waitersAt (takeOf n t c .seen .1) c) 0) refl refl)
-      go (taking.Busy owner) = refl
-      go taking.Damaged = refl
-      go taking.Spent = refl
 
 module _ (h : Head) (g counts cells : List ℕ) where
   abbrev pub look : model.Crew → Crew

@@ -82,7 +82,7 @@ decided (x ∷ xs) (C refuses y else cs) m = go (x .applies) refl (decided xs cs
 
 -- ---- tests
 
-not-decides : (b : Bool) (C : Type 0) → (b ≡ true → C) → (C → b ≡ true) → Decides (not b) (C → ⊥)
+pub not-decides : (b : Bool) (C : Type 0) → (b ≡ true → C) → (C → b ≡ true) → Decides (not b) (C → ⊥)
 not-decides true C f g = (λ e. absurd (differ e), λ e k. k (f refl))
 not-decides false C f g = (λ e c. differ (g c), λ e k. let z : true ≡ false = e in let y : false ≡ true = sym z in differ y)
 
@@ -93,10 +93,10 @@ or-decides false b f g = (λ e. inr (g .0 e), λ e k. elim k [ inl c ↦ f .1 re
 pub ltb-decides : (a b : ℕ) → Decides (ltb a b) (a < b)
 ltb-decides a b = (ltb-true a b, λ e l. let k = ltb-false a b e in omega arith)
 
-leb-decides : (a b : ℕ) → Decides (leb a b) (a ≤ b)
+pub leb-decides : (a b : ℕ) → Decides (leb a b) (a ≤ b)
 leb-decides a b = (leb-true a b, λ e l. let k = leb-false a b e in omega arith)
 
-ne-decides : (a b : ℕ) → Decides (not (eqb a b)) (a ≢ b)
+pub ne-decides : (a b : ℕ) → Decides (not (eqb a b)) (a ≢ b)
 ne-decides a b = (λ e. eqb-false a b (not-true (eqb a b) e), λ e k. k (eqb-true a b (not-false (eqb a b) e)))
 
 -- ---- the arena
@@ -167,7 +167,7 @@ listed-in c s (k ∷ ks) (inl p) =
     subst (λ (x : Hold). isIn (holdOf c s) (x ∷ ks) ≡ true) (sym e) (in-first (holdOf c s) ks)
 listed-in c s (k ∷ ks) (inr j) = in-rest k (holdOf c s) ks (listed-in c s ks j)
 
-pub in-decides : (c s : ℕ) (ks : List Hold) → Decides (isIn (holdOf c s) ks) (Stands-in c s ks)
+in-decides : (c s : ℕ) (ks : List Hold) → Decides (isIn (holdOf c s) ks) (Stands-in c s ks)
 in-decides c s ks = (in-listed c s ks, λ e l. differ (sym e ∙ listed-in c s ks l))
 
 pub holds-same : (ws : List ℕ) → holds ws ≡ holdsOf ws

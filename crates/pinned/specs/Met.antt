@@ -12,6 +12,7 @@ use Rattle.types.specs.declared.Answer.the-variants.{Done, Cell, Granted, AllGr
 use Rattle.types.specs.declared.Hold.{Hold}
 use Rattle.types.specs.declared.Lease.{Lease}
 use Rattle.types.specs.declared.Reason.the-variants as reason
+use Rattle.history.specs.Judged.{refused-so, made-so}
 use Rattle.history.specs.World.{World}
 use Rattle.history.specs.Items.{Build, Says, rules, Call, try-acquire, drop-lease, read-permission, competing-acquire, release-then-handoff, foreign-release, drop-preserving, acquire-preserving, environment, try-lock, transactional, acquire-bucket, release-all, acquire-locks, acquire-sorted, crew, crew-at-work, place-of, buffer, perform, Clear}
 use Rattle.pinned.specs.Words.{holds, words, logged, counted, says}
@@ -19,7 +20,7 @@ use Rattle.pinned.specs.Checks.{checks}
 use Rattle.pinned.specs.Steps.{at, gathered}
 use Rattle.pinned.specs.Statements.{Beyond, Meets, plainly, attempted, bounded, left-by, place-by, dropping, between, locking, Gives-back, all-back, one-back, After-key, Keys, cells-asked, Told, By-sorted, Any-order, as-given}
 use Rattle.pinned.specs.Decided.{decided, matched, first-is, passed-clear}
-use Rattle.pinned.specs.Ours.{refused-so, made-so, acquire-is, drop-is, competing-is, acquire-held-is, drop-held-is, handoff-is, between-is, environment-is, try-lock-is, crew-is, work-is, transactional-is, bucket-is, locks-is}
+use Rattle.pinned.specs.Ours.{acquire-is, drop-is, competing-is, acquire-held-is, drop-held-is, handoff-is, between-is, environment-is, try-lock-is, crew-is, work-is, transactional-is, bucket-is, locks-is}
 use Rattle.pinned.specs.BackCalls.{release-all-is}
 use Rattle.pinned.specs.SortedCall.{sorted-call-is}
 use Rattle.pinned.specs.Same.{Same, is-same, is-both, if-same, with-same, noting-same, seen-same, takes-same, runs-same, locks-same, turns-same, asks-same, keys-same, shared-same, sorted-same, joined-same, retries-same}

@@ -12,7 +12,6 @@ use borrow.Author.Tests.{eqb-true, eqb-false, leb-true, leb-false, lt-leb, not-f
 use Rattle.choice.specs.Choice.{if_then_else_}
 use Rattle.model.specs.Log.{Made, Event, attempt-begun, by-caller, released, gives}
 use Rattle.model.specs.Arena.{spentTo, cellsOf, bitAt, ownerAt, stateAt, isLive, setCell, holdsOf, holdIn, wordsOf}
-use Rattle.model.specs.Refusals.{first}
 use Rattle.model.specs.Foreign.{flowOf, boundaryOf}
 use Rattle.model.specs.Lock.{tookOf, takeOf, answerOf, outcomeOf, lockOf, findOf, attemptAt, attemptOf, runOf, holdAt, giveBackOf}
 use Rattle.model.specs.Checks.{cellRules, leaseRules, heldCellRules, heldLeaseRules, scriptRules, lockRules, bucketRules, badHeld, badCell}
@@ -20,7 +19,7 @@ use Rattle.model.specs.Calls.{given, starting, acquireOf}
 use Rattle.model.specs.Crew.{rests, adds, crewStart}
 use Rattle.types.specs.declared.Answer.{Answer}
 use Rattle.types.specs.declared.Answer.the-variants.{Done, Cell, Granted, AllGranted, Busy, Refused, RefusedAt}
-use Rattle.types.specs.declared.Check.the-variants.{Fine, Fault}
+use Rattle.types.specs.declared.Check.the-variants.{Fault}
 use Rattle.types.specs.declared.Found.{Found}
 use Rattle.types.specs.declared.Found.the-variants as found
 use Rattle.types.specs.declared.Hold.{Hold}
@@ -28,13 +27,12 @@ use Rattle.types.specs.declared.Lease.{Lease}
 use Rattle.types.specs.declared.Reason.{Reason}
 use Rattle.types.specs.declared.Reason.the-variants as reason
 use Rattle.types.specs.declared.Run.{Run}
-use Rattle.types.specs.declared.Refusal.{Refusal}
 use Rattle.types.specs.declared.Refusal.the-variants.{BadHeader, Poisoned, InvalidBucket}
 use Rattle.types.specs.declared.Take.the-variants as taking
 use Rattle.laws.specs.Checks.{live-inside}
 use Rattle.history.specs.World.{World, worldOf}
-use Rattle.history.specs.Items.{Says, says, Clear, rules, perform, unchanged, Call, try-acquire, drop-lease, competing-acquire, release-then-handoff, foreign-release, drop-preserving, acquire-preserving, environment, try-lock, transactional, acquire-bucket, release-all, acquire-locks, crew, crew-at-work}
-use Rattle.history.specs.Judged.{steps, clear-fine, clear-front, clear-back, clear-append, performed-by}
+use Rattle.history.specs.Items.{Says, says, Clear, rules, perform, Call, try-acquire, drop-lease, competing-acquire, release-then-handoff, foreign-release, drop-preserving, acquire-preserving, environment, try-lock, transactional, acquire-bucket, release-all, acquire-locks, crew, crew-at-work}
+use Rattle.history.specs.Judged.{past-checks, clear-front, clear-back, clear-append, made-so}
 use Rattle.history.specs.Tests.{alive, state-held}
 use Rattle.history_exact.specs.Attempts as calls
 use Rattle.history_exact.specs.Attempting.{bucket-attempts}
@@ -45,18 +43,6 @@ use Rattle.pinned.specs.Statements.{Beyond, By-key, left-by, place-by, j
 use Rattle.pinned.specs.Decided.{holds-same}
 use Rattle.pinned.specs.Stepping.{takes, point, pointed, boundary-is, shown, lock-is, Releases-each, back-is}
 use Rattle.pinned.specs.Crewed.{turns-are}
-
--- ---- a call is refused by the first rule that applies, or is its steps
-
-pub refused-so : (w : World) (k : Call) (r : Refusal) → first (rules w k) ≡ Fault r → perform w k ≡ unchanged w k r
-refused-so w k r e =
-    performed-by (λ m. m ≡ unchanged w k r) w k (λ x f. let g : Fault x ≡ Fault r = sym f ∙ e in let i : x ≡ r = cc in ap (unchanged w k) i)
-    (λ c. let g : Fine ≡ Fault r = sym (clear-fine (rules w k) c) ∙ e in let z : _≡_ {A = ℕ} 0 1 = cc in absurd (omega arith))
-
-pub made-so : (w : World) (k : Call) → Clear (rules w k) → perform w k ≡ steps w k
-made-so w k c =
-    performed-by (λ m. m ≡ steps w k) w k
-    (λ x f. let g : Fine ≡ Fault x = sym (clear-fine (rules w k) c) ∙ f in let z : _≡_ {A = ℕ} 0 1 = cc in absurd (omega arith)) (λ _. refl)
 
 module _ (w : World) where
   abbrev pub B : Call → Type 0
@@ -142,7 +128,7 @@ module _ (w : World) where
       let x : perform w (try-acquire c) ≡ one = made-so w (try-acquire c) cell ∙ rw busy in
       let y : perform w (drop-lease l) ≡ two = made-so w (drop-lease l) lease in
       let z = made-so (after c) (try-acquire c) (cell-after c cell) in
-      let all : steps w (foreign-release held l) ≡ joined one (joined two (steps (after c) (try-acquire c))) = rw busy in
+      let all : past-checks w (foreign-release held l) ≡ joined one (joined two (past-checks (after c) (try-acquire c))) = rw busy in
       made-so w (foreign-release held l) k ∙ (all ∙ sym (
       ap (λ (m : Made (World × Says)). joined m (joined (perform (left-by m) (drop-lease l)) (perform (left-by (perform (left-by m) (drop-lease l))) (try-acquire c)))) x
       ∙ (ap (λ (m : Made (World × Says)). joined one (joined m (perform (left-by m) (try-acquire c)))) y

@@ -10,7 +10,7 @@ use Rattle.model.specs.Log.{Event, attempt-begun, boundary-run, yielded, spun, 
 use Rattle.model.specs.Arena.{holdOf, bitAt, ownerAt, setCell, setWaiters, stateAt, healthFits}
 use Rattle.types.specs.declared.State.{State}
 use Rattle.types.specs.declared.State.the-variants as state
-use Rattle.history.specs.World.{World, Free, Live, Legal, step, Whole}
+use Rattle.history.specs.World.{World, Free, Live, Legal, after-event, Whole}
 use Rattle.history.specs.Items.{Call, Clear, rules}
 use Rattle.history.specs.Tests.{Stands, stands, is-free, is-held, is-damaged, state-free, free-words}
 use Rattle.pinned.specs.Words.{Shape, Is-free, Is-damaged, Is-live, size, taken, freed, with-waiters, with-health}
@@ -103,14 +103,14 @@ made-by w (health-set i n) = with-health w i n
 made-by w (held-all m) = w
 made-by w (added m c v) = w
 
-pub leads-to : (w : World) (e : Event) → May-happen w e → step w e ≡ made-by w e
+pub leads-to : (w : World) (e : Event) → May-happen w e → after-event w e ≡ made-by w e
 unfolding setCell setWaiters
 leads-to w attempt-begun l = refl
 leads-to w boundary-run l = refl
 leads-to w yielded l = refl
 leads-to w spun l = refl
 leads-to w step-dropped l = refl
-leads-to w (took a c s) l = ap (λ (x : ℕ). step w (took a c x)) (l .1 .0)
+leads-to w (took a c s) l = ap (λ (x : ℕ). after-event w (took a c x)) (l .1 .0)
 leads-to w (released a c s) l = refl
 leads-to w (waiters-set c n) l = refl
 leads-to w (health-set i n) l = refl

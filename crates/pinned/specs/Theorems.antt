@@ -13,7 +13,7 @@ use Rattle.model.specs.Salvage.{salvageOf}
 use Rattle.types.specs.declared.Head.{Head}
 use Rattle.types.specs.declared.Refusal.{Refusal}
 use Rattle.types.specs.declared.Refusal.the-variants.{BadShape, BadScript, BadHeld, TooMany, BadBinding, BadHeader, Poisoned, InvalidBucket, Damaged, SerialsSpent, SerializationFailure, NotHeld, Protected, Repeated, BadCrew, StaleBoot}
-use Rattle.history.specs.World.{World, Live, Legal, step, Whole}
+use Rattle.history.specs.World.{World, Live, Legal, after-event, Whole}
 use Rattle.history.specs.Items.{Build, Stepper, Says, Call, perform, foreign, Clear, rules, Item, Course, cold, run}
 use Rattle.history.specs.Statements.{Crew-build, Crew-at-work-build, Begins, Ledger}
 use Rattle.history.specs.Theorems.{demand-2}
@@ -151,5 +151,5 @@ whole-is = reading.whole-is
 pub legal-is : (w : World) (e : Event) → Legal w e ↔ reading.May-happen w e
 legal-is = reading.legal-is
 
-pub leads-to : (w : World) (e : Event) → reading.May-happen w e → step w e ≡ reading.made-by w e
+pub leads-to : (w : World) (e : Event) → reading.May-happen w e → after-event w e ≡ reading.made-by w e
 leads-to = reading.leads-to

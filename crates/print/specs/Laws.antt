@@ -8,15 +8,11 @@ use lib.Dec.{eqb}
 use lib.ListN.{length, getD, drop, set, length-append, drop-of-length-le}
 use lib.Seq.{sets, drop-cons}
 use Rattle.choice.specs.Pick.{if-both}
-use Rattle.text.specs.Laws.{drop-one}
-use Rattle.text.specs.Decimal.{length-decimal, places-most}
+use Rattle.choice.specs.Lists.{drop-one, sets-sets}
+use Rattle.text.specs.Decimal.{length-decimal, digit-count-most}
 use Rattle.print.specs.Print.{putOf, pieceOf, afterOf, formFrom, formOf}
 
 -- ---- bytes
-
-sets-sets : (l a b : List ℕ) (i : ℕ) → sets (sets l i a) (i + length a) b ≡ sets l i (a ++ b)
-sets-sets l [] b i = let e : i + 0 ≡ i = omega arith in rw e
-sets-sets l (x ∷ a) b i = let e : i + suc (length a) ≡ suc i + length a = omega arith in rw e (sets-sets (set l i x) a b (suc i))
 
 -- nothing put
 pub put-none : (l : List ℕ) (i : ℕ) → (i, l) ≡ putOf l i []
@@ -58,7 +54,7 @@ put-place l m i j x e = ap (λ (o : ℕ × List ℕ). o .0) e
 pub piece-few : (numbers : List ℕ) (k b : ℕ) → length (pieceOf numbers k b) ≤ 20
 unfolding pieceOf
 piece-few numbers k b =
-    if-both (λ (l : List ℕ). length l ≤ 20) (eqb b 35) (omega (arith, length-decimal (getD numbers k 0), places-most (getD numbers k 0))) (omega arith)
+    if-both (λ (l : List ℕ). length l ≤ 20) (eqb b 35) (omega (arith, length-decimal (getD numbers k 0), digit-count-most (getD numbers k 0))) (omega arith)
 
 pub after-next : (k b : ℕ) → afterOf k b ≤ k + 1
 unfolding afterOf

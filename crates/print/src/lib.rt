@@ -1,12 +1,12 @@
 // Text put into a lent run, each function with the bytes that it puts: text, decimal numbers, forms.
-// All of these are steps of whoever prints: they ask for room, which the caller has tested.
+// All of these are parts of whoever prints: they ask for room, which the caller has tested.
 ghost use mathlib.Core.Path.{_≡_};
 ghost use Prim.Native.Nat.{_+_, _*_, _^_, _<_, _≤_};
 ghost use lib.ListN.{length, getD};
-ghost use Rattle.text.specs.Decimal.{placesOf, decimalOf};
+ghost use Rattle.text.specs.Decimal.{digitCount, decimalOf};
 ghost use Rattle.print.specs.Print.{putOf, pieceOf, afterOf, formOf};
 
-// Puts text at `at`, and says where it ends. A step.
+// Puts text at `at`, and says where it ends. A part.
 pub fn put(out: &mut [u8], at: usize, text: &[u8]) -> usize
     requires { ⌜ at + length (now text) ≤ length (now out) ⌝ }
     ensures { λ r. ⌜ (r, now (out .exit)) ≡ putOf (now (out .entry)) at (now (text .entry)) ⌝ }
@@ -21,9 +21,9 @@ pub fn put(out: &mut [u8], at: usize, text: &[u8]) -> usize
     n
 }
 
-// Puts a number in decimal, where there is room for its digits. A step.
+// Puts a number in decimal, where there is room for its digits. A part.
 pub fn put_number(out: &mut [u8], at: usize, n: usize) -> usize
-    requires { ⌜ at + placesOf n ≤ length (now out) ⌝ }
+    requires { ⌜ at + digitCount n ≤ length (now out) ⌝ }
     ensures { λ r. ⌜ (r, now (out .exit)) ≡ putOf (now (out .entry)) at (decimalOf n) ⌝ }
 {
     let mut digits = [0u8; 20];
@@ -65,7 +65,7 @@ fn after(k: usize, byte: u8) -> usize
     k
 }
 
-// Puts a form: its bytes as they are, but for each `#` the next number. A step.
+// Puts a form: its bytes as they are, but for each `#` the next number. A part.
 pub fn put_form(out: &mut [u8], at: usize, form: &[u8], numbers: &[usize]) -> usize
     requires { ⌜ at + 20 * length (now form) ≤ length (now out) ⌝ }
     ensures { λ r. ⌜ (r, now (out .exit))

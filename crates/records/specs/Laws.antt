@@ -8,7 +8,7 @@ use borrow.Author.Tests.{le-leb, lt-leb, le-ltb, lt-ltb, leb-true, leb-false}
 use lib.Dec.{leb}
 use lib.ListN.{length, getD, set}
 use lib.Seq.{set-getD}
-use Rattle.model.specs.Arena.{serialRemains, cellsOf, headOf, spentTo, headFits, shapeFits, bitAt, ownerAt, waitersAt, setCell, isFree, isHeld, stateOf, stateAt, leaseOf, isStale, holdIn, heldBy, isLive, issueOf}
+use Rattle.model.specs.Arena.{serialRemains, cellsOf, headOf, spentTo, headFits, shapeFits, bitAt, ownerAt, setCell, isFree, isHeld, stateOf, stateAt, leaseOf, isStale, holdIn, heldBy, isLive, issueOf}
 use Rattle.model.specs.Refusals.{Rule, first}
 use Rattle.model.specs.Lock.{takeIn, takeOf, outcomeOf, answerOf}
 use Rattle.model.specs.Checks.{badCell, staleBoot, notHeld, cellRules, leaseRules}
@@ -63,12 +63,6 @@ unfolding spelled ownerAt
 owner-spelled [] c = refl
 owner-spelled (x ∷ l) zero = refl
 owner-spelled (x ∷ l) (suc c) = let e : 3 * suc c + 1 ≡ suc (suc (suc (3 * c + 1))) = omega arith in rw e (owner-spelled l c)
-
-pub waiters-spelled : (l : List Cell) (c : ℕ) → waitersAt (spelled l) c ≡ getD l c none .waiters
-unfolding spelled waitersAt
-waiters-spelled [] c = refl
-waiters-spelled (x ∷ l) zero = refl
-waiters-spelled (x ∷ l) (suc c) = let e : 3 * suc c + 2 ≡ suc (suc (suc (3 * c + 2))) = omega arith in rw e (waiters-spelled l c)
 
 -- another bit and owner in one cell is another record in one place; past the end both change nothing
 pub set-spelled : (l : List Cell) (c b o : ℕ) → setCell (spelled l) c b o ≡ spelled (set l c (cellOf b o (getD l c none .waiters)))

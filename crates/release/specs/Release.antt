@@ -13,13 +13,13 @@ use Rattle.model.specs.Refusals.{Rule, first}
 use Rattle.model.specs.Checks.{leaseCount, isUneven, badShape, badHealth, badScript, tooManyLeases, notReleasable, releaseRules}
 use Rattle.model.specs.Foreign.{Setting, protecting, boundaryOf}
 use Rattle.model.specs.Lock.{runOf, holdAt, giveBackOf}
-use Rattle.model.specs.Calls.{starting, given, played}
+use Rattle.model.specs.Calls.{starting, given, scriptReply}
 use Rattle.types.specs.declared.Answer.the-variants.{Done}
 use Rattle.types.specs.declared.Check.the-variants.{Fine, Fault}
 use Rattle.types.specs.declared.Head.{Head}
 use Rattle.types.specs.declared.Hold.{Hold}
 use Rattle.types.specs.declared.Lease.{Lease}
-use Rattle.types.specs.declared.Played.{Played}
+use Rattle.types.specs.declared.ScriptReply.{ScriptReply}
 use Rattle.types.specs.declared.Refusal.the-variants as refusal
 use Rattle.types.specs.declared.Run.{Run}
 use Rattle.choice.specs.Pick.{neither}
@@ -173,7 +173,7 @@ give-list-at k m s script leases taken r t g o l b q =
     (q ∙ rw (guards-none (take (3 * m) leases) taken, take-leases leases m, hold-in leases m b))
 
 -- the steps of the call, once its checks are fine
-unfoldable pub releaseOnceOf : Head → List ℕ → List ℕ → List ℕ → ℕ → List ℕ → Played × (List ℕ × List ℕ)
+unfoldable pub releaseOnceOf : Head → List ℕ → List ℕ → List ℕ → ℕ → List ℕ → ScriptReply × (List ℕ × List ℕ)
 releaseOnceOf h t g script place leases =
     let o = giveBackOf (leaseCount leases) (given h script []) (holdsOf leases) (starting h place) t g .seen in
-    (played h (o .0) Done, o .1)
+    (scriptReply h (o .0) Done, o .1)

@@ -1,16 +1,16 @@
-// Giving back: `release_all`, last first with a boundary after each release, and its steps, on which multi-lock's
+// Giving back: `release_all`, last first with a boundary after each release, and its parts, on which multi-lock's
 // rollback stands too.
-// Functions with a `requires` are steps: calls have tested the shape, and a step tests nothing twice.
-// Steps are no calls of document 01, public ones neither: only the layers here call them (tests/layers.sh), and each
+// Functions with a `requires` are parts: calls have tested the shape, and a part tests nothing twice.
+// Parts are no calls of document 01, public ones neither: only the layers here call them (tests/layers.sh), and each
 // caller proves their `requires`.
 use foreign::Scope;
 use types::Answer;
 use types::Check;
 use types::Head;
 use types::Hold;
-use types::Played;
 use types::Refusal;
 use types::Run;
+use types::ScriptReply;
 ghost use mathlib.Core.Path.{_≡_};
 ghost use mathlib.Core.Bool.{true};
 ghost use mathlib.Core.List.{[], _∷_};
@@ -29,7 +29,7 @@ ghost use Rattle.release.specs.Release.{Inside, ReleaseFine, leasesRules
 
 // ---- giving back
 
-// One release, and the boundary after it, which still protects the held list and the first n pairs. A step of
+// One release, and the boundary after it, which still protects the held list and the first n pairs. A part of
 // `give_back`, and of multi-lock's rollback.
 pub fn give_one(
     scope: Scope,
@@ -60,7 +60,7 @@ pub fn give_one(
 }
 
 // The leases of a list from the last on; those before the one released stay protected, so that no step frees them
-// first. A step.
+// first. A part.
 pub fn give_back(
     scope: Scope,
     start: Run,
@@ -241,7 +241,7 @@ fn release_once(
     script: &[u32],
     place: usize,
     leases: &[u32],
-) -> Played
+) -> ScriptReply
     requires { ⌜ ReleaseFine head (length (now table)) (length (now health)) (length (now script)) place
         (now leases) ⌝ }
     ensures { λ r. ⌜ (r, (now (table .exit), now (health .exit)))
@@ -251,7 +251,7 @@ fn release_once(
     let scope = foreign::scope_of(head, script);
     let start = bucket::starting(head, place);
     let run = give_back(scope, start, table, health, script, leases);
-    foreign::play(head, run, Answer::Done)
+    foreign::script_reply(head, run, Answer::Done)
 }
 
 // Releases a list of leases, last first, with a boundary after each. Any lease with another boot number (16), that is
@@ -263,7 +263,7 @@ pub fn release_all(
     script: &[u32],
     place: usize,
     leases: &[u32],
-) -> Played
+) -> ScriptReply
     ensures { λ r. ⌜ (r, (now (table .exit), now (health .exit)))
         ≡ releaseAllOf head (now (table .entry)) (now (health .entry))
         (now (script .entry)) place (now (leases .entry)) .seen ⌝ }

@@ -26,7 +26,7 @@ use Rattle.report_rules.specs.Reading.{Small, Reading, badLine, results, onto, 
 use Rattle.report_rules.specs.Sums.{countOf, attemptsOf, largerOf, greatestOf}
 use Rattle.report_call.specs.Scan.{noSums, withOf, countedOf, addedOf, badOf, scanFrom, scanOf, Bounded, seenIn, printedOf}
 use Rattle.report_names.specs.Table.{name-short}
-use Rattle.report_rules.specs.Report.{headForm, numberForm, countForm, rowOf, rowsOf, headOf, textOf, toldOf, answerOf, reportOf}
+use Rattle.report_rules.specs.Report.{headForm, numberForm, countForm, rowOf, rowsOf, headOf, textOf, textFor, answerOf, reportOf}
 
 -- ---- a line that is read
 
@@ -106,8 +106,8 @@ line-good input at = go (fitsOf number 262144) refl
     go true e = refusal-good input at (at + number .digits) (number .value) (omega arith) (fits-is number 262144 e)
     go false e = nothing input at
 
-pub line-told : (input : List ℕ) (at : ℕ) (line : Line) → line ≡ lineAt input at → line .fine ≡ true → Good input at line
-line-told input at line e f = rw e (line-good input at (ap (λ (o : Line). o .fine) (sym e) ∙ f))
+pub line-read : (input : List ℕ) (at : ℕ) (line : Line) → line ≡ lineAt input at → line .fine ≡ true → Good input at line
+line-read input at line e f = rw e (line-good input at (ap (λ (o : Line). o .fine) (sym e) ∙ f))
 
 -- ---- one trial more
 
@@ -295,12 +295,12 @@ rows-end l i seen number h = let n : 17 - number ≡ 0 = omega arith in rw n (pu
 
 -- ---- the whole
 
-printed-told : (r : Reading) (o : Sums × List ℕ) → Summed noSums (replicate 17 0) r o → printedOf (o .0) (o .1) ≡ toldOf r
+printed-for : (r : Reading) (o : Sums × List ℕ) → Summed noSums (replicate 17 0) r o → printedOf (o .0) (o .1) ≡ textFor r
 unfolding printedOf textOf
-printed-told (badLine n) o h =
+printed-for (badLine n) o h =
     let e : o .0 .bad ≢ 0 = omega (arith, h .0, h .1) in
     rw (ne-eqb _ _ e, h .0)
-printed-told (results ts) o h =
+printed-for (results ts) o h =
     let p : o .0 ≡ record { bad = 0; trials = 0 + length ts; attempts = 0 + attemptsOf ts; greatest = largerOf 0 (greatestOf ts) } = ap (λ (x : Sums × List ℕ). x .0) h ∙ sums-are noSums ts in
     let q : o .1 ≡ countsFrom (replicate 17 0) ts = ap (λ (x : Sums × List ℕ). x .1) h in
     let c : (k : ℕ) → k < 17 → getD (countsFrom (replicate 17 0) ts) k 0 ≡ countOf k ts = λ k l. counts-are (replicate 17 0) ts k l ∙ rw (getD-replicate {A = ℕ} 17 k 0 0 l) (omega arith) in
@@ -316,7 +316,7 @@ printed-told (results ts) o h =
 -- the whole from input bytes to output bytes
 pub printed-is : (input : List ℕ) (s : Sums) (c : List ℕ) → (s, c) ≡ scanOf input (replicate 17 0) → printedOf s c ≡ answerOf input
 unfolding scanOf answerOf readOf
-printed-is input s c e = printed-told (readFrom input 1000 1 0) (s, c) (rw e (pass input 1000 0 noSums (replicate 17 0)))
+printed-is input s c e = printed-for (readFrom input 1000 1 0) (s, c) (rw e (pass input 1000 0 noSums (replicate 17 0)))
 
 pub report-is : (input out : List ℕ) (s : Sums) (c o : List ℕ) (r : ℕ) → 4096 ≤ length out → (s, c) ≡ scanOf input (replicate 17 0) → (r, o) ≡ putOf out 0 (printedOf s c)
     → _≡_ {A = Reported × List ℕ} (Done r, o) (reportOf input out)

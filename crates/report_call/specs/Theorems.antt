@@ -6,7 +6,6 @@ use native.Mathlib.Omega.{arith}
 use lib.ListN.{length, getD, set}
 use lib.Seq.{sets, getD-set-other}
 use borrow.Author.Tests.{le-ltb}
-use Rattle.report_rules.specs.declared.Reported.{Reported}
 use Rattle.report_rules.specs.Report.{answerOf, reportOf}
 
 sets-behind : (l x : List ℕ) (i k : ℕ) → i + length x ≤ k → getD (sets l i x) k 0 ≡ getD l k 0

@@ -1,5 +1,5 @@
 // The acceptance report of document 02, L12: trials read from bytes, summed, and printed into a lent run.
-// `report` is the call; the other functions are its steps. What they promise is defined in crate `report_rules`.
+// `report` is the call; the other functions are its parts. What they promise is defined in crate `report_rules`.
 use report_rules::Line;
 use report_rules::Reported;
 use report_rules::Trial;

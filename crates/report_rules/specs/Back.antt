@@ -8,7 +8,7 @@ use lib.ListN.{length, getD, drop, length-append}
 use lib.Seq.{drop-append-seam, getD-append-seam}
 use borrow.Author.Tests.{lt-ltb, le-ltb, le-leb}
 use Rattle.text.specs.Text.{isDigit, digitsIn}
-use Rattle.text.specs.Decimal.{placesOf, decimalOf, length-decimal}
+use Rattle.text.specs.Decimal.{digitCount, decimalOf, length-decimal}
 use Rattle.text.specs.Back.{wholeNumber, number-back}
 use Rattle.report_rules.specs.declared.Trial.{Trial}
 use Rattle.report_rules.specs.Reading.{Small, badLine, results, onto, fitsOf, endAt, refusalAt, lineAt, readFrom, readOf}
@@ -41,7 +41,7 @@ end-back x at attempts refusal y e = rw (seam-get x at 10 y e)
 
 refusal-back : (x : List ℕ) (at attempts refusal : ℕ) (y : List ℕ) → length x ≡ at → refusal ≤ 16
     → refusalAt (x ++ (32 ∷ (decimalOf refusal ++ (10 ∷ y)))) at attempts
-    ≡ record { fine = true; trial = record { attempts = attempts; refusal = refusal }; next = at + 1 + placesOf refusal + 1 }
+    ≡ record { fine = true; trial = record { attempts = attempts; refusal = refusal }; next = at + 1 + digitCount refusal + 1 }
 unfolding refusalAt digitsIn isDigit
 refusal-back x at attempts refusal y e h =
     let space : List ℕ = x ++ (32 ∷ []) in
@@ -50,9 +50,9 @@ refusal-back x at attempts refusal y e h =
     let n : length space ≡ at + 1 = length-append x (32 ∷ []) ∙ omega arith in
     let d : drop (at + 1) (x ++ (32 ∷ (number ++ (10 ∷ y)))) ≡ number ++ (10 ∷ y) = rw p (seam-drop space (at + 1) (number ++ (10 ∷ y)) n) in
     let q : x ++ (32 ∷ (number ++ (10 ∷ y))) ≡ (space ++ number) ++ (10 ∷ y) = p ∙ sym (append-assoc space number (10 ∷ y)) in
-    let m : length (space ++ number) ≡ at + 1 + placesOf refusal = length-append space number ∙ omega (arith, n, length-decimal refusal) in
+    let m : length (space ++ number) ≡ at + 1 + digitCount refusal = length-append space number ∙ omega (arith, n, length-decimal refusal) in
     rw (seam-get x at 32 (number ++ (10 ∷ y)) e, d, number-back refusal (10 ∷ y) (omega arith) refl, fits-whole refusal 16 h, q)
-    (end-back (space ++ number) (at + 1 + placesOf refusal) attempts refusal y m)
+    (end-back (space ++ number) (at + 1 + digitCount refusal) attempts refusal y m)
 
 line-back : (x : List ℕ) (t : Trial) (y : List ℕ) → Small t
     → lineAt (x ++ (lineOf t ++ y)) (length x) ≡ record { fine = true; trial = t; next = length (x ++ lineOf t) }
@@ -64,8 +64,8 @@ line-back x t y s =
     let p : (number ++ (32 ∷ (decimalOf (t .refusal) ++ (10 ∷ [])))) ++ y ≡ number ++ after =
     append-assoc number (32 ∷ (decimalOf (t .refusal) ++ (10 ∷ []))) y ∙ ap (λ (o : List ℕ). number ++ (32 ∷ o)) inner in
     let q : x ++ (number ++ after) ≡ (x ++ number) ++ after = sym (append-assoc x number after) in
-    let m : length (x ++ number) ≡ length x + placesOf (t .attempts) = length-append x number ∙ omega (arith, length-decimal (t .attempts)) in
-    let n : length (x ++ (number ++ (32 ∷ (decimalOf (t .refusal) ++ (10 ∷ []))))) ≡ length x + placesOf (t .attempts) + 1 + placesOf (t .refusal) + 1 =
+    let m : length (x ++ number) ≡ length x + digitCount (t .attempts) = length-append x number ∙ omega (arith, length-decimal (t .attempts)) in
+    let n : length (x ++ (number ++ (32 ∷ (decimalOf (t .refusal) ++ (10 ∷ []))))) ≡ length x + digitCount (t .attempts) + 1 + digitCount (t .refusal) + 1 =
     omega (
       arith,
       length-append x (number ++ (32 ∷ (decimalOf (t .refusal) ++ (10 ∷ [])))),
@@ -75,7 +75,7 @@ line-back x t y s =
       length-decimal (t .refusal),
     ) in
     rw (n, p, drop-append-seam x (number ++ after), number-back (t .attempts) after (omega (arith, s .tries)) refl, fits-whole (t .attempts) 262144 (s .tries), q)
-    (refusal-back (x ++ number) (length x + placesOf (t .attempts)) (t .attempts) (t .refusal) y m (s .known))
+    (refusal-back (x ++ number) (length x + digitCount (t .attempts)) (t .attempts) (t .refusal) y m (s .known))
 
 -- ---- the whole
 

@@ -57,13 +57,13 @@ unfoldable pub badText : ℕ → List ℕ
 badText n = formOf badForm (n ∷ [])
 
 -- what is printed for what was read
-abbrev pub toldOf : Reading → List ℕ
-toldOf (badLine n) = badText n
-toldOf (results ts) = textOf ts
+abbrev pub textFor : Reading → List ℕ
+textFor (badLine n) = badText n
+textFor (results ts) = textOf ts
 
 -- the whole program, from the bytes of its input to those of its output
 unfoldable pub answerOf : List ℕ → List ℕ
-answerOf input = toldOf (readOf input)
+answerOf input = textFor (readOf input)
 
 -- the call: the text at the front of the lent run, and every byte behind it as it was; with a room of less than 4,096 bytes nothing
 unfoldable pub reportOf : List ℕ → List ℕ → Reported × List ℕ

@@ -5,13 +5,14 @@ use mathlib.Core.Logic.{_≢_}
 use mathlib.Core.Path.{_≡_, refl, sym, ap, _∙_}
 use mathlib.Core.List.{List, [], _∷_, _++_, append-assoc, append-nil}
 use mathlib.Core.Bool.{Bool, true, false, _&&_}
-use borrow.Author.Tests.{eq-eqb, ne-eqb, eqb-true, le-leb, lt-leb}
+use borrow.Author.Tests.{eq-eqb, ne-eqb, eqb-true, lt-leb}
 use native.Mathlib.Omega.{arith}
 use lib.Dec.{eqb}
 use lib.ListN.{length, getD, drop, take, set, length-append, drop-of-length-le}
 use lib.Seq.{set-getD, getD-set-other, drop-set-lt, sets, sets-eq, take-at, drop-at, take-all, length-take-le}
 use Rattle.choice.specs.Choice.{if_then_else_}
 use Rattle.choice.specs.Pick.{if-both}
+use Rattle.choice.specs.Lists.{sets-sets as laid-twice}
 use Rattle.model.specs.Arena.{cellsOf, bitAt, ownerAt, waitersAt, setCell, setWaiters, isFree, isHeld, stateOf}
 use Rattle.model.specs.Salvage.{keptIn, keptOf, mendedCell, mendedTable, mendedByte, mendedHealth, changeOf, changesFrom, changesOf, entriesOf, heldFrom, leftHeld, overOf, mendOf}
 use Rattle.types.specs.declared.Head.{Head}
@@ -21,7 +22,7 @@ use Rattle.salvage.specs.declared.Ends.{Ends}
 use Rattle.laws.specs.Shape.{Shaped}
 use Rattle.laws.specs.Lists.{drop-one}
 use Rattle.laws.specs.Words.{bit-set-other, owner-set-other, bit-set-waiters, owner-set-waiters}
-use Rattle.laws.specs.Salvage.{changedOf, differing, changed-few, differing-few, entries-number, left-held-is}
+use Rattle.laws.specs.Salvage.{changedOf, differing, changed-few, differing-few, entries-number, left-held-is, byte-kept}
 
 -- ---- one cell
 
@@ -417,10 +418,6 @@ laid-none : (l : List ℕ) (i : ℕ) → (i, l) ≡ laidOf l i []
 unfolding laidOf
 laid-none l i = let e : i + 0 ≡ i = omega arith in rw e
 
-laid-twice : (l x y : List ℕ) (i : ℕ) → sets (sets l i x) (i + length x) y ≡ sets l i (x ++ y)
-laid-twice l [] y i = let e : i + 0 ≡ i = omega arith in rw e
-laid-twice l (a ∷ x) y i = let e : i + suc (length x) ≡ suc i + length x = omega arith in rw e (laid-twice (set l i a) x y (suc i))
-
 -- some words are laid, and others are left to lay
 laid-first : (l m : List ℕ) (i j : ℕ) (x y : List ℕ) → (j, m) ≡ laidOf l i x → laidOf m j y ≡ laidOf l i (x ++ y)
 unfolding laidOf
@@ -538,10 +535,6 @@ module _ (next : ℕ) (t : List ℕ) (c : ℕ) where
       rw (mend-other next t c d, held-none next t c d, words) (laying-none t3 (set (set (set t (3 * c) 0) (3 * c + 1) 0) (3 * c + 2) 0) report r3 list (x ++ (y ++ z)) n3 at left all table)
 
 -- a byte that stays, one that becomes 1
-byte-kept : (b : ℕ) → b ≤ 1 → mendedByte b ≡ b
-unfolding mendedByte
-byte-kept b h = rw (le-leb b 1 h)
-
 byte-mended : (b : ℕ) → 1 < b → mendedByte b ≡ 1
 unfolding mendedByte
 byte-mended b h = rw (lt-leb b 1 h)

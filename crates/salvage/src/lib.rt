@@ -1,4 +1,4 @@
-// Salvage after a warm restart (document 02, L6). Each function but `salvage` is a step: it may have a `requires`,
+// Salvage after a warm restart (document 02, L6). Each function but `salvage` is a part: it may have a `requires`,
 // which its callers prove. A first pass counts what would be written, so that ReportFull is known before the first
 // change; a second reads each cell once, lists it and mends it.
 use types::Check;

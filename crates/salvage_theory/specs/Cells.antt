@@ -14,7 +14,7 @@ use Rattle.model.specs.Arena.{bitAt, ownerAt, isFree, isHeld, stateOf, stateAt}
 use Rattle.model.specs.Salvage.{keptOf, mendedTable, mendedByte, mendedHealth, heldFrom, leftHeld}
 use Rattle.types.specs.declared.State.{State}
 use Rattle.types.specs.declared.State.the-variants.{Free, Held, Damaged}
-use Rattle.laws.specs.Salvage.{mended-cons}
+use Rattle.laws.specs.Salvage.{mended-cons, byte-kept}
 use Rattle.history.specs.Salvages.{Mending, keeps, frees, mending}
 use Rattle.history.specs.World.{one, bits}
 use Rattle.history.specs.Tests.{differ, Stands, is-free, is-held, is-damaged, stands, state-held, Status, free, held, undamaged}
@@ -26,7 +26,7 @@ unfolding keptOf stateOf isFree
 kept-free next x = refl
 
 -- the second time nothing changes
-pub kept-again : (next b o x : ℕ) → keptOf next (keptOf next b o b) (keptOf next b o o) (keptOf next b o x) ≡ keptOf next b o x
+kept-again : (next b o x : ℕ) → keptOf next (keptOf next b o b) (keptOf next b o o) (keptOf next b o x) ≡ keptOf next b o x
 kept-again next b o x = go (mending next b o)
   where
     go : Mending next b o → keptOf next (keptOf next b o b) (keptOf next b o o) (keptOf next b o x) ≡ keptOf next b o x
@@ -46,10 +46,6 @@ table-again next (b ∷ o ∷ []) = refl
 table-again next (b ∷ o ∷ w ∷ t) = cons-again next b o w t (table-again next t)
 
 -- ---- a health byte
-
-pub byte-kept : (b : ℕ) → b ≤ 1 → mendedByte b ≡ b
-unfolding mendedByte
-byte-kept b h = rw (le-leb b 1 h)
 
 pub byte-mended : (b : ℕ) → 2 ≤ b → mendedByte b ≡ 1
 unfolding mendedByte

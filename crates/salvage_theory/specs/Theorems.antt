@@ -20,18 +20,18 @@ use Rattle.types.specs.declared.SalvageAnswer.{SalvageAnswer}
 use Rattle.types.specs.declared.SalvageAnswer.the-variants.{Done, BadShape, ReportFull}
 use Rattle.laws.specs.Shape.{Shaped, shaped}
 use Rattle.laws.specs.Words.{state-freed}
-use Rattle.history.specs.World.{World, worldOf, cells, Live, Free, Apart, Sound, step, now}
+use Rattle.history.specs.World.{World, worldOf, cells, Live, Free, Apart, Sound, after-event, now}
 use Rattle.history.specs.Items.{drop-lease, Says, history-of, run}
 use Rattle.history.specs.Statements.{leaves, rescued}
 use Rattle.history.specs.Tests.{differ, state-held, alive, live}
-use Rattle.history.specs.Events.{Fit, fit, keep-step}
+use Rattle.history.specs.Events.{Fit, fit, keep-after}
 use Rattle.history.specs.Logs.{boot-now}
 use Rattle.history.specs.Others.{released-alone}
 use Rattle.history.specs.Salvages.{Came, bad, full, done, came, inside, now-whole, now-owned, now-freed, now-kept}
-use Rattle.laws.specs.Salvage.{length-mended, length-mended-health, waiters-mended}
+use Rattle.laws.specs.Salvage.{length-mended, length-mended-health, waiters-mended, byte-kept}
 use Rattle.salvage_theory.specs.Statements.{answerIn, tableIn, healthIn, listIn, fits, No-room, Bad-shape-exactly, Report-full-exactly, placeIn, oldIn, newIn, Reports, Report-is, Places-are, undone, undoneOf, Rebuilds, Lists, Held-in, Unconfirmed-is, Mends, Mended, Twice, Keeps-boot, Owners-differ, Apart-exactly, Doubled-apart, other, Held-at-start, Goes-on-from, Boot-from-salvage, Counts-from-salvage, Dead-stays-dead, Dead-over-salvages, Apart-from-there, Unconfirmed-alone, Live-over-salvage}
 use Rattle.salvage_theory.specs.Report.{Lines, lines, told, listed, rising, undone-is, changes-none}
-use Rattle.salvage_theory.specs.Cells.{table-again, byte-kept, byte-mended, byte-few, health-twice, byte-in, holds-state, holding, state-holds, Picks, picks, pick-held, pick-listed, pick-rising}
+use Rattle.salvage_theory.specs.Cells.{table-again, byte-mended, byte-few, health-twice, byte-in, holds-state, holding, state-holds, Picks, picks, pick-held, pick-listed, pick-rising}
 use Rattle.salvage_theory.specs.Came.{words-are, was-done, changes-are}
 use Rattle.salvage_theory.specs.Onward as onward
 
@@ -348,12 +348,12 @@ keeps-boot h t g report list = go (came h t g report list)
 pub doubled-apart : Doubled-apart
 doubled-apart w c d s f n p q =
     let x = ap (λ (m : Made (World × Says)). m .seen) (released-alone w c s f p) in
-    let v : leaves w (drop-lease (leaseOf c s (w .head .boot))) ≡ step w (released by-caller c s) = ap (λ (a : World × Says). a .0) x in
+    let v : leaves w (drop-lease (leaseOf c s (w .head .boot))) ≡ after-event w (released by-caller c s) = ap (λ (a : World × Says). a .0) x in
     let fit : Fit w = record { shape = shaped (w .head) (length (w .table)) f } in
     let a = alive (w .head .next) (cellsOf (w .head)) (w .table) (holdOf c s) p in
-    let free : Free (step w (released by-caller c s)) c =
+    let free : Free (after-event w (released by-caller c s)) c =
     (a .in-range, state-freed (w .head .next) (w .table) c (omega (arith, fit .shape .words-are, a .in-range))) in
-    let other = keep-step w (released by-caller c s) (holdOf d s) fit p q (λ e. n (sym (ap (λ (k : Hold). k .cell) e))) in
+    let other = keep-after w (released by-caller c s) (holdOf d s) fit p q (λ e. n (sym (ap (λ (k : Hold). k .cell) e))) in
     (ap (λ (z : World × Says). z .1 .answer) x, rw v free, rw v other)
 
 -- ---- histories that go on from a salvage

@@ -29,7 +29,7 @@ finite-below nan e = refl
 finite-below (inf s) e = refl
 finite-below (fin s m p) e = let z : true ≡ false = e in cc
 
-pub no-nan : (x : Float) → isFinite x ≡ true → T (not (isNan x))
+no-nan : (x : Float) → isFinite x ≡ true → T (not (isNan x))
 unfolding isFinite isNan
 no-nan nan e = let z : false ≡ true = e in absurd (subst T (sym z) tt)
 no-nan (inf s) e = tt
@@ -70,7 +70,7 @@ unfolding ofBits
 finite-bits w = fields-finite (leb 2147483648 w) (w % 2147483648 / 8388608) (w % 8388608) ∙ field-test (w % 2147483648) (omega arith)
 
 -- `f32::from_bits` is defined at such a pattern
-pub pattern-no-nan : (w : ℕ) → finiteBits w ≡ true → T (not (isNan (ofBits binary32 w)))
+pattern-no-nan : (w : ℕ) → finiteBits w ≡ true → T (not (isNan (ofBits binary32 w)))
 pattern-no-nan w e = no-nan (ofBits binary32 w) (finite-bits w ∙ e)
 
 pub from-bits : (w : ℕ) → finiteBits w ≡ true → T (not (nanBits binary32 w))

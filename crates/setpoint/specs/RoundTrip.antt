@@ -11,7 +11,7 @@ use lib.Ieee.Bits.{ofBits-fits}
 use borrow.Author.Tests.{eqb-true}
 use Rattle.choice.specs.Choice.{if_then_else_}
 use Rattle.setpoint.specs.Codec.{hasBody, kindOf, wordOf, bytesOf, bodyOf, encodeOf, finiteBits, settingOf, joinOf, decodeOf}
-use Rattle.setpoint.specs.Float32.{finite-bits, value-back, pattern-back, bits-finite, bits-small}
+use Rattle.setpoint.specs.Float32.{finite-bits, value-back, pattern-back, bits-finite}
 use Rattle.setpoint.specs.declared.Setpoint.{Setpoint}
 use Rattle.setpoint.specs.declared.Setpoint.the-variants.{Pressure, Speed, Valve}
 use Rattle.setpoint.specs.declared.Encoded.the-variants.{Written, NotFinite}
@@ -23,12 +23,6 @@ abbrev pub Held : Setpoint → Type 0
 Held (Pressure x) = T (fits binary32 x)
 Held (Speed n) = n < 4294967296
 Held (Valve b) = Unit
-
-pub word-small : (s : Setpoint) → Held s → wordOf s < 4294967296
-word-small (Pressure x) h = bits-small x h
-word-small (Speed n) h = h
-word-small (Valve true) h = omega arith
-word-small (Valve false) h = omega arith
 
 -- ---- what was written reads back
 

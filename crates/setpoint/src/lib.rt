@@ -1,6 +1,6 @@
 // A setpoint and its five bytes (document 02, L2): a kind byte and four bytes, low byte first. specs/Codec.antt has the
 // rules; specs/RoundTrip.antt proves that they lose nothing, both ways.
-// Functions with a `requires` are steps: `word` is for a setpoint that has a body, which its caller has asked.
+// Functions with a `requires` are parts: `word` is for a setpoint that has a body, which its caller has asked.
 ghost use mathlib.Core.Path.{_≡_};
 ghost use mathlib.Core.Bool.{true};
 ghost use Rattle.setpoint.specs.Codec.{isFinite, hasBody, kindOf, wordOf, bytesOf, encodeOf};

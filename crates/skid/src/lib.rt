@@ -18,7 +18,7 @@ ghost use Rattle.model.specs.Sorted.{acquireSortedOf};
 ghost use Rattle.setpoint.specs.declared.Setpoint.the-variants.{Pressure, Speed, Valve};
 ghost use Rattle.book_rules.specs.Calls.{prepareBookOf, writeSetpointOf, readSetpointOf, readVersionOf};
 ghost use Rattle.wave_rules.specs.Calls.{writeOf, readIntoOf};
-ghost use Rattle.skid_rules.specs.Words.{replyWords, playedWords, crewWords, salvageWords, bookWords, dumpedWords};
+ghost use Rattle.skid_rules.specs.Words.{replyWords, scriptReplyWords, crewWords, salvageWords, bookWords, dumpedWords};
 ghost use Rattle.skid_rules.specs.Words.{undumpedWords, told};
 
 // The number of this interface, which is a part of the name: a program asks for the name that it was compiled with, and
@@ -352,7 +352,7 @@ pub extern "C" fn skid_environment(
     reply: &mut [u64; 15],
 )
     ensures { λ _. ⌜ (now (reply .exit), (now (table .exit), now (health .exit)))
-        ≡ told playedWords (environmentOf (headOf headers buckets next boot) (now (table .entry))
+        ≡ told scriptReplyWords (environmentOf (headOf headers buckets next boot) (now (table .entry))
         (now (health .entry)) (now (script .entry)) place (now (held .entry)) .seen) ⌝ }
 {
     let head = Head {
@@ -362,7 +362,7 @@ pub extern "C" fn skid_environment(
         boot,
     };
     let r = foreign::environment(head, table, health, script, place, held);
-    *reply = skid_words::played_words(r);
+    *reply = skid_words::script_reply_words(r);
 }
 
 // The same call under its other name. It goes through the first, so that the inner call has one caller and is compiled
@@ -381,7 +381,7 @@ pub extern "C" fn skid_environment_for_borrows(
     reply: &mut [u64; 15],
 )
     ensures { λ _. ⌜ (now (reply .exit), (now (table .exit), now (health .exit)))
-        ≡ told playedWords (environmentOf (headOf headers buckets next boot) (now (table .entry))
+        ≡ told scriptReplyWords (environmentOf (headOf headers buckets next boot) (now (table .entry))
         (now (health .entry)) (now (script .entry)) place (now (held .entry)) .seen) ⌝ }
 {
     skid_environment(
@@ -415,7 +415,7 @@ pub extern "C" fn skid_try_lock(
     reply: &mut [u64; 15],
 )
     ensures { λ _. ⌜ (now (reply .exit), (now (table .exit), now (health .exit)))
-        ≡ told playedWords (tryLockOf (headOf headers buckets next boot) (now (table .entry)) (now (health .entry))
+        ≡ told scriptReplyWords (tryLockOf (headOf headers buckets next boot) (now (table .entry)) (now (health .entry))
         (now (script .entry)) place (now (held .entry)) cell .seen) ⌝ }
 {
     let head = Head {
@@ -425,7 +425,7 @@ pub extern "C" fn skid_try_lock(
         boot,
     };
     let r = lock::try_lock(head, table, health, script, place, held, cell);
-    *reply = skid_words::played_words(r);
+    *reply = skid_words::script_reply_words(r);
 }
 
 // The same call under its other name, likewise.
@@ -444,7 +444,7 @@ pub extern "C" fn skid_other_mutex_preserves_leases(
     reply: &mut [u64; 15],
 )
     ensures { λ _. ⌜ (now (reply .exit), (now (table .exit), now (health .exit)))
-        ≡ told playedWords (tryLockOf (headOf headers buckets next boot) (now (table .entry)) (now (health .entry))
+        ≡ told scriptReplyWords (tryLockOf (headOf headers buckets next boot) (now (table .entry)) (now (health .entry))
         (now (script .entry)) place (now (held .entry)) cell .seen) ⌝ }
 {
     skid_try_lock(
@@ -481,7 +481,7 @@ pub extern "C" fn skid_transactional_try_lock_bucket(
     reply: &mut [u64; 15],
 )
     ensures { λ _. ⌜ (now (reply .exit), (now (table .exit), now (health .exit)))
-        ≡ told playedWords (transactionalOf (headOf headers buckets next boot) (now (table .entry))
+        ≡ told scriptReplyWords (transactionalOf (headOf headers buckets next boot) (now (table .entry))
         (now (health .entry)) (now (registry .entry)) (now (script .entry)) place (now (held .entry)) binding
         bucket .seen) ⌝ }
 {
@@ -502,7 +502,7 @@ pub extern "C" fn skid_transactional_try_lock_bucket(
         binding,
         bucket,
     );
-    *reply = skid_words::played_words(r);
+    *reply = skid_words::script_reply_words(r);
 }
 
 // 7 ends it in each attempt's two readings of the health. 4,096 Busy attempts are refused with 11 and the last one's
@@ -524,7 +524,7 @@ pub extern "C" fn skid_acquire_index_bucket(
     reply: &mut [u64; 15],
 )
     ensures { λ _. ⌜ (now (reply .exit), (now (table .exit), now (health .exit)))
-        ≡ told playedWords (acquireBucketOf (headOf headers buckets next boot) (now (table .entry))
+        ≡ told scriptReplyWords (acquireBucketOf (headOf headers buckets next boot) (now (table .entry))
         (now (health .entry)) (now (registry .entry)) (now (script .entry)) place (now (held .entry)) binding
         bucket .seen) ⌝ }
 {
@@ -545,7 +545,7 @@ pub extern "C" fn skid_acquire_index_bucket(
         binding,
         bucket,
     );
-    *reply = skid_words::played_words(r);
+    *reply = skid_words::script_reply_words(r);
 }
 
 // Any lease with another boot number, or that is not live, or stands twice, refuses the whole list, nothing released.
@@ -563,7 +563,7 @@ pub extern "C" fn skid_release_all(
     reply: &mut [u64; 15],
 )
     ensures { λ _. ⌜ (now (reply .exit), (now (table .exit), now (health .exit)))
-        ≡ told playedWords (releaseAllOf (headOf headers buckets next boot) (now (table .entry))
+        ≡ told scriptReplyWords (releaseAllOf (headOf headers buckets next boot) (now (table .entry))
         (now (health .entry)) (now (script .entry)) place (now (leases .entry)) .seen) ⌝ }
 {
     let head = Head {
@@ -573,7 +573,7 @@ pub extern "C" fn skid_release_all(
         boot,
     };
     let r = release::release_all(head, table, health, script, place, leases);
-    *reply = skid_words::played_words(r);
+    *reply = skid_words::script_reply_words(r);
 }
 
 // All keys or none, three words a grant; a refusal leaves the grant buffer as it was.
@@ -594,7 +594,7 @@ pub extern "C" fn skid_acquire_index_locks(
     reply: &mut [u64; 15],
 )
     ensures { λ _. ⌜ (now (reply .exit), (now (table .exit), (now (health .exit), now (grants .exit))))
-        ≡ told playedWords (acquireLocksOf (headOf headers buckets next boot) (now (table .entry))
+        ≡ told scriptReplyWords (acquireLocksOf (headOf headers buckets next boot) (now (table .entry))
         (now (health .entry)) (now (registry .entry)) (now (script .entry)) place (now (held .entry))
         (now (keys .entry)) (now (grants .entry)) .seen) ⌝ }
 {
@@ -615,7 +615,7 @@ pub extern "C" fn skid_acquire_index_locks(
         keys,
         grants,
     );
-    *reply = skid_words::played_words(r);
+    *reply = skid_words::script_reply_words(r);
 }
 
 // Keys in any order (document 02, L4), all or none. Each distinct cell is locked once, keys of one cell share its
@@ -637,7 +637,7 @@ pub extern "C" fn skid_acquire_sorted_locks(
     reply: &mut [u64; 15],
 )
     ensures { λ _. ⌜ (now (reply .exit), (now (table .exit), (now (health .exit), now (grants .exit))))
-        ≡ told playedWords (acquireSortedOf (headOf headers buckets next boot) (now (table .entry))
+        ≡ told scriptReplyWords (acquireSortedOf (headOf headers buckets next boot) (now (table .entry))
         (now (health .entry)) (now (registry .entry)) (now (script .entry)) place (now (held .entry))
         (now (keys .entry)) (now (grants .entry)) .seen) ⌝ }
 {
@@ -658,7 +658,7 @@ pub extern "C" fn skid_acquire_sorted_locks(
         keys,
         grants,
     );
-    *reply = skid_words::played_words(r);
+    *reply = skid_words::script_reply_words(r);
 }
 
 // ---- the crew

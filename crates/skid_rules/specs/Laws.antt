@@ -18,7 +18,7 @@ use Rattle.types.specs.declared.SalvageReply.{SalvageReply}
 use Rattle.setpoint.specs.declared.Setpoint.{Setpoint}
 use Rattle.book_rules.specs.Layout.{newestAt}
 use Rattle.book_rules.specs.Calls.{prepareBookOf, writeSetpointOf, readSetpointOf}
-use Rattle.book_rules.specs.Outcomes.{Prepared, was-prepared, not-prepared, preparing-is, Outcome, done, full, refused, writing-is, bodyTold, told-whole}
+use Rattle.book_rules.specs.Outcomes.{Prepared, was-prepared, not-prepared, preparing-is, Outcome, done, full, refused, writing-is, bodyRead, body-read}
 use Rattle.book_rules.specs.declared.BookAnswer.{BookAnswer}
 use Rattle.skid_rules.specs.Words.{busyWords, answerWords, resultWords, eachOf, crewWords, salvagedWords, salvageWords}
 
@@ -80,22 +80,22 @@ crew-laid r ws e =
     (ap (λ (a : List ℕ). r .head .headers ∷ r .head .buckets ∷ r .head .next ∷ r .head .boot ∷ 0 ∷ 0 ∷ 0 ∷ 0 ∷ 0 ∷ (a ++ (r .moving ∷ r .idle ∷ (eachOf 16 0 (r .taken) ++ eachOf 16 0 (r .released)))))
     (six (r .answer)))
 
--- what a preparation and a write answer is no setting, so its words ask for nothing; of a read of a version it is `told-whole`, and so of the newest
-pub prepared-whole : (a : BookAnswer) (book b : List ℕ) (h : Head) → (a, book) ≡ prepareBookOf h b → bodyTold a ≡ true
-prepared-whole a book b h e = ap (λ (o : BookAnswer × List ℕ). bodyTold (o .0)) e ∙ go (prepareBookOf h b) (preparing-is h b)
+-- what a preparation and a write answer is no setting, so its words ask for nothing; of a read of a version it is `body-read`, and so of the newest
+pub prepared-whole : (a : BookAnswer) (book b : List ℕ) (h : Head) → (a, book) ≡ prepareBookOf h b → bodyRead a ≡ true
+prepared-whole a book b h e = ap (λ (o : BookAnswer × List ℕ). bodyRead (o .0)) e ∙ go (prepareBookOf h b) (preparing-is h b)
   where
-    go : (o : BookAnswer × List ℕ) → Prepared h b o → bodyTold (o .0) ≡ true
+    go : (o : BookAnswer × List ℕ) → Prepared h b o → bodyRead (o .0) ≡ true
     go _ (was-prepared fits fine) = refl
     go _ (not-prepared r) = refl
 
-pub written-whole : (a : BookAnswer) (book t b : List ℕ) (h : Head) (slot : ℕ) (l : Lease) (s : Setpoint) → (a, book) ≡ writeSetpointOf h t b slot l s → bodyTold a ≡ true
-written-whole a book t b h slot l s e = ap (λ (o : BookAnswer × List ℕ). bodyTold (o .0)) e ∙ go (writeSetpointOf h t b slot l s) (writing-is h t b slot l s)
+pub written-whole : (a : BookAnswer) (book t b : List ℕ) (h : Head) (slot : ℕ) (l : Lease) (s : Setpoint) → (a, book) ≡ writeSetpointOf h t b slot l s → bodyRead a ≡ true
+written-whole a book t b h slot l s e = ap (λ (o : BookAnswer × List ℕ). bodyRead (o .0)) e ∙ go (writeSetpointOf h t b slot l s) (writing-is h t b slot l s)
   where
-    go : (o : BookAnswer × List ℕ) → Outcome h t b slot l s o → bodyTold (o .0) ≡ true
+    go : (o : BookAnswer × List ℕ) → Outcome h t b slot l s o → bodyRead (o .0) ≡ true
     go _ (done claim room) = refl
     go _ (full claim none) = refl
     go _ (refused r other damaged claim) = refl
 
-pub newest-whole : (a : BookAnswer) (h : Head) (b : List ℕ) (slot : ℕ) → a ≡ readSetpointOf h b slot → bodyTold a ≡ true
+pub newest-whole : (a : BookAnswer) (h : Head) (b : List ℕ) (slot : ℕ) → a ≡ readSetpointOf h b slot → bodyRead a ≡ true
 unfolding readSetpointOf
-newest-whole a h b slot e = told-whole a h b slot (newestAt b slot) e
+newest-whole a h b slot e = body-read a h b slot (newestAt b slot) e

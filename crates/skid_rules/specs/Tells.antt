@@ -21,7 +21,7 @@ use Rattle.types.specs.declared.Check.{Check}
 use Rattle.types.specs.declared.Check.the-variants.{Fine, Fault}
 use Rattle.types.specs.declared.CrewReply.{CrewReply}
 use Rattle.types.specs.declared.Head.{Head}
-use Rattle.types.specs.declared.Played.{Played}
+use Rattle.types.specs.declared.ScriptReply.{ScriptReply}
 use Rattle.types.specs.declared.Refusal.{Refusal}
 use Rattle.types.specs.declared.Reply.{Reply}
 use Rattle.types.specs.declared.SalvageAnswer.{SalvageAnswer}
@@ -31,7 +31,7 @@ use Rattle.setpoint.specs.Codec.{hasBody, settingOf, decodeOf}
 use Rattle.setpoint.specs.RoundTrip.{Held, setting-back, setting-means, join-small}
 use Rattle.setpoint.specs.declared.Decoded.{Decoded}
 use Rattle.setpoint.specs.declared.Decoded.the-variants as decoded
-use Rattle.book_rules.specs.Calls.{toldOf, lineTold, readVersionOf, readSetpointOf}
+use Rattle.book_rules.specs.Calls.{readAs, lineRead, readVersionOf, readSetpointOf}
 use Rattle.book_rules.specs.Layout.{fiveAt, placeAt, newestAt, settingAt}
 use Rattle.book_rules.specs.Rules.{firstFault, judgeBook, readRules}
 use Rattle.book_rules.specs.declared.BookAnswer.{BookAnswer}
@@ -45,7 +45,7 @@ use Rattle.wave_rules.specs.declared.Dumped.the-variants as dumped
 use Rattle.wave_rules.specs.declared.Undumped.{Undumped}
 use Rattle.wave_rules.specs.declared.Undumped.the-variants as undumped
 use Rattle.skid_rules.specs.Laws.{six}
-use Rattle.skid_rules.specs.Words.{busyWords, answerWords, replyWords, playedWords, eachOf, crewWords, salvagedWords, salvageWords, bookNumber, bookWords, dumpedWords, undumpedWords, told}
+use Rattle.skid_rules.specs.Words.{busyWords, answerWords, replyWords, scriptReplyWords, eachOf, crewWords, salvagedWords, salvageWords, bookNumber, bookWords, dumpedWords, undumpedWords, told}
 
 -- ---- the way back
 
@@ -73,8 +73,8 @@ answer-back (Refused r) = ap Refused (refusal-is r)
 answer-back (RefusedAt r p) = ap (λ (x : Refusal). RefusedAt x p) (refusal-is r)
 
 -- the reply that fifteen words tell
-abbrev pub playedIn : List ℕ → Played
-playedIn ws =
+abbrev pub scriptReplyIn : List ℕ → ScriptReply
+scriptReplyIn ws =
     record {
       head = headOf (getD ws 0 0) (getD ws 1 0) (getD ws 2 0) (getD ws 3 0);
       place = getD ws 4 0;
@@ -83,13 +83,13 @@ playedIn ws =
     }
 
 abbrev pub replyIn : List ℕ → Reply
-replyIn ws = record { head = playedIn ws .head; counts = playedIn ws .counts; answer = playedIn ws .answer }
+replyIn ws = record { head = scriptReplyIn ws .head; counts = scriptReplyIn ws .counts; answer = scriptReplyIn ws .answer }
 
 -- the crew's reply that forty-nine words tell
 abbrev pub crewIn : List ℕ → CrewReply
 crewIn ws =
     record {
-      head = playedIn ws .head;
+      head = scriptReplyIn ws .head;
       moving = getD ws 15 0;
       idle = getD ws 16 0;
       taken = take 16 (drop 17 ws);
@@ -97,9 +97,9 @@ crewIn ws =
       answer = answerIn (take 6 (drop 9 ws));
     }
 
-played-back : (r : Played) → playedIn (playedWords r) ≡ r
-unfolding playedWords
-played-back r = ap (λ (a : Answer). record { head = r .head; place = r .place; counts = r .counts; answer = a }) (answer-back (r .answer))
+script-reply-back : (r : ScriptReply) → scriptReplyIn (scriptReplyWords r) ≡ r
+unfolding scriptReplyWords
+script-reply-back r = ap (λ (a : Answer). record { head = r .head; place = r .place; counts = r .counts; answer = a }) (answer-back (r .answer))
 
 reply-back : (r : Reply) → replyIn (replyWords r) ≡ r
 unfolding replyWords
@@ -110,8 +110,8 @@ reply-back r = ap (λ (a : Answer). record { head = r .head; counts = r .counts;
 pub reply-tells : (r s : Reply) → replyWords r ≡ replyWords s → r ≡ s
 reply-tells r s e = sym (reply-back r) ∙ ap replyIn e ∙ reply-back s
 
-pub played-tells : (r s : Played) → playedWords r ≡ playedWords s → r ≡ s
-played-tells r s e = sym (played-back r) ∙ ap playedIn e ∙ played-back s
+pub script-reply-tells : (r s : ScriptReply) → scriptReplyWords r ≡ scriptReplyWords s → r ≡ s
+script-reply-tells r s e = sym (script-reply-back r) ∙ ap scriptReplyIn e ∙ script-reply-back s
 
 -- the crew's, where each reply has its two sixteens, as every reply of the call has
 pub record Sixteen (r : CrewReply) : Type 0 where
@@ -227,11 +227,11 @@ book-back (book.Setting s v) w = ap (λ (d : Decoded). settingIn d v) (setting-b
 book-back (book.Refused r) w = ap book.Refused (fault-back r)
 
 -- what a read tells is so, since a book's bytes are below 256
-line-whole : (b : List ℕ) (k v : ℕ) → ((j : ℕ) → getD b j 0 < 256) → Whole (lineTold b k v)
-unfolding lineTold settingAt decodeOf fiveAt
+line-whole : (b : List ℕ) (k v : ℕ) → ((j : ℕ) → getD b j 0 < 256) → Whole (lineRead b k v)
+unfolding lineRead settingAt decodeOf fiveAt
 line-whole b k v bytes = go (settingAt b (placeAt b k)) refl
   where
-    go : (d : Decoded) → settingAt b (placeAt b k) ≡ d → Whole (toldOf d v)
+    go : (d : Decoded) → settingAt b (placeAt b k) ≡ d → Whole (readAs d v)
     go (decoded.Setting s) e =
         let p = placeAt b k in
         let m = setting-means _ _ s (join-small _ _ _ _ (bytes (p + 1)) (bytes (p + 2)) (bytes (p + 3)) (bytes (p + 4))) e in
@@ -245,7 +245,7 @@ judged-whole checked.Fine a w = w
 pub version-whole : (h : Head) (b : List ℕ) (slot w : ℕ) → ((j : ℕ) → getD b j 0 < 256) → Whole (readVersionOf h b slot w)
 unfolding readVersionOf
 version-whole h b slot w bytes =
-    judged-whole (firstFault (readRules h b slot w)) (lineTold b (4 * slot + (newestAt b slot - w)) w) (line-whole b (4 * slot + (newestAt b slot - w)) w bytes)
+    judged-whole (firstFault (readRules h b slot w)) (lineRead b (4 * slot + (newestAt b slot - w)) w) (line-whole b (4 * slot + (newestAt b slot - w)) w bytes)
 
 pub read-whole : (h : Head) (b : List ℕ) (slot : ℕ) → ((j : ℕ) → getD b j 0 < 256) → Whole (readSetpointOf h b slot)
 unfolding readSetpointOf

@@ -9,7 +9,7 @@ use Rattle.types.specs.declared.Answer.the-variants.{Done, Cell, Granted, AllGr
 use Rattle.types.specs.declared.Counts.{Counts}
 use Rattle.types.specs.declared.CrewReply.{CrewReply}
 use Rattle.types.specs.declared.Head.{Head}
-use Rattle.types.specs.declared.Played.{Played}
+use Rattle.types.specs.declared.ScriptReply.{ScriptReply}
 use Rattle.types.specs.declared.Refusal.{Refusal}
 use Rattle.types.specs.declared.Reply.{Reply}
 use Rattle.types.specs.declared.SalvageAnswer.{SalvageAnswer}
@@ -56,8 +56,8 @@ unfoldable pub replyWords : Reply → List ℕ
 replyWords r = resultWords (r .head) 0 (r .counts) (r .answer)
 
 -- of a call with a script
-unfoldable pub playedWords : Played → List ℕ
-playedWords r = resultWords (r .head) (r .place) (r .counts) (r .answer)
+unfoldable pub scriptReplyWords : ScriptReply → List ℕ
+scriptReplyWords r = resultWords (r .head) (r .place) (r .counts) (r .answer)
 
 -- `left` numbers of a list, from place m on
 unfoldable pub eachOf : ℕ → ℕ → List ℕ → List ℕ

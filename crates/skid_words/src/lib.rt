@@ -8,11 +8,11 @@ use types::Counts;
 use types::CrewReply;
 use types::Head;
 use types::Lease;
-use types::Played;
 use types::Refusal;
 use types::Reply;
 use types::SalvageAnswer;
 use types::SalvageReply;
+use types::ScriptReply;
 use wave_rules::Dumped;
 use wave_rules::Undumped;
 ghost use mathlib.Core.Path.{_≡_};
@@ -21,8 +21,9 @@ ghost use mathlib.Core.Bool.{true};
 ghost use lib.Seq.{sets};
 ghost use Rattle.types.specs.declared.Answer.the-variants.{Granted};
 ghost use Rattle.model.specs.Refusals.{refusalReason};
-ghost use Rattle.book_rules.specs.Outcomes.{bodyTold};
-ghost use Rattle.skid_rules.specs.Words.{busyWords, refusalWords, answerWords, resultWords, replyWords, playedWords};
+ghost use Rattle.book_rules.specs.Outcomes.{bodyRead};
+ghost use Rattle.skid_rules.specs.Words.{busyWords, refusalWords, answerWords, resultWords};
+ghost use Rattle.skid_rules.specs.Words.{replyWords, scriptReplyWords};
 ghost use Rattle.skid_rules.specs.Words.{eachOf, crewWords, salvagedWords, salvageWords, bookNumber, bookWords};
 ghost use Rattle.skid_rules.specs.Words.{dumpedWords, undumpedWords};
 
@@ -151,8 +152,8 @@ pub fn reply_words(r: Reply) -> [u64; 15]
 }
 
 // Of a call with a script.
-pub fn played_words(r: Played) -> [u64; 15]
-    ensures { λ w. ⌜ w ≡ playedWords r ⌝ }
+pub fn script_reply_words(r: ScriptReply) -> [u64; 15]
+    ensures { λ w. ⌜ w ≡ scriptReplyWords r ⌝ }
 {
     let head = r.head;
     let counts = r.counts;
@@ -247,7 +248,7 @@ fn book_number(refusal: BookRefusal) -> u64
 
 // Of the setpoint book. A setting has a body, as every read's has: only such a setpoint has a word.
 pub fn book_words(answer: BookAnswer) -> [u64; 4]
-    requires { ⌜ bodyTold answer ≡ true ⌝ }
+    requires { ⌜ bodyRead answer ≡ true ⌝ }
     ensures { λ w. ⌜ w ≡ bookWords answer ⌝ }
 {
     match answer {

@@ -1,4 +1,4 @@
--- The leases of the distinct cells handed back, one for each key; and multi-lock's steps with a buffer of the call's own.
+-- The leases of the distinct cells handed back, one for each key; and multi-lock's parts with a buffer of the call's own.
 use Prim.Native.Nat.{ℕ, zero, suc, _+_, _*_, _/_, _<_, _≤_}
 use mathlib.Core.Path.{_≡_, refl, ap, _∙_}
 use mathlib.Core.List.{List, [], _∷_, _++_}
@@ -12,7 +12,7 @@ use Rattle.choice.specs.Choice.{if_then_else_}
 use Rattle.model.specs.Arena.{holdOf, holdsOf, wordsOf}
 use Rattle.model.specs.Foreign.{Setting, protecting}
 use Rattle.model.specs.Lock.{Locks, afterKey, rollbackOf, retryOf, attemptLimit, noneYet, noHold, bindingAt, bucketAt, locksOf}
-use Rattle.model.specs.Calls.{played, starting, given}
+use Rattle.model.specs.Calls.{scriptReply, starting, given}
 use Rattle.model.specs.Sorted.{cellsAsked, cellsSorted, sortedKeys, holdOn, sharedOf, handedBack, askedFirst, sortedLocksOf}
 use Rattle.types.specs.declared.Answer.{Answer}
 use Rattle.types.specs.declared.Answer.the-variants.{Done, Cell, Granted, AllGranted, Busy, Refused, RefusedAt}
@@ -21,7 +21,7 @@ use Rattle.types.specs.declared.Head.{Head}
 use Rattle.types.specs.declared.Hold.{Hold}
 use Rattle.types.specs.declared.Outcome.{Outcome}
 use Rattle.types.specs.declared.Outcome.the-variants as outcome
-use Rattle.types.specs.declared.Played.{Played}
+use Rattle.types.specs.declared.ScriptReply.{ScriptReply}
 use Rattle.types.specs.declared.Run.{Run}
 use Rattle.laws.specs.Checks.{holds-at, holds-end}
 use Rattle.sorted.specs.Marks.{markOf, LeaseMarked, found-from}
@@ -69,9 +69,9 @@ handedIn boot (Busy why) asked leases grants = grants
 handedIn boot (Refused r) asked leases grants = grants
 handedIn boot (RefusedAt r q) asked leases grants = grants
 
--- the caller's result and buffer, from what multi-lock's steps came to with a buffer of their own
-abbrev pub backOf : Head → Ended → List ℕ → List ℕ → List ℕ → List ℕ → Played × List ℕ
-backOf h ended asked sorted leases grants = (played h (ended .run) (askedFirst (ended .answer) asked sorted), handedIn (h .boot) (ended .answer) asked leases grants)
+-- the caller's result and buffer, from what multi-lock's parts came to with a buffer of their own
+abbrev pub backOf : Head → Ended → List ℕ → List ℕ → List ℕ → List ℕ → ScriptReply × List ℕ
+backOf h ended asked sorted leases grants = (scriptReply h (ended .run) (askedFirst (ended .answer) asked sorted), handedIn (h .boot) (ended .answer) asked leases grants)
 
 -- a refusal's position is one of these
 abbrev pub Placed : ℕ → Answer → Type 0
@@ -83,7 +83,7 @@ Placed n (Busy why) = Unit
 Placed n (Refused r) = Unit
 Placed n (RefusedAt r q) = q < n
 
--- ---- multi-lock's steps with another buffer: a refusal hands it back, a grant writes all of it
+-- ---- multi-lock's parts with another buffer: a refusal hands it back, a grant writes all of it
 
 abbrev kept : Answer → List ℕ → List ℕ → List ℕ
 kept Done own other = other
@@ -131,8 +131,8 @@ module _ (e : Setting) (buckets boot : ℕ) (registry keys : List ℕ) (a b : Li
 
 -- ---- the call's end
 
--- what multi-lock's steps, with a buffer of their own, come to for the caller
-abbrev pub finishedOf : Head → Locks → List ℕ → List ℕ → List ℕ → Played × (List ℕ × (List ℕ × List ℕ))
+-- what multi-lock's parts, with a buffer of their own, come to for the caller
+abbrev pub finishedOf : Head → Locks → List ℕ → List ℕ → List ℕ → ScriptReply × (List ℕ × (List ℕ × List ℕ))
 finishedOf h o asked sorted grants =
     let k = backOf h (o .0) asked sorted (o .1 .1 .1) grants in
     (k .0, (o .1 .0, (o .1 .1 .0, k .1)))
@@ -157,5 +157,5 @@ sorted-finished h t g registry script place held keys grants own =
     let n = length (cellsSorted (h .buckets) registry keys) in
     let o = locksOf n 0 e (h .buckets) (h .boot) registry (sortedKeys (h .buckets) registry keys) [] (starting h place) t g own .seen in
     rw (locks-swapped e (h .buckets) (h .boot) registry (sortedKeys (h .buckets) registry keys) own grants n 0 [] (starting h place) t g)
-    (ap (λ (z : List ℕ). (played h (o .0 .run) (askedFirst (o .0 .answer) (cellsAsked (h .buckets) registry keys) (cellsSorted (h .buckets) registry keys)), (o .1 .0, (o .1 .1 .0, z))))
+    (ap (λ (z : List ℕ). (scriptReply h (o .0 .run) (askedFirst (o .0 .answer) (cellsAsked (h .buckets) registry keys) (cellsSorted (h .buckets) registry keys)), (o .1 .0, (o .1 .1 .0, z))))
     (handed-kept (h .boot) (o .0 .answer) (cellsAsked (h .buckets) registry keys) (o .1 .1 .1) grants))

@@ -15,7 +15,7 @@ use Rattle.model.specs.Sorted.{cellsAsked, cellsSorted, sortedKeys, firstKey, j
 use Rattle.types.specs.declared.Ended.{Ended}
 use Rattle.types.specs.declared.Head.{Head}
 use Rattle.types.specs.declared.KeyCheck.the-variants as key
-use Rattle.types.specs.declared.Played.{Played}
+use Rattle.types.specs.declared.ScriptReply.{ScriptReply}
 use Rattle.types.specs.declared.Run.{Run}
 use Rattle.laws.specs.Sorting.{sorted-is}
 use Rattle.foreign.specs.declared.Scope.{Scope}
@@ -26,7 +26,7 @@ use Rattle.sorted.specs.Order.{KeysFine, keys-fine, Ordered, length-cell
 use Rattle.sorted.specs.Back.{Placed, locks-placed, backOf, finishedOf, sorted-finished}
 
 -- the checks by position, and then the steps
-abbrev pub checkedOf : Head → List ℕ → List ℕ → List ℕ → List ℕ → ℕ → List ℕ → List ℕ → List ℕ → Made (Played × (List ℕ × (List ℕ × List ℕ)))
+abbrev pub checkedOf : Head → List ℕ → List ℕ → List ℕ → List ℕ → ℕ → List ℕ → List ℕ → List ℕ → Made (ScriptReply × (List ℕ × (List ℕ × List ℕ)))
 checkedOf h t g registry script place held keys grants =
     judgeAt (firstKey (countIn keys) 0 h registry keys) (λ r p. gives (refusedKeyAtOnce h place r p, (t, (g, grants))))
     (sortedLocksOf h t g registry script place held keys grants)
@@ -54,7 +54,7 @@ module _ (h : Head) (registry keys : List ℕ) (m : ℕ) (asked sorted chosen : 
       let n = length-cells (countIn keys) 0 (h .buckets) registry keys in
       rw (o .chosen-are, keys-among keys (cellsAsked (h .buckets) registry keys) (cellsSorted (h .buckets) registry keys) i b) (f .bound _ (omega (arith, k, n)))
 
-  -- so multi-lock's steps may be given them
+  -- so multi-lock's parts may be given them
   pub sorted-bound : (s : Scope) (words bytes script place grants : ℕ) → s ≡ scopeOf h script → LocksFine h words bytes script place registry keys grants → KeysFine h registry keys
       → Bound s words bytes script registry (take (2 * m) chosen)
   sorted-bound s words bytes script place grants e l f = record { key = fine-bound s h words bytes script place registry keys grants e l .key; bound = chosen-bound f }
@@ -75,9 +75,9 @@ front-length front rest k e = sym (ap length (take-at front rest k e) ∙ e)
 
 -- ---- the end
 
--- multi-lock's steps over the sorted keys, with the buffer `own`, and the call's end after them
+-- multi-lock's parts over the sorted keys, with the buffer `own`, and the call's end after them
 pub sorted-ends : (h : Head) (t g registry script : List ℕ) (place : ℕ) (held keys grants : List ℕ) (s : Scope) (start : Run) (m : ℕ) (asked sorted chosen own : List ℕ)
-    (ended : Ended) (u w leases : List ℕ) (result : Played) (after : List ℕ)
+    (ended : Ended) (u w leases : List ℕ) (result : ScriptReply) (after : List ℕ)
     → s ≡ scopeOf h (length script) → start ≡ starting h place → Ordered (h .buckets) registry keys m asked sorted chosen
     → (ended, (u, (w, leases))) ≡ locksOf m 0 (inScope s script (holdsOf held)) (s .buckets) (s .boot) registry (take (2 * m) chosen) [] start t g own .seen
     → (result, after) ≡ backOf h ended (take (countIn keys) asked) (take m sorted) leases grants
@@ -88,7 +88,7 @@ sorted-ends h t g registry script place held keys grants s start m asked sorted 
     q ∙ rw (locks-given s h script e m (holdsOf held) registry (take (2 * m) chosen) start t g own, r, o .chosen-are, ← o .count-is) in
     let d : (result, after) ≡ backOf h ended (cellsAsked (h .buckets) registry keys) (cellsSorted (h .buckets) registry keys) leases grants =
     b ∙ ap (λ (z : List ℕ). backOf h ended z (take m sorted) leases grants) (o .asked-are) ∙ ap (λ (z : List ℕ). backOf h ended (cellsAsked (h .buckets) registry keys) z leases grants) (o .sorted-are) in
-    ap (λ (z : Played × List ℕ). (z .0, (u, (w, z .1)))) d
+    ap (λ (z : ScriptReply × List ℕ). (z .0, (u, (w, z .1)))) d
     ∙ ap (λ (z : Locks). finishedOf h z (cellsAsked (h .buckets) registry keys) (cellsSorted (h .buckets) registry keys) grants) k
     ∙ sym (sorted-finished h t g registry script place held keys grants own)
 

@@ -1,6 +1,6 @@
 // What was locked, for the caller: one lease for each key, in the caller's order, or the refusal's position. The leases
 // of one call have one boot number, the head's.
-// Functions with a `requires` are steps: calls have tested the shape, and a step tests nothing twice.
+// Functions with a `requires` are parts: calls have tested the shape, and a part tests nothing twice.
 // Nothing here is reached from outside the crate.
 use crate::marks::lease_marks;
 use crate::order::first_asking;
@@ -8,7 +8,7 @@ use types::Answer;
 use types::Ended;
 use types::Head;
 use types::Hold;
-use types::Played;
+use types::ScriptReply;
 ghost use mathlib.Core.Path.{_≡_};
 ghost use Prim.Native.Nat.{_*_};
 ghost use lib.ListN.{length, drop};
@@ -61,7 +61,7 @@ fn share(boot: u32, asked: &[u32], leases: &[u32], grants: &mut [u32])
     }
 }
 
-// The caller's buffer and answer, from what multi-lock's steps came to.
+// The caller's buffer and answer, from what multi-lock's parts came to.
 pub fn finish(
     head: Head,
     ended: Ended,
@@ -69,7 +69,7 @@ pub fn finish(
     sorted: &[u32],
     leases: &[u32],
     grants: &mut [u32],
-) -> Played
+) -> ScriptReply
     requires { ⌜ (length (now grants) ≡ 3 * length (now asked)) × Placed (length (now sorted)) (ended .answer) ⌝ }
     ensures { λ r. ⌜ (r, now (grants .exit)) ≡ backOf head ended (now (asked .entry)) (now (sorted .entry))
         (now (leases .entry)) (now (grants .entry)) ⌝ }
@@ -79,16 +79,16 @@ pub fn finish(
     match answer {
         Answer::AllGranted => {
             share(head.boot, asked, leases, grants);
-            foreign::play(head, run, Answer::AllGranted)
+            foreign::script_reply(head, run, Answer::AllGranted)
         }
         Answer::RefusedAt(refusal, q) => {
             let p = first_asking(asked, 0, sorted[q]);
-            foreign::play(head, run, Answer::RefusedAt(refusal, p))
+            foreign::script_reply(head, run, Answer::RefusedAt(refusal, p))
         }
-        Answer::Done => foreign::play(head, run, Answer::Done),
-        Answer::Cell(cell) => foreign::play(head, run, Answer::Cell(cell)),
-        Answer::Granted(lease) => foreign::play(head, run, Answer::Granted(lease)),
-        Answer::Busy(why) => foreign::play(head, run, Answer::Busy(why)),
-        Answer::Refused(refusal) => foreign::play(head, run, Answer::Refused(refusal)),
+        Answer::Done => foreign::script_reply(head, run, Answer::Done),
+        Answer::Cell(cell) => foreign::script_reply(head, run, Answer::Cell(cell)),
+        Answer::Granted(lease) => foreign::script_reply(head, run, Answer::Granted(lease)),
+        Answer::Busy(why) => foreign::script_reply(head, run, Answer::Busy(why)),
+        Answer::Refused(refusal) => foreign::script_reply(head, run, Answer::Refused(refusal)),
     }
 }

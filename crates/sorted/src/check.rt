@@ -1,5 +1,5 @@
 // The checks of the keys that go by position: "header before bucket".
-// Functions with a `requires` are steps: calls have tested the shape, and a step tests nothing twice.
+// Functions with a `requires` are parts: calls have tested the shape, and a part tests nothing twice.
 // Nothing here is reached from outside the crate.
 use types::Check;
 use types::Head;

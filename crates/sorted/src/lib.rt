@@ -1,7 +1,7 @@
 // Multi-lock with keys in any order, and doubles (document 02, L4): `acquire_sorted_locks`.
-// The keys are resolved to cells and sorted in arrays of the call's own; then multi-lock's own steps lock the sorted
+// The keys are resolved to cells and sorted in arrays of the call's own; then multi-lock's own parts lock the sorted
 // keys, and each key is handed the lease of its cell.
-// Functions with a `requires` are steps: calls have tested the shape, and a step tests nothing twice.
+// Functions with a `requires` are parts: calls have tested the shape, and a part tests nothing twice.
 mod back;
 mod check;
 mod marks;
@@ -15,8 +15,8 @@ use types::Check;
 use types::Counts;
 use types::Head;
 use types::KeyCheck;
-use types::Played;
 use types::Refusal;
+use types::ScriptReply;
 ghost use mathlib.Core.Path.{_≡_};
 ghost use lib.ListN.{length};
 ghost use Rattle.model.specs.Sorted.{refusedKeyAtOnce, sortedLocksOf, acquireSortedOf};
@@ -25,10 +25,10 @@ ghost use Rattle.sorted.specs.Order.{KeysFine};
 ghost use Rattle.sorted.specs.Steps.{checkedOf};
 
 // A refusal at a position, before any step.
-fn refuse_key_at_once(head: Head, place: usize, refusal: Refusal, p: usize) -> Played
+fn refuse_key_at_once(head: Head, place: usize, refusal: Refusal, p: usize) -> ScriptReply
     ensures { λ r. ⌜ r ≡ refusedKeyAtOnce head place refusal p ⌝ }
 {
-    Played {
+    ScriptReply {
         head,
         place,
         counts: Counts {
@@ -55,7 +55,7 @@ fn lease_room() -> [u32; 192]
     [0; 192]
 }
 
-// The steps of a call whose checks are fine.
+// What a call does whose checks are fine.
 fn sorted_once(
     head: Head,
     table: &mut [u32],
@@ -66,7 +66,7 @@ fn sorted_once(
     held: &[u32],
     keys: &[u32],
     grants: &mut [u32],
-) -> Played
+) -> ScriptReply
     requires { ⌜ LocksFine head (length (now table)) (length (now health)) (length (now script)) place
         (now registry) (now keys) (length (now grants)) × KeysFine head (now registry) (now keys) ⌝ }
     ensures { λ r. ⌜ (r, (now (table .exit), (now (health .exit), now (grants .exit))))
@@ -105,7 +105,7 @@ fn sorted_once(
     )
 }
 
-// The checks by position, and then the steps.
+// The checks by position, and then the work.
 fn sorted_checked(
     head: Head,
     table: &mut [u32],
@@ -116,7 +116,7 @@ fn sorted_checked(
     held: &[u32],
     keys: &[u32],
     grants: &mut [u32],
-) -> Played
+) -> ScriptReply
     requires { ⌜ LocksFine head (length (now table)) (length (now health)) (length (now script)) place
         (now registry) (now keys) (length (now grants)) ⌝ }
     ensures { λ r. ⌜ (r, (now (table .exit), (now (health .exit), now (grants .exit))))
@@ -156,7 +156,7 @@ pub fn acquire_sorted_locks(
     held: &[u32],
     keys: &[u32],
     grants: &mut [u32],
-) -> Played
+) -> ScriptReply
     ensures { λ r. ⌜ (r, (now (table .exit), (now (health .exit), now (grants .exit))))
         ≡ acquireSortedOf head (now (table .entry)) (now (health .entry)) (now (registry .entry))
         (now (script .entry)) place (now (held .entry)) (now (keys .entry)) (now (grants .entry)) .seen ⌝ }

@@ -27,7 +27,7 @@ use Rattle.history.specs.Items.{Clear, keyCell}
 use Rattle.history.specs.Statements.{Crew-build, Crew-at-work-build}
 use Rattle.history.specs.Judged.{clear-fine, clear-append}
 use Rattle.history.specs.Shared.{asked-length, asked-at, first-place, first-place-at}
-use Rattle.crew_theory.specs.Statements.{In, flat, Unfinished-told, Rounds-told, Rounds-after, Rounds-at-work, Open, Enough, Enough-at-work, Completed, Complete, tabled}
+use Rattle.crew_theory.specs.Statements.{In, flat, Unfinished-said, Rounds-said, Rounds-after, Rounds-at-work, Open, Enough, Enough-at-work, Completed, Complete, tabled}
 use Rattle.crew_theory.specs.Theorems.{demand-3, demand-3-at-work}
 use Rattle.sorted_theory.specs.Keys.{keys-inside}
 
@@ -290,11 +290,11 @@ unfolding counts-of total mergeOf mergedOf sortOf sortedOf cellsFrom
 two-ready = record { calm = (λ p l. calm _, (λ p l. calm _, tt)); serials = omega arith }
 
 -- turns that name both are rounds, whatever the replies
-again : (reply : List ℕ → CrewReply) (n : ℕ) (before : List ℕ) → Rounds-told reply (counts-of 4 two-callers) before (replicate n (0 ∷ 1 ∷ []))
+again : (reply : List ℕ → CrewReply) (n : ℕ) (before : List ℕ) → Rounds-said reply (counts-of 4 two-callers) before (replicate n (0 ∷ 1 ∷ []))
 again reply zero before = tt
 again reply (suc n) before = (everyone, again reply n (before ++ (0 ∷ 1 ∷ [])))
   where
-    everyone : (m : ℕ) → Unfinished-told reply (counts-of 4 two-callers) before m → In m (0 ∷ 1 ∷ [])
+    everyone : (m : ℕ) → Unfinished-said reply (counts-of 4 two-callers) before m → In m (0 ∷ 1 ∷ [])
     everyone zero u = inl refl
     everyone (suc zero) u = inr (inl refl)
     everyone (suc (suc m)) u = absurd (omega (arith, u .0, members-are 4 two-callers))

@@ -33,11 +33,9 @@ use Rattle.laws.specs.Outcomes.{Comes, granted, busy, poisoned, damaged, spent,
 use Rattle.history.specs.World.{World}
 use Rattle.history.specs.Items.{Call, Says, unchanged-at, acquire-locks, acquire-sorted, perform, Clear, rules}
 use Rattle.history.specs.Statements.{answer-in, Rolled-back}
-use Rattle.history.specs.Judged.{clear, clear-fine, judged-at, seen-as, sorted-locks, as-asked, sorted-made}
+use Rattle.history.specs.Judged.{clear, judged-at, seen-as, sorted-locks, as-asked, made-so}
 use Rattle.history.specs.Rollback.{locks-roll-back}
 use Rattle.history.specs.Shared.{asked-cells, sorted-cells, chosen-keys, asked-at, first-place, first-place-at, chosen-binding, chosen-bucket, chosen-count}
-use Rattle.history_exact.specs.Script.{acquire-locks-has}
-use Rattle.history_exact.specs.Made.{made}
 use Rattle.sorted_theory.specs.Statements.{Tests-key, Key-inside, First-bad, Keys-first, Checks-as-typed, Beyond-checks, Refused-later, Later-position}
 use Rattle.sorted_theory.specs.Keys.{keys-inside, first-found, bad-tests, none-before}
 use Rattle.sorted_theory.specs.Runs.{Goes, refused-whole, refused-key, locks, goes, as-multilock}
@@ -168,7 +166,7 @@ keys-first w registry script place held keys grants r p =
         → answer-in (perform w (acquire-sorted registry script place held keys grants)) ≡ RefusedAt r p
     found c f =
         let k = acquire-sorted registry script place held keys grants in
-        ap (λ (m : Made (World × Says)). answer-in m) (sorted-made w registry script place held keys grants (clear-fine (rules w k) c))
+        ap (λ (m : Made (World × Says)). answer-in m) (made-so w k c)
         ∙ ap (λ (x : KeyCheck). answer-in (judgeAt x (unchanged-at w k) (seen-as (as-asked w registry keys) (sorted-locks w registry script place held keys grants)))) (first-found (w .head) registry keys r p f)
 
 -- ---- later
@@ -276,7 +274,7 @@ module _ (w : World) (registry script : List ℕ) (place : ℕ) (held keys grant
   -- none applies: neither is refused without a position
   sorted-positioned : first (rules w typed-call) ≡ Fine → Positioned (answer-in (perform w sorted-call))
   sorted-positioned e =
-      subst (λ (m : Made (World × Says)). Positioned (answer-in m)) (sym (sorted-made w registry script place held keys grants e))
+      subst (λ (m : Made (World × Says)). Positioned (answer-in m)) (sym (made-so w sorted-call (clear (rules w sorted-call) e)))
       (judged-at (λ (m : Made (World × Says)). Positioned (answer-in m)) (firstKey (countIn keys) 0 (w .head) registry keys) (λ r p _. tt)
       (λ _.
       asked-positioned (asked-cells (w .head .buckets) registry keys) (sorted-cells (w .head .buckets) registry keys) (sorted-locks w registry script place held keys grants .seen .0 .answer)
@@ -284,7 +282,7 @@ module _ (w : World) (registry script : List ℕ) (place : ℕ) (held keys grant
 
   typed-positioned : first (rules w typed-call) ≡ Fine → Positioned (answer-in (perform w typed-call))
   typed-positioned e =
-      subst (λ (m : Made (World × Says)). Positioned (answer-in m)) (sym (made w (acquire-locks-has registry script place held keys grants) (clear (rules w typed-call) e)))
+      subst (λ (m : Made (World × Says)). Positioned (answer-in m)) (sym (made-so w (acquire-locks registry script place held keys grants) (clear (rules w typed-call) e)))
       (locks-positioned (countIn keys) 0 (given (w .head) script (holdsOf held)) (w .head .buckets) (w .head .boot) registry keys [] (starting (w .head) place) (w .table) (w .health) grants)
 
 pub checks-as-typed : Checks-as-typed perform

@@ -29,11 +29,9 @@ use Rattle.history.specs.World.{World, Live}
 use Rattle.history.specs.Items.{Says, acquire-sorted, release-all, any-order, keyCell, perform, Clear, rules}
 use Rattle.history.specs.Statements.{answer-in, buffer-in, leaves}
 use Rattle.history.specs.Tests.{differ, In, in-take, in-index}
-use Rattle.history.specs.Judged.{clear-back, sorted-locks}
+use Rattle.history.specs.Judged.{clear-back, sorted-locks, made-so}
 use Rattle.history.specs.Calls.{call-kept, words-leases}
 use Rattle.history.specs.Shared.{Handed-back, sorted-cells, sorted-few, sorted-rises, rising-at, first-place, first-place-at, sorted-place-of, back-once, buffers-name}
-use Rattle.history_exact.specs.Script.{release-all-has}
-use Rattle.history_exact.specs.Made.{made}
 use Rattle.history_exact.specs.Passing.{shape-on, health-on, same-boot}
 use Rattle.sorted_theory.specs.Statements.{Doubled, Fourteen, Once-done}
 use Rattle.sorted_theory.specs.Runs.{goes, granted-beyond}
@@ -256,7 +254,7 @@ module _ (w : World) (registry script : List ℕ) (place : ℕ) (held keys grant
   released : answer-in (perform v (release-all [] 0 (wordsOf (w .head .boot) (sharedOf ls sorted)))) ≡ Done
   released =
       subst (λ (ks : List Hold). answer-in (perform v (release-all [] 0 (wordsOf (w .head .boot) ks))) ≡ Done) (sym (back-once b registry keys back))
-      (ap (λ (m : Made (World × Says)). answer-in m) (made v (release-all-has [] 0 (wordsOf (w .head .boot) each)) once-clear))
+      (ap (λ (m : Made (World × Says)). answer-in m) (made-so v (release-all [] 0 (wordsOf (w .head .boot) each)) once-clear))
 
 pub once-done : Once-done perform
 once-done w registry script place held keys grants granted = released w registry script place held keys grants granted

@@ -1,4 +1,4 @@
--- How the call goes: refused whole, refused at a position before any attempt, or multi-lock's steps over the sorted keys. And that these are the
+-- How the call goes: refused whole, refused at a position before any attempt, or multi-lock's parts over the sorted keys. And that these are the
 -- steps of multi-lock's own call, given the sorted keys.
 use Prim.Native.Nat.{ℕ, zero, suc, _+_, _*_, _/_, _%_, _<_}
 use mathlib.Core.Path.{_≡_, refl, sym, ap, _∙_, subst}
@@ -14,7 +14,7 @@ use Rattle.model.specs.Arena.{leasesOf, holdsOf, wordsOf}
 use Rattle.model.specs.Foreign.{Setting, protecting}
 use Rattle.model.specs.Lock.{Locks, afterKey, rollbackOf, retryOf, attemptLimit, noneYet, bindingAt, bucketAt, locksOf}
 use Rattle.model.specs.Checks.{countIn, leaseCount, isOdd, tooManyKeys, notLive, badBindings, locksRules}
-use Rattle.model.specs.Calls.{given, starting, played}
+use Rattle.model.specs.Calls.{given, starting, scriptReply}
 use Rattle.model.specs.Sorted.{firstKey, judgeAt, sharedOf, handedBack}
 use Rattle.types.specs.declared.Answer.{Answer}
 use Rattle.types.specs.declared.Answer.the-variants.{Done, Cell, Granted, AllGranted, Busy, Refused, RefusedAt}
@@ -27,10 +27,8 @@ use Rattle.types.specs.declared.Refusal.{Refusal}
 use Rattle.types.specs.declared.Run.{Run}
 use Rattle.history.specs.World.{World}
 use Rattle.history.specs.Items.{Call, Says, unchanged, unchanged-at, acquire-locks, acquire-sorted, perform, Clear, rules}
-use Rattle.history.specs.Judged.{clear-front, clear-back, clear-append, clear-fine, judged-at, grant, seen-as, sorted-locks, as-asked, sorted-made, performed}
+use Rattle.history.specs.Judged.{clear-front, clear-back, clear-append, judged-at, grant, seen-as, sorted-locks, as-asked, performed, made-so}
 use Rattle.history.specs.Shared.{asked-cells, sorted-cells, chosen-keys, first-place, first-place-at, chosen-length, chosen-count, chosen-cell, chosen-binding, sorted-few}
-use Rattle.history_exact.specs.Script.{acquire-locks-has}
-use Rattle.history_exact.specs.Made.{made}
 use Rattle.history_exact.specs.Passing.{bindings-clear}
 use Rattle.sorted_theory.specs.Statements.{First-bad, Beyond-checks, As-locks, As-multilock}
 use Rattle.sorted_theory.specs.Keys.{fault-first}
@@ -58,11 +56,11 @@ module _ (w : World) (registry script : List ℕ) (place : ℕ) (held keys grant
   granted-beyond (refused-key r p c f) a = let z : _≡_ {A = ℕ} 0 1 = cc in absurd (omega arith)
   granted-beyond (locks c) a = c
 
-  pub beyond-made : Beyond-checks w registry script place held keys grants
+  beyond-made : Beyond-checks w registry script place held keys grants
       → perform w sorted-call ≡ seen-as (as-asked w registry keys) (sorted-locks w registry script place held keys grants)
-  beyond-made b = sorted-made w registry script place held keys grants (clear-fine (rules w sorted-call) (b .0)) ∙ ap (λ (k : KeyCheck). judgeAt k (unchanged-at w sorted-call) (seen-as (as-asked w registry keys) (sorted-locks w registry script place held keys grants))) (b .1)
+  beyond-made b = made-so w sorted-call (b .0) ∙ ap (λ (k : KeyCheck). judgeAt k (unchanged-at w sorted-call) (seen-as (as-asked w registry keys) (sorted-locks w registry script place held keys grants))) (b .1)
 
--- ---- multi-lock's steps with another buffer: a refusal hands it back, a grant writes all of it
+-- ---- multi-lock's parts with another buffer: a refusal hands it back, a grant writes all of it
 
 abbrev kept : Answer → List ℕ → List ℕ → List ℕ
 kept Done own other = other
@@ -145,14 +143,14 @@ module _ (w : World) (registry script : List ℕ) (place : ℕ) (held keys grant
 
   -- seen as multi-lock's own call over them
   abbrev plainly : Locks → World × Says
-  plainly m = grant (played (w .head) (m .0 .run) (m .0 .answer), m .1)
+  plainly m = grant (scriptReply (w .head) (m .0 .run) (m .0 .answer), m .1)
 
   abbrev inner : List ℕ → Made Locks
   inner buffer = sorted-locks w registry script place held keys buffer
 
   chosen-made : length other ≡ 3 * n → Clear (rules w (acquire-sorted registry script place held keys grants)) → perform w chosen-call ≡ seen-as plainly (inner other)
   chosen-made fit c =
-      made w (acquire-locks-has registry script place held (chosen-keys b registry keys) other) (chosen-passes fit c)
+      made-so w (acquire-locks registry script place held (chosen-keys b registry keys) other) (chosen-passes fit c)
       ∙ ap (λ (k : ℕ). seen-as plainly (locksOf k 0 (given (w .head) script (holdsOf held)) b (w .head .boot) registry (chosen-keys b registry keys) [] (starting (w .head) place) (w .table) (w .health) other))
       (chosen-count b registry keys)
 

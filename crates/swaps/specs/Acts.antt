@@ -15,13 +15,13 @@ use Rattle.types.specs.declared.Hold.{Hold}
 use Rattle.types.specs.declared.Stepped.{Stepped}
 use Rattle.choice.specs.Pick.{both}
 use Rattle.laws.specs.Words.{bit-set-other, owner-set-other, bit-set-waiters, owner-set-waiters}
-use Rattle.history.specs.World.{World, worldOf, cells, Legal, step}
+use Rattle.history.specs.World.{World, worldOf, cells, Legal, after-event}
 use Rattle.history.specs.Tests.{is-free-state, free-words, if-cases}
 use Rattle.swaps.specs.Steps.{Step, take-step, does, leaves, dropped, on-table, exchanged, Parted}
-use Rattle.swaps.specs.Logs.{Apart, quiet-first, quiet-second, take-release, release-take, release-release, take-waiters, waiters-take, release-waiters, waiters-release, waiters-waiters, take-health, health-take, release-health, health-release, waiters-health, health-waiters, health-health, spins, drops, Both}
+use Rattle.swaps.specs.Logs.{Apart, still-first, still-second, take-release, release-take, release-release, take-waiters, waiters-take, release-waiters, waiters-release, waiters-waiters, take-health, health-take, release-health, health-release, waiters-health, health-waiters, health-health, spins, drops, Both}
 use Rattle.swaps.specs.Statements.{Both-legal, Owners-exchanged, Swapped, Any-steps, Two-takes, Idle-take}
-use Rattle.swaps.specs.Fine.{Fine, fine, fine-step, live-kept}
-use Rattle.swaps.specs.Pairs.{apart-sym, quiet-step, commute, takes-swap}
+use Rattle.swaps.specs.Fine.{Fine, fine, fine-on, live-kept}
+use Rattle.swaps.specs.Pairs.{apart-sym, still-world, commute, takes-swap}
 
 -- ---- a step as a test and an event
 
@@ -61,7 +61,7 @@ event w (heals i n) = health-set i n
 
 -- then the world is the event's, else it stays and the step is counted as dropped
 abbrev pub settle : Bool → World → Event → World
-settle true w e = step w e
+settle true w e = after-event w e
 settle false w e = w
 
 abbrev pub missed : Bool → ℕ
@@ -75,7 +75,7 @@ outcome w m = (worldOf (spentTo (w .head) (m .seen .0 .next)) (m .seen .1 .0) (m
 abbrev effect : List Hold → World → Act → World × ℕ
 effect ps w a = (settle (legal ps w a) w (event w a), missed (legal ps w a))
 
-settled : {A : Type 0} (f : A → World × ℕ) (b : Bool) {x y : A} (w : World) (e : Event) → f x ≡ (step w e, 0) → f y ≡ (w, 1)
+settled : {A : Type 0} (f : A → World × ℕ) (b : Bool) {x y : A} (w : World) (e : Event) → f x ≡ (after-event w e, 0) → f y ≡ (w, 1)
     → f (if b then x else y) ≡ (settle b w e, missed b)
 settled f true w e p q = p
 settled f false w e p q = q
@@ -110,34 +110,34 @@ done ps w s = comes ps w s .is
 
 -- ---- the test does not hang on an event elsewhere
 
-legal-kept : (ps : List Hold) (w : World) (e : Event) (a : Act) → Fine w → Apart e (event w a) → legal ps (step w e) a ≡ legal ps w a
+legal-kept : (ps : List Hold) (w : World) (e : Event) (a : Act) → Fine w → Apart e (event w a) → legal ps (after-event w e) a ≡ legal ps w a
 legal-kept ps w e idle g x = refl
 legal-kept ps w e never g x = refl
-legal-kept ps w e (takes c) g (quiet-first q) = rw (quiet-step w q)
+legal-kept ps w e (takes c) g (still-first q) = rw (still-world w q)
 legal-kept ps w e (takes c) g (release-take {c = d} n) = rw (bit-set-other (w .table) d 0 0 c (λ z. n (sym z)), owner-set-other (w .table) d 0 0 c (λ z. n (sym z)))
 legal-kept ps w e (takes c) g (waiters-take {d = d} {n = n}) = rw (bit-set-waiters (w .table) d n c, owner-set-waiters (w .table) d n c)
 legal-kept ps w e (takes c) g health-take = refl
-legal-kept ps w e (frees c s) g (quiet-first q) = rw (quiet-step w q)
+legal-kept ps w e (frees c s) g (still-first q) = rw (still-world w q)
 legal-kept ps w e (frees c s) g (take-release n) = rw (live-kept w e c s g (λ z. n (sym z)))
 legal-kept ps w e (frees c s) g (release-release n) = rw (live-kept w e c s g (λ z. n (sym z)))
 legal-kept ps w e (frees c s) g waiters-release = rw (live-kept w e c s g tt)
 legal-kept ps w e (frees c s) g health-release = refl
-legal-kept ps w e (waits c n) g (quiet-first q) = rw (quiet-step w q)
+legal-kept ps w e (waits c n) g (still-first q) = rw (still-world w q)
 legal-kept ps w e (waits c n) g take-waiters = refl
 legal-kept ps w e (waits c n) g release-waiters = refl
 legal-kept ps w e (waits c n) g (waiters-waiters _) = refl
 legal-kept ps w e (waits c n) g health-waiters = refl
-legal-kept ps w e (heals i n) g (quiet-first q) = rw (quiet-step w q)
+legal-kept ps w e (heals i n) g (still-first q) = rw (still-world w q)
 legal-kept ps w e (heals i n) g take-health = refl
 legal-kept ps w e (heals i n) g release-health = refl
 legal-kept ps w e (heals i n) g waiters-health = refl
 legal-kept ps w e (heals i n) g (health-health _) = refl
 
 -- nor does the event that it is
-event-kept : (w : World) (e : Event) (a : Act) → Apart e (event w a) → event (step w e) a ≡ event w a
+event-kept : (w : World) (e : Event) (a : Act) → Apart e (event w a) → event (after-event w e) a ≡ event w a
 event-kept w e idle x = refl
 event-kept w e never x = refl
-event-kept w e (takes c) (quiet-first q) = rw (quiet-step w q)
+event-kept w e (takes c) (still-first q) = rw (still-world w q)
 event-kept w e (takes c) (release-take n) = refl
 event-kept w e (takes c) waiters-take = refl
 event-kept w e (takes c) health-take = refl
@@ -169,7 +169,7 @@ module _ (ps : List Hold) where
   fine-acted w a g = go (legal ps w a) refl
     where
       go : (b : Bool) → legal ps w a ≡ b → Fine (settle b w (event w a))
-      go true l = fine-step w (event w a) g (is-legal ps w a l)
+      go true l = fine-on w (event w a) g (is-legal ps w a l)
       go false l = g
 
   legal-behind : (w : World) (a b : Act) → Fine w → Apart (event w a) (event w b) → legal ps (acted w a) b ≡ legal ps w b
@@ -221,28 +221,28 @@ reads s =
     (λ _. if-cases (Reads s) (eqb (s .kind) 5) (λ e. reads-idle) (λ e. reads-never))))))
 
 apart-of : (w : World) {s t : Step} {a b : Act} → Reads s a → Reads t b → Parted s t → Apart (event w a) (event w b)
-apart-of w reads-idle q p = quiet-first spins
-apart-of w reads-never q p = quiet-first drops
-apart-of w (reads-take x) reads-idle p = quiet-second spins
-apart-of w (reads-take x) reads-never p = quiet-second drops
+apart-of w reads-idle q p = still-first spins
+apart-of w reads-never q p = still-first drops
+apart-of w (reads-take x) reads-idle p = still-second spins
+apart-of w (reads-take x) reads-never p = still-second drops
 apart-of w (reads-take x) (reads-take y) p = absurd (p .one-take x y)
 apart-of w (reads-take x) (reads-free y) p = take-release (p .on-bits (inl x) (inr y))
 apart-of w (reads-take x) (reads-wait y) p = take-waiters
 apart-of w (reads-take x) (reads-heal y) p = take-health
-apart-of w (reads-free x) reads-idle p = quiet-second spins
-apart-of w (reads-free x) reads-never p = quiet-second drops
+apart-of w (reads-free x) reads-idle p = still-second spins
+apart-of w (reads-free x) reads-never p = still-second drops
 apart-of w (reads-free x) (reads-take y) p = release-take (p .on-bits (inr x) (inl y))
 apart-of w (reads-free x) (reads-free y) p = release-release (p .on-bits (inr x) (inr y))
 apart-of w (reads-free x) (reads-wait y) p = release-waiters
 apart-of w (reads-free x) (reads-heal y) p = release-health
-apart-of w (reads-wait x) reads-idle p = quiet-second spins
-apart-of w (reads-wait x) reads-never p = quiet-second drops
+apart-of w (reads-wait x) reads-idle p = still-second spins
+apart-of w (reads-wait x) reads-never p = still-second drops
 apart-of w (reads-wait x) (reads-take y) p = waiters-take
 apart-of w (reads-wait x) (reads-free y) p = waiters-release
 apart-of w (reads-wait x) (reads-wait y) p = waiters-waiters (p .on-waiters x y)
 apart-of w (reads-wait x) (reads-heal y) p = waiters-health
-apart-of w (reads-heal x) reads-idle p = quiet-second spins
-apart-of w (reads-heal x) reads-never p = quiet-second drops
+apart-of w (reads-heal x) reads-idle p = still-second spins
+apart-of w (reads-heal x) reads-never p = still-second drops
 apart-of w (reads-heal x) (reads-take y) p = health-take
 apart-of w (reads-heal x) (reads-free y) p = health-release
 apart-of w (reads-heal x) (reads-wait y) p = health-waiters
@@ -296,8 +296,8 @@ not-missed false e = absurd (omega arith)
 -- both orders of two legal takes, as events
 pub record Takes-both-ways (ps : List Hold) (w : World) (s t : Step) (c d : ℕ) : Type 0 where
   pub events : Both w (took by-script c (w .head .next)) (took by-script d (w .head .next + 1))
-  pub one-way : leaves ps (leaves ps w s) t ≡ step (step w (took by-script c (w .head .next))) (took by-script d (w .head .next + 1))
-  pub other-way : leaves ps (leaves ps w t) s ≡ step (step w (took by-script d (w .head .next))) (took by-script c (w .head .next + 1))
+  pub one-way : leaves ps (leaves ps w s) t ≡ after-event (after-event w (took by-script c (w .head .next))) (took by-script d (w .head .next + 1))
+  pub other-way : leaves ps (leaves ps w t) s ≡ after-event (after-event w (took by-script d (w .head .next))) (took by-script c (w .head .next + 1))
   pub exchange : Owners-exchanged ps w s t c d
 
 pub takes-both-ways : (ps : List Hold) (w : World) (c n d m : ℕ) → Fine w → c ≢ d → Both-legal ps w (take-step c n) (take-step d m)
@@ -326,34 +326,34 @@ takes-both-ways ps w c n d m g x p =
     legal-s : legal ps w (takes c) ≡ true
     legal-s = not-missed (legal ps w (takes c)) (sym (dropped-is ps w s) ∙ p .first-legal)
 
-    after-s : leaves ps w s ≡ step w (event w (takes c))
+    after-s : leaves ps w s ≡ after-event w (event w (takes c))
     after-s = leaves-is ps w s ∙ ap (λ (b : Bool). settle b w (event w (takes c))) legal-s
 
-    legal-t : legal ps (step w (event w (takes c))) (takes d) ≡ true
+    legal-t : legal ps (after-event w (event w (takes c))) (takes d) ≡ true
     legal-t = ap (λ (v : World). legal ps v (takes d)) (sym after-s) ∙ not-missed (legal ps (leaves ps w s) (takes d)) (sym (dropped-is ps (leaves ps w s) t) ∙ p .second-legal)
 
     legal-events : Both w (took by-script c (w .head .next)) (took by-script d (w .head .next + 1))
-    legal-events = (is-legal ps w (takes c) legal-s, is-legal ps (step w (event w (takes c))) (takes d) legal-t)
+    legal-events = (is-legal ps w (takes c) legal-s, is-legal ps (after-event w (event w (takes c))) (takes d) legal-t)
 
     both-ways : Both w (took by-script d (w .head .next)) (took by-script c (w .head .next + 1))
-        × (step (step w (took by-script d (w .head .next))) (took by-script c (w .head .next + 1))
-        ≡ on-table (exchanged c d) (step (step w (took by-script c (w .head .next))) (took by-script d (w .head .next + 1))))
+        × (after-event (after-event w (took by-script d (w .head .next))) (took by-script c (w .head .next + 1))
+        ≡ on-table (exchanged c d) (after-event (after-event w (took by-script c (w .head .next))) (took by-script d (w .head .next + 1))))
     both-ways = takes-swap w by-script by-script c d (w .head .next) g x legal-events
 
     first : legal ps w (takes d) ≡ true
     first = takes-free ps w d (both-ways .0 .0)
 
-    after-t : leaves ps w t ≡ step w (event w (takes d))
+    after-t : leaves ps w t ≡ after-event w (event w (takes d))
     after-t = leaves-is ps w t ∙ ap (λ (b : Bool). settle b w (event w (takes d))) first
 
-    second : legal ps (step w (event w (takes d))) (takes c) ≡ true
-    second = takes-free ps (step w (event w (takes d))) c (both-ways .0 .1)
+    second : legal ps (after-event w (event w (takes d))) (takes c) ≡ true
+    second = takes-free ps (after-event w (event w (takes d))) c (both-ways .0 .1)
 
-    left : leaves ps (leaves ps w t) s ≡ step (step w (event w (takes d))) (took by-script c (w .head .next + 1))
-    left = ap (λ (v : World). leaves ps v s) after-t ∙ leaves-is ps (step w (event w (takes d))) s ∙ ap (λ (b : Bool). settle b (step w (event w (takes d))) (took by-script c (w .head .next + 1))) second
+    left : leaves ps (leaves ps w t) s ≡ after-event (after-event w (event w (takes d))) (took by-script c (w .head .next + 1))
+    left = ap (λ (v : World). leaves ps v s) after-t ∙ leaves-is ps (after-event w (event w (takes d))) s ∙ ap (λ (b : Bool). settle b (after-event w (event w (takes d))) (took by-script c (w .head .next + 1))) second
 
-    right : leaves ps (leaves ps w s) t ≡ step (step w (event w (takes c))) (took by-script d (w .head .next + 1))
-    right = ap (λ (v : World). leaves ps v t) after-s ∙ leaves-is ps (step w (event w (takes c))) t ∙ ap (λ (b : Bool). settle b (step w (event w (takes c))) (took by-script d (w .head .next + 1))) legal-t
+    right : leaves ps (leaves ps w s) t ≡ after-event (after-event w (event w (takes c))) (took by-script d (w .head .next + 1))
+    right = ap (λ (v : World). leaves ps v t) after-s ∙ leaves-is ps (after-event w (event w (takes c))) t ∙ ap (λ (b : Bool). settle b (after-event w (event w (takes c))) (took by-script d (w .head .next + 1))) legal-t
 
 pub take-steps-swap : Two-takes
 take-steps-swap ps w c n d m g x p = takes-both-ways ps w c n d m (fine w g) x p .exchange

@@ -130,19 +130,19 @@ unscripted h script ps n t g k q m = refl
 abbrev pub goes-on : ℕ → Setting → World → ℕ → ℕ → Ran
 goes-on more e v p d = runStepsOf more e (flowOf (v .head .next) p d) (v .table) (v .health) .seen
 
-pub play : (left more : ℕ) (ps : List Hold) (script : List ℕ) (w : World) (p d : ℕ) (ss : List Step) → left ≡ length ss + more → Stand script p ss
+pub goes-through : (left more : ℕ) (ps : List Hold) (script : List ℕ) (w : World) (p d : ℕ) (ss : List Step) → left ≡ length ss + more → Stand script p ss
     → Unended ss
     → goes-on left (given (w .head) script ps) w p d
     ≡ goes-on more (given (w .head) script ps) (after-all ps w ss) (p + length ss) (d + dropped-in ps w ss)
 unfolding after-all dropped-in
-play left more ps script w p d [] l x u =
+goes-through left more ps script w p d [] l x u =
     let e = given (w .head) script ps in
     let a : p ≡ p + 0 = omega arith in
     let b : d ≡ d + 0 = omega arith in
     let c : left ≡ more = omega arith in
     ap (λ (n : ℕ). goes-on n e w p d) c ∙ ap (λ (q : ℕ). goes-on more e w q d) a ∙ ap (goes-on more e w (p + 0)) b
-play zero more ps script w p d (s ∷ ss) l x u = absurd (omega arith)
-play (suc left) more ps script w p d (s ∷ ss) l x u =
+goes-through zero more ps script w p d (s ∷ ss) l x u = absurd (omega arith)
+goes-through (suc left) more ps script w p d (s ∷ ss) l x u =
     let e = given (w .head) script ps in
     let f = flowOf (w .head .next) p d in
     let v = after-all ps (leaves ps w s) ss in
@@ -150,7 +150,7 @@ play (suc left) more ps script w p d (s ∷ ss) l x u =
     let b : d + dropped ps w s + dropped-in ps (leaves ps w s) ss ≡ d + (dropped ps w s + dropped-in ps (leaves ps w s) ss) = omega arith in
     turn left e f (w .table) (w .health) (s .kind) (s .place) (s .number) (x .0 .0) (x .0 .1 .0) (x .0 .1 .1) (u .0)
     ∙ ap (rest-of left e f) (unscripted (w .head) script ps (w .head .next) (w .table) (w .health) (s .kind) (s .place) (s .number))
-    ∙ play left more ps script (leaves ps w s) (p + 1) (d + dropped ps w s) ss (omega arith) (x .1) (u .1)
+    ∙ goes-through left more ps script (leaves ps w s) (p + 1) (d + dropped ps w s) ss (omega arith) (x .1) (u .1)
     ∙ ap (λ (q : ℕ). goes-on more e v q (d + dropped ps w s + dropped-in ps (leaves ps w s) ss)) a
     ∙ ap (goes-on more e v (p + suc (length ss))) b
 
@@ -268,10 +268,10 @@ module _ (h : Head) (pre ss ts post : List Step) (unended : Unended ss) (shuffle
         let v = after-all ps w ss in
         let a : runStepsOf left (given h one ps) f t g .seen
         ≡ goes-on (length post) (given h one ps) v (f .place + length ss) (f .dropped + dropped-in ps w ss) =
-        play left (length post) ps one w (f .place) (f .dropped) ss n (stand-at one (length pre) (f .place) ss (sym l) (stand pre ss post)) unended in
+        goes-through left (length post) ps one w (f .place) (f .dropped) ss n (stand-at one (length pre) (f .place) ss (sym l) (stand pre ss post)) unended in
         let b : runStepsOf left (given h other ps) f t g .seen
         ≡ goes-on (length post) (given h other ps) (after-all ps w ts) (f .place + length ts) (f .dropped + dropped-in ps w ts) =
-        play left (length post) ps other w (f .place) (f .dropped) ts (omega (arith, shuffled-length shuffle-is))
+        goes-through left (length post) ps other w (f .place) (f .dropped) ts (omega (arith, shuffled-length shuffle-is))
         (stand-at other (length pre) (f .place) ts (sym l) (stand pre ts post)) (shuffled-unended shuffle-is unended) in
         let c₁ : goes-on (length post) (given h other ps) (after-all ps w ts) (f .place + length ts) (f .dropped + dropped-in ps w ts)
         ≡ goes-on (length post) (given h other ps) v (f .place + length ss) (f .dropped + dropped-in ps w ss) =

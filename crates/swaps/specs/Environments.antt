@@ -14,12 +14,12 @@ use Rattle.model.specs.Refusals.{first, judge}
 use Rattle.model.specs.Foreign.{Setting, stepsIn, kindAt, flowOf, runStepsOf, boundaryOf}
 use Rattle.model.specs.Lock.{runOf}
 use Rattle.model.specs.Checks.{scriptRules}
-use Rattle.model.specs.Calls.{given, played, refusedAtOnce, environmentOf}
+use Rattle.model.specs.Calls.{given, scriptReply, refusedAtOnce, environmentOf}
 use Rattle.types.specs.declared.Answer.the-variants.{Done}
 use Rattle.types.specs.declared.Check.{Check}
 use Rattle.types.specs.declared.Check.the-variants as check
 use Rattle.types.specs.declared.Hold.{Hold}
-use Rattle.types.specs.declared.Played.{Played}
+use Rattle.types.specs.declared.ScriptReply.{ScriptReply}
 use Rattle.types.specs.declared.Refusal.{Refusal}
 use Rattle.history.specs.World.{World}
 use Rattle.swaps.specs.Steps.{Step, stepWords, after-all, dropped-in}
@@ -28,7 +28,7 @@ use Rattle.swaps.specs.Scripts.{scriptOf, Unended, Ended, ends}
 use Rattle.swaps.specs.Statements.{Boundary-runs, Reply-renamed, Environment-retaken}
 use Rattle.swaps.specs.Owners.{identity}
 use Rattle.swaps.specs.Retakes.{steps-retake}
-use Rattle.swaps.specs.Boundaries.{goes-on, play, stand, turn-last, same-length, steps-in, word-on}
+use Rattle.swaps.specs.Boundaries.{goes-on, goes-through, stand, turn-last, same-length, steps-in, word-on}
 
 -- ---- one boundary
 
@@ -42,11 +42,11 @@ last e v pre ss (q ∷ post) d s x =
     (ap (λ (script : List ℕ). kindAt script (length pre + length ss)) s
     ∙ ap (λ (i : ℕ). getD (scriptOf (pre ++ (ss ++ (q ∷ post)))) i 0) (omega arith) ∙ word-on pre ss (q ∷ post) 0 ∙ x)
 
-pub boundary-plays : Boundary-runs
+pub boundary-goes : Boundary-runs
 unfolding boundaryOf
-boundary-plays ps w pre ss post d u x =
+boundary-goes ps w pre ss post d u x =
     let script = scriptOf (pre ++ (ss ++ post)) in
-    play (stepsIn script - length pre) (length post) ps script w (length pre) d ss (omega (arith, steps-in pre ss post)) (stand pre ss post) u
+    goes-through (stepsIn script - length pre) (length post) ps script w (length pre) d ss (omega (arith, steps-in pre ss post)) (stand pre ss post) u
     ∙ last (given (w .head) script ps) (after-all ps w ss) pre ss post (d + dropped-in ps w ss) refl x
 
 -- ---- what exchanges keep of a list of steps
@@ -103,19 +103,19 @@ environment-retake w held pre ss ts post g u x y r =
     ps : List Hold
     ps = holdsOf held
 
-    runs : List Step → Made (Played × (List ℕ × List ℕ))
+    runs : List Step → Made (ScriptReply × (List ℕ × List ℕ))
     runs xs = do
       (f, a) ← boundaryOf (given (w .head) (scriptOf (pre ++ (xs ++ post))) ps) (flowOf (w .head .next) (length pre) 0) (w .table) (w .health)
-      gives (played (w .head) (runOf f 0 1 0) Done, a)
+      gives (scriptReply (w .head) (runOf f 0 1 0) Done, a)
 
-    none : Refusal → Made (Played × (List ℕ × List ℕ))
+    none : Refusal → Made (ScriptReply × (List ℕ × List ℕ))
     none x = gives (refusedAtOnce (w .head) (length pre) x, (w .table, w .health))
 
     go : (k : Check) → Reply-renamed w (judge k none (runs ss) .seen) (judge k none (runs ts) .seen)
     go check.Fine =
         let i = steps-retake ps w ss ts g y r in
-        let a = boundary-plays ps w pre ss post 0 u x in
-        let b = boundary-plays ps w pre ts post 0 (retaken-unended r u) x in
+        let a = boundary-goes ps w pre ss post 0 u x in
+        let b = boundary-goes ps w pre ts post 0 (retaken-unended r u) x in
         rw (a, b)
         (record {
           to = i .to;

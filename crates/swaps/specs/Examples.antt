@@ -1,6 +1,6 @@
 -- Why each premise is there, by computation; then examples that meet the premises of the theorems, so that none speaks of nothing. An arena
 -- of one header and two cells.
-use Prim.Native.Nat.{ℕ, zero, suc, _+_, _<_}
+use Prim.Native.Nat.{ℕ, zero, suc, _<_}
 use mathlib.Core.Path.{_≡_, refl}
 use mathlib.Core.List.{List, [], _∷_, _++_}
 use mathlib.Core.Logic.{_≢_, inl, inr}

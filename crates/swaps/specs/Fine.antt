@@ -11,7 +11,7 @@ use Rattle.model.specs.Log.{Event, attempt-begun, boundary-run, yielded, spun, 
 use Rattle.model.specs.Arena.{cellsOf, holdOf, bitAt, ownerAt, setCell, stateOf, stateAt, heldBy, isLive}
 use Rattle.laws.specs.Shape.{shaped}
 use Rattle.laws.specs.Words.{length-set-cell, length-set-waiters, bit-set-other, owner-set-other, bit-set-waiters, owner-set-waiters}
-use Rattle.history.specs.World.{World, worldOf, cells, Legal, step, Whole as Arena-whole}
+use Rattle.history.specs.World.{World, worldOf, cells, Legal, after-event, Whole as Arena-whole}
 use Rattle.history.specs.Tests.{Status, free, held, undamaged, state-free, state-held}
 use Rattle.history.specs.Events.{older, status-put, same-arena}
 use Rattle.swaps.specs.Steps.{Whole}
@@ -57,7 +57,7 @@ later n b o (free p q) = state-free (n + 1) b o p q ∙ sym (state-free n b o p 
 later n b o (held p q r) = state-held (n + 1) b o p q (omega arith) ∙ sym (state-held n b o p q r)
 
 pub state-kept : (w : World) (e : Event) (c : ℕ) → Fine w → c < cells w → Away e c
-    → stateAt (step w e .head .next) (step w e .table) c ≡ stateAt (w .head .next) (w .table) c
+    → stateAt (after-event w e .head .next) (after-event w e .table) c ≡ stateAt (w .head .next) (w .table) c
 unfolding stateAt
 state-kept w attempt-begun c f l a = refl
 state-kept w boundary-run c f l a = refl
@@ -73,17 +73,17 @@ state-kept w (held-all i) c f l a = refl
 state-kept w (added i d x) c f l a = refl
 
 -- the head but for the next serial stays
-same-cells : (w : World) (e : Event) → cells (step w e) ≡ cells w
+same-cells : (w : World) (e : Event) → cells (after-event w e) ≡ cells w
 same-cells w e = ap cellsOf (same-arena w e)
 
 -- a lease of a cell that the event leaves alone is live after it exactly if it was live before
 pub live-kept : (w : World) (e : Event) (c s : ℕ) → Fine w → Away e c
-    → isLive (step w e .head .next) (cells (step w e)) (step w e .table) (holdOf c s) ≡ isLive (w .head .next) (cells w) (w .table) (holdOf c s)
+    → isLive (after-event w e .head .next) (cells (after-event w e)) (after-event w e .table) (holdOf c s) ≡ isLive (w .head .next) (cells w) (w .table) (holdOf c s)
 unfolding isLive
 live-kept w e c s f a = rw (same-cells w e) (go (ltb c (cells w)) refl)
   where
     go : (b : Bool) → ltb c (cells w) ≡ b
-        → (b && heldBy (stateAt (step w e .head .next) (step w e .table) c) s) ≡ (b && heldBy (stateAt (w .head .next) (w .table) c) s)
+        → (b && heldBy (stateAt (after-event w e .head .next) (after-event w e .table) c) s) ≡ (b && heldBy (stateAt (w .head .next) (w .table) c) s)
     go true l = rw (state-kept w e c f (ltb-true c (cells w) l) a)
     go false l = refl
 
@@ -101,26 +101,26 @@ freed w c f =
       status = status-put (cells w) (w .head .next) (w .table) c 0 0 (f .words) (free refl refl) (f .status);
     }
 
-pub fine-step : (w : World) (e : Event) → Fine w → Legal w e → Fine (step w e)
-fine-step w attempt-begun f l = f
-fine-step w boundary-run f l = f
-fine-step w yielded f l = f
-fine-step w spun f l = f
-fine-step w step-dropped f l = f
-fine-step w (took a c s) f l =
+pub fine-on : (w : World) (e : Event) → Fine w → Legal w e → Fine (after-event w e)
+fine-on w attempt-begun f l = f
+fine-on w boundary-run f l = f
+fine-on w yielded f l = f
+fine-on w spun f l = f
+fine-on w step-dropped f l = f
+fine-on w (took a c s) f l =
     record {
       words = length-set-cell (w .table) c 1 s ∙ f .words;
       low = omega arith;
       status = status-put (cells w) (w .head .next + 1) (w .table) c 1 s (f .words) (held refl (omega (arith, f .low)) (omega arith)) (λ d k. older (f .status d k));
     }
-fine-step w (released a c s) f l =
+fine-on w (released a c s) f l =
     freed w c f
-fine-step w (waiters-set c n) f l =
+fine-on w (waiters-set c n) f l =
     record {
       words = length-set-waiters (w .table) c n ∙ f .words;
       low = f .low;
       status = λ d k. simp (bit-set-waiters, owner-set-waiters) (f .status d k);
     }
-fine-step w (health-set i n) f l = record { words = f .words; low = f .low; status = f .status }
-fine-step w (held-all m) f l = f
-fine-step w (added m c v) f l = f
+fine-on w (health-set i n) f l = record { words = f .words; low = f .low; status = f .status }
+fine-on w (held-all m) f l = f
+fine-on w (added m c v) f l = f

@@ -4,13 +4,13 @@ use mathlib.Core.List.{List, [], _∷_}
 use native.Mathlib.Omega.{arith}
 use Rattle.model.specs.Log.{Event}
 use Rattle.types.specs.declared.Hold.{Hold}
-use Rattle.history.specs.World.{World, step, now, Lawful, number-of}
+use Rattle.history.specs.World.{World, after-event, now, Lawful, number-of}
 use Rattle.history.specs.Items.{foreign-step, next-item, run, foreign}
 use Rattle.swaps.specs.Steps.{Step, leaves, after-all, dropped-in, Shuffled}
 use Rattle.swaps.specs.Steps as steps
 use Rattle.swaps.specs.Logs.{Reordered, same, neighbours, behind, onward}
 use Rattle.swaps.specs.Statements.{Alike, Logs-reordered, Steps-shuffled, Lone-steps, History-shuffled}
-use Rattle.swaps.specs.Fine.{Fine, fine, fine-step}
+use Rattle.swaps.specs.Fine.{Fine, fine, fine-on}
 use Rattle.swaps.specs.Pairs.{apart-sym, commute, before, after}
 use Rattle.swaps.specs.Acts.{swapped, fine-leaves}
 
@@ -20,14 +20,14 @@ alike : (w : World) {es fs : List Event} → Fine w → Reordered es fs → Lawf
 unfolding number-of
 alike w g same l = record { lawful = l; state = refl; numbers = λ k. refl }
 alike w g (neighbours {e = e} {f = f} {es = es} a) l =
-    let c : step (step w e) f ≡ step (step w f) e = commute w a in
+    let c : after-event (after-event w e) f ≡ after-event (after-event w f) e = commute w a in
     record {
       lawful = (before w g a (l .1 .0), (after w g (apart-sym a) (l .0), subst (λ (v : World). Lawful v es) c (l .1 .1)));
       state = ap (λ (v : World). now v es) (sym c);
       numbers = λ k. omega arith;
     }
 alike w g (behind {e = e} r) l =
-    let i = alike (step w e) (fine-step w e g (l .0)) r (l .1) in
+    let i = alike (after-event w e) (fine-on w e g (l .0)) r (l .1) in
     record { lawful = (l .0, i .lawful); state = i .state; numbers = λ k. omega (arith, i .numbers k) }
 alike w g (onward r s) l =
     let i = alike w g r l in

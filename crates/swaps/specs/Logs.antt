@@ -3,22 +3,22 @@ use Prim.Native.Nat.{ℕ}
 use mathlib.Core.List.{List, _∷_}
 use mathlib.Core.Logic.{_≢_}
 use Rattle.model.specs.Log.{Actor, Event, attempt-begun, boundary-run, yielded, spun, step-dropped, took, released, waiters-set, health-set, held-all, added}
-use Rattle.history.specs.World.{World, Legal, step}
+use Rattle.history.specs.World.{World, Legal, after-event}
 
 -- an event that changes nothing of the arena and is always legal; a crew's counters are no part of it
-pub data Quiet : Event → Type 0 where
-  attempts : Quiet attempt-begun
-  boundaries : Quiet boundary-run
-  yields : Quiet yielded
-  spins : Quiet spun
-  drops : Quiet step-dropped
-  holds : {m : ℕ} → Quiet (held-all m)
-  sums : {m c v : ℕ} → Quiet (added m c v)
+pub data Still : Event → Type 0 where
+  attempts : Still attempt-begun
+  boundaries : Still boundary-run
+  yields : Still yielded
+  spins : Still spun
+  drops : Still step-dropped
+  holds : {m : ℕ} → Still (held-all m)
+  sums : {m c v : ℕ} → Still (added m c v)
 
 -- two events that may be swapped: every pair but two takes, and but two that write the same word
 pub data Apart : Event → Event → Type 0 where
-  quiet-first : {e f : Event} → Quiet e → Apart e f
-  quiet-second : {e f : Event} → Quiet f → Apart e f
+  still-first : {e f : Event} → Still e → Apart e f
+  still-second : {e f : Event} → Still f → Apart e f
   take-release : {a b : Actor} {c s d r : ℕ} → c ≢ d → Apart (took a c s) (released b d r)
   release-take : {a b : Actor} {c s d r : ℕ} → c ≢ d → Apart (released a c s) (took b d r)
   release-release : {a b : Actor} {c s d r : ℕ} → c ≢ d → Apart (released a c s) (released b d r)
@@ -37,7 +37,7 @@ pub data Apart : Event → Event → Type 0 where
 
 -- both happen, one after the other
 abbrev pub Both : World → Event → Event → Type 0
-Both w e f = Legal w e × Legal (step w e) f
+Both w e f = Legal w e × Legal (after-event w e) f
 
 -- one log from the other by exchanging neighbours, never two takes
 pub data Reordered : List Event → List Event → Type 0 where

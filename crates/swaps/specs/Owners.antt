@@ -11,14 +11,14 @@ use Rattle.model.specs.Log.{Actor, Event, attempt-begun, boundary-run, yielded,
 use Rattle.model.specs.Arena.{spentTo, cellsOf, holdOf, bitAt, ownerAt, waitersAt, setCell, setWaiters, stateAt}
 use Rattle.types.specs.declared.Head.{Head}
 use Rattle.laws.specs.Words.{length-set-cell, length-set-waiters, waiters-set-cell, bit-set-waiters, owner-set-waiters, waiters-set-same, waiters-set-other, Seen, here, there, see}
-use Rattle.history.specs.World.{World, worldOf, cells, Legal, step, now, Lawful}
+use Rattle.history.specs.World.{World, worldOf, cells, Legal, after-event, now, Lawful}
 use Rattle.history.specs.Tests.{Status, free, held, free-words, state-free, alive, live}
-use Rattle.history.specs.Events.{next-step}
+use Rattle.history.specs.Events.{next-after}
 use Rattle.swaps.specs.Steps.{on-table}
 use Rattle.swaps.specs.Logs.{Both}
 use Rattle.swaps.specs.Renaming.{Serials, flip, renamed-owners, renamed, renamed-all}
 use Rattle.swaps.specs.Statements.{Renames, Renamed-words, Issued-stay}
-use Rattle.swaps.specs.Fine.{Fine, fine-step, at}
+use Rattle.swaps.specs.Fine.{Fine, fine-on, at}
 
 -- ---- renamings
 
@@ -244,7 +244,7 @@ module _ (to : ℕ → ℕ) (w v : World) (f : Fine w) (r : Renamed to w v) wher
       go (no e) = waiters-set-other (v .table) c n d e ∙ r .waiters d k ∙ sym (waiters-set-other (w .table) c n d e)
 
 abbrev Follows : (ℕ → ℕ) → World → World → Event → Type 0
-Follows to w v e = Legal v (renamed to e) × Renamed to (step w e) (step v (renamed to e))
+Follows to w v e = Legal v (renamed to e) × Renamed to (after-event w e) (after-event v (renamed to e))
 
 pub follow : {old : ℕ} {to back : ℕ → ℕ} (w v : World) (e : Event) → Fine w → Serials old (w .head .next) to back → 1 ≤ old → Renamed to w v
     → Legal w e → Follows to w v e
@@ -314,23 +314,23 @@ follow {to = to} w v (health-set i n) f z o r l = (
 
 -- ---- a whole log in both worlds
 
-pub grows : (w : World) (e : Event) → w .head .next ≤ step w e .head .next
-grows w e = omega (arith, next-step w e)
+pub grows : (w : World) (e : Event) → w .head .next ≤ after-event w e .head .next
+grows w e = omega (arith, next-after w e)
 
 pub grows-now : (w : World) (es : List Event) → w .head .next ≤ now w es .head .next
 grows-now w [] = omega arith
-grows-now w (e ∷ es) = omega (arith, grows w e, grows-now (step w e) es)
+grows-now w (e ∷ es) = omega (arith, grows w e, grows-now (after-event w e) es)
 
 pub fine-now : (w : World) (es : List Event) → Fine w → Lawful w es → Fine (now w es)
 fine-now w [] f l = f
-fine-now w (e ∷ es) f l = fine-now (step w e) es (fine-step w e f (l .0)) (l .1)
+fine-now w (e ∷ es) f l = fine-now (after-event w e) es (fine-on w e f (l .0)) (l .1)
 
 pub follow-all : {old : ℕ} {to back : ℕ → ℕ} (w v : World) (es : List Event) → Fine w → Serials old (w .head .next) to back → 1 ≤ old → Renamed to w v
     → Lawful w es → Lawful v (renamed-all to es) × Renamed to (now w es) (now v (renamed-all to es))
 follow-all w v [] f z o r l = (tt, r)
 follow-all {to = to} w v (e ∷ es) f z o r l =
     let p = follow w v e f z o r (l .0) in
-    let q = follow-all (step w e) (step v (renamed to e)) es (fine-step w e f (l .0)) (weaker (omega arith) (grows w e) z) o (p .1) (l .1) in
+    let q = follow-all (after-event w e) (after-event v (renamed to e)) es (fine-on w e f (l .0)) (weaker (omega arith) (grows w e) z) o (p .1) (l .1) in
     ((p .0, q .0), q .1)
 
 -- ---- two takes exchanged, and what follows them renamed
@@ -355,10 +355,10 @@ owner-low (held p q r) l = r
 
 module _ (w : World) (a b : Actor) (c d n : ℕ) (f : Fine w) (x : c ≢ d) (l : Both w (took a c n) (took b d (n + 1))) where
   abbrev one-way : World
-  one-way = step (step w (took a c n)) (took b d (n + 1))
+  one-way = after-event (after-event w (took a c n)) (took b d (n + 1))
 
   abbrev other-way : World
-  other-way = step (step w (took b d n)) (took a c (n + 1))
+  other-way = after-event (after-event w (took b d n)) (took a c (n + 1))
 
   in-c : 3 * c + 1 < length (w .table)
   in-c = omega (arith, at w f c (l .0 .0 .0))

@@ -9,9 +9,9 @@ use lib.Seq.{set-comm, set-set, getD-set-same, getD-set-other}
 use Rattle.model.specs.Log.{Actor, Event, took, released, waiters-set}
 use Rattle.model.specs.Arena.{bitAt, ownerAt, waitersAt, setCell, setWaiters}
 use Rattle.laws.specs.Words.{length-set-cell, owner-set, owner-set-other}
-use Rattle.history.specs.World.{World, cells, Legal, step}
+use Rattle.history.specs.World.{World, cells, Legal, after-event}
 use Rattle.swaps.specs.Steps.{on-table, exchanged}
-use Rattle.swaps.specs.Logs.{Quiet, attempts, boundaries, yields, spins, drops, holds, sums, Apart, quiet-first, quiet-second, take-release, release-take, release-release, take-waiters, waiters-take, release-waiters, waiters-release, waiters-waiters, take-health, health-take, release-health, health-release, waiters-health, health-waiters, health-health, Both}
+use Rattle.swaps.specs.Logs.{Still, attempts, boundaries, yields, spins, drops, holds, sums, Apart, still-first, still-second, take-release, release-take, release-release, take-waiters, waiters-take, release-waiters, waiters-release, waiters-waiters, take-health, health-take, release-health, health-release, waiters-health, health-waiters, health-health, Both}
 use Rattle.swaps.specs.Statements.{Exchanged-words, Two-events, Two-take-events}
 use Rattle.swaps.specs.Fine.{Fine, fine, state-kept, live-kept, at}
 
@@ -71,8 +71,8 @@ exchanged-cells c d t n p q =
 -- ---- events that are apart
 
 pub apart-sym : {e f : Event} → Apart e f → Apart f e
-apart-sym (quiet-first q) = quiet-second q
-apart-sym (quiet-second q) = quiet-first q
+apart-sym (still-first q) = still-second q
+apart-sym (still-second q) = still-first q
 apart-sym (take-release n) = release-take (λ x. n (sym x))
 apart-sym (release-take n) = take-release (λ x. n (sym x))
 apart-sym (release-release n) = release-release (λ x. n (sym x))
@@ -89,28 +89,28 @@ apart-sym waiters-health = health-waiters
 apart-sym health-waiters = waiters-health
 apart-sym (health-health n) = health-health (λ x. n (sym x))
 
-pub quiet-step : (w : World) {e : Event} → Quiet e → step w e ≡ w
-quiet-step w attempts = refl
-quiet-step w boundaries = refl
-quiet-step w yields = refl
-quiet-step w spins = refl
-quiet-step w drops = refl
-quiet-step w holds = refl
-quiet-step w sums = refl
+pub still-world : (w : World) {e : Event} → Still e → after-event w e ≡ w
+still-world w attempts = refl
+still-world w boundaries = refl
+still-world w yields = refl
+still-world w spins = refl
+still-world w drops = refl
+still-world w holds = refl
+still-world w sums = refl
 
-quiet-legal : (w : World) {e : Event} → Quiet e → Legal w e
-quiet-legal w attempts = tt
-quiet-legal w boundaries = tt
-quiet-legal w yields = tt
-quiet-legal w spins = tt
-quiet-legal w drops = tt
-quiet-legal w holds = tt
-quiet-legal w sums = tt
+still-legal : (w : World) {e : Event} → Still e → Legal w e
+still-legal w attempts = tt
+still-legal w boundaries = tt
+still-legal w yields = tt
+still-legal w spins = tt
+still-legal w drops = tt
+still-legal w holds = tt
+still-legal w sums = tt
 
 -- the world left is the same either way: this needs no premise at all
-pub commute : (w : World) {e f : Event} → Apart e f → step (step w e) f ≡ step (step w f) e
-commute w {e = e} {f = f} (quiet-first q) = rw (quiet-step w q, quiet-step (step w f) q)
-commute w {e = e} {f = f} (quiet-second q) = rw (quiet-step w q, quiet-step (step w e) q)
+pub commute : (w : World) {e f : Event} → Apart e f → after-event (after-event w e) f ≡ after-event (after-event w f) e
+commute w {e = e} {f = f} (still-first q) = rw (still-world w q, still-world (after-event w f) q)
+commute w {e = e} {f = f} (still-second q) = rw (still-world w q, still-world (after-event w e) q)
 commute w (take-release {c = c} {s = s} {d = d} n) = rw (cells-swap (w .table) c 1 s d 0 0 n)
 commute w (release-take {c = c} {d = d} {r = r} n) = rw (cells-swap (w .table) c 0 0 d 1 r n)
 commute w (release-release {c = c} {d = d} n) = rw (cells-swap (w .table) c 0 0 d 0 0 n)
@@ -128,9 +128,9 @@ commute w health-waiters = refl
 commute w (health-health {i = i} {n = n} {j = j} {m = m} x) = rw (set-comm (w .health) i j n m x)
 
 -- whether the second is legal does not hang on the first having happened
-pub before : (w : World) {e f : Event} → Fine w → Apart e f → Legal (step w e) f → Legal w f
-before w g (quiet-first {f = f} q) l = rw (quiet-step w q) at l
-before w g (quiet-second q) l = quiet-legal w q
+pub before : (w : World) {e f : Event} → Fine w → Apart e f → Legal (after-event w e) f → Legal w f
+before w g (still-first {f = f} q) l = rw (still-world w q) at l
+before w g (still-second q) l = still-legal w q
 before w g (take-release {a = a} {c = c} {s = s} {d = d} {r = r} n) l = sym (live-kept w (took a c s) d r g (λ x. n (sym x))) ∙ l
 before w g (release-take {a = a} {c = c} {s = s} {d = d} n) l =
     ((l .0 .0, sym (state-kept w (released a c s) d g (l .0 .0) (λ x. n (sym x))) ∙ l .0 .1), l .1)
@@ -148,9 +148,9 @@ before w g waiters-health l = l
 before w g health-waiters l = l
 before w g (health-health n) l = l
 
-pub after : (w : World) {e f : Event} → Fine w → Apart e f → Legal w f → Legal (step w e) f
-after w g (quiet-first q) l = rw (quiet-step w q) l
-after w {e = e} g (quiet-second q) l = quiet-legal (step w e) q
+pub after : (w : World) {e f : Event} → Fine w → Apart e f → Legal w f → Legal (after-event w e) f
+after w g (still-first q) l = rw (still-world w q) l
+after w {e = e} g (still-second q) l = still-legal (after-event w e) q
 after w g (take-release {a = a} {c = c} {s = s} {d = d} {r = r} n) l = live-kept w (took a c s) d r g (λ x. n (sym x)) ∙ l
 after w g (release-take {a = a} {c = c} {s = s} {d = d} n) l =
     ((l .0 .0, state-kept w (released a c s) d g (l .0 .0) (λ x. n (sym x)) ∙ l .0 .1), l .1)
@@ -177,7 +177,7 @@ events-swap w e f g a l =
 
 pub takes-swap : (w : World) (a b : Actor) (c d n : ℕ) → Fine w → c ≢ d → Both w (took a c n) (took b d (n + 1))
     → Both w (took b d n) (took a c (n + 1))
-    × (step (step w (took b d n)) (took a c (n + 1)) ≡ on-table (exchanged c d) (step (step w (took a c n)) (took b d (n + 1))))
+    × (after-event (after-event w (took b d n)) (took a c (n + 1)) ≡ on-table (exchanged c d) (after-event (after-event w (took a c n)) (took b d (n + 1))))
 takes-swap w a b c d n h x l =
     let in-c : c < cells w = l .0 .0 .0 in
     let in-d : d < cells w = l .1 .0 .0 in (

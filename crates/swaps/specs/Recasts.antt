@@ -5,11 +5,11 @@ use mathlib.Core.List.{List, [], _∷_}
 use native.Mathlib.Omega.{arith}
 use Rattle.model.specs.Log.{Event, attempt-begun, boundary-run, yielded, spun, step-dropped, took, released, waiters-set, health-set, held-all, added}
 use Rattle.types.specs.declared.Head.{Head}
-use Rattle.history.specs.World.{World, step, now, Lawful, Kind, number-of}
+use Rattle.history.specs.World.{World, after-event, now, Lawful, Kind, number-of}
 use Rattle.swaps.specs.Logs.{Both}
 use Rattle.swaps.specs.Renaming.{Serials, flip, renamed, renamed-all, Recast, same, neighbours, two-takes, behind, onward}
 use Rattle.swaps.specs.Statements.{Logs-recast}
-use Rattle.swaps.specs.Fine.{Fine, fine, fine-step}
+use Rattle.swaps.specs.Fine.{Fine, fine, fine-on}
 use Rattle.swaps.specs.Pairs.{apart-sym, commute, before, after, takes-swap}
 use Rattle.swaps.specs.Owners.{Renamed, unrenamed, onto, one-table, weaker, identity, composed, flips, follow-all, grows, grows-now, fine-now, takes-renamed}
 
@@ -45,22 +45,22 @@ unfolding number-of
 alike w {es = es} g same l =
     record { lawful = l; to = λ s. s; back = λ s. s; serials = identity _ _; world = unrenamed (now w es) (now w es) refl; numbers = λ k. refl }
 alike w g (neighbours {e = e} {f = f} {es = es} a) l =
-    let c : step (step w e) f ≡ step (step w f) e = commute w a in
+    let c : after-event (after-event w e) f ≡ after-event (after-event w f) e = commute w a in
     record {
       lawful = (before w g a (l .1 .0), (after w g (apart-sym a) (l .0), subst (λ (v : World). Lawful v es) c (l .1 .1)));
       to = λ s. s;
       back = λ s. s;
       serials = identity _ _;
-      world = unrenamed (now (step (step w e) f) es) (now (step (step w f) e) es) (ap (λ (v : World). now v es) (sym c));
+      world = unrenamed (now (after-event (after-event w e) f) es) (now (after-event (after-event w f) e) es) (ap (λ (v : World). now v es) (sym c));
       numbers = λ k. omega arith;
     }
 alike w g (two-takes {a = a} {b = b} {c = c} {d = d} {n = n} {es = es} x) l =
     let l₂ : Both w (took a c n) (took b d (n + 1)) = (l .0, l .1 .0) in
     let legal = takes-swap w a b c d n g x l₂ .0 in
-    let one : World = step (step w (took a c n)) (took b d (n + 1)) in
+    let one : World = after-event (after-event w (took a c n)) (took b d (n + 1)) in
     let z : Serials (w .head .next) (one .head .next) (flip n) (flip n) = weaker (omega (arith, l .0 .1 .0)) (omega (arith, l .0 .1 .0)) (flips n) in
-    let rest = follow-all one (step (step w (took b d n)) (took a c (n + 1))) es
-    (fine-step (step w (took a c n)) (took b d (n + 1)) (fine-step w (took a c n) g (l .0)) (l .1 .0)) z (g .low) (takes-renamed w a b c d n g x l₂) (l .1 .1) in
+    let rest = follow-all one (after-event (after-event w (took b d n)) (took a c (n + 1))) es
+    (fine-on (after-event w (took a c n)) (took b d (n + 1)) (fine-on w (took a c n) g (l .0)) (l .1 .0)) z (g .low) (takes-renamed w a b c d n g x l₂) (l .1 .1) in
     record {
       lawful = (legal .0, (legal .1, rest .0));
       to = flip n;
@@ -70,7 +70,7 @@ alike w g (two-takes {a = a} {b = b} {c = c} {d = d} {n = n} {es = es} x) l =
       numbers = λ k. omega (arith, renamed-numbers (flip n) k es);
     }
 alike w g (behind {e = e} r) l =
-    let i = alike (step w e) (fine-step w e g (l .0)) r (l .1) in
+    let i = alike (after-event w e) (fine-on w e g (l .0)) r (l .1) in
     record {
       lawful = (l .0, i .lawful);
       to = i .to;

@@ -17,7 +17,7 @@ use Rattle.types.specs.declared.Check.the-variants as check
 use Rattle.types.specs.declared.Head.{Head}
 use Rattle.types.specs.declared.KeyCheck.{KeyCheck}
 use Rattle.types.specs.declared.KeyCheck.the-variants as key
-use Rattle.types.specs.declared.Played.{Played}
+use Rattle.types.specs.declared.ScriptReply.{ScriptReply}
 use Rattle.types.specs.declared.Refusal.{Refusal}
 use Rattle.types.specs.declared.State.{State}
 use Rattle.types.specs.declared.State.the-variants as state
@@ -78,7 +78,7 @@ abbrev Seen-alike : (A : Type 0) → Made A → Made A → Type 0
 Seen-alike A m n = n .seen ≡ m .seen
 
 abbrev Reply : Type 0
-Reply = Played × (List ℕ × List ℕ)
+Reply = ScriptReply × (List ℕ × List ℕ)
 
 module _ {h : Head} {a b : List ℕ} {Good : Ran → Type 0} (tw : Twins h a b Good) (e : length b ≡ length a) (t g : List ℕ) (place : ℕ)
     (x : Good (flowOf (h .next) place 0, (t, g))) where
@@ -119,7 +119,7 @@ module _ {h : Head} {a b : List ℕ} {Good : Ran → Type 0} (tw : Twins h a b G
   unfolding acquireLocksOf locksRules
   acquire-locks-alike registry held keys grants =
       let r = locks-alike tw (holdsOf held) (h .buckets) (h .boot) registry keys grants (countIn keys) 0 [] (starting h place) t g x in
-      rw e (judged-two (Seen-alike (Played × (List ℕ × (List ℕ × List ℕ)))) (first (locksRules h t g registry a place held keys grants)) (λ _. refl) (rw r))
+      rw e (judged-two (Seen-alike (ScriptReply × (List ℕ × (List ℕ × List ℕ)))) (first (locksRules h t g registry a place held keys grants)) (λ _. refl) (rw r))
 
   acquire-sorted-alike : (registry held keys grants : List ℕ)
       → acquireSortedOf h t g registry b place held keys grants .seen ≡ acquireSortedOf h t g registry a place held keys grants .seen
@@ -127,7 +127,7 @@ module _ {h : Head} {a b : List ℕ} {Good : Ran → Type 0} (tw : Twins h a b G
   acquire-sorted-alike registry held keys grants =
       let sorted = cellsSorted (h .buckets) registry keys in
       let r = locks-alike tw (holdsOf held) (h .buckets) (h .boot) registry (sortedKeys (h .buckets) registry keys) grants (length sorted) 0 [] (starting h place) t g x in
-      rw e (judged-two (Seen-alike (Played × (List ℕ × (List ℕ × List ℕ)))) (first (locksRules h t g registry a place held keys grants)) (λ _. refl)
+      rw e (judged-two (Seen-alike (ScriptReply × (List ℕ × (List ℕ × List ℕ)))) (first (locksRules h t g registry a place held keys grants)) (λ _. refl)
       (go (firstKey (countIn keys) 0 h registry keys) (rw r)))
     where
       go : (k : KeyCheck) → sortedLocksOf h t g registry b place held keys grants .seen ≡ sortedLocksOf h t g registry a place held keys grants .seen

@@ -8,12 +8,13 @@ use native.Mathlib.Decide.{ℕ-discrete, decLt}
 use native.Mathlib.Omega.{arith}
 use lib.Dec.{ltb, leb, eqb}
 use borrow.Author.Tests.{eqb-true, eq-eqb, ltb-true}
+use Rattle.choice.specs.Pick.{same-truth}
 use Rattle.choice.specs.Choice.{if_then_else_}
 use Rattle.model.specs.Log.{Event, by-script, took, released}
 use Rattle.model.specs.Arena.{holdOf, cellsOf, bitAt, ownerAt, isFree, isLive, isIn, sameHold, serialRemains}
 use Rattle.types.specs.declared.Head.{Head}
 use Rattle.types.specs.declared.Hold.{Hold}
-use Rattle.history.specs.World.{World, cells, step}
+use Rattle.history.specs.World.{World, cells, after-event}
 use Rattle.history.specs.Tests.{alive, live}
 use Rattle.swaps.specs.Steps.{Step, stepWords, take-step, leaves, dropped, after-all, dropped-in}
 use Rattle.swaps.specs.Renaming.{Serials, flip, renamed, renamed-step, renamed-steps, Retaken, same, neighbours, two-takes, idle-take, behind, onward, Older}
@@ -22,12 +23,6 @@ use Rattle.swaps.specs.Fine.{Fine, fine}
 use Rattle.swaps.specs.Acts.{Act, idle, never, takes, frees, waits, heals, legal, event, settle, missed, acted, is-legal, read, leaves-is, dropped-is, fine-leaves, swapped, takes-both-ways, idle-take-swap}
 use Rattle.swaps.specs.Lists.{fine-all}
 use Rattle.swaps.specs.Owners.{into, Renamed, follow, weaker, grows, identity, composed, unrenamed, onto, one-table, flips, takes-renamed}
-
--- two tests that follow from one another
-same-test : (a b : Bool) → (a ≡ true → b ≡ true) → (b ≡ true → a ≡ true) → a ≡ b
-same-test true b f g = sym (f refl)
-same-test false true f g = g refl
-same-test false false f g = refl
 
 abbrev renamed-act : (ℕ → ℕ) → Act → Act
 renamed-act to idle = idle
@@ -45,7 +40,7 @@ module _ {old next : ℕ} {to back : ℕ → ℕ} (z : Serials old next to back)
     where
       same : eqb (l .serial) (to s) ≡ eqb (l .serial) s
       same =
-          same-test (eqb (l .serial) (to s)) (eqb (l .serial) s)
+          same-truth (eqb (l .serial) (to s)) (eqb (l .serial) s)
           (λ e. eq-eqb (l .serial) s (into z (l .serial) s (z .old-stay (l .serial) (o .0) ∙ eqb-true (l .serial) (to s) e)))
           (λ e. eq-eqb (l .serial) (to s) (sym (z .old-stay (l .serial) (o .0)) ∙ ap to (eqb-true (l .serial) s e)))
 
@@ -53,7 +48,7 @@ module _ {old next : ℕ} {to back : ℕ → ℕ} (z : Serials old next to back)
 live-renamed : {old : ℕ} {to back : ℕ → ℕ} (w v : World) (c s : ℕ) → Fine w → Serials old (w .head .next) to back → 1 ≤ old → Renamed to w v
     → isLive (v .head .next) (cells v) (v .table) (holdOf c (to s)) ≡ isLive (w .head .next) (cells w) (w .table) (holdOf c s)
 live-renamed {old} {to} {back} w v c s f z o r =
-    same-test (isLive (v .head .next) (cells v) (v .table) (holdOf c (to s))) (isLive (w .head .next) (cells w) (w .table) (holdOf c s)) back-way
+    same-truth (isLive (v .head .next) (cells v) (v .table) (holdOf c (to s))) (isLive (w .head .next) (cells w) (w .table) (holdOf c s)) back-way
     (λ l. follow w v (released by-script c s) f z o r l .0)
   where
     back-way : isLive (v .head .next) (cells v) (v .table) (holdOf c (to s)) ≡ true → isLive (w .head .next) (cells w) (w .table) (holdOf c s) ≡ true
@@ -91,7 +86,7 @@ module _ {old : ℕ} {to back : ℕ → ℕ} (ps : List Hold) (w v : World) (f :
     where
       owner : (i : c < cells w) → eqb (ownerAt (v .table) c) 0 ≡ eqb (ownerAt (w .table) c) 0
       owner i =
-          same-test (eqb (ownerAt (v .table) c) 0) (eqb (ownerAt (w .table) c) 0)
+          same-truth (eqb (ownerAt (v .table) c) 0) (eqb (ownerAt (w .table) c) 0)
           (λ e. eq-eqb (ownerAt (w .table) c) 0 (into z (ownerAt (w .table) c) 0 (sym (r .owners c i) ∙ eqb-true (ownerAt (v .table) c) 0 e ∙ sym (z .old-stay 0 (omega arith)))))
           (λ e. eq-eqb (ownerAt (v .table) c) 0 (r .owners c i ∙ ap to (eqb-true (ownerAt (w .table) c) 0 e) ∙ z .old-stay 0 (omega arith)))
 
@@ -213,7 +208,7 @@ exchange ps w c n d m ss f x y l =
     let b = takes-both-ways ps w c n d m f x l in
     let r : Renamed (flip k) (leaves ps (leaves ps w s) t) (leaves ps (leaves ps w t) s) =
     subst (λ (u : World). Renamed (flip k) u (leaves ps (leaves ps w t) s)) (sym (b .one-way))
-    (subst (λ (u : World). Renamed (flip k) (step (step w (took by-script c k)) (took by-script d (k + 1))) u) (sym (b .other-way))
+    (subst (λ (u : World). Renamed (flip k) (after-event (after-event w (took by-script c k)) (took by-script d (k + 1))) u) (sym (b .other-way))
     (takes-renamed w by-script by-script c d k f x (b .events))) in
     let z : Serials k (leaves ps (leaves ps w s) t .head .next) (flip k) (flip k) =
     subst (λ (u : World). Serials k (u .head .next) (flip k) (flip k)) (sym (b .one-way)) (flips k) in

@@ -10,8 +10,8 @@ use Rattle.model.specs.Arena.{bitAt, ownerAt, waitersAt, holdsOf}
 use Rattle.model.specs.Foreign.{flowOf, boundaryOf}
 use Rattle.model.specs.Calls.{given, environmentOf}
 use Rattle.types.specs.declared.Hold.{Hold}
-use Rattle.types.specs.declared.Played.{Played}
-use Rattle.history.specs.World.{World, Live, step, now, Lawful, Whole as Arena-whole, Kind, number-of}
+use Rattle.types.specs.declared.ScriptReply.{ScriptReply}
+use Rattle.history.specs.World.{World, Live, after-event, now, Lawful, Whole as Arena-whole, Kind, number-of}
 use Rattle.history.specs.Items.{Call, perform, foreign-step, Item, Course, run}
 use Rattle.swaps.specs.Steps.{Whole, Step, take-step, release-step, waiters-step, health-step, leaves, dropped, on-table, exchanged, Parted, after-all, dropped-in, Shuffled}
 use Rattle.swaps.specs.Logs.{Apart, Both, Reordered}
@@ -136,14 +136,14 @@ Idle-take =
 
 abbrev pub Two-events : Type 0
 Two-events =
-    (w : World) (e f : Event) → Whole w → Apart e f → Both w e f → Both w f e × (step (step w f) e ≡ step (step w e) f)
+    (w : World) (e f : Event) → Whole w → Apart e f → Both w e f → Both w f e × (after-event (after-event w f) e ≡ after-event (after-event w e) f)
 
 -- two takes, with the serials that each order gives them
 abbrev pub Two-take-events : Type 0
 Two-take-events =
     (w : World) (a b : Actor) (c d n : ℕ) → Whole w → c ≢ d → Both w (took a c n) (took b d (n + 1))
     → Both w (took b d n) (took a c (n + 1))
-    × (step (step w (took b d n)) (took a c (n + 1)) ≡ on-table (exchanged c d) (step (step w (took a c n)) (took b d (n + 1))))
+    × (after-event (after-event w (took b d n)) (took a c (n + 1)) ≡ on-table (exchanged c d) (after-event (after-event w (took a c n)) (took b d (n + 1))))
 
 -- ---- whole traces, no two takes exchanged: the same state and the same counts
 
@@ -239,7 +239,7 @@ Calls-rescripted = (w : World) (k l : Call) → Whole w → Rescripted k l → p
 -- ---- scripts, takes exchanged too: one boundary, as `environment` runs it. The same reply (answer, head, place, counts) and health; the
 -- table with the owners renamed.
 
-pub record Reply-renamed (w : World) (o p : Played × (List ℕ × List ℕ)) : Type 0 where
+pub record Reply-renamed (w : World) (o p : ScriptReply × (List ℕ × List ℕ)) : Type 0 where
   pub to : ℕ → ℕ
   pub back : ℕ → ℕ
   pub serials : Serials (w .head .next) (o .0 .head .next) to back

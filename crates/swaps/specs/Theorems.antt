@@ -9,7 +9,7 @@ use Rattle.swaps.specs.Owners.{renamed-cells, issued-moves}
 use Rattle.swaps.specs.Recasts.{recast-logs}
 use Rattle.swaps.specs.Retakes.{steps-retake, live-before}
 use Rattle.swaps.specs.Rescripts.{calls-rescript}
-use Rattle.swaps.specs.Environments.{boundary-plays, environment-retake}
+use Rattle.swaps.specs.Environments.{boundary-goes, environment-retake}
 
 pub sound-whole : Sound-whole
 sound-whole = sound-arena
@@ -102,7 +102,7 @@ pub history-shuffled : History-shuffled
 history-shuffled = history-shuffle
 
 pub boundary-runs : Boundary-runs
-boundary-runs = boundary-plays
+boundary-runs = boundary-goes
 
 pub calls-rescripted : Calls-rescripted
 calls-rescripted = calls-rescript

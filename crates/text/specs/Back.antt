@@ -13,7 +13,7 @@ use Rattle.choice.specs.Choice.{if_then_else_}
 use Rattle.io.specs.Digits.{glyph, digits, Fewest}
 use Rattle.text.specs.declared.Number.{Number}
 use Rattle.text.specs.Text.{isDigit, digitsIn, valueFrom, noNumber, endedNumberOf, readNumberOf}
-use Rattle.text.specs.Decimal.{placesOf, decimalOf, length-decimal, places-are, places-is}
+use Rattle.text.specs.Decimal.{digitCount, decimalOf, length-decimal, digit-count-are, digit-count-is}
 use Rattle.text.specs.Laws.{digit-is}
 
 pub glyph-is : (d : ℕ) → d < 10 → glyph d ≡ 48 + d
@@ -82,21 +82,21 @@ value-none v (b ∷ r) h = go (isDigit b) h
     go false e = refl
 
 abbrev pub wholeNumber : ℕ → Number
-wholeNumber n = record { fine = true; value = n; digits = placesOf n }
+wholeNumber n = record { fine = true; value = n; digits = digitCount n }
 
 -- a number that is printed is read, if no digit stands behind it
 pub number-back : (n : ℕ) (r : List ℕ) → n ≤ 4294967295 → digitsIn r ≡ 0 → readNumberOf (decimalOf n ++ r) ≡ wholeNumber n
 unfolding decimalOf readNumberOf endedNumberOf
-number-back n r small none = go (places-are n (omega arith))
+number-back n r small none = go (digit-count-are n (omega arith))
   where
-    go : Fewest 10 1 n (placesOf n)
-        → (if ltb 4294967295 (valueFrom 0 (digits 10 (placesOf n) n ++ r)) then noNumber
-        else endedNumberOf (getD (digits 10 (placesOf n) n ++ r) 0 0) (digitsIn (digits 10 (placesOf n) n ++ r)) (valueFrom 0 (digits 10 (placesOf n) n ++ r))) ≡ wholeNumber n
+    go : Fewest 10 1 n (digitCount n)
+        → (if ltb 4294967295 (valueFrom 0 (digits 10 (digitCount n) n ++ r)) then noNumber
+        else endedNumberOf (getD (digits 10 (digitCount n) n ++ r) 0 0) (digitsIn (digits 10 (digitCount n) n ++ r)) (valueFrom 0 (digits 10 (digitCount n) n ++ r))) ≡ wholeNumber n
     go f =
-        let v : valueFrom 0 (digits 10 (placesOf n) n ++ r) ≡ n = value-digits (placesOf n) n 0 r (f .1) ∙ value-none (10 ^ placesOf n * 0 + n) r none ∙ (omega arith) in
-        let c : digitsIn (digits 10 (placesOf n) n ++ r) ≡ placesOf n = count-digits (placesOf n) n r ∙ rw none (omega arith) in
-        let some : placesOf n ≢ 0 = omega (arith, f .0) in
-        rw (v, c, le-ltb _ _ small, ne-eqb _ _ some, unpadded (placesOf n) n r f)
+        let v : valueFrom 0 (digits 10 (digitCount n) n ++ r) ≡ n = value-digits (digitCount n) n 0 r (f .1) ∙ value-none (10 ^ digitCount n * 0 + n) r none ∙ (omega arith) in
+        let c : digitsIn (digits 10 (digitCount n) n ++ r) ≡ digitCount n = count-digits (digitCount n) n r ∙ rw none (omega arith) in
+        let some : digitCount n ≢ 0 = omega (arith, f .0) in
+        rw (v, c, le-ltb _ _ small, ne-eqb _ _ some, unpadded (digitCount n) n r f)
 
 -- ---- and only what was printed is read whole
 
@@ -160,12 +160,12 @@ fewest-is b l h z = (omega arith, omega (arith, value-bounds 0 (b ∷ l) h .1), 
         let low : 10 ^ length l * 1 ≤ 10 ^ length l * (10 * 0 + (b - 48)) = mul-le-mul (omega arith) (omega (arith, d, eqb-false b 48 e)) in
         rw (k, value-more 0 b l (a .0)) (omega (arith, i .0, low))
 
-decimal-back : (n : ℕ) → n < 2 ^ 64 → (digitsIn (decimalOf n) ≡ placesOf n) × (valueFrom 0 (decimalOf n) ≡ n)
+decimal-back : (n : ℕ) → n < 2 ^ 64 → (digitsIn (decimalOf n) ≡ digitCount n) × (valueFrom 0 (decimalOf n) ≡ n)
 unfolding decimalOf digitsIn valueFrom
 decimal-back n h =
-    let c = count-digits (placesOf n) n [] in
-    let v = value-digits (placesOf n) n 0 [] (places-are n h .1) in
-    (rw (append-nil (digits 10 (placesOf n) n)) at c ∙ (omega arith), rw (append-nil (digits 10 (placesOf n) n)) at v ∙ (omega arith))
+    let c = count-digits (digitCount n) n [] in
+    let v = value-digits (digitCount n) n 0 [] (digit-count-are n h .1) in
+    (rw (append-nil (digits 10 (digitCount n) n)) at c ∙ (omega arith), rw (append-nil (digits 10 (digitCount n) n)) at v ∙ (omega arith))
 
 -- digits that are read as a number, with nothing behind them, are that number printed
 pub number-whole : (l : List ℕ) → 0 < length l → readNumberOf l .digits ≡ length l → l ≡ decimalOf (readNumberOf l .value)
@@ -177,7 +177,7 @@ number-whole (b ∷ l) h e = go (ltb 4294967295 (valueFrom 0 (b ∷ l))) refl (e
     whole small z all =
         let n = valueFrom 0 (b ∷ l) in
         let few : n < 2 ^ 64 = omega arith in
-        let k = places-is n (length (b ∷ l)) few (fewest-is b l all (rw all at z)) in
+        let k = digit-count-is n (length (b ∷ l)) few (fewest-is b l all (rw all at z)) in
         let back = decimal-back n few in
         same-digits 0 0 (b ∷ l) (decimalOf n) (k ∙ sym (length-decimal n)) all (back .0 ∙ sym (length-decimal n)) (sym (back .1)) .1
 

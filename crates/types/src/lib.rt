@@ -20,7 +20,7 @@ pub struct Lease {
     pub boot: u32,
 }
 
-// What is left of a lease where its boot number is known to be the head's: the steps inside a call go by these pairs.
+// What is left of a lease where its boot number is known to be the head's: the parts of a call go by these pairs.
 pub struct Hold {
     pub cell: u32,
     pub serial: u32,
@@ -107,7 +107,7 @@ pub struct Reply {
 }
 
 // The result of a call that takes a script: the place it left comes with it.
-pub struct Played {
+pub struct ScriptReply {
     pub head: Head,
     pub place: usize,
     pub counts: Counts,
@@ -124,7 +124,7 @@ pub struct CrewReply {
     pub answer: Answer,
 }
 
-// Below: what goes from step to step inside a call.
+// Below: what goes from part to part inside a call.
 
 // What foreign steps change besides table and health: the next serial, the script's place, the steps dropped so far.
 pub struct Flow {
@@ -187,7 +187,7 @@ pub struct Tried {
     pub outcome: Outcome,
 }
 
-// What multi-lock's steps come to.
+// What multi-lock's parts come to.
 pub struct Ended {
     pub run: Run,
     pub answer: Answer,

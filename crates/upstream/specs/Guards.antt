@@ -28,11 +28,12 @@ use Rattle.types.specs.declared.Refusal.the-variants.{BadBinding}
 use Rattle.types.specs.declared.Run.{Run}
 use Rattle.laws.specs.Checks.{first-hit, first-skip}
 use Rattle.laws.specs.Lists.{words-back}
+use Rattle.history.specs.Judged.{refused-so}
 use Rattle.history.specs.Items.{Call, try-lock, acquire-locks, unchanged, perform, Clear}
 use Rattle.history.specs.Statements.{answers}
 use Rattle.laws.specs.Keys.{place-inside}
 use Rattle.upstream.specs.Vocabulary.{Key, Authority, Pair, Guard, lease-key, contains-key, key-at, guards-place, guards-match, all-guards-in, physical-members, guard-members}
-use Rattle.upstream.specs.Bridge.{refused, by-checks}
+use Rattle.upstream.specs.Bridge.{by-checks}
 use Rattle.upstream.specs.Keys.{Granted-at, retry-key}
 use Rattle.upstream.specs.TryLock.{granted-key}
 
@@ -160,7 +161,7 @@ module _ (w : Authority) (registry script : List ℕ) (place : ℕ) (held keys g
       → ((j : ℕ) → j < i → key-at keys j .0 < length registry) → length registry ≤ key-at keys i .0 → perform w call ≡ unchanged w call (BadBinding i)
   unfolding locksRules
   acquire-index-locks-r1 i k m l before at =
-      refused w call (BadBinding i)
+      refused-so w call (BadBinding i)
       (first-clear Before _ k ∙ first-skip (tooManyKeys held keys grants) _ m
       ∙ past-first registry keys (countIn keys) 0 i l (λ j p. let y : 0 + j ≡ j = omega arith in rw y (before j p)) (let z : 0 + i ≡ i = omega arith in rw z at)
       ∙ ap {B = Check} (λ n. Fault (BadBinding n)) (let z : 0 + i ≡ i = omega arith in z))

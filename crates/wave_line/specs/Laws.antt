@@ -10,13 +10,12 @@ use native.Mathlib.Nat.{pow-le-pow-right}
 use lib.Dec.{eqb, ltb, leb}
 use lib.ListN.{length, getD, drop, take, length-append, drop-of-length-le}
 use lib.Seq.{sets, sets-eq, take-at, drop-cons}
-use borrow.Author.Tests.{ltb-true, ltb-false, lt-ltb, le-ltb, le-leb, lt-leb, eq-eqb, ne-eqb, eqb-true, eqb-false}
+use borrow.Author.Tests.{ltb-true, ltb-false, lt-ltb, le-ltb, le-leb, eq-eqb, ne-eqb, eqb-true, eqb-false}
 use Rattle.choice.specs.Choice.{if_then_else_}
-use Rattle.choice.specs.Pick.{if-both}
 use Rattle.text.specs.declared.Number.{Number}
 use Rattle.text.specs.Text.{isDigit, digitsIn, valueFrom, noNumber, endedNumberOf, readNumberOf}
 use Rattle.text.specs.Laws.{digit-is, digits-at, digits-end, value-at, value-end}
-use Rattle.text.specs.Decimal.{decimalOf, placesOf, length-decimal, places-most, places-few}
+use Rattle.text.specs.Decimal.{decimalOf, digitCount, length-decimal, digit-count-most, digit-count-few}
 use Rattle.text.specs.Back.{wholeNumber, number-back, number-whole}
 use Rattle.wave_rules.specs.Lines.{joined, same}
 use Rattle.wave_rules.specs.Dump.{turned}
@@ -24,10 +23,10 @@ use Rattle.wave_rules.specs.declared.Stage.{Stage}
 use Rattle.wave_rules.specs.declared.Stage.the-variants.{Opening, Scope, Variables, Ending, Start, Values, Waiting, Changing, Lost}
 use Rattle.wave_rules.specs.Dump.{flipOf, timescale, scopeLine, varLine, upscope, endLine, timeLine, bitLine}
 use Rattle.wave_rules.specs.Reader.{timeIn, cellIn, afterVariable, afterValue, isTime, isChange, nextOf, bitsOf}
-use Rattle.wave_rules.specs.Stages.{false-not, nested, time-later, Reach}
+use Rattle.wave_rules.specs.Stages.{false-not, nested, same-refl as same-self, same-true, time-later, Reach}
 use Rattle.wave_line.specs.Stages.{isLost, isChanging, sumOf, stampOf, afterTime, onwardOf}
 use Rattle.print.specs.Print.{putOf}
-use Rattle.wave_write.specs.Laws.{length-time, length-bit, length-var, five-places}
+use Rattle.wave_write.specs.Laws.{length-time, length-bit, length-var, five-digits}
 
 neither : (b : Bool) → (if b then false else false) ≡ false
 neither true = refl
@@ -52,18 +51,6 @@ same-at x y i h k = rw (drop-cons x i 0 h, drop-cons y i 0 k, add-one i)
 pub same-end : (x y : List ℕ) (i : ℕ) → length x ≤ i → length y ≤ i → same (drop i x) (drop i y) ≡ true
 unfolding same
 same-end x y i h k = rw (drop-of-length-le x h, drop-of-length-le y k)
-
-same-self : (x : List ℕ) → same x x ≡ true
-unfolding same
-same-self [] = refl
-same-self (a ∷ x) = rw (eq-eqb a a refl, same-self x)
-
-same-true : (x y : List ℕ) → same x y ≡ true → x ≡ y
-unfolding same
-same-true [] [] e = refl
-same-true [] (b ∷ y) e = false-not e
-same-true (a ∷ x) [] e = false-not e
-same-true (a ∷ x) (b ∷ y) e = let p = nested (eqb a b) (same x y) e in cc (eqb-true a b (p .0), same-true x y (p .1))
 
 -- a line of a bit has two bytes
 pub same-bit : (x : List ℕ) (bit c : ℕ) → length x ≡ 2
@@ -100,8 +87,8 @@ same-decimal y h k = go (eqb (length y) (readNumberOf y .digits)) refl (same y (
         let t = readNumberOf y .value in
         let w : decimalOf t ++ [] ≡ y = append-nil (decimalOf t) ∙ sym (same-true y (decimalOf t) q) in
         let back : readNumberOf (decimalOf t ++ []) ≡ wholeNumber t = number-back t [] (omega arith) refl in
-        let d : readNumberOf y .digits ≡ placesOf t = sym (ap (λ (o : List ℕ). readNumberOf o .digits) w) ∙ ap (λ (o : Number). o .digits) back in
-        let l : length y ≡ placesOf t = ap length (same-true y (decimalOf t) q) ∙ length-decimal t in
+        let d : readNumberOf y .digits ≡ digitCount t = sym (ap (λ (o : List ℕ). readNumberOf o .digits) w) ∙ ap (λ (o : Number). o .digits) back in
+        let l : length y ≡ digitCount t = ap length (same-true y (decimalOf t) q) ∙ length-decimal t in
         absurd (eqb-false (length y) (readNumberOf y .digits) p (l ∙ sym d))
     go false p false q = q
 
@@ -194,7 +181,7 @@ stamp-is last (a ∷ y) e =
     let some : 0 < t = omega (arith, l .0) in
     let w = read-parts y some in
     let n : length y ≡ digitsIn y = eqb-true (length y) (readNumberOf y .digits) (sym (same-decimal y some (l .1)) ∙ r .1) ∙ w .0 in
-    let few : length y ≤ 5 = omega (arith, ap length (same-true y (decimalOf t) (r .1)), length-decimal t, five-places t (omega (arith, l .1))) in
+    let few : length y ≤ 5 = omega (arith, ap length (same-true y (decimalOf t) (r .1)), length-decimal t, five-digits t (omega (arith, l .1))) in
     let z = first-some y (sym n) (omega (arith, some, w .1)) (w .2) in
     let c : 2 ≤ suc (length y) = omega (arith, n, w .3) in
     let f : suc (length y) ≤ 6 = omega arith in
@@ -352,10 +339,10 @@ unfolding timescale scopeLine upscope endLine
 fixed-short = (omega arith, omega arith, omega arith, omega arith)
 
 var-short : (c : ℕ) → c < 94 → length (varLine c) ≤ 22
-var-short c h = omega (arith, length-var c, places-few c 2 (omega arith) (omega arith) (omega arith))
+var-short c h = omega (arith, length-var c, digit-count-few c 2 (omega arith) (omega arith) (omega arith))
 
 time-short : (t : ℕ) → length (timeLine t) ≤ 22
-time-short t = omega (arith, length-time t, places-most t)
+time-short t = omega (arith, length-time t, digit-count-most t)
 
 bit-short : (bit c : ℕ) → length (bitLine bit c) ≤ 22
 bit-short bit c = omega (arith, length-bit bit c)

@@ -1,5 +1,5 @@
 // The stages of the waveform's reader (document 02, L11): what one line leads to. The only lines that lead on are those
-// that the writer would put there. The functions are steps: each may have a `requires`, which its callers prove.
+// that the writer would put there. The functions are parts: each may have a `requires`, which its callers prove.
 use wave_rules::Stage;
 use wave_rules::Verdict;
 ghost use mathlib.Core.Path.{_≡_};
@@ -164,7 +164,7 @@ fn after_time(n: usize, last: usize, line: &[u8]) -> Stage
     Stage::Changing(n, last, t)
 }
 
-// The cell that a line names, 0 where it names none. A step: the reader calls it.
+// The cell that a line names, 0 where it names none. A part: the reader calls it.
 pub fn cell_in(line: &[u8]) -> usize
     ensures { λ r. ⌜ r ≡ cellIn (now (line .entry)) ⌝ }
 {
@@ -189,7 +189,7 @@ fn is_change(n: usize, bits: &[u8; 94], line: &[u8]) -> bool
     false
 }
 
-// What a line leads to. A step: the reader calls it.
+// What a line leads to. A part: the reader calls it.
 pub fn next(stage: Stage, bits: &[u8; 94], line: &[u8]) -> Stage
     requires { ⌜ Reach stage ⌝ }
     ensures { λ r. ⌜ r ≡ nextOf stage (now (bits .entry)) (now (line .entry)) ⌝ }
@@ -207,7 +207,7 @@ pub fn next(stage: Stage, bits: &[u8; 94], line: &[u8]) -> Stage
     }
 }
 
-// What a line leads to that was found right before. A step: the reader calls it.
+// What a line leads to that was found right before. A part: the reader calls it.
 pub fn onward(stage: Stage, line: &[u8]) -> Stage
     requires { ⌜ Reach stage ⌝ }
     ensures { λ r. ⌜ r ≡ onwardOf stage (now (line .entry)) ⌝ }
@@ -235,7 +235,7 @@ fn fixed(holds: bool, onward: Stage) -> Stage
     Stage::Lost
 }
 
-// Whether a line led nowhere. A step: the reader calls it.
+// Whether a line led nowhere. A part: the reader calls it.
 pub fn is_lost(stage: Stage) -> bool
     ensures { λ r. ⌜ r ≡ isLost stage ⌝ }
 {
@@ -252,7 +252,7 @@ pub fn is_lost(stage: Stage) -> bool
     }
 }
 
-// Whether a change is waited for. A step: the reader calls it.
+// Whether a change is waited for. A part: the reader calls it.
 pub fn is_changing(stage: Stage) -> bool
     ensures { λ r. ⌜ r ≡ isChanging stage ⌝ }
 {
@@ -269,7 +269,7 @@ pub fn is_changing(stage: Stage) -> bool
     }
 }
 
-// The bits after a line that was taken. A step: the reader calls it.
+// The bits after a line that was taken. A part: the reader calls it.
 pub fn bits_after(stage: Stage, bits: &mut [u8; 94], line: &[u8])
     requires { ⌜ Reach stage × (isLost (nextOf stage (now bits) (now line)) ≡ false) ⌝ }
     ensures { λ r. ⌜ now (bits .exit) ≡ bitsOf stage (now (bits .entry)) (now (line .entry)) ⌝ }
@@ -281,7 +281,7 @@ pub fn bits_after(stage: Stage, bits: &mut [u8; 94], line: &[u8])
     }
 }
 
-// The verdict where the text ends. A step: the reader calls it.
+// The verdict where the text ends. A part: the reader calls it.
 pub fn at_end(stage: Stage, k: usize) -> Verdict
     ensures { λ r. ⌜ r ≡ atEnd stage k ⌝ }
 {
@@ -298,7 +298,7 @@ pub fn at_end(stage: Stage, k: usize) -> Verdict
     }
 }
 
-// How many steps only count before the change that is waited for. A step: the reader calls it.
+// How many steps only count before the change that is waited for. A part: the reader calls it.
 pub fn gap(stage: Stage) -> usize
     requires { ⌜ Reach stage ⌝ }
     ensures { λ r. ⌜ r ≡ gapOf stage ⌝ }

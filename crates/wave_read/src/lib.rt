@@ -1,6 +1,6 @@
 // The reader of the waveform (document 02, L11): each line leads from a stage to the next (crate `wave_line`). A first
 // pass finds the wrong line, or how many words there are; a second writes them, so that nothing is written where they
-// do not fit. Each function but `read` is a step: it may have a `requires`, which its callers prove.
+// do not fit. Each function but `read` is a part: it may have a `requires`, which its callers prove.
 use wave_rules::Stage;
 use wave_rules::Undumped;
 use wave_rules::Verdict;

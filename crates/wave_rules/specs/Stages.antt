@@ -2,13 +2,14 @@
 -- words are read.
 use Prim.Native.Nat.{ℕ, zero, suc, _+_, _*_, _-_, _≤_, _<_}
 use mathlib.Core.Path.{_≡_, refl}
-use mathlib.Core.List.{List, _∷_}
+use mathlib.Core.List.{List, [], _∷_}
 use mathlib.Core.Bool.{Bool, true, false}
 use native.Mathlib.Omega.{arith}
-use lib.Dec.{ltb, leb}
+use lib.Dec.{ltb, leb, eqb}
 use lib.ListN.{length, getD}
-use borrow.Author.Tests.{ltb-true, leb-true}
+use borrow.Author.Tests.{ltb-true, leb-true, eqb-true, eq-eqb}
 use Rattle.choice.specs.Choice.{if_then_else_}
+pub use Rattle.choice.specs.Pick.{false-not}
 use Rattle.wave_rules.specs.Lines.{Items, finish, torn, line, same}
 use Rattle.wave_rules.specs.Dump.{turns, changesOf, timescale, scopeLine, varLine, upscope, endLine, timeLine, bitLine}
 use Rattle.wave_rules.specs.declared.Stage.{Stage}
@@ -19,9 +20,6 @@ use Rattle.wave_rules.specs.Reader.{timeIn, cellIn, afterVariable, after
 
 -- ---- tests that hold
 
-pub false-not : {A : Type 0} → false ≡ true → A
-false-not z = let w : _≡_ {A = ℕ} 0 1 = cc in absurd (omega arith)
-
 pub bad-not : {A : Type 0} {k n last : ℕ} → Bad k ≡ Fine n last → A
 bad-not z = let w : _≡_ {A = ℕ} 0 1 = cc in absurd (omega arith)
 
@@ -29,6 +27,19 @@ bad-not z = let w : _≡_ {A = ℕ} 0 1 = cc in absurd (omega arith)
 pub nested : (a b : Bool) → (if a then b else false) ≡ true → (a ≡ true) × (b ≡ true)
 nested true b e = (refl, e)
 nested false b e = false-not e
+
+-- two lines that are the same
+pub same-refl : (x : List ℕ) → same x x ≡ true
+unfolding same
+same-refl [] = refl
+same-refl (a ∷ x) = rw (eq-eqb a a refl) (same-refl x)
+
+pub same-true : (x y : List ℕ) → same x y ≡ true → x ≡ y
+unfolding same
+same-true [] [] e = refl
+same-true [] (b ∷ y) e = false-not e
+same-true (a ∷ x) [] e = false-not e
+same-true (a ∷ x) (b ∷ y) e = let p = nested (eqb a b) (same x y) e in cc (eqb-true a b (p .0), same-true x y (p .1))
 
 -- a step that changes a bit is on a cell that there is, and turns it
 pub changes-in : (n : ℕ) (bits : List ℕ) (kind c : ℕ) → changesOf n bits kind c ≡ true

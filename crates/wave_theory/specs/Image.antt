@@ -9,8 +9,8 @@ use lib.ListN.{length, getD}
 use borrow.Author.Tests.{lt-ltb, ltb-true, ltb-false}
 use Rattle.choice.specs.Choice.{if_then_else_}
 use Rattle.wave_rules.specs.Lines.{Items, finish, torn, line, splitOf, same}
-use Rattle.wave_theory.specs.Texts.{itemsOf, textOf, same-true, text-split, text-items}
-use Rattle.wave_rules.specs.Stages.{bad-not, nested, time-later, idle-length, onward}
+use Rattle.wave_theory.specs.Texts.{itemsOf, textOf, text-split, text-items}
+use Rattle.wave_rules.specs.Stages.{bad-not, nested, time-later, idle-length, onward, same-true}
 use Rattle.wave_rules.specs.Dump.{noBits, turns, turned, changesOf, flipOf, timescale, scopeLine, varLine, upscope, endLine, timeLine, bitLine, eachOf, varsOf, firstOf, bodyOf, middleOf, linesOf, dumpOf, Dumpable}
 use Rattle.wave_rules.specs.declared.Stage.{Stage}
 use Rattle.wave_rules.specs.declared.Stage.the-variants.{Opening, Scope, Variables, Ending, Start, Values, Waiting, Changing, Lost}

@@ -12,12 +12,12 @@ use Rattle.choice.specs.Choice.{if_then_else_}
 use Rattle.io.specs.Digits.{glyph, digits}
 use Rattle.text.specs.declared.Number.{Number}
 use Rattle.text.specs.Text.{digitsIn}
-use Rattle.text.specs.Decimal.{decimalOf, placesOf}
+use Rattle.text.specs.Decimal.{decimalOf, digitCount}
 use Rattle.text.specs.Back.{glyph-is, number-back}
 use Rattle.wave_rules.specs.Lines.{Items, line, same}
-use Rattle.wave_theory.specs.Texts.{itemsOf, plain, allPlain, same-refl, split-joined}
+use Rattle.wave_theory.specs.Texts.{itemsOf, plain, allPlain, split-joined}
 use Rattle.wave_theory.specs.Bits.{bitsAfter}
-use Rattle.wave_rules.specs.Stages.{changes-in}
+use Rattle.wave_rules.specs.Stages.{changes-in, same-refl}
 use Rattle.wave_rules.specs.Dump.{noBits, turns, turned, changesOf, flipOf, timescale, scopeLine, varLine, upscope, endLine, timeLine, bitLine, eachOf, varsOf, firstOf, bodyOf, middleOf, linesOf, dumpOf, Dumpable}
 use Rattle.wave_rules.specs.declared.Stage.{Stage}
 use Rattle.wave_rules.specs.declared.Stage.the-variants.{Opening, Scope, Variables, Ending, Start, Values, Waiting, Changing}
@@ -191,7 +191,7 @@ plain-digits (suc k) n r =
 
 plain-time : (t : ℕ) → plain (timeLine t) ≡ true
 unfolding plain timeLine decimalOf
-plain-time t = rw (← append-nil (digits 10 (placesOf t) t)) (plain-digits (placesOf t) t [])
+plain-time t = rw (← append-nil (digits 10 (digitCount t) t)) (plain-digits (digitCount t) t [])
 
 plain-bit : (bit c : ℕ) → plain (bitLine bit c) ≡ true
 unfolding plain bitLine
@@ -202,7 +202,7 @@ plain-bit bit c =
 
 plain-var : (c : ℕ) → plain (varLine c) ≡ true
 unfolding plain varLine decimalOf
-plain-var c = let q : 33 + c ≢ 10 = omega arith in rw (ne-eqb _ _ q) (plain-digits (placesOf c) c (32 ∷ 36 ∷ 101 ∷ 110 ∷ 100 ∷ []))
+plain-var c = let q : 33 + c ≢ 10 = omega arith in rw (ne-eqb _ _ q) (plain-digits (digitCount c) c (32 ∷ 36 ∷ 101 ∷ 110 ∷ 100 ∷ []))
 
 plain-each : (lineFor : ℕ → List ℕ) → ((c : ℕ) → plain (lineFor c) ≡ true) → (left c : ℕ) (ls : List (List ℕ)) → allPlain ls ≡ true
     → allPlain (eachOf lineFor c left ls) ≡ true

@@ -4,10 +4,10 @@ use mathlib.Core.Path.{_≡_, refl}
 use mathlib.Core.List.{List, [], _∷_, _++_}
 use mathlib.Core.Bool.{Bool, true, false, _&&_}
 use lib.Dec.{eqb}
-use borrow.Author.Tests.{eqb-true, eq-eqb}
+use borrow.Author.Tests.{eqb-true}
 use Rattle.choice.specs.Choice.{if_then_else_}
 use Rattle.choice.specs.Pick.{both}
-use Rattle.wave_rules.specs.Lines.{joined, Items, finish, torn, line, put, splitOf, same}
+use Rattle.wave_rules.specs.Lines.{joined, Items, finish, torn, line, put, splitOf}
 
 -- whole lines
 unfoldable pub itemsOf : List (List ℕ) → Items
@@ -30,23 +30,6 @@ allPlain [] = true
 allPlain (x ∷ ls) = plain x && allPlain ls
 
 -- ---- laws
-
-pub same-refl : (x : List ℕ) → same x x ≡ true
-unfolding same
-same-refl [] = refl
-same-refl (a ∷ x) = rw (eq-eqb a a refl) (same-refl x)
-
-pub same-true : (x y : List ℕ) → same x y ≡ true → x ≡ y
-unfolding same
-same-true [] [] e = refl
-same-true [] (b ∷ y) e = let z : false ≡ true = e in cc
-same-true (a ∷ x) [] e = let z : false ≡ true = e in cc
-same-true (a ∷ x) (b ∷ y) e = go (eqb a b) refl e (same-true x y)
-  where
-    go : (t : Bool) → eqb a b ≡ t → (if t then same x y else false) ≡ true → (same x y ≡ true → x ≡ y)
-        → _≡_ {A = List ℕ} (a ∷ x) (b ∷ y)
-    go true p q f = cc (eqb-true a b p, f q)
-    go false p q f = let z : false ≡ true = q in cc
 
 split-line : (x r : List ℕ) → plain x ≡ true → splitOf (x ++ 10 ∷ r) ≡ line x (splitOf r)
 unfolding splitOf plain

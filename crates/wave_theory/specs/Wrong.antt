@@ -7,8 +7,8 @@ use native.Mathlib.Omega.{arith}
 use lib.Dec.{eqb}
 use Rattle.choice.specs.Choice.{if_then_else_}
 use Rattle.wave_rules.specs.Lines.{Items, finish, torn, line, put, splitOf}
-use Rattle.wave_theory.specs.Texts.{itemsOf, textOf, same-refl, split-joined, text-split}
-use Rattle.wave_rules.specs.Stages.{bad-not, Reach, reach-next}
+use Rattle.wave_theory.specs.Texts.{itemsOf, textOf, split-joined, text-split}
+use Rattle.wave_rules.specs.Stages.{bad-not, Reach, reach-next, same-refl}
 use Rattle.wave_rules.specs.Dump.{noBits, flipOf, scopeLine, endLine, timeLine, firstOf, linesOf, dumpOf, Dumpable}
 use Rattle.wave_rules.specs.declared.Stage.{Stage}
 use Rattle.wave_rules.specs.declared.Stage.the-variants.{Opening, Scope, Variables, Ending, Start, Values, Waiting, Changing, Lost}

@@ -6,13 +6,14 @@ use mathlib.Core.Bool.{Bool, true, false}
 use native.Mathlib.Omega.{arith}
 use lib.Dec.{eqb}
 use lib.ListN.{length, getD, drop, length-append, length-drop}
-use lib.Seq.{sets, drop-cons}
+use lib.Seq.{sets}
 use borrow.Author.Tests.{eqb-true}
+use Rattle.choice.specs.Lists.{drop-three}
 use Rattle.choice.specs.Choice.{if_then_else_}
 use Rattle.choice.specs.Pick.{if-both}
 use Rattle.print.specs.Print.{putOf}
 use Rattle.print.specs.Laws.{put-none, put-join, put-place}
-use Rattle.text.specs.Decimal.{placesIn, placesOf, decimalOf, length-decimal, places-most, places-few}
+use Rattle.text.specs.Decimal.{digitCountIn, digitCount, decimalOf, length-decimal, digit-count-most, digit-count-few}
 use Rattle.wave_rules.specs.Lines.{joined}
 use Rattle.wave_rules.specs.Dump.{noBits, turns, turned, changesOf, flipOf, timescale, scopeLine, upscope, endLine, timeLine, bitLine, varLine, eachOf, varsOf, firstOf, bodyOf, middleOf, linesOf, dumpOf}
 use Rattle.wave_rules.specs.declared.Dumped.{Dumped}
@@ -38,7 +39,7 @@ put-line : (l m : List ℕ) (i j : ℕ) (x : List ℕ) (ls : List (List ℕ)) �
     → putOf m j (joined ls) ≡ putOf l i (joined (x ∷ ls))
 put-line l m i j x ls e = rw (joined-line x ls) (put-join l m (putOf m j (joined ls) .1) i j (putOf m j (joined ls) .0) (joined (x ∷ [])) (joined ls) e refl)
 
-pub length-time : (t : ℕ) → length (timeLine t) ≡ 1 + placesOf t
+pub length-time : (t : ℕ) → length (timeLine t) ≡ 1 + digitCount t
 unfolding timeLine
 length-time t = omega (arith, length-decimal t)
 
@@ -46,7 +47,7 @@ pub length-bit : (bit c : ℕ) → length (bitLine bit c) ≡ 2
 unfolding bitLine
 length-bit bit c = refl
 
-pub length-var : (c : ℕ) → length (varLine c) ≡ 20 + placesOf c
+pub length-var : (c : ℕ) → length (varLine c) ≡ 20 + digitCount c
 unfolding varLine
 length-var c = omega (arith, length-append (decimalOf c) (32 ∷ 36 ∷ 101 ∷ 110 ∷ 100 ∷ []), length-decimal c)
 
@@ -115,7 +116,7 @@ unfolding wantedOf
 wanted-few kind = if-both (λ (n : ℕ). n ≤ 1) (eqb kind 1) (omega arith) (omega arith)
 
 change-size : (t bit cell : ℕ) (ls : List (List ℕ))
-    → length (joined (timeLine t ∷ bitLine bit cell ∷ ls)) ≡ placesOf t + 5 + length (joined ls)
+    → length (joined (timeLine t ∷ bitLine bit cell ∷ ls)) ≡ digitCount t + 5 + length (joined ls)
 change-size t bit cell ls = omega (arith, length-line (timeLine t) (bitLine bit cell ∷ ls), length-line (bitLine bit cell) ls, length-time t, length-bit bit cell)
 
 -- two lines are put, and the rest is left to put
@@ -126,18 +127,10 @@ put-two l m i j x y ls e =
     rw p (put-join l m (putOf m j (joined ls) .1) i j (putOf m j (joined ls) .0) (joined (x ∷ y ∷ [])) (joined ls) e refl)
 
 -- the number of a cell or of a step
-pub five-places : (t : ℕ) → t < 100000 → placesOf t ≤ 5
-five-places t h = places-few t 5 (omega arith) (omega arith) (omega arith)
+pub five-digits : (t : ℕ) → t < 100000 → digitCount t ≤ 5
+five-digits t h = digit-count-few t 5 (omega arith) (omega arith) (omega arith)
 
 -- ---- a loop over steps: one turn, and the end
-
-drop-three : (l : List ℕ) (i : ℕ) → i + 2 < length l
-    → drop i l ≡ getD l i 0 ∷ getD l (i + 1) 0 ∷ getD l (i + 2) 0 ∷ drop (i + 3) l
-drop-three l i h =
-    let a : suc i ≡ i + 1 = omega arith in
-    let b : suc (i + 1) ≡ i + 2 = omega arith in
-    let c : suc (i + 2) ≡ i + 3 = omega arith in
-    rw (drop-cons l i 0 (omega arith), a, drop-cons l (i + 1) 0 (omega arith), b, drop-cons l (i + 2) 0 h, c)
 
 body-at : (n t : ℕ) (bits script : List ℕ) (i : ℕ) → i + 2 < length script
     → bodyOf n t bits (drop i script)
@@ -184,7 +177,7 @@ body-turn n t bits script i out at r b o h e = rw (body-at n t bits script i h) 
 -- there is room for a step's lines
 pub body-room : (n t : ℕ) (bits script : List ℕ) (i : ℕ) (out m : List ℕ) (at j : ℕ) (y : List ℕ)
     → i + 2 < length script → changesOf n bits (getD script i 0) (getD script (i + 1) 0) ≡ true
-    → putOf out at (joined (bodyOf n t bits (drop i script))) ≡ putOf m j y → at + placesOf t + 5 ≤ j + length y
+    → putOf out at (joined (bodyOf n t bits (drop i script))) ≡ putOf m j y → at + digitCount t + 5 ≤ j + length y
 body-room n t bits script i out m at j y h c e =
     let s = put-size out m at j (joined (bodyOf n t bits (drop i script))) y e in
     let d = rw c at (body-at n t bits script i h) in
@@ -198,15 +191,15 @@ unfolding weighOf
 body-less n t bits script i r b h few e = rw (body-at n t bits script i h) (go (changesOf n bits (getD script i 0) (getD script (i + 1) 0)) e)
   where
     go : (z : Bool)
-        → _≡_ {A = ℕ × List ℕ} (r, b) (if z then (placesOf t + 5, flipOf bits (getD script (i + 1) 0)) else (0, bits))
+        → _≡_ {A = ℕ × List ℕ} (r, b) (if z then (digitCount t + 5, flipOf bits (getD script (i + 1) 0)) else (0, bits))
         → (r + length (joined (bodyOf n (t + 1) b (drop (i + 3) script)))
         ≡ length (joined (if z
         then timeLine t ∷ bitLine (turned (getD bits (getD script (i + 1) 0) 0)) (getD script (i + 1) 0) ∷ bodyOf n (t + 1) (flipOf bits (getD script (i + 1) 0)) (drop (i + 3) script)
         else bodyOf n (t + 1) bits (drop (i + 3) script)))) × (r ≤ 10)
     go true f =
-        let p : r ≡ placesOf t + 5 = ap (λ (q : ℕ × List ℕ). q .0) f in
+        let p : r ≡ digitCount t + 5 = ap (λ (q : ℕ × List ℕ). q .0) f in
         let q : b ≡ flipOf bits (getD script (i + 1) 0) = ap (λ (q : ℕ × List ℕ). q .1) f in
-        rw q (omega (arith, p, change-size t (turned (getD bits (getD script (i + 1) 0) 0)) (getD script (i + 1) 0) (bodyOf n (t + 1) (flipOf bits (getD script (i + 1) 0)) (drop (i + 3) script))), omega (arith, p, five-places t few))
+        rw q (omega (arith, p, change-size t (turned (getD bits (getD script (i + 1) 0) 0)) (getD script (i + 1) 0) (bodyOf n (t + 1) (flipOf bits (getD script (i + 1) 0)) (drop (i + 3) script))), omega (arith, p, five-digits t few))
     go false f =
         let p : r ≡ 0 = ap (λ (q : ℕ × List ℕ). q .0) f in
         let q : b ≡ bits = ap (λ (q : ℕ × List ℕ). q .1) f in
@@ -236,7 +229,7 @@ dump-parts n script =
     joined-append (timescale ∷ scopeLine ∷ []) (varsOf 0 n m) ∙ ap (λ (o : List ℕ). joined (timescale ∷ scopeLine ∷ []) ++ o) v ∙ simp append-assoc
 
 pub head-size : (n : ℕ) → length (headOf n) ≡ 80 + (length (joined (varsOf 0 n [])) + length (joined (firstOf 0 n [])))
-unfolding headOf joined timescale scopeLine upscope endLine timeLine decimalOf placesOf placesIn
+unfolding headOf joined timescale scopeLine upscope endLine timeLine decimalOf digitCount digitCountIn
 head-size n = simp length-append (omega arith)
 
 -- ---- what a step's function leaves
@@ -253,7 +246,7 @@ unfolding stepOf
 step-none n t bits kind cell out at b c p = rw (c, p)
 
 pub weigh-done : (n t : ℕ) (bits : List ℕ) (kind cell r : ℕ) (b : List ℕ) → changesOf n bits kind cell ≡ true
-    → b ≡ flipOf bits cell → r ≡ placesOf t → (r + 5, b) ≡ weighOf n t bits kind cell
+    → b ≡ flipOf bits cell → r ≡ digitCount t → (r + 5, b) ≡ weighOf n t bits kind cell
 unfolding weighOf
 weigh-done n t bits kind cell r b c p q = rw (c, p, q)
 
@@ -266,7 +259,7 @@ weigh-none n t bits kind cell b c p = rw (c, p)
 
 pub head-turn : (n c : ℕ) → c < n
     → length (joined (varsOf c (n - c) [])) + length (joined (firstOf c (n - c) []))
-    ≡ 24 + placesOf c + (length (joined (varsOf (c + 1) (n - (c + 1)) [])) + length (joined (firstOf (c + 1) (n - (c + 1)) [])))
+    ≡ 24 + digitCount c + (length (joined (varsOf (c + 1) (n - (c + 1)) [])) + length (joined (firstOf (c + 1) (n - (c + 1)) [])))
 head-turn n c h =
     rw (each-at varLine n c [] h, each-at (bitLine 0) n c [] h)
     (omega (arith, length-line (varLine c) (varsOf (c + 1) (n - (c + 1)) []), length-var c, length-line (bitLine 0 c) (firstOf (c + 1) (n - (c + 1)) []), length-bit 0 c))
@@ -279,7 +272,7 @@ pub head-few : (left c : ℕ) → length (joined (varsOf c left [])) + length (j
 unfolding eachOf joined
 head-few zero c = omega arith
 head-few (suc left) c =
-    omega (arith, length-append (varLine c) (10 ∷ joined (varsOf (c + 1) left [])), length-append (bitLine 0 c) (10 ∷ joined (firstOf (c + 1) left [])), length-var c, length-bit 0 c, places-most c, head-few left (c + 1))
+    omega (arith, length-append (varLine c) (10 ∷ joined (varsOf (c + 1) left [])), length-append (bitLine 0 c) (10 ∷ joined (firstOf (c + 1) left [])), length-var c, length-bit 0 c, digit-count-most c, head-few left (c + 1))
 
 pub dump-size : (n : ℕ) (script : List ℕ)
     → length (dumpOf n script) ≡ length (headOf n) + length (joined (bodyOf n 1 noBits script))

@@ -6,7 +6,7 @@ use lib.Dec.{eqb}
 use lib.ListN.{getD}
 use Rattle.choice.specs.Choice.{if_then_else_}
 use Rattle.print.specs.Print.{putOf}
-use Rattle.text.specs.Decimal.{placesOf}
+use Rattle.text.specs.Decimal.{digitCount}
 use Rattle.wave_rules.specs.Lines.{joined}
 use Rattle.wave_rules.specs.Dump.{turned, changesOf, flipOf, timescale, scopeLine, upscope, endLine, timeLine, bitLine, varsOf, firstOf}
 
@@ -26,7 +26,7 @@ stepOf n t bits kind cell out at =
 
 -- the bytes of one step, and the bits after it
 unfoldable pub weighOf : ℕ → ℕ → List ℕ → ℕ → ℕ → ℕ × List ℕ
-weighOf n t bits kind cell = if changesOf n bits kind cell then (placesOf t + 5, flipOf bits cell) else (0, bits)
+weighOf n t bits kind cell = if changesOf n bits kind cell then (digitCount t + 5, flipOf bits cell) else (0, bits)
 
 -- the lines before the first change
 unfoldable pub headOf : ℕ → List ℕ

@@ -1,5 +1,5 @@
 // The writer of the waveform (document 02, L11): first how long the dump is, so that nothing is written where it does
-// not fit, and then its bytes. Each function but `write` is a step: it may have a `requires`, which its callers prove.
+// not fit, and then its bytes. Each function but `write` is a part: it may have a `requires`, which its callers prove.
 use print::put;
 use print::put_number;
 use wave_rules::Dumped;
@@ -9,7 +9,7 @@ ghost use mathlib.Core.Bool.{true};
 ghost use mathlib.Core.List.{[], _∷_};
 ghost use lib.ListN.{length};
 ghost use Rattle.print.specs.Print.{putOf};
-ghost use Rattle.text.specs.Decimal.{placesOf};
+ghost use Rattle.text.specs.Decimal.{digitCount};
 ghost use Rattle.wave_rules.specs.Lines.{joined};
 ghost use Rattle.wave_rules.specs.Dump.{noBits, changesOf, timeLine, bitLine, varLine, varsOf, firstOf, bodyOf};
 ghost use Rattle.wave_rules.specs.Dump.{turns as Dump·turns, turned as Dump·turned};
@@ -18,9 +18,9 @@ ghost use Rattle.wave_write.specs.Writer.{wantedOf, flippedOf, stepOf, w
 
 // ---- lines
 
-// A step: the reader calls it too.
+// A part: the reader calls it too.
 pub fn put_time(out: &mut [u8], at: usize, t: usize) -> usize
-    requires { ⌜ at + placesOf t + 2 ≤ length (now out) ⌝ }
+    requires { ⌜ at + digitCount t + 2 ≤ length (now out) ⌝ }
     ensures { λ r. ⌜ (r, now (out .exit)) ≡ putOf (now (out .entry)) at (joined (timeLine t ∷ [])) ⌝ }
 {
     let a = put(out, at, b"#");
@@ -36,9 +36,9 @@ fn put_bit(out: &mut [u8], at: usize, bit: u8, cell: u8) -> usize
     put(out, at, &text)
 }
 
-// A step: the reader calls it too.
+// A part: the reader calls it too.
 pub fn put_var(out: &mut [u8], at: usize, cell: u8) -> usize
-    requires { ⌜ (cell < 94) × (at + placesOf cell + 21 ≤ length (now out)) ⌝ }
+    requires { ⌜ (cell < 94) × (at + digitCount cell + 21 ≤ length (now out)) ⌝ }
     ensures { λ r. ⌜ (r, now (out .exit)) ≡ putOf (now (out .entry)) at (joined (varLine cell ∷ [])) ⌝ }
 {
     let front = [
@@ -102,7 +102,7 @@ fn turns(kind: u32, bit: u8) -> bool
     kind == 2
 }
 
-// A step: the reader calls it too.
+// A part: the reader calls it too.
 pub fn turned(bit: u8) -> u8
     ensures { λ r. ⌜ r ≡ Dump·turned bit ⌝ }
 {
@@ -129,7 +129,7 @@ fn flip(n: usize, bits: &mut [u8; 94], kind: u32, cell: usize) -> bool
 }
 
 fn put_change(out: &mut [u8], at: usize, t: usize, bit: u8, cell: u8) -> usize
-    requires { ⌜ (bit ≤ 1) × (cell < 94) × (at + placesOf t + 5 ≤ length (now out)) ⌝ }
+    requires { ⌜ (bit ≤ 1) × (cell < 94) × (at + digitCount t + 5 ≤ length (now out)) ⌝ }
     ensures { λ r. ⌜ (r, now (out .exit))
         ≡ putOf (now (out .entry)) at (joined (timeLine t ∷ bitLine bit cell ∷ [])) ⌝ }
 {
@@ -158,7 +158,7 @@ fn step(
     at: usize,
 ) -> usize
     requires { ⌜ (n ≤ 94) ×
-        (changesOf n (now bits) kind cell ≡ true → at + placesOf t + 5 ≤ length (now out)) ⌝ }
+        (changesOf n (now bits) kind cell ≡ true → at + digitCount t + 5 ≤ length (now out)) ⌝ }
     ensures { λ r. ⌜ (r, (now (bits .exit), now (out .exit)))
         ≡ stepOf n t (now (bits .entry)) kind cell (now (out .entry)) at ⌝ }
 {
@@ -201,9 +201,9 @@ fn put_head(out: &mut [u8], n: u8) -> usize
 
 // ---- how long
 
-fn places(t: usize) -> usize
+fn digit_count(t: usize) -> usize
     requires { ⌜ t < 100000 ⌝ }
-    ensures { λ r. ⌜ r ≡ placesOf t ⌝ }
+    ensures { λ r. ⌜ r ≡ digitCount t ⌝ }
 {
     if t < 10 {
         return 1;
@@ -227,7 +227,7 @@ fn head_size(n: usize) -> usize
     let mut size = 80;
     let mut cell = 0;
     while cell < n {
-        size += 24 + places(cell);
+        size += 24 + digit_count(cell);
         cell += 1;
     }
     size
@@ -239,7 +239,7 @@ fn weigh(n: usize, t: usize, bits: &mut [u8; 94], kind: u32, cell: usize) -> usi
     ensures { λ r. ⌜ (r, now (bits .exit)) ≡ weighOf n t (now (bits .entry)) kind cell ⌝ }
 {
     if flip(n, bits, kind, cell) {
-        return places(t) + 5;
+        return digit_count(t) + 5;
     }
     0
 }

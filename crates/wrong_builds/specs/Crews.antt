@@ -12,7 +12,7 @@ use Rattle.model.specs.Foreign.{runStepsOf, boundaryOf}
 use Rattle.model.specs.Lock.{takeOf, lateStageOf, secondStageOf, lockOf}
 use Rattle.model.specs.Crew.{total, startOf, allWithin, risesFrom, badLists, badTurns, crewRules, tryTurnOf, heldAllOf, releaseTurnOf, turnOf, turnsOf, takenOf, releasedOf, shiftOf, crewOf}
 use Rattle.types.specs.declared.CrewReply.{CrewReply}
-use Rattle.crew_theory.specs.Statements.{In, flat, Unfinished-told, Rounds-after, Demand-3}
+use Rattle.crew_theory.specs.Statements.{In, flat, Unfinished-said, Rounds-after, Demand-3}
 use Rattle.crew_theory.specs.Examples.{opened}
 use Rattle.pinned.specs.Statements.{Crews}
 use Rattle.pinned.specs.Theorems.{no-other-crew}
@@ -30,7 +30,7 @@ named : (n : ℕ) (before : List ℕ) → Rounds-after moves-one (headOf 2 4 1 6
 named zero before = tt
 named (suc n) before = (everyone, named n (before ++ (0 ∷ 1 ∷ [])))
   where
-    everyone : (m : ℕ) → Unfinished-told (λ turns. moves-one (headOf 2 4 1 6) (replicate 24 0) (replicate 2 0) (2 ∷ 2 ∷ []) (2 ∷ 5 ∷ 2 ∷ 5 ∷ []) turns .seen .0) (2 ∷ 2 ∷ []) before m → In m (0 ∷ 1 ∷ [])
+    everyone : (m : ℕ) → Unfinished-said (λ turns. moves-one (headOf 2 4 1 6) (replicate 24 0) (replicate 2 0) (2 ∷ 2 ∷ []) (2 ∷ 5 ∷ 2 ∷ 5 ∷ []) turns .seen .0) (2 ∷ 2 ∷ []) before m → In m (0 ∷ 1 ∷ [])
     everyone zero u = inl refl
     everyone (suc zero) u = inr (inl refl)
     everyone (suc (suc m)) u = absurd (omega (arith, u .0))

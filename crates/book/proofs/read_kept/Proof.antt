@@ -26,24 +26,24 @@ returns-3 : tie.Need-returns-3
 unfolding readKeptOf keptRules firstFault isGone
 returns-3 c = rw (← c .before .before .before .version-at .ensures, ne-eqb _ _ (c .before .before .if1 .left), le-ltb _ _ (c .before .if2 .left), le-leb (c .before .before .before .before .before .args .version + 4) (c .before .before .before .version-at .result) (omega (arith, c .if3 .taken, c .before .if2 .left)))
 
-mul-line-told : tie.Need-mul-line-told
-mul-line-told c = search needs
+mul-line-read : tie.Need-mul-line-read
+mul-line-read c = search needs
 
-cast-line-told : tie.Need-cast-line-told
-cast-line-told c = search needs
+cast-line-read : tie.Need-cast-line-read
+cast-line-read c = search needs
 
-add-line-told : tie.Need-add-line-told
-add-line-told c = search needs
+add-line-read : tie.Need-add-line-read
+add-line-read c = search needs
 
-line-told-requires : tie.Need-line-told-requires
-line-told-requires c κs =
+line-read-requires : tie.Need-line-read-requires
+line-read-requires c κs =
     let e = c .before .before .before .version-at .ensures in
     let r = c .before .before .before .before .before .pre .1 (c .before .before .before .before .before .args .version) (omega (arith, c .before .before .if1 .left), omega (arith, e, c .before .if2 .left), omega (arith, e, c .if3 .left)) in
     (omega (arith, c .if3 .left, c .before .before .before .before .before .pre .0), rw e r)
 
 returns-4 : tie.Need-returns-4
 unfolding readKeptOf keptRules firstFault isGone
-returns-4 c = rw (← c .before .before .before .before .version-at .ensures, ne-eqb _ _ (c .before .before .before .if1 .left), le-ltb _ _ (c .before .before .if2 .left), lt-leb (c .before .before .before .before .before .before .args .version + 4) (c .before .before .before .before .version-at .result) (omega (arith, c .before .if3 .left, c .before .before .if2 .left)), ← c .line-told .ensures)
+returns-4 c = rw (← c .before .before .before .before .version-at .ensures, ne-eqb _ _ (c .before .before .before .if1 .left), le-ltb _ _ (c .before .before .if2 .left), lt-leb (c .before .before .before .before .before .before .args .version + 4) (c .before .before .before .before .version-at .result) (omega (arith, c .before .if3 .left, c .before .before .if2 .left)), ← c .line-read .ensures)
 
 pub read-kept-spec : {M : Type 1} → statement M
 read-kept-spec =
@@ -54,8 +54,8 @@ read-kept-spec =
     returns
     returns-2
     returns-3
-    mul-line-told
-    cast-line-told
-    add-line-told
-    line-told-requires
+    mul-line-read
+    cast-line-read
+    add-line-read
+    line-read-requires
     returns-4)

@@ -32,8 +32,8 @@ attempt-alone-requires c κs =
 answer-of-requires : tie.Need-answer-of-requires
 answer-of-requires c κs = search needs
 
-play-requires : tie.Need-play-requires
-play-requires c κs = search needs
+script-reply-requires : tie.Need-script-reply-requires
+script-reply-requires c κs = search needs
 
 same-length : tie.Need-same-length
 same-length c = search needs
@@ -45,7 +45,7 @@ returns : tie.Need-returns
 unfolding onceByKeyOf
 returns c =
     let a = c .before .before .before .before .before .before .before .before .before .before .before .before .before .before .before .before .before .before .before .before .args in
-    rw (← once-given _ (a .head) (a .script .now) (a .held .now) (a .registry .now) (a .key .binding) (a .key .bucket) (starting (a .head) (a .place)) (a .table .now) (a .health .now) (c .before .before .before .before .before .before .before .before .before .before .before .before .before .before .scope-of .ensures) _ (find-target _ _ _ _ _ _ _ _ (c .before .before .before .before .before .before .before .before .before .before .before .target-of .ensures) (c .before .before .before .before .before .before .before .before .before .before .find .ensures)), ← c .before .before .before .before .before .before .before .before .before .before .before .before .before .starting .ensures, ← c .before .before .before .before .before .before .before .attempt-alone .ensures, ← c .before .answer-of .ensures, ← c .play .ensures)
+    rw (← once-given _ (a .head) (a .script .now) (a .held .now) (a .registry .now) (a .key .binding) (a .key .bucket) (starting (a .head) (a .place)) (a .table .now) (a .health .now) (c .before .before .before .before .before .before .before .before .before .before .before .before .before .before .scope-of .ensures) _ (find-target _ _ _ _ _ _ _ _ (c .before .before .before .before .before .before .before .before .before .before .before .target-of .ensures) (c .before .before .before .before .before .before .before .before .before .before .find .ensures)), ← c .before .before .before .before .before .before .before .before .before .before .before .before .before .starting .ensures, ← c .before .before .before .before .before .before .before .attempt-alone .ensures, ← c .before .answer-of .ensures, ← c .script-reply .ensures)
 
 pub once-by-key-spec : {M : Type 1} → statement M
 once-by-key-spec =
@@ -57,7 +57,7 @@ once-by-key-spec =
     find-requires
     attempt-alone-requires
     answer-of-requires
-    play-requires
+    script-reply-requires
     same-length
     same-length-2
     returns)

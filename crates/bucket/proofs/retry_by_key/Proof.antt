@@ -27,8 +27,8 @@ settle-requires c κs = search needs
 answer-of-requires : tie.Need-answer-of-requires
 answer-of-requires c κs = search needs
 
-play-requires : tie.Need-play-requires
-play-requires c κs = search needs
+script-reply-requires : tie.Need-script-reply-requires
+script-reply-requires c κs = search needs
 
 same-length : tie.Need-same-length
 same-length c = search needs
@@ -40,7 +40,7 @@ returns : tie.Need-returns
 unfolding retryByKeyOf
 returns c =
     let a = c .before .before .before .before .before .before .before .before .before .before .before .before .before .before .before .before .before .before .args in
-    rw (← retry-given _ (a .head) (a .script .now) (a .held .now) (a .registry .now) (a .key .binding) (a .key .bucket) (starting (a .head) (a .place)) (a .table .now) (a .health .now) (c .before .before .before .before .before .before .before .before .before .before .before .before .scope-of .ensures) 4096 0 noneYet, ← c .before .before .before .before .before .before .before .before .before .before .before .starting .ensures, ← c .before .before .before .before .before .before .before .before .retry-alone .ensures, ← c .before .before .settle .ensures, ← c .before .answer-of .ensures, ← c .play .ensures)
+    rw (← retry-given _ (a .head) (a .script .now) (a .held .now) (a .registry .now) (a .key .binding) (a .key .bucket) (starting (a .head) (a .place)) (a .table .now) (a .health .now) (c .before .before .before .before .before .before .before .before .before .before .before .before .scope-of .ensures) 4096 0 noneYet, ← c .before .before .before .before .before .before .before .before .before .before .before .starting .ensures, ← c .before .before .before .before .before .before .before .before .retry-alone .ensures, ← c .before .before .settle .ensures, ← c .before .answer-of .ensures, ← c .script-reply .ensures)
 
 pub retry-by-key-spec : {M : Type 1} → statement M
 retry-by-key-spec =
@@ -51,7 +51,7 @@ retry-by-key-spec =
     retry-alone-requires
     settle-requires
     answer-of-requires
-    play-requires
+    script-reply-requires
     same-length
     same-length-2
     returns)

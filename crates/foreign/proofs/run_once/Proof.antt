@@ -14,8 +14,8 @@ boundary-requires : tie.Need-boundary-requires
 boundary-requires c κs = let e = c .before .before .before .scope-of .ensures in let f = c .before .before .before .before .before .before .before .before .pre in
     (scope-room _ _ _ _ _ _ _ e f (omega arith), scope-flow-bound _ _ _ _ _ _ 0 e f)
 
-play-requires : tie.Need-play-requires
-play-requires c κs = search needs
+script-reply-requires : tie.Need-script-reply-requires
+script-reply-requires c κs = search needs
 
 same-length : tie.Need-same-length
 same-length c = search needs
@@ -25,9 +25,9 @@ same-length-2 c = search needs
 
 returns : tie.Need-returns
 unfolding runOnceOf
-returns c = rw (← scope-none _ (c .before .before .before .before .before .before .before .before .before .before .before .before .before .before .args .head) (c .before .before .before .before .before .before .before .before .before .before .before .before .before .before .args .script .now) (c .before .before .before .before .before .before .before .before .before .before .before .before .before .before .args .held .now) (replicate 64 (replicate 2 0)) (c .before .before .before .before .before .before .before .before .before .scope-of .ensures), ← c .before .before .before .before .before .boundary .ensures, ← c .play .ensures)
+returns c = rw (← scope-none _ (c .before .before .before .before .before .before .before .before .before .before .before .before .before .before .args .head) (c .before .before .before .before .before .before .before .before .before .before .before .before .before .before .args .script .now) (c .before .before .before .before .before .before .before .before .before .before .before .before .before .before .args .held .now) (replicate 64 (replicate 2 0)) (c .before .before .before .before .before .before .before .before .before .scope-of .ensures), ← c .before .before .before .before .before .boundary .ensures, ← c .script-reply .ensures)
 
 pub run-once-spec : {M : Type 1} → statement M
 run-once-spec =
     tie.close
-    (tie.spec scope-of-requires boundary-requires play-requires same-length same-length-2 returns)
+    (tie.spec scope-of-requires boundary-requires script-reply-requires same-length same-length-2 returns)

@@ -19,8 +19,8 @@ lock-alone-requires c κs = let e = c .before .before .scope-of .ensures in let 
 answer-of-requires : tie.Need-answer-of-requires
 answer-of-requires c κs = search needs
 
-play-requires : tie.Need-play-requires
-play-requires c κs = search needs
+script-reply-requires : tie.Need-script-reply-requires
+script-reply-requires c κs = search needs
 
 same-length : tie.Need-same-length
 same-length c = search needs
@@ -32,7 +32,7 @@ returns : tie.Need-returns
 unfolding lockOnceOf
 returns c =
     let a = c .before .before .before .before .before .before .before .before .before .before .before .before .before .before .before .args in
-    rw (← scope-lock _ (a .head) (a .script .now) (holdsOf (a .held .now)) (flowOf (a .head .next) (a .place) 0) (a .table .now) (a .health .now) (a .cell) (c .before .before .before .before .before .before .before .before .before .before .scope-of .ensures), ← c .before .before .before .before .before .before .before .lock-alone .ensures, ← c .before .answer-of .ensures, ← c .play .ensures)
+    rw (← scope-lock _ (a .head) (a .script .now) (holdsOf (a .held .now)) (flowOf (a .head .next) (a .place) 0) (a .table .now) (a .health .now) (a .cell) (c .before .before .before .before .before .before .before .before .before .before .scope-of .ensures), ← c .before .before .before .before .before .before .before .lock-alone .ensures, ← c .before .answer-of .ensures, ← c .script-reply .ensures)
 
 pub lock-once-spec : {M : Type 1} → statement M
 lock-once-spec =
@@ -41,7 +41,7 @@ lock-once-spec =
     scope-of-requires
     lock-alone-requires
     answer-of-requires
-    play-requires
+    script-reply-requires
     same-length
     same-length-2
     returns)

@@ -19,8 +19,8 @@ lock-keys-requires c κs =
     let f = c .before .before .before .before .before .before .before .before .before .before .before .before .pre in
     (fine-bound _ (a .head) _ _ _ (a .place) _ _ _ (c .before .before .before .before .scope-of .ensures) f, (rw (c .before .before .before .starting .ensures) (start-run-bound _ (a .head) _ _ _ (a .place) (c .before .before .before .before .scope-of .ensures) (f .script-ok)), (f .few, (search needs, f .grants-are))))
 
-play-requires : tie.Need-play-requires
-play-requires c κs = search needs
+script-reply-requires : tie.Need-script-reply-requires
+script-reply-requires c κs = search needs
 
 same-length : tie.Need-same-length
 same-length c = search needs
@@ -35,7 +35,7 @@ returns : tie.Need-returns
 unfolding locksOnceOf
 returns c =
     let a = c .before .before .before .before .before .before .before .before .before .before .before .before .before .before .before .before .before .before .before .before .before .args in
-    rw (← locks-given _ (a .head) (a .script .now) (c .before .before .before .before .before .before .before .before .before .before .before .before .before .scope-of .ensures) _ (holdsOf (a .held .now)) (a .registry .now) (a .keys .now) (starting (a .head) (a .place)) (a .table .now) (a .health .now) (a .grants .now), ← c .before .before .before .before .before .before .before .before .before .before .before .before .starting .ensures, ← c .before .before .before .before .before .before .before .before .lock-keys .ensures, ← c .play .ensures)
+    rw (← locks-given _ (a .head) (a .script .now) (c .before .before .before .before .before .before .before .before .before .before .before .before .before .scope-of .ensures) _ (holdsOf (a .held .now)) (a .registry .now) (a .keys .now) (starting (a .head) (a .place)) (a .table .now) (a .health .now) (a .grants .now), ← c .before .before .before .before .before .before .before .before .before .before .before .before .starting .ensures, ← c .before .before .before .before .before .before .before .before .lock-keys .ensures, ← c .script-reply .ensures)
 
 pub locks-once-spec : {M : Type 1} → statement M
 locks-once-spec =
@@ -44,7 +44,7 @@ locks-once-spec =
     scope-of-requires
     starting-requires
     lock-keys-requires
-    play-requires
+    script-reply-requires
     same-length
     same-length-2
     same-length-3

@@ -1,5 +1,5 @@
 use native.Mathlib.Omega.{arith}
-use Rattle.text.specs.Decimal.{places-most}
+use Rattle.text.specs.Decimal.{digit-count-most}
 use Rattle.print.specs.Print.{pieceOf}
 use borrow.Author.Tests.{eq-eqb, ne-eqb}
 use borrow.Author.Needs.{needs}
@@ -10,7 +10,7 @@ number-at-requires : tie.Need-number-at-requires
 number-at-requires c κs = search needs
 
 put-number-requires : tie.Need-put-number-requires
-put-number-requires c κs = omega (arith, places-most (c .before .number-at .result))
+put-number-requires c κs = omega (arith, digit-count-most (c .before .number-at .result))
 
 same-length : tie.Need-same-length
 same-length c = search needs

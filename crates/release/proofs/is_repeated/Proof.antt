@@ -1,7 +1,6 @@
 -- `release::is_repeated` meets its contract.
 use Prim.Native.Nat.{_*_}
 use mathlib.Core.Path.{sym}
-use native.Mathlib.Omega.{arith}
 use lib.Seq.{length-take-le}
 use borrow.Author.Needs.{needs}
 use Rattle.release.proofs.is_repeated.Statement.{statement}

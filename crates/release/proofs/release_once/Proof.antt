@@ -22,8 +22,8 @@ give-back-requires c κs =
     let s = c .before .before .before .scope-of .ensures in
     (scope-room _ (a .head) _ _ _ (a .place) 0 s (f .script-ok) (omega arith), (rw (c .before .before .starting .ensures) (more-run-bound _ _ _ _ (omega arith) (start-run-bound _ (a .head) _ _ _ (a .place) s (f .script-ok))), (f .few, rw s (f .inside))))
 
-play-requires : tie.Need-play-requires
-play-requires c κs = search needs
+script-reply-requires : tie.Need-script-reply-requires
+script-reply-requires c κs = search needs
 
 same-length : tie.Need-same-length
 same-length c = search needs
@@ -35,7 +35,7 @@ returns : tie.Need-returns
 unfolding releaseOnceOf
 returns c =
     let a = c .before .before .before .before .before .before .before .before .before .before .before .before .before .before .args in
-    rw (← scope-given _ (a .head) (a .script .now) [] (c .before .before .before .before .before .before .before .before .before .scope-of .ensures), ← c .before .before .before .before .before .before .before .before .starting .ensures, ← c .before .before .before .before .before .give-back .ensures, ← c .play .ensures)
+    rw (← scope-given _ (a .head) (a .script .now) [] (c .before .before .before .before .before .before .before .before .before .scope-of .ensures), ← c .before .before .before .before .before .before .before .before .starting .ensures, ← c .before .before .before .before .before .give-back .ensures, ← c .script-reply .ensures)
 
 pub release-once-spec : {M : Type 1} → statement M
 release-once-spec =
@@ -44,7 +44,7 @@ release-once-spec =
     scope-of-requires
     starting-requires
     give-back-requires
-    play-requires
+    script-reply-requires
     same-length
     same-length-2
     returns)

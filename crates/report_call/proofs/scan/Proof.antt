@@ -1,4 +1,4 @@
-use Rattle.report_call.specs.Laws.{line-told, added-bounded, scan-turn, scan-bad, scan-over, scan-end}
+use Rattle.report_call.specs.Laws.{line-read, added-bounded, scan-turn, scan-bad, scan-over, scan-end}
 use Rattle.report_call.specs.Scan.{scanFrom, scanOf, Bounded}
 use borrow.Author.Needs.{needs}
 use lib.ListN.{length}
@@ -35,20 +35,20 @@ line-at-requires c κs = search needs
 add-requires : tie.Need-add-requires Inv-loop μ-loop
 add-requires c κs =
     let l = c .before .before .before .before .before .before .before .loop in
-    let good = line-told (c .before .before .before .before .before .before .before .before .before .before .args .input .now) (l .at) _ (c .before .before .before .line-at .ensures) (c .before .before .if2 .taken) in
+    let good = line-read (c .before .before .before .before .before .before .before .before .before .before .args .input .now) (l .at) _ (c .before .before .before .line-at .ensures) (c .before .before .if2 .taken) in
     (l .inv .0, omega (arith, l .inv .0 .lines, c .before .before .before .before .if1 .left), good .small)
 
 loop-less : tie.Need-loop-less Inv-loop μ-loop
 loop-less c =
     let l = c .before .before .before .before .before .before .before .before .loop in
-    let good = line-told (c .before .before .before .before .before .before .before .before .before .before .before .args .input .now) (l .at) _ (c .before .before .before .before .line-at .ensures) (c .before .before .before .if2 .taken) in
+    let good = line-read (c .before .before .before .before .before .before .before .before .before .before .before .args .input .now) (l .at) _ (c .before .before .before .before .line-at .ensures) (c .before .before .before .if2 .taken) in
     omega (arith, good .on, good .within)
 
 loop-again : tie.Need-loop-again Inv-loop μ-loop
 loop-again c =
     let l = c .before .before .before .before .before .before .before .before .loop in
     let input = c .before .before .before .before .before .before .before .before .before .before .before .args .input .now in
-    let good = line-told input (l .at) _ (c .before .before .before .before .line-at .ensures) (c .before .before .before .if2 .taken) in
+    let good = line-read input (l .at) _ (c .before .before .before .before .line-at .ensures) (c .before .before .before .if2 .taken) in
     let few : l .sums .trials < 1000 = omega (arith, l .inv .0 .lines, c .before .before .before .before .before .if1 .left) in (
       added-bounded (l .sums) _ (l .counts) _ _ (l .inv .0) few (good .small) (c .add .ensures),
       good .within,

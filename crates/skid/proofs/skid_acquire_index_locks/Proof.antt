@@ -6,8 +6,8 @@ use Rattle.skid.proofs.skid_acquire_index_locks.Tie as tie
 acquire-index-locks-requires : tie.Need-acquire-index-locks-requires
 acquire-index-locks-requires c κs = search needs
 
-played-words-requires : tie.Need-played-words-requires
-played-words-requires c κs = search needs
+script-reply-words-requires : tie.Need-script-reply-words-requires
+script-reply-words-requires c κs = search needs
 
 same-length : tie.Need-same-length
 same-length c = search needs
@@ -19,14 +19,14 @@ same-length-3 : tie.Need-same-length-3
 same-length-3 c = search needs
 
 returns : tie.Need-returns
-returns c = rw (← c .before .before .before .before .before .before .before .acquire-index-locks .ensures, ← c .played-words .ensures)
+returns c = rw (← c .before .before .before .before .before .before .before .acquire-index-locks .ensures, ← c .script-reply-words .ensures)
 
 pub skid-acquire-index-locks-spec : {M : Type 1} → statement M
 skid-acquire-index-locks-spec =
     tie.close
     (tie.spec
     acquire-index-locks-requires
-    played-words-requires
+    script-reply-words-requires
     same-length
     same-length-2
     same-length-3

@@ -6,8 +6,8 @@ use Rattle.skid.proofs.skid_environment.Tie as tie
 environment-requires : tie.Need-environment-requires
 environment-requires c κs = search needs
 
-played-words-requires : tie.Need-played-words-requires
-played-words-requires c κs = search needs
+script-reply-words-requires : tie.Need-script-reply-words-requires
+script-reply-words-requires c κs = search needs
 
 same-length : tie.Need-same-length
 same-length c = search needs
@@ -16,9 +16,9 @@ same-length-2 : tie.Need-same-length-2
 same-length-2 c = search needs
 
 returns : tie.Need-returns
-returns c = rw (← c .before .before .before .before .before .environment .ensures, ← c .played-words .ensures)
+returns c = rw (← c .before .before .before .before .before .environment .ensures, ← c .script-reply-words .ensures)
 
 pub skid-environment-spec : {M : Type 1} → statement M
 skid-environment-spec =
     tie.close
-    (tie.spec environment-requires played-words-requires same-length same-length-2 returns)
+    (tie.spec environment-requires script-reply-words-requires same-length same-length-2 returns)

@@ -1,5 +1,5 @@
 -- `skid::skid_read_version` meets its contract.
-use Rattle.book_rules.specs.Outcomes.{told-whole}
+use Rattle.book_rules.specs.Outcomes.{body-read}
 use borrow.Author.Needs.{needs}
 use Rattle.skid.proofs.skid_read_version.Statement.{statement}
 use Rattle.skid.proofs.skid_read_version.Tie as tie
@@ -8,7 +8,7 @@ read-version-requires : tie.Need-read-version-requires
 read-version-requires c κs = search needs
 
 book-words-requires : tie.Need-book-words-requires
-book-words-requires c κs = told-whole _ _ _ _ _ (c .read-version .ensures)
+book-words-requires c κs = body-read _ _ _ _ _ (c .read-version .ensures)
 
 returns : tie.Need-returns
 returns c = rw (← c .before .read-version .ensures, ← c .book-words .ensures)

@@ -6,8 +6,8 @@ use Rattle.skid.proofs.skid_release_all.Tie as tie
 release-all-requires : tie.Need-release-all-requires
 release-all-requires c κs = search needs
 
-played-words-requires : tie.Need-played-words-requires
-played-words-requires c κs = search needs
+script-reply-words-requires : tie.Need-script-reply-words-requires
+script-reply-words-requires c κs = search needs
 
 same-length : tie.Need-same-length
 same-length c = search needs
@@ -16,9 +16,9 @@ same-length-2 : tie.Need-same-length-2
 same-length-2 c = search needs
 
 returns : tie.Need-returns
-returns c = rw (← c .before .before .before .before .before .release-all .ensures, ← c .played-words .ensures)
+returns c = rw (← c .before .before .before .before .before .release-all .ensures, ← c .script-reply-words .ensures)
 
 pub skid-release-all-spec : {M : Type 1} → statement M
 skid-release-all-spec =
     tie.close
-    (tie.spec release-all-requires played-words-requires same-length same-length-2 returns)
+    (tie.spec release-all-requires script-reply-words-requires same-length same-length-2 returns)

@@ -6,8 +6,8 @@ use Rattle.skid.proofs.skid_try_lock.Tie as tie
 try-lock-requires : tie.Need-try-lock-requires
 try-lock-requires c κs = search needs
 
-played-words-requires : tie.Need-played-words-requires
-played-words-requires c κs = search needs
+script-reply-words-requires : tie.Need-script-reply-words-requires
+script-reply-words-requires c κs = search needs
 
 same-length : tie.Need-same-length
 same-length c = search needs
@@ -16,8 +16,8 @@ same-length-2 : tie.Need-same-length-2
 same-length-2 c = search needs
 
 returns : tie.Need-returns
-returns c = rw (← c .before .before .before .before .before .try-lock .ensures, ← c .played-words .ensures)
+returns c = rw (← c .before .before .before .before .before .try-lock .ensures, ← c .script-reply-words .ensures)
 
 pub skid-try-lock-spec : {M : Type 1} → statement M
 skid-try-lock-spec =
-    tie.close (tie.spec try-lock-requires played-words-requires same-length same-length-2 returns)
+    tie.close (tie.spec try-lock-requires script-reply-words-requires same-length same-length-2 returns)

@@ -1,5 +1,5 @@
 -- `wave_line::next` meets its contract.
-use Rattle.text.specs.Decimal.{decimalOf, placesOf, placesIn}
+use Rattle.text.specs.Decimal.{decimalOf, digitCount, digitCountIn}
 use Rattle.wave_rules.specs.Dump.{timescale, scopeLine, endLine, timeLine}
 use borrow.Author.Needs.{needs}
 use Rattle.wave_line.proofs.next.Statement.{statement}
@@ -99,7 +99,7 @@ unfolding endLine
 returns-4 c = rw (c .before .before .before .before .stage2 .given .1, ← c .before .same3 .ensures, ← c .fixed3 .ensures)
 
 returns-5 : tie.Need-returns-5
-unfolding timeLine decimalOf placesOf placesIn
+unfolding timeLine decimalOf digitCount digitCountIn
 returns-5 c = rw (c .before .before .before .before .stage3 .given .1, ← c .before .same4 .ensures, ← c .fixed4 .ensures)
 
 returns-6 : tie.Need-returns-6

@@ -8,7 +8,7 @@ use lib.ListN.{length}
 use Rattle.wave_rules.specs.Lines.{joined}
 use Rattle.wave_rules.specs.Dump.{varsOf, firstOf}
 use Rattle.wave_write.specs.Writer.{headOf}
-use Rattle.wave_write.specs.Laws.{from-none, head-size, head-turn, head-end, five-places}
+use Rattle.wave_write.specs.Laws.{from-none, head-size, head-turn, head-end, five-digits}
 use Rattle.wave_write.proofs.head_size.Statement.{statement}
 use Rattle.wave_write.proofs.head_size.Tie as tie
 
@@ -21,14 +21,14 @@ abbrev μ-loop : tie.MeasureT-loop
 loop-holds : tie.Need-loop-holds Inv-loop μ-loop
 loop-holds c = (search needs, search needs, rw (from-none (c .args .n)) (sym (head-size (c .args .n))))
 
-places-requires : tie.Need-places-requires Inv-loop μ-loop
-places-requires c κs = search needs
+digit-count-requires : tie.Need-digit-count-requires Inv-loop μ-loop
+digit-count-requires c κs = search needs
 
 add-size : tie.Need-add-size Inv-loop μ-loop
-add-size c = omega (arith, c .places .ensures, five-places (c .before .before .loop .cell) (search needs), c .before .before .loop .inv .1)
+add-size c = omega (arith, c .digit-count .ensures, five-digits (c .before .before .loop .cell) (search needs), c .before .before .loop .inv .1)
 
 add-size-2 : tie.Need-add-size-2 Inv-loop μ-loop
-add-size-2 c = omega (arith, c .places .ensures, five-places (c .before .before .loop .cell) (search needs), c .before .before .loop .inv .1)
+add-size-2 c = omega (arith, c .digit-count .ensures, five-digits (c .before .before .loop .cell) (search needs), c .before .before .loop .inv .1)
 
 add-cell : tie.Need-add-cell Inv-loop μ-loop
 add-cell c = search needs
@@ -40,8 +40,8 @@ loop-again : tie.Need-loop-again Inv-loop μ-loop
 loop-again c =
     let l = c .before .before .loop in
     let a = c .before .before .before .args in
-    let p = five-places (l .cell) (search needs) in
-    let e = c .places .ensures in
+    let p = five-digits (l .cell) (search needs) in
+    let e = c .digit-count .ensures in
     let t = head-turn (a .n) (l .cell) (search needs) in
     (omega arith, omega (arith, e, p, l .inv .1), omega (arith, e, t, l .inv .2))
 
@@ -55,7 +55,7 @@ head-size-spec =
     Inv-loop
     μ-loop
     loop-holds
-    places-requires
+    digit-count-requires
     add-size
     add-size-2
     add-cell

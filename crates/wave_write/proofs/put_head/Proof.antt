@@ -1,7 +1,7 @@
 -- `wave_write::put_head` meets its contract.
 use mathlib.Core.List.{[], _∷_, _++_}
 use native.Mathlib.Omega.{arith}
-use Rattle.text.specs.Decimal.{decimalOf, placesOf, placesIn}
+use Rattle.text.specs.Decimal.{decimalOf, digitCount, digitCountIn}
 use Rattle.wave_rules.specs.Lines.{joined}
 use Rattle.wave_rules.specs.Dump.{timescale, scopeLine, upscope, endLine, timeLine, varsOf, firstOf}
 use Rattle.wave_write.specs.Writer.{headOf}
@@ -33,7 +33,7 @@ same-length : tie.Need-same-length
 same-length c = search needs
 
 returns : tie.Need-returns
-unfolding headOf joined timescale scopeLine upscope endLine timeLine decimalOf placesOf placesIn
+unfolding headOf joined timescale scopeLine upscope endLine timeLine decimalOf digitCount digitCountIn
 returns c =
     let n = c .before .before .before .before .before .before .before .before .before .before .before .before .before .before .before .before .before .before .before .args .n in
     put-join _ _ _ _ _ _ (joined (timescale ∷ scopeLine ∷ [])) ((joined (varsOf 0 n [])) ++ ((joined (upscope ∷ endLine ∷ timeLine 0 ∷ [])) ++ (joined (firstOf 0 n [])))) (c .before .before .before .before .before .before .before .before .before .before .before .before .before .before .before .put .ensures)

@@ -14,8 +14,8 @@ enum-told c = search needs
 share-requires : tie.Need-share-requires
 share-requires c κs = search needs
 
-play-requires : tie.Need-play-requires
-play-requires c κs = search needs
+script-reply-requires : tie.Need-script-reply-requires
+script-reply-requires c κs = search needs
 
 enum-known-answer : tie.Need-enum-known-answer
 enum-known-answer c = search needs
@@ -29,62 +29,62 @@ shared-slice-read-first-asking c = subst (Placed (length (c .before .before .bef
 first-asking-requires : tie.Need-first-asking-requires
 first-asking-requires c κs = search needs
 
-play-requires-2 : tie.Need-play-requires-2
-play-requires-2 c κs = search needs
+script-reply-requires-2 : tie.Need-script-reply-requires-2
+script-reply-requires-2 c κs = search needs
 
 enum-told-2 : tie.Need-enum-told-2
 enum-told-2 c = search needs
 
-play-requires-3 : tie.Need-play-requires-3
-play-requires-3 c κs = search needs
+script-reply-requires-3 : tie.Need-script-reply-requires-3
+script-reply-requires-3 c κs = search needs
 
 enum-known-answer-2 : tie.Need-enum-known-answer-2
 enum-known-answer-2 c = search needs
 
-play-requires-4 : tie.Need-play-requires-4
-play-requires-4 c κs = search needs
+script-reply-requires-4 : tie.Need-script-reply-requires-4
+script-reply-requires-4 c κs = search needs
 
 enum-known-answer-3 : tie.Need-enum-known-answer-3
 enum-known-answer-3 c = search needs
 
-play-requires-5 : tie.Need-play-requires-5
-play-requires-5 c κs = search needs
+script-reply-requires-5 : tie.Need-script-reply-requires-5
+script-reply-requires-5 c κs = search needs
 
 enum-known-answer-4 : tie.Need-enum-known-answer-4
 enum-known-answer-4 c = search needs
 
-play-requires-6 : tie.Need-play-requires-6
-play-requires-6 c κs = search needs
+script-reply-requires-6 : tie.Need-script-reply-requires-6
+script-reply-requires-6 c κs = search needs
 
 enum-known-answer-5 : tie.Need-enum-known-answer-5
 enum-known-answer-5 c = search needs
 
-play-requires-7 : tie.Need-play-requires-7
-play-requires-7 c κs = search needs
+script-reply-requires-7 : tie.Need-script-reply-requires-7
+script-reply-requires-7 c κs = search needs
 
 same-length : tie.Need-same-length
 same-length c = search needs
 
 returns : tie.Need-returns
-returns c = rw (c .before .before .before .before .before .enum-told .given .1, ← c .before .before .before .share .ensures, ← c .play .ensures)
+returns c = rw (c .before .before .before .before .before .enum-told .given .1, ← c .before .before .before .share .ensures, ← c .script-reply .ensures)
 
 returns-2 : tie.Need-returns-2
-returns-2 c = rw (c .before .before .before .before .answer .given .1, ← asking-front _ _ _ (c .before .first-asking .ensures), ← c .play2 .ensures)
+returns-2 c = rw (c .before .before .before .before .answer .given .1, ← asking-front _ _ _ (c .before .first-asking .ensures), ← c .script-reply2 .ensures)
 
 returns-3 : tie.Need-returns-3
-returns-3 c = rw (c .before .enum-told2 .given .1, ← c .play3 .ensures)
+returns-3 c = rw (c .before .enum-told2 .given .1, ← c .script-reply3 .ensures)
 
 returns-4 : tie.Need-returns-4
-returns-4 c = rw (c .before .before .answer2 .given .1, ← c .play4 .ensures)
+returns-4 c = rw (c .before .before .answer2 .given .1, ← c .script-reply4 .ensures)
 
 returns-5 : tie.Need-returns-5
-returns-5 c = rw (c .before .before .answer3 .given .1, ← c .play5 .ensures)
+returns-5 c = rw (c .before .before .answer3 .given .1, ← c .script-reply5 .ensures)
 
 returns-6 : tie.Need-returns-6
-returns-6 c = rw (c .before .before .answer4 .given .1, ← c .play6 .ensures)
+returns-6 c = rw (c .before .before .answer4 .given .1, ← c .script-reply6 .ensures)
 
 returns-7 : tie.Need-returns-7
-returns-7 c = rw (c .before .before .answer5 .given .1, ← c .play7 .ensures)
+returns-7 c = rw (c .before .before .answer5 .given .1, ← c .script-reply7 .ensures)
 
 pub finish-spec : {M : Type 1} → statement M
 finish-spec =
@@ -92,22 +92,22 @@ finish-spec =
     (tie.spec
     enum-told
     share-requires
-    play-requires
+    script-reply-requires
     enum-known-answer
     mul-first-asking
     shared-slice-read-first-asking
     first-asking-requires
-    play-requires-2
+    script-reply-requires-2
     enum-told-2
-    play-requires-3
+    script-reply-requires-3
     enum-known-answer-2
-    play-requires-4
+    script-reply-requires-4
     enum-known-answer-3
-    play-requires-5
+    script-reply-requires-5
     enum-known-answer-4
-    play-requires-6
+    script-reply-requires-6
     enum-known-answer-5
-    play-requires-7
+    script-reply-requires-7
     same-length
     returns
     returns-2

@@ -1,5 +1,5 @@
 -- `sorted::marks::marks_of` meets its contract.
-use Prim.Native.Nat.{_+_, _-_, _≤_, _*_, _/_}
+use Prim.Native.Nat.{_+_, _-_, _≤_}
 use mathlib.Core.Path.{_≡_, subst}
 use lib.ListN.{length, getD, length-set}
 use native.Mathlib.Omega.{arith}
