@@ -166,13 +166,9 @@ pub waiters-read : (t : List ℕ) (c : ℕ) → waitersAt t c ≡ getD t (3 * c 
 unfolding waitersAt
 waiters-read t c = refl
 
-pub changed-self : (w : ℕ) → changedOf w w ≡ 0
+changed-self : (w : ℕ) → changedOf w w ≡ 0
 unfolding changedOf
 changed-self w = rw (eq-eqb w w refl)
-
-changed-new : (w : ℕ) → w ≢ 0 → changedOf w 0 ≡ 1
-unfolding changedOf
-changed-new w z = rw (ne-eqb w 0 z)
 
 change-self : (place w : ℕ) → changeOf place w w ≡ []
 unfolding changeOf
@@ -228,28 +224,27 @@ module _ (next : ℕ) (t : List ℕ) (c : ℕ) where
   unfolding heldIn
   held-none d = rw d
 
-  -- what its words add: of a held cell the waiters, of any other all three, and the first does not if it is 0
+  -- what its words add: none of a cell that is all 0, of a held one the waiters, of any other all three
+  pub tally-none : (n m x y w : ℕ) → x + y + w ≡ 0 → x ≡ bitAt t c → y ≡ ownerAt t c → w ≡ waitersAt t c → tallied n m ≡ talliedIn next t c n m
+  unfolding talliedIn isHeld
+  tally-none n m x y w z e f g =
+      let bit : bitAt t c ≡ 0 = omega arith in
+      let owner : ownerAt t c ≡ 0 = omega arith in
+      let waiters : waitersAt t c ≡ 0 = omega arith in
+      let d : heldHere ≡ false = rw bit in
+      let k : n + (changedOf 0 0 + changedOf 0 0 + changedOf 0 0) ≡ n = omega (arith, changed-self 0) in
+      let l : m + 0 ≡ m = omega arith in
+      rw (changed-other d, held-none d, bit, owner, waiters, k, l)
+
   pub tally-held : (n m k w : ℕ) → heldHere ≡ true → w ≡ waitersAt t c → k ≡ changedOf w 0 → tallied (n + k) (m + 1) ≡ talliedIn next t c n m
   unfolding talliedIn
   tally-held n m k w d e f = rw (changed-held d, held-one d, f, e)
 
-  pub tally-zero : (n m k x y w : ℕ) → x ≡ 0 → x ≡ bitAt t c → y ≡ ownerAt t c → w ≡ waitersAt t c → k ≡ n + changedOf y 0 + changedOf w 0
-      → tallied k m ≡ talliedIn next t c n m
-  unfolding talliedIn isHeld
-  tally-zero n m k x y w z e f g p =
-      let b : bitAt t c ≡ 0 = sym e ∙ z in
-      let d : heldHere ≡ false = rw b in
-      let q : changedOf (bitAt t c) 0 ≡ 0 = rw b (changed-self 0) in
-      let r : k ≡ n + (changedOf (bitAt t c) 0 + changedOf (ownerAt t c) 0 + changedOf (waitersAt t c) 0) = rw (p, f, g) (omega arith) in
-      let s : m + 0 ≡ m = omega arith in
-      rw (changed-other d, held-none d, r, s)
-
-  pub tally-other : (n m j k x y w : ℕ) → heldHere ≡ false → x ≢ 0 → x ≡ bitAt t c → y ≡ ownerAt t c → w ≡ waitersAt t c
-      → j ≡ changedOf y 0 → k ≡ changedOf w 0 → tallied (n + 1 + j + k) m ≡ talliedIn next t c n m
+  pub tally-other : (n m i j k x y w : ℕ) → heldHere ≡ false → x ≡ bitAt t c → y ≡ ownerAt t c → w ≡ waitersAt t c
+      → i ≡ changedOf x 0 → j ≡ changedOf y 0 → k ≡ changedOf w 0 → tallied (n + i + j + k) m ≡ talliedIn next t c n m
   unfolding talliedIn
-  tally-other n m j k x y w d z e f g p q =
-      let b : changedOf (bitAt t c) 0 ≡ 1 = rw (← e) (changed-new x z) in
-      let r : n + 1 + j + k ≡ n + (changedOf (bitAt t c) 0 + changedOf (ownerAt t c) 0 + changedOf (waitersAt t c) 0) = rw (p, q, f, g) (omega arith) in
+  tally-other n m i j k x y w d e f g o p q =
+      let r : n + i + j + k ≡ n + (changedOf (bitAt t c) 0 + changedOf (ownerAt t c) 0 + changedOf (waitersAt t c) 0) = rw (o, p, q, e, f, g) (omega arith) in
       let s : m + 0 ≡ m = omega arith in
       rw (changed-other d, held-none d, r, s)
 

@@ -1,6 +1,6 @@
 // Salvage after a warm restart (document 02, L6). Each function but `salvage` is a step: it may have a `requires`,
 // which its callers prove. A first pass counts what would be written, so that ReportFull is known before the first
-// change; a second reads each cell once, lists it and mends it.
+// change; a second reads each cell once, lists it and mends it, and only lists it where there is nothing to mend.
 use types::Check;
 use types::Head;
 use types::SalvageAnswer;
@@ -65,21 +65,8 @@ fn is_held(next: u32, bit: u32, owner: u32) -> bool
     false
 }
 
-// A count with what a cell adds whose bit is 0. Most such cells are all 0: one test passes over them.
-fn changed_beside(changes: usize, owner: u32, waiters: u32) -> usize
-    requires { ⌜ changes ≤ 20000 ⌝ }
-    ensures { λ r. ⌜ r ≡ changes + changedOf owner 0 + changedOf waiters 0 ⌝ }
-{
-    if (owner as u64) + (waiters as u64) == 0 {
-        return changes;
-    }
-    let b = changed(owner);
-    let c = changed(waiters);
-    changes + b + c
-}
-
-// Both counts with one cell more: a held one keeps bit and owner, of any other all three words become 0. They go
-// through it, so that a cell that is passed over costs no sum.
+// Both counts with one cell more: a held one keeps bit and owner, of any other all three words become 0. Most are all
+// 0, and one test passes over them; the counts go through it, so that such a cell costs no sum.
 fn tally_in(next: u32, table: &[u32], cell: u32, changes: usize, left: usize) -> Tally
     requires { ⌜ (3 * cell + 2 < length (now table)) × (changes ≤ 20000) × (left ≤ 20000) ⌝ }
     ensures { λ r. ⌜ r ≡ talliedIn next (now (table .entry)) cell changes left ⌝ }
@@ -87,9 +74,8 @@ fn tally_in(next: u32, table: &[u32], cell: u32, changes: usize, left: usize) ->
     let bit = arena::bit_at(table, cell);
     let owner = arena::owner_at(table, cell);
     let waiters = arena::waiters_at(table, cell);
-    if bit == 0 {
-        let sum = changed_beside(changes, owner, waiters);
-        return Tally { changes: sum, left };
+    if (bit as u64) + (owner as u64) + (waiters as u64) == 0 {
+        return Tally { changes, left };
     }
     if is_held(next, bit, owner) {
         let c = changed(waiters);
@@ -98,10 +84,11 @@ fn tally_in(next: u32, table: &[u32], cell: u32, changes: usize, left: usize) ->
             left: left + 1,
         };
     }
+    let a = changed(bit);
     let b = changed(owner);
     let c = changed(waiters);
     Tally {
-        changes: changes + 1 + b + c,
+        changes: changes + a + b + c,
         left,
     }
 }
