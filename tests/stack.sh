@@ -41,7 +41,7 @@ give | skid_drop_lease | a live lease | 1 | 80
 is_mine | skid_read_permission | a live lease | 1 | 95
 set | skid_environment | one step, waiters or health | 1 | 350
 take_all | skid_acquire_sorted_locks | n keys, a bucket of each header | 1 16 32 64 | 1000 + 346 n + 5.2 n^2
-take_all_in_vain | skid_acquire_sorted_locks | the same, the last cell of a poisoned header | 1 16 32 64 | 950 + 335 n + 2.6 n^2
+take_all_in_vain | skid_acquire_sorted_locks | the same, the last cell of a poisoned header | 1 16 32 64 | 950 + 340 n + 2.6 n^2
 take_in_order | skid_acquire_index_locks | n keys | 1 16 32 64 | 640 + 178 n
 take_in_order_in_vain | skid_acquire_index_locks | the same, the last key of a poisoned header | 1 16 32 64 | 640 + 178 n
 give_all | skid_release_all | n leases, cells 251 apart | 1 16 32 64 | 250 + 55 n + 3 n^2
