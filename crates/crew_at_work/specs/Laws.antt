@@ -93,51 +93,50 @@ unfolding noteOf
 noted-is true noted counters m low = refl
 noted-is false noted counters m low = set-getD noted m 0
 
-pub record Noting (headers buckets : ℕ) (g counts cells turns : List ℕ) (start : Crew) (next : ℕ) (t made : List ℕ) (moving i : ℕ) (counters noted : List ℕ) : Type 0 where
-  pub run : Working adds headers buckets g counts cells turns start next t made moving i counters noted
+pub record Noting (headers buckets : ℕ) (g counts cells turns : List ℕ) (start : Crew) (next : ℕ) (t left : List ℕ) (moving i : ℕ) (counters noted : List ℕ) : Type 0 where
+  pub run : Working adds headers buckets g counts cells turns start next t left moving i counters noted
   pub wide : length counters ≡ length (start .counters)
 
-module _ (headers buckets : ℕ) (g counts cells turns : List ℕ) (start : Crew) (next : ℕ) (t made : List ℕ) (moving i : ℕ) (counters noted : List ℕ) where
+module _ (headers buckets : ℕ) (g counts cells turns : List ℕ) (start : Crew) (next : ℕ) (t left : List ℕ) (moving i : ℕ) (counters noted : List ℕ) where
   abbrev Here : Type 0
-  Here = Noting headers buckets g counts cells turns start next t made moving i counters noted
+  Here = Noting headers buckets g counts cells turns start next t left moving i counters noted
 
   abbrev Then : ℕ → List ℕ → List ℕ → ℕ → List ℕ → List ℕ → Type 0
-  Then next′ t′ made′ moving′ counters′ noted′ = Noting headers buckets g counts cells turns start next′ t′ made′ moving′ (i + 1) counters′ noted′
+  Then next′ t′ left′ moving′ counters′ noted′ = Noting headers buckets g counts cells turns start next′ t′ left′ moving′ (i + 1) counters′ noted′
 
   abbrev member : ℕ
   member = getD turns i 0
 
-  abbrev so-far : ℕ
-  so-far = getD made member 0
+  abbrev more : ℕ
+  more = getD left member 0
 
   abbrev wants : ℕ
   wants = getD counts member 0
 
-  pub add-idle : Here → i < length turns → 3 * wants ≤ so-far → Then next t made moving counters noted
-  add-idle w l e =
-      record { run = work-idle adds headers buckets g counts cells turns start next t made moving i counters noted (w .run) l (omega arith); wide = w .wide }
+  pub add-idle : Here → i < length turns → member < 16 → more ≡ 0 → Then next t left moving counters noted
+  add-idle w l b e = record { run = work-idle adds headers buckets g counts cells turns start next t left moving i counters noted (w .run) l b e; wide = w .wide }
 
-  module _ (w : Here) (l : i < length turns) (first k : ℕ) (un : Unfinished adds headers buckets g counts cells turns start next t made moving i counters noted first k) (mv : Move) (u x : List ℕ) (e : (mv, (u, x)) ≡ workMoveOf adds next buckets t g counters so-far wants (getD cells k 0) (getD noted member 0)) (same : length u ≡ length t) (same-counters : length x ≡ length counters) where
-    pub add-tried : mv ≡ move.Idle → Then next u made moving x noted
+  module _ (w : Here) (l : i < length turns) (n first k : ℕ) (un : Unfinished adds headers buckets g counts cells turns start next t left moving i counters noted n first k) (mv : Move) (u x : List ℕ) (e : (mv, (u, x)) ≡ workMoveOf adds next buckets t g counters n wants (getD cells k 0) (getD noted member 0)) (same : length u ≡ length t) (same-counters : length x ≡ length counters) where
+    pub add-tried : mv ≡ move.Idle → Then next u left moving x noted
     add-tried f =
         record {
-          run = work-tried adds headers buckets g counts cells turns start next t made moving i counters noted (w .run) l first k un mv u x e same f;
+          run = work-tried adds headers buckets g counts cells turns start next t left moving i counters noted (w .run) l n first k un mv u x e same f;
           wide = same-counters ∙ w .wide;
         }
 
-    pub add-took : (next′ s value : ℕ) → mv ≡ move.Took next′ s → value ≡ noteOf (eqb (so-far + 1) wants) (getD noted member 0) x (getD cells first 0)
-        → Then next′ u (set made member (so-far + 1)) (moving + 1) x (set noted member value)
+    pub add-took : (next′ s value : ℕ) → mv ≡ move.Took next′ s → value ≡ noteOf (eqb (n + 1) wants) (getD noted member 0) x (getD cells first 0)
+        → Then next′ u (set left member (more - 1)) (moving + 1) x (set noted member value)
     add-took next′ s value f v =
         record {
           run =
-              rw (v, noted-is (eqb (so-far + 1) wants) noted x member (getD cells first 0))
-              (work-took adds headers buckets g counts cells turns start next t made moving i counters noted (w .run) l first k un mv u x e same next′ s f);
+              rw (v, noted-is (eqb (n + 1) wants) noted x member (getD cells first 0))
+              (work-took adds headers buckets g counts cells turns start next t left moving i counters noted (w .run) l n first k un mv u x e same next′ s f);
           wide = same-counters ∙ w .wide;
         }
 
-    pub add-moved : mv ≡ move.Moved → Then next u (set made member (so-far + 1)) (moving + 1) x noted
+    pub add-moved : mv ≡ move.Moved → Then next u (set left member (more - 1)) (moving + 1) x noted
     add-moved f =
         record {
-          run = work-moved adds headers buckets g counts cells turns start next t made moving i counters noted (w .run) l first k un mv u x e same f;
+          run = work-moved adds headers buckets g counts cells turns start next t left moving i counters noted (w .run) l n first k un mv u x e same f;
           wide = same-counters ∙ w .wide;
         }

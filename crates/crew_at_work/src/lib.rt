@@ -134,7 +134,8 @@ fn work_turns(
         ≡ workTurnsOf head (now (table .entry)) (now (health .entry))
         (now (counts .entry)) (now (cells .entry)) (now (turns .entry)) (now (counters .entry)) ⌝ }
 {
-    let mut made = [0usize; 16];
+    let none = [0usize; 16];
+    let mut left = crew::other_moves(counts, &none, true);
     let mut noted = [0u16; 16];
     let mut next = head.next;
     let mut moving: usize = 0;
@@ -142,32 +143,33 @@ fn work_turns(
     while i < turns.len() {
         let m = turns[i] as usize;
         i += 1;
-        let n = made[m];
-        let count = counts[m] as usize;
-        if 3 * count <= n {
+        let more = left[m];
+        if more == 0 {
             continue;
         }
+        let count = counts[m] as usize;
+        let n = 3 * count - more;
         let start = starts[m];
         let cell = cells[crew::place(start, stand(n, count), count)];
         let value = noted[m];
-        let once_more = n + 1;
         match work_move(head, next, table, health, counters, n, count, cell, value) {
             Move::Idle => continue,
             Move::Took(after, _) => {
                 next = after;
-                made[m] = once_more;
+                left[m] = more - 1;
                 moving += 1;
-                noted[m] = note(once_more == count, value, counters, cells[start]);
+                noted[m] = note(n + 1 == count, value, counters, cells[start]);
                 continue;
             }
             Move::Moved => {
-                made[m] = once_more;
+                left[m] = more - 1;
                 moving += 1;
                 continue;
             }
         }
     }
     let idle = turns.len() - moving;
+    let made = crew::other_moves(counts, &left, true);
     Worked {
         next,
         moving,
