@@ -25,23 +25,23 @@ others-more work counts moves others m v o l e =
     go j (no p) k = getD-set-other others m j v 0 p ∙ o .each j (omega arith)
 
 -- both lists, between turns
-pub record Parted (work : Work) (counts made left : List ℕ) : Type 0 where
+pub record MadeAndLeft (work : Work) (counts made left : List ℕ) : Type 0 where
   pub made-length : length made ≡ 16
   pub left-length : length left ≡ 16
   pub together : (m : ℕ) → m < 16 → getD made m 0 + getD left m 0 ≡ movesOf work (getD counts m 0)
 
 -- before the first turn all moves are left
-pub all-left : (work : Work) (counts left : List ℕ) → Others work counts (replicate 16 0) left 16 → Parted work counts (replicate 16 0) left
+pub all-left : (work : Work) (counts left : List ℕ) → Others work counts (replicate 16 0) left 16 → MadeAndLeft work counts (replicate 16 0) left
 all-left work counts left o = record { made-length = refl; left-length = o .sixteen; together = λ m l. omega (arith, o .each m l, zeros 16 m) }
 
 -- and behind the last one, what is not left was made
-pub made-is : (work : Work) (counts made left others : List ℕ) → Parted work counts made left → Others work counts left others 16 → others ≡ made
+pub made-is : (work : Work) (counts made left others : List ℕ) → MadeAndLeft work counts made left → Others work counts left others 16 → others ≡ made
 made-is work counts made left others p o =
     ext-getD 0 others made (o .sixteen ∙ sym (p .made-length)) (λ m l. omega (arith, o .each m (omega (arith, o .sixteen)), p .together m (omega (arith, o .sixteen))))
 
 -- a move goes from one to the other
-pub one-made : (work : Work) (counts made left : List ℕ) (m : ℕ) → Parted work counts made left → m < 16 → 1 ≤ getD left m 0
-    → Parted work counts (set made m (getD made m 0 + 1)) (set left m (getD left m 0 - 1))
+pub one-made : (work : Work) (counts made left : List ℕ) (m : ℕ) → MadeAndLeft work counts made left → m < 16 → 1 ≤ getD left m 0
+    → MadeAndLeft work counts (set made m (getD made m 0 + 1)) (set left m (getD left m 0 - 1))
 one-made work counts made left m p l some =
     record {
       made-length = length-set made m _ ∙ p .made-length;

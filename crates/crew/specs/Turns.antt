@@ -25,7 +25,7 @@ use Rattle.laws.specs.Lists.{drop-one}
 use Rattle.lock.specs.Model.{quietTake, quietLockOf}
 use Rattle.lock.specs.Laws.{lock-quiet}
 use Rattle.crew.specs.Model.{moveFor, moveBy, tryMoveOf, makeMoveOf, workMoveOf, notedBy, after}
-use Rattle.crew.specs.Moves.{Others, Parted, made-is, one-made}
+use Rattle.crew.specs.Moves.{Others, MadeAndLeft, made-is, one-made}
 use Rattle.crew.specs.Places.{Placed}
 use Rattle.crew.specs.declared.Move.{Move}
 use Rattle.crew.specs.declared.Move.the-variants as move
@@ -163,7 +163,7 @@ pub record Working (work : Work) (headers buckets : ℕ) (g counts cells turns :
   pub place : i ≤ length turns
   pub few : moving ≤ i
   pub words : length t ≡ length (start .table)
-  pub parted : Parted work counts made left
+  pub parted : MadeAndLeft work counts made left
   pub rest : turnsOf work headers buckets g counts cells (crewAt next t made serials moving (i - moving) counters noted) (drop i turns) .seen ≡ turnsOf work headers buckets g counts cells start turns .seen
 
 module _ (work : Work) (headers buckets : ℕ) (g counts cells turns : List ℕ) (start : Crew) (next : ℕ) (t left : List ℕ) (moving i : ℕ) (counters noted : List ℕ) where

@@ -59,7 +59,7 @@ fn crew_check(
 // ---- one turn
 
 // Where in the run of cells a member's next move is: the next cell it has not taken, or the last it still holds.
-pub fn place(start: usize, n: usize, count: usize) -> usize
+fn place(start: usize, n: usize, count: usize) -> usize
     requires { ⌜ (start + count ≤ 256) × (n < 2 * count) ⌝ }
     ensures { λ r. ⌜ r ≡ placeOf start n count ⌝ }
 {
@@ -146,8 +146,8 @@ fn adds_of(adding: bool, count: usize) -> usize
     0
 }
 
-// Of all moves of each member, those that are not among these: what is left beside what is made, and what is made beside
-// what is left.
+// Of all moves of each member, those that are not among these: what is left beside what is made, and what is made
+// beside what is left.
 pub fn other_moves(counts: &[u32], moves: &[usize; 16], adding: bool) -> [usize; 16]
     ensures { λ r. ⌜ Others (workBy adding) (now (counts .entry)) (now (moves .entry)) r 16 ⌝ }
 {

@@ -16,7 +16,7 @@ ghost use Rattle.crew_plan.specs.Starts.{Begun};
 // ---- the checks: limits, then lists by member, then turns by position
 
 // Whether a number keeps the limit, and those before it did.
-fn fits(before: bool, n: u32, most: u32) -> bool
+fn still_within(before: bool, n: u32, most: u32) -> bool
     ensures { λ r. ⌜ r ≡ (leb n most && before) ⌝ }
 {
     if most < n {
@@ -32,7 +32,7 @@ fn all_within(most: u32, list: &[u32]) -> bool
     let mut fit = true;
     let mut i = 0;
     while i < list.len() {
-        fit = fits(fit, list[i], most);
+        fit = still_within(fit, list[i], most);
         i += 1;
     }
     fit

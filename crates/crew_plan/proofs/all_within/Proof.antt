@@ -19,14 +19,14 @@ abbrev μ-loop : tie.MeasureT-loop
 loop-holds : tie.Need-loop-holds Inv-loop μ-loop
 loop-holds c = (search needs, refl)
 
-mul-fits : tie.Need-mul-fits Inv-loop μ-loop
-mul-fits c = search needs
+mul-still-within : tie.Need-mul-still-within Inv-loop μ-loop
+mul-still-within c = search needs
 
-shared-slice-read-fits : tie.Need-shared-slice-read-fits Inv-loop μ-loop
-shared-slice-read-fits c = search needs
+shared-slice-read-still-within : tie.Need-shared-slice-read-still-within Inv-loop μ-loop
+shared-slice-read-still-within c = search needs
 
-fits-requires : tie.Need-fits-requires Inv-loop μ-loop
-fits-requires c κs = search needs
+still-within-requires : tie.Need-still-within-requires Inv-loop μ-loop
+still-within-requires c κs = search needs
 
 add-i : tie.Need-add-i Inv-loop μ-loop
 add-i c = search needs
@@ -36,7 +36,7 @@ loop-less c = search needs
 
 loop-again : tie.Need-loop-again Inv-loop μ-loop
 loop-again c = let l = c .before .before .before .loop in let a = c .before .before .before .before .before .args in
-    (search needs, rw (c .fits2 .ensures) (within-more (l .fit) (a .most) (a .list .now) (l .i) (search needs) ∙ l .inv .1))
+    (search needs, rw (c .still-within .ensures) (within-more (l .fit) (a .most) (a .list .now) (l .i) (search needs) ∙ l .inv .1))
 
 returns : tie.Need-returns Inv-loop μ-loop
 returns c = let l = c .before .loop in let a = c .before .before .before .args in
@@ -49,9 +49,9 @@ all-within-spec =
     Inv-loop
     μ-loop
     loop-holds
-    mul-fits
-    shared-slice-read-fits
-    fits-requires
+    mul-still-within
+    shared-slice-read-still-within
+    still-within-requires
     add-i
     loop-less
     loop-again
