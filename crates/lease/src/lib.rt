@@ -177,15 +177,12 @@ pub fn same_hold(cell: u32, serial: u32, hold: Hold) -> bool
 pub fn is_in_from(list: &[u32], from: usize, hold: Hold) -> bool
     ensures { λ r. ⌜ r ≡ isIn hold (holdsOf (drop (3 * from) (now (list .entry)))) ⌝ }
 {
-    if list.len() <= from {
-        return false;
-    }
-    let mut at = 3 * from;
-    while at + 2 < list.len() {
-        if same_hold(list[at], list[at + 1], hold) {
+    let mut i = from;
+    while i < list.len() / 3 {
+        if same_hold(list[3 * i], list[3 * i + 1], hold) {
             return true;
         }
-        at += 3;
+        i += 1;
     }
     false
 }
@@ -194,7 +191,14 @@ pub fn is_in_from(list: &[u32], from: usize, hold: Hold) -> bool
 pub fn is_in(list: &[u32], hold: Hold) -> bool
     ensures { λ r. ⌜ r ≡ isIn hold (holdsOf (now (list .entry))) ⌝ }
 {
-    is_in_from(list, 0, hold)
+    let mut at = 0;
+    while at + 2 < list.len() {
+        if same_hold(list[at], list[at + 1], hold) {
+            return true;
+        }
+        at += 3;
+    }
+    false
 }
 
 // Whether a lease of the head's own boot number is live.
@@ -440,8 +444,8 @@ pub fn acquire_preserving_borrows(head: Head, table: &mut [u32], held: &[u32], c
     }
 }
 
-// drop_lease, but not of a lease in the held list: that is refused with 13, and nothing changes. With an empty list it is
-// drop_lease itself.
+// drop_lease, but not of a lease in the held list: that is refused with 13, and nothing changes. With an empty list it
+// is drop_lease itself.
 pub fn drop_preserving_borrows(head: Head, table: &mut [u32], held: &[u32], lease: Lease) -> Reply
     ensures { λ r. ⌜ (r, now (table .exit))
         ≡ dropPreservingOf head (now (table .entry)) (now (held .entry)) lease .seen ⌝ }

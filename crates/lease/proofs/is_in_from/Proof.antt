@@ -1,7 +1,6 @@
 -- `lease::is_in_from` meets its contract.
-use Prim.Native.Nat.{_≤_, _+_, _*_, _-_, _/_}
+use Prim.Native.Nat.{_*_, _-_, _/_}
 use mathlib.Core.Path.{_≡_, refl}
-use native.Mathlib.Omega.{arith}
 use lib.ListN.{length, drop}
 use borrow.Author.Needs.{needs}
 use Rattle.model.specs.Arena.{holdsOf, isIn}
@@ -10,37 +9,31 @@ use Rattle.lease.proofs.is_in_from.Statement.{statement}
 use Rattle.lease.proofs.is_in_from.Tie as tie
 
 abbrev Inv-loop : tie.InvT-loop
-Inv-loop list from hold at₀ at = (at ≤ 3 * length list) × ((at ≡ 3 * (at / 3)) × (isIn hold (holdsOf (drop (3 * (at / 3)) list)) ≡ isIn hold (holdsOf (drop (3 * from) list))))
+Inv-loop list from hold i₀ i = isIn hold (holdsOf (drop (3 * i) list)) ≡ isIn hold (holdsOf (drop (3 * from) list))
 
 abbrev μ-loop : tie.MeasureT-loop
-μ-loop list from hold at₀ at = 3 * length list + 3 - at
-
-returns : tie.Need-returns Inv-loop μ-loop
-returns c = let a = c .before .before .args in rw (is-in-end (a .hold) (a .list .now) (a .from) (omega (arith, c .if1 .taken)))
-
-mul-at : tie.Need-mul-at Inv-loop μ-loop
-mul-at c = omega (arith, c .if1 .left, c .before .before .good .0)
+μ-loop list from hold i₀ i = length list / 3 - i
 
 loop-holds : tie.Need-loop-holds Inv-loop μ-loop
-loop-holds c =
-    let a = c .before .before .args in
-    let e : 3 * a .from / 3 ≡ a .from = omega arith in
-    (omega (arith, c .if1 .left), (omega arith, rw e))
-
-add-loop : tie.Need-add-loop Inv-loop μ-loop
-add-loop c = omega (arith, c .loop .inv .0, c .before .before .before .good .0)
+loop-holds c = refl
 
 mul-same-hold : tie.Need-mul-same-hold Inv-loop μ-loop
 mul-same-hold c = search needs
 
+mul-same-hold-2 : tie.Need-mul-same-hold-2 Inv-loop μ-loop
+mul-same-hold-2 c = search needs
+
 shared-slice-read-same-hold : tie.Need-shared-slice-read-same-hold Inv-loop μ-loop
 shared-slice-read-same-hold c = search needs
+
+mul-same-hold-3 : tie.Need-mul-same-hold-3 Inv-loop μ-loop
+mul-same-hold-3 c = search needs
 
 add-same-hold : tie.Need-add-same-hold Inv-loop μ-loop
 add-same-hold c = search needs
 
-mul-same-hold-2 : tie.Need-mul-same-hold-2 Inv-loop μ-loop
-mul-same-hold-2 c = search needs
+mul-same-hold-4 : tie.Need-mul-same-hold-4 Inv-loop μ-loop
+mul-same-hold-4 c = search needs
 
 shared-slice-read-same-hold-2 : tie.Need-shared-slice-read-same-hold-2 Inv-loop μ-loop
 shared-slice-read-same-hold-2 c = search needs
@@ -48,30 +41,23 @@ shared-slice-read-same-hold-2 c = search needs
 same-hold-requires : tie.Need-same-hold-requires Inv-loop μ-loop
 same-hold-requires c κs = search needs
 
-returns-2 : tie.Need-returns-2 Inv-loop μ-loop
-returns-2 c =
-    let l = c .before .before .before .before .before .loop in
-    let a = c .before .before .before .before .before .before .before .before .args in
-    rw (← l .inv .1 .1, is-in-at (a .hold) (a .list .now) (l .at / 3) (omega (arith, l .inv .1 .0, c .before .before .before .before .loop-test .taken)), ← l .inv .1 .0, ← c .before .same-hold .ensures, c .if2 .taken)
+returns : tie.Need-returns Inv-loop μ-loop
+returns c = let l = c .before .before .before .before .before .loop in let a = c .before .before .before .before .before .before .before .args in
+    rw (← l .inv, is-in-at (a .hold) (a .list .now) (l .i) (search needs), ← c .before .same-hold .ensures, c .if1 .taken)
 
-add-at : tie.Need-add-at Inv-loop μ-loop
-add-at c = search needs
+add-i : tie.Need-add-i Inv-loop μ-loop
+add-i c = search needs
 
 loop-less : tie.Need-loop-less Inv-loop μ-loop
 loop-less c = search needs
 
 loop-again : tie.Need-loop-again Inv-loop μ-loop
-loop-again c =
-    let l = c .before .before .before .before .before .loop in
-    let a = c .before .before .before .before .before .before .before .before .args in
-    let e : (l .at + 3) / 3 ≡ l .at / 3 + 1 = omega arith in
-    (omega (arith, c .before .before .before .before .loop-test .taken), (omega (arith, l .inv .1 .0), rw (e, ← l .inv .1 .1, is-in-at (a .hold) (a .list .now) (l .at / 3) (omega (arith, l .inv .1 .0, c .before .before .before .before .loop-test .taken)), ← l .inv .1 .0, ← c .before .same-hold .ensures, c .if2 .left)))
+loop-again c = let l = c .before .before .before .before .before .loop in let a = c .before .before .before .before .before .before .before .args in
+    rw (← l .inv, is-in-at (a .hold) (a .list .now) (l .i) (search needs), ← c .before .same-hold .ensures, c .if1 .left)
 
-returns-3 : tie.Need-returns-3 Inv-loop μ-loop
-returns-3 c =
-    let l = c .before .loop in
-    let a = c .before .before .before .before .args in
-    rw (← l .inv .1 .1, is-in-end (a .hold) (a .list .now) (l .at / 3) (omega (arith, l .inv .1 .0, c .loop-test .left)))
+returns-2 : tie.Need-returns-2 Inv-loop μ-loop
+returns-2 c = let l = c .before .loop in let a = c .before .before .before .args in
+    rw (← l .inv, is-in-end (a .hold) (a .list .now) (l .i) (search needs))
 
 pub is-in-from-spec : {M : Type 1} → statement M
 is-in-from-spec =
@@ -79,18 +65,17 @@ is-in-from-spec =
     (tie.spec
     Inv-loop
     μ-loop
-    returns
-    mul-at
     loop-holds
-    add-loop
     mul-same-hold
-    shared-slice-read-same-hold
-    add-same-hold
     mul-same-hold-2
+    shared-slice-read-same-hold
+    mul-same-hold-3
+    add-same-hold
+    mul-same-hold-4
     shared-slice-read-same-hold-2
     same-hold-requires
-    returns-2
-    add-at
+    returns
+    add-i
     loop-less
     loop-again
-    returns-3)
+    returns-2)
